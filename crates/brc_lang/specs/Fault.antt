@@ -1,0 +1,157 @@
+-- Which fault a text has: the one of the first line from the top in which any stands.
+use Rattle.std.specs.Prelude.{◌≡◌, ℕ, ◌+◌, ◌≤◌, Bool, false, ◌&&◌, ◌||◌, ◌==◌, not, nat_le, nat_lt, nat_eq, if◌then◌else◌, IsTrue, List, [], ◌∷◌, ◌++◌, length, Option, None, Some, Result, Ok, Err, count_by, codes, ◌⊎◌}
+use Rattle.std.specs.List.{AllByRecursion, list_all, list_any, slice_split, before_first, starts_with}
+use Rattle.std.specs.Str.{bytes_eq}
+use Rattle.std.specs.Str.Parse.{digits_value}
+use Rattle.std.specs.Char.{is_ascii_digit}
+use Rattle.brc_lang.specs.declared.module.Function.{Function}
+use Rattle.brc_lang.specs.declared.module.Instr.{Instr}
+use Rattle.brc_lang.specs.declared.module.Instr.TheVariants.{Newref, Drop, Ret, Fail}
+use Rattle.brc_lang.specs.declared.fault.FaultCode.{FaultCode}
+use Rattle.brc_lang.specs.declared.fault.FaultCode.TheVariants.{FirstLine, UnknownWord, Number, NameTwice, OverLimit, CutOff, NoMemory}
+use Rattle.brc_lang.specs.Grammar.{is_name, IsInstruction, IsFunction, AreNamedApart, heading, instructions, functions, first_line}
+
+-- ---- one line
+
+-- the words of a line: what single spaces part, so that two spaces have an empty word between them
+abbrev pub words : List ℕ → List (List ℕ)
+words line = slice_split (λ c. c == 32) line
+
+-- decimal digits, with no leading zero but in `0` itself
+abbrev pub is_numeral : List ℕ → Bool
+is_numeral [] = false
+is_numeral (c ∷ cs) = list_all is_ascii_digit (c ∷ cs) && (not (c == 48) || (length cs == 0))
+
+-- a number from 0 to high
+abbrev pub number_in : ℕ → List ℕ → Result ℕ FaultCode
+number_in high word = if is_numeral word && nat_le (digits_value 10 word) high then Ok (digits_value 10 word) else Err Number
+
+-- `v`, and a number below 16
+abbrev pub variable_in : List ℕ → Result ℕ FaultCode
+variable_in [] = Err UnknownWord
+variable_in (c ∷ cs) = if c == 118 then number_in 15 cs else Err UnknownWord
+
+infixl 10 ◌>>=◌
+abbrev pub ◌>>=◌ : {A B : Type 0} → Result A FaultCode → (A → Result B FaultCode) → Result B FaultCode
+(Ok x) >>= f = f x
+(Err e) >>= f = Err e
+
+abbrev pub newref_in : List (List ℕ) → Result Instr FaultCode
+newref_in (to ∷ from ∷ []) = variable_in to >>= λ d. variable_in from >>= λ s. Ok (Newref d s)
+newref_in _ = Err UnknownWord
+
+abbrev pub drop_in : List (List ℕ) → Result Instr FaultCode
+drop_in (from ∷ []) = variable_in from >>= λ s. Ok (Drop s)
+drop_in _ = Err UnknownWord
+
+abbrev pub ret_in : List (List ℕ) → Result Instr FaultCode
+ret_in (from ∷ []) = variable_in from >>= λ s. Ok (Ret s)
+ret_in _ = Err UnknownWord
+
+abbrev pub fail_in : List (List ℕ) → Result Instr FaultCode
+fail_in [] = Ok Fail
+fail_in _ = Err UnknownWord
+
+-- the instruction of a line, or its fault: the first word and the number of words first, then the words from left to right
+abbrev pub instruction_in : List (List ℕ) → Result Instr FaultCode
+instruction_in [] = Err UnknownWord
+instruction_in (w ∷ ws) =
+    if bytes_eq w (codes "newref") then newref_in ws
+    else if bytes_eq w (codes "drop") then drop_in ws
+    else if bytes_eq w (codes "ret") then ret_in ws
+    else if bytes_eq w (codes "fail") then fail_in ws
+    else Err UnknownWord
+
+-- ---- a line after those above it
+
+-- what stands above a line: whole functions, and maybe one that is open
+pub record Beginning : Type 0 where
+  pub done : List Function
+  pub open_function : Option Function
+
+abbrev pub open_text : Option Function → List ℕ
+open_text None = []
+open_text (Some f) = heading f.name ++ instructions f.code
+
+abbrev pub beginning : Beginning → List ℕ
+beginning b = first_line ++ functions b.done ++ open_text b.open_function
+
+-- the functions whose names stand above
+abbrev pub named : List Function → Option Function → List Function
+named done None = done
+named done (Some f) = done ++ f ∷ []
+
+-- a function that isn't ended yet
+pub record IsOpen (f : Function) : Type 0 where
+  pub name : IsTrue (is_name f.name)
+  pub most : length f.code ≤ 256
+  pub code : AllByRecursion IsInstruction f.code
+
+abbrev pub IfOpen : Option Function → Type 0
+IfOpen None = Unit {0}
+IfOpen (Some f) = IsOpen f
+
+-- each line so far may stand where it stands
+pub record IsBeginning (b : Beginning) : Type 0 where
+  pub most : length (named b.done b.open_function) ≤ 64
+  pub done : AllByRecursion IsFunction b.done
+  pub names : AreNamedApart (named b.done b.open_function)
+  pub open_fits : IfOpen b.open_function
+
+abbrev pub heading_fault_of : List Function → List (List ℕ) → Option FaultCode
+heading_fault_of done (w ∷ name ∷ []) =
+    if not (bytes_eq w (codes "func") && is_name name) then Some UnknownWord
+    else if nat_le 64 (length done) then Some OverLimit
+    else if list_any (λ f. bytes_eq f.name name) done then Some NameTwice
+    else None
+heading_fault_of done _ = Some UnknownWord
+
+abbrev pub end_fault_of : Function → Option FaultCode
+end_fault_of f = if length f.code == 0 then Some OverLimit else None
+
+abbrev pub next_instruction_fault_of : Function → Result Instr FaultCode → Option FaultCode
+next_instruction_fault_of f (Err code) = Some code
+next_instruction_fault_of f (Ok i) = if nat_le 256 (length f.code) then Some OverLimit else None
+
+-- the fault of a line, where one stands: outside a function only its heading may stand, inside only instructions and `end`
+abbrev pub line_fault_of : List Function → Option Function → List ℕ → Option FaultCode
+line_fault_of done None line = heading_fault_of done (words line)
+line_fault_of done (Some f) line = if bytes_eq line (codes "end") then end_fault_of f else next_instruction_fault_of f (instruction_in (words line))
+
+-- no function is open, and there is one
+abbrev pub is_whole : List Function → Option Function → Bool
+is_whole done None = nat_lt 0 (length done)
+is_whole done (Some f) = false
+
+abbrev pub is_line_feed : ℕ → Bool
+is_line_feed c = c == 10
+
+-- the fault of the line that begins with rest: that of the line; or it isn't ended, or missing
+abbrev pub fault_of : Beginning → List ℕ → Option FaultCode
+fault_of b rest =
+    if list_any is_line_feed rest then line_fault_of b.done b.open_function (before_first is_line_feed rest)
+    else if (length rest == 0) && is_whole b.done b.open_function then None
+    else Some CutOff
+
+abbrev pub line_count : List ℕ → ℕ
+line_count bytes = count_by is_line_feed bytes
+
+-- ---- a text
+
+-- below lines that may stand where they stand, the text goes on with a line in fault
+pub record HasLaterFault (bytes : List ℕ) (line : ℕ) (code : FaultCode) : Type 0 where
+  pub above : Beginning
+  pub rest : List ℕ
+  pub above_fits : IsBeginning above
+  pub parts : bytes ≡ beginning above ++ rest
+  pub place : line ≡ line_count (beginning above) + 1
+  pub fault : fault_of above rest ≡ Some code
+
+pub record HasFirstLineFault (bytes : List ℕ) (line : ℕ) (code : FaultCode) : Type 0 where
+  pub other : starts_with nat_eq bytes first_line ≡ false
+  pub place : line ≡ 1
+  pub fault : code ≡ FirstLine
+
+-- the first line in fault, counted from 1, and its fault
+abbrev pub HasFault : List ℕ → ℕ → FaultCode → Type 0
+HasFault bytes line code = HasFirstLineFault bytes line code ⊎ HasLaterFault bytes line code
