@@ -1,6 +1,6 @@
 -- The plain world knows nothing of counts: it is the bag of all references, each with its holder and its object, and the
 -- list of the objects that were closed. (Python/C API manual, Reference Count Details: a reference is owned by one holder.)
-use Rattle.std.specs.Prelude.{ℕ, ◌<◌, Bool, true, false, ◌&&◌, ◌||◌, ◌==◌, not, nat_lt, if◌then◌else◌, List, [], ◌∷◌, ◌++◌, count_by}
+use Rattle.std.specs.Prelude.{ℕ, Bool, true, false, ◌&&◌, ◌||◌, ◌==◌, not, nat_lt, if◌then◌else◌, List, [], ◌∷◌, ◌++◌, count_by}
 use Rattle.std.specs.List.{list_any}
 
 -- the object none, which is immortal: it isn't counted, and is never closed

@@ -1,11 +1,11 @@
 -- What an accepted module promises.
-use Rattle.std.specs.Prelude.{◌≡◌, ◌≢◌, ℕ, ◌<◌, ◌≤◌, Bool, true, false, ◌&&◌, ◌==◌, not, List, [], ◌∷◌, length, AllPairs, slice_index, filter, ◌↔◌}
+use Rattle.std.specs.Prelude.{◌≡◌, ◌≢◌, ℕ, ◌*◌, ◌<◌, ◌≤◌, Bool, true, false, List, [], ◌∷◌, length, AllPairs, slice_index, filter, ◌↔◌}
 use Rattle.std.specs.List.{AllByRecursion, list_all}
 use Rattle.brc_lang.specs.declared.module.Module.{Module}
 use Rattle.brc_model.specs.declared.thread.Call.{Call}
 use Rattle.brc_model.specs.declared.thread.Choice.{Choice}
 use Rattle.brc_model.specs.declared.thread.Control.{Control}
-use Rattle.brc_model.specs.declared.thread.Control.TheVariants.{Standing, Inside, Gone}
+use Rattle.brc_model.specs.declared.thread.Control.TheVariants.{Gone}
 use Rattle.brc_model.specs.declared.thread.Thread.{Thread}
 use Rattle.brc_model.specs.Plain.{none_row, root_row, is_counted, is_among, references_to}
 use Rattle.brc_model.specs.Steps.{World, Scene, first_scene, is_bad, scene_after}
@@ -36,6 +36,8 @@ pub record IsSafeAt (sc : Scene) : Type 0 where
   -- no event that can come next is bad
   pub none_bad : (t : ℕ) (choice : Choice) → is_bad sc (t, choice) ≡ false
   pub agree : CountsAgree sc
+  -- a thread holds at most one reference by each of its sixteen variables, and one as the caller
+  pub few : length sc.plain.references ≤ 17 * length sc.world.threads
   pub same_closed : sc.world.closed ≡ sc.plain.closed
   pub closed_once : AllPairs (λ x y. x ≢ y) sc.world.closed
   -- once all threads are gone, what has no reference is closed, and no reference is left

@@ -1,6 +1,6 @@
 -- Walks through a function, and what the checker accepts: a function through which no walk meets a code, and where any two
 -- walks to one point reach it in equal states.
-use Rattle.std.specs.Prelude.{◌≡◌, ℕ, nat_lt, if◌then◌else◌, List, [], ◌∷◌, length, Option, None, Some, slice_get, fold}
+use Rattle.std.specs.Prelude.{◌≡◌, ℕ, nat_lt, if◌then◌else◌, List, length, Option, None, Some, slice_get, fold}
 use Rattle.std.specs.List.{AllByRecursion}
 use Rattle.brc_lang.specs.declared.module.Instr.{Instr}
 use Rattle.brc_lang.specs.declared.module.Function.{Function}
