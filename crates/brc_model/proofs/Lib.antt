@@ -1,0 +1,6 @@
+pub mod Bag
+pub mod Lists
+pub mod Invariant
+pub mod Counts
+pub mod Allowed
+pub mod Passing
