@@ -4,3 +4,4 @@ pub mod Invariant
 pub mod Counts
 pub mod Allowed
 pub mod Passing
+pub mod Held
