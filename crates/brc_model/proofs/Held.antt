@@ -48,16 +48,16 @@ holds-without_other bag r u f has ne holds = record { each = λ h object. held-w
 
 -- ---- a variable more, or less
 
-slot_of-put_same : (s : State) (x : ℕ) (slot : Slot) → x < length s.slots → slot_of (put s x slot) x ≡ slot
+pub slot_of-put_same : (s : State) (x : ℕ) (slot : Slot) → x < length s.slots → slot_of (put s x slot) x ≡ slot
 slot_of-put_same s x slot h = get_or-set_same s.slots x slot Empty h
 
-slot_of-put_other : (s : State) (x v : ℕ) (slot : Slot) → v ≢ x → slot_of (put s x slot) v ≡ slot_of s v
+pub slot_of-put_other : (s : State) (x v : ℕ) (slot : Slot) → v ≢ x → slot_of (put s x slot) v ≡ slot_of s v
 slot_of-put_other s x v slot ne = get_or-set_other s.slots x v slot Empty ne
 
-row_of-set_same : (rows : List (Option ℕ)) (x : ℕ) (row : Option ℕ) → x < length rows → row_of (slice_set rows x row) x ≡ row
+pub row_of-set_same : (rows : List (Option ℕ)) (x : ℕ) (row : Option ℕ) → x < length rows → row_of (slice_set rows x row) x ≡ row
 row_of-set_same rows x row h = get_or-set_same rows x row None h
 
-row_of-set_other : (rows : List (Option ℕ)) (x v : ℕ) (row : Option ℕ) → v ≢ x → row_of (slice_set rows x row) v ≡ row_of rows v
+pub row_of-set_other : (rows : List (Option ℕ)) (x v : ℕ) (row : Option ℕ) → v ≢ x → row_of (slice_set rows x row) v ≡ row_of rows v
 row_of-set_other rows x v row ne = get_or-set_other rows x v row None ne
 
 -- what one variable holds, by its slot and its row

@@ -5,3 +5,4 @@ pub mod Counts
 pub mod Allowed
 pub mod Passing
 pub mod Held
+pub mod Due

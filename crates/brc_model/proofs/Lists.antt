@@ -15,11 +15,11 @@ slice_get-set_other (y ∷ ys) zero (suc j) x ne = refl
 slice_get-set_other (y ∷ ys) (suc i) zero x ne = refl
 slice_get-set_other (y ∷ ys) (suc i) (suc j) x ne = slice_get-set_other ys i j x (λ e. ne (ap suc e))
 
-first_false : (a b : Bool) → (a || b) ≡ false → a ≡ false
+pub first_false : (a b : Bool) → (a || b) ≡ false → a ≡ false
 first_false true b e = absurd cc
 first_false false b e = refl
 
-second_false : (a b : Bool) → (a || b) ≡ false → b ≡ false
+pub second_false : (a b : Bool) → (a || b) ≡ false → b ≡ false
 second_false true b e = absurd cc
 second_false false b e = e
 
