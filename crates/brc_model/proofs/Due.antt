@@ -21,7 +21,7 @@ use Rattle.brc_model.specs.Plain.{root_row, Holding, ByVariable, AsCaller, Refer
 use Rattle.brc_model.specs.Threads.{Request, NoStep, Stuck, Quiet, Retain, Release, row_of, entry_variables, with_row, instruction_request, request}
 use Rattle.brc_model.proofs.Bag.{held, held-le-references_to}
 use Rattle.brc_model.proofs.Lists.{first_false, get_or-replicate_default}
-use Rattle.brc_model.proofs.Invariant.{nothing, the_root, of_variables, reference_of, Holds, IsGrounded, IsInside, FitsControl}
+use Rattle.brc_model.proofs.Invariant.{nothing, the_root, of_variables, reference_of, Holds, IsGrounded, IsInside, FitsControl, AreInstructions}
 use Rattle.brc_model.proofs.Passing.{AreMet, PassesOn, passes_on}
 use Rattle.brc_model.proofs.Held.{slot_of-put_same, slot_of-put_other, row_of-set_same, row_of-set_other, owned_has, caller_has, holds-gained, holds-emptied, holds-ended, holds-returned, holds-entered, holds-left}
 
@@ -147,9 +147,6 @@ instruction_due code bag t left at rows s (Ret from) here = ret_due code bag t l
 instruction_due code bag t left at rows s Fail here = holds-ended bag t s rows (first_false _ _ here.met.none_left) here.holds
 
 -- ---- one thread
-
-pub record AreInstructions (code : List Instr) : Type 0 where
-  pub each : (at : ℕ) (i : Instr) → slice_get code at ≡ Some i → IsInstruction i
 
 inside_due : (code : List Instr) (bag : List Reference) (t left at : ℕ) (rows : List (Option ℕ)) (s : State) → IsAcceptableCode code → AreInstructions code → IsInside code at rows s
     → Holds bag t (of_variables s rows) → IsDue code bag t (instruction_request left at rows (slice_get code at))

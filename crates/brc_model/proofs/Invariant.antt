@@ -3,6 +3,7 @@ use Rattle.std.proofs.Common.{◌≡◌, ◌≢◌, ℕ, zero, suc, ◌+◌, ◌
 use Rattle.std.specs.Prelude.{◌==◌, ◌&&◌, slice_get, slice_index, AllPairs}
 use Rattle.brc_lang.specs.declared.module.Instr.{Instr}
 use Rattle.brc_lang.specs.declared.module.Module.{Module}
+use Rattle.brc_lang.specs.Grammar.{IsInstruction}
 use Rattle.brc_model.specs.declared.slot.Slot.{Slot}
 use Rattle.brc_model.specs.declared.slot.Slot.TheVariants.{Empty, Owned, Caller, Locked}
 use Rattle.brc_model.specs.declared.slot.State.{State}
@@ -69,8 +70,12 @@ pub record FitsCounts (counts : List ℕ) (closed : List ℕ) (bag : List Refere
 
 -- ---- the whole
 
+pub record AreInstructions (code : List Instr) : Type 0 where
+  pub each : (at : ℕ) (i : Instr) → slice_get code at ≡ Some i → IsInstruction i
+
 pub record FitsThread (m : Module) (bag : List Reference) (t : ℕ) (thread : Thread) : Type 0 where
   pub accepted : IsAcceptableCode (code_of (slice_get m.functions thread.function))
+  pub instructions : AreInstructions (code_of (slice_get m.functions thread.function))
   pub stands : FitsControl (code_of (slice_get m.functions thread.function)) bag t thread.control
 
 pub record Keeps (m : Module) (n : ℕ) (sc : Scene) : Type 0 where

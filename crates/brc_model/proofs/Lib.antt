@@ -6,3 +6,4 @@ pub mod Allowed
 pub mod Passing
 pub mod Held
 pub mod Due
+pub mod Keeping
