@@ -5,6 +5,7 @@ use Rattle.std.specs.List.{list_any}
 use Rattle.std.proofs.lemmas.Bool.{eqb-true, eq-eqb}
 use Rattle.std.proofs.lemmas.Bool.Decides.{nat_tests}
 use Rattle.std.proofs.lemmas.List.Sums.{sum_by-cons}
+use Rattle.brc_model.proofs.Lists.{and_first, and_second}
 use Rattle.brc_model.specs.Plain.{Holding, ByVariable, AsCaller, Reference, same_holding, same, without, references_to}
 
 -- how many such references the bag has
@@ -13,10 +14,6 @@ held r bag = count_by (same r) bag
 
 abbrev pub one_if : Bool → ℕ
 one_if b = cond b 1 0
-
-and_true : (a b : Bool) → (a && b) ≡ true → (a ≡ true) × (b ≡ true)
-and_true true b h = (refl, h)
-and_true false b h = absurd cc
 
 pub same_holding-true : (h k : Holding) → same_holding h k ≡ true → h ≡ k
 same_holding-true (ByVariable v) (ByVariable w) e = ap ByVariable (eqb-true v w e)
@@ -30,11 +27,10 @@ same_holding-refl AsCaller = refl
 
 pub same-true : (r q : Reference) → same r q ≡ true → r ≡ q
 same-true r q e =
-    let first = and_true (r.thread == q.thread && same_holding r.holding q.holding) (r.object == q.object) e in
-    let second = and_true (r.thread == q.thread) (same_holding r.holding q.holding) first.0 in
-    let threads : r.thread ≡ q.thread = eqb-true _ _ second.0 in
-    let holdings : r.holding ≡ q.holding = same_holding-true _ _ second.1 in
-    let objects : r.object ≡ q.object = eqb-true _ _ first.1 in
+    let front = and_first (r.thread == q.thread && same_holding r.holding q.holding) (r.object == q.object) e in
+    let threads : r.thread ≡ q.thread = eqb-true _ _ (and_first (r.thread == q.thread) (same_holding r.holding q.holding) front) in
+    let holdings : r.holding ≡ q.holding = same_holding-true _ _ (and_second (r.thread == q.thread) (same_holding r.holding q.holding) front) in
+    let objects : r.object ≡ q.object = eqb-true _ _ (and_second (r.thread == q.thread && same_holding r.holding q.holding) (r.object == q.object) e) in
     λ i. record { thread = threads i; holding = holdings i; object = objects i }
 
 pub same-refl : (r : Reference) → same r r ≡ true

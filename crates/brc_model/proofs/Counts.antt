@@ -9,6 +9,7 @@ use Rattle.std.proofs.lemmas.List.Folds.{list_any-append, list_any-from_Any}
 use Rattle.std.proofs.lemmas.List.Quantifiers.{all_pairs_push}
 use Rattle.brc_model.specs.Plain.{root_row, is_counted, is_among, Reference, same, without, references_to}
 use Rattle.brc_model.specs.Steps.{counted_up, counted_down, closes}
+use Rattle.brc_model.proofs.Lists.{and_first, and_second}
 use Rattle.brc_model.proofs.Bag.{one_if, references_to-cons, references_to-without, held, held-le-references_to}
 use Rattle.brc_model.proofs.Invariant.{FitsCounts}
 
@@ -80,10 +81,6 @@ counts_up counts closed bag r fits some = record {
 
 -- ---- a reference less
 
-and_parts : (a b : Bool) → (a && b) ≡ true → (a ≡ true) × (b ≡ true)
-and_parts true b h = (refl, h)
-and_parts false b h = absurd cc
-
 either : (a b : Bool) → (a || b) ≡ true → (a ≡ true) ⊎ (b ≡ true)
 either true b h = inl refl
 either false b h = inr h
@@ -95,8 +92,7 @@ pub record IsLast (counts : List ℕ) (row : ℕ) : Type 0 where
 
 pub is_last : (counts : List ℕ) (row : ℕ) → closes counts row ≡ true → IsLast counts row
 is_last counts row e =
-    let parts = and_parts (is_counted row) (slice_index counts row == 1) e in
-    record { is_counted_row = ltb-true 0 row parts.0; one = eqb-true _ _ parts.1 }
+    record { is_counted_row = ltb-true 0 row (and_first (is_counted row) (slice_index counts row == 1) e); one = eqb-true _ _ (and_second (is_counted row) (slice_index counts row == 1) e) }
 
 last_closes : (counts : List ℕ) (row : ℕ) → IsLast counts row → closes counts row ≡ true
 last_closes counts row l = rw (counted row l.is_counted_row, eq-eqb _ _ l.one) refl

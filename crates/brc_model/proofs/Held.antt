@@ -17,7 +17,7 @@ use Rattle.brc_model.proofs.Invariant.{nothing, the_root, of_variables, referenc
 
 -- ---- other references
 
-same-other_holding : (r q : Reference) → same_holding r.holding q.holding ≡ false → same r q ≡ false
+pub same-other_holding : (r q : Reference) → same_holding r.holding q.holding ≡ false → same r q ≡ false
 same-other_holding r q other =
     elim (same r q) as (λ b. same r q ≡ b → b ≡ false) [
       | true ↦ λ e.
@@ -28,10 +28,10 @@ same-other_holding r q other =
     ] refl
 
 -- by one variable of one thread, the object tells
-same-one_variable : (t v object row : ℕ) → same (reference_of t (ByVariable v) object) (reference_of t (ByVariable v) row) ≡ (object == row)
+pub same-one_variable : (t v object row : ℕ) → same (reference_of t (ByVariable v) object) (reference_of t (ByVariable v) row) ≡ (object == row)
 same-one_variable t v object row = rw (eq-eqb t t refl, eq-eqb v v refl) refl
 
-same-one_caller : (t object row : ℕ) → same (reference_of t AsCaller object) (reference_of t AsCaller row) ≡ (object == row)
+pub same-one_caller : (t object row : ℕ) → same (reference_of t AsCaller object) (reference_of t AsCaller row) ≡ (object == row)
 same-one_caller t object row = rw (eq-eqb t t refl) refl
 
 held-cons_other : (x r : Reference) (bag : List Reference) → same x r ≡ false → held x (r ∷ bag) ≡ held x bag

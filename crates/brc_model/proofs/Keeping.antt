@@ -15,7 +15,7 @@ use Rattle.brc_model.specs.declared.thread.Thread.{Thread}
 use Rattle.brc_model.specs.Plain.{Holding, ByVariable, Reference, Plain, same, without, references_to, Lose, Finalise, moved}
 use Rattle.brc_model.specs.Threads.{Request, NoStep, Stuck, Quiet, Retain, Release, request}
 use Rattle.brc_model.specs.Steps.{World, Scene, code_of, request_of_thread, request_of, with_control, going_on, counted_up, counted_down, closes, stepped, moves_of, is_bad_request, is_bad, next_scene}
-use Rattle.brc_model.proofs.Lists.{slice_get-set_same, slice_get-set_other}
+use Rattle.brc_model.proofs.Lists.{some_is, slice_get-set_same, slice_get-set_other}
 use Rattle.brc_model.proofs.Invariant.{nothing, reference_of, Holds, FitsControl, FitsCounts, FitsThread, Keeps}
 use Rattle.brc_model.proofs.Counts.{counts_up, counts_down}
 use Rattle.brc_model.proofs.Allowed.{retain_not_bad, release_not_bad}
@@ -30,9 +30,6 @@ control_kept : (code : List Instr) (t u : ℕ) (bag new : List Reference) (contr
 control_kept code t u bag new (Standing left) others ne fits = others.kept u _ ne fits
 control_kept code t u bag new (Inside left at rows) others ne fits = (fits.0, fits.1, others.kept u _ ne fits.2)
 control_kept code t u bag new Gone others ne fits = others.kept u _ ne fits
-
-some_is : {A : Type 0} (x y : A) → Some x ≡ Some y → x ≡ y
-some_is x y e = cc
 
 -- the thread with another control
 abbrev went_on : Thread → Control → Thread

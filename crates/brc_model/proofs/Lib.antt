@@ -7,3 +7,4 @@ pub mod Passing
 pub mod Held
 pub mod Due
 pub mod Keeping
+pub mod First
