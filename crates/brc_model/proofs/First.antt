@@ -1,25 +1,22 @@
 -- The invariant holds of the first scene: each thread holds the root as the caller, and nothing else.
-use Rattle.std.proofs.Common.{◌≡◌, ◌≢◌, ℕ, zero, suc, ◌+◌, ◌*◌, ◌<◌, ◌≤◌, Bool, true, false, List, [], ◌∷◌, length, Option, None, Some, refl, sym, ap, ◌∙◌, subst, arith, inl, inr}
+use Rattle.std.proofs.Common.{◌≡◌, ◌≢◌, ℕ, zero, suc, ◌+◌, ◌*◌, ◌<◌, ◌≤◌, true, false, List, [], ◌∷◌, length, Option, Some, refl, sym, ap, ◌∙◌, subst, arith, inl, inr}
 use Rattle.std.specs.Prelude.{◌==◌, slice_get, slice_index, replicate, map}
-use Rattle.std.specs.List.{AllByRecursion}
 use Rattle.std.proofs.lemmas.Bool.Decides.{eqb_tells}
-use Rattle.std.proofs.lemmas.Bool.{eq-eqb}
 use Rattle.std.proofs.lemmas.List.{length-map}
 use Rattle.std.proofs.lemmas.Option.{slice_get_within}
-use Rattle.brc_lang.specs.declared.module.Instr.{Instr}
 use Rattle.brc_lang.specs.declared.module.Module.{Module}
 use Rattle.brc_lang.specs.declared.module.Function.{Function}
 use Rattle.brc_lang.specs.Grammar.{IsInstruction, IsFunction, IsModule}
 use Rattle.brc_model.specs.declared.thread.Call.{Call}
 use Rattle.brc_model.specs.declared.thread.Thread.{Thread}
 use Rattle.brc_model.specs.Walks.{IsAcceptableCode, IsAcceptable}
-use Rattle.brc_model.specs.Plain.{root_row, Holding, ByVariable, AsCaller, Reference, same, references_to}
-use Rattle.brc_model.specs.Steps.{code_of, main_thread, worker_of, first_world, caller_reference, callers_below, first_scene}
+use Rattle.brc_model.specs.Plain.{root_row, Holding, ByVariable, AsCaller, same, references_to}
+use Rattle.brc_model.specs.Steps.{code_of, main_thread, worker_of, caller_reference, callers_below, first_scene}
 use Rattle.brc_model.specs.Safety.{IsCall, AreCalls}
 use Rattle.brc_model.proofs.Bag.{held, one_if, same-other_thread, held-cons, references_to-cons}
-use Rattle.brc_model.proofs.Lists.{some_is, get_or-replicate_default, FoundAt, all_at, all_of_found, MappedAt, slice_get-map}
+use Rattle.brc_model.proofs.Lists.{some_is, get_or-replicate_default, all_at, all_of_found, slice_get-map}
 use Rattle.brc_model.proofs.Held.{same-other_holding, same-one_caller}
-use Rattle.brc_model.proofs.Invariant.{nothing, the_root, reference_of, Holds, FitsCounts, AreInstructions, FitsThread, Keeps}
+use Rattle.brc_model.proofs.Invariant.{the_root, reference_of, FitsCounts, AreInstructions, FitsThread, Keeps}
 
 -- ---- what the callers hold
 
@@ -40,13 +37,13 @@ callers_hold zero t h object below = absurd (omega arith)
 callers_hold (suc n) t h object below =
     elim (eqb_tells t n) [
       | inl this ↦
-        let P : ℕ → Type 0 = λ u. held (reference_of u h object) (callers_below (suc n)) ≡ one_if (the_root h object) in
-        subst P (sym this.1) (omega (arith, held-cons (reference_of n h object) (caller_reference n) (callers_below n), its_caller n h object, callers_beyond n n h object (omega arith)))
+          let P : ℕ → Type 0 = λ u. held (reference_of u h object) (callers_below (suc n)) ≡ one_if (the_root h object) in
+          subst P (sym this.1) (omega (arith, held-cons (reference_of n h object) (caller_reference n) (callers_below n), its_caller n h object, callers_beyond n n h object (omega arith)))
       | inr apart ↦
-        let x = reference_of t h object in
-        let other : one_if (same x (caller_reference n)) ≡ 0 = ap one_if (same-other_thread x (caller_reference n) apart.1) in
-        let lower : t < n = omega (arith, below, apart.1) in
-        omega (arith, held-cons x (caller_reference n) (callers_below n), other, callers_hold n t h object lower)
+          let x = reference_of t h object in
+          let other : one_if (same x (caller_reference n)) ≡ 0 = ap one_if (same-other_thread x (caller_reference n) apart.1) in
+          let lower : t < n = omega (arith, below, apart.1) in
+          omega (arith, held-cons x (caller_reference n) (callers_below n), other, callers_hold n t h object lower)
     ]
 
 root_references : (n : ℕ) → references_to root_row (callers_below n) ≡ n
@@ -72,10 +69,10 @@ first_counts : (n rest : ℕ) → 0 < n → FitsCounts (0 ∷ n ∷ replicate re
 first_counts n rest some = record {
   agree = first_agree n rest;
   only_root = λ object pos more.
-  elim (eqb_tells root_row object) [
-    | inl this ↦ sym this.1
-    | inr apart ↦ absurd (omega (arith, more, other_references n object apart.1))
-  ];
+      elim (eqb_tells root_row object) [
+        | inl this ↦ sym this.1
+        | inr apart ↦ absurd (omega (arith, more, other_references n object apart.1))
+      ];
   closed_is = λ object is. absurd (let wrong : false ≡ true = is in cc);
   closes = λ none. absurd (omega (arith, none, root_references n, some));
   once = λ i j d lt within. absurd (omega arith);

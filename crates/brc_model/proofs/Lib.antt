@@ -8,3 +8,5 @@ pub mod Held
 pub mod Due
 pub mod Keeping
 pub mod First
+pub mod Few
+pub mod Safe
