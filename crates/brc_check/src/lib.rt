@@ -2,6 +2,7 @@
 #![tactic(auto)]
 
 mod checked;
+mod instruction;
 mod refused;
 
 pub use brc_model::{CheckCode, Slot, State};
