@@ -1,9 +1,9 @@
 //! One instruction: what it asks of a state, and what it leaves.
 
-ghost use Rattle.std.specs.Prelude.{◌≡◌, ◌<◌, length, None};
+ghost use Rattle.std.specs.Prelude.{◌≡◌, ℕ, ◌+◌, length, if◌then◌else◌};
 ghost use Rattle.std.specs.List.{list_any};
 ghost use Rattle.brc_model.specs.declared.slot.Exit.{Exit};
-ghost use Rattle.brc_model.specs.Slots.{slot_of, is_owned, names, put, lowest, after, target};
+ghost use Rattle.brc_model.specs.Slots.{slot_of, is_owned, kind_of, names, lowest, after, target};
 
 use brc_lang::{Instr, Kind, Variable};
 use brc_model::{CheckCode, Slot, State};
@@ -13,6 +13,15 @@ fn slot(state: &State, variable: Variable) -> Slot
     ensures { result ≡ slot_of state.now variable }
 {
     state.slots[variable.number() as usize]
+}
+
+fn kind_of(slot: Slot) -> Kind
+    ensures { result ≡ kind_of slot }
+{
+    match slot {
+        Slot::Empty => Kind::Any,
+        Slot::Owned(kind) | Slot::Caller(kind) | Slot::Locked(kind) => kind,
+    }
 }
 
 fn is_locked(state: &State, variable: Variable) -> bool
@@ -94,4 +103,27 @@ pub fn refusal(instr: Instr, state: &State) -> Option<CheckCode>
         Instr::Ret { from } => ret_refusal(state, from),
         Instr::Fail => fail_refusal(state),
     }
+}
+
+/// What the instruction leaves in the variables where it leads on. It ends alike by both exits.
+pub fn apply(instr: Instr, state: &mut State)
+    requires { length state.old.slots ≡ 16 }
+    ensures after { (exit : Exit) → state.new ≡ after instr exit state.old }
+    ensures all { length state.new.slots ≡ 16 }
+{
+    match instr {
+        Instr::Newref { to, from } => {
+            let kind = kind_of(slot(state, from));
+            state.slots[to.number() as usize] = Slot::Owned(kind);
+        }
+        Instr::Drop { from } => state.slots[from.number() as usize] = Slot::Empty,
+        Instr::Ret { .. } | Instr::Fail => (),
+    }
+}
+
+/// Whether the call ends with the instruction. After each other one stands the next.
+pub fn ends_call(instr: Instr) -> bool
+    ensures { (exit : Exit) (at : ℕ) → target instr exit at ≡ (if result then None else Some (at + 1)) }
+{
+    matches!(instr, Instr::Ret { .. } | Instr::Fail)
 }
