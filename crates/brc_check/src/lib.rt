@@ -2,6 +2,7 @@
 #![tactic(auto)]
 
 mod checked;
+mod function;
 mod instruction;
 mod refused;
 
