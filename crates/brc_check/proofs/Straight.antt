@@ -115,13 +115,13 @@ never_meets : (code : List Instr) (n m at : ℕ) (c : CheckCode) → on code n s
 never_meets code n m at c g h =
     elim (cases_lt m n) [
       | inl lt ↦
-        let e : m + (n - m) ≡ n = omega arith in
-        let met : on code n start ≡ Meets at c = ap (λ (k : ℕ). on code k start) (sym e) ∙ on-add code m (n - m) start ∙ ap (on code (n - m)) h ∙ on-Meets code (n - m) at c in
-        cc
+          let e : m + (n - m) ≡ n = omega arith in
+          let met : on code n start ≡ Meets at c = ap (λ (k : ℕ). on code k start) (sym e) ∙ on-add code m (n - m) start ∙ ap (on code (n - m)) h ∙ on-Meets code (n - m) at c in
+          cc
       | inr le ↦
-        let e : n + (m - n) ≡ m = omega arith in
-        let ended : on code m start ≡ Ended = ap (λ (k : ℕ). on code k start) (sym e) ∙ on-add code n (m - n) start ∙ ap (on code (m - n)) g ∙ on-Ended code (m - n) in
-        cc
+          let e : n + (m - n) ≡ m = omega arith in
+          let ended : on code m start ≡ Ended = ap (λ (k : ℕ). on code k start) (sym e) ∙ on-add code n (m - n) start ∙ ap (on code (m - n)) g ∙ on-Ended code (m - n) in
+          cc
     ]
 
 pub acceptable : (code : List Instr) (n : ℕ) → on code n start ≡ Ended → IsAcceptableCode code
@@ -163,9 +163,11 @@ pub is_ended : (code : List Instr) (at : ℕ) (s : State) (i : Instr) → HasCom
 is_ended code at s i come lt item low leads = acceptable code (at + 1) (passes_to code at s i None come lt item low leads)
 
 pub goes_on : (code : List Instr) (at : ℕ) (s t : State) (i : Instr) → HasCome code at s → at < length code → slice_get code at ≡ Some i → lowest i s ≡ None → target i Success at ≡ Some (at + 1) → t ≡ after i Success s → HasCome code (at + 1) t
-goes_on code at s t i come lt item low leads same = record { place =
-    let e : at + 1 - 1 ≡ at = omega arith in
-    rw (e, same) (passes_to code at s i (Some (at + 1)) come lt item low leads) }
+goes_on code at s t i come lt item low leads same = record {
+  place =
+      let e : at + 1 - 1 ≡ at = omega arith in
+      rw (e, same) (passes_to code at s i (Some (at + 1)) come lt item low leads);
+}
 
 pub runs_off : (code : List Instr) (at : ℕ) (s : State) → HasCome code at s → length code ≤ at → at ≤ length code → MeetsCode code (length code - 1) RunsOff
 runs_off code at s come past within =

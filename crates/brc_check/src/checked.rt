@@ -24,6 +24,15 @@ impl Model for Checked {
 }
 
 impl Checked {
+    /// The module, accepted.
+    pub(crate) fn new(module: Module) -> Checked
+        requires fits { IsModule «module» }
+        requires acceptable { IsAcceptable «module» }
+        ensures { result ≡ «module» }
+    {
+        Checked { module }
+    }
+
     /// The module.
     pub fn module(&self) -> &Module
         ensures value { result.now ≡ self.now }
