@@ -24,13 +24,13 @@ impl Model for Checked {
 }
 
 impl Checked {
-    /// The module, accepted.
-    pub(crate) fn new(module: Module) -> Checked
-        requires fits { IsModule «module» }
-        requires acceptable { IsAcceptable «module» }
-        ensures { result ≡ «module» }
+    /// The module as an accepted one.
+    pub(crate) fn new(accepted: Module) -> Checked
+        requires fits { IsModule accepted }
+        requires acceptable { IsAcceptable accepted }
+        ensures { result ≡ accepted }
     {
-        Checked { module }
+        Checked { module: accepted }
     }
 
     /// The module.

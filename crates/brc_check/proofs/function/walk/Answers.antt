@@ -1,6 +1,5 @@
-use Rattle.std.proofs.Common.{◌≡◌, length, slice_get, Some, refl, sym, ◌∙◌, arith}
+use Rattle.std.proofs.Common.{length, refl, sym, arith}
 use Rattle.std.proofs.lemmas.Option.{slice_get_read}
-use Rattle.brc_model.specs.Slots.{lowest, target}
 use Rattle.brc_model.specs.declared.slot.Exit.TheVariants.{Success}
 use Rattle.brc_check.proofs.Straight.{is_refused, is_ended, goes_on, runs_off}
 use Rattle.brc_check.proofs.function.walk.Goals as goal
