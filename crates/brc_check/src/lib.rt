@@ -11,3 +11,6 @@ pub use brc_model::{CheckCode, Slot, State};
 pub use checked::Checked;
 pub use checker::check;
 pub use refused::Refused;
+
+#[cfg(test)]
+mod tests;
