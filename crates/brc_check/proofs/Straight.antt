@@ -54,79 +54,79 @@ IsPoint-follow code n (Meets at c) e h = tt
 
 -- ---- so many steps
 
--- so many steps on
-abbrev pub on : List Instr → ℕ → Place → Place
-on code zero p = p
-on code (suc n) p = on code n (follow code p Success)
+-- the place that so many steps lead to, all by one exit
+abbrev pub after_steps : List Instr → ℕ → Place → Place
+after_steps code zero p = p
+after_steps code (suc n) p = after_steps code n (follow code p Success)
 
 abbrev pub start : Place
 start = At 0 entry
 
-fold-on : (code : List Instr) (exits : List Exit) (p : Place) → fold (follow code) p exits ≡ on code (length exits) p
-fold-on code [] p = refl
-fold-on code (e ∷ es) p = fold-on code es (follow code p e) ∙ ap (on code (length es)) (follow-any code p e Success)
+fold-after_steps : (code : List Instr) (exits : List Exit) (p : Place) → fold (follow code) p exits ≡ after_steps code (length exits) p
+fold-after_steps code [] p = refl
+fold-after_steps code (e ∷ es) p = fold-after_steps code es (follow code p e) ∙ ap (after_steps code (length es)) (follow-any code p e Success)
 
-walk-on : (code : List Instr) (exits : List Exit) → walk code exits ≡ on code (length exits) start
-walk-on code exits = fold-on code exits start
+walk-after_steps : (code : List Instr) (exits : List Exit) → walk code exits ≡ after_steps code (length exits) start
+walk-after_steps code exits = fold-after_steps code exits start
 
-on-add : (code : List Instr) (n m : ℕ) (p : Place) → on code (n + m) p ≡ on code m (on code n p)
-on-add code zero m p = let e : 0 + m ≡ m = omega arith in rw e refl
-on-add code (suc n) m p = let e : suc n + m ≡ suc (n + m) = omega arith in rw e (on-add code n m (follow code p Success))
+after_steps-add : (code : List Instr) (n m : ℕ) (p : Place) → after_steps code (n + m) p ≡ after_steps code m (after_steps code n p)
+after_steps-add code zero m p = let e : 0 + m ≡ m = omega arith in rw e refl
+after_steps-add code (suc n) m p = let e : suc n + m ≡ suc (n + m) = omega arith in rw e (after_steps-add code n m (follow code p Success))
 
-pub on-more : (code : List Instr) (n : ℕ) (p : Place) → on code (n + 1) p ≡ follow code (on code n p) Success
-on-more code n p = on-add code n 1 p
+after_steps-more : (code : List Instr) (n : ℕ) (p : Place) → after_steps code (n + 1) p ≡ follow code (after_steps code n p) Success
+after_steps-more code n p = after_steps-add code n 1 p
 
-on-Ended : (code : List Instr) (n : ℕ) → on code n Ended ≡ Ended
-on-Ended code zero = refl
-on-Ended code (suc n) = on-Ended code n
+after_steps-Ended : (code : List Instr) (n : ℕ) → after_steps code n Ended ≡ Ended
+after_steps-Ended code zero = refl
+after_steps-Ended code (suc n) = after_steps-Ended code n
 
-on-Meets : (code : List Instr) (n at : ℕ) (c : CheckCode) → on code n (Meets at c) ≡ Meets at c
-on-Meets code zero at c = refl
-on-Meets code (suc n) at c = on-Meets code n at c
+after_steps-Meets : (code : List Instr) (n at : ℕ) (c : CheckCode) → after_steps code n (Meets at c) ≡ Meets at c
+after_steps-Meets code zero at c = refl
+after_steps-Meets code (suc n) at c = after_steps-Meets code n at c
 
-IsPoint-on : (code : List Instr) (m n : ℕ) (p : Place) → IsPoint n p → IsPoint (n + m) (on code m p)
-IsPoint-on code zero n p h = let e : n + 0 ≡ n = omega arith in rw e h
-IsPoint-on code (suc m) n p h = let e : n + suc m ≡ (n + 1) + m = omega arith in rw e (IsPoint-on code m (n + 1) (follow code p Success) (IsPoint-follow code n p Success h))
+IsPoint-after_steps : (code : List Instr) (m n : ℕ) (p : Place) → IsPoint n p → IsPoint (n + m) (after_steps code m p)
+IsPoint-after_steps code zero n p h = let e : n + 0 ≡ n = omega arith in rw e h
+IsPoint-after_steps code (suc m) n p h = let e : n + suc m ≡ (n + 1) + m = omega arith in rw e (IsPoint-after_steps code m (n + 1) (follow code p Success) (IsPoint-follow code n p Success h))
 
 -- ---- whole walks
 
-pub meets : (code : List Instr) (n at : ℕ) (c : CheckCode) → on code n start ≡ Meets at c → MeetsCode code at c
+meets : (code : List Instr) (n at : ℕ) (c : CheckCode) → after_steps code n start ≡ Meets at c → MeetsCode code at c
 meets code n at c h = record {
   exits = replicate n Success;
-  meets = walk-on code (replicate n Success) ∙ ap (λ (k : ℕ). on code k start) (length-replicate n Success) ∙ h;
+  meets = walk-after_steps code (replicate n Success) ∙ ap (λ (k : ℕ). after_steps code k start) (length-replicate n Success) ∙ h;
 }
 
 point_of : (code : List Instr) (exits : List Exit) (at : ℕ) (s : State) → walk code exits ≡ At at s → at ≡ length exits
 point_of code exits at s h =
-    let found : IsPoint (0 + length exits) (At at s) = subst (λ (p : Place). IsPoint (0 + length exits) p) (sym (walk-on code exits) ∙ h) (IsPoint-on code (length exits) 0 start refl) in
+    let found : IsPoint (0 + length exits) (At at s) = subst (λ (p : Place). IsPoint (0 + length exits) p) (sym (walk-after_steps code exits) ∙ h) (IsPoint-after_steps code (length exits) 0 start refl) in
     omega (arith, found)
 
-state_is : (at n : ℕ) (s t : State) (code : List Instr) → on code n start ≡ At at s → on code n start ≡ At at t → s ≡ t
+state_is : (at n : ℕ) (s t : State) (code : List Instr) → after_steps code n start ≡ At at s → after_steps code n start ≡ At at t → s ≡ t
 state_is at n s t code g h = cc
 
 states_agree : (code : List Instr) (exits others : List Exit) (at : ℕ) (s t : State) → walk code exits ≡ At at s → walk code others ≡ At at t → s ≡ t
 states_agree code exits others at s t g h =
     let same : length others ≡ length exits = sym (point_of code others at t h) ∙ point_of code exits at s g in
-    let second : on code (length exits) start ≡ At at t = ap (λ (k : ℕ). on code k start) (sym same) ∙ sym (walk-on code others) ∙ h in
-    state_is at (length exits) s t code (sym (walk-on code exits) ∙ g) second
+    let second : after_steps code (length exits) start ≡ At at t = ap (λ (k : ℕ). after_steps code k start) (sym same) ∙ sym (walk-after_steps code others) ∙ h in
+    state_is at (length exits) s t code (sym (walk-after_steps code exits) ∙ g) second
 
 -- a walk that has ended has met no code
-never_meets : (code : List Instr) (n m at : ℕ) (c : CheckCode) → on code n start ≡ Ended → on code m start ≡ Meets at c → ⊥
+never_meets : (code : List Instr) (n m at : ℕ) (c : CheckCode) → after_steps code n start ≡ Ended → after_steps code m start ≡ Meets at c → ⊥
 never_meets code n m at c g h =
     elim (cases_lt m n) [
       | inl lt ↦
           let e : m + (n - m) ≡ n = omega arith in
-          let met : on code n start ≡ Meets at c = ap (λ (k : ℕ). on code k start) (sym e) ∙ on-add code m (n - m) start ∙ ap (on code (n - m)) h ∙ on-Meets code (n - m) at c in
+          let met : after_steps code n start ≡ Meets at c = ap (λ (k : ℕ). after_steps code k start) (sym e) ∙ after_steps-add code m (n - m) start ∙ ap (after_steps code (n - m)) h ∙ after_steps-Meets code (n - m) at c in
           cc
       | inr le ↦
           let e : n + (m - n) ≡ m = omega arith in
-          let ended : on code m start ≡ Ended = ap (λ (k : ℕ). on code k start) (sym e) ∙ on-add code n (m - n) start ∙ ap (on code (m - n)) g ∙ on-Ended code (m - n) in
+          let ended : after_steps code m start ≡ Ended = ap (λ (k : ℕ). after_steps code k start) (sym e) ∙ after_steps-add code n (m - n) start ∙ ap (after_steps code (m - n)) g ∙ after_steps-Ended code (m - n) in
           cc
     ]
 
-pub acceptable : (code : List Instr) (n : ℕ) → on code n start ≡ Ended → IsAcceptableCode code
+acceptable : (code : List Instr) (n : ℕ) → after_steps code n start ≡ Ended → IsAcceptableCode code
 acceptable code n ended = record {
-  meets_none = λ at c met. never_meets code n (length met.exits) at c ended (sym (walk-on code met.exits) ∙ met.meets);
+  meets_none = λ at c met. never_meets code n (length met.exits) at c ended (sym (walk-after_steps code met.exits) ∙ met.meets);
   states_agree = states_agree code;
 }
 
@@ -137,23 +137,20 @@ abbrev pub arriving : List Instr → ℕ → State → Place
 arriving code at s = if nat_lt at (length code) then At at s else Meets (at - 1) RunsOff
 
 pub record HasCome (code : List Instr) (at : ℕ) (s : State) : Type 0 where
-  pub place : on code at start ≡ arriving code at s
-
-pub begins : (code : List Instr) → 0 < length code → HasCome code 0 entry
-begins code lt = record { place = let b : ltb 0 (length code) ≡ true = lt-ltb _ _ lt in rw b refl }
+  pub place : after_steps code at start ≡ arriving code at s
 
 -- where the walk goes from an instruction of the code
-next-is : (code : List Instr) (at : ℕ) (s : State) (i : Instr) → HasCome code at s → at < length code → slice_get code at ≡ Some i → on code (at + 1) start ≡ passes code at (Some i) Success s
+next-is : (code : List Instr) (at : ℕ) (s : State) (i : Instr) → HasCome code at s → at < length code → slice_get code at ≡ Some i → after_steps code (at + 1) start ≡ passes code at (Some i) Success s
 next-is code at s i come lt item =
     let b : ltb at (length code) ≡ true = lt-ltb _ _ lt in
-    let here : on code at start ≡ At at s = come.place ∙ ap (λ (v : Bool). cond v (At at s) (Meets (at - 1) RunsOff)) b in
-    on-more code at start ∙ ap (λ (p : Place). follow code p Success) here ∙ ap (λ (o : Option Instr). passes code at o Success s) item
+    let here : after_steps code at start ≡ At at s = come.place ∙ ap (λ (v : Bool). cond v (At at s) (Meets (at - 1) RunsOff)) b in
+    after_steps-more code at start ∙ ap (λ (p : Place). follow code p Success) here ∙ ap (λ (o : Option Instr). passes code at o Success s) item
 
 pub is_refused : (code : List Instr) (at : ℕ) (s : State) (i : Instr) (c : CheckCode) → HasCome code at s → at < length code → slice_get code at ≡ Some i → lowest i s ≡ Some c → MeetsCode code at c
 is_refused code at s i c come lt item low =
     meets code (at + 1) at c (next-is code at s i come lt item ∙ ap (λ (o : Option CheckCode). unless_met at o (arrives code at (target i Success at) (after i Success s))) low)
 
-passes_to : (code : List Instr) (at : ℕ) (s : State) (i : Instr) (to : Option ℕ) → HasCome code at s → at < length code → slice_get code at ≡ Some i → lowest i s ≡ None → target i Success at ≡ to → on code (at + 1) start ≡ arrives code at to (after i Success s)
+passes_to : (code : List Instr) (at : ℕ) (s : State) (i : Instr) (to : Option ℕ) → HasCome code at s → at < length code → slice_get code at ≡ Some i → lowest i s ≡ None → target i Success at ≡ to → after_steps code (at + 1) start ≡ arrives code at to (after i Success s)
 passes_to code at s i to come lt item low leads =
     next-is code at s i come lt item
     ∙ ap (λ (o : Option CheckCode). unless_met at o (arrives code at (target i Success at) (after i Success s))) low

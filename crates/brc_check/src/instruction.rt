@@ -1,6 +1,6 @@
 //! One instruction: what it asks of a state, and what it leaves.
 
-ghost use Rattle.std.specs.Prelude.{◌≡◌, ℕ, ◌+◌, length, if◌then◌else◌};
+ghost use Rattle.std.specs.Prelude.{◌≡◌, ℕ, ◌+◌, if◌then◌else◌};
 ghost use Rattle.std.specs.List.{list_any};
 ghost use Rattle.brc_model.specs.declared.slot.Exit.{Exit};
 ghost use Rattle.brc_model.specs.Slots.{slot_of, is_owned, kind_of, names, lowest, after, target};
@@ -9,7 +9,6 @@ use brc_lang::{Instr, Kind, Variable};
 use brc_model::{CheckCode, Slot, State};
 
 fn slot(state: &State, variable: Variable) -> Slot
-    requires { length state.now.slots ≡ 16 }
     ensures { result ≡ slot_of state.now variable }
 {
     state.slots[variable.number() as usize]
@@ -40,7 +39,6 @@ fn any_owned(slots: &[Slot; 16]) -> bool
 }
 
 fn newref_refusal(state: &State, to: Variable, from: Variable) -> Option<CheckCode>
-    requires { length state.now.slots ≡ 16 }
     ensures { result ≡ lowest (Instr.Newref to from) state.now }
 {
     if let Slot::Empty = slot(state, from) {
@@ -56,7 +54,6 @@ fn newref_refusal(state: &State, to: Variable, from: Variable) -> Option<CheckCo
 }
 
 fn drop_refusal(state: &State, from: Variable) -> Option<CheckCode>
-    requires { length state.now.slots ≡ 16 }
     ensures { result ≡ lowest (Instr.Drop from) state.now }
 {
     match slot(state, from) {
@@ -67,7 +64,6 @@ fn drop_refusal(state: &State, from: Variable) -> Option<CheckCode>
 }
 
 fn ret_refusal(state: &State, from: Variable) -> Option<CheckCode>
-    requires { length state.now.slots ≡ 16 }
     ensures { result ≡ lowest (Instr.Ret from) state.now }
 {
     match slot(state, from) {
@@ -94,7 +90,6 @@ fn fail_refusal(state: &State) -> Option<CheckCode>
 
 /// The lowest code that stands before the instruction.
 pub fn refusal(instr: Instr, state: &State) -> Option<CheckCode>
-    requires { length state.now.slots ≡ 16 }
     ensures { result ≡ lowest instr state.now }
 {
     match instr {
@@ -107,9 +102,7 @@ pub fn refusal(instr: Instr, state: &State) -> Option<CheckCode>
 
 /// What the instruction leaves in the variables where it leads on. It ends alike by both exits.
 pub fn apply(instr: Instr, state: &mut State)
-    requires { length state.old.slots ≡ 16 }
-    ensures after { (exit : Exit) → state.new ≡ after instr exit state.old }
-    ensures all { length state.new.slots ≡ 16 }
+    ensures { (exit : Exit) → state.new ≡ after instr exit state.old }
 {
     match instr {
         Instr::Newref { to, from } => {

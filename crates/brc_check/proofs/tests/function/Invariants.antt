@@ -1,4 +1,4 @@
-use Rattle.std.proofs.Common.{◌≡◌, List, length, All}
+use Rattle.std.proofs.Common.{◌≡◌, length, All}
 use Rattle.brc_lang.specs.Grammar.{IsInstruction}
 use Rattle.brc_check.proofs.tests.function.Given as goal
 
