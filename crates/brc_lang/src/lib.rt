@@ -2,9 +2,13 @@
 #![tactic(auto)]
 
 mod fault;
+mod instruction;
 mod kind;
+mod lexing;
 mod module;
 mod name;
+mod place;
+mod reading;
 mod sequence;
 mod variable;
 
@@ -12,5 +16,6 @@ pub use fault::{FaultCode, ReadFault};
 pub use kind::Kind;
 pub use module::{Function, Instr, Module};
 pub use name::Name;
+pub use reading::read;
 pub use sequence::Sequence;
 pub use variable::Variable;
