@@ -1,0 +1,6 @@
+pub mod Cuts
+pub mod Lines
+pub mod Numbers
+pub mod Words
+pub mod Spelling
+pub mod Instructions
