@@ -4,3 +4,4 @@ pub mod Numbers
 pub mod Words
 pub mod Spelling
 pub mod Instructions
+pub mod Headings

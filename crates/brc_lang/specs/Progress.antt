@@ -1,5 +1,6 @@
 -- How far a text is read, in the middle of it.
-use Rattle.std.specs.Prelude.{◌≡◌, ℕ, ◌+◌, ◌<◌, Bool, true, false, List, [], ◌∷◌, ◌++◌, length, Option, None, Some, Ok, codes, ◌⊎◌}
+use Rattle.std.specs.Prelude.{◌≡◌, ℕ, ◌+◌, ◌<◌, false, IsTrue, List, [], ◌∷◌, ◌++◌, length, Option, None, Some, Ok, codes, ◌⊎◌}
+use Rattle.std.specs.Str.{bytes_eq}
 use Rattle.std.specs.List.{list_any}
 use Rattle.brc_lang.specs.declared.module.Function.{Function}
 use Rattle.brc_lang.specs.declared.module.Instr.{Instr}
@@ -8,7 +9,7 @@ use Rattle.brc_lang.specs.declared.fault.FaultCode.TheVariants.{NoMemory}
 use Rattle.brc_lang.specs.declared.fault.ReadFault.{ReadFault}
 use Rattle.brc_lang.specs.declared.place.Place.{Place}
 use Rattle.brc_lang.specs.Grammar.{line, heading, instructions, function, is_name, IsFunction}
-use Rattle.brc_lang.specs.Fault.{words, instruction_in, IsOpen, IfOpen, Beginning, IsBeginning, open_text, heading_fault_of, next_instruction_fault_of, fault_of, is_line_feed, line_count}
+use Rattle.brc_lang.specs.Fault.{words, instruction_in, IsOpen, IfOpen, Beginning, IsBeginning, open_text, fault_of, is_line_feed, line_count}
 
 -- the first line of a text, without its line feed, and what stands below it
 pub record IsFirstLineOf (text first rest : List ℕ) : Type 0 where
@@ -27,7 +28,9 @@ IsLineFault fault code = (code ≡ NoMemory) ⊎ (fault ≡ Some code)
 -- the line opens a function of this name
 pub record Opens (done : List Function) (text name : List ℕ) : Type 0 where
   pub spelled : line text ≡ heading name
-  pub no_fault : heading_fault_of done (words text) ≡ None
+  pub name_fits : IsTrue (is_name name)
+  pub room : length done < 64
+  pub new_name : list_any (λ f. bytes_eq f.name name) done ≡ false
 
 -- the line is an instruction, and stands at the end of the function now
 pub record Appends (old new : List Instr) (text : List ℕ) : Type 0 where
