@@ -5,3 +5,5 @@ pub mod Words
 pub mod Spelling
 pub mod Instructions
 pub mod Headings
+pub mod Machine
+pub mod Uniqueness

@@ -2,9 +2,9 @@
 use Rattle.std.proofs.Common.{◌≡◌, ℕ, ◌+◌, ◌-◌, ◌<◌, ◌≤◌, Bool, true, false, eqb, List, [], ◌∷◌, ◌++◌, length, get_or, take, drop, Option, Some, None, refl, sym, ap, subst, ◌∙◌, append_assoc, arith}
 use Rattle.std.specs.Prelude.{position, count_by}
 use Rattle.std.specs.List.{list_any, slice_split, position_or_len, before_first, after_first}
-use Rattle.std.proofs.lemmas.Bool.{eqb-true}
+use Rattle.std.proofs.lemmas.Bool.{eqb-true, or_parts}
 use Rattle.std.proofs.lemmas.List.{take_rest, length-append}
-use Rattle.std.proofs.lemmas.List.Sums.{passes_at_first, split_at_first, sum_by-append}
+use Rattle.std.proofs.lemmas.List.Sums.{passes_at_first, split_at_first, sum_by-append, sum_by-cons, count_by-le-length}
 use Rattle.std.proofs.lemmas.List.Splits.{slice_split_first}
 use Rattle.brc_lang.specs.Grammar.{line}
 use Rattle.brc_lang.specs.Fault.{words, is_line_feed, line_count}
@@ -56,3 +56,9 @@ line_before first rest plain = rw (line_at first rest) (cut_before is_line_feed 
 
 pub line_count-append : (a b : List ℕ) → line_count (a ++ b) ≡ line_count a + line_count b
 line_count-append a b = sum_by-append _ a b
+
+pub no_feed : (text : List ℕ) → list_any is_line_feed text ≡ false → line_count text ≡ 0
+no_feed [] e = refl
+no_feed (c ∷ cs) e =
+    let h = or_parts (is_line_feed c) (list_any is_line_feed cs) e in
+    sum_by-cons _ c cs ∙ rw (h.0, no_feed cs h.1) refl

@@ -4,6 +4,7 @@
 mod fault;
 mod instruction;
 mod kind;
+mod laws;
 mod lexing;
 mod module;
 mod name;
@@ -14,6 +15,7 @@ mod variable;
 
 pub use fault::{FaultCode, ReadFault};
 pub use kind::Kind;
+pub use laws::{one_reading, one_text};
 pub use module::{Function, Instr, Module};
 pub use name::Name;
 pub use reading::read;
