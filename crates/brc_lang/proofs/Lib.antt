@@ -7,3 +7,4 @@ pub mod Instructions
 pub mod Headings
 pub mod Machine
 pub mod Uniqueness
+pub mod Bodies

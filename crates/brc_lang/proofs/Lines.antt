@@ -62,3 +62,6 @@ no_feed [] e = refl
 no_feed (c ∷ cs) e =
     let h = or_parts (is_line_feed c) (list_any is_line_feed cs) e in
     sum_by-cons _ c cs ∙ rw (h.0, no_feed cs h.1) refl
+
+pub line_count_one : (text : List ℕ) → list_any is_line_feed text ≡ false → line_count (line text) ≡ 1
+line_count_one text plain = line_count-append text (10 ∷ []) ∙ rw (no_feed text plain) refl

@@ -15,7 +15,7 @@ use Rattle.brc_lang.specs.Grammar.{line, instruction, instructions, heading, fun
 use Rattle.brc_lang.specs.Fault.{words, instruction_in, Beginning, beginning, open_text, named, IsBeginning, line_fault_of, is_whole, is_line_feed, fault_of, line_count}
 use Rattle.brc_lang.specs.Progress.{opened, closed}
 use Rattle.brc_lang.proofs.Cuts.{first_part, one_part, parts_some, lacks_all}
-use Rattle.brc_lang.proofs.Lines.{line_at, line_count-append, no_feed}
+use Rattle.brc_lang.proofs.Lines.{line_at, line_count-append, line_count_one}
 use Rattle.brc_lang.proofs.Spelling.{name_plain}
 use Rattle.brc_lang.proofs.Instructions.{chosen, instruction_again, instruction_plain, instruction_not_end}
 use Rattle.brc_lang.proofs.Headings.{has_name, heading_again, new_name_from}
@@ -97,11 +97,8 @@ stops n b rest code e =
 
 -- ---- several lines
 
-one_more : (text : List ℕ) → list_any is_line_feed text ≡ false → line_count (line text) ≡ 1
-one_more text plain = line_count-append text (10 ∷ []) ∙ rw (no_feed text plain) refl
-
 then_more : (n : ℕ) (text rest : List ℕ) → list_any is_line_feed text ≡ false → (n + 1) + line_count rest ≡ n + line_count (line text ++ rest)
-then_more n text rest plain = omega (arith, line_count-append (line text) rest, one_more text plain)
+then_more n text rest plain = omega (arith, line_count-append (line text) rest, line_count_one text plain)
 
 instructions_pass : (n : ℕ) (done : List Function) (name : List ℕ) (front code : List Instr) (rest : List ℕ) → AllByRecursion IsInstruction code → length front + length code ≤ 256
     → read_rest n (inside done name front) (instructions code ++ rest) ≡ read_rest (n + line_count (instructions code)) (inside done name (front ++ code)) rest
