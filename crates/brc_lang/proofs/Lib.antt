@@ -8,3 +8,4 @@ pub mod Headings
 pub mod Machine
 pub mod Uniqueness
 pub mod Bodies
+pub mod Functions

@@ -62,6 +62,7 @@ fn read_module(alloc: Global, bytes: &[u8]) -> Result<Module, ReadFault>
 
 /// Puts the next function behind the others, and says where it ends.
 fn read_function<'a>(alloc: Global, functions: &mut Sequence<Function>, place: Place<'a>) -> Result<Place<'a>, ReadFault>
+    requires some { 0 < length place.rest.now }
     requires fits { IsBeginning (closed functions.old) }
     requires lines { place.line + length place.rest.now < 2 ^ 64 }
     ensures ok { IfOk result (λ after. ReadsFunction functions.old functions.new place.entry after) }
