@@ -1,9 +1,8 @@
 -- Inside a function, line by line.
-use Rattle.std.proofs.Common.{◌≡◌, ℕ, ◌+◌, ◌<◌, ◌≤◌, Bool, true, false, cond, eqb, leb, ◌&&◌, List, [], ◌∷◌, ◌++◌, length, Option, Some, None, Bor, Result, Ok, Err, refl, sym, ap, subst, ◌∙◌, append_assoc, add-zero, arith, inl, inr}
-use Rattle.std.specs.Prelude.{codes, IsTrue, ◌⊎◌}
-use Rattle.std.specs.List.{list_any, flat_map, AllByRecursion}
+use Rattle.std.proofs.Common.{◌≡◌, ℕ, ◌+◌, ◌<◌, ◌≤◌, Bool, true, false, cond, eqb, ◌&&◌, List, [], ◌∷◌, ◌++◌, length, Option, Some, None, Bor, Result, Ok, Err, refl, sym, ap, subst, ◌∙◌, append_assoc, add-zero, arith, inl, inr}
+use Rattle.std.specs.Prelude.{codes, IsTrue}
+use Rattle.std.specs.List.{list_any, AllByRecursion}
 use Rattle.std.specs.Str.{bytes_eq}
-use Rattle.std.proofs.lemmas.Bool.{eq-eqb, ltb-true}
 use Rattle.std.proofs.lemmas.List.{append-nil, length-append}
 use Rattle.std.proofs.lemmas.List.Concat.{flat_map-append}
 use Rattle.std.proofs.lemmas.List.Sums.{count_by-le-length}
@@ -12,10 +11,9 @@ use Rattle.brc_lang.specs.declared.module.Function.{Function}
 use Rattle.brc_lang.specs.declared.module.Instr.{Instr}
 use Rattle.brc_lang.specs.declared.fault.FaultCode.{FaultCode}
 use Rattle.brc_lang.specs.declared.fault.FaultCode.TheVariants.{OverLimit, CutOff}
-use Rattle.brc_lang.specs.declared.fault.ReadFault.{ReadFault}
 use Rattle.brc_lang.specs.declared.place.Place.{Place}
 use Rattle.brc_lang.specs.Grammar.{line, instruction, instructions, is_name, IsInstruction}
-use Rattle.brc_lang.specs.Fault.{words, instruction_in, Beginning, IsOpen, line_fault_of, next_instruction_fault_of, end_fault_of, fault_of, is_line_feed, line_count}
+use Rattle.brc_lang.specs.Fault.{words, instruction_in, Beginning, IsOpen, line_fault_of, next_instruction_fault_of, fault_of, is_line_feed}
 use Rattle.brc_lang.specs.Progress.{IsFirstLineOf, Passes, IsLineFault, Appends, opened, Ends, HasFaultInside, IsFaultInside}
 use Rattle.brc_lang.proofs.Lines.{line_any, line_before, line_count-append, line_count_one}
 use Rattle.brc_lang.proofs.Instructions.{instruction_spelled}
@@ -75,7 +73,7 @@ goes_on name from at code new text rest so_far first next =
     let spelled = instruction_spelled text next.instr next.read in
     let both = passes_both (instructions code) (line text) from at (at_place rest (at.line + 1)) so_far.passed (passes_line text at rest first) in
     let lines : instructions code ++ line text ≡ instructions new =
-      ap (λ (x : List ℕ). instructions code ++ line x) spelled.0 ∙ sym (instructions_push code next.instr) ∙ ap instructions (sym next.appended) in
+    ap (λ (x : List ℕ). instructions code ++ line x) spelled.0 ∙ sym (instructions_push code next.instr) ∙ ap instructions (sym next.appended) in
     let more : IsOpen (opened name (code ++ next.instr ∷ [])) = record {
       name = so_far.open_fits.name;
       most = omega (arith, length-append code (next.instr ∷ []), next.room);
@@ -107,7 +105,7 @@ pub empty_function : (name : List ℕ) (from at : Place) (code : List Instr) (te
     → IsFaultInside name from (record { line = at.line; code = OverLimit })
 empty_function name from at code text rest so_far first last none =
     inr (fault_inside name from at code OverLimit so_far
-      (fault_at (record { done = []; open_function = Some (opened name code) }) at.rest.now text rest first ∙ rw (last, none) refl))
+    (fault_at (record { done = []; open_function = Some (opened name code) }) at.rest.now text rest first ∙ rw (last, none) refl))
 
 same_code : (name : List ℕ) (code : List Instr) (r : Result Instr FaultCode) → next_instruction_fault_of (opened name code) r ≡ next_instruction_fault_of (opened [] code) r
 same_code name code (Ok i) = refl
@@ -118,7 +116,7 @@ pub other_fault : (name : List ℕ) (from at : Place) (code : List Instr) (text 
 other_fault name from at code text rest e so_far first other (inl memory) = inl memory
 other_fault name from at code text rest e so_far first other (inr h) =
     inr (fault_inside name from at code e so_far
-      (fault_at (record { done = []; open_function = Some (opened name code) }) at.rest.now text rest first ∙ rw other (same_code name code (instruction_in (words text)) ∙ h)))
+    (fault_at (record { done = []; open_function = Some (opened name code) }) at.rest.now text rest first ∙ rw other (same_code name code (instruction_in (words text)) ∙ h)))
 
 pub cut_off : (name : List ℕ) (from at : Place) (code : List Instr) → IsInside name from code at → list_any is_line_feed at.rest.now ≡ false → IsFaultInside name from (record { line = at.line; code = CutOff })
 cut_off name from at code so_far e = inr (fault_inside name from at code CutOff so_far (cut_off_inside [] (opened name code) at.rest.now e))

@@ -1,10 +1,10 @@
 -- Where a list is cut at the first element that passes a test.
-use Rattle.std.proofs.Common.{◌≡◌, ℕ, ◌+◌, ◌-◌, ◌<◌, ◌≤◌, Bool, true, false, cond, ltb, ◌||◌, List, [], ◌∷◌, ◌++◌, length, get_or, take, drop, Option, Some, None, refl, sym, ap, subst, ◌∙◌, append_assoc, arith, inl, inr}
-use Rattle.std.specs.List.{list_any, slice_split, position, position_or_len, before_first, after_first, All, AllByRecursion}
+use Rattle.std.proofs.Common.{◌≡◌, ℕ, ◌<◌, ◌≤◌, Bool, true, false, ltb, List, [], ◌∷◌, ◌++◌, length, take, Some, None, refl, sym, ap, ◌∙◌, arith, inl, inr}
+use Rattle.std.specs.List.{list_any, slice_split, position, position_or_len, before_first, All, AllByRecursion}
 use Rattle.std.proofs.lemmas.Bool.{cases_Bool, ltb-true, ltb-false, or_parts, or_left, or_right}
-use Rattle.std.proofs.lemmas.List.{get_or-take, get_or_append_left, get_or_at, take_at, drop_at, take_rest, length-append, length-take}
-use Rattle.std.proofs.lemmas.List.Sums.{fails_before_first, passes_at_first, split_at_first, position_or_len_is, prefix_len-le-length}
-use Rattle.std.proofs.lemmas.List.Splits.{slice_split_none, slice_split_first, slice_split_at}
+use Rattle.std.proofs.lemmas.List.{get_or-take, get_or_append_left, get_or_at, take_at, length-append, length-take}
+use Rattle.std.proofs.lemmas.List.Sums.{fails_before_first, position_or_len_is}
+use Rattle.std.proofs.lemmas.List.Splits.{slice_split_none, slice_split_at}
 use Rattle.std.proofs.lemmas.List.Recursion.{or_from_places}
 use Rattle.std.proofs.lemmas.List.Elements.{All-from_recursion}
 
@@ -30,7 +30,7 @@ lacks_all p xs le = or_from_places (list_any p) p refl (λ _ _. refl) xs 0 (λ k
 pub lacks_before : (p : ℕ → Bool) (xs : List ℕ) → list_any p (before_first p xs) ≡ false
 lacks_before p xs =
     or_from_places (list_any p) p refl (λ _ _. refl) (before_first p xs) 0
-      (λ k lt. let h : k < position_or_len p xs = omega (arith, length-take (position_or_len p xs) xs) in rw (get_or-take (position_or_len p xs) xs k 0 h) (fails_before_first p xs k 0 h))
+    (λ k lt. let h : k < position_or_len p xs = omega (arith, length-take (position_or_len p xs) xs) in rw (get_or-take (position_or_len p xs) xs k 0 h) (fails_before_first p xs k 0 h))
 
 -- ---- a list that lacks it
 
@@ -60,8 +60,8 @@ first_part p xs y ys e f = slice_split_at p xs y ys (lacks_at p xs e) f
 pub cut_place : (p : ℕ → Bool) (xs : List ℕ) (y : ℕ) (ys : List ℕ) → list_any p xs ≡ false → p y ≡ true → position_or_len p (xs ++ y ∷ ys) ≡ length xs
 cut_place p xs y ys e f =
     position_or_len_is p (xs ++ y ∷ ys) (length xs) 0 (omega (arith, length-append xs (y ∷ ys)))
-      (λ k lt. rw (get_or_append_left xs (y ∷ ys) 0 k lt) (lacks_at p xs e k 0 lt))
-      (λ _. rw (get_or_at xs y ys 0 (length xs) refl) f)
+    (λ k lt. rw (get_or_append_left xs (y ∷ ys) 0 k lt) (lacks_at p xs e k 0 lt))
+    (λ _. rw (get_or_at xs y ys 0 (length xs) refl) f)
 
 pub cut_before : (p : ℕ → Bool) (xs : List ℕ) (y : ℕ) (ys : List ℕ) → list_any p xs ≡ false → p y ≡ true → before_first p (xs ++ y ∷ ys) ≡ xs
 cut_before p xs y ys e f = ap (λ (n : ℕ). take n (xs ++ y ∷ ys)) (cut_place p xs y ys e f) ∙ take_at xs (y ∷ ys) (length xs) refl

@@ -1,8 +1,8 @@
 -- From function to function.
-use Rattle.std.proofs.Common.{◌≡◌, ℕ, ◌+◌, ◌<◌, ◌≤◌, Bool, true, false, cond, eqb, ◌&&◌, List, [], ◌∷◌, ◌++◌, length, take, drop, Option, Some, None, Bor, Result, Ok, Err, refl, sym, ap, subst, ◌∙◌, append_assoc, add-zero, arith, inl, inr}
-use Rattle.std.specs.Prelude.{codes, nat_eq, ◌⊎◌}
+use Rattle.std.proofs.Common.{◌≡◌, ℕ, ◌+◌, ◌<◌, ◌≤◌, true, false, eqb, List, [], ◌∷◌, ◌++◌, length, take, drop, Some, None, Bor, refl, sym, ap, subst, ◌∙◌, append_assoc, add-zero, arith, inl, inr}
+use Rattle.std.specs.Prelude.{codes, nat_eq}
 use Rattle.std.specs.List.{list_any, starts_with, AllByRecursion}
-use Rattle.std.proofs.lemmas.Bool.{ne_eqb, eq-eqb}
+use Rattle.std.proofs.lemmas.Bool.{ne_eqb}
 use Rattle.std.proofs.lemmas.List.{append-nil, length-append, take-append-drop, nil_from_length}
 use Rattle.std.proofs.lemmas.List.Concat.{flat_map-append}
 use Rattle.std.proofs.lemmas.List.Sums.{count_by-le-length}
@@ -13,9 +13,9 @@ use Rattle.brc_lang.specs.declared.fault.FaultCode.{FaultCode}
 use Rattle.brc_lang.specs.declared.fault.FaultCode.TheVariants.{CutOff}
 use Rattle.brc_lang.specs.declared.fault.ReadFault.{ReadFault}
 use Rattle.brc_lang.specs.declared.place.Place.{Place}
-use Rattle.brc_lang.specs.Grammar.{line, heading, instructions, function, functions, first_line, text, IsFunction, IsModule, Spells}
-use Rattle.brc_lang.specs.Fault.{words, Beginning, beginning, open_text, IsBeginning, heading_fault_of, fault_of, is_whole, is_line_feed, line_count, HasLaterFault, IsFaultOf}
-use Rattle.brc_lang.specs.Progress.{IsFirstLineOf, Passes, Opens, opened, closed, Ends, HasFaultInside, IsFaultInside, ReadsFunction, HasFaultBelow, IsFaultBelow}
+use Rattle.brc_lang.specs.Grammar.{line, heading, instructions, function, functions, first_line, text, IsFunction, Spells}
+use Rattle.brc_lang.specs.Fault.{words, beginning, open_text, IsBeginning, heading_fault_of, fault_of, is_line_feed, line_count, IsFaultOf}
+use Rattle.brc_lang.specs.Progress.{IsFirstLineOf, Passes, Opens, opened, closed, Ends, IsFaultInside, ReadsFunction, IsFaultBelow}
 use Rattle.brc_lang.proofs.Lines.{line_count-append}
 use Rattle.brc_lang.proofs.Headings.{apart_push}
 use Rattle.brc_lang.proofs.Bodies.{at_place, passes_both, passes_line, fault_at}
@@ -64,7 +64,7 @@ reads_function done new p after text name rest f fits first opening end appended
     let last = instructions f.code ++ line (codes "end") in
     let both = passes_both (line text) last p (at_place rest (p.line + 1)) after (passes_line text p rest first) end.passed in
     let lines : line text ++ last ≡ function f =
-      ap (λ (x : List ℕ). x ++ last) (opening.spelled ∙ ap heading (sym end.named)) ∙ sym (append_assoc (heading f.name) (instructions f.code) (line (codes "end"))) in
+    ap (λ (x : List ℕ). x ++ last) (opening.spelled ∙ ap heading (sym end.named)) ∙ sym (append_assoc (heading f.name) (instructions f.code) (line (codes "end"))) in
     let more : IsBeginning (closed (done ++ f ∷ [])) = record {
       most = omega (arith, length-append done (f ∷ []), opening.room);
       done = functions_all_push done f fits.done end.whole;
@@ -101,8 +101,8 @@ pub one_more : (bytes : List ℕ) (done new : List Function) (p after : Place) �
 one_more bytes done new p after so_far next =
     let f = next.read in
     let lines : beginning (closed done) ++ function f ≡ beginning (closed new) =
-      ap (λ (x : List ℕ). x ++ function f) (above_closed done) ∙ append_assoc first_line (functions done) (function f)
-      ∙ ap (λ (x : List ℕ). first_line ++ x) (sym (functions_push done f) ∙ ap functions (sym next.appended)) ∙ sym (above_closed new) in
+    ap (λ (x : List ℕ). x ++ function f) (above_closed done) ∙ append_assoc first_line (functions done) (function f)
+    ∙ ap (λ (x : List ℕ). first_line ++ x) (sym (functions_push done f) ∙ ap functions (sym next.appended)) ∙ sym (above_closed new) in
     record {
       fits = next.fits;
       parts = so_far.parts ∙ ap (λ (x : List ℕ). beginning (closed done) ++ x) next.passed.parts ∙ sym (append_assoc (beginning (closed done)) (function f) after.rest.now) ∙ ap (λ (x : List ℕ). x ++ after.rest.now) lines;

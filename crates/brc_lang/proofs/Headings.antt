@@ -1,6 +1,6 @@
 -- The line that opens a function.
-use Rattle.std.proofs.Common.{◌≡◌, ◌≢◌, ℕ, ◌+◌, ◌<◌, ◌≤◌, Bool, true, false, cond, not, ◌&&◌, List, [], ◌∷◌, ◌++◌, length, get_or, Option, Some, None, refl, sym, ap, ◌∙◌, append_assoc, arith}
-use Rattle.std.specs.Prelude.{codes, AllPairs}
+use Rattle.std.proofs.Common.{◌≡◌, ◌≢◌, ℕ, ◌<◌, Bool, true, false, List, [], ◌∷◌, ◌++◌, length, get_or, Some, None, refl, sym, ap, ◌∙◌, arith}
+use Rattle.std.specs.Prelude.{codes}
 use Rattle.std.specs.List.{list_any}
 use Rattle.std.specs.Str.{bytes_eq}
 use Rattle.std.proofs.lemmas.Bool.{lt-leb, false_from_ne_true, both_ways}
@@ -9,9 +9,8 @@ use Rattle.std.proofs.lemmas.List.Quantifiers.{all_pairs_push}
 use Rattle.std.proofs.lemmas.List.Recursion.{or_from_places}
 use Rattle.std.proofs.lemmas.Slice.Eq.{bytes_eq-Decides}
 use Rattle.brc_lang.specs.declared.module.Function.{Function}
-use Rattle.brc_lang.specs.declared.fault.FaultCode.{FaultCode}
-use Rattle.brc_lang.specs.declared.fault.FaultCode.TheVariants.{UnknownWord, NameTwice, OverLimit}
-use Rattle.brc_lang.specs.Grammar.{line, heading, is_name, AreNamedApart}
+use Rattle.brc_lang.specs.declared.fault.FaultCode.TheVariants.{UnknownWord, NameTwice}
+use Rattle.brc_lang.specs.Grammar.{line, is_name, AreNamedApart}
 use Rattle.brc_lang.specs.Fault.{words, heading_fault_of}
 use Rattle.brc_lang.specs.Progress.{Opens}
 use Rattle.brc_lang.proofs.Cuts.{lacks_at}
@@ -56,15 +55,15 @@ heading_again done name e room h =
 pub new_name_from : (done : List Function) (f : Function) (fs : List Function) → AreNamedApart (done ++ f ∷ fs) → has_name f.name done ≡ false
 new_name_from done f fs apart =
     or_from_places (has_name f.name) (λ g. bytes_eq g.name f.name) refl (λ _ _. refl) done f
-      (λ k lt. false_from_ne_true _ (λ same.
-        let all = done ++ f ∷ fs in
-        let later : length done < length all = omega (arith, length-append done (f ∷ fs)) in
-        let here : get_or all k f ≡ get_or done k f = get_or_append_left done (f ∷ fs) f k lt in
-        let there : get_or all (length done) f ≡ f = get_or_at done f fs f (length done) refl in
-        apart k (length done) f lt later
-          (ap (λ (g : Function). g.name) here ∙ (bytes_eq-Decides (get_or done k f).name f.name).0 same ∙ sym (ap (λ (g : Function). g.name) there))))
+    (λ k lt. false_from_ne_true _ (λ same.
+    let all = done ++ f ∷ fs in
+    let later : length done < length all = omega (arith, length-append done (f ∷ fs)) in
+    let here : get_or all k f ≡ get_or done k f = get_or_append_left done (f ∷ fs) f k lt in
+    let there : get_or all (length done) f ≡ f = get_or_at done f fs f (length done) refl in
+    apart k (length done) f lt later
+    (ap (λ (g : Function). g.name) here ∙ (bytes_eq-Decides (get_or done k f).name f.name).0 same ∙ sym (ap (λ (g : Function). g.name) there))))
 
 pub apart_push : (done : List Function) (f : Function) → AreNamedApart done → has_name f.name done ≡ false → AreNamedApart (done ++ f ∷ [])
 apart_push done f apart new =
     all_pairs_push (λ g h. g.name ≢ h.name) done f apart
-      (λ k d lt same. both_ways (bytes_eq (get_or done k d).name f.name) (lacks_at (λ g. bytes_eq g.name f.name) done new k d lt) ((bytes_eq-Decides (get_or done k d).name f.name).1 same))
+    (λ k d lt same. both_ways (bytes_eq (get_or done k d).name f.name) (lacks_at (λ g. bytes_eq g.name f.name) done new k d lt) ((bytes_eq-Decides (get_or done k d).name f.name).1 same))

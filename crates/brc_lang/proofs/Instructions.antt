@@ -1,9 +1,8 @@
 -- A line that is read as an instruction is its spelling, and the spelling is read again.
-use Rattle.std.proofs.Common.{◌≡◌, ℕ, ◌<◌, Bool, true, false, cond, List, [], ◌∷◌, ◌++◌, Result, Ok, Err, refl, sym, ap, subst, ◌∙◌, append_assoc, arith, inl, inr}
+use Rattle.std.proofs.Common.{◌≡◌, ℕ, ◌<◌, Bool, true, false, cond, List, [], ◌∷◌, ◌++◌, Result, Ok, Err, refl, sym, ap, subst, ◌∙◌, append_assoc, inl, inr}
 use Rattle.std.specs.Prelude.{codes, ◌⊎◌}
 use Rattle.std.specs.List.{list_any}
 use Rattle.std.specs.Str.{bytes_eq}
-use Rattle.std.proofs.lemmas.Bool.{cases_Bool}
 use Rattle.std.proofs.lemmas.Slice.Eq.{bytes_eq-Decides}
 use Rattle.brc_lang.specs.declared.module.Instr.{Instr}
 use Rattle.brc_lang.specs.declared.module.Instr.TheVariants.{Newref, Drop, Ret, Fail}
@@ -12,7 +11,7 @@ use Rattle.brc_lang.specs.declared.fault.FaultCode.TheVariants.{UnknownWord}
 use Rattle.brc_lang.specs.Grammar.{variable, instruction, IsInstruction}
 use Rattle.brc_lang.specs.Fault.{words, variable_in, ◌>>=◌, newref_in, drop_in, ret_in, fail_in, instruction_in, is_line_feed}
 use Rattle.brc_lang.proofs.Cuts.{lacks_append}
-use Rattle.brc_lang.proofs.Words.{is_space, of_one, of_two, of_three, one_word, first_word, some_word}
+use Rattle.brc_lang.proofs.Words.{of_one, of_two, of_three, one_word, first_word, some_word}
 use Rattle.brc_lang.proofs.Spelling.{variable_spelled, variable_again, variable_no_space, variable_plain}
 
 -- the value of a step that did not fail
@@ -90,15 +89,15 @@ instruction_spelled text i read =
     elim (chosen (bytes_eq w (codes "newref")) (newref_in ws) _ (Ok i) read_parts) [
       | inl h ↦ newref_spelled text w ws i q.2 (same_text w (codes "newref") h.0) h.1
       | inr other ↦ elim (chosen (bytes_eq w (codes "drop")) (drop_in ws) _ (Ok i) other.1) [
-          | inl h ↦ drop_spelled text w ws i q.2 (same_text w (codes "drop") h.0) h.1
-          | inr other2 ↦ elim (chosen (bytes_eq w (codes "ret")) (ret_in ws) _ (Ok i) other2.1) [
-              | inl h ↦ ret_spelled text w ws i q.2 (same_text w (codes "ret") h.0) h.1
-              | inr other3 ↦ elim (chosen (bytes_eq w (codes "fail")) (fail_in ws) _ (Ok i) other3.1) [
-                  | inl h ↦ fail_spelled text w ws i q.2 (same_text w (codes "fail") h.0) h.1
-                  | inr never ↦ let n = never.1 in absurd cc
-                ]
-            ]
+        | inl h ↦ drop_spelled text w ws i q.2 (same_text w (codes "drop") h.0) h.1
+        | inr other2 ↦ elim (chosen (bytes_eq w (codes "ret")) (ret_in ws) _ (Ok i) other2.1) [
+          | inl h ↦ ret_spelled text w ws i q.2 (same_text w (codes "ret") h.0) h.1
+          | inr other3 ↦ elim (chosen (bytes_eq w (codes "fail")) (fail_in ws) _ (Ok i) other3.1) [
+            | inl h ↦ fail_spelled text w ws i q.2 (same_text w (codes "fail") h.0) h.1
+            | inr never ↦ let n = never.1 in absurd cc
+          ]
         ]
+      ]
     ]
 
 -- ---- from the instruction to a line
@@ -107,16 +106,16 @@ pub instruction_again : (i : Instr) → IsInstruction i → instruction_in (word
 instruction_again (Newref to from) fits =
     let regrouped : instruction (Newref to from) ≡ codes "newref" ++ 32 ∷ (variable to ++ 32 ∷ variable from) = ap (λ (x : List ℕ). codes "newref " ++ x) (append_assoc (variable to) (32 ∷ []) (variable from)) in
     let parts : words (instruction (Newref to from)) ≡ codes "newref" ∷ variable to ∷ variable from ∷ [] =
-      ap words regrouped ∙ first_word (codes "newref") (variable to ++ 32 ∷ variable from) refl
-      ∙ ap (λ (ws : List (List ℕ)). codes "newref" ∷ ws) (first_word (variable to) (variable from) (variable_no_space to fits.0) ∙ ap (λ (ws : List (List ℕ)). variable to ∷ ws) (one_word (variable from) (variable_no_space from fits.1))) in
+    ap words regrouped ∙ first_word (codes "newref") (variable to ++ 32 ∷ variable from) refl
+    ∙ ap (λ (ws : List (List ℕ)). codes "newref" ∷ ws) (first_word (variable to) (variable from) (variable_no_space to fits.0) ∙ ap (λ (ws : List (List ℕ)). variable to ∷ ws) (one_word (variable from) (variable_no_space from fits.1))) in
     ap instruction_in parts ∙ rw (variable_again to fits.0, variable_again from fits.1) refl
 instruction_again (Drop from) fits =
     let parts : words (instruction (Drop from)) ≡ codes "drop" ∷ variable from ∷ [] =
-      first_word (codes "drop") (variable from) refl ∙ ap (λ (ws : List (List ℕ)). codes "drop" ∷ ws) (one_word (variable from) (variable_no_space from fits)) in
+    first_word (codes "drop") (variable from) refl ∙ ap (λ (ws : List (List ℕ)). codes "drop" ∷ ws) (one_word (variable from) (variable_no_space from fits)) in
     ap instruction_in parts ∙ rw (variable_again from fits) refl
 instruction_again (Ret from) fits =
     let parts : words (instruction (Ret from)) ≡ codes "ret" ∷ variable from ∷ [] =
-      first_word (codes "ret") (variable from) refl ∙ ap (λ (ws : List (List ℕ)). codes "ret" ∷ ws) (one_word (variable from) (variable_no_space from fits)) in
+    first_word (codes "ret") (variable from) refl ∙ ap (λ (ws : List (List ℕ)). codes "ret" ∷ ws) (one_word (variable from) (variable_no_space from fits)) in
     ap instruction_in parts ∙ rw (variable_again from fits) refl
 instruction_again Fail fits = refl
 

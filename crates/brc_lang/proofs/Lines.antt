@@ -1,10 +1,10 @@
 -- The first line of a text and the first word of a line, as a search for the byte behind them finds them.
-use Rattle.std.proofs.Common.{◌≡◌, ℕ, ◌+◌, ◌-◌, ◌<◌, ◌≤◌, Bool, true, false, eqb, List, [], ◌∷◌, ◌++◌, length, get_or, take, drop, Option, Some, None, refl, sym, ap, subst, ◌∙◌, append_assoc, arith}
-use Rattle.std.specs.Prelude.{position, count_by}
-use Rattle.std.specs.List.{list_any, slice_split, position_or_len, before_first, after_first}
+use Rattle.std.proofs.Common.{◌≡◌, ℕ, ◌+◌, ◌-◌, Bool, true, false, eqb, List, [], ◌∷◌, ◌++◌, length, get_or, take, drop, Some, None, refl, sym, ap, ◌∙◌, append_assoc}
+use Rattle.std.specs.Prelude.{position}
+use Rattle.std.specs.List.{list_any, position_or_len, before_first, after_first}
 use Rattle.std.proofs.lemmas.Bool.{eqb-true, or_parts}
-use Rattle.std.proofs.lemmas.List.{take_rest, length-append}
-use Rattle.std.proofs.lemmas.List.Sums.{passes_at_first, split_at_first, sum_by-append, sum_by-cons, count_by-le-length}
+use Rattle.std.proofs.lemmas.List.{take_rest}
+use Rattle.std.proofs.lemmas.List.Sums.{passes_at_first, split_at_first, sum_by-append, sum_by-cons}
 use Rattle.std.proofs.lemmas.List.Splits.{slice_split_first}
 use Rattle.brc_lang.specs.Grammar.{line}
 use Rattle.brc_lang.specs.Fault.{words, is_line_feed, line_count}

@@ -1,9 +1,9 @@
 -- Reading line by line, as a function of the text: what a text spells, and which fault it has, follows from it.
-use Rattle.std.proofs.Common.{◌≡◌, ℕ, suc, ◌+◌, ◌<◌, ◌≤◌, Bool, true, false, cond, eqb, ltb, leb, ◌&&◌, List, [], ◌∷◌, ◌++◌, length, drop, get_or, Option, Some, None, Result, Ok, Err, refl, sym, ap, ◌∙◌, append_assoc, add-zero, arith, inl, inr}
+use Rattle.std.proofs.Common.{◌≡◌, ℕ, ◌+◌, ◌<◌, ◌≤◌, true, false, cond, eqb, ◌&&◌, List, [], ◌∷◌, ◌++◌, length, drop, get_or, Option, Some, None, Result, Ok, Err, refl, sym, ap, ◌∙◌, append_assoc, add-zero, arith, inl, inr}
 use Rattle.std.specs.Prelude.{codes, nat_eq}
 use Rattle.std.specs.List.{list_any, slice_split, before_first, after_first, position_or_len, starts_with, AllByRecursion}
 use Rattle.std.specs.Str.{bytes_eq}
-use Rattle.std.proofs.lemmas.Bool.{cases_Bool, cases_lt, lt-leb, ne_eqb, both_ways}
+use Rattle.std.proofs.lemmas.Bool.{cases_lt, lt-leb, ne_eqb, both_ways}
 use Rattle.std.proofs.lemmas.List.{append-nil, length-append, get_or_append_left}
 use Rattle.std.proofs.lemmas.List.Splits.{slice_split_first}
 use Rattle.brc_lang.specs.declared.module.Module.{Module}
@@ -41,7 +41,7 @@ abbrev after : List Function → Option Function → List ℕ → Beginning
 after done None text = inside done (second_word (words text)) []
 after done (Some f) text =
     cond (bytes_eq text (codes "end")) (closed (done ++ f ∷ []))
-      (record { done = done; open_function = Some (with_instruction f (instruction_in (words text))) })
+    (record { done = done; open_function = Some (with_instruction f (instruction_in (words text))) })
 
 abbrev stop_or : Option FaultCode → ℕ → Answer → Answer
 stop_or None n answer = answer
@@ -69,7 +69,7 @@ passes_line : (n : ℕ) (b c : Beginning) (text rest : List ℕ) → list_any is
 passes_line n b c text rest plain fine next =
     let q = parts_some is_line_feed rest in
     let parts : slice_split is_line_feed (line text ++ rest) ≡ text ∷ q.0 ∷ q.1 =
-      ap (slice_split is_line_feed) (line_at text rest) ∙ first_part is_line_feed text 10 rest plain refl ∙ ap (λ (ls : List (List ℕ)). text ∷ ls) q.2 in
+    ap (slice_split is_line_feed) (line_at text rest) ∙ first_part is_line_feed text 10 rest plain refl ∙ ap (λ (ls : List (List ℕ)). text ∷ ls) q.2 in
     ap (read_parts n b) parts ∙ rw (fine, next) refl ∙ sym (ap (read_parts (n + 1) c) q.2)
 
 has_line : (text : List ℕ) → list_any is_line_feed text ≡ true → position_or_len is_line_feed text < length text
@@ -83,13 +83,13 @@ pub stops : (n : ℕ) (b : Beginning) (rest : List ℕ) (code : FaultCode) → f
 stops n b rest code e =
     elim (chosen (list_any is_line_feed rest) (line_fault_of b.done b.open_function (before_first is_line_feed rest)) _ (Some code) e) [
       | inl ended ↦
-        let q = parts_some is_line_feed (after_first is_line_feed rest) in
-        let parts : slice_split is_line_feed rest ≡ before_first is_line_feed rest ∷ q.0 ∷ q.1 =
+          let q = parts_some is_line_feed (after_first is_line_feed rest) in
+          let parts : slice_split is_line_feed rest ≡ before_first is_line_feed rest ∷ q.0 ∷ q.1 =
           slice_split_first is_line_feed rest 0 (has_line rest ended.0) ∙ ap (λ (ls : List (List ℕ)). before_first is_line_feed rest ∷ ls) q.2 in
-        ap (read_parts n b) parts ∙ rw ended.1 refl
+          ap (read_parts n b) parts ∙ rw ended.1 refl
       | inr last ↦
-        ap (read_parts n b) (one_part is_line_feed rest last.0)
-        ∙ elim (chosen (eqb (length rest) 0 && is_whole b.done b.open_function) None (Some CutOff) (Some code) last.1) [
+          ap (read_parts n b) (one_part is_line_feed rest last.0)
+          ∙ elim (chosen (eqb (length rest) 0 && is_whole b.done b.open_function) None (Some CutOff) (Some code) last.1) [
             | inl whole ↦ let never = whole.1 in absurd cc
             | inr cut ↦ let same : CutOff ≡ code = (let s = cut.1 in cc) in rw (cut.0, same) refl
           ]
@@ -165,11 +165,13 @@ open_end n done (Some f) rest fits =
 done_apart : (done : List Function) (o : Option Function) → AreNamedApart (named done o) → length (named done o) ≤ 64 → AreNamedApart done × (length done ≤ 64)
 done_apart done None apart few = (apart, few)
 done_apart done (Some f) apart few =
-    let len = length-append done (f ∷ []) in
-    (λ i j d lt below same.
-      let first : get_or (done ++ f ∷ []) i d ≡ get_or done i d = get_or_append_left done (f ∷ []) d i (omega arith) in
-      let second : get_or (done ++ f ∷ []) j d ≡ get_or done j d = get_or_append_left done (f ∷ []) d j below in
-      apart i j d lt (omega arith) (ap (λ (g : Function). g.name) first ∙ same ∙ sym (ap (λ (g : Function). g.name) second)), omega arith)
+    let len = length-append done (f ∷ []) in (
+      λ i j d lt below same.
+          let first : get_or (done ++ f ∷ []) i d ≡ get_or done i d = get_or_append_left done (f ∷ []) d i (omega arith) in
+          let second : get_or (done ++ f ∷ []) j d ≡ get_or done j d = get_or_append_left done (f ∷ []) d j below in
+          apart i j d lt (omega arith) (ap (λ (g : Function). g.name) first ∙ same ∙ sym (ap (λ (g : Function). g.name) second)),
+      omega arith,
+    )
 
 -- what stands above is read, and then the rest
 pub beginning_passes : (b : Beginning) (rest : List ℕ) → IsBeginning b → reading (beginning b ++ rest) ≡ read_rest (line_count (beginning b) + 1) b rest
@@ -177,9 +179,9 @@ beginning_passes b rest fits =
     let apart = done_apart b.done b.open_function fits.names fits.most in
     let lines = functions b.done ++ open_text b.open_function in
     let start : reading (beginning b ++ rest) ≡ read_rest 2 (closed []) (functions b.done ++ (open_text b.open_function ++ rest)) =
-      ap (read_rest 2 (closed [])) (append_assoc (functions b.done) (open_text b.open_function) rest) in
+    ap (read_rest 2 (closed [])) (append_assoc (functions b.done) (open_text b.open_function) rest) in
     let count : (2 + line_count (functions b.done)) + line_count (open_text b.open_function) ≡ line_count (beginning b) + 1 =
-      omega (arith, line_count-append (first_line ++ functions b.done) (open_text b.open_function), line_count-append first_line (functions b.done)) in
+    omega (arith, line_count-append (first_line ++ functions b.done) (open_text b.open_function), line_count-append first_line (functions b.done)) in
     start
     ∙ functions_pass 2 [] b.done (open_text b.open_function ++ rest) fits.done apart.0 (omega (arith, apart.1))
     ∙ open_end (2 + line_count (functions b.done)) b.done b.open_function rest fits

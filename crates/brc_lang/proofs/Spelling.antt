@@ -1,14 +1,11 @@
 -- The one spelling of a number, of a variable and of a name.
-use Rattle.std.proofs.Common.{◌≡◌, ℕ, zero, suc, ◌+◌, ◌-◌, ◌*◌, ◌^◌, ◌<◌, ◌≤◌, Bool, true, false, cond, leb, eqb, not, ◌&&◌, ◌||◌, List, [], ◌∷◌, ◌++◌, length, get_or, Result, Ok, Err, refl, sym, ap, subst, ◌∙◌, arith, inl, inr, IsTrue}
-use Rattle.std.specs.Prelude.{codes}
-use Rattle.std.specs.Int.{IsInRange}
+use Rattle.std.proofs.Common.{◌≡◌, ℕ, zero, suc, ◌^◌, ◌<◌, ◌≤◌, Bool, true, false, cond, leb, eqb, not, ◌&&◌, ◌||◌, List, [], ◌∷◌, length, get_or, Result, Ok, Err, refl, sym, ap, ◌∙◌, arith, inl, inr}
 use Rattle.std.specs.List.{list_all, list_any}
-use Rattle.std.specs.Char.{is_ascii_digit, digit_value}
+use Rattle.std.specs.Char.{is_ascii_digit}
 use Rattle.std.specs.Fmt.{decimal}
 use Rattle.std.specs.Str.Parse.{digits_value}
-use Rattle.std.proofs.lemmas.Bool.{and_parts, and_from, or_cases, cases_Bool, leb-true, le-leb, eqb-true, eqb-false, ne_eqb, not-true, cases_eq, both_ways}
+use Rattle.std.proofs.lemmas.Bool.{and_parts, and_from, or_cases, cases_Bool, leb-true, le-leb, eqb-true, eqb-false, ne_eqb, not-true, cases_eq}
 use Rattle.std.proofs.lemmas.Bool.Decides.{nat_tests}
-use Rattle.std.proofs.lemmas.List.{nil_from_length}
 use Rattle.std.proofs.lemmas.Fmt.{decimal-digits_value, digits_decimal, digits_value-decimal, decimal_nonempty, decimal_digit, first_decimal}
 use Rattle.std.proofs.lemmas.Str.Parse.{IsDigitsTest, IsNumeralModel, numerals_by_value}
 use Rattle.brc_lang.specs.declared.fault.FaultCode.{FaultCode}
@@ -41,12 +38,15 @@ guarded false d x y e = absurd cc
 numeral_parts : (ds : List ℕ) → is_numeral ds ≡ true → AreDigits ds × (0 < length ds) × (get_or ds 0 0 ≡ 48 → length ds ≡ 1)
 numeral_parts [] e = absurd cc
 numeral_parts (c ∷ cs) e =
-    let h = and_parts (list_all is_ascii_digit (c ∷ cs)) (not (eqb c 48) || eqb (length cs) 0) e in
-    (h.0, omega arith, λ zero_first.
-      elim (or_cases (not (eqb c 48)) (eqb (length cs) 0) h.1) [
-        | inl other ↦ absurd (eqb-false c 48 (not-true _ other) zero_first)
-        | inr alone ↦ ap suc (eqb-true (length cs) 0 alone)
-      ])
+    let h = and_parts (list_all is_ascii_digit (c ∷ cs)) (not (eqb c 48) || eqb (length cs) 0) e in (
+      h.0,
+      omega arith,
+      λ zero_first.
+          elim (or_cases (not (eqb c 48)) (eqb (length cs) 0) h.1) [
+            | inl other ↦ absurd (eqb-false c 48 (not-true _ other) zero_first)
+            | inr alone ↦ ap suc (eqb-true (length cs) 0 alone)
+          ],
+    )
 
 pub number_spelled : (high : ℕ) (word : List ℕ) (n : ℕ) → high < 2 ^ 64 → number_in high word ≡ Ok n → (word ≡ decimal n) × (n ≤ high)
 number_spelled high word n small e =
@@ -83,8 +83,8 @@ variable_spelled [] n e = absurd cc
 variable_spelled (c ∷ cs) n e =
     elim (cases_Bool (eqb c 118)) [
       | inl same ↦
-        let spelled = number_spelled 15 cs n (omega arith) (rw same at e) in
-        (ap (λ (x : ℕ). x ∷ cs) (eqb-true c 118 same) ∙ ap (λ (x : List ℕ). 118 ∷ x) spelled.0, omega (arith, spelled.1))
+          let spelled = number_spelled 15 cs n (omega arith) (rw same at e) in
+          (ap (λ (x : ℕ). x ∷ cs) (eqb-true c 118 same) ∙ ap (λ (x : List ℕ). 118 ∷ x) spelled.0, omega (arith, spelled.1))
       | inr other ↦ let never : ◌≡◌ {A = Result ℕ FaultCode} (Err UnknownWord) (Ok n) = rw other at e in absurd cc
     ]
 
@@ -112,9 +112,9 @@ name_byte_from : (c : ℕ) → is_name_byte c ≡ true → 48 ≤ c
 name_byte_from c e =
     elim (or_cases (is_letter c || (leb 48 c && leb c 57)) (eqb c 95) e) [
       | inl most ↦ elim (or_cases (is_letter c) (leb 48 c && leb c 57) most) [
-          | inl letter ↦ omega (arith, letter_from c letter)
-          | inr digit ↦ leb-true 48 c (and_parts (leb 48 c) (leb c 57) digit).0
-        ]
+        | inl letter ↦ omega (arith, letter_from c letter)
+        | inr digit ↦ leb-true 48 c (and_parts (leb 48 c) (leb c 57) digit).0
+      ]
       | inr underscore ↦ omega (arith, eqb-true c 95 underscore)
     ]
 

@@ -1,16 +1,15 @@
 -- A text spells one module at most, or has one fault at most, and not both.
-use Rattle.std.proofs.Common.{◌≡◌, ℕ, ◌+◌, ◌<◌, Bool, true, false, List, [], ◌∷◌, ◌++◌, length, Option, Some, None, Result, Ok, Err, refl, sym, ap, subst, ◌∙◌, arith, inl, inr}
-use Rattle.std.specs.Prelude.{IfOk, IfErr, MatchResult, ◌⊎◌}
+use Rattle.std.proofs.Common.{◌≡◌, ℕ, ◌+◌, ◌<◌, List, [], ◌++◌, length, Result, Ok, Err, refl, sym, ap, ◌∙◌, inl, inr}
+use Rattle.std.specs.Prelude.{IfOk, IfErr, MatchResult}
 use Rattle.std.proofs.lemmas.Bool.{lt-ltb}
 use Rattle.std.proofs.lemmas.List.{append-nil}
 use Rattle.brc_lang.specs.declared.module.Module.{Module}
-use Rattle.brc_lang.specs.declared.module.Function.{Function}
 use Rattle.brc_lang.specs.declared.fault.FaultCode.{FaultCode}
 use Rattle.brc_lang.specs.declared.fault.ReadFault.{ReadFault}
-use Rattle.brc_lang.specs.Grammar.{text, functions, first_line, IsModule, Spells}
+use Rattle.brc_lang.specs.Grammar.{text, IsModule, Spells}
 use Rattle.brc_lang.specs.Fault.{beginning, IsBeginning, line_count, HasFault, IsFaultOf, ReadsAs, Refuses}
 use Rattle.brc_lang.specs.Progress.{closed}
-use Rattle.brc_lang.proofs.Machine.{Answer, reading, read_rest, stops, beginning_passes}
+use Rattle.brc_lang.proofs.Machine.{Answer, reading, stops, beginning_passes}
 
 pub whole_beginning : (m : Module) → IsModule m → IsBeginning (closed m.functions)
 whole_beginning m fits = record { most = fits.most; done = fits.functions; names = fits.names; open_fits = tt }

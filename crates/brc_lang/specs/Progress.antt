@@ -9,7 +9,7 @@ use Rattle.brc_lang.specs.declared.fault.FaultCode.TheVariants.{NoMemory}
 use Rattle.brc_lang.specs.declared.fault.ReadFault.{ReadFault}
 use Rattle.brc_lang.specs.declared.place.Place.{Place}
 use Rattle.brc_lang.specs.Grammar.{line, heading, instructions, function, is_name, IsFunction}
-use Rattle.brc_lang.specs.Fault.{words, instruction_in, IsOpen, IfOpen, Beginning, IsBeginning, open_text, fault_of, is_line_feed, line_count}
+use Rattle.brc_lang.specs.Fault.{words, instruction_in, IsOpen, Beginning, IsBeginning, open_text, fault_of, is_line_feed, line_count}
 
 -- the first line of a text, without its line feed, and what stands below it
 pub record IsFirstLineOf (text first rest : List ℕ) : Type 0 where

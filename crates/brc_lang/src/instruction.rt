@@ -1,7 +1,6 @@
 //! The instruction of a line.
 
-ghost use Rattle.std.specs.Prelude.{◌≡◌};
-ghost use Rattle.std.specs.Prelude.{List, ℕ, ◌∷◌, []};
+ghost use Rattle.std.specs.Prelude.{◌≡◌, ◌∷◌, []};
 ghost use Rattle.brc_lang.specs.Fault.{words, instruction_in};
 
 use crate::fault::FaultCode;

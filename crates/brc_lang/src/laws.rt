@@ -11,11 +11,9 @@ pub fn one_reading()
     ensures one_module { (bytes : List ℕ) (m n : Module) → Spells bytes m → Spells bytes n → m ≡ n }
     ensures one_fault { (bytes : List ℕ) (k l : ℕ) (c d : FaultCode) → HasFault bytes k c → HasFault bytes l d → (k ≡ l) × (c ≡ d) }
     ensures apart { (bytes : List ℕ) (m : Module) (line : ℕ) (code : FaultCode) → Spells bytes m → HasFault bytes line code → ⊥ }
-{
-}
+{}
 
 /// No two modules have one text.
 pub fn one_text()
     ensures { (m n : Module) → IsModule m → IsModule n → text m ≡ text n → m ≡ n }
-{
-}
+{}

@@ -21,3 +21,6 @@ pub use name::Name;
 pub use reading::read;
 pub use sequence::Sequence;
 pub use variable::Variable;
+
+#[cfg(test)]
+mod tests;

@@ -1,3 +1,5 @@
+//! From bytes to a module, line by line.
+
 ghost use Rattle.std.specs.Prelude.{◌≡◌, ◌∷◌, ◌++◌, [], ℕ, ◌+◌, ◌<◌, ◌^◌, length, Some, OnOk, IfOk, IfErr, MatchResult, IsTrue};
 ghost use Rattle.std.specs.List.{list_any};
 ghost use Rattle.std.specs.Str.{bytes_eq};
@@ -17,7 +19,9 @@ use crate::sequence::Sequence;
 use std::alloc::Global;
 
 const FIRST_LINE: &[u8] = b"module 1\n";
+
 const MOST_FUNCTIONS: usize = 64;
+
 const MOST_INSTRUCTIONS: usize = 256;
 
 /// The module that the bytes spell.
@@ -61,7 +65,11 @@ fn read_module(alloc: Global, bytes: &[u8]) -> Result<Module, ReadFault>
 }
 
 /// Puts the next function behind the others, and says where it ends.
-fn read_function<'a>(alloc: Global, functions: &mut Sequence<Function>, place: Place<'a>) -> Result<Place<'a>, ReadFault>
+fn read_function<'a>(
+    alloc: Global,
+    functions: &mut Sequence<Function>,
+    place: Place<'a>,
+) -> Result<Place<'a>, ReadFault>
     requires some { 0 < length place.rest.now }
     requires fits { IsBeginning (closed functions.old) }
     requires lines { place.line + length place.rest.now < 2 ^ 64 }
@@ -87,7 +95,7 @@ fn read_function<'a>(alloc: Global, functions: &mut Sequence<Function>, place: P
     match functions.push(function) {
         Ok(()) => Ok(after),
         Err(_) => Err(ReadFault {
-            line: after.line,
+            line: after.line - 1,
             code: FaultCode::NoMemory,
         }),
     }
@@ -124,7 +132,11 @@ fn has_name(functions: &[Function], name: &[u8]) -> bool
 }
 
 /// The function whose first line stands above the place, and the place below its last line.
-fn read_body<'a>(alloc: Global, name: Name, start: Place<'a>) -> Result<(Function, Place<'a>), ReadFault>
+fn read_body<'a>(
+    alloc: Global,
+    name: Name,
+    start: Place<'a>,
+) -> Result<(Function, Place<'a>), ReadFault>
     requires named { IsTrue (is_name name) }
     requires lines { start.line + length start.rest.now < 2 ^ 64 }
     ensures ok { IfOk result (λ read. Ends name start.entry read.0 read.1) }

@@ -1,4 +1,4 @@
-use Rattle.std.proofs.Common.{sym, ◌+◌, ◌∙◌, arith}
+use Rattle.std.proofs.Common.{sym, ◌+◌, arith}
 use Rattle.brc_lang.proofs.Numbers.{digits_next, digits_all, too_high}
 use Rattle.brc_lang.proofs.lexing.numeral.Goals as goal
 

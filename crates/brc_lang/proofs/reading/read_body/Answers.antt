@@ -1,4 +1,4 @@
-use Rattle.std.proofs.Common.{sym, ap, ◌∙◌, arith}
+use Rattle.std.proofs.Common.{sym, ◌∙◌, arith}
 use Rattle.brc_lang.proofs.Bodies.{goes_on, ends, other_fault}
 use Rattle.brc_lang.proofs.reading.read_body.Goals as goal
 
