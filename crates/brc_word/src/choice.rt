@@ -1,4 +1,4 @@
-ghost use Rattle.std.specs.Prelude.{◌≡◌, ◌+◌, ◌-◌, ◌↔◌, pos, negsuc, Some, IsTrue};
+ghost use Rattle.std.specs.Prelude.{◌≡◌, ◌+◌, ◌-◌, ◌^◌, ◌≤◌, ◌↔◌, pos, negsuc, Some, IsTrue};
 ghost use Rattle.brc_word.specs.Header.{IsLocalWord, OfHeader, IsImmortal, MayCount, HasRoom, IfStored, MovesTotal, word_of};
 
 use crate::local::{LOCAL_COUNTS, is_immortal};
@@ -28,20 +28,14 @@ fn may_count(word: u64, thread: u8, running: bool) -> bool
 /// What a new reference does, where `thread` asks for it. It is `running` unless others may change the local word meanwhile.
 pub fn retain_choice(word: u64, thread: u8, running: bool) -> LocalChoice
     ensures skip { OfHeader word (λ owner local. (result ≡ LocalChoice.Skip) ↔ IsImmortal local) }
-    ensures store {
-        OfHeader word (λ owner local.
-            (result ≡ LocalChoice.Store (word_of owner (local + 1))) ↔ (MayCount owner thread running × HasRoom local))
-    }
-    ensures share {
-        OfHeader word (λ owner local.
-            (result ≡ LocalChoice.Share) ↔ (¬ IsImmortal local × ¬ (MayCount owner thread running × HasRoom local)))
-    }
+    ensures store { OfHeader word (λ owner local.
+        (result ≡ LocalChoice.Store (word_of owner (local + 1))) ↔ (MayCount owner thread running × HasRoom local)) }
+    ensures share { OfHeader word (λ owner local.
+        (result ≡ LocalChoice.Share) ↔ (¬ IsImmortal local × ¬ (MayCount owner thread running × HasRoom local))) }
 
     // The same owner, one more local reference, and no more than that changed.
-    ensures stored {
-        OfHeader word (λ owner local.
-            IfStored result (λ next. IsLocalWord next owner (local + 1) × ¬ IsImmortal (local + 1)))
-    }
+    ensures stored { OfHeader word (λ owner local.
+        IfStored result (λ next. IsLocalWord next owner (local + 1) × ¬ IsImmortal (local + 1))) }
     ensures total { IfStored result (λ next. MovesTotal word next (pos 1)) }
 {
     if is_immortal(word) {
@@ -57,20 +51,14 @@ pub fn retain_choice(word: u64, thread: u8, running: bool) -> LocalChoice
 pub fn release_choice_local(word: u64, thread: u8, running: bool) -> LocalChoice
     requires { IsTrue running → ¬ IsLocalWord word (Some thread) 0 }
     ensures skip { OfHeader word (λ owner local. (result ≡ LocalChoice.Skip) ↔ IsImmortal local) }
-    ensures store {
-        OfHeader word (λ owner local.
-            (result ≡ LocalChoice.Store (word_of owner (local - 1))) ↔ (¬ IsImmortal local × MayCount owner thread running))
-    }
-    ensures share {
-        OfHeader word (λ owner local.
-            (result ≡ LocalChoice.Share) ↔ (¬ IsImmortal local × ¬ MayCount owner thread running))
-    }
+    ensures store { OfHeader word (λ owner local.
+        (result ≡ LocalChoice.Store (word_of owner (local - 1))) ↔ (¬ IsImmortal local × MayCount owner thread running)) }
+    ensures share { OfHeader word (λ owner local.
+        (result ≡ LocalChoice.Share) ↔ (¬ IsImmortal local × ¬ MayCount owner thread running)) }
 
     // The same owner, one local reference less, and no more than that changed.
-    ensures stored {
-        OfHeader word (λ owner local.
-            IfStored result (λ next. IsLocalWord next owner (local - 1) × ¬ IsImmortal (local - 1)))
-    }
+    ensures stored { OfHeader word (λ owner local.
+        IfStored result (λ next. IsLocalWord next owner (local - 1) × ¬ IsImmortal (local - 1))) }
     ensures total { IfStored result (λ next. MovesTotal word next (negsuc 0)) }
 {
     if is_immortal(word) {

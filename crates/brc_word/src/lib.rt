@@ -15,3 +15,5 @@ pub use laws::{header_words, pack_and_unpack};
 pub use local::{is_immortal, local_word, read_local};
 pub use shared::{Phase, Shared, SharedChoice, merge_word, pack, release_choice, unpack};
 
+#[cfg(test)]
+mod tests;
