@@ -1,5 +1,5 @@
 -- The header of a counted object: its owner and the local count in one word, the shared count and the phase in another.
-use Rattle.std.specs.Prelude.{◌≡◌, ℕ, ◌+◌, ◌-◌, ◌*◌, ◌^◌, ◌<◌, ◌≤◌, ◌⊎◌, Bool, IsTrue, Option, None, Some, ℤ, pos, neg_ℤ, ◌+ℤ◌, ◌-ℤ◌, ◌*ℤ◌, ◌≤ℤ◌, ◌<ℤ◌}
+use Rattle.std.specs.Prelude.{◌≡◌, ℕ, ◌+◌, ◌-◌, ◌*◌, ◌^◌, ◌<◌, ◌≤◌, ◌⊎◌, Bool, true, false, IsTrue, Option, None, Some, ℤ, pos, neg_ℤ, ◌+ℤ◌, ◌-ℤ◌, ◌*ℤ◌, ◌≤ℤ◌, ◌<ℤ◌}
 use Rattle.brc_word.specs.declared.choice.LocalChoice.{LocalChoice}
 use Rattle.brc_word.specs.declared.choice.LocalChoice.TheVariants.{Store}
 use Rattle.brc_word.specs.declared.shared.Phase.{Phase}
@@ -39,6 +39,9 @@ owned (Some thread) local = Some (thread, local)
 abbrev pub IsImmortal : ℕ → Type 0
 IsImmortal local = local ≡ 2 ^ 32 - 1
 
+abbrev pub IsMortalWord : ℕ → Type 0
+IsMortalWord word = OfHeader word (λ owner local. ¬ IsImmortal local)
+
 -- ---- the shared field
 
 -- the two lowest bits; 1 is unused
@@ -75,12 +78,16 @@ MayCount owner thread running = (owner ≡ Some thread) × IsTrue running
 abbrev pub HasRoom : ℕ → Type 0
 HasRoom local = local < 2 ^ 32 - 2
 
+abbrev pub is_store : LocalChoice → Bool
+is_store (Store next) = true
+is_store _ = false
+
 -- a fact about the word that is stored, where one is
 abbrev pub IfStored : LocalChoice → (ℕ → Type 0) → Type 0
 IfStored (Store next) P = P next
 IfStored _ P = Unit {0}
 
--- no local reference is left, and nobody asked the owner to hand over
+-- the shared field has nothing to give back, and its owner wasn't asked yet to merge the counts
 abbrev pub at_zero : Shared
 at_zero = record { count = pos 0; phase = Default }
 

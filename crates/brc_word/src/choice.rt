@@ -1,5 +1,5 @@
-ghost use Rattle.std.specs.Prelude.{◌≡◌, ◌+◌, ◌-◌, ◌^◌, ◌≤◌, ◌↔◌, pos, negsuc, Some, IsTrue};
-ghost use Rattle.brc_word.specs.Header.{IsLocalWord, OfHeader, IsImmortal, MayCount, HasRoom, IfStored, MovesTotal, word_of};
+ghost use Rattle.std.specs.Prelude.{◌≡◌, ◌+◌, ◌-◌, ◌^◌, ◌≤◌, ◌↔◌, pos, neg_ℤ, Some, IsTrue};
+ghost use Rattle.brc_word.specs.Header.{IsLocalWord, OfHeader, IsImmortal, MayCount, HasRoom, is_store, IfStored, MovesTotal, IsMortalWord};
 
 use crate::local::{LOCAL_COUNTS, is_immortal};
 
@@ -25,18 +25,18 @@ fn may_count(word: u64, thread: u8, running: bool) -> bool
     running && word / LOCAL_COUNTS == u64::from(thread) + 1
 }
 
-/// What a new reference does, where `thread` asks for it. It is `running` unless others may change the local word meanwhile.
+/// What a new reference does, where `thread` asks for it. A thread that isn't `running` leaves the local word alone.
 pub fn retain_choice(word: u64, thread: u8, running: bool) -> LocalChoice
     ensures skip { OfHeader word (λ owner local. (result ≡ LocalChoice.Skip) ↔ IsImmortal local) }
     ensures store { OfHeader word (λ owner local.
-        (result ≡ LocalChoice.Store (word_of owner (local + 1))) ↔ (MayCount owner thread running × HasRoom local)) }
+        IsTrue (is_store result) ↔ (MayCount owner thread running × HasRoom local)) }
     ensures share { OfHeader word (λ owner local.
         (result ≡ LocalChoice.Share) ↔ (¬ IsImmortal local × ¬ (MayCount owner thread running × HasRoom local))) }
 
-    // The same owner, one more local reference, and no more than that changed.
-    ensures stored { OfHeader word (λ owner local.
-        IfStored result (λ next. IsLocalWord next owner (local + 1) × ¬ IsImmortal (local + 1))) }
+    // What is stored.
+    ensures next { OfHeader word (λ owner local. IfStored result (λ next. IsLocalWord next owner (local + 1))) }
     ensures total { IfStored result (λ next. MovesTotal word next (pos 1)) }
+    ensures mortal { IfStored result IsMortalWord }
 {
     if is_immortal(word) {
         return LocalChoice::Skip;
@@ -47,19 +47,19 @@ pub fn retain_choice(word: u64, thread: u8, running: bool) -> LocalChoice
     LocalChoice::Share
 }
 
-/// What giving up a reference does, where `thread` asks for it.
+/// What giving up a reference does, where `thread` asks for it. The owner gives up no local reference where none is left.
 pub fn release_choice_local(word: u64, thread: u8, running: bool) -> LocalChoice
     requires { IsTrue running → ¬ IsLocalWord word (Some thread) 0 }
     ensures skip { OfHeader word (λ owner local. (result ≡ LocalChoice.Skip) ↔ IsImmortal local) }
     ensures store { OfHeader word (λ owner local.
-        (result ≡ LocalChoice.Store (word_of owner (local - 1))) ↔ (¬ IsImmortal local × MayCount owner thread running)) }
+        IsTrue (is_store result) ↔ (¬ IsImmortal local × MayCount owner thread running)) }
     ensures share { OfHeader word (λ owner local.
         (result ≡ LocalChoice.Share) ↔ (¬ IsImmortal local × ¬ MayCount owner thread running)) }
 
-    // The same owner, one local reference less, and no more than that changed.
-    ensures stored { OfHeader word (λ owner local.
-        IfStored result (λ next. IsLocalWord next owner (local - 1) × ¬ IsImmortal (local - 1))) }
-    ensures total { IfStored result (λ next. MovesTotal word next (negsuc 0)) }
+    // What is stored.
+    ensures next { OfHeader word (λ owner local. IfStored result (λ next. IsLocalWord next owner (local - 1))) }
+    ensures total { IfStored result (λ next. MovesTotal word next (neg_ℤ (pos 1))) }
+    ensures mortal { OfHeader word (λ owner local. IfStored result IsMortalWord) }
 {
     if is_immortal(word) {
         return LocalChoice::Skip;
