@@ -1,7 +1,11 @@
+ghost use Rattle.std.specs.Prelude.{◌≡◌};
+
 use super::*;
 use std::test::*;
 
-const fn shared(count: i64, phase: Phase) -> Shared {
+fn shared(count: i64, phase: Phase) -> Shared
+    ensures { result ≡ record { count = count; phase = phase } }
+{
     Shared { count, phase }
 }
 
