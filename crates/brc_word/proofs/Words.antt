@@ -11,7 +11,8 @@ use Rattle.brc_word.specs.Header.{IsLocalWord, IsHeaderWord, IsCount, IsSharedWo
 
 pub spelled : (word : ℕ) → IsHeaderWord word → (owner : Option ℕ) × (local : ℕ) × IsLocalWord word owner local
 spelled word (inl nobody) = (None, 0, (refl, nobody))
-spelled word (inr thread) = (Some (word / 2 ^ 32 - 1), word % 2 ^ 32, ((omega (arith, thread.0, thread.1), omega arith), omega (arith, thread.0)))
+spelled word (inr thread) =
+    (Some (word / 2 ^ 32 - 1), word % 2 ^ 32, ((omega (arith, thread.0, thread.1), omega arith), omega (arith, thread.0)))
 
 -- ---- the shared field
 
@@ -31,10 +32,14 @@ phase_at (suc (suc zero)) below used = (Queued, refl)
 phase_at (suc (suc (suc zero))) below used = (Merged, refl)
 phase_at (suc (suc (suc (suc state)))) below used = absurd (omega (arith, below))
 
-pub unpacked : (word : ℕ) → word < 2 ^ 43 → word % 4 ≢ 1 → (shared : Shared) × IsCount shared.count × IsSharedWord word shared
+pub unpacked : (word : ℕ) → word < 2 ^ 43 → word % 4 ≢ 1
+    → (shared : Shared) × IsCount shared.count × IsSharedWord word shared
 unpacked word below used =
-    let phase = phase_at (word % 4) (omega arith) used in
-    (record { count = pos (word / 4) -ℤ pos (2 ^ 40); phase = phase.0 }, (omega (arith, ints), omega (arith, ints)), omega (arith, ints, phase.1))
+    let phase = phase_at (word % 4) (omega arith) used in (
+      record { count = pos (word / 4) -ℤ pos (2 ^ 40); phase = phase.0 },
+      (omega (arith, ints), omega (arith, ints)),
+      omega (arith, ints, phase.1),
+    )
 
 state_below : (phase : Phase) → state_of phase < 4
 state_below Default = lit< tt
@@ -53,12 +58,15 @@ phase_from_state Merged Queued e = absurd cc
 phase_from_state Merged Merged e = refl
 
 parts : (count other : ℤ) (state state' word : ℕ) → state < 4 → state' < 4
-    → pos word ≡ (count +ℤ pos (2 ^ 40)) *ℤ pos 4 +ℤ pos state → pos word ≡ (other +ℤ pos (2 ^ 40)) *ℤ pos 4 +ℤ pos state'
+    → pos word ≡ (count +ℤ pos (2 ^ 40)) *ℤ pos 4 +ℤ pos state
+    → pos word ≡ (other +ℤ pos (2 ^ 40)) *ℤ pos 4 +ℤ pos state'
     → (count ≡ other) × (state ≡ state')
 parts count other state state' word below below' e e' = (omega (arith, ints), omega (arith, ints))
 
 pub one_shared : (word : ℕ) (shared other : Shared) → IsSharedWord word shared → IsSharedWord word other → shared ≡ other
 one_shared word shared other e e' =
-    let same = parts shared.count other.count (state_of shared.phase) (state_of other.phase) word (state_below shared.phase) (state_below other.phase) e e' in
+    let same = parts shared.count other.count (state_of shared.phase) (state_of other.phase) word
+    (state_below shared.phase) (state_below other.phase) e e' in
     let same_phase = phase_from_state shared.phase other.phase same.1 in
-    ap (λ (count : ℤ). record { count = count; phase = shared.phase }) same.0 ∙ ap (λ (phase : Phase). record { count = other.count; phase = phase }) same_phase
+    ap (λ (count : ℤ). record { count = count; phase = shared.phase }) same.0
+    ∙ ap (λ (phase : Phase). record { count = other.count; phase = phase }) same_phase

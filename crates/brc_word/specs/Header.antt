@@ -15,6 +15,7 @@ abbrev pub IsLocal : Option ℕ → ℕ → Type 0
 IsLocal None local = local ≡ 0
 IsLocal (Some thread) local = (thread ≤ 32) × (local < 2 ^ 32)
 
+-- nobody is 0, and a thread stands above the local count, one up
 abbrev pub word_of : Option ℕ → ℕ → ℕ
 word_of None local = 0
 word_of (Some thread) local = (thread + 1) * 2 ^ 32 + local
@@ -22,11 +23,11 @@ word_of (Some thread) local = (thread + 1) * 2 ^ 32 + local
 abbrev pub IsLocalWord : ℕ → Option ℕ → ℕ → Type 0
 IsLocalWord word owner local = IsLocal owner local × (word ≡ word_of owner local)
 
--- 0, or the word of a thread
+-- 0, or the word of a thread from 0 to 32
 abbrev pub IsHeaderWord : ℕ → Type 0
 IsHeaderWord word = (word ≡ 0) ⊎ ((2 ^ 32 ≤ word) × (word < 34 * 2 ^ 32))
 
--- a fact about the owner and the local count whose word it is
+-- a fact about the owner and the local count of a word
 abbrev pub OfHeader : ℕ → (Option ℕ → ℕ → Type 0) → Type 0
 OfHeader word P = (owner : Option ℕ) (local : ℕ) → IsLocalWord word owner local → P owner local
 
@@ -39,6 +40,7 @@ owned (Some thread) local = Some (thread, local)
 abbrev pub IsImmortal : ℕ → Type 0
 IsImmortal local = local ≡ 2 ^ 32 - 1
 
+-- a word of no object that is immortal
 abbrev pub IsMortalWord : ℕ → Type 0
 IsMortalWord word = OfHeader word (λ owner local. ¬ IsImmortal local)
 
@@ -54,6 +56,7 @@ state_of Merged = 3
 abbrev pub IsCount : ℤ → Type 0
 IsCount count = (neg_ℤ (pos (2 ^ 40)) ≤ℤ count) × (count <ℤ pos (2 ^ 40))
 
+-- the count, raised so that it isn't below zero, stands above the state
 abbrev pub IsSharedWord : ℕ → Shared → Type 0
 IsSharedWord word shared = pos word ≡ (shared.count +ℤ pos (2 ^ 40)) *ℤ pos 4 +ℤ pos (state_of shared.phase)
 

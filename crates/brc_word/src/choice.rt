@@ -3,14 +3,14 @@ ghost use Rattle.brc_word.specs.Header.{IsLocalWord, OfHeader, IsImmortal, MayCo
 
 use crate::local::{LOCAL_COUNTS, is_immortal};
 
-/// What a change of a count does to the local word.
+/// What a reference more or less does to the local word.
 #[derive(Clone, Copy, Debug, PartialEq, Eq)]
 pub enum LocalChoice {
     /// Nothing is counted.
     Skip,
     /// The word to be stored in its place.
     Store(u64),
-    /// The shared field changes instead.
+    /// The local word stays, and the shared field counts instead.
     Share,
 }
 
@@ -34,7 +34,8 @@ pub fn retain_choice(word: u64, thread: u8, running: bool) -> LocalChoice
         (result ≡ LocalChoice.Share) ↔ (¬ IsImmortal local × ¬ (MayCount owner thread running × HasRoom local))) }
 
     // What is stored.
-    ensures next { OfHeader word (λ owner local. IfStored result (λ next. IsLocalWord next owner (local + 1))) }
+    ensures next { OfHeader word (λ owner local.
+        IfStored result (λ next. IsLocalWord next owner (local + 1))) }
     ensures total { IfStored result (λ next. MovesTotal word next (pos 1)) }
     ensures mortal { IfStored result IsMortalWord }
 {
@@ -57,7 +58,8 @@ pub fn release_choice_local(word: u64, thread: u8, running: bool) -> LocalChoice
         (result ≡ LocalChoice.Share) ↔ (¬ IsImmortal local × ¬ MayCount owner thread running)) }
 
     // What is stored.
-    ensures next { OfHeader word (λ owner local. IfStored result (λ next. IsLocalWord next owner (local - 1))) }
+    ensures next { OfHeader word (λ owner local.
+        IfStored result (λ next. IsLocalWord next owner (local - 1))) }
     ensures total { IfStored result (λ next. MovesTotal word next (neg_ℤ (pos 1))) }
     ensures mortal { OfHeader word (λ owner local. IfStored result IsMortalWord) }
 {

@@ -4,10 +4,13 @@ ghost use Rattle.brc_word.specs.Header.{IsLocalWord, IsHeaderWord, IsCount, IsSh
 
 /// A local word is that of one owner and one local count, and each word of a header is one.
 pub fn header_words()
-    ensures spelled { (word : ℕ) → IsHeaderWord word → (owner : Option ℕ) × (local : ℕ) × IsLocalWord word owner local }
-    ensures only { (word : ℕ) (owner : Option ℕ) (local : ℕ) → IsLocalWord word owner local → IsHeaderWord word }
+    ensures spelled { (word : ℕ) → IsHeaderWord word
+        → (owner : Option ℕ) × (local : ℕ) × IsLocalWord word owner local }
+    ensures only { (word : ℕ) (owner : Option ℕ) (local : ℕ) → IsLocalWord word owner local
+        → IsHeaderWord word }
     ensures one { (word : ℕ) (owner owner' : Option ℕ) (local local' : ℕ)
-        → IsLocalWord word owner local → IsLocalWord word owner' local' → (owner ≡ owner') × (local ≡ local') }
+        → IsLocalWord word owner local → IsLocalWord word owner' local'
+        → (owner ≡ owner') × (local ≡ local') }
 {}
 
 /// Packing and unpacking undo each other: a word below 2^43 whose state is not the unused one is the word of one shared field,
@@ -19,5 +22,6 @@ pub fn pack_and_unpack()
         → (word < 2 ^ 43) × (word % 4 ≢ 1) }
     ensures unpacked { (word : ℕ) → word < 2 ^ 43 → word % 4 ≢ 1
         → (shared : Shared) × IsCount shared.count × IsSharedWord word shared }
-    ensures one { (word : ℕ) (shared other : Shared) → IsSharedWord word shared → IsSharedWord word other → shared ≡ other }
+    ensures one { (word : ℕ) (shared other : Shared)
+        → IsSharedWord word shared → IsSharedWord word other → shared ≡ other }
 {}

@@ -1,7 +1,7 @@
 ghost use Rattle.std.specs.Prelude.{◌≡◌, ℕ, ◌≤◌, ◌↔◌, Option, None, Some, IsTrue, IsNone, IfSome};
 ghost use Rattle.brc_word.specs.Header.{IsLocalWord, IsHeaderWord, OfHeader, IsImmortal, owned};
 
-/// The local counts, one more than the largest: the owner stands above it in the word.
+/// One more than the largest local count: the owner stands above the count in the word.
 pub(crate) const LOCAL_COUNTS: u64 = 4294967296;
 /// The local count of an object that is never counted.
 const IMMORTAL: u64 = 4294967295;

@@ -2,14 +2,14 @@ ghost use Rattle.std.specs.Prelude.{◌≡◌, ◌≢◌, ◌^◌, ◌%◌, ◌�
 ghost use Rattle.brc_word.specs.declared.shared.Shared.{Shared};
 ghost use Rattle.brc_word.specs.Header.{IsCount, IsSharedWord, total, at_zero, after_choice};
 
-/// How far the hand over from the owner to all threads has come.
+/// How far the merge of the owner's count into the shared one has come.
 #[derive(Clone, Copy, Debug, PartialEq, Eq)]
 pub enum Phase {
-    /// The owner counts in its local count.
+    /// The owner counts in the local word, and nobody asked it to merge.
     Default,
-    /// The object waits in its owner's queue.
+    /// The object waits in its owner's queue to be merged.
     Queued,
-    /// Nobody owns the object: the shared count is all that there is.
+    /// Nobody owns the object any longer: all references are in the shared count.
     Merged,
 }
 
@@ -29,9 +29,9 @@ pub enum SharedChoice {
     Queue,
 }
 
-/// What is added to a count, so that no word is below zero.
+/// What is added to a count, so that none is below zero.
 const RAISED: i64 = 1099511627776;
-/// The words, one more than the largest.
+/// One more than the largest word.
 const WORDS: u64 = 8796093022208;
 
 /// The word of the shared field.
@@ -50,8 +50,10 @@ pub fn pack(shared: Shared) -> u64
 
 /// The shared field of a word, or `None` where the word is that of no shared field.
 pub fn unpack(word: u64) -> Option<Shared>
-    ensures some { IsSome result ↔ ((shared : Shared) × IsCount shared.count × IsSharedWord word shared) }
-    ensures inverse { (shared : Shared) → IsCount shared.count → IsSharedWord word shared → result ≡ Some shared }
+    ensures some { IsSome result
+        ↔ ((shared : Shared) × IsCount shared.count × IsSharedWord word shared) }
+    ensures inverse { (shared : Shared) → IsCount shared.count → IsSharedWord word shared
+        → result ≡ Some shared }
     ensures found { IfSome result (λ shared. IsCount shared.count × IsSharedWord word shared) }
     ensures unused { IsNone result ↔ ((word % 4 ≡ 1) ⊎ (2 ^ 43 ≤ word)) }
 {
@@ -72,8 +74,10 @@ pub fn unpack(word: u64) -> Option<Shared>
 pub fn release_choice(shared: Shared) -> SharedChoice
     ensures queue { (result ≡ SharedChoice.Queue) ↔ (shared ≡ at_zero) }
     ensures subtract { (result ≡ SharedChoice.Subtract) ↔ (shared ≢ at_zero) }
-    ensures queued { shared ≡ at_zero → after_choice result shared ≡ record { count = pos 0; phase = Phase.Queued } }
-    ensures less { shared ≢ at_zero → after_choice result shared ≡ record shared { count = shared.count -ℤ pos 1 } }
+    ensures queued { shared ≡ at_zero
+        → after_choice result shared ≡ record { count = pos 0; phase = Phase.Queued } }
+    ensures less { shared ≢ at_zero
+        → after_choice result shared ≡ record shared { count = shared.count -ℤ pos 1 } }
 {
     if shared.count == 0 && shared.phase == Phase::Default {
         SharedChoice::Queue
@@ -87,7 +91,7 @@ pub fn merge_word(shared: Shared, local: u32) -> Shared
     requires { IsCount (total local shared.count) }
     ensures kept { total 0 result.count ≡ total local shared.count }
     ensures merged { result.phase ≡ Phase.Merged }
-    ensures count { IsCount result.count }
+    ensures fits { IsCount result.count }
 {
     Shared {
         count: shared.count + i64::from(local),
