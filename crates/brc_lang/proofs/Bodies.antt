@@ -29,7 +29,6 @@ passes_both a b p q r g h = record {
 pub passes_line : (text : List ℕ) (p : Place) (rest : Bor (List ℕ)) → IsFirstLineOf p.rest.now text rest.now → Passes (line text) p (at_place rest (p.line + 1))
 passes_line text p rest h = record { parts = h.parts; count = ap (λ (n : ℕ). p.line + n) (sym (line_count_one text h.plain)) }
 
--- a line takes at least its line feed, so line numbers stay within the text's length
 -- ---- the fault of a line
 
 pub fault_at : (b : Beginning) (rest text below : List ℕ) → IsFirstLineOf rest text below → fault_of b rest ≡ line_fault_of b.done b.open_function text

@@ -71,7 +71,7 @@ reads_function done new p after text name rest f fits first opening end appended
       fits = subst (λ (fs : List Function). IsBeginning (closed fs)) (sym appended) more;
     }
 
--- ---- a loop over the functions of a text
+-- ---- a loop over the functions of a text, and its faults
 
 pub record IsReadTo (bytes : List ℕ) (done : List Function) (p : Place) : Type 0 where
   pub fits : IsBeginning (closed done)
@@ -80,9 +80,6 @@ pub record IsReadTo (bytes : List ℕ) (done : List Function) (p : Place) : Type
 
 above_closed : (done : List Function) → beginning (closed done) ≡ first_line ++ functions done
 above_closed done = append-nil (first_line ++ functions done)
-
--- line numbers stay within the text's length
--- ---- what is answered
 
 pub fault_below : (bytes : List ℕ) (done : List Function) (p : Place) (e : ReadFault) → IsReadTo bytes done p → IsFaultBelow done p e → IsFaultOf bytes e
 fault_below bytes done p e so_far (inl memory) = inl memory
