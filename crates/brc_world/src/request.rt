@@ -1,4 +1,4 @@
-ghost use Rattle.std.specs.Prelude.{◌≡◌, ℕ, ◌+◌, slice_get, slice_set, Some};
+ghost use Rattle.std.specs.Prelude.{◌≡◌, ◌+◌, ◌<◌, ◌^◌, slice_get, slice_set, Some};
 ghost use Rattle.brc_model.specs.Threads.{request, instruction_request, row_of, entry_variables};
 ghost use Rattle.brc_model.specs.Steps.{code_of, request_of_thread};
 ghost use Rattle.brc_world.specs.Asking.{asked};
@@ -71,34 +71,32 @@ fn at_instruction(code: &[Instr], left: u32, at: usize, variables: &Variables) -
     ensures { result ≡ asked (instruction_request left at variables.now (slice_get code.now at)) }
 {
     match code.get(at) {
-        Some(instr) => instruction_request(left, at + 1, variables, *instr),
+        Some(instr) => instruction_request(left, at, variables, *instr),
         None => Request::Stuck,
     }
 }
 
-fn instruction_request(left: u32, next: usize, variables: &Variables, instr: Instr) -> Request
-    ensures { (at : ℕ) → next ≡ at + 1 → result ≡ asked (instruction_request left at variables.now (Some instr)) }
+fn instruction_request(left: u32, at: usize, variables: &Variables, instr: Instr) -> Request
+    requires { at + 1 < 2 ^ 64 }
+    ensures { result ≡ asked (instruction_request left at variables.now (Some instr)) }
 {
+    let inside = |variables: Variables| Control::Inside {
+        left,
+        at: at + 1,
+        variables,
+    };
     match instr {
         Instr::Newref { to, from } => match row_of(variables, from) {
             Some(row) => Request::Retain {
                 row,
-                next: Control::Inside {
-                    left,
-                    at: next,
-                    variables: with_row(*variables, to, Some(row)),
-                },
+                next: inside(with_row(*variables, to, Some(row))),
             },
             None => Request::Stuck,
         },
         Instr::Drop { from } => match row_of(variables, from) {
             Some(row) => Request::Release {
                 row,
-                next: Control::Inside {
-                    left,
-                    at: next,
-                    variables: with_row(*variables, from, None),
-                },
+                next: inside(with_row(*variables, from, None)),
             },
             None => Request::Stuck,
         },

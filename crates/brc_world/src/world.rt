@@ -1,10 +1,16 @@
-ghost use Rattle.std.specs.Prelude.{◌≡◌, ◌<◌, ◌≤◌, length, IfOk, OnOk, OnErr, IsTrue, ◌↔◌};
-ghost use Rattle.brc_model.specs.Steps.{first_world, step};
-ghost use Rattle.brc_model.specs.Safety.{AreCalls};
+ghost use Rattle.std.specs.Prelude.{◌≡◌, ◌+◌, ◌*◌, ◌<◌, ◌≤◌, ◌∷◌, length, map, replicate, slice_get, IfOk, OnOk, OnErr};
+ghost use Rattle.brc_lang.specs.declared.module.Module.{Module};
+ghost use Rattle.brc_lang.specs.Grammar.{IsModule};
+ghost use Rattle.brc_model.specs.Walks.{IsAcceptable};
+ghost use Rattle.brc_model.specs.Steps.{first_world, step, main_thread, worker_of, with_control, request_of_thread};
+ghost use Rattle.brc_model.specs.Safety.{AreCalls, Safe};
+ghost use Rattle.brc_world.specs.Asking.{asked};
 
+use crate::counts::{count_up, give_up};
 use crate::no_memory::NoMemory;
+use crate::request::{Request, request_of};
 use brc_check::Checked;
-use brc_lang::Module;
+use brc_lang::{Function, Module};
 use brc_model::{Call, Choice, Control, Thread};
 use std::alloc::Global;
 use std::marker::Model;
@@ -12,7 +18,7 @@ use std::marker::Model;
 /// A world that can be: steps lead to it from the first one.
 #[derive(Debug, Drop)]
 pub struct World<'a> {
-    checked: &'a Checked,
+    accepted: &'a Module,
     threads: Vec<Thread>,
     counts: Vec<u32>,
     closed: Vec<u32>,
@@ -25,9 +31,9 @@ impl<'a> Model for World<'a> {
 
     ghost use Rattle.brc_world.specs.Reach.{IsReachable};
 
-    ghost view = { λ w. record { functions = w.checked.now.functions; threads = w.threads.items; counts = w.counts.items; closed = w.closed.items } };
+    ghost view = { λ w. record { functions = w.accepted.now.functions; threads = w.threads.items; counts = w.counts.items; closed = w.closed.items } };
 
-    ghost invariant = { λ w. IsReachable w.checked.now (record { functions = w.checked.now.functions; threads = w.threads.items; counts = w.counts.items; closed = w.closed.items }) };
+    ghost invariant = { λ w. IsReachable w.accepted.now (record { functions = w.accepted.now.functions; threads = w.threads.items; counts = w.counts.items; closed = w.closed.items }) };
 }
 
 /// What a step did.
@@ -41,11 +47,122 @@ pub enum Did {
     Gone,
 }
 
+/// What every accepted module promises.
+fn accepted_is_safe()
+    ensures { (m : Module) → IsModule m → IsAcceptable m → Safe m }
+{
+}
+
 impl<'a> World<'a> {
+    ghost use Rattle.brc_world.specs.Answers.{is_gone_at, IsAnswer};
+
+    /// The world before any step: main and a worker for each of the calls, each with so many rows of its own.
+    pub fn new(
+        alloc: Global,
+        checked: &'a Checked,
+        workers: usize,
+        rows: u16,
+        calls: &[Call],
+    ) -> Result<World<'a>, NoMemory>
+        requires one_each { length calls.now ≡ workers }
+        requires some_rows { 0 < rows }
+        requires most_rows { rows ≤ 1024 }
+        requires calls_fit { AreCalls checked.now calls.now }
+        ensures { IfOk result (λ w. w ≡ first_world checked.now rows calls.now) }
+    {
+        Ok(World {
+            accepted: checked.module(),
+            threads: first_threads(alloc, calls)?,
+            counts: first_counts(alloc, workers, rows)?,
+            closed: Vec::new(alloc),
+        })
+    }
+
     /// How many threads there are, main too.
     pub fn threads(&self) -> usize
         ensures { result ≡ length self.now.threads }
     {
         self.threads.len()
     }
+
+    /// Whether the thread takes no further step.
+    pub fn is_gone(&self, thread: usize) -> bool
+        requires { thread < length self.now.threads }
+        ensures { result ≡ is_gone_at self.now thread }
+    {
+        matches!(self.threads[thread].control, Control::Gone)
+    }
+
+    /// One step of the thread: the release of an object's last reference closes it in the same step. Where memory is
+    /// refused, nothing changes.
+    pub fn step(&mut self, thread: usize, choice: Choice) -> Result<Did, NoMemory>
+        requires { thread < length self.old.threads }
+        ensures made { OnOk result (self.new ≡ step self.old thread choice) }
+        ensures answer { IfOk result (IsAnswer self.old thread self.new) }
+        ensures unchanged { OnErr result (self.new ≡ self.old) }
+    {
+        accepted_is_safe();
+        match asked_by(self.accepted.functions.as_slice(), &self.threads, thread) {
+            Request::NoStep => Ok(Did::Gone),
+            Request::Stuck => Ok(Did::Same),
+            Request::Quiet(next) => {
+                go_on(&mut self.threads, thread, next);
+                Ok(Did::Moved)
+            }
+            Request::Retain { row, next } => {
+                count_up(&mut self.counts, row);
+                go_on(&mut self.threads, thread, next);
+                Ok(Did::Moved)
+            }
+            Request::Release { row, next } => {
+                give_up(&mut self.counts, &mut self.closed, row)?;
+                go_on(&mut self.threads, thread, next);
+                Ok(Did::Moved)
+            }
+        }
+    }
+}
+
+/// What the thread asks for.
+fn asked_by(functions: &[Function], threads: &[Thread], thread: usize) -> Request
+    requires { thread < length threads.now }
+    ensures { result ≡ asked (request_of_thread functions.now (slice_get threads.now thread)) }
+{
+    request_of(functions, &threads[thread])
+}
+
+/// Main, and a worker for each of the calls.
+fn first_threads(alloc: Global, calls: &[Call]) -> Result<Vec<Thread>, NoMemory>
+    ensures { IfOk result (λ threads. threads.items ≡ main_thread ∷ map worker_of calls.now) }
+{
+    let mut threads = Vec::with_capacity(alloc, 1)?;
+    threads.push(Thread {
+        function: 0,
+        control: Control::Standing { left: 0 },
+    })?;
+    for call in calls {
+        threads.push(Thread {
+            function: call.function,
+            control: Control::Standing { left: call.times },
+        })?;
+    }
+    Ok(threads)
+}
+
+/// Main and each worker hold the root.
+fn first_counts(alloc: Global, workers: usize, rows: u16) -> Result<Vec<u32>, NoMemory>
+    requires { workers ≤ 32 }
+    ensures { IfOk result (λ counts. counts.items ≡ 0 ∷ (1 + workers) ∷ replicate (workers * rows) 0) }
+{
+    let mut counts = vec![in alloc; 0u32; 2 + workers * usize::from(rows)]?;
+    counts[1] = 1 + workers as u32;
+    Ok(counts)
+}
+
+/// The thread stands there now.
+fn go_on(threads: &mut [Thread], thread: usize, next: Control)
+    requires { thread < length threads.old }
+    ensures { threads.new ≡ with_control next (slice_get threads.old thread) threads.old thread }
+{
+    threads[thread].control = next;
 }
