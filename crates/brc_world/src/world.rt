@@ -9,6 +9,7 @@ ghost use Rattle.brc_world.specs.Asking.{asked};
 use crate::counts::{count_up, give_up};
 use crate::no_memory::NoMemory;
 use crate::request::{Request, request_of};
+use crate::tally::{CREATED, Tally, left_of, running_in};
 use brc_check::Checked;
 use brc_lang::{Function, Module};
 use brc_model::{Call, Choice, Control, Thread};
@@ -55,6 +56,7 @@ fn accepted_is_safe()
 
 impl<'a> World<'a> {
     ghost use Rattle.brc_world.specs.Answers.{is_gone_at, IsAnswer};
+    ghost use Rattle.brc_world.specs.Tallies.{tally_of};
 
     /// The world before any step: main and a worker for each of the calls, each with so many rows of its own.
     pub fn new(
@@ -91,6 +93,23 @@ impl<'a> World<'a> {
         ensures { result ≡ is_gone_at self.now thread }
     {
         matches!(self.threads[thread].control, Control::Gone)
+    }
+
+    /// What the world comes to.
+    pub fn tally(&self, alloc: Global) -> Result<Tally, NoMemory>
+        ensures { IfOk result (λ tally. tally ≡ tally_of self.now) }
+    {
+        let closed = self.closed.len() as u64;
+        Ok(Tally {
+            threads: self.threads.len() as u64 - 1,
+            running: running_in(&self.threads) as u64,
+            created: CREATED,
+            closed,
+            alive: CREATED.saturating_sub(closed),
+            host_faults: 0,
+            close_faults: 0,
+            left: left_of(alloc, &self.closed)?,
+        })
     }
 
     /// One step of the thread: the release of an object's last reference closes it in the same step. Where memory is
