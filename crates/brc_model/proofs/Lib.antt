@@ -1,0 +1,12 @@
+pub mod Bag
+pub mod Lists
+pub mod Invariant
+pub mod Counts
+pub mod Allowed
+pub mod Passing
+pub mod Held
+pub mod Due
+pub mod Keeping
+pub mod First
+pub mod Few
+pub mod Safe
