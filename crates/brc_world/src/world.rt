@@ -1,9 +1,6 @@
 ghost use Rattle.std.specs.Prelude.{◌≡◌, ◌+◌, ◌*◌, ◌<◌, ◌≤◌, ◌∷◌, length, map, replicate, slice_get, IfOk, OnOk, OnErr};
-ghost use Rattle.brc_lang.specs.declared.module.Module.{Module};
-ghost use Rattle.brc_lang.specs.Grammar.{IsModule};
-ghost use Rattle.brc_model.specs.Walks.{IsAcceptable};
 ghost use Rattle.brc_model.specs.Steps.{first_world, step, main_thread, worker_of, with_control, request_of_thread};
-ghost use Rattle.brc_model.specs.Safety.{AreCalls, Safe};
+ghost use Rattle.brc_model.specs.Safety.{AreCalls};
 ghost use Rattle.brc_world.specs.Asking.{asked};
 
 use crate::counts::{count_up, give_up};
@@ -12,7 +9,7 @@ use crate::request::{Request, request_of};
 use crate::tally::{CREATED, Tally, left_of, running_in};
 use brc_check::Checked;
 use brc_lang::{Function, Module};
-use brc_model::{Call, Choice, Control, Thread};
+use brc_model::{Call, Choice, Control, Thread, accepted_is_safe};
 use std::alloc::Global;
 use std::marker::Model;
 
@@ -46,12 +43,6 @@ pub enum Did {
     Same,
     /// The thread is gone, and nothing changed.
     Gone,
-}
-
-/// What every accepted module promises.
-fn accepted_is_safe()
-    ensures { (m : Module) → IsModule m → IsAcceptable m → Safe m }
-{
 }
 
 impl<'a> World<'a> {
@@ -119,6 +110,7 @@ impl<'a> World<'a> {
         ensures made { OnOk result (self.new ≡ step self.old thread choice) }
         ensures answer { IfOk result (IsAnswer self.old thread self.new) }
         ensures unchanged { OnErr result (self.new ≡ self.old) }
+        ensures as_many { length self.new.threads ≡ length self.old.threads }
     {
         accepted_is_safe();
         match asked_by(self.accepted.functions.as_slice(), &self.threads, thread) {
