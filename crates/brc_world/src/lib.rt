@@ -10,3 +10,6 @@ mod world;
 pub use no_memory::NoMemory;
 pub use tally::{Left, Tally};
 pub use world::{Did, World};
+
+#[cfg(test)]
+mod tests;

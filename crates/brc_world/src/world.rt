@@ -73,7 +73,8 @@ impl<'a> World<'a> {
 
     /// How many threads there are, main too.
     pub fn threads(&self) -> usize
-        ensures { result ≡ length self.now.threads }
+        ensures value { result ≡ length self.now.threads }
+        ensures some { 0 < result }
     {
         self.threads.len()
     }
