@@ -56,13 +56,13 @@ leads_elsewhere : (code : List Instr) (control next : Control) → next_of (requ
 leads_elsewhere code Gone next h = cc
 leads_elsewhere code (Standing zero) next h = λ same. cc
 leads_elsewhere code (Standing (suc left)) next h = λ same. elim (instruction_next left 0 entry_variables (slice_get code 0) next h) [
-    inl ended ↦ let e : left ≡ suc left = cc in omega arith
+  | inl ended ↦ let e : left ≡ suc left = cc in omega arith
   | inr on ↦ let e = on.1 in cc
-  ]
+]
 leads_elsewhere code (Inside left at variables) next h = λ same. elim (instruction_next left at variables (slice_get code at) next h) [
-    inl ended ↦ cc
+  | inl ended ↦ cc
   | inr on ↦ let e = on.1 in let f : at + 1 ≡ at = cc in omega arith
-  ]
+]
 
 control_runs : (code : List Instr) (control next : Control) → next_of (request code control) ≡ Some next → is_gone control ≡ false
 control_runs code Gone next h = cc

@@ -51,9 +51,9 @@ reached_step m w t choice r = record {
 
 length-going_on : (w : World) (t : ℕ) (control : Control) → length (going_on w t control) ≡ length w.threads
 length-going_on w t control = elim (slice_get w.threads t) as (λ o. length (with_control control o w.threads t) ≡ length w.threads) [
-  None ↦ refl
+  | None ↦ refl
   | Some thread ↦ length-set w.threads t _
-  ]
+]
 
 length-stepped : (w : World) (t : ℕ) (r : Request) → length (stepped w t r).threads ≡ length w.threads
 length-stepped w t NoStep = refl

@@ -27,19 +27,19 @@ counts_one b e = let one : ℕ = 1 in cond-true b one 0 e
 referenced : (r : Reference) (bag : List Reference) → list_any (same r) bag ≡ true → 0 < references_to r.object bag
 referenced r [] h = absurd (cc)
 referenced r (q ∷ qs) h = elim (or_cases (same r q) (list_any (same r) qs) h) [
-    inl here ↦
-    let same_object : (q.object == r.object) ≡ true = eq-eqb _ _ (sym (eqb-true _ _ (and_parts _ _ here).1)) in
-    omega (arith, count-cons r.object q qs, counts_one _ same_object)
+  | inl here ↦
+      let same_object : (q.object == r.object) ≡ true = eq-eqb q.object r.object (sym (eqb-true r.object q.object (and_parts ((r.thread == q.thread) && same_holding r.holding q.holding) (r.object == q.object) here).1)) in
+      omega (arith, count-cons r.object q qs, counts_one _ same_object)
   | inr later ↦ omega (arith, count-cons r.object q qs, referenced r qs later)
-  ]
+]
 
 -- ---- requests
 
 gained : (p : Plain) (r : Reference) → 0 < r.object → is_allowed p (Gain r) ≡ true → 0 < references_to r.object p.references
 gained p r counted h = elim (or_cases (r.object == 0) (nat_lt 0 (references_to r.object p.references)) h) [
-    inl none ↦ let e : r.object ≡ 0 = eqb-true _ _ none in absurd (omega arith)
+  | inl none ↦ let e : r.object ≡ 0 = eqb-true _ _ none in absurd (omega arith)
   | inr some ↦ ltb-true _ _ some
-  ]
+]
 
 retained : (sc : Scene) (t row to : ℕ) (next : Control) → 0 < row → is_bad_request sc t (Retain row to next) ≡ false → 0 < references_to row sc.plain.references
 retained sc t row to next counted h =

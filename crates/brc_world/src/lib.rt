@@ -2,6 +2,7 @@
 #![tactic(auto)]
 
 mod counts;
+mod first;
 mod no_memory;
 mod request;
 mod tally;

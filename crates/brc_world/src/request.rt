@@ -1,4 +1,4 @@
-ghost use Rattle.std.specs.Prelude.{◌≡◌, ◌+◌, ◌<◌, ◌^◌, slice_get, slice_set, Some};
+ghost use Rattle.std.specs.Prelude.{◌≡◌, ◌+◌, ◌<◌, ◌^◌, length, slice_get, slice_set, Some};
 ghost use Rattle.brc_model.specs.Threads.{request, instruction_request, row_of, entry_variables};
 ghost use Rattle.brc_model.specs.Steps.{code_of, request_of_thread};
 ghost use Rattle.brc_world.specs.Asking.{asked};
@@ -28,9 +28,11 @@ pub const ROOT: u32 = 1;
 type Variables = [Option<u32>; 16];
 
 /// What the thread asks for.
-pub fn request_of(functions: &[Function], thread: &Thread) -> Request
-    ensures { result ≡ asked (request_of_thread functions.now (Some thread.now)) }
+pub fn request_of(functions: &[Function], threads: &[Thread], thread: usize) -> Request
+    requires { thread < length threads.now }
+    ensures { result ≡ asked (request_of_thread functions.now (slice_get threads.now thread)) }
 {
+    let thread = &threads[thread];
     request_in(code_of(functions, thread.function), &thread.control)
 }
 
@@ -54,7 +56,11 @@ fn request_in(code: &[Instr], control: &Control) -> Request
             next: Control::Gone,
         },
         Control::Standing { left } => at_instruction(code, *left - 1, 0, &entry_variables()),
-        Control::Inside { left, at, variables } => at_instruction(code, *left, *at, variables),
+        Control::Inside {
+            left,
+            at,
+            variables,
+        } => at_instruction(code, *left, *at, variables),
     }
 }
 

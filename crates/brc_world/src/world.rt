@@ -1,14 +1,14 @@
-ghost use Rattle.std.specs.Prelude.{◌≡◌, ◌+◌, ◌*◌, ◌<◌, ◌≤◌, ◌∷◌, length, map, replicate, slice_get, IfOk, OnOk, OnErr};
-ghost use Rattle.brc_model.specs.Steps.{first_world, step, main_thread, worker_of, with_control, request_of_thread};
+ghost use Rattle.std.specs.Prelude.{◌≡◌, ◌<◌, ◌≤◌, length, slice_get, IfOk, OnOk, OnErr};
+ghost use Rattle.brc_model.specs.Steps.{first_world, step, with_control};
 ghost use Rattle.brc_model.specs.Safety.{AreCalls};
-ghost use Rattle.brc_world.specs.Asking.{asked};
 
 use crate::counts::{count_up, give_up};
+use crate::first::{first_counts, first_threads};
 use crate::no_memory::NoMemory;
 use crate::request::{Request, request_of};
 use crate::tally::{CREATED, Tally, left_of, running_in};
 use brc_check::Checked;
-use brc_lang::{Function, Module};
+use brc_lang::Module;
 use brc_model::{Call, Choice, Control, Thread, accepted_is_safe};
 use std::alloc::Global;
 use std::marker::Model;
@@ -93,7 +93,7 @@ impl<'a> World<'a> {
     {
         let closed = self.closed.len() as u64;
         Ok(Tally {
-            threads: self.threads.len() as u64 - 1,
+            threads: self.threads() as u64 - 1,
             running: running_in(&self.threads) as u64,
             created: CREATED,
             closed,
@@ -114,7 +114,7 @@ impl<'a> World<'a> {
         ensures as_many { length self.new.threads ≡ length self.old.threads }
     {
         accepted_is_safe();
-        match asked_by(self.accepted.functions.as_slice(), &self.threads, thread) {
+        match request_of(self.accepted.functions.as_slice(), &self.threads, thread) {
             Request::NoStep => Ok(Did::Gone),
             Request::Stuck => Ok(Did::Same),
             Request::Quiet(next) => {
@@ -133,42 +133,6 @@ impl<'a> World<'a> {
             }
         }
     }
-}
-
-/// What the thread asks for.
-fn asked_by(functions: &[Function], threads: &[Thread], thread: usize) -> Request
-    requires { thread < length threads.now }
-    ensures { result ≡ asked (request_of_thread functions.now (slice_get threads.now thread)) }
-{
-    request_of(functions, &threads[thread])
-}
-
-/// Main, and a worker for each of the calls.
-fn first_threads(alloc: Global, calls: &[Call]) -> Result<Vec<Thread>, NoMemory>
-    ensures { IfOk result (λ threads. threads.items ≡ main_thread ∷ map worker_of calls.now) }
-{
-    let mut threads = Vec::with_capacity(alloc, 1)?;
-    threads.push(Thread {
-        function: 0,
-        control: Control::Standing { left: 0 },
-    })?;
-    for call in calls {
-        threads.push(Thread {
-            function: call.function,
-            control: Control::Standing { left: call.times },
-        })?;
-    }
-    Ok(threads)
-}
-
-/// Main and each worker hold the root.
-fn first_counts(alloc: Global, workers: usize, rows: u16) -> Result<Vec<u32>, NoMemory>
-    requires { workers ≤ 32 }
-    ensures { IfOk result (λ counts. counts.items ≡ 0 ∷ (1 + workers) ∷ replicate (workers * rows) 0) }
-{
-    let mut counts = vec![in alloc; 0u32; 2 + workers * usize::from(rows)]?;
-    counts[1] = 1 + workers as u32;
-    Ok(counts)
 }
 
 /// The thread stands there now.
