@@ -1,6 +1,5 @@
 -- A world that can be touches only counts that are there, and none of them is large.
-use Rattle.std.proofs.Common.{◌≡◌, ℕ, ◌+◌, ◌*◌, ◌^◌, ◌<◌, ◌≤◌, Bool, true, false, ◌&&◌, ◌||◌, not, ◌==◌, nat_lt, List, [], ◌∷◌, length, slice_index, cond, inl, inr, refl, sym, ap, ◌∙◌, subst, arith}
-use Rattle.std.specs.Prelude.{count_by}
+use Rattle.std.proofs.Common.{◌≡◌, ℕ, ◌+◌, ◌<◌, ◌≤◌, Bool, true, false, ◌&&◌, not, ◌==◌, nat_lt, List, [], ◌∷◌, length, slice_index, cond, inl, inr, sym, ap, ◌∙◌, subst, arith}
 use Rattle.std.specs.List.{list_any}
 use Rattle.std.proofs.lemmas.Bool.{or_parts, or_cases, and_parts, not-false, eqb-true, eq-eqb, ltb-true, cond-true}
 use Rattle.std.proofs.lemmas.List.Sums.{count_by-le-length, sum_by-cons}
@@ -8,9 +7,9 @@ use Rattle.brc_lang.specs.declared.module.Module.{Module}
 use Rattle.brc_model.specs.declared.thread.Choice.{Choice}
 use Rattle.brc_model.specs.declared.thread.Choice.TheVariants as choices
 use Rattle.brc_model.specs.declared.thread.Control.{Control}
-use Rattle.brc_model.specs.Plain.{Reference, Holding, ByVariable, Plain, Gain, Lose, same, same_holding, is_allowed, is_among, are_allowed, references_to}
+use Rattle.brc_model.specs.Plain.{Reference, Holding, ByVariable, Plain, Gain, same, same_holding, is_allowed, is_among, are_allowed, references_to}
 use Rattle.brc_model.specs.Threads.{Request, Retain, Release}
-use Rattle.brc_model.specs.Steps.{World, Scene, first_scene, scene_after, request_of, is_bad, is_bad_request, moves_of}
+use Rattle.brc_model.specs.Steps.{World, Scene, first_scene, scene_after, request_of, is_bad_request, moves_of}
 use Rattle.brc_model.specs.Safety.{Safe, IsSafeAt}
 use Rattle.brc_world.specs.Reach.{IsReachable}
 use Rattle.brc_world.proofs.Reaching.{few_threads}

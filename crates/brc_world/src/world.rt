@@ -105,7 +105,7 @@ impl<'a> World<'a> {
     }
 
     /// One step of the thread: the release of an object's last reference closes it in the same step. Where memory is
-    /// refused, nothing changes.
+    /// refused, nothing changes. No step is a host call yet, so the choice says nothing.
     pub fn step(&mut self, thread: usize, choice: Choice) -> Result<Did, NoMemory>
         requires { thread < length self.old.threads }
         ensures made { OnOk result (self.new ≡ step self.old thread choice) }

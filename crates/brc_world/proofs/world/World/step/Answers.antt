@@ -1,5 +1,5 @@
 -- Each arm of a step: what its thread asks for says what it may do, and where the world is afterwards.
-use Rattle.std.proofs.Common.{sym, ◌∙◌, ◌≤◌, arith}
+use Rattle.std.proofs.Common.{sym, ◌∙◌, arith}
 use Rattle.std.proofs.lemmas.Grind.{common_steps}
 use Rattle.brc_world.proofs.Going.{reached_as, answered_moved, answered_gone, quiet_goes, retain_goes, release_goes, retain_referenced, release_referenced}
 use Rattle.brc_world.proofs.world.World.step.Goals as goal
