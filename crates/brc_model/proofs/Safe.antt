@@ -66,7 +66,7 @@ closed_exactly m n sc keeps done = λ object. (
 pub safe_at : (m : Module) (n : ℕ) (sc : Scene) → Keeps m n sc → IsSafeAt sc
 safe_at m n sc keeps = record {
   none_bad = λ t choice. (keeps_step m n sc (t, choice) keeps).0;
-  agree = keeps.counts.agree;
+  agree = λ object counted. omega (arith, keeps.counts.agree object counted);
   few = omega (arith, few_references m n sc keeps, keeps.threads);
   same_closed = keeps.same_closed;
   closed_once = subst (λ (l : List ℕ). AllPairs (λ x y. x ≢ y) l) (sym keeps.same_closed) keeps.counts.once;
