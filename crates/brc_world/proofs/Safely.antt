@@ -69,8 +69,8 @@ pub record IsReferenced (counts : List ℕ) (row : ℕ) : Type 0 where
 
 counted : (sc : Scene) (row : ℕ) → IsSafeAt sc → length sc.world.threads ≤ 33 → (0 < row → 0 < references_to row sc.plain.references) → IsReferenced sc.world.counts row
 counted sc row safe few referenced = record {
-  some = λ h. rw (safe.agree row h) (referenced h);
-  fits = λ h. rw (safe.agree row h) (references_fit sc row safe few);
+  some = λ h. omega (arith, safe.agree row h, referenced h);
+  fits = λ h. omega (arith, safe.agree row h, references_fit sc row safe few);
 }
 
 safe_scene : (m : Module) (w : World) (r : IsReachable m w) → Safe m → IsSafeAt (scene_after (first_scene m r.rows r.calls) r.events)
