@@ -1,0 +1,40 @@
+ghost use Rattle.std.specs.Prelude.{◌≡◌, ℕ, ◌≤◌, ◌↔◌, Option, None, Some, IsTrue, IsNone, IfSome};
+ghost use Rattle.brc_word.specs.Header.{IsLocalWord, IsHeaderWord, OfHeader, IsImmortal, owned};
+
+/// One more than the largest local count: the owner stands above the count in the word.
+pub(crate) const LOCAL_COUNTS: u64 = 4294967296;
+/// The local count of an object that is never counted.
+const IMMORTAL: u64 = 4294967295;
+
+/// The local word.
+pub fn local_word(owner: Option<u8>, local: u32) -> u64
+    requires nobody { owner ≡ None → local ≡ 0 }
+    requires known { IfSome owner (λ thread. thread ≤ 32) }
+    ensures { IsLocalWord result owner local }
+{
+    match owner {
+        None => 0,
+        Some(thread) => (u64::from(thread) + 1) * LOCAL_COUNTS + u64::from(local),
+    }
+}
+
+/// The owner and the local count, or `None` where nobody owns the object.
+pub fn read_local(word: u64) -> Option<(u8, u32)>
+    requires { IsHeaderWord word }
+    ensures inverse { OfHeader word (λ owner local. result ≡ owned owner local) }
+    ensures found { IfSome result (λ it. IsLocalWord word (Some it.0) it.1) }
+    ensures nobody { IsNone result ↔ (word ≡ 0) }
+{
+    let above = word / LOCAL_COUNTS;
+    if above == 0 {
+        return None;
+    }
+    Some(((above - 1) as u8, (word % LOCAL_COUNTS) as u32))
+}
+
+/// Whether the object is never counted.
+pub fn is_immortal(word: u64) -> bool
+    ensures { OfHeader word (λ owner local. IsTrue result ↔ IsImmortal local) }
+{
+    word % LOCAL_COUNTS == IMMORTAL
+}
