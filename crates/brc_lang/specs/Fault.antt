@@ -8,7 +8,7 @@ use Rattle.brc_lang.specs.declared.module.Function.{Function}
 use Rattle.brc_lang.specs.declared.module.Instr.{Instr}
 use Rattle.brc_lang.specs.declared.module.Instr.TheVariants.{Newref, Drop, Ret, Fail}
 use Rattle.brc_lang.specs.declared.fault.FaultCode.{FaultCode}
-use Rattle.brc_lang.specs.declared.fault.FaultCode.TheVariants.{FirstLine, UnknownWord, Number, NameTwice, OverLimit, CutOff}
+use Rattle.brc_lang.specs.declared.fault.FaultCode.TheVariants.{FirstLine, UnknownWord, Number, NameTwice, OverLimit, CutOff, NoMemory}
 use Rattle.brc_lang.specs.Grammar.{is_name, IsInstruction, IsFunction, AreNamedApart, heading, instructions, functions, first_line}
 
 -- ---- one line
