@@ -1,0 +1,6 @@
+pub mod Slots
+pub mod Walks
+pub mod Plain
+pub mod Threads
+pub mod Steps
+pub mod Safety

@@ -1,0 +1,79 @@
+-- The plain world knows nothing of counts: it is the bag of all references, each with its holder and its object, and the
+-- list of the objects that were closed. (Python/C API manual, Reference Count Details: a reference is owned by one holder.)
+use Rattle.std.specs.Prelude.{ℕ, Bool, true, false, ◌&&◌, ◌||◌, ◌==◌, not, nat_lt, if◌then◌else◌, List, [], ◌∷◌, ◌++◌, count_by}
+use Rattle.std.specs.List.{list_any}
+
+-- the object none, which is immortal: it isn't counted, and is never closed
+abbrev pub none_row : ℕ
+none_row = 0
+
+-- the root, a list that main owns and lends to each call
+abbrev pub root_row : ℕ
+root_row = 1
+
+abbrev pub is_counted : ℕ → Bool
+is_counted object = nat_lt 0 object
+
+-- how a thread holds a reference: by a variable of its current call, or as the caller that lends the root
+pub data Holding : Type 0 where
+  ByVariable : ℕ → Holding
+  AsCaller : Holding
+
+pub record Reference : Type 0 where
+  pub thread : ℕ
+  pub holding : Holding
+  pub object : ℕ
+
+pub record Plain : Type 0 where
+  pub references : List Reference
+  pub closed : List ℕ
+
+-- ---- the bag
+
+abbrev pub same_holding : Holding → Holding → Bool
+same_holding (ByVariable v) (ByVariable w) = v == w
+same_holding AsCaller AsCaller = true
+same_holding _ _ = false
+
+abbrev pub same : Reference → Reference → Bool
+same r q = (r.thread == q.thread) && same_holding r.holding q.holding && (r.object == q.object)
+
+-- the bag without one such reference
+abbrev pub without : Reference → List Reference → List Reference
+without r [] = []
+without r (q ∷ qs) = if same r q then qs else q ∷ without r qs
+
+-- how many references name the object
+abbrev pub references_to : ℕ → List Reference → ℕ
+references_to object bag = count_by (λ r. r.object == object) bag
+
+abbrev pub is_among : ℕ → List ℕ → Bool
+is_among object objects = list_any (λ x. x == object) objects
+
+-- ---- moves
+
+pub data Move : Type 0 where
+  Gain : Reference → Move
+  Lose : Reference → Move
+  Finalise : ℕ → Move
+
+-- A reference is gained to none or to an object that is referenced already; one that is lost is there; and what is finalised
+-- is a counted object that nothing references, for the first time.
+abbrev pub is_allowed : Plain → Move → Bool
+is_allowed p (Gain r) = (r.object == none_row) || nat_lt 0 (references_to r.object p.references)
+is_allowed p (Lose r) = list_any (same r) p.references
+is_allowed p (Finalise x) = is_counted x && (references_to x p.references == 0) && not (is_among x p.closed)
+
+abbrev pub move : Plain → Move → Plain
+move p (Gain r) = record { references = r ∷ p.references; closed = p.closed }
+move p (Lose r) = record { references = without r p.references; closed = p.closed }
+move p (Finalise x) = record { references = p.references; closed = p.closed ++ x ∷ [] }
+
+-- the moves of one event, in order
+abbrev pub moved : Plain → List Move → Plain
+moved p [] = p
+moved p (m ∷ ms) = moved (move p m) ms
+
+abbrev pub are_allowed : Plain → List Move → Bool
+are_allowed p [] = true
+are_allowed p (m ∷ ms) = is_allowed p m && are_allowed (move p m) ms

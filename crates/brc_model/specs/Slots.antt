@@ -1,0 +1,108 @@
+-- Slot states: what each instruction asks of the variables, and what it leaves in them. (Python/C API manual, Reference
+-- Count Details; Extending manual, Ownership Rules: a reference that is owned is given up once, by a decrement or by
+-- handing it on; a borrowed one isn't given up; what is returned is owned.)
+use Rattle.std.specs.Prelude.{ℕ, ◌+◌, Bool, true, false, ◌==◌, List, [], ◌∷◌, Option, None, Some, is_some, find, slice_set, replicate}
+use Rattle.std.specs.List.{list_any, slice_index_or}
+use Rattle.brc_lang.specs.declared.kind.Kind.{Kind}
+use Rattle.brc_lang.specs.declared.kind.Kind.TheVariants as kinds
+use Rattle.brc_lang.specs.declared.module.Instr.{Instr}
+use Rattle.brc_lang.specs.declared.module.Instr.TheVariants.{Newref, Drop, Ret, Fail}
+use Rattle.brc_model.specs.declared.code.CheckCode.{CheckCode}
+use Rattle.brc_model.specs.declared.code.CheckCode.TheVariants.{EmptyUsed, WrongKind, NotOwned, StillOwns, LeftOwned, LeftLocked, SecondLock, NotLocked, LockedChanged}
+use Rattle.brc_model.specs.declared.slot.Slot.{Slot}
+use Rattle.brc_model.specs.declared.slot.Slot.TheVariants.{Empty, Owned, Caller, Locked}
+use Rattle.brc_model.specs.declared.slot.State.{State}
+use Rattle.brc_model.specs.declared.slot.Exit.{Exit}
+
+-- ---- one slot
+
+abbrev pub slot_of : State → ℕ → Slot
+slot_of s x = slice_index_or s.slots x Empty
+
+abbrev pub is_empty : Slot → Bool
+is_empty Empty = true
+is_empty _ = false
+
+abbrev pub is_owned : Slot → Bool
+is_owned (Owned k) = true
+is_owned _ = false
+
+abbrev pub is_borrowed : Slot → Bool
+is_borrowed (Caller k) = true
+is_borrowed (Locked k) = true
+is_borrowed _ = false
+
+abbrev pub kind_of : Slot → Kind
+kind_of Empty = kinds.Any
+kind_of (Owned k) = k
+kind_of (Caller k) = k
+kind_of (Locked k) = k
+
+abbrev pub names : Option ℕ → ℕ → Bool
+names None x = false
+names (Some y) x = x == y
+
+-- the state with x as given
+abbrev pub put : State → ℕ → Slot → State
+put s x slot = record { slots = slice_set s.slots x slot; locked = s.locked }
+
+-- ---- conditions
+
+-- what an instruction asks of the state before it
+pub data Condition : Type 0 where
+  Use : ℕ → Condition
+  Give : ℕ → Condition
+  Into : ℕ → Condition
+  NothingOwned : Condition
+  NothingOwnedBut : ℕ → Condition
+  NothingLocked : Condition
+
+-- whether the condition is broken in the way that the code says
+abbrev pub breaks : State → CheckCode → Condition → Bool
+breaks s EmptyUsed (Use x) = is_empty (slot_of s x)
+breaks s EmptyUsed (Give x) = is_empty (slot_of s x)
+breaks s NotOwned (Give x) = is_borrowed (slot_of s x)
+breaks s LockedChanged (Give x) = names s.locked x
+breaks s StillOwns (Into x) = is_owned (slot_of s x)
+breaks s LockedChanged (Into x) = names s.locked x
+breaks s LeftOwned NothingOwned = list_any is_owned s.slots
+breaks s LeftOwned (NothingOwnedBut x) = list_any is_owned (put s x Empty).slots
+breaks s LeftLocked NothingLocked = is_some s.locked
+breaks s _ _ = false
+
+abbrev pub conditions_of : Instr → List Condition
+conditions_of (Newref to from) = Use from ∷ Into to ∷ []
+conditions_of (Drop from) = Give from ∷ []
+conditions_of (Ret from) = Give from ∷ NothingOwnedBut from ∷ NothingLocked ∷ []
+conditions_of Fail = NothingOwned ∷ NothingLocked ∷ []
+
+abbrev pub stands : Instr → State → CheckCode → Bool
+stands i s code = list_any (breaks s code) (conditions_of i)
+
+-- what conditions can break by, lowest first
+abbrev pub rising : List CheckCode
+rising = EmptyUsed ∷ WrongKind ∷ NotOwned ∷ StillOwns ∷ LeftOwned ∷ LeftLocked ∷ SecondLock ∷ NotLocked ∷ LockedChanged ∷ []
+
+-- the lowest code that stands
+abbrev pub lowest : Instr → State → Option CheckCode
+lowest i s = find (stands i s) rising
+
+-- ---- exits
+
+-- the state after an instruction that leads on
+abbrev pub after : Instr → Exit → State → State
+after (Newref to from) exit s = put s to (Owned (kind_of (slot_of s from)))
+after (Drop from) exit s = put s from Empty
+after (Ret from) exit s = s
+after Fail exit s = s
+
+-- the point that an exit of the instruction at a point leads to, or none where it ends the call
+abbrev pub target : Instr → Exit → ℕ → Option ℕ
+target (Newref to from) exit at = Some (at + 1)
+target (Drop from) exit at = Some (at + 1)
+target (Ret from) exit at = None
+target Fail exit at = None
+
+-- at the entry the caller lends the root in v0
+abbrev pub entry : State
+entry = record { slots = Caller kinds.List ∷ replicate 15 Empty; locked = None }
