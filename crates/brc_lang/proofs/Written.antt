@@ -57,11 +57,11 @@ stops_between r a b c bytes xs ys zs parts first begun = stops_early r a c bytes
 
 -- ---- the items of a list, written one after another
 
-pub flat_map_around : {X : Type 0} (f : X → List ℕ) (xs : List X) (i : ℕ) (x : X) → i < length xs → x ≡ get_or xs i x → flat_map f xs ≡ flat_map f (take i xs) ++ f x ++ flat_map f (drop (suc i) xs)
-flat_map_around f xs i x inside item =
+pub flat_map_around : {X : Type 0} (f : X → List ℕ) (xs : List X) (i : ℕ) (d x : X) → i < length xs → x ≡ get_or xs i d → flat_map f xs ≡ flat_map f (take i xs) ++ f x ++ flat_map f (drop (suc i) xs)
+flat_map_around f xs i d x inside item =
     let front = flat_map f (take i xs) in
     let back = flat_map f (drop (suc i) xs) in
     ap (flat_map f) (sym (take-append-drop i xs)) ∙ flat_map-append f (take i xs) (drop i xs)
-    ∙ ap (λ l. front ++ flat_map f l) (drop-cons xs i x inside)
+    ∙ ap (λ l. front ++ flat_map f l) (drop-cons xs i d inside)
     ∙ ap (λ y. front ++ (f y ++ back)) (sym item)
     ∙ sym (append_assoc front (f x) back)

@@ -7,7 +7,7 @@ use Rattle.brc_lang.proofs.writing.write.Goals as goal
 around : (all fs : List Function) (i : ℕ) (f : Function) → fs ≡ all → i < length fs → f ≡ get_or fs i f
     → first_line ++ functions all ≡ (first_line ++ functions (take i all)) ++ function f ++ functions (drop (suc i) fs)
 around all fs i f same inside item =
-    ap (λ l. first_line ++ functions l) (sym same) ∙ ap (λ l. first_line ++ l) (flat_map_around function fs i f inside item)
+    ap (λ l. first_line ++ functions l) (sym same) ∙ ap (λ l. first_line ++ l) (flat_map_around function fs i f f inside item)
     ∙ ap (λ l. (first_line ++ functions (take i l)) ++ function f ++ functions (drop (suc i) fs)) same
 
 pub returns-in_err-write_bytes-clause-begun : goal.returns-in_err-write_bytes-clause-begun
