@@ -1,0 +1,75 @@
+-- In accepted code each point that a walk reaches has an instruction whose conditions are met, and the walk goes on.
+use Rattle.std.proofs.Common.{◌≡◌, ℕ, ◌<◌, Bool, true, false, cond, List, [], ◌∷◌, ◌++◌, length, drop, Option, None, Some, refl, sym, ap, ◌∙◌, subst}
+use Rattle.std.specs.Prelude.{◌||◌, find, fold, nat_lt, slice_get}
+use Rattle.std.proofs.lemmas.List.Sums.{fold-append}
+use Rattle.brc_lang.specs.declared.module.Instr.{Instr}
+use Rattle.brc_model.specs.declared.code.CheckCode.{CheckCode}
+use Rattle.brc_model.specs.declared.code.CheckCode.TheVariants.{EmptyUsed, WrongKind, NotOwned, StillOwns, LeftOwned, RunsOff}
+use Rattle.brc_model.specs.declared.slot.State.{State}
+use Rattle.brc_model.specs.declared.slot.Exit.{Exit}
+use Rattle.brc_model.specs.declared.slot.Exit.TheVariants.{Success}
+use Rattle.brc_model.specs.Slots.{stands, rising, lowest, after, target, entry}
+use Rattle.brc_model.specs.Walks.{Place, At, Ended, Meets, arrives, unless_met, passes, follow, walk, MeetsCode, IsAcceptableCode}
+
+-- no condition of the instruction is broken
+pub record AreMet (i : Instr) (s : State) : Type 0 where
+  pub not_empty : stands i s EmptyUsed ≡ false
+  pub owned : stands i s NotOwned ≡ false
+  pub free : stands i s StillOwns ≡ false
+  pub none_left : stands i s LeftOwned ≡ false
+
+find_none : {A : Type 0} (test : A → Bool) (x : A) (xs : List A) → find test (x ∷ xs) ≡ None → (test x ≡ false) × (find test xs ≡ None)
+find_none test x xs e =
+    elim (test x) as (λ b. test x ≡ b → (b ≡ false) × (find test xs ≡ None)) [
+      | true ↦ λ t. absurd (let found : Some x ≡ None = sym (ap (λ (b : Bool). cond b (Some x) (find test xs)) t) ∙ e in cc)
+      | false ↦ λ t. (refl, sym (ap (λ (b : Bool). cond b (Some x) (find test xs)) t) ∙ e)
+    ] refl
+
+pub are_met : (i : Instr) (s : State) → lowest i s ≡ None → AreMet i s
+are_met i s none =
+    let a = find_none (stands i s) EmptyUsed (drop 1 rising) none in
+    let b = find_none (stands i s) WrongKind (drop 2 rising) a.1 in
+    let c = find_none (stands i s) NotOwned (drop 3 rising) b.1 in
+    let d = find_none (stands i s) StillOwns (drop 4 rising) c.1 in
+    let e = find_none (stands i s) LeftOwned (drop 5 rising) d.1 in
+    record { not_empty = a.0; owned = c.0; free = d.0; none_left = e.0 }
+
+pub record PassesOn (code : List Instr) (exits : List Exit) (at : ℕ) (s : State) : Type 0 where
+  pub here : Instr
+  pub found : slice_get code at ≡ Some here
+  pub met : AreMet here s
+  pub leads : (next : ℕ) → target here Success at ≡ Some next → walk code (exits ++ Success ∷ []) ≡ At next (after here Success s)
+
+walk-append : (code : List Instr) (exits : List Exit) (e : Exit) → walk code (exits ++ e ∷ []) ≡ follow code (walk code exits) e
+walk-append code exits e = fold-append (follow code) (At 0 entry) exits (e ∷ [])
+
+arrives_at : (code : List Instr) (at next : ℕ) (s : State) → ((met : CheckCode) → arrives code at (Some next) s ≡ Meets at met → ⊥) → arrives code at (Some next) s ≡ At next s
+arrives_at code at next s never =
+    elim (nat_lt next (length code)) as (λ b. nat_lt next (length code) ≡ b → cond b (At next s) (Meets at RunsOff) ≡ At next s) [
+      | true ↦ λ e. refl
+      | false ↦ λ e. absurd (never RunsOff (ap (λ (b : Bool). cond b (At next s) (Meets at RunsOff)) e))
+    ] refl
+
+pub passes_on : (code : List Instr) (exits : List Exit) (at : ℕ) (s : State) → IsAcceptableCode code → walk code exits ≡ At at s → PassesOn code exits at s
+passes_on code exits at s accepted walked =
+    let one_more : walk code (exits ++ Success ∷ []) ≡ passes code at (slice_get code at) Success s = walk-append code exits Success ∙ ap (λ (p : Place). follow code p Success) walked in
+    let never : (met : CheckCode) → passes code at (slice_get code at) Success s ≡ Meets at met → ⊥ = λ met e. accepted.meets_none at met (record { exits = exits ++ Success ∷ []; meets = one_more ∙ e }) in
+    elim (slice_get code at) as (λ o. slice_get code at ≡ o → PassesOn code exits at s) [
+      | None ↦ λ e. absurd (never RunsOff (ap (λ (o : Option Instr). passes code at o Success s) e))
+      | Some i ↦ λ e.
+        let there : passes code at (slice_get code at) Success s ≡ unless_met at (lowest i s) (arrives code at (target i Success at) (after i Success s)) = ap (λ (o : Option Instr). passes code at o Success s) e in
+        elim (lowest i s) as (λ o. lowest i s ≡ o → PassesOn code exits at s) [
+          | Some met ↦ λ l. absurd (never met (there ∙ ap (λ (o : Option CheckCode). unless_met at o (arrives code at (target i Success at) (after i Success s))) l))
+          | None ↦ λ l.
+            let on : passes code at (slice_get code at) Success s ≡ arrives code at (target i Success at) (after i Success s) =
+            there ∙ ap (λ (o : Option CheckCode). unless_met at o (arrives code at (target i Success at) (after i Success s))) l in
+            record {
+              here = i;
+              found = e;
+              met = are_met i s l;
+              leads = λ next t.
+              let to = on ∙ ap (λ (o : Option ℕ). arrives code at o (after i Success s)) t in
+              one_more ∙ to ∙ arrives_at code at next (after i Success s) (λ met m. never met (to ∙ m));
+            }
+        ] refl
+    ] refl
