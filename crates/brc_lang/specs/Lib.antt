@@ -1,4 +1,5 @@
 pub mod Padding
 pub mod Grammar
 pub mod Fault
+pub mod Progress
 pub mod Written

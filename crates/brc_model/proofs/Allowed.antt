@@ -1,10 +1,10 @@
 -- A step whose reference is there makes allowed moves, and touches nothing that is closed.
-use Rattle.std.proofs.Common.{◌≡◌, ℕ, ◌+◌, ◌<◌, Bool, true, false, cond, not, List, [], ◌∷◌, refl, sym, ap, ◌∙◌, arith}
-use Rattle.std.specs.Prelude.{◌==◌, ◌&&◌, ◌||◌, nat_lt, slice_index}
+use Rattle.std.proofs.Common.{◌≡◌, ℕ, ◌<◌, Bool, true, false, cond, not, [], ◌∷◌, refl, ap, ◌∙◌}
+use Rattle.std.specs.Prelude.{◌==◌, ◌&&◌, ◌||◌, nat_lt}
 use Rattle.std.specs.List.{list_any}
 use Rattle.std.proofs.lemmas.Bool.{eq-eqb, lt-ltb}
 use Rattle.brc_model.specs.declared.thread.Control.{Control}
-use Rattle.brc_model.specs.Plain.{none_row, is_counted, is_among, Holding, ByVariable, Reference, Plain, same, without, references_to, Move, Gain, Lose, Finalise, is_allowed, move, moved, are_allowed}
+use Rattle.brc_model.specs.Plain.{none_row, is_counted, is_among, Holding, ByVariable, Reference, Plain, same, without, references_to, Gain, Lose, Finalise, is_allowed, move, are_allowed}
 use Rattle.brc_model.specs.Threads.{Retain, Release}
 use Rattle.brc_model.specs.Steps.{Scene, closes, moves_of, is_bad_request}
 use Rattle.brc_model.proofs.Invariant.{reference_of, FitsCounts}

@@ -1,10 +1,10 @@
 -- How many references of each sort are in the bag, before and after a move.
-use Rattle.std.proofs.Common.{◌≡◌, ◌≢◌, ℕ, zero, suc, ◌+◌, ◌<◌, ◌≤◌, Bool, true, false, cond, List, [], ◌∷◌, length, refl, sym, ap, ◌∙◌, subst, arith, inl, inr, ◌⊎◌}
-use Rattle.std.specs.Prelude.{◌==◌, ◌&&◌, ◌||◌, count_by, nat_lt}
+use Rattle.std.proofs.Common.{◌≡◌, ◌≢◌, ℕ, ◌+◌, ◌<◌, ◌≤◌, Bool, true, false, cond, List, [], ◌∷◌, refl, sym, ap, ◌∙◌, arith}
+use Rattle.std.specs.Prelude.{◌==◌, ◌&&◌, count_by}
 use Rattle.std.specs.List.{list_any}
 use Rattle.std.proofs.lemmas.Bool.{eqb-true, eq-eqb}
-use Rattle.std.proofs.lemmas.Bool.Decides.{nat_tests}
 use Rattle.std.proofs.lemmas.List.Sums.{sum_by-cons}
+use Rattle.brc_model.proofs.Lists.{and_first, and_second}
 use Rattle.brc_model.specs.Plain.{Holding, ByVariable, AsCaller, Reference, same_holding, same, without, references_to}
 
 -- how many such references the bag has
@@ -13,10 +13,6 @@ held r bag = count_by (same r) bag
 
 abbrev pub one_if : Bool → ℕ
 one_if b = cond b 1 0
-
-and_true : (a b : Bool) → (a && b) ≡ true → (a ≡ true) × (b ≡ true)
-and_true true b h = (refl, h)
-and_true false b h = absurd cc
 
 pub same_holding-true : (h k : Holding) → same_holding h k ≡ true → h ≡ k
 same_holding-true (ByVariable v) (ByVariable w) e = ap ByVariable (eqb-true v w e)
@@ -30,11 +26,10 @@ same_holding-refl AsCaller = refl
 
 pub same-true : (r q : Reference) → same r q ≡ true → r ≡ q
 same-true r q e =
-    let first = and_true (r.thread == q.thread && same_holding r.holding q.holding) (r.object == q.object) e in
-    let second = and_true (r.thread == q.thread) (same_holding r.holding q.holding) first.0 in
-    let threads : r.thread ≡ q.thread = eqb-true _ _ second.0 in
-    let holdings : r.holding ≡ q.holding = same_holding-true _ _ second.1 in
-    let objects : r.object ≡ q.object = eqb-true _ _ first.1 in
+    let front = and_first (r.thread == q.thread && same_holding r.holding q.holding) (r.object == q.object) e in
+    let threads : r.thread ≡ q.thread = eqb-true _ _ (and_first (r.thread == q.thread) (same_holding r.holding q.holding) front) in
+    let holdings : r.holding ≡ q.holding = same_holding-true _ _ (and_second (r.thread == q.thread) (same_holding r.holding q.holding) front) in
+    let objects : r.object ≡ q.object = eqb-true _ _ (and_second (r.thread == q.thread && same_holding r.holding q.holding) (r.object == q.object) e) in
     λ i. record { thread = threads i; holding = holdings i; object = objects i }
 
 pub same-refl : (r : Reference) → same r r ≡ true
@@ -62,8 +57,8 @@ held_has r (q ∷ qs) h =
     elim (same r q) as (λ b. same r q ≡ b → list_any (same r) (q ∷ qs) ≡ true) [
       | true ↦ λ e. rw e refl
       | false ↦ λ e.
-        let counts : held r (q ∷ qs) ≡ 0 + held r qs = held-cons r q qs ∙ ap (λ (b : Bool). one_if b + held r qs) e in
-        rw e (held_has r qs (omega (arith, counts)))
+          let counts : held r (q ∷ qs) ≡ 0 + held r qs = held-cons r q qs ∙ ap (λ (b : Bool). one_if b + held r qs) e in
+          rw e (held_has r qs (omega (arith, counts)))
     ] refl
 
 pub held-le-references_to : (r : Reference) (bag : List Reference) → held r bag ≤ references_to r.object bag
@@ -71,13 +66,13 @@ held-le-references_to r [] = omega arith
 held-le-references_to r (q ∷ qs) =
     elim (same r q) as (λ b. same r q ≡ b → held r (q ∷ qs) ≤ references_to r.object (q ∷ qs)) [
       | true ↦ λ e.
-        let object : (q.object == r.object) ≡ true = eq-eqb _ _ (sym (ap (λ (x : Reference). x.object) (same-true r q e))) in
-        let left : held r (q ∷ qs) ≡ 1 + held r qs = held-cons r q qs ∙ ap (λ (b : Bool). one_if b + held r qs) e in
-        let right : references_to r.object (q ∷ qs) ≡ 1 + references_to r.object qs = references_to-cons r.object q qs ∙ ap (λ (b : Bool). one_if b + references_to r.object qs) object in
-        omega (arith, left, right, held-le-references_to r qs)
+          let object : (q.object == r.object) ≡ true = eq-eqb _ _ (sym (ap (λ (x : Reference). x.object) (same-true r q e))) in
+          let left : held r (q ∷ qs) ≡ 1 + held r qs = held-cons r q qs ∙ ap (λ (b : Bool). one_if b + held r qs) e in
+          let right : references_to r.object (q ∷ qs) ≡ 1 + references_to r.object qs = references_to-cons r.object q qs ∙ ap (λ (b : Bool). one_if b + references_to r.object qs) object in
+          omega (arith, left, right, held-le-references_to r qs)
       | false ↦ λ e.
-        let left : held r (q ∷ qs) ≡ 0 + held r qs = held-cons r q qs ∙ ap (λ (b : Bool). one_if b + held r qs) e in
-        omega (arith, left, references_to-cons r.object q qs, held-le-references_to r qs)
+          let left : held r (q ∷ qs) ≡ 0 + held r qs = held-cons r q qs ∙ ap (λ (b : Bool). one_if b + held r qs) e in
+          omega (arith, left, references_to-cons r.object q qs, held-le-references_to r qs)
     ] refl
 
 -- ---- a reference is lost
@@ -88,18 +83,18 @@ count-without p q [] has = absurd cc
 count-without p q (x ∷ xs) has =
     elim (same q x) as (λ b. same q x ≡ b → count_by p (without q (x ∷ xs)) + one_if (p q) ≡ count_by p (x ∷ xs)) [
       | true ↦ λ e.
-        let gone : without q (x ∷ xs) ≡ xs = ap (λ (b : Bool). cond b xs (x ∷ without q xs)) e in
-        let this : p q ≡ p x = ap p (same-true q x e) in
-        let left : count_by p (without q (x ∷ xs)) ≡ count_by p xs = ap (count_by p) gone in
-        let right : count_by p (x ∷ xs) ≡ one_if (p x) + count_by p xs = count_by-cons p x xs in
-        let ones : one_if (p q) ≡ one_if (p x) = ap one_if this in
-        omega (arith, left, right, ones)
+          let gone : without q (x ∷ xs) ≡ xs = ap (λ (b : Bool). cond b xs (x ∷ without q xs)) e in
+          let this : p q ≡ p x = ap p (same-true q x e) in
+          let left : count_by p (without q (x ∷ xs)) ≡ count_by p xs = ap (count_by p) gone in
+          let right : count_by p (x ∷ xs) ≡ one_if (p x) + count_by p xs = count_by-cons p x xs in
+          let ones : one_if (p q) ≡ one_if (p x) = ap one_if this in
+          omega (arith, left, right, ones)
       | false ↦ λ e.
-        let kept : without q (x ∷ xs) ≡ x ∷ without q xs = ap (λ (b : Bool). cond b xs (x ∷ without q xs)) e in
-        let rest : list_any (same q) xs ≡ true = rw e at has in
-        let left : count_by p (without q (x ∷ xs)) ≡ one_if (p x) + count_by p (without q xs) = ap (count_by p) kept ∙ count_by-cons p x (without q xs) in
-        let right : count_by p (x ∷ xs) ≡ one_if (p x) + count_by p xs = count_by-cons p x xs in
-        omega (arith, left, right, count-without p q xs rest)
+          let kept : without q (x ∷ xs) ≡ x ∷ without q xs = ap (λ (b : Bool). cond b xs (x ∷ without q xs)) e in
+          let rest : list_any (same q) xs ≡ true = rw e at has in
+          let left : count_by p (without q (x ∷ xs)) ≡ one_if (p x) + count_by p (without q xs) = ap (count_by p) kept ∙ count_by-cons p x (without q xs) in
+          let right : count_by p (x ∷ xs) ≡ one_if (p x) + count_by p xs = count_by-cons p x xs in
+          omega (arith, left, right, count-without p q xs rest)
     ] refl
 
 pub held-without : (r q : Reference) (bag : List Reference) → list_any (same q) bag ≡ true → held r (without q bag) + one_if (same r q) ≡ held r bag

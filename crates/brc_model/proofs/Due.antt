@@ -1,6 +1,6 @@
 -- In accepted code the step that a thread asks for is due: its references are there, and where it stands afterwards is what
 -- the walk says.
-use Rattle.std.proofs.Common.{◌≡◌, ◌≢◌, ℕ, zero, suc, ◌+◌, ◌<◌, ◌≤◌, Bool, true, false, List, [], ◌∷◌, ◌++◌, length, Option, None, Some, refl, sym, ap, ◌∙◌, subst, arith, inl, inr}
+use Rattle.std.proofs.Common.{◌≡◌, ℕ, zero, suc, ◌+◌, ◌<◌, true, false, List, [], ◌∷◌, ◌++◌, length, Option, None, Some, refl, sym, ap, ◌∙◌, subst, arith, inl, inr}
 use Rattle.std.specs.Prelude.{slice_get, slice_set}
 use Rattle.std.specs.List.{list_any}
 use Rattle.std.proofs.lemmas.Bool.Decides.{eqb_tells}
@@ -11,18 +11,17 @@ use Rattle.brc_lang.specs.Grammar.{IsInstruction}
 use Rattle.brc_model.specs.declared.slot.Slot.{Slot}
 use Rattle.brc_model.specs.declared.slot.Slot.TheVariants.{Empty, Owned, Caller, Locked}
 use Rattle.brc_model.specs.declared.slot.State.{State}
-use Rattle.brc_model.specs.declared.slot.Exit.{Exit}
 use Rattle.brc_model.specs.declared.slot.Exit.TheVariants.{Success}
 use Rattle.brc_model.specs.declared.thread.Control.{Control}
 use Rattle.brc_model.specs.declared.thread.Control.TheVariants.{Standing, Inside, Gone}
 use Rattle.brc_model.specs.Slots.{slot_of, is_empty, is_owned, is_borrowed, kind_of, put, after, target, entry}
 use Rattle.brc_model.specs.Walks.{At, walk, IsAcceptableCode}
-use Rattle.brc_model.specs.Plain.{root_row, Holding, ByVariable, AsCaller, Reference, same, without, references_to}
+use Rattle.brc_model.specs.Plain.{root_row, ByVariable, AsCaller, Reference, same, without, references_to}
 use Rattle.brc_model.specs.Threads.{Request, NoStep, Stuck, Quiet, Retain, Release, row_of, entry_variables, with_row, instruction_request, request}
 use Rattle.brc_model.proofs.Bag.{held, held-le-references_to}
 use Rattle.brc_model.proofs.Lists.{first_false, get_or-replicate_default}
-use Rattle.brc_model.proofs.Invariant.{nothing, the_root, of_variables, reference_of, Holds, IsGrounded, IsInside, FitsControl, AreInstructions}
-use Rattle.brc_model.proofs.Passing.{AreMet, PassesOn, passes_on}
+use Rattle.brc_model.proofs.Invariant.{of_variables, reference_of, Holds, IsGrounded, IsInside, FitsControl, AreInstructions}
+use Rattle.brc_model.proofs.Passing.{AreMet, passes_on}
 use Rattle.brc_model.proofs.Held.{slot_of-put_same, slot_of-put_other, row_of-set_same, row_of-set_other, owned_has, caller_has, holds-gained, holds-emptied, holds-ended, holds-returned, holds-entered, holds-left}
 
 -- what makes a request good, and leads to a control that fits
@@ -40,12 +39,12 @@ grounded-put : (s : State) (rows : List (Option ℕ)) (x : ℕ) (slot : Slot) (r
 grounded-put s rows x slot row in_slots in_rows new old v =
     elim (eqb_tells v x) [
       | inl this ↦
-        let P : ℕ → Type 0 = λ w. IsGrounded (slot_of (put s x slot) w) (row_of (slice_set rows x row) w) in
-        let there : IsGrounded (slot_of (put s x slot) x) row = subst (λ (w : Slot). IsGrounded w row) (sym (slot_of-put_same s x slot in_slots)) new in
-        subst P (sym this.1) (subst (λ (w : Option ℕ). IsGrounded (slot_of (put s x slot) x) w) (sym (row_of-set_same rows x row in_rows)) there)
+          let P : ℕ → Type 0 = λ w. IsGrounded (slot_of (put s x slot) w) (row_of (slice_set rows x row) w) in
+          let there : IsGrounded (slot_of (put s x slot) x) row = subst (λ (w : Slot). IsGrounded w row) (sym (slot_of-put_same s x slot in_slots)) new in
+          subst P (sym this.1) (subst (λ (w : Option ℕ). IsGrounded (slot_of (put s x slot) x) w) (sym (row_of-set_same rows x row in_rows)) there)
       | inr other ↦
-        let there : IsGrounded (slot_of (put s x slot) v) (row_of rows v) = subst (λ (w : Slot). IsGrounded w (row_of rows v)) (sym (slot_of-put_other s x v slot other.1)) (old v) in
-        subst (λ (w : Option ℕ). IsGrounded (slot_of (put s x slot) v) w) (sym (row_of-set_other rows x v row other.1)) there
+          let there : IsGrounded (slot_of (put s x slot) v) (row_of rows v) = subst (λ (w : Slot). IsGrounded w (row_of rows v)) (sym (slot_of-put_other s x v slot other.1)) (old v) in
+          subst (λ (w : Option ℕ). IsGrounded (slot_of (put s x slot) v) w) (sym (row_of-set_other rows x v row other.1)) there
     ]
 
 -- a variable that isn't empty names an object that is referenced

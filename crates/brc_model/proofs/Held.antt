@@ -1,37 +1,37 @@
 -- What a thread holds after each instruction, and that other threads hold what they held.
-use Rattle.std.proofs.Common.{◌≡◌, ◌≢◌, ℕ, zero, suc, ◌+◌, ◌<◌, Bool, true, false, cond, List, [], ◌∷◌, length, set, get_or, Option, None, Some, refl, sym, ap, ◌∙◌, subst, arith, inl, inr, get_or-set_same, get_or-set_other}
-use Rattle.std.specs.Prelude.{◌==◌, ◌&&◌, slice_set, replicate}
+use Rattle.std.proofs.Common.{◌≡◌, ◌≢◌, ℕ, zero, suc, ◌<◌, Bool, true, false, List, ◌∷◌, length, Option, None, Some, refl, sym, ap, ◌∙◌, subst, arith, inl, inr, get_or-set_same, get_or-set_other}
+use Rattle.std.specs.Prelude.{◌==◌, ◌&&◌, slice_set}
 use Rattle.std.specs.List.{list_any}
 use Rattle.std.proofs.lemmas.Bool.{eq-eqb, false≢true}
 use Rattle.std.proofs.lemmas.Bool.Decides.{eqb_tells}
 use Rattle.brc_lang.specs.declared.kind.Kind.{Kind}
 use Rattle.brc_model.specs.declared.slot.Slot.{Slot}
-use Rattle.brc_model.specs.declared.slot.Slot.TheVariants.{Empty, Owned, Caller, Locked}
+use Rattle.brc_model.specs.declared.slot.Slot.TheVariants.{Empty, Owned}
 use Rattle.brc_model.specs.declared.slot.State.{State}
 use Rattle.brc_model.specs.Slots.{slot_of, is_owned, names, put, entry}
 use Rattle.brc_model.specs.Plain.{root_row, Holding, ByVariable, AsCaller, Reference, same_holding, same, without}
 use Rattle.brc_model.specs.Threads.{row_of, entry_variables}
-use Rattle.brc_model.proofs.Bag.{held, one_if, same-true, same-refl, same_holding-refl, same-other_thread, held-cons, held-without, held_has}
+use Rattle.brc_model.proofs.Bag.{held, one_if, same-true, same_holding-refl, same-other_thread, held-cons, held-without, held_has}
 use Rattle.brc_model.proofs.Lists.{none_at, get_or-replicate_default}
 use Rattle.brc_model.proofs.Invariant.{nothing, the_root, of_variables, reference_of, Holds}
 
 -- ---- other references
 
-same-other_holding : (r q : Reference) → same_holding r.holding q.holding ≡ false → same r q ≡ false
+pub same-other_holding : (r q : Reference) → same_holding r.holding q.holding ≡ false → same r q ≡ false
 same-other_holding r q other =
     elim (same r q) as (λ b. same r q ≡ b → b ≡ false) [
       | true ↦ λ e.
-        let both : q.holding ≡ r.holding = sym (ap (λ (x : Reference). x.holding) (same-true r q e)) in
-        let itself : same_holding r.holding q.holding ≡ true = ap (same_holding r.holding) both ∙ same_holding-refl r.holding in
-        absurd (false≢true (sym other ∙ itself))
+          let both : q.holding ≡ r.holding = sym (ap (λ (x : Reference). x.holding) (same-true r q e)) in
+          let itself : same_holding r.holding q.holding ≡ true = ap (same_holding r.holding) both ∙ same_holding-refl r.holding in
+          absurd (false≢true (sym other ∙ itself))
       | false ↦ λ e. refl
     ] refl
 
 -- by one variable of one thread, the object tells
-same-one_variable : (t v object row : ℕ) → same (reference_of t (ByVariable v) object) (reference_of t (ByVariable v) row) ≡ (object == row)
+pub same-one_variable : (t v object row : ℕ) → same (reference_of t (ByVariable v) object) (reference_of t (ByVariable v) row) ≡ (object == row)
 same-one_variable t v object row = rw (eq-eqb t t refl, eq-eqb v v refl) refl
 
-same-one_caller : (t object row : ℕ) → same (reference_of t AsCaller object) (reference_of t AsCaller row) ≡ (object == row)
+pub same-one_caller : (t object row : ℕ) → same (reference_of t AsCaller object) (reference_of t AsCaller row) ≡ (object == row)
 same-one_caller t object row = rw (eq-eqb t t refl) refl
 
 held-cons_other : (x r : Reference) (bag : List Reference) → same x r ≡ false → held x (r ∷ bag) ≡ held x bag
@@ -72,18 +72,18 @@ gained_each bag t s rows to row k in_slots in_rows free holds (ByVariable v) obj
     let r = reference_of t (ByVariable to) row in
     elim (eqb_tells v to) [
       | inl this ↦
-        let before : held (reference_of t (ByVariable to) object) bag ≡ 0 = holds.each (ByVariable to) object ∙ ap (λ (b : Bool). one_if (b && names (row_of rows to) object)) free in
-        let one : one_if (same (reference_of t (ByVariable to) object) r) ≡ one_if (object == row) = ap one_if (same-one_variable t to object row) in
-        let now : held (reference_of t (ByVariable to) object) (r ∷ bag) ≡ one_if (object == row) = omega (arith, held-cons (reference_of t (ByVariable to) object) r bag, before, one) in
-        let said : by_variable (slot_of (put s to (Owned k)) to) (row_of (slice_set rows to (Some row)) to) object ≡ one_if (object == row) =
-        ap (λ (x : Slot). by_variable x (row_of (slice_set rows to (Some row)) to) object) (slot_of-put_same s to (Owned k) in_slots) ∙ ap (λ (x : Option ℕ). by_variable (Owned k) x object) (row_of-set_same rows to (Some row) in_rows) in
-        let P : ℕ → Type 0 = λ w. held (reference_of t (ByVariable w) object) (r ∷ bag) ≡ one_if (of_variables (put s to (Owned k)) (slice_set rows to (Some row)) (ByVariable w) object) in
-        subst P (sym this.1) (now ∙ sym said)
+          let before : held (reference_of t (ByVariable to) object) bag ≡ 0 = holds.each (ByVariable to) object ∙ ap (λ (b : Bool). one_if (b && names (row_of rows to) object)) free in
+          let one : one_if (same (reference_of t (ByVariable to) object) r) ≡ one_if (object == row) = ap one_if (same-one_variable t to object row) in
+          let now : held (reference_of t (ByVariable to) object) (r ∷ bag) ≡ one_if (object == row) = omega (arith, held-cons (reference_of t (ByVariable to) object) r bag, before, one) in
+          let said : by_variable (slot_of (put s to (Owned k)) to) (row_of (slice_set rows to (Some row)) to) object ≡ one_if (object == row) =
+          ap (λ (x : Slot). by_variable x (row_of (slice_set rows to (Some row)) to) object) (slot_of-put_same s to (Owned k) in_slots) ∙ ap (λ (x : Option ℕ). by_variable (Owned k) x object) (row_of-set_same rows to (Some row) in_rows) in
+          let P : ℕ → Type 0 = λ w. held (reference_of t (ByVariable w) object) (r ∷ bag) ≡ one_if (of_variables (put s to (Owned k)) (slice_set rows to (Some row)) (ByVariable w) object) in
+          subst P (sym this.1) (now ∙ sym said)
       | inr other ↦
-        let before = held-cons_other (reference_of t (ByVariable v) object) r bag (same-other_holding (reference_of t (ByVariable v) object) r other.0) ∙ holds.each (ByVariable v) object in
-        let said : by_variable (slot_of (put s to (Owned k)) v) (row_of (slice_set rows to (Some row)) v) object ≡ by_variable (slot_of s v) (row_of rows v) object =
-        ap (λ (x : Slot). by_variable x (row_of (slice_set rows to (Some row)) v) object) (slot_of-put_other s to v (Owned k) other.1) ∙ ap (λ (x : Option ℕ). by_variable (slot_of s v) x object) (row_of-set_other rows to v (Some row) other.1) in
-        before ∙ sym said
+          let before = held-cons_other (reference_of t (ByVariable v) object) r bag (same-other_holding (reference_of t (ByVariable v) object) r other.0) ∙ holds.each (ByVariable v) object in
+          let said : by_variable (slot_of (put s to (Owned k)) v) (row_of (slice_set rows to (Some row)) v) object ≡ by_variable (slot_of s v) (row_of rows v) object =
+          ap (λ (x : Slot). by_variable x (row_of (slice_set rows to (Some row)) v) object) (slot_of-put_other s to v (Owned k) other.1) ∙ ap (λ (x : Option ℕ). by_variable (slot_of s v) x object) (row_of-set_other rows to v (Some row) other.1) in
+          before ∙ sym said
     ]
 
 -- a variable that owned nothing owns the new reference
@@ -127,16 +127,16 @@ emptied_each bag t s rows from row in_slots owned is holds AsCaller object = kep
 emptied_each bag t s rows from row in_slots owned is holds (ByVariable v) object =
     elim (eqb_tells v from) [
       | inl this ↦
-        let now = lost bag t s rows from row owned is holds object in
-        let said : by_variable (slot_of (put s from Empty) from) (row_of (slice_set rows from None) from) object ≡ 0 =
-        ap (λ (x : Slot). by_variable x (row_of (slice_set rows from None) from) object) (slot_of-put_same s from Empty in_slots) in
-        let P : ℕ → Type 0 = λ w. held (reference_of t (ByVariable w) object) (without (reference_of t (ByVariable from) row) bag) ≡ one_if (of_variables (put s from Empty) (slice_set rows from None) (ByVariable w) object) in
-        subst P (sym this.1) (now ∙ sym said)
+          let now = lost bag t s rows from row owned is holds object in
+          let said : by_variable (slot_of (put s from Empty) from) (row_of (slice_set rows from None) from) object ≡ 0 =
+          ap (λ (x : Slot). by_variable x (row_of (slice_set rows from None) from) object) (slot_of-put_same s from Empty in_slots) in
+          let P : ℕ → Type 0 = λ w. held (reference_of t (ByVariable w) object) (without (reference_of t (ByVariable from) row) bag) ≡ one_if (of_variables (put s from Empty) (slice_set rows from None) (ByVariable w) object) in
+          subst P (sym this.1) (now ∙ sym said)
       | inr other ↦
-        let before = kept bag t s rows from row owned is holds (ByVariable v) object other.0 in
-        let said : by_variable (slot_of (put s from Empty) v) (row_of (slice_set rows from None) v) object ≡ by_variable (slot_of s v) (row_of rows v) object =
-        ap (λ (x : Slot). by_variable x (row_of (slice_set rows from None) v) object) (slot_of-put_other s from v Empty other.1) ∙ ap (λ (x : Option ℕ). by_variable (slot_of s v) x object) (row_of-set_other rows from v None other.1) in
-        before ∙ sym said
+          let before = kept bag t s rows from row owned is holds (ByVariable v) object other.0 in
+          let said : by_variable (slot_of (put s from Empty) v) (row_of (slice_set rows from None) v) object ≡ by_variable (slot_of s v) (row_of rows v) object =
+          ap (λ (x : Slot). by_variable x (row_of (slice_set rows from None) v) object) (slot_of-put_other s from v Empty other.1) ∙ ap (λ (x : Option ℕ). by_variable (slot_of s v) x object) (row_of-set_other rows from v None other.1) in
+          before ∙ sym said
     ]
 
 pub holds-emptied : (bag : List Reference) (t : ℕ) (s : State) (rows : List (Option ℕ)) (from row : ℕ) → from < length s.slots → is_owned (slot_of s from) ≡ true → row_of rows from ≡ Some row

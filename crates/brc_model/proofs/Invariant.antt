@@ -1,5 +1,5 @@
 -- What holds of each scene that an accepted module's steps lead to: what each thread holds is what the walk to its point says.
-use Rattle.std.proofs.Common.{◌≡◌, ◌≢◌, ℕ, zero, suc, ◌+◌, ◌<◌, ◌≤◌, Bool, true, false, cond, List, [], ◌∷◌, length, Option, None, Some}
+use Rattle.std.proofs.Common.{◌≡◌, ◌≢◌, ℕ, ◌<◌, ◌≤◌, Bool, true, false, List, length, Option, Some}
 use Rattle.std.specs.Prelude.{◌==◌, ◌&&◌, slice_get, slice_index, AllPairs}
 use Rattle.brc_lang.specs.declared.module.Instr.{Instr}
 use Rattle.brc_lang.specs.declared.module.Module.{Module}
@@ -15,7 +15,7 @@ use Rattle.brc_model.specs.Slots.{slot_of, is_owned, names}
 use Rattle.brc_model.specs.Walks.{At, walk, IsAcceptableCode}
 use Rattle.brc_model.specs.Plain.{root_row, Holding, ByVariable, AsCaller, Reference, is_among, references_to}
 use Rattle.brc_model.specs.Threads.{row_of}
-use Rattle.brc_model.specs.Steps.{World, Scene, code_of}
+use Rattle.brc_model.specs.Steps.{Scene, code_of}
 use Rattle.brc_model.proofs.Bag.{held, one_if}
 
 -- ---- what one thread holds

@@ -1,7 +1,6 @@
 -- Each step of a scene that the invariant holds of is no bad event, and the invariant holds after it.
-use Rattle.std.proofs.Common.{◌≡◌, ◌≢◌, ℕ, ◌+◌, ◌<◌, ◌≤◌, Bool, true, false, cond, List, [], ◌∷◌, ◌++◌, length, Option, None, Some, refl, sym, ap, ◌∙◌, subst, arith, inl, inr}
+use Rattle.std.proofs.Common.{◌≡◌, ◌≢◌, ℕ, ◌<◌, Bool, true, false, cond, List, [], ◌∷◌, ◌++◌, length, Option, None, Some, refl, sym, ap, ◌∙◌, subst, arith, inl, inr}
 use Rattle.std.specs.Prelude.{slice_get, slice_set}
-use Rattle.std.specs.List.{list_any}
 use Rattle.std.proofs.lemmas.Bool.Decides.{eqb_tells}
 use Rattle.std.proofs.lemmas.List.{length-set}
 use Rattle.std.proofs.lemmas.Option.{slice_get_within}
@@ -12,10 +11,10 @@ use Rattle.brc_model.specs.declared.thread.Choice.{Choice}
 use Rattle.brc_model.specs.declared.thread.Control.{Control}
 use Rattle.brc_model.specs.declared.thread.Control.TheVariants.{Standing, Inside, Gone}
 use Rattle.brc_model.specs.declared.thread.Thread.{Thread}
-use Rattle.brc_model.specs.Plain.{Holding, ByVariable, Reference, Plain, same, without, references_to, Lose, Finalise, moved}
+use Rattle.brc_model.specs.Plain.{Holding, ByVariable, Reference, Plain, without, Lose, Finalise, moved}
 use Rattle.brc_model.specs.Threads.{Request, NoStep, Stuck, Quiet, Retain, Release, request}
 use Rattle.brc_model.specs.Steps.{World, Scene, code_of, request_of_thread, request_of, with_control, going_on, counted_up, counted_down, closes, stepped, moves_of, is_bad_request, is_bad, next_scene}
-use Rattle.brc_model.proofs.Lists.{slice_get-set_same, slice_get-set_other}
+use Rattle.brc_model.proofs.Lists.{some_is, slice_get-set_same, slice_get-set_other}
 use Rattle.brc_model.proofs.Invariant.{nothing, reference_of, Holds, FitsControl, FitsCounts, FitsThread, Keeps}
 use Rattle.brc_model.proofs.Counts.{counts_up, counts_down}
 use Rattle.brc_model.proofs.Allowed.{retain_not_bad, release_not_bad}
@@ -31,9 +30,6 @@ control_kept code t u bag new (Standing left) others ne fits = others.kept u _ n
 control_kept code t u bag new (Inside left at rows) others ne fits = (fits.0, fits.1, others.kept u _ ne fits.2)
 control_kept code t u bag new Gone others ne fits = others.kept u _ ne fits
 
-some_is : {A : Type 0} (x y : A) → Some x ≡ Some y → x ≡ y
-some_is x y e = cc
-
 -- the thread with another control
 abbrev went_on : Thread → Control → Thread
 went_on thread next = record { function = thread.function; control = next }
@@ -45,15 +41,15 @@ threads_fit : (m : Module) (threads : List Thread) (t : ℕ) (thread : Thread) (
 threads_fit m threads t thread next bag new found each others fits u other is =
     elim (eqb_tells u t) [
       | inl this ↦
-        let old = each t thread found in
-        let written : Some (went_on thread next) ≡ Some other = sym (ap (slice_get (slice_set threads t (went_on thread next))) this.1 ∙ slice_get-set_same threads t (went_on thread next) (slice_get_within threads t thread found)) ∙ is in
-        let fitting : FitsThread m new t (went_on thread next) = record { accepted = old.accepted; instructions = old.instructions; stands = fits } in
-        let P : Thread → Type 0 = λ x. FitsThread m new u x in
-        let Q : ℕ → Type 0 = λ w. FitsThread m new w (went_on thread next) in
-        subst P (some_is _ _ written) (subst Q (sym this.1) fitting)
+          let old = each t thread found in
+          let written : Some (went_on thread next) ≡ Some other = sym (ap (slice_get (slice_set threads t (went_on thread next))) this.1 ∙ slice_get-set_same threads t (went_on thread next) (slice_get_within threads t thread found)) ∙ is in
+          let fitting : FitsThread m new t (went_on thread next) = record { accepted = old.accepted; instructions = old.instructions; stands = fits } in
+          let P : Thread → Type 0 = λ x. FitsThread m new u x in
+          let Q : ℕ → Type 0 = λ w. FitsThread m new w (went_on thread next) in
+          subst P (some_is _ _ written) (subst Q (sym this.1) fitting)
       | inr apart ↦
-        let old = each u other (sym (slice_get-set_other threads t u (went_on thread next) apart.1) ∙ is) in
-        record { accepted = old.accepted; instructions = old.instructions; stands = control_kept _ t u bag new other.control others apart.1 old.stands }
+          let old = each u other (sym (slice_get-set_other threads t u (went_on thread next) apart.1) ∙ is) in
+          record { accepted = old.accepted; instructions = old.instructions; stands = control_kept _ t u bag new other.control others apart.1 old.stands }
     ]
 
 -- the invariant after a step of t, whose new bag, counts and closed objects fit
@@ -121,9 +117,9 @@ keeps_step m n sc event keeps =
     elim (slice_get sc.world.threads t) as (λ o. slice_get sc.world.threads t ≡ o → P (request_of sc.world t)) [
       | None ↦ λ e. subst P (sym (ap (request_of_thread sc.world.functions) e)) (refl, keeps)
       | Some thread ↦ λ e.
-        let fits = keeps.each t thread e in
-        let asked : request_of sc.world t ≡ request (code_of (slice_get m.functions thread.function)) thread.control =
-        ap (request_of_thread sc.world.functions) e ∙ ap (λ (fs : List Function). request (code_of (slice_get fs thread.function)) thread.control) keeps.functions in
-        let due = request_due (code_of (slice_get m.functions thread.function)) sc.plain.references t thread.control fits.accepted fits.instructions fits.stands in
-        subst P (sym asked) (keeps_request m n sc t thread _ keeps e due)
+          let fits = keeps.each t thread e in
+          let asked : request_of sc.world t ≡ request (code_of (slice_get m.functions thread.function)) thread.control =
+          ap (request_of_thread sc.world.functions) e ∙ ap (λ (fs : List Function). request (code_of (slice_get fs thread.function)) thread.control) keeps.functions in
+          let due = request_due (code_of (slice_get m.functions thread.function)) sc.plain.references t thread.control fits.accepted fits.instructions fits.stands in
+          subst P (sym asked) (keeps_request m n sc t thread _ keeps e due)
     ] refl

@@ -7,3 +7,6 @@ pub mod Passing
 pub mod Held
 pub mod Due
 pub mod Keeping
+pub mod First
+pub mod Few
+pub mod Safe

@@ -1,7 +1,18 @@
 -- What a list has at a place after a write.
-use Rattle.std.proofs.Common.{◌≡◌, ◌≢◌, ℕ, zero, suc, ◌<◌, ◌≤◌, List, [], ◌∷◌, length, set, get_or, Option, None, Some, refl, sym, ap, ◌∙◌, arith, cond, Bool, true, false}
-use Rattle.std.specs.Prelude.{slice_get, ◌||◌, replicate}
-use Rattle.std.specs.List.{list_any}
+use Rattle.std.proofs.Common.{◌≡◌, ◌≢◌, ℕ, zero, suc, ◌<◌, List, [], ◌∷◌, length, set, get_or, Some, refl, sym, ap, subst, ◌∙◌, arith, Bool, true, false}
+use Rattle.std.specs.Prelude.{slice_get, ◌||◌, ◌&&◌, replicate, map}
+use Rattle.std.specs.List.{list_any, list_all, AllByRecursion}
+
+pub some_is : {A : Type 0} (x y : A) → Some x ≡ Some y → x ≡ y
+some_is x y e = cc
+
+pub and_first : (a b : Bool) → (a && b) ≡ true → a ≡ true
+and_first true b e = refl
+and_first false b e = absurd cc
+
+pub and_second : (a b : Bool) → (a && b) ≡ true → b ≡ true
+and_second true b e = e
+and_second false b e = absurd cc
 
 pub slice_get-set_same : {A : Type 0} (xs : List A) (i : ℕ) (x : A) → i < length xs → slice_get (set xs i x) i ≡ Some x
 slice_get-set_same [] i x h = absurd (omega arith)
@@ -34,3 +45,35 @@ pub get_or-replicate_default : {A : Type 0} (n k : ℕ) (x : A) → get_or (repl
 get_or-replicate_default zero k x = refl
 get_or-replicate_default (suc n) zero x = refl
 get_or-replicate_default (suc n) (suc k) x = get_or-replicate_default n k x
+
+-- the element at a place, and what holds of it
+pub record FoundAt {A : Type 0} (P : A → Type 0) (xs : List A) (i : ℕ) : Type 0 where
+  pub found : A
+  pub is_there : slice_get xs i ≡ Some found
+  pub holds : P found
+
+pub all_at : {A : Type 0} (P : A → Type 0) (xs : List A) (i : ℕ) → AllByRecursion P xs → i < length xs → FoundAt P xs i
+all_at P [] i all h = absurd (omega arith)
+all_at P (x ∷ xs) zero all h = record { found = x; is_there = refl; holds = all.0 }
+all_at P (x ∷ xs) (suc i) all h = let rest = all_at P xs i all.1 (omega arith) in record { found = rest.found; is_there = rest.is_there; holds = rest.holds }
+
+pub all_of_found : {A : Type 0} (P : A → Type 0) (xs : List A) (i : ℕ) (x : A) → AllByRecursion P xs → slice_get xs i ≡ Some x → P x
+all_of_found P [] i x all is = absurd cc
+all_of_found P (y ∷ ys) zero x all is = subst P (some_is y x is) all.0
+all_of_found P (y ∷ ys) (suc i) x all is = all_of_found P ys i x all.1 is
+
+pub list_all_found : {A : Type 0} (p : A → Bool) (xs : List A) (i : ℕ) (x : A) → list_all p xs ≡ true → slice_get xs i ≡ Some x → p x ≡ true
+list_all_found p [] i x all is = absurd cc
+list_all_found p (y ∷ ys) zero x all is = sym (ap p (some_is y x is)) ∙ and_first (p y) (list_all p ys) all
+list_all_found p (y ∷ ys) (suc i) x all is = list_all_found p ys i x (and_second (p y) (list_all p ys) all) is
+
+-- an element of a mapped list comes from one of the list
+pub record MappedAt {A B : Type 0} (f : A → B) (xs : List A) (i : ℕ) (y : B) : Type 0 where
+  pub source : A
+  pub is_there : slice_get xs i ≡ Some source
+  pub is_image : f source ≡ y
+
+pub slice_get-map : {A B : Type 0} (f : A → B) (xs : List A) (i : ℕ) (y : B) → slice_get (map f xs) i ≡ Some y → MappedAt f xs i y
+slice_get-map f [] i y is = absurd cc
+slice_get-map f (x ∷ xs) zero y is = record { source = x; is_there = refl; is_image = some_is (f x) y is }
+slice_get-map f (x ∷ xs) (suc i) y is = let rest = slice_get-map f xs i y is in record { source = rest.source; is_there = rest.is_there; is_image = rest.is_image }

@@ -1,6 +1,6 @@
 -- In accepted code each point that a walk reaches has an instruction whose conditions are met, and the walk goes on.
-use Rattle.std.proofs.Common.{◌≡◌, ℕ, ◌<◌, Bool, true, false, cond, List, [], ◌∷◌, ◌++◌, length, drop, Option, None, Some, refl, sym, ap, ◌∙◌, subst}
-use Rattle.std.specs.Prelude.{◌||◌, find, fold, nat_lt, slice_get}
+use Rattle.std.proofs.Common.{◌≡◌, ℕ, Bool, true, false, cond, List, [], ◌∷◌, ◌++◌, length, drop, Option, None, Some, refl, sym, ap, ◌∙◌}
+use Rattle.std.specs.Prelude.{find, nat_lt, slice_get}
 use Rattle.std.proofs.lemmas.List.Sums.{fold-append}
 use Rattle.brc_lang.specs.declared.module.Instr.{Instr}
 use Rattle.brc_model.specs.declared.code.CheckCode.{CheckCode}
@@ -9,7 +9,7 @@ use Rattle.brc_model.specs.declared.slot.State.{State}
 use Rattle.brc_model.specs.declared.slot.Exit.{Exit}
 use Rattle.brc_model.specs.declared.slot.Exit.TheVariants.{Success}
 use Rattle.brc_model.specs.Slots.{stands, rising, lowest, after, target, entry}
-use Rattle.brc_model.specs.Walks.{Place, At, Ended, Meets, arrives, unless_met, passes, follow, walk, MeetsCode, IsAcceptableCode}
+use Rattle.brc_model.specs.Walks.{Place, At, Meets, arrives, unless_met, passes, follow, walk, IsAcceptableCode}
 
 -- no condition of the instruction is broken
 pub record AreMet (i : Instr) (s : State) : Type 0 where
@@ -57,19 +57,19 @@ passes_on code exits at s accepted walked =
     elim (slice_get code at) as (λ o. slice_get code at ≡ o → PassesOn code exits at s) [
       | None ↦ λ e. absurd (never RunsOff (ap (λ (o : Option Instr). passes code at o Success s) e))
       | Some i ↦ λ e.
-        let there : passes code at (slice_get code at) Success s ≡ unless_met at (lowest i s) (arrives code at (target i Success at) (after i Success s)) = ap (λ (o : Option Instr). passes code at o Success s) e in
-        elim (lowest i s) as (λ o. lowest i s ≡ o → PassesOn code exits at s) [
-          | Some met ↦ λ l. absurd (never met (there ∙ ap (λ (o : Option CheckCode). unless_met at o (arrives code at (target i Success at) (after i Success s))) l))
-          | None ↦ λ l.
-            let on : passes code at (slice_get code at) Success s ≡ arrives code at (target i Success at) (after i Success s) =
-            there ∙ ap (λ (o : Option CheckCode). unless_met at o (arrives code at (target i Success at) (after i Success s))) l in
-            record {
-              here = i;
-              found = e;
-              met = are_met i s l;
-              leads = λ next t.
-              let to = on ∙ ap (λ (o : Option ℕ). arrives code at o (after i Success s)) t in
-              one_more ∙ to ∙ arrives_at code at next (after i Success s) (λ met m. never met (to ∙ m));
-            }
-        ] refl
+          let there : passes code at (slice_get code at) Success s ≡ unless_met at (lowest i s) (arrives code at (target i Success at) (after i Success s)) = ap (λ (o : Option Instr). passes code at o Success s) e in
+          elim (lowest i s) as (λ o. lowest i s ≡ o → PassesOn code exits at s) [
+            | Some met ↦ λ l. absurd (never met (there ∙ ap (λ (o : Option CheckCode). unless_met at o (arrives code at (target i Success at) (after i Success s))) l))
+            | None ↦ λ l.
+                let on : passes code at (slice_get code at) Success s ≡ arrives code at (target i Success at) (after i Success s) =
+                there ∙ ap (λ (o : Option CheckCode). unless_met at o (arrives code at (target i Success at) (after i Success s))) l in
+                record {
+                  here = i;
+                  found = e;
+                  met = are_met i s l;
+                  leads = λ next t.
+                      let to = on ∙ ap (λ (o : Option ℕ). arrives code at o (after i Success s)) t in
+                      one_more ∙ to ∙ arrives_at code at next (after i Success s) (λ met m. never met (to ∙ m));
+                }
+          ] refl
     ] refl

@@ -1,5 +1,5 @@
 -- What an accepted module promises.
-use Rattle.std.specs.Prelude.{◌≡◌, ◌≢◌, ℕ, ◌*◌, ◌<◌, ◌≤◌, Bool, true, false, List, [], ◌∷◌, length, AllPairs, slice_index, filter, ◌↔◌}
+use Rattle.std.specs.Prelude.{◌≡◌, ◌≢◌, ℕ, ◌+◌, ◌*◌, ◌<◌, ◌≤◌, Bool, true, false, List, [], ◌∷◌, length, AllPairs, slice_index, filter, ◌↔◌}
 use Rattle.std.specs.List.{AllByRecursion, list_all}
 use Rattle.brc_lang.specs.declared.module.Module.{Module}
 use Rattle.brc_model.specs.declared.thread.Call.{Call}
@@ -24,9 +24,17 @@ is_gone _ = false
 abbrev pub IsDone : World → Type 0
 IsDone w = list_all (λ (thread : Thread). is_gone thread.control) w.threads ≡ true
 
--- each count is the number of references held
-abbrev pub CountsAgree : Scene → Type 0
-CountsAgree sc = (object : ℕ) → 0 < object → slice_index sc.world.counts object ≡ references_to object sc.plain.references
+-- what the counts of an object add up to: the one count stands for them all
+abbrev pub total : World → ℕ → ℕ
+total w object = slice_index w.counts object
+
+-- decrements that are put off: there are none yet
+abbrev pub awaiting : World → ℕ → ℕ
+awaiting w object = 0
+
+-- the counts of an object add up to the references held and the decrements that await
+abbrev pub Agree : Scene → Type 0
+Agree sc = (object : ℕ) → 0 < object → total sc.world object ≡ references_to object sc.plain.references + awaiting sc.world object
 
 -- exactly the born counted objects without a reference are closed
 abbrev pub ClosedExactly : Scene → Type 0
@@ -35,7 +43,7 @@ ClosedExactly sc = (object : ℕ) → (is_among object sc.world.closed ≡ true)
 pub record IsSafeAt (sc : Scene) : Type 0 where
   -- no event that can come next is bad
   pub none_bad : (t : ℕ) (choice : Choice) → is_bad sc (t, choice) ≡ false
-  pub agree : CountsAgree sc
+  pub agree : Agree sc
   -- a thread holds at most one reference by each of its sixteen variables, and one as the caller
   pub few : length sc.plain.references ≤ 17 * length sc.world.threads
   pub same_closed : sc.world.closed ≡ sc.plain.closed
@@ -53,9 +61,9 @@ pub record AreCalls (m : Module) (calls : List Call) : Type 0 where
   pub most : length calls ≤ 32
   pub each : AllByRecursion (IsCall m) calls
 
--- For every number of workers and rows, every list of calls and every list of steps, stopped anywhere: no event is bad, each
--- count equals the references held, nothing is closed twice; and once all threads are gone, exactly what has no reference
--- has been closed.
+-- For every number of workers and rows, every list of calls and every list of steps, stopped anywhere: no event is bad, the
+-- counts of each object add up to the references held and the decrements that await, and nothing is closed twice. Once all
+-- threads are gone, exactly what has no reference has been closed.
 abbrev pub Safe : Module → Type 0
 Safe m = (rows : ℕ) (calls : List Call) (events : List (ℕ × Choice)) → 0 < rows → rows ≤ 1024 → AreCalls m calls
     → IsSafeAt (scene_after (first_scene m rows calls) events)

@@ -5,9 +5,11 @@
 #![tactic(auto)]
 
 mod code;
+mod laws;
 mod slot;
 mod thread;
 
 pub use code::CheckCode;
+pub use laws::accepted_is_safe;
 pub use slot::{Exit, Slot, State};
 pub use thread::{Call, Choice, Control, Thread};
