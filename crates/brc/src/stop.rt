@@ -1,3 +1,5 @@
+ghost use Rattle.std.specs.Prelude.{◌<◌, ◌≤◌};
+
 use brc_check::Refused;
 use brc_lang::ReadFault;
 use std::fmt;
@@ -19,7 +21,10 @@ pub enum Stop<'a> {
 
 impl Stop<'_> {
     /// The status that the program exits with.
-    pub fn status(&self) -> u8 {
+    pub fn status(&self) -> u8
+        ensures faulty { 0 < result }
+        ensures known { result ≤ 3 }
+    {
         match self {
             Stop::Refused(_) => 1,
             Stop::NoMemory => 3,
