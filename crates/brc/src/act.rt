@@ -42,7 +42,7 @@ fn carry_out<'a, S: AsStr, L: Load, W: Write>(
     load: &mut L,
     out: &mut W,
 ) -> Result<(), Stop<'a>> {
-    let asked = parse(alloc, words).map_err(usage)?;
+    let asked = parse(alloc, words).map_err(|error| usage(error))?;
     let checked = accepted(alloc, asked.file, load)?;
     let call = call_of(checked.module(), &asked)?;
     let tally = run(alloc, &checked, asked.threads, call).map_err(|_| Stop::NoMemory)?;
@@ -51,9 +51,9 @@ fn carry_out<'a, S: AsStr, L: Load, W: Write>(
 
 // The module of the file, read and accepted.
 fn accepted<'a, L: Load>(alloc: Global, file: &str, load: &mut L) -> Result<Checked, Stop<'a>> {
-    let bytes = load.load(alloc, file).map_err(unloaded)?;
-    let module = read(alloc, bytes.as_slice()).map_err(unread)?;
-    check(module).map_err(refusal)
+    let bytes = load.load(alloc, file).map_err(|error| unloaded(error))?;
+    let module = read(alloc, bytes.as_slice()).map_err(|fault| unread(fault))?;
+    check(module).map_err(|refused| refusal(refused))
 }
 
 fn call_of<'a>(module: &Module, asked: &Run<'a>) -> Result<Call, Stop<'a>>
