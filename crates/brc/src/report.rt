@@ -5,8 +5,8 @@ ghost use Rattle.brc_lang.specs.Grammar.{line};
 ghost use Rattle.brc_lang.specs.Written.{AppendsBeginning};
 ghost use Rattle.brc.specs.Report.{entry, kind_word as kind_text, left_text, tally_text};
 
-use crate::tally::{Left, Tally};
 use brc_lang::{Kind, write_bytes, write_number};
+use brc_world::{Left, Tally};
 use std::io;
 use std::io::Write;
 

@@ -1,7 +1,7 @@
 use Rattle.std.proofs.Common.{◌≡◌, ◌++◌, ◌∙◌, ℕ, List, ap, append_assoc, codes, refl, sym}
 use Rattle.std.proofs.KnownBytes.{Appends-trans}
 use Rattle.brc_lang.proofs.Written.{stops_early, stops_between, stops_late}
-use Rattle.brc.specs.declared.tally.Left.{Left}
+use Rattle.brc_world.specs.declared.tally.Left.{Left}
 use Rattle.brc.specs.Report.{entry, kind_word, left_text}
 use Rattle.brc.proofs.report.write_left.Goals as goal
 

@@ -1,0 +1,3 @@
+mod Reaching
+mod Safely
+mod Going

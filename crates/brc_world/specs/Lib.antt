@@ -1,0 +1,4 @@
+pub mod Reach
+pub mod Asking
+pub mod Answers
+pub mod Tallies
