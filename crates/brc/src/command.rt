@@ -6,6 +6,7 @@ use std::alloc::{AllocError, Global};
 use std::convert::AsStr;
 
 const MOST_THREADS: u32 = 32;
+
 const MOST_TIMES: u32 = 1_000_000;
 
 /// A run that the command line asks for.

@@ -1,5 +1,8 @@
 use crate::act::act;
 use crate::load::{Load, LoadError};
+use crate::report::write_tally;
+use brc_lang::{Kind, Sequence};
+use brc_world::{Left, Tally};
 use std::alloc::Global;
 use std::io;
 use std::io::{ErrorKind, Write};
@@ -7,9 +10,12 @@ use std::process::Abort;
 use std::test::Fail;
 
 const SMALLEST: &[u8] = b"module 1\nfunc f\nfail\nend\n";
+
 const FIRST: &[u8] = b"module 1\nfunc f\nnewref v1 v0\ndrop v1\nfail\nend\n";
+
 const ONE_REPORT: &[u8] =
     b"threads 1\nrunning 0\ncreated 1\nclosed 1\nalive 0\nhost faults 0\nclose faults 0\n";
+
 const FOUR_REPORT: &[u8] =
     b"threads 4\nrunning 0\ncreated 1\nclosed 1\nalive 0\nhost faults 0\nclose faults 0\n";
 
@@ -89,7 +95,13 @@ fn assert_reports(rt: &(impl Abort + AllocGlobal), words: &[&str], load: Shelf, 
 }
 
 // The command tells the one line, and writes no report.
-fn assert_tells(rt: &(impl Abort + AllocGlobal), words: &[&str], load: Shelf, line: &[u8], want: u8) {
+fn assert_tells(
+    rt: &(impl Abort + AllocGlobal),
+    words: &[&str],
+    load: Shelf,
+    line: &[u8],
+    want: u8,
+) {
     let (out, err, status) = told(rt.alloc(), words, load);
     assert!(rt; out.is_empty(), "{words:?}");
     assert_eq!(rt; err.as_slice(), line, "{words:?}");
@@ -100,14 +112,35 @@ fn assert_tells(rt: &(impl Abort + AllocGlobal), words: &[&str], load: Shelf, li
 fn runs_modules(rt: HostRuntime) {
     let one = ["brc", "run", "m.brc", "--call", "f"];
     assert_reports(&rt, one.as_slice(), holding(SMALLEST), ONE_REPORT);
-    let four = ["brc", "run", "m.brc", "--call", "f", "--threads", "4", "--times", "1000"];
+    let four = [
+        "brc",
+        "run",
+        "m.brc",
+        "--call",
+        "f",
+        "--threads",
+        "4",
+        "--times",
+        "1000",
+    ];
     assert_reports(&rt, four.as_slice(), holding(FIRST), FOUR_REPORT);
 }
 
 #[test]
 fn takes_each_end_of_a_range(rt: HostRuntime) {
-    let many = b"threads 32\nrunning 0\ncreated 1\nclosed 1\nalive 0\nhost faults 0\nclose faults 0\n";
-    let low = ["brc", "run", "m.brc", "--threads", "1", "--times", "1", "--call", "f"];
+    let many =
+        b"threads 32\nrunning 0\ncreated 1\nclosed 1\nalive 0\nhost faults 0\nclose faults 0\n";
+    let low = [
+        "brc",
+        "run",
+        "m.brc",
+        "--threads",
+        "1",
+        "--times",
+        "1",
+        "--call",
+        "f",
+    ];
     assert_reports(&rt, low.as_slice(), holding(SMALLEST), ONE_REPORT);
     let threads = ["brc", "run", "m.brc", "--call", "f", "--threads", "32"];
     assert_reports(&rt, threads.as_slice(), holding(SMALLEST), many.as_slice());
@@ -147,9 +180,21 @@ fn refuses_command_lines(rt: HostRuntime) {
     assert_usage(&rt, ["brc", "walk", "m.brc"].as_slice(), b"error: ");
     assert_usage(&rt, ["brc", "run", "--call", "f"].as_slice(), b"error: ");
     assert_usage(&rt, ["brc", "run", "m.brc"].as_slice(), b"error: ");
-    assert_usage(&rt, ["brc", "run", "m.brc", "--call"].as_slice(), b"error: ");
-    assert_usage(&rt, ["brc", "run", "m.brc", "n.brc", "--call", "f"].as_slice(), b"error: ");
-    assert_usage(&rt, ["brc", "run", "m.brc", "--call", "f", "--call", "f"].as_slice(), b"error: ");
+    assert_usage(
+        &rt,
+        ["brc", "run", "m.brc", "--call"].as_slice(),
+        b"error: ",
+    );
+    assert_usage(
+        &rt,
+        ["brc", "run", "m.brc", "n.brc", "--call", "f"].as_slice(),
+        b"error: ",
+    );
+    assert_usage(
+        &rt,
+        ["brc", "run", "m.brc", "--call", "f", "--call", "f"].as_slice(),
+        b"error: ",
+    );
     assert_usage(&rt, ["brc", "--help"].as_slice(), b"Checks ");
     assert_usage(&rt, ["brc", "run", "--help"].as_slice(), b"Checks ");
 }
@@ -158,12 +203,28 @@ fn refuses_command_lines(rt: HostRuntime) {
 fn tells_what_is_in_the_way(rt: HostRuntime) {
     let words = ["brc", "run", "m.brc", "--call", "f"];
     let cases: [(&'static [u8], &[u8], u8); 7] = [
-        (b"module 1\nfunc f\nnewref v1 v0\nret v0\nend\n", b"refused f @1 C3\n", 1),
-        (b"module 1\nfunc f\nnewref v1 v0\nfail\nend\n", b"refused f @1 C5\n", 1),
+        (
+            b"module 1\nfunc f\nnewref v1 v0\nret v0\nend\n",
+            b"refused f @1 C3\n",
+            1,
+        ),
+        (
+            b"module 1\nfunc f\nnewref v1 v0\nfail\nend\n",
+            b"refused f @1 C5\n",
+            1,
+        ),
         (b"", b"unreadable line 1 L1\n", 2),
         (b"module 1\nfunc f\nfai", b"unreadable line 3 L7\n", 2),
-        (b"module 1\nfunc f\nfai\nend\n", b"unreadable line 3 L2\n", 2),
-        (b"module 1\nfunc f\nret v16\nend\n", b"unreadable line 3 L3\n", 2),
+        (
+            b"module 1\nfunc f\nfai\nend\n",
+            b"unreadable line 3 L2\n",
+            2,
+        ),
+        (
+            b"module 1\nfunc f\nret v16\nend\n",
+            b"unreadable line 3 L3\n",
+            2,
+        ),
         (b"module 1\nfunc g\nfail\nend\n", b"no function f\n", 2),
     ];
     for (text, line, status) in cases {
@@ -180,9 +241,21 @@ fn tells_what_is_in_the_way(rt: HostRuntime) {
         assert_tells(&rt, words.as_slice(), load, line, status);
     }
     let other = ["brc", "run", "n.brc", "--call", "f"];
-    assert_tells(&rt, other.as_slice(), holding(SMALLEST), b"unreadable file\n", 2);
+    assert_tells(
+        &rt,
+        other.as_slice(),
+        holding(SMALLEST),
+        b"unreadable file\n",
+        2,
+    );
     let unnamed = ["brc", "run", "m.brc", "--call", "g"];
-    assert_tells(&rt, unnamed.as_slice(), holding(SMALLEST), b"no function g\n", 2);
+    assert_tells(
+        &rt,
+        unnamed.as_slice(),
+        holding(SMALLEST),
+        b"no function g\n",
+        2,
+    );
 }
 
 #[test]
@@ -196,12 +269,26 @@ fn stops_where_the_output_stops(rt: HostRuntime) -> Result<(), Fail> {
                 stopping,
             };
             let mut err: Vec<u8> = Vec::new(rt.alloc());
-            let status = act(rt.alloc(), words.as_slice(), &mut holding(SMALLEST), &mut out, &mut err);
+            let status = act(
+                rt.alloc(),
+                words.as_slice(),
+                &mut holding(SMALLEST),
+                &mut out,
+                &mut err,
+            );
             let whole = most == ONE_REPORT.len();
             let line: &[u8] = if whole { b"" } else { b"cannot write\n" };
-            assert_eq!(rt; out.taken.as_slice(), &ONE_REPORT[..most], "{stopping:?} after {most}");
+            assert_eq!(rt;
+                out.taken.as_slice(),
+                &ONE_REPORT[..most],
+                "{stopping:?} after {most}"
+            );
             assert_eq!(rt; err.as_slice(), line, "{stopping:?} after {most}");
-            assert_eq!(rt; status, if whole { 0 } else { 2 }, "{stopping:?} after {most}");
+            assert_eq!(rt;
+                status,
+                if whole { 0 } else { 2 },
+                "{stopping:?} after {most}"
+            );
         }
     }
     Ok(())
@@ -217,7 +304,43 @@ fn keeps_the_status_without_standard_error(rt: HostRuntime) {
         left: 0,
         stopping: Stopping::TakesNone,
     };
-    let status = act(rt.alloc(), words.as_slice(), &mut holding(SMALLEST), &mut out, &mut err);
+    let status = act(
+        rt.alloc(),
+        words.as_slice(),
+        &mut holding(SMALLEST),
+        &mut out,
+        &mut err,
+    );
     assert_eq!(rt; status, 2);
     assert!(rt; err.taken.is_empty());
+}
+
+#[test]
+fn reports_what_is_left(rt: HostRuntime) -> Result<(), Fail> {
+    let mut left = Sequence::new(rt.alloc());
+    left.push(Left {
+        row: 1,
+        kind: Kind::List,
+    })?;
+    left.push(Left {
+        row: 1026,
+        kind: Kind::Sock,
+    })?;
+    let tally = Tally {
+        threads: 32,
+        running: 33,
+        created: u64::MAX,
+        closed: 0,
+        alive: 2,
+        host_faults: 5,
+        close_faults: 6,
+        left,
+    };
+    let mut out: Vec<u8> = Vec::new(rt.alloc());
+    write_tally(&tally, &mut out)?;
+    let counts = b"threads 32\nrunning 33\ncreated 18446744073709551615\nclosed 0\nalive 2\nhost faults 5\nclose faults 6\n";
+    assert!(rt; out.as_slice().starts_with(counts));
+    assert!(rt; out.as_slice().ends_with(b"\nleft 1 list\nleft 1026 sock\n"));
+    assert_eq!(rt; out.len(), counts.len() + 27);
+    Ok(())
 }
