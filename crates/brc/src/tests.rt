@@ -338,7 +338,8 @@ fn reports_what_is_left(rt: HostRuntime) -> Result<(), Fail> {
     };
     let mut out: Vec<u8> = Vec::new(rt.alloc());
     write_tally(&tally, &mut out)?;
-    let counts = b"threads 32\nrunning 33\ncreated 18446744073709551615\nclosed 0\nalive 2\nhost faults 5\nclose faults 6\n";
+    let counts =
+        b"threads 32\nrunning 33\ncreated 18446744073709551615\nclosed 0\nalive 2\nhost faults 5\nclose faults 6\n";
     assert!(rt; out.as_slice().starts_with(counts));
     assert!(rt; out.as_slice().ends_with(b"\nleft 1 list\nleft 1026 sock\n"));
     assert_eq!(rt; out.len(), counts.len() + 27);
