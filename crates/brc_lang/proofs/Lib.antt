@@ -9,3 +9,4 @@ pub mod Machine
 pub mod Uniqueness
 pub mod Bodies
 pub mod Functions
+pub mod Written

@@ -2,3 +2,4 @@ pub mod Padding
 pub mod Grammar
 pub mod Fault
 pub mod Progress
+pub mod Written

@@ -8,19 +8,23 @@ mod laws;
 mod lexing;
 mod module;
 mod name;
+mod output;
 mod place;
 mod reading;
 mod sequence;
 mod variable;
+mod writing;
 
 pub use fault::{FaultCode, ReadFault};
 pub use kind::Kind;
 pub use laws::{one_reading, one_text};
 pub use module::{Function, Instr, Module};
 pub use name::Name;
+pub use output::{write_bytes, write_number};
 pub use reading::read;
 pub use sequence::Sequence;
 pub use variable::Variable;
+pub use writing::write;
 
 #[cfg(test)]
 mod tests;

@@ -1,0 +1,42 @@
+-- The report of a run: ASCII lines, each ended by a line feed.
+use Rattle.std.specs.Prelude.{ℕ, List, [], ◌∷◌, ◌++◌, codes, decimal}
+use Rattle.std.specs.List.{flat_map}
+use Rattle.brc_lang.specs.Grammar.{line}
+use Rattle.brc_lang.specs.declared.kind.Kind.{Kind}
+use Rattle.brc_lang.specs.declared.kind.Kind.TheVariants.{None, Num, List as ListKind, File, Sock, Any}
+use Rattle.brc_world.specs.declared.tally.Tally.{Tally}
+use Rattle.brc_world.specs.declared.tally.Left.{Left}
+
+-- a word, or words, and a number behind them
+abbrev pub entry : List ℕ → ℕ → List ℕ
+entry label number = label ++ codes " " ++ decimal number
+
+-- what is counted
+abbrev pub counts : Tally → List (List ℕ × ℕ)
+counts t =
+    (codes "threads", t.threads)
+    ∷ (codes "running", t.running)
+    ∷ (codes "created", t.created)
+    ∷ (codes "closed", t.closed)
+    ∷ (codes "alive", t.alive)
+    ∷ (codes "host faults", t.host_faults)
+    ∷ (codes "close faults", t.close_faults)
+    ∷ []
+
+abbrev pub counts_text : Tally → List ℕ
+counts_text t = flat_map (λ c. line (entry c.0 c.1)) (counts t)
+
+abbrev pub kind_word : Kind → List ℕ
+kind_word None = codes "none"
+kind_word Num = codes "num"
+kind_word ListKind = codes "list"
+kind_word File = codes "file"
+kind_word Sock = codes "sock"
+kind_word Any = codes "any"
+
+-- an object that is alive: its row and its kind
+abbrev pub left_text : Left → List ℕ
+left_text l = line (entry (codes "left") l.row ++ codes " " ++ kind_word l.kind)
+
+abbrev pub tally_text : Tally → List ℕ
+tally_text t = counts_text t ++ flat_map left_text t.left

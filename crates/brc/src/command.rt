@@ -1,0 +1,90 @@
+ghost use Rattle.std.specs.Prelude.{◌<◌, ◌≤◌};
+
+use clap::error::ErrorKind;
+use clap::{Arg, ArgMatches, Command, Error, value_parser};
+use std::alloc::{AllocError, Global};
+use std::convert::AsStr;
+
+const MOST_THREADS: u32 = 32;
+
+const MOST_TIMES: u32 = 1_000_000;
+
+/// A run that the command line asks for.
+#[derive(Clone, Copy, Debug)]
+pub struct Run<'a> {
+    /// The module's file.
+    pub file: &'a str,
+    /// The name of the function to call.
+    pub function: &'a str,
+    /// The workers: 1 to 32.
+    pub threads: u32,
+    /// The calls that each worker makes: 1 to 1,000,000.
+    pub times: u32,
+    ghost some_threads: { 0 < threads },
+    ghost most_threads: { threads ≤ 32 },
+    ghost some_times: { 0 < times },
+    ghost most_times: { times ≤ 1000000 },
+}
+
+/// Reads the words of a command line, of which the first is the program's own name. A call for help is an error too.
+pub fn parse<'a, S: AsStr>(alloc: Global, words: &'a [S]) -> Result<Run<'a>, Error> {
+    let mut command = program(alloc)?;
+    let matches = command.try_get_matches_from_mut(words)?;
+    match run_of(&matches) {
+        Some(run) => Ok(run),
+        None => Err(command.error(ErrorKind::MissingSubcommand, "a command is required")?),
+    }
+}
+
+fn program<'a>(alloc: Global) -> Result<Command<'a>, AllocError> {
+    let run = Command::new(alloc, "run")
+        .about("Checks a module and runs one of its functions")
+        .arg(
+            Arg::new(alloc, "FILE")
+                .required(true)
+                .help("The module's file"),
+        )?
+        .arg(
+            Arg::new(alloc, "call")
+                .long("call")
+                .value_name("F")
+                .required(true)
+                .help("The function to call"),
+        )?
+        .arg(
+            Arg::new(alloc, "threads")
+                .long("threads")
+                .value_name("N")
+                .value_parser(value_parser!(u32).range(1..=i64::from(MOST_THREADS)))
+                .default_value("1")
+                .help("How many threads call it, 1 to 32"),
+        )?
+        .arg(
+            Arg::new(alloc, "times")
+                .long("times")
+                .value_name("N")
+                .value_parser(value_parser!(u32).range(1..=i64::from(MOST_TIMES)))
+                .default_value("1")
+                .help("How often each thread calls it, 1 to 1000000"),
+        )?;
+    Command::new(alloc, "brc")
+        .about("Checks and runs native extension modules")
+        .subcommand_required(true)
+        .subcommand(run)
+}
+
+fn run_of<'a>(matches: &ArgMatches<'a>) -> Option<Run<'a>> {
+    let run = matches.subcommand_matches("run")?;
+    let threads = run.get_one("threads")?;
+    let times = run.get_one("times")?;
+    // The parser has seen to the ranges, but doesn't promise them of a subcommand's values.
+    if threads == 0 || threads > MOST_THREADS || times == 0 || times > MOST_TIMES {
+        return None;
+    }
+    Some(Run {
+        file: run.get_str("FILE")?,
+        function: run.get_str("call")?,
+        threads,
+        times,
+    })
+}

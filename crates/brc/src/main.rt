@@ -1,0 +1,46 @@
+//! Checks and runs native extension modules.
+#![tactic(auto)]
+
+mod act;
+mod command;
+mod load;
+mod report;
+mod run;
+mod stop;
+#[cfg(test)]
+mod tests;
+
+use act::act;
+use load::Disk;
+use std::io;
+use std::io::ErrorKind;
+use std::process::ExitCode;
+
+fn main(rt: HostRuntime) -> ExitCode {
+    let status = match words(&rt) {
+        Ok(words) => act(
+            rt.alloc(),
+            words.as_slice(),
+            &mut Disk::new(&rt),
+            &mut io::writer(&rt.stdout()),
+            &mut io::writer(&rt.stderr()),
+        ),
+        Err(error) => unreadable_words(&rt, error.kind()),
+    };
+    ExitCode::from(status)
+}
+
+fn words(rt: &HostRuntime) -> io::Result<Vec<String>> {
+    Ok(std::env::args(rt)?.collect(rt.alloc())?)
+}
+
+// No word of the command line was read.
+fn unreadable_words(rt: &impl Eprint, kind: ErrorKind) -> u8 {
+    if kind == ErrorKind::OutOfMemory {
+        let _ = eprintln!(rt; "no memory");
+        3
+    } else {
+        let _ = eprintln!(rt; "error: invalid UTF-8 was detected in one or more arguments");
+        2
+    }
+}

@@ -1,0 +1,32 @@
+ghost use Rattle.std.specs.Prelude.{OnOk, OnErr, decimal};
+ghost use Rattle.std.specs.Io.KnownBytes.{Appends};
+ghost use Rattle.brc_lang.specs.Written.{AppendsBeginning};
+
+use itoa::Buffer;
+use std::io;
+use std::io::{ErrorKind, Write};
+
+/// Writes the bytes. A call of the writer that takes no byte or is interrupted is a fault too, and is not tried again.
+pub fn write_bytes<W: Write>(bytes: &[u8], writer: &mut W) -> io::Result<()>
+    ensures whole { OnOk result (Appends (W.contents writer.old) (W.contents writer.new) bytes.now) }
+    ensures begun { OnErr result (AppendsBeginning (W.contents writer.old) (W.contents writer.new) bytes.now) }
+{
+    let mut rest = bytes;
+    while !rest.is_empty() {
+        let taken = writer.write(rest)?;
+        if taken == 0 {
+            return Err(io::Error::from(ErrorKind::WriteZero));
+        }
+        rest = &rest[taken..];
+    }
+    Ok(())
+}
+
+/// Writes the number's decimal digits, as `write_bytes` does.
+pub fn write_number<W: Write>(number: u64, writer: &mut W) -> io::Result<()>
+    ensures whole { OnOk result (Appends (W.contents writer.old) (W.contents writer.new) (decimal number)) }
+    ensures begun { OnErr result (AppendsBeginning (W.contents writer.old) (W.contents writer.new) (decimal number)) }
+{
+    let mut digits = Buffer::new();
+    write_bytes(digits.format(number).as_bytes(), writer)
+}

@@ -1,0 +1,93 @@
+ghost use Rattle.std.specs.Prelude.{◌++◌, OnOk, OnErr};
+ghost use Rattle.std.specs.Io.KnownBytes.{Appends};
+ghost use Rattle.brc_lang.specs.Written.{AppendsBeginning};
+ghost use Rattle.brc_lang.specs.Grammar.{variable as variable_text, instruction as instruction_text, instructions as instructions_text, line as line_text, heading as heading_text, function as function_text, text as module_text};
+
+use crate::module::{Function, Instr, Module};
+use crate::output::{write_bytes, write_number};
+use crate::variable::Variable;
+use std::io;
+use std::io::Write;
+
+/// Writes the module's one text, as `write_bytes` does. It takes no memory.
+pub fn write<W: Write>(module: &Module, writer: &mut W) -> io::Result<()>
+    ensures whole { OnOk result (Appends (W.contents writer.old) (W.contents writer.new) (module_text «module».now)) }
+    ensures begun { OnErr result (AppendsBeginning (W.contents writer.old) (W.contents writer.new) (module_text «module».now)) }
+{
+    write_bytes(b"module 1\n", writer)?;
+    for function in module.functions.as_slice() {
+        write_function(function, writer)?;
+    }
+    Ok(())
+}
+
+fn write_function<W: Write>(function: &Function, writer: &mut W) -> io::Result<()>
+    ensures whole { OnOk result (Appends (W.contents writer.old) (W.contents writer.new) (function_text function.now)) }
+    ensures begun { OnErr result (AppendsBeginning (W.contents writer.old) (W.contents writer.new) (function_text function.now)) }
+{
+    write_heading(function.name.as_bytes(), writer)?;
+    write_instructions(function.code.as_slice(), writer)?;
+    write_bytes(b"end\n", writer)
+}
+
+fn write_heading<W: Write>(name: &[u8], writer: &mut W) -> io::Result<()>
+    ensures whole { OnOk result (Appends (W.contents writer.old) (W.contents writer.new) (heading_text name.now)) }
+    ensures begun { OnErr result (AppendsBeginning (W.contents writer.old) (W.contents writer.new) (heading_text name.now)) }
+{
+    write_bytes(b"func ", writer)?;
+    write_bytes(name, writer)?;
+    write_bytes(b"\n", writer)
+}
+
+fn write_instructions<W: Write>(code: &[Instr], writer: &mut W) -> io::Result<()>
+    ensures whole { OnOk result (Appends (W.contents writer.old) (W.contents writer.new) (instructions_text code.now)) }
+    ensures begun { OnErr result (AppendsBeginning (W.contents writer.old) (W.contents writer.new) (instructions_text code.now)) }
+{
+    for instr in code {
+        write_line(*instr, writer)?;
+    }
+    Ok(())
+}
+
+fn write_line<W: Write>(instr: Instr, writer: &mut W) -> io::Result<()>
+    ensures whole { OnOk result (Appends (W.contents writer.old) (W.contents writer.new) (line_text (instruction_text instr))) }
+    ensures begun { OnErr result (AppendsBeginning (W.contents writer.old) (W.contents writer.new) (line_text (instruction_text instr))) }
+{
+    write_instruction(instr, writer)?;
+    write_bytes(b"\n", writer)
+}
+
+fn write_instruction<W: Write>(instr: Instr, writer: &mut W) -> io::Result<()>
+    ensures whole { OnOk result (Appends (W.contents writer.old) (W.contents writer.new) (instruction_text instr)) }
+    ensures begun { OnErr result (AppendsBeginning (W.contents writer.old) (W.contents writer.new) (instruction_text instr)) }
+{
+    match instr {
+        Instr::Newref { to, from } => {
+            write_operand(b"newref ", to, writer)?;
+            write_operand(b" ", from, writer)
+        }
+        Instr::Drop { from } => write_operand(b"drop ", from, writer),
+        Instr::Ret { from } => write_operand(b"ret ", from, writer),
+        Instr::Fail => write_bytes(b"fail", writer),
+    }
+}
+
+// What stands before the variable, and the variable.
+fn write_operand<W: Write>(before: &[u8], variable: Variable, writer: &mut W) -> io::Result<()>
+    ensures whole { OnOk result (Appends (W.contents writer.old) (W.contents writer.new) (before.now ++ variable_text variable)) }
+    ensures begun { OnErr result (AppendsBeginning (W.contents writer.old) (W.contents writer.new) (before.now ++ variable_text variable)) }
+{
+    write_bytes(before, writer)?;
+    write_variable(variable, writer)
+}
+
+fn write_variable<W: Write>(variable: Variable, writer: &mut W) -> io::Result<()>
+    ensures whole { OnOk result (Appends (W.contents writer.old) (W.contents writer.new) (variable_text variable)) }
+    ensures begun { OnErr result (AppendsBeginning (W.contents writer.old) (W.contents writer.new) (variable_text variable)) }
+{
+    write_bytes(b"v", writer)?;
+    write_number(u64::from(variable.number()), writer)
+}
+
+#[cfg(test)]
+mod tests;
