@@ -1,2 +1,1 @@
-pub mod Straight
-pub mod Refusals
+pub mod Same

@@ -101,7 +101,7 @@ fn one_function(rt: HostRuntime) -> Result<(), Fail> {
     for (i, (code, want)) in cases.iter().enumerate() {
         assert!(rt; !code.is_empty() && code.len() <= 256);
         let module = module_of(rt.alloc(), function(rt.alloc(), b"f", code)?)?;
-        let met = check(module)
+        let met = check(rt.alloc(), module)
             .err()
             .map(|refused| (refused.at, refused.code));
         assert_eq!(rt; met, *want, "at case {i}");
@@ -118,7 +118,7 @@ fn second_function(rt: HostRuntime) -> Result<(), Fail> {
         b"second",
         &[Instr::Drop { from: v0 }, Instr::Fail],
     )?;
-    let refused = check(module_of_two(rt.alloc(), first, second)?)
+    let refused = check(rt.alloc(), module_of_two(rt.alloc(), first, second)?)
         .err()
         .ok_or("the second function gives up what it borrows")?;
     assert_eq!(rt; refused.function.as_bytes(), b"second".as_slice());
@@ -130,7 +130,7 @@ fn second_function(rt: HostRuntime) -> Result<(), Fail> {
 #[test]
 fn accepted_module(rt: HostRuntime) -> Result<(), Fail> {
     let only = function(rt.alloc(), b"only", &[Instr::Fail])?;
-    let checked = check(module_of(rt.alloc(), only)?)
+    let checked = check(rt.alloc(), module_of(rt.alloc(), only)?)
         .ok()
         .ok_or("nothing is owned at the end")?;
     assert_eq!(rt; checked.module().functions.len(), 1);
