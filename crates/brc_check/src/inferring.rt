@@ -77,7 +77,8 @@ fn lead_on(code: &[Instr], row: &mut Sequence<Option<State>>, at: usize) -> Opti
 }
 
 fn fill(code: &[Instr], row: &mut Sequence<Option<State>>) -> Option<Met>
-    requires { row.old ≡ Some entry ∷ replicate (length code.now - 1) None }
+    requires some { 0 < length code.now }
+    requires begun { row.old ≡ Some entry ∷ replicate (length code.now - 1) None }
     ensures { MatchOption result (IsInferred code.now row.new) (λ m. IsMet code.now m.at m.code) }
 {
     for at in 0..code.len() {

@@ -33,15 +33,15 @@ pub fn follow(code: &[Instr], at: usize, state: &State, exit: Exit) -> Step
     requires { at < length code.now }
     ensures { place_of at result ≡ follow code.now (At at state.now) exit }
 {
-    let instr = code[at];
-    if let Some(met) = refusal(instr, state) {
+    let instr = &code[at];
+    if let Some(met) = refusal(*instr, state) {
         return Step::Met(met);
     }
-    let Some(next) = target_of(instr, exit, at) else {
+    let Some(next) = target_of(*instr, exit, at) else {
         return Step::Ends;
     };
     if next >= code.len() {
         return Step::Met(CheckCode::RunsOff);
     }
-    Step::To(next, after(instr, exit, state))
+    Step::To(next, after(*instr, exit, state))
 }
