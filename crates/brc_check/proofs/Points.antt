@@ -1,9 +1,10 @@
 -- Both exits of a point, as they are filled in and as they are looked at.
 use Rattle.std.proofs.Common.{◌≡◌, ◌≢◌, ℕ, ◌+◌, ◌<◌, ◌≤◌, List, [], length, Option, refl, sym, ap, ◌∙◌, subst, inl, inr, arith}
-use Rattle.std.specs.Prelude.{None, Some, MatchOption, ◌⊎◌}
+use Rattle.std.specs.Prelude.{None, Some, slice_get, MatchOption, ◌⊎◌}
 use Rattle.std.specs.List.{slice_index_or}
 use Rattle.std.proofs.lemmas.List.{get_or_default, get_or_read}
-use Rattle.std.proofs.lemmas.Option.{same_Some, slice_get_read}
+use Rattle.std.proofs.lemmas.Option.{same_Some, slice_get_read, slice_get_within}
+use Rattle.std.proofs.lemmas.Bool.{cases_lt}
 use Rattle.brc_lang.specs.declared.module.Instr.{Instr}
 use Rattle.brc_lang.specs.declared.module.Function.{Function}
 use Rattle.brc_model.specs.declared.code.CheckCode.{CheckCode}
@@ -15,11 +16,12 @@ use Rattle.brc_model.specs.Slots.{entry}
 use Rattle.brc_model.specs.Walks.{Place, At, Ended, Meets, follow}
 use Rattle.brc_model.specs.Tables.{HasShape, entry_at, row_of}
 use Rattle.brc_check.specs.declared.refused.Met as refused
+use Rattle.brc_check.specs.declared.refused.Refused.{Refused}
 use Rattle.brc_check.specs.declared.step.Step.{Step}
 use Rattle.brc_check.specs.declared.step.Step.TheVariants.{To, Ends, Met}
 use Rattle.brc_check.specs.Rows.{place_of, StaysOn, IsClosed, IsClosedAt, IsBlocked, IsFaultAt}
 use Rattle.brc_check.specs.Filling.{settled_at, IsFilledTo}
-use Rattle.brc_check.specs.Refusal.{IsMet}
+use Rattle.brc_check.specs.Refusal.{IsMet, IsRowFault}
 use Rattle.brc_check.proofs.Filling.{entry-within, first_blocked, second_blocked, filled_both}
 
 pub entry_read : (row read : List (Option State)) (at : ℕ) (s : State) (d : Option State) → read ≡ row → at < length row → slice_index_or read at d ≡ Some s → entry_at row at ≡ Some s
@@ -98,3 +100,51 @@ pub same_points : (functions : List Function) (rows : List (List (Option State))
     → f ≡ slice_index_or functions number f → row ≡ slice_index_or rows number row → length row ≡ length f.code
 same_points functions rows number f row shape lt is_f is_row =
     ap length (row_read rows number row (let n = shape.rows in omega (arith, n, lt)) is_row) ∙ shape.points number f (slice_get_read functions (length functions) number f refl lt is_f)
+
+pub row_fault : (functions : List Function) (rows : List (List (Option State))) (number : ℕ) (f : Function) (row : List (Option State)) (r : Refused) (at : ℕ) (c : CheckCode) → HasShape functions rows → number < length functions
+    → f ≡ slice_index_or functions number f → row ≡ slice_index_or rows number row
+    → r ≡ record { function = f.name; at = at; code = c } → IsFaultAt f.code row at c → IsRowFault functions rows r
+row_fault functions rows number f row r at c shape lt is_f is_row is fault = rw is (record {
+  number = number;
+  function = f;
+  stands = slice_get_read functions (length functions) number f refl lt is_f;
+  named = refl;
+  fault = subst (λ (o : List (Option State)). IsFaultAt f.code o at c) (row_read rows number row (let n = shape.rows in omega (arith, n, lt)) is_row) fault;
+})
+
+pub closed_more : (functions : List Function) (rows : List (List (Option State))) (number : ℕ) (f : Function) (row : List (Option State)) → HasShape functions rows → number < length functions
+    → f ≡ slice_index_or functions number f → row ≡ slice_index_or rows number row
+    → ((k : ℕ) (g : Function) → k < number → slice_get functions k ≡ Some g → IsClosed g.code (row_of rows k)) → IsClosed f.code row
+    → (k : ℕ) (g : Function) → k < number + 1 → slice_get functions k ≡ Some g → IsClosed g.code (row_of rows k)
+closed_more functions rows number f row shape lt is_f is_row before here k g below e =
+    elim (cases_lt k number) [
+      | inl less ↦ before k g less e
+      | inr from ↦
+          let same : k ≡ number = omega (arith, from, below) in
+          let function : f ≡ g = same_Some f g (sym (slice_get_read functions (length functions) number f refl lt is_f) ∙ ap (slice_get functions) (sym same) ∙ e) in
+          let row_same : row ≡ row_of rows k = row_read rows number row (let n = shape.rows in omega (arith, n, lt)) is_row ∙ ap (row_of rows) (sym same) in
+          subst (λ (h : Function). IsClosed h.code (row_of rows k)) function (subst (IsClosed f.code) row_same here)
+    ]
+
+-- ---- the shape
+
+pub shape_more : (functions : List Function) (rows : List (List (Option State))) (number : ℕ) (f : Function) (row : List (Option State)) → length rows ≡ length functions → number < length functions
+    → f ≡ slice_index_or functions number f → row ≡ slice_index_or rows number row
+    → ((k : ℕ) (g : Function) → k < number → slice_get functions k ≡ Some g → length (row_of rows k) ≡ length g.code) → length row ≡ length f.code
+    → (k : ℕ) (g : Function) → k < number + 1 → slice_get functions k ≡ Some g → length (row_of rows k) ≡ length g.code
+shape_more functions rows number f row so_many lt is_f is_row before here k g below e =
+    elim (cases_lt k number) [
+      | inl less ↦ before k g less e
+      | inr from ↦
+          let same : k ≡ number = omega (arith, from, below) in
+          let function : f ≡ g = same_Some f g (sym (slice_get_read functions (length functions) number f refl lt is_f) ∙ ap (slice_get functions) (sym same) ∙ e) in
+          let row_same : row ≡ row_of rows k = row_read rows number row (omega (arith, so_many, lt)) is_row ∙ ap (row_of rows) (sym same) in
+          sym (ap length row_same) ∙ here ∙ ap (λ (h : Function). length h.code) function
+    ]
+
+pub shape_all : (functions : List Function) (rows : List (List (Option State))) (to : ℕ) → length rows ≡ length functions → length functions ≤ to
+    → ((k : ℕ) (g : Function) → k < to → slice_get functions k ≡ Some g → length (row_of rows k) ≡ length g.code) → HasShape functions rows
+shape_all functions rows to so_many past each = record {
+  rows = so_many;
+  points = λ k g e. each k g (let within = slice_get_within functions k g e in omega (arith, within, past)) e;
+}

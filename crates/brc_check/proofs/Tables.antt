@@ -1,19 +1,21 @@
 -- Tables row by row.
 use Rattle.std.proofs.Common.{◌≡◌, ℕ, zero, suc, ◌+◌, ◌<◌, ◌≤◌, List, [], ◌∷◌, ◌++◌, length, Option, refl, sym, ap, ◌∙◌, subst, inl, inr, arith}
 use Rattle.std.specs.Prelude.{None, Some, slice_get, ◌⊎◌}
-use Rattle.std.specs.List.{AllByRecursion}
+use Rattle.std.specs.List.{AllByRecursion, slice_index_or}
 use Rattle.std.proofs.lemmas.Bool.{cases_lt}
 use Rattle.std.proofs.lemmas.List.{length_push, get_or_push, get_or_append_left}
-use Rattle.std.proofs.lemmas.Option.{none-some, same_Some, slice_get_within}
+use Rattle.std.proofs.lemmas.Option.{none-some, same_Some, slice_get_read, slice_get_within}
 use Rattle.brc_lang.specs.declared.module.Function.{Function}
 use Rattle.brc_lang.specs.declared.module.Module.{Module}
+use Rattle.brc_lang.specs.declared.module.Instr.{Instr}
+use Rattle.brc_model.specs.declared.code.CheckCode.{CheckCode}
 use Rattle.brc_model.specs.declared.slot.State.{State}
 use Rattle.brc_model.specs.Walks.{IsAcceptableCode, IsAcceptable}
 use Rattle.brc_model.specs.Tables.{HasShape, IsTrueTable, IsTrueWhereReached, row_of}
 use Rattle.brc_check.specs.declared.refused.Refused.{Refused}
 use Rattle.brc_check.specs.Rows.{IsClosed}
 use Rattle.brc_check.specs.Filling.{IsInferred}
-use Rattle.brc_check.specs.Refusal.{IsTableFault, IsShapeFault, IsRowFault}
+use Rattle.brc_check.specs.Refusal.{IsMet, IsForMemory, IsRefusal, IsTableFault}
 use Rattle.brc_check.proofs.Walks.{closed-reached, closed-acceptable, no_fault}
 
 -- what holds at each place holds of all
@@ -82,4 +84,49 @@ no_table_fault m rows r accepted true_table fault =
       | inr f ↦ no_fault f.function.code (row_of rows f.number) r.at r.code
           (at_place (λ (g : Function). IsAcceptableCode g.code) m.functions f.number f.function accepted f.stands)
           (λ k. true_table.entries f.number k f.function f.stands) f.fault
+    ]
+
+-- what a look at each row finds
+pub record AreVerified (m : Module) (table : List (List (Option State))) : Type 0 where
+  pub acceptable : IsAcceptable m
+  pub truth : IsTrueWhereReached m table
+
+pub are_verified : (m : Module) (table : List (List (Option State))) (functions : List Function) (rows : List (List (Option State))) → functions ≡ m.functions → rows ≡ table
+    → HasShape functions rows × AreClosed functions rows → AreVerified m table
+are_verified m table functions rows is_functions is_rows both =
+    let shape : HasShape m.functions table = subst (λ (fs : List Function). HasShape fs table) is_functions (subst (HasShape functions) is_rows both.0) in
+    let closed : AreClosed m.functions table = subst (λ (fs : List Function). AreClosed fs table) is_functions (subst (AreClosed functions) is_rows both.1) in
+    record { acceptable = closed_are_acceptable m table closed; truth = closed_are_true m table shape closed }
+
+pub not_refused : (m : Module) (table : List (List (Option State))) (functions : List Function) (rows : List (List (Option State))) (r : Refused) → functions ≡ m.functions → rows ≡ table
+    → IsTableFault functions rows r → IsAcceptable m → IsTrueTable m table → ⊥
+not_refused m table functions rows r is_functions is_rows fault accepted true_table =
+    no_table_fault m table r accepted true_table (subst (λ (fs : List Function). IsTableFault fs table r) is_functions (subst (λ (t : List (List (Option State))). IsTableFault functions t r) is_rows fault))
+
+-- ---- refusals
+
+-- why one function isn't inferred
+abbrev pub IsRefusalOf : Function → Refused → Type 0
+IsRefusalOf f r = (r.function ≡ f.name) × (IsForMemory r ⊎ IsMet f.code r.at r.code)
+
+pub refused_for : (functions : List Function) (number : ℕ) (f : Function) (r : Refused) → number < length functions → f ≡ slice_index_or functions number f → IsRefusalOf f r → IsRefusal functions r
+refused_for functions number f r lt is refusal =
+    elim refusal.1 [
+      | inl memory ↦ inl memory
+      | inr met ↦ inr (record { function = f; stands = (number, lt, sym is); named = sym refusal.0; met = met })
+    ]
+
+never_met : (code : List Instr) (at : ℕ) (c : CheckCode) → IsAcceptableCode code → IsMet code at c → ⊥
+never_met code at c accepted met =
+    elim met [
+      | inl m ↦ accepted.meets_none at c m
+      | inr d ↦ d.1.apart (accepted.states_agree d.1.first.exits d.1.second.exits at d.1.one d.1.other d.1.first.reaches d.1.second.reaches)
+    ]
+
+pub for_memory : (functions : List Function) (number : ℕ) (f : Function) (r : Refused) → number < length functions → f ≡ slice_index_or functions number f → IsRefusalOf f r
+    → AllByRecursion (λ (g : Function). IsAcceptableCode g.code) functions → IsForMemory r
+for_memory functions number f r lt is refusal accepted =
+    elim refusal.1 [
+      | inl memory ↦ memory
+      | inr met ↦ absurd (never_met f.code r.at r.code (at_place (λ (g : Function). IsAcceptableCode g.code) functions number f accepted (slice_get_read functions (length functions) number f refl lt is)) met)
     ]
