@@ -117,13 +117,16 @@ blocked-at code row at s exit k c (At next t) same reached here leads_to blocked
     let within : next < length row = (let w = (ahead-At code at next s t exit leads_to).1 in omega (arith, w, same)) in
     elim (settled-cases row next t within) [
       | inl now ↦ absurd (blocked.2 now)
-      | inr found ↦ inr (blocked.1, subst (StatesDifferAt code) blocked.0 (record {
+      | inr found ↦ inr (
+        blocked.1,
+        subst (StatesDifferAt code) blocked.0 (record {
           one = found.0;
           other = t;
           first = reached next found.0 found.1.0;
           second = reaches-more code at next s t exit (reached at s here) leads_to;
           apart = λ e. blocked.2 (ap (λ (r : List (Option State)). entry_at r next) found.1.1 ∙ found.1.0 ∙ ap Some e);
-        }))
+        }),
+      )
     ]
 blocked-at code row at s exit k c Ended same reached here leads_to blocked = absurd blocked
 blocked-at code row at s exit k c (Meets point d) same reached here leads_to blocked =
@@ -156,8 +159,8 @@ filled_none code row at filled none = record {
 
 pub filled_both : (code : List Instr) (row : List (Option State)) (at : ℕ) (s : State) → IsFilledTo code row at → entry_at row at ≡ Some s
     → (let once = settled_at row (follow code (At at s) Success) in
-       let twice = settled_at once (follow code (At at s) Fault) in
-       StaysOn once (follow code (At at s) Success) → StaysOn twice (follow code (At at s) Fault) → IsFilledTo code twice (at + 1))
+    let twice = settled_at once (follow code (At at s) Fault) in
+    StaysOn once (follow code (At at s) Success) → StaysOn twice (follow code (At at s) Fault) → IsFilledTo code twice (at + 1))
 filled_both code row at s filled here on_success on_fault =
     let once = settled_at row (follow code (At at s) Success) in
     let twice = settled_at once (follow code (At at s) Fault) in

@@ -51,15 +51,18 @@ second_met code row once twice at s (Some m) filled here is on is_twice blocked 
 
 pub step_fault : (code : List Instr) (row : List (Option State)) (at : ℕ) (s : State) (exit : Exit) (k : ℕ) (c : CheckCode) (led : Step) → entry_at row at ≡ Some s
     → place_of at led ≡ follow code (At at s) exit → IsBlocked row (place_of at led) k c → IsFaultAt code row k c
-step_fault code row at s exit k c (To next t) here is blocked = inr (blocked.1, inl (record {
-  before = at;
-  state = s;
-  exit = exit;
-  arriving = t;
-  is_given = here;
-  leads = sym is ∙ ap (λ (n : ℕ). At n t) blocked.0;
-  apart = λ e. blocked.2 (ap (entry_at row) blocked.0 ∙ e);
-}))
+step_fault code row at s exit k c (To next t) here is blocked = inr (
+  blocked.1,
+  inl (record {
+    before = at;
+    state = s;
+    exit = exit;
+    arriving = t;
+    is_given = here;
+    leads = sym is ∙ ap (λ (n : ℕ). At n t) blocked.0;
+    apart = λ e. blocked.2 (ap (entry_at row) blocked.0 ∙ e);
+  }),
+)
 step_fault code row at s exit k c Ends here is blocked = absurd blocked
 step_fault code row at s exit k c (Met d) here is blocked = inl (record {
   state = s;
@@ -105,6 +108,7 @@ pub row_fault : (functions : List Function) (rows : List (List (Option State))) 
     → f ≡ slice_index_or functions number f → row ≡ slice_index_or rows number row
     → r ≡ record { function = f.name; at = at; code = c } → IsFaultAt f.code row at c → IsRowFault functions rows r
 row_fault functions rows number f row r at c shape lt is_f is_row is fault = rw is (record {
+  shape = shape;
   number = number;
   function = f;
   stands = slice_get_read functions (length functions) number f refl lt is_f;

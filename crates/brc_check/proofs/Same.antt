@@ -54,9 +54,10 @@ numbered : (s : Slot) → slice_index_or all_slots (slot_number s) Empty ≡ s
 numbered = each_slot _ refl (each_kind _ refl refl refl refl refl refl) (each_kind _ refl refl refl refl refl refl) (each_kind _ refl refl refl refl refl refl)
 
 slot_decides : (E : Slot → Slot → Bool) → ((x y : Slot) → E x y ≡ (slot_number x == slot_number y)) → (x y : Slot) → Decides (E x y) (x ≡ y)
-slot_decides E is x y =
-    ( λ e. sym (numbered x) ∙ ap (λ (n : ℕ). slice_index_or all_slots n Empty) ((Decides-eqb (slot_number x) (slot_number y)).0 (sym (is x y) ∙ e)) ∙ numbered y
-    , λ e. is x y ∙ (Decides-eqb (slot_number x) (slot_number y)).1 (ap slot_number e))
+slot_decides E is x y = (
+  λ e. sym (numbered x) ∙ ap (λ (n : ℕ). slice_index_or all_slots n Empty) ((Decides-eqb (slot_number x) (slot_number y)).0 (sym (is x y) ∙ e)) ∙ numbered y,
+  λ e. is x y ∙ (Decides-eqb (slot_number x) (slot_number y)).1 (ap slot_number e),
+)
 
 -- ---- states
 

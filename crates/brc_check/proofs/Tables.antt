@@ -15,7 +15,7 @@ use Rattle.brc_model.specs.Tables.{HasShape, IsTrueTable, IsTrueWhereReached, ro
 use Rattle.brc_check.specs.declared.refused.Refused.{Refused}
 use Rattle.brc_check.specs.Rows.{IsClosed}
 use Rattle.brc_check.specs.Filling.{IsInferred}
-use Rattle.brc_check.specs.Refusal.{IsMet, IsForMemory, IsRefusal, IsTableFault}
+use Rattle.brc_check.specs.Refusal.{IsMet, IsForMemory, IsRefusal, IsShapeFault, IsTableFault}
 use Rattle.brc_check.proofs.Walks.{closed-reached, closed-acceptable, no_fault}
 
 -- what holds at each place holds of all
@@ -102,6 +102,15 @@ pub not_refused : (m : Module) (table : List (List (Option State))) (functions :
     → IsTableFault functions rows r → IsAcceptable m → IsTrueTable m table → ⊥
 not_refused m table functions rows r is_functions is_rows fault accepted true_table =
     no_table_fault m table r accepted true_table (subst (λ (fs : List Function). IsTableFault fs table r) is_functions (subst (λ (t : List (List (Option State))). IsTableFault functions t r) is_rows fault))
+
+pub refused_shape : (m : Module) (table : List (List (Option State))) (functions : List Function) (rows : List (List (Option State))) (r : Refused) → functions ≡ m.functions → rows ≡ table
+    → IsTableFault functions rows r → (HasShape m.functions table → ⊥) → IsShapeFault m.functions table r
+refused_shape m table functions rows r is_functions is_rows fault other =
+    let here : IsTableFault m.functions table r = subst (λ (fs : List Function). IsTableFault fs table r) is_functions (subst (λ (t : List (List (Option State))). IsTableFault functions t r) is_rows fault) in
+    elim here [
+      | inl f ↦ f
+      | inr f ↦ absurd (other f.shape)
+    ]
 
 -- ---- refusals
 

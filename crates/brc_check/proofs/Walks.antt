@@ -62,7 +62,7 @@ no_fault code row at met accepted true_row fault =
     elim fault [
       | inl m ↦ accepted.meets_none at met (meets-more code at at m.state met m.exit ((true_row at m.state).0 m.is_given) m.meets)
       | inr other ↦ elim other.1 [
-          | inl d ↦ d.apart ((true_row at d.arriving).1 (reaches-more code d.before at d.state d.arriving d.exit ((true_row d.before d.state).0 d.is_given) d.leads))
-          | inr d ↦ d.1 ((true_row 0 entry).1 (begins code))
-        ]
+        | inl d ↦ d.apart ((true_row at d.arriving).1 (reaches-more code d.before at d.state d.arriving d.exit ((true_row d.before d.state).0 d.is_given) d.leads))
+        | inr d ↦ d.1 ((true_row 0 entry).1 (begins code))
+      ]
     ]

@@ -39,8 +39,9 @@ pub record IsShapeFault (functions : List Function) (table : List (List (Option 
   pub begins : r.at ≡ 0
   pub code : r.code ≡ StatesDiffer
 
--- it names a function, and what its row is refused for
+-- the shape is right; it names a function, and what its row is refused for
 pub record IsRowFault (functions : List Function) (table : List (List (Option State))) (r : Refused) : Type 0 where
+  pub shape : HasShape functions table
   pub number : ℕ
   pub function : Function
   pub stands : slice_get functions number ≡ Some function

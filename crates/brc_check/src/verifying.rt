@@ -1,6 +1,6 @@
 //! A module and a table that somebody gave.
 
-ghost use Rattle.std.specs.Prelude.{◌≡◌, ◌↔◌, ◌<◌, ℕ, length, slice_get, Some, IsTrue, IfOk, OnOk, IfErr, IsOk, MatchOption};
+ghost use Rattle.std.specs.Prelude.{◌≡◌, ◌↔◌, ◌<◌, ℕ, length, slice_get, Some, IsTrue, IfOk, OnOk, IfErr, IsErrAnd, IsOk, MatchOption};
 ghost use Rattle.std.specs.List.{AllByRecursion};
 ghost use Rattle.brc_lang.specs.declared.module.Function.{Function};
 ghost use Rattle.brc_lang.specs.Grammar.{IsModule, IsFunction};
@@ -8,7 +8,7 @@ ghost use Rattle.brc_model.specs.Walks.{IsAcceptable};
 ghost use Rattle.brc_model.specs.Tables.{HasShape, IsTrueTable, IsTrueWhereReached, row_of};
 ghost use Rattle.brc_model.specs.Safety.{Safe};
 ghost use Rattle.brc_check.specs.Rows.{IsClosedAt, IsClosed, IsFaultAt};
-ghost use Rattle.brc_check.specs.Refusal.{IsRowFault, IsTableFault};
+ghost use Rattle.brc_check.specs.Refusal.{IsShapeFault, IsRowFault, IsTableFault};
 
 use crate::checked::Checked;
 use crate::refused::{Met, Refused};
@@ -101,6 +101,8 @@ pub fn verify(module: Module, table: Table) -> Result<Checked, Refused>
     ensures acceptable { OnOk result (IsAcceptable «module») }
     ensures safe { OnOk result (Safe «module») }
     ensures truth { OnOk result (IsTrueWhereReached «module» table) }
+    // A table of another shape is refused at the first point of the first function.
+    ensures shape { (HasShape «module».functions table → ⊥) → IsErrAnd result (λ r. IsShapeFault «module».functions table r) }
     ensures complete { IsAcceptable «module» → IsTrueTable «module» table → IsOk result }
     ensures refused { IfErr result (λ r. IsTableFault «module».functions table r) }
 {

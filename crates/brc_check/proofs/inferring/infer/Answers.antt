@@ -21,7 +21,7 @@ pub returns-in_err-row-clause-complete : goal.returns-in_err-row-clause-complete
 returns-in_err-row-clause-complete c =
     let p = err_from_is_err_and c.from_residual.result c.from_residual.ensures.1 in
     λ accepted. rw (p.1, p.2) (for_memory c.as_slice-function-items.result.now c.loop-function.function-index c.function-item.result c.in_err-row.field-0.0 c.loop-function-test.true c.function-item.is c.in_err-row.ensures
-        (subst (AllByRecursion (λ (f : Function). IsAcceptableCode f.code)) (sym c.as_slice-function-items.ensures) accepted))
+    (subst (AllByRecursion (λ (f : Function). IsAcceptableCode f.code)) (sym c.as_slice-function-items.ensures) accepted))
 
 pub loop-function-preserved : goal.loop-function-preserved
 loop-function-preserved c =

@@ -7,8 +7,8 @@ pub returns : goal.returns
 returns c =
     same_slots _ c.args.one.now c.args.other.now c.eq.result
     (each_slot _
-        (each_slot _ refl (each_kind _ refl refl refl refl refl refl) (each_kind _ refl refl refl refl refl refl) (each_kind _ refl refl refl refl refl refl))
-        (each_kind _ (each_slot _ refl (each_kind _ refl refl refl refl refl refl) (each_kind _ refl refl refl refl refl refl) (each_kind _ refl refl refl refl refl refl)) (each_slot _ refl (each_kind _ refl refl refl refl refl refl) (each_kind _ refl refl refl refl refl refl) (each_kind _ refl refl refl refl refl refl)) (each_slot _ refl (each_kind _ refl refl refl refl refl refl) (each_kind _ refl refl refl refl refl refl) (each_kind _ refl refl refl refl refl refl)) (each_slot _ refl (each_kind _ refl refl refl refl refl refl) (each_kind _ refl refl refl refl refl refl) (each_kind _ refl refl refl refl refl refl)) (each_slot _ refl (each_kind _ refl refl refl refl refl refl) (each_kind _ refl refl refl refl refl refl) (each_kind _ refl refl refl refl refl refl)) (each_slot _ refl (each_kind _ refl refl refl refl refl refl) (each_kind _ refl refl refl refl refl refl) (each_kind _ refl refl refl refl refl refl)))
-        (each_kind _ (each_slot _ refl (each_kind _ refl refl refl refl refl refl) (each_kind _ refl refl refl refl refl refl) (each_kind _ refl refl refl refl refl refl)) (each_slot _ refl (each_kind _ refl refl refl refl refl refl) (each_kind _ refl refl refl refl refl refl) (each_kind _ refl refl refl refl refl refl)) (each_slot _ refl (each_kind _ refl refl refl refl refl refl) (each_kind _ refl refl refl refl refl refl) (each_kind _ refl refl refl refl refl refl)) (each_slot _ refl (each_kind _ refl refl refl refl refl refl) (each_kind _ refl refl refl refl refl refl) (each_kind _ refl refl refl refl refl refl)) (each_slot _ refl (each_kind _ refl refl refl refl refl refl) (each_kind _ refl refl refl refl refl refl) (each_kind _ refl refl refl refl refl refl)) (each_slot _ refl (each_kind _ refl refl refl refl refl refl) (each_kind _ refl refl refl refl refl refl) (each_kind _ refl refl refl refl refl refl)))
-        (each_kind _ (each_slot _ refl (each_kind _ refl refl refl refl refl refl) (each_kind _ refl refl refl refl refl refl) (each_kind _ refl refl refl refl refl refl)) (each_slot _ refl (each_kind _ refl refl refl refl refl refl) (each_kind _ refl refl refl refl refl refl) (each_kind _ refl refl refl refl refl refl)) (each_slot _ refl (each_kind _ refl refl refl refl refl refl) (each_kind _ refl refl refl refl refl refl) (each_kind _ refl refl refl refl refl refl)) (each_slot _ refl (each_kind _ refl refl refl refl refl refl) (each_kind _ refl refl refl refl refl refl) (each_kind _ refl refl refl refl refl refl)) (each_slot _ refl (each_kind _ refl refl refl refl refl refl) (each_kind _ refl refl refl refl refl refl) (each_kind _ refl refl refl refl refl refl)) (each_slot _ refl (each_kind _ refl refl refl refl refl refl) (each_kind _ refl refl refl refl refl refl) (each_kind _ refl refl refl refl refl refl))))
+    (each_slot _ refl (each_kind _ refl refl refl refl refl refl) (each_kind _ refl refl refl refl refl refl) (each_kind _ refl refl refl refl refl refl))
+    (each_kind _ (each_slot _ refl (each_kind _ refl refl refl refl refl refl) (each_kind _ refl refl refl refl refl refl) (each_kind _ refl refl refl refl refl refl)) (each_slot _ refl (each_kind _ refl refl refl refl refl refl) (each_kind _ refl refl refl refl refl refl) (each_kind _ refl refl refl refl refl refl)) (each_slot _ refl (each_kind _ refl refl refl refl refl refl) (each_kind _ refl refl refl refl refl refl) (each_kind _ refl refl refl refl refl refl)) (each_slot _ refl (each_kind _ refl refl refl refl refl refl) (each_kind _ refl refl refl refl refl refl) (each_kind _ refl refl refl refl refl refl)) (each_slot _ refl (each_kind _ refl refl refl refl refl refl) (each_kind _ refl refl refl refl refl refl) (each_kind _ refl refl refl refl refl refl)) (each_slot _ refl (each_kind _ refl refl refl refl refl refl) (each_kind _ refl refl refl refl refl refl) (each_kind _ refl refl refl refl refl refl)))
+    (each_kind _ (each_slot _ refl (each_kind _ refl refl refl refl refl refl) (each_kind _ refl refl refl refl refl refl) (each_kind _ refl refl refl refl refl refl)) (each_slot _ refl (each_kind _ refl refl refl refl refl refl) (each_kind _ refl refl refl refl refl refl) (each_kind _ refl refl refl refl refl refl)) (each_slot _ refl (each_kind _ refl refl refl refl refl refl) (each_kind _ refl refl refl refl refl refl) (each_kind _ refl refl refl refl refl refl)) (each_slot _ refl (each_kind _ refl refl refl refl refl refl) (each_kind _ refl refl refl refl refl refl) (each_kind _ refl refl refl refl refl refl)) (each_slot _ refl (each_kind _ refl refl refl refl refl refl) (each_kind _ refl refl refl refl refl refl) (each_kind _ refl refl refl refl refl refl)) (each_slot _ refl (each_kind _ refl refl refl refl refl refl) (each_kind _ refl refl refl refl refl refl) (each_kind _ refl refl refl refl refl refl)))
+    (each_kind _ (each_slot _ refl (each_kind _ refl refl refl refl refl refl) (each_kind _ refl refl refl refl refl refl) (each_kind _ refl refl refl refl refl refl)) (each_slot _ refl (each_kind _ refl refl refl refl refl refl) (each_kind _ refl refl refl refl refl refl) (each_kind _ refl refl refl refl refl refl)) (each_slot _ refl (each_kind _ refl refl refl refl refl refl) (each_kind _ refl refl refl refl refl refl) (each_kind _ refl refl refl refl refl refl)) (each_slot _ refl (each_kind _ refl refl refl refl refl refl) (each_kind _ refl refl refl refl refl refl) (each_kind _ refl refl refl refl refl refl)) (each_slot _ refl (each_kind _ refl refl refl refl refl refl) (each_kind _ refl refl refl refl refl refl) (each_kind _ refl refl refl refl refl refl)) (each_slot _ refl (each_kind _ refl refl refl refl refl refl) (each_kind _ refl refl refl refl refl refl) (each_kind _ refl refl refl refl refl refl))))
     c.eq.ensures
