@@ -10,7 +10,7 @@ use Rattle.brc_lang.specs.Grammar.{IsInstruction, IsFunction, IsModule}
 use Rattle.brc_model.specs.declared.thread.Call.{Call}
 use Rattle.brc_model.specs.declared.thread.Thread.{Thread}
 use Rattle.brc_model.specs.Walks.{IsAcceptableCode, IsAcceptable}
-use Rattle.brc_model.specs.Plain.{root_row, Holding, ByVariable, AsCaller, same, references_to}
+use Rattle.brc_model.specs.Plain.{root_row, Holding, ByVariable, AsCaller, InHand, same, references_to}
 use Rattle.brc_model.specs.Steps.{code_of, main_thread, worker_of, caller_reference, callers_below, first_scene}
 use Rattle.brc_model.specs.Safety.{IsCall, AreCalls}
 use Rattle.brc_model.proofs.Bag.{held, one_if, same-other_thread, held-cons, references_to-cons}
@@ -30,6 +30,7 @@ callers_beyond (suc n) t h object past =
 
 its_caller : (n : ℕ) (h : Holding) (object : ℕ) → one_if (same (reference_of n h object) (caller_reference n)) ≡ one_if (the_root h object)
 its_caller n (ByVariable v) object = ap one_if (same-other_holding (reference_of n (ByVariable v) object) (caller_reference n) refl)
+its_caller n InHand object = ap one_if (same-other_holding (reference_of n InHand object) (caller_reference n) refl)
 its_caller n AsCaller object = ap one_if (same-one_caller n object root_row)
 
 callers_hold : (n t : ℕ) (h : Holding) (object : ℕ) → t < n → held (reference_of t h object) (callers_below n) ≡ one_if (the_root h object)

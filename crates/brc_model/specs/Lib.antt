@@ -4,3 +4,6 @@ pub mod Plain
 pub mod Threads
 pub mod Steps
 pub mod Safety
+pub mod Words
+pub mod Duties
+pub mod Machine
