@@ -10,3 +10,4 @@ pub mod Keeping
 pub mod First
 pub mod Few
 pub mod Safe
+pub mod Worked
