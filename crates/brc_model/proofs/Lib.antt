@@ -11,3 +11,4 @@ pub mod First
 pub mod Few
 pub mod Safe
 pub mod Worked
+pub mod Rows
