@@ -12,3 +12,4 @@ pub mod Few
 pub mod Safe
 pub mod Worked
 pub mod Rows
+pub mod RowSteps
