@@ -24,6 +24,15 @@ impl Model for Checked {
 }
 
 impl Checked {
+    /// The module as an accepted one.
+    pub(crate) fn new(accepted: Module) -> Checked
+        requires fits { IsModule accepted }
+        requires acceptable { IsAcceptable accepted }
+        ensures { result ≡ accepted }
+    {
+        Checked { module: accepted }
+    }
+
     /// The module.
     pub fn module(&self) -> &Module
         ensures value { result.now ≡ self.now }

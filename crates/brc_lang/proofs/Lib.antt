@@ -1,0 +1,11 @@
+pub mod Cuts
+pub mod Lines
+pub mod Numbers
+pub mod Words
+pub mod Spelling
+pub mod Instructions
+pub mod Headings
+pub mod Machine
+pub mod Uniqueness
+pub mod Bodies
+pub mod Functions

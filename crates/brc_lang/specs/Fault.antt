@@ -1,5 +1,5 @@
 -- Which fault a text has: the one of the first line from the top in which any stands.
-use Rattle.std.specs.Prelude.{◌≡◌, ℕ, ◌+◌, ◌≤◌, Bool, false, ◌&&◌, ◌||◌, ◌==◌, not, nat_le, nat_lt, nat_eq, if◌then◌else◌, IsTrue, List, [], ◌∷◌, ◌++◌, length, Option, None, Some, Result, Ok, Err, count_by, codes, ◌⊎◌}
+use Rattle.std.specs.Prelude.{◌≡◌, ℕ, ◌+◌, ◌≤◌, Bool, false, ◌&&◌, ◌||◌, ◌==◌, not, nat_le, nat_lt, nat_eq, if◌then◌else◌, IsTrue, List, [], ◌∷◌, ◌++◌, length, Option, None, Some, Result, Ok, Err, count_by, codes, ◌⊎◌, MatchResult}
 use Rattle.std.specs.List.{AllByRecursion, list_all, list_any, slice_split, before_first, starts_with}
 use Rattle.std.specs.Str.{bytes_eq}
 use Rattle.std.specs.Str.Parse.{digits_value}
@@ -9,6 +9,8 @@ use Rattle.brc_lang.specs.declared.module.Instr.{Instr}
 use Rattle.brc_lang.specs.declared.module.Instr.TheVariants.{Newref, Drop, Ret, Fail}
 use Rattle.brc_lang.specs.declared.fault.FaultCode.{FaultCode}
 use Rattle.brc_lang.specs.declared.fault.FaultCode.TheVariants.{FirstLine, UnknownWord, Number, NameTwice, OverLimit, CutOff, NoMemory}
+use Rattle.brc_lang.specs.declared.fault.ReadFault.{ReadFault}
+use Rattle.brc_lang.specs.declared.module.Module.{Module}
 use Rattle.brc_lang.specs.Grammar.{is_name, IsInstruction, IsFunction, AreNamedApart, heading, instructions, functions, first_line}
 
 -- ---- one line
@@ -155,3 +157,17 @@ pub record HasFirstLineFault (bytes : List ℕ) (line : ℕ) (code : FaultCode) 
 -- the first line in fault, counted from 1, and its fault
 abbrev pub HasFault : List ℕ → ℕ → FaultCode → Type 0
 HasFault bytes line code = HasFirstLineFault bytes line code ⊎ HasLaterFault bytes line code
+
+-- ---- what a reader may answer
+
+-- want of memory, or the fault that the text has
+abbrev pub IsFaultOf : List ℕ → ReadFault → Type 0
+IsFaultOf bytes e = (e.code ≡ NoMemory) ⊎ HasFault bytes e.line e.code
+
+-- the module, unless memory ran out
+abbrev pub ReadsAs : Result Module ReadFault → Module → Type 0
+ReadsAs result m = MatchResult result (λ found. found ≡ m) (λ e. e.code ≡ NoMemory)
+
+-- the fault of this line, unless memory ran out
+abbrev pub Refuses : Result Module ReadFault → ℕ → FaultCode → Type 0
+Refuses result line code = MatchResult result (λ _. ⊥) (λ e. ((e.line ≡ line) × (e.code ≡ code)) ⊎ (e.code ≡ NoMemory))

@@ -1,3 +1,4 @@
 pub mod Padding
 pub mod Grammar
 pub mod Fault
+pub mod Progress

@@ -1,3 +1,7 @@
+ghost use Rattle.std.specs.Prelude.{◌≡◌};
+ghost use Rattle.brc_lang.specs.declared.fault.FaultCode.TheVariants.{NoMemory};
+
+use std::alloc::AllocError;
 use std::fmt;
 use thiserror::Error;
 
@@ -35,6 +39,14 @@ impl fmt::Display for FaultCode {
             FaultCode::NoMemory => "L8",
         };
         write!(f, "{code}")
+    }
+}
+
+impl From<AllocError> for FaultCode {
+    ghost from_gives = { λ _ e. e ≡ NoMemory };
+
+    fn from(_e: AllocError) -> FaultCode {
+        FaultCode::NoMemory
     }
 }
 

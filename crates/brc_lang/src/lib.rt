@@ -2,15 +2,25 @@
 #![tactic(auto)]
 
 mod fault;
+mod instruction;
 mod kind;
+mod laws;
+mod lexing;
 mod module;
 mod name;
+mod place;
+mod reading;
 mod sequence;
 mod variable;
 
 pub use fault::{FaultCode, ReadFault};
 pub use kind::Kind;
+pub use laws::{one_reading, one_text};
 pub use module::{Function, Instr, Module};
 pub use name::Name;
+pub use reading::read;
 pub use sequence::Sequence;
 pub use variable::Variable;
+
+#[cfg(test)]
+mod tests;

@@ -1,0 +1,122 @@
+//! One instruction: what it asks of a state, and what it leaves.
+
+ghost use Rattle.std.specs.Prelude.{◌≡◌, ℕ, ◌+◌, if◌then◌else◌};
+ghost use Rattle.std.specs.List.{list_any};
+ghost use Rattle.brc_model.specs.declared.slot.Exit.{Exit};
+ghost use Rattle.brc_model.specs.Slots.{slot_of, is_owned, kind_of, names, lowest, after, target};
+
+use brc_lang::{Instr, Kind, Variable};
+use brc_model::{CheckCode, Slot, State};
+
+fn slot(state: &State, variable: Variable) -> Slot
+    ensures { result ≡ slot_of state.now variable }
+{
+    state.slots[variable.number() as usize]
+}
+
+fn kind_of(slot: Slot) -> Kind
+    ensures { result ≡ kind_of slot }
+{
+    match slot {
+        Slot::Empty => Kind::Any,
+        Slot::Owned(kind) | Slot::Caller(kind) | Slot::Locked(kind) => kind,
+    }
+}
+
+fn is_locked(state: &State, variable: Variable) -> bool
+    ensures { result ≡ names state.now.locked variable }
+{
+    match state.locked {
+        None => false,
+        Some(locked) => variable.number() == locked.number(),
+    }
+}
+
+fn any_owned(slots: &[Slot; 16]) -> bool
+    ensures { result ≡ list_any is_owned slots.now }
+{
+    slots.iter().any(|slot| matches!(slot, Slot::Owned(_)))
+}
+
+fn newref_refusal(state: &State, to: Variable, from: Variable) -> Option<CheckCode>
+    ensures { result ≡ lowest (Instr.Newref to from) state.now }
+{
+    if let Slot::Empty = slot(state, from) {
+        return Some(CheckCode::EmptyUsed);
+    }
+    if let Slot::Owned(_) = slot(state, to) {
+        return Some(CheckCode::StillOwns);
+    }
+    if is_locked(state, to) {
+        return Some(CheckCode::LockedChanged);
+    }
+    None
+}
+
+fn drop_refusal(state: &State, from: Variable) -> Option<CheckCode>
+    ensures { result ≡ lowest (Instr.Drop from) state.now }
+{
+    match slot(state, from) {
+        Slot::Empty => Some(CheckCode::EmptyUsed),
+        Slot::Caller(_) | Slot::Locked(_) => Some(CheckCode::NotOwned),
+        Slot::Owned(_) => is_locked(state, from).then_some(CheckCode::LockedChanged),
+    }
+}
+
+fn ret_refusal(state: &State, from: Variable) -> Option<CheckCode>
+    ensures { result ≡ lowest (Instr.Ret from) state.now }
+{
+    match slot(state, from) {
+        Slot::Empty => return Some(CheckCode::EmptyUsed),
+        Slot::Caller(_) | Slot::Locked(_) => return Some(CheckCode::NotOwned),
+        Slot::Owned(_) => (),
+    }
+    let mut others = state.slots;
+    others[from.number() as usize] = Slot::Empty;
+    if any_owned(&others) {
+        return Some(CheckCode::LeftOwned);
+    }
+    state.locked.is_some().then_some(CheckCode::LeftLocked)
+}
+
+fn fail_refusal(state: &State) -> Option<CheckCode>
+    ensures { result ≡ lowest Instr.Fail state.now }
+{
+    if any_owned(&state.slots) {
+        return Some(CheckCode::LeftOwned);
+    }
+    state.locked.is_some().then_some(CheckCode::LeftLocked)
+}
+
+/// The lowest code that stands before the instruction.
+pub fn refusal(instr: Instr, state: &State) -> Option<CheckCode>
+    ensures { result ≡ lowest instr state.now }
+{
+    match instr {
+        Instr::Newref { to, from } => newref_refusal(state, to, from),
+        Instr::Drop { from } => drop_refusal(state, from),
+        Instr::Ret { from } => ret_refusal(state, from),
+        Instr::Fail => fail_refusal(state),
+    }
+}
+
+/// What the instruction leaves in the variables where it leads on. It ends alike by both exits.
+pub fn apply(instr: Instr, state: &mut State)
+    ensures { (exit : Exit) → state.new ≡ after instr exit state.old }
+{
+    match instr {
+        Instr::Newref { to, from } => {
+            let kind = kind_of(slot(state, from));
+            state.slots[to.number() as usize] = Slot::Owned(kind);
+        }
+        Instr::Drop { from } => state.slots[from.number() as usize] = Slot::Empty,
+        Instr::Ret { .. } | Instr::Fail => (),
+    }
+}
+
+/// Whether the call ends with the instruction. After each other one stands the next.
+pub fn ends_call(instr: Instr) -> bool
+    ensures { (exit : Exit) (at : ℕ) → target instr exit at ≡ (if result then None else Some (at + 1)) }
+{
+    matches!(instr, Instr::Ret { .. } | Instr::Fail)
+}

@@ -1,0 +1,122 @@
+-- Inside a function, line by line.
+use Rattle.std.proofs.Common.{◌≡◌, ℕ, ◌+◌, ◌<◌, ◌≤◌, Bool, true, false, cond, eqb, ◌&&◌, List, [], ◌∷◌, ◌++◌, length, Option, Some, None, Bor, Result, Ok, Err, refl, sym, ap, subst, ◌∙◌, append_assoc, add-zero, arith, inl, inr}
+use Rattle.std.specs.Prelude.{codes, IsTrue}
+use Rattle.std.specs.List.{list_any, AllByRecursion}
+use Rattle.std.specs.Str.{bytes_eq}
+use Rattle.std.proofs.lemmas.List.{append-nil, length-append}
+use Rattle.std.proofs.lemmas.List.Concat.{flat_map-append}
+use Rattle.std.proofs.lemmas.List.Sums.{count_by-le-length}
+use Rattle.std.proofs.lemmas.Slice.Eq.{bytes_eq-Decides}
+use Rattle.brc_lang.specs.declared.module.Function.{Function}
+use Rattle.brc_lang.specs.declared.module.Instr.{Instr}
+use Rattle.brc_lang.specs.declared.fault.FaultCode.{FaultCode}
+use Rattle.brc_lang.specs.declared.fault.FaultCode.TheVariants.{OverLimit, CutOff}
+use Rattle.brc_lang.specs.declared.place.Place.{Place}
+use Rattle.brc_lang.specs.Grammar.{line, instruction, instructions, is_name, IsInstruction}
+use Rattle.brc_lang.specs.Fault.{words, instruction_in, Beginning, IsOpen, line_fault_of, next_instruction_fault_of, fault_of, is_line_feed}
+use Rattle.brc_lang.specs.Progress.{IsFirstLineOf, Passes, IsLineFault, Appends, opened, Ends, HasFaultInside, IsFaultInside}
+use Rattle.brc_lang.proofs.Lines.{line_any, line_before, line_count-append, line_count_one}
+use Rattle.brc_lang.proofs.Instructions.{instruction_spelled}
+
+-- ---- places
+
+abbrev pub at_place : Bor (List ℕ) → ℕ → Place
+at_place rest number = record { rest = rest; line = number }
+
+pub passes_none : (p : Place) → Passes [] p p
+passes_none p = record { parts = refl; count = sym (add-zero p.line) }
+
+pub passes_both : (a b : List ℕ) (p q r : Place) → Passes a p q → Passes b q r → Passes (a ++ b) p r
+passes_both a b p q r g h = record {
+  parts = g.parts ∙ ap (λ (x : List ℕ). a ++ x) h.parts ∙ sym (append_assoc a b r.rest.now);
+  count = omega (arith, g.count, h.count, line_count-append a b);
+}
+
+pub passes_line : (text : List ℕ) (p : Place) (rest : Bor (List ℕ)) → IsFirstLineOf p.rest.now text rest.now → Passes (line text) p (at_place rest (p.line + 1))
+passes_line text p rest h = record { parts = h.parts; count = ap (λ (n : ℕ). p.line + n) (sym (line_count_one text h.plain)) }
+
+-- a line takes at least its line feed, so line numbers stay within the text's length
+pub stays_within : (lines : List ℕ) (p q : Place) → Passes lines p q → q.line + length q.rest.now ≤ p.line + length p.rest.now
+stays_within lines p q h = omega (arith, h.count, ap length h.parts, length-append lines q.rest.now, count_by-le-length is_line_feed lines)
+
+-- ---- the fault of a line
+
+pub fault_at : (b : Beginning) (rest text below : List ℕ) → IsFirstLineOf rest text below → fault_of b rest ≡ line_fault_of b.done b.open_function text
+fault_at b rest text below h = ap (fault_of b) h.parts ∙ rw (line_any text below, line_before text below h.plain) refl
+
+not_whole : (b : Bool) → ◌≡◌ {A = Option FaultCode} (cond (b && false) None (Some CutOff)) (Some CutOff)
+not_whole true = refl
+not_whole false = refl
+
+pub cut_off_inside : (done : List Function) (f : Function) (rest : List ℕ) → list_any is_line_feed rest ≡ false → fault_of (record { done = done; open_function = Some f }) rest ≡ Some CutOff
+cut_off_inside done f rest e = rw e (not_whole (eqb (length rest) 0))
+
+-- ---- a loop over the lines of a function
+
+pub record IsInside (name : List ℕ) (from : Place) (code : List Instr) (to : Place) : Type 0 where
+  pub open_fits : IsOpen (opened name code)
+  pub passed : Passes (instructions code) from to
+
+pub begins : (name : List ℕ) (p : Place) → IsTrue (is_name name) → IsInside name p [] p
+begins name p fits = record { open_fits = record { name = fits; most = omega arith; code = tt }; passed = passes_none p }
+
+all_push : (code : List Instr) (i : Instr) → AllByRecursion IsInstruction code → IsInstruction i → AllByRecursion IsInstruction (code ++ i ∷ [])
+all_push [] i all here = (here, tt)
+all_push (j ∷ code) i all here = (all.0, all_push code i all.1 here)
+
+pub instructions_push : (code : List Instr) (i : Instr) → instructions (code ++ i ∷ []) ≡ instructions code ++ line (instruction i)
+instructions_push code i = flat_map-append _ code (i ∷ []) ∙ ap (λ (x : List ℕ). instructions code ++ x) (append-nil (line (instruction i)))
+
+pub goes_on : (name : List ℕ) (from at : Place) (code new : List Instr) (text : List ℕ) (rest : Bor (List ℕ)) → IsInside name from code at → IsFirstLineOf at.rest.now text rest.now → Appends code new text
+    → IsInside name from new (at_place rest (at.line + 1))
+goes_on name from at code new text rest so_far first next =
+    let spelled = instruction_spelled text next.instr next.read in
+    let both = passes_both (instructions code) (line text) from at (at_place rest (at.line + 1)) so_far.passed (passes_line text at rest first) in
+    let lines : instructions code ++ line text ≡ instructions new =
+    ap (λ (x : List ℕ). instructions code ++ line x) spelled.0 ∙ sym (instructions_push code next.instr) ∙ ap instructions (sym next.appended) in
+    let more : IsOpen (opened name (code ++ next.instr ∷ [])) = record {
+      name = so_far.open_fits.name;
+      most = omega (arith, length-append code (next.instr ∷ []), next.room);
+      code = all_push code next.instr so_far.open_fits.code spelled.1;
+    } in
+    record {
+      open_fits = subst (λ (c : List Instr). IsOpen (opened name c)) (sym next.appended) more;
+      passed = subst (λ (x : List ℕ). Passes x from (at_place rest (at.line + 1))) lines both;
+    }
+
+pub ends : (name : List ℕ) (from at : Place) (code : List Instr) (text : List ℕ) (rest : Bor (List ℕ)) → IsInside name from code at → IsFirstLineOf at.rest.now text rest.now → bytes_eq text (codes "end") ≡ true → 0 < length code
+    → Ends name from (opened name code) (at_place rest (at.line + 1))
+ends name from at code text rest so_far first last some =
+    let same : text ≡ codes "end" = (bytes_eq-Decides text (codes "end")).0 last in
+    let both = passes_both (instructions code) (line text) from at (at_place rest (at.line + 1)) so_far.passed (passes_line text at rest first) in
+    record {
+      named = refl;
+      whole = record { name = so_far.open_fits.name; some = some; most = so_far.open_fits.most; code = so_far.open_fits.code };
+      passed = subst (λ (x : List ℕ). Passes (instructions code ++ line x) from (at_place rest (at.line + 1))) same both;
+    }
+
+-- ---- its faults
+
+fault_inside : (name : List ℕ) (from at : Place) (code : List Instr) (e : FaultCode) → IsInside name from code at → fault_of (record { done = []; open_function = Some (opened name code) }) at.rest.now ≡ Some e
+    → HasFaultInside name from (record { line = at.line; code = e })
+fault_inside name from at code e so_far h = record { code = code; rest = at.rest.now; open_fits = so_far.open_fits; parts = so_far.passed.parts; place = so_far.passed.count; fault = h }
+
+pub empty_function : (name : List ℕ) (from at : Place) (code : List Instr) (text rest : List ℕ) → IsInside name from code at → IsFirstLineOf at.rest.now text rest → bytes_eq text (codes "end") ≡ true → length code ≡ 0
+    → IsFaultInside name from (record { line = at.line; code = OverLimit })
+empty_function name from at code text rest so_far first last none =
+    inr (fault_inside name from at code OverLimit so_far
+    (fault_at (record { done = []; open_function = Some (opened name code) }) at.rest.now text rest first ∙ rw (last, none) refl))
+
+same_code : (name : List ℕ) (code : List Instr) (r : Result Instr FaultCode) → next_instruction_fault_of (opened name code) r ≡ next_instruction_fault_of (opened [] code) r
+same_code name code (Ok i) = refl
+same_code name code (Err e) = refl
+
+pub other_fault : (name : List ℕ) (from at : Place) (code : List Instr) (text rest : List ℕ) (e : FaultCode) → IsInside name from code at → IsFirstLineOf at.rest.now text rest → bytes_eq text (codes "end") ≡ false
+    → IsLineFault (next_instruction_fault_of (opened [] code) (instruction_in (words text))) e → IsFaultInside name from (record { line = at.line; code = e })
+other_fault name from at code text rest e so_far first other (inl memory) = inl memory
+other_fault name from at code text rest e so_far first other (inr h) =
+    inr (fault_inside name from at code e so_far
+    (fault_at (record { done = []; open_function = Some (opened name code) }) at.rest.now text rest first ∙ rw other (same_code name code (instruction_in (words text)) ∙ h)))
+
+pub cut_off : (name : List ℕ) (from at : Place) (code : List Instr) → IsInside name from code at → list_any is_line_feed at.rest.now ≡ false → IsFaultInside name from (record { line = at.line; code = CutOff })
+cut_off name from at code so_far e = inr (fault_inside name from at code CutOff so_far (cut_off_inside [] (opened name code) at.rest.now e))

@@ -1,0 +1,136 @@
+-- The one spelling of a number, of a variable and of a name.
+use Rattle.std.proofs.Common.{◌≡◌, ℕ, zero, suc, ◌^◌, ◌<◌, ◌≤◌, Bool, true, false, cond, leb, eqb, not, ◌&&◌, ◌||◌, List, [], ◌∷◌, length, get_or, Result, Ok, Err, refl, sym, ap, ◌∙◌, arith, inl, inr}
+use Rattle.std.specs.List.{list_all, list_any}
+use Rattle.std.specs.Char.{is_ascii_digit}
+use Rattle.std.specs.Fmt.{decimal}
+use Rattle.std.specs.Str.Parse.{digits_value}
+use Rattle.std.proofs.lemmas.Bool.{and_parts, and_from, or_cases, cases_Bool, leb-true, le-leb, eqb-true, eqb-false, ne_eqb, not-true, cases_eq}
+use Rattle.std.proofs.lemmas.Bool.Decides.{nat_tests}
+use Rattle.std.proofs.lemmas.Fmt.{decimal-digits_value, digits_decimal, digits_value-decimal, decimal_nonempty, decimal_digit, first_decimal}
+use Rattle.std.proofs.lemmas.Str.Parse.{IsDigitsTest, IsNumeralModel, numerals_by_value}
+use Rattle.brc_lang.specs.declared.fault.FaultCode.{FaultCode}
+use Rattle.brc_lang.specs.declared.fault.FaultCode.TheVariants.{UnknownWord, Number}
+use Rattle.brc_lang.specs.Grammar.{variable, is_name, is_letter, is_name_byte}
+use Rattle.brc_lang.specs.Fault.{is_numeral, number_in, variable_in, is_line_feed}
+use Rattle.brc_lang.proofs.Words.{is_space, lacks_from_all}
+
+-- ---- numbers
+
+abbrev AreDigits : List ℕ → Type 0
+AreDigits ds = list_all is_ascii_digit ds ≡ true
+
+tells_digits : IsDigitsTest AreDigits
+tells_digits = record {
+  empty = refl;
+  parts = λ c cs h. let q = and_parts (is_ascii_digit c) (list_all is_ascii_digit cs) h in let r = and_parts (leb 48 c) (leb c 57) q.0 in ((leb-true 48 c r.0, leb-true c 57 r.1), q.1);
+  more = λ c cs range h. and_from (is_ascii_digit c) (list_all is_ascii_digit cs) (and_from (leb 48 c) (leb c 57) (le-leb 48 c range.0) (le-leb c 57 range.1)) h;
+}
+
+own : IsNumeralModel AreDigits (digits_value 10)
+own = numerals_by_value AreDigits tells_digits
+
+-- a test that an if took to `Ok`
+pub guarded : {A : Type 0} (b : Bool) (d : FaultCode) (x y : A) → cond b (Ok x) (Err d) ≡ Ok y → (b ≡ true) × (x ≡ y)
+guarded true d x y e = (refl, cc)
+guarded false d x y e = absurd cc
+
+-- no leading zero but in `0`
+numeral_parts : (ds : List ℕ) → is_numeral ds ≡ true → AreDigits ds × (0 < length ds) × (get_or ds 0 0 ≡ 48 → length ds ≡ 1)
+numeral_parts [] e = absurd cc
+numeral_parts (c ∷ cs) e =
+    let h = and_parts (list_all is_ascii_digit (c ∷ cs)) (not (eqb c 48) || eqb (length cs) 0) e in (
+      h.0,
+      omega arith,
+      λ zero_first.
+          elim (or_cases (not (eqb c 48)) (eqb (length cs) 0) h.1) [
+            | inl other ↦ absurd (eqb-false c 48 (not-true _ other) zero_first)
+            | inr alone ↦ ap suc (eqb-true (length cs) 0 alone)
+          ],
+    )
+
+pub number_spelled : (high : ℕ) (word : List ℕ) (n : ℕ) → high < 2 ^ 64 → number_in high word ≡ Ok n → (word ≡ decimal n) × (n ≤ high)
+number_spelled high word n small e =
+    let g = guarded (is_numeral word && leb (digits_value 10 word) high) Number (digits_value 10 word) n e in
+    let h = and_parts (is_numeral word) (leb (digits_value 10 word) high) g.0 in
+    let parts = numeral_parts word h.0 in
+    let le : digits_value 10 word ≤ high = leb-true _ _ h.1 in
+    (sym (decimal-digits_value own word parts.0 parts.1 parts.2 (omega arith)) ∙ ap decimal g.1, omega (arith, g.1))
+
+numeral_from : (ds : List ℕ) → AreDigits ds → 0 < length ds → (get_or ds 0 0 ≡ 48 → length ds ≡ 1) → is_numeral ds ≡ true
+numeral_from [] digits some alone = absurd (omega arith)
+numeral_from (c ∷ cs) digits some alone =
+    elim (cases_eq c 48) [
+      | inl same ↦ let none : length cs ≡ 0 = omega (arith, alone same) in rw (digits, none) (grind (arith, nat_tests))
+      | inr other ↦ rw (digits, ne_eqb c 48 other) refl
+    ]
+
+decimal_first : (n : ℕ) → n < 2 ^ 64 → get_or (decimal n) 0 0 ≡ 48 → length (decimal n) ≡ 1
+decimal_first zero small e = ap length (decimal_digit 0 (omega arith))
+decimal_first (suc n) small e = absurd (omega (arith, first_decimal (suc n) (omega arith) small))
+
+pub decimal_digits : (n : ℕ) → n < 2 ^ 64 → list_all is_ascii_digit (decimal n) ≡ true
+decimal_digits n small = digits_decimal own n small
+
+pub number_again : (high n : ℕ) → n ≤ high → n < 2 ^ 64 → number_in high (decimal n) ≡ Ok n
+number_again high n le small =
+    let numeral = numeral_from (decimal n) (decimal_digits n small) (decimal_nonempty n small) (decimal_first n small) in
+    rw (numeral, digits_value-decimal own n small, le-leb n high le) refl
+
+-- ---- variables
+
+pub variable_spelled : (word : List ℕ) (n : ℕ) → variable_in word ≡ Ok n → (word ≡ variable n) × (n < 16)
+variable_spelled [] n e = absurd cc
+variable_spelled (c ∷ cs) n e =
+    elim (cases_Bool (eqb c 118)) [
+      | inl same ↦
+          let spelled = number_spelled 15 cs n (omega arith) (rw same at e) in
+          (ap (λ (x : ℕ). x ∷ cs) (eqb-true c 118 same) ∙ ap (λ (x : List ℕ). 118 ∷ x) spelled.0, omega (arith, spelled.1))
+      | inr other ↦ let never : ◌≡◌ {A = Result ℕ FaultCode} (Err UnknownWord) (Ok n) = rw other at e in absurd cc
+    ]
+
+pub variable_again : (n : ℕ) → n < 16 → variable_in (variable n) ≡ Ok n
+variable_again n lt = number_again 15 n (omega arith) (omega arith)
+
+-- ---- what these lack
+
+digit_lacks : (q : ℕ → Bool) → ((c : ℕ) → is_ascii_digit c ≡ true → q c ≡ false) → (n : ℕ) → n < 16 → list_any q (decimal n) ≡ false
+digit_lacks q apart n lt = lacks_from_all is_ascii_digit q apart (decimal n) (decimal_digits n (omega arith))
+
+other_than : (d c : ℕ) → d < 48 → is_ascii_digit c ≡ true → eqb c d ≡ false
+other_than d c lt e = let r = and_parts (leb 48 c) (leb c 57) e in ne_eqb c d (λ same. omega (arith, leb-true 48 c r.0))
+
+pub variable_no_space : (n : ℕ) → n < 16 → list_any is_space (variable n) ≡ false
+variable_no_space n lt = digit_lacks is_space (λ c h. other_than 32 c (omega arith) h) n lt
+
+pub variable_plain : (n : ℕ) → n < 16 → list_any is_line_feed (variable n) ≡ false
+variable_plain n lt = digit_lacks is_line_feed (λ c h. other_than 10 c (omega arith) h) n lt
+
+letter_from : (c : ℕ) → is_letter c ≡ true → 97 ≤ c
+letter_from c e = leb-true 97 c (and_parts (leb 97 c) (leb c 122) e).0
+
+name_byte_from : (c : ℕ) → is_name_byte c ≡ true → 48 ≤ c
+name_byte_from c e =
+    elim (or_cases (is_letter c || (leb 48 c && leb c 57)) (eqb c 95) e) [
+      | inl most ↦ elim (or_cases (is_letter c) (leb 48 c && leb c 57) most) [
+        | inl letter ↦ omega (arith, letter_from c letter)
+        | inr digit ↦ leb-true 48 c (and_parts (leb 48 c) (leb c 57) digit).0
+      ]
+      | inr underscore ↦ omega (arith, eqb-true c 95 underscore)
+    ]
+
+name_lacks : (d : ℕ) → d < 48 → (name : List ℕ) → is_name name ≡ true → list_any (λ c. eqb c d) name ≡ false
+name_lacks d lt [] e = refl
+name_lacks d lt (c ∷ cs) e =
+    let h = and_parts (is_letter c && list_all is_name_byte cs) (leb (length cs) 15) e in
+    let k = and_parts (is_letter c) (list_all is_name_byte cs) h.0 in
+    rw (ne_eqb c d (λ same. omega (arith, letter_from c k.0))) (lacks_from_all is_name_byte (λ c. eqb c d) (λ b byte. ne_eqb b d (λ same. omega (arith, name_byte_from b byte))) cs k.1)
+
+pub name_no_space : (name : List ℕ) → is_name name ≡ true → list_any is_space name ≡ false
+name_no_space name e = name_lacks 32 (omega arith) name e
+
+pub name_plain : (name : List ℕ) → is_name name ≡ true → list_any is_line_feed name ≡ false
+name_plain name e = name_lacks 10 (omega arith) name e
+
+pub name_short : (name : List ℕ) → is_name name ≡ true → length name ≤ 16
+name_short [] e = omega arith
+name_short (c ∷ cs) e = omega (arith, leb-true (length cs) 15 (and_parts (is_letter c && list_all is_name_byte cs) (leb (length cs) 15) e).1)

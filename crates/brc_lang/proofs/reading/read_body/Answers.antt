@@ -1,0 +1,15 @@
+use Rattle.std.proofs.Common.{sym, ◌∙◌, arith}
+use Rattle.brc_lang.proofs.Bodies.{goes_on, ends, other_fault}
+use Rattle.brc_lang.proofs.reading.read_body.Goals as goal
+
+pub returns-then-is_word-clause-ok : goal.returns-then-is_word-clause-ok
+returns-then-is_word-clause-ok c =
+    ends c.args.name c.args.start c.loop-text.place c.loop-text.code c.in-Some.text.now c.in-Some.rest c.loop-text.invariant c.in-Some.ensures (sym c.is_word.ensures ∙ c.if-is_word.true) (omega arith)
+
+pub returns-in-Err-clause-err : goal.returns-in-Err-clause-err
+returns-in-Err-clause-err c =
+    other_fault c.args.name c.args.start c.loop-text.place c.loop-text.code c.in-Some.text.now c.in-Some.rest.now c.in-Err.code c.loop-text.invariant c.in-Some.ensures (sym c.is_word.ensures ∙ c.if-is_word.false) c.in-Err.ensures.err
+
+pub loop-text-preserved : goal.loop-text-preserved
+loop-text-preserved c =
+    goes_on c.args.name c.args.start c.loop-text.place c.loop-text.code c.read_instruction.new.code c.in-Some.text.now c.in-Some.rest c.loop-text.invariant c.in-Some.ensures c.in_default-read_instruction.ensures.ok

@@ -1,0 +1,9 @@
+use Rattle.std.proofs.Common.{length}
+use Rattle.brc_lang.proofs.Bodies.{IsInside}
+use Rattle.brc_lang.proofs.reading.read_body.Given as goal
+
+abbrev pub invariant-loop-text : goal.invariant-loop-text
+invariant-loop-text l = IsInside l.name l.start l.code l.place
+
+abbrev pub decreases-loop-text : goal.decreases-loop-text
+decreases-loop-text l = length l.place.rest.now

@@ -1,0 +1,104 @@
+//! Lines and words, and what single words say.
+
+ghost use Rattle.std.specs.Prelude.{◌≡◌, ◌∷◌, [], ◌&&◌, ◌==◌, false, nat_le, position, MatchOption, Ok, Err, if◌then◌else◌};
+ghost use Rattle.std.specs.List.{list_any, list_all};
+ghost use Rattle.std.specs.Char.{is_ascii_digit};
+ghost use Rattle.std.specs.Str.Parse.{digits_value};
+ghost use Rattle.brc_lang.specs.declared.fault.FaultCode.TheVariants.{Number};
+ghost use Rattle.std.specs.Str.{bytes_eq};
+ghost use Rattle.brc_lang.specs.Grammar.{is_name, is_name_byte};
+ghost use Rattle.brc_lang.specs.Fault.{words, number_in, variable_in, is_line_feed};
+ghost use Rattle.brc_lang.specs.Progress.{IsFirstLineOf};
+
+use crate::fault::FaultCode;
+use crate::variable::Variable;
+
+/// The first line without its line feed, and what stands below it; nothing where no line is ended.
+pub(crate) fn split_line(text: &[u8]) -> Option<(&[u8], &[u8])>
+    ensures { MatchOption result (list_any is_line_feed text.now ≡ false) (λ parts. IsFirstLineOf text.now parts.0.now parts.1.now) }
+{
+    let end = place_of(b'\n', text)?;
+    Some((&text[..end], &text[end + 1..]))
+}
+
+/// The first word of a line, and what stands behind the space after it.
+pub(crate) fn split_word(line: &[u8]) -> (&[u8], Option<&[u8]>)
+    ensures { MatchOption result.1 (words line.now ≡ result.0.now ∷ []) (λ rest. words line.now ≡ result.0.now ∷ words rest.now) }
+{
+    match place_of(b' ', line) {
+        Some(end) => (&line[..end], Some(&line[end + 1..])),
+        None => (line, None),
+    }
+}
+
+fn place_of(wanted: u8, text: &[u8]) -> Option<usize>
+    ensures { result ≡ position (λ byte. byte == wanted) text.now }
+{
+    text.iter().position(|byte| *byte == wanted)
+}
+
+pub(crate) fn is_word(word: &[u8], text: &[u8]) -> bool
+    ensures { result ≡ bytes_eq word.now text.now }
+{
+    word == text
+}
+
+/// A letter `a` to `z`, then 0 to 15 of letters, digits and `_`.
+pub(crate) fn is_name(word: &[u8]) -> bool
+    ensures { result ≡ is_name word.now }
+{
+    match word {
+        [] => false,
+        [first, others @ ..] => {
+            first.is_ascii_lowercase() && are_name_bytes(others) && others.len() <= 15
+        }
+    }
+}
+
+fn are_name_bytes(bytes: &[u8]) -> bool
+    ensures { result ≡ list_all is_name_byte bytes.now }
+{
+    bytes.iter().all(|byte| is_name_byte(*byte))
+}
+
+fn is_name_byte(byte: u8) -> bool
+    ensures { result ≡ is_name_byte byte }
+{
+    byte.is_ascii_lowercase() || byte.is_ascii_digit() || byte == b'_'
+}
+
+/// A number from 0 to `high`.
+pub(crate) fn number(high: u32, word: &[u8]) -> Result<u32, FaultCode>
+    ensures { result ≡ number_in high word.now }
+{
+    match word {
+        [] | [b'0', _, ..] => Err(FaultCode::Number),
+        digits => numeral(high, digits),
+    }
+}
+
+fn numeral(high: u32, digits: &[u8]) -> Result<u32, FaultCode>
+    ensures { result ≡ (if list_all is_ascii_digit digits.now && nat_le (digits_value 10 digits.now) high then Ok (digits_value 10 digits.now) else Err Number) }
+{
+    let mut value: u64 = 0;
+    for digit in digits {
+        if !digit.is_ascii_digit() {
+            return Err(FaultCode::Number);
+        }
+        value = value * 10 + u64::from(*digit - b'0');
+        if value > u64::from(high) {
+            return Err(FaultCode::Number);
+        }
+    }
+    Ok(value as u32)
+}
+
+/// `v`, and a number below 16.
+pub(crate) fn variable(word: &[u8]) -> Result<Variable, FaultCode>
+    ensures { result ≡ variable_in word.now }
+{
+    match word {
+        [b'v', digits @ ..] => Ok(Variable::new(number(15, digits)? as u8)),
+        _ => Err(FaultCode::UnknownWord),
+    }
+}
