@@ -13,3 +13,4 @@ pub mod Safe
 pub mod Worked
 pub mod Rows
 pub mod RowSteps
+pub mod Rule
