@@ -14,3 +14,4 @@ pub mod Worked
 pub mod Rows
 pub mod RowSteps
 pub mod Rule
+pub mod Others
