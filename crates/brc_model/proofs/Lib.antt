@@ -15,3 +15,4 @@ pub mod Rows
 pub mod RowSteps
 pub mod Rule
 pub mod Others
+pub mod Alive
