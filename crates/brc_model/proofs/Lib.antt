@@ -16,3 +16,5 @@ pub mod RowSteps
 pub mod Rule
 pub mod Others
 pub mod Alive
+pub mod Written
+pub mod MovesApart

@@ -148,6 +148,20 @@ Agenda rows t used status place (Scan x n ∷ rest) = Later rows t used status p
 Agenda rows t used status place (Finish ∷ rest) = Later rows t used status place (Finish ∷ rest)
 Agenda rows t used status place (d ∷ rest) = Later rows t used status place rest
 
+-- a handed reference is given up right after its merge, and nowhere else
+abbrev pub NoneHanded : List Duty → Type 0
+NoneHanded [] = Unit {0}
+NoneHanded (SharedLoad x Handed ∷ rest) = ⊥
+NoneHanded (d ∷ rest) = NoneHanded rest
+
+abbrev pub HandedOnce : List Duty → Type 0
+HandedOnce [] = Unit {0}
+HandedOnce (SharedLoad x r ∷ rest) = NoneHanded rest
+HandedOnce (MergeSwap x r ∷ SharedLoad y Handed ∷ rest) = NoneHanded rest
+HandedOnce (MergeLoad x c ∷ SharedLoad y Handed ∷ rest) = NoneHanded rest
+HandedOnce (MergeExchange x c w ∷ SharedLoad y Handed ∷ rest) = NoneHanded rest
+HandedOnce (d ∷ rest) = NoneHanded rest
+
 -- whether a row's mark is still to be looked at by its thread's exit
 abbrev pub scans : ℕ → List Duty → Bool
 scans x [] = false
@@ -219,7 +233,7 @@ pub record Rule (p : Module) (n : ℕ) (m : Machine) : Type 0 where
   pub some_rows : 0 < m.rows
   pub rows : (x : ℕ) → 0 < x → RowRule (block_of m.rows x) (m.life x) (numbers_of m x)
   pub marks : (x : ℕ) → m.memory (Mark x) ≡ 0 ⊎ ((m.memory (Mark x) ≡ 1) × (0 < x) × IsWatched m x)
-  pub each : (t : ℕ) (a : Actor) → slice_get m.actors t ≡ Some a → ActorFits p m t a × AgendaFits m.rows t a a.status
+  pub each : (t : ℕ) (a : Actor) → slice_get m.actors t ≡ Some a → ActorFits p m t a × AgendaFits m.rows t a a.status × HandedOnce a.agenda
   pub beyond : (t : ℕ) → n ≤ t → (k : Holding) (object : ℕ) → held (reference_of t k object) m.plain.references ≡ 0
   pub dying : (x t : ℕ) → n ≤ t → dies_by (m.life x) t ≡ false
   pub cells : (x i : ℕ) → m.memory (Cell x i) ≡ 0
