@@ -18,3 +18,4 @@ pub mod Others
 pub mod Alive
 pub mod Written
 pub mod MovesApart
+pub mod Leaves

@@ -48,10 +48,10 @@ merge_of_kept : (m new : Machine) (t u x : ℕ) (b : Actor) (rest : List Duty) �
 merge_of_kept m new t u x b rest leaves (inl own) = inl (own.0, ap (λ (r : ℕ). block_of r x) leaves.rows ∙ own.1)
 merge_of_kept m new t u x b rest leaves (inr handed) = inr handed
 
-dying_is : (l : Life) (u : ℕ) → l ≡ Dying u → dies_by l u ≡ true
+pub dying_is : (l : Life) (u : ℕ) → l ≡ Dying u → dies_by l u ≡ true
 dying_is l u is = ap (λ (k : Life). dies_by k u) is ∙ eq-eqb u u refl
 
-is_dying : (l : Life) (u : ℕ) → dies_by l u ≡ true → l ≡ Dying u
+pub is_dying : (l : Life) (u : ℕ) → dies_by l u ≡ true → l ≡ Dying u
 is_dying Unborn u e = absurd cc
 is_dying Live u e = absurd cc
 is_dying (Dying v) u e = ap Dying (eqb-true v u e)

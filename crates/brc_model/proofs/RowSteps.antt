@@ -99,7 +99,7 @@ zero_dies owner n live zero some fresh =
 
 -- ---- the shared word
 
-shared_range : (owner : ℕ) (n : Numbers) → IsLive owner n → 1 ≤ biased_part n.shared
+pub shared_range : (owner : ℕ) (n : Numbers) → IsLive owner n → 1 ≤ biased_part n.shared
 shared_range owner n live =
     elim live.mode [
       | InOwned m ↦ omega (arith, live.sum, m.low, m.carried)
