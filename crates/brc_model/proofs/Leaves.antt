@@ -88,7 +88,7 @@ claim_clash p n m t u x y a b rest here ne found other same =
 local_kept : (m : Machine) (y x v : ℕ) → (y ≡ x → ⊥) → written m.memory (Local y) v (Local x) ≡ m.memory (Local x)
 local_kept m y x v ne = written_apart m.memory (Local y) (Local x) v (apart_local y x ne)
 
-locals_left : (p : Module) (n : ℕ) (m : Machine) (t : ℕ) (a : Actor) (d : Duty) (rest : List Duty) → AtDuty p n m t a d rest → (u x : ℕ) (b : Actor) → u ≢ t → slice_get m.actors u ≡ Some b → OwnsLocally m u b x
+pub locals_left : (p : Module) (n : ℕ) (m : Machine) (t : ℕ) (a : Actor) (d : Duty) (rest : List Duty) → AtDuty p n m t a d rest → (u x : ℕ) (b : Actor) → u ≢ t → slice_get m.actors u ≡ Some b → OwnsLocally m u b x
     → written m.memory (address_of m.rows t a.head d) (left_by t a.head d (m.memory (address_of m.rows t a.head d))) (Local x) ≡ m.memory (Local x)
 locals_left p n m t a (RetainLoad y h) rest here u x b ne found other = written_load m.memory (Local y) (Local x)
 locals_left p n m t a (ReleaseLoad y h) rest here u x b ne found other = written_load m.memory (Local y) (Local x)
@@ -125,7 +125,7 @@ exchanged : (b : Bool) (x y z : ℕ) → (P : ℕ → Type 0) → (b ≡ true �
 exchanged true x y z P win lose = win refl
 exchanged false x y z P win lose = lose
 
-merged_left : (p : Module) (n : ℕ) (m : Machine) (t : ℕ) (a : Actor) (d : Duty) (rest : List Duty) → AtDuty p n m t a d rest → (x : ℕ) → phase_part (m.memory (Shared x)) ≡ 3
+pub merged_left : (p : Module) (n : ℕ) (m : Machine) (t : ℕ) (a : Actor) (d : Duty) (rest : List Duty) → AtDuty p n m t a d rest → (x : ℕ) → phase_part (m.memory (Shared x)) ≡ 3
     → phase_part (written m.memory (address_of m.rows t a.head d) (left_by t a.head d (m.memory (address_of m.rows t a.head d))) (Shared x)) ≡ 3
 merged_left p n m t a (RetainAdd y h) rest here x was = phase_written m y (m.memory (Shared y) + 4) x (λ w. (shared_up (m.memory (Shared y))).1 ∙ w) was
 merged_left p n m t a (DecideAtZero y) rest here x was = ap phase_part (written_load m.memory (Shared y) (Shared x)) ∙ was
@@ -152,14 +152,14 @@ thread_written m t u v other was =
       | inr apart ↦ λ e. was (sym (written_apart m.memory (ThreadWord t) (ThreadWord u) v (apart_thread t u apart.1)) ∙ e)
     ]
 
-stopped_left : (m : Machine) (t : ℕ) (a : Actor) (d : Duty) (u : ℕ) → m.memory (ThreadWord u) ≢ 1
+pub stopped_left : (m : Machine) (t : ℕ) (a : Actor) (d : Duty) (u : ℕ) → m.memory (ThreadWord u) ≢ 1
     → written m.memory (address_of m.rows t a.head d) (left_by t a.head d (m.memory (address_of m.rows t a.head d))) (ThreadWord u) ≢ 1
 stopped_left m t a (Look y) u was = λ e. was (sym (written_load m.memory (ThreadWord (block_of m.rows y)) (ThreadWord u)) ∙ e)
 stopped_left m t a (Leave y k) u was = thread_written m t u 2 (λ e. absurd (omega (arith, e))) was
 stopped_left m t a Finish u was = thread_written m t u 3 (λ e. absurd (omega (arith, e))) was
 stopped_left m t a _ u was = was
 
-words_left : (m : Machine) (t : ℕ) (a : Actor) (d : Duty) (u : ℕ) → u ≢ t
+pub words_left : (m : Machine) (t : ℕ) (a : Actor) (d : Duty) (u : ℕ) → u ≢ t
     → written m.memory (address_of m.rows t a.head d) (left_by t a.head d (m.memory (address_of m.rows t a.head d))) (ThreadWord u) ≡ m.memory (ThreadWord u)
 words_left m t a (Look y) u ne = written_load m.memory (ThreadWord (block_of m.rows y)) (ThreadWord u)
 words_left m t a (Leave y k) u ne = written_apart m.memory (ThreadWord t) (ThreadWord u) 2 (apart_thread t u (λ e. ne (sym e)))
@@ -173,7 +173,7 @@ gate_clash m t u x y ne mine other same =
     let both : Dying t ≡ Dying u = sym mine ∙ ap m.life same ∙ is_dying (m.life x) u other in
     ne (let e : t ≡ u = cc in sym e)
 
-gates_left : (p : Module) (n : ℕ) (m : Machine) (t : ℕ) (a : Actor) (d : Duty) (rest : List Duty) → AtDuty p n m t a d rest → (u x : ℕ) → u ≢ t → dies_by (m.life x) u ≡ true
+pub gates_left : (p : Module) (n : ℕ) (m : Machine) (t : ℕ) (a : Actor) (d : Duty) (rest : List Duty) → AtDuty p n m t a d rest → (u x : ℕ) → u ≢ t → dies_by (m.life x) u ≡ true
     → written m.memory (address_of m.rows t a.head d) (left_by t a.head d (m.memory (address_of m.rows t a.head d))) (Gate x) ≡ m.memory (Gate x)
 gates_left p n m t a (Die y) rest here u x ne dies =
     written_apart m.memory (Gate y) (Gate x) _ (apart_gate y x (gate_clash m t u x y ne (head_of p n m t a (Die y) rest here).1 dies))

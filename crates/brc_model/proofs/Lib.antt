@@ -19,3 +19,4 @@ pub mod Alive
 pub mod Written
 pub mod MovesApart
 pub mod Leaves
+pub mod Lives
