@@ -20,3 +20,4 @@ pub mod Written
 pub mod MovesApart
 pub mod Leaves
 pub mod Lives
+pub mod Own
