@@ -21,3 +21,4 @@ pub mod MovesApart
 pub mod Leaves
 pub mod Lives
 pub mod Own
+pub mod Neutral

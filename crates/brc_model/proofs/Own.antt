@@ -60,7 +60,7 @@ pub record IsReady (rows t used : ℕ) (status : Status) (place : Place) (head :
   pub at_hand : (x : ℕ) → hand_of agenda x ≡ false
   pub knows : (m : Machine) (a : Actor) → a.head ≡ head → HeadOf m t a agenda
 
-ready_is : (rows t used : ℕ) (status : Status) (place : Place) (head : ℕ) (rest : List Duty) → Later rows t used status place rest → NoneHanded rest → IsReady rows t used status place head (ready head rest)
+pub ready_is : (rows t used : ℕ) (status : Status) (place : Place) (head : ℕ) (rest : List Duty) → Later rows t used status place rest → NoneHanded rest → IsReady rows t used status place head (ready head rest)
 ready_is rows t used status place zero [] later none = record { fits = later; handed = tt; more = λ k o. refl; less = λ k o. refl; at_hand = λ x. refl; knows = λ m a h. tt }
 ready_is rows t used status place (suc head) [] later none = record { fits = later; handed = tt; more = λ k o. refl; less = λ k o. refl; at_hand = λ x. refl; knows = λ m a h. tt }
 ready_is rows t used status place zero (Settle ∷ rest) later none = ready_is rows t used status place zero rest later none
