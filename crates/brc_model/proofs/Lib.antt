@@ -22,3 +22,4 @@ pub mod Leaves
 pub mod Lives
 pub mod Own
 pub mod Neutral
+pub mod OwnCounts
