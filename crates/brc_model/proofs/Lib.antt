@@ -23,3 +23,4 @@ pub mod Lives
 pub mod Own
 pub mod Neutral
 pub mod OwnCounts
+pub mod Deciders
