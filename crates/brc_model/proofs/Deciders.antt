@@ -23,7 +23,7 @@ later_decides rows t used status place x (Scan y k ∷ rest) later = omega (arit
 later_decides rows t used status place x (Finish ∷ []) later = refl
 later_decides rows t used status place x _ later = absurd later
 
-rest_decides : (rows t used : ℕ) (status : Status) (place : Place) (x : ℕ) (d : Duty) (rest : List Duty) → Agenda rows t used status place (d ∷ rest) → sum_by (decides x) rest ≡ 0
+pub rest_decides : (rows t used : ℕ) (status : Status) (place : Place) (x : ℕ) (d : Duty) (rest : List Duty) → Agenda rows t used status place (d ∷ rest) → sum_by (decides x) rest ≡ 0
 rest_decides rows t used status place x Settle rest fits = later_decides rows t used status place x rest fits
 rest_decides rows t used status place x (Leave y k) [] fits = refl
 rest_decides rows t used status place x (Leave y k) (e ∷ rest) fits = absurd fits

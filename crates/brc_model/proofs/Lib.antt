@@ -24,3 +24,4 @@ pub mod Own
 pub mod Neutral
 pub mod OwnCounts
 pub mod Deciders
+pub mod OwnRetains

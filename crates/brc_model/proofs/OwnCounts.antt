@@ -80,7 +80,7 @@ held_lost bag t x h agenda later has extra no_less more less = record { each = �
 
 -- ---- retains
 
-backed_not_immortal : (p : Module) (n : ℕ) (m : Machine) (t : ℕ) (a : Actor) (x : ℕ) (h : Holding) (rest : List Duty) → AtDuty p n m t a (RetainLoad x h) rest → is_immortal_word (m.memory (Local x)) ≡ false
+pub backed_not_immortal : (p : Module) (n : ℕ) (m : Machine) (t : ℕ) (a : Actor) (x : ℕ) (h : Holding) (rest : List Duty) → AtDuty p n m t a (RetainLoad x h) rest → is_immortal_word (m.memory (Local x)) ≡ false
 backed_not_immortal p n m t a x h rest here =
     let fits = head_of p n m t a (RetainLoad x h) rest here in
     let alive = alive_backed p n m t x here.rule fits.0 fits.1 in
