@@ -7,3 +7,4 @@ pub mod Safety
 pub mod Words
 pub mod Duties
 pub mod Machine
+pub mod Agreement
