@@ -14,3 +14,6 @@ pub mod Worked
 pub mod Rows
 pub mod RowSteps
 pub mod Rule
+pub mod Weights
+pub mod RowsAfterStep
+pub mod RowsAfterElsewhere
