@@ -17,3 +17,6 @@ pub mod Rule
 pub mod Weights
 pub mod RowsAfterStep
 pub mod RowsAfterElsewhere
+pub mod RowsAfterOwn
+pub mod RowsAfterLocal
+pub mod RowsAfterShared

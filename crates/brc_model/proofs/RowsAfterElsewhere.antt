@@ -153,7 +153,7 @@ more_apart x d ds this others = record {
 pub one_apart : (x : ℕ) (d : Duty) → IsApart x d → AreApart x (d ∷ [])
 one_apart x d this = more_apart x d [] this (none_apart x)
 
-apart_if : {x : ℕ} {ds es : List Duty} (b : Bool) → AreApart x ds → AreApart x es → AreApart x (if b then ds else es)
+pub apart_if : {x : ℕ} {ds es : List Duty} (b : Bool) → AreApart x ds → AreApart x es → AreApart x (if b then ds else es)
 apart_if true first second = first
 apart_if false first second = second
 
