@@ -20,3 +20,7 @@ pub mod RowsAfterElsewhere
 pub mod RowsAfterOwn
 pub mod RowsAfterLocal
 pub mod RowsAfterShared
+pub mod RowsAfterMarks
+pub mod RowsAfterDeciders
+pub mod RowsAfterMerge
+pub mod RowsAfter

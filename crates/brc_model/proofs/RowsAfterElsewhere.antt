@@ -199,7 +199,7 @@ scan_apart x y n = record { waiting = refl; carried = refl; merging = refl; deci
 finish_apart : (x : ℕ) → IsApart x Finish
 finish_apart x = record { waiting = refl; carried = refl; merging = refl; deciding = refl; lives = λ life state. refl }
 
-kind_apart : (x y : ℕ) → IsApart x (SettleKind y)
+pub kind_apart : (x y : ℕ) → IsApart x (SettleKind y)
 kind_apart x y = record { waiting = refl; carried = refl; merging = refl; deciding = refl; lives = λ life state. refl }
 
 release_apart : (x y : ℕ) → IsApart x (ReleaseLoad y InHand)
