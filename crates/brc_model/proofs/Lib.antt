@@ -26,3 +26,13 @@ pub mod OwnCounts
 pub mod Deciders
 pub mod OwnRetains
 pub mod Agreeing
+pub mod Weights
+pub mod RowsAfterStep
+pub mod RowsAfterElsewhere
+pub mod RowsAfterOwn
+pub mod RowsAfterLocal
+pub mod RowsAfterShared
+pub mod RowsAfterMarks
+pub mod RowsAfterDeciders
+pub mod RowsAfterMerge
+pub mod RowsAfter
