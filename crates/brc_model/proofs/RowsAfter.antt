@@ -4,7 +4,7 @@ use Rattle.std.specs.Prelude.{slice_get}
 use Rattle.std.proofs.lemmas.Bool.Decides.{eqb_tells}
 use Rattle.brc_lang.specs.declared.module.Module.{Module}
 use Rattle.brc_model.specs.Duties.{Own, Handed, Duty, RetainLoad, RetainStore, RetainAdd, ReleaseLoad, ReleaseStore, DecideAtZero, SharedLoad, SharedExchange, SetMark, Look, TakeMark, MergeSwap, MergeLoad, MergeExchange, Die, Settle, SettleKind, SettleCell, SettleEnd, Leave, Scan, Finish, ClaimMark, block_of}
-use Rattle.brc_model.specs.Machine.{Status, Gone, Actor, Machine, done_by}
+use Rattle.brc_model.specs.Machine.{Gone, Actor, Machine, done_by}
 use Rattle.brc_model.proofs.Rows.{RowRule}
 use Rattle.brc_model.proofs.Rule.{Rule, numbers_of}
 use Rattle.brc_model.proofs.RowsAfterStep.{Doing, KeepsRow}

@@ -1,18 +1,17 @@
 -- Who decides about a row owns it and runs, so nobody does where its mark was claimed.
-use Rattle.std.proofs.Common.{◌≡◌, ◌≢◌, ℕ, ◌+◌, ◌<◌, ◌≤◌, Bool, true, false, cond, List, [], ◌∷◌, Some, refl, sym, ap, ◌∙◌, subst, arith, inl, inr}
+use Rattle.std.proofs.Common.{◌≡◌, ℕ, ◌<◌, List, [], ◌∷◌, Some, refl, sym, ap, ◌∙◌, subst, arith, inl, inr}
 use Rattle.std.specs.Prelude.{◌==◌, sum_by, slice_get}
 use Rattle.std.proofs.lemmas.Bool.Decides.{eqb_tells}
 use Rattle.std.proofs.lemmas.List.Sums.{sum_by-cons}
 use Rattle.brc_lang.specs.declared.module.Module.{Module}
-use Rattle.brc_model.specs.Words.{owner_part}
-use Rattle.brc_model.specs.Duties.{Own, Handed, Duty, DecideAtZero, SharedLoad, MergeSwap, Settle, Leave, Scan, Finish, Local, ThreadWord, block_of}
+use Rattle.brc_model.specs.Duties.{Own, Handed, Duty, DecideAtZero, SharedLoad, MergeSwap, Settle, Leave, Scan, Finish, ThreadWord, block_of}
 use Rattle.brc_model.specs.Machine.{Status, Running, Leaving, Gone, Place, Actor, Machine}
 use Rattle.brc_model.proofs.Bag.{one_if}
 use Rattle.brc_model.proofs.Lists.{some_is}
 use Rattle.brc_model.proofs.Rows.{decides, agenda_weight, weight, IsLive, InOwned, InSwapped, InMerged}
-use Rattle.brc_model.proofs.Rule.{Rule, numbers_of, OwnsLocally, MayMerge, HeadFits, HeadOf, Later, Agenda, AgendaFits, status_word}
+use Rattle.brc_model.proofs.Rule.{numbers_of, OwnsLocally, MayMerge, HeadFits, HeadOf, Later, Agenda, AgendaFits, status_word}
 use Rattle.brc_model.proofs.Weights.{heavy_somewhere}
-use Rattle.brc_model.proofs.RowsAfterStep.{Doing, Lives}
+use Rattle.brc_model.proofs.RowsAfterStep.{Doing}
 
 -- ---- what is for later doesn't decide
 
@@ -93,10 +92,10 @@ none_decides {m = m} {t = t} {a = a} {y = y} s may live =
           let owner = decider_is_owner m it.at it.found y owns live some in
           elim may [
             | inl mine ↦
-              let at : it.at ≡ t = owner ∙ mine in
-              let there : Some it.found ≡ Some a = sym it.is_there ∙ ap (slice_get m.actors) at ∙ s.actor in
-              let weight_of : agenda_weight (decides y) it.found ≡ agenda_weight (decides y) a = ap (agenda_weight (decides y)) (some_is it.found a there) in
-              absurd (omega (arith, it.weighs, weight_of, claimant_undecided s))
+                let at : it.at ≡ t = owner ∙ mine in
+                let there : Some it.found ≡ Some a = sym it.is_there ∙ ap (slice_get m.actors) at ∙ s.actor in
+                let weight_of : agenda_weight (decides y) it.found ≡ agenda_weight (decides y) a = ap (agenda_weight (decides y)) (some_is it.found a there) in
+                absurd (omega (arith, it.weighs, weight_of, claimant_undecided s))
             | inr stopped ↦ absurd (stopped (ap (λ (u : ℕ). m.memory (ThreadWord u)) (sym owner) ∙ fits.0.word ∙ ap status_word owns.running))
           ]
     ]

@@ -1,29 +1,28 @@
 -- Retaining and releasing by the local word keep the row's rule.
-use Rattle.std.proofs.Common.{◌≡◌, ◌≢◌, ℕ, ◌+◌, ◌-◌, ◌<◌, ◌≤◌, Bool, true, false, cond, List, [], ◌∷◌, ◌++◌, refl, sym, ap, ◌∙◌, arith, inl, inr}
-use Rattle.std.specs.Prelude.{◌==◌, ◌&&◌, nat_lt, if◌then◌else◌}
+use Rattle.std.proofs.Common.{◌≡◌, ℕ, ◌+◌, ◌-◌, ◌<◌, ◌≤◌, Bool, false, cond, List, [], ◌∷◌, ◌++◌, refl, sym, ap, ◌∙◌, arith, inl, inr}
+use Rattle.std.specs.Prelude.{◌&&◌, nat_lt}
 use Rattle.std.proofs.lemmas.Bool.Decides.{eqb_tells}
 use Rattle.brc_lang.specs.declared.module.Module.{Module}
-use Rattle.brc_model.specs.Plain.{Holding, ByVariable, AsCaller, InHand, Reference, without, references_to, Plain, Move, moved}
+use Rattle.brc_model.specs.Plain.{Holding, ByVariable, AsCaller, InHand, without, references_to, Plain, moved}
 use Rattle.brc_model.specs.Words.{local_part, is_immortal_word, fresh_word}
 use Rattle.brc_model.specs.Duties.{Own, Duty, RetainLoad, RetainStore, RetainAdd, ReleaseLoad, ReleaseStore, DecideAtZero, SharedLoad, MergeSwap, Die, Local, Shared, block_of, counts_locally}
-use Rattle.brc_model.specs.Machine.{Life, Live, Dying, Actor, Machine, gain, lose, hand_on, moves_by}
-use Rattle.brc_model.proofs.Bag.{one_if, references_to-cons, same_holding-refl}
+use Rattle.brc_model.specs.Machine.{Live, Dying, Actor, Machine, gain, lose, hand_on}
+use Rattle.brc_model.proofs.Bag.{references_to-cons, same_holding-refl}
 use Rattle.brc_model.proofs.Invariant.{reference_of}
-use Rattle.brc_model.proofs.Rows.{Numbers}
 use Rattle.brc_model.proofs.RowSteps.{local_up, local_down, local_to_zero, zero_dies, shared_gained}
 use Rattle.brc_model.proofs.Rule.{numbers_of}
 use Rattle.brc_model.proofs.RowsAfterStep.{Doing, head_fits_of, KeepsRow, weighed, row_becomes, row_quiet}
-use Rattle.brc_model.proofs.RowsAfterElsewhere.{IsApart, AreApart, none_apart, one_apart, apart_if}
+use Rattle.brc_model.proofs.RowsAfterElsewhere.{IsApart, none_apart, one_apart, apart_if}
 use Rattle.brc_model.proofs.RowsAfterOwn.{own, one_own, written_here, gives_up, IsLost, is_lost, lives_so, lives_backed, counted_word, row_apart}
 
 -- ---- retaining
 
 retain_apart : (x y : ℕ) (h : Holding) (w : ℕ) → (IsApart x (RetainLoad y h)) × (IsApart x (RetainStore y h w)) × (IsApart x (RetainAdd y h))
 retain_apart x y h w = (
-    record { waiting = refl; carried = refl; merging = refl; deciding = refl; lives = λ life state. refl },
-    record { waiting = refl; carried = refl; merging = refl; deciding = refl; lives = λ life state. refl },
-    record { waiting = refl; carried = refl; merging = refl; deciding = refl; lives = λ life state. refl },
-  )
+  record { waiting = refl; carried = refl; merging = refl; deciding = refl; lives = λ life state. refl },
+  record { waiting = refl; carried = refl; merging = refl; deciding = refl; lives = λ life state. refl },
+  record { waiting = refl; carried = refl; merging = refl; deciding = refl; lives = λ life state. refl },
+)
 
 pub row_after_retain_load : {p : Module} {n : ℕ} {m : Machine} {t : ℕ} {a : Actor} {y : ℕ} {h : Holding} {rest : List Duty} → Doing p n m t a (RetainLoad y h) rest → KeepsRow m t a (RetainLoad y h) rest y
 row_after_retain_load {m = m} {t = t} {y = y} {h = h} s =
@@ -116,16 +115,16 @@ row_after_release_store {m = m} {t = t} {a = a} {y = y} {w = w} {rest = rest} s 
       | inl last ↦
           let weights = weighed s (DecideAtZero y ∷ []) (rw last.0 refl) y in
           row_becomes m t a (ReleaseStore y w) rest y (DecideAtZero y ∷ []) (rw last.0 refl) Live lives.is_live
-            (record k { local = k.local - 1; references = k.references - 1; deciding = k.deciding + 1 }) (record {
-              local = omega (arith, word, fits.2);
-              shared = refl;
-              mark = refl;
-              references = omega (arith, lost.less);
-              waiting = omega (arith, weights.waiting);
-              carried = omega (arith, weights.carried);
-              merging = omega (arith, weights.merging);
-              deciding = omega (arith, weights.deciding, one);
-            }) (local_to_zero (block_of m.rows y) k lives.rule (low ∙ last.1) lost.before)
+          (record k { local = k.local - 1; references = k.references - 1; deciding = k.deciding + 1 }) (record {
+            local = omega (arith, word, fits.2);
+            shared = refl;
+            mark = refl;
+            references = omega (arith, lost.less);
+            waiting = omega (arith, weights.waiting);
+            carried = omega (arith, weights.carried);
+            merging = omega (arith, weights.merging);
+            deciding = omega (arith, weights.deciding, one);
+          }) (local_to_zero (block_of m.rows y) k lives.rule (low ∙ last.1) lost.before)
       | inr more ↦
           let weights = weighed s [] (rw more.0 refl) y in
           row_becomes m t a (ReleaseStore y w) rest y [] (rw more.0 refl) Live lives.is_live (record k { local = k.local - 1; references = k.references - 1 }) (record {

@@ -1,13 +1,12 @@
 -- Setting, taking and looking at marks, and what finalises or leaves, keep the row's rule.
 use Rattle.std.proofs.Common.{◌≡◌, ℕ, ◌+◌, ◌-◌, ◌<◌, ◌≤◌, Bool, true, false, cond, List, [], ◌∷◌, ◌++◌, refl, sym, ap, ◌∙◌, subst, arith, inl, inr}
-use Rattle.std.specs.Prelude.{◌==◌, sum_by}
+use Rattle.std.specs.Prelude.{◌==◌}
 use Rattle.std.proofs.lemmas.List.Sums.{sum_by-append}
 use Rattle.brc_lang.specs.declared.module.Module.{Module}
 use Rattle.brc_model.specs.Plain.{references_to}
-use Rattle.brc_model.specs.Duties.{Handed, Duty, SharedLoad, SetMark, Look, TakeMark, MergeSwap, Die, Settle, SettleKind, SettleCell, SettleEnd, Scan, ClaimMark, Address, Local, Shared, Mark, Cell, block_of, claimed, cells_of, cells_from}
-use Rattle.brc_model.specs.Machine.{Life, Live, Dying, Closed, Actor, Machine, written, with_life, ended_row, dies_next, life_by, done_by}
-use Rattle.brc_model.proofs.Bag.{one_if}
-use Rattle.brc_model.proofs.Rows.{waits, carries, merges, decides, Numbers, RowRule}
+use Rattle.brc_model.specs.Duties.{Handed, Duty, SharedLoad, SetMark, Look, TakeMark, MergeSwap, Die, Settle, SettleKind, SettleCell, SettleEnd, Scan, ClaimMark, Local, Shared, Mark, Cell, block_of, claimed, cells_of, cells_from}
+use Rattle.brc_model.specs.Machine.{Life, Live, Dying, Closed, Actor, Machine, with_life, dies_next, life_by, done_by}
+use Rattle.brc_model.proofs.Rows.{waits, carries, merges, decides, RowRule}
 use Rattle.brc_model.proofs.RowSteps.{mark_set, mark_taken}
 use Rattle.brc_model.proofs.Rule.{numbers_of}
 use Rattle.brc_model.proofs.RowsAfterStep.{Doing, head_fits_of, following, KeepsRow, weighed, row_becomes, row_quiet}
@@ -159,7 +158,7 @@ pub row_after_cell : {p : Module} {n : ℕ} {m : Machine} {t : ℕ} {a : Actor} 
 row_after_cell {m = m} {y = y} {i = i} {cells = cells} some s =
     let this : IsApart y (SettleCell y i cells) = record { waiting = refl; carried = refl; merging = refl; deciding = refl; lives = λ life state. refl } in
     row_apart s y some this (released_apart y (m.memory (Cell y i)) (cells_from y (i + 1) cells) (cells_apart y y (i + 1) cells)) (λ life state. refl)
-      (record { local = refl; shared = refl; mark = refl; references = refl })
+    (record { local = refl; shared = refl; mark = refl; references = refl })
 
 -- a row that was dying is closed
 pub row_after_end : {p : Module} {n : ℕ} {m : Machine} {t : ℕ} {a : Actor} {y : ℕ} {rest : List Duty} → Doing p n m t a (SettleEnd y) rest → KeepsRow m t a (SettleEnd y) rest y

@@ -1,5 +1,5 @@
 -- Taking the local count over to the shared one keeps the row's rule.
-use Rattle.std.proofs.Common.{◌≡◌, ◌≢◌, ℕ, ◌+◌, ◌-◌, ◌<◌, ◌≤◌, Bool, true, false, cond, List, [], ◌∷◌, refl, sym, ap, ◌∙◌, subst, arith, inl, inr}
+use Rattle.std.proofs.Common.{◌≡◌, ◌≢◌, ℕ, ◌+◌, ◌-◌, ◌≤◌, Bool, true, false, cond, List, [], ◌∷◌, refl, sym, ap, ◌∙◌, arith, inl, inr}
 use Rattle.std.specs.Prelude.{◌==◌, sum_by}
 use Rattle.std.proofs.lemmas.Bool.{ne_eqb}
 use Rattle.std.proofs.lemmas.Bool.Decides.{eqb_tells}
@@ -9,7 +9,7 @@ use Rattle.brc_model.specs.Words.{local_part, dead_word, merged_word}
 use Rattle.brc_model.specs.Duties.{Own, Handed, Duty, SharedLoad, MergeSwap, MergeLoad, MergeExchange, Die, Address, Local, Shared, block_of}
 use Rattle.brc_model.specs.Machine.{Live, Dying, Actor, Machine, written, done_by}
 use Rattle.brc_model.proofs.Bag.{one_if}
-use Rattle.brc_model.proofs.Rows.{waits, carries, merges, agenda_weight, weight, IsOwned, IsLive, InOwned, InSwapped, InMerged}
+use Rattle.brc_model.proofs.Rows.{waits, carries, merges, agenda_weight, weight, IsLive, InOwned, InSwapped, InMerged}
 use Rattle.brc_model.proofs.RowSteps.{swapped_own, swapped_claimed, merged_live, merged_dies}
 use Rattle.brc_model.proofs.Rule.{numbers_of, FollowsHanded}
 use Rattle.brc_model.proofs.Weights.{agenda_weight-le, none_carried}
@@ -145,16 +145,16 @@ merge_ends {m = m} {t = t} {a = a} {y = y} {c = c} {w = w} {rest = rest} s test 
     let carried : k.carried ≡ c = omega (arith, weights.carried, carried_own y c, none) in
     let word : merged_word (m.memory (Shared y)) c ≡ merged_word w c = ap (λ (v : ℕ). merged_word v c) same in
     row_becomes m t a (MergeExchange y c w) rest y (Die y ∷ []) (rw (test, is_dead) refl) (Dying t) (ap (λ (b : Bool). cond b (Dying t) (m.life y)) (own y))
-      (record k { shared = merged_word k.shared c; carried = 0; merging = k.merging - 1 }) (record {
-        local = refl;
-        shared = word ∙ sym (merge_left m.memory y w c true test);
-        mark = refl;
-        references = refl;
-        waiting = omega (arith, weights.waiting);
-        carried = sym none;
-        merging = omega (arith, weights.merging, one);
-        deciding = omega (arith, weights.deciding);
-      }) (merged_dies (block_of m.rows y) k c lives.rule some carried (word ∙ dead))
+    (record k { shared = merged_word k.shared c; carried = 0; merging = k.merging - 1 }) (record {
+      local = refl;
+      shared = word ∙ sym (merge_left m.memory y w c true test);
+      mark = refl;
+      references = refl;
+      waiting = omega (arith, weights.waiting);
+      carried = sym none;
+      merging = omega (arith, weights.merging, one);
+      deciding = omega (arith, weights.deciding);
+    }) (merged_dies (block_of m.rows y) k c lives.rule some carried (word ∙ dead))
 
 merge_stays : {p : Module} {n : ℕ} {m : Machine} {t : ℕ} {a : Actor} {y c w : ℕ} {rest : List Duty} → Doing p n m t a (MergeExchange y c w) rest
     → (m.memory (Shared y) == w) ≡ true → m.memory (Shared y) ≡ w → (merged_word w c == dead_word) ≡ false → merged_word w c ≢ dead_word → KeepsRow m t a (MergeExchange y c w) rest y
@@ -182,9 +182,9 @@ pub row_after_merge_exchange : {p : Module} {n : ℕ} {m : Machine} {t : ℕ} {a
 row_after_merge_exchange {m = m} {y = y} {c = c} {w = w} s =
     elim (eqb_tells (m.memory (Shared y)) w) [
       | inl same ↦ elim (eqb_tells (merged_word w c) dead_word) [
-          | inl dead ↦ merge_ends s same.0 same.1 dead.0 dead.1
-          | inr alive ↦ merge_stays s same.0 same.1 alive.0 alive.1
-        ]
+        | inl dead ↦ merge_ends s same.0 same.1 dead.0 dead.1
+        | inr alive ↦ merge_stays s same.0 same.1 alive.0 alive.1
+      ]
       | inr other ↦
           row_quiet {next = MergeLoad y c ∷ []} {x = y} s (head_fits_of s).0 (record {
             follows = rw other.0 refl;

@@ -1,18 +1,17 @@
 -- What a step on its duty's own row starts from: its words, its weights and the references that its thread has.
-use Rattle.std.proofs.Common.{◌≡◌, ℕ, ◌+◌, ◌<◌, ◌≤◌, Bool, true, false, cond, List, [], ◌∷◌, refl, sym, ap, ◌∙◌, subst, arith}
-use Rattle.std.specs.Prelude.{◌==◌, sum_by}
+use Rattle.std.proofs.Common.{◌≡◌, ℕ, ◌+◌, ◌<◌, ◌≤◌, Bool, true, false, cond, List, refl, sym, ap, ◌∙◌, subst, arith}
+use Rattle.std.specs.Prelude.{◌==◌}
 use Rattle.std.specs.List.{list_any}
 use Rattle.std.proofs.lemmas.Bool.{eq-eqb, ne_eqb}
 use Rattle.brc_lang.specs.declared.module.Module.{Module}
 use Rattle.brc_lang.specs.declared.module.Instr.{Instr}
-use Rattle.brc_model.specs.Plain.{Holding, InHand, Reference, same, without, references_to}
-use Rattle.brc_model.specs.Steps.{code_of}
+use Rattle.brc_model.specs.Plain.{Holding, Reference, same, without, references_to}
 use Rattle.brc_model.specs.Words.{local_part, is_immortal_word}
 use Rattle.brc_model.specs.Duties.{Duty, Address, Local, Shared, Mark, block_of}
 use Rattle.brc_model.specs.Machine.{Place, Standing, Inside, Departing, Life, Actor, Machine, written, same_address, with_life, ended_row, done_by}
 use Rattle.brc_model.proofs.Bag.{held, one_if, held_has, held-le-references_to, references_to-without}
 use Rattle.brc_model.proofs.Invariant.{nothing, the_root, of_variables, reference_of}
-use Rattle.brc_model.proofs.Rows.{waits, carries, merges, decides, Numbers, IsOwned, IsSwapped, IsMerged, InOwned, InSwapped, InMerged, IsLive}
+use Rattle.brc_model.proofs.Rows.{Numbers, InOwned, InSwapped, InMerged, IsLive}
 use Rattle.brc_model.proofs.Rule.{numbers_of, extra, lacks, extra_of, lacks_of, HoldsAt, PlaceFits, IsBacked}
 use Rattle.brc_model.proofs.RowsAfterStep.{Doing, following, KeepsRow, IsQuiet, row_quiet, Lives, row_lives}
 use Rattle.brc_model.proofs.RowsAfterElsewhere.{AreApart, IsApart}
@@ -77,11 +76,11 @@ lives_backed {m = m} {t = t} s y some backed = lives_so s y some (omega (arith, 
 pub counted_word : (owner : ℕ) (n : Numbers) → IsLive owner n → is_immortal_word n.local ≡ false
 counted_word owner n live =
     ne_eqb (local_part n.local) 4294967295 (λ (e : local_part n.local ≡ 4294967295).
-        elim live.mode [
-          | InOwned o ↦ absurd (omega (arith, o.low, e))
-          | InSwapped w ↦ absurd (omega (arith, w.local, e))
-          | InMerged w ↦ absurd (omega (arith, w.local, e))
-        ])
+    elim live.mode [
+      | InOwned o ↦ absurd (omega (arith, o.low, e))
+      | InSwapped w ↦ absurd (omega (arith, w.local, e))
+      | InMerged w ↦ absurd (omega (arith, w.local, e))
+    ])
 
 -- ---- a step whose duties weigh nothing at the row
 

@@ -7,7 +7,6 @@ use Rattle.brc_model.specs.Plain.{InHand, references_to, Plain, moved}
 use Rattle.brc_model.specs.Words.{fresh_word, dead_word, released_word}
 use Rattle.brc_model.specs.Duties.{Reason, Own, Handed, Duty, SharedLoad, SharedExchange, SetMark, Die, Address, Shared, block_of}
 use Rattle.brc_model.specs.Machine.{Live, Dying, Actor, Machine, written, lose, moves_by}
-use Rattle.brc_model.proofs.Bag.{one_if}
 use Rattle.brc_model.proofs.Invariant.{reference_of}
 use Rattle.brc_model.proofs.Rows.{waits}
 use Rattle.brc_model.proofs.RowSteps.{shared_queued, shared_lost, shared_dies, handed_lost, handed_dies}
@@ -82,16 +81,16 @@ own_queues {m = m} {t = t} {a = a} {y = y} {w = w} {rest = rest} s test same is_
     let left : released_word w ≡ w + 2 = ap (λ (b : Bool). cond b (w + 2) (w - 4)) is_fresh in
     let one = one_own y in
     row_becomes m t a (SharedExchange y Own w) rest y (SetMark y ∷ []) (rw (test, is_fresh) refl) Live lives.is_live
-      (record k { shared = k.shared + 2; references = k.references - 1; waiting = k.waiting + 1 }) (record {
-        local = refl;
-        shared = omega (arith, exchanged m.memory y w true test, left, same);
-        mark = refl;
-        references = omega (arith, own_moves t y w (m.memory (Shared y)) m.plain test, lost.less);
-        waiting = omega (arith, weights.waiting, one);
-        carried = omega (arith, weights.carried);
-        merging = omega (arith, weights.merging);
-        deciding = omega (arith, weights.deciding);
-      }) (shared_queued (block_of m.rows y) k lives.rule (same ∙ fresh) lost.before)
+    (record k { shared = k.shared + 2; references = k.references - 1; waiting = k.waiting + 1 }) (record {
+      local = refl;
+      shared = omega (arith, exchanged m.memory y w true test, left, same);
+      mark = refl;
+      references = omega (arith, own_moves t y w (m.memory (Shared y)) m.plain test, lost.less);
+      waiting = omega (arith, weights.waiting, one);
+      carried = omega (arith, weights.carried);
+      merging = omega (arith, weights.merging);
+      deciding = omega (arith, weights.deciding);
+    }) (shared_queued (block_of m.rows y) k lives.rule (same ∙ fresh) lost.before)
 
 own_dies : {p : Module} {n : ℕ} {m : Machine} {t : ℕ} {a : Actor} {y w : ℕ} {rest : List Duty} → Doing p n m t a (SharedExchange y Own w) rest
     → (m.memory (Shared y) == w) ≡ true → m.memory (Shared y) ≡ w → (w == fresh_word) ≡ false → (w - 4 == dead_word) ≡ true → w - 4 ≡ dead_word → KeepsRow m t a (SharedExchange y Own w) rest y
@@ -103,16 +102,16 @@ own_dies {m = m} {t = t} {a = a} {y = y} {w = w} {rest = rest} s test same other
     let weights = weighed s (Die y ∷ []) (rw (test, other, is_dead) refl) y in
     let left : released_word w ≡ w - 4 = ap (λ (b : Bool). cond b (w + 2) (w - 4)) other in
     row_becomes m t a (SharedExchange y Own w) rest y (Die y ∷ []) (rw (test, other, is_dead) refl) (Dying t) (ap (λ (b : Bool). cond b (Dying t) (m.life y)) (own y))
-      (record k { shared = k.shared - 4; references = k.references - 1 }) (record {
-        local = refl;
-        shared = omega (arith, exchanged m.memory y w true test, left, same);
-        mark = refl;
-        references = omega (arith, own_moves t y w (m.memory (Shared y)) m.plain test, lost.less);
-        waiting = omega (arith, weights.waiting);
-        carried = omega (arith, weights.carried);
-        merging = omega (arith, weights.merging);
-        deciding = omega (arith, weights.deciding);
-      }) (shared_dies (block_of m.rows y) k lives.rule (omega (arith, same, dead)) lost.before)
+    (record k { shared = k.shared - 4; references = k.references - 1 }) (record {
+      local = refl;
+      shared = omega (arith, exchanged m.memory y w true test, left, same);
+      mark = refl;
+      references = omega (arith, own_moves t y w (m.memory (Shared y)) m.plain test, lost.less);
+      waiting = omega (arith, weights.waiting);
+      carried = omega (arith, weights.carried);
+      merging = omega (arith, weights.merging);
+      deciding = omega (arith, weights.deciding);
+    }) (shared_dies (block_of m.rows y) k lives.rule (omega (arith, same, dead)) lost.before)
 
 own_loses : {p : Module} {n : ℕ} {m : Machine} {t : ℕ} {a : Actor} {y w : ℕ} {rest : List Duty} → Doing p n m t a (SharedExchange y Own w) rest
     → (m.memory (Shared y) == w) ≡ true → m.memory (Shared y) ≡ w → (w == fresh_word) ≡ false → w ≢ fresh_word → (w - 4 == dead_word) ≡ false → w - 4 ≢ dead_word
@@ -140,12 +139,12 @@ row_after_own_exchange {m = m} {y = y} {w = w} s =
     elim (eqb_tells (m.memory (Shared y)) w) [
       | inr other ↦ row_after_lost_exchange (head_fits_of s) s other.0
       | inl same ↦ elim (eqb_tells w fresh_word) [
-          | inl fresh ↦ own_queues s same.0 same.1 fresh.0 fresh.1
-          | inr other ↦ elim (eqb_tells (w - 4) dead_word) [
-              | inl dead ↦ own_dies s same.0 same.1 other.0 dead.0 dead.1
-              | inr alive ↦ own_loses s same.0 same.1 other.0 other.1 alive.0 alive.1
-            ]
+        | inl fresh ↦ own_queues s same.0 same.1 fresh.0 fresh.1
+        | inr other ↦ elim (eqb_tells (w - 4) dead_word) [
+          | inl dead ↦ own_dies s same.0 same.1 other.0 dead.0 dead.1
+          | inr alive ↦ own_loses s same.0 same.1 other.0 other.1 alive.0 alive.1
         ]
+      ]
     ]
 
 -- ---- the handed reference of a claimed mark
@@ -161,16 +160,16 @@ handed_ends {m = m} {t = t} {a = a} {y = y} {w = w} {rest = rest} s test same ot
     let lives = lives_so s y fits.0 (omega (arith, awaits)) in
     let left : released_word w ≡ w - 4 = ap (λ (b : Bool). cond b (w + 2) (w - 4)) other in
     row_becomes m t a (SharedExchange y Handed w) rest y (Die y ∷ []) (rw (test, other, is_dead) refl) (Dying t) (ap (λ (b : Bool). cond b (Dying t) (m.life y)) (own y))
-      (record k { shared = k.shared - 4; waiting = k.waiting - 1 }) (record {
-        local = refl;
-        shared = omega (arith, exchanged m.memory y w true test, left, same);
-        mark = refl;
-        references = refl;
-        waiting = omega (arith, weights.waiting, one);
-        carried = omega (arith, weights.carried);
-        merging = omega (arith, weights.merging);
-        deciding = omega (arith, weights.deciding);
-      }) (handed_dies (block_of m.rows y) k lives.rule (omega (arith, same, dead)) awaits)
+    (record k { shared = k.shared - 4; waiting = k.waiting - 1 }) (record {
+      local = refl;
+      shared = omega (arith, exchanged m.memory y w true test, left, same);
+      mark = refl;
+      references = refl;
+      waiting = omega (arith, weights.waiting, one);
+      carried = omega (arith, weights.carried);
+      merging = omega (arith, weights.merging);
+      deciding = omega (arith, weights.deciding);
+    }) (handed_dies (block_of m.rows y) k lives.rule (omega (arith, same, dead)) awaits)
 
 handed_stays : {p : Module} {n : ℕ} {m : Machine} {t : ℕ} {a : Actor} {y w : ℕ} {rest : List Duty} → Doing p n m t a (SharedExchange y Handed w) rest
     → (m.memory (Shared y) == w) ≡ true → m.memory (Shared y) ≡ w → (w == fresh_word) ≡ false → (w - 4 == dead_word) ≡ false → w - 4 ≢ dead_word → KeepsRow m t a (SharedExchange y Handed w) rest y
@@ -199,10 +198,10 @@ row_after_handed_exchange {m = m} {y = y} {w = w} s =
     elim (eqb_tells (m.memory (Shared y)) w) [
       | inr other ↦ row_after_lost_exchange fits.0 s other.0
       | inl same ↦ elim (eqb_tells w fresh_word) [
-          | inl fresh ↦ absurd (omega (arith, fits.1, same.1, fresh.1))
-          | inr other ↦ elim (eqb_tells (w - 4) dead_word) [
-              | inl dead ↦ handed_ends s same.0 same.1 other.0 dead.0 dead.1
-              | inr alive ↦ handed_stays s same.0 same.1 other.0 alive.0 alive.1
-            ]
+        | inl fresh ↦ absurd (omega (arith, fits.1, same.1, fresh.1))
+        | inr other ↦ elim (eqb_tells (w - 4) dead_word) [
+          | inl dead ↦ handed_ends s same.0 same.1 other.0 dead.0 dead.1
+          | inr alive ↦ handed_stays s same.0 same.1 other.0 alive.0 alive.1
         ]
+      ]
     ]

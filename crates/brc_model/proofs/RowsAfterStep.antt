@@ -1,9 +1,9 @@
 -- A thread's step, and what one row's numbers and its life come to.
-use Rattle.std.proofs.Common.{◌≡◌, ℕ, ◌+◌, ◌<◌, ◌≤◌, List, [], ◌∷◌, Some, refl, sym, ap, ◌∙◌, subst, arith}
+use Rattle.std.proofs.Common.{◌≡◌, ℕ, ◌+◌, ◌<◌, ◌≤◌, List, ◌∷◌, Some, refl, sym, ap, ◌∙◌, subst, arith}
 use Rattle.std.specs.Prelude.{sum_by, slice_get}
 use Rattle.brc_lang.specs.declared.module.Module.{Module}
 use Rattle.brc_model.specs.Plain.{references_to}
-use Rattle.brc_model.specs.Duties.{Duty, Address, Local, Shared, Mark, block_of, address_of, next_by}
+use Rattle.brc_model.specs.Duties.{Duty, Local, Shared, Mark, block_of, address_of, next_by}
 use Rattle.brc_model.specs.Machine.{Life, Unborn, Live, Dying, Closed, Actor, Machine, is_running, life_by, done_by}
 use Rattle.brc_model.proofs.Rows.{waits, carries, merges, decides, Numbers, IsLive, RowRule}
 use Rattle.brc_model.proofs.Rule.{Rule, HeadFits, HeadOf, numbers_of}
