@@ -26,6 +26,7 @@ pub mod OwnCounts
 pub mod Deciders
 pub mod OwnRetains
 pub mod Agreeing
+pub mod Closing
 pub mod Weights
 pub mod RowsAfterStep
 pub mod RowsAfterElsewhere

@@ -94,7 +94,7 @@ may_die_alive p n m t a _ rest y here is = absurd is
 abbrev pub next_of : Machine → ℕ → Actor → Duty → List Duty
 next_of m t a d = next_by t (is_running a.status) a.head d (m.memory (address_of m.rows t a.head d))
 
-cell_found : (p : Module) (n : ℕ) (m : Machine) (t : ℕ) (a : Actor) (d : Duty) → Rule p n m → (x i k : ℕ) → d ≡ SettleCell x i k → m.memory (address_of m.rows t a.head d) ≡ 0
+pub cell_found : (p : Module) (n : ℕ) (m : Machine) (t : ℕ) (a : Actor) (d : Duty) → Rule p n m → (x i k : ℕ) → d ≡ SettleCell x i k → m.memory (address_of m.rows t a.head d) ≡ 0
 cell_found p n m t a d rule x i k is = ap (λ (e : Duty). m.memory (address_of m.rows t a.head e)) is ∙ rule.cells x i
 
 -- what a step lets die was alive
