@@ -121,6 +121,6 @@ pub data ClosedStep (m : Machine) (t : ℕ) (d : Duty) (found : ℕ) : Type 0 wh
   SameClosed : ended_row d ≡ None → (moved m.plain (moves_by t d found)).closed ≡ m.plain.closed → ClosedStep m t d found
   OneMore : (y : ℕ) → ended_row d ≡ Some y → (moved m.plain (moves_by t d found)).closed ≡ m.plain.closed ++ y ∷ [] → ClosedStep m t d found
 
-closed_step : (m : Machine) (t : ℕ) (d : Duty) (found : ℕ) → ClosedStep m t d found
+pub closed_step : (m : Machine) (t : ℕ) (d : Duty) (found : ℕ) → ClosedStep m t d found
 closed_step m t (SettleEnd x) found = OneMore x refl refl
 closed_step m t d found = SameClosed refl (moved_closed m.plain (moves_by t d found) (moves_keep t d found refl))

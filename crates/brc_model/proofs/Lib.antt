@@ -27,6 +27,7 @@ pub mod Deciders
 pub mod OwnRetains
 pub mod Agreeing
 pub mod Closing
+pub mod ClosedAfter
 pub mod Weights
 pub mod RowsAfterStep
 pub mod RowsAfterElsewhere
