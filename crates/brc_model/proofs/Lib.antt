@@ -28,6 +28,7 @@ pub mod OwnRetains
 pub mod Agreeing
 pub mod Closing
 pub mod ClosedAfter
+pub mod NotBad
 pub mod Weights
 pub mod RowsAfterStep
 pub mod RowsAfterElsewhere

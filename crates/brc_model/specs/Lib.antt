@@ -8,3 +8,4 @@ pub mod Words
 pub mod Duties
 pub mod Machine
 pub mod Agreement
+pub mod Events
