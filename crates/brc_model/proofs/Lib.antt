@@ -29,6 +29,7 @@ pub mod Agreeing
 pub mod Closing
 pub mod ClosedAfter
 pub mod NotBad
+pub mod Begins
 pub mod Weights
 pub mod RowsAfterStep
 pub mod RowsAfterElsewhere

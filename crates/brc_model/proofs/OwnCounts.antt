@@ -22,7 +22,7 @@ use Rattle.brc_model.proofs.Neutral.{OwnFits, found_by, bag_by, agenda_here, han
 
 -- ---- the bag
 
-flip_eqb : (x y : ℕ) → (x == y) ≡ (y == x)
+pub flip_eqb : (x y : ℕ) → (x == y) ≡ (y == x)
 flip_eqb x y = elim (y == x) as (λ b. (y == x) ≡ b → (x == y) ≡ b) [
     | true ↦ λ e. eq-eqb x y (sym (eqb-true y x e))
     | false ↦ λ e. ne_eqb x y (λ s. eqb-false y x e (sym s))
