@@ -60,13 +60,13 @@ IsTaken code bag rows t used (Quiet place) = PlaceFits code bag t [] place × (p
 IsTaken code bag rows t used (Work [] place) = ⊥
 IsTaken code bag rows t used (Work (d ∷ rest) place) = Taken code bag rows t used place d rest
 
-taken_with_row : (code : List Instr) (bag : List Reference) (rows t used object : ℕ) (row : Option ℕ) (work : ℕ → Begun) → row ≡ Some object → IsTaken code bag rows t used (work object) → IsTaken code bag rows t used (with_row row work)
+pub taken_with_row : (code : List Instr) (bag : List Reference) (rows t used object : ℕ) (row : Option ℕ) (work : ℕ → Begun) → row ≡ Some object → IsTaken code bag rows t used (work object) → IsTaken code bag rows t used (with_row row work)
 taken_with_row code bag rows t used object row work is taken = subst (λ (o : Option ℕ). IsTaken code bag rows t used (with_row o work)) (sym is) taken
 
-standing_stays : (left : ℕ) → Standing left ≢ Departing
+pub standing_stays : (left : ℕ) → Standing left ≢ Departing
 standing_stays left e = cc
 
-inside_stays : (left at : ℕ) (variables : List (Option ℕ)) → Inside left at variables ≢ Departing
+pub inside_stays : (left at : ℕ) (variables : List (Option ℕ)) → Inside left at variables ≢ Departing
 inside_stays left at variables e = cc
 
 -- ---- what is held, with one reference more or less
@@ -75,7 +75,7 @@ abbrev by_variable : Slot → Option ℕ → ℕ → ℕ
 by_variable slot row object = one_if (is_owned slot && names row object)
 
 -- the destination lacks its new reference
-newref_held : (bag : List Reference) (t : ℕ) (s : State) (variables : List (Option ℕ)) (to row : ℕ) (slot : Slot) → to < length s.slots → to < length variables → is_owned (slot_of s to) ≡ false → is_owned slot ≡ true → Holds bag t (of_variables s variables)
+pub newref_held : (bag : List Reference) (t : ℕ) (s : State) (variables : List (Option ℕ)) (to row : ℕ) (slot : Slot) → to < length s.slots → to < length variables → is_owned (slot_of s to) ≡ false → is_owned slot ≡ true → Holds bag t (of_variables s variables)
     → (k : Holding) (object : ℕ) → held (reference_of t k object) bag + one_if (same_holding (ByVariable to) k && (row == object)) ≡ one_if (of_variables (put s to slot) (slice_set variables to (Some row)) k object) + 0
 newref_held bag t s variables to row slot in_slots in_rows free owned holds AsCaller object = omega (arith, holds.each AsCaller object)
 newref_held bag t s variables to row slot in_slots in_rows free owned holds InHand object = omega (arith, holds.each InHand object)
@@ -99,7 +99,7 @@ newref_held bag t s variables to row slot in_slots in_rows free owned holds (ByV
     ]
 
 -- the variable that is emptied has its reference more than the place says
-emptied_held : (bag : List Reference) (t : ℕ) (s : State) (variables : List (Option ℕ)) (from row : ℕ) → from < length s.slots → is_owned (slot_of s from) ≡ true → row_of variables from ≡ Some row → Holds bag t (of_variables s variables)
+pub emptied_held : (bag : List Reference) (t : ℕ) (s : State) (variables : List (Option ℕ)) (from row : ℕ) → from < length s.slots → is_owned (slot_of s from) ≡ true → row_of variables from ≡ Some row → Holds bag t (of_variables s variables)
     → (k : Holding) (object : ℕ) → held (reference_of t k object) bag + 0 ≡ one_if (of_variables (put s from Empty) (slice_set variables from None) k object) + one_if (same_holding (ByVariable from) k && (row == object))
 emptied_held bag t s variables from row in_slots owned is holds AsCaller object = omega (arith, holds.each AsCaller object)
 emptied_held bag t s variables from row in_slots owned is holds InHand object = omega (arith, holds.each InHand object)
@@ -123,7 +123,7 @@ emptied_held bag t s variables from row in_slots owned is holds (ByVariable v) o
     ]
 
 -- where no slot owns but the one that is emptied, the call is over
-ended_says : (s : State) (variables : List (Option ℕ)) (k : Holding) (object : ℕ) → list_any is_owned s.slots ≡ false → of_variables s variables k object ≡ the_root k object
+pub ended_says : (s : State) (variables : List (Option ℕ)) (k : Holding) (object : ℕ) → list_any is_owned s.slots ≡ false → of_variables s variables k object ≡ the_root k object
 ended_says s variables AsCaller object none = refl
 ended_says s variables InHand object none = refl
 ended_says s variables (ByVariable v) object none = ap (λ (b : Bool). b && names (row_of variables v) object) (none_at is_owned s.slots v Empty none refl)

@@ -30,6 +30,7 @@ pub mod Closing
 pub mod ClosedAfter
 pub mod NotBad
 pub mod Begins
+pub mod Taking
 pub mod Weights
 pub mod RowsAfterStep
 pub mod RowsAfterElsewhere
