@@ -31,6 +31,7 @@ pub mod ClosedAfter
 pub mod NotBad
 pub mod Begins
 pub mod Taking
+pub mod FirstMachine
 pub mod Weights
 pub mod RowsAfterStep
 pub mod RowsAfterElsewhere
