@@ -127,4 +127,5 @@ first_rule m rows calls fits accepted are_calls some_rows = record {
   closed_is = λ x is. absurd (let wrong : false ≡ true = is in cc);
   closed_has = λ x is. absurd (life_not_closed x is);
   once = λ i j d lt within. absurd (omega arith);
+  none_free = other_references (1 + length calls) 0 (λ e. absurd (omega (arith, e)));
 }

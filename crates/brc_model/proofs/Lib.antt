@@ -32,6 +32,7 @@ pub mod NotBad
 pub mod Begins
 pub mod Taking
 pub mod FirstMachine
+pub mod KeepsDuty
 pub mod Weights
 pub mod RowsAfterStep
 pub mod RowsAfterElsewhere

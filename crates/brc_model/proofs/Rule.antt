@@ -242,3 +242,5 @@ pub record Rule (p : Module) (n : ℕ) (m : Machine) : Type 0 where
   pub closed_is : (x : ℕ) → is_among x m.plain.closed ≡ true → m.life x ≡ Closed
   pub closed_has : (x : ℕ) → m.life x ≡ Closed → is_among x m.plain.closed ≡ true
   pub once : AllPairs (λ x y. x ≢ y) m.plain.closed
+  -- no instruction takes a reference to none yet
+  pub none_free : references_to 0 m.plain.references ≡ 0
