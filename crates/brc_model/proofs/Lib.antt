@@ -33,6 +33,7 @@ pub mod Begins
 pub mod Taking
 pub mod FirstMachine
 pub mod KeepsDuty
+pub mod Sits
 pub mod Weights
 pub mod RowsAfterStep
 pub mod RowsAfterElsewhere
