@@ -27,3 +27,5 @@ pub mod Deciders
 pub mod OwnRetains
 pub mod OwnSteps
 pub mod OwnReleases
+pub mod MergesOnce
+pub mod OwnMerges
