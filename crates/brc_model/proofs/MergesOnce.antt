@@ -1,19 +1,19 @@
 -- At most one thread merges a row, and a claimant that finds no owner finds the row merged.
-use Rattle.std.proofs.Common.{◌≡◌, ◌≢◌, ℕ, zero, suc, ◌+◌, ◌<◌, ◌≤◌, Bool, true, false, cond, List, [], ◌∷◌, ◌⊎◌, inl, inr, Option, None, Some, refl, sym, ap, ◌∙◌, subst, arith}
-use Rattle.std.specs.Prelude.{◌==◌, ◌&&◌, slice_get, sum_by}
-use Rattle.std.proofs.lemmas.Bool.{eqb-true, eq-eqb}
+use Rattle.std.proofs.Common.{◌≡◌, ◌≢◌, ℕ, zero, suc, ◌+◌, ◌<◌, ◌≤◌, Bool, true, false, cond, List, [], ◌∷◌, inl, inr, Some, refl, sym, ap, ◌∙◌, subst, arith}
+use Rattle.std.specs.Prelude.{◌==◌, slice_get, sum_by}
+use Rattle.std.proofs.lemmas.Bool.{eq-eqb}
 use Rattle.std.proofs.lemmas.Bool.Decides.{eqb_tells}
 use Rattle.std.proofs.lemmas.List.Sums.{sum_by-cons}
 use Rattle.brc_lang.specs.declared.module.Module.{Module}
-use Rattle.brc_model.specs.Words.{owner_part, local_part, biased_part, phase_part, bias, dead_word, merged_word}
-use Rattle.brc_model.specs.Duties.{Reason, Own, Handed, Duty, SharedLoad, MergeSwap, MergeLoad, MergeExchange, Settle, Leave, Scan, Finish, Local, Shared, ThreadWord, block_of}
+use Rattle.brc_model.specs.Words.{biased_part, phase_part, bias, dead_word, merged_word}
+use Rattle.brc_model.specs.Duties.{Handed, Duty, SharedLoad, MergeSwap, MergeLoad, MergeExchange, Settle, Leave, Scan, Finish, Local, Shared, ThreadWord}
 use Rattle.brc_model.specs.Machine.{Status, Running, Leaving, Gone, Place, Actor, Machine}
 use Rattle.brc_model.proofs.Lists.{some_is}
 use Rattle.brc_model.proofs.Bag.{one_if}
 use Rattle.brc_model.proofs.Rows.{waits, carries, merges, agenda_weight, weight, Phased, IsDefault, IsQueued, InOwned, InSwapped, InMerged}
 use Rattle.brc_model.proofs.RowSteps.{shared_merged}
-use Rattle.brc_model.proofs.Rule.{numbers_of, MayMerge, FollowsHanded, IsMergeOf, HeadFits, HeadOf, Later, Agenda, AgendaFits, Rule, status_word}
-use Rattle.brc_model.proofs.Alive.{agenda_in, first_weighs, Alive}
+use Rattle.brc_model.proofs.Rule.{numbers_of, FollowsHanded, IsMergeOf, HeadFits, HeadOf, Later, Agenda, AgendaFits, status_word}
+use Rattle.brc_model.proofs.Alive.{agenda_in, first_weighs}
 use Rattle.brc_model.proofs.Leaves.{AtDuty, head_of, handed_weighs, claim_alive, merge_alive}
 use Rattle.brc_model.proofs.Neutral.{agenda_here}
 
@@ -31,8 +31,8 @@ some_weighs f [] some = absurd (omega (arith, some))
 some_weighs f (b ∷ rest) some =
     elim (agenda_weight f b) as (λ k. agenda_weight f b ≡ k → Weighs f (b ∷ rest)) [
       | zero ↦ λ e.
-        let later = some_weighs f rest (omega (arith, sum_by-cons (agenda_weight f) b rest, some, e)) in
-        record { who = suc later.who; which = later.which; found = later.found; some = later.some }
+          let later = some_weighs f rest (omega (arith, sum_by-cons (agenda_weight f) b rest, some, e)) in
+          record { who = suc later.who; which = later.which; found = later.found; some = later.some }
       | suc k ↦ λ e. record { who = 0; which = b; found = refl; some = omega (arith, e) }
     ] refl
 
@@ -116,13 +116,13 @@ claimants_clash p n m t u x a b rest here ne found merger phased =
         | inr stopped ↦ stopped (ap (λ (z : ℕ). m.memory (ThreadWord z)) own.1 ∙ (here.rule.each u b found).0.word ∙ ap status_word own.0)
       ]
       | inr follows ↦
-        let mine = handed_waits x t a (MergeSwap x Handed) rest here.agenda fits.2 in
-        let theirs = handed_waits x u b merger.first merger.rest merger.agenda follows in
-        let both = two_weigh (waits x) m.actors t u a b ne here.found found in
-        elim phased [
-          | IsDefault q w k ↦ absurd (omega (arith, mine, theirs, both, w))
-          | IsQueued q w ↦ absurd (omega (arith, mine, theirs, both, w))
-        ]
+          let mine = handed_waits x t a (MergeSwap x Handed) rest here.agenda fits.2 in
+          let theirs = handed_waits x u b merger.first merger.rest merger.agenda follows in
+          let both = two_weigh (waits x) m.actors t u a b ne here.found found in
+          elim phased [
+            | IsDefault q w k ↦ absurd (omega (arith, mine, theirs, both, w))
+            | IsQueued q w ↦ absurd (omega (arith, mine, theirs, both, w))
+          ]
     ]
 
 -- while a thread claims a row, no other is at a merge of it

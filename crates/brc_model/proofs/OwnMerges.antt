@@ -1,27 +1,25 @@
 -- A thread after its own steps that put an object into its owner's queue, that claim one, and that merge one.
-use Rattle.std.proofs.Common.{◌≡◌, ◌≢◌, ℕ, zero, suc, ◌+◌, ◌-◌, ◌<◌, ◌≤◌, Bool, true, false, cond, List, [], ◌∷◌, ◌++◌, ◌⊎◌, inl, inr, Option, None, Some, refl, sym, ap, ◌∙◌, subst, arith}
-use Rattle.std.specs.Prelude.{◌==◌, ◌&&◌, slice_get, sum_by}
+use Rattle.std.proofs.Common.{◌≡◌, ℕ, Bool, true, false, cond, List, [], ◌∷◌, ◌⊎◌, inl, inr, refl, sym, ap, ◌∙◌, subst, arith}
+use Rattle.std.specs.Prelude.{◌==◌}
 use Rattle.std.proofs.lemmas.Bool.{eqb-true, eqb-false, eq-eqb, ne_eqb}
-use Rattle.std.proofs.lemmas.List.Sums.{sum_by-cons}
 use Rattle.brc_lang.specs.declared.module.Module.{Module}
 use Rattle.brc_model.specs.Plain.{Holding}
-use Rattle.brc_model.specs.Words.{owner_part, local_part, biased_part, phase_part, bias, dead_word, merged_word}
+use Rattle.brc_model.specs.Words.{local_part, phase_part, dead_word, merged_word}
 use Rattle.brc_model.specs.Duties.{Reason, Own, Handed, Duty, SharedLoad, SetMark, Look, TakeMark, MergeSwap, MergeLoad, MergeExchange, Die, Local, Shared, ThreadWord, block_of}
-use Rattle.brc_model.specs.Machine.{Status, Running, Gone, Actor, Machine, done_by, actor_by}
+use Rattle.brc_model.specs.Machine.{Gone, Actor, Machine, done_by, actor_by}
 use Rattle.brc_model.proofs.Bag.{one_if}
-use Rattle.brc_model.proofs.Rows.{waits, carries, merges, decides, agenda_weight, weight, IsDefault, IsQueued, InOwned, InSwapped, InMerged}
+use Rattle.brc_model.proofs.Rows.{decides, InOwned, InSwapped, InMerged}
 use Rattle.brc_model.proofs.RowSteps.{shared_merged}
-use Rattle.brc_model.proofs.Rule.{extra_of, lacks_of, OwnsLocally, MayMerge, FollowsHanded, IsMergeOf, HeadFits, Later, Agenda, NoneHanded, HandedOnce, status_word}
+use Rattle.brc_model.proofs.Rule.{extra_of, lacks_of, FollowsHanded, IsMergeOf, Later, NoneHanded, HandedOnce}
 use Rattle.brc_model.proofs.Alive.{first_weighs, Alive, alive_deciding}
-use Rattle.brc_model.proofs.Written.{written_here, written_load}
-use Rattle.brc_model.proofs.Others.{LeavesOthers}
-use Rattle.brc_model.proofs.Leaves.{AtDuty, head_of, claim_alive, merge_alive}
+use Rattle.brc_model.proofs.Written.{written_here}
+use Rattle.brc_model.proofs.Leaves.{AtDuty, head_of, merge_alive}
 use Rattle.brc_model.proofs.Lives.{next_of, leaves_others}
 use Rattle.brc_model.proofs.Own.{HeldStep}
 use Rattle.brc_model.proofs.Neutral.{OwnFits, found_by, bag_by, agenda_here, handed_here}
 use Rattle.brc_model.proofs.OwnCounts.{held_same}
 use Rattle.brc_model.proofs.OwnRetains.{ready_first}
-use Rattle.brc_model.proofs.OwnSteps.{is_quiet, own_quiet, own_done, own_next, DyingStep, own_dying}
+use Rattle.brc_model.proofs.OwnSteps.{is_quiet, own_quiet, own_done, own_next, own_dying}
 use Rattle.brc_model.proofs.MergesOnce.{swapped_apart, awaited_lives}
 
 -- ---- a mark is set, and looked after
@@ -42,10 +40,10 @@ own_look p n m t a x rest here alive =
     let handed = handed_here p n m t a d rest here in
     elim (found == 1) as (λ b. (found == 1) ≡ b → OwnFits p (done_by m t a d rest) t (actor_by t a d rest found)) [
       | true ↦ λ e.
-        own_done p n m t a d rest here alive refl (ap (λ (b : Bool). cond b [] (TakeMark x ∷ [])) e) later handed (held_same m.plain.references t (d ∷ rest) [] (λ k o. refl) (λ k o. refl))
+          own_done p n m t a d rest here alive refl (ap (λ (b : Bool). cond b [] (TakeMark x ∷ [])) e) later handed (held_same m.plain.references t (d ∷ rest) [] (λ k o. refl) (λ k o. refl))
       | false ↦ λ e.
-        own_next p n m t a d (TakeMark x) rest here alive refl refl refl (ap (λ (b : Bool). cond b [] (TakeMark x ∷ [])) e) (held_same m.plain.references t (d ∷ rest) (TakeMark x ∷ rest) (λ k o. refl) (λ k o. refl))
-        later handed (λ b status head. (head_of p n m t a d rest here, (leaves_others p n m t a d rest here).stopped (block_of m.rows x) (eqb-false found 1 e)))
+          own_next p n m t a d (TakeMark x) rest here alive refl refl refl (ap (λ (b : Bool). cond b [] (TakeMark x ∷ [])) e) (held_same m.plain.references t (d ∷ rest) (TakeMark x ∷ rest) (λ k o. refl) (λ k o. refl))
+          later handed (λ b status head. (head_of p n m t a d rest here, (leaves_others p n m t a d rest here).stopped (block_of m.rows x) (eqb-false found 1 e)))
     ] refl
 
 pub own_take_mark : (p : Module) (n : ℕ) (m : Machine) (t : ℕ) (a : Actor) (x : ℕ) (rest : List Duty) → AtDuty p n m t a (TakeMark x) rest → (a.status ≡ Gone → ⊥)
@@ -59,18 +57,18 @@ own_take_mark p n m t a x rest here alive =
     let after : List Duty = MergeSwap x Handed ∷ SharedLoad x Handed ∷ [] in
     elim (found == 1) as (λ b. (found == 1) ≡ b → OwnFits p (done_by m t a d rest) t (actor_by t a d rest found)) [
       | true ↦ λ e.
-        own_quiet p n m t a d rest after (MergeSwap x Handed ∷ SharedLoad x Handed ∷ rest) here alive refl (record {
-          next_is = ap (λ (b : Bool). cond b after []) e;
-          none_dies = refl;
-          agenda_is = ready_first a.head (MergeSwap x Handed) (SharedLoad x Handed ∷ rest) refl;
-          hands = λ y. refl;
-          held = held_same m.plain.references t (d ∷ rest) (MergeSwap x Handed ∷ SharedLoad x Handed ∷ rest) (λ k o. refl) (λ k o. refl);
-          fits = (fits.0, later);
-          handed = handed;
-          knows = λ b status head. (fits.0, inr fits.1, refl);
-        })
+          own_quiet p n m t a d rest after (MergeSwap x Handed ∷ SharedLoad x Handed ∷ rest) here alive refl (record {
+            next_is = ap (λ (b : Bool). cond b after []) e;
+            none_dies = refl;
+            agenda_is = ready_first a.head (MergeSwap x Handed) (SharedLoad x Handed ∷ rest) refl;
+            hands = λ y. refl;
+            held = held_same m.plain.references t (d ∷ rest) (MergeSwap x Handed ∷ SharedLoad x Handed ∷ rest) (λ k o. refl) (λ k o. refl);
+            fits = (fits.0, later);
+            handed = handed;
+            knows = λ b status head. (fits.0, inr fits.1, refl);
+          })
       | false ↦ λ e.
-        own_done p n m t a d rest here alive refl (ap (λ (b : Bool). cond b after []) e) later handed (held_same m.plain.references t (d ∷ rest) [] (λ k o. refl) (λ k o. refl))
+          own_done p n m t a d rest here alive refl (ap (λ (b : Bool). cond b after []) e) later handed (held_same m.plain.references t (d ∷ rest) [] (λ k o. refl) (λ k o. refl))
     ] refl
 
 -- ---- what follows a merge
@@ -162,11 +160,11 @@ own_merge_swap_handed p n m t a x rest here alive =
     let handed = handed_here p n m t a d rest here in
     elim (found == 0) as (λ b. (found == 0) ≡ b → OwnFits p (done_by m t a d rest) t (actor_by t a d rest found)) [
       | true ↦ λ none.
-        handed_next p n m t a d x rest here alive refl (ap (λ (b : Bool). cond b [] (e ∷ [])) none) fits.2 (handed_follows x Handed rest fits.2 handed) later
-        (held_same m.plain.references t (d ∷ rest) [] (λ k o. refl) (λ k o. refl)) (swapped_apart p n m t a x rest here alive (eqb-true found 0 none))
+          handed_next p n m t a d x rest here alive refl (ap (λ (b : Bool). cond b [] (e ∷ [])) none) fits.2 (handed_follows x Handed rest fits.2 handed) later
+          (held_same m.plain.references t (d ∷ rest) [] (λ k o. refl) (λ k o. refl)) (swapped_apart p n m t a x rest here alive (eqb-true found 0 none))
       | false ↦ λ some.
-        own_next p n m t a d e rest here alive refl refl refl (ap (λ (b : Bool). cond b [] (e ∷ [])) some) (held_same m.plain.references t (d ∷ rest) (e ∷ rest) (λ k o. refl) (λ k o. refl))
-        later (load_handed x (local_part found) Handed rest handed) (λ b status head. (fits.0, omega arith, inr fits.2))
+          own_next p n m t a d e rest here alive refl refl refl (ap (λ (b : Bool). cond b [] (e ∷ [])) some) (held_same m.plain.references t (d ∷ rest) (e ∷ rest) (λ k o. refl) (λ k o. refl))
+          later (load_handed x (local_part found) Handed rest handed) (λ b status head. (fits.0, omega arith, inr fits.2))
     ] refl
 
 -- ---- the local count is added to the shared one
@@ -204,24 +202,24 @@ merge_won p n m t a x c w rest here alive follows won =
     λ next more less. held_same m.plain.references t (d ∷ rest) next more less in
     elim (merged_word w c == dead_word) as (λ b. (merged_word w c == dead_word) ≡ b → OwnFits p (done_by m t a d rest) t (actor_by t a d rest found)) [
       | true ↦ λ dead.
-        own_dying p n m t a d rest x here alive refl (record {
-          next_is = merge_next x c w found true won dead;
-          counted = fits.0;
-          lived = (merge_alive p n m t a x c w rest here).life;
-          held = same (Die x ∷ rest) (λ k o. refl) (λ k o. refl);
-          later = later;
-          handed = elim (either_follows x rest follows) [
-            | inl handed ↦ absurd (awaited_lives p n m t a x c w rest here handed (eqb-true found w won) (eqb-true _ _ dead))
-            | inr none ↦ none
-          ];
-        })
+          own_dying p n m t a d rest x here alive refl (record {
+            next_is = merge_next x c w found true won dead;
+            counted = fits.0;
+            lived = (merge_alive p n m t a x c w rest here).life;
+            held = same (Die x ∷ rest) (λ k o. refl) (λ k o. refl);
+            later = later;
+            handed = elim (either_follows x rest follows) [
+              | inl handed ↦ absurd (awaited_lives p n m t a x c w rest here handed (eqb-true found w won) (eqb-true _ _ dead))
+              | inr none ↦ none
+            ];
+          })
       | false ↦ λ some.
-        let next = merge_next x c w found false won some in
-        let wrote : (done_by m t a d rest).memory (Shared x) ≡ merged_word w c = written_here m.memory (Shared x) (cond (found == w) (merged_word w c) found) ∙ ap (λ (b : Bool). cond b (merged_word w c) found) won in
-        elim (either_follows x rest follows) [
-          | inl handed ↦ handed_next p n m t a d x rest here alive refl next handed follows later (same [] (λ k o. refl) (λ k o. refl)) (ap phase_part wrote ∙ (shared_merged w c).1)
-          | inr none ↦ own_done p n m t a d rest here alive refl next later none (same [] (λ k o. refl) (λ k o. refl))
-        ]
+          let next = merge_next x c w found false won some in
+          let wrote : (done_by m t a d rest).memory (Shared x) ≡ merged_word w c = written_here m.memory (Shared x) (cond (found == w) (merged_word w c) found) ∙ ap (λ (b : Bool). cond b (merged_word w c) found) won in
+          elim (either_follows x rest follows) [
+            | inl handed ↦ handed_next p n m t a d x rest here alive refl next handed follows later (same [] (λ k o. refl) (λ k o. refl)) (ap phase_part wrote ∙ (shared_merged w c).1)
+            | inr none ↦ own_done p n m t a d rest here alive refl next later none (same [] (λ k o. refl) (λ k o. refl))
+          ]
     ] refl
 
 pub own_merge_exchange : (p : Module) (n : ℕ) (m : Machine) (t : ℕ) (a : Actor) (x c w : ℕ) (rest : List Duty) → AtDuty p n m t a (MergeExchange x c w) rest → (a.status ≡ Gone → ⊥) → FollowsMerge x rest
@@ -233,8 +231,8 @@ own_merge_exchange p n m t a x c w rest here alive follows =
     elim (found == w) as (λ b. (found == w) ≡ b → OwnFits p (done_by m t a d rest) t (actor_by t a d rest found)) [
       | true ↦ λ won. merge_won p n m t a x c w rest here alive follows won
       | false ↦ λ lost.
-        own_next p n m t a d (MergeLoad x c) rest here alive refl refl refl (ap (λ (b : Bool). cond b (cond (merged_word w c == dead_word) (Die x ∷ []) []) (MergeLoad x c ∷ [])) lost)
-        (held_same m.plain.references t (d ∷ rest) (MergeLoad x c ∷ rest) (λ k o. refl) (λ k o. refl))
-        (agenda_here p n m t a d rest here alive) (again_handed x c w rest (handed_here p n m t a d rest here))
-        (λ b status head. (fits.0, fits.1, merge_of_stays m (done_by m t a d rest) t x a b rest refl status fits.2))
+          own_next p n m t a d (MergeLoad x c) rest here alive refl refl refl (ap (λ (b : Bool). cond b (cond (merged_word w c == dead_word) (Die x ∷ []) []) (MergeLoad x c ∷ [])) lost)
+          (held_same m.plain.references t (d ∷ rest) (MergeLoad x c ∷ rest) (λ k o. refl) (λ k o. refl))
+          (agenda_here p n m t a d rest here alive) (again_handed x c w rest (handed_here p n m t a d rest here))
+          (λ b status head. (fits.0, fits.1, merge_of_stays m (done_by m t a d rest) t x a b rest refl status fits.2))
     ] refl

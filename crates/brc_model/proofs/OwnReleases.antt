@@ -1,29 +1,28 @@
 -- A thread after its own steps that make a reference, and after those that give one up by the local word or by the shared one.
-use Rattle.std.proofs.Common.{◌≡◌, ◌≢◌, ℕ, zero, suc, ◌+◌, ◌-◌, ◌<◌, ◌≤◌, Bool, true, false, cond, List, [], ◌∷◌, ◌++◌, ◌⊎◌, inl, inr, Option, None, Some, refl, sym, ap, ◌∙◌, subst, arith}
-use Rattle.std.specs.Prelude.{◌==◌, ◌&&◌, nat_lt, slice_get}
+use Rattle.std.proofs.Common.{◌≡◌, ℕ, ◌+◌, ◌-◌, ◌<◌, Bool, true, false, cond, List, [], ◌∷◌, ◌++◌, refl, sym, ap, ◌∙◌, subst, arith}
+use Rattle.std.specs.Prelude.{◌==◌, ◌&&◌}
 use Rattle.std.specs.List.{list_any}
-use Rattle.std.proofs.lemmas.Bool.{eqb-true, eqb-false, eq-eqb, ne_eqb}
+use Rattle.std.proofs.lemmas.Bool.{eqb-true, eq-eqb, ne_eqb}
 use Rattle.brc_lang.specs.declared.module.Instr.{Instr}
 use Rattle.brc_lang.specs.declared.module.Module.{Module}
 use Rattle.brc_model.specs.Plain.{Holding, ByVariable, AsCaller, InHand, Reference, same_holding, same, without, moved}
 use Rattle.brc_model.specs.Words.{owner_part, local_part, phase_part, is_immortal_word, fresh_word, dead_word, released_word}
-use Rattle.brc_model.specs.Duties.{Reason, Own, Handed, Duty, RetainStore, RetainAdd, ReleaseLoad, ReleaseStore, DecideAtZero, SharedLoad, SharedExchange, SetMark, MergeSwap, Die, Local, Shared, next_by, counts_locally, shared_result}
-use Rattle.brc_model.specs.Machine.{Status, Gone, Place, Standing, Inside, Departing, Actor, Machine, is_running, lose, hand_on, done_by, actor_by}
+use Rattle.brc_model.specs.Duties.{Reason, Own, Handed, Duty, RetainStore, RetainAdd, ReleaseLoad, ReleaseStore, DecideAtZero, SharedLoad, SharedExchange, SetMark, MergeSwap, Die, Local, Shared, counts_locally, shared_result}
+use Rattle.brc_model.specs.Machine.{Gone, Place, Standing, Inside, Departing, Actor, Machine, is_running, lose, hand_on, done_by, actor_by}
 use Rattle.brc_model.proofs.Bag.{held, one_if, same_holding-refl, held-cons, held-without, held_has, held-le-references_to}
 use Rattle.brc_model.proofs.Invariant.{nothing, the_root, of_variables, reference_of}
 use Rattle.brc_model.proofs.Rows.{InOwned, InSwapped, InMerged}
 use Rattle.brc_model.proofs.RowSteps.{owner_down}
-use Rattle.brc_model.proofs.Rule.{extra_of, lacks_of, HoldsAt, PlaceFits, OwnsLocally, HeadFits, Agenda, NoneHanded, HandedOnce}
-use Rattle.brc_model.proofs.Alive.{Alive, alive_referenced, hand_holds}
+use Rattle.brc_model.proofs.Rule.{extra_of, lacks_of, HoldsAt, PlaceFits, NoneHanded, HandedOnce}
+use Rattle.brc_model.proofs.Alive.{Alive, alive_referenced}
 use Rattle.brc_model.proofs.Written.{written_here, written_load}
-use Rattle.brc_model.proofs.Others.{LeavesOthers}
 use Rattle.brc_model.proofs.Leaves.{AtDuty, head_of, exchange_alive, decide_alive}
 use Rattle.brc_model.proofs.Lives.{next_of, leaves_others}
 use Rattle.brc_model.proofs.Own.{HeldStep}
 use Rattle.brc_model.proofs.Neutral.{OwnFits, found_by, bag_by, agenda_here, handed_here}
 use Rattle.brc_model.proofs.OwnCounts.{same_is, held_same, held_gained, held_lost}
 use Rattle.brc_model.proofs.OwnRetains.{counts_owner, count_above, weight_here}
-use Rattle.brc_model.proofs.OwnSteps.{own_done, own_next, DyingStep, own_dying}
+use Rattle.brc_model.proofs.OwnSteps.{own_done, own_next, own_dying}
 
 -- ---- a reference is made
 
@@ -78,12 +77,14 @@ alive_mortal m x alive =
 -- the holder's reference becomes the hand's
 held_taken : (bag : List Reference) (t x : ℕ) (h : Holding) (rest later : List Duty) → list_any (same (reference_of t h x)) bag ≡ true → ((k : Holding) (object : ℕ) → extra_of later k object ≡ (same_holding InHand k && (x == object)))
     → ((k : Holding) (object : ℕ) → lacks_of later k object ≡ false) → HeldStep bag (reference_of t InHand x ∷ without (reference_of t h x) bag) t (ReleaseLoad x h ∷ rest) later
-held_taken bag t x h rest later has more less = record { each = λ k object.
-    let r = reference_of t k object in
-    let lost : one_if (same r (reference_of t h x)) ≡ one_if (extra_of (ReleaseLoad x h ∷ rest) k object) = ap one_if (same_is t x h k object) in
-    let gained : one_if (same r (reference_of t InHand x)) ≡ one_if (extra_of later k object) = ap one_if (same_is t x InHand k object ∙ sym (more k object)) in
-    let c : one_if (lacks_of later k object) ≡ 0 = ap one_if (less k object) in
-    omega (arith, held-cons r (reference_of t InHand x) (without (reference_of t h x) bag), held-without r (reference_of t h x) bag has, lost, gained, c) }
+held_taken bag t x h rest later has more less = record {
+  each = λ k object.
+      let r = reference_of t k object in
+      let lost : one_if (same r (reference_of t h x)) ≡ one_if (extra_of (ReleaseLoad x h ∷ rest) k object) = ap one_if (same_is t x h k object) in
+      let gained : one_if (same r (reference_of t InHand x)) ≡ one_if (extra_of later k object) = ap one_if (same_is t x InHand k object ∙ sym (more k object)) in
+      let c : one_if (lacks_of later k object) ≡ 0 = ap one_if (less k object) in
+      omega (arith, held-cons r (reference_of t InHand x) (without (reference_of t h x) bag), held-without r (reference_of t h x) bag has, lost, gained, c);
+}
 
 held_handed_on : (m : Machine) (t x : ℕ) (h : Holding) (rest later : List Duty) → list_any (same (reference_of t h x)) m.plain.references ≡ true → ((k : Holding) (object : ℕ) → extra_of later k object ≡ (same_holding InHand k && (x == object)))
     → ((k : Holding) (object : ℕ) → lacks_of later k object ≡ false) → HeldStep m.plain.references (moved m.plain (hand_on t h x ++ [])).references t (ReleaseLoad x h ∷ rest) later
@@ -104,22 +105,22 @@ own_release_load p n m t a x h rest here alive =
     let first : next_of m t a d ≡ cond (counts_locally t (is_running a.status) word) (ReleaseStore x word ∷ []) (SharedLoad x Own ∷ []) =
     ap (λ (b : Bool). cond b [] (cond (counts_locally t (is_running a.status) word) (ReleaseStore x word ∷ []) (SharedLoad x Own ∷ []))) mortal in
     let keeps : (e : Duty) → ((k : Holding) (object : ℕ) → extra_of (e ∷ rest) k object ≡ (same_holding InHand k && (x == object))) → ((k : Holding) (object : ℕ) → lacks_of (e ∷ rest) k object ≡ false)
-        → HeldStep m.plain.references (bag_by m t a d) t (d ∷ rest) (e ∷ rest) =
+    → HeldStep m.plain.references (bag_by m t a d) t (d ∷ rest) (e ∷ rest) =
     λ e more less. subst (λ (l : List Reference). HeldStep m.plain.references l t (d ∷ rest) (e ∷ rest)) (sym bag) (held_handed_on m t x h rest (e ∷ rest) has more less) in
     let later = agenda_here p n m t a d rest here alive in
     let handed = handed_here p n m t a d rest here in
     elim (counts_locally t (is_running a.status) word) as (λ b. counts_locally t (is_running a.status) word ≡ b → OwnFits p (done_by m t a d rest) t (actor_by t a d rest word)) [
       | true ↦ λ e.
-        let owns = counts_owner m t a x e living in
-        let some = count_above p n m t x a here.rule here.found owns (weight_here p n m t x a d rest here alive refl) living in
-        let same_word : (done_by m t a d rest).memory (Local x) ≡ word = written_here m.memory (Local x) word in
-        own_next p n m t a d (ReleaseStore x word) rest here alive refl refl refl
-        (first ∙ ap (λ (b : Bool). cond b (ReleaseStore x word ∷ []) (SharedLoad x Own ∷ [])) e) (keeps (ReleaseStore x word) (λ k o. refl) (λ k o. refl)) later handed
-        (λ b status head. (pos, record { running = status ∙ owns.running; owner = ap owner_part same_word ∙ owns.owner; low = subst (λ (w : ℕ). local_part w < 4294967295) (sym same_word) owns.low }, same_word, some))
+          let owns = counts_owner m t a x e living in
+          let some = count_above p n m t x a here.rule here.found owns (weight_here p n m t x a d rest here alive refl) living in
+          let same_word : (done_by m t a d rest).memory (Local x) ≡ word = written_here m.memory (Local x) word in
+          own_next p n m t a d (ReleaseStore x word) rest here alive refl refl refl
+          (first ∙ ap (λ (b : Bool). cond b (ReleaseStore x word ∷ []) (SharedLoad x Own ∷ [])) e) (keeps (ReleaseStore x word) (λ k o. refl) (λ k o. refl)) later handed
+          (λ b status head. (pos, record { running = status ∙ owns.running; owner = ap owner_part same_word ∙ owns.owner; low = subst (λ (w : ℕ). local_part w < 4294967295) (sym same_word) owns.low }, same_word, some))
       | false ↦ λ e.
-        own_next p n m t a d (SharedLoad x Own) rest here alive refl refl refl
-        (first ∙ ap (λ (b : Bool). cond b (ReleaseStore x word ∷ []) (SharedLoad x Own ∷ [])) e) (keeps (SharedLoad x Own) (λ k o. refl) (λ k o. refl)) later handed
-        (λ b status head. pos)
+          own_next p n m t a d (SharedLoad x Own) rest here alive refl refl refl
+          (first ∙ ap (λ (b : Bool). cond b (ReleaseStore x word ∷ []) (SharedLoad x Own ∷ [])) e) (keeps (SharedLoad x Own) (λ k o. refl) (λ k o. refl)) later handed
+          (λ b status head. pos)
     ] refl
 
 -- ---- the reference in the hand is lost
@@ -143,16 +144,16 @@ own_release_store p n m t a x w rest here alive =
     let handed = handed_here p n m t a d rest here in
     elim (local_part w == 1) as (λ b. (local_part w == 1) ≡ b → OwnFits p (done_by m t a d rest) t (actor_by t a d rest (m.memory (Local x)))) [
       | true ↦ λ e.
-        let one : local_part w ≡ 1 = eqb-true _ _ e in
-        let down = owner_down w fits.3 in
-        let now : (done_by m t a d rest).memory (Local x) ≡ w - 1 = written_here m.memory (Local x) (w - 1) in
-        let zero_left : local_part (w - 1) ≡ 0 = omega (arith, down.1, one) in
-        let owner : owner_part (w - 1) ≡ t + 1 = down.0 ∙ ap owner_part (sym fits.2) ∙ fits.1.owner in
-        own_next p n m t a d (DecideAtZero x) rest here alive refl refl refl
-        (ap (λ (b : Bool). cond b (DecideAtZero x ∷ []) []) e) (lost (DecideAtZero x ∷ rest) (λ k o. refl) (λ k o. refl)) later handed
-        (λ b status head. (fits.0, record { running = status ∙ fits.1.running; owner = ap owner_part now ∙ owner; low = subst (λ (v : ℕ). local_part v < 4294967295) (sym now) (omega (arith, zero_left)) }, ap local_part now ∙ zero_left))
+          let one : local_part w ≡ 1 = eqb-true _ _ e in
+          let down = owner_down w fits.3 in
+          let now : (done_by m t a d rest).memory (Local x) ≡ w - 1 = written_here m.memory (Local x) (w - 1) in
+          let zero_left : local_part (w - 1) ≡ 0 = omega (arith, down.1, one) in
+          let owner : owner_part (w - 1) ≡ t + 1 = down.0 ∙ ap owner_part (sym fits.2) ∙ fits.1.owner in
+          own_next p n m t a d (DecideAtZero x) rest here alive refl refl refl
+          (ap (λ (b : Bool). cond b (DecideAtZero x ∷ []) []) e) (lost (DecideAtZero x ∷ rest) (λ k o. refl) (λ k o. refl)) later handed
+          (λ b status head. (fits.0, record { running = status ∙ fits.1.running; owner = ap owner_part now ∙ owner; low = subst (λ (v : ℕ). local_part v < 4294967295) (sym now) (omega (arith, zero_left)) }, ap local_part now ∙ zero_left))
       | false ↦ λ e.
-        own_done p n m t a d rest here alive refl (ap (λ (b : Bool). cond b (DecideAtZero x ∷ []) []) e) later handed (lost [] (λ k o. refl) (λ k o. refl))
+          own_done p n m t a d rest here alive refl (ap (λ (b : Bool). cond b (DecideAtZero x ∷ []) []) e) later handed (lost [] (λ k o. refl) (λ k o. refl))
     ] refl
 
 -- ---- the owner decides
@@ -172,18 +173,18 @@ own_decide p n m t a x rest here alive =
     let handed = handed_here p n m t a d rest here in
     elim (word == fresh_word) as (λ b. (word == fresh_word) ≡ b → OwnFits p (done_by m t a d rest) t (actor_by t a d rest word)) [
       | true ↦ λ e.
-        own_dying p n m t a d rest x here alive refl (record {
-          next_is = ap (λ (b : Bool). cond b (Die x ∷ []) (MergeSwap x Own ∷ [])) e;
-          counted = fits.0;
-          lived = (decide_alive p n m t a x rest here).life;
-          held = held_same m.plain.references t (d ∷ rest) (Die x ∷ rest) (λ k o. refl) (λ k o. refl);
-          later = later;
-          handed = handed;
-        })
+          own_dying p n m t a d rest x here alive refl (record {
+            next_is = ap (λ (b : Bool). cond b (Die x ∷ []) (MergeSwap x Own ∷ [])) e;
+            counted = fits.0;
+            lived = (decide_alive p n m t a x rest here).life;
+            held = held_same m.plain.references t (d ∷ rest) (Die x ∷ rest) (λ k o. refl) (λ k o. refl);
+            later = later;
+            handed = handed;
+          })
       | false ↦ λ e.
-        own_next p n m t a d (MergeSwap x Own) rest here alive refl refl refl
-        (ap (λ (b : Bool). cond b (Die x ∷ []) (MergeSwap x Own ∷ [])) e) (held_same m.plain.references t (d ∷ rest) (MergeSwap x Own ∷ rest) (λ k o. refl) (λ k o. refl)) later (swap_handed x Own rest handed)
-        (λ b status head. (fits.0, record { running = status ∙ fits.1.running; owner = fits.1.owner; low = fits.1.low }, fits.2))
+          own_next p n m t a d (MergeSwap x Own) rest here alive refl refl refl
+          (ap (λ (b : Bool). cond b (Die x ∷ []) (MergeSwap x Own ∷ [])) e) (held_same m.plain.references t (d ∷ rest) (MergeSwap x Own ∷ rest) (λ k o. refl) (λ k o. refl)) later (swap_handed x Own rest handed)
+          (λ b status head. (fits.0, record { running = status ∙ fits.1.running; owner = fits.1.owner; low = fits.1.low }, fits.2))
     ] refl
 
 -- ---- the shared word
@@ -218,22 +219,22 @@ exchange_won p n m t a x w r rest here alive pos won moves =
     let handed = handed_here p n m t a d rest here in
     elim (w == fresh_word) as (λ b. (w == fresh_word) ≡ b → OwnFits p (done_by m t a d rest) t (actor_by t a d rest (m.memory (Shared x)))) [
       | true ↦ λ fresh.
-        own_next p n m t a d (SetMark x) rest here alive refl refl refl (exchange_next x w (m.memory (Shared x)) r true (released_word w == dead_word) won fresh refl)
-        (moves (SetMark x ∷ rest) (λ k o. refl) (λ k o. refl)) later handed (λ b status head. pos)
+          own_next p n m t a d (SetMark x) rest here alive refl refl refl (exchange_next x w (m.memory (Shared x)) r true (released_word w == dead_word) won fresh refl)
+          (moves (SetMark x ∷ rest) (λ k o. refl) (λ k o. refl)) later handed (λ b status head. pos)
       | false ↦ λ other.
-        elim (released_word w == dead_word) as (λ b. (released_word w == dead_word) ≡ b → OwnFits p (done_by m t a d rest) t (actor_by t a d rest (m.memory (Shared x)))) [
-          | true ↦ λ dead.
-            own_dying p n m t a d rest x here alive refl (record {
-              next_is = exchange_next x w (m.memory (Shared x)) r false true won other dead;
-              counted = pos;
-              lived = (exchange_alive p n m t a x w r rest here).life;
-              held = moves (Die x ∷ rest) (λ k o. refl) (λ k o. refl);
-              later = later;
-              handed = handed;
-            })
-          | false ↦ λ some.
-            own_done p n m t a d rest here alive refl (exchange_next x w (m.memory (Shared x)) r false false won other some) later handed (moves [] (λ k o. refl) (λ k o. refl))
-        ] refl
+          elim (released_word w == dead_word) as (λ b. (released_word w == dead_word) ≡ b → OwnFits p (done_by m t a d rest) t (actor_by t a d rest (m.memory (Shared x)))) [
+            | true ↦ λ dead.
+                own_dying p n m t a d rest x here alive refl (record {
+                  next_is = exchange_next x w (m.memory (Shared x)) r false true won other dead;
+                  counted = pos;
+                  lived = (exchange_alive p n m t a x w r rest here).life;
+                  held = moves (Die x ∷ rest) (λ k o. refl) (λ k o. refl);
+                  later = later;
+                  handed = handed;
+                })
+            | false ↦ λ some.
+                own_done p n m t a d rest here alive refl (exchange_next x w (m.memory (Shared x)) r false false won other some) later handed (moves [] (λ k o. refl) (λ k o. refl))
+          ] refl
     ] refl
 
 pub own_shared_exchange : (p : Module) (n : ℕ) (m : Machine) (t : ℕ) (a : Actor) (x : ℕ) (r : Reason) (w : ℕ) (rest : List Duty) → AtDuty p n m t a (SharedExchange x r w) rest → (a.status ≡ Gone → ⊥)
@@ -244,14 +245,14 @@ own_shared_exchange p n m t a x Own w rest here alive =
     let pos = head_of p n m t a d rest here in
     elim (found == w) as (λ b. (found == w) ≡ b → OwnFits p (done_by m t a d rest) t (actor_by t a d rest found)) [
       | true ↦ λ won.
-        let bag : bag_by m t a d ≡ without (reference_of t InHand x) m.plain.references = ap (λ (b : Bool). (moved m.plain (cond b (lose t x) [])).references) won in
-        exchange_won p n m t a x w Own rest here alive pos won
-        (λ later more less. subst (λ (l : List Reference). HeldStep m.plain.references l t (d ∷ rest) later) (sym bag) (held_let_go p n m t a d rest later x here (λ k o. refl) (λ k o. refl) more less))
+          let bag : bag_by m t a d ≡ without (reference_of t InHand x) m.plain.references = ap (λ (b : Bool). (moved m.plain (cond b (lose t x) [])).references) won in
+          exchange_won p n m t a x w Own rest here alive pos won
+          (λ later more less. subst (λ (l : List Reference). HeldStep m.plain.references l t (d ∷ rest) later) (sym bag) (held_let_go p n m t a d rest later x here (λ k o. refl) (λ k o. refl) more less))
       | false ↦ λ lost.
-        let bag : bag_by m t a d ≡ m.plain.references = ap (λ (b : Bool). (moved m.plain (cond b (lose t x) [])).references) lost in
-        own_next p n m t a d (SharedLoad x Own) rest here alive refl refl refl (ap (λ (b : Bool). cond b (shared_result x w) (SharedLoad x Own ∷ [])) lost)
-        (subst (λ (l : List Reference). HeldStep m.plain.references l t (d ∷ rest) (SharedLoad x Own ∷ rest)) (sym bag) (held_same m.plain.references t (d ∷ rest) (SharedLoad x Own ∷ rest) (λ k o. refl) (λ k o. refl)))
-        (agenda_here p n m t a d rest here alive) (handed_here p n m t a d rest here) (λ b status head. pos)
+          let bag : bag_by m t a d ≡ m.plain.references = ap (λ (b : Bool). (moved m.plain (cond b (lose t x) [])).references) lost in
+          own_next p n m t a d (SharedLoad x Own) rest here alive refl refl refl (ap (λ (b : Bool). cond b (shared_result x w) (SharedLoad x Own ∷ [])) lost)
+          (subst (λ (l : List Reference). HeldStep m.plain.references l t (d ∷ rest) (SharedLoad x Own ∷ rest)) (sym bag) (held_same m.plain.references t (d ∷ rest) (SharedLoad x Own ∷ rest) (λ k o. refl) (λ k o. refl)))
+          (agenda_here p n m t a d rest here alive) (handed_here p n m t a d rest here) (λ b status head. pos)
     ] refl
 own_shared_exchange p n m t a x Handed w rest here alive =
     let found = m.memory (Shared x) in
@@ -259,10 +260,10 @@ own_shared_exchange p n m t a x Handed w rest here alive =
     let fits = head_of p n m t a d rest here in
     elim (found == w) as (λ b. (found == w) ≡ b → OwnFits p (done_by m t a d rest) t (actor_by t a d rest found)) [
       | true ↦ λ won.
-        exchange_won p n m t a x w Handed rest here alive fits.0 won
-        (λ later more less. held_same m.plain.references t (d ∷ rest) later more less)
+          exchange_won p n m t a x w Handed rest here alive fits.0 won
+          (λ later more less. held_same m.plain.references t (d ∷ rest) later more less)
       | false ↦ λ lost.
-        own_next p n m t a d (SharedLoad x Handed) rest here alive refl refl refl (ap (λ (b : Bool). cond b (shared_result x w) (SharedLoad x Handed ∷ [])) lost)
-        (held_same m.plain.references t (d ∷ rest) (SharedLoad x Handed ∷ rest) (λ k o. refl) (λ k o. refl))
-        (agenda_here p n m t a d rest here alive) (handed_here p n m t a d rest here) (λ b status head. (fits.0, (leaves_others p n m t a d rest here).merged x fits.1))
+          own_next p n m t a d (SharedLoad x Handed) rest here alive refl refl refl (ap (λ (b : Bool). cond b (shared_result x w) (SharedLoad x Handed ∷ [])) lost)
+          (held_same m.plain.references t (d ∷ rest) (SharedLoad x Handed ∷ rest) (λ k o. refl) (λ k o. refl))
+          (agenda_here p n m t a d rest here alive) (handed_here p n m t a d rest here) (λ b status head. (fits.0, (leaves_others p n m t a d rest here).merged x fits.1))
     ] refl

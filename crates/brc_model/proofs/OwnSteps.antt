@@ -1,22 +1,20 @@
 -- A thread after a quiet step: one that leaves its status, the head of its chain and all gates. Either no row dies by it, or
 -- its own row begins to die, and is at hand from then on.
-use Rattle.std.proofs.Common.{◌≡◌, ◌≢◌, ℕ, zero, suc, ◌+◌, ◌-◌, ◌<◌, ◌≤◌, Bool, true, false, cond, List, [], ◌∷◌, ◌++◌, ◌⊎◌, inl, inr, Option, None, Some, refl, sym, ap, ◌∙◌, subst, arith}
-use Rattle.std.specs.Prelude.{◌==◌, ◌&&◌, slice_get}
+use Rattle.std.proofs.Common.{◌≡◌, ℕ, ◌+◌, ◌<◌, Bool, true, false, cond, List, [], ◌∷◌, ◌++◌, inl, inr, Option, None, Some, refl, sym, ap, ◌∙◌, subst, arith}
+use Rattle.std.specs.Prelude.{◌==◌, slice_get}
 use Rattle.std.proofs.lemmas.Bool.{eq-eqb}
 use Rattle.std.proofs.lemmas.Bool.Decides.{eqb_tells}
 use Rattle.brc_lang.specs.declared.module.Module.{Module}
-use Rattle.brc_model.specs.Plain.{Holding, Reference}
 use Rattle.brc_model.specs.Steps.{code_of}
-use Rattle.brc_model.specs.Duties.{Reason, Own, Handed, Duty, RetainLoad, RetainStore, RetainAdd, ReleaseLoad, ReleaseStore, DecideAtZero, SharedLoad, SharedExchange, SetMark, Look, TakeMark, MergeSwap, MergeLoad, MergeExchange, Die, Settle, SettleKind, SettleCell, SettleEnd, Leave, Scan, Finish, ClaimMark, Gate, ThreadWord, head_by, ready, block_of}
+use Rattle.brc_model.specs.Duties.{Duty, Look, Die, Settle, SettleKind, SettleCell, SettleEnd, Leave, Finish, Gate, ThreadWord, head_by, ready, block_of}
 use Rattle.brc_model.specs.Machine.{Status, Gone, Actor, Life, Live, Dying, Closed, Machine, status_by, dies_next, ended_row, with_life, life_by, actor_by, done_by}
-use Rattle.brc_model.proofs.Bag.{held, one_if}
-use Rattle.brc_model.proofs.Invariant.{reference_of}
+use Rattle.brc_model.proofs.Bag.{one_if}
 use Rattle.brc_model.proofs.Rule.{extra_of, lacks_of, PlaceFits, HeadFits, HeadOf, Later, Agenda, NoneHanded, HandedOnce, hand_of, dies_by, ChainFits, status_word}
 use Rattle.brc_model.proofs.Written.{written_load}
 use Rattle.brc_model.proofs.Leaves.{AtDuty}
 use Rattle.brc_model.proofs.Lives.{next_of}
-use Rattle.brc_model.proofs.Own.{HeldStep, place_step, IsReady, ready_is, ChainSame, chain_same}
-use Rattle.brc_model.proofs.Neutral.{OwnFits, found_by, bag_by, memory_by, agenda_out, NeutralStep, own_neutral}
+use Rattle.brc_model.proofs.Own.{HeldStep, place_step, ready_is, ChainSame, chain_same}
+use Rattle.brc_model.proofs.Neutral.{OwnFits, found_by, bag_by, memory_by, agenda_out, own_neutral}
 use Rattle.brc_model.proofs.OwnRetains.{is_passed, ready_first}
 
 -- ---- quiet duties
@@ -111,10 +109,12 @@ own_done p n m t a d rest here alive quiet next later none moves =
       none_dies = refl;
       agenda_is = refl;
       hands = then.at_hand;
-      held = record { each = λ k object.
-        let more : one_if (extra_of (ready a.head rest) k object) ≡ 0 = ap one_if (then.more k object) in
-        let less : one_if (lacks_of (ready a.head rest) k object) ≡ 0 = ap one_if (then.less k object) in
-        omega (arith, moves.each k object, more, less) };
+      held = record {
+        each = λ k object.
+            let more : one_if (extra_of (ready a.head rest) k object) ≡ 0 = ap one_if (then.more k object) in
+            let less : one_if (lacks_of (ready a.head rest) k object) ≡ 0 = ap one_if (then.less k object) in
+            omega (arith, moves.each k object, more, less);
+      };
       fits = then.fits;
       handed = then.handed;
       knows = λ b status head. then.knows (done_by m t a d rest) b head;
@@ -157,14 +157,14 @@ dying_hands : (life : ℕ → Life) (t x y : ℕ) → life x ≡ Live → one_if
 dying_hands life t x y lived =
     elim (eqb_tells x y) [
       | inl same ↦
-        let hand : one_if (x == y) ≡ 1 = ap one_if same.0 in
-        let before : one_if (dies_by (life y) t) ≡ 0 = ap (λ (l : Life). one_if (dies_by l t)) (ap life (sym same.1) ∙ lived) in
-        let after : one_if (dies_by (cond (x == y) (Dying t) (life y)) t) ≡ 1 = ap (λ (b : Bool). one_if (dies_by (cond b (Dying t) (life y)) t)) same.0 ∙ ap one_if (eq-eqb t t refl) in
-        omega (arith, hand, before, after)
+          let hand : one_if (x == y) ≡ 1 = ap one_if same.0 in
+          let before : one_if (dies_by (life y) t) ≡ 0 = ap (λ (l : Life). one_if (dies_by l t)) (ap life (sym same.1) ∙ lived) in
+          let after : one_if (dies_by (cond (x == y) (Dying t) (life y)) t) ≡ 1 = ap (λ (b : Bool). one_if (dies_by (cond b (Dying t) (life y)) t)) same.0 ∙ ap one_if (eq-eqb t t refl) in
+          omega (arith, hand, before, after)
       | inr other ↦
-        let hand : one_if (x == y) ≡ 0 = ap one_if other.0 in
-        let after : one_if (dies_by (cond (x == y) (Dying t) (life y)) t) ≡ one_if (dies_by (life y) t) = ap (λ (b : Bool). one_if (dies_by (cond b (Dying t) (life y)) t)) other.0 in
-        omega (arith, hand, after)
+          let hand : one_if (x == y) ≡ 0 = ap one_if other.0 in
+          let after : one_if (dies_by (cond (x == y) (Dying t) (life y)) t) ≡ one_if (dies_by (life y) t) = ap (λ (b : Bool). one_if (dies_by (cond b (Dying t) (life y)) t)) other.0 in
+          omega (arith, hand, after)
     ]
 
 pub own_dying : (p : Module) (n : ℕ) (m : Machine) (t : ℕ) (a : Actor) (d : Duty) (rest : List Duty) (x : ℕ) → AtDuty p n m t a d rest → (a.status ≡ Gone → ⊥) → is_quiet d ≡ true → DyingStep m t a d rest x
@@ -184,9 +184,9 @@ own_dying p n m t a d rest x here alive quiet step =
     let same : ChainSame m new t a.agenda agenda = record {
       gates = λ y. quiet_gates m t a d y quiet;
       hands = λ y.
-      let before : one_if (hand_of a.agenda y) ≡ 0 = ap one_if (ap (λ (l : List Duty). hand_of l y) here.agenda ∙ quiet_hand d rest y quiet) in
-      let now : one_if (dies_by (new.life y) t) ≡ one_if (dies_by (cond (x == y) (Dying t) (m.life y)) t) = ap (λ (l : Life). one_if (dies_by l t)) (life y) in
-      omega (arith, before, now, dying_hands m.life t x y step.lived);
+          let before : one_if (hand_of a.agenda y) ≡ 0 = ap one_if (ap (λ (l : List Duty). hand_of l y) here.agenda ∙ quiet_hand d rest y quiet) in
+          let now : one_if (dies_by (new.life y) t) ≡ one_if (dies_by (cond (x == y) (Dying t) (m.life y)) t) = ap (λ (l : Life). one_if (dies_by l t)) (life y) in
+          omega (arith, before, now, dying_hands m.life t x y step.lived);
     } in
     let chain : ChainFits new t a.head agenda = chain_same m new t a.head a.agenda agenda same old.chain in
     let dies : new.life x ≡ Dying t = life x ∙ ap (λ (b : Bool). cond b (Dying t) (m.life x)) (eq-eqb x x refl) in
@@ -200,6 +200,6 @@ own_dying p n m t a d rest x here alive quiet step =
         chain = subst (λ (l : List Duty). ChainFits new t after.head l) (sym whole) (subst (λ (h : ℕ). ChainFits new t h agenda) (sym same_head) chain);
       };
       agenda = agenda_out m.rows t after after.status (λ e. alive (sym same_status ∙ e))
-      (subst (λ (l : List Duty). Agenda m.rows t a.used after.status a.place l) (sym whole) (subst (λ (s : Status). Later m.rows t a.used s a.place rest) (sym same_status) step.later));
+          (subst (λ (l : List Duty). Agenda m.rows t a.used after.status a.place l) (sym whole) (subst (λ (s : Status). Later m.rows t a.used s a.place rest) (sym same_status) step.later));
       handed = subst HandedOnce (sym whole) step.handed;
     }
