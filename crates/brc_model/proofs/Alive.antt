@@ -15,7 +15,7 @@ use Rattle.brc_model.proofs.Rule.{numbers_of, extra_of, lacks_of, HoldsAt, Place
 
 -- ---- weights
 
-agenda_in : (f : Duty → ℕ) (actors : List Actor) (t : ℕ) (a : Actor) → slice_get actors t ≡ Some a → agenda_weight f a ≤ weight f actors
+pub agenda_in : (f : Duty → ℕ) (actors : List Actor) (t : ℕ) (a : Actor) → slice_get actors t ≡ Some a → agenda_weight f a ≤ weight f actors
 agenda_in f [] t a found = absurd cc
 agenda_in f (b ∷ rest) zero a found =
     let P : Actor → Type 0 = λ x. agenda_weight f x ≤ weight f (b ∷ rest) in

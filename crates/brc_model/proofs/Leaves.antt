@@ -53,7 +53,7 @@ merge_alive p n m t a x c w rest here =
     let one : one_if (x == x) ≡ 1 = ap one_if (eq-eqb x x refl) in
     alive_merging p n m x here.rule (head_of p n m t a (MergeExchange x c w) rest here).0 (omega (arith, first_weighs (merges x) m.actors t a (MergeExchange x c w) rest here.found here.agenda, one))
 
-handed_weighs : (x : ℕ) (rest : List Duty) → FollowsHanded x rest → 1 ≤ sum_by (waits x) rest
+pub handed_weighs : (x : ℕ) (rest : List Duty) → FollowsHanded x rest → 1 ≤ sum_by (waits x) rest
 handed_weighs x [] follows = absurd follows
 handed_weighs x (SharedLoad y Handed ∷ rest) follows =
     let one : one_if (y == x) ≡ 1 = ap one_if (eq-eqb y x follows) in omega (arith, sum_by-cons (waits x) (SharedLoad y Handed) rest, one)

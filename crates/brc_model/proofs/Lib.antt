@@ -44,3 +44,7 @@ pub mod RowsAfterMarks
 pub mod RowsAfterDeciders
 pub mod RowsAfterMerge
 pub mod RowsAfter
+pub mod OwnSteps
+pub mod OwnReleases
+pub mod MergesOnce
+pub mod OwnMerges

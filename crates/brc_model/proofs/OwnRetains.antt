@@ -38,12 +38,12 @@ ready_first (suc head) _ rest e = refl
 
 -- ---- the local word is loaded for a retain
 
-running_is : (status : Status) → is_running status ≡ true → status ≡ Running
+pub running_is : (status : Status) → is_running status ≡ true → status ≡ Running
 running_is Running e = refl
 running_is Leaving e = absurd cc
 running_is Gone e = absurd cc
 
-counts_owner : (m : Machine) (t : ℕ) (a : Actor) (x : ℕ) → counts_locally t (is_running a.status) (m.memory (Local x)) ≡ true → Alive m x → OwnsLocally m t a x
+pub counts_owner : (m : Machine) (t : ℕ) (a : Actor) (x : ℕ) → counts_locally t (is_running a.status) (m.memory (Local x)) ≡ true → Alive m x → OwnsLocally m t a x
 counts_owner m t a x counts alive =
     let owner : owner_part (m.memory (Local x)) ≡ t + 1 = eqb-true _ _ (and_second (is_running a.status) (owner_part (m.memory (Local x)) == t + 1) counts) in
     record {
@@ -57,7 +57,7 @@ counts_owner m t a x counts alive =
     }
 
 -- where nobody decides, the running owner's count is above 0
-count_above : (p : Module) (n : ℕ) (m : Machine) (t x : ℕ) (a : Actor) → Rule p n m → slice_get m.actors t ≡ Some a → OwnsLocally m t a x → agenda_weight (decides x) a ≡ 0 → Alive m x → 1 ≤ local_part (m.memory (Local x))
+pub count_above : (p : Module) (n : ℕ) (m : Machine) (t x : ℕ) (a : Actor) → Rule p n m → slice_get m.actors t ≡ Some a → OwnsLocally m t a x → agenda_weight (decides x) a ≡ 0 → Alive m x → 1 ≤ local_part (m.memory (Local x))
 count_above p n m t x a rule found owns mine alive =
     let none : weight (decides x) m.actors ≡ 0 = nobody_decides p n m t x a rule found owns mine in
     elim alive.live.mode [
@@ -66,7 +66,7 @@ count_above p n m t x a rule found owns mine alive =
       | InMerged s ↦ absurd (omega (arith, s.local, owns.owner))
     ]
 
-weight_here : (p : Module) (n : ℕ) (m : Machine) (t x : ℕ) (a : Actor) (d : Duty) (rest : List Duty) → AtDuty p n m t a d rest → (a.status ≡ Gone → ⊥) → decides x d ≡ 0 → agenda_weight (decides x) a ≡ 0
+pub weight_here : (p : Module) (n : ℕ) (m : Machine) (t x : ℕ) (a : Actor) (d : Duty) (rest : List Duty) → AtDuty p n m t a d rest → (a.status ≡ Gone → ⊥) → decides x d ≡ 0 → agenda_weight (decides x) a ≡ 0
 weight_here p n m t x a d rest here alive none =
     ap (sum_by (decides x)) here.agenda ∙ (let whole = sum_by-cons (decides x) d rest in let others = rest_decides m.rows t a.used a.status a.place x d rest (agenda_here p n m t a d rest here alive) in omega (arith, whole, none, others))
 
