@@ -64,7 +64,7 @@ own_take_mark p n m t a x rest here alive =
             hands = λ y. refl;
             held = held_same m.plain.references t (d ∷ rest) (MergeSwap x Handed ∷ SharedLoad x Handed ∷ rest) (λ k o. refl) (λ k o. refl);
             fits = (fits.0, later);
-            handed = handed;
+            handed = (refl, handed);
             knows = λ b status head. (fits.0, inr fits.1, refl);
           })
       | false ↦ λ e.
@@ -80,7 +80,7 @@ FollowsMerge x rest = NoneHanded rest
 
 pub handed_follows : (x : ℕ) (r : Reason) (rest : List Duty) → FollowsHanded x rest → HandedOnce (MergeSwap x r ∷ rest) → FollowsMerge x rest
 handed_follows x r [] follows handed = absurd follows
-handed_follows x r (SharedLoad y Handed ∷ rest) follows handed = (follows, handed)
+handed_follows x r (SharedLoad y Handed ∷ rest) follows handed = handed
 handed_follows x r _ follows handed = absurd follows
 
 load_handed : (x c : ℕ) (r : Reason) (rest : List Duty) → HandedOnce (MergeSwap x r ∷ rest) → HandedOnce (MergeLoad x c ∷ rest)
@@ -222,14 +222,19 @@ merge_won p n m t a x c w rest here alive follows won =
           ]
     ] refl
 
-pub own_merge_exchange : (p : Module) (n : ℕ) (m : Machine) (t : ℕ) (a : Actor) (x c w : ℕ) (rest : List Duty) → AtDuty p n m t a (MergeExchange x c w) rest → (a.status ≡ Gone → ⊥) → FollowsMerge x rest
+exchange_follows : (x c w : ℕ) (rest : List Duty) → HandedOnce (MergeExchange x c w ∷ rest) → FollowsMerge x rest
+exchange_follows x c w [] handed = handed
+exchange_follows x c w (SharedLoad y Handed ∷ rest) handed = handed
+exchange_follows x c w _ handed = handed
+
+pub own_merge_exchange : (p : Module) (n : ℕ) (m : Machine) (t : ℕ) (a : Actor) (x c w : ℕ) (rest : List Duty) → AtDuty p n m t a (MergeExchange x c w) rest → (a.status ≡ Gone → ⊥)
     → OwnFits p (done_by m t a (MergeExchange x c w) rest) t (actor_by t a (MergeExchange x c w) rest (found_by m t a (MergeExchange x c w)))
-own_merge_exchange p n m t a x c w rest here alive follows =
+own_merge_exchange p n m t a x c w rest here alive =
     let found = m.memory (Shared x) in
     let d : Duty = MergeExchange x c w in
     let fits = head_of p n m t a d rest here in
     elim (found == w) as (λ b. (found == w) ≡ b → OwnFits p (done_by m t a d rest) t (actor_by t a d rest found)) [
-      | true ↦ λ won. merge_won p n m t a x c w rest here alive follows won
+      | true ↦ λ won. merge_won p n m t a x c w rest here alive (exchange_follows x c w rest (handed_here p n m t a d rest here)) won
       | false ↦ λ lost.
           own_next p n m t a d (MergeLoad x c) rest here alive refl refl refl (ap (λ (b : Bool). cond b (cond (merged_word w c == dead_word) (Die x ∷ []) []) (MergeLoad x c ∷ [])) lost)
           (held_same m.plain.references t (d ∷ rest) (MergeLoad x c ∷ rest) (λ k o. refl) (λ k o. refl))

@@ -157,9 +157,9 @@ NoneHanded (d ∷ rest) = NoneHanded rest
 abbrev pub HandedOnce : List Duty → Type 0
 HandedOnce [] = Unit {0}
 HandedOnce (SharedLoad x r ∷ rest) = NoneHanded rest
-HandedOnce (MergeSwap x r ∷ SharedLoad y Handed ∷ rest) = NoneHanded rest
-HandedOnce (MergeLoad x c ∷ SharedLoad y Handed ∷ rest) = NoneHanded rest
-HandedOnce (MergeExchange x c w ∷ SharedLoad y Handed ∷ rest) = NoneHanded rest
+HandedOnce (MergeSwap x r ∷ SharedLoad y Handed ∷ rest) = (y ≡ x) × NoneHanded rest
+HandedOnce (MergeLoad x c ∷ SharedLoad y Handed ∷ rest) = (y ≡ x) × NoneHanded rest
+HandedOnce (MergeExchange x c w ∷ SharedLoad y Handed ∷ rest) = (y ≡ x) × NoneHanded rest
 HandedOnce (d ∷ rest) = NoneHanded rest
 
 -- whether a row's mark is still to be looked at by its thread's exit
