@@ -48,3 +48,4 @@ pub mod OwnSteps
 pub mod OwnReleases
 pub mod MergesOnce
 pub mod OwnMerges
+pub mod TakenSits
