@@ -25,3 +25,4 @@ pub mod Neutral
 pub mod OwnCounts
 pub mod Deciders
 pub mod OwnRetains
+pub mod OwnSettles
