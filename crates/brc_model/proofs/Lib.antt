@@ -26,3 +26,4 @@ pub mod OwnCounts
 pub mod Deciders
 pub mod OwnRetains
 pub mod OwnSettles
+pub mod OwnExits
