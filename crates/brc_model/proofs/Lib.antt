@@ -27,3 +27,4 @@ pub mod Deciders
 pub mod OwnRetains
 pub mod OwnSettles
 pub mod OwnExits
+pub mod Watches
