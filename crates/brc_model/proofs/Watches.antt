@@ -172,3 +172,134 @@ agenda_scans p n m t a (Scan y k) rest x here alive low spares e =
     claim_scans (m.memory (Mark y) == 1) x y (y + 1) (k - 1) a.head rest (omega (arith, fits.2, low, some), rest_reaches m.rows t a.used a.status a.place x (Scan y k) rest fits low) (le-leb (y + 1) x above)
 agenda_scans p n m t a d rest x here alive low spares e =
     other_scans m t a d rest x tt (rest_reaches m.rows t a.used a.status a.place x d rest (agenda_here p n m t a d rest here alive) low) e
+
+-- ---- a look that is under way stays so
+
+looks_step : (m : Machine) (t : ℕ) (a : Actor) (d : Duty) (rest : List Duty) (x : ℕ) → slice_get m.actors t ≡ Some a → a.agenda ≡ d ∷ rest
+    → weight (looks x) (done_by m t a d rest).actors + looks x d ≡ weight (looks x) m.actors + sum_by (looks x) (next_of m t a d)
+looks_step m t a d rest x found is =
+    let after = actor_by t a d rest (found_by m t a d) in
+    let before : agenda_weight (looks x) a ≡ looks x d + sum_by (looks x) rest = ap (sum_by (looks x)) is ∙ sum_by-cons (looks x) d rest in
+    let now : agenda_weight (looks x) after ≡ sum_by (looks x) (next_of m t a d) + sum_by (looks x) rest =
+    looks_ready x (head_by a.head d (found_by m t a d)) (next_of m t a d ++ rest) ∙ sum_by-append (looks x) (next_of m t a d) rest in
+    omega (arith, weight_set (looks x) m.actors t a after found, before, now)
+
+-- a duty that doesn't look at the row
+look_kept : (p : Module) (n : ℕ) (m : Machine) (t : ℕ) (a : Actor) (d : Duty) (rest : List Duty) (x : ℕ) → AtDuty p n m t a d rest → looks x d ≡ 0 → 0 < weight (looks x) m.actors → IsWatched (done_by m t a d rest) x
+look_kept p n m t a d rest x here none some = ByLook (omega (arith, looks_step m t a d rest x here.found here.agenda, none, some))
+
+look_after : (p : Module) (n : ℕ) (m : Machine) (t : ℕ) (a : Actor) (d : Duty) (rest : List Duty) (x : ℕ) → AtDuty p n m t a d rest → Spares d x → 0 < weight (looks x) m.actors → IsWatched (done_by m t a d rest) x
+look_after p n m t a (Look y) rest x here spares some =
+    let word = m.memory (ThreadWord (block_of m.rows y)) in
+    elim (eqb_tells y x) [
+      | inl same ↦ elim (word == 1) as (λ b. (word == 1) ≡ b → IsWatched (done_by m t a (Look y) rest) x) [
+          | true ↦ λ e.
+            ByRunning (written_load m.memory (ThreadWord (block_of m.rows y)) (ThreadWord (block_of m.rows x)) ∙ ap (λ (z : ℕ). m.memory (ThreadWord (block_of m.rows z))) (sym same.1) ∙ eqb-true word 1 e)
+          | false ↦ λ e.
+            let next : sum_by (looks x) (next_of m t a (Look y)) ≡ one_if (y == x) + 0 = ap (λ (b : Bool). sum_by (looks x) (cond b [] (TakeMark y ∷ []))) e ∙ sum_by-cons (looks x) (TakeMark y) [] in
+            ByLook (omega (arith, looks_step m t a (Look y) rest x here.found here.agenda, next, some))
+        ] refl
+      | inr other ↦ look_kept p n m t a (Look y) rest x here (ap one_if other.0) some
+    ]
+look_after p n m t a (TakeMark y) rest x here spares some = look_kept p n m t a (TakeMark y) rest x here (ap one_if (ne_eqb y x spares)) some
+look_after p n m t a _ rest x here spares some = look_kept p n m t a _ rest x here refl some
+
+-- ---- the block's thread stays watchful
+
+-- main's block has the root and the row of nothing
+abbrev pub UsesRoot : Machine → Type 0
+UsesRoot m = (b : Actor) → slice_get m.actors 0 ≡ Some b → b.used ≡ 2
+
+root_within : (rows t used x : ℕ) → x ≡ 1 → block_of rows x ≡ t → (t ≡ 0 → used ≡ 2) → (first_row rows t ≤ x) × (x < first_row rows t + used)
+root_within rows zero used x is block uses = (omega arith, omega (arith, is, uses refl))
+root_within rows (suc t) used x is block uses = let none : block_of rows x ≡ 0 = ap (block_of rows) is in absurd (omega (arith, none, block))
+
+-- the marked row is one of the used rows of its block's thread
+marked_within : (p : Module) (n : ℕ) (m : Machine) (t : ℕ) (a : Actor) (x : ℕ) → Rule p n m → UsesRoot m → slice_get m.actors t ≡ Some a → m.memory (Mark x) ≡ 1 → block_of m.rows x ≡ t
+    → (first_row m.rows t ≤ x) × (x < first_row m.rows t + a.used)
+marked_within p n m t a x rule uses found marked block = root_within m.rows t a.used x (marked_is_root p n m x rule marked) block (λ e. uses a (ap (slice_get m.actors) (sym e) ∙ found))
+
+mine_after : (m : Machine) (t : ℕ) (a : Actor) (d : Duty) (rest : List Duty) (x : ℕ) → slice_get m.actors t ≡ Some a → block_of m.rows x ≡ t → scans x (actor_by t a d rest (found_by m t a d)).agenda ≡ true → IsWatched (done_by m t a d rest) x
+mine_after m t a d rest x found block e =
+    let after = actor_by t a d rest (found_by m t a d) in
+    ByExit after (ap (slice_get (set m.actors t after)) block ∙ set_found m.actors t a after found) e
+
+running_after : (p : Module) (n : ℕ) (m : Machine) (t : ℕ) (a : Actor) (d : Duty) (rest : List Duty) (x : ℕ) → AtDuty p n m t a d rest → (a.status ≡ Gone → ⊥) → UsesRoot m → m.memory (Mark x) ≡ 1
+    → m.memory (ThreadWord (block_of m.rows x)) ≡ 1 → IsWatched (done_by m t a d rest) x
+running_after p n m t a (Leave y k) [] x here alive uses marked runs =
+    elim (eqb_tells (block_of m.rows x) t) [
+      | inl same ↦
+        let fits = agenda_here p n m t a (Leave y k) [] here alive in
+        let within = marked_within p n m t a x here.rule uses here.found marked same.1 in
+        mine_after m t a (Leave y k) [] x here.found same.1
+        (scans_ready x a.head (Scan y k ∷ Finish ∷ []) (omega (arith, within.1, fits.2, fits.3), tt) (le-leb y x (omega (arith, within.0, fits.2))))
+      | inr other ↦ ByRunning (words_left m t a (Leave y k) (block_of m.rows x) other.1 ∙ runs)
+    ]
+running_after p n m t a (Leave y k) (e ∷ rest) x here alive uses marked runs = absurd (agenda_here p n m t a (Leave y k) (e ∷ rest) here alive)
+running_after p n m t a Finish [] x here alive uses marked runs =
+    elim (eqb_tells (block_of m.rows x) t) [
+      | inl same ↦
+        let fits = agenda_here p n m t a Finish [] here alive in
+        let word : m.memory (ThreadWord t) ≡ 2 = (here.rule.each t a here.found).0.word ∙ ap status_word fits.0 in
+        let still : m.memory (ThreadWord t) ≡ 1 = ap (λ (z : ℕ). m.memory (ThreadWord z)) (sym same.1) ∙ runs in
+        absurd (omega (arith, word, still))
+      | inr other ↦ ByRunning (words_left m t a Finish (block_of m.rows x) other.1 ∙ runs)
+    ]
+running_after p n m t a Finish (e ∷ rest) x here alive uses marked runs = absurd (agenda_here p n m t a Finish (e ∷ rest) here alive)
+running_after p n m t a (Look y) rest x here alive uses marked runs = ByRunning (written_load m.memory (ThreadWord (block_of m.rows y)) (ThreadWord (block_of m.rows x)) ∙ runs)
+running_after p n m t a _ rest x here alive uses marked runs = ByRunning runs
+
+exit_after : (p : Module) (n : ℕ) (m : Machine) (t : ℕ) (a : Actor) (d : Duty) (rest : List Duty) (x : ℕ) (b : Actor) → AtDuty p n m t a d rest → (a.status ≡ Gone → ⊥) → UsesRoot m → m.memory (Mark x) ≡ 1 → Spares d x
+    → slice_get m.actors (block_of m.rows x) ≡ Some b → scans x b.agenda ≡ true → IsWatched (done_by m t a d rest) x
+exit_after p n m t a d rest x b here alive uses marked spares found e =
+    elim (eqb_tells (block_of m.rows x) t) [
+      | inl same ↦
+        let it : b ≡ a = some_is b a (sym found ∙ ap (slice_get m.actors) same.1 ∙ here.found) in
+        let still : scans x (d ∷ rest) ≡ true = ap (scans x) (sym here.agenda) ∙ ap (λ (c : Actor). scans x c.agenda) (sym it) ∙ e in
+        mine_after m t a d rest x here.found same.1 (agenda_scans p n m t a d rest x here alive (marked_within p n m t a x here.rule uses here.found marked same.1).1 spares still)
+      | inr other ↦ ByExit b (slice_get-set_other m.actors t (block_of m.rows x) (actor_by t a d rest (found_by m t a d)) other.1 ∙ found) e
+    ]
+
+watched_after : (p : Module) (n : ℕ) (m : Machine) (t : ℕ) (a : Actor) (d : Duty) (rest : List Duty) (x : ℕ) → AtDuty p n m t a d rest → (a.status ≡ Gone → ⊥) → UsesRoot m → m.memory (Mark x) ≡ 1 → Spares d x
+    → IsWatched m x → IsWatched (done_by m t a d rest) x
+watched_after p n m t a d rest x here alive uses marked spares (ByRunning runs) = running_after p n m t a d rest x here alive uses marked runs
+watched_after p n m t a d rest x here alive uses marked spares (ByExit b found e) = exit_after p n m t a d rest x b here alive uses marked spares found e
+watched_after p n m t a d rest x here alive uses marked spares (ByLook some) = look_after p n m t a d rest x here spares some
+
+-- ---- all marks
+
+abbrev pub MarkFits : Machine → ℕ → Type 0
+MarkFits m x = (m.memory (Mark x) ≡ 0) ⊎ ((m.memory (Mark x) ≡ 1) × (0 < x) × IsWatched m x)
+
+mark_kept : (p : Module) (n : ℕ) (m : Machine) (t : ℕ) (a : Actor) (d : Duty) (rest : List Duty) (x : ℕ) → AtDuty p n m t a d rest → (a.status ≡ Gone → ⊥) → UsesRoot m → Spares d x
+    → memory_by m t a d (Mark x) ≡ m.memory (Mark x) → MarkFits (done_by m t a d rest) x
+mark_kept p n m t a d rest x here alive uses spares same =
+    elim (here.rule.marks x) [
+      | inl none ↦ inl (same ∙ none)
+      | inr some ↦ inr (same ∙ some.0, some.1, watched_after p n m t a d rest x here alive uses some.0 spares some.2)
+    ]
+
+-- a duty that takes the mark of y away
+mark_taken : (p : Module) (n : ℕ) (m : Machine) (t : ℕ) (a : Actor) (d : Duty) (rest : List Duty) (y x : ℕ) → AtDuty p n m t a d rest → (a.status ≡ Gone → ⊥) → UsesRoot m → (y ≢ x → Spares d x)
+    → ((z : ℕ) → memory_by m t a d (Mark z) ≡ written m.memory (Mark y) 0 (Mark z)) → MarkFits (done_by m t a d rest) x
+mark_taken p n m t a d rest y x here alive uses spares now =
+    elim (eqb_tells y x) [
+      | inl same ↦ inl (now x ∙ ap (λ (z : ℕ). written m.memory (Mark z) 0 (Mark x)) same.1 ∙ written_here m.memory (Mark x) 0)
+      | inr other ↦ mark_kept p n m t a d rest x here alive uses (spares other.1) (now x ∙ written_apart m.memory (Mark y) (Mark x) 0 (apart_mark y x other.1))
+    ]
+
+pub marks_after : (p : Module) (n : ℕ) (m : Machine) (t : ℕ) (a : Actor) (d : Duty) (rest : List Duty) → AtDuty p n m t a d rest → (a.status ≡ Gone → ⊥) → (uses : UsesRoot m) → (x : ℕ) → MarkFits (done_by m t a d rest) x
+marks_after p n m t a (SetMark y) rest here alive uses x =
+    elim (eqb_tells y x) [
+      | inl same ↦
+        let above : 0 < y = head_of p n m t a (SetMark y) rest here in
+        let one : one_if (y == x) ≡ 1 = ap one_if same.0 in
+        let next : sum_by (looks x) (Look y ∷ []) ≡ one_if (y == x) + 0 = sum_by-cons (looks x) (Look y) [] in
+        inr (ap (λ (z : ℕ). written m.memory (Mark z) 1 (Mark x)) same.1 ∙ written_here m.memory (Mark x) 1, omega (arith, above, same.1),
+          ByLook (omega (arith, looks_step m t a (SetMark y) rest x here.found here.agenda, one, next)))
+      | inr other ↦ mark_kept p n m t a (SetMark y) rest x here alive uses tt (written_apart m.memory (Mark y) (Mark x) 1 (apart_mark y x other.1))
+    ]
+marks_after p n m t a (TakeMark y) rest here alive uses x = mark_taken p n m t a (TakeMark y) rest y x here alive uses (λ ne. ne) (λ z. refl)
+marks_after p n m t a (Scan y k) rest here alive uses x = mark_taken p n m t a (Scan y k) rest y x here alive uses (λ ne. ne) (λ z. refl)
+marks_after p n m t a (ClaimMark y) rest here alive uses x = mark_taken p n m t a (ClaimMark y) rest y x here alive uses (λ ne. tt) (λ z. refl)
+marks_after p n m t a d rest here alive uses x = mark_kept p n m t a d rest x here alive uses tt refl
