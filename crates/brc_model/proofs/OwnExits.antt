@@ -1,23 +1,23 @@
 -- A thread after its own steps of an exit: it says that it leaves, looks through its rows' marks, and is gone.
-use Rattle.std.proofs.Common.{◌≡◌, ◌≢◌, ℕ, zero, suc, ◌+◌, ◌-◌, ◌<◌, ◌≤◌, Bool, true, false, cond, List, [], ◌∷◌, ◌++◌, ◌⊎◌, inl, inr, Option, None, Some, refl, sym, ap, ◌∙◌, subst, arith}
-use Rattle.std.specs.Prelude.{◌==◌, ◌&&◌, nat_lt, slice_get}
-use Rattle.std.proofs.lemmas.Bool.{eqb-true, eq-eqb}
+use Rattle.std.proofs.Common.{◌≡◌, ℕ, zero, suc, ◌+◌, ◌-◌, ◌<◌, ◌≤◌, Bool, true, false, cond, List, [], ◌∷◌, ◌++◌, ◌⊎◌, inl, inr, None, refl, sym, ap, ◌∙◌, subst, arith}
+use Rattle.std.specs.Prelude.{◌==◌, ◌&&◌, nat_lt}
+use Rattle.std.proofs.lemmas.Bool.{eqb-true}
 use Rattle.brc_lang.specs.declared.module.Module.{Module}
-use Rattle.brc_model.specs.Plain.{Holding, Reference}
+use Rattle.brc_model.specs.Plain.{Holding}
 use Rattle.brc_model.specs.Words.{local_part, is_immortal_word, fresh_word, dead_word, released_word, merged_word}
-use Rattle.brc_model.specs.Duties.{Reason, Own, Handed, Duty, RetainLoad, RetainStore, RetainAdd, ReleaseLoad, ReleaseStore, DecideAtZero, SharedLoad, SharedExchange, SetMark, Look, TakeMark, MergeSwap, MergeLoad, MergeExchange, Die, Settle, SettleKind, SettleCell, SettleEnd, Leave, Scan, Finish, ClaimMark, Address, Gate, Mark, ThreadWord, block_of, next_by, counts_locally, claimed, shared_result, cells_of, cells_from, release_found, head_by, ready}
-use Rattle.brc_model.specs.Machine.{Status, Running, Leaving, Gone, Place, Departing, Actor, Life, Unborn, Machine, is_running, first_row, status_by, dies_next, ended_row, actor_by, done_by, written}
+use Rattle.brc_model.specs.Duties.{Own, Handed, Duty, RetainLoad, RetainStore, RetainAdd, ReleaseLoad, ReleaseStore, DecideAtZero, SharedLoad, SharedExchange, SetMark, Look, TakeMark, MergeSwap, MergeLoad, MergeExchange, Die, Settle, SettleKind, SettleCell, SettleEnd, Leave, Scan, Finish, ClaimMark, Gate, Mark, ThreadWord, block_of, next_by, counts_locally, claimed, shared_result, cells_of, cells_from, release_found, head_by, ready}
+use Rattle.brc_model.specs.Machine.{Status, Leaving, Gone, Place, Actor, Life, Machine, is_running, first_row, status_by, dies_next, ended_row, actor_by, done_by}
 use Rattle.brc_model.proofs.Bag.{one_if}
-use Rattle.brc_model.proofs.Rule.{extra_of, lacks_of, HeadFits, HeadOf, MayMerge, Later, Agenda, NoneHanded, HandedOnce, numbers_of, hand_of, dies_by, ChainFits, ActorFits, AgendaFits, Rule, status_word}
+use Rattle.brc_model.proofs.Rule.{extra_of, lacks_of, Later, Agenda, NoneHanded, HandedOnce, numbers_of, hand_of, dies_by, ChainFits, Rule}
 use Rattle.brc_model.proofs.Rows.{RowRule}
 use Rattle.brc_model.proofs.Written.{written_here}
 use Rattle.brc_model.proofs.Leaves.{AtDuty, head_of}
 use Rattle.brc_model.proofs.Lives.{next_of}
-use Rattle.brc_model.proofs.Own.{HeldStep, IsReady, ready_is, ChainSame, chain_same}
-use Rattle.brc_model.proofs.Neutral.{OwnFits, found_by, bag_by, memory_by, agenda_here, handed_here, NeutralStep, own_neutral}
+use Rattle.brc_model.proofs.Own.{HeldStep, ready_is, chain_same}
+use Rattle.brc_model.proofs.Neutral.{OwnFits, found_by, bag_by, memory_by, agenda_here, handed_here, own_neutral}
 use Rattle.brc_model.proofs.OwnCounts.{held_same}
 use Rattle.brc_model.proofs.OwnRetains.{ready_first}
-use Rattle.brc_model.proofs.OwnSettles.{ShownStep, own_shown, agenda_shown, chain_here}
+use Rattle.brc_model.proofs.OwnSettles.{own_shown, agenda_shown, chain_here}
 
 -- ---- marked rows
 
@@ -62,28 +62,40 @@ claim_step p n m t a d x rest behind here alive step =
     let both = MergeSwap x Handed ∷ SharedLoad x Handed ∷ [] in
     elim (m.memory (Mark x) == 1) as (λ b. (m.memory (Mark x) == 1) ≡ b → OwnFits p (done_by m t a d rest) t (actor_by t a d rest (found_by m t a d))) [
       | true ↦ λ e.
-        let marked : m.memory (Mark x) ≡ 1 = eqb-true (m.memory (Mark x)) 1 e in
-        let above = mark_above p n m x here.rule marked in
-        own_neutral p n m t a d rest (MergeSwap x Handed ∷ SharedLoad x Handed ∷ behind) (MergeSwap x Handed ∷ SharedLoad x Handed ∷ (behind ++ rest)) here alive (record {
-          next_is = step.next_is ∙ ap (λ (b : Bool). cond b both [] ++ behind) e;
-          none_dies = refl; none_ends = step.none_ends; same_head = step.same_head; same_status = step.same_status;
-          agenda_is = ready_first a.head (MergeSwap x Handed) (SharedLoad x Handed ∷ (behind ++ rest)) refl;
-          gates = step.gates; word = step.word; hands = λ y. sym (step.hands y);
-          held = step.held (MergeSwap x Handed ∷ SharedLoad x Handed ∷ (behind ++ rest)) (λ h o. refl) (λ h o. refl);
-          fits = (above, step.later); handed = step.none;
-          knows = λ b status head. (above, inl (step.block marked), refl);
-        })
+          let marked : m.memory (Mark x) ≡ 1 = eqb-true (m.memory (Mark x)) 1 e in
+          let above = mark_above p n m x here.rule marked in
+          own_neutral p n m t a d rest (MergeSwap x Handed ∷ SharedLoad x Handed ∷ behind) (MergeSwap x Handed ∷ SharedLoad x Handed ∷ (behind ++ rest)) here alive (record {
+            next_is = step.next_is ∙ ap (λ (b : Bool). cond b both [] ++ behind) e;
+            none_dies = refl;
+            none_ends = step.none_ends;
+            same_head = step.same_head;
+            same_status = step.same_status;
+            agenda_is = ready_first a.head (MergeSwap x Handed) (SharedLoad x Handed ∷ (behind ++ rest)) refl;
+            gates = step.gates;
+            word = step.word;
+            hands = λ y. sym (step.hands y);
+            held = step.held (MergeSwap x Handed ∷ SharedLoad x Handed ∷ (behind ++ rest)) (λ h o. refl) (λ h o. refl);
+            fits = (above, step.later);
+            handed = step.none;
+            knows = λ b status head. (above, inl (step.block marked), refl);
+          })
       | false ↦ λ e.
-        let ready_so = ready_is m.rows t a.used a.status a.place a.head (behind ++ rest) step.later step.none in
-        own_neutral p n m t a d rest behind (ready a.head (behind ++ rest)) here alive (record {
-          next_is = step.next_is ∙ ap (λ (b : Bool). cond b both [] ++ behind) e;
-          none_dies = step.none_dies; none_ends = step.none_ends; same_head = step.same_head; same_status = step.same_status;
-          agenda_is = refl;
-          gates = step.gates; word = step.word; hands = λ y. ready_so.at_hand y ∙ sym (step.hands y);
-          held = step.held (ready a.head (behind ++ rest)) ready_so.more ready_so.less;
-          fits = ready_so.fits; handed = ready_so.handed;
-          knows = λ b status head. ready_so.knows (done_by m t a d rest) b head;
-        })
+          let ready_so = ready_is m.rows t a.used a.status a.place a.head (behind ++ rest) step.later step.none in
+          own_neutral p n m t a d rest behind (ready a.head (behind ++ rest)) here alive (record {
+            next_is = step.next_is ∙ ap (λ (b : Bool). cond b both [] ++ behind) e;
+            none_dies = step.none_dies;
+            none_ends = step.none_ends;
+            same_head = step.same_head;
+            same_status = step.same_status;
+            agenda_is = refl;
+            gates = step.gates;
+            word = step.word;
+            hands = λ y. ready_so.at_hand y ∙ sym (step.hands y);
+            held = step.held (ready a.head (behind ++ rest)) ready_so.more ready_so.less;
+            fits = ready_so.fits;
+            handed = ready_so.handed;
+            knows = λ b status head. ready_so.knows (done_by m t a d rest) b head;
+          })
     ] refl
 
 pub own_scan : (p : Module) (n : ℕ) (m : Machine) (t : ℕ) (a : Actor) (x k : ℕ) (rest : List Duty) → AtDuty p n m t a (Scan x k) rest → (a.status ≡ Gone → ⊥)
@@ -92,8 +104,14 @@ own_scan p n m t a x k rest here alive =
     let some = head_of p n m t a (Scan x k) rest here in
     let fits = agenda_here p n m t a (Scan x k) rest here alive in
     claim_step p n m t a (Scan x k) x rest (Settle ∷ Scan (x + 1) (k - 1) ∷ []) here alive (record {
-      next_is = refl; none_dies = refl; none_ends = refl; same_head = refl; same_status = refl;
-      gates = λ y. refl; word = refl; hands = λ y. refl;
+      next_is = refl;
+      none_dies = refl;
+      none_ends = refl;
+      same_head = refl;
+      same_status = refl;
+      gates = λ y. refl;
+      word = refl;
+      hands = λ y. refl;
       held = λ agenda more less. held_same m.plain.references t (Scan x k ∷ rest) agenda more less;
       block = λ marked. root_of_block m.rows t x (marked_is_root p n m x here.rule marked) fits.1;
       later = (fits.0, omega (arith, fits.1), omega (arith, fits.2, some), fits.3);
@@ -105,8 +123,14 @@ pub own_claim_mark : (p : Module) (n : ℕ) (m : Machine) (t : ℕ) (a : Actor) 
     → OwnFits p (done_by m t a (ClaimMark x) rest) t (actor_by t a (ClaimMark x) rest (found_by m t a (ClaimMark x)))
 own_claim_mark p n m t a x rest here alive =
     claim_step p n m t a (ClaimMark x) x rest (Settle ∷ []) here alive (record {
-      next_is = refl; none_dies = refl; none_ends = refl; same_head = refl; same_status = refl;
-      gates = λ y. refl; word = refl; hands = λ y. refl;
+      next_is = refl;
+      none_dies = refl;
+      none_ends = refl;
+      same_head = refl;
+      same_status = refl;
+      gates = λ y. refl;
+      word = refl;
+      hands = λ y. refl;
       held = λ agenda more less. held_same m.plain.references t (ClaimMark x ∷ rest) agenda more less;
       block = λ marked. head_of p n m t a (ClaimMark x) rest here;
       later = agenda_here p n m t a (ClaimMark x) rest here alive;
@@ -122,10 +146,10 @@ exit_chain p n m t a d rest agenda here gates lives before after =
     chain_same m (done_by m t a d rest) t a.head (d ∷ rest) agenda (record {
       gates = gates;
       hands = λ y.
-      let was : one_if (hand_of (d ∷ rest) y) ≡ 0 = ap one_if (before y) in
-      let now : one_if (hand_of agenda y) ≡ 0 = ap one_if (after y) in
-      let life : one_if (dies_by ((done_by m t a d rest).life y) t) ≡ one_if (dies_by (m.life y) t) = ap (λ (l : Life). one_if (dies_by l t)) (lives y) in
-      omega (arith, was, now, life);
+          let was : one_if (hand_of (d ∷ rest) y) ≡ 0 = ap one_if (before y) in
+          let now : one_if (hand_of agenda y) ≡ 0 = ap one_if (after y) in
+          let life : one_if (dies_by ((done_by m t a d rest).life y) t) ≡ one_if (dies_by (m.life y) t) = ap (λ (l : Life). one_if (dies_by l t)) (lives y) in
+          omega (arith, was, now, life);
     }) (chain_here p n m t a d rest here)
 
 pub own_leave : (p : Module) (n : ℕ) (m : Machine) (t : ℕ) (a : Actor) (x k : ℕ) (rest : List Duty) → AtDuty p n m t a (Leave x k) rest → (a.status ≡ Gone → ⊥)
@@ -135,7 +159,9 @@ own_leave p n m t a x k [] here alive =
     let looks : List Duty = Scan x k ∷ Finish ∷ [] in
     let ready_so = ready_is m.rows t a.used Leaving a.place a.head looks (refl, omega (arith, fits.2), omega (arith, fits.2, fits.3), (refl, fits.1)) tt in
     own_shown p n m t a (Leave x k) [] (ready a.head looks) Leaving a.head here (record {
-      head_is = refl; status_is = refl; agenda_is = refl;
+      head_is = refl;
+      status_is = refl;
+      agenda_is = refl;
       word = written_here m.memory (ThreadWord t) 2;
       held = held_same m.plain.references t (Leave x k ∷ []) (ready a.head looks) ready_so.more ready_so.less;
       chain = exit_chain p n m t a (Leave x k) [] (ready a.head looks) here (λ y. refl) (λ y. refl) (λ y. refl) ready_so.at_hand;
@@ -151,13 +177,15 @@ ready_none : (head : ℕ) → ready head [] ≡ []
 ready_none zero = refl
 ready_none (suc head) = refl
 
--- (its chain is empty: a thread settles before it leaves, and after each mark)
+-- its chain is empty by `IsSettled` below: a thread settles before it leaves, and after each mark
 pub own_finish : (p : Module) (n : ℕ) (m : Machine) (t : ℕ) (a : Actor) (rest : List Duty) → AtDuty p n m t a Finish rest → (a.status ≡ Gone → ⊥) → (empty : a.head ≡ 0)
     → OwnFits p (done_by m t a Finish rest) t (actor_by t a Finish rest (found_by m t a Finish))
 own_finish p n m t a [] here alive empty =
     let fits = agenda_here p n m t a Finish [] here alive in
     own_shown p n m t a Finish [] [] Gone a.head here (record {
-      head_is = refl; status_is = refl; agenda_is = ready_none a.head;
+      head_is = refl;
+      status_is = refl;
+      agenda_is = ready_none a.head;
       word = written_here m.memory (ThreadWord t) 3;
       held = held_same m.plain.references t (Finish ∷ []) [] (λ k o. refl) (λ k o. refl);
       chain = exit_chain p n m t a Finish [] [] here (λ y. refl) (λ y. refl) (λ y. refl) (λ y. refl);

@@ -1,23 +1,23 @@
 -- A thread after its own steps of a death: a row is chained, taken from the chain, and finalised.
-use Rattle.std.proofs.Common.{◌≡◌, ◌≢◌, ℕ, zero, suc, ◌+◌, ◌-◌, ◌*◌, ◌%◌, ◌<◌, ◌≤◌, Bool, true, false, cond, List, [], ◌∷◌, ◌++◌, ◌⊎◌, inl, inr, Option, None, Some, refl, sym, ap, ◌∙◌, subst, arith}
-use Rattle.std.specs.Prelude.{◌==◌, ◌&&◌, nat_lt, slice_get, count_by}
-use Rattle.std.proofs.lemmas.Bool.{eqb-true, eq-eqb, ne_eqb, ltb-true}
+use Rattle.std.proofs.Common.{◌≡◌, ℕ, zero, suc, ◌+◌, ◌-◌, ◌<◌, ◌≤◌, Bool, true, false, cond, List, [], ◌∷◌, ◌++◌, inl, inr, None, Some, refl, sym, ap, ◌∙◌, subst, arith}
+use Rattle.std.specs.Prelude.{◌==◌, nat_lt, slice_get, count_by}
+use Rattle.std.proofs.lemmas.Bool.{eq-eqb, ltb-true}
 use Rattle.std.proofs.lemmas.Bool.Decides.{eqb_tells}
 use Rattle.std.proofs.lemmas.List.Sums.{sum_by-cons}
 use Rattle.brc_lang.specs.declared.module.Module.{Module}
-use Rattle.brc_model.specs.Plain.{Holding, Reference}
+use Rattle.brc_model.specs.Plain.{Holding}
 use Rattle.brc_model.specs.Steps.{code_of}
 use Rattle.brc_model.specs.Words.{dying_word, next_part, closed_word}
-use Rattle.brc_model.specs.Duties.{Duty, Die, Settle, SettleKind, SettleCell, SettleEnd, Address, Gate, KindOf, Cell, ThreadWord, head_by, ready, cells_of, cells_from, release_found}
-use Rattle.brc_model.specs.Machine.{Status, Running, Leaving, Gone, Place, Actor, Life, Unborn, Live, Dying, Closed, Machine, status_by, ended_row, with_life, actor_by, done_by, written}
-use Rattle.brc_model.proofs.Bag.{held, one_if}
-use Rattle.brc_model.proofs.Rule.{extra_of, lacks_of, PlaceFits, HeadFits, HeadOf, Later, Agenda, NoneHanded, HandedOnce, Linked, hand_of, dies_by, ChainFits, ActorFits, AgendaFits, Rule, status_word}
+use Rattle.brc_model.specs.Duties.{Duty, Die, Settle, SettleKind, SettleCell, SettleEnd, Gate, KindOf, Cell, ThreadWord, head_by, ready, cells_of, cells_from, release_found}
+use Rattle.brc_model.specs.Machine.{Status, Gone, Actor, Unborn, Live, Dying, Closed, Machine, status_by, ended_row, with_life, actor_by, done_by, written}
+use Rattle.brc_model.proofs.Bag.{one_if}
+use Rattle.brc_model.proofs.Rule.{extra_of, lacks_of, PlaceFits, HeadOf, Later, Agenda, NoneHanded, HandedOnce, Linked, hand_of, dies_by, ChainFits, AgendaFits, Rule, status_word}
 use Rattle.brc_model.proofs.Written.{written_here, written_apart, written_load, apart_gate}
-use Rattle.brc_model.proofs.Others.{dying_is, is_dying, linked_kept}
+use Rattle.brc_model.proofs.Others.{is_dying, linked_kept}
 use Rattle.brc_model.proofs.Leaves.{AtDuty, head_of}
 use Rattle.brc_model.proofs.Lives.{next_of}
-use Rattle.brc_model.proofs.Own.{HeldStep, place_step, IsReady, ready_is}
-use Rattle.brc_model.proofs.Neutral.{OwnFits, found_by, bag_by, memory_by, agenda_out, agenda_here, handed_here, life_same, NeutralStep, own_neutral}
+use Rattle.brc_model.proofs.Own.{HeldStep, place_step, ready_is}
+use Rattle.brc_model.proofs.Neutral.{OwnFits, found_by, bag_by, memory_by, agenda_out, agenda_here, handed_here, life_same, own_neutral}
 use Rattle.brc_model.proofs.OwnCounts.{held_same}
 use Rattle.brc_model.proofs.OwnRetains.{ready_first}
 
@@ -107,9 +107,16 @@ die_chain p n m t a x rest agenda here none =
     let new = written m.memory (Gate x) (dying_word t a.head) in
     record {
       chained = x ∷ old.chained;
-      linked = (refl, (a.head, written_here m.memory (Gate x) (dying_word t a.head), head_low p n m t a.head (Die x ∷ rest) old.chained here.rule old.linked old.once,
-        linked_kept m.memory new t a.head old.chained
-        (λ y some. written_apart m.memory (Gate x) (Gate y) (dying_word t a.head) (apart_gate x y (λ e. absurd (omega (arith, subst (λ (z : ℕ). 0 < count_by (λ w. w == z) old.chained) (sym e) some, absent))))) old.linked));
+      linked = (
+        refl,
+        (
+          a.head,
+          written_here m.memory (Gate x) (dying_word t a.head),
+          head_low p n m t a.head (Die x ∷ rest) old.chained here.rule old.linked old.once,
+          linked_kept m.memory new t a.head old.chained
+              (λ y some. written_apart m.memory (Gate x) (Gate y) (dying_word t a.head) (apart_gate x y (λ e. absurd (omega (arith, subst (λ (z : ℕ). 0 < count_by (λ w. w == z) old.chained) (sym e) some, absent))))) old.linked,
+        ),
+      );
       once = λ y. let hand : one_if (hand_of agenda y) ≡ 0 = ap one_if (none y) in omega (arith, hand, old.once y, sum_by-cons (λ z. cond (z == y) 1 0) x old.chained);
     }
 
@@ -118,7 +125,9 @@ pub own_die : (p : Module) (n : ℕ) (m : Machine) (t : ℕ) (a : Actor) (x : �
 own_die p n m t a x rest here alive =
     let ready_so = ready_is m.rows t a.used a.status a.place (x + 1) rest (agenda_here p n m t a (Die x) rest here alive) (handed_here p n m t a (Die x) rest here) in
     own_shown p n m t a (Die x) rest (ready (x + 1) rest) a.status (x + 1) here (record {
-      head_is = refl; status_is = refl; agenda_is = refl;
+      head_is = refl;
+      status_is = refl;
+      agenda_is = refl;
       word = (here.rule.each t a here.found).0.word;
       held = held_same m.plain.references t (Die x ∷ rest) (ready (x + 1) rest) ready_so.more ready_so.less;
       chain = die_chain p n m t a x rest (ready (x + 1) rest) here ready_so.at_hand;
@@ -150,9 +159,13 @@ first_by m t a rest (x ∷ xs) some linked once =
     let each : (z : ℕ) → one_if (x == z) + count_by (λ y. y == z) xs ≡ one_if (dies_by (m.life z) t) = λ z. omega (arith, once z, sum_by-cons (λ y. cond (y == z) 1 0) x xs) in
     let here : one_if (x == x) ≡ 1 = ap one_if (eq-eqb x x refl) in
     record {
-      row = x; others = xs; head_is = linked.0; next = linked.1.0;
+      row = x;
+      others = xs;
+      head_is = linked.0;
+      next = linked.1.0;
       next_is = next_of_dying (m.memory (Gate x)) t linked.1.0 linked.1.1 linked.1.2;
-      linked = linked.1.3; once = each;
+      linked = linked.1.3;
+      once = each;
       dies = is_dying (m.life x) t (one_if_some _ (omega (arith, each x, here)));
     }
 
@@ -168,7 +181,9 @@ settle_shown p n m t a rest first here alive row_is =
     let front : (h : ℕ) → ready h (SettleKind (a.head - 1) ∷ Settle ∷ rest) ≡ later = λ h. ready_first h (SettleKind (a.head - 1)) (Settle ∷ rest) refl ∙ ap (λ (x : ℕ). SettleKind x ∷ Settle ∷ rest) row_is in
     let new = done_by m t a Settle rest in
     record {
-      head_is = head; status_is = refl; agenda_is = front (next_part (m.memory (Gate (a.head - 1))));
+      head_is = head;
+      status_is = refl;
+      agenda_is = front (next_part (m.memory (Gate (a.head - 1))));
       word = (here.rule.each t a here.found).0.word;
       held = held_same m.plain.references t (Settle ∷ rest) later (λ k o. refl) (λ k o. refl);
       chain = record {
@@ -211,25 +226,39 @@ cells_step : (p : Module) (n : ℕ) (m : Machine) (t : ℕ) (a : Actor) (d : Dut
 cells_step p n m t a d x i k rest here alive step =
     elim (nat_lt i k) as (λ b. nat_lt i k ≡ b → OwnFits p (done_by m t a d rest) t (actor_by t a d rest (found_by m t a d))) [
       | true ↦ λ e.
-        let next : next_of m t a d ≡ SettleCell x i k ∷ [] = step.next_is ∙ ap (λ (b : Bool). cond b (SettleCell x i k ∷ []) (SettleEnd x ∷ [])) e in
-        own_neutral p n m t a d rest (SettleCell x i k ∷ []) (SettleCell x i k ∷ rest) here alive (record {
-          next_is = next; none_dies = refl; none_ends = step.none_ends; same_head = step.same_head; same_status = step.same_status;
-          agenda_is = ready_first a.head (SettleCell x i k) rest refl;
-          gates = step.gates; word = step.word; hands = step.hands;
-          held = step.held (SettleCell x i k) (λ h o. refl) (λ h o. refl);
-          fits = step.later; handed = step.none;
-          knows = λ b status head. (step.above, life_same m t a d (SettleCell x i k ∷ []) x next refl step.none_ends ∙ step.dies, ltb-true i k e);
-        })
+          let next : next_of m t a d ≡ SettleCell x i k ∷ [] = step.next_is ∙ ap (λ (b : Bool). cond b (SettleCell x i k ∷ []) (SettleEnd x ∷ [])) e in
+          own_neutral p n m t a d rest (SettleCell x i k ∷ []) (SettleCell x i k ∷ rest) here alive (record {
+            next_is = next;
+            none_dies = refl;
+            none_ends = step.none_ends;
+            same_head = step.same_head;
+            same_status = step.same_status;
+            agenda_is = ready_first a.head (SettleCell x i k) rest refl;
+            gates = step.gates;
+            word = step.word;
+            hands = step.hands;
+            held = step.held (SettleCell x i k) (λ h o. refl) (λ h o. refl);
+            fits = step.later;
+            handed = step.none;
+            knows = λ b status head. (step.above, life_same m t a d (SettleCell x i k ∷ []) x next refl step.none_ends ∙ step.dies, ltb-true i k e);
+          })
       | false ↦ λ e.
-        let next : next_of m t a d ≡ SettleEnd x ∷ [] = step.next_is ∙ ap (λ (b : Bool). cond b (SettleCell x i k ∷ []) (SettleEnd x ∷ [])) e in
-        own_neutral p n m t a d rest (SettleEnd x ∷ []) (SettleEnd x ∷ rest) here alive (record {
-          next_is = next; none_dies = refl; none_ends = step.none_ends; same_head = step.same_head; same_status = step.same_status;
-          agenda_is = ready_first a.head (SettleEnd x) rest refl;
-          gates = step.gates; word = step.word; hands = step.hands;
-          held = step.held (SettleEnd x) (λ h o. refl) (λ h o. refl);
-          fits = step.later; handed = step.none;
-          knows = λ b status head. (step.above, life_same m t a d (SettleEnd x ∷ []) x next refl step.none_ends ∙ step.dies);
-        })
+          let next : next_of m t a d ≡ SettleEnd x ∷ [] = step.next_is ∙ ap (λ (b : Bool). cond b (SettleCell x i k ∷ []) (SettleEnd x ∷ [])) e in
+          own_neutral p n m t a d rest (SettleEnd x ∷ []) (SettleEnd x ∷ rest) here alive (record {
+            next_is = next;
+            none_dies = refl;
+            none_ends = step.none_ends;
+            same_head = step.same_head;
+            same_status = step.same_status;
+            agenda_is = ready_first a.head (SettleEnd x) rest refl;
+            gates = step.gates;
+            word = step.word;
+            hands = step.hands;
+            held = step.held (SettleEnd x) (λ h o. refl) (λ h o. refl);
+            fits = step.later;
+            handed = step.none;
+            knows = λ b status head. (step.above, life_same m t a d (SettleEnd x ∷ []) x next refl step.none_ends ∙ step.dies);
+          })
     ] refl
 
 pub own_settle_kind : (p : Module) (n : ℕ) (m : Machine) (t : ℕ) (a : Actor) (x : ℕ) (rest : List Duty) → AtDuty p n m t a (SettleKind x) rest → (a.status ≡ Gone → ⊥)
@@ -237,8 +266,15 @@ pub own_settle_kind : (p : Module) (n : ℕ) (m : Machine) (t : ℕ) (a : Actor)
 own_settle_kind p n m t a x rest here alive =
     let fits = head_of p n m t a (SettleKind x) rest here in
     cells_step p n m t a (SettleKind x) x 0 (cells_of (m.memory (KindOf x))) rest here alive (record {
-      above = fits.0; dies = fits.1; next_is = refl; none_ends = refl; same_head = refl; same_status = refl;
-      gates = λ y. refl; word = refl; hands = λ y. refl;
+      above = fits.0;
+      dies = fits.1;
+      next_is = refl;
+      none_ends = refl;
+      same_head = refl;
+      same_status = refl;
+      gates = λ y. refl;
+      word = refl;
+      hands = λ y. refl;
       held = λ e more less. held_same m.plain.references t (SettleKind x ∷ rest) (e ∷ rest) more less;
       later = agenda_here p n m t a (SettleKind x) rest here alive;
       none = handed_here p n m t a (SettleKind x) rest here;
@@ -251,8 +287,15 @@ own_settle_cell p n m t a x i k rest here alive =
     let fits = head_of p n m t a (SettleCell x i k) rest here in
     let empty : release_found (m.memory (Cell x i)) ≡ [] = ap release_found (here.rule.cells x i) in
     cells_step p n m t a (SettleCell x i k) x (i + 1) k rest here alive (record {
-      above = fits.0; dies = fits.1; next_is = ap (λ (l : List Duty). l ++ cells_from x (i + 1) k) empty; none_ends = refl; same_head = refl; same_status = refl;
-      gates = λ y. refl; word = refl; hands = λ y. refl;
+      above = fits.0;
+      dies = fits.1;
+      next_is = ap (λ (l : List Duty). l ++ cells_from x (i + 1) k) empty;
+      none_ends = refl;
+      same_head = refl;
+      same_status = refl;
+      gates = λ y. refl;
+      word = refl;
+      hands = λ y. refl;
       held = λ e more less. held_same m.plain.references t (SettleCell x i k ∷ rest) (e ∷ rest) more less;
       later = agenda_here p n m t a (SettleCell x i k) rest here alive;
       none = handed_here p n m t a (SettleCell x i k) rest here;
@@ -268,18 +311,18 @@ end_chain p n m t a x rest agenda here none =
     record {
       chained = old.chained;
       linked = linked_kept m.memory new t a.head old.chained
-      (λ y some. written_apart m.memory (Gate x) (Gate y) closed_word (apart_gate x y (λ e. absurd (omega (arith, subst (λ (z : ℕ). 0 < count_by (λ w. w == z) old.chained) (sym e) some, absent))))) old.linked;
+          (λ y some. written_apart m.memory (Gate x) (Gate y) closed_word (apart_gate x y (λ e. absurd (omega (arith, subst (λ (z : ℕ). 0 < count_by (λ w. w == z) old.chained) (sym e) some, absent))))) old.linked;
       once = λ y.
-      let hand : one_if (hand_of agenda y) ≡ 0 = ap one_if (none y) in
-      elim (eqb_tells x y) [
-        | inl same ↦
-          let gone : one_if (dies_by (with_life m.life (Some x) Closed y) t) ≡ 0 = ap (λ (b : Bool). one_if (dies_by (cond b Closed (m.life y)) t)) same.0 in
-          omega (arith, hand, gone, subst (λ (z : ℕ). count_by (λ w. w == z) old.chained ≡ 0) same.1 absent)
-        | inr other ↦
-          let kept : one_if (dies_by (with_life m.life (Some x) Closed y) t) ≡ one_if (dies_by (m.life y) t) = ap (λ (b : Bool). one_if (dies_by (cond b Closed (m.life y)) t)) other.0 in
-          let apart : one_if (x == y) ≡ 0 = ap one_if other.0 in
-          omega (arith, hand, kept, apart, old.once y)
-      ];
+          let hand : one_if (hand_of agenda y) ≡ 0 = ap one_if (none y) in
+          elim (eqb_tells x y) [
+            | inl same ↦
+                let gone : one_if (dies_by (with_life m.life (Some x) Closed y) t) ≡ 0 = ap (λ (b : Bool). one_if (dies_by (cond b Closed (m.life y)) t)) same.0 in
+                omega (arith, hand, gone, subst (λ (z : ℕ). count_by (λ w. w == z) old.chained ≡ 0) same.1 absent)
+            | inr other ↦
+                let kept : one_if (dies_by (with_life m.life (Some x) Closed y) t) ≡ one_if (dies_by (m.life y) t) = ap (λ (b : Bool). one_if (dies_by (cond b Closed (m.life y)) t)) other.0 in
+                let apart : one_if (x == y) ≡ 0 = ap one_if other.0 in
+                omega (arith, hand, kept, apart, old.once y)
+          ];
     }
 
 pub own_settle_end : (p : Module) (n : ℕ) (m : Machine) (t : ℕ) (a : Actor) (x : ℕ) (rest : List Duty) → AtDuty p n m t a (SettleEnd x) rest → (a.status ≡ Gone → ⊥)
@@ -287,7 +330,9 @@ pub own_settle_end : (p : Module) (n : ℕ) (m : Machine) (t : ℕ) (a : Actor) 
 own_settle_end p n m t a x rest here alive =
     let ready_so = ready_is m.rows t a.used a.status a.place a.head rest (agenda_here p n m t a (SettleEnd x) rest here alive) (handed_here p n m t a (SettleEnd x) rest here) in
     own_shown p n m t a (SettleEnd x) rest (ready a.head rest) a.status a.head here (record {
-      head_is = refl; status_is = refl; agenda_is = refl;
+      head_is = refl;
+      status_is = refl;
+      agenda_is = refl;
       word = (here.rule.each t a here.found).0.word;
       held = held_same m.plain.references t (SettleEnd x ∷ rest) (ready a.head rest) ready_so.more ready_so.less;
       chain = end_chain p n m t a x rest (ready a.head rest) here ready_so.at_hand;

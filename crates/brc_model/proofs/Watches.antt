@@ -1,13 +1,13 @@
 -- Marks that are set stay watched: by the block's running thread, by its exit, or by the thread that set the mark.
-use Rattle.std.proofs.Common.{◌≡◌, ◌≢◌, ℕ, zero, suc, ◌+◌, ◌-◌, ◌<◌, ◌≤◌, Bool, true, false, cond, List, [], ◌∷◌, ◌++◌, ◌⊎◌, inl, inr, Option, None, Some, set, refl, sym, ap, ◌∙◌, subst, arith}
-use Rattle.std.specs.Prelude.{◌==◌, ◌&&◌, nat_le, nat_lt, slice_get, sum_by}
-use Rattle.std.proofs.lemmas.Bool.{eqb-true, eq-eqb, ne_eqb, leb-true, le-leb}
+use Rattle.std.proofs.Common.{◌≡◌, ◌≢◌, ℕ, zero, suc, ◌+◌, ◌-◌, ◌<◌, ◌≤◌, Bool, true, false, cond, List, [], ◌∷◌, ◌++◌, ◌⊎◌, inl, inr, Some, set, refl, sym, ap, ◌∙◌, arith}
+use Rattle.std.specs.Prelude.{◌==◌, ◌&&◌, nat_lt, slice_get, sum_by}
+use Rattle.std.proofs.lemmas.Bool.{eqb-true, ne_eqb, leb-true, le-leb}
 use Rattle.std.proofs.lemmas.Bool.Decides.{eqb_tells}
 use Rattle.std.proofs.lemmas.List.Sums.{sum_by-cons, sum_by-append}
 use Rattle.brc_lang.specs.declared.module.Module.{Module}
 use Rattle.brc_model.specs.Words.{local_part, is_immortal_word, fresh_word, dead_word, released_word, merged_word}
-use Rattle.brc_model.specs.Duties.{Reason, Own, Handed, Duty, RetainLoad, RetainStore, RetainAdd, ReleaseLoad, ReleaseStore, DecideAtZero, SharedLoad, SharedExchange, SetMark, Look, TakeMark, MergeSwap, MergeLoad, MergeExchange, Die, Settle, SettleKind, SettleCell, SettleEnd, Leave, Scan, Finish, ClaimMark, Address, Mark, ThreadWord, block_of, next_by, counts_locally, claimed, shared_result, cells_of, cells_from, release_found, head_by, ready}
-use Rattle.brc_model.specs.Machine.{Status, Running, Leaving, Gone, Place, Actor, Machine, is_running, first_row, actor_by, done_by, written}
+use Rattle.brc_model.specs.Duties.{Own, Handed, Duty, RetainLoad, RetainStore, RetainAdd, ReleaseLoad, ReleaseStore, DecideAtZero, SharedLoad, SharedExchange, SetMark, Look, TakeMark, MergeSwap, MergeLoad, MergeExchange, Die, Settle, SettleKind, SettleCell, SettleEnd, Leave, Scan, Finish, ClaimMark, Mark, ThreadWord, block_of, next_by, counts_locally, claimed, shared_result, cells_of, cells_from, release_found, head_by, ready}
+use Rattle.brc_model.specs.Machine.{Status, Gone, Place, Actor, Machine, is_running, first_row, actor_by, done_by, written}
 use Rattle.brc_model.proofs.Lists.{some_is, slice_get-set_other}
 use Rattle.brc_model.proofs.Bag.{one_if}
 use Rattle.brc_model.proofs.Rows.{agenda_weight, weight}
@@ -193,12 +193,12 @@ look_after p n m t a (Look y) rest x here spares some =
     let word = m.memory (ThreadWord (block_of m.rows y)) in
     elim (eqb_tells y x) [
       | inl same ↦ elim (word == 1) as (λ b. (word == 1) ≡ b → IsWatched (done_by m t a (Look y) rest) x) [
-          | true ↦ λ e.
+        | true ↦ λ e.
             ByRunning (written_load m.memory (ThreadWord (block_of m.rows y)) (ThreadWord (block_of m.rows x)) ∙ ap (λ (z : ℕ). m.memory (ThreadWord (block_of m.rows z))) (sym same.1) ∙ eqb-true word 1 e)
-          | false ↦ λ e.
+        | false ↦ λ e.
             let next : sum_by (looks x) (next_of m t a (Look y)) ≡ one_if (y == x) + 0 = ap (λ (b : Bool). sum_by (looks x) (cond b [] (TakeMark y ∷ []))) e ∙ sum_by-cons (looks x) (TakeMark y) [] in
             ByLook (omega (arith, looks_step m t a (Look y) rest x here.found here.agenda, next, some))
-        ] refl
+      ] refl
       | inr other ↦ look_kept p n m t a (Look y) rest x here (ap one_if other.0) some
     ]
 look_after p n m t a (TakeMark y) rest x here spares some = look_kept p n m t a (TakeMark y) rest x here (ap one_if (ne_eqb y x spares)) some
@@ -209,6 +209,16 @@ look_after p n m t a _ rest x here spares some = look_kept p n m t a _ rest x he
 -- main's block has the root and the row of nothing
 abbrev pub UsesRoot : Machine → Type 0
 UsesRoot m = (b : Actor) → slice_get m.actors 0 ≡ Some b → b.used ≡ 2
+
+pub uses_after : (m : Machine) (t : ℕ) (a : Actor) (d : Duty) (rest : List Duty) → slice_get m.actors t ≡ Some a → UsesRoot m → UsesRoot (done_by m t a d rest)
+uses_after m t a d rest found uses b at =
+    let after = actor_by t a d rest (found_by m t a d) in
+    elim (eqb_tells 0 t) [
+      | inl same ↦
+          let it : after ≡ b = some_is after b (sym (set_found m.actors t a after found) ∙ ap (slice_get (set m.actors t after)) (sym same.1) ∙ at) in
+          ap (λ (c : Actor). c.used) (sym it) ∙ uses a (ap (slice_get m.actors) same.1 ∙ found)
+      | inr other ↦ uses b (sym (slice_get-set_other m.actors t 0 after other.1) ∙ at)
+    ]
 
 root_within : (rows t used x : ℕ) → x ≡ 1 → block_of rows x ≡ t → (t ≡ 0 → used ≡ 2) → (first_row rows t ≤ x) × (x < first_row rows t + used)
 root_within rows zero used x is block uses = (omega arith, omega (arith, is, uses refl))
@@ -229,20 +239,20 @@ running_after : (p : Module) (n : ℕ) (m : Machine) (t : ℕ) (a : Actor) (d : 
 running_after p n m t a (Leave y k) [] x here alive uses marked runs =
     elim (eqb_tells (block_of m.rows x) t) [
       | inl same ↦
-        let fits = agenda_here p n m t a (Leave y k) [] here alive in
-        let within = marked_within p n m t a x here.rule uses here.found marked same.1 in
-        mine_after m t a (Leave y k) [] x here.found same.1
-        (scans_ready x a.head (Scan y k ∷ Finish ∷ []) (omega (arith, within.1, fits.2, fits.3), tt) (le-leb y x (omega (arith, within.0, fits.2))))
+          let fits = agenda_here p n m t a (Leave y k) [] here alive in
+          let within = marked_within p n m t a x here.rule uses here.found marked same.1 in
+          mine_after m t a (Leave y k) [] x here.found same.1
+          (scans_ready x a.head (Scan y k ∷ Finish ∷ []) (omega (arith, within.1, fits.2, fits.3), tt) (le-leb y x (omega (arith, within.0, fits.2))))
       | inr other ↦ ByRunning (words_left m t a (Leave y k) (block_of m.rows x) other.1 ∙ runs)
     ]
 running_after p n m t a (Leave y k) (e ∷ rest) x here alive uses marked runs = absurd (agenda_here p n m t a (Leave y k) (e ∷ rest) here alive)
 running_after p n m t a Finish [] x here alive uses marked runs =
     elim (eqb_tells (block_of m.rows x) t) [
       | inl same ↦
-        let fits = agenda_here p n m t a Finish [] here alive in
-        let word : m.memory (ThreadWord t) ≡ 2 = (here.rule.each t a here.found).0.word ∙ ap status_word fits.0 in
-        let still : m.memory (ThreadWord t) ≡ 1 = ap (λ (z : ℕ). m.memory (ThreadWord z)) (sym same.1) ∙ runs in
-        absurd (omega (arith, word, still))
+          let fits = agenda_here p n m t a Finish [] here alive in
+          let word : m.memory (ThreadWord t) ≡ 2 = (here.rule.each t a here.found).0.word ∙ ap status_word fits.0 in
+          let still : m.memory (ThreadWord t) ≡ 1 = ap (λ (z : ℕ). m.memory (ThreadWord z)) (sym same.1) ∙ runs in
+          absurd (omega (arith, word, still))
       | inr other ↦ ByRunning (words_left m t a Finish (block_of m.rows x) other.1 ∙ runs)
     ]
 running_after p n m t a Finish (e ∷ rest) x here alive uses marked runs = absurd (agenda_here p n m t a Finish (e ∷ rest) here alive)
@@ -254,9 +264,9 @@ exit_after : (p : Module) (n : ℕ) (m : Machine) (t : ℕ) (a : Actor) (d : Dut
 exit_after p n m t a d rest x b here alive uses marked spares found e =
     elim (eqb_tells (block_of m.rows x) t) [
       | inl same ↦
-        let it : b ≡ a = some_is b a (sym found ∙ ap (slice_get m.actors) same.1 ∙ here.found) in
-        let still : scans x (d ∷ rest) ≡ true = ap (scans x) (sym here.agenda) ∙ ap (λ (c : Actor). scans x c.agenda) (sym it) ∙ e in
-        mine_after m t a d rest x here.found same.1 (agenda_scans p n m t a d rest x here alive (marked_within p n m t a x here.rule uses here.found marked same.1).1 spares still)
+          let it : b ≡ a = some_is b a (sym found ∙ ap (slice_get m.actors) same.1 ∙ here.found) in
+          let still : scans x (d ∷ rest) ≡ true = ap (scans x) (sym here.agenda) ∙ ap (λ (c : Actor). scans x c.agenda) (sym it) ∙ e in
+          mine_after m t a d rest x here.found same.1 (agenda_scans p n m t a d rest x here alive (marked_within p n m t a x here.rule uses here.found marked same.1).1 spares still)
       | inr other ↦ ByExit b (slice_get-set_other m.actors t (block_of m.rows x) (actor_by t a d rest (found_by m t a d)) other.1 ∙ found) e
     ]
 
@@ -292,11 +302,14 @@ pub marks_after : (p : Module) (n : ℕ) (m : Machine) (t : ℕ) (a : Actor) (d 
 marks_after p n m t a (SetMark y) rest here alive uses x =
     elim (eqb_tells y x) [
       | inl same ↦
-        let above : 0 < y = head_of p n m t a (SetMark y) rest here in
-        let one : one_if (y == x) ≡ 1 = ap one_if same.0 in
-        let next : sum_by (looks x) (Look y ∷ []) ≡ one_if (y == x) + 0 = sum_by-cons (looks x) (Look y) [] in
-        inr (ap (λ (z : ℕ). written m.memory (Mark z) 1 (Mark x)) same.1 ∙ written_here m.memory (Mark x) 1, omega (arith, above, same.1),
-          ByLook (omega (arith, looks_step m t a (SetMark y) rest x here.found here.agenda, one, next)))
+          let above : 0 < y = head_of p n m t a (SetMark y) rest here in
+          let one : one_if (y == x) ≡ 1 = ap one_if same.0 in
+          let next : sum_by (looks x) (Look y ∷ []) ≡ one_if (y == x) + 0 = sum_by-cons (looks x) (Look y) [] in
+          inr (
+            ap (λ (z : ℕ). written m.memory (Mark z) 1 (Mark x)) same.1 ∙ written_here m.memory (Mark x) 1,
+            omega (arith, above, same.1),
+            ByLook (omega (arith, looks_step m t a (SetMark y) rest x here.found here.agenda, one, next)),
+          )
       | inr other ↦ mark_kept p n m t a (SetMark y) rest x here alive uses tt (written_apart m.memory (Mark y) (Mark x) 1 (apart_mark y x other.1))
     ]
 marks_after p n m t a (TakeMark y) rest here alive uses x = mark_taken p n m t a (TakeMark y) rest y x here alive uses (λ ne. ne) (λ z. refl)
