@@ -49,3 +49,6 @@ pub mod OwnReleases
 pub mod MergesOnce
 pub mod OwnMerges
 pub mod TakenSits
+pub mod OwnSettles
+pub mod OwnExits
+pub mod Watches

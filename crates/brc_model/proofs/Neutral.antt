@@ -65,7 +65,7 @@ pub record NeutralStep (m : Machine) (t : ℕ) (a : Actor) (d : Duty) (rest next
   pub handed : HandedOnce agenda
   pub knows : (b : Actor) → b.status ≡ a.status → b.head ≡ a.head → HeadOf (done_by m t a d rest) t b agenda
 
-life_same : (m : Machine) (t : ℕ) (a : Actor) (d : Duty) (next : List Duty) (x : ℕ) → next_of m t a d ≡ next → dies_next next ≡ None → ended_row d ≡ None → life_by m.life t d (next_of m t a d) x ≡ m.life x
+pub life_same : (m : Machine) (t : ℕ) (a : Actor) (d : Duty) (next : List Duty) (x : ℕ) → next_of m t a d ≡ next → dies_next next ≡ None → ended_row d ≡ None → life_by m.life t d (next_of m t a d) x ≡ m.life x
 life_same m t a d next x is dies ends =
     ap (λ (o : Option ℕ). with_life (with_life m.life o (Dying t)) (ended_row d) Closed x) (ap dies_next is ∙ dies) ∙ ap (λ (o : Option ℕ). with_life m.life o Closed x) ends
 
