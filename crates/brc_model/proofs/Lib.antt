@@ -52,3 +52,5 @@ pub mod TakenSits
 pub mod OwnSettles
 pub mod OwnExits
 pub mod Watches
+pub mod Whole
+pub mod WholeEvents

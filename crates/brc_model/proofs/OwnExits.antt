@@ -76,7 +76,7 @@ claim_step p n m t a d x rest behind here alive step =
             hands = λ y. sym (step.hands y);
             held = step.held (MergeSwap x Handed ∷ SharedLoad x Handed ∷ (behind ++ rest)) (λ h o. refl) (λ h o. refl);
             fits = (above, step.later);
-            handed = step.none;
+            handed = (refl, step.none);
             knows = λ b status head. (above, inl (step.block marked), refl);
           })
       | false ↦ λ e.
