@@ -46,7 +46,7 @@ decider_owns m u x b (MergeSwap y Own) rest fits some =
     ]
 decider_owns m u x b _ rest fits some = absurd (omega (arith, some))
 
-sum_zero : (f : Actor → ℕ) (actors : List Actor) → ((u : ℕ) (b : Actor) → slice_get actors u ≡ Some b → f b ≡ 0) → sum_by f actors ≡ 0
+pub sum_zero : (f : Actor → ℕ) (actors : List Actor) → ((u : ℕ) (b : Actor) → slice_get actors u ≡ Some b → f b ≡ 0) → sum_by f actors ≡ 0
 sum_zero f [] none = refl
 sum_zero f (b ∷ rest) none = omega (arith, sum_by-cons f b rest, none 0 b refl, sum_zero f rest (λ u c is. none (suc u) c is))
 

@@ -54,3 +54,4 @@ pub mod OwnExits
 pub mod Watches
 pub mod Whole
 pub mod WholeEvents
+pub mod Guaranteed

@@ -9,7 +9,7 @@ use Rattle.brc_lang.specs.declared.module.Module.{Module}
 use Rattle.brc_model.specs.Plain.{Reference}
 use Rattle.brc_model.specs.Steps.{code_of}
 use Rattle.brc_model.specs.Duties.{Reason, Own, Handed, Duty, RetainLoad, RetainStore, RetainAdd, ReleaseLoad, ReleaseStore, DecideAtZero, SharedLoad, SharedExchange, SetMark, Look, TakeMark, MergeSwap, MergeLoad, MergeExchange, Die, Settle, SettleKind, SettleCell, SettleEnd, Leave, Scan, Finish, ClaimMark, block_of}
-use Rattle.brc_model.specs.Machine.{Status, Running, Leaving, Gone, Place, Standing, Inside, Departing, Actor, Machine, Begun, Stuck, Quiet, Work, begun_by, actor_by, done_by, at_place, with_actor, begins, goes_on, acts, may_claim, first_row, is_running, Choice, Ok, Fault, Claim, chosen, next_machine}
+use Rattle.brc_model.specs.Machine.{Status, Running, Leaving, Gone, Place, Standing, Inside, Departing, Actor, Life, Unborn, Dying, Closed, Machine, Begun, Stuck, Quiet, Work, begun_by, actor_by, done_by, at_place, with_actor, begins, goes_on, acts, may_claim, first_row, is_running, Choice, Ok, Fault, Claim, chosen, next_machine}
 use Rattle.brc_model.specs.Events.{is_bad_duty, is_bad_begun, is_bad_agenda, is_bad_status, is_bad_choice, is_bad_event}
 use Rattle.brc_model.proofs.Lists.{some_is, and_first, and_second, slice_get-set_same, slice_get-set_other}
 use Rattle.brc_model.proofs.Rule.{PlaceFits, HandedOnce, Rule}
@@ -21,6 +21,7 @@ use Rattle.brc_model.proofs.OwnMerges.{own_set_mark, own_look, own_take_mark, ow
 use Rattle.brc_model.proofs.OwnSettles.{own_die, own_settle, own_settle_kind, own_settle_cell, own_settle_end}
 use Rattle.brc_model.proofs.OwnExits.{own_leave, own_scan, own_finish, own_claim_mark, Settles, IsSettled, settled_after}
 use Rattle.brc_model.proofs.Watches.{UsesRoot, marks_after}
+use Rattle.brc_model.proofs.Closing.{LifeStep, GoesOn, BeginsToDie, IsClosed, life_step}
 use Rattle.brc_model.proofs.KeepsDuty.{keeps_by}
 use Rattle.brc_model.proofs.NotBad.{duty_not_bad}
 use Rattle.brc_model.proofs.Begins.{Starts, Gives, Takes, Follows, Nothing, Settles as SettlesFirst, Leaves, Taken, IsTaken}
@@ -36,6 +37,7 @@ pub record Whole (p : Module) (n : ℕ) (m : Machine) : Type 0 where
   pub rule : Rule p n m
   pub settled : (t : ℕ) (a : Actor) → slice_get m.actors t ≡ Some a → IsSettled a.head a.agenda
   pub used : (t : ℕ) (a : Actor) → slice_get m.actors t ≡ Some a → a.used ≡ used_rows t
+  pub root_born : m.life 1 ≢ Unborn
 
 -- ---- a duty
 
@@ -87,6 +89,15 @@ pub record Doing (p : Module) (n : ℕ) (m : Machine) (t : ℕ) (a : Actor) (d :
 abbrev pub KeepsOn : Module → ℕ → Bool → Machine → Type 0
 KeepsOn p n bad m = (bad ≡ false) × Whole p n m
 
+-- a row that was born is never unborn again
+born_stays : (p : Module) (n : ℕ) (m : Machine) (t : ℕ) (a : Actor) (d : Duty) (rest : List Duty) → AtDuty p n m t a d rest → m.life 1 ≢ Unborn → (done_by m t a d rest).life 1 ≢ Unborn
+born_stays p n m t a d rest here born =
+    elim (life_step p n m t a d rest 1 here) [
+      | GoesOn now other ↦ λ e. born (sym now ∙ e)
+      | BeginsToDie now alive positive none ↦ λ e. (let wrong : Dying t ≡ Unborn = sym now ∙ e in cc)
+      | IsClosed now dying positive ended ↦ λ e. (let wrong : Closed ≡ Unborn = sym now ∙ e in cc)
+    ]
+
 pub keeps_duty : (p : Module) (n : ℕ) (m : Machine) (t : ℕ) (a : Actor) (d : Duty) (rest : List Duty) → Doing p n m t a d rest → KeepsOn p n (is_bad_duty m t a d) (done_by m t a d rest)
 keeps_duty p n m t a d rest doing =
     let here : AtDuty p n m t a d rest = record { rule = doing.whole.rule; found = doing.found; agenda = doing.agenda } in
@@ -96,6 +107,7 @@ keeps_duty p n m t a d rest doing =
       rule = keeps_by p n m t a d rest here doing.alive (own_fits p n m t a d rest here doing.alive settled) (λ x. marks_after p n m t a d rest here doing.alive uses x);
       settled = λ u b is. written_actor (λ w c. IsSettled c.head c.agenda) m.actors t a (actor_by t a d rest (found_by m t a d)) doing.found (settled_after p n m t a d rest here doing.alive settled) doing.whole.settled u b is;
       used = λ u b is. written_actor (λ w c. c.used ≡ used_rows w) m.actors t a (actor_by t a d rest (found_by m t a d)) doing.found (doing.whole.used t a doing.found) doing.whole.used u b is;
+      root_born = born_stays p n m t a d rest here doing.whole.root_born;
     })
 
 -- ---- what is taken up
@@ -105,6 +117,7 @@ whole_sits p n m t a place agenda whole rest sits settled = record {
   rule = sits_rule p n m t a place agenda rest sits;
   settled = λ u b is. written_actor (λ w c. IsSettled c.head c.agenda) m.actors t a (sitting a place agenda) rest.found settled whole.settled u b is;
   used = λ u b is. written_actor (λ w c. c.used ≡ used_rows w) m.actors t a (sitting a place agenda) rest.found (whole.used t a rest.found) whole.used u b is;
+  root_born = whole.root_born;
 }
 
 -- a duty that is taken up and done at once

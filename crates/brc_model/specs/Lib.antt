@@ -9,3 +9,4 @@ pub mod Duties
 pub mod Machine
 pub mod Agreement
 pub mod Events
+pub mod Guarantee
