@@ -1,12 +1,11 @@
 -- The rule of a row says that its counts agree.
-use Rattle.std.proofs.Common.{◌≡◌, ℕ, ◌+◌, ◌<◌, ◌≤◌, Bool, true, false, List, [], ◌∷◌, refl, sym, ap, ◌∙◌, subst, arith}
-use Rattle.brc_model.specs.Plain.{references_to}
-use Rattle.brc_model.specs.Words.{local_part, biased_part, phase_part, bias, fresh_word}
-use Rattle.brc_model.specs.Duties.{Local, Shared, Mark, block_of}
+use Rattle.std.proofs.Common.{◌≡◌, ℕ, ◌+◌, ◌<◌, ◌≤◌, refl, arith}
+use Rattle.brc_model.specs.Words.{local_part, biased_part, phase_part, bias}
+use Rattle.brc_model.specs.Duties.{block_of}
 use Rattle.brc_model.specs.Machine.{Life, Unborn, Live, Dying, Closed, Machine}
 use Rattle.brc_lang.specs.declared.module.Module.{Module}
-use Rattle.brc_model.specs.Agreement.{AgreesAt, IsFreeOf, awaiting}
-use Rattle.brc_model.proofs.Rows.{Numbers, Phased, IsDefault, IsQueued, IsOwned, IsSwapped, IsMerged, Mode, InOwned, InSwapped, InMerged, IsLive, IsDead, IsUnborn, RowRule}
+use Rattle.brc_model.specs.Agreement.{AgreesAt, IsFreeOf}
+use Rattle.brc_model.proofs.Rows.{Numbers, Phased, IsDefault, IsQueued, Mode, InOwned, InSwapped, InMerged, IsLive, IsDead, RowRule}
 use Rattle.brc_model.proofs.Rule.{numbers_of, Rule}
 
 -- what one row's rule says of a live row

@@ -1,16 +1,15 @@
 -- A row that is referenced, awaited, decided about or merged is live; and what an agenda weighs, all agendas weigh.
-use Rattle.std.proofs.Common.{◌≡◌, ◌≢◌, ℕ, zero, suc, ◌+◌, ◌<◌, ◌≤◌, Bool, true, false, cond, List, [], ◌∷◌, length, Option, None, Some, refl, sym, ap, ◌∙◌, subst, arith}
-use Rattle.std.specs.Prelude.{◌==◌, ◌&&◌, slice_get, sum_by}
-use Rattle.std.proofs.lemmas.Bool.{eq-eqb}
+use Rattle.std.proofs.Common.{◌≡◌, ℕ, zero, suc, ◌+◌, ◌<◌, ◌≤◌, Bool, true, false, List, [], ◌∷◌, Some, refl, ap, ◌∙◌, subst, arith}
+use Rattle.std.specs.Prelude.{slice_get, sum_by}
 use Rattle.std.proofs.lemmas.List.Sums.{sum_by-cons}
 use Rattle.brc_lang.specs.declared.module.Instr.{Instr}
 use Rattle.brc_lang.specs.declared.module.Module.{Module}
-use Rattle.brc_model.specs.Plain.{Holding, ByVariable, AsCaller, InHand, Reference, references_to}
-use Rattle.brc_model.specs.Duties.{Reason, Own, Handed, Duty, ReleaseStore, SharedLoad, SharedExchange, block_of}
+use Rattle.brc_model.specs.Plain.{Holding, InHand, Reference, references_to}
+use Rattle.brc_model.specs.Duties.{Duty, block_of}
 use Rattle.brc_model.specs.Machine.{Life, Unborn, Live, Dying, Closed, Actor, Machine, Place, Standing, Inside, Departing}
 use Rattle.brc_model.proofs.Bag.{held, one_if, held-le-references_to}
 use Rattle.brc_model.proofs.Invariant.{nothing, the_root, of_variables, reference_of}
-use Rattle.brc_model.proofs.Rows.{waits, carries, merges, decides, agenda_weight, weight, Numbers, IsLive, IsDead, IsUnborn, RowRule}
+use Rattle.brc_model.proofs.Rows.{waits, merges, decides, agenda_weight, weight, Numbers, IsLive, RowRule}
 use Rattle.brc_model.proofs.Rule.{numbers_of, extra_of, lacks_of, HoldsAt, PlaceFits, IsBacked, Rule}
 
 -- ---- weights

@@ -1,32 +1,24 @@
 -- What a thread takes up with its next step: its agenda then fits the place where it will stand.
-use Rattle.std.proofs.Common.{◌≡◌, ◌≢◌, ℕ, zero, suc, ◌+◌, ◌-◌, ◌<◌, ◌≤◌, Bool, true, false, cond, List, [], ◌∷◌, ◌++◌, ◌⊎◌, inl, inr, length, Option, None, Some, refl, sym, ap, ◌∙◌, subst, arith}
-use Rattle.std.specs.Prelude.{◌==◌, ◌&&◌, ◌||◌, slice_get, slice_set}
+use Rattle.std.proofs.Common.{◌≡◌, ◌≢◌, ℕ, ◌+◌, ◌<◌, Bool, true, false, List, [], ◌∷◌, inl, inr, length, Option, None, Some, refl, sym, ap, ◌∙◌, subst, arith}
+use Rattle.std.specs.Prelude.{◌==◌, ◌&&◌, slice_set}
 use Rattle.std.specs.List.{list_any}
-use Rattle.std.proofs.lemmas.Bool.{eqb-true, eq-eqb, ne_eqb}
+use Rattle.std.proofs.lemmas.Bool.{eq-eqb}
 use Rattle.std.proofs.lemmas.Bool.Decides.{eqb_tells}
-use Rattle.std.proofs.lemmas.List.{length-set}
 use Rattle.brc_lang.specs.declared.module.Instr.{Instr}
-use Rattle.brc_lang.specs.declared.module.Instr.TheVariants.{Newref, Drop, Ret, Fail}
-use Rattle.brc_lang.specs.Grammar.{IsInstruction}
 use Rattle.brc_model.specs.declared.slot.Slot.{Slot}
-use Rattle.brc_model.specs.declared.slot.Slot.TheVariants.{Empty, Owned, Caller, Locked}
+use Rattle.brc_model.specs.declared.slot.Slot.TheVariants.{Empty}
 use Rattle.brc_model.specs.declared.slot.State.{State}
-use Rattle.brc_model.specs.declared.slot.Exit.{Exit}
-use Rattle.brc_model.specs.declared.slot.Exit.TheVariants.{Success}
-use Rattle.brc_model.specs.Slots.{slot_of, is_empty, is_owned, is_borrowed, kind_of, names, put, after, target, entry}
-use Rattle.brc_model.specs.Walks.{At, walk, IsAcceptableCode}
-use Rattle.brc_model.specs.Plain.{root_row, Holding, ByVariable, AsCaller, InHand, Reference, same_holding, same, references_to}
-use Rattle.brc_model.specs.Threads.{row_of, entry_variables}
+use Rattle.brc_model.specs.Slots.{slot_of, is_owned, names, put}
+use Rattle.brc_model.specs.Plain.{Holding, ByVariable, AsCaller, InHand, Reference, same_holding, references_to}
+use Rattle.brc_model.specs.Threads.{row_of}
 use Rattle.brc_model.specs.Duties.{Duty, RetainLoad, ReleaseLoad, Settle, Leave}
-use Rattle.brc_model.specs.Machine.{Status, Running, Place, Standing, Inside, Departing, Begun, Stuck, Quiet, Work, with_row, begun_instruction, begun, first_row}
-use Rattle.brc_model.proofs.Bag.{held, one_if, held-le-references_to, same_holding-refl}
-use Rattle.brc_model.proofs.Lists.{first_false, none_at, get_or-replicate_default}
-use Rattle.brc_model.proofs.Invariant.{nothing, the_root, of_variables, reference_of, Holds, IsGrounded, IsInside, AreInstructions}
-use Rattle.brc_model.proofs.Passing.{AreMet, PassesOn, passes_on}
-use Rattle.brc_model.proofs.Held.{slot_of-put_same, slot_of-put_other, row_of-set_same, row_of-set_other, owned_has, caller_has, holds-entered}
-use Rattle.brc_model.proofs.Due.{NamesLive, live_slot, owned_slot, owned_row, grounded-put, StandsAt, entry_inside}
+use Rattle.brc_model.specs.Machine.{Place, Standing, Inside, Departing, Begun, Stuck, Quiet, Work, with_row, first_row}
+use Rattle.brc_model.proofs.Bag.{held, one_if}
+use Rattle.brc_model.proofs.Lists.{none_at}
+use Rattle.brc_model.proofs.Invariant.{the_root, of_variables, reference_of, Holds}
+use Rattle.brc_model.proofs.Held.{slot_of-put_same, slot_of-put_other, row_of-set_same, row_of-set_other}
 use Rattle.brc_model.proofs.OwnCounts.{flip_eqb}
-use Rattle.brc_model.proofs.Rule.{extra_of, lacks_of, HoldsAt, PlaceFits, Later}
+use Rattle.brc_model.proofs.Rule.{HoldsAt, PlaceFits}
 
 -- ---- nothing is at hand
 
@@ -82,20 +74,20 @@ newref_held bag t s variables to row slot in_slots in_rows free owned holds InHa
 newref_held bag t s variables to row slot in_slots in_rows free owned holds (ByVariable v) object =
     elim (eqb_tells to v) [
       | inl this ↦
-        let P : ℕ → Type 0 = λ w. held (reference_of t (ByVariable w) object) bag + one_if ((to == w) && (row == object)) ≡ one_if (of_variables (put s to slot) (slice_set variables to (Some row)) (ByVariable w) object) + 0 in
-        let before : held (reference_of t (ByVariable to) object) bag ≡ 0 = holds.each (ByVariable to) object ∙ ap (λ (b : Bool). one_if (b && names (row_of variables to) object)) free in
-        let more : one_if ((to == to) && (row == object)) ≡ one_if (row == object) = ap (λ (b : Bool). one_if (b && (row == object))) (eq-eqb to to refl) in
-        let said : by_variable (slot_of (put s to slot) to) (row_of (slice_set variables to (Some row)) to) object ≡ one_if (object == row) =
-        ap (λ (x : Slot). by_variable x (row_of (slice_set variables to (Some row)) to) object) (slot_of-put_same s to slot in_slots) ∙ ap (λ (b : Bool). one_if (b && names (row_of (slice_set variables to (Some row)) to) object)) owned
-        ∙ ap (λ (x : Option ℕ). one_if (names x object)) (row_of-set_same variables to (Some row) in_rows) in
-        let flipped : one_if (object == row) ≡ one_if (row == object) = ap one_if (flip_eqb object row) in
-        subst P this.1 (omega (arith, before, more, said, flipped))
+          let P : ℕ → Type 0 = λ w. held (reference_of t (ByVariable w) object) bag + one_if ((to == w) && (row == object)) ≡ one_if (of_variables (put s to slot) (slice_set variables to (Some row)) (ByVariable w) object) + 0 in
+          let before : held (reference_of t (ByVariable to) object) bag ≡ 0 = holds.each (ByVariable to) object ∙ ap (λ (b : Bool). one_if (b && names (row_of variables to) object)) free in
+          let more : one_if ((to == to) && (row == object)) ≡ one_if (row == object) = ap (λ (b : Bool). one_if (b && (row == object))) (eq-eqb to to refl) in
+          let said : by_variable (slot_of (put s to slot) to) (row_of (slice_set variables to (Some row)) to) object ≡ one_if (object == row) =
+          ap (λ (x : Slot). by_variable x (row_of (slice_set variables to (Some row)) to) object) (slot_of-put_same s to slot in_slots) ∙ ap (λ (b : Bool). one_if (b && names (row_of (slice_set variables to (Some row)) to) object)) owned
+          ∙ ap (λ (x : Option ℕ). one_if (names x object)) (row_of-set_same variables to (Some row) in_rows) in
+          let flipped : one_if (object == row) ≡ one_if (row == object) = ap one_if (flip_eqb object row) in
+          subst P this.1 (omega (arith, before, more, said, flipped))
       | inr other ↦
-        let none : one_if ((to == v) && (row == object)) ≡ 0 = ap (λ (b : Bool). one_if (b && (row == object))) other.0 in
-        let apart : v ≢ to = λ e. other.1 (sym e) in
-        let said : by_variable (slot_of (put s to slot) v) (row_of (slice_set variables to (Some row)) v) object ≡ by_variable (slot_of s v) (row_of variables v) object =
-        ap (λ (x : Slot). by_variable x (row_of (slice_set variables to (Some row)) v) object) (slot_of-put_other s to v slot apart) ∙ ap (λ (x : Option ℕ). by_variable (slot_of s v) x object) (row_of-set_other variables to v (Some row) apart) in
-        omega (arith, holds.each (ByVariable v) object, none, said)
+          let none : one_if ((to == v) && (row == object)) ≡ 0 = ap (λ (b : Bool). one_if (b && (row == object))) other.0 in
+          let apart : v ≢ to = λ e. other.1 (sym e) in
+          let said : by_variable (slot_of (put s to slot) v) (row_of (slice_set variables to (Some row)) v) object ≡ by_variable (slot_of s v) (row_of variables v) object =
+          ap (λ (x : Slot). by_variable x (row_of (slice_set variables to (Some row)) v) object) (slot_of-put_other s to v slot apart) ∙ ap (λ (x : Option ℕ). by_variable (slot_of s v) x object) (row_of-set_other variables to v (Some row) apart) in
+          omega (arith, holds.each (ByVariable v) object, none, said)
     ]
 
 -- the variable that is emptied has its reference more than the place says
@@ -106,20 +98,20 @@ emptied_held bag t s variables from row in_slots owned is holds InHand object = 
 emptied_held bag t s variables from row in_slots owned is holds (ByVariable v) object =
     elim (eqb_tells from v) [
       | inl this ↦
-        let P : ℕ → Type 0 = λ w. held (reference_of t (ByVariable w) object) bag + 0 ≡ one_if (of_variables (put s from Empty) (slice_set variables from None) (ByVariable w) object) + one_if ((from == w) && (row == object)) in
-        let before : held (reference_of t (ByVariable from) object) bag ≡ one_if (object == row) =
-        holds.each (ByVariable from) object ∙ ap (λ (b : Bool). one_if (b && names (row_of variables from) object)) owned ∙ ap (λ (o : Option ℕ). one_if (names o object)) is in
-        let more : one_if ((from == from) && (row == object)) ≡ one_if (row == object) = ap (λ (b : Bool). one_if (b && (row == object))) (eq-eqb from from refl) in
-        let said : by_variable (slot_of (put s from Empty) from) (row_of (slice_set variables from None) from) object ≡ 0 =
-        ap (λ (x : Slot). by_variable x (row_of (slice_set variables from None) from) object) (slot_of-put_same s from Empty in_slots) in
-        let flipped : one_if (object == row) ≡ one_if (row == object) = ap one_if (flip_eqb object row) in
-        subst P this.1 (omega (arith, before, more, said, flipped))
+          let P : ℕ → Type 0 = λ w. held (reference_of t (ByVariable w) object) bag + 0 ≡ one_if (of_variables (put s from Empty) (slice_set variables from None) (ByVariable w) object) + one_if ((from == w) && (row == object)) in
+          let before : held (reference_of t (ByVariable from) object) bag ≡ one_if (object == row) =
+          holds.each (ByVariable from) object ∙ ap (λ (b : Bool). one_if (b && names (row_of variables from) object)) owned ∙ ap (λ (o : Option ℕ). one_if (names o object)) is in
+          let more : one_if ((from == from) && (row == object)) ≡ one_if (row == object) = ap (λ (b : Bool). one_if (b && (row == object))) (eq-eqb from from refl) in
+          let said : by_variable (slot_of (put s from Empty) from) (row_of (slice_set variables from None) from) object ≡ 0 =
+          ap (λ (x : Slot). by_variable x (row_of (slice_set variables from None) from) object) (slot_of-put_same s from Empty in_slots) in
+          let flipped : one_if (object == row) ≡ one_if (row == object) = ap one_if (flip_eqb object row) in
+          subst P this.1 (omega (arith, before, more, said, flipped))
       | inr other ↦
-        let none : one_if ((from == v) && (row == object)) ≡ 0 = ap (λ (b : Bool). one_if (b && (row == object))) other.0 in
-        let apart : v ≢ from = λ e. other.1 (sym e) in
-        let said : by_variable (slot_of (put s from Empty) v) (row_of (slice_set variables from None) v) object ≡ by_variable (slot_of s v) (row_of variables v) object =
-        ap (λ (x : Slot). by_variable x (row_of (slice_set variables from None) v) object) (slot_of-put_other s from v Empty apart) ∙ ap (λ (x : Option ℕ). by_variable (slot_of s v) x object) (row_of-set_other variables from v None apart) in
-        omega (arith, holds.each (ByVariable v) object, none, said)
+          let none : one_if ((from == v) && (row == object)) ≡ 0 = ap (λ (b : Bool). one_if (b && (row == object))) other.0 in
+          let apart : v ≢ from = λ e. other.1 (sym e) in
+          let said : by_variable (slot_of (put s from Empty) v) (row_of (slice_set variables from None) v) object ≡ by_variable (slot_of s v) (row_of variables v) object =
+          ap (λ (x : Slot). by_variable x (row_of (slice_set variables from None) v) object) (slot_of-put_other s from v Empty apart) ∙ ap (λ (x : Option ℕ). by_variable (slot_of s v) x object) (row_of-set_other variables from v None apart) in
+          omega (arith, holds.each (ByVariable v) object, none, said)
     ]
 
 -- where no slot owns but the one that is emptied, the call is over

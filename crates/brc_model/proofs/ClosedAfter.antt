@@ -1,19 +1,19 @@
 -- What the rule says of life and closed rows holds after a step.
-use Rattle.std.proofs.Common.{◌≡◌, ◌≢◌, ℕ, zero, suc, ◌+◌, ◌<◌, ◌≤◌, Bool, true, false, cond, List, [], ◌∷◌, ◌++◌, ◌⊎◌, inl, inr, length, get_or, Option, None, Some, refl, sym, ap, ◌∙◌, subst, arith}
-use Rattle.std.specs.Prelude.{◌==◌, ◌||◌, slice_get, AllPairs}
-use Rattle.std.proofs.lemmas.Bool.{eqb-true, eq-eqb, ne_eqb, false≢true}
+use Rattle.std.proofs.Common.{◌≡◌, ◌≢◌, ℕ, ◌<◌, ◌≤◌, Bool, true, false, List, [], ◌∷◌, ◌++◌, ◌⊎◌, inl, inr, None, Some, refl, sym, ap, ◌∙◌, subst, arith}
+use Rattle.std.specs.Prelude.{◌==◌, ◌||◌, AllPairs}
+use Rattle.std.proofs.lemmas.Bool.{eqb-true, eq-eqb, ne_eqb}
 use Rattle.std.proofs.lemmas.List.{get_or_default}
 use Rattle.std.proofs.lemmas.List.Folds.{list_any-append, list_any-from_Any}
 use Rattle.std.proofs.lemmas.List.Quantifiers.{all_pairs_push}
 use Rattle.std.proofs.lemmas.Option.{slice_get_within}
 use Rattle.brc_lang.specs.declared.module.Module.{Module}
-use Rattle.brc_model.specs.Plain.{is_among, moved}
+use Rattle.brc_model.specs.Plain.{is_among}
 use Rattle.brc_model.specs.Duties.{Duty, address_of}
-use Rattle.brc_model.specs.Machine.{Actor, Life, Unborn, Live, Dying, Closed, Machine, moves_by, ended_row, done_by}
+use Rattle.brc_model.specs.Machine.{Actor, Life, Unborn, Live, Dying, Closed, Machine, done_by}
 use Rattle.brc_model.proofs.Lists.{some_is}
-use Rattle.brc_model.proofs.Rule.{dies_by, Rule}
+use Rattle.brc_model.proofs.Rule.{dies_by}
 use Rattle.brc_model.proofs.Leaves.{AtDuty}
-use Rattle.brc_model.proofs.Closing.{LifeStep, GoesOn, BeginsToDie, IsClosed, life_step, ClosedStep, SameClosed, OneMore, closed_step}
+use Rattle.brc_model.proofs.Closing.{GoesOn, BeginsToDie, IsClosed, life_step, SameClosed, OneMore, closed_step}
 
 dying_not_closed : (t : ℕ) → Dying t ≡ Closed → ⊥
 dying_not_closed t e = cc
@@ -48,15 +48,15 @@ closed_is_after p n m t a d rest x here is =
     elim (closed_step m t d (m.memory (address_of m.rows t a.head d))) [
       | SameClosed none same ↦ closed_stays p n m t a d rest x here (here.rule.closed_is x (sym (ap (is_among x) same) ∙ is))
       | OneMore y ended more ↦
-        elim (either_true (is_among x m.plain.closed) (is_among x (y ∷ [])) (sym (ap (is_among x) more ∙ list_any-append (λ z. z == x) m.plain.closed (y ∷ [])) ∙ is)) [
-          | inl old ↦ closed_stays p n m t a d rest x here (here.rule.closed_is x old)
-          | inr new ↦
-            elim (life_step p n m t a d rest x here) [
-              | GoesOn same other ↦ absurd (other (ended ∙ ap Some (one_is x y new)))
-              | BeginsToDie now alive positive none ↦ absurd (let wrong : None ≡ Some y = sym none ∙ ended in cc)
-              | IsClosed now dying positive e ↦ now
-            ]
-        ]
+          elim (either_true (is_among x m.plain.closed) (is_among x (y ∷ [])) (sym (ap (is_among x) more ∙ list_any-append (λ z. z == x) m.plain.closed (y ∷ [])) ∙ is)) [
+            | inl old ↦ closed_stays p n m t a d rest x here (here.rule.closed_is x old)
+            | inr new ↦
+                elim (life_step p n m t a d rest x here) [
+                  | GoesOn same other ↦ absurd (other (ended ∙ ap Some (one_is x y new)))
+                  | BeginsToDie now alive positive none ↦ absurd (let wrong : None ≡ Some y = sym none ∙ ended in cc)
+                  | IsClosed now dying positive e ↦ now
+                ]
+          ]
     ]
 
 among_more : (x : ℕ) (xs ys : List ℕ) → is_among x xs ≡ true → is_among x (xs ++ ys) ≡ true
@@ -71,17 +71,17 @@ closed_has_after p n m t a d rest x here is =
     let Q : List ℕ → Type 0 = λ l. is_among x l ≡ true in
     elim (closed_step m t d (m.memory (address_of m.rows t a.head d))) [
       | SameClosed none same ↦
-        subst Q (sym same) (elim (life_step p n m t a d rest x here) [
-          | GoesOn now other ↦ here.rule.closed_has x (sym now ∙ is)
-          | BeginsToDie now alive positive e ↦ absurd (dying_not_closed t (sym now ∙ is))
-          | IsClosed now dying positive ended ↦ absurd (let wrong : None ≡ Some x = sym none ∙ ended in cc)
-        ])
+          subst Q (sym same) (elim (life_step p n m t a d rest x here) [
+            | GoesOn now other ↦ here.rule.closed_has x (sym now ∙ is)
+            | BeginsToDie now alive positive e ↦ absurd (dying_not_closed t (sym now ∙ is))
+            | IsClosed now dying positive ended ↦ absurd (let wrong : None ≡ Some x = sym none ∙ ended in cc)
+          ])
       | OneMore y ended more ↦
-        subst Q (sym more) (elim (life_step p n m t a d rest x here) [
-          | GoesOn now other ↦ among_more x m.plain.closed (y ∷ []) (here.rule.closed_has x (sym now ∙ is))
-          | BeginsToDie now alive positive e ↦ absurd (dying_not_closed t (sym now ∙ is))
-          | IsClosed now dying positive e ↦ subst (λ (z : ℕ). is_among x (m.plain.closed ++ z ∷ []) ≡ true) (some_is x y (sym e ∙ ended)) (among_last x m.plain.closed)
-        ])
+          subst Q (sym more) (elim (life_step p n m t a d rest x here) [
+            | GoesOn now other ↦ among_more x m.plain.closed (y ∷ []) (here.rule.closed_has x (sym now ∙ is))
+            | BeginsToDie now alive positive e ↦ absurd (dying_not_closed t (sym now ∙ is))
+            | IsClosed now dying positive e ↦ subst (λ (z : ℕ). is_among x (m.plain.closed ++ z ∷ []) ≡ true) (some_is x y (sym e ∙ ended)) (among_last x m.plain.closed)
+          ])
     ]
 
 pub closed_once_after : (p : Module) (n : ℕ) (m : Machine) (t : ℕ) (a : Actor) (d : Duty) (rest : List Duty) → AtDuty p n m t a d rest → AllPairs (λ x y. x ≢ y) (done_by m t a d rest).plain.closed
@@ -90,7 +90,7 @@ closed_once_after p n m t a d rest here =
     elim (closed_step m t d (m.memory (address_of m.rows t a.head d))) [
       | SameClosed none same ↦ subst Q (sym same) here.rule.once
       | OneMore y ended more ↦
-        subst Q (sym more) (all_pairs_push (λ x z. x ≢ z) m.plain.closed y here.rule.once (λ k e lt same.
+          subst Q (sym more) (all_pairs_push (λ x z. x ≢ z) m.plain.closed y here.rule.once (λ k e lt same.
           let found : is_among y m.plain.closed ≡ true = list_any-from_Any (λ z. z == y) m.plain.closed (k, y, lt, get_or_default m.plain.closed k y e lt ∙ same, eq-eqb y y refl) in
           elim (life_step p n m t a d rest y here) [
             | GoesOn now other ↦ absurd (other ended)

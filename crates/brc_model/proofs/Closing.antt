@@ -1,20 +1,13 @@
 -- Which rows are closed and alive after a step.
-use Rattle.std.proofs.Common.{◌≡◌, ◌≢◌, ℕ, zero, suc, ◌+◌, ◌<◌, ◌≤◌, Bool, true, false, cond, List, [], ◌∷◌, ◌++◌, ◌⊎◌, inl, inr, length, get_or, Option, None, Some, refl, sym, ap, ◌∙◌, subst, arith}
-use Rattle.std.specs.Prelude.{◌==◌, ◌||◌, slice_get, AllPairs}
-use Rattle.std.specs.List.{list_any}
-use Rattle.std.proofs.lemmas.Bool.{eqb-true, eq-eqb, false≢true}
+use Rattle.std.proofs.Common.{◌≡◌, ℕ, ◌<◌, Bool, true, false, cond, List, [], ◌∷◌, ◌++◌, inl, inr, Option, None, Some, refl, sym, ap, ◌∙◌, subst}
+use Rattle.std.specs.Prelude.{◌==◌}
 use Rattle.std.proofs.lemmas.Bool.Decides.{eqb_tells}
-use Rattle.std.proofs.lemmas.List.{get_or_default}
-use Rattle.std.proofs.lemmas.List.Folds.{list_any-append, list_any-from_Any}
-use Rattle.std.proofs.lemmas.List.Quantifiers.{all_pairs_push}
 use Rattle.brc_lang.specs.declared.module.Module.{Module}
-use Rattle.brc_model.specs.Plain.{Holding, ByVariable, AsCaller, InHand, Plain, is_among, Move, Gain, Lose, HandOn, Finalise, move, moved}
+use Rattle.brc_model.specs.Plain.{Holding, ByVariable, AsCaller, InHand, Plain, Move, Gain, Lose, HandOn, Finalise, move, moved}
 use Rattle.brc_model.specs.Words.{is_immortal_word}
-use Rattle.brc_model.specs.Duties.{Reason, Own, Handed, Duty, RetainLoad, RetainStore, RetainAdd, ReleaseLoad, ReleaseStore, DecideAtZero, SharedExchange, MergeExchange, SettleEnd, address_of}
-use Rattle.brc_model.specs.Machine.{Actor, Life, Unborn, Live, Dying, Closed, Machine, hand_on, gain, lose, moves_by, dies_next, ended_row, with_life, life_by, done_by}
+use Rattle.brc_model.specs.Duties.{Own, Handed, Duty, RetainLoad, RetainStore, RetainAdd, ReleaseLoad, ReleaseStore, DecideAtZero, SharedExchange, MergeExchange, SettleEnd, address_of}
+use Rattle.brc_model.specs.Machine.{Actor, Life, Live, Dying, Closed, Machine, hand_on, gain, lose, moves_by, dies_next, ended_row, with_life, done_by}
 use Rattle.brc_model.proofs.Lists.{some_is}
-use Rattle.brc_model.proofs.Rule.{HeadFits, Rule}
-use Rattle.brc_model.proofs.Alive.{Alive}
 use Rattle.brc_model.proofs.Leaves.{AtDuty, head_of}
 use Rattle.brc_model.proofs.Lives.{MayDie, next_of, next_dies, cell_found, dying_was_alive}
 
@@ -97,16 +90,16 @@ life_with p n m t a d rest x None None here dies ended = GoesOn refl (λ e. none
 life_with p n m t a d rest x None (Some y) here dies ended =
     elim (eqb_tells y x) [
       | inl same ↦
-        let was = ended_dying p n m t a d rest y here ended in
-        IsClosed (ap (λ (b : Bool). cond b Closed (m.life x)) same.0) (ap m.life (sym same.1) ∙ was.1) (subst (λ (z : ℕ). 0 < z) same.1 was.0) (ended ∙ ap Some same.1)
+          let was = ended_dying p n m t a d rest y here ended in
+          IsClosed (ap (λ (b : Bool). cond b Closed (m.life x)) same.0) (ap m.life (sym same.1) ∙ was.1) (subst (λ (z : ℕ). 0 < z) same.1 was.0) (ended ∙ ap Some same.1)
       | inr other ↦ GoesOn (ap (λ (b : Bool). cond b Closed (m.life x)) other.0) (λ e. other.1 (some_is y x (sym ended ∙ e)))
     ]
 life_with p n m t a d rest x (Some y) None here dies ended =
     elim (eqb_tells y x) [
       | inl same ↦
-        let alive = dying_was_alive p n m t a d rest y here dies in
-        let positive = may_die_positive p n m t a d rest y here (next_dies t _ a.head d (m.memory (address_of m.rows t a.head d)) y (cell_found p n m t a d here.rule) dies) in
-        BeginsToDie (ap (λ (b : Bool). cond b (Dying t) (m.life x)) same.0) (ap m.life (sym same.1) ∙ alive.life) (subst (λ (z : ℕ). 0 < z) same.1 positive) ended
+          let alive = dying_was_alive p n m t a d rest y here dies in
+          let positive = may_die_positive p n m t a d rest y here (next_dies t _ a.head d (m.memory (address_of m.rows t a.head d)) y (cell_found p n m t a d here.rule) dies) in
+          BeginsToDie (ap (λ (b : Bool). cond b (Dying t) (m.life x)) same.0) (ap m.life (sym same.1) ∙ alive.life) (subst (λ (z : ℕ). 0 < z) same.1 positive) ended
       | inr other ↦ GoesOn (ap (λ (b : Bool). cond b (Dying t) (m.life x)) other.0) (λ e. none_is_not x (sym ended ∙ e))
     ]
 life_with p n m t a d rest x (Some y) (Some z) here dies ended = absurd (none_is_not y (sym (ended_kills_none m t a d z ended) ∙ dies))

@@ -1,17 +1,15 @@
 -- Only the running owner decides about a row, and only by its first duty.
-use Rattle.std.proofs.Common.{◌≡◌, ◌≢◌, ℕ, zero, suc, ◌+◌, ◌<◌, ◌≤◌, Bool, true, false, cond, List, [], ◌∷◌, ◌⊎◌, inl, inr, Option, None, Some, refl, sym, ap, ◌∙◌, subst, arith}
-use Rattle.std.specs.Prelude.{◌==◌, ◌&&◌, slice_get, sum_by}
+use Rattle.std.proofs.Common.{◌≡◌, ℕ, zero, suc, ◌+◌, ◌<◌, List, [], ◌∷◌, ◌⊎◌, inl, inr, Some, refl, sym, ap, ◌∙◌, subst, arith}
+use Rattle.std.specs.Prelude.{◌==◌, slice_get, sum_by}
 use Rattle.std.proofs.lemmas.Bool.Decides.{eqb_tells}
 use Rattle.std.proofs.lemmas.List.Sums.{sum_by-cons}
 use Rattle.brc_lang.specs.declared.module.Module.{Module}
-use Rattle.brc_model.specs.Words.{owner_part, local_part}
-use Rattle.brc_model.specs.Duties.{Reason, Own, Handed, Duty, DecideAtZero, SharedLoad, MergeSwap, Settle, Leave, Scan, Finish, Local}
+use Rattle.brc_model.specs.Duties.{Own, Handed, Duty, DecideAtZero, SharedLoad, MergeSwap, Settle, Leave, Scan, Finish}
 use Rattle.brc_model.specs.Machine.{Status, Running, Leaving, Gone, Place, Actor, Machine}
 use Rattle.brc_model.proofs.Lists.{some_is}
 use Rattle.brc_model.proofs.Bag.{one_if}
 use Rattle.brc_model.proofs.Rows.{decides, agenda_weight, weight}
 use Rattle.brc_model.proofs.Rule.{OwnsLocally, HeadFits, HeadOf, Later, Agenda, AgendaFits, Rule}
-use Rattle.brc_model.proofs.Neutral.{agenda_in}
 
 -- what stands behind the first duty decides about nothing
 later_decides : (rows t used : ℕ) (status : Status) (place : Place) (x : ℕ) (rest : List Duty) → Later rows t used status place rest → sum_by (decides x) rest ≡ 0
@@ -70,11 +68,11 @@ agenda_decides p n m u x b (d ∷ rest) is Leaving was fits head = first_decides
 pub nobody_decides : (p : Module) (n : ℕ) (m : Machine) (t x : ℕ) (a : Actor) → Rule p n m → slice_get m.actors t ≡ Some a → OwnsLocally m t a x → agenda_weight (decides x) a ≡ 0 → weight (decides x) m.actors ≡ 0
 nobody_decides p n m t x a rule found owns mine =
     sum_zero (agenda_weight (decides x)) m.actors (λ u b is.
-      let fits = rule.each u b is in
-      elim (agenda_decides p n m u x b b.agenda refl b.status refl fits.1 fits.0.head_fits) [
-        | inl none ↦ none
-        | inr other ↦
+    let fits = rule.each u b is in
+    elim (agenda_decides p n m u x b b.agenda refl b.status refl fits.1 fits.0.head_fits) [
+      | inl none ↦ none
+      | inr other ↦
           let who : u ≡ t = omega (arith, other.owner, owns.owner) in
           let which : b ≡ a = some_is b a (sym is ∙ ap (slice_get m.actors) who ∙ found) in
           ap (agenda_weight (decides x)) which ∙ mine
-      ])
+    ])

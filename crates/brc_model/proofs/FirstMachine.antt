@@ -1,8 +1,7 @@
 -- The rule holds of the first state over headers.
-use Rattle.std.proofs.Common.{◌≡◌, ◌≢◌, ℕ, zero, suc, ◌+◌, ◌-◌, ◌<◌, ◌≤◌, Bool, true, false, cond, List, [], ◌∷◌, ◌⊎◌, inl, inr, length, Option, None, Some, refl, sym, ap, ◌∙◌, subst, arith}
-use Rattle.std.specs.Prelude.{◌==◌, nat_le, slice_get, map, sum_by}
+use Rattle.std.proofs.Common.{◌≡◌, ◌≢◌, ℕ, zero, suc, ◌+◌, ◌<◌, ◌≤◌, Bool, true, false, cond, List, [], ◌∷◌, inl, length, Some, refl, sym, ap, subst, arith}
+use Rattle.std.specs.Prelude.{slice_get, map}
 use Rattle.std.proofs.lemmas.Bool.{eqb-true, eq-eqb}
-use Rattle.std.proofs.lemmas.Bool.Decides.{eqb_tells}
 use Rattle.std.proofs.lemmas.List.{length-map}
 use Rattle.std.proofs.lemmas.List.Sums.{sum_by-cons}
 use Rattle.std.proofs.lemmas.Option.{slice_get_within}
@@ -10,18 +9,16 @@ use Rattle.brc_lang.specs.declared.module.Module.{Module}
 use Rattle.brc_lang.specs.Grammar.{IsModule}
 use Rattle.brc_model.specs.declared.thread.Call.{Call}
 use Rattle.brc_model.specs.Walks.{IsAcceptable}
-use Rattle.brc_model.specs.Plain.{root_row, Holding, Reference, is_among, references_to}
-use Rattle.brc_model.specs.Steps.{code_of, callers_below}
+use Rattle.brc_model.specs.Steps.{callers_below}
 use Rattle.brc_model.specs.Safety.{IsCall, AreCalls}
-use Rattle.brc_model.specs.Words.{owner_part, local_part, biased_part, phase_part, bias, fresh_word, local_word}
-use Rattle.brc_model.specs.Duties.{Duty, Mark, ThreadWord, block_of}
-use Rattle.brc_model.specs.Machine.{Status, Running, Standing, Departing, Place, Actor, Life, Unborn, Live, Dying, Closed, Machine, main_actor, worker_actor, first_memory, first_life, first_machine}
-use Rattle.brc_model.proofs.Bag.{held, one_if}
-use Rattle.brc_model.proofs.Lists.{some_is, all_of_found, MappedAt, slice_get-map}
+use Rattle.brc_model.specs.Duties.{Duty, ThreadWord, block_of}
+use Rattle.brc_model.specs.Machine.{Standing, Departing, Actor, Unborn, Closed, main_actor, worker_actor, first_memory, first_life, first_machine}
+use Rattle.brc_model.proofs.Bag.{one_if}
+use Rattle.brc_model.proofs.Lists.{some_is, all_of_found, slice_get-map}
 use Rattle.brc_model.proofs.First.{callers_beyond, callers_hold, root_references, other_references, function_fits}
-use Rattle.brc_model.proofs.Invariant.{the_root, reference_of, AreInstructions}
-use Rattle.brc_model.proofs.Rows.{waits, carries, merges, decides, agenda_weight, weight, Numbers, IsDefault, AboveZero, IsOwned, InOwned, IsLive, IsUnborn, RowRule}
-use Rattle.brc_model.proofs.Rule.{numbers_of, HoldsAt, Later, ChainFits, ActorFits, AgendaFits, HandedOnce, dies_by, Rule, status_word}
+use Rattle.brc_model.proofs.Invariant.{the_root}
+use Rattle.brc_model.proofs.Rows.{waits, carries, merges, decides, agenda_weight, weight, IsDefault, AboveZero, InOwned, RowRule}
+use Rattle.brc_model.proofs.Rule.{numbers_of, HoldsAt, ChainFits, ActorFits, AgendaFits, HandedOnce, dies_by, Rule}
 
 -- nobody has anything to do
 no_weight : (f : Duty → ℕ) (calls : List Call) → weight f (map worker_actor calls) ≡ 0
@@ -80,26 +77,36 @@ first_actor : (m : Module) (rows : ℕ) (calls : List Call) (t : ℕ) (a : Actor
 first_actor m rows calls zero a fits accepted are_calls is =
     let function = function_fits m 0 fits accepted fits.some in
     let P : Actor → Type 0 = λ x. ActorFits m (first_machine m rows calls) 0 x × AgendaFits rows 0 x x.status × HandedOnce x.agenda in
-    subst P (some_is main_actor a is) (record {
-      accepted = function.0; instructions = function.1;
-      word = thread_word (length calls) 0 (omega arith);
-      placed = caller_holds calls 0 (omega arith);
-      head_fits = tt;
-      chain = first_chain m rows calls 0;
-    }, (standing_stays 0, refl), tt)
+    subst P (some_is main_actor a is) (
+      record {
+        accepted = function.0;
+        instructions = function.1;
+        word = thread_word (length calls) 0 (omega arith);
+        placed = caller_holds calls 0 (omega arith);
+        head_fits = tt;
+        chain = first_chain m rows calls 0;
+      },
+      (standing_stays 0, refl),
+      tt,
+    )
 first_actor m rows calls (suc t) a fits accepted are_calls is =
     let call = slice_get-map worker_actor calls t a is in
     let good = all_of_found (IsCall m) calls t call.source are_calls.each call.is_there in
     let function = function_fits m call.source.function fits accepted good.0 in
     let within : t < length calls = slice_get_within calls t call.source call.is_there in
     let P : Actor → Type 0 = λ x. ActorFits m (first_machine m rows calls) (suc t) x × AgendaFits rows (suc t) x x.status × HandedOnce x.agenda in
-    subst P call.is_image (record {
-      accepted = function.0; instructions = function.1;
-      word = thread_word (length calls) (suc t) (omega (arith, within));
-      placed = caller_holds calls (suc t) (omega (arith, within));
-      head_fits = tt;
-      chain = first_chain m rows calls (suc t);
-    }, (standing_stays call.source.times, refl), tt)
+    subst P call.is_image (
+      record {
+        accepted = function.0;
+        instructions = function.1;
+        word = thread_word (length calls) (suc t) (omega (arith, within));
+        placed = caller_holds calls (suc t) (omega (arith, within));
+        head_fits = tt;
+        chain = first_chain m rows calls (suc t);
+      },
+      (standing_stays call.source.times, refl),
+      tt,
+    )
 
 life_not_closed : (x : ℕ) → first_life x ≡ Closed → ⊥
 life_not_closed zero e = cc

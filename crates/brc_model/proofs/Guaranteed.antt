@@ -1,27 +1,23 @@
 -- The invariant says what an accepted module promises, so each accepted module is safe over headers.
-use Rattle.std.proofs.Common.{◌≡◌, ◌≢◌, ℕ, zero, suc, ◌+◌, ◌<◌, ◌≤◌, Bool, true, false, cond, List, [], ◌∷◌, ◌⊎◌, inl, inr, length, Option, None, Some, refl, sym, ap, ◌∙◌, subst, arith}
+use Rattle.std.proofs.Common.{◌≡◌, ℕ, zero, suc, ◌+◌, ◌<◌, true, false, List, [], ◌∷◌, inl, inr, length, Some, refl, sym, ap, ◌∙◌, subst, arith}
 use Rattle.std.specs.Prelude.{◌==◌, ◌||◌, slice_get, count_by, sum_by, map}
-use Rattle.std.specs.List.{list_all}
 use Rattle.std.proofs.lemmas.Bool.{eqb-true, eq-eqb, false≢true}
-use Rattle.std.proofs.lemmas.List.Sums.{sum_by-cons}
 use Rattle.std.proofs.lemmas.Option.{slice_get_cases}
-use Rattle.brc_lang.specs.declared.module.Instr.{Instr}
 use Rattle.brc_lang.specs.declared.module.Module.{Module}
 use Rattle.brc_lang.specs.Grammar.{IsModule}
 use Rattle.brc_model.specs.declared.thread.Call.{Call}
 use Rattle.brc_model.specs.Walks.{IsAcceptable}
 use Rattle.brc_model.specs.Steps.{code_of}
-use Rattle.brc_model.specs.Plain.{root_row, is_among, Holding, Reference, references_to}
+use Rattle.brc_model.specs.Plain.{root_row, is_among, Holding, references_to}
 use Rattle.brc_model.specs.Safety.{AreCalls}
-use Rattle.brc_model.specs.Words.{local_part, biased_part, bias}
 use Rattle.brc_model.specs.Duties.{Duty, Mark, ThreadWord, block_of}
-use Rattle.brc_model.specs.Machine.{Status, Running, Leaving, Gone, Place, Standing, Inside, Departing, Actor, Life, Unborn, Live, Dying, Closed, Machine, main_actor, worker_actor, first_life, first_machine}
+use Rattle.brc_model.specs.Machine.{Status, Running, Leaving, Gone, Place, Departing, Actor, Life, Unborn, Live, Dying, Closed, Machine, main_actor, worker_actor, first_machine}
 use Rattle.brc_model.specs.Guarantee.{has_gone, AllGone, IsSafeNow, SafeOverHeaders}
 use Rattle.brc_model.proofs.Bag.{held, one_if, empty_bag}
-use Rattle.brc_model.proofs.Lists.{some_is, list_all_found, MappedAt, slice_get-map}
+use Rattle.brc_model.proofs.Lists.{some_is, list_all_found, slice_get-map}
 use Rattle.brc_model.proofs.Invariant.{nothing, reference_of}
 use Rattle.brc_model.proofs.Rows.{waits, carries, merges, decides, agenda_weight, weight, IsDefault, IsQueued, AtZero, AboveZero, InOwned, InSwapped, InMerged, IsLive, RowRule}
-use Rattle.brc_model.proofs.Rule.{numbers_of, HoldsAt, PlaceFits, AgendaFits, scans, Linked, dies_by, hand_of, ChainFits, looks, IsWatched, ByRunning, ByExit, ByLook, Rule, status_word}
+use Rattle.brc_model.proofs.Rule.{numbers_of, HoldsAt, PlaceFits, AgendaFits, scans, Linked, dies_by, hand_of, looks, ByRunning, ByExit, ByLook, Rule, status_word}
 use Rattle.brc_model.proofs.Agreeing.{agrees_at, is_free_of}
 use Rattle.brc_model.proofs.Deciders.{sum_zero}
 use Rattle.brc_model.proofs.OwnExits.{IsSettled}
@@ -52,12 +48,12 @@ gone_holds : (p : Module) (n : ℕ) (m : Machine) (t : ℕ) (k : Holding) (objec
 gone_holds p n m t k object rule done =
     elim (slice_get_cases m.actors t).1 [
       | inl found ↦
-        let a = found.0 in
-        let gone = gone_at p n m t a rule done found.2 in
-        let old = (rule.each t a found.2).0 in
-        let placed : HoldsAt m.plain.references t nothing [] =
-        subst (λ (q : Place). PlaceFits (code_of (slice_get p.functions found.0.function)) m.plain.references t [] q) gone.place (subst (λ (l : List Duty). PlaceFits (code_of (slice_get p.functions found.0.function)) m.plain.references t l a.place) gone.agenda old.placed) in
-        omega (arith, placed.each k object)
+          let a = found.0 in
+          let gone = gone_at p n m t a rule done found.2 in
+          let old = (rule.each t a found.2).0 in
+          let placed : HoldsAt m.plain.references t nothing [] =
+          subst (λ (q : Place). PlaceFits (code_of (slice_get p.functions found.0.function)) m.plain.references t [] q) gone.place (subst (λ (l : List Duty). PlaceFits (code_of (slice_get p.functions found.0.function)) m.plain.references t l a.place) gone.agenda old.placed) in
+          omega (arith, placed.each k object)
       | inr past ↦ rule.beyond t (omega (arith, past.0, rule.threads)) k object
     ]
 
@@ -73,18 +69,18 @@ no_mark p n m x rule done within =
     elim (rule.marks x) [
       | inl none ↦ none
       | inr set ↦
-        elim set.2 [
-          | ByRunning one ↦
-            elim (slice_get_cases m.actors (block_of m.rows x)).1 [
-              | inl found ↦
-                let gone = gone_at p n m (block_of m.rows x) found.0 rule done found.2 in
-                let word : m.memory (ThreadWord (block_of m.rows x)) ≡ 3 = (rule.each (block_of m.rows x) found.0 found.2).0.word ∙ ap status_word gone.status in
-                absurd (omega (arith, one, word))
-              | inr past ↦ absurd (omega (arith, past.0, rule.threads, within))
-            ]
-          | ByExit b found scanned ↦ absurd (false≢true (sym (ap (scans x) (gone_at p n m (block_of m.rows x) b rule done found).agenda) ∙ scanned))
-          | ByLook some ↦ absurd (omega (arith, some, no_weights p n m (looks x) rule done))
-        ]
+          elim set.2 [
+            | ByRunning one ↦
+                elim (slice_get_cases m.actors (block_of m.rows x)).1 [
+                  | inl found ↦
+                      let gone = gone_at p n m (block_of m.rows x) found.0 rule done found.2 in
+                      let word : m.memory (ThreadWord (block_of m.rows x)) ≡ 3 = (rule.each (block_of m.rows x) found.0 found.2).0.word ∙ ap status_word gone.status in
+                      absurd (omega (arith, one, word))
+                  | inr past ↦ absurd (omega (arith, past.0, rule.threads, within))
+                ]
+            | ByExit b found scanned ↦ absurd (false≢true (sym (ap (scans x) (gone_at p n m (block_of m.rows x) b rule done found).agenda) ∙ scanned))
+            | ByLook some ↦ absurd (omega (arith, some, no_weights p n m (looks x) rule done))
+          ]
     ]
 
 -- a live row has a reference
@@ -97,13 +93,13 @@ live_referenced p n m x rule done within live =
     let deciding = no_weights p n m (decides x) rule done in
     elim live.mode [
       | InOwned o ↦
-        elim o.decided [
-          | AtZero z d ↦ absurd (omega (arith, d, deciding))
-          | AboveZero z d ↦ elim o.phased [
-            | IsDefault q w b ↦ omega (arith, live.sum, z, b, mark, waiting)
-            | IsQueued q w ↦ absurd (omega (arith, w, mark, waiting))
+          elim o.decided [
+            | AtZero z d ↦ absurd (omega (arith, d, deciding))
+            | AboveZero z d ↦ elim o.phased [
+              | IsDefault q w b ↦ omega (arith, live.sum, z, b, mark, waiting)
+              | IsQueued q w ↦ absurd (omega (arith, w, mark, waiting))
+            ]
           ]
-        ]
       | InSwapped s ↦ absurd (omega (arith, s.merging, merging))
       | InMerged g ↦ omega (arith, live.sum, g.counted, mark, waiting)
     ]
@@ -114,24 +110,24 @@ none_dying p n m x t rule done dying =
     let dies : dies_by (m.life x) t ≡ true = ap (λ (l : Life). dies_by l t) dying ∙ eq-eqb t t refl in
     elim (slice_get_cases m.actors t).1 [
       | inl found ↦
-        let gone = gone_at p n m t found.0 rule done found.2 in
-        let chain = (rule.each t found.0 found.2).0.chain in
-        let hand : one_if (hand_of found.0.agenda x) ≡ 0 = ap (λ (l : List Duty). one_if (hand_of l x)) gone.agenda in
-        let one : one_if (dies_by (m.life x) t) ≡ 1 = ap one_if dies in
-        elim chain.chained as (λ l. chain.chained ≡ l → Linked m.memory t found.0.head l → ⊥) [
-          | [] ↦ λ e linked.
-            let none : count_by (λ y. y == x) chain.chained ≡ 0 = ap (count_by (λ y. y == x)) e in
-            absurd (omega (arith, chain.once x, hand, one, none))
-          | y ∷ ys ↦ λ e linked. absurd (omega (arith, linked.0, gone.head))
-        ] refl chain.linked
+          let gone = gone_at p n m t found.0 rule done found.2 in
+          let chain = (rule.each t found.0 found.2).0.chain in
+          let hand : one_if (hand_of found.0.agenda x) ≡ 0 = ap (λ (l : List Duty). one_if (hand_of l x)) gone.agenda in
+          let one : one_if (dies_by (m.life x) t) ≡ 1 = ap one_if dies in
+          elim chain.chained as (λ l. chain.chained ≡ l → Linked m.memory t found.0.head l → ⊥) [
+            | [] ↦ λ e linked.
+                let none : count_by (λ y. y == x) chain.chained ≡ 0 = ap (count_by (λ y. y == x)) e in
+                absurd (omega (arith, chain.once x, hand, one, none))
+            | y ∷ ys ↦ λ e linked. absurd (omega (arith, linked.0, gone.head))
+          ] refl chain.linked
       | inr past ↦ false≢true (sym (rule.dying x t (omega (arith, past.0, rule.threads))) ∙ dies)
     ]
 
 among_root : (x : ℕ) → is_among x (root_row ∷ []) ≡ true → x ≡ root_row
 among_root x is = elim (root_row == x) as (λ b. (root_row == x) ≡ b → (b || false) ≡ true → x ≡ root_row) [
-    | true ↦ λ e f. sym (eqb-true root_row x e)
-    | false ↦ λ e f. absurd cc
-  ] refl is
+  | true ↦ λ e f. sym (eqb-true root_row x e)
+  | false ↦ λ e f. absurd cc
+] refl is
 
 closed_is_root : (p : Module) (n : ℕ) (m : Machine) (x : ℕ) → Rule p n m → m.life x ≡ Closed → x ≡ root_row
 closed_is_root p n m zero rule closed = absurd (let wrong : Live ≡ Closed = sym rule.none_lives ∙ closed in cc)
@@ -156,12 +152,13 @@ safe_now p n m whole some = record {
   closed_once = whole.rule.once;
   closed_at_end = λ done x. (
     λ closed.
-    let root = closed_is_root p n m x whole.rule (whole.rule.closed_is x closed) in
-    (ap (λ (y : ℕ). is_among y (root_row ∷ [])) root, ap (references_to x) (none_left p n m whole.rule done)),
+        let root = closed_is_root p n m x whole.rule (whole.rule.closed_is x closed) in
+        (ap (λ (y : ℕ). is_among y (root_row ∷ [])) root, ap (references_to x) (none_left p n m whole.rule done)),
     λ born.
-    let root = among_root x born.0 in
-    let none : references_to root_row m.plain.references ≡ 0 = ap (references_to root_row) (none_left p n m whole.rule done) in
-    whole.rule.closed_has x (ap m.life root ∙ root_closed p n m (m.life root_row) whole done some none refl ∙ refl));
+        let root = among_root x born.0 in
+        let none : references_to root_row m.plain.references ≡ 0 = ap (references_to root_row) (none_left p n m whole.rule done) in
+        whole.rule.closed_has x (ap m.life root ∙ root_closed p n m (m.life root_row) whole done some none refl ∙ refl),
+  );
   none_left = λ done. none_left p n m whole.rule done;
 }
 

@@ -1,20 +1,19 @@
 -- The rule holds after a thread's first duty, where it holds of that thread and of the marks.
-use Rattle.std.proofs.Common.{◌≡◌, ◌≢◌, ℕ, zero, suc, ◌+◌, ◌-◌, ◌<◌, ◌≤◌, Bool, true, false, cond, List, [], ◌∷◌, ◌++◌, ◌⊎◌, inl, inr, length, Option, None, Some, refl, sym, ap, ◌∙◌, subst, arith}
+use Rattle.std.proofs.Common.{◌≡◌, ℕ, ◌<◌, Bool, true, false, cond, List, [], ◌∷◌, ◌++◌, ◌⊎◌, inl, inr, Some, refl, sym, ap, ◌∙◌, subst, arith}
 use Rattle.std.specs.Prelude.{◌==◌, slice_get, slice_set}
-use Rattle.std.proofs.lemmas.Bool.{eqb-true, eq-eqb, ne_eqb}
+use Rattle.std.proofs.lemmas.Bool.{ne_eqb}
 use Rattle.std.proofs.lemmas.Bool.Decides.{eqb_tells}
 use Rattle.std.proofs.lemmas.List.{length-set}
 use Rattle.std.proofs.lemmas.Option.{slice_get_within}
 use Rattle.brc_lang.specs.declared.module.Module.{Module}
 use Rattle.brc_model.specs.Plain.{Holding, ByVariable, AsCaller, InHand, Reference, Plain, same, without, references_to, Move, Gain, Lose, HandOn, Finalise, move, moved}
 use Rattle.brc_model.specs.Words.{is_immortal_word}
-use Rattle.brc_model.specs.Duties.{Reason, Own, Handed, Duty, RetainLoad, RetainStore, RetainAdd, ReleaseLoad, ReleaseStore, DecideAtZero, SharedLoad, SharedExchange, SettleCell, SettleEnd, Cell, Mark, address_of, left_by}
-use Rattle.brc_model.specs.Machine.{Status, Running, Leaving, Gone, Actor, Machine, hand_on, gain, lose, moves_by, actor_by, done_by, written, same_address}
+use Rattle.brc_model.specs.Duties.{Own, Duty, RetainLoad, RetainStore, RetainAdd, ReleaseLoad, ReleaseStore, SharedExchange, SettleCell, SettleEnd, Cell, Mark}
+use Rattle.brc_model.specs.Machine.{Gone, Actor, Machine, hand_on, gain, lose, moves_by, actor_by, done_by, same_address}
 use Rattle.brc_model.proofs.Lists.{some_is, slice_get-set_same, slice_get-set_other}
-use Rattle.brc_model.proofs.Bag.{held, one_if, same-true, references_to-cons}
-use Rattle.brc_model.proofs.Invariant.{reference_of}
+use Rattle.brc_model.proofs.Bag.{one_if, same-true, references_to-cons}
 use Rattle.brc_model.proofs.Rule.{HeadFits, HandedOnce, AgendaFits, ActorFits, IsWatched, Rule}
-use Rattle.brc_model.proofs.Others.{LeavesOthers, others_fit}
+use Rattle.brc_model.proofs.Others.{others_fit}
 use Rattle.brc_model.proofs.MovesApart.{moves_apart}
 use Rattle.brc_model.proofs.Leaves.{AtDuty, head_of}
 use Rattle.brc_model.proofs.Lives.{leaves_others}
@@ -99,14 +98,14 @@ others_and_own p n m t a d rest here own u b is =
     let after = actor_by t a d rest (found_by m t a d) in
     elim (eqb_tells u t) [
       | inl same ↦
-        let written_is : Some after ≡ Some b = sym (ap (slice_get (slice_set m.actors t after)) same.1 ∙ slice_get-set_same m.actors t after (slice_get_within m.actors t a here.found)) ∙ is in
-        let P : Actor → Type 0 = λ x. ActorFits p (done_by m t a d rest) u x × AgendaFits m.rows u x x.status × HandedOnce x.agenda in
-        let Q : ℕ → Type 0 = λ w. ActorFits p (done_by m t a d rest) w after × AgendaFits m.rows w after after.status × HandedOnce after.agenda in
-        subst P (some_is after b written_is) (subst Q (sym same.1) (own.actor, own.agenda, own.handed))
+          let written_is : Some after ≡ Some b = sym (ap (slice_get (slice_set m.actors t after)) same.1 ∙ slice_get-set_same m.actors t after (slice_get_within m.actors t a here.found)) ∙ is in
+          let P : Actor → Type 0 = λ x. ActorFits p (done_by m t a d rest) u x × AgendaFits m.rows u x x.status × HandedOnce x.agenda in
+          let Q : ℕ → Type 0 = λ w. ActorFits p (done_by m t a d rest) w after × AgendaFits m.rows w after after.status × HandedOnce after.agenda in
+          subst P (some_is after b written_is) (subst Q (sym same.1) (own.actor, own.agenda, own.handed))
       | inr apart ↦
-        let found : slice_get m.actors u ≡ Some b = sym (slice_get-set_other m.actors t u after apart.1) ∙ is in
-        let old = here.rule.each u b found in
-        (others_fit p m (done_by m t a d rest) t u b (leaves_others p n m t a d rest here) apart.1 found old.0, old.1, old.2)
+          let found : slice_get m.actors u ≡ Some b = sym (slice_get-set_other m.actors t u after apart.1) ∙ is in
+          let old = here.rule.each u b found in
+          (others_fit p m (done_by m t a d rest) t u b (leaves_others p n m t a d rest here) apart.1 found old.0, old.1, old.2)
     ]
 
 -- ---- the whole rule

@@ -1,23 +1,22 @@
 -- A thread's step leaves what the other threads rely on.
-use Rattle.std.proofs.Common.{◌≡◌, ◌≢◌, ℕ, zero, suc, ◌+◌, ◌-◌, ◌<◌, ◌≤◌, Bool, true, false, cond, List, [], ◌∷◌, ◌++◌, ◌⊎◌, inl, inr, length, Option, None, Some, refl, sym, ap, ◌∙◌, subst, arith}
-use Rattle.std.specs.Prelude.{◌==◌, ◌&&◌, nat_lt, slice_get, sum_by}
-use Rattle.std.proofs.lemmas.Bool.{eqb-true, eqb-false, eq-eqb, ne_eqb}
+use Rattle.std.proofs.Common.{◌≡◌, ◌≢◌, ℕ, ◌+◌, ◌-◌, ◌<◌, ◌≤◌, Bool, true, false, cond, List, [], ◌∷◌, inl, inr, Some, refl, sym, ap, ◌∙◌, subst, arith}
+use Rattle.std.specs.Prelude.{◌==◌, slice_get, sum_by}
+use Rattle.std.proofs.lemmas.Bool.{eqb-true, eq-eqb, ne_eqb}
 use Rattle.std.proofs.lemmas.Bool.Decides.{eqb_tells}
 use Rattle.std.proofs.lemmas.List.Sums.{sum_by-cons}
 use Rattle.brc_lang.specs.declared.module.Module.{Module}
-use Rattle.brc_model.specs.Plain.{Holding, InHand, references_to}
-use Rattle.brc_model.specs.Words.{owner_part, local_part, biased_part, phase_part, is_immortal_word, fresh_word, dead_word, released_word, merged_word}
-use Rattle.brc_model.specs.Duties.{Reason, Own, Handed, Duty, RetainLoad, RetainStore, RetainAdd, ReleaseLoad, ReleaseStore, DecideAtZero, SharedLoad, SharedExchange, SetMark, Look, TakeMark, MergeSwap, MergeLoad, MergeExchange, Die, Settle, SettleKind, SettleCell, SettleEnd, Leave, Scan, Finish, ClaimMark, Address, Local, Shared, Gate, KindOf, Mark, Cell, ThreadWord, block_of, address_of, left_by, next_by, counts_locally, claimed, shared_result, cells_of, cells_from, release_found}
-use Rattle.brc_model.specs.Machine.{Status, Running, Leaving, Gone, Actor, Life, Unborn, Live, Dying, Closed, Machine, is_running, written, dies_next, ended_row, with_life, life_by, done_by}
+use Rattle.brc_model.specs.Plain.{InHand}
+use Rattle.brc_model.specs.Words.{owner_part, biased_part, phase_part, fresh_word, released_word, merged_word}
+use Rattle.brc_model.specs.Duties.{Reason, Own, Handed, Duty, RetainLoad, RetainStore, RetainAdd, ReleaseLoad, ReleaseStore, DecideAtZero, SharedLoad, SharedExchange, Look, MergeSwap, MergeLoad, MergeExchange, Die, Settle, SettleEnd, Leave, Finish, Local, Shared, Gate, ThreadWord, block_of, address_of, left_by}
+use Rattle.brc_model.specs.Machine.{Actor, Dying, Machine, written}
 use Rattle.brc_model.proofs.Bag.{held, one_if, held-le-references_to}
 use Rattle.brc_model.proofs.Invariant.{reference_of}
-use Rattle.brc_model.proofs.Rows.{waits, decides, merges, weight, InOwned, InSwapped, InMerged}
+use Rattle.brc_model.proofs.Rows.{waits, decides, merges, InOwned, InSwapped, InMerged}
 use Rattle.brc_model.proofs.RowSteps.{shared_range, shared_up, shared_down, shared_merged}
-use Rattle.brc_model.proofs.Rule.{extra_of, lacks_of, OwnsLocally, MayMerge, FollowsHanded, HeadFits, HeadOf, dies_by, ActorFits, Rule, status_word}
+use Rattle.brc_model.proofs.Rule.{extra_of, lacks_of, OwnsLocally, FollowsHanded, HeadFits, HeadOf, dies_by, Rule, status_word}
 use Rattle.brc_model.proofs.Alive.{first_weighs, Alive, alive_referenced, alive_waiting, alive_deciding, alive_merging, hand_holds}
 use Rattle.brc_model.proofs.Written.{written_here, written_apart, written_load, apart_local, apart_shared, apart_gate, apart_thread}
-use Rattle.brc_model.proofs.MovesApart.{moves_apart}
-use Rattle.brc_model.proofs.Others.{LeavesOthers, dying_is, is_dying}
+use Rattle.brc_model.proofs.Others.{is_dying}
 
 -- a thread at its first duty
 pub record AtDuty (p : Module) (n : ℕ) (m : Machine) (t : ℕ) (a : Actor) (d : Duty) (rest : List Duty) : Type 0 where
@@ -110,9 +109,9 @@ phase_written : (m : Machine) (y v x : ℕ) → (phase_part (m.memory (Shared y)
 phase_written m y v x here was =
     elim (eqb_tells y x) [
       | inl same ↦
-        let P : ℕ → Type 0 = λ z. phase_part (m.memory (Shared z)) ≡ 3 → phase_after m y v z ≡ 3 in
-        let itself : P y = λ w. ap phase_part (written_here m.memory (Shared y) v) ∙ here w in
-        subst P same.1 itself was
+          let P : ℕ → Type 0 = λ z. phase_part (m.memory (Shared z)) ≡ 3 → phase_after m y v z ≡ 3 in
+          let itself : P y = λ w. ap phase_part (written_here m.memory (Shared y) v) ∙ here w in
+          subst P same.1 itself was
       | inr other ↦ ap phase_part (written_apart m.memory (Shared y) (Shared x) v (apart_shared y x other.1)) ∙ was
     ]
 
@@ -134,9 +133,9 @@ merged_left p n m t a (SharedExchange y r w) rest here x was =
     let alive = exchange_alive p n m t a y w r rest here in
     phase_written m y (cond (m.memory (Shared y) == w) (released_word w) (m.memory (Shared y))) x
     (λ phase. exchanged (m.memory (Shared y) == w) (released_word w) (m.memory (Shared y)) 0 (λ v. phase_part v ≡ 3)
-      (λ won.
-        let same : m.memory (Shared y) ≡ w = eqb-true (m.memory (Shared y)) w won in
-        released_merged w (subst (λ (v : ℕ). 1 ≤ biased_part v) same (shared_range _ _ alive.live)) (ap phase_part (sym same) ∙ phase)) phase) was
+    (λ won.
+    let same : m.memory (Shared y) ≡ w = eqb-true (m.memory (Shared y)) w won in
+    released_merged w (subst (λ (v : ℕ). 1 ≤ biased_part v) same (shared_range _ _ alive.live)) (ap phase_part (sym same) ∙ phase)) phase) was
 merged_left p n m t a (MergeLoad y c) rest here x was = ap phase_part (written_load m.memory (Shared y) (Shared x)) ∙ was
 merged_left p n m t a (MergeExchange y c w) rest here x was =
     phase_written m y (cond (m.memory (Shared y) == w) (merged_word w c) (m.memory (Shared y))) x

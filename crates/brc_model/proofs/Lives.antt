@@ -1,16 +1,16 @@
 -- Which rows a step lets die, and that the life of other threads' dying rows stays.
-use Rattle.std.proofs.Common.{◌≡◌, ◌≢◌, ℕ, zero, suc, ◌+◌, ◌-◌, ◌<◌, ◌≤◌, Bool, true, false, cond, List, [], ◌∷◌, ◌++◌, ◌⊎◌, inl, inr, Option, None, Some, refl, sym, ap, ◌∙◌, subst, arith}
-use Rattle.std.specs.Prelude.{◌==◌, ◌&&◌, nat_lt, slice_get}
-use Rattle.std.proofs.lemmas.Bool.{eqb-true, eq-eqb, ne_eqb}
+use Rattle.std.proofs.Common.{◌≡◌, ◌≢◌, ℕ, ◌+◌, Bool, true, false, cond, List, [], ◌∷◌, ◌++◌, inl, inr, Option, None, Some, refl, sym, ap, ◌∙◌, subst}
+use Rattle.std.specs.Prelude.{◌==◌, ◌&&◌, nat_lt}
+use Rattle.std.proofs.lemmas.Bool.{ne_eqb}
 use Rattle.std.proofs.lemmas.Bool.Decides.{eqb_tells}
 use Rattle.brc_lang.specs.declared.module.Module.{Module}
 use Rattle.brc_model.specs.Words.{local_part, is_immortal_word, fresh_word, dead_word, released_word, merged_word}
-use Rattle.brc_model.specs.Duties.{Reason, Own, Handed, Duty, RetainLoad, RetainStore, RetainAdd, ReleaseLoad, ReleaseStore, DecideAtZero, SharedLoad, SharedExchange, SetMark, Look, TakeMark, MergeSwap, MergeLoad, MergeExchange, Die, Settle, SettleKind, SettleCell, SettleEnd, Leave, Scan, Finish, ClaimMark, Cell, address_of, next_by, counts_locally, claimed, shared_result, cells_of, cells_from, release_found}
-use Rattle.brc_model.specs.Machine.{Actor, Life, Unborn, Live, Dying, Closed, Machine, is_running, dies_next, ended_row, with_life, life_by, done_by}
+use Rattle.brc_model.specs.Duties.{Reason, Own, Handed, Duty, RetainLoad, RetainStore, RetainAdd, ReleaseLoad, ReleaseStore, DecideAtZero, SharedLoad, SharedExchange, SetMark, Look, TakeMark, MergeSwap, MergeLoad, MergeExchange, Die, Settle, SettleKind, SettleCell, SettleEnd, Leave, Scan, Finish, ClaimMark, address_of, next_by, counts_locally, shared_result, cells_of, cells_from, release_found}
+use Rattle.brc_model.specs.Machine.{Actor, Life, Live, Dying, Closed, Machine, is_running, dies_next, ended_row, with_life, life_by, done_by}
 use Rattle.brc_model.proofs.Lists.{some_is}
 use Rattle.brc_model.proofs.Rule.{dies_by, Rule}
 use Rattle.brc_model.proofs.Alive.{Alive}
-use Rattle.brc_model.proofs.Others.{LeavesOthers, dying_is, is_dying}
+use Rattle.brc_model.proofs.Others.{LeavesOthers}
 use Rattle.brc_model.proofs.Leaves.{AtDuty, head_of, exchange_alive, decide_alive, merge_alive, locals_left, merged_left, stopped_left, words_left, gates_left}
 use Rattle.brc_model.proofs.MovesApart.{moves_apart}
 
@@ -110,9 +110,9 @@ dies_with life None t u x ne was = refl
 dies_with life (Some y) t u x ne was =
     elim (eqb_tells y x) [
       | inl same ↦
-        let now : dies_by (with_life life (Some y) (Dying t) x) u ≡ (t == u) = ap (λ (b : Bool). dies_by (cond b (Dying t) (life x)) u) same.0 in
-        let before : dies_by (life x) u ≡ false = ap (λ (l : Life). dies_by l u) (ap life (sym same.1) ∙ was y refl) in
-        now ∙ ne_eqb t u (λ e. ne (sym e)) ∙ sym before
+          let now : dies_by (with_life life (Some y) (Dying t) x) u ≡ (t == u) = ap (λ (b : Bool). dies_by (cond b (Dying t) (life x)) u) same.0 in
+          let before : dies_by (life x) u ≡ false = ap (λ (l : Life). dies_by l u) (ap life (sym same.1) ∙ was y refl) in
+          now ∙ ne_eqb t u (λ e. ne (sym e)) ∙ sym before
       | inr other ↦ ap (λ (b : Bool). dies_by (cond b (Dying t) (life x)) u) other.0
     ]
 

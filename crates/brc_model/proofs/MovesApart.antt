@@ -1,9 +1,9 @@
 -- The moves of a thread's step change no other thread's references.
-use Rattle.std.proofs.Common.{◌≡◌, ◌≢◌, ℕ, ◌+◌, Bool, true, false, cond, List, [], ◌∷◌, ◌++◌, refl, sym, ap, ◌∙◌, arith}
+use Rattle.std.proofs.Common.{◌≡◌, ◌≢◌, ℕ, Bool, true, false, cond, List, [], ◌∷◌, ◌++◌, refl, sym, ap, ◌∙◌, arith}
 use Rattle.std.specs.Prelude.{◌==◌}
 use Rattle.brc_model.specs.Plain.{Holding, ByVariable, AsCaller, InHand, Reference, Plain, same, without, Move, Gain, Lose, HandOn, Finalise, move, moved}
 use Rattle.brc_model.specs.Words.{is_immortal_word}
-use Rattle.brc_model.specs.Duties.{Reason, Own, Handed, Duty, RetainLoad, RetainStore, RetainAdd, ReleaseLoad, ReleaseStore, DecideAtZero, SharedLoad, SharedExchange, SetMark, Look, TakeMark, MergeSwap, MergeLoad, MergeExchange, Die, Settle, SettleKind, SettleCell, SettleEnd, Leave, Scan, Finish, ClaimMark}
+use Rattle.brc_model.specs.Duties.{Own, Duty, RetainLoad, RetainStore, RetainAdd, ReleaseLoad, ReleaseStore, SharedExchange, SettleEnd}
 use Rattle.brc_model.specs.Machine.{hand_on, gain, lose, moves_by}
 use Rattle.brc_model.proofs.Bag.{held, one_if, same-true, same-other_thread, held-cons}
 use Rattle.brc_model.proofs.Invariant.{reference_of}
@@ -14,8 +14,8 @@ held-without_apart x r [] apart = refl
 held-without_apart x r (q ∷ qs) apart =
     elim (same r q) as (λ b. same r q ≡ b → held x (cond b qs (q ∷ without r qs)) ≡ held x (q ∷ qs)) [
       | true ↦ λ e.
-        let none : one_if (same x q) ≡ 0 = ap one_if (ap (same x) (sym (same-true r q e)) ∙ apart) in
-        omega (arith, held-cons x q qs, none)
+          let none : one_if (same x q) ≡ 0 = ap one_if (ap (same x) (sym (same-true r q e)) ∙ apart) in
+          omega (arith, held-cons x q qs, none)
       | false ↦ λ e. omega (arith, held-cons x q qs, held-cons x q (without r qs), held-without_apart x r qs apart)
     ] refl
 

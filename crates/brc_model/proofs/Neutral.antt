@@ -1,17 +1,16 @@
 -- A thread after a step that lets no row die and finalises none.
-use Rattle.std.proofs.Common.{◌≡◌, ◌≢◌, ℕ, zero, suc, ◌+◌, ◌-◌, ◌<◌, ◌≤◌, Bool, true, false, cond, List, [], ◌∷◌, ◌++◌, ◌⊎◌, inl, inr, Option, None, Some, refl, sym, ap, ◌∙◌, subst, arith}
-use Rattle.std.specs.Prelude.{◌==◌, ◌&&◌, slice_get}
-use Rattle.brc_lang.specs.declared.module.Instr.{Instr}
+use Rattle.std.proofs.Common.{◌≡◌, ℕ, List, ◌∷◌, ◌++◌, Option, None, refl, sym, ap, ◌∙◌, subst, arith}
+use Rattle.std.specs.Prelude.{slice_get}
 use Rattle.brc_lang.specs.declared.module.Module.{Module}
-use Rattle.brc_model.specs.Plain.{Holding, Reference, moved}
+use Rattle.brc_model.specs.Plain.{Reference, moved}
 use Rattle.brc_model.specs.Steps.{code_of}
 use Rattle.brc_model.specs.Duties.{Duty, Address, Gate, ThreadWord, address_of, left_by, head_by, ready}
-use Rattle.brc_model.specs.Machine.{Status, Running, Leaving, Gone, Place, Actor, Life, Dying, Closed, Machine, status_by, moves_by, dies_next, ended_row, with_life, life_by, actor_by, done_by, written}
-use Rattle.brc_model.proofs.Bag.{held, one_if}
-use Rattle.brc_model.proofs.Rule.{HoldsAt, PlaceFits, HeadOf, Later, Agenda, NoneHanded, HandedOnce, hand_of, dies_by, ChainFits, ActorFits, AgendaFits, Rule, status_word}
+use Rattle.brc_model.specs.Machine.{Status, Running, Leaving, Gone, Actor, Life, Dying, Closed, Machine, status_by, moves_by, dies_next, ended_row, with_life, life_by, actor_by, done_by, written}
+use Rattle.brc_model.proofs.Bag.{one_if}
+use Rattle.brc_model.proofs.Rule.{PlaceFits, HeadOf, Agenda, HandedOnce, hand_of, dies_by, ChainFits, ActorFits, AgendaFits, status_word}
 use Rattle.brc_model.proofs.Leaves.{AtDuty}
 use Rattle.brc_model.proofs.Lives.{next_of}
-use Rattle.brc_model.proofs.Own.{HeldStep, place_step, IsReady, ready_is, ChainSame, chain_same}
+use Rattle.brc_model.proofs.Own.{HeldStep, place_step, ChainSame, chain_same}
 
 -- all that the rule says of one thread
 pub record OwnFits (p : Module) (m : Machine) (t : ℕ) (a : Actor) : Type 0 where
@@ -82,9 +81,9 @@ own_neutral p n m t a d rest next agenda here alive step =
     let same : ChainSame m new t a.agenda agenda = record {
       gates = step.gates;
       hands = λ x.
-      let hands : one_if (hand_of agenda x) ≡ one_if (hand_of a.agenda x) = ap one_if (step.hands x ∙ ap (λ (l : List Duty). hand_of l x) (sym here.agenda)) in
-      let life : one_if (dies_by (new.life x) t) ≡ one_if (dies_by (m.life x) t) = ap (λ (l : Life). one_if (dies_by l t)) (life_same m t a d next x step.next_is step.none_dies step.none_ends) in
-      omega (arith, hands, life);
+          let hands : one_if (hand_of agenda x) ≡ one_if (hand_of a.agenda x) = ap one_if (step.hands x ∙ ap (λ (l : List Duty). hand_of l x) (sym here.agenda)) in
+          let life : one_if (dies_by (new.life x) t) ≡ one_if (dies_by (m.life x) t) = ap (λ (l : Life). one_if (dies_by l t)) (life_same m t a d next x step.next_is step.none_dies step.none_ends) in
+          omega (arith, hands, life);
     } in
     let chain : ChainFits new t a.head agenda = chain_same m new t a.head a.agenda agenda same old.chain in
     record {
@@ -97,6 +96,6 @@ own_neutral p n m t a d rest next agenda here alive step =
         chain = subst (λ (l : List Duty). ChainFits new t after.head l) (sym whole) (subst (λ (h : ℕ). ChainFits new t h agenda) (sym step.same_head) chain);
       };
       agenda = agenda_out m.rows t after after.status (λ e. alive (sym step.same_status ∙ e))
-      (subst (λ (l : List Duty). Agenda m.rows t a.used after.status a.place l) (sym whole) (subst (λ (s : Status). Agenda m.rows t a.used s a.place agenda) (sym step.same_status) step.fits));
+          (subst (λ (l : List Duty). Agenda m.rows t a.used after.status a.place l) (sym whole) (subst (λ (s : Status). Agenda m.rows t a.used s a.place agenda) (sym step.same_status) step.fits));
       handed = subst HandedOnce (sym whole) step.handed;
     }

@@ -1,20 +1,20 @@
 -- A thread's first duty touches no freed row, and makes moves that are allowed.
-use Rattle.std.proofs.Common.{◌≡◌, ◌≢◌, ℕ, zero, suc, ◌+◌, ◌-◌, ◌<◌, ◌≤◌, Bool, true, false, cond, not, List, [], ◌∷◌, ◌++◌, ◌⊎◌, inl, inr, Option, None, Some, refl, sym, ap, ◌∙◌, subst, arith}
-use Rattle.std.specs.Prelude.{◌==◌, ◌&&◌, ◌||◌, nat_lt, slice_get, count_by}
+use Rattle.std.proofs.Common.{◌≡◌, ℕ, ◌-◌, ◌<◌, Bool, true, false, cond, not, List, [], ◌∷◌, ◌++◌, refl, sym, ap, ◌∙◌, subst, arith}
+use Rattle.std.specs.Prelude.{◌==◌, ◌&&◌, ◌||◌, count_by}
 use Rattle.std.specs.List.{list_any}
-use Rattle.std.proofs.lemmas.Bool.{eqb-true, eq-eqb, ne_eqb, lt-ltb}
+use Rattle.std.proofs.lemmas.Bool.{eq-eqb, ne_eqb, lt-ltb}
 use Rattle.std.proofs.lemmas.List.Sums.{sum_by-cons}
 use Rattle.brc_lang.specs.declared.module.Instr.{Instr}
 use Rattle.brc_lang.specs.declared.module.Module.{Module}
 use Rattle.brc_model.specs.Plain.{none_row, is_counted, is_among, Holding, ByVariable, AsCaller, InHand, Reference, Plain, same_holding, same, references_to, Move, Gain, Lose, HandOn, Finalise, is_allowed, are_allowed}
 use Rattle.brc_model.specs.Words.{local_part, is_immortal_word}
-use Rattle.brc_model.specs.Duties.{Reason, Own, Handed, Duty, RetainLoad, RetainStore, RetainAdd, ReleaseLoad, ReleaseStore, DecideAtZero, SharedLoad, SharedExchange, SetMark, Look, TakeMark, MergeSwap, MergeLoad, MergeExchange, Die, Settle, SettleKind, SettleCell, SettleEnd, Leave, Scan, Finish, ClaimMark, Address, Local, address_of}
-use Rattle.brc_model.specs.Machine.{Actor, Life, Unborn, Live, Dying, Closed, Machine, Place, Standing, Inside, Departing, hand_on, gain, lose, moves_by}
+use Rattle.brc_model.specs.Duties.{Own, Handed, Duty, RetainLoad, RetainStore, RetainAdd, ReleaseLoad, ReleaseStore, DecideAtZero, SharedLoad, SharedExchange, MergeSwap, MergeLoad, MergeExchange, Die, Settle, SettleKind, SettleCell, SettleEnd, Local, address_of}
+use Rattle.brc_model.specs.Machine.{Actor, Unborn, Live, Dying, Closed, Machine, Place, Standing, Inside, Departing, hand_on, gain, lose, moves_by}
 use Rattle.brc_model.specs.Events.{touched_row, is_freed_for, touches_freed, is_bad_duty}
 use Rattle.brc_model.proofs.Bag.{held, one_if, same_holding-refl, held_has, held-le-references_to}
 use Rattle.brc_model.proofs.Invariant.{nothing, the_root, of_variables, reference_of}
-use Rattle.brc_model.proofs.Rows.{waits, decides, merges, weight, InOwned, InSwapped, InMerged}
-use Rattle.brc_model.proofs.Rule.{extra_of, lacks_of, HoldsAt, PlaceFits, IsBacked, HeadFits, Linked, dies_by, Rule}
+use Rattle.brc_model.proofs.Rows.{waits, decides, merges, InOwned, InSwapped, InMerged}
+use Rattle.brc_model.proofs.Rule.{extra_of, lacks_of, HoldsAt, PlaceFits, IsBacked, Linked, dies_by, Rule}
 use Rattle.brc_model.proofs.Agreeing.{is_free_of}
 use Rattle.brc_model.proofs.Alive.{Alive, first_weighs, alive_referenced, alive_waiting, alive_deciding, alive_merging, alive_backed}
 use Rattle.brc_model.proofs.Others.{is_dying}
@@ -71,11 +71,11 @@ chain_head_dies p n m t a rest here =
     elim chain.chained as (λ l. chain.chained ≡ l → Linked m.memory t a.head l → m.life (a.head - 1) ≡ Dying t) [
       | [] ↦ λ e linked. absurd (omega (arith, some, linked))
       | x ∷ xs ↦ λ e linked.
-        let row : a.head - 1 ≡ x = omega (arith, linked.0) in
-        let first : 0 < count_by (λ y. y == x) (x ∷ xs) = omega (arith, sum_by-cons (λ y. cond (y == x) 1 0) x xs, one_at x) in
-        let counted : 0 < count_by (λ y. y == x) chain.chained = subst (λ (l : List ℕ). 0 < count_by (λ y. y == x) l) (sym e) first in
-        let dies : dies_by (m.life x) t ≡ true = one_if_true _ (omega (arith, chain.once x, counted)) in
-        ap m.life row ∙ is_dying (m.life x) t dies
+          let row : a.head - 1 ≡ x = omega (arith, linked.0) in
+          let first : 0 < count_by (λ y. y == x) (x ∷ xs) = omega (arith, sum_by-cons (λ y. cond (y == x) 1 0) x xs, one_at x) in
+          let counted : 0 < count_by (λ y. y == x) chain.chained = subst (λ (l : List ℕ). 0 < count_by (λ y. y == x) l) (sym e) first in
+          let dies : dies_by (m.life x) t ≡ true = one_if_true _ (omega (arith, chain.once x, counted)) in
+          ap m.life row ∙ is_dying (m.life x) t dies
     ] refl chain.linked
 
 touches_none : (p : Module) (n : ℕ) (m : Machine) (t : ℕ) (a : Actor) (d : Duty) (rest : List Duty) → AtDuty p n m t a d rest → touches_freed m t (touched_row (address_of m.rows t a.head d)) ≡ false
@@ -126,10 +126,10 @@ given_in_bag p n m t a d rest k x here more less = held_has (reference_of t k x)
 
 mortal_row : (m : Machine) (x : ℕ) → Alive m x → is_immortal_word (m.memory (Local x)) ≡ false
 mortal_row m x alive = ne_eqb (local_part (m.memory (Local x))) 4294967295 (elim alive.live.mode [
-    | InOwned o ↦ λ e. absurd (omega (arith, o.low, e))
-    | InSwapped s ↦ λ e. absurd (omega (arith, s.local, e))
-    | InMerged s ↦ λ e. absurd (omega (arith, s.local, e))
-  ])
+  | InOwned o ↦ λ e. absurd (omega (arith, o.low, e))
+  | InSwapped s ↦ λ e. absurd (omega (arith, s.local, e))
+  | InMerged s ↦ λ e. absurd (omega (arith, s.local, e))
+])
 
 -- the holder's reference is handed on, and the object isn't immortal
 hand_on_allowed : (p : Plain) (t x : ℕ) (h : Holding) → list_any (same (reference_of t h x)) p.references ≡ true → are_allowed p (hand_on t h x ++ []) ≡ true
@@ -154,7 +154,7 @@ finalise_allowed p n m t x rule pos dying =
       | false ↦ λ e. refl
     ] refl in
     one_allowed m.plain (Finalise x) (ap (λ (b : Bool). b && (references_to x m.plain.references == 0) && not (is_among x m.plain.closed)) counted
-      ∙ ap (λ (b : Bool). b && not (is_among x m.plain.closed)) none ∙ ap not open_still)
+    ∙ ap (λ (b : Bool). b && not (is_among x m.plain.closed)) none ∙ ap not open_still)
 
 moves_allowed : (p : Module) (n : ℕ) (m : Machine) (t : ℕ) (a : Actor) (d : Duty) (rest : List Duty) → AtDuty p n m t a d rest → are_allowed m.plain (moves_by t d (m.memory (address_of m.rows t a.head d))) ≡ true
 moves_allowed p n m t a (RetainLoad x h) rest here =

@@ -1,17 +1,17 @@
 -- What a thread holds and knows stands through the steps of other threads.
-use Rattle.std.proofs.Common.{◌≡◌, ◌≢◌, ℕ, zero, suc, ◌+◌, ◌<◌, ◌≤◌, Bool, true, false, cond, List, [], ◌∷◌, ◌⊎◌, inl, inr, length, Option, None, Some, refl, sym, ap, ◌∙◌, subst, arith}
+use Rattle.std.proofs.Common.{◌≡◌, ◌≢◌, ℕ, ◌<◌, Bool, true, false, cond, List, [], ◌∷◌, inl, inr, Some, refl, sym, ap, ◌∙◌, subst, arith}
 use Rattle.std.specs.Prelude.{◌==◌, slice_get, count_by}
 use Rattle.std.proofs.lemmas.Bool.{eq-eqb, eqb-true}
 use Rattle.std.proofs.lemmas.List.Sums.{sum_by-cons}
 use Rattle.brc_lang.specs.declared.module.Instr.{Instr}
 use Rattle.brc_lang.specs.declared.module.Module.{Module}
-use Rattle.brc_model.specs.Plain.{Holding, Reference}
-use Rattle.brc_model.specs.Words.{phase_part, local_part, owner_part, dying_word}
-use Rattle.brc_model.specs.Duties.{Reason, Own, Handed, Duty, RetainLoad, RetainStore, RetainAdd, ReleaseLoad, ReleaseStore, DecideAtZero, SharedLoad, SharedExchange, SetMark, Look, TakeMark, MergeSwap, MergeLoad, MergeExchange, Die, Settle, SettleKind, SettleCell, SettleEnd, Leave, Scan, Finish, ClaimMark, Address, Local, Shared, Gate, KindOf, Mark, Cell, ThreadWord, block_of}
-use Rattle.brc_model.specs.Machine.{Status, Running, Leaving, Gone, Place, Standing, Inside, Departing, Actor, Life, Unborn, Live, Dying, Closed, Machine}
+use Rattle.brc_model.specs.Plain.{Holding}
+use Rattle.brc_model.specs.Words.{phase_part, local_part, owner_part}
+use Rattle.brc_model.specs.Duties.{Own, Handed, Duty, RetainLoad, RetainStore, RetainAdd, ReleaseLoad, ReleaseStore, DecideAtZero, SharedLoad, SharedExchange, SetMark, Look, TakeMark, MergeSwap, MergeLoad, MergeExchange, Die, Settle, SettleKind, SettleCell, SettleEnd, Leave, Scan, Finish, ClaimMark, Address, Local, Shared, Gate, ThreadWord, block_of}
+use Rattle.brc_model.specs.Machine.{Place, Standing, Inside, Departing, Actor, Life, Unborn, Live, Dying, Closed, Machine}
 use Rattle.brc_model.proofs.Bag.{held, one_if}
 use Rattle.brc_model.proofs.Invariant.{the_root, nothing, of_variables, reference_of}
-use Rattle.brc_model.proofs.Rule.{extra_of, lacks_of, HoldsAt, PlaceFits, OwnsLocally, IsBacked, MayMerge, FollowsHanded, IsMergeOf, HeadFits, HeadOf, Linked, dies_by, hand_of, ChainFits, ActorFits}
+use Rattle.brc_model.proofs.Rule.{HoldsAt, PlaceFits, OwnsLocally, IsBacked, MayMerge, IsMergeOf, HeadFits, HeadOf, Linked, dies_by, ChainFits, ActorFits}
 
 -- what the others rely on
 pub record LeavesOthers (m new : Machine) (t : ℕ) : Type 0 where

@@ -1,20 +1,13 @@
 -- A thread after its own step: what it holds, its chain and its agenda, put together from what the step changed.
-use Rattle.std.proofs.Common.{◌≡◌, ◌≢◌, ℕ, zero, suc, ◌+◌, ◌-◌, ◌<◌, ◌≤◌, Bool, true, false, cond, List, [], ◌∷◌, ◌++◌, ◌⊎◌, inl, inr, Option, None, Some, refl, sym, ap, ◌∙◌, subst, arith}
-use Rattle.std.specs.Prelude.{◌==◌, ◌&&◌, slice_get, count_by}
-use Rattle.std.proofs.lemmas.Bool.{eq-eqb}
+use Rattle.std.proofs.Common.{◌≡◌, ℕ, zero, suc, ◌+◌, ◌<◌, Bool, false, List, [], ◌∷◌, refl, arith}
 use Rattle.brc_lang.specs.declared.module.Instr.{Instr}
-use Rattle.brc_lang.specs.declared.module.Module.{Module}
-use Rattle.brc_model.specs.Plain.{Holding, Reference, moved}
-use Rattle.brc_model.specs.Steps.{code_of}
-use Rattle.brc_model.specs.Duties.{Reason, Own, Handed, Duty, RetainLoad, RetainStore, RetainAdd, ReleaseLoad, ReleaseStore, DecideAtZero, SharedLoad, SharedExchange, SetMark, Look, TakeMark, MergeSwap, MergeLoad, MergeExchange, Die, Settle, SettleKind, SettleCell, SettleEnd, Leave, Scan, Finish, ClaimMark, Address, Gate, ThreadWord, address_of, left_by, next_by, head_by, ready, block_of}
-use Rattle.brc_model.specs.Machine.{Status, Running, Leaving, Gone, Place, Standing, Inside, Departing, Actor, Life, Dying, Machine, is_running, status_by, moves_by, actor_by, done_by, first_row, written}
+use Rattle.brc_model.specs.Plain.{Holding, Reference}
+use Rattle.brc_model.specs.Duties.{Handed, Duty, SharedLoad, Settle, Leave, Scan, Finish, Gate, ready}
+use Rattle.brc_model.specs.Machine.{Status, Place, Standing, Inside, Departing, Actor, Machine}
 use Rattle.brc_model.proofs.Bag.{held, one_if}
 use Rattle.brc_model.proofs.Invariant.{the_root, nothing, of_variables, reference_of}
-use Rattle.brc_model.proofs.Rule.{extra_of, lacks_of, HoldsAt, PlaceFits, HeadFits, HeadOf, Later, Agenda, NoneHanded, HandedOnce, Linked, hand_of, dies_by, ChainFits, ActorFits, AgendaFits, Rule, status_word}
-use Rattle.brc_model.proofs.Written.{written_here, written_apart, written_load}
+use Rattle.brc_model.proofs.Rule.{extra_of, lacks_of, HoldsAt, PlaceFits, HeadOf, Later, Agenda, NoneHanded, HandedOnce, hand_of, dies_by, ChainFits}
 use Rattle.brc_model.proofs.Others.{linked_kept}
-use Rattle.brc_model.proofs.Leaves.{AtDuty}
-use Rattle.brc_model.proofs.Lives.{next_of}
 
 -- ---- what is held
 

@@ -1,32 +1,28 @@
 -- A thread after its own steps of a retain and a release.
-use Rattle.std.proofs.Common.{◌≡◌, ◌≢◌, ℕ, zero, suc, ◌+◌, ◌-◌, ◌<◌, ◌≤◌, Bool, true, false, cond, List, [], ◌∷◌, ◌++◌, ◌⊎◌, inl, inr, Option, None, Some, refl, sym, ap, ◌∙◌, subst, arith}
-use Rattle.std.specs.Prelude.{◌==◌, ◌&&◌, nat_lt, slice_get}
+use Rattle.std.proofs.Common.{◌≡◌, ℕ, Bool, true, false, List, ◌∷◌, refl, sym, ap, ◌∙◌, arith}
+use Rattle.std.specs.Prelude.{◌==◌, ◌&&◌}
 use Rattle.std.specs.List.{list_any}
-use Rattle.std.proofs.lemmas.Bool.{eqb-true, eqb-false, eq-eqb, ne_eqb, ltb-true, ltb-false}
+use Rattle.std.proofs.lemmas.Bool.{eqb-true, eqb-false, eq-eqb, ne_eqb}
 use Rattle.brc_lang.specs.declared.module.Module.{Module}
-use Rattle.brc_model.specs.Plain.{Holding, ByVariable, AsCaller, InHand, Reference, same_holding, same, without, moved}
-use Rattle.brc_model.specs.Words.{owner_part, local_part, is_immortal_word, fresh_word, dead_word, released_word}
-use Rattle.brc_model.specs.Duties.{Reason, Own, Handed, Duty, RetainLoad, RetainStore, RetainAdd, ReleaseLoad, ReleaseStore, DecideAtZero, SharedLoad, SharedExchange, SetMark, MergeSwap, Die, Address, Local, Shared, ThreadWord, next_by, counts_locally, ready, block_of}
-use Rattle.brc_model.specs.Machine.{Status, Running, Leaving, Gone, Actor, Machine, is_running, done_by, actor_by, written}
-use Rattle.brc_model.proofs.Lists.{and_first, and_second}
-use Rattle.brc_model.proofs.Bag.{held, one_if, same-true, same-refl, same_holding-refl, same_holding-true, held-cons, held-without, held_has}
+use Rattle.brc_model.specs.Plain.{Holding, ByVariable, AsCaller, InHand, Reference, same_holding, same, without}
+use Rattle.brc_model.specs.Words.{local_part, is_immortal_word}
+use Rattle.brc_model.specs.Duties.{Duty, RetainLoad, Local}
+use Rattle.brc_model.specs.Machine.{Actor, Machine}
+use Rattle.brc_model.proofs.Bag.{one_if, held-cons, held-without}
 use Rattle.brc_model.proofs.Invariant.{reference_of}
 use Rattle.brc_model.proofs.Rows.{InOwned, InSwapped, InMerged}
-use Rattle.brc_model.proofs.RowSteps.{owner_up, owner_down}
-use Rattle.brc_model.proofs.Rule.{extra_of, lacks_of, OwnsLocally, IsBacked, HeadFits, HeadOf, Agenda, Later, NoneHanded, HandedOnce, Rule}
-use Rattle.brc_model.proofs.Alive.{Alive, alive_backed}
-use Rattle.brc_model.proofs.Written.{written_here, written_load}
+use Rattle.brc_model.proofs.Rule.{extra_of, lacks_of}
+use Rattle.brc_model.proofs.Alive.{alive_backed}
 use Rattle.brc_model.proofs.Leaves.{AtDuty, head_of}
-use Rattle.brc_model.proofs.Own.{HeldStep, IsReady, ready_is}
-use Rattle.brc_model.proofs.Neutral.{OwnFits, found_by, bag_by, agenda_here, handed_here, NeutralStep, own_neutral}
+use Rattle.brc_model.proofs.Own.{HeldStep}
 
 -- ---- the bag
 
 pub flip_eqb : (x y : ℕ) → (x == y) ≡ (y == x)
 flip_eqb x y = elim (y == x) as (λ b. (y == x) ≡ b → (x == y) ≡ b) [
-    | true ↦ λ e. eq-eqb x y (sym (eqb-true y x e))
-    | false ↦ λ e. ne_eqb x y (λ s. eqb-false y x e (sym s))
-  ] refl
+  | true ↦ λ e. eq-eqb x y (sym (eqb-true y x e))
+  | false ↦ λ e. ne_eqb x y (λ s. eqb-false y x e (sym s))
+] refl
 
 flip_holding : (h k : Holding) → same_holding k h ≡ same_holding h k
 flip_holding (ByVariable v) (ByVariable w) = flip_eqb w v
@@ -52,31 +48,37 @@ same_is t x h k object =
 -- nothing moves, and the duty at hand has the same
 pub held_same : (bag : List Reference) (t : ℕ) (agenda later : List Duty) → ((k : Holding) (object : ℕ) → extra_of later k object ≡ extra_of agenda k object) → ((k : Holding) (object : ℕ) → lacks_of later k object ≡ lacks_of agenda k object)
     → HeldStep bag bag t agenda later
-held_same bag t agenda later more less = record { each = λ k object. let a : one_if (extra_of later k object) ≡ one_if (extra_of agenda k object) = ap one_if (more k object) in
-    let b : one_if (lacks_of later k object) ≡ one_if (lacks_of agenda k object) = ap one_if (less k object) in omega (arith, a, b) }
+held_same bag t agenda later more less = record {
+  each = λ k object. let a : one_if (extra_of later k object) ≡ one_if (extra_of agenda k object) = ap one_if (more k object) in
+      let b : one_if (lacks_of later k object) ≡ one_if (lacks_of agenda k object) = ap one_if (less k object) in omega (arith, a, b);
+}
 
 -- what was lacking is gained
 pub held_gained : (bag : List Reference) (t x : ℕ) (h : Holding) (agenda later : List Duty) → ((k : Holding) (object : ℕ) → lacks_of agenda k object ≡ (same_holding h k && (x == object))) → ((k : Holding) (object : ℕ) → extra_of agenda k object ≡ false)
     → ((k : Holding) (object : ℕ) → extra_of later k object ≡ false) → ((k : Holding) (object : ℕ) → lacks_of later k object ≡ false) → HeldStep bag (reference_of t h x ∷ bag) t agenda later
-held_gained bag t x h agenda later lacked no_more more less = record { each = λ k object.
-    let r = reference_of t k object in
-    let one : one_if (same r (reference_of t h x)) ≡ one_if (lacks_of agenda k object) = ap one_if (same_is t x h k object ∙ sym (lacked k object)) in
-    let a : one_if (extra_of agenda k object) ≡ 0 = ap one_if (no_more k object) in
-    let b : one_if (extra_of later k object) ≡ 0 = ap one_if (more k object) in
-    let c : one_if (lacks_of later k object) ≡ 0 = ap one_if (less k object) in
-    omega (arith, held-cons r (reference_of t h x) bag, one, a, b, c) }
+held_gained bag t x h agenda later lacked no_more more less = record {
+  each = λ k object.
+      let r = reference_of t k object in
+      let one : one_if (same r (reference_of t h x)) ≡ one_if (lacks_of agenda k object) = ap one_if (same_is t x h k object ∙ sym (lacked k object)) in
+      let a : one_if (extra_of agenda k object) ≡ 0 = ap one_if (no_more k object) in
+      let b : one_if (extra_of later k object) ≡ 0 = ap one_if (more k object) in
+      let c : one_if (lacks_of later k object) ≡ 0 = ap one_if (less k object) in
+      omega (arith, held-cons r (reference_of t h x) bag, one, a, b, c);
+}
 
 -- what was extra is lost
 pub held_lost : (bag : List Reference) (t x : ℕ) (h : Holding) (agenda later : List Duty) → list_any (same (reference_of t h x)) bag ≡ true → ((k : Holding) (object : ℕ) → extra_of agenda k object ≡ (same_holding h k && (x == object)))
     → ((k : Holding) (object : ℕ) → lacks_of agenda k object ≡ false) → ((k : Holding) (object : ℕ) → extra_of later k object ≡ false) → ((k : Holding) (object : ℕ) → lacks_of later k object ≡ false)
     → HeldStep bag (without (reference_of t h x) bag) t agenda later
-held_lost bag t x h agenda later has extra no_less more less = record { each = λ k object.
-    let r = reference_of t k object in
-    let one : one_if (same r (reference_of t h x)) ≡ one_if (extra_of agenda k object) = ap one_if (same_is t x h k object ∙ sym (extra k object)) in
-    let a : one_if (lacks_of agenda k object) ≡ 0 = ap one_if (no_less k object) in
-    let b : one_if (extra_of later k object) ≡ 0 = ap one_if (more k object) in
-    let c : one_if (lacks_of later k object) ≡ 0 = ap one_if (less k object) in
-    omega (arith, held-without r (reference_of t h x) bag has, one, a, b, c) }
+held_lost bag t x h agenda later has extra no_less more less = record {
+  each = λ k object.
+      let r = reference_of t k object in
+      let one : one_if (same r (reference_of t h x)) ≡ one_if (extra_of agenda k object) = ap one_if (same_is t x h k object ∙ sym (extra k object)) in
+      let a : one_if (lacks_of agenda k object) ≡ 0 = ap one_if (no_less k object) in
+      let b : one_if (extra_of later k object) ≡ 0 = ap one_if (more k object) in
+      let c : one_if (lacks_of later k object) ≡ 0 = ap one_if (less k object) in
+      omega (arith, held-without r (reference_of t h x) bag has, one, a, b, c);
+}
 
 -- ---- retains
 

@@ -1,26 +1,24 @@
 -- A thread after its own steps of a retain, and of the owner's release.
-use Rattle.std.proofs.Common.{◌≡◌, ◌≢◌, ℕ, zero, suc, ◌+◌, ◌-◌, ◌<◌, ◌≤◌, Bool, true, false, cond, List, [], ◌∷◌, ◌++◌, ◌⊎◌, inl, inr, Option, None, Some, refl, sym, ap, ◌∙◌, subst, arith}
+use Rattle.std.proofs.Common.{◌≡◌, ℕ, zero, suc, ◌+◌, ◌<◌, ◌≤◌, Bool, true, false, cond, List, [], ◌∷◌, Some, refl, sym, ap, ◌∙◌, subst, arith}
 use Rattle.std.specs.Prelude.{◌==◌, ◌&&◌, nat_lt, slice_get, sum_by}
-use Rattle.std.specs.List.{list_any}
-use Rattle.std.proofs.lemmas.Bool.{eqb-true, eq-eqb, ne_eqb, ltb-true}
+use Rattle.std.proofs.lemmas.Bool.{eqb-true, ltb-true}
 use Rattle.std.proofs.lemmas.List.Sums.{sum_by-cons}
 use Rattle.brc_lang.specs.declared.module.Module.{Module}
-use Rattle.brc_model.specs.Plain.{Holding, ByVariable, AsCaller, InHand, Reference, Plain, same_holding, same, without, moved}
-use Rattle.brc_model.specs.Words.{owner_part, local_part, is_immortal_word, fresh_word}
-use Rattle.brc_model.specs.Duties.{Reason, Own, Handed, Duty, RetainLoad, RetainStore, RetainAdd, ReleaseLoad, ReleaseStore, DecideAtZero, SharedLoad, SharedExchange, MergeSwap, Die, Settle, Scan, Local, Shared, next_by, counts_locally, ready}
-use Rattle.brc_model.specs.Machine.{Status, Running, Leaving, Gone, Actor, Machine, is_running, gain, lose, hand_on, done_by, actor_by, written}
+use Rattle.brc_model.specs.Plain.{Holding, Reference, same_holding, moved}
+use Rattle.brc_model.specs.Words.{owner_part, local_part, is_immortal_word}
+use Rattle.brc_model.specs.Duties.{Duty, RetainLoad, RetainStore, RetainAdd, Settle, Scan, Local, next_by, counts_locally, ready}
+use Rattle.brc_model.specs.Machine.{Status, Running, Leaving, Gone, Actor, Machine, is_running, gain, done_by, actor_by}
 use Rattle.brc_model.proofs.Lists.{and_first, and_second}
-use Rattle.brc_model.proofs.Bag.{held, one_if, held_has}
+use Rattle.brc_model.proofs.Bag.{held}
 use Rattle.brc_model.proofs.Invariant.{reference_of}
 use Rattle.brc_model.proofs.Rows.{decides, agenda_weight, weight, InOwned, InSwapped, InMerged, AtZero, AboveZero}
-use Rattle.brc_model.proofs.RowSteps.{owner_down}
-use Rattle.brc_model.proofs.Rule.{extra_of, lacks_of, OwnsLocally, IsBacked, HeadFits, HeadOf, Agenda, Later, Rule}
-use Rattle.brc_model.proofs.Alive.{Alive, alive_backed, alive_referenced}
-use Rattle.brc_model.proofs.Written.{written_here, written_load}
+use Rattle.brc_model.proofs.Rule.{extra_of, lacks_of, OwnsLocally, IsBacked, Rule}
+use Rattle.brc_model.proofs.Alive.{Alive, alive_backed}
+use Rattle.brc_model.proofs.Written.{written_here}
 use Rattle.brc_model.proofs.Leaves.{AtDuty, head_of}
-use Rattle.brc_model.proofs.Own.{HeldStep, IsReady, ready_is}
-use Rattle.brc_model.proofs.Neutral.{OwnFits, found_by, bag_by, agenda_here, handed_here, NeutralStep, own_neutral}
-use Rattle.brc_model.proofs.OwnCounts.{held_same, held_gained, held_lost, backed_not_immortal}
+use Rattle.brc_model.proofs.Own.{HeldStep}
+use Rattle.brc_model.proofs.Neutral.{OwnFits, found_by, bag_by, agenda_here, handed_here, own_neutral}
+use Rattle.brc_model.proofs.OwnCounts.{held_same, backed_not_immortal}
 use Rattle.brc_model.proofs.Deciders.{nobody_decides, rest_decides}
 
 abbrev pub is_passed : Duty → Bool
@@ -86,34 +84,44 @@ own_retain_load p n m t a x h rest here alive =
     let first : next_by t (is_running a.status) a.head (RetainLoad x h) word ≡ cond (counts_locally t (is_running a.status) word && nat_lt (local_part word) 4294967294) (RetainStore x h word ∷ []) (RetainAdd x h ∷ []) =
     ap (λ (b : Bool). cond b [] (cond (counts_locally t (is_running a.status) word && nat_lt (local_part word) 4294967294) (RetainStore x h word ∷ []) (RetainAdd x h ∷ []))) mortal in
     let keeps : (e : Duty) → ((k : Holding) (object : ℕ) → extra_of (e ∷ rest) k object ≡ false) → ((k : Holding) (object : ℕ) → lacks_of (e ∷ rest) k object ≡ (same_holding h k && (x == object)))
-        → HeldStep m.plain.references (bag_by m t a (RetainLoad x h)) t (RetainLoad x h ∷ rest) (e ∷ rest) =
+    → HeldStep m.plain.references (bag_by m t a (RetainLoad x h)) t (RetainLoad x h ∷ rest) (e ∷ rest) =
     λ e more less. subst (λ (l : List Reference). HeldStep m.plain.references l t (RetainLoad x h ∷ rest) (e ∷ rest)) (sym bag) (held_same m.plain.references t (RetainLoad x h ∷ rest) (e ∷ rest) more less) in
     elim (counts_locally t (is_running a.status) word && nat_lt (local_part word) 4294967294) as (λ b. (counts_locally t (is_running a.status) word && nat_lt (local_part word) 4294967294) ≡ b → OwnFits p new t (actor_by t a (RetainLoad x h) rest word)) [
       | true ↦ λ e.
-        let counts = and_first (counts_locally t (is_running a.status) word) (nat_lt (local_part word) 4294967294) e in
-        let low : local_part word < 4294967294 = ltb-true _ _ (and_second (counts_locally t (is_running a.status) word) (nat_lt (local_part word) 4294967294) e) in
-        let owns = counts_owner m t a x counts living in
-        let some = count_above p n m t x a here.rule here.found owns (weight_here p n m t x a (RetainLoad x h) rest here alive refl) living in
-        let same : new.memory (Local x) ≡ word = written_here m.memory (Local x) word in
-        own_neutral p n m t a (RetainLoad x h) rest (RetainStore x h word ∷ []) (RetainStore x h word ∷ rest) here alive (record {
-          next_is = first ∙ ap (λ (b : Bool). cond b (RetainStore x h word ∷ []) (RetainAdd x h ∷ [])) e;
-          none_dies = refl; none_ends = refl; same_head = refl; same_status = refl;
-          agenda_is = ready_first a.head (RetainStore x h word) rest refl;
-          gates = λ y. refl; word = refl; hands = λ y. refl;
-          held = keeps (RetainStore x h word) (λ k o. refl) (λ k o. refl);
-          fits = agenda_here p n m t a (RetainLoad x h) rest here alive;
-          handed = handed_here p n m t a (RetainLoad x h) rest here;
-          knows = λ b status head. (fits.0, backed, record { running = status ∙ owns.running; owner = ap owner_part same ∙ owns.owner; low = subst (λ (w : ℕ). local_part w < 4294967295) (sym same) owns.low }, same, some, low);
-        })
+          let counts = and_first (counts_locally t (is_running a.status) word) (nat_lt (local_part word) 4294967294) e in
+          let low : local_part word < 4294967294 = ltb-true _ _ (and_second (counts_locally t (is_running a.status) word) (nat_lt (local_part word) 4294967294) e) in
+          let owns = counts_owner m t a x counts living in
+          let some = count_above p n m t x a here.rule here.found owns (weight_here p n m t x a (RetainLoad x h) rest here alive refl) living in
+          let same : new.memory (Local x) ≡ word = written_here m.memory (Local x) word in
+          own_neutral p n m t a (RetainLoad x h) rest (RetainStore x h word ∷ []) (RetainStore x h word ∷ rest) here alive (record {
+            next_is = first ∙ ap (λ (b : Bool). cond b (RetainStore x h word ∷ []) (RetainAdd x h ∷ [])) e;
+            none_dies = refl;
+            none_ends = refl;
+            same_head = refl;
+            same_status = refl;
+            agenda_is = ready_first a.head (RetainStore x h word) rest refl;
+            gates = λ y. refl;
+            word = refl;
+            hands = λ y. refl;
+            held = keeps (RetainStore x h word) (λ k o. refl) (λ k o. refl);
+            fits = agenda_here p n m t a (RetainLoad x h) rest here alive;
+            handed = handed_here p n m t a (RetainLoad x h) rest here;
+            knows = λ b status head. (fits.0, backed, record { running = status ∙ owns.running; owner = ap owner_part same ∙ owns.owner; low = subst (λ (w : ℕ). local_part w < 4294967295) (sym same) owns.low }, same, some, low);
+          })
       | false ↦ λ e.
-        own_neutral p n m t a (RetainLoad x h) rest (RetainAdd x h ∷ []) (RetainAdd x h ∷ rest) here alive (record {
-          next_is = first ∙ ap (λ (b : Bool). cond b (RetainStore x h word ∷ []) (RetainAdd x h ∷ [])) e;
-          none_dies = refl; none_ends = refl; same_head = refl; same_status = refl;
-          agenda_is = ready_first a.head (RetainAdd x h) rest refl;
-          gates = λ y. refl; word = refl; hands = λ y. refl;
-          held = keeps (RetainAdd x h) (λ k o. refl) (λ k o. refl);
-          fits = agenda_here p n m t a (RetainLoad x h) rest here alive;
-          handed = handed_here p n m t a (RetainLoad x h) rest here;
-          knows = λ b status head. (fits.0, backed);
-        })
+          own_neutral p n m t a (RetainLoad x h) rest (RetainAdd x h ∷ []) (RetainAdd x h ∷ rest) here alive (record {
+            next_is = first ∙ ap (λ (b : Bool). cond b (RetainStore x h word ∷ []) (RetainAdd x h ∷ [])) e;
+            none_dies = refl;
+            none_ends = refl;
+            same_head = refl;
+            same_status = refl;
+            agenda_is = ready_first a.head (RetainAdd x h) rest refl;
+            gates = λ y. refl;
+            word = refl;
+            hands = λ y. refl;
+            held = keeps (RetainAdd x h) (λ k o. refl) (λ k o. refl);
+            fits = agenda_here p n m t a (RetainLoad x h) rest here alive;
+            handed = handed_here p n m t a (RetainLoad x h) rest here;
+            knows = λ b status head. (fits.0, backed);
+          })
     ] refl

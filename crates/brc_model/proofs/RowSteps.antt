@@ -1,8 +1,7 @@
 -- Each step that changes a row's counts keeps the row's rule.
-use Rattle.std.proofs.Common.{◌≡◌, ◌≢◌, ℕ, ◌+◌, ◌-◌, ◌*◌, ◌<◌, ◌≤◌, Bool, true, false, cond, ◌⊎◌, inl, inr, refl, sym, ap, ◌∙◌, subst, arith}
-use Rattle.std.specs.Prelude.{◌==◌}
-use Rattle.brc_model.specs.Words.{owner_part, local_part, biased_part, phase_part, bias, fresh_word, dead_word, released_word, merged_word}
-use Rattle.brc_model.proofs.Rows.{Numbers, Phased, IsDefault, IsQueued, Decided, AtZero, AboveZero, IsOwned, IsSwapped, IsMerged, Mode, InOwned, InSwapped, InMerged, IsLive, IsDead}
+use Rattle.std.proofs.Common.{◌≡◌, ◌≢◌, ℕ, ◌+◌, ◌-◌, ◌<◌, ◌≤◌, refl, ◌∙◌, arith}
+use Rattle.brc_model.specs.Words.{owner_part, local_part, biased_part, phase_part, bias, fresh_word, dead_word, merged_word}
+use Rattle.brc_model.proofs.Rows.{Numbers, IsDefault, IsQueued, AtZero, AboveZero, InOwned, InSwapped, InMerged, IsLive, IsDead}
 
 -- ---- words
 
@@ -81,18 +80,18 @@ pub zero_dies : (owner : ℕ) (n : Numbers) → IsLive owner n → local_part n.
 zero_dies owner n live zero some fresh =
     elim live.mode [
       | InOwned m ↦
-        let decided : n.deciding ≡ 1 = elim m.decided [ AtZero z d ↦ d | AboveZero z d ↦ absurd (omega (arith, z, zero)) ] in
-        let none : n.mark + n.waiting ≡ 0 = elim m.phased [ IsDefault p w b ↦ w | IsQueued p w ↦ absurd (omega (arith, p, fresh)) ] in
-        record {
-          local = zero;
-          shared = omega (arith, fresh);
-          mark = omega (arith, none);
-          references = omega (arith, live.sum, zero, fresh, m.carried, none);
-          waiting = omega (arith, none);
-          carried = m.carried;
-          merging = m.merging;
-          deciding = omega (arith, decided);
-        }
+          let decided : n.deciding ≡ 1 = elim m.decided [ AtZero z d ↦ d | AboveZero z d ↦ absurd (omega (arith, z, zero)) ] in
+          let none : n.mark + n.waiting ≡ 0 = elim m.phased [ IsDefault p w b ↦ w | IsQueued p w ↦ absurd (omega (arith, p, fresh)) ] in
+          record {
+            local = zero;
+            shared = omega (arith, fresh);
+            mark = omega (arith, none);
+            references = omega (arith, live.sum, zero, fresh, m.carried, none);
+            waiting = omega (arith, none);
+            carried = m.carried;
+            merging = m.merging;
+            deciding = omega (arith, decided);
+          }
       | InSwapped m ↦ absurd (omega (arith, m.deciding, some))
       | InMerged m ↦ absurd (omega (arith, m.deciding, some))
     ]
@@ -112,17 +111,28 @@ shared_gained owner n live = let up = shared_up n.shared in record {
   sum = omega (arith, live.sum, up.0);
   mode = elim live.mode [
     | InOwned m ↦ InOwned (record {
-      owned = m.owned; low = m.low; merging = m.merging; carried = m.carried;
+      owned = m.owned;
+      low = m.low;
+      merging = m.merging;
+      carried = m.carried;
       decided = elim m.decided [ AtZero z d ↦ AtZero z d | AboveZero z d ↦ AboveZero z d ];
       phased = elim m.phased [ IsDefault p w b ↦ IsDefault (up.1 ∙ p) w (omega (arith, up.0, b)) | IsQueued p w ↦ IsQueued (up.1 ∙ p) w ];
     })
     | InSwapped m ↦ InSwapped (record {
-      local = m.local; merging = m.merging; carried = m.carried; deciding = m.deciding;
+      local = m.local;
+      merging = m.merging;
+      carried = m.carried;
+      deciding = m.deciding;
       phased = elim m.phased [ IsDefault p w b ↦ IsDefault (up.1 ∙ p) w (omega (arith, up.0, b)) | IsQueued p w ↦ IsQueued (up.1 ∙ p) w ];
     })
     | InMerged m ↦ InMerged (record {
-      local = m.local; merging = m.merging; carried = m.carried; deciding = m.deciding;
-      phase = up.1 ∙ m.phase; counted = omega (arith, up.0, m.counted); awaits = m.awaits;
+      local = m.local;
+      merging = m.merging;
+      carried = m.carried;
+      deciding = m.deciding;
+      phase = up.1 ∙ m.phase;
+      counted = omega (arith, up.0, m.counted);
+      awaits = m.awaits;
     })
   ];
 }
@@ -136,12 +146,18 @@ shared_queued owner n live fresh referenced =
       sum = omega (arith, live.sum, parts.0, referenced);
       mode = elim live.mode [
         | InOwned m ↦ InOwned (record {
-          owned = m.owned; low = m.low; merging = m.merging; carried = m.carried;
+          owned = m.owned;
+          low = m.low;
+          merging = m.merging;
+          carried = m.carried;
           decided = elim m.decided [ AtZero z d ↦ AtZero z d | AboveZero z d ↦ AboveZero z d ];
           phased = elim m.phased [ IsDefault p w b ↦ IsQueued parts.1 (omega (arith, w)) | IsQueued p w ↦ absurd (omega (arith, p, fresh)) ];
         })
         | InSwapped m ↦ InSwapped (record {
-          local = m.local; merging = m.merging; carried = m.carried; deciding = m.deciding;
+          local = m.local;
+          merging = m.merging;
+          carried = m.carried;
+          deciding = m.deciding;
           phased = elim m.phased [ IsDefault p w b ↦ IsQueued parts.1 (omega (arith, w)) | IsQueued p w ↦ absurd (omega (arith, p, fresh)) ];
         })
         | InMerged m ↦ absurd (omega (arith, m.phase, fresh))
@@ -155,17 +171,28 @@ shared_lost owner n live other alive referenced = let down = shared_down n.share
   sum = omega (arith, live.sum, down.0, referenced);
   mode = elim live.mode [
     | InOwned m ↦ InOwned (record {
-      owned = m.owned; low = m.low; merging = m.merging; carried = m.carried;
+      owned = m.owned;
+      low = m.low;
+      merging = m.merging;
+      carried = m.carried;
       decided = elim m.decided [ AtZero z d ↦ AtZero z d | AboveZero z d ↦ AboveZero z d ];
       phased = elim m.phased [ IsDefault p w b ↦ IsDefault (down.1 ∙ p) w (omega (arith, down.0, b, p, other)) | IsQueued p w ↦ IsQueued (down.1 ∙ p) w ];
     })
     | InSwapped m ↦ InSwapped (record {
-      local = m.local; merging = m.merging; carried = m.carried; deciding = m.deciding;
+      local = m.local;
+      merging = m.merging;
+      carried = m.carried;
+      deciding = m.deciding;
       phased = elim m.phased [ IsDefault p w b ↦ IsDefault (down.1 ∙ p) w (omega (arith, down.0, b, p, other)) | IsQueued p w ↦ IsQueued (down.1 ∙ p) w ];
     })
     | InMerged m ↦ InMerged (record {
-      local = m.local; merging = m.merging; carried = m.carried; deciding = m.deciding;
-      phase = down.1 ∙ m.phase; counted = omega (arith, down.0, down.1, m.phase, m.counted, alive); awaits = m.awaits;
+      local = m.local;
+      merging = m.merging;
+      carried = m.carried;
+      deciding = m.deciding;
+      phase = down.1 ∙ m.phase;
+      counted = omega (arith, down.0, down.1, m.phase, m.counted, alive);
+      awaits = m.awaits;
     })
   ];
 }
@@ -200,8 +227,13 @@ handed_lost owner n live phase alive some = let down = shared_down n.shared (sha
     | InOwned m ↦ elim m.phased [ IsDefault p w b ↦ absurd (omega (arith, p, phase)) | IsQueued p w ↦ absurd (omega (arith, p, phase)) ]
     | InSwapped m ↦ elim m.phased [ IsDefault p w b ↦ absurd (omega (arith, p, phase)) | IsQueued p w ↦ absurd (omega (arith, p, phase)) ]
     | InMerged m ↦ InMerged (record {
-      local = m.local; merging = m.merging; carried = m.carried; deciding = m.deciding;
-      phase = down.1 ∙ m.phase; counted = omega (arith, down.0, down.1, m.phase, m.counted, alive); awaits = omega (arith, m.awaits, some);
+      local = m.local;
+      merging = m.merging;
+      carried = m.carried;
+      deciding = m.deciding;
+      phase = down.1 ∙ m.phase;
+      counted = omega (arith, down.0, down.1, m.phase, m.counted, alive);
+      awaits = omega (arith, m.awaits, some);
     })
   ];
 }
@@ -232,17 +264,28 @@ same_awaiting owner n mark waiting same live = record {
   sum = omega (arith, live.sum, same);
   mode = elim live.mode [
     | InOwned m ↦ InOwned (record {
-      owned = m.owned; low = m.low; merging = m.merging; carried = m.carried;
+      owned = m.owned;
+      low = m.low;
+      merging = m.merging;
+      carried = m.carried;
       decided = elim m.decided [ AtZero z d ↦ AtZero z d | AboveZero z d ↦ AboveZero z d ];
       phased = elim m.phased [ IsDefault p w b ↦ IsDefault p (same ∙ w) b | IsQueued p w ↦ IsQueued p (same ∙ w) ];
     })
     | InSwapped m ↦ InSwapped (record {
-      local = m.local; merging = m.merging; carried = m.carried; deciding = m.deciding;
+      local = m.local;
+      merging = m.merging;
+      carried = m.carried;
+      deciding = m.deciding;
       phased = elim m.phased [ IsDefault p w b ↦ IsDefault p (same ∙ w) b | IsQueued p w ↦ IsQueued p (same ∙ w) ];
     })
     | InMerged m ↦ InMerged (record {
-      local = m.local; merging = m.merging; carried = m.carried; deciding = m.deciding;
-      phase = m.phase; counted = m.counted; awaits = omega (arith, same, m.awaits);
+      local = m.local;
+      merging = m.merging;
+      carried = m.carried;
+      deciding = m.deciding;
+      phase = m.phase;
+      counted = m.counted;
+      awaits = omega (arith, same, m.awaits);
     })
   ];
 }
@@ -270,14 +313,14 @@ swapped_own owner n live zero some = record {
   sum = omega (arith, live.sum, zero);
   mode = elim live.mode [
     | InOwned m ↦
-      let decided : n.deciding ≡ 1 = elim m.decided [ AtZero z d ↦ d | AboveZero z d ↦ absurd (omega (arith, z, zero)) ] in
-      InSwapped (record {
-        local = refl;
-        merging = omega (arith, m.merging);
-        carried = omega (arith, m.carried);
-        deciding = omega (arith, decided);
-        phased = elim m.phased [ IsDefault p w b ↦ IsDefault p w b | IsQueued p w ↦ IsQueued p w ];
-      })
+        let decided : n.deciding ≡ 1 = elim m.decided [ AtZero z d ↦ d | AboveZero z d ↦ absurd (omega (arith, z, zero)) ] in
+        InSwapped (record {
+          local = refl;
+          merging = omega (arith, m.merging);
+          carried = omega (arith, m.carried);
+          deciding = omega (arith, decided);
+          phased = elim m.phased [ IsDefault p w b ↦ IsDefault p w b | IsQueued p w ↦ IsQueued p w ];
+        })
     | InSwapped m ↦ absurd (omega (arith, m.deciding, some))
     | InMerged m ↦ absurd (omega (arith, m.deciding, some))
   ];

@@ -1,10 +1,9 @@
 -- What holds of one row's counts, whatever thread comes next: the numbers that the row's words, the references to it and the
 -- duties about it come to, and the rule that ties them together.
-use Rattle.std.proofs.Common.{◌≡◌, ℕ, ◌+◌, ◌*◌, ◌<◌, ◌≤◌, Bool, true, false, cond, List, [], ◌∷◌, ◌⊎◌}
+use Rattle.std.proofs.Common.{◌≡◌, ℕ, ◌+◌, ◌<◌, ◌≤◌, cond, List}
 use Rattle.std.specs.Prelude.{◌==◌, sum_by}
-use Rattle.brc_model.specs.Plain.{Reference, references_to}
 use Rattle.brc_model.specs.Words.{owner_part, local_part, biased_part, phase_part, bias, fresh_word}
-use Rattle.brc_model.specs.Duties.{Reason, Own, Handed, Duty, RetainLoad, RetainStore, RetainAdd, ReleaseLoad, ReleaseStore, DecideAtZero, SharedLoad, SharedExchange, SetMark, Look, TakeMark, MergeSwap, MergeLoad, MergeExchange, Die, Settle, SettleKind, SettleCell, SettleEnd, Leave, Scan, Finish, ClaimMark}
+use Rattle.brc_model.specs.Duties.{Own, Handed, Duty, DecideAtZero, SharedLoad, SharedExchange, SetMark, MergeSwap, MergeLoad, MergeExchange}
 use Rattle.brc_model.specs.Machine.{Life, Unborn, Live, Dying, Closed, Actor}
 use Rattle.brc_model.proofs.Bag.{one_if}
 

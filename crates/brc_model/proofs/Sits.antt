@@ -1,21 +1,19 @@
 -- A thread at rest takes up duties, or stands elsewhere: the rule holds with its new agenda.
-use Rattle.std.proofs.Common.{◌≡◌, ◌≢◌, ℕ, zero, suc, ◌+◌, ◌-◌, ◌<◌, ◌≤◌, Bool, true, false, cond, List, [], ◌∷◌, ◌++◌, ◌⊎◌, inl, inr, length, Option, None, Some, refl, sym, ap, ◌∙◌, subst, arith}
-use Rattle.std.specs.Prelude.{◌==◌, slice_get, slice_set, sum_by}
+use Rattle.std.proofs.Common.{◌≡◌, ℕ, false, List, [], ◌∷◌, inl, inr, Some, refl, sym, ap, ◌∙◌, subst, arith}
+use Rattle.std.specs.Prelude.{slice_get, slice_set, sum_by}
 use Rattle.std.proofs.lemmas.Bool.{false≢true}
 use Rattle.std.proofs.lemmas.Bool.Decides.{eqb_tells}
 use Rattle.std.proofs.lemmas.List.{length-set, set-set}
-use Rattle.std.proofs.lemmas.List.Sums.{sum_by-cons}
 use Rattle.std.proofs.lemmas.Option.{slice_get_within}
 use Rattle.brc_lang.specs.declared.module.Module.{Module}
-use Rattle.brc_model.specs.Plain.{Holding, references_to}
 use Rattle.brc_model.specs.Steps.{code_of}
-use Rattle.brc_model.specs.Duties.{Duty, Mark, block_of, address_of}
-use Rattle.brc_model.specs.Machine.{Status, Running, Place, Actor, Life, Machine, at_place, with_actor, actor_by, done_by, is_running}
+use Rattle.brc_model.specs.Duties.{Duty, block_of, address_of}
+use Rattle.brc_model.specs.Machine.{Status, Running, Place, Actor, Machine, at_place, with_actor, actor_by, done_by}
 use Rattle.brc_model.proofs.Lists.{some_is, slice_get-set_same, slice_get-set_other}
-use Rattle.brc_model.proofs.Bag.{held, one_if}
+use Rattle.brc_model.proofs.Bag.{one_if}
 use Rattle.brc_model.proofs.Weights.{weight-set}
 use Rattle.brc_model.proofs.Rows.{waits, carries, merges, decides, agenda_weight, weight, Numbers, RowRule}
-use Rattle.brc_model.proofs.Rule.{numbers_of, PlaceFits, HeadOf, Agenda, HandedOnce, scans, hand_of, dies_by, ChainFits, ActorFits, AgendaFits, looks, IsWatched, ByRunning, ByExit, ByLook, Rule}
+use Rattle.brc_model.proofs.Rule.{numbers_of, PlaceFits, HeadOf, Agenda, HandedOnce, scans, hand_of, ActorFits, AgendaFits, looks, IsWatched, ByRunning, ByExit, ByLook, Rule}
 use Rattle.brc_model.proofs.Others.{LeavesOthers, others_fit}
 
 -- the thread with another place and agenda
@@ -61,9 +59,9 @@ still_watched p n m t a place agenda x rest sits (ByRunning one) = ByRunning one
 still_watched p n m t a place agenda x rest sits (ByExit b found scanned) =
     elim (eqb_tells (block_of m.rows x) t) [
       | inl same ↦
-        let this : b ≡ a = some_is b a (sym found ∙ ap (slice_get m.actors) same.1 ∙ rest.found) in
-        let none : scans x b.agenda ≡ false = ap (λ (c : Actor). scans x c.agenda) this ∙ ap (scans x) rest.agenda in
-        absurd (false≢true (sym none ∙ scanned))
+          let this : b ≡ a = some_is b a (sym found ∙ ap (slice_get m.actors) same.1 ∙ rest.found) in
+          let none : scans x b.agenda ≡ false = ap (λ (c : Actor). scans x c.agenda) this ∙ ap (scans x) rest.agenda in
+          absurd (false≢true (sym none ∙ scanned))
       | inr apart ↦ ByExit b (slice_get-set_other m.actors t (block_of m.rows x) (sitting a place agenda) apart.1 ∙ found) scanned
     ]
 still_watched p n m t a place agenda x rest sits (ByLook some) =
@@ -85,15 +83,18 @@ sitting_fits : (p : Module) (n : ℕ) (m : Machine) (t : ℕ) (a : Actor) (place
     → ActorFits p (with_actor m t (sitting a place agenda)) t (sitting a place agenda) × AgendaFits m.rows t (sitting a place agenda) a.status × HandedOnce agenda
 sitting_fits p n m t a place agenda rest sits =
     let old = (rest.rule.each t a rest.found).0 in
-    let none : (x : ℕ) → one_if (hand_of a.agenda x) ≡ one_if (hand_of agenda x) = λ x. ap one_if (ap (λ (l : List Duty). hand_of l x) rest.agenda ∙ sym (sits.hands x)) in
-    (record {
-      accepted = old.accepted;
-      instructions = old.instructions;
-      word = old.word;
-      placed = sits.placed;
-      head_fits = sits.knows;
-      chain = record { chained = old.chain.chained; linked = old.chain.linked; once = λ x. omega (arith, old.chain.once x, none x) };
-    }, subst (λ (s : Status). AgendaFits m.rows t (sitting a place agenda) s) (sym rest.running) sits.fits, sits.handed)
+    let none : (x : ℕ) → one_if (hand_of a.agenda x) ≡ one_if (hand_of agenda x) = λ x. ap one_if (ap (λ (l : List Duty). hand_of l x) rest.agenda ∙ sym (sits.hands x)) in (
+      record {
+        accepted = old.accepted;
+        instructions = old.instructions;
+        word = old.word;
+        placed = sits.placed;
+        head_fits = sits.knows;
+        chain = record { chained = old.chain.chained; linked = old.chain.linked; once = λ x. omega (arith, old.chain.once x, none x) };
+      },
+      subst (λ (s : Status). AgendaFits m.rows t (sitting a place agenda) s) (sym rest.running) sits.fits,
+      sits.handed,
+    )
 
 sitting_each : (p : Module) (n : ℕ) (m : Machine) (t : ℕ) (a : Actor) (place : Place) (agenda : List Duty) → AtRest p n m t a → Sits p m t a place agenda
     → (u : ℕ) (b : Actor) → slice_get (slice_set m.actors t (sitting a place agenda)) u ≡ Some b → ActorFits p (with_actor m t (sitting a place agenda)) u b × AgendaFits m.rows u b b.status × HandedOnce b.agenda
@@ -101,14 +102,14 @@ sitting_each p n m t a place agenda rest sits u b is =
     let now = sitting a place agenda in
     elim (eqb_tells u t) [
       | inl same ↦
-        let written_is : Some now ≡ Some b = sym (ap (slice_get (slice_set m.actors t now)) same.1 ∙ slice_get-set_same m.actors t now (slice_get_within m.actors t a rest.found)) ∙ is in
-        let P : Actor → Type 0 = λ x. ActorFits p (with_actor m t now) u x × AgendaFits m.rows u x x.status × HandedOnce x.agenda in
-        let Q : ℕ → Type 0 = λ w. ActorFits p (with_actor m t now) w now × AgendaFits m.rows w now now.status × HandedOnce now.agenda in
-        subst P (some_is now b written_is) (subst Q (sym same.1) (sitting_fits p n m t a place agenda rest sits))
+          let written_is : Some now ≡ Some b = sym (ap (slice_get (slice_set m.actors t now)) same.1 ∙ slice_get-set_same m.actors t now (slice_get_within m.actors t a rest.found)) ∙ is in
+          let P : Actor → Type 0 = λ x. ActorFits p (with_actor m t now) u x × AgendaFits m.rows u x x.status × HandedOnce x.agenda in
+          let Q : ℕ → Type 0 = λ w. ActorFits p (with_actor m t now) w now × AgendaFits m.rows w now now.status × HandedOnce now.agenda in
+          subst P (some_is now b written_is) (subst Q (sym same.1) (sitting_fits p n m t a place agenda rest sits))
       | inr apart ↦
-        let found : slice_get m.actors u ≡ Some b = sym (slice_get-set_other m.actors t u now apart.1) ∙ is in
-        let old = rest.rule.each u b found in
-        (others_fit p m (with_actor m t now) t u b (nothing_changes m t now) apart.1 found old.0, old.1, old.2)
+          let found : slice_get m.actors u ≡ Some b = sym (slice_get-set_other m.actors t u now apart.1) ∙ is in
+          let old = rest.rule.each u b found in
+          (others_fit p m (with_actor m t now) t u b (nothing_changes m t now) apart.1 found old.0, old.1, old.2)
     ]
 
 pub sits_rule : (p : Module) (n : ℕ) (m : Machine) (t : ℕ) (a : Actor) (place : Place) (agenda : List Duty) → AtRest p n m t a → Sits p m t a place agenda → Rule p n (with_actor m t (sitting a place agenda))

@@ -1,21 +1,20 @@
 -- What a thread takes up fits it, so the rule holds of the thread with it.
-use Rattle.std.proofs.Common.{◌≡◌, ◌≢◌, ℕ, zero, suc, ◌+◌, ◌<◌, ◌≤◌, Bool, true, false, cond, List, [], ◌∷◌, ◌⊎◌, inl, inr, length, Option, None, Some, refl, sym, ap, ◌∙◌, subst, arith}
-use Rattle.std.specs.Prelude.{◌==◌, slice_get, sum_by}
+use Rattle.std.proofs.Common.{◌≡◌, ◌≢◌, ℕ, zero, suc, ◌<◌, Bool, List, [], ◌∷◌, Some, refl, sym, subst, arith}
+use Rattle.std.specs.Prelude.{slice_get, sum_by}
 use Rattle.std.proofs.lemmas.List.Sums.{sum_by-cons}
-use Rattle.brc_lang.specs.declared.module.Instr.{Instr}
 use Rattle.brc_lang.specs.declared.module.Function.{Function}
 use Rattle.brc_lang.specs.declared.module.Module.{Module}
 use Rattle.brc_model.specs.Plain.{Holding, Reference, references_to}
 use Rattle.brc_model.specs.Steps.{code_of}
 use Rattle.brc_model.specs.Duties.{Duty, RetainLoad, ReleaseLoad, Settle, Leave, ClaimMark, block_of}
-use Rattle.brc_model.specs.Machine.{Status, Running, Leaving, Gone, Place, Standing, Inside, Departing, Actor, Machine, with_actor, first_row, Begun, Stuck, Quiet, Work, begun, begun_by}
-use Rattle.brc_model.proofs.Bag.{held, one_if, held-le-references_to}
-use Rattle.brc_model.proofs.Invariant.{reference_of, the_root, of_variables, nothing}
+use Rattle.brc_model.specs.Machine.{Status, Running, Leaving, Gone, Place, Standing, Departing, Actor, Machine, first_row, begun, begun_by}
+use Rattle.brc_model.proofs.Bag.{held-le-references_to}
+use Rattle.brc_model.proofs.Invariant.{reference_of, the_root}
 use Rattle.brc_model.proofs.Rows.{waits, carries, merges, decides}
-use Rattle.brc_model.proofs.Rule.{HoldsAt, PlaceFits, HeadOf, HeadFits, Later, Agenda, AgendaFits, HandedOnce, NoneHanded, IsBacked, looks, Rule}
+use Rattle.brc_model.proofs.Rule.{HoldsAt, PlaceFits, Later, Agenda, AgendaFits, NoneHanded, looks, Rule}
 use Rattle.brc_model.proofs.Begins.{Starts, Gives, Takes, Follows, Nothing, Settles, Leaves, Taken, IsTaken}
 use Rattle.brc_model.proofs.Taking.{begun_taken}
-use Rattle.brc_model.proofs.Sits.{sitting, Sits, AtRest}
+use Rattle.brc_model.proofs.Sits.{Sits, AtRest}
 
 row_positive : (p : Module) (n : ℕ) (m : Machine) (row : ℕ) → Rule p n m → 0 < references_to row m.plain.references → 0 < row
 row_positive p n m zero rule some = absurd (omega (arith, rule.none_free, some))
@@ -77,8 +76,16 @@ taken_sits p n m t a place d rest at taken = starts_sit p n m t a place d rest a
 -- a thread that only stands elsewhere
 pub quiet_sits : (p : Module) (m : Machine) (t : ℕ) (a : Actor) (place : Place) → PlaceFits (code_of (slice_get p.functions a.function)) m.plain.references t [] place → (place ≢ Departing) → Sits p m t a place []
 quiet_sits p m t a place placed stays = record {
-  placed = placed; knows = tt; fits = (stays, refl); handed = tt; hands = λ x. refl;
-  no_waits = λ x. refl; no_carries = λ x. refl; no_merges = λ x. refl; no_decides = λ x. refl; no_looks = λ x. refl;
+  placed = placed;
+  knows = tt;
+  fits = (stays, refl);
+  handed = tt;
+  hands = λ x. refl;
+  no_waits = λ x. refl;
+  no_carries = λ x. refl;
+  no_merges = λ x. refl;
+  no_decides = λ x. refl;
+  no_looks = λ x. refl;
 }
 
 -- the claim of a row of the thread's own block
@@ -93,8 +100,11 @@ claim_sits p m t a left row placed mine = record {
   fits = ((let e : Standing left ≢ Departing = λ q. cc in e), refl);
   handed = tt;
   hands = λ x. refl;
-  no_waits = λ x. sum_by-cons (waits x) (ClaimMark row) []; no_carries = λ x. sum_by-cons (carries x) (ClaimMark row) []; no_merges = λ x. sum_by-cons (merges x) (ClaimMark row) [];
-  no_decides = λ x. sum_by-cons (decides x) (ClaimMark row) []; no_looks = λ x. sum_by-cons (looks x) (ClaimMark row) [];
+  no_waits = λ x. sum_by-cons (waits x) (ClaimMark row) [];
+  no_carries = λ x. sum_by-cons (carries x) (ClaimMark row) [];
+  no_merges = λ x. sum_by-cons (merges x) (ClaimMark row) [];
+  no_decides = λ x. sum_by-cons (decides x) (ClaimMark row) [];
+  no_looks = λ x. sum_by-cons (looks x) (ClaimMark row) [];
 }
 
 -- ---- what a thread at rest takes up

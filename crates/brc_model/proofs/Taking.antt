@@ -1,32 +1,29 @@
 -- In accepted code each instruction that a thread takes up is fit to be begun.
-use Rattle.std.proofs.Common.{◌≡◌, ◌≢◌, ℕ, zero, suc, ◌+◌, ◌-◌, ◌<◌, ◌≤◌, Bool, true, false, cond, List, [], ◌∷◌, ◌++◌, length, Option, None, Some, refl, sym, ap, ◌∙◌, subst, arith}
+use Rattle.std.proofs.Common.{◌≡◌, ◌≢◌, ℕ, zero, suc, ◌+◌, ◌<◌, true, false, List, [], ◌∷◌, ◌++◌, length, Option, None, Some, refl, sym, ap, ◌∙◌, subst, arith}
 use Rattle.std.specs.Prelude.{◌==◌, ◌&&◌, slice_get, slice_set}
 use Rattle.std.specs.List.{list_any}
-use Rattle.std.proofs.lemmas.Bool.{eq-eqb}
 use Rattle.std.proofs.lemmas.List.{length-set}
 use Rattle.brc_lang.specs.declared.module.Instr.{Instr}
 use Rattle.brc_lang.specs.declared.module.Instr.TheVariants.{Newref, Drop, Ret, Fail}
-use Rattle.brc_lang.specs.Grammar.{IsInstruction}
 use Rattle.brc_model.specs.declared.slot.Slot.{Slot}
 use Rattle.brc_model.specs.declared.slot.Slot.TheVariants.{Empty, Owned, Caller, Locked}
 use Rattle.brc_model.specs.declared.slot.State.{State}
-use Rattle.brc_model.specs.declared.slot.Exit.{Exit}
 use Rattle.brc_model.specs.declared.slot.Exit.TheVariants.{Success}
-use Rattle.brc_model.specs.Slots.{slot_of, is_empty, is_owned, is_borrowed, kind_of, put, after, target, entry}
-use Rattle.brc_model.specs.Walks.{At, walk, IsAcceptableCode}
+use Rattle.brc_model.specs.Slots.{slot_of, is_empty, is_owned, kind_of, put, entry}
+use Rattle.brc_model.specs.Walks.{IsAcceptableCode}
 use Rattle.brc_model.specs.Plain.{root_row, Holding, ByVariable, AsCaller, InHand, Reference, same_holding, references_to}
 use Rattle.brc_model.specs.Threads.{row_of, entry_variables}
-use Rattle.brc_model.specs.Duties.{Duty, RetainLoad, ReleaseLoad, Settle, Leave}
-use Rattle.brc_model.specs.Machine.{Status, Running, Place, Standing, Inside, Departing, Begun, Stuck, Quiet, Work, with_row, begun_instruction, begun, first_row}
+use Rattle.brc_model.specs.Duties.{RetainLoad, ReleaseLoad, Settle}
+use Rattle.brc_model.specs.Machine.{Place, Standing, Inside, Departing, Work, begun_instruction, begun}
 use Rattle.brc_model.proofs.Bag.{held, one_if, held-le-references_to}
 use Rattle.brc_model.proofs.Lists.{first_false}
-use Rattle.brc_model.proofs.Invariant.{nothing, the_root, of_variables, reference_of, Holds, IsGrounded, IsInside, AreInstructions}
-use Rattle.brc_model.proofs.Passing.{AreMet, PassesOn, passes_on}
+use Rattle.brc_model.proofs.Invariant.{the_root, of_variables, reference_of, Holds, IsGrounded, IsInside, AreInstructions}
+use Rattle.brc_model.proofs.Passing.{passes_on}
 use Rattle.brc_model.proofs.Held.{owned_has, caller_has, holds-ended, holds-entered}
-use Rattle.brc_model.proofs.Due.{NamesLive, live_slot, owned_slot, owned_row, grounded-put, StandsAt, entry_inside}
+use Rattle.brc_model.proofs.Due.{live_slot, owned_slot, owned_row, grounded-put, StandsAt, entry_inside}
 use Rattle.brc_model.proofs.OwnCounts.{flip_eqb}
 use Rattle.brc_model.proofs.Rule.{HoldsAt, PlaceFits}
-use Rattle.brc_model.proofs.Begins.{holds_plain, holds_at_none, Starts, Gives, Takes, Follows, Nothing, Settles, Leaves, Taken, IsTaken, taken_with_row, standing_stays, inside_stays, newref_held, emptied_held, ended_says}
+use Rattle.brc_model.proofs.Begins.{holds_plain, holds_at_none, Gives, Takes, Nothing, Settles, Leaves, Taken, IsTaken, taken_with_row, standing_stays, inside_stays, newref_held, emptied_held, ended_says}
 
 -- by which of its references a thread holds what a variable names
 backed_slot : (bag : List Reference) (t : ℕ) (s : State) (rows : List (Option ℕ)) (v row : ℕ) (slot : Slot) → slot_of s v ≡ slot → row_of rows v ≡ Some row → is_empty slot ≡ false → IsGrounded slot (row_of rows v)
@@ -101,9 +98,11 @@ ret_taken code bag rows t used left at variables s from here =
     let row = owned_row (slot_of s from) (row_of variables from) owned (here.inside.grounded from) in
     let in_slots : from < length s.slots = omega (arith, here.variables, here.inside.slots) in
     let none : list_any is_owned (put s from Empty).slots ≡ false = first_false _ _ here.met.none_left in
-    let held_now : HoldsAt bag t the_root (ReleaseLoad row.0 (ByVariable from) ∷ Settle ∷ []) = record { each = λ k object.
-      let said : one_if (of_variables (put s from Empty) (slice_set variables from None) k object) ≡ one_if (the_root k object) = ap one_if (ended_says (put s from Empty) (slice_set variables from None) k object none) in
-      omega (arith, emptied_held bag t s variables from row.0 in_slots owned row.1 here.holds k object, said) } in
+    let held_now : HoldsAt bag t the_root (ReleaseLoad row.0 (ByVariable from) ∷ Settle ∷ []) = record {
+      each = λ k object.
+          let said : one_if (of_variables (put s from Empty) (slice_set variables from None) k object) ≡ one_if (the_root k object) = ap one_if (ended_says (put s from Empty) (slice_set variables from None) k object none) in
+          omega (arith, emptied_held bag t s variables from row.0 in_slots owned row.1 here.holds k object, said);
+    } in
     let taken : Taken code bag rows t used (Standing left) (ReleaseLoad row.0 (ByVariable from)) (Settle ∷ []) = record {
       placed = held_now;
       starts = Gives row.0 (ByVariable from) (given_referenced bag t s variables from row.0 owned row.1 here.holds);

@@ -1,32 +1,28 @@
 -- The whole invariant, and that each event keeps it and is not bad.
-use Rattle.std.proofs.Common.{◌≡◌, ◌≢◌, ℕ, zero, suc, ◌+◌, ◌-◌, ◌*◌, ◌<◌, ◌≤◌, Bool, true, false, cond, List, [], ◌∷◌, ◌++◌, ◌⊎◌, inl, inr, length, Option, None, Some, refl, sym, ap, ◌∙◌, subst, arith}
-use Rattle.std.specs.Prelude.{◌==◌, ◌&&◌, nat_lt, nat_le, slice_get, slice_set}
-use Rattle.std.proofs.lemmas.Bool.{eqb-true, ltb-true, leb-true}
+use Rattle.std.proofs.Common.{◌≡◌, ◌≢◌, ℕ, zero, suc, Bool, false, List, ◌∷◌, inl, inr, Some, refl, sym, ap, ◌∙◌, subst}
+use Rattle.std.specs.Prelude.{slice_get, slice_set}
 use Rattle.std.proofs.lemmas.Bool.Decides.{eqb_tells}
-use Rattle.std.proofs.lemmas.List.{nil_from_length}
 use Rattle.std.proofs.lemmas.Option.{slice_get_within}
 use Rattle.brc_lang.specs.declared.module.Module.{Module}
 use Rattle.brc_model.specs.Plain.{Reference}
-use Rattle.brc_model.specs.Steps.{code_of}
-use Rattle.brc_model.specs.Duties.{Reason, Own, Handed, Duty, RetainLoad, RetainStore, RetainAdd, ReleaseLoad, ReleaseStore, DecideAtZero, SharedLoad, SharedExchange, SetMark, Look, TakeMark, MergeSwap, MergeLoad, MergeExchange, Die, Settle, SettleKind, SettleCell, SettleEnd, Leave, Scan, Finish, ClaimMark, block_of}
-use Rattle.brc_model.specs.Machine.{Status, Running, Leaving, Gone, Place, Standing, Inside, Departing, Actor, Life, Unborn, Dying, Closed, Machine, Begun, Stuck, Quiet, Work, begun_by, actor_by, done_by, at_place, with_actor, begins, goes_on, acts, may_claim, first_row, is_running, Choice, Ok, Fault, Claim, chosen, next_machine}
-use Rattle.brc_model.specs.Events.{is_bad_duty, is_bad_begun, is_bad_agenda, is_bad_status, is_bad_choice, is_bad_event}
-use Rattle.brc_model.proofs.Lists.{some_is, and_first, and_second, slice_get-set_same, slice_get-set_other}
-use Rattle.brc_model.proofs.Rule.{PlaceFits, HandedOnce, Rule}
+use Rattle.brc_model.specs.Duties.{Own, Handed, Duty, RetainLoad, RetainStore, RetainAdd, ReleaseLoad, ReleaseStore, DecideAtZero, SharedLoad, SharedExchange, SetMark, Look, TakeMark, MergeSwap, MergeLoad, MergeExchange, Die, Settle, SettleKind, SettleCell, SettleEnd, Leave, Scan, Finish, ClaimMark}
+use Rattle.brc_model.specs.Machine.{Running, Gone, Place, Actor, Unborn, Dying, Closed, Machine, actor_by, done_by, at_place, with_actor}
+use Rattle.brc_model.specs.Events.{is_bad_duty}
+use Rattle.brc_model.proofs.Lists.{some_is, slice_get-set_same, slice_get-set_other}
+use Rattle.brc_model.proofs.Rule.{Rule}
 use Rattle.brc_model.proofs.Leaves.{AtDuty}
 use Rattle.brc_model.proofs.Neutral.{OwnFits, found_by}
 use Rattle.brc_model.proofs.OwnRetains.{own_retain_load}
 use Rattle.brc_model.proofs.OwnReleases.{own_retain_store, own_retain_add, own_release_load, own_release_store, own_decide, own_shared_load, own_shared_exchange}
 use Rattle.brc_model.proofs.OwnMerges.{own_set_mark, own_look, own_take_mark, own_merge_swap_own, own_merge_swap_handed, own_merge_load, own_merge_exchange}
 use Rattle.brc_model.proofs.OwnSettles.{own_die, own_settle, own_settle_kind, own_settle_cell, own_settle_end}
-use Rattle.brc_model.proofs.OwnExits.{own_leave, own_scan, own_finish, own_claim_mark, Settles, IsSettled, settled_after}
+use Rattle.brc_model.proofs.OwnExits.{own_leave, own_scan, own_finish, own_claim_mark, IsSettled, settled_after}
 use Rattle.brc_model.proofs.Watches.{UsesRoot, marks_after}
-use Rattle.brc_model.proofs.Closing.{LifeStep, GoesOn, BeginsToDie, IsClosed, life_step}
+use Rattle.brc_model.proofs.Closing.{GoesOn, BeginsToDie, IsClosed, life_step}
 use Rattle.brc_model.proofs.KeepsDuty.{keeps_by}
 use Rattle.brc_model.proofs.NotBad.{duty_not_bad}
-use Rattle.brc_model.proofs.Begins.{Starts, Gives, Takes, Follows, Nothing, Settles as SettlesFirst, Leaves, Taken, IsTaken}
+use Rattle.brc_model.proofs.Begins.{Starts, Gives, Takes, Follows, Nothing, Settles as SettlesFirst, Leaves}
 use Rattle.brc_model.proofs.Sits.{sitting, Sits, AtRest, sits_rule, taken_up_step}
-use Rattle.brc_model.proofs.TakenSits.{taken_sits, quiet_sits, claim_sits, rests, begun_fits}
 
 -- main's block has two used rows, and workers have used none yet
 abbrev pub used_rows : ℕ → ℕ
@@ -74,8 +70,8 @@ written_actor : (P : ℕ → Actor → Type 0) (actors : List Actor) (t : ℕ) (
 written_actor P actors t a after found own others u b is =
     elim (eqb_tells u t) [
       | inl same ↦
-        let now : Some after ≡ Some b = sym (ap (slice_get (slice_set actors t after)) same.1 ∙ slice_get-set_same actors t after (slice_get_within actors t a found)) ∙ is in
-        subst (P u) (some_is after b now) (subst (λ (w : ℕ). P w after) (sym same.1) own)
+          let now : Some after ≡ Some b = sym (ap (slice_get (slice_set actors t after)) same.1 ∙ slice_get-set_same actors t after (slice_get_within actors t a found)) ∙ is in
+          subst (P u) (some_is after b now) (subst (λ (w : ℕ). P w after) (sym same.1) own)
       | inr apart ↦ others u b (sym (slice_get-set_other actors t u after apart.1) ∙ is)
     ]
 
@@ -102,13 +98,15 @@ pub keeps_duty : (p : Module) (n : ℕ) (m : Machine) (t : ℕ) (a : Actor) (d :
 keeps_duty p n m t a d rest doing =
     let here : AtDuty p n m t a d rest = record { rule = doing.whole.rule; found = doing.found; agenda = doing.agenda } in
     let settled : IsSettled a.head (d ∷ rest) = subst (IsSettled a.head) doing.agenda (doing.whole.settled t a doing.found) in
-    let uses : UsesRoot m = λ b is. doing.whole.used 0 b is in
-    (duty_not_bad p n m t a d rest here, record {
-      rule = keeps_by p n m t a d rest here doing.alive (own_fits p n m t a d rest here doing.alive settled) (λ x. marks_after p n m t a d rest here doing.alive uses x);
-      settled = λ u b is. written_actor (λ w c. IsSettled c.head c.agenda) m.actors t a (actor_by t a d rest (found_by m t a d)) doing.found (settled_after p n m t a d rest here doing.alive settled) doing.whole.settled u b is;
-      used = λ u b is. written_actor (λ w c. c.used ≡ used_rows w) m.actors t a (actor_by t a d rest (found_by m t a d)) doing.found (doing.whole.used t a doing.found) doing.whole.used u b is;
-      root_born = born_stays p n m t a d rest here doing.whole.root_born;
-    })
+    let uses : UsesRoot m = λ b is. doing.whole.used 0 b is in (
+      duty_not_bad p n m t a d rest here,
+      record {
+        rule = keeps_by p n m t a d rest here doing.alive (own_fits p n m t a d rest here doing.alive settled) (λ x. marks_after p n m t a d rest here doing.alive uses x);
+        settled = λ u b is. written_actor (λ w c. IsSettled c.head c.agenda) m.actors t a (actor_by t a d rest (found_by m t a d)) doing.found (settled_after p n m t a d rest here doing.alive settled) doing.whole.settled u b is;
+        used = λ u b is. written_actor (λ w c. c.used ≡ used_rows w) m.actors t a (actor_by t a d rest (found_by m t a d)) doing.found (doing.whole.used t a doing.found) doing.whole.used u b is;
+        root_born = born_stays p n m t a d rest here doing.whole.root_born;
+      },
+    )
 
 -- ---- what is taken up
 

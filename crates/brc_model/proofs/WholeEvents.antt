@@ -1,6 +1,6 @@
 -- Each event, by whatever thread and choice, keeps the whole invariant and is not bad.
-use Rattle.std.proofs.Common.{◌≡◌, ◌≢◌, ℕ, zero, suc, ◌+◌, ◌-◌, ◌*◌, ◌<◌, ◌≤◌, Bool, true, false, cond, List, [], ◌∷◌, ◌++◌, ◌⊎◌, inl, inr, length, Option, None, Some, refl, sym, ap, ◌∙◌, subst, arith}
-use Rattle.std.specs.Prelude.{◌==◌, ◌&&◌, nat_lt, nat_le, slice_get, slice_set}
+use Rattle.std.proofs.Common.{◌≡◌, ℕ, zero, suc, ◌+◌, ◌<◌, ◌≤◌, Bool, true, false, cond, List, [], ◌∷◌, length, Option, None, Some, refl, sym, ap, ◌∙◌, subst, arith}
+use Rattle.std.specs.Prelude.{◌==◌, ◌&&◌, nat_lt, nat_le, slice_get}
 use Rattle.std.proofs.lemmas.Bool.{eqb-true, ltb-true, leb-true}
 use Rattle.std.proofs.lemmas.List.{nil_from_length}
 use Rattle.brc_lang.specs.declared.module.Module.{Module}
@@ -9,13 +9,12 @@ use Rattle.brc_model.specs.Duties.{Duty, ClaimMark, block_of}
 use Rattle.brc_model.specs.Machine.{Status, Running, Leaving, Gone, Place, Standing, Inside, Departing, Actor, Machine, Begun, Stuck, Quiet, Work, begun_by, done_by, at_place, with_actor, begins, goes_on, acts, may_claim, first_row, is_running, Choice, Ok, Fault, Claim, chosen, next_machine, machine_after}
 use Rattle.brc_model.specs.Events.{is_bad_duty, is_bad_begun, is_bad_agenda, is_bad_status, is_bad_choice, is_bad_event}
 use Rattle.brc_model.proofs.Lists.{and_first, and_second}
-use Rattle.brc_model.proofs.Rule.{PlaceFits, Rule}
+use Rattle.brc_model.proofs.Rule.{PlaceFits}
 use Rattle.brc_model.proofs.OwnRetains.{running_is}
-use Rattle.brc_model.proofs.OwnExits.{IsSettled}
-use Rattle.brc_model.proofs.Begins.{Taken, IsTaken}
-use Rattle.brc_model.proofs.Sits.{sitting, Sits, AtRest}
+use Rattle.brc_model.proofs.Begins.{IsTaken}
+use Rattle.brc_model.proofs.Sits.{sitting, AtRest}
 use Rattle.brc_model.proofs.TakenSits.{taken_sits, quiet_sits, claim_sits, rests, begun_fits}
-use Rattle.brc_model.proofs.Whole.{used_rows, Whole, Doing, KeepsOn, keeps_duty, whole_sits, taken_up, starts_settled}
+use Rattle.brc_model.proofs.Whole.{used_rows, Whole, KeepsOn, keeps_duty, whole_sits, taken_up, starts_settled}
 
 -- ---- what a thread at rest takes up
 
@@ -84,10 +83,10 @@ if_claims p n m t a row false whole claims = (refl, whole)
 
 abbrev claims_where : Machine → ℕ → Actor → ℕ → Place → Bool
 claims_where m t a row place = elim place [
-    | Standing left ↦ is_running a.status && (length a.agenda == 0) && nat_le (first_row m.rows t) row && nat_lt row (first_row m.rows t + a.used)
-    | Inside left at variables ↦ false
-    | Departing ↦ false
-  ]
+  | Standing left ↦ is_running a.status && (length a.agenda == 0) && nat_le (first_row m.rows t) row && nat_lt row (first_row m.rows t + a.used)
+  | Inside left at variables ↦ false
+  | Departing ↦ false
+]
 
 claim_by : (p : Module) (n : ℕ) (m : Machine) (t : ℕ) (a : Actor) (row : ℕ) (place : Place) → Whole p n m → slice_get m.actors t ≡ Some a → a.place ≡ place → may_claim m t a row ≡ true → KeepsOn p n (is_bad_duty m t a (ClaimMark row)) (done_by m t a (ClaimMark row) [])
 claim_by p n m t a row (Standing left) whole found place e = claim_now p n m t a left row whole found place (sym (ap (claims_where m t a row) place) ∙ e)

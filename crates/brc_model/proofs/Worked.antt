@@ -1,11 +1,10 @@
 -- Worked schedules on the smallest module, with one worker that makes one call: what the step world comes to.
-use Rattle.std.proofs.Common.{◌≡◌, ℕ, ◌+◌, List, [], ◌∷◌, ◌++◌, map, refl}
+use Rattle.std.proofs.Common.{◌≡◌, ℕ, List, [], ◌∷◌, ◌++◌, map, refl}
 use Rattle.std.specs.Prelude.{replicate}
 use Rattle.brc_lang.specs.declared.module.Instr.TheVariants.{Fail}
 use Rattle.brc_lang.specs.declared.module.Module.{Module}
 use Rattle.brc_model.specs.declared.thread.Call.{Call}
-use Rattle.brc_model.specs.Words.{fresh_word}
-use Rattle.brc_model.specs.Machine.{Status, Running, Leaving, Gone, Life, Live, Dying, Closed, Choice, Ok, Claim, Machine, Actor, first_machine, machine_after}
+use Rattle.brc_model.specs.Machine.{Status, Running, Gone, Live, Closed, Choice, Ok, Claim, Machine, Actor, first_machine, machine_after}
 
 smallest : Module
 smallest = record { functions = record { name = 102 ∷ []; code = Fail ∷ [] } ∷ [] }

@@ -1,10 +1,10 @@
 -- What the counts of a row add up to, and what each phase implies. (PEP 703, Biased Reference Counting: an object's references
 -- are its local count and its shared count together; it is freed from default and merged alone.)
-use Rattle.std.specs.Prelude.{◌≡◌, ℕ, ◌+◌, ◌*◌, ◌<◌, ◌≤◌, Bool, true, false, ◌==◌, if◌then◌else◌, sum_by}
+use Rattle.std.specs.Prelude.{◌≡◌, ℕ, ◌+◌, ◌<◌, ◌≤◌, ◌==◌, if◌then◌else◌, sum_by}
 use Rattle.brc_model.specs.Plain.{references_to}
-use Rattle.brc_model.specs.Words.{owner_part, local_part, biased_part, phase_part, bias}
-use Rattle.brc_model.specs.Duties.{Reason, Own, Handed, Duty, DecideAtZero, SharedLoad, SharedExchange, SetMark, MergeSwap, MergeLoad, MergeExchange, Local, Shared, Mark}
-use Rattle.brc_model.specs.Machine.{Life, Unborn, Live, Dying, Closed, Actor, Machine}
+use Rattle.brc_model.specs.Words.{local_part, biased_part, phase_part, bias}
+use Rattle.brc_model.specs.Duties.{Handed, Duty, SharedLoad, SharedExchange, SetMark, MergeLoad, MergeExchange, Local, Shared, Mark}
+use Rattle.brc_model.specs.Machine.{Live, Actor, Machine}
 
 -- ---- weights of a duty at a row
 

@@ -1,8 +1,8 @@
 -- What a thread has still to do inside an instruction or its exit: an agenda of duties, each of which is one step on one
 -- word, and names the duties that follow it by what the step found.
-use Rattle.std.specs.Prelude.{ℕ, zero, suc, ◌+◌, ◌-◌, ◌*◌, ◌/◌, Bool, true, false, ◌&&◌, ◌||◌, ◌==◌, not, nat_lt, if◌then◌else◌, List, [], ◌∷◌, ◌++◌, Option, None, Some}
-use Rattle.brc_model.specs.Plain.{Holding, ByVariable, AsCaller, InHand}
-use Rattle.brc_model.specs.Words.{owner_part, local_part, is_immortal_word, fresh_word, dead_word, bias, released_word, merged_word, biased_part, dying_word, next_part, closed_word, kind_part, argument_part}
+use Rattle.std.specs.Prelude.{ℕ, zero, suc, ◌+◌, ◌-◌, ◌/◌, Bool, ◌&&◌, ◌==◌, nat_lt, if◌then◌else◌, List, [], ◌∷◌, ◌++◌}
+use Rattle.brc_model.specs.Plain.{Holding, InHand}
+use Rattle.brc_model.specs.Words.{owner_part, local_part, is_immortal_word, fresh_word, dead_word, released_word, merged_word, dying_word, next_part, closed_word, kind_part, argument_part}
 
 -- whose reference a release by the shared word gives up: the thread's own, or the one that was handed to a queue
 pub data Reason : Type 0 where

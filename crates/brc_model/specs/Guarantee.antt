@@ -1,11 +1,11 @@
 -- What an accepted module promises over biased headers.
-use Rattle.std.specs.Prelude.{◌≡◌, ◌≢◌, ℕ, ◌+◌, ◌<◌, ◌≤◌, Bool, true, false, List, [], ◌∷◌, length, AllPairs, ◌↔◌}
+use Rattle.std.specs.Prelude.{◌≡◌, ◌≢◌, ℕ, ◌<◌, ◌≤◌, Bool, true, false, List, [], ◌∷◌, AllPairs, ◌↔◌}
 use Rattle.std.specs.List.{list_all}
 use Rattle.brc_lang.specs.declared.module.Module.{Module}
 use Rattle.brc_model.specs.declared.thread.Call.{Call}
 use Rattle.brc_model.specs.Plain.{root_row, is_among, references_to}
 use Rattle.brc_model.specs.Safety.{AreCalls}
-use Rattle.brc_model.specs.Machine.{Status, Running, Leaving, Gone, Actor, Life, Unborn, Live, Dying, Closed, Machine, Choice, first_machine, machine_after}
+use Rattle.brc_model.specs.Machine.{Status, Running, Leaving, Gone, Actor, Unborn, Live, Machine, Choice, first_machine, machine_after}
 use Rattle.brc_model.specs.Agreement.{AgreesAt, IsFreeOf}
 use Rattle.brc_model.specs.Events.{is_bad_event}
 

@@ -1,16 +1,16 @@
 -- The step world over headers: memory, a word at each address; threads, each with an agenda; and beside them the plain world
 -- and the life of each row. A step does the first duty of one thread's agenda, or takes up its next instruction with it.
-use Rattle.std.specs.Prelude.{ℕ, zero, suc, ◌+◌, ◌-◌, ◌*◌, Bool, true, false, ◌&&◌, ◌||◌, ◌==◌, not, nat_lt, nat_le, if◌then◌else◌, List, [], ◌∷◌, ◌++◌, length, map, Option, None, Some, fold, slice_get, slice_set}
+use Rattle.std.specs.Prelude.{ℕ, zero, suc, ◌+◌, ◌*◌, Bool, true, false, ◌&&◌, ◌==◌, nat_lt, nat_le, if◌then◌else◌, List, [], ◌∷◌, ◌++◌, length, map, Option, None, Some, fold, slice_get, slice_set}
 use Rattle.brc_lang.specs.declared.module.Instr.{Instr}
 use Rattle.brc_lang.specs.declared.module.Instr.TheVariants.{Newref, Drop, Ret, Fail}
 use Rattle.brc_lang.specs.declared.module.Function.{Function}
 use Rattle.brc_lang.specs.declared.module.Module.{Module}
 use Rattle.brc_model.specs.declared.thread.Call.{Call}
-use Rattle.brc_model.specs.Plain.{none_row, root_row, is_counted, is_among, Holding, ByVariable, AsCaller, InHand, Reference, Plain, Move, Gain, Lose, HandOn, Finalise, moved, are_allowed}
+use Rattle.brc_model.specs.Plain.{root_row, Holding, ByVariable, AsCaller, InHand, Plain, Move, Gain, Lose, HandOn, Finalise, moved}
 use Rattle.brc_model.specs.Threads.{row_of, entry_variables}
 use Rattle.brc_model.specs.Steps.{code_of, callers_below}
-use Rattle.brc_model.specs.Words.{is_immortal_word, local_word, fresh_word, released_word, local_part}
-use Rattle.brc_model.specs.Duties.{Reason, Own, Handed, Duty, RetainLoad, RetainStore, RetainAdd, ReleaseLoad, ReleaseStore, DecideAtZero, SharedLoad, SharedExchange, SetMark, Look, TakeMark, MergeSwap, MergeLoad, MergeExchange, Die, Settle, SettleKind, SettleCell, SettleEnd, Leave, Scan, Finish, ClaimMark, Address, Local, Shared, Gate, KindOf, Mark, Cell, ThreadWord, address_of, left_by, next_by, head_by, ready}
+use Rattle.brc_model.specs.Words.{is_immortal_word, local_word, fresh_word}
+use Rattle.brc_model.specs.Duties.{Own, Duty, RetainLoad, RetainStore, RetainAdd, ReleaseLoad, ReleaseStore, SharedExchange, Die, Settle, SettleEnd, Leave, Finish, ClaimMark, Address, Local, Shared, Gate, KindOf, Mark, Cell, ThreadWord, address_of, left_by, next_by, head_by, ready}
 
 -- ---- threads
 
@@ -210,10 +210,10 @@ acts m t a Leaving = goes_on m t a a.agenda
 -- a queue is looked into by a running thread that stands outside its calls, for a used row of its own block
 abbrev pub may_claim : Machine → ℕ → Actor → ℕ → Bool
 may_claim m t a row = elim a.place [
-    | Standing left ↦ is_running a.status && (length a.agenda == 0) && nat_le (first_row m.rows t) row && nat_lt row (first_row m.rows t + a.used)
-    | Inside left at variables ↦ false
-    | Departing ↦ false
-  ]
+  | Standing left ↦ is_running a.status && (length a.agenda == 0) && nat_le (first_row m.rows t) row && nat_lt row (first_row m.rows t + a.used)
+  | Inside left at variables ↦ false
+  | Departing ↦ false
+]
 
 pub data Choice : Type 0 where
   Ok : Choice
