@@ -5,7 +5,7 @@ use Rattle.std.specs.List.{list_any}
 use Rattle.std.proofs.lemmas.Bool.{eqb-true, eq-eqb}
 use Rattle.std.proofs.lemmas.List.Sums.{sum_by-cons}
 use Rattle.brc_model.proofs.Lists.{and_first, and_second}
-use Rattle.brc_model.specs.Plain.{Holding, ByVariable, AsCaller, Reference, same_holding, same, without, references_to}
+use Rattle.brc_model.specs.Plain.{Holding, ByVariable, AsCaller, InHand, Reference, same_holding, same, without, references_to}
 
 -- how many such references the bag has
 abbrev pub held : Reference → List Reference → ℕ
@@ -19,10 +19,16 @@ same_holding-true (ByVariable v) (ByVariable w) e = ap ByVariable (eqb-true v w 
 same_holding-true (ByVariable v) AsCaller e = absurd cc
 same_holding-true AsCaller (ByVariable w) e = absurd cc
 same_holding-true AsCaller AsCaller e = refl
+same_holding-true (ByVariable v) InHand e = absurd cc
+same_holding-true AsCaller InHand e = absurd cc
+same_holding-true InHand (ByVariable w) e = absurd cc
+same_holding-true InHand AsCaller e = absurd cc
+same_holding-true InHand InHand e = refl
 
 pub same_holding-refl : (h : Holding) → same_holding h h ≡ true
 same_holding-refl (ByVariable v) = eq-eqb v v refl
 same_holding-refl AsCaller = refl
+same_holding-refl InHand = refl
 
 pub same-true : (r q : Reference) → same r q ≡ true → r ≡ q
 same-true r q e =

@@ -34,7 +34,7 @@ IsDue code bag t (Release row h next) = (list_any (same (reference_of t h row)) 
 
 -- ---- slots and rows
 
-grounded-put : (s : State) (rows : List (Option ℕ)) (x : ℕ) (slot : Slot) (row : Option ℕ) → x < length s.slots → x < length rows → IsGrounded slot row
+pub grounded-put : (s : State) (rows : List (Option ℕ)) (x : ℕ) (slot : Slot) (row : Option ℕ) → x < length s.slots → x < length rows → IsGrounded slot row
     → ((v : ℕ) → IsGrounded (slot_of s v) (row_of rows v)) → (v : ℕ) → IsGrounded (slot_of (put s x slot) v) (row_of (slice_set rows x row) v)
 grounded-put s rows x slot row in_slots in_rows new old v =
     elim (eqb_tells v x) [
@@ -53,7 +53,7 @@ pub record NamesLive (bag : List Reference) (row : Option ℕ) : Type 0 where
   pub is_row : row ≡ Some object
   pub live : 0 < references_to object bag
 
-live_slot : (bag : List Reference) (t : ℕ) (s : State) (rows : List (Option ℕ)) (v : ℕ) (slot : Slot) → slot_of s v ≡ slot → is_empty slot ≡ false → IsGrounded slot (row_of rows v)
+pub live_slot : (bag : List Reference) (t : ℕ) (s : State) (rows : List (Option ℕ)) (v : ℕ) (slot : Slot) → slot_of s v ≡ slot → is_empty slot ≡ false → IsGrounded slot (row_of rows v)
     → Holds bag t (of_variables s rows) → NamesLive bag (row_of rows v)
 live_slot bag t s rows v Empty is some grounded holds = absurd cc
 live_slot bag t s rows v (Owned k) is some grounded holds =
@@ -67,13 +67,13 @@ live_slot bag t s rows v (Caller k) is some grounded holds =
 live_slot bag t s rows v (Locked k) is some grounded holds = absurd grounded
 
 -- what may be given up is owned
-owned_slot : (slot : Slot) → is_empty slot ≡ false → is_borrowed slot ≡ false → is_owned slot ≡ true
+pub owned_slot : (slot : Slot) → is_empty slot ≡ false → is_borrowed slot ≡ false → is_owned slot ≡ true
 owned_slot Empty e b = absurd cc
 owned_slot (Owned k) e b = refl
 owned_slot (Caller k) e b = absurd cc
 owned_slot (Locked k) e b = absurd cc
 
-owned_row : (slot : Slot) (row : Option ℕ) → is_owned slot ≡ true → IsGrounded slot row → (r : ℕ) × (row ≡ Some r)
+pub owned_row : (slot : Slot) (row : Option ℕ) → is_owned slot ≡ true → IsGrounded slot row → (r : ℕ) × (row ≡ Some r)
 owned_row Empty row owned grounded = absurd cc
 owned_row (Owned k) row owned grounded = grounded
 owned_row (Caller k) row owned grounded = absurd cc
@@ -159,7 +159,7 @@ entry_grounded zero = refl
 entry_grounded (suc v) =
     subst (λ (slot : Slot). IsGrounded slot (row_of entry_variables (suc v))) (sym (get_or-replicate_default 15 v Empty)) tt
 
-entry_inside : (code : List Instr) → IsInside code 0 entry_variables entry
+pub entry_inside : (code : List Instr) → IsInside code 0 entry_variables entry
 entry_inside code = record { exits = []; walked = refl; slots = refl; rows = refl; grounded = entry_grounded }
 
 pub request_due : (code : List Instr) (bag : List Reference) (t : ℕ) (control : Control) → IsAcceptableCode code → AreInstructions code → FitsControl code bag t control → IsDue code bag t (request code control)

@@ -14,7 +14,7 @@ use Rattle.brc_model.specs.declared.slot.State.{State}
 use Rattle.brc_model.specs.declared.thread.Control.{Control}
 use Rattle.brc_model.specs.declared.thread.Control.TheVariants.{Standing, Inside, Gone}
 use Rattle.brc_model.specs.Slots.{slot_of, is_owned, names}
-use Rattle.brc_model.specs.Plain.{root_row, Holding, ByVariable, AsCaller, Reference}
+use Rattle.brc_model.specs.Plain.{root_row, Holding, ByVariable, AsCaller, InHand, Reference}
 use Rattle.brc_model.specs.Threads.{row_of}
 use Rattle.brc_model.specs.Steps.{Scene}
 use Rattle.brc_model.proofs.Bag.{held, one_if, same-refl, held-cons}
@@ -25,6 +25,7 @@ use Rattle.brc_model.proofs.Invariant.{nothing, the_root, of_variables, referenc
 abbrev place_of : Holding → ℕ
 place_of (ByVariable v) = v
 place_of AsCaller = 16
+place_of InHand = 17
 
 abbrev number_of : Reference → ℕ
 number_of r = 17 * r.thread + place_of r.holding
@@ -61,10 +62,13 @@ nothing_narrow = record { low = nothing_low; one_object = nothing_one }
 root_low : (h : Holding) (object : ℕ) → the_root h object ≡ true → place_of h < 17
 root_low (ByVariable v) object e = absurd cc
 root_low AsCaller object e = omega arith
+root_low InHand object e = absurd cc
 
 root_one : (h k : Holding) (object other : ℕ) → the_root h object ≡ true → the_root k other ≡ true → place_of h ≡ place_of k → (h ≡ k) × (object ≡ other)
 root_one (ByVariable v) k object other e f places = absurd cc
 root_one AsCaller (ByVariable w) object other e f places = absurd cc
+root_one AsCaller InHand object other e f places = absurd cc
+root_one InHand k object other e f places = absurd cc
 root_one AsCaller AsCaller object other e f places = (refl, eqb-true object root_row e ∙ sym (eqb-true other root_row f))
 
 root_narrow : IsNarrow the_root
@@ -73,6 +77,7 @@ root_narrow = record { low = root_low; one_object = root_one }
 variables_low : (s : State) (rows : List (Option ℕ)) → length s.slots ≡ 16 → (h : Holding) (object : ℕ) → of_variables s rows h object ≡ true → place_of h < 17
 variables_low s rows slots (ByVariable v) object e = omega (arith, owned_low s v slots (and_first _ _ e))
 variables_low s rows slots AsCaller object e = omega arith
+variables_low s rows slots InHand object e = absurd cc
 
 variables_one : (s : State) (rows : List (Option ℕ)) → length s.slots ≡ 16 → (h k : Holding) (object other : ℕ) → of_variables s rows h object ≡ true → of_variables s rows k other ≡ true
     → place_of h ≡ place_of k → (h ≡ k) × (object ≡ other)
@@ -81,6 +86,9 @@ variables_one s rows slots (ByVariable v) (ByVariable w) object other e f places
     (ap ByVariable places, names_one (row_of rows v) object other (and_second _ _ e) (subst Q (sym places) (and_second _ _ f)))
 variables_one s rows slots (ByVariable v) AsCaller object other e f places = absurd (omega (arith, owned_low s v slots (and_first _ _ e), places))
 variables_one s rows slots AsCaller (ByVariable w) object other e f places = absurd (omega (arith, owned_low s w slots (and_first _ _ f), places))
+variables_one s rows slots InHand k object other e f places = absurd cc
+variables_one s rows slots (ByVariable v) InHand object other e f places = absurd cc
+variables_one s rows slots AsCaller InHand object other e f places = absurd cc
 variables_one s rows slots AsCaller AsCaller object other e f places = (refl, eqb-true object root_row e ∙ sym (eqb-true other root_row f))
 
 -- what one thread holds, whatever it is

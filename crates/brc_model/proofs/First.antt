@@ -10,7 +10,7 @@ use Rattle.brc_lang.specs.Grammar.{IsInstruction, IsFunction, IsModule}
 use Rattle.brc_model.specs.declared.thread.Call.{Call}
 use Rattle.brc_model.specs.declared.thread.Thread.{Thread}
 use Rattle.brc_model.specs.Walks.{IsAcceptableCode, IsAcceptable}
-use Rattle.brc_model.specs.Plain.{root_row, Holding, ByVariable, AsCaller, same, references_to}
+use Rattle.brc_model.specs.Plain.{root_row, Holding, ByVariable, AsCaller, InHand, same, references_to}
 use Rattle.brc_model.specs.Steps.{code_of, main_thread, worker_of, caller_reference, callers_below, first_scene}
 use Rattle.brc_model.specs.Safety.{IsCall, AreCalls}
 use Rattle.brc_model.proofs.Bag.{held, one_if, same-other_thread, held-cons, references_to-cons}
@@ -20,7 +20,7 @@ use Rattle.brc_model.proofs.Invariant.{the_root, reference_of, FitsCounts, AreIn
 
 -- ---- what the callers hold
 
-callers_beyond : (n t : ℕ) (h : Holding) (object : ℕ) → n ≤ t → held (reference_of t h object) (callers_below n) ≡ 0
+pub callers_beyond : (n t : ℕ) (h : Holding) (object : ℕ) → n ≤ t → held (reference_of t h object) (callers_below n) ≡ 0
 callers_beyond zero t h object past = refl
 callers_beyond (suc n) t h object past =
     let x = reference_of t h object in
@@ -30,9 +30,10 @@ callers_beyond (suc n) t h object past =
 
 its_caller : (n : ℕ) (h : Holding) (object : ℕ) → one_if (same (reference_of n h object) (caller_reference n)) ≡ one_if (the_root h object)
 its_caller n (ByVariable v) object = ap one_if (same-other_holding (reference_of n (ByVariable v) object) (caller_reference n) refl)
+its_caller n InHand object = ap one_if (same-other_holding (reference_of n InHand object) (caller_reference n) refl)
 its_caller n AsCaller object = ap one_if (same-one_caller n object root_row)
 
-callers_hold : (n t : ℕ) (h : Holding) (object : ℕ) → t < n → held (reference_of t h object) (callers_below n) ≡ one_if (the_root h object)
+pub callers_hold : (n t : ℕ) (h : Holding) (object : ℕ) → t < n → held (reference_of t h object) (callers_below n) ≡ one_if (the_root h object)
 callers_hold zero t h object below = absurd (omega arith)
 callers_hold (suc n) t h object below =
     elim (eqb_tells t n) [
@@ -46,11 +47,11 @@ callers_hold (suc n) t h object below =
           omega (arith, held-cons x (caller_reference n) (callers_below n), other, callers_hold n t h object lower)
     ]
 
-root_references : (n : ℕ) → references_to root_row (callers_below n) ≡ n
+pub root_references : (n : ℕ) → references_to root_row (callers_below n) ≡ n
 root_references zero = refl
 root_references (suc n) = omega (arith, references_to-cons root_row (caller_reference n) (callers_below n), root_references n)
 
-other_references : (n object : ℕ) → root_row ≢ object → references_to object (callers_below n) ≡ 0
+pub other_references : (n object : ℕ) → root_row ≢ object → references_to object (callers_below n) ≡ 0
 other_references zero object apart = refl
 other_references (suc n) object apart =
     elim (eqb_tells root_row object) [
@@ -80,7 +81,7 @@ first_counts n rest some = record {
 
 -- ---- the threads
 
-function_fits : (m : Module) (i : ℕ) → IsModule m → IsAcceptable m → i < length m.functions → IsAcceptableCode (code_of (slice_get m.functions i)) × AreInstructions (code_of (slice_get m.functions i))
+pub function_fits : (m : Module) (i : ℕ) → IsModule m → IsAcceptable m → i < length m.functions → IsAcceptableCode (code_of (slice_get m.functions i)) × AreInstructions (code_of (slice_get m.functions i))
 function_fits m i fits accepted within =
     let good = all_at (λ (f : Function). IsAcceptableCode f.code) m.functions i accepted within in
     let form = all_of_found IsFunction m.functions i good.found fits.functions good.is_there in

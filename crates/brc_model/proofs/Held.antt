@@ -9,7 +9,7 @@ use Rattle.brc_model.specs.declared.slot.Slot.{Slot}
 use Rattle.brc_model.specs.declared.slot.Slot.TheVariants.{Empty, Owned}
 use Rattle.brc_model.specs.declared.slot.State.{State}
 use Rattle.brc_model.specs.Slots.{slot_of, is_owned, names, put, entry}
-use Rattle.brc_model.specs.Plain.{root_row, Holding, ByVariable, AsCaller, Reference, same_holding, same, without}
+use Rattle.brc_model.specs.Plain.{root_row, Holding, ByVariable, AsCaller, InHand, Reference, same_holding, same, without}
 use Rattle.brc_model.specs.Threads.{row_of, entry_variables}
 use Rattle.brc_model.proofs.Bag.{held, one_if, same-true, same_holding-refl, same-other_thread, held-cons, held-without, held_has}
 use Rattle.brc_model.proofs.Lists.{none_at, get_or-replicate_default}
@@ -68,6 +68,8 @@ gained_each : (bag : List Reference) (t : ℕ) (s : State) (rows : List (Option 
     → Holds bag t (of_variables s rows) → (h : Holding) (object : ℕ) → held (reference_of t h object) (reference_of t (ByVariable to) row ∷ bag) ≡ one_if (of_variables (put s to (Owned k)) (slice_set rows to (Some row)) h object)
 gained_each bag t s rows to row k in_slots in_rows free holds AsCaller object =
     held-cons_other (reference_of t AsCaller object) (reference_of t (ByVariable to) row) bag (same-other_holding (reference_of t AsCaller object) (reference_of t (ByVariable to) row) refl) ∙ holds.each AsCaller object
+gained_each bag t s rows to row k in_slots in_rows free holds InHand object =
+    held-cons_other (reference_of t InHand object) (reference_of t (ByVariable to) row) bag (same-other_holding (reference_of t InHand object) (reference_of t (ByVariable to) row) refl) ∙ holds.each InHand object
 gained_each bag t s rows to row k in_slots in_rows free holds (ByVariable v) object =
     let r = reference_of t (ByVariable to) row in
     elim (eqb_tells v to) [
@@ -124,6 +126,7 @@ emptied_each : (bag : List Reference) (t : ℕ) (s : State) (rows : List (Option
     → Holds bag t (of_variables s rows) → (h : Holding) (object : ℕ)
     → held (reference_of t h object) (without (reference_of t (ByVariable from) row) bag) ≡ one_if (of_variables (put s from Empty) (slice_set rows from None) h object)
 emptied_each bag t s rows from row in_slots owned is holds AsCaller object = kept bag t s rows from row owned is holds AsCaller object refl
+emptied_each bag t s rows from row in_slots owned is holds InHand object = kept bag t s rows from row owned is holds InHand object refl
 emptied_each bag t s rows from row in_slots owned is holds (ByVariable v) object =
     elim (eqb_tells v from) [
       | inl this ↦
@@ -150,6 +153,7 @@ holds-emptied bag t s rows from row in_slots owned is holds =
 ended_each : (bag : List Reference) (t : ℕ) (s : State) (rows : List (Option ℕ)) → ((v : ℕ) → is_owned (slot_of s v) ≡ false) → Holds bag t (of_variables s rows)
     → (h : Holding) (object : ℕ) → held (reference_of t h object) bag ≡ one_if (the_root h object)
 ended_each bag t s rows none holds AsCaller object = holds.each AsCaller object
+ended_each bag t s rows none holds InHand object = holds.each InHand object
 ended_each bag t s rows none holds (ByVariable v) object = holds.each (ByVariable v) object ∙ ap (λ (b : Bool). one_if (b && names (row_of rows v) object)) (none v)
 
 pub holds-ended : (bag : List Reference) (t : ℕ) (s : State) (rows : List (Option ℕ)) → list_any is_owned s.slots ≡ false → Holds bag t (of_variables s rows) → Holds bag t the_root
@@ -170,6 +174,7 @@ entry_owns_none (suc v) = ap is_owned (get_or-replicate_default 15 v Empty)
 
 entered_each : (bag : List Reference) (t : ℕ) → Holds bag t the_root → (h : Holding) (object : ℕ) → held (reference_of t h object) bag ≡ one_if (of_variables entry entry_variables h object)
 entered_each bag t holds AsCaller object = holds.each AsCaller object
+entered_each bag t holds InHand object = holds.each InHand object
 entered_each bag t holds (ByVariable v) object = holds.each (ByVariable v) object ∙ sym (ap (λ (b : Bool). one_if (b && names (row_of entry_variables v) object)) (entry_owns_none v))
 
 pub holds-entered : (bag : List Reference) (t : ℕ) → Holds bag t the_root → Holds bag t (of_variables entry entry_variables)
@@ -183,6 +188,8 @@ left_each : (bag : List Reference) (t : ℕ) → list_any (same (reference_of t 
 left_each bag t has holds AsCaller object =
     let one : one_if (same (reference_of t AsCaller object) (reference_of t AsCaller root_row)) ≡ one_if (object == root_row) = ap one_if (same-one_caller t object root_row) in
     omega (arith, held-without (reference_of t AsCaller object) (reference_of t AsCaller root_row) bag has, one, holds.each AsCaller object)
+left_each bag t has holds InHand object =
+    held-without_other (reference_of t InHand object) (reference_of t AsCaller root_row) bag has (same-other_holding (reference_of t InHand object) (reference_of t AsCaller root_row) refl) ∙ holds.each InHand object
 left_each bag t has holds (ByVariable v) object =
     held-without_other (reference_of t (ByVariable v) object) (reference_of t AsCaller root_row) bag has (same-other_holding (reference_of t (ByVariable v) object) (reference_of t AsCaller root_row) refl) ∙ holds.each (ByVariable v) object
 

@@ -13,7 +13,7 @@ use Rattle.brc_model.specs.declared.thread.Control.TheVariants.{Standing, Inside
 use Rattle.brc_model.specs.declared.thread.Thread.{Thread}
 use Rattle.brc_model.specs.Slots.{slot_of, is_owned, names}
 use Rattle.brc_model.specs.Walks.{At, walk, IsAcceptableCode}
-use Rattle.brc_model.specs.Plain.{root_row, Holding, ByVariable, AsCaller, Reference, is_among, references_to}
+use Rattle.brc_model.specs.Plain.{root_row, Holding, ByVariable, AsCaller, InHand, Reference, is_among, references_to}
 use Rattle.brc_model.specs.Threads.{row_of}
 use Rattle.brc_model.specs.Steps.{Scene, code_of}
 use Rattle.brc_model.proofs.Bag.{held, one_if}
@@ -26,11 +26,13 @@ nothing h object = false
 abbrev pub the_root : Holding → ℕ → Bool
 the_root (ByVariable v) object = false
 the_root AsCaller object = object == root_row
+the_root InHand object = false
 
 -- what the variables that the state calls owned name, and the root
 abbrev pub of_variables : State → List (Option ℕ) → Holding → ℕ → Bool
 of_variables s variables (ByVariable v) object = is_owned (slot_of s v) && names (row_of variables v) object
 of_variables s variables AsCaller object = object == root_row
+of_variables s variables InHand object = false
 
 abbrev pub reference_of : ℕ → Holding → ℕ → Reference
 reference_of t h object = record { thread = t; holding = h; object = object }

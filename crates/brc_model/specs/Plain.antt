@@ -14,10 +14,12 @@ root_row = 1
 abbrev pub is_counted : ℕ → Bool
 is_counted object = nat_lt 0 object
 
--- how a thread holds a reference: by a variable of its current call, or as the caller that lends the root
+-- how a thread holds a reference: by a variable of its current call, as the caller that lends the root, or in its hand,
+-- where a reference is that is being given up
 pub data Holding : Type 0 where
   ByVariable : ℕ → Holding
   AsCaller : Holding
+  InHand : Holding
 
 pub record Reference : Type 0 where
   pub thread : ℕ
@@ -33,6 +35,7 @@ pub record Plain : Type 0 where
 abbrev pub same_holding : Holding → Holding → Bool
 same_holding (ByVariable v) (ByVariable w) = v == w
 same_holding AsCaller AsCaller = true
+same_holding InHand InHand = true
 same_holding _ _ = false
 
 abbrev pub same : Reference → Reference → Bool
@@ -55,18 +58,21 @@ is_among object objects = list_any (λ x. x == object) objects
 pub data Move : Type 0 where
   Gain : Reference → Move
   Lose : Reference → Move
+  HandOn : Reference → Holding → Move
   Finalise : ℕ → Move
 
--- A reference is gained to none or to an object that is referenced already; one that is lost is there; and what is finalised
+-- A reference is gained to none or to an object that is referenced already; one that is lost or handed on is there; and what is finalised
 -- is a counted object that nothing references, for the first time.
 abbrev pub is_allowed : Plain → Move → Bool
 is_allowed p (Gain r) = (r.object == none_row) || nat_lt 0 (references_to r.object p.references)
 is_allowed p (Lose r) = list_any (same r) p.references
+is_allowed p (HandOn r h) = list_any (same r) p.references
 is_allowed p (Finalise x) = is_counted x && (references_to x p.references == 0) && not (is_among x p.closed)
 
 abbrev pub move : Plain → Move → Plain
 move p (Gain r) = record { references = r ∷ p.references; closed = p.closed }
 move p (Lose r) = record { references = without r p.references; closed = p.closed }
+move p (HandOn r h) = record { references = (record { thread = r.thread; holding = h; object = r.object }) ∷ without r p.references; closed = p.closed }
 move p (Finalise x) = record { references = p.references; closed = p.closed ++ x ∷ [] }
 
 -- the moves of one event, in order

@@ -1,0 +1,138 @@
+-- The rule holds of the first state over headers.
+use Rattle.std.proofs.Common.{◌≡◌, ◌≢◌, ℕ, zero, suc, ◌+◌, ◌<◌, ◌≤◌, Bool, true, false, cond, List, [], ◌∷◌, inl, length, Some, refl, sym, ap, subst, arith}
+use Rattle.std.specs.Prelude.{slice_get, map}
+use Rattle.std.proofs.lemmas.Bool.{eqb-true, eq-eqb}
+use Rattle.std.proofs.lemmas.List.{length-map}
+use Rattle.std.proofs.lemmas.List.Sums.{sum_by-cons}
+use Rattle.std.proofs.lemmas.Option.{slice_get_within}
+use Rattle.brc_lang.specs.declared.module.Module.{Module}
+use Rattle.brc_lang.specs.Grammar.{IsModule}
+use Rattle.brc_model.specs.declared.thread.Call.{Call}
+use Rattle.brc_model.specs.Walks.{IsAcceptable}
+use Rattle.brc_model.specs.Steps.{callers_below}
+use Rattle.brc_model.specs.Safety.{IsCall, AreCalls}
+use Rattle.brc_model.specs.Duties.{Duty, ThreadWord, block_of}
+use Rattle.brc_model.specs.Machine.{Standing, Departing, Actor, Unborn, Closed, main_actor, worker_actor, first_memory, first_life, first_machine}
+use Rattle.brc_model.proofs.Bag.{one_if}
+use Rattle.brc_model.proofs.Lists.{some_is, all_of_found, slice_get-map}
+use Rattle.brc_model.proofs.First.{callers_beyond, callers_hold, root_references, other_references, function_fits}
+use Rattle.brc_model.proofs.Invariant.{the_root}
+use Rattle.brc_model.proofs.Rows.{waits, carries, merges, decides, agenda_weight, weight, IsDefault, AboveZero, InOwned, RowRule}
+use Rattle.brc_model.proofs.Rule.{numbers_of, HoldsAt, ChainFits, ActorFits, AgendaFits, HandedOnce, dies_by, Rule}
+
+-- nobody has anything to do
+no_weight : (f : Duty → ℕ) (calls : List Call) → weight f (map worker_actor calls) ≡ 0
+no_weight f [] = refl
+no_weight f (c ∷ calls) = omega (arith, sum_by-cons (agenda_weight f) (worker_actor c) (map worker_actor calls), no_weight f calls)
+
+first_weight : (f : Duty → ℕ) (calls : List Call) → weight f (main_actor ∷ map worker_actor calls) ≡ 0
+first_weight f calls = omega (arith, sum_by-cons (agenda_weight f) main_actor (map worker_actor calls), no_weight f calls)
+
+first_row_rule : (m : Module) (rows : ℕ) (calls : List Call) → AreCalls m calls → (x : ℕ) → 0 < x → RowRule (block_of rows x) (first_life x) (numbers_of (first_machine m rows calls) x)
+first_row_rule m rows calls are_calls zero pos = absurd (omega arith)
+first_row_rule m rows calls are_calls (suc zero) pos =
+    let w = 1 + length calls in
+    let few : w < 4294967294 = omega (arith, are_calls.most) in
+    record {
+      sum = omega (arith, few, root_references w, first_weight (waits 1) calls, first_weight (carries 1) calls);
+      mode = InOwned (record {
+        owned = omega (arith, few);
+        low = omega (arith, few);
+        merging = first_weight (merges 1) calls;
+        carried = first_weight (carries 1) calls;
+        decided = AboveZero (omega (arith, few)) (first_weight (decides 1) calls);
+        phased = IsDefault (omega arith) (omega (arith, first_weight (waits 1) calls)) (omega arith);
+      });
+    }
+first_row_rule m rows calls are_calls (suc (suc x)) pos = record {
+  local = refl;
+  shared = refl;
+  mark = refl;
+  references = other_references (1 + length calls) (suc (suc x)) (λ e. absurd (omega (arith, e)));
+  waiting = first_weight (waits (suc (suc x))) calls;
+  carried = first_weight (carries (suc (suc x))) calls;
+  merging = first_weight (merges (suc (suc x))) calls;
+  deciding = first_weight (decides (suc (suc x))) calls;
+}
+
+none_dies : (x t : ℕ) → dies_by (first_life x) t ≡ false
+none_dies zero t = refl
+none_dies (suc zero) t = refl
+none_dies (suc (suc x)) t = refl
+
+first_chain : (m : Module) (rows : ℕ) (calls : List Call) (t : ℕ) → ChainFits (first_machine m rows calls) t 0 []
+first_chain m rows calls t = record { chained = []; linked = refl; once = λ x. sym (ap one_if (none_dies x t)) }
+
+caller_holds : (calls : List Call) (t : ℕ) → t < 1 + length calls → HoldsAt (callers_below (1 + length calls)) t the_root []
+caller_holds calls t below = record { each = λ k object. omega (arith, callers_hold (1 + length calls) t k object below) }
+
+thread_word : (workers t : ℕ) → t ≤ workers → first_memory workers (ThreadWord t) ≡ 1
+thread_word workers t le = ap (λ (b : Bool). cond b 1 0) (Rattle.std.proofs.lemmas.Bool.le-leb t workers le)
+
+standing_stays : (left : ℕ) → Standing left ≢ Departing
+standing_stays left e = cc
+
+first_actor : (m : Module) (rows : ℕ) (calls : List Call) (t : ℕ) (a : Actor) → IsModule m → IsAcceptable m → AreCalls m calls → slice_get (main_actor ∷ map worker_actor calls) t ≡ Some a
+    → ActorFits m (first_machine m rows calls) t a × AgendaFits rows t a a.status × HandedOnce a.agenda
+first_actor m rows calls zero a fits accepted are_calls is =
+    let function = function_fits m 0 fits accepted fits.some in
+    let P : Actor → Type 0 = λ x. ActorFits m (first_machine m rows calls) 0 x × AgendaFits rows 0 x x.status × HandedOnce x.agenda in
+    subst P (some_is main_actor a is) (
+      record {
+        accepted = function.0;
+        instructions = function.1;
+        word = thread_word (length calls) 0 (omega arith);
+        placed = caller_holds calls 0 (omega arith);
+        head_fits = tt;
+        chain = first_chain m rows calls 0;
+      },
+      (standing_stays 0, refl),
+      tt,
+    )
+first_actor m rows calls (suc t) a fits accepted are_calls is =
+    let call = slice_get-map worker_actor calls t a is in
+    let good = all_of_found (IsCall m) calls t call.source are_calls.each call.is_there in
+    let function = function_fits m call.source.function fits accepted good.0 in
+    let within : t < length calls = slice_get_within calls t call.source call.is_there in
+    let P : Actor → Type 0 = λ x. ActorFits m (first_machine m rows calls) (suc t) x × AgendaFits rows (suc t) x x.status × HandedOnce x.agenda in
+    subst P call.is_image (
+      record {
+        accepted = function.0;
+        instructions = function.1;
+        word = thread_word (length calls) (suc t) (omega (arith, within));
+        placed = caller_holds calls (suc t) (omega (arith, within));
+        head_fits = tt;
+        chain = first_chain m rows calls (suc t);
+      },
+      (standing_stays call.source.times, refl),
+      tt,
+    )
+
+life_not_closed : (x : ℕ) → first_life x ≡ Closed → ⊥
+life_not_closed zero e = cc
+life_not_closed (suc zero) e = cc
+life_not_closed (suc (suc x)) e = cc
+
+rest_unborn : (x : ℕ) → 1 < x → first_life x ≡ Unborn
+rest_unborn zero above = absurd (omega arith)
+rest_unborn (suc zero) above = absurd (omega arith)
+rest_unborn (suc (suc x)) above = refl
+
+pub first_rule : (m : Module) (rows : ℕ) (calls : List Call) → IsModule m → IsAcceptable m → AreCalls m calls → 0 < rows → Rule m (1 + length calls) (first_machine m rows calls)
+first_rule m rows calls fits accepted are_calls some_rows = record {
+  functions = refl;
+  threads = omega (arith, length-map calls worker_actor);
+  some_rows = some_rows;
+  rows = first_row_rule m rows calls are_calls;
+  marks = λ x. inl refl;
+  each = λ t a is. first_actor m rows calls t a fits accepted are_calls is;
+  beyond = λ t past k object. callers_beyond (1 + length calls) t k object past;
+  dying = λ x t past. none_dies x t;
+  cells = λ x i. refl;
+  only_root = rest_unborn;
+  none_lives = refl;
+  closed_is = λ x is. absurd (let wrong : false ≡ true = is in cc);
+  closed_has = λ x is. absurd (life_not_closed x is);
+  once = λ i j d lt within. absurd (omega arith);
+  none_free = other_references (1 + length calls) 0 (λ e. absurd (omega (arith, e)));
+}

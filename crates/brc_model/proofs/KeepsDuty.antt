@@ -1,0 +1,135 @@
+-- The rule holds after a thread's first duty, where it holds of that thread and of the marks.
+use Rattle.std.proofs.Common.{◌≡◌, ℕ, ◌<◌, Bool, true, false, cond, List, [], ◌∷◌, ◌++◌, ◌⊎◌, inl, inr, Some, refl, sym, ap, ◌∙◌, subst, arith}
+use Rattle.std.specs.Prelude.{◌==◌, slice_get, slice_set}
+use Rattle.std.proofs.lemmas.Bool.{ne_eqb}
+use Rattle.std.proofs.lemmas.Bool.Decides.{eqb_tells}
+use Rattle.std.proofs.lemmas.List.{length-set}
+use Rattle.std.proofs.lemmas.Option.{slice_get_within}
+use Rattle.brc_lang.specs.declared.module.Module.{Module}
+use Rattle.brc_model.specs.Plain.{Holding, ByVariable, AsCaller, InHand, Reference, Plain, same, without, references_to, Move, Gain, Lose, HandOn, Finalise, move, moved}
+use Rattle.brc_model.specs.Words.{is_immortal_word}
+use Rattle.brc_model.specs.Duties.{Own, Duty, RetainLoad, RetainStore, RetainAdd, ReleaseLoad, ReleaseStore, SharedExchange, SettleCell, SettleEnd, Cell, Mark}
+use Rattle.brc_model.specs.Machine.{Gone, Actor, Machine, hand_on, gain, lose, moves_by, actor_by, done_by, same_address}
+use Rattle.brc_model.proofs.Lists.{some_is, slice_get-set_same, slice_get-set_other}
+use Rattle.brc_model.proofs.Bag.{one_if, same-true, references_to-cons}
+use Rattle.brc_model.proofs.Rule.{HeadFits, HandedOnce, AgendaFits, ActorFits, IsWatched, Rule}
+use Rattle.brc_model.proofs.Others.{others_fit}
+use Rattle.brc_model.proofs.MovesApart.{moves_apart}
+use Rattle.brc_model.proofs.Leaves.{AtDuty, head_of}
+use Rattle.brc_model.proofs.Lives.{leaves_others}
+use Rattle.brc_model.proofs.Neutral.{OwnFits, found_by, memory_by}
+use Rattle.brc_model.proofs.RowsAfter.{rows_after}
+use Rattle.brc_model.proofs.ClosedAfter.{closed_is_after, closed_has_after, closed_once_after, only_root_after, none_lives_after, dying_after}
+
+-- ---- cells stay empty
+
+zero_written : (b : Bool) (v : ℕ) → v ≡ 0 → cond b 0 v ≡ 0
+zero_written true v e = refl
+zero_written false v e = e
+
+cells_left : (m : Machine) (t : ℕ) (a : Actor) (d : Duty) (x i : ℕ) → m.memory (Cell x i) ≡ 0 → memory_by m t a d (Cell x i) ≡ 0
+cells_left m t a (SettleCell y j k) x i empty = zero_written (same_address (Cell y j) (Cell x i)) (m.memory (Cell x i)) empty
+cells_left m t a _ x i empty = empty
+
+-- ---- none stays unreferenced
+
+-- the moves are of counted rows
+abbrev IsCounted : Move → Type 0
+IsCounted (Gain r) = 0 < r.object
+IsCounted (Lose r) = 0 < r.object
+IsCounted (HandOn r h) = 0 < r.object
+IsCounted (Finalise x) = Unit {0}
+
+abbrev AreCounted : List Move → Type 0
+AreCounted [] = Unit {0}
+AreCounted (mv ∷ mvs) = IsCounted mv × AreCounted mvs
+
+not_none : (r : Reference) → 0 < r.object → one_if (r.object == 0) ≡ 0
+not_none r pos = ap one_if (ne_eqb r.object 0 (λ e. absurd (omega (arith, pos, e))))
+
+none_more : (r : Reference) (bag : List Reference) → 0 < r.object → references_to 0 (r ∷ bag) ≡ references_to 0 bag
+none_more r bag pos = omega (arith, references_to-cons 0 r bag, not_none r pos)
+
+none_less : (r : Reference) (bag : List Reference) → 0 < r.object → references_to 0 (without r bag) ≡ references_to 0 bag
+none_less r [] pos = refl
+none_less r (q ∷ qs) pos =
+    elim (same r q) as (λ b. same r q ≡ b → references_to 0 (cond b qs (q ∷ without r qs)) ≡ references_to 0 (q ∷ qs)) [
+      | true ↦ λ e. let this : 0 < q.object = subst (λ (x : Reference). 0 < x.object) (same-true r q e) pos in sym (none_more q qs this)
+      | false ↦ λ e. omega (arith, references_to-cons 0 q qs, references_to-cons 0 q (without r qs), none_less r qs pos)
+    ] refl
+
+none_moved : (p : Plain) (mvs : List Move) → AreCounted mvs → references_to 0 (moved p mvs).references ≡ references_to 0 p.references
+none_moved p [] counted = refl
+none_moved p (Gain r ∷ mvs) counted = none_moved (move p (Gain r)) mvs counted.1 ∙ none_more r p.references counted.0
+none_moved p (Lose r ∷ mvs) counted = none_moved (move p (Lose r)) mvs counted.1 ∙ none_less r p.references counted.0
+none_moved p (HandOn r h ∷ mvs) counted =
+    none_moved (move p (HandOn r h)) mvs counted.1 ∙ none_more (record { thread = r.thread; holding = h; object = r.object }) (without r p.references) counted.0 ∙ none_less r p.references counted.0
+none_moved p (Finalise x ∷ mvs) counted = none_moved (move p (Finalise x)) mvs counted.1
+
+if_counted : (b : Bool) (mvs : List Move) → AreCounted mvs → AreCounted (cond b mvs [])
+if_counted true mvs c = c
+if_counted false mvs c = tt
+
+append_counted : (mvs others : List Move) → AreCounted mvs → AreCounted others → AreCounted (mvs ++ others)
+append_counted [] others c e = e
+append_counted (mv ∷ mvs) others c e = (c.0, append_counted mvs others c.1 e)
+
+hand_on_counted : (t : ℕ) (h : Holding) (x : ℕ) → 0 < x → AreCounted (hand_on t h x)
+hand_on_counted t (ByVariable v) x pos = (pos, tt)
+hand_on_counted t AsCaller x pos = (pos, tt)
+hand_on_counted t InHand x pos = tt
+
+moves_counted : (m : Machine) (t : ℕ) (a : Actor) (d : Duty) (rest : List Duty) (found : ℕ) → HeadFits m t a d rest → AreCounted (moves_by t d found)
+moves_counted m t a (RetainLoad x h) rest found fits = if_counted (is_immortal_word found) (gain t h x) (fits.0, tt)
+moves_counted m t a (RetainStore x h w) rest found fits = (fits.0, tt)
+moves_counted m t a (RetainAdd x h) rest found fits = (fits.0, tt)
+moves_counted m t a (ReleaseLoad x h) rest found fits = append_counted (hand_on t h x) (cond (is_immortal_word found) (lose t x) []) (hand_on_counted t h x fits) (if_counted (is_immortal_word found) (lose t x) (fits, tt))
+moves_counted m t a (ReleaseStore x w) rest found fits = (fits.0, tt)
+moves_counted m t a (SharedExchange x Own w) rest found fits = if_counted (found == w) (lose t x) (fits, tt)
+moves_counted m t a (SettleEnd x) rest found fits = (tt, tt)
+moves_counted m t a _ rest found fits = tt
+
+-- ---- all threads
+
+others_and_own : (p : Module) (n : ℕ) (m : Machine) (t : ℕ) (a : Actor) (d : Duty) (rest : List Duty) → AtDuty p n m t a d rest → OwnFits p (done_by m t a d rest) t (actor_by t a d rest (found_by m t a d))
+    → (u : ℕ) (b : Actor) → slice_get (slice_set m.actors t (actor_by t a d rest (found_by m t a d))) u ≡ Some b
+    → ActorFits p (done_by m t a d rest) u b × AgendaFits m.rows u b b.status × HandedOnce b.agenda
+others_and_own p n m t a d rest here own u b is =
+    let after = actor_by t a d rest (found_by m t a d) in
+    elim (eqb_tells u t) [
+      | inl same ↦
+          let written_is : Some after ≡ Some b = sym (ap (slice_get (slice_set m.actors t after)) same.1 ∙ slice_get-set_same m.actors t after (slice_get_within m.actors t a here.found)) ∙ is in
+          let P : Actor → Type 0 = λ x. ActorFits p (done_by m t a d rest) u x × AgendaFits m.rows u x x.status × HandedOnce x.agenda in
+          let Q : ℕ → Type 0 = λ w. ActorFits p (done_by m t a d rest) w after × AgendaFits m.rows w after after.status × HandedOnce after.agenda in
+          subst P (some_is after b written_is) (subst Q (sym same.1) (own.actor, own.agenda, own.handed))
+      | inr apart ↦
+          let found : slice_get m.actors u ≡ Some b = sym (slice_get-set_other m.actors t u after apart.1) ∙ is in
+          let old = here.rule.each u b found in
+          (others_fit p m (done_by m t a d rest) t u b (leaves_others p n m t a d rest here) apart.1 found old.0, old.1, old.2)
+    ]
+
+-- ---- the whole rule
+
+pub keeps_by : (p : Module) (n : ℕ) (m : Machine) (t : ℕ) (a : Actor) (d : Duty) (rest : List Duty) → AtDuty p n m t a d rest → (a.status ≡ Gone → ⊥)
+    → OwnFits p (done_by m t a d rest) t (actor_by t a d rest (found_by m t a d))
+    → ((x : ℕ) → ((done_by m t a d rest).memory (Mark x) ≡ 0) ⊎ (((done_by m t a d rest).memory (Mark x) ≡ 1) × (0 < x) × IsWatched (done_by m t a d rest) x))
+    → Rule p n (done_by m t a d rest)
+keeps_by p n m t a d rest here alive own marks =
+    let within : t < n = omega (arith, slice_get_within m.actors t a here.found, here.rule.threads) in
+    record {
+      functions = here.rule.functions;
+      threads = length-set m.actors t (actor_by t a d rest (found_by m t a d)) ∙ here.rule.threads;
+      some_rows = here.rule.some_rows;
+      rows = λ x pos. rows_after p n m t a d rest here.rule here.found here.agenda alive x pos;
+      marks = marks;
+      each = λ u b is. others_and_own p n m t a d rest here own u b is;
+      beyond = λ u past k object. moves_apart m.plain u t k object d (found_by m t a d) (λ e. absurd (omega (arith, within, past, e))) ∙ here.rule.beyond u past k object;
+      dying = λ x u past. dying_after p n m t a d rest x u here past;
+      cells = λ x i. cells_left m t a d x i (here.rule.cells x i);
+      only_root = λ x above. only_root_after p n m t a d rest x here above;
+      none_lives = none_lives_after p n m t a d rest here;
+      closed_is = λ x is. closed_is_after p n m t a d rest x here is;
+      closed_has = λ x is. closed_has_after p n m t a d rest x here is;
+      once = closed_once_after p n m t a d rest here;
+      none_free = none_moved m.plain (moves_by t d (found_by m t a d)) (moves_counted m t a d rest (found_by m t a d) (head_of p n m t a d rest here)) ∙ here.rule.none_free;
+    }

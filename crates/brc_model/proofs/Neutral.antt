@@ -1,0 +1,101 @@
+-- A thread after a step that lets no row die and finalises none.
+use Rattle.std.proofs.Common.{◌≡◌, ℕ, List, ◌∷◌, ◌++◌, Option, None, refl, sym, ap, ◌∙◌, subst, arith}
+use Rattle.std.specs.Prelude.{slice_get}
+use Rattle.brc_lang.specs.declared.module.Module.{Module}
+use Rattle.brc_model.specs.Plain.{Reference, moved}
+use Rattle.brc_model.specs.Steps.{code_of}
+use Rattle.brc_model.specs.Duties.{Duty, Address, Gate, ThreadWord, address_of, left_by, head_by, ready}
+use Rattle.brc_model.specs.Machine.{Status, Running, Leaving, Gone, Actor, Life, Dying, Closed, Machine, status_by, moves_by, dies_next, ended_row, with_life, life_by, actor_by, done_by, written}
+use Rattle.brc_model.proofs.Bag.{one_if}
+use Rattle.brc_model.proofs.Rule.{PlaceFits, HeadOf, Agenda, HandedOnce, hand_of, dies_by, ChainFits, ActorFits, AgendaFits, status_word}
+use Rattle.brc_model.proofs.Leaves.{AtDuty}
+use Rattle.brc_model.proofs.Lives.{next_of}
+use Rattle.brc_model.proofs.Own.{HeldStep, place_step, ChainSame, chain_same}
+
+-- all that the rule says of one thread
+pub record OwnFits (p : Module) (m : Machine) (t : ℕ) (a : Actor) : Type 0 where
+  pub actor : ActorFits p m t a
+  pub agenda : AgendaFits m.rows t a a.status
+  pub handed : HandedOnce a.agenda
+
+abbrev pub found_by : Machine → ℕ → Actor → Duty → ℕ
+found_by m t a d = m.memory (address_of m.rows t a.head d)
+
+abbrev pub bag_by : Machine → ℕ → Actor → Duty → List Reference
+bag_by m t a d = (moved m.plain (moves_by t d (found_by m t a d))).references
+
+abbrev pub memory_by : Machine → ℕ → Actor → Duty → Address → ℕ
+memory_by m t a d = written m.memory (address_of m.rows t a.head d) (left_by t a.head d (found_by m t a d))
+
+-- ---- agendas and statuses
+
+pub agenda_in : (rows t : ℕ) (a : Actor) (status : Status) → (status ≡ Gone → ⊥) → AgendaFits rows t a status → Agenda rows t a.used status a.place a.agenda
+agenda_in rows t a Gone alive fits = absurd (alive refl)
+agenda_in rows t a Running alive fits = fits
+agenda_in rows t a Leaving alive fits = fits
+
+pub agenda_out : (rows t : ℕ) (a : Actor) (status : Status) → (status ≡ Gone → ⊥) → Agenda rows t a.used status a.place a.agenda → AgendaFits rows t a status
+agenda_out rows t a Gone alive fits = absurd (alive refl)
+agenda_out rows t a Running alive fits = fits
+agenda_out rows t a Leaving alive fits = fits
+
+-- the agenda's shape at the first duty
+pub agenda_here : (p : Module) (n : ℕ) (m : Machine) (t : ℕ) (a : Actor) (d : Duty) (rest : List Duty) → AtDuty p n m t a d rest → (a.status ≡ Gone → ⊥) → Agenda m.rows t a.used a.status a.place (d ∷ rest)
+agenda_here p n m t a d rest here alive = subst (λ (l : List Duty). Agenda m.rows t a.used a.status a.place l) here.agenda (agenda_in m.rows t a a.status alive (here.rule.each t a here.found).1)
+
+pub handed_here : (p : Module) (n : ℕ) (m : Machine) (t : ℕ) (a : Actor) (d : Duty) (rest : List Duty) → AtDuty p n m t a d rest → HandedOnce (d ∷ rest)
+handed_here p n m t a d rest here = subst HandedOnce here.agenda (here.rule.each t a here.found).2
+
+-- ---- the step
+
+-- what a neutral step has to show of its new agenda
+pub record NeutralStep (m : Machine) (t : ℕ) (a : Actor) (d : Duty) (rest next agenda : List Duty) : Type 0 where
+  pub next_is : next_of m t a d ≡ next
+  pub none_dies : dies_next next ≡ None
+  pub none_ends : ended_row d ≡ None
+  pub same_head : head_by a.head d (found_by m t a d) ≡ a.head
+  pub same_status : status_by a.status d ≡ a.status
+  pub agenda_is : ready a.head (next ++ rest) ≡ agenda
+  pub gates : (x : ℕ) → memory_by m t a d (Gate x) ≡ m.memory (Gate x)
+  pub word : memory_by m t a d (ThreadWord t) ≡ m.memory (ThreadWord t)
+  pub hands : (x : ℕ) → hand_of agenda x ≡ hand_of (d ∷ rest) x
+  pub held : HeldStep m.plain.references (bag_by m t a d) t (d ∷ rest) agenda
+  pub fits : Agenda m.rows t a.used a.status a.place agenda
+  pub handed : HandedOnce agenda
+  pub knows : (b : Actor) → b.status ≡ a.status → b.head ≡ a.head → HeadOf (done_by m t a d rest) t b agenda
+
+pub life_same : (m : Machine) (t : ℕ) (a : Actor) (d : Duty) (next : List Duty) (x : ℕ) → next_of m t a d ≡ next → dies_next next ≡ None → ended_row d ≡ None → life_by m.life t d (next_of m t a d) x ≡ m.life x
+life_same m t a d next x is dies ends =
+    ap (λ (o : Option ℕ). with_life (with_life m.life o (Dying t)) (ended_row d) Closed x) (ap dies_next is ∙ dies) ∙ ap (λ (o : Option ℕ). with_life m.life o Closed x) ends
+
+pub own_neutral : (p : Module) (n : ℕ) (m : Machine) (t : ℕ) (a : Actor) (d : Duty) (rest next agenda : List Duty) → AtDuty p n m t a d rest → (a.status ≡ Gone → ⊥) → NeutralStep m t a d rest next agenda
+    → OwnFits p (done_by m t a d rest) t (actor_by t a d rest (found_by m t a d))
+own_neutral p n m t a d rest next agenda here alive step =
+    let old = (here.rule.each t a here.found).0 in
+    let new = done_by m t a d rest in
+    let after = actor_by t a d rest (found_by m t a d) in
+    let whole : after.agenda ≡ agenda = ap (λ (h : ℕ). ready h (next_of m t a d ++ rest)) step.same_head ∙ ap (λ (l : List Duty). ready a.head (l ++ rest)) step.next_is ∙ step.agenda_is in
+    let code = code_of (slice_get p.functions a.function) in
+    let placed : PlaceFits code new.plain.references t agenda a.place =
+    place_step code m.plain.references new.plain.references t (d ∷ rest) agenda a.place step.held (subst (λ (l : List Duty). PlaceFits code m.plain.references t l a.place) here.agenda old.placed) in
+    let same : ChainSame m new t a.agenda agenda = record {
+      gates = step.gates;
+      hands = λ x.
+          let hands : one_if (hand_of agenda x) ≡ one_if (hand_of a.agenda x) = ap one_if (step.hands x ∙ ap (λ (l : List Duty). hand_of l x) (sym here.agenda)) in
+          let life : one_if (dies_by (new.life x) t) ≡ one_if (dies_by (m.life x) t) = ap (λ (l : Life). one_if (dies_by l t)) (life_same m t a d next x step.next_is step.none_dies step.none_ends) in
+          omega (arith, hands, life);
+    } in
+    let chain : ChainFits new t a.head agenda = chain_same m new t a.head a.agenda agenda same old.chain in
+    record {
+      actor = record {
+        accepted = old.accepted;
+        instructions = old.instructions;
+        word = step.word ∙ old.word ∙ ap status_word (sym step.same_status);
+        placed = subst (λ (l : List Duty). PlaceFits code new.plain.references t l a.place) (sym whole) placed;
+        head_fits = subst (λ (l : List Duty). HeadOf new t after l) (sym whole) (step.knows after step.same_status step.same_head);
+        chain = subst (λ (l : List Duty). ChainFits new t after.head l) (sym whole) (subst (λ (h : ℕ). ChainFits new t h agenda) (sym step.same_head) chain);
+      };
+      agenda = agenda_out m.rows t after after.status (λ e. alive (sym step.same_status ∙ e))
+          (subst (λ (l : List Duty). Agenda m.rows t a.used after.status a.place l) (sym whole) (subst (λ (s : Status). Agenda m.rows t a.used s a.place agenda) (sym step.same_status) step.fits));
+      handed = subst HandedOnce (sym whole) step.handed;
+    }

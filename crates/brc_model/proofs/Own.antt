@@ -1,0 +1,91 @@
+-- A thread after its own step: what it holds, its chain and its agenda, put together from what the step changed.
+use Rattle.std.proofs.Common.{◌≡◌, ℕ, zero, suc, ◌+◌, ◌<◌, Bool, false, List, [], ◌∷◌, refl, arith}
+use Rattle.brc_lang.specs.declared.module.Instr.{Instr}
+use Rattle.brc_model.specs.Plain.{Holding, Reference}
+use Rattle.brc_model.specs.Duties.{Handed, Duty, SharedLoad, Settle, Leave, Scan, Finish, Gate, ready}
+use Rattle.brc_model.specs.Machine.{Status, Place, Standing, Inside, Departing, Actor, Machine}
+use Rattle.brc_model.proofs.Bag.{held, one_if}
+use Rattle.brc_model.proofs.Invariant.{the_root, nothing, of_variables, reference_of}
+use Rattle.brc_model.proofs.Rule.{extra_of, lacks_of, HoldsAt, PlaceFits, HeadOf, Later, Agenda, NoneHanded, HandedOnce, hand_of, dies_by, ChainFits}
+use Rattle.brc_model.proofs.Others.{linked_kept}
+
+-- ---- what is held
+
+-- the bag's change goes with the change of what the duty at hand has more or less
+pub record HeldStep (bag new : List Reference) (t : ℕ) (agenda later : List Duty) : Type 0 where
+  pub each : (k : Holding) (object : ℕ) → held (reference_of t k object) new + one_if (lacks_of later k object) + one_if (extra_of agenda k object)
+      ≡ held (reference_of t k object) bag + one_if (lacks_of agenda k object) + one_if (extra_of later k object)
+
+holds_step : (bag new : List Reference) (t : ℕ) (says : Holding → ℕ → Bool) (agenda later : List Duty) → HeldStep bag new t agenda later → HoldsAt bag t says agenda → HoldsAt new t says later
+holds_step bag new t says agenda later step holds = record { each = λ k object. omega (arith, step.each k object, holds.each k object) }
+
+pub place_step : (code : List Instr) (bag new : List Reference) (t : ℕ) (agenda later : List Duty) (place : Place) → HeldStep bag new t agenda later → PlaceFits code bag t agenda place → PlaceFits code new t later place
+place_step code bag new t agenda later (Standing left) step fits = holds_step bag new t the_root agenda later step fits
+place_step code bag new t agenda later (Inside left at variables) step fits = (fits.0, fits.1, holds_step bag new t (of_variables fits.0 variables) agenda later step fits.2)
+place_step code bag new t agenda later Departing step fits = holds_step bag new t nothing agenda later step fits
+
+-- ---- agendas
+
+-- a duty that isn't passed over stays first
+pub data IsFirst : Duty → Type 0 where
+  First : (d : Duty) → ((head : ℕ) (rest : List Duty) → ready head (d ∷ rest) ≡ d ∷ rest) → IsFirst d
+
+pub ready_settle : (head : ℕ) (rest : List Duty) → 0 < head → ready head (Settle ∷ rest) ≡ Settle ∷ rest
+ready_settle zero rest some = absurd (omega arith)
+ready_settle (suc head) rest some = refl
+
+pub ready_scan : (head x k : ℕ) (rest : List Duty) → 0 < k → ready head (Scan x k ∷ rest) ≡ Scan x k ∷ rest
+ready_scan zero x zero rest some = absurd (omega arith)
+ready_scan zero x (suc k) rest some = refl
+ready_scan (suc head) x zero rest some = absurd (omega arith)
+ready_scan (suc head) x (suc k) rest some = refl
+
+pub ready_scan_none : (head x : ℕ) (rest : List Duty) → ready head (Scan x zero ∷ rest) ≡ ready head rest
+ready_scan_none zero x rest = refl
+ready_scan_none (suc head) x rest = refl
+
+-- what is known of an agenda that begins with duties for later
+pub record IsReady (rows t used : ℕ) (status : Status) (place : Place) (head : ℕ) (agenda : List Duty) : Type 0 where
+  pub fits : Agenda rows t used status place agenda
+  pub handed : HandedOnce agenda
+  pub more : (k : Holding) (object : ℕ) → extra_of agenda k object ≡ false
+  pub less : (k : Holding) (object : ℕ) → lacks_of agenda k object ≡ false
+  pub at_hand : (x : ℕ) → hand_of agenda x ≡ false
+  pub knows : (m : Machine) (a : Actor) → a.head ≡ head → HeadOf m t a agenda
+
+pub ready_is : (rows t used : ℕ) (status : Status) (place : Place) (head : ℕ) (rest : List Duty) → Later rows t used status place rest → NoneHanded rest → IsReady rows t used status place head (ready head rest)
+ready_is rows t used status place zero [] later none = record { fits = later; handed = tt; more = λ k o. refl; less = λ k o. refl; at_hand = λ x. refl; knows = λ m a h. tt }
+ready_is rows t used status place (suc head) [] later none = record { fits = later; handed = tt; more = λ k o. refl; less = λ k o. refl; at_hand = λ x. refl; knows = λ m a h. tt }
+ready_is rows t used status place zero (Settle ∷ rest) later none = ready_is rows t used status place zero rest later none
+ready_is rows t used status place (suc head) (Settle ∷ rest) later none =
+    record { fits = later; handed = none; more = λ k o. refl; less = λ k o. refl; at_hand = λ x. refl; knows = λ m a h. omega (arith, h) }
+ready_is rows t used status place head (SharedLoad x Handed ∷ rest) later none = absurd none
+ready_is rows t used status place zero (Leave x k ∷ []) later none =
+    record { fits = later; handed = none; more = λ k o. refl; less = λ k o. refl; at_hand = λ x. refl; knows = λ m a h. tt }
+ready_is rows t used status place (suc head) (Leave x k ∷ []) later none =
+    record { fits = later; handed = none; more = λ k o. refl; less = λ k o. refl; at_hand = λ x. refl; knows = λ m a h. tt }
+ready_is rows t used status place zero (Scan x zero ∷ rest) later none = ready_is rows t used status place zero rest later.3 none
+ready_is rows t used status place (suc head) (Scan x zero ∷ rest) later none = ready_is rows t used status place (suc head) rest later.3 none
+ready_is rows t used status place zero (Scan x (suc k) ∷ rest) later none =
+    record { fits = later; handed = none; more = λ k o. refl; less = λ k o. refl; at_hand = λ x. refl; knows = λ m a h. omega arith }
+ready_is rows t used status place (suc head) (Scan x (suc k) ∷ rest) later none =
+    record { fits = later; handed = none; more = λ k o. refl; less = λ k o. refl; at_hand = λ x. refl; knows = λ m a h. omega arith }
+ready_is rows t used status place zero (Finish ∷ []) later none =
+    record { fits = later; handed = none; more = λ k o. refl; less = λ k o. refl; at_hand = λ x. refl; knows = λ m a h. tt }
+ready_is rows t used status place (suc head) (Finish ∷ []) later none =
+    record { fits = later; handed = none; more = λ k o. refl; less = λ k o. refl; at_hand = λ x. refl; knows = λ m a h. tt }
+ready_is rows t used status place head _ later none = absurd later
+
+-- ---- chains
+
+-- nothing about dying rows changes but what is at hand
+pub record ChainSame (m new : Machine) (t : ℕ) (agenda later : List Duty) : Type 0 where
+  pub gates : (x : ℕ) → new.memory (Gate x) ≡ m.memory (Gate x)
+  pub hands : (x : ℕ) → one_if (hand_of later x) + one_if (dies_by (m.life x) t) ≡ one_if (hand_of agenda x) + one_if (dies_by (new.life x) t)
+
+pub chain_same : (m new : Machine) (t head : ℕ) (agenda later : List Duty) → ChainSame m new t agenda later → ChainFits m t head agenda → ChainFits new t head later
+chain_same m new t head agenda later same fits = record {
+  chained = fits.chained;
+  linked = linked_kept m.memory new.memory t head fits.chained (λ x some. same.gates x) fits.linked;
+  once = λ x. omega (arith, fits.once x, same.hands x);
+}

@@ -1,0 +1,342 @@
+-- A thread after its own steps of a death: a row is chained, taken from the chain, and finalised.
+use Rattle.std.proofs.Common.{◌≡◌, ℕ, zero, suc, ◌+◌, ◌-◌, ◌<◌, ◌≤◌, Bool, true, false, cond, List, [], ◌∷◌, ◌++◌, inl, inr, None, Some, refl, sym, ap, ◌∙◌, subst, arith}
+use Rattle.std.specs.Prelude.{◌==◌, nat_lt, slice_get, count_by}
+use Rattle.std.proofs.lemmas.Bool.{eq-eqb, ltb-true}
+use Rattle.std.proofs.lemmas.Bool.Decides.{eqb_tells}
+use Rattle.std.proofs.lemmas.List.Sums.{sum_by-cons}
+use Rattle.brc_lang.specs.declared.module.Module.{Module}
+use Rattle.brc_model.specs.Plain.{Holding}
+use Rattle.brc_model.specs.Steps.{code_of}
+use Rattle.brc_model.specs.Words.{dying_word, next_part, closed_word}
+use Rattle.brc_model.specs.Duties.{Duty, Die, Settle, SettleKind, SettleCell, SettleEnd, Gate, KindOf, Cell, ThreadWord, head_by, ready, cells_of, cells_from, release_found}
+use Rattle.brc_model.specs.Machine.{Status, Gone, Actor, Unborn, Live, Dying, Closed, Machine, status_by, ended_row, with_life, actor_by, done_by, written}
+use Rattle.brc_model.proofs.Bag.{one_if}
+use Rattle.brc_model.proofs.Rule.{extra_of, lacks_of, PlaceFits, HeadOf, Later, Agenda, NoneHanded, HandedOnce, Linked, hand_of, dies_by, ChainFits, AgendaFits, Rule, status_word}
+use Rattle.brc_model.proofs.Written.{written_here, written_apart, written_load, apart_gate}
+use Rattle.brc_model.proofs.Others.{is_dying, linked_kept}
+use Rattle.brc_model.proofs.Leaves.{AtDuty, head_of}
+use Rattle.brc_model.proofs.Lives.{next_of}
+use Rattle.brc_model.proofs.Own.{HeldStep, place_step, ready_is}
+use Rattle.brc_model.proofs.Neutral.{OwnFits, found_by, bag_by, memory_by, agenda_out, agenda_here, handed_here, life_same, own_neutral}
+use Rattle.brc_model.proofs.OwnCounts.{held_same}
+use Rattle.brc_model.proofs.OwnRetains.{ready_first}
+
+-- what a step has to show that changes the head of the chain, a row's life or the thread's status
+pub record ShownStep (m : Machine) (t : ℕ) (a : Actor) (d : Duty) (rest agenda : List Duty) (status : Status) (head : ℕ) : Type 0 where
+  pub head_is : head_by a.head d (found_by m t a d) ≡ head
+  pub status_is : status_by a.status d ≡ status
+  pub agenda_is : (actor_by t a d rest (found_by m t a d)).agenda ≡ agenda
+  pub word : memory_by m t a d (ThreadWord t) ≡ status_word status
+  pub held : HeldStep m.plain.references (bag_by m t a d) t (d ∷ rest) agenda
+  pub chain : ChainFits (done_by m t a d rest) t head agenda
+  pub fits : AgendaFits m.rows t (actor_by t a d rest (found_by m t a d)) status
+  pub handed : HandedOnce agenda
+  pub knows : (b : Actor) → b.status ≡ status → b.head ≡ head → HeadOf (done_by m t a d rest) t b agenda
+
+pub own_shown : (p : Module) (n : ℕ) (m : Machine) (t : ℕ) (a : Actor) (d : Duty) (rest agenda : List Duty) (status : Status) (head : ℕ) → AtDuty p n m t a d rest → ShownStep m t a d rest agenda status head
+    → OwnFits p (done_by m t a d rest) t (actor_by t a d rest (found_by m t a d))
+own_shown p n m t a d rest agenda status head here step =
+    let old = (here.rule.each t a here.found).0 in
+    let new = done_by m t a d rest in
+    let after = actor_by t a d rest (found_by m t a d) in
+    let code = code_of (slice_get p.functions a.function) in
+    let placed : PlaceFits code new.plain.references t agenda a.place =
+    place_step code m.plain.references new.plain.references t (d ∷ rest) agenda a.place step.held (subst (λ (l : List Duty). PlaceFits code m.plain.references t l a.place) here.agenda old.placed) in
+    record {
+      actor = record {
+        accepted = old.accepted;
+        instructions = old.instructions;
+        word = step.word ∙ ap status_word (sym step.status_is);
+        placed = subst (λ (l : List Duty). PlaceFits code new.plain.references t l a.place) (sym step.agenda_is) placed;
+        head_fits = subst (λ (l : List Duty). HeadOf new t after l) (sym step.agenda_is) (step.knows after step.status_is step.head_is);
+        chain = subst (λ (l : List Duty). ChainFits new t after.head l) (sym step.agenda_is) (subst (λ (h : ℕ). ChainFits new t h agenda) (sym step.head_is) step.chain);
+      };
+      agenda = subst (λ (s : Status). AgendaFits m.rows t after s) (sym step.status_is) step.fits;
+      handed = subst HandedOnce (sym step.agenda_is) step.handed;
+    }
+
+-- the agenda of a thread that isn't gone
+pub agenda_shown : (m : Machine) (t : ℕ) (a : Actor) (d : Duty) (rest agenda : List Duty) (status : Status) → (status ≡ Gone → ⊥) → (actor_by t a d rest (found_by m t a d)).agenda ≡ agenda
+    → Agenda m.rows t a.used status a.place agenda → AgendaFits m.rows t (actor_by t a d rest (found_by m t a d)) status
+agenda_shown m t a d rest agenda status alive is fits =
+    agenda_out m.rows t (actor_by t a d rest (found_by m t a d)) status alive (subst (λ (l : List Duty). Agenda m.rows t a.used status a.place l) (sym is) fits)
+
+-- ---- which rows die
+
+-- the chain at a thread's first duty
+pub chain_here : (p : Module) (n : ℕ) (m : Machine) (t : ℕ) (a : Actor) (d : Duty) (rest : List Duty) → AtDuty p n m t a d rest → ChainFits m t a.head (d ∷ rest)
+chain_here p n m t a d rest here = subst (λ (l : List Duty). ChainFits m t a.head l) here.agenda (here.rule.each t a here.found).0.chain
+
+one_if_low : (b : Bool) → one_if b ≤ 1
+one_if_low true = omega arith
+one_if_low false = omega arith
+
+pub one_if_some : (b : Bool) → 0 < one_if b → b ≡ true
+one_if_some true some = refl
+one_if_some false some = absurd (omega arith)
+
+-- only the root dies
+pub dying_low : (p : Module) (n : ℕ) (m : Machine) (t x : ℕ) → Rule p n m → m.life x ≡ Dying t → x ≤ 1
+dying_low p n m t zero rule dies = omega arith
+dying_low p n m t (suc zero) rule dies = omega arith
+dying_low p n m t (suc (suc x)) rule dies = absurd (let wrong : Unborn ≡ Dying t = sym (rule.only_root (suc (suc x)) (omega arith)) ∙ dies in cc)
+
+pub dying_above : (p : Module) (n : ℕ) (m : Machine) (t x : ℕ) → Rule p n m → m.life x ≡ Dying t → 0 < x
+dying_above p n m t zero rule dies = absurd (let wrong : Live ≡ Dying t = sym rule.none_lives ∙ dies in cc)
+dying_above p n m t (suc x) rule dies = omega arith
+
+-- the row at hand isn't chained
+hand_not_chained : (m : Machine) (t head x : ℕ) (agenda : List Duty) (chain : ChainFits m t head agenda) → hand_of agenda x ≡ true → count_by (λ y. y == x) chain.chained ≡ 0
+hand_not_chained m t head x agenda chain at = let one : one_if (hand_of agenda x) ≡ 1 = ap one_if at in omega (arith, one, chain.once x, one_if_low (dies_by (m.life x) t))
+
+-- the head is a dying row's
+head_low : (p : Module) (n : ℕ) (m : Machine) (t head : ℕ) (agenda : List Duty) (chained : List ℕ) → Rule p n m → Linked m.memory t head chained
+    → ((x : ℕ) → one_if (hand_of agenda x) + count_by (λ y. y == x) chained ≡ one_if (dies_by (m.life x) t)) → head < 4294967296
+head_low p n m t head agenda [] rule linked once = omega (arith, linked)
+head_low p n m t head agenda (x ∷ xs) rule linked once =
+    let here : one_if (x == x) ≡ 1 = ap one_if (eq-eqb x x refl) in
+    let dies : m.life x ≡ Dying t = is_dying (m.life x) t (one_if_some _ (omega (arith, once x, sum_by-cons (λ y. cond (y == x) 1 0) x xs, here))) in
+    omega (arith, linked.0, dying_low p n m t x rule dies)
+
+-- ---- a row is chained
+
+die_chain : (p : Module) (n : ℕ) (m : Machine) (t : ℕ) (a : Actor) (x : ℕ) (rest agenda : List Duty) → AtDuty p n m t a (Die x) rest → ((y : ℕ) → hand_of agenda y ≡ false) → ChainFits (done_by m t a (Die x) rest) t (x + 1) agenda
+die_chain p n m t a x rest agenda here none =
+    let old = chain_here p n m t a (Die x) rest here in
+    let absent = hand_not_chained m t a.head x (Die x ∷ rest) old (eq-eqb x x refl) in
+    let new = written m.memory (Gate x) (dying_word t a.head) in
+    record {
+      chained = x ∷ old.chained;
+      linked = (
+        refl,
+        (
+          a.head,
+          written_here m.memory (Gate x) (dying_word t a.head),
+          head_low p n m t a.head (Die x ∷ rest) old.chained here.rule old.linked old.once,
+          linked_kept m.memory new t a.head old.chained
+              (λ y some. written_apart m.memory (Gate x) (Gate y) (dying_word t a.head) (apart_gate x y (λ e. absurd (omega (arith, subst (λ (z : ℕ). 0 < count_by (λ w. w == z) old.chained) (sym e) some, absent))))) old.linked,
+        ),
+      );
+      once = λ y. let hand : one_if (hand_of agenda y) ≡ 0 = ap one_if (none y) in omega (arith, hand, old.once y, sum_by-cons (λ z. cond (z == y) 1 0) x old.chained);
+    }
+
+pub own_die : (p : Module) (n : ℕ) (m : Machine) (t : ℕ) (a : Actor) (x : ℕ) (rest : List Duty) → AtDuty p n m t a (Die x) rest → (a.status ≡ Gone → ⊥)
+    → OwnFits p (done_by m t a (Die x) rest) t (actor_by t a (Die x) rest (found_by m t a (Die x)))
+own_die p n m t a x rest here alive =
+    let ready_so = ready_is m.rows t a.used a.status a.place (x + 1) rest (agenda_here p n m t a (Die x) rest here alive) (handed_here p n m t a (Die x) rest here) in
+    own_shown p n m t a (Die x) rest (ready (x + 1) rest) a.status (x + 1) here (record {
+      head_is = refl;
+      status_is = refl;
+      agenda_is = refl;
+      word = (here.rule.each t a here.found).0.word;
+      held = held_same m.plain.references t (Die x ∷ rest) (ready (x + 1) rest) ready_so.more ready_so.less;
+      chain = die_chain p n m t a x rest (ready (x + 1) rest) here ready_so.at_hand;
+      fits = agenda_shown m t a (Die x) rest (ready (x + 1) rest) a.status alive refl ready_so.fits;
+      handed = ready_so.handed;
+      knows = λ b status head. ready_so.knows (done_by m t a (Die x) rest) b head;
+    })
+
+-- ---- a row is taken from the chain
+
+next_of_dying : (word t next : ℕ) → word ≡ dying_word t next → next < 4294967296 → next_part word ≡ next
+next_of_dying word t next is low = omega (arith, is, low)
+
+-- what is known of the first of the chain
+record FirstChained (m : Machine) (t : ℕ) (a : Actor) (rest : List Duty) : Type 0 where
+  row : ℕ
+  others : List ℕ
+  head_is : a.head ≡ row + 1
+  next : ℕ
+  next_is : next_part (m.memory (Gate row)) ≡ next
+  linked : Linked m.memory t next others
+  once : (x : ℕ) → one_if (row == x) + count_by (λ y. y == x) others ≡ one_if (dies_by (m.life x) t)
+  dies : m.life row ≡ Dying t
+
+first_by : (m : Machine) (t : ℕ) (a : Actor) (rest : List Duty) (chained : List ℕ) → 0 < a.head → Linked m.memory t a.head chained
+    → ((x : ℕ) → one_if (hand_of (Settle ∷ rest) x) + count_by (λ y. y == x) chained ≡ one_if (dies_by (m.life x) t)) → FirstChained m t a rest
+first_by m t a rest [] some linked once = absurd (omega (arith, some, linked))
+first_by m t a rest (x ∷ xs) some linked once =
+    let each : (z : ℕ) → one_if (x == z) + count_by (λ y. y == z) xs ≡ one_if (dies_by (m.life z) t) = λ z. omega (arith, once z, sum_by-cons (λ y. cond (y == z) 1 0) x xs) in
+    let here : one_if (x == x) ≡ 1 = ap one_if (eq-eqb x x refl) in
+    record {
+      row = x;
+      others = xs;
+      head_is = linked.0;
+      next = linked.1.0;
+      next_is = next_of_dying (m.memory (Gate x)) t linked.1.0 linked.1.1 linked.1.2;
+      linked = linked.1.3;
+      once = each;
+      dies = is_dying (m.life x) t (one_if_some _ (omega (arith, each x, here)));
+    }
+
+first_chained : (p : Module) (n : ℕ) (m : Machine) (t : ℕ) (a : Actor) (rest : List Duty) → AtDuty p n m t a Settle rest → FirstChained m t a rest
+first_chained p n m t a rest here =
+    let old = chain_here p n m t a Settle rest here in first_by m t a rest old.chained (head_of p n m t a Settle rest here) old.linked old.once
+
+settle_shown : (p : Module) (n : ℕ) (m : Machine) (t : ℕ) (a : Actor) (rest : List Duty) (first : FirstChained m t a rest) → AtDuty p n m t a Settle rest → (a.status ≡ Gone → ⊥) → a.head - 1 ≡ first.row
+    → ShownStep m t a Settle rest (SettleKind first.row ∷ Settle ∷ rest) a.status first.next
+settle_shown p n m t a rest first here alive row_is =
+    let later = SettleKind first.row ∷ Settle ∷ rest in
+    let head : next_part (m.memory (Gate (a.head - 1))) ≡ first.next = ap (λ (x : ℕ). next_part (m.memory (Gate x))) row_is ∙ first.next_is in
+    let front : (h : ℕ) → ready h (SettleKind (a.head - 1) ∷ Settle ∷ rest) ≡ later = λ h. ready_first h (SettleKind (a.head - 1)) (Settle ∷ rest) refl ∙ ap (λ (x : ℕ). SettleKind x ∷ Settle ∷ rest) row_is in
+    let new = done_by m t a Settle rest in
+    record {
+      head_is = head;
+      status_is = refl;
+      agenda_is = front (next_part (m.memory (Gate (a.head - 1))));
+      word = (here.rule.each t a here.found).0.word;
+      held = held_same m.plain.references t (Settle ∷ rest) later (λ k o. refl) (λ k o. refl);
+      chain = record {
+        chained = first.others;
+        linked = linked_kept m.memory new.memory t first.next first.others (λ x some. written_load m.memory (Gate (a.head - 1)) (Gate x)) first.linked;
+        once = first.once;
+      };
+      fits = agenda_shown m t a Settle rest later a.status alive (front (next_part (m.memory (Gate (a.head - 1))))) (agenda_here p n m t a Settle rest here alive);
+      handed = handed_here p n m t a Settle rest here;
+      knows = λ b status h. (dying_above p n m t first.row here.rule first.dies, first.dies);
+    }
+
+pub own_settle : (p : Module) (n : ℕ) (m : Machine) (t : ℕ) (a : Actor) (rest : List Duty) → AtDuty p n m t a Settle rest → (a.status ≡ Gone → ⊥)
+    → OwnFits p (done_by m t a Settle rest) t (actor_by t a Settle rest (found_by m t a Settle))
+own_settle p n m t a rest here alive =
+    let first = first_chained p n m t a rest here in
+    own_shown p n m t a Settle rest (SettleKind first.row ∷ Settle ∷ rest) a.status first.next here (settle_shown p n m t a rest first here alive (omega (arith, first.head_is)))
+
+-- ---- the row's cells
+
+-- what both steps through the cells leave
+record CellsStep (m : Machine) (t : ℕ) (a : Actor) (d : Duty) (x i k : ℕ) (rest : List Duty) : Type 0 where
+  above : 0 < x
+  dies : m.life x ≡ Dying t
+  next_is : next_of m t a d ≡ cells_from x i k
+  none_ends : ended_row d ≡ None
+  same_head : head_by a.head d (found_by m t a d) ≡ a.head
+  same_status : status_by a.status d ≡ a.status
+  gates : (y : ℕ) → memory_by m t a d (Gate y) ≡ m.memory (Gate y)
+  word : memory_by m t a d (ThreadWord t) ≡ m.memory (ThreadWord t)
+  hands : (y : ℕ) → (x == y) ≡ hand_of (d ∷ rest) y
+  held : (e : Duty) → ((h : Holding) (object : ℕ) → extra_of (e ∷ rest) h object ≡ false) → ((h : Holding) (object : ℕ) → lacks_of (e ∷ rest) h object ≡ false)
+      → HeldStep m.plain.references (bag_by m t a d) t (d ∷ rest) (e ∷ rest)
+  later : Later m.rows t a.used a.status a.place rest
+  none : NoneHanded rest
+
+-- a cell or the end follows
+cells_step : (p : Module) (n : ℕ) (m : Machine) (t : ℕ) (a : Actor) (d : Duty) (x i k : ℕ) (rest : List Duty) → AtDuty p n m t a d rest → (a.status ≡ Gone → ⊥) → CellsStep m t a d x i k rest
+    → OwnFits p (done_by m t a d rest) t (actor_by t a d rest (found_by m t a d))
+cells_step p n m t a d x i k rest here alive step =
+    elim (nat_lt i k) as (λ b. nat_lt i k ≡ b → OwnFits p (done_by m t a d rest) t (actor_by t a d rest (found_by m t a d))) [
+      | true ↦ λ e.
+          let next : next_of m t a d ≡ SettleCell x i k ∷ [] = step.next_is ∙ ap (λ (b : Bool). cond b (SettleCell x i k ∷ []) (SettleEnd x ∷ [])) e in
+          own_neutral p n m t a d rest (SettleCell x i k ∷ []) (SettleCell x i k ∷ rest) here alive (record {
+            next_is = next;
+            none_dies = refl;
+            none_ends = step.none_ends;
+            same_head = step.same_head;
+            same_status = step.same_status;
+            agenda_is = ready_first a.head (SettleCell x i k) rest refl;
+            gates = step.gates;
+            word = step.word;
+            hands = step.hands;
+            held = step.held (SettleCell x i k) (λ h o. refl) (λ h o. refl);
+            fits = step.later;
+            handed = step.none;
+            knows = λ b status head. (step.above, life_same m t a d (SettleCell x i k ∷ []) x next refl step.none_ends ∙ step.dies, ltb-true i k e);
+          })
+      | false ↦ λ e.
+          let next : next_of m t a d ≡ SettleEnd x ∷ [] = step.next_is ∙ ap (λ (b : Bool). cond b (SettleCell x i k ∷ []) (SettleEnd x ∷ [])) e in
+          own_neutral p n m t a d rest (SettleEnd x ∷ []) (SettleEnd x ∷ rest) here alive (record {
+            next_is = next;
+            none_dies = refl;
+            none_ends = step.none_ends;
+            same_head = step.same_head;
+            same_status = step.same_status;
+            agenda_is = ready_first a.head (SettleEnd x) rest refl;
+            gates = step.gates;
+            word = step.word;
+            hands = step.hands;
+            held = step.held (SettleEnd x) (λ h o. refl) (λ h o. refl);
+            fits = step.later;
+            handed = step.none;
+            knows = λ b status head. (step.above, life_same m t a d (SettleEnd x ∷ []) x next refl step.none_ends ∙ step.dies);
+          })
+    ] refl
+
+pub own_settle_kind : (p : Module) (n : ℕ) (m : Machine) (t : ℕ) (a : Actor) (x : ℕ) (rest : List Duty) → AtDuty p n m t a (SettleKind x) rest → (a.status ≡ Gone → ⊥)
+    → OwnFits p (done_by m t a (SettleKind x) rest) t (actor_by t a (SettleKind x) rest (found_by m t a (SettleKind x)))
+own_settle_kind p n m t a x rest here alive =
+    let fits = head_of p n m t a (SettleKind x) rest here in
+    cells_step p n m t a (SettleKind x) x 0 (cells_of (m.memory (KindOf x))) rest here alive (record {
+      above = fits.0;
+      dies = fits.1;
+      next_is = refl;
+      none_ends = refl;
+      same_head = refl;
+      same_status = refl;
+      gates = λ y. refl;
+      word = refl;
+      hands = λ y. refl;
+      held = λ e more less. held_same m.plain.references t (SettleKind x ∷ rest) (e ∷ rest) more less;
+      later = agenda_here p n m t a (SettleKind x) rest here alive;
+      none = handed_here p n m t a (SettleKind x) rest here;
+    })
+
+-- the cells are empty
+pub own_settle_cell : (p : Module) (n : ℕ) (m : Machine) (t : ℕ) (a : Actor) (x i k : ℕ) (rest : List Duty) → AtDuty p n m t a (SettleCell x i k) rest → (a.status ≡ Gone → ⊥)
+    → OwnFits p (done_by m t a (SettleCell x i k) rest) t (actor_by t a (SettleCell x i k) rest (found_by m t a (SettleCell x i k)))
+own_settle_cell p n m t a x i k rest here alive =
+    let fits = head_of p n m t a (SettleCell x i k) rest here in
+    let empty : release_found (m.memory (Cell x i)) ≡ [] = ap release_found (here.rule.cells x i) in
+    cells_step p n m t a (SettleCell x i k) x (i + 1) k rest here alive (record {
+      above = fits.0;
+      dies = fits.1;
+      next_is = ap (λ (l : List Duty). l ++ cells_from x (i + 1) k) empty;
+      none_ends = refl;
+      same_head = refl;
+      same_status = refl;
+      gates = λ y. refl;
+      word = refl;
+      hands = λ y. refl;
+      held = λ e more less. held_same m.plain.references t (SettleCell x i k ∷ rest) (e ∷ rest) more less;
+      later = agenda_here p n m t a (SettleCell x i k) rest here alive;
+      none = handed_here p n m t a (SettleCell x i k) rest here;
+    })
+
+-- ---- the row is closed
+
+end_chain : (p : Module) (n : ℕ) (m : Machine) (t : ℕ) (a : Actor) (x : ℕ) (rest agenda : List Duty) → AtDuty p n m t a (SettleEnd x) rest → ((y : ℕ) → hand_of agenda y ≡ false) → ChainFits (done_by m t a (SettleEnd x) rest) t a.head agenda
+end_chain p n m t a x rest agenda here none =
+    let old = chain_here p n m t a (SettleEnd x) rest here in
+    let absent = hand_not_chained m t a.head x (SettleEnd x ∷ rest) old (eq-eqb x x refl) in
+    let new = written m.memory (Gate x) closed_word in
+    record {
+      chained = old.chained;
+      linked = linked_kept m.memory new t a.head old.chained
+          (λ y some. written_apart m.memory (Gate x) (Gate y) closed_word (apart_gate x y (λ e. absurd (omega (arith, subst (λ (z : ℕ). 0 < count_by (λ w. w == z) old.chained) (sym e) some, absent))))) old.linked;
+      once = λ y.
+          let hand : one_if (hand_of agenda y) ≡ 0 = ap one_if (none y) in
+          elim (eqb_tells x y) [
+            | inl same ↦
+                let gone : one_if (dies_by (with_life m.life (Some x) Closed y) t) ≡ 0 = ap (λ (b : Bool). one_if (dies_by (cond b Closed (m.life y)) t)) same.0 in
+                omega (arith, hand, gone, subst (λ (z : ℕ). count_by (λ w. w == z) old.chained ≡ 0) same.1 absent)
+            | inr other ↦
+                let kept : one_if (dies_by (with_life m.life (Some x) Closed y) t) ≡ one_if (dies_by (m.life y) t) = ap (λ (b : Bool). one_if (dies_by (cond b Closed (m.life y)) t)) other.0 in
+                let apart : one_if (x == y) ≡ 0 = ap one_if other.0 in
+                omega (arith, hand, kept, apart, old.once y)
+          ];
+    }
+
+pub own_settle_end : (p : Module) (n : ℕ) (m : Machine) (t : ℕ) (a : Actor) (x : ℕ) (rest : List Duty) → AtDuty p n m t a (SettleEnd x) rest → (a.status ≡ Gone → ⊥)
+    → OwnFits p (done_by m t a (SettleEnd x) rest) t (actor_by t a (SettleEnd x) rest (found_by m t a (SettleEnd x)))
+own_settle_end p n m t a x rest here alive =
+    let ready_so = ready_is m.rows t a.used a.status a.place a.head rest (agenda_here p n m t a (SettleEnd x) rest here alive) (handed_here p n m t a (SettleEnd x) rest here) in
+    own_shown p n m t a (SettleEnd x) rest (ready a.head rest) a.status a.head here (record {
+      head_is = refl;
+      status_is = refl;
+      agenda_is = refl;
+      word = (here.rule.each t a here.found).0.word;
+      held = held_same m.plain.references t (SettleEnd x ∷ rest) (ready a.head rest) ready_so.more ready_so.less;
+      chain = end_chain p n m t a x rest (ready a.head rest) here ready_so.at_hand;
+      fits = agenda_shown m t a (SettleEnd x) rest (ready a.head rest) a.status alive refl ready_so.fits;
+      handed = ready_so.handed;
+      knows = λ b status head. ready_so.knows (done_by m t a (SettleEnd x) rest) b head;
+    })

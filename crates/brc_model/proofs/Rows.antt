@@ -1,0 +1,126 @@
+-- What holds of one row's counts, whatever thread comes next: the numbers that the row's words, the references to it and the
+-- duties about it come to, and the rule that ties them together.
+use Rattle.std.proofs.Common.{◌≡◌, ℕ, ◌+◌, ◌<◌, ◌≤◌, cond, List}
+use Rattle.std.specs.Prelude.{◌==◌, sum_by}
+use Rattle.brc_model.specs.Words.{owner_part, local_part, biased_part, phase_part, bias, fresh_word}
+use Rattle.brc_model.specs.Duties.{Own, Handed, Duty, DecideAtZero, SharedLoad, SharedExchange, SetMark, MergeSwap, MergeLoad, MergeExchange}
+use Rattle.brc_model.specs.Machine.{Life, Unborn, Live, Dying, Closed, Actor}
+use Rattle.brc_model.proofs.Bag.{one_if}
+
+-- ---- weights of a duty at a row
+
+-- a decrement that awaits: a mark to be set, or a claimed mark whose reference isn't given up
+abbrev pub waits : ℕ → Duty → ℕ
+waits x (SetMark y) = one_if (y == x)
+waits x (SharedLoad y Handed) = one_if (y == x)
+waits x (SharedExchange y Handed w) = one_if (y == x)
+waits x _ = 0
+
+-- a local count that is swapped out and not yet added
+abbrev pub carries : ℕ → Duty → ℕ
+carries x (MergeLoad y c) = cond (y == x) c 0
+carries x (MergeExchange y c w) = cond (y == x) c 0
+carries x _ = 0
+
+abbrev pub merges : ℕ → Duty → ℕ
+merges x (MergeLoad y c) = one_if (y == x)
+merges x (MergeExchange y c w) = one_if (y == x)
+merges x _ = 0
+
+-- the owner has found its last local reference gone
+abbrev pub decides : ℕ → Duty → ℕ
+decides x (DecideAtZero y) = one_if (y == x)
+decides x (MergeSwap y Own) = one_if (y == x)
+decides x _ = 0
+
+-- over all agendas
+abbrev pub agenda_weight : (Duty → ℕ) → Actor → ℕ
+agenda_weight f a = sum_by f a.agenda
+
+abbrev pub weight : (Duty → ℕ) → List Actor → ℕ
+weight f actors = sum_by (agenda_weight f) actors
+
+-- ---- the numbers of a row
+
+pub record Numbers : Type 0 where
+  pub local : ℕ
+  pub shared : ℕ
+  pub mark : ℕ
+  pub references : ℕ
+  pub waiting : ℕ
+  pub carried : ℕ
+  pub merging : ℕ
+  pub deciding : ℕ
+
+-- ---- the rule
+
+-- default: no decrement awaits, and the shared count isn't below 0; queued: one awaits
+pub data Phased (n : Numbers) : Type 0 where
+  IsDefault : phase_part n.shared ≡ 0 → n.mark + n.waiting ≡ 0 → bias ≤ biased_part n.shared → Phased n
+  IsQueued : phase_part n.shared ≡ 2 → n.mark + n.waiting ≡ 1 → Phased n
+
+-- the owner decides exactly where the local count is 0
+pub data Decided (n : Numbers) : Type 0 where
+  AtZero : local_part n.local ≡ 0 → n.deciding ≡ 1 → Decided n
+  AboveZero : 1 ≤ local_part n.local → n.deciding ≡ 0 → Decided n
+
+pub record IsOwned (owner : ℕ) (n : Numbers) : Type 0 where
+  pub owned : owner_part n.local ≡ owner + 1
+  pub low : local_part n.local < 4294967295
+  pub merging : n.merging ≡ 0
+  pub carried : n.carried ≡ 0
+  pub decided : Decided n
+  pub phased : Phased n
+
+-- one thread has swapped the local count out
+pub record IsSwapped (n : Numbers) : Type 0 where
+  pub local : n.local ≡ 0
+  pub merging : n.merging ≡ 1
+  pub carried : n.carried < 4294967296
+  pub deciding : n.deciding ≡ 0
+  pub phased : Phased n
+
+pub record IsMerged (n : Numbers) : Type 0 where
+  pub local : n.local ≡ 0
+  pub merging : n.merging ≡ 0
+  pub carried : n.carried ≡ 0
+  pub deciding : n.deciding ≡ 0
+  pub phase : phase_part n.shared ≡ 3
+  pub counted : bias + 1 ≤ biased_part n.shared
+  pub awaits : n.mark + n.waiting ≤ 1
+
+pub data Mode (owner : ℕ) (n : Numbers) : Type 0 where
+  InOwned : IsOwned owner n → Mode owner n
+  InSwapped : IsSwapped n → Mode owner n
+  InMerged : IsMerged n → Mode owner n
+
+-- the counts add up to the references and the decrements that await
+pub record IsLive (owner : ℕ) (n : Numbers) : Type 0 where
+  pub sum : local_part n.local + biased_part n.shared + n.carried ≡ n.references + n.mark + n.waiting + bias
+  pub mode : Mode owner n
+
+pub record IsDead (n : Numbers) : Type 0 where
+  pub local : local_part n.local ≡ 0
+  pub shared : biased_part n.shared ≡ bias
+  pub mark : n.mark ≡ 0
+  pub references : n.references ≡ 0
+  pub waiting : n.waiting ≡ 0
+  pub carried : n.carried ≡ 0
+  pub merging : n.merging ≡ 0
+  pub deciding : n.deciding ≡ 0
+
+pub record IsUnborn (n : Numbers) : Type 0 where
+  pub local : n.local ≡ 0
+  pub shared : n.shared ≡ fresh_word
+  pub mark : n.mark ≡ 0
+  pub references : n.references ≡ 0
+  pub waiting : n.waiting ≡ 0
+  pub carried : n.carried ≡ 0
+  pub merging : n.merging ≡ 0
+  pub deciding : n.deciding ≡ 0
+
+abbrev pub RowRule : ℕ → Life → Numbers → Type 0
+RowRule owner Unborn n = IsUnborn n
+RowRule owner Live n = IsLive owner n
+RowRule owner (Dying t) n = IsDead n
+RowRule owner Closed n = IsDead n

@@ -1,0 +1,246 @@
+-- What holds of each state of the step world over headers: each row's rule, what each thread holds and knows, and that the
+-- dying rows are at hand or chained.
+use Rattle.std.proofs.Common.{◌≡◌, ◌≢◌, ℕ, ◌+◌, ◌<◌, ◌≤◌, Bool, true, false, List, [], ◌∷◌, ◌⊎◌, length, Some}
+use Rattle.std.specs.Prelude.{◌==◌, ◌&&◌, nat_le, slice_get, count_by, AllPairs}
+use Rattle.brc_lang.specs.declared.module.Instr.{Instr}
+use Rattle.brc_lang.specs.declared.module.Module.{Module}
+use Rattle.brc_model.specs.declared.slot.State.{State}
+use Rattle.brc_model.specs.Walks.{IsAcceptableCode}
+use Rattle.brc_model.specs.Plain.{Holding, InHand, Reference, same_holding, is_among, references_to}
+use Rattle.brc_model.specs.Steps.{code_of}
+use Rattle.brc_model.specs.Words.{owner_part, local_part, phase_part, dying_word}
+use Rattle.brc_model.specs.Duties.{Own, Handed, Duty, RetainLoad, RetainStore, RetainAdd, ReleaseLoad, ReleaseStore, DecideAtZero, SharedLoad, SharedExchange, SetMark, Look, TakeMark, MergeSwap, MergeLoad, MergeExchange, Die, Settle, SettleKind, SettleCell, SettleEnd, Leave, Scan, Finish, ClaimMark, Address, Local, Shared, Gate, Mark, Cell, ThreadWord, block_of}
+use Rattle.brc_model.specs.Machine.{Status, Running, Leaving, Gone, Place, Standing, Inside, Departing, Actor, Life, Unborn, Live, Dying, Closed, Machine, first_row}
+use Rattle.brc_model.proofs.Bag.{held, one_if}
+use Rattle.brc_model.proofs.Invariant.{nothing, the_root, of_variables, reference_of, IsInside, AreInstructions}
+use Rattle.brc_model.proofs.Rows.{waits, carries, merges, decides, weight, Numbers, RowRule}
+
+-- ---- rows
+
+abbrev pub numbers_of : Machine → ℕ → Numbers
+numbers_of m x = record {
+  local = m.memory (Local x);
+  shared = m.memory (Shared x);
+  mark = m.memory (Mark x);
+  references = references_to x m.plain.references;
+  waiting = weight (waits x) m.actors;
+  carried = weight (carries x) m.actors;
+  merging = weight (merges x) m.actors;
+  deciding = weight (decides x) m.actors;
+}
+
+-- ---- what one thread holds
+
+-- what is held beyond what the place says: a reference that is being given up
+abbrev pub extra : Duty → Holding → ℕ → Bool
+extra (ReleaseLoad x h) k object = same_holding h k && (x == object)
+extra (ReleaseStore x w) k object = same_holding InHand k && (x == object)
+extra (SharedLoad x Own) k object = same_holding InHand k && (x == object)
+extra (SharedExchange x Own w) k object = same_holding InHand k && (x == object)
+extra _ k object = false
+
+-- what the place says and isn't held yet: a reference that is being made
+abbrev pub lacks : Duty → Holding → ℕ → Bool
+lacks (RetainLoad x h) k object = same_holding h k && (x == object)
+lacks (RetainStore x h w) k object = same_holding h k && (x == object)
+lacks (RetainAdd x h) k object = same_holding h k && (x == object)
+lacks _ k object = false
+
+abbrev pub extra_of : List Duty → Holding → ℕ → Bool
+extra_of [] k object = false
+extra_of (d ∷ rest) k object = extra d k object
+
+abbrev pub lacks_of : List Duty → Holding → ℕ → Bool
+lacks_of [] k object = false
+lacks_of (d ∷ rest) k object = lacks d k object
+
+-- the bag has just what the place says, with what the duty at hand has more or less
+pub record HoldsAt (bag : List Reference) (t : ℕ) (says : Holding → ℕ → Bool) (agenda : List Duty) : Type 0 where
+  pub each : (k : Holding) (object : ℕ) → held (reference_of t k object) bag + one_if (lacks_of agenda k object) ≡ one_if (says k object) + one_if (extra_of agenda k object)
+
+-- where the thread stands when its agenda is done, and what it then holds
+abbrev pub PlaceFits : List Instr → List Reference → ℕ → List Duty → Place → Type 0
+PlaceFits code bag t agenda (Standing left) = HoldsAt bag t the_root agenda
+PlaceFits code bag t agenda (Inside left at variables) = (s : State) × IsInside code at variables s × HoldsAt bag t (of_variables s variables) agenda
+PlaceFits code bag t agenda Departing = HoldsAt bag t nothing agenda
+
+-- ---- what the duty at hand knows
+
+abbrev pub status_word : Status → ℕ
+status_word Running = 1
+status_word Leaving = 2
+status_word Gone = 3
+
+-- the thread owns the row and is running
+pub record OwnsLocally (m : Machine) (t : ℕ) (a : Actor) (x : ℕ) : Type 0 where
+  pub running : a.status ≡ Running
+  pub owner : owner_part (m.memory (Local x)) ≡ t + 1
+  pub low : local_part (m.memory (Local x)) < 4294967295
+
+-- some reference of the thread's is held to the object
+pub record IsBacked (m : Machine) (t x : ℕ) : Type 0 where
+  pub by : Holding
+  pub held_so : 0 < held (reference_of t by x) m.plain.references
+
+-- the claim of a mark is the owner's, or the owner no longer runs
+abbrev pub MayMerge : Machine → ℕ → ℕ → Type 0
+MayMerge m t x = (block_of m.rows x ≡ t) ⊎ (m.memory (ThreadWord (block_of m.rows x)) ≢ 1)
+
+abbrev pub FollowsHanded : ℕ → List Duty → Type 0
+FollowsHanded x (SharedLoad y Handed ∷ rest) = y ≡ x
+FollowsHanded x _ = ⊥
+
+-- a merge is the running owner's, or it is made for a claimed mark
+abbrev pub IsMergeOf : Machine → ℕ → Actor → ℕ → List Duty → Type 0
+IsMergeOf m t a x rest = ((a.status ≡ Running) × (block_of m.rows x ≡ t)) ⊎ FollowsHanded x rest
+
+abbrev pub HeadFits : Machine → ℕ → Actor → Duty → List Duty → Type 0
+HeadFits m t a (RetainLoad x h) rest = (0 < x) × IsBacked m t x
+HeadFits m t a (RetainStore x h w) rest = (0 < x) × IsBacked m t x × OwnsLocally m t a x × (m.memory (Local x) ≡ w) × (1 ≤ local_part w) × (local_part w < 4294967294)
+HeadFits m t a (RetainAdd x h) rest = (0 < x) × IsBacked m t x
+HeadFits m t a (ReleaseLoad x h) rest = 0 < x
+HeadFits m t a (ReleaseStore x w) rest = (0 < x) × OwnsLocally m t a x × (m.memory (Local x) ≡ w) × (1 ≤ local_part w)
+HeadFits m t a (DecideAtZero x) rest = (0 < x) × OwnsLocally m t a x × (local_part (m.memory (Local x)) ≡ 0)
+HeadFits m t a (SharedLoad x Own) rest = 0 < x
+HeadFits m t a (SharedLoad x Handed) rest = (0 < x) × (phase_part (m.memory (Shared x)) ≡ 3)
+HeadFits m t a (SharedExchange x Own w) rest = 0 < x
+HeadFits m t a (SharedExchange x Handed w) rest = (0 < x) × (phase_part (m.memory (Shared x)) ≡ 3)
+HeadFits m t a (SetMark x) rest = 0 < x
+HeadFits m t a (Look x) rest = 0 < x
+HeadFits m t a (TakeMark x) rest = (0 < x) × (m.memory (ThreadWord (block_of m.rows x)) ≢ 1)
+HeadFits m t a (MergeSwap x Own) rest = (0 < x) × OwnsLocally m t a x × (local_part (m.memory (Local x)) ≡ 0)
+HeadFits m t a (MergeSwap x Handed) rest = (0 < x) × MayMerge m t x × FollowsHanded x rest
+HeadFits m t a (MergeLoad x c) rest = (0 < x) × (c < 4294967296) × IsMergeOf m t a x rest
+HeadFits m t a (MergeExchange x c w) rest = (0 < x) × (c < 4294967296) × IsMergeOf m t a x rest
+HeadFits m t a (Die x) rest = (0 < x) × (m.life x ≡ Dying t)
+HeadFits m t a Settle rest = 0 < a.head
+HeadFits m t a (SettleKind x) rest = (0 < x) × (m.life x ≡ Dying t)
+HeadFits m t a (SettleCell x i n) rest = (0 < x) × (m.life x ≡ Dying t) × (i < n)
+HeadFits m t a (SettleEnd x) rest = (0 < x) × (m.life x ≡ Dying t)
+HeadFits m t a (Leave x n) rest = Unit {0}
+HeadFits m t a (Scan x n) rest = 0 < n
+HeadFits m t a Finish rest = Unit {0}
+HeadFits m t a (ClaimMark x) rest = block_of m.rows x ≡ t
+
+abbrev pub HeadOf : Machine → ℕ → Actor → List Duty → Type 0
+HeadOf m t a [] = Unit {0}
+HeadOf m t a (d ∷ rest) = HeadFits m t a d rest
+
+-- ---- what is for later
+
+-- The agenda behind its first duty: it settles, gives up handed references, and ends the thread's exit where that is taken up.
+-- A leaving thread has still to look through the marks of its used rows from one on.
+abbrev pub Later : ℕ → ℕ → ℕ → Status → Place → List Duty → Type 0
+Later rows t used status place [] = (place ≢ Departing) × (status ≡ Running)
+Later rows t used status place (Settle ∷ rest) = Later rows t used status place rest
+Later rows t used status place (SharedLoad x Handed ∷ rest) = (0 < x) × Later rows t used status place rest
+Later rows t used status place (Leave x n ∷ []) = (status ≡ Running) × (place ≡ Departing) × (x ≡ first_row rows t) × (n ≡ used)
+Later rows t used status place (Scan x n ∷ rest) = (status ≡ Leaving) × (first_row rows t ≤ x) × (x + n ≡ first_row rows t + used) × Later rows t used status place rest
+Later rows t used status place (Finish ∷ []) = (status ≡ Leaving) × (place ≡ Departing)
+Later rows t used status place _ = ⊥
+
+-- the first duty too, where it is of these
+abbrev pub Agenda : ℕ → ℕ → ℕ → Status → Place → List Duty → Type 0
+Agenda rows t used status place [] = Later rows t used status place []
+Agenda rows t used status place (Settle ∷ rest) = Later rows t used status place (Settle ∷ rest)
+Agenda rows t used status place (Leave x n ∷ rest) = Later rows t used status place (Leave x n ∷ rest)
+Agenda rows t used status place (Scan x n ∷ rest) = Later rows t used status place (Scan x n ∷ rest)
+Agenda rows t used status place (Finish ∷ rest) = Later rows t used status place (Finish ∷ rest)
+Agenda rows t used status place (d ∷ rest) = Later rows t used status place rest
+
+-- a handed reference is given up right after its merge, and nowhere else
+abbrev pub NoneHanded : List Duty → Type 0
+NoneHanded [] = Unit {0}
+NoneHanded (SharedLoad x Handed ∷ rest) = ⊥
+NoneHanded (d ∷ rest) = NoneHanded rest
+
+abbrev pub HandedOnce : List Duty → Type 0
+HandedOnce [] = Unit {0}
+HandedOnce (SharedLoad x r ∷ rest) = NoneHanded rest
+HandedOnce (MergeSwap x r ∷ SharedLoad y Handed ∷ rest) = (y ≡ x) × NoneHanded rest
+HandedOnce (MergeLoad x c ∷ SharedLoad y Handed ∷ rest) = (y ≡ x) × NoneHanded rest
+HandedOnce (MergeExchange x c w ∷ SharedLoad y Handed ∷ rest) = (y ≡ x) × NoneHanded rest
+HandedOnce (d ∷ rest) = NoneHanded rest
+
+-- whether a row's mark is still to be looked at by its thread's exit
+abbrev pub scans : ℕ → List Duty → Bool
+scans x [] = false
+scans x (Scan y n ∷ rest) = nat_le y x
+scans x (d ∷ rest) = scans x rest
+
+-- ---- dying rows
+
+-- the rows that are chained from the head on, each by the gate word of the one before
+abbrev pub Linked : (Address → ℕ) → ℕ → ℕ → List ℕ → Type 0
+Linked memory t head [] = head ≡ 0
+Linked memory t head (x ∷ xs) = (head ≡ x + 1) × ((next : ℕ) × (memory (Gate x) ≡ dying_word t next) × (next < 4294967296) × Linked memory t next xs)
+
+-- the row that is at hand between two steps of its finalising, or before its gate is stored
+abbrev pub at_hand : Duty → ℕ → Bool
+at_hand (Die y) x = y == x
+at_hand (SettleKind y) x = y == x
+at_hand (SettleCell y i n) x = y == x
+at_hand (SettleEnd y) x = y == x
+at_hand _ x = false
+
+abbrev pub hand_of : List Duty → ℕ → Bool
+hand_of [] x = false
+hand_of (d ∷ rest) x = at_hand d x
+
+abbrev pub dies_by : Life → ℕ → Bool
+dies_by (Dying u) t = u == t
+dies_by _ t = false
+
+pub record ChainFits (m : Machine) (t head : ℕ) (agenda : List Duty) : Type 0 where
+  pub chained : List ℕ
+  pub linked : Linked m.memory t head chained
+  -- each row that dies by the thread is at hand or chained, once
+  pub once : (x : ℕ) → one_if (hand_of agenda x) + count_by (λ y. y == x) chained ≡ one_if (dies_by (m.life x) t)
+
+-- ---- one thread
+
+pub record ActorFits (p : Module) (m : Machine) (t : ℕ) (a : Actor) : Type 0 where
+  pub accepted : IsAcceptableCode (code_of (slice_get p.functions a.function))
+  pub instructions : AreInstructions (code_of (slice_get p.functions a.function))
+  pub word : m.memory (ThreadWord t) ≡ status_word a.status
+  pub placed : PlaceFits (code_of (slice_get p.functions a.function)) m.plain.references t a.agenda a.place
+  pub head_fits : HeadOf m t a a.agenda
+  pub chain : ChainFits m t a.head a.agenda
+
+-- a thread that is gone has nothing to do
+abbrev pub AgendaFits : ℕ → ℕ → Actor → Status → Type 0
+AgendaFits rows t a Gone = (a.agenda ≡ []) × (a.place ≡ Departing) × (a.head ≡ 0)
+AgendaFits rows t a Running = Agenda rows t a.used Running a.place a.agenda
+AgendaFits rows t a Leaving = Agenda rows t a.used Leaving a.place a.agenda
+
+-- ---- marks that are set are watched
+
+abbrev pub looks : ℕ → Duty → ℕ
+looks x (Look y) = one_if (y == x)
+looks x (TakeMark y) = one_if (y == x)
+looks x _ = 0
+
+pub data IsWatched (m : Machine) (x : ℕ) : Type 0 where
+  ByRunning : m.memory (ThreadWord (block_of m.rows x)) ≡ 1 → IsWatched m x
+  ByExit : (a : Actor) → slice_get m.actors (block_of m.rows x) ≡ Some a → scans x a.agenda ≡ true → IsWatched m x
+  ByLook : 0 < weight (looks x) m.actors → IsWatched m x
+
+-- ---- the whole
+
+pub record Rule (p : Module) (n : ℕ) (m : Machine) : Type 0 where
+  pub functions : m.functions ≡ p.functions
+  pub threads : length m.actors ≡ n
+  pub some_rows : 0 < m.rows
+  pub rows : (x : ℕ) → 0 < x → RowRule (block_of m.rows x) (m.life x) (numbers_of m x)
+  pub marks : (x : ℕ) → m.memory (Mark x) ≡ 0 ⊎ ((m.memory (Mark x) ≡ 1) × (0 < x) × IsWatched m x)
+  pub each : (t : ℕ) (a : Actor) → slice_get m.actors t ≡ Some a → ActorFits p m t a × AgendaFits m.rows t a a.status × HandedOnce a.agenda
+  pub beyond : (t : ℕ) → n ≤ t → (k : Holding) (object : ℕ) → held (reference_of t k object) m.plain.references ≡ 0
+  pub dying : (x t : ℕ) → n ≤ t → dies_by (m.life x) t ≡ false
+  pub cells : (x i : ℕ) → m.memory (Cell x i) ≡ 0
+  pub only_root : (x : ℕ) → 1 < x → m.life x ≡ Unborn
+  pub none_lives : m.life 0 ≡ Live
+  pub closed_is : (x : ℕ) → is_among x m.plain.closed ≡ true → m.life x ≡ Closed
+  pub closed_has : (x : ℕ) → m.life x ≡ Closed → is_among x m.plain.closed ≡ true
+  pub once : AllPairs (λ x y. x ≢ y) m.plain.closed
+  -- no instruction takes a reference to none yet
+  pub none_free : references_to 0 m.plain.references ≡ 0

@@ -1,0 +1,142 @@
+-- The whole invariant, and that each event keeps it and is not bad.
+use Rattle.std.proofs.Common.{◌≡◌, ◌≢◌, ℕ, zero, suc, Bool, false, List, ◌∷◌, inl, inr, Some, refl, sym, ap, ◌∙◌, subst}
+use Rattle.std.specs.Prelude.{slice_get, slice_set}
+use Rattle.std.proofs.lemmas.Bool.Decides.{eqb_tells}
+use Rattle.std.proofs.lemmas.Option.{slice_get_within}
+use Rattle.brc_lang.specs.declared.module.Module.{Module}
+use Rattle.brc_model.specs.Plain.{Reference}
+use Rattle.brc_model.specs.Duties.{Own, Handed, Duty, RetainLoad, RetainStore, RetainAdd, ReleaseLoad, ReleaseStore, DecideAtZero, SharedLoad, SharedExchange, SetMark, Look, TakeMark, MergeSwap, MergeLoad, MergeExchange, Die, Settle, SettleKind, SettleCell, SettleEnd, Leave, Scan, Finish, ClaimMark}
+use Rattle.brc_model.specs.Machine.{Running, Gone, Place, Actor, Unborn, Dying, Closed, Machine, actor_by, done_by, at_place, with_actor}
+use Rattle.brc_model.specs.Events.{is_bad_duty}
+use Rattle.brc_model.proofs.Lists.{some_is, slice_get-set_same, slice_get-set_other}
+use Rattle.brc_model.proofs.Rule.{Rule}
+use Rattle.brc_model.proofs.Leaves.{AtDuty}
+use Rattle.brc_model.proofs.Neutral.{OwnFits, found_by}
+use Rattle.brc_model.proofs.OwnRetains.{own_retain_load}
+use Rattle.brc_model.proofs.OwnReleases.{own_retain_store, own_retain_add, own_release_load, own_release_store, own_decide, own_shared_load, own_shared_exchange}
+use Rattle.brc_model.proofs.OwnMerges.{own_set_mark, own_look, own_take_mark, own_merge_swap_own, own_merge_swap_handed, own_merge_load, own_merge_exchange}
+use Rattle.brc_model.proofs.OwnSettles.{own_die, own_settle, own_settle_kind, own_settle_cell, own_settle_end}
+use Rattle.brc_model.proofs.OwnExits.{own_leave, own_scan, own_finish, own_claim_mark, IsSettled, settled_after}
+use Rattle.brc_model.proofs.Watches.{UsesRoot, marks_after}
+use Rattle.brc_model.proofs.Closing.{GoesOn, BeginsToDie, IsClosed, life_step}
+use Rattle.brc_model.proofs.KeepsDuty.{keeps_by}
+use Rattle.brc_model.proofs.NotBad.{duty_not_bad}
+use Rattle.brc_model.proofs.Begins.{Starts, Gives, Takes, Follows, Nothing, Settles as SettlesFirst, Leaves}
+use Rattle.brc_model.proofs.Sits.{sitting, Sits, AtRest, sits_rule, taken_up_step}
+
+-- main's block has two used rows, and workers have used none yet
+abbrev pub used_rows : ℕ → ℕ
+used_rows zero = 2
+used_rows (suc t) = 0
+
+pub record Whole (p : Module) (n : ℕ) (m : Machine) : Type 0 where
+  pub rule : Rule p n m
+  pub settled : (t : ℕ) (a : Actor) → slice_get m.actors t ≡ Some a → IsSettled a.head a.agenda
+  pub used : (t : ℕ) (a : Actor) → slice_get m.actors t ≡ Some a → a.used ≡ used_rows t
+  pub root_born : m.life 1 ≢ Unborn
+
+-- ---- a duty
+
+own_fits : (p : Module) (n : ℕ) (m : Machine) (t : ℕ) (a : Actor) (d : Duty) (rest : List Duty) → AtDuty p n m t a d rest → (a.status ≡ Gone → ⊥) → IsSettled a.head (d ∷ rest)
+    → OwnFits p (done_by m t a d rest) t (actor_by t a d rest (found_by m t a d))
+own_fits p n m t a (RetainLoad x h) rest here alive settled = own_retain_load p n m t a x h rest here alive
+own_fits p n m t a (RetainStore x h w) rest here alive settled = own_retain_store p n m t a x h w rest here alive
+own_fits p n m t a (RetainAdd x h) rest here alive settled = own_retain_add p n m t a x h rest here alive
+own_fits p n m t a (ReleaseLoad x h) rest here alive settled = own_release_load p n m t a x h rest here alive
+own_fits p n m t a (ReleaseStore x w) rest here alive settled = own_release_store p n m t a x w rest here alive
+own_fits p n m t a (DecideAtZero x) rest here alive settled = own_decide p n m t a x rest here alive
+own_fits p n m t a (SharedLoad x r) rest here alive settled = own_shared_load p n m t a x r rest here alive
+own_fits p n m t a (SharedExchange x r w) rest here alive settled = own_shared_exchange p n m t a x r w rest here alive
+own_fits p n m t a (SetMark x) rest here alive settled = own_set_mark p n m t a x rest here alive
+own_fits p n m t a (Look x) rest here alive settled = own_look p n m t a x rest here alive
+own_fits p n m t a (TakeMark x) rest here alive settled = own_take_mark p n m t a x rest here alive
+own_fits p n m t a (MergeSwap x Own) rest here alive settled = own_merge_swap_own p n m t a x rest here alive
+own_fits p n m t a (MergeSwap x Handed) rest here alive settled = own_merge_swap_handed p n m t a x rest here alive
+own_fits p n m t a (MergeLoad x c) rest here alive settled = own_merge_load p n m t a x c rest here alive
+own_fits p n m t a (MergeExchange x c w) rest here alive settled = own_merge_exchange p n m t a x c w rest here alive
+own_fits p n m t a (Die x) rest here alive settled = own_die p n m t a x rest here alive
+own_fits p n m t a Settle rest here alive settled = own_settle p n m t a rest here alive
+own_fits p n m t a (SettleKind x) rest here alive settled = own_settle_kind p n m t a x rest here alive
+own_fits p n m t a (SettleCell x i k) rest here alive settled = own_settle_cell p n m t a x i k rest here alive
+own_fits p n m t a (SettleEnd x) rest here alive settled = own_settle_end p n m t a x rest here alive
+own_fits p n m t a (Leave x k) rest here alive settled = own_leave p n m t a x k rest here alive
+own_fits p n m t a (Scan x k) rest here alive settled = own_scan p n m t a x k rest here alive
+own_fits p n m t a Finish rest here alive settled = own_finish p n m t a rest here alive settled
+own_fits p n m t a (ClaimMark x) rest here alive settled = own_claim_mark p n m t a x rest here alive
+
+-- what the other threads had, they have
+written_actor : (P : ℕ → Actor → Type 0) (actors : List Actor) (t : ℕ) (a after : Actor) → slice_get actors t ≡ Some a → P t after → ((u : ℕ) (b : Actor) → slice_get actors u ≡ Some b → P u b)
+    → (u : ℕ) (b : Actor) → slice_get (slice_set actors t after) u ≡ Some b → P u b
+written_actor P actors t a after found own others u b is =
+    elim (eqb_tells u t) [
+      | inl same ↦
+          let now : Some after ≡ Some b = sym (ap (slice_get (slice_set actors t after)) same.1 ∙ slice_get-set_same actors t after (slice_get_within actors t a found)) ∙ is in
+          subst (P u) (some_is after b now) (subst (λ (w : ℕ). P w after) (sym same.1) own)
+      | inr apart ↦ others u b (sym (slice_get-set_other actors t u after apart.1) ∙ is)
+    ]
+
+-- the whole, with a thread at its first duty
+pub record Doing (p : Module) (n : ℕ) (m : Machine) (t : ℕ) (a : Actor) (d : Duty) (rest : List Duty) : Type 0 where
+  pub whole : Whole p n m
+  pub found : slice_get m.actors t ≡ Some a
+  pub agenda : a.agenda ≡ d ∷ rest
+  pub alive : a.status ≡ Gone → ⊥
+
+abbrev pub KeepsOn : Module → ℕ → Bool → Machine → Type 0
+KeepsOn p n bad m = (bad ≡ false) × Whole p n m
+
+-- a row that was born is never unborn again
+born_stays : (p : Module) (n : ℕ) (m : Machine) (t : ℕ) (a : Actor) (d : Duty) (rest : List Duty) → AtDuty p n m t a d rest → m.life 1 ≢ Unborn → (done_by m t a d rest).life 1 ≢ Unborn
+born_stays p n m t a d rest here born =
+    elim (life_step p n m t a d rest 1 here) [
+      | GoesOn now other ↦ λ e. born (sym now ∙ e)
+      | BeginsToDie now alive positive none ↦ λ e. (let wrong : Dying t ≡ Unborn = sym now ∙ e in cc)
+      | IsClosed now dying positive ended ↦ λ e. (let wrong : Closed ≡ Unborn = sym now ∙ e in cc)
+    ]
+
+pub keeps_duty : (p : Module) (n : ℕ) (m : Machine) (t : ℕ) (a : Actor) (d : Duty) (rest : List Duty) → Doing p n m t a d rest → KeepsOn p n (is_bad_duty m t a d) (done_by m t a d rest)
+keeps_duty p n m t a d rest doing =
+    let here : AtDuty p n m t a d rest = record { rule = doing.whole.rule; found = doing.found; agenda = doing.agenda } in
+    let settled : IsSettled a.head (d ∷ rest) = subst (IsSettled a.head) doing.agenda (doing.whole.settled t a doing.found) in
+    let uses : UsesRoot m = λ b is. doing.whole.used 0 b is in (
+      duty_not_bad p n m t a d rest here,
+      record {
+        rule = keeps_by p n m t a d rest here doing.alive (own_fits p n m t a d rest here doing.alive settled) (λ x. marks_after p n m t a d rest here doing.alive uses x);
+        settled = λ u b is. written_actor (λ w c. IsSettled c.head c.agenda) m.actors t a (actor_by t a d rest (found_by m t a d)) doing.found (settled_after p n m t a d rest here doing.alive settled) doing.whole.settled u b is;
+        used = λ u b is. written_actor (λ w c. c.used ≡ used_rows w) m.actors t a (actor_by t a d rest (found_by m t a d)) doing.found (doing.whole.used t a doing.found) doing.whole.used u b is;
+        root_born = born_stays p n m t a d rest here doing.whole.root_born;
+      },
+    )
+
+-- ---- what is taken up
+
+pub whole_sits : (p : Module) (n : ℕ) (m : Machine) (t : ℕ) (a : Actor) (place : Place) (agenda : List Duty) → Whole p n m → AtRest p n m t a → Sits p m t a place agenda → IsSettled a.head agenda → Whole p n (with_actor m t (sitting a place agenda))
+whole_sits p n m t a place agenda whole rest sits settled = record {
+  rule = sits_rule p n m t a place agenda rest sits;
+  settled = λ u b is. written_actor (λ w c. IsSettled c.head c.agenda) m.actors t a (sitting a place agenda) rest.found settled whole.settled u b is;
+  used = λ u b is. written_actor (λ w c. c.used ≡ used_rows w) m.actors t a (sitting a place agenda) rest.found (whole.used t a rest.found) whole.used u b is;
+  root_born = whole.root_born;
+}
+
+-- a duty that is taken up and done at once
+pub taken_up : (p : Module) (n : ℕ) (m : Machine) (t : ℕ) (a : Actor) (place : Place) (d : Duty) (rest : List Duty) → Whole p n m → AtRest p n m t a → Sits p m t a place (d ∷ rest) → IsSettled a.head (d ∷ rest)
+    → KeepsOn p n (is_bad_duty m t a d) (done_by m t (at_place a place) d rest)
+taken_up p n m t a place d rest whole at sits settled =
+    let now = sitting a place (d ∷ rest) in
+    let middle = with_actor m t now in
+    let doing : Doing p n middle t now d rest = record {
+      whole = whole_sits p n m t a place (d ∷ rest) whole at sits settled;
+      found = slice_get-set_same m.actors t now (slice_get_within m.actors t a at.found);
+      agenda = refl;
+      alive = λ e. let wrong : Running ≡ Gone = sym at.running ∙ e in absurd cc;
+    } in
+    let done = keeps_duty p n middle t now d rest doing in
+    (done.0, subst (Whole p n) (taken_up_step m t a place d rest) done.1)
+
+pub starts_settled : (bag : List Reference) (rows t used head : ℕ) (place : Place) (d : Duty) (rest : List Duty) → Starts bag t d → Follows rows t used place rest → IsSettled head (d ∷ rest)
+starts_settled bag rows t used head place d rest (Gives row h some) (Nothing stays) = tt
+starts_settled bag rows t used head place d rest (Gives row h some) (SettlesFirst stays) = tt
+starts_settled bag rows t used head place d rest (Gives row h some) (Leaves leaves) = tt
+starts_settled bag rows t used head place d rest (Takes row h by some) (Nothing stays) = tt
+starts_settled bag rows t used head place d rest (Takes row h by some) (SettlesFirst stays) = tt
+starts_settled bag rows t used head place d rest (Takes row h by some) (Leaves leaves) = tt

@@ -1,0 +1,109 @@
+-- Each event, by whatever thread and choice, keeps the whole invariant and is not bad.
+use Rattle.std.proofs.Common.{◌≡◌, ℕ, zero, suc, ◌+◌, ◌<◌, ◌≤◌, Bool, true, false, cond, List, [], ◌∷◌, length, Option, None, Some, refl, sym, ap, ◌∙◌, subst, arith}
+use Rattle.std.specs.Prelude.{◌==◌, ◌&&◌, nat_lt, nat_le, slice_get}
+use Rattle.std.proofs.lemmas.Bool.{eqb-true, ltb-true, leb-true}
+use Rattle.std.proofs.lemmas.List.{nil_from_length}
+use Rattle.brc_lang.specs.declared.module.Module.{Module}
+use Rattle.brc_model.specs.Steps.{code_of}
+use Rattle.brc_model.specs.Duties.{Duty, ClaimMark, block_of}
+use Rattle.brc_model.specs.Machine.{Status, Running, Leaving, Gone, Place, Standing, Inside, Departing, Actor, Machine, Begun, Stuck, Quiet, Work, begun_by, done_by, at_place, with_actor, begins, goes_on, acts, may_claim, first_row, is_running, Choice, Ok, Fault, Claim, chosen, next_machine, machine_after}
+use Rattle.brc_model.specs.Events.{is_bad_duty, is_bad_begun, is_bad_agenda, is_bad_status, is_bad_choice, is_bad_event}
+use Rattle.brc_model.proofs.Lists.{and_first, and_second}
+use Rattle.brc_model.proofs.Rule.{PlaceFits}
+use Rattle.brc_model.proofs.OwnRetains.{running_is}
+use Rattle.brc_model.proofs.Begins.{IsTaken}
+use Rattle.brc_model.proofs.Sits.{sitting, AtRest}
+use Rattle.brc_model.proofs.TakenSits.{taken_sits, quiet_sits, claim_sits, rests, begun_fits}
+use Rattle.brc_model.proofs.Whole.{used_rows, Whole, KeepsOn, keeps_duty, whole_sits, taken_up, starts_settled}
+
+-- ---- what a thread at rest takes up
+
+begun_keeps : (p : Module) (n : ℕ) (m : Machine) (t : ℕ) (a : Actor) (b : Begun) → Whole p n m → AtRest p n m t a → IsTaken (code_of (slice_get p.functions a.function)) m.plain.references m.rows t a.used b
+    → KeepsOn p n (is_bad_begun m t a b) (begins m t a b)
+begun_keeps p n m t a Stuck whole at taken = absurd taken
+begun_keeps p n m t a (Quiet place) whole at taken =
+    let here = whole_sits p n m t a place [] whole at (quiet_sits p m t a place taken.0 taken.1) tt in
+    let same : with_actor m t (sitting a place []) ≡ with_actor m t (at_place a place) = ap (λ (l : List Duty). with_actor m t (sitting a place l)) (sym at.agenda) in
+    (refl, subst (Whole p n) same here)
+begun_keeps p n m t a (Work [] place) whole at taken = absurd taken
+begun_keeps p n m t a (Work (d ∷ rest) place) whole at taken =
+    taken_up p n m t a place d rest whole at (taken_sits p n m t a place d rest at taken) (starts_settled m.plain.references m.rows t a.used a.head place d rest taken.starts taken.follows)
+
+-- ---- a thread that isn't gone
+
+agenda_keeps : (p : Module) (n : ℕ) (m : Machine) (t : ℕ) (a : Actor) (agenda : List Duty) → Whole p n m → slice_get m.actors t ≡ Some a → (a.status ≡ Gone → ⊥) → a.agenda ≡ agenda → KeepsOn p n (is_bad_agenda m t a agenda) (goes_on m t a agenda)
+agenda_keeps p n m t a [] whole found alive is =
+    let at_rest = rests p n m t a whole.rule found alive is in
+    let at : AtRest p n m t a = record { rule = whole.rule; found = found; agenda = is; running = at_rest.1 } in
+    begun_keeps p n m t a (begun_by m t a) whole at (begun_fits p n m t a at at_rest.0)
+agenda_keeps p n m t a (d ∷ rest) whole found alive is = keeps_duty p n m t a d rest (record { whole = whole; found = found; agenda = is; alive = alive })
+
+status_keeps : (p : Module) (n : ℕ) (m : Machine) (t : ℕ) (a : Actor) (status : Status) → Whole p n m → slice_get m.actors t ≡ Some a → a.status ≡ status → KeepsOn p n (is_bad_status m t a status) (acts m t a status)
+status_keeps p n m t a Gone whole found is = (refl, whole)
+status_keeps p n m t a Running whole found is = agenda_keeps p n m t a a.agenda whole found (λ e. let wrong : Running ≡ Gone = sym is ∙ e in absurd cc) refl
+status_keeps p n m t a Leaving whole found is = agenda_keeps p n m t a a.agenda whole found (λ e. let wrong : Leaving ≡ Gone = sym is ∙ e in absurd cc) refl
+
+-- ---- claims
+
+-- a used row is of its thread's block
+block_used : (rows t used row : ℕ) → used ≡ used_rows t → first_row rows t ≤ row → row < first_row rows t + used → block_of rows row ≡ t
+block_used rows zero used zero is low high = refl
+block_used rows zero used (suc zero) is low high = refl
+block_used rows zero used (suc (suc row)) is low high = absurd (omega (arith, is, high))
+block_used rows (suc t) used row is low high = absurd (omega (arith, is, low, high))
+
+claims_at : (m : Machine) (t : ℕ) (a : Actor) (left row : ℕ) → (is_running a.status && (length a.agenda == 0) && nat_le (first_row m.rows t) row && nat_lt row (first_row m.rows t + a.used)) ≡ true
+    → (a.status ≡ Running) × (a.agenda ≡ []) × (first_row m.rows t ≤ row) × (row < first_row m.rows t + a.used)
+claims_at m t a left row e =
+    let front = and_first (is_running a.status && (length a.agenda == 0) && nat_le (first_row m.rows t) row) (nat_lt row (first_row m.rows t + a.used)) e in
+    let high = and_second (is_running a.status && (length a.agenda == 0) && nat_le (first_row m.rows t) row) (nat_lt row (first_row m.rows t + a.used)) e in
+    let pair = and_first (is_running a.status && (length a.agenda == 0)) (nat_le (first_row m.rows t) row) front in
+    let low = and_second (is_running a.status && (length a.agenda == 0)) (nat_le (first_row m.rows t) row) front in
+    (running_is a.status (and_first (is_running a.status) (length a.agenda == 0) pair), nil_from_length a.agenda (eqb-true _ _ (and_second (is_running a.status) (length a.agenda == 0) pair)), leb-true _ _ low, ltb-true _ _ high)
+
+claim_now : (p : Module) (n : ℕ) (m : Machine) (t : ℕ) (a : Actor) (left row : ℕ) → Whole p n m → slice_get m.actors t ≡ Some a → a.place ≡ Standing left
+    → (is_running a.status && (length a.agenda == 0) && nat_le (first_row m.rows t) row && nat_lt row (first_row m.rows t + a.used)) ≡ true
+    → KeepsOn p n (is_bad_duty m t a (ClaimMark row)) (done_by m t a (ClaimMark row) [])
+claim_now p n m t a left row whole found place e =
+    let may = claims_at m t a left row e in
+    let at : AtRest p n m t a = record { rule = whole.rule; found = found; agenda = may.1; running = may.0 } in
+    let old = (whole.rule.each t a found).0 in
+    let code = code_of (slice_get p.functions a.function) in
+    let placed : PlaceFits code m.plain.references t [] (Standing left) =
+    subst (λ (l : List Duty). PlaceFits code m.plain.references t l (Standing left)) may.1 (subst (λ (q : Place). PlaceFits code m.plain.references t a.agenda q) place old.placed) in
+    let mine = block_used m.rows t a.used row (whole.used t a found) may.2 may.3 in
+    let done = taken_up p n m t a (Standing left) (ClaimMark row) [] whole at (claim_sits p m t a left row placed mine) tt in
+    let same : done_by m t (at_place a (Standing left)) (ClaimMark row) [] ≡ done_by m t a (ClaimMark row) [] = ap (λ (q : Place). done_by m t (at_place a q) (ClaimMark row) []) (sym place) in
+    (done.0, subst (Whole p n) same done.1)
+
+if_claims : (p : Module) (n : ℕ) (m : Machine) (t : ℕ) (a : Actor) (row : ℕ) (b : Bool) → Whole p n m → (b ≡ true → KeepsOn p n (is_bad_duty m t a (ClaimMark row)) (done_by m t a (ClaimMark row) []))
+    → KeepsOn p n (cond b (is_bad_duty m t a (ClaimMark row)) false) (cond b (done_by m t a (ClaimMark row) []) m)
+if_claims p n m t a row true whole claims = claims refl
+if_claims p n m t a row false whole claims = (refl, whole)
+
+abbrev claims_where : Machine → ℕ → Actor → ℕ → Place → Bool
+claims_where m t a row place = elim place [
+  | Standing left ↦ is_running a.status && (length a.agenda == 0) && nat_le (first_row m.rows t) row && nat_lt row (first_row m.rows t + a.used)
+  | Inside left at variables ↦ false
+  | Departing ↦ false
+]
+
+claim_by : (p : Module) (n : ℕ) (m : Machine) (t : ℕ) (a : Actor) (row : ℕ) (place : Place) → Whole p n m → slice_get m.actors t ≡ Some a → a.place ≡ place → may_claim m t a row ≡ true → KeepsOn p n (is_bad_duty m t a (ClaimMark row)) (done_by m t a (ClaimMark row) [])
+claim_by p n m t a row (Standing left) whole found place e = claim_now p n m t a left row whole found place (sym (ap (claims_where m t a row) place) ∙ e)
+claim_by p n m t a row (Inside left at variables) whole found place e = absurd (let wrong : false ≡ true = sym (ap (claims_where m t a row) place) ∙ e in cc)
+claim_by p n m t a row Departing whole found place e = absurd (let wrong : false ≡ true = sym (ap (claims_where m t a row) place) ∙ e in cc)
+
+-- ---- every event
+
+choice_keeps : (p : Module) (n : ℕ) (m : Machine) (t : ℕ) (choice : Choice) (o : Option Actor) → Whole p n m → slice_get m.actors t ≡ o → KeepsOn p n (is_bad_choice m t choice o) (chosen m t choice o)
+choice_keeps p n m t choice None whole found = (refl, whole)
+choice_keeps p n m t Ok (Some a) whole found = status_keeps p n m t a a.status whole found refl
+choice_keeps p n m t Fault (Some a) whole found = status_keeps p n m t a a.status whole found refl
+choice_keeps p n m t (Claim row) (Some a) whole found = if_claims p n m t a row (may_claim m t a row) whole (λ e. claim_by p n m t a row a.place whole found refl e)
+
+pub event_keeps : (p : Module) (n : ℕ) (m : Machine) (event : ℕ × Choice) → Whole p n m → KeepsOn p n (is_bad_event m event) (next_machine m event)
+event_keeps p n m event whole = choice_keeps p n m event.0 event.1 (slice_get m.actors event.0) whole refl
+
+pub whole_after : (p : Module) (n : ℕ) (m : Machine) (events : List (ℕ × Choice)) → Whole p n m → Whole p n (machine_after m events)
+whole_after p n m [] whole = whole
+whole_after p n m (e ∷ events) whole = whole_after p n (next_machine m e) events (event_keeps p n m e whole).1

@@ -1,0 +1,66 @@
+-- Worked schedules on the smallest module, with one worker that makes one call: what the step world comes to.
+use Rattle.std.proofs.Common.{◌≡◌, ℕ, List, [], ◌∷◌, ◌++◌, map, refl}
+use Rattle.std.specs.Prelude.{replicate}
+use Rattle.brc_lang.specs.declared.module.Instr.TheVariants.{Fail}
+use Rattle.brc_lang.specs.declared.module.Module.{Module}
+use Rattle.brc_model.specs.declared.thread.Call.{Call}
+use Rattle.brc_model.specs.Machine.{Status, Running, Gone, Live, Closed, Choice, Ok, Claim, Machine, Actor, first_machine, machine_after}
+
+smallest : Module
+smallest = record { functions = record { name = 102 ∷ []; code = Fail ∷ [] } ∷ [] }
+
+one_call : List Call
+one_call = record { function = 0; times = 1 } ∷ []
+
+steps : ℕ → ℕ → List (ℕ × Choice)
+steps n t = replicate n (t, Ok)
+
+after_events : List (ℕ × Choice) → Machine
+after_events events = machine_after (first_machine smallest 4 one_call) events
+
+statuses : Machine → List Status
+statuses m = map (λ (a : Actor). a.status) m.actors
+
+-- the worker has set the mark and not looked, and main leaves: main's exit finds the mark and closes the root
+mark_set : List (ℕ × Choice)
+mark_set = steps 5 1 ++ steps 40 0
+
+mark_set-life : (after_events mark_set).life 1 ≡ Closed
+unfolding smallest one_call steps after_events mark_set
+mark_set-life = refl
+
+mark_set-statuses : statuses (after_events mark_set) ≡ Gone ∷ Running ∷ []
+unfolding smallest one_call steps after_events mark_set statuses
+mark_set-statuses = refl
+
+mark_set-done : statuses (after_events (mark_set ++ steps 10 1)) ≡ Gone ∷ Gone ∷ []
+unfolding smallest one_call steps after_events mark_set statuses
+mark_set-done = refl
+
+-- the worker has queued the root and set no mark: main's exit finds none, and the worker closes the root
+queued : List (ℕ × Choice)
+queued = steps 4 1 ++ steps 40 0
+
+queued-life : (after_events queued).life 1 ≡ Live
+unfolding smallest one_call steps after_events queued
+queued-life = refl
+
+queued-statuses : statuses (after_events queued) ≡ Gone ∷ Running ∷ []
+unfolding smallest one_call steps after_events queued statuses
+queued-statuses = refl
+
+queued-closed : (after_events (queued ++ steps 40 1)).life 1 ≡ Closed
+unfolding smallest one_call steps after_events queued
+queued-closed = refl
+
+-- main looks into its queue before it leaves
+claimed : List (ℕ × Choice)
+claimed = steps 5 1 ++ (0, Claim 1) ∷ steps 40 0
+
+claimed-life : (after_events claimed).life 1 ≡ Closed
+unfolding smallest one_call steps after_events claimed
+claimed-life = refl
+
+claimed-statuses : statuses (after_events (claimed ++ steps 10 1)) ≡ Gone ∷ Gone ∷ []
+unfolding smallest one_call steps after_events claimed statuses
+claimed-statuses = refl

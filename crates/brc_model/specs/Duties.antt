@@ -1,0 +1,182 @@
+-- What a thread has still to do inside an instruction or its exit: an agenda of duties, each of which is one step on one
+-- word, and names the duties that follow it by what the step found.
+use Rattle.std.specs.Prelude.{ℕ, zero, suc, ◌+◌, ◌-◌, ◌/◌, Bool, ◌&&◌, ◌==◌, nat_lt, if◌then◌else◌, List, [], ◌∷◌, ◌++◌}
+use Rattle.brc_model.specs.Plain.{Holding, InHand}
+use Rattle.brc_model.specs.Words.{owner_part, local_part, is_immortal_word, fresh_word, dead_word, released_word, merged_word, dying_word, next_part, closed_word, kind_part, argument_part}
+
+-- whose reference a release by the shared word gives up: the thread's own, or the one that was handed to a queue
+pub data Reason : Type 0 where
+  Own : Reason
+  Handed : Reason
+
+pub data Duty : Type 0 where
+  -- a new reference, for the holder
+  RetainLoad : ℕ → Holding → Duty
+  RetainStore : ℕ → Holding → ℕ → Duty
+  RetainAdd : ℕ → Holding → Duty
+  -- the holder's reference is given up
+  ReleaseLoad : ℕ → Holding → Duty
+  ReleaseStore : ℕ → ℕ → Duty
+  DecideAtZero : ℕ → Duty
+  SharedLoad : ℕ → Reason → Duty
+  SharedExchange : ℕ → Reason → ℕ → Duty
+  -- an object is put into its owner's queue
+  SetMark : ℕ → Duty
+  Look : ℕ → Duty
+  TakeMark : ℕ → Duty
+  -- the local count goes over to the shared one
+  MergeSwap : ℕ → Reason → Duty
+  MergeLoad : ℕ → ℕ → Duty
+  MergeExchange : ℕ → ℕ → ℕ → Duty
+  -- an object dies, and the dying ones are finalised
+  Die : ℕ → Duty
+  Settle : Duty
+  SettleKind : ℕ → Duty
+  SettleCell : ℕ → ℕ → ℕ → Duty
+  SettleEnd : ℕ → Duty
+  -- the thread leaves: it says so, looks through the marks of so many rows from one on, and is gone
+  Leave : ℕ → ℕ → Duty
+  Scan : ℕ → ℕ → Duty
+  Finish : Duty
+  -- the queue of a running thread is looked into
+  ClaimMark : ℕ → Duty
+
+-- ---- the word of a step
+
+pub data Address : Type 0 where
+  Local : ℕ → Address
+  Shared : ℕ → Address
+  Gate : ℕ → Address
+  KindOf : ℕ → Address
+  Mark : ℕ → Address
+  Cell : ℕ → ℕ → Address
+  ThreadWord : ℕ → Address
+
+-- the thread of the row's block; each worker has so many rows
+abbrev pub block_of : ℕ → ℕ → ℕ
+block_of rows zero = 0
+block_of rows (suc zero) = 0
+block_of rows (suc (suc x)) = x / rows + 1
+
+-- the word that a thread's duty is about; its own thread word and the head of its dying chain are the thread's
+abbrev pub address_of : ℕ → ℕ → ℕ → Duty → Address
+address_of rows t head (RetainLoad x h) = Local x
+address_of rows t head (RetainStore x h w) = Local x
+address_of rows t head (RetainAdd x h) = Shared x
+address_of rows t head (ReleaseLoad x h) = Local x
+address_of rows t head (ReleaseStore x w) = Local x
+address_of rows t head (DecideAtZero x) = Shared x
+address_of rows t head (SharedLoad x r) = Shared x
+address_of rows t head (SharedExchange x r w) = Shared x
+address_of rows t head (SetMark x) = Mark x
+address_of rows t head (Look x) = ThreadWord (block_of rows x)
+address_of rows t head (TakeMark x) = Mark x
+address_of rows t head (MergeSwap x r) = Local x
+address_of rows t head (MergeLoad x c) = Shared x
+address_of rows t head (MergeExchange x c w) = Shared x
+address_of rows t head (Die x) = Gate x
+address_of rows t head Settle = Gate (head - 1)
+address_of rows t head (SettleKind x) = KindOf x
+address_of rows t head (SettleCell x i n) = Cell x i
+address_of rows t head (SettleEnd x) = Gate x
+address_of rows t head (Leave x n) = ThreadWord t
+address_of rows t head (Scan x n) = Mark x
+address_of rows t head Finish = ThreadWord t
+address_of rows t head (ClaimMark x) = Mark x
+
+-- what the step leaves in the word that it found so
+abbrev pub left_by : ℕ → ℕ → Duty → ℕ → ℕ
+left_by t head (RetainLoad x h) found = found
+left_by t head (RetainStore x h w) found = w + 1
+left_by t head (RetainAdd x h) found = found + 4
+left_by t head (ReleaseLoad x h) found = found
+left_by t head (ReleaseStore x w) found = w - 1
+left_by t head (DecideAtZero x) found = found
+left_by t head (SharedLoad x r) found = found
+left_by t head (SharedExchange x r w) found = if found == w then released_word w else found
+left_by t head (SetMark x) found = 1
+left_by t head (Look x) found = found
+left_by t head (TakeMark x) found = 0
+left_by t head (MergeSwap x r) found = 0
+left_by t head (MergeLoad x c) found = found
+left_by t head (MergeExchange x c w) found = if found == w then merged_word w c else found
+left_by t head (Die x) found = dying_word t head
+left_by t head Settle found = found
+left_by t head (SettleKind x) found = found
+left_by t head (SettleCell x i n) found = 0
+left_by t head (SettleEnd x) found = closed_word
+left_by t head (Leave x n) found = 2
+left_by t head (Scan x n) found = 0
+left_by t head Finish found = 3
+left_by t head (ClaimMark x) found = 0
+
+-- ---- what follows a step
+
+-- the running owner counts by the local word
+abbrev pub counts_locally : ℕ → Bool → ℕ → Bool
+counts_locally t running word = running && (owner_part word == t + 1)
+
+-- a claimed mark: the object is merged, and the handed reference is given up
+abbrev pub claimed : ℕ → ℕ → List Duty
+claimed x found = if found == 1 then MergeSwap x Handed ∷ SharedLoad x Handed ∷ [] else []
+
+-- after a release by the shared word that found w: a queued object is marked, and one that nothing counts any more dies
+abbrev pub shared_result : ℕ → ℕ → List Duty
+shared_result x w = if w == fresh_word then SetMark x ∷ [] else if released_word w == dead_word then Die x ∷ [] else []
+
+-- a list has its cells looked through; what has no cells is closed
+abbrev pub cells_of : ℕ → ℕ
+cells_of word = if kind_part word == 3 then argument_part word else 0
+
+abbrev pub cells_from : ℕ → ℕ → ℕ → List Duty
+cells_from x i n = if nat_lt i n then SettleCell x i n ∷ [] else SettleEnd x ∷ []
+
+abbrev pub release_found : ℕ → List Duty
+release_found zero = []
+release_found (suc y) = ReleaseLoad y InHand ∷ []
+
+-- the duties that take the place of one whose step found so; a release under way leaves the rest of the agenda for later
+abbrev pub next_by : ℕ → Bool → ℕ → Duty → ℕ → List Duty
+next_by t running head (RetainLoad x h) found =
+    if is_immortal_word found then []
+    else if counts_locally t running found && nat_lt (local_part found) 4294967294 then RetainStore x h found ∷ []
+    else RetainAdd x h ∷ []
+next_by t running head (RetainStore x h w) found = []
+next_by t running head (RetainAdd x h) found = []
+next_by t running head (ReleaseLoad x h) found =
+    if is_immortal_word found then []
+    else if counts_locally t running found then ReleaseStore x found ∷ []
+    else SharedLoad x Own ∷ []
+next_by t running head (ReleaseStore x w) found = if local_part w == 1 then DecideAtZero x ∷ [] else []
+next_by t running head (DecideAtZero x) found = if found == fresh_word then Die x ∷ [] else MergeSwap x Own ∷ []
+next_by t running head (SharedLoad x r) found = SharedExchange x r found ∷ []
+next_by t running head (SharedExchange x r w) found = if found == w then shared_result x w else SharedLoad x r ∷ []
+next_by t running head (SetMark x) found = Look x ∷ []
+next_by t running head (Look x) found = if found == 1 then [] else TakeMark x ∷ []
+next_by t running head (TakeMark x) found = claimed x found
+next_by t running head (MergeSwap x r) found = if found == 0 then [] else MergeLoad x (local_part found) ∷ []
+next_by t running head (MergeLoad x c) found = MergeExchange x c found ∷ []
+next_by t running head (MergeExchange x c w) found =
+    if found == w then (if merged_word w c == dead_word then Die x ∷ [] else []) else MergeLoad x c ∷ []
+next_by t running head (Die x) found = []
+next_by t running head Settle found = SettleKind (head - 1) ∷ Settle ∷ []
+next_by t running head (SettleKind x) found = cells_from x 0 (cells_of found)
+next_by t running head (SettleCell x i n) found = release_found found ++ cells_from x (i + 1) n
+next_by t running head (SettleEnd x) found = []
+next_by t running head (Leave x n) found = Scan x n ∷ Finish ∷ []
+next_by t running head (Scan x n) found = claimed x found ++ Settle ∷ Scan (x + 1) (n - 1) ∷ []
+next_by t running head Finish found = []
+next_by t running head (ClaimMark x) found = claimed x found ++ Settle ∷ []
+
+-- the head of the dying chain afterwards: 0, or a row and 1
+abbrev pub head_by : ℕ → Duty → ℕ → ℕ
+head_by head (Die x) found = x + 1
+head_by head Settle found = next_part found
+head_by head _ found = head
+
+-- what needs no step is passed over: a chain that is empty, and marks of no rows
+abbrev pub ready : ℕ → List Duty → List Duty
+ready head [] = []
+ready zero (Settle ∷ rest) = ready zero rest
+ready head (Scan x zero ∷ rest) = ready head rest
+ready head (d ∷ rest) = d ∷ rest

@@ -1,0 +1,54 @@
+-- Which events are bad: one that touches a freed row, one that makes a move that isn't allowed, and one that can't go on.
+use Rattle.std.specs.Prelude.{ℕ, Bool, true, false, ◌||◌, ◌==◌, not, if◌then◌else◌, List, [], ◌∷◌, Option, None, Some, slice_get}
+use Rattle.brc_model.specs.Plain.{are_allowed}
+use Rattle.brc_model.specs.Duties.{Duty, ClaimMark, Address, Local, Shared, Gate, KindOf, Mark, Cell, ThreadWord, address_of}
+use Rattle.brc_model.specs.Machine.{Status, Running, Leaving, Gone, Actor, Life, Unborn, Live, Dying, Closed, Machine, Begun, Stuck, Quiet, Work, begun_by, moves_by, may_claim, Choice, Ok, Fault, Claim}
+
+-- marks and thread words belong to no row
+abbrev pub touched_row : Address → Option ℕ
+touched_row (Local x) = Some x
+touched_row (Shared x) = Some x
+touched_row (Gate x) = Some x
+touched_row (KindOf x) = Some x
+touched_row (Cell x i) = Some x
+touched_row (Mark x) = None
+touched_row (ThreadWord t) = None
+
+-- a closed row is freed, and one that is dying is freed for other threads
+abbrev pub is_freed_for : ℕ → Life → Bool
+is_freed_for t Unborn = false
+is_freed_for t Live = false
+is_freed_for t (Dying u) = not (u == t)
+is_freed_for t Closed = true
+
+abbrev pub touches_freed : Machine → ℕ → Option ℕ → Bool
+touches_freed m t None = false
+touches_freed m t (Some x) = is_freed_for t (m.life x)
+
+abbrev pub is_bad_duty : Machine → ℕ → Actor → Duty → Bool
+is_bad_duty m t a d =
+    touches_freed m t (touched_row (address_of m.rows t a.head d)) || not (are_allowed m.plain (moves_by t d (m.memory (address_of m.rows t a.head d))))
+
+abbrev pub is_bad_begun : Machine → ℕ → Actor → Begun → Bool
+is_bad_begun m t a Stuck = true
+is_bad_begun m t a (Quiet place) = false
+is_bad_begun m t a (Work [] place) = false
+is_bad_begun m t a (Work (d ∷ rest) place) = is_bad_duty m t a d
+
+abbrev pub is_bad_agenda : Machine → ℕ → Actor → List Duty → Bool
+is_bad_agenda m t a [] = is_bad_begun m t a (begun_by m t a)
+is_bad_agenda m t a (d ∷ rest) = is_bad_duty m t a d
+
+abbrev pub is_bad_status : Machine → ℕ → Actor → Status → Bool
+is_bad_status m t a Gone = false
+is_bad_status m t a Running = is_bad_agenda m t a a.agenda
+is_bad_status m t a Leaving = is_bad_agenda m t a a.agenda
+
+abbrev pub is_bad_choice : Machine → ℕ → Choice → Option Actor → Bool
+is_bad_choice m t choice None = false
+is_bad_choice m t Ok (Some a) = is_bad_status m t a a.status
+is_bad_choice m t Fault (Some a) = is_bad_status m t a a.status
+is_bad_choice m t (Claim row) (Some a) = if may_claim m t a row then is_bad_duty m t a (ClaimMark row) else false
+
+abbrev pub is_bad_event : Machine → ℕ × Choice → Bool
+is_bad_event m event = is_bad_choice m event.0 event.1 (slice_get m.actors event.0)

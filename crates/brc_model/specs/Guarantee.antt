@@ -1,0 +1,35 @@
+-- What an accepted module promises over biased headers.
+use Rattle.std.specs.Prelude.{◌≡◌, ◌≢◌, ℕ, ◌<◌, ◌≤◌, Bool, true, false, List, [], ◌∷◌, AllPairs, ◌↔◌}
+use Rattle.std.specs.List.{list_all}
+use Rattle.brc_lang.specs.declared.module.Module.{Module}
+use Rattle.brc_model.specs.declared.thread.Call.{Call}
+use Rattle.brc_model.specs.Plain.{root_row, is_among, references_to}
+use Rattle.brc_model.specs.Safety.{AreCalls}
+use Rattle.brc_model.specs.Machine.{Status, Running, Leaving, Gone, Actor, Unborn, Live, Machine, Choice, first_machine, machine_after}
+use Rattle.brc_model.specs.Agreement.{AgreesAt, IsFreeOf}
+use Rattle.brc_model.specs.Events.{is_bad_event}
+
+abbrev pub has_gone : Status → Bool
+has_gone Gone = true
+has_gone Running = false
+has_gone Leaving = false
+
+-- every thread is gone
+abbrev pub AllGone : Machine → Type 0
+AllGone m = list_all (λ (a : Actor). has_gone a.status) m.actors ≡ true
+
+pub record IsSafeNow (m : Machine) : Type 0 where
+  -- no event that can come next is bad
+  pub none_bad : (event : ℕ × Choice) → is_bad_event m event ≡ false
+  -- the counts of each row add up to the references held and the decrements that await, and each phase says what it says
+  pub agrees : (x : ℕ) → 0 < x → AgreesAt m x
+  -- what is dying or closed is free
+  pub free : (x : ℕ) → 0 < x → m.life x ≢ Live → m.life x ≢ Unborn → IsFreeOf m x
+  pub closed_once : AllPairs (λ x y. x ≢ y) m.plain.closed
+  -- once all threads are gone, exactly what is born, counted and without a reference is closed, and no reference is left
+  pub closed_at_end : AllGone m → (x : ℕ) → (is_among x m.plain.closed ≡ true) ↔ ((is_among x (root_row ∷ []) ≡ true) × (references_to x m.plain.references ≡ 0))
+  pub none_left : AllGone m → m.plain.references ≡ []
+
+-- for every number of workers and rows, every list of calls and every list of steps and choices, stopped anywhere
+abbrev pub SafeOverHeaders : Module → Type 0
+SafeOverHeaders m = (rows : ℕ) (calls : List Call) (events : List (ℕ × Choice)) → 0 < rows → rows ≤ 1024 → AreCalls m calls → IsSafeNow (machine_after (first_machine m rows calls) events)

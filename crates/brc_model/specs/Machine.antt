@@ -1,0 +1,270 @@
+-- The step world over headers: memory, a word at each address; threads, each with an agenda; and beside them the plain world
+-- and the life of each row. A step does the first duty of one thread's agenda, or takes up its next instruction with it.
+use Rattle.std.specs.Prelude.{ℕ, zero, suc, ◌+◌, ◌*◌, Bool, true, false, ◌&&◌, ◌==◌, nat_lt, nat_le, if◌then◌else◌, List, [], ◌∷◌, ◌++◌, length, map, Option, None, Some, fold, slice_get, slice_set}
+use Rattle.brc_lang.specs.declared.module.Instr.{Instr}
+use Rattle.brc_lang.specs.declared.module.Instr.TheVariants.{Newref, Drop, Ret, Fail}
+use Rattle.brc_lang.specs.declared.module.Function.{Function}
+use Rattle.brc_lang.specs.declared.module.Module.{Module}
+use Rattle.brc_model.specs.declared.thread.Call.{Call}
+use Rattle.brc_model.specs.Plain.{root_row, Holding, ByVariable, AsCaller, InHand, Plain, Move, Gain, Lose, HandOn, Finalise, moved}
+use Rattle.brc_model.specs.Threads.{row_of, entry_variables}
+use Rattle.brc_model.specs.Steps.{code_of, callers_below}
+use Rattle.brc_model.specs.Words.{is_immortal_word, local_word, fresh_word}
+use Rattle.brc_model.specs.Duties.{Own, Duty, RetainLoad, RetainStore, RetainAdd, ReleaseLoad, ReleaseStore, SharedExchange, Die, Settle, SettleEnd, Leave, Finish, ClaimMark, Address, Local, Shared, Gate, KindOf, Mark, Cell, ThreadWord, address_of, left_by, next_by, head_by, ready}
+
+-- ---- threads
+
+pub data Status : Type 0 where
+  Running : Status
+  Leaving : Status
+  Gone : Status
+
+-- where a thread stands when its agenda is done
+pub data Place : Type 0 where
+  -- before its first call, between two calls or after the last, with so many calls still to make
+  Standing : ℕ → Place
+  -- before an instruction of a call, with so many calls to make after this one
+  Inside : ℕ → ℕ → List (Option ℕ) → Place
+  -- its exit is taken up
+  Departing : Place
+
+pub record Actor : Type 0 where
+  pub function : ℕ
+  pub place : Place
+  pub status : Status
+  pub agenda : List Duty
+  -- the head of its dying chain: 0, or a row and 1
+  pub head : ℕ
+  -- how many rows of its block are used
+  pub used : ℕ
+
+abbrev pub is_running : Status → Bool
+is_running Running = true
+is_running Leaving = false
+is_running Gone = false
+
+abbrev pub status_by : Status → Duty → Status
+status_by status (Leave x n) = Leaving
+status_by status Finish = Gone
+status_by status _ = status
+
+-- what a step takes up: the thread's next instruction, or its exit
+pub data Begun : Type 0 where
+  -- it can't go on
+  Stuck : Begun
+  -- a step that changes the thread alone
+  Quiet : Place → Begun
+  -- duties to do, and where the thread stands when they are done
+  Work : List Duty → Place → Begun
+
+abbrev pub with_row : Option ℕ → (ℕ → Begun) → Begun
+with_row None work = Stuck
+with_row (Some row) work = work row
+
+abbrev pub begun_instruction : ℕ → ℕ → List (Option ℕ) → Option Instr → Begun
+begun_instruction left at variables None = Stuck
+begun_instruction left at variables (Some (Newref to from)) =
+    with_row (row_of variables from) (λ row. Work (RetainLoad row (ByVariable to) ∷ []) (Inside left (at + 1) (slice_set variables to (Some row))))
+begun_instruction left at variables (Some (Drop from)) =
+    with_row (row_of variables from) (λ row. Work (ReleaseLoad row (ByVariable from) ∷ Settle ∷ []) (Inside left (at + 1) (slice_set variables from None)))
+begun_instruction left at variables (Some (Ret from)) =
+    with_row (row_of variables from) (λ row. Work (ReleaseLoad row (ByVariable from) ∷ Settle ∷ []) (Standing left))
+begun_instruction left at variables (Some Fail) = Quiet (Standing left)
+
+-- the first row of a thread's block
+abbrev pub first_row : ℕ → ℕ → ℕ
+first_row rows zero = 0
+first_row rows (suc t) = 2 + t * rows
+
+-- with no call left a thread gives up its reference to the root, settles, and leaves
+abbrev pub begun : ℕ → ℕ → ℕ → List Instr → Place → Begun
+begun rows t used code Departing = Stuck
+begun rows t used code (Standing zero) = Work (ReleaseLoad root_row AsCaller ∷ Settle ∷ Leave (first_row rows t) used ∷ []) Departing
+begun rows t used code (Standing (suc left)) = begun_instruction left 0 entry_variables (slice_get code 0)
+begun rows t used code (Inside left at variables) = begun_instruction left at variables (slice_get code at)
+
+-- ---- the world
+
+pub data Life : Type 0 where
+  Unborn : Life
+  Live : Life
+  Dying : ℕ → Life
+  Closed : Life
+
+pub record Machine : Type 0 where
+  pub functions : List Function
+  -- rows of each worker
+  pub rows : ℕ
+  pub memory : Address → ℕ
+  pub actors : List Actor
+  pub plain : Plain
+  pub life : ℕ → Life
+
+abbrev pub same_address : Address → Address → Bool
+same_address (Local x) (Local y) = x == y
+same_address (Shared x) (Shared y) = x == y
+same_address (Gate x) (Gate y) = x == y
+same_address (KindOf x) (KindOf y) = x == y
+same_address (Mark x) (Mark y) = x == y
+same_address (Cell x i) (Cell y j) = (x == y) && (i == j)
+same_address (ThreadWord t) (ThreadWord u) = t == u
+same_address _ _ = false
+
+-- the memory with one word changed
+abbrev pub written : (Address → ℕ) → Address → ℕ → Address → ℕ
+written memory a word b = if same_address a b then word else memory b
+
+-- ---- the plain moves of a step
+
+abbrev pub hand_on : ℕ → Holding → ℕ → List Move
+hand_on t InHand x = []
+hand_on t (ByVariable v) x = HandOn (record { thread = t; holding = ByVariable v; object = x }) InHand ∷ []
+hand_on t AsCaller x = HandOn (record { thread = t; holding = AsCaller; object = x }) InHand ∷ []
+
+abbrev pub gain : ℕ → Holding → ℕ → List Move
+gain t h x = Gain (record { thread = t; holding = h; object = x }) ∷ []
+
+abbrev pub lose : ℕ → ℕ → List Move
+lose t x = Lose (record { thread = t; holding = InHand; object = x }) ∷ []
+
+abbrev pub moves_by : ℕ → Duty → ℕ → List Move
+moves_by t (RetainLoad x h) found = if is_immortal_word found then gain t h x else []
+moves_by t (RetainStore x h w) found = gain t h x
+moves_by t (RetainAdd x h) found = gain t h x
+moves_by t (ReleaseLoad x h) found = hand_on t h x ++ (if is_immortal_word found then lose t x else [])
+moves_by t (ReleaseStore x w) found = lose t x
+moves_by t (SharedExchange x Own w) found = if found == w then lose t x else []
+moves_by t (SettleEnd x) found = Finalise x ∷ []
+moves_by t _ found = []
+
+-- ---- life
+
+-- the row that a step leads to dying, if any: its first following duty says so
+abbrev pub dies_next : List Duty → Option ℕ
+dies_next (Die x ∷ rest) = Some x
+dies_next _ = None
+
+abbrev pub with_life : (ℕ → Life) → Option ℕ → Life → ℕ → Life
+with_life life None state y = life y
+with_life life (Some x) state y = if x == y then state else life y
+
+abbrev pub ended_row : Duty → Option ℕ
+ended_row (SettleEnd x) = Some x
+ended_row _ = None
+
+abbrev pub life_by : (ℕ → Life) → ℕ → Duty → List Duty → ℕ → Life
+life_by life t d next = with_life (with_life life (dies_next next) (Dying t)) (ended_row d) Closed
+
+-- ---- one step
+
+-- the actor after its first duty
+abbrev pub actor_by : ℕ → Actor → Duty → List Duty → ℕ → Actor
+actor_by t a d rest found = record {
+  function = a.function;
+  place = a.place;
+  status = status_by a.status d;
+  agenda = ready (head_by a.head d found) (next_by t (is_running a.status) a.head d found ++ rest);
+  head = head_by a.head d found;
+  used = a.used;
+}
+
+-- one duty on one word
+abbrev pub done_by : Machine → ℕ → Actor → Duty → List Duty → Machine
+done_by m t a d rest =
+    let address = address_of m.rows t a.head d in
+    let found = m.memory address in
+    record {
+      functions = m.functions;
+      rows = m.rows;
+      memory = written m.memory address (left_by t a.head d found);
+      actors = slice_set m.actors t (actor_by t a d rest found);
+      plain = moved m.plain (moves_by t d found);
+      life = life_by m.life t d (next_by t (is_running a.status) a.head d found);
+    }
+
+abbrev pub at_place : Actor → Place → Actor
+at_place a place = record { function = a.function; place = place; status = a.status; agenda = a.agenda; head = a.head; used = a.used }
+
+abbrev pub with_actor : Machine → ℕ → Actor → Machine
+with_actor m t a = record { functions = m.functions; rows = m.rows; memory = m.memory; actors = slice_set m.actors t a; plain = m.plain; life = m.life }
+
+abbrev pub begins : Machine → ℕ → Actor → Begun → Machine
+begins m t a Stuck = m
+begins m t a (Quiet place) = with_actor m t (at_place a place)
+begins m t a (Work [] place) = m
+begins m t a (Work (d ∷ rest) place) = done_by m t (at_place a place) d rest
+
+abbrev pub begun_by : Machine → ℕ → Actor → Begun
+begun_by m t a = begun m.rows t a.used (code_of (slice_get m.functions a.function)) a.place
+
+abbrev pub goes_on : Machine → ℕ → Actor → List Duty → Machine
+goes_on m t a [] = begins m t a (begun_by m t a)
+goes_on m t a (d ∷ rest) = done_by m t a d rest
+
+-- a thread that is gone takes no step
+abbrev pub acts : Machine → ℕ → Actor → Status → Machine
+acts m t a Gone = m
+acts m t a Running = goes_on m t a a.agenda
+acts m t a Leaving = goes_on m t a a.agenda
+
+-- a queue is looked into by a running thread that stands outside its calls, for a used row of its own block
+abbrev pub may_claim : Machine → ℕ → Actor → ℕ → Bool
+may_claim m t a row = elim a.place [
+  | Standing left ↦ is_running a.status && (length a.agenda == 0) && nat_le (first_row m.rows t) row && nat_lt row (first_row m.rows t + a.used)
+  | Inside left at variables ↦ false
+  | Departing ↦ false
+]
+
+pub data Choice : Type 0 where
+  Ok : Choice
+  Fault : Choice
+  Claim : ℕ → Choice
+
+abbrev pub chosen : Machine → ℕ → Choice → Option Actor → Machine
+chosen m t choice None = m
+chosen m t Ok (Some a) = acts m t a a.status
+chosen m t Fault (Some a) = acts m t a a.status
+chosen m t (Claim row) (Some a) = if may_claim m t a row then done_by m t a (ClaimMark row) [] else m
+
+abbrev pub next_machine : Machine → ℕ × Choice → Machine
+next_machine m event = chosen m event.0 event.1 (slice_get m.actors event.0)
+
+abbrev pub machine_after : Machine → List (ℕ × Choice) → Machine
+machine_after m events = fold next_machine m events
+
+-- ---- the first state
+
+abbrev pub main_actor : Actor
+main_actor = record { function = 0; place = Standing 0; status = Running; agenda = []; head = 0; used = 2 }
+
+abbrev pub worker_actor : Call → Actor
+worker_actor c = record { function = c.function; place = Standing c.times; status = Running; agenda = []; head = 0; used = 0 }
+
+-- none is immortal, the root is a list of eight cells that main owns, with a count for main and each worker
+abbrev pub first_memory : ℕ → Address → ℕ
+first_memory workers (Local zero) = 8589934591
+first_memory workers (Local (suc zero)) = local_word 0 (1 + workers)
+first_memory workers (Local (suc (suc x))) = 0
+first_memory workers (Shared x) = fresh_word
+first_memory workers (Gate x) = 1
+first_memory workers (KindOf zero) = 4294967296
+first_memory workers (KindOf (suc zero)) = 3 * 4294967296 + 8
+first_memory workers (KindOf (suc (suc x))) = 0
+first_memory workers (Mark x) = 0
+first_memory workers (Cell x i) = 0
+first_memory workers (ThreadWord t) = if nat_le t workers then 1 else 0
+
+abbrev pub first_life : ℕ → Life
+first_life zero = Live
+first_life (suc zero) = Live
+first_life (suc (suc x)) = Unborn
+
+abbrev pub first_machine : Module → ℕ → List Call → Machine
+first_machine m rows calls = record {
+  functions = m.functions;
+  rows = rows;
+  memory = first_memory (length calls);
+  actors = main_actor ∷ map worker_actor calls;
+  plain = record { references = callers_below (1 + length calls); closed = [] };
+  life = first_life;
+}
