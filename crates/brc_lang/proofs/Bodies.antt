@@ -1,19 +1,16 @@
 -- Inside a function, line by line.
-use Rattle.std.proofs.Common.{◌≡◌, ℕ, ◌+◌, ◌<◌, ◌≤◌, Bool, true, false, cond, eqb, ◌&&◌, List, [], ◌∷◌, ◌++◌, length, Option, Some, None, Bor, Result, Ok, Err, refl, sym, ap, subst, ◌∙◌, append_assoc, add-zero, arith, inl, inr}
-use Rattle.std.specs.Prelude.{codes, IsTrue}
-use Rattle.std.specs.List.{list_any, AllByRecursion}
+use Rattle.std.proofs.Common.{◌≡◌, ℕ, ◌+◌, ◌<◌, true, false, List, [], ◌∷◌, ◌++◌, length, Some, Bor, Result, Ok, Err, refl, sym, ap, subst, ◌∙◌, append_assoc, arith, inl, inr}
+use Rattle.std.specs.Prelude.{codes}
+use Rattle.std.specs.List.{AllByRecursion}
 use Rattle.std.specs.Str.{bytes_eq}
 use Rattle.std.proofs.lemmas.List.{append-nil, length-append}
 use Rattle.std.proofs.lemmas.List.Concat.{flat_map-append}
-use Rattle.std.proofs.lemmas.List.Sums.{count_by-le-length}
 use Rattle.std.proofs.lemmas.Slice.Eq.{bytes_eq-Decides}
-use Rattle.brc_lang.specs.declared.module.Function.{Function}
 use Rattle.brc_lang.specs.declared.module.Instr.{Instr}
 use Rattle.brc_lang.specs.declared.fault.FaultCode.{FaultCode}
-use Rattle.brc_lang.specs.declared.fault.FaultCode.TheVariants.{OverLimit, CutOff}
 use Rattle.brc_lang.specs.declared.place.Place.{Place}
-use Rattle.brc_lang.specs.Grammar.{line, instruction, instructions, is_name, IsInstruction}
-use Rattle.brc_lang.specs.Fault.{words, instruction_in, Beginning, IsOpen, line_fault_of, next_instruction_fault_of, fault_of, is_line_feed}
+use Rattle.brc_lang.specs.Grammar.{line, instruction, instructions, IsInstruction}
+use Rattle.brc_lang.specs.Fault.{words, instruction_in, Beginning, IsOpen, line_fault_of, next_instruction_fault_of, fault_of}
 use Rattle.brc_lang.specs.Progress.{IsFirstLineOf, Passes, IsLineFault, Appends, opened, Ends, HasFaultInside, IsFaultInside}
 use Rattle.brc_lang.proofs.Lines.{line_any, line_before, line_count-append, line_count_one}
 use Rattle.brc_lang.proofs.Instructions.{instruction_spelled}
@@ -22,9 +19,6 @@ use Rattle.brc_lang.proofs.Instructions.{instruction_spelled}
 
 abbrev pub at_place : Bor (List ℕ) → ℕ → Place
 at_place rest number = record { rest = rest; line = number }
-
-pub passes_none : (p : Place) → Passes [] p p
-passes_none p = record { parts = refl; count = sym (add-zero p.line) }
 
 pub passes_both : (a b : List ℕ) (p q r : Place) → Passes a p q → Passes b q r → Passes (a ++ b) p r
 passes_both a b p q r g h = record {
@@ -35,30 +29,16 @@ passes_both a b p q r g h = record {
 pub passes_line : (text : List ℕ) (p : Place) (rest : Bor (List ℕ)) → IsFirstLineOf p.rest.now text rest.now → Passes (line text) p (at_place rest (p.line + 1))
 passes_line text p rest h = record { parts = h.parts; count = ap (λ (n : ℕ). p.line + n) (sym (line_count_one text h.plain)) }
 
--- a line takes at least its line feed, so line numbers stay within the text's length
-pub stays_within : (lines : List ℕ) (p q : Place) → Passes lines p q → q.line + length q.rest.now ≤ p.line + length p.rest.now
-stays_within lines p q h = omega (arith, h.count, ap length h.parts, length-append lines q.rest.now, count_by-le-length is_line_feed lines)
-
 -- ---- the fault of a line
 
 pub fault_at : (b : Beginning) (rest text below : List ℕ) → IsFirstLineOf rest text below → fault_of b rest ≡ line_fault_of b.done b.open_function text
 fault_at b rest text below h = ap (fault_of b) h.parts ∙ rw (line_any text below, line_before text below h.plain) refl
-
-not_whole : (b : Bool) → ◌≡◌ {A = Option FaultCode} (cond (b && false) None (Some CutOff)) (Some CutOff)
-not_whole true = refl
-not_whole false = refl
-
-pub cut_off_inside : (done : List Function) (f : Function) (rest : List ℕ) → list_any is_line_feed rest ≡ false → fault_of (record { done = done; open_function = Some f }) rest ≡ Some CutOff
-cut_off_inside done f rest e = rw e (not_whole (eqb (length rest) 0))
 
 -- ---- a loop over the lines of a function
 
 pub record IsInside (name : List ℕ) (from : Place) (code : List Instr) (to : Place) : Type 0 where
   pub open_fits : IsOpen (opened name code)
   pub passed : Passes (instructions code) from to
-
-pub begins : (name : List ℕ) (p : Place) → IsTrue (is_name name) → IsInside name p [] p
-begins name p fits = record { open_fits = record { name = fits; most = omega arith; code = tt }; passed = passes_none p }
 
 all_push : (code : List Instr) (i : Instr) → AllByRecursion IsInstruction code → IsInstruction i → AllByRecursion IsInstruction (code ++ i ∷ [])
 all_push [] i all here = (here, tt)
@@ -101,12 +81,6 @@ fault_inside : (name : List ℕ) (from at : Place) (code : List Instr) (e : Faul
     → HasFaultInside name from (record { line = at.line; code = e })
 fault_inside name from at code e so_far h = record { code = code; rest = at.rest.now; open_fits = so_far.open_fits; parts = so_far.passed.parts; place = so_far.passed.count; fault = h }
 
-pub empty_function : (name : List ℕ) (from at : Place) (code : List Instr) (text rest : List ℕ) → IsInside name from code at → IsFirstLineOf at.rest.now text rest → bytes_eq text (codes "end") ≡ true → length code ≡ 0
-    → IsFaultInside name from (record { line = at.line; code = OverLimit })
-empty_function name from at code text rest so_far first last none =
-    inr (fault_inside name from at code OverLimit so_far
-    (fault_at (record { done = []; open_function = Some (opened name code) }) at.rest.now text rest first ∙ rw (last, none) refl))
-
 same_code : (name : List ℕ) (code : List Instr) (r : Result Instr FaultCode) → next_instruction_fault_of (opened name code) r ≡ next_instruction_fault_of (opened [] code) r
 same_code name code (Ok i) = refl
 same_code name code (Err e) = refl
@@ -117,6 +91,3 @@ other_fault name from at code text rest e so_far first other (inl memory) = inl 
 other_fault name from at code text rest e so_far first other (inr h) =
     inr (fault_inside name from at code e so_far
     (fault_at (record { done = []; open_function = Some (opened name code) }) at.rest.now text rest first ∙ rw other (same_code name code (instruction_in (words text)) ∙ h)))
-
-pub cut_off : (name : List ℕ) (from at : Place) (code : List Instr) → IsInside name from code at → list_any is_line_feed at.rest.now ≡ false → IsFaultInside name from (record { line = at.line; code = CutOff })
-cut_off name from at code so_far e = inr (fault_inside name from at code CutOff so_far (cut_off_inside [] (opened name code) at.rest.now e))

@@ -57,7 +57,7 @@ one_part p xs e = slice_split_none p xs (lacks_at p xs e)
 pub first_part : {X : Type 0} (p : X → Bool) (xs : List X) (y : X) (ys : List X) → list_any p xs ≡ false → p y ≡ true → slice_split p (xs ++ y ∷ ys) ≡ xs ∷ slice_split p ys
 first_part p xs y ys e f = slice_split_at p xs y ys (lacks_at p xs e) f
 
-pub cut_place : (p : ℕ → Bool) (xs : List ℕ) (y : ℕ) (ys : List ℕ) → list_any p xs ≡ false → p y ≡ true → position_or_len p (xs ++ y ∷ ys) ≡ length xs
+cut_place : (p : ℕ → Bool) (xs : List ℕ) (y : ℕ) (ys : List ℕ) → list_any p xs ≡ false → p y ≡ true → position_or_len p (xs ++ y ∷ ys) ≡ length xs
 cut_place p xs y ys e f =
     position_or_len_is p (xs ++ y ∷ ys) (length xs) 0 (omega (arith, length-append xs (y ∷ ys)))
     (λ k lt. rw (get_or_append_left xs (y ∷ ys) 0 k lt) (lacks_at p xs e k 0 lt))

@@ -1,19 +1,15 @@
 -- From function to function.
-use Rattle.std.proofs.Common.{◌≡◌, ℕ, ◌+◌, ◌<◌, ◌≤◌, true, false, eqb, List, [], ◌∷◌, ◌++◌, length, take, drop, Some, None, Bor, refl, sym, ap, subst, ◌∙◌, append_assoc, add-zero, arith, inl, inr}
-use Rattle.std.specs.Prelude.{codes, nat_eq}
-use Rattle.std.specs.List.{list_any, starts_with, AllByRecursion}
+use Rattle.std.proofs.Common.{◌≡◌, ℕ, ◌+◌, ◌<◌, false, eqb, List, [], ◌∷◌, ◌++◌, length, Some, None, Bor, refl, sym, ap, subst, ◌∙◌, append_assoc, add-zero, arith, inl, inr}
+use Rattle.std.specs.Prelude.{codes}
+use Rattle.std.specs.List.{list_any, AllByRecursion}
 use Rattle.std.proofs.lemmas.Bool.{ne_eqb}
-use Rattle.std.proofs.lemmas.List.{append-nil, length-append, take-append-drop, nil_from_length}
-use Rattle.std.proofs.lemmas.List.Concat.{flat_map-append}
-use Rattle.std.proofs.lemmas.List.Sums.{count_by-le-length}
-use Rattle.std.proofs.lemmas.Slice.Eq.{bytes_eq-Decides}
-use Rattle.brc_lang.specs.declared.module.Module.{Module}
+use Rattle.std.proofs.lemmas.List.{append-nil, length-append}
 use Rattle.brc_lang.specs.declared.module.Function.{Function}
 use Rattle.brc_lang.specs.declared.fault.FaultCode.{FaultCode}
 use Rattle.brc_lang.specs.declared.fault.FaultCode.TheVariants.{CutOff}
 use Rattle.brc_lang.specs.declared.fault.ReadFault.{ReadFault}
 use Rattle.brc_lang.specs.declared.place.Place.{Place}
-use Rattle.brc_lang.specs.Grammar.{line, heading, instructions, function, functions, first_line, text, IsFunction, Spells}
+use Rattle.brc_lang.specs.Grammar.{line, heading, instructions, function, functions, first_line, text, IsFunction}
 use Rattle.brc_lang.specs.Fault.{words, beginning, open_text, IsBeginning, heading_fault_of, fault_of, is_line_feed, line_count, IsFaultOf}
 use Rattle.brc_lang.specs.Progress.{IsFirstLineOf, Passes, Opens, opened, closed, Ends, IsFaultInside, ReadsFunction, IsFaultBelow}
 use Rattle.brc_lang.proofs.Lines.{line_count-append}
@@ -55,9 +51,6 @@ functions_all_push : (done : List Function) (f : Function) → AllByRecursion Is
 functions_all_push [] f all here = (here, tt)
 functions_all_push (g ∷ done) f all here = (all.0, functions_all_push done f all.1 here)
 
-functions_push : (done : List Function) (f : Function) → functions (done ++ f ∷ []) ≡ functions done ++ function f
-functions_push done f = flat_map-append function done (f ∷ []) ∙ ap (λ (x : List ℕ). functions done ++ x) (append-nil (function f))
-
 pub reads_function : (done new : List Function) (p after : Place) (text name : List ℕ) (rest : Bor (List ℕ)) (f : Function) → IsBeginning (closed done) → IsFirstLineOf p.rest.now text rest.now → Opens done text name
     → Ends name (at_place rest (p.line + 1)) f after → new ≡ done ++ f ∷ [] → ReadsFunction done new p after
 reads_function done new p after text name rest f fits first opening end appended =
@@ -78,7 +71,7 @@ reads_function done new p after text name rest f fits first opening end appended
       fits = subst (λ (fs : List Function). IsBeginning (closed fs)) (sym appended) more;
     }
 
--- ---- a loop over the functions of a text
+-- ---- a loop over the functions of a text, and its faults
 
 pub record IsReadTo (bytes : List ℕ) (done : List Function) (p : Place) : Type 0 where
   pub fits : IsBeginning (closed done)
@@ -87,47 +80,6 @@ pub record IsReadTo (bytes : List ℕ) (done : List Function) (p : Place) : Type
 
 above_closed : (done : List Function) → beginning (closed done) ≡ first_line ++ functions done
 above_closed done = append-nil (first_line ++ functions done)
-
-pub starts : (bytes rest : List ℕ) (p : Place) → starts_with nat_eq bytes first_line ≡ true → p.rest.now ≡ drop 9 bytes → p.line ≡ 2 → IsReadTo bytes [] p
-starts bytes rest p first below count =
-    let front : first_line ≡ take 9 bytes = (bytes_eq-Decides first_line (take 9 bytes)).0 first in
-    record {
-      fits = record { most = omega arith; done = tt; names = λ i j d lt below. absurd (omega arith); open_fits = tt };
-      parts = sym (take-append-drop 9 bytes) ∙ rw (← front, below) refl;
-      place = count;
-    }
-
-pub one_more : (bytes : List ℕ) (done new : List Function) (p after : Place) → IsReadTo bytes done p → ReadsFunction done new p after → IsReadTo bytes new after
-one_more bytes done new p after so_far next =
-    let f = next.read in
-    let lines : beginning (closed done) ++ function f ≡ beginning (closed new) =
-    ap (λ (x : List ℕ). x ++ function f) (above_closed done) ∙ append_assoc first_line (functions done) (function f)
-    ∙ ap (λ (x : List ℕ). first_line ++ x) (sym (functions_push done f) ∙ ap functions (sym next.appended)) ∙ sym (above_closed new) in
-    record {
-      fits = next.fits;
-      parts = so_far.parts ∙ ap (λ (x : List ℕ). beginning (closed done) ++ x) next.passed.parts ∙ sym (append_assoc (beginning (closed done)) (function f) after.rest.now) ∙ ap (λ (x : List ℕ). x ++ after.rest.now) lines;
-      place = omega (arith, next.passed.count, so_far.place, line_count-append (beginning (closed done)) (function f), ap line_count lines);
-    }
-
--- line numbers stay within the text's length
-pub within : (bytes : List ℕ) (done : List Function) (p : Place) → IsReadTo bytes done p → p.line + length p.rest.now ≤ length bytes
-within bytes done p so_far =
-    let lines = functions done in
-    omega (arith, so_far.place, ap length so_far.parts, length-append (beginning (closed done)) p.rest.now, ap length (above_closed done), ap line_count (above_closed done), length-append first_line lines, line_count-append first_line lines, count_by-le-length is_line_feed lines)
-
--- ---- what is answered
-
-pub read_all : (bytes : List ℕ) (m : Module) (p : Place) → IsReadTo bytes m.functions p → length p.rest.now ≡ 0 → 0 < length m.functions → Spells bytes m
-read_all bytes m p so_far nothing some =
-    let fits = so_far.fits in
-    record {
-      module_fits = record { some = some; most = fits.most; functions = fits.done; names = fits.names };
-      spelled = so_far.parts ∙ rw (nil_from_length p.rest.now nothing) (append-nil (beginning (closed m.functions))) ∙ above_closed m.functions;
-    }
-
-pub no_function : (bytes : List ℕ) (done : List Function) (p : Place) → IsReadTo bytes done p → length p.rest.now ≡ 0 → length done ≡ 0 → IsFaultOf bytes (record { line = p.line; code = CutOff })
-no_function bytes done p so_far nothing none =
-    inr (inr (record { above = closed done; rest = p.rest.now; above_fits = so_far.fits; parts = so_far.parts; place = so_far.place; fault = rw (nil_from_length p.rest.now nothing, none) refl }))
 
 pub fault_below : (bytes : List ℕ) (done : List Function) (p : Place) (e : ReadFault) → IsReadTo bytes done p → IsFaultBelow done p e → IsFaultOf bytes e
 fault_below bytes done p e so_far (inl memory) = inl memory

@@ -1,6 +1,6 @@
 -- A line that is read as an instruction is its spelling, and the spelling is read again.
-use Rattle.std.proofs.Common.{◌≡◌, ℕ, ◌<◌, Bool, true, false, cond, List, [], ◌∷◌, ◌++◌, Result, Ok, Err, refl, sym, ap, subst, ◌∙◌, append_assoc, inl, inr}
-use Rattle.std.specs.Prelude.{codes, ◌⊎◌}
+use Rattle.std.proofs.Common.{◌≡◌, ℕ, ◌<◌, Bool, true, false, cond, List, [], ◌∷◌, ◌++◌, Result, Ok, Err, refl, sym, ap, subst, ◌∙◌, append_assoc, inl, inr, Bor}
+use Rattle.std.specs.Prelude.{codes, ◌⊎◌, Option, MatchOption, is_some}
 use Rattle.std.specs.List.{list_any}
 use Rattle.std.specs.Str.{bytes_eq}
 use Rattle.std.proofs.lemmas.Slice.Eq.{bytes_eq-Decides}
@@ -11,11 +11,11 @@ use Rattle.brc_lang.specs.declared.fault.FaultCode.TheVariants.{UnknownWord}
 use Rattle.brc_lang.specs.Grammar.{variable, instruction, IsInstruction}
 use Rattle.brc_lang.specs.Fault.{words, variable_in, ◌>>=◌, newref_in, drop_in, ret_in, fail_in, instruction_in, is_line_feed}
 use Rattle.brc_lang.proofs.Cuts.{lacks_append}
-use Rattle.brc_lang.proofs.Words.{of_one, of_two, of_three, one_word, first_word, some_word}
+use Rattle.brc_lang.proofs.Words.{of_one, of_two, of_three, one_word, first_word, some_word, more_words}
 use Rattle.brc_lang.proofs.Spelling.{variable_spelled, variable_again, variable_no_space, variable_plain}
 
 -- the value of a step that did not fail
-pub bind_ok : {A B : Type 0} (r : Result A FaultCode) (f : A → Result B FaultCode) (y : B) → (r >>= f) ≡ Ok y → (x : A) × (r ≡ Ok x) × (f x ≡ Ok y)
+bind_ok : {A B : Type 0} (r : Result A FaultCode) (f : A → Result B FaultCode) (y : B) → (r >>= f) ≡ Ok y → (x : A) × (r ≡ Ok x) × (f x ≡ Ok y)
 bind_ok (Ok x) f y e = (x, refl, e)
 bind_ok (Err d) f y e = absurd cc
 
@@ -24,13 +24,20 @@ pub chosen : {A : Type 0} (b : Bool) (x y z : A) → cond b x y ≡ z → ((b �
 chosen true x y z e = inl (refl, e)
 chosen false x y z e = inr (refl, e)
 
-pub cond_same : {A : Type 0} (b : Bool) (x : A) → cond b x x ≡ x
+cond_same : {A : Type 0} (b : Bool) (x : A) → cond b x x ≡ x
 cond_same true x = refl
 cond_same false x = refl
 
--- four words or more are no instruction
-pub too_many : (w a b c : List ℕ) (others : List (List ℕ)) → instruction_in (w ∷ a ∷ b ∷ c ∷ others) ≡ Err UnknownWord
+too_many : (w a b c : List ℕ) (others : List (List ℕ)) → instruction_in (w ∷ a ∷ b ∷ c ∷ others) ≡ Err UnknownWord
 too_many w a b c others = simp cond_same
+
+-- four words or more are no instruction
+pub four_words : (text operands others word first second : List ℕ) (more : Option (Bor (List ℕ))) → words text ≡ word ∷ words operands → words operands ≡ first ∷ words others
+    → MatchOption more (words others ≡ second ∷ []) (λ r. words others ≡ second ∷ words r.now) → is_some more ≡ true → Err UnknownWord ≡ instruction_in (words text)
+four_words text operands others word first second more e f g some =
+    let q = more_words operands first others second more f g some in
+    let all : words text ≡ word ∷ first ∷ second ∷ q.0 ∷ q.1 = e ∙ ap (λ (ws : List (List ℕ)). word ∷ ws) q.2 in
+    sym (ap instruction_in all ∙ too_many word first second q.0 q.1)
 
 -- ---- from a line to the instruction
 

@@ -57,7 +57,7 @@ line_before first rest plain = rw (line_at first rest) (cut_before is_line_feed 
 pub line_count-append : (a b : List ℕ) → line_count (a ++ b) ≡ line_count a + line_count b
 line_count-append a b = sum_by-append _ a b
 
-pub no_feed : (text : List ℕ) → list_any is_line_feed text ≡ false → line_count text ≡ 0
+no_feed : (text : List ℕ) → list_any is_line_feed text ≡ false → line_count text ≡ 0
 no_feed [] e = refl
 no_feed (c ∷ cs) e =
     let h = or_parts (is_line_feed c) (list_any is_line_feed cs) e in

@@ -115,14 +115,14 @@ instructions_pass n done name front (i ∷ code) rest fits few =
     ∙ others
     ∙ rw (append_assoc front (i ∷ []) code, then_more n text (instructions code) plain) refl
 
-pub heading_passes : (n : ℕ) (done : List Function) (name rest : List ℕ) → is_name name ≡ true → length done < 64 → has_name name done ≡ false
+heading_passes : (n : ℕ) (done : List Function) (name rest : List ℕ) → is_name name ≡ true → length done < 64 → has_name name done ≡ false
     → read_rest n (closed done) (heading name ++ rest) ≡ read_rest (n + 1) (inside done name []) rest
 heading_passes n done name rest fits room new =
     let again = heading_again done name fits room new in
     passes_line n (closed done) (inside done name []) (codes "func " ++ name) rest (name_plain name fits) again.1 (ap (λ (ws : List (List ℕ)). inside done (second_word ws) []) again.0)
 
 -- an open function, as far as it goes
-pub open_passes : (n : ℕ) (done : List Function) (name : List ℕ) (code : List Instr) (rest : List ℕ) → is_name name ≡ true → length done < 64 → has_name name done ≡ false → AllByRecursion IsInstruction code → length code ≤ 256
+open_passes : (n : ℕ) (done : List Function) (name : List ℕ) (code : List Instr) (rest : List ℕ) → is_name name ≡ true → length done < 64 → has_name name done ≡ false → AllByRecursion IsInstruction code → length code ≤ 256
     → read_rest n (closed done) ((heading name ++ instructions code) ++ rest) ≡ read_rest (n + line_count (heading name ++ instructions code)) (inside done name code) rest
 open_passes n done name code rest fits room new all few =
     ap (read_rest n (closed done)) (append_assoc (heading name) (instructions code) rest)

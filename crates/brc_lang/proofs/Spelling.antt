@@ -30,7 +30,7 @@ own : IsNumeralModel AreDigits (digits_value 10)
 own = numerals_by_value AreDigits tells_digits
 
 -- a test that an if took to `Ok`
-pub guarded : {A : Type 0} (b : Bool) (d : FaultCode) (x y : A) → cond b (Ok x) (Err d) ≡ Ok y → (b ≡ true) × (x ≡ y)
+guarded : {A : Type 0} (b : Bool) (d : FaultCode) (x y : A) → cond b (Ok x) (Err d) ≡ Ok y → (b ≡ true) × (x ≡ y)
 guarded true d x y e = (refl, cc)
 guarded false d x y e = absurd cc
 
@@ -68,7 +68,7 @@ decimal_first : (n : ℕ) → n < 2 ^ 64 → get_or (decimal n) 0 0 ≡ 48 → l
 decimal_first zero small e = ap length (decimal_digit 0 (omega arith))
 decimal_first (suc n) small e = absurd (omega (arith, first_decimal (suc n) (omega arith) small))
 
-pub decimal_digits : (n : ℕ) → n < 2 ^ 64 → list_all is_ascii_digit (decimal n) ≡ true
+decimal_digits : (n : ℕ) → n < 2 ^ 64 → list_all is_ascii_digit (decimal n) ≡ true
 decimal_digits n small = digits_decimal own n small
 
 pub number_again : (high n : ℕ) → n ≤ high → n < 2 ^ 64 → number_in high (decimal n) ≡ Ok n
@@ -130,7 +130,3 @@ name_no_space name e = name_lacks 32 (omega arith) name e
 
 pub name_plain : (name : List ℕ) → is_name name ≡ true → list_any is_line_feed name ≡ false
 name_plain name e = name_lacks 10 (omega arith) name e
-
-pub name_short : (name : List ℕ) → is_name name ≡ true → length name ≤ 16
-name_short [] e = omega arith
-name_short (c ∷ cs) e = omega (arith, leb-true (length cs) 15 (and_parts (is_letter c && list_all is_name_byte cs) (leb (length cs) 15) e).1)

@@ -11,7 +11,7 @@ use Rattle.brc_lang.specs.Fault.{beginning, IsBeginning, line_count, HasFault, I
 use Rattle.brc_lang.specs.Progress.{closed}
 use Rattle.brc_lang.proofs.Machine.{Answer, reading, stops, beginning_passes}
 
-pub whole_beginning : (m : Module) → IsModule m → IsBeginning (closed m.functions)
+whole_beginning : (m : Module) → IsModule m → IsBeginning (closed m.functions)
 whole_beginning m fits = record { most = fits.most; done = fits.functions; names = fits.names; open_fits = tt }
 
 reads_spelled : (bytes : List ℕ) (m : Module) → Spells bytes m → reading bytes ≡ Ok m
