@@ -1,6 +1,8 @@
 -- Lists of steps, one after another.
-use Rattle.std.proofs.Common.{◌≡◌, ℕ, zero, suc, ◌+◌, ◌-◌, ◌<◌, ◌≤◌, true, List, [], ◌∷◌, ◌++◌, Option, Some, None, slice_get, replicate, refl, sym, ap, subst, ◌∙◌, append_assoc, arith}
-use Rattle.std.proofs.lemmas.List.{append-nil, replicate_more, replicate-append-replicate}
+use Rattle.std.proofs.Common.{◌≡◌, ℕ, zero, suc, ◌+◌, ◌-◌, ◌<◌, ◌≤◌, true, List, [], ◌∷◌, ◌++◌, Option, Some, None, slice_get, replicate, take, drop, length, get_or, refl, sym, ap, subst, ◌∙◌, append_assoc, arith}
+use Rattle.std.specs.Prelude.{Result, Ok, Err, OnErr}
+use Rattle.std.proofs.Math.Seq.{split_at}
+use Rattle.std.proofs.lemmas.List.{replicate-append-replicate}
 use Rattle.std.proofs.lemmas.List.Concat.{flat_map-append}
 use Rattle.std.proofs.lemmas.List.Sums.{fold-append}
 use Rattle.brc_lang.specs.declared.module.Function.{Function}
@@ -13,7 +15,9 @@ use Rattle.brc_model.specs.Threads.{Request, NoStep, request}
 use Rattle.brc_model.specs.Steps.{World, Scene, step, stepped, request_of_thread, code_of, next_scene, scene_after}
 use Rattle.brc_model.specs.Safety.{is_gone}
 use Rattle.brc_world.specs.declared.schedule.Steps.{Steps}
-use Rattle.brc_world.specs.Answers.{is_gone_thread, is_gone_at}
+use Rattle.brc_world.specs.declared.world.Did.{Did}
+use Rattle.brc_world.specs.declared.world.Did.TheVariants as dids
+use Rattle.brc_world.specs.Answers.{is_gone_thread, is_gone_at, IsAnswer}
 use Rattle.brc_world.specs.Runs.{world_after, events_of_line, events_of, StandsWithin}
 
 -- the worlds are those of the scenes that the safety of a module speaks of
@@ -44,27 +48,39 @@ gone_steps w t choice (suc n) e = ap (λ (v : World). world_after v (replicate n
 
 -- ---- one step over and over
 
-pub one_more : (old at new : World) (t : ℕ) (choice : Choice) (made : ℕ) → at ≡ world_after old (replicate made (t, choice)) → new ≡ step at t choice → new ≡ world_after old (replicate (made + 1) (t, choice))
-one_more old at new t choice made so_far e =
-    e ∙ ap (λ (w : World). step w t choice) so_far ∙ sym (after_both old (replicate made (t, choice)) ((t, choice) ∷ [])) ∙ ap (world_after old) (replicate_more made (t, choice))
+abbrev pub repeated : ℕ → Choice → ℕ → List (ℕ × Choice)
+repeated t choice times = replicate times (t, choice)
 
-split_times : (t : ℕ) (choice : Choice) (made times : ℕ) → made ≤ times → replicate times (t, choice) ≡ replicate made (t, choice) ++ replicate (times - made) (t, choice)
+split_times : (t : ℕ) (choice : Choice) (made times : ℕ) → made ≤ times → repeated t choice times ≡ repeated t choice made ++ repeated t choice (times - made)
 split_times t choice made times le =
     let sum : made + (times - made) ≡ times = omega arith in
-    ap (λ (n : ℕ). replicate n (t, choice)) (sym sum) ∙ sym (replicate-append-replicate made (times - made) (t, choice))
+    ap (λ (n : ℕ). repeated t choice n) (sym sum) ∙ sym (replicate-append-replicate made (times - made) (t, choice))
 
-pub gone_early : (old at : World) (t : ℕ) (choice : Choice) (made times : ℕ) → at ≡ world_after old (replicate made (t, choice)) → made ≤ times → is_gone_at at t ≡ true → at ≡ world_after old (replicate times (t, choice))
+gone_early : (old at : World) (t : ℕ) (choice : Choice) (made times : ℕ) → at ≡ world_after old (repeated t choice made) → made ≤ times → is_gone_at at t ≡ true → at ≡ world_after old (repeated t choice times)
 gone_early old at t choice made times so_far le gone =
-    let more = replicate (times - made) (t, choice) in
+    let more : List (ℕ × Choice) = repeated t choice (times - made) in
     sym (gone_steps at t choice (times - made) gone)
     ∙ ap (λ (w : World). world_after w more) so_far
-    ∙ sym (after_both old (replicate made (t, choice)) more)
+    ∙ sym (after_both old (repeated t choice made) more)
     ∙ ap (world_after old) (sym (split_times t choice made times le))
 
-pub stopped_at : (old at new : World) (t : ℕ) (choice : Choice) (made times : ℕ) → at ≡ world_after old (replicate made (t, choice)) → made ≤ times → new ≡ at → StandsWithin old (replicate times (t, choice)) new
+answered_gone : (at new : World) (t : ℕ) (did : Did) → IsAnswer at t new did → did ≡ dids.Gone → is_gone_at at t ≡ true
+answered_gone at new t did answer is = subst (λ (d : Did). IsAnswer at t new d) is answer
+
+pub gone_done : (old at new : World) (number t : ℕ) (choice : Choice) (did : Did) (made times : ℕ) → number ≡ t → at ≡ world_after old (repeated t choice made) → made ≤ times → new ≡ step at number choice
+    → IsAnswer at number new did → did ≡ dids.Gone → new ≡ world_after old (repeated t choice times)
+gone_done old at new number t choice did made times same so_far le e answer is =
+    let gone : is_gone_at at t ≡ true = subst (λ (n : ℕ). is_gone_at at n ≡ true) same (answered_gone at new number did answer is) in
+    e ∙ ap (λ (n : ℕ). step at n choice) same ∙ gone_step at t choice gone ∙ gone_early old at t choice made times so_far le gone
+
+pub on_err : {T E P : Type 0} (r : Result T E) → P → OnErr r P
+on_err (Ok x) p = tt
+on_err (Err e) p = p
+
+pub stopped_at : (old at new : World) (t : ℕ) (choice : Choice) (made times : ℕ) → at ≡ world_after old (repeated t choice made) → made ≤ times → new ≡ at → StandsWithin old (repeated t choice times) new
 stopped_at old at new t choice made times so_far le same = record {
-  made = replicate made (t, choice);
-  left = replicate (times - made) (t, choice);
+  made = repeated t choice made;
+  left = repeated t choice (times - made);
   parts = split_times t choice made times le;
   stands = same ∙ so_far;
 }
@@ -74,12 +90,7 @@ stopped_at old at new t choice made times so_far le same = record {
 events_push : (front : List Steps) (line : Steps) (back : List Steps) → events_of (front ++ line ∷ back) ≡ events_of front ++ (events_of_line line ++ events_of back)
 events_push front line back = flat_map-append events_of_line front (line ∷ back)
 
-pub line_more : (old at new : World) (front : List Steps) (line : Steps) → at ≡ world_after old (events_of front) → new ≡ world_after at (events_of_line line) → new ≡ world_after old (events_of (front ++ line ∷ []))
-line_more old at new front line so_far e =
-    e ∙ ap (λ (w : World). world_after w (events_of_line line)) so_far ∙ sym (after_both old (events_of front) (events_of_line line))
-    ∙ ap (λ (es : List (ℕ × Choice)). world_after old (events_of front ++ es)) (sym (append-nil (events_of_line line))) ∙ ap (world_after old) (sym (events_push front line []))
-
-pub stopped_in : (old at new : World) (front : List Steps) (line : Steps) (back all : List Steps) → at ≡ world_after old (events_of front) → StandsWithin at (events_of_line line) new → all ≡ front ++ line ∷ back → StandsWithin old (events_of all) new
+stopped_in : (old at new : World) (front : List Steps) (line : Steps) (back all : List Steps) → at ≡ world_after old (events_of front) → StandsWithin at (events_of_line line) new → all ≡ front ++ line ∷ back → StandsWithin old (events_of all) new
 stopped_in old at new front line back all so_far h e = record {
   made = events_of front ++ h.made;
   left = h.left ++ events_of back;
@@ -90,3 +101,7 @@ stopped_in old at new front line back all so_far h e = record {
       ∙ sym (append_assoc (events_of front) h.made (h.left ++ events_of back));
   stands = h.stands ∙ ap (λ (w : World). world_after w h.made) so_far ∙ sym (after_both old (events_of front) h.made);
 }
+
+pub stopped_after : (old at new : World) (all : List Steps) (index : ℕ) (d : Steps) → at ≡ world_after old (events_of (take index all)) → index < length all → StandsWithin at (events_of_line (get_or all index d)) new
+    → StandsWithin old (events_of all) new
+stopped_after old at new all index d so_far lt h = stopped_in old at new (take index all) (get_or all index d) (drop (suc index) all) all so_far h (split_at all index d lt)

@@ -31,7 +31,7 @@ impl World<'_> {
     {
         let thread = usize::from(line.thread);
         for _ in 0..line.times {
-            if self.step(thread, line.choice)? == Did::Gone {
+            if let Did::Gone = self.step(thread, line.choice)? {
                 return Ok(());
             }
         }
