@@ -1,2 +1,6 @@
-pub mod Straight
-pub mod Refusals
+pub mod Same
+pub mod Steps
+pub mod Walks
+pub mod Filling
+pub mod Points
+pub mod Tables

@@ -1,12 +1,52 @@
 -- What a refusal says.
-use Rattle.std.specs.Prelude.{◌≡◌, List, Contains}
+use Rattle.std.specs.Prelude.{◌≡◌, ◌⊎◌, ℕ, List, Contains, Option, Some, slice_get}
 use Rattle.brc_lang.specs.declared.module.Function.{Function}
+use Rattle.brc_lang.specs.declared.module.Instr.{Instr}
+use Rattle.brc_model.specs.declared.code.CheckCode.{CheckCode}
+use Rattle.brc_model.specs.declared.code.CheckCode.TheVariants.{StatesDiffer, NoMemory}
+use Rattle.brc_model.specs.declared.slot.State.{State}
 use Rattle.brc_model.specs.Walks.{MeetsCode}
+use Rattle.brc_model.specs.Tables.{StatesDifferAt, HasShape, row_of}
 use Rattle.brc_check.specs.declared.refused.Refused.{Refused}
+use Rattle.brc_check.specs.Rows.{IsFaultAt}
 
--- it names a function, and what a walk through that function meets
+-- a walk meets the code at the point, or two walks reach the point in different states
+abbrev pub IsMet : List Instr → ℕ → CheckCode → Type 0
+IsMet code at met = MeetsCode code at met ⊎ ((met ≡ StatesDiffer) × StatesDifferAt code at)
+
+-- it names a function, and what is met in that function
 pub record IsRefusedFor (functions : List Function) (r : Refused) : Type 0 where
   pub function : Function
   pub stands : Contains functions function
   pub named : function.name ≡ r.function
-  pub meets : MeetsCode function.code r.at r.code
+  pub met : IsMet function.code r.at r.code
+
+abbrev pub IsForMemory : Refused → Type 0
+IsForMemory r = r.code ≡ NoMemory
+
+-- want of memory, or what is met
+abbrev pub IsRefusal : List Function → Refused → Type 0
+IsRefusal functions r = IsForMemory r ⊎ IsRefusedFor functions r
+
+-- ---- tables
+
+-- it names the first function and its first point
+pub record IsShapeFault (functions : List Function) (table : List (List (Option State))) (r : Refused) : Type 0 where
+  pub other_shape : HasShape functions table → ⊥
+  pub first : Function
+  pub stands : slice_get functions 0 ≡ Some first
+  pub named : first.name ≡ r.function
+  pub begins : r.at ≡ 0
+  pub code : r.code ≡ StatesDiffer
+
+-- the shape is right; it names a function, and what its row is refused for
+pub record IsRowFault (functions : List Function) (table : List (List (Option State))) (r : Refused) : Type 0 where
+  pub shape : HasShape functions table
+  pub number : ℕ
+  pub function : Function
+  pub stands : slice_get functions number ≡ Some function
+  pub named : function.name ≡ r.function
+  pub fault : IsFaultAt function.code (row_of table number) r.at r.code
+
+abbrev pub IsTableFault : List Function → List (List (Option State)) → Refused → Type 0
+IsTableFault functions table r = IsShapeFault functions table r ⊎ IsRowFault functions table r

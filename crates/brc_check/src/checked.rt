@@ -1,36 +1,44 @@
 ghost use Rattle.std.specs.Prelude.{◌≡◌};
 ghost use Rattle.brc_lang.specs.Grammar.{IsModule};
 ghost use Rattle.brc_model.specs.Walks.{IsAcceptable};
+ghost use Rattle.brc_model.specs.Tables.{IsTrueWhereReached};
 
+use crate::table::Table;
 use brc_lang::Module;
 use std::marker::Model;
 
-/// A module that was accepted. Only the checker makes one.
+/// A module that was accepted, with the table that shows it. Only the checker makes one.
 #[derive(Debug, Drop)]
 pub struct Checked {
     module: Module,
+    table: Table,
 }
 
 impl Model for Checked {
     ghost use Rattle.brc_lang.specs.declared.module.Module.{Module};
     ghost use Rattle.brc_lang.specs.Grammar.{IsModule};
     ghost use Rattle.brc_model.specs.Walks.{IsAcceptable};
+    ghost use Rattle.brc_model.specs.Tables.{IsTrueWhereReached};
 
     ghost Value = { Module };
 
     ghost view = { λ c. c.module };
 
-    ghost invariant = { λ c. IsModule c.module × IsAcceptable c.module };
+    ghost invariant = { λ c. IsModule c.module × IsAcceptable c.module × IsTrueWhereReached c.module c.table };
 }
 
 impl Checked {
     /// The module as an accepted one.
-    pub(crate) fn new(accepted: Module) -> Checked
+    pub(crate) fn new(accepted: Module, table: Table) -> Checked
         requires fits { IsModule accepted }
         requires acceptable { IsAcceptable accepted }
+        requires truth { IsTrueWhereReached accepted table }
         ensures { result ≡ accepted }
     {
-        Checked { module: accepted }
+        Checked {
+            module: accepted,
+            table,
+        }
     }
 
     /// The module.
@@ -40,5 +48,12 @@ impl Checked {
         ensures accepted { IsAcceptable self.now }
     {
         &self.module
+    }
+
+    /// The table that shows why the module was accepted.
+    pub fn table(&self) -> &Table
+        ensures { IsTrueWhereReached self.now result.now }
+    {
+        &self.table
     }
 }

@@ -1,12 +1,11 @@
 //! One instruction: what it asks of a state, and what it leaves.
 
-ghost use Rattle.std.specs.Prelude.{◌≡◌, ℕ, ◌+◌, if◌then◌else◌};
+ghost use Rattle.std.specs.Prelude.{◌≡◌, ◌+◌, ◌<◌, ◌^◌};
 ghost use Rattle.std.specs.List.{list_any};
-ghost use Rattle.brc_model.specs.declared.slot.Exit.{Exit};
 ghost use Rattle.brc_model.specs.Slots.{slot_of, is_owned, kind_of, names, lowest, after, target};
 
 use brc_lang::{Instr, Kind, Variable};
-use brc_model::{CheckCode, Slot, State};
+use brc_model::{CheckCode, Exit, Slot, State};
 
 fn slot(state: &State, variable: Variable) -> Slot
     ensures { result ≡ slot_of state.now variable }
@@ -100,10 +99,11 @@ pub fn refusal(instr: Instr, state: &State) -> Option<CheckCode>
     }
 }
 
-/// What the instruction leaves in the variables where it leads on. It ends alike by both exits.
-pub fn apply(instr: Instr, state: &mut State)
-    ensures { (exit : Exit) → state.new ≡ after instr exit state.old }
+/// What the instruction leaves in the variables where an exit of it leads on.
+pub fn apply(instr: Instr, exit: Exit, state: &mut State)
+    ensures { state.new ≡ after instr exit state.old }
 {
+    let _alike = exit;
     match instr {
         Instr::Newref { to, from } => {
             let kind = kind_of(slot(state, from));
@@ -114,9 +114,14 @@ pub fn apply(instr: Instr, state: &mut State)
     }
 }
 
-/// Whether the call ends with the instruction. After each other one stands the next.
-pub fn ends_call(instr: Instr) -> bool
-    ensures { (exit : Exit) (at : ℕ) → target instr exit at ≡ (if result then None else Some (at + 1)) }
+/// The point that an exit of the instruction at a point leads to, or none where the call ends with it.
+pub fn target_of(instr: Instr, exit: Exit, at: usize) -> Option<usize>
+    requires { at + 1 < 2 ^ 64 }
+    ensures { result ≡ target instr exit at }
 {
-    matches!(instr, Instr::Ret { .. } | Instr::Fail)
+    let _alike = exit;
+    match instr {
+        Instr::Newref { .. } | Instr::Drop { .. } => Some(at + 1),
+        Instr::Ret { .. } | Instr::Fail => None,
+    }
 }

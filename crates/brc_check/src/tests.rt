@@ -2,7 +2,7 @@ ghost use Rattle.std.specs.Prelude.{◌≡◌, ◌≢◌, ◌<◌, ◌≤◌, le
 ghost use Rattle.brc_lang.specs.Grammar.{is_name, IsInstruction, IsFunction, IsModule};
 
 use super::*;
-use brc_lang::{Function, Instr, Module, Name, Sequence, Variable};
+use brc_lang::{Function, Instr, Kind, Module, Name, Sequence, Variable};
 use std::alloc::{AllocError, Global};
 use std::test::*;
 
@@ -101,7 +101,7 @@ fn one_function(rt: HostRuntime) -> Result<(), Fail> {
     for (i, (code, want)) in cases.iter().enumerate() {
         assert!(rt; !code.is_empty() && code.len() <= 256);
         let module = module_of(rt.alloc(), function(rt.alloc(), b"f", code)?)?;
-        let met = check(module)
+        let met = check(rt.alloc(), module)
             .err()
             .map(|refused| (refused.at, refused.code));
         assert_eq!(rt; met, *want, "at case {i}");
@@ -118,7 +118,7 @@ fn second_function(rt: HostRuntime) -> Result<(), Fail> {
         b"second",
         &[Instr::Drop { from: v0 }, Instr::Fail],
     )?;
-    let refused = check(module_of_two(rt.alloc(), first, second)?)
+    let refused = check(rt.alloc(), module_of_two(rt.alloc(), first, second)?)
         .err()
         .ok_or("the second function gives up what it borrows")?;
     assert_eq!(rt; refused.function.as_bytes(), b"second".as_slice());
@@ -130,9 +130,102 @@ fn second_function(rt: HostRuntime) -> Result<(), Fail> {
 #[test]
 fn accepted_module(rt: HostRuntime) -> Result<(), Fail> {
     let only = function(rt.alloc(), b"only", &[Instr::Fail])?;
-    let checked = check(module_of(rt.alloc(), only)?)
+    let checked = check(rt.alloc(), module_of(rt.alloc(), only)?)
         .ok()
         .ok_or("nothing is owned at the end")?;
     assert_eq!(rt; checked.module().functions.len(), 1);
+    Ok(())
+}
+
+/// `newref v1 v0`, `drop v1`, `fail`.
+fn taken_and_dropped(alloc: Global) -> Result<Module, AllocError>
+    ensures { IfOk result (λ m. IsModule m) }
+{
+    let v0 = Variable::new(0);
+    let v1 = Variable::new(1);
+    let code = [
+        Instr::Newref { to: v1, from: v0 },
+        Instr::Drop { from: v1 },
+        Instr::Fail,
+    ];
+    module_of(alloc, function(alloc, b"f", &code)?)
+}
+
+/// The state with v1 as given: v0 is the caller's list, and the others are empty.
+fn with_v1(slot: Slot) -> State {
+    let mut slots = [Slot::Empty; 16];
+    slots[0] = Slot::Caller(Kind::List);
+    slots[1] = slot;
+    State {
+        slots,
+        locked: None,
+    }
+}
+
+#[test]
+fn true_table(rt: HostRuntime) -> Result<(), Fail> {
+    let module = taken_and_dropped(rt.alloc())?;
+    let table = infer(rt.alloc(), &module)
+        .ok()
+        .ok_or("nothing is owned at the end, and memory is ample")?;
+    let want = [
+        Some(with_v1(Slot::Empty)),
+        Some(with_v1(Slot::Owned(Kind::List))),
+        Some(with_v1(Slot::Empty)),
+        None,
+    ];
+    for (at, entry) in want.iter().enumerate() {
+        assert_eq!(rt; table.entry(0, at), *entry, "at point {at}");
+    }
+    assert_eq!(rt; table.entry(1, 0), None);
+    let checked = verify(module, table)
+        .ok()
+        .ok_or("the table is the true one")?;
+    assert_eq!(rt; checked.table().entry(0, 1), want[1]);
+    Ok(())
+}
+
+#[test]
+fn changed_entries(rt: HostRuntime) -> Result<(), Fail> {
+    for at in 0..3usize {
+        for wrong in [None, Some(with_v1(Slot::Owned(Kind::Num)))] {
+            let module = taken_and_dropped(rt.alloc())?;
+            let mut table = infer(rt.alloc(), &module).ok().ok_or("a true table")?;
+            assert!(rt; table.change(0, at, wrong));
+            let met = verify(module, table)
+                .err()
+                .map(|refused| (refused.at, refused.code));
+            assert_eq!(rt; met, Some((at, CheckCode::StatesDiffer)), "at point {at}");
+        }
+    }
+    Ok(())
+}
+
+#[test]
+fn changed_outside(rt: HostRuntime) -> Result<(), Fail> {
+    let module = taken_and_dropped(rt.alloc())?;
+    let mut table = infer(rt.alloc(), &module).ok().ok_or("a true table")?;
+    assert!(rt; !table.change(0, 3, None));
+    assert!(rt; !table.change(1, 0, None));
+    assert!(rt; verify(module, table).is_ok());
+    Ok(())
+}
+
+#[test]
+fn other_shapes(rt: HostRuntime) -> Result<(), Fail> {
+    let f = function(rt.alloc(), b"f", &[Instr::Fail])?;
+    let g = function(rt.alloc(), b"g", &[Instr::Fail])?;
+    let two = module_of_two(rt.alloc(), f, g)?;
+    let one = module_of(rt.alloc(), function(rt.alloc(), b"f", &[Instr::Fail])?)?;
+    let three_points = taken_and_dropped(rt.alloc())?;
+    let two_rows = infer(rt.alloc(), &two).ok().ok_or("a true table")?;
+    let one_point = infer(rt.alloc(), &one).ok().ok_or("a true table")?;
+    let cases = [verify(one, two_rows), verify(three_points, one_point)];
+    for case in cases {
+        let refused = case.err().ok_or("a table of another shape")?;
+        assert_eq!(rt; refused.function.as_bytes(), b"f".as_slice());
+        assert_eq!(rt; refused.at, 0);
+        assert_eq!(rt; refused.code, CheckCode::StatesDiffer);
+    }
     Ok(())
 }

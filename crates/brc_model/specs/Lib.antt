@@ -1,5 +1,6 @@
 pub mod Slots
 pub mod Walks
+pub mod Tables
 pub mod Plain
 pub mod Threads
 pub mod Steps

@@ -1,0 +1,14 @@
+use Rattle.std.proofs.Common.{refl}
+use Rattle.brc_check.proofs.Same.{each_kind, each_slot, same_slots}
+use Rattle.brc_check.proofs.state.same_slots.Goals as goal
+
+-- each pair of slots is told apart by the slots' numbers
+pub returns : goal.returns
+returns c =
+    same_slots _ c.args.one.now c.args.other.now c.eq.result
+    (each_slot _
+    (each_slot _ refl (each_kind _ refl refl refl refl refl refl) (each_kind _ refl refl refl refl refl refl) (each_kind _ refl refl refl refl refl refl))
+    (each_kind _ (each_slot _ refl (each_kind _ refl refl refl refl refl refl) (each_kind _ refl refl refl refl refl refl) (each_kind _ refl refl refl refl refl refl)) (each_slot _ refl (each_kind _ refl refl refl refl refl refl) (each_kind _ refl refl refl refl refl refl) (each_kind _ refl refl refl refl refl refl)) (each_slot _ refl (each_kind _ refl refl refl refl refl refl) (each_kind _ refl refl refl refl refl refl) (each_kind _ refl refl refl refl refl refl)) (each_slot _ refl (each_kind _ refl refl refl refl refl refl) (each_kind _ refl refl refl refl refl refl) (each_kind _ refl refl refl refl refl refl)) (each_slot _ refl (each_kind _ refl refl refl refl refl refl) (each_kind _ refl refl refl refl refl refl) (each_kind _ refl refl refl refl refl refl)) (each_slot _ refl (each_kind _ refl refl refl refl refl refl) (each_kind _ refl refl refl refl refl refl) (each_kind _ refl refl refl refl refl refl)))
+    (each_kind _ (each_slot _ refl (each_kind _ refl refl refl refl refl refl) (each_kind _ refl refl refl refl refl refl) (each_kind _ refl refl refl refl refl refl)) (each_slot _ refl (each_kind _ refl refl refl refl refl refl) (each_kind _ refl refl refl refl refl refl) (each_kind _ refl refl refl refl refl refl)) (each_slot _ refl (each_kind _ refl refl refl refl refl refl) (each_kind _ refl refl refl refl refl refl) (each_kind _ refl refl refl refl refl refl)) (each_slot _ refl (each_kind _ refl refl refl refl refl refl) (each_kind _ refl refl refl refl refl refl) (each_kind _ refl refl refl refl refl refl)) (each_slot _ refl (each_kind _ refl refl refl refl refl refl) (each_kind _ refl refl refl refl refl refl) (each_kind _ refl refl refl refl refl refl)) (each_slot _ refl (each_kind _ refl refl refl refl refl refl) (each_kind _ refl refl refl refl refl refl) (each_kind _ refl refl refl refl refl refl)))
+    (each_kind _ (each_slot _ refl (each_kind _ refl refl refl refl refl refl) (each_kind _ refl refl refl refl refl refl) (each_kind _ refl refl refl refl refl refl)) (each_slot _ refl (each_kind _ refl refl refl refl refl refl) (each_kind _ refl refl refl refl refl refl) (each_kind _ refl refl refl refl refl refl)) (each_slot _ refl (each_kind _ refl refl refl refl refl refl) (each_kind _ refl refl refl refl refl refl) (each_kind _ refl refl refl refl refl refl)) (each_slot _ refl (each_kind _ refl refl refl refl refl refl) (each_kind _ refl refl refl refl refl refl) (each_kind _ refl refl refl refl refl refl)) (each_slot _ refl (each_kind _ refl refl refl refl refl refl) (each_kind _ refl refl refl refl refl refl) (each_kind _ refl refl refl refl refl refl)) (each_slot _ refl (each_kind _ refl refl refl refl refl refl) (each_kind _ refl refl refl refl refl refl) (each_kind _ refl refl refl refl refl refl))))
+    c.eq.ensures

@@ -1,0 +1,51 @@
+-- Tables: for each function, for each point its state, or none where no walk comes.
+use Rattle.std.specs.Prelude.{◌≡◌, ◌≢◌, ◌↔◌, ℕ, List, [], length, Option, None, Some, slice_get}
+use Rattle.std.specs.List.{slice_index_or}
+use Rattle.brc_lang.specs.declared.module.Instr.{Instr}
+use Rattle.brc_lang.specs.declared.module.Function.{Function}
+use Rattle.brc_lang.specs.declared.module.Module.{Module}
+use Rattle.brc_model.specs.declared.slot.State.{State}
+use Rattle.brc_model.specs.declared.slot.Exit.{Exit}
+use Rattle.brc_model.specs.Walks.{At, walk}
+
+-- some walk reaches the point in the state
+pub record Reaches (code : List Instr) (at : ℕ) (s : State) : Type 0 where
+  pub exits : List Exit
+  pub reaches : walk code exits ≡ At at s
+
+-- two walks reach the point in different states
+pub record StatesDifferAt (code : List Instr) (at : ℕ) : Type 0 where
+  pub one : State
+  pub other : State
+  pub first : Reaches code at one
+  pub second : Reaches code at other
+  pub apart : one ≢ other
+
+-- ---- entries
+
+-- the entry is a state exactly where some walk reaches the point in it
+abbrev pub IsTrueEntry : List Instr → ℕ → Option State → Type 0
+IsTrueEntry code at entry = (s : State) → (entry ≡ Some s) ↔ Reaches code at s
+
+-- the entries of a function, and the entry of a point among them: none past the last
+abbrev pub row_of : List (List (Option State)) → ℕ → List (Option State)
+row_of table function = slice_index_or table function []
+
+abbrev pub entry_at : List (Option State) → ℕ → Option State
+entry_at row at = slice_index_or row at None
+
+-- ---- tables
+
+-- a row for each function, an entry for each of its points
+pub record HasShape (functions : List Function) (table : List (List (Option State))) : Type 0 where
+  pub rows : length table ≡ length functions
+  pub points : (number : ℕ) (f : Function) → slice_get functions number ≡ Some f → length (row_of table number) ≡ length f.code
+
+pub record IsTrueTable (m : Module) (table : List (List (Option State))) : Type 0 where
+  pub shape : HasShape m.functions table
+  pub entries : (number at : ℕ) (f : Function) → slice_get m.functions number ≡ Some f → IsTrueEntry f.code at (entry_at (row_of table number) at)
+
+-- each point that a walk reaches has the walk's state; of the others nothing is said
+pub record IsTrueWhereReached (m : Module) (table : List (List (Option State))) : Type 0 where
+  pub shape : HasShape m.functions table
+  pub entries : (number at : ℕ) (f : Function) (s : State) → slice_get m.functions number ≡ Some f → Reaches f.code at s → entry_at (row_of table number) at ≡ Some s
