@@ -1,12 +1,20 @@
 //! Checks and runs native extension modules.
 #![tactic(auto)]
 
+mod accepted;
 mod act;
+mod calls;
 mod command;
 mod load;
 mod report;
 mod run;
+mod shown;
+mod step_fault;
+mod step_text;
 mod stop;
+mod texts;
+#[cfg(test)]
+mod step_tests;
 #[cfg(test)]
 mod tests;
 
