@@ -11,7 +11,7 @@ use Rattle.brc_model.specs.declared.thread.Choice.{Choice}
 use Rattle.brc_model.specs.declared.thread.Control.{Control}
 use Rattle.brc_model.specs.declared.thread.Control.TheVariants.{Standing, Inside, Gone}
 use Rattle.brc_model.specs.declared.thread.Thread.{Thread}
-use Rattle.brc_model.specs.Threads.{Request, NoStep, request}
+use Rattle.brc_model.specs.Threads.{NoStep, request}
 use Rattle.brc_model.specs.Steps.{World, Scene, step, stepped, request_of_thread, code_of, next_scene, scene_after}
 use Rattle.brc_model.specs.Safety.{is_gone}
 use Rattle.brc_world.specs.declared.schedule.Steps.{Steps}

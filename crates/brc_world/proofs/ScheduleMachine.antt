@@ -1,5 +1,5 @@
 -- Reading a schedule line by line, as a function of the text: what a text spells, and which fault it has, follows from it.
-use Rattle.std.proofs.Common.{◌≡◌, ℕ, ◌+◌, ◌^◌, ◌<◌, ◌≤◌, true, false, cond, eqb, ltb, ◌&&◌, List, [], ◌∷◌, ◌++◌, length, drop, Option, Some, None, Result, Ok, Err, refl, sym, ap, ◌∙◌, append_assoc, add-zero, arith, inl, inr}
+use Rattle.std.proofs.Common.{◌≡◌, ℕ, ◌+◌, ◌^◌, ◌<◌, ◌≤◌, true, false, cond, eqb, ◌&&◌, List, [], ◌∷◌, ◌++◌, length, drop, Some, None, Result, Ok, Err, refl, sym, ap, ◌∙◌, append_assoc, add-zero, arith, inl, inr}
 use Rattle.std.specs.Prelude.{codes, nat_eq}
 use Rattle.std.specs.List.{list_any, slice_split, before_first, after_first, position_or_len, starts_with, AllByRecursion}
 use Rattle.std.specs.Fmt.{decimal}
@@ -18,7 +18,7 @@ use Rattle.brc_world.specs.declared.beginning.Beginning.TheVariants.{Opened, Sta
 use Rattle.brc_world.specs.declared.schedule.PlannedCall.{PlannedCall}
 use Rattle.brc_world.specs.declared.schedule.Schedule.{Schedule}
 use Rattle.brc_world.specs.declared.schedule.Steps.{Steps}
-use Rattle.brc_world.specs.ScheduleText.{spaced, line_of, size_words, call_words, choice_word, step_words, first_line, workers_line, rows_line, calls_from, steps_text, text, AreSizes, IsPlannedCall, AreSteps}
+use Rattle.brc_world.specs.ScheduleText.{spaced, line_of, size_words, call_words, choice_word, step_words, first_line, workers_line, rows_line, calls_from, steps_text, text, IsPlannedCall, AreSteps}
 use Rattle.brc_world.specs.ScheduleFault.{next_of, is_whole, fault_in, fault_of, beginning, IsPlan, IsBeginning}
 use Rattle.brc_world.proofs.ScheduleWords.{IsPlain, size_again, call_again, steps_again, size_plain, call_plain, steps_plain, line_words, line_plain}
 

@@ -1,4 +1,5 @@
-//! The step world: threads that take one step at a time over an accepted module, one count an object, and what was closed.
+//! The step world: threads that take one step at a time over an accepted module, one count an object, and what was closed;
+//! and the schedules that list such steps.
 #![tactic(auto)]
 
 mod beginning;
@@ -14,12 +15,14 @@ mod schedule_reading;
 mod tally;
 mod world;
 
-pub use laws::one_schedule;
+pub use laws::{one_schedule, runs_follow_scenes};
 pub use no_memory::NoMemory;
 pub use schedule::{PlannedCall, Schedule, Steps};
 pub use schedule_reading::read_schedule;
 pub use tally::{Left, Tally};
 pub use world::{Did, World};
 
+#[cfg(test)]
+mod schedule_tests;
 #[cfg(test)]
 mod tests;

@@ -1,4 +1,4 @@
-use Rattle.std.proofs.Common.{ℕ, ◌+◌, ◌^◌, ◌<◌, length}
+use Rattle.std.proofs.Common.{◌+◌, ◌^◌, ◌<◌, length}
 use Rattle.brc_world.proofs.ScheduleReading.{IsReadTo}
 use Rattle.brc_world.proofs.schedule_reading.read_lines.Given as goal
 

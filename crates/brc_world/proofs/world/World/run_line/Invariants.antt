@@ -1,4 +1,4 @@
-use Rattle.std.proofs.Common.{◌≡◌, ◌<◌, length, replicate}
+use Rattle.std.proofs.Common.{◌≡◌, length, replicate}
 use Rattle.brc_world.specs.Runs.{world_after}
 use Rattle.brc_world.proofs.world.World.run_line.Given as goal
 
