@@ -1,21 +1,19 @@
 -- A row that is filled in, point by point.
-use Rattle.std.proofs.Common.{◌≡◌, ◌≢◌, ℕ, zero, suc, ◌+◌, ◌-◌, ◌<◌, ◌≤◌, Bool, true, false, cond, List, [], ◌∷◌, length, Option, refl, sym, ap, ◌∙◌, subst, inl, inr, arith}
+use Rattle.std.proofs.Common.{◌≡◌, ℕ, zero, suc, ◌+◌, ◌-◌, ◌<◌, ◌≤◌, cond, List, ◌∷◌, length, Option, refl, sym, ap, ◌∙◌, subst, inl, inr, arith}
 use Rattle.std.specs.Prelude.{None, Some, ◌⊎◌, replicate, is_none, slice_set}
-use Rattle.std.specs.List.{slice_index_or}
 use Rattle.std.proofs.lemmas.Bool.{cases_lt}
 use Rattle.std.proofs.lemmas.Bool.{cases_eq}
 use Rattle.std.proofs.lemmas.List.{length-set, length-replicate, get_or-set_same, get_or-set_other, get_or_past}
 use Rattle.std.proofs.lemmas.Option.{none-some, same_Some}
 use Rattle.brc_lang.specs.declared.module.Instr.{Instr}
 use Rattle.brc_model.specs.declared.code.CheckCode.{CheckCode}
-use Rattle.brc_model.specs.declared.code.CheckCode.TheVariants.{StatesDiffer}
 use Rattle.brc_model.specs.declared.slot.State.{State}
 use Rattle.brc_model.specs.declared.slot.Exit.{Exit}
 use Rattle.brc_model.specs.declared.slot.Exit.TheVariants.{Success, Fault}
 use Rattle.brc_model.specs.Slots.{entry}
 use Rattle.brc_model.specs.Walks.{Place, At, Ended, Meets, follow, MeetsCode}
 use Rattle.brc_model.specs.Tables.{Reaches, StatesDifferAt, entry_at}
-use Rattle.brc_check.specs.Rows.{StaysOn, IsClosed, IsClosedAt, IsBlocked}
+use Rattle.brc_check.specs.Rows.{StaysOn, IsClosed, IsBlocked}
 use Rattle.brc_check.specs.Filling.{settled, settled_at, IsFilledTo, IsInferred}
 use Rattle.brc_check.specs.Refusal.{IsMet}
 use Rattle.brc_check.proofs.Steps.{ahead-At}

@@ -1,6 +1,6 @@
-use Rattle.std.proofs.Common.{length, subst, arith, ◌≡◌, ℕ}
+use Rattle.std.proofs.Common.{length, subst, arith, ◌≡◌}
 use Rattle.brc_check.specs.Filling.{IsFilledTo}
-use Rattle.brc_check.proofs.Filling.{filled_first, filled_last}
+use Rattle.brc_check.proofs.Filling.{filled_last}
 use Rattle.brc_check.proofs.inferring.fill.Goals as goal
 
 pub returns : goal.returns

@@ -1,5 +1,5 @@
 use Rattle.brc_check.proofs.Points.{entry_read, first_met, second_met}
-use Rattle.std.proofs.Common.{◌∙◌, sym, arith}
+use Rattle.std.proofs.Common.{arith}
 use Rattle.brc_check.proofs.inferring.lead_on.Goals as goal
 
 pub returns-in-Some-lead : goal.returns-in-Some-lead

@@ -1,4 +1,4 @@
-use Rattle.brc_check.proofs.Points.{closed_row, entry_fault}
+use Rattle.brc_check.proofs.Points.{closed_row}
 use Rattle.brc_check.proofs.verifying.row_fault.Goals as goal
 
 pub returns : goal.returns
