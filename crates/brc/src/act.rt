@@ -85,8 +85,9 @@ fn step_files<'a, L: Load, W: Write>(
 ) -> Result<(), Stop<'a>> {
     let module = bytes_of(alloc, file, load)?;
     let schedule = bytes_of(alloc, schedule, load)?;
-    step_text(alloc, module.as_slice(), schedule.as_slice(), out)
-        .map_err(|fault| Stop::Fault(fault))
+    step_text(alloc, module.as_slice(), schedule.as_slice(), out).map_err(|fault| Stop::Fault(
+        fault,
+    ))
 }
 
 fn bytes_of<'a, L: Load>(alloc: Global, file: &str, load: &mut L) -> Result<Vec<u8>, Stop<'a>> {

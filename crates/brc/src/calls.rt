@@ -20,11 +20,7 @@ fn number_of(functions: &[Function], name: &[u8]) -> Option<usize>
 }
 
 /// The schedule's calls, each of the first function of its name.
-pub fn calls_of(
-    alloc: Global,
-    module: &Module,
-    schedule: &Schedule,
-) -> Result<Vec<Call>, StepFault>
+pub fn calls_of(alloc: Global, module: &Module, schedule: &Schedule) -> Result<Vec<Call>, StepFault>
     requires { IsSchedule schedule.now }
     ensures found { IfOk result (λ calls. calls.items ≡ calls_of module.now schedule.now.calls) }
     ensures known { OnOk result (AreKnown module.now schedule.now.calls) }

@@ -14,14 +14,9 @@ const MOST_TIMES: u32 = 1_000_000;
 pub enum Asked<'a> {
     Run(Run<'a>),
     /// To check the module of the file.
-    Check {
-        file: &'a str,
-    },
+    Check { file: &'a str },
     /// To step the second file's schedule over the first one's module.
-    Step {
-        file: &'a str,
-        schedule: &'a str,
-    },
+    Step { file: &'a str, schedule: &'a str },
 }
 
 /// A run that the command line asks for.

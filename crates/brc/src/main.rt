@@ -10,13 +10,13 @@ mod report;
 mod run;
 mod shown;
 mod step_fault;
-mod step_text;
-mod stop;
-mod texts;
 #[cfg(test)]
 mod step_tests;
+mod step_text;
+mod stop;
 #[cfg(test)]
 mod tests;
+mod texts;
 
 use act::act;
 use load::Disk;

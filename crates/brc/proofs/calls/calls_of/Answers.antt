@@ -23,9 +23,10 @@ loop-call-preserved c =
     let looked = looked_up m call _ _ _ c.as_slice.ensures c.as_bytes.ensures.value c.number_of.ensures in
     let found = sym looked ∙ c.in-Some.is in
     let before = c.loop-call.invariant in
-    let pushed = c.in_ok-push.ensures.items ∙ made m call c.in-Some.function _ _ found before.0 in
-    (pushed ∙ calls_next m planned i call c.loop-call-test.true (sym c.call-item.is),
-    known_next m planned i call c.loop-call-test.true (sym c.call-item.is) before.1 (known_there m call c.in-Some.function found))
+    let pushed = c.in_ok-push.ensures.items ∙ made m call c.in-Some.function _ _ found before.0 in (
+      pushed ∙ calls_next m planned i call c.loop-call-test.true (sym c.call-item.is),
+      known_next m planned i call c.loop-call-test.true (sym c.call-item.is) before.1 (known_there m call c.in-Some.function found),
+    )
 
 pub returns-clause-calls_fit : goal.returns-clause-calls_fit
 returns-clause-calls_fit c =
