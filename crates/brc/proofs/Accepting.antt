@@ -1,5 +1,5 @@
 -- How many instructions a module has at most, and the line about it in three parts.
-use Rattle.std.proofs.Common.{Option, Result, Ok, Err, OnOk, subst, ◌≡◌, ◌++◌, ◌∙◌, ap, append_assoc, codes, sym, ℕ, ◌+◌, ◌*◌, ◌≤◌, List, [], ◌∷◌, length, arith}
+use Rattle.std.proofs.Common.{Option, Result, Ok, Err, OnOk, subst, ◌≡◌, ◌++◌, ◌∙◌, ap, append_assoc, codes, sym, ℕ, ◌*◌, ◌≤◌, List, [], ◌∷◌, length, arith}
 use Rattle.std.specs.List.{AllByRecursion}
 use Rattle.std.specs.Io.KnownBytes.{Appends}
 use Rattle.std.proofs.KnownBytes.{Appends-trans}
