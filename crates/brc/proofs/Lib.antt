@@ -1,0 +1,2 @@
+mod Accepting
+mod Calling

@@ -1,1 +1,4 @@
 pub mod Report
+pub mod Accepted
+pub mod Calls
+pub mod Texts

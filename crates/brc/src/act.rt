@@ -1,15 +1,17 @@
 ghost use Rattle.std.specs.Prelude.{◌≤◌, IfOk};
 ghost use Rattle.brc_model.specs.Safety.{IsCall};
 
-use crate::command::{Run, parse};
+use crate::accepted::write_accepted;
+use crate::command::{Asked, Run, parse};
 use crate::load::{Load, LoadError};
 use crate::report::write_tally;
 use crate::run::run;
+use crate::step_text::step_text;
 use crate::stop::Stop;
-use brc_check::{CheckCode, Checked, Refused, check};
-use brc_lang::{FaultCode, Module, ReadFault, read};
+use crate::texts::{accepted, module_of};
+use brc_check::Checked;
+use brc_lang::Module;
 use brc_model::Call;
-use brc_world::NoMemory;
 use clap::error::ErrorKind;
 use std::alloc::Global;
 use std::convert::AsStr;
@@ -42,18 +44,60 @@ fn carry_out<'a, S: AsStr, L: Load, W: Write>(
     load: &mut L,
     out: &mut W,
 ) -> Result<(), Stop<'a>> {
-    let asked = parse(alloc, words).map_err(|error| usage(error))?;
-    let checked = accepted(alloc, asked.file, load)?;
-    let call = call_of(checked.module(), &asked)?;
+    match parse(alloc, words).map_err(|error| usage(error))? {
+        Asked::Run(asked) => run_file(alloc, &asked, load, out),
+        Asked::Check { file } => check_file(alloc, file, load, out),
+        Asked::Step { file, schedule } => step_files(alloc, file, schedule, load, out),
+    }
+}
+
+fn run_file<'a, L: Load, W: Write>(
+    alloc: Global,
+    asked: &Run<'a>,
+    load: &mut L,
+    out: &mut W,
+) -> Result<(), Stop<'a>> {
+    let bytes = bytes_of(alloc, asked.file, load)?;
+    let checked = checked(alloc, bytes.as_slice())?;
+    let call = call_of(checked.module(), asked)?;
     let tally = run(alloc, &checked, asked.threads, call).map_err(|_| Stop::NoMemory)?;
     write_tally(&tally, out).map_err(|_| Stop::CannotWrite)
 }
 
-// The module of the file, read and accepted.
-fn accepted<'a, L: Load>(alloc: Global, file: &str, load: &mut L) -> Result<Checked, Stop<'a>> {
-    let bytes = load.load(alloc, file).map_err(|error| unloaded(error))?;
-    let module = read(alloc, bytes.as_slice()).map_err(|fault| unread(fault))?;
-    check(module).map_err(|refused| refusal(refused))
+fn check_file<'a, L: Load, W: Write>(
+    alloc: Global,
+    file: &str,
+    load: &mut L,
+    out: &mut W,
+) -> Result<(), Stop<'a>> {
+    let bytes = bytes_of(alloc, file, load)?;
+    let checked = checked(alloc, bytes.as_slice())?;
+    write_accepted(&checked, out).map_err(|_| Stop::CannotWrite)
+}
+
+// Both files are loaded before either is read.
+fn step_files<'a, L: Load, W: Write>(
+    alloc: Global,
+    file: &str,
+    schedule: &str,
+    load: &mut L,
+    out: &mut W,
+) -> Result<(), Stop<'a>> {
+    let module = bytes_of(alloc, file, load)?;
+    let schedule = bytes_of(alloc, schedule, load)?;
+    step_text(alloc, module.as_slice(), schedule.as_slice(), out).map_err(|fault| Stop::Fault(
+        fault,
+    ))
+}
+
+fn bytes_of<'a, L: Load>(alloc: Global, file: &str, load: &mut L) -> Result<Vec<u8>, Stop<'a>> {
+    load.load(alloc, file).map_err(|error| unloaded(error))
+}
+
+// The module of the text, read and accepted.
+fn checked<'a>(alloc: Global, bytes: &[u8]) -> Result<Checked, Stop<'a>> {
+    let module = module_of(alloc, bytes).map_err(|fault| Stop::Fault(fault))?;
+    accepted(alloc, module).map_err(|fault| Stop::Fault(fault))
 }
 
 fn call_of<'a>(module: &Module, asked: &Run<'a>) -> Result<Call, Stop<'a>>
@@ -81,19 +125,5 @@ fn unloaded<'a>(error: LoadError) -> Stop<'a> {
     match error {
         LoadError::Unreadable => Stop::UnreadableFile,
         LoadError::NoMemory => Stop::NoMemory,
-    }
-}
-
-fn unread<'a>(fault: ReadFault) -> Stop<'a> {
-    match fault.code {
-        FaultCode::NoMemory => Stop::NoMemory,
-        _ => Stop::UnreadableText(fault),
-    }
-}
-
-fn refusal<'a>(refused: Refused) -> Stop<'a> {
-    match refused.code {
-        CheckCode::NoMemory => Stop::NoMemory,
-        _ => Stop::Refused(refused),
     }
 }

@@ -9,6 +9,16 @@ const MOST_THREADS: u32 = 32;
 
 const MOST_TIMES: u32 = 1_000_000;
 
+/// What a command line asks for.
+#[derive(Clone, Copy, Debug)]
+pub enum Asked<'a> {
+    Run(Run<'a>),
+    /// To check the module of the file.
+    Check { file: &'a str },
+    /// To step the second file's schedule over the first one's module.
+    Step { file: &'a str, schedule: &'a str },
+}
+
 /// A run that the command line asks for.
 #[derive(Clone, Copy, Debug)]
 pub struct Run<'a> {
@@ -27,23 +37,34 @@ pub struct Run<'a> {
 }
 
 /// Reads the words of a command line, of which the first is the program's own name. A call for help is an error too.
-pub fn parse<'a, S: AsStr>(alloc: Global, words: &'a [S]) -> Result<Run<'a>, Error> {
+pub fn parse<'a, S: AsStr>(alloc: Global, words: &'a [S]) -> Result<Asked<'a>, Error> {
     let mut command = program(alloc)?;
     let matches = command.try_get_matches_from_mut(words)?;
-    match run_of(&matches) {
-        Some(run) => Ok(run),
+    match asked_in(&matches) {
+        Some(asked) => Ok(asked),
         None => Err(command.error(ErrorKind::MissingSubcommand, "a command is required")?),
     }
 }
 
 fn program<'a>(alloc: Global) -> Result<Command<'a>, AllocError> {
-    let run = Command::new(alloc, "run")
+    Command::new(alloc, "brc")
+        .about("Checks and runs native extension modules")
+        .subcommand_required(true)
+        .subcommand(check_command(alloc)?)?
+        .subcommand(run_command(alloc)?)?
+        .subcommand(step_command(alloc)?)
+}
+
+fn check_command<'a>(alloc: Global) -> Result<Command<'a>, AllocError> {
+    Command::new(alloc, "check")
+        .about("Checks a module and counts what it has")
+        .arg(file_argument(alloc))
+}
+
+fn run_command<'a>(alloc: Global) -> Result<Command<'a>, AllocError> {
+    Command::new(alloc, "run")
         .about("Checks a module and runs one of its functions")
-        .arg(
-            Arg::new(alloc, "FILE")
-                .required(true)
-                .help("The module's file"),
-        )?
+        .arg(file_argument(alloc))?
         .arg(
             Arg::new(alloc, "call")
                 .long("call")
@@ -66,25 +87,50 @@ fn program<'a>(alloc: Global) -> Result<Command<'a>, AllocError> {
                 .value_parser(value_parser!(u32).range(1..=i64::from(MOST_TIMES)))
                 .default_value("1")
                 .help("How often each thread calls it, 1 to 1000000"),
-        )?;
-    Command::new(alloc, "brc")
-        .about("Checks and runs native extension modules")
-        .subcommand_required(true)
-        .subcommand(run)
+        )
 }
 
-fn run_of<'a>(matches: &ArgMatches<'a>) -> Option<Run<'a>> {
-    let run = matches.subcommand_matches("run")?;
+fn step_command<'a>(alloc: Global) -> Result<Command<'a>, AllocError> {
+    Command::new(alloc, "step")
+        .about("Checks a module and takes the steps of a schedule over it")
+        .arg(file_argument(alloc))?
+        .arg(
+            Arg::new(alloc, "SCHEDULE")
+                .required(true)
+                .help("The schedule's file"),
+        )
+}
+
+fn file_argument<'a>(alloc: Global) -> Arg<'a> {
+    Arg::new(alloc, "FILE")
+        .required(true)
+        .help("The module's file")
+}
+
+fn asked_in<'a>(matches: &ArgMatches<'a>) -> Option<Asked<'a>> {
+    if let Some(check) = matches.subcommand_matches("check") {
+        let file = check.get_str("FILE")?;
+        return Some(Asked::Check { file });
+    }
+    if let Some(step) = matches.subcommand_matches("step") {
+        let file = step.get_str("FILE")?;
+        let schedule = step.get_str("SCHEDULE")?;
+        return Some(Asked::Step { file, schedule });
+    }
+    run_of(matches.subcommand_matches("run")?)
+}
+
+fn run_of<'a>(run: &ArgMatches<'a>) -> Option<Asked<'a>> {
     let threads = run.get_one("threads")?;
     let times = run.get_one("times")?;
     // The parser has seen to the ranges, but doesn't promise them of a subcommand's values.
     if threads == 0 || threads > MOST_THREADS || times == 0 || times > MOST_TIMES {
         return None;
     }
-    Some(Run {
+    Some(Asked::Run(Run {
         file: run.get_str("FILE")?,
         function: run.get_str("call")?,
         threads,
         times,
-    })
+    }))
 }

@@ -1,14 +1,22 @@
 //! Checks and runs native extension modules.
 #![tactic(auto)]
 
+mod accepted;
 mod act;
+mod calls;
 mod command;
 mod load;
 mod report;
 mod run;
+mod shown;
+mod step_fault;
+#[cfg(test)]
+mod step_tests;
+mod step_text;
 mod stop;
 #[cfg(test)]
 mod tests;
+mod texts;
 
 use act::act;
 use load::Disk;

@@ -66,8 +66,8 @@ fn write_left<W: Write>(left: &Left, writer: &mut W) -> io::Result<()>
     write_bytes(b"\n", writer)
 }
 
-// The label, a space and the number.
-fn write_entry<W: Write>(label: &[u8], number: u64, writer: &mut W) -> io::Result<()>
+/// Writes the label, a space and the number, as `write_tally` does.
+pub fn write_entry<W: Write>(label: &[u8], number: u64, writer: &mut W) -> io::Result<()>
     ensures whole { OnOk result (Appends (W.contents writer.old) (W.contents writer.new) (entry label.now number)) }
     ensures begun { OnErr result (AppendsBeginning (W.contents writer.old) (W.contents writer.new) (entry label.now number)) }
 {

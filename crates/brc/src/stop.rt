@@ -1,7 +1,6 @@
 ghost use Rattle.std.specs.Prelude.{◌<◌, ◌≤◌};
 
-use brc_check::Refused;
-use brc_lang::ReadFault;
+use crate::step_fault::StepFault;
 use std::fmt;
 
 /// Why a command isn't carried out.
@@ -11,8 +10,8 @@ pub enum Stop<'a> {
     Usage(clap::Error),
     NoMemory,
     UnreadableFile,
-    UnreadableText(ReadFault),
-    Refused(Refused),
+    /// What a file says is at fault, or what came after it was read.
+    Fault(StepFault),
     /// The module has no function of this name.
     NoFunction(&'a str),
     /// The standard output takes no more.
@@ -26,8 +25,8 @@ impl Stop<'_> {
         ensures known { result ≤ 3 }
     {
         match self {
-            Stop::Refused(_) => 1,
-            Stop::NoMemory => 3,
+            Stop::Fault(StepFault::Refused(_)) => 1,
+            Stop::NoMemory | Stop::Fault(StepFault::NoMemory) => 3,
             _ => 2,
         }
     }
@@ -40,13 +39,7 @@ impl fmt::Display for Stop<'_> {
             Stop::Usage(error) => write!(f, "{error}"),
             Stop::NoMemory => writeln!(f, "no memory"),
             Stop::UnreadableFile => writeln!(f, "unreadable file"),
-            Stop::UnreadableText(fault) => writeln!(f, "unreadable {fault}"),
-            Stop::Refused(refused) => {
-                let name = std::str::from_utf8(refused.function.as_bytes()).unwrap_or("");
-                let at = refused.at;
-                let code = refused.code;
-                writeln!(f, "refused {name} @{at} {code}")
-            }
+            Stop::Fault(fault) => writeln!(f, "{fault}"),
             Stop::NoFunction(name) => writeln!(f, "no function {name}"),
             Stop::CannotWrite => writeln!(f, "cannot write"),
         }

@@ -9,9 +9,9 @@ use std::io::{ErrorKind, Write};
 use std::process::Abort;
 use std::test::Fail;
 
-const SMALLEST: &[u8] = b"module 1\nfunc f\nfail\nend\n";
+pub const SMALLEST: &[u8] = b"module 1\nfunc f\nfail\nend\n";
 
-const FIRST: &[u8] = b"module 1\nfunc f\nnewref v1 v0\ndrop v1\nfail\nend\n";
+pub const FIRST: &[u8] = b"module 1\nfunc f\nnewref v1 v0\ndrop v1\nfail\nend\n";
 
 const ONE_REPORT: &[u8] =
     b"threads 1\nrunning 0\ncreated 1\nclosed 1\nalive 0\nhost faults 0\nclose faults 0\n";
@@ -47,17 +47,17 @@ fn holding(bytes: &'static [u8]) -> Shelf {
 
 // What a writer answers once it takes no more.
 #[derive(Clone, Copy, Debug)]
-enum Stopping {
+pub enum Stopping {
     TakesNone,
     Interrupts,
 }
 
 // Takes one byte a call, until none is left to take.
 #[derive(Drop)]
-struct Narrow {
-    taken: Vec<u8>,
-    left: usize,
-    stopping: Stopping,
+pub struct Narrow {
+    pub taken: Vec<u8>,
+    pub left: usize,
+    pub stopping: Stopping,
 }
 
 impl Write for Narrow {
@@ -79,7 +79,7 @@ impl Write for Narrow {
 }
 
 // What a command writes on standard output and on standard error, and its status.
-fn told(alloc: Global, words: &[&str], mut load: Shelf) -> (Vec<u8>, Vec<u8>, u8) {
+pub fn told<L: Load + Drop>(alloc: Global, words: &[&str], mut load: L) -> (Vec<u8>, Vec<u8>, u8) {
     let mut out: Vec<u8> = Vec::new(alloc);
     let mut err: Vec<u8> = Vec::new(alloc);
     let status = act(alloc, words, &mut load, &mut out, &mut err);

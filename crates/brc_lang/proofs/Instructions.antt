@@ -15,7 +15,7 @@ use Rattle.brc_lang.proofs.Words.{of_one, of_two, of_three, one_word, first_word
 use Rattle.brc_lang.proofs.Spelling.{variable_spelled, variable_again, variable_no_space, variable_plain}
 
 -- the value of a step that did not fail
-bind_ok : {A B : Type 0} (r : Result A FaultCode) (f : A → Result B FaultCode) (y : B) → (r >>= f) ≡ Ok y → (x : A) × (r ≡ Ok x) × (f x ≡ Ok y)
+pub bind_ok : {A B : Type 0} (r : Result A FaultCode) (f : A → Result B FaultCode) (y : B) → (r >>= f) ≡ Ok y → (x : A) × (r ≡ Ok x) × (f x ≡ Ok y)
 bind_ok (Ok x) f y e = (x, refl, e)
 bind_ok (Err d) f y e = absurd cc
 

@@ -30,7 +30,7 @@ own : IsNumeralModel AreDigits (digits_value 10)
 own = numerals_by_value AreDigits tells_digits
 
 -- a test that an if took to `Ok`
-guarded : {A : Type 0} (b : Bool) (d : FaultCode) (x y : A) → cond b (Ok x) (Err d) ≡ Ok y → (b ≡ true) × (x ≡ y)
+pub guarded : {A : Type 0} (b : Bool) (d : FaultCode) (x y : A) → cond b (Ok x) (Err d) ≡ Ok y → (b ≡ true) × (x ≡ y)
 guarded true d x y e = (refl, cc)
 guarded false d x y e = absurd cc
 
@@ -93,17 +93,23 @@ variable_again n lt = number_again 15 n (omega arith) (omega arith)
 
 -- ---- what these lack
 
-digit_lacks : (q : ℕ → Bool) → ((c : ℕ) → is_ascii_digit c ≡ true → q c ≡ false) → (n : ℕ) → n < 16 → list_any q (decimal n) ≡ false
-digit_lacks q apart n lt = lacks_from_all is_ascii_digit q apart (decimal n) (decimal_digits n (omega arith))
+digit_lacks : (q : ℕ → Bool) → ((c : ℕ) → is_ascii_digit c ≡ true → q c ≡ false) → (n : ℕ) → n < 2 ^ 64 → list_any q (decimal n) ≡ false
+digit_lacks q apart n small = lacks_from_all is_ascii_digit q apart (decimal n) (decimal_digits n small)
 
 other_than : (d c : ℕ) → d < 48 → is_ascii_digit c ≡ true → eqb c d ≡ false
 other_than d c lt e = let r = and_parts (leb 48 c) (leb c 57) e in ne_eqb c d (λ same. omega (arith, leb-true 48 c r.0))
 
+pub decimal_no_space : (n : ℕ) → n < 2 ^ 64 → list_any is_space (decimal n) ≡ false
+decimal_no_space n small = digit_lacks is_space (λ c h. other_than 32 c (omega arith) h) n small
+
+pub decimal_plain : (n : ℕ) → n < 2 ^ 64 → list_any is_line_feed (decimal n) ≡ false
+decimal_plain n small = digit_lacks is_line_feed (λ c h. other_than 10 c (omega arith) h) n small
+
 pub variable_no_space : (n : ℕ) → n < 16 → list_any is_space (variable n) ≡ false
-variable_no_space n lt = digit_lacks is_space (λ c h. other_than 32 c (omega arith) h) n lt
+variable_no_space n lt = decimal_no_space n (omega arith)
 
 pub variable_plain : (n : ℕ) → n < 16 → list_any is_line_feed (variable n) ≡ false
-variable_plain n lt = digit_lacks is_line_feed (λ c h. other_than 10 c (omega arith) h) n lt
+variable_plain n lt = decimal_plain n (omega arith)
 
 letter_from : (c : ℕ) → is_letter c ≡ true → 97 ≤ c
 letter_from c e = leb-true 97 c (and_parts (leb 97 c) (leb c 122) e).0

@@ -12,7 +12,7 @@ is_space c = eqb c 32
 
 -- ---- from words to a line
 
-joined : (text : List ℕ) (ws : List (List ℕ)) → words text ≡ ws → text ≡ join_with_byte 32 ws
+pub joined : (text : List ℕ) (ws : List (List ℕ)) → words text ≡ ws → text ≡ join_with_byte 32 ws
 joined text ws e = sym (join_with_byte-slice_split 32 text) ∙ ap (join_with_byte 32) e
 
 pub of_one : (text a : List ℕ) → words text ≡ a ∷ [] → text ≡ a

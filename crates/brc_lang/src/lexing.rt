@@ -14,7 +14,7 @@ use crate::fault::FaultCode;
 use crate::variable::Variable;
 
 /// The first line without its line feed, and what stands below it; nothing where no line is ended.
-pub(crate) fn split_line(text: &[u8]) -> Option<(&[u8], &[u8])>
+pub fn split_line(text: &[u8]) -> Option<(&[u8], &[u8])>
     ensures { MatchOption result (list_any is_line_feed text.now ≡ false) (λ parts. IsFirstLineOf text.now parts.0.now parts.1.now) }
 {
     let end = place_of(b'\n', text)?;
@@ -22,7 +22,7 @@ pub(crate) fn split_line(text: &[u8]) -> Option<(&[u8], &[u8])>
 }
 
 /// The first word of a line, and what stands behind the space after it.
-pub(crate) fn split_word(line: &[u8]) -> (&[u8], Option<&[u8]>)
+pub fn split_word(line: &[u8]) -> (&[u8], Option<&[u8]>)
     ensures { MatchOption result.1 (words line.now ≡ result.0.now ∷ []) (λ rest. words line.now ≡ result.0.now ∷ words rest.now) }
 {
     match place_of(b' ', line) {
@@ -37,14 +37,15 @@ fn place_of(wanted: u8, text: &[u8]) -> Option<usize>
     text.iter().position(|byte| *byte == wanted)
 }
 
-pub(crate) fn is_word(word: &[u8], text: &[u8]) -> bool
+/// Whether the word is this text.
+pub fn is_word(word: &[u8], text: &[u8]) -> bool
     ensures { result ≡ bytes_eq word.now text.now }
 {
     word == text
 }
 
-/// A letter `a` to `z`, then 0 to 15 of letters, digits and `_`.
-pub(crate) fn is_name(word: &[u8]) -> bool
+/// Whether the word is a name: a letter `a` to `z`, then 0 to 15 of letters, digits and `_`.
+pub fn is_name(word: &[u8]) -> bool
     ensures { result ≡ is_name word.now }
 {
     match word {
@@ -67,8 +68,8 @@ fn is_name_byte(byte: u8) -> bool
     byte.is_ascii_lowercase() || byte.is_ascii_digit() || byte == b'_'
 }
 
-/// A number from 0 to `high`.
-pub(crate) fn number(high: u32, word: &[u8]) -> Result<u32, FaultCode>
+/// The number that the word spells, from 0 to `high`: decimal digits, with no leading zero but in `0` itself.
+pub fn number(high: u32, word: &[u8]) -> Result<u32, FaultCode>
     ensures { result ≡ number_in high word.now }
 {
     match word {

@@ -1,3 +1,9 @@
 mod Reaching
 mod Safely
 mod Going
+mod ScheduleWords
+mod ScheduleLines
+mod ScheduleReading
+mod ScheduleMachine
+mod ScheduleUniqueness
+mod Running

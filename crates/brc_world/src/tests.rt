@@ -43,7 +43,7 @@ fn function(alloc: Global, code: &[Instr]) -> Result<Function, AllocError>
 }
 
 /// A module of the one function.
-fn accepted(alloc: Global, code: &[Instr]) -> Result<Checked, Fail>
+pub fn accepted(alloc: Global, code: &[Instr]) -> Result<Checked, Fail>
     requires some { 0 < length code.now }
     requires most { length code.now ≤ 256 }
     ensures { IfOk result (λ checked. length checked.functions ≡ 1) }
@@ -68,7 +68,7 @@ fn finish(world: &mut World<'_>) -> Result<(), NoMemory> {
     Ok(())
 }
 
-fn numbers(tally: &Tally) -> [u64; 7] {
+pub fn numbers(tally: &Tally) -> [u64; 7] {
     [
         tally.threads,
         tally.running,
@@ -80,7 +80,7 @@ fn numbers(tally: &Tally) -> [u64; 7] {
     ]
 }
 
-const ROOT_LEFT: [Left; 1] = [Left {
+pub const ROOT_LEFT: [Left; 1] = [Left {
     row: 1,
     kind: Kind::List,
 }];
@@ -106,7 +106,7 @@ fn smallest_module(rt: HostRuntime) -> Result<(), Fail> {
     Ok(())
 }
 
-fn take_and_drop() -> [Instr; 3] {
+pub fn take_and_drop() -> [Instr; 3] {
     let v0 = Variable::new(0);
     let v1 = Variable::new(1);
     [

@@ -1,0 +1,268 @@
+use crate::act::act;
+use crate::load::{Load, LoadError};
+use crate::tests::{FIRST, Narrow, SMALLEST, Stopping, told};
+use std::alloc::Global;
+use std::process::Abort;
+use std::test::Fail;
+
+const CHECK: [&str; 3] = ["brc", "check", "m.brc"];
+
+const STEP: [&str; 4] = ["brc", "step", "m.brc", "s.txt"];
+
+const ONE_CALL: &[u8] = b"schedule 1\nworkers 1\nrows 4\ncall 1 f 1\n";
+
+const LEAKING: &[u8] = b"module 1\nfunc f\nnewref v1 v0\nfail\nend\n";
+
+const NOT_A_WORD: &[u8] = b"schedule 1\nworker 1\n";
+
+const STRANGERS: &[u8] = b"schedule 1\nworkers 2\nrows 4\ncall 1 h 1\ncall 2 g 1\n";
+
+type Bytes = Result<&'static [u8], LoadError>;
+
+// The files `m.brc` and `s.txt`, or what stands in the way of each.
+#[derive(Clone, Copy)]
+struct Pair {
+    module: Bytes,
+    schedule: Bytes,
+}
+
+impl Load for Pair {
+    fn load(&mut self, alloc: Global, path: &str) -> Result<Vec<u8>, LoadError> {
+        let bytes = match path {
+            "m.brc" => self.module?,
+            "s.txt" => self.schedule?,
+            _ => return Err(LoadError::Unreadable),
+        };
+        match Vec::from_slice(alloc, bytes) {
+            Ok(bytes) => Ok(bytes),
+            Err(_) => Err(LoadError::NoMemory),
+        }
+    }
+}
+
+fn both(module: &'static [u8], schedule: &'static [u8]) -> Pair {
+    Pair {
+        module: Ok(module),
+        schedule: Ok(schedule),
+    }
+}
+
+// The command writes this on standard output, and that on standard error.
+fn assert_told(
+    rt: &(impl Abort + AllocGlobal),
+    words: &[&str],
+    load: Pair,
+    (report, line, want): (&[u8], &[u8], u8),
+) {
+    let (out, err, status) = told(rt.alloc(), words, load);
+    assert_eq!(rt; out.as_slice(), report, "{words:?}");
+    assert_eq!(rt; err.as_slice(), line, "{words:?}");
+    assert_eq!(rt; status, want, "{words:?}");
+}
+
+#[test]
+fn checks_modules(rt: HostRuntime) {
+    let cases: [(&'static [u8], &[u8], &[u8], u8); 10] = [
+        (SMALLEST, b"accepted 1 functions 1 instructions\n", b"", 0),
+        (
+            b"module 1\nfunc f\nnewref v1 v0\ndrop v1\nfail\nend\nfunc g\nfail\nend\n",
+            b"accepted 2 functions 4 instructions\n",
+            b"",
+            0,
+        ),
+        (
+            b"module 1\nfunc f\ndrop v1\nfail\nend\n",
+            b"",
+            b"refused f @0 C1\n",
+            1,
+        ),
+        (
+            b"module 1\nfunc f\ndrop v0\nfail\nend\n",
+            b"",
+            b"refused f @0 C3\n",
+            1,
+        ),
+        (
+            b"module 1\nfunc f\nnewref v1 v0\nnewref v1 v0\nfail\nend\n",
+            b"",
+            b"refused f @1 C4\n",
+            1,
+        ),
+        (LEAKING, b"", b"refused f @1 C5\n", 1),
+        (
+            b"module 1\nfunc f\nfail\nend\nfunc g\nnewref v1 v0\nend\n",
+            b"",
+            b"refused g @0 C11\n",
+            1,
+        ),
+        (b"", b"", b"unreadable line 1 L1\n", 2),
+        (
+            b"module 1\nfunc f\nend\n",
+            b"",
+            b"unreadable line 3 L6\n",
+            2,
+        ),
+        (
+            b"module 1\nfunc f\nfail\n",
+            b"",
+            b"unreadable line 4 L7\n",
+            2,
+        ),
+    ];
+    for (text, report, line, status) in cases {
+        assert_told(
+            &rt,
+            CHECK.as_slice(),
+            both(text, b""),
+            (report, line, status),
+        );
+    }
+}
+
+#[test]
+fn steps_schedules(rt: HostRuntime) {
+    let cases: [(&'static [u8], &'static [u8], &[u8]); 4] = [
+        (
+            FIRST,
+            b"schedule 1\nworkers 2\nrows 4\ncall 1 f 1\ncall 2 f 1\nstep 1 ok 1\n",
+            b"threads 2\nrunning 3\ncreated 1\nclosed 0\nalive 1\nhost faults 0\nclose faults 0\nleft 1 list\n",
+        ),
+        (
+            SMALLEST,
+            ONE_CALL,
+            b"threads 1\nrunning 2\ncreated 1\nclosed 0\nalive 1\nhost faults 0\nclose faults 0\nleft 1 list\n",
+        ),
+        // Each worker takes three steps inside its call and one to be gone, and main one.
+        (
+            FIRST,
+            b"schedule 1\nworkers 2\nrows 4\ncall 1 f 1\ncall 2 f 1\nstep 0 ok 1\nstep 1 fault 4\nstep 2 ok 3\n",
+            b"threads 2\nrunning 1\ncreated 1\nclosed 0\nalive 1\nhost faults 0\nclose faults 0\nleft 1 list\n",
+        ),
+        (
+            FIRST,
+            b"schedule 1\nworkers 2\nrows 4\ncall 1 f 1\ncall 2 f 1\nstep 0 ok 1\nstep 1 fault 4\nstep 2 ok 1000000\n",
+            b"threads 2\nrunning 0\ncreated 1\nclosed 1\nalive 0\nhost faults 0\nclose faults 0\n",
+        ),
+    ];
+    for (module, schedule, report) in cases {
+        assert_told(
+            &rt,
+            STEP.as_slice(),
+            both(module, schedule),
+            (report, b"", 0),
+        );
+    }
+}
+
+// Where two things are wrong, the earlier one is told.
+#[test]
+fn tells_the_earlier_fault(rt: HostRuntime) {
+    let unreadable = Err(LoadError::Unreadable);
+    let no_memory = Err(LoadError::NoMemory);
+    let cases: [(Bytes, Bytes, &[u8], u8); 13] = [
+        (unreadable, no_memory, b"unreadable file\n", 2),
+        (no_memory, unreadable, b"no memory\n", 3),
+        (Ok(b""), unreadable, b"unreadable file\n", 2),
+        (Ok(b""), no_memory, b"no memory\n", 3),
+        (Ok(b""), Ok(b""), b"unreadable line 1 L1\n", 2),
+        (Ok(LEAKING), Ok(b""), b"unreadable schedule line 1 L1\n", 2),
+        (
+            Ok(LEAKING),
+            Ok(NOT_A_WORD),
+            b"unreadable schedule line 2 L2\n",
+            2,
+        ),
+        (
+            Ok(LEAKING),
+            Ok(b"schedule 1\nworkers 33\n"),
+            b"unreadable schedule line 2 L3\n",
+            2,
+        ),
+        (
+            Ok(LEAKING),
+            Ok(b"schedule 1\nworkers 1\nrows 4\n"),
+            b"unreadable schedule line 4 L7\n",
+            2,
+        ),
+        (Ok(LEAKING), Ok(STRANGERS), b"refused f @1 C5\n", 1),
+        (Ok(FIRST), Ok(STRANGERS), b"no function h\n", 2),
+        (
+            Ok(FIRST),
+            Ok(b"schedule 1\nworkers 2\nrows 4\ncall 1 f 1\ncall 2 g 1\n"),
+            b"no function g\n",
+            2,
+        ),
+        (
+            Ok(b"module 1\nfunc f\nfai\nend\n"),
+            Ok(NOT_A_WORD),
+            b"unreadable line 3 L2\n",
+            2,
+        ),
+    ];
+    for (module, schedule, line, status) in cases {
+        let load = Pair { module, schedule };
+        assert_told(&rt, STEP.as_slice(), load, (b"", line, status));
+    }
+}
+
+// The command line is looked at before any file.
+#[test]
+fn refuses_other_words(rt: HostRuntime) {
+    let load = Pair {
+        module: Err(LoadError::NoMemory),
+        schedule: Err(LoadError::NoMemory),
+    };
+    let cases: [(&[&str], &[u8]); 7] = [
+        (["brc", "check"].as_slice(), b"error: "),
+        (["brc", "check", "m.brc", "s.txt"].as_slice(), b"error: "),
+        (
+            ["brc", "check", "m.brc", "--call", "f"].as_slice(),
+            b"error: ",
+        ),
+        (["brc", "step", "m.brc"].as_slice(), b"error: "),
+        (
+            ["brc", "step", "m.brc", "s.txt", "t.txt"].as_slice(),
+            b"error: ",
+        ),
+        (["brc", "check", "--help"].as_slice(), b"Checks "),
+        (["brc", "step", "--help"].as_slice(), b"Checks "),
+    ];
+    for (words, start) in cases {
+        let (out, err, status) = told(rt.alloc(), words, load);
+        assert!(rt; out.is_empty(), "{words:?}");
+        assert!(rt; err.as_slice().starts_with(start), "{words:?}");
+        assert_eq!(rt; status, 2, "{words:?}");
+    }
+}
+
+// A writer that takes so many bytes and no more gets a beginning of the report.
+fn assert_stops(rt: &(impl Abort + AllocGlobal), words: &[&str], load: Pair, report: &[u8]) {
+    for most in 0..report.len() {
+        let mut out = Narrow {
+            taken: Vec::new(rt.alloc()),
+            left: most,
+            stopping: Stopping::TakesNone,
+        };
+        let mut err: Vec<u8> = Vec::new(rt.alloc());
+        let mut files = load;
+        let status = act(rt.alloc(), words, &mut files, &mut out, &mut err);
+        assert_eq!(rt; out.taken.as_slice(), &report[..most], "after {most}");
+        assert_eq!(rt;
+            err.as_slice(),
+            b"cannot write\n".as_slice(),
+            "after {most}"
+        );
+        assert_eq!(rt; status, 2, "after {most}");
+    }
+}
+
+#[test]
+fn stops_in_mid_report(rt: HostRuntime) -> Result<(), Fail> {
+    let load = both(SMALLEST, ONE_CALL);
+    let accepted = b"accepted 1 functions 1 instructions\n";
+    assert_stops(&rt, CHECK.as_slice(), load, accepted);
+    let report =
+        b"threads 1\nrunning 2\ncreated 1\nclosed 0\nalive 1\nhost faults 0\nclose faults 0\nleft 1 list\n";
+    assert_stops(&rt, STEP.as_slice(), load, report);
+    Ok(())
+}
