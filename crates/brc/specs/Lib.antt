@@ -2,3 +2,4 @@ pub mod Report
 pub mod Accepted
 pub mod Calls
 pub mod Texts
+pub mod Turns

@@ -1,5 +1,6 @@
-ghost use Rattle.std.specs.Prelude.{◌<◌, ◌≤◌};
+ghost use Rattle.std.specs.Prelude.{◌<◌, ◌≤◌, IfOk, OnOk};
 ghost use Rattle.brc_model.specs.Safety.{IsCall};
+ghost use Rattle.brc.specs.Turns.{LeadsTo, IsTallyOfRun};
 
 use brc_check::Checked;
 use brc_model::{Call, Choice};
@@ -9,40 +10,59 @@ use std::alloc::Global;
 /// How many rows of its own a worker has.
 const ROWS: u16 = 1024;
 
-/// Runs workers that each make the call, one step of each in turn until all are gone, and then main.
+/// Runs so many workers (1 to 32) that each make the call, one step of each in turn until all are gone, and then main. The
+/// tally is that of a world that steps lead to from the first one.
 pub fn run(alloc: Global, checked: &Checked, workers: u32, call: Call) -> Result<Tally, NoMemory>
     requires some { 0 < workers }
     requires most { workers ≤ 32 }
     requires call { IsCall checked.now call }
+    ensures { IfOk result (λ tally. IsTallyOfRun checked.now 1024 workers call tally) }
 {
     let calls = vec![in alloc; call; workers as usize]?;
     let mut world = World::new(alloc, checked, workers as usize, ROWS, calls.as_slice())?;
-    for _ in 0..u64::MAX {
-        if step_workers(&mut world)? {
-            break;
-        }
-    }
-    for _ in 0..u64::MAX {
-        if step(&mut world, 0)? == Did::Gone {
-            break;
-        }
-    }
+    finish_workers(&mut world)?;
+    finish_main(&mut world)?;
     world.tally(alloc)
 }
 
+// The workers in turn, until all are gone.
+fn finish_workers(world: &mut World) -> Result<(), NoMemory>
+    ensures { OnOk result (LeadsTo world.old world.new) }
+{
+    for _ in 0..u64::MAX {
+        if step_workers(world)? {
+            return Ok(());
+        }
+    }
+    Ok(())
+}
+
+fn finish_main(world: &mut World) -> Result<(), NoMemory>
+    ensures { OnOk result (LeadsTo world.old world.new) }
+{
+    for _ in 0..u64::MAX {
+        if step(world, 0)? == Did::Gone {
+            return Ok(());
+        }
+    }
+    Ok(())
+}
+
 // One step of each worker, and whether all were gone.
-fn step_workers(world: &mut World) -> Result<bool, NoMemory> {
+fn step_workers(world: &mut World) -> Result<bool, NoMemory>
+    ensures { OnOk result (LeadsTo world.old world.new) }
+{
     let mut all_gone = true;
     for worker in 1..world.threads() {
-        if step(world, worker)? != Did::Gone {
-            all_gone = false;
-        }
+        all_gone &= step(world, worker)? == Did::Gone;
     }
     Ok(all_gone)
 }
 
 // One step of the thread; one that isn't there is gone.
-fn step(world: &mut World, thread: usize) -> Result<Did, NoMemory> {
+fn step(world: &mut World, thread: usize) -> Result<Did, NoMemory>
+    ensures { OnOk result (LeadsTo world.old world.new) }
+{
     if thread < world.threads() {
         world.step(thread, Choice::Ok)
     } else {

@@ -1,0 +1,5 @@
+use Rattle.brc.specs.Turns.{LeadsTo}
+use Rattle.brc.proofs.run.finish_main.Given as goal
+
+abbrev pub invariant-loop : goal.invariant-loop
+invariant-loop l = LeadsTo l.fn.world l.world

@@ -1,0 +1,9 @@
+use Rattle.std.proofs.Common.{◌∙◌}
+use Rattle.brc.proofs.Turning.{tally_of_run}
+use Rattle.brc.proofs.run.run.Goals as goal
+
+pub returns : goal.returns
+returns c =
+    tally_of_run c.args.checked.now 1024 c.args.workers c.args.call c.in_ok-world.world c.finish_workers.new.world c.finish_main.new.world c.as_slice.result.now c.tally.result
+    (c.as_slice.ensures.value ∙ c.in_ok-calls.ensures.items_if_clones_equal (λ y e. e))
+    c.in_ok-world.ensures c.in_ok-finish_workers.ensures c.in_ok-finish_main.ensures c.tally.ensures
