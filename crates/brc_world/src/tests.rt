@@ -50,7 +50,7 @@ pub fn accepted(alloc: Global, code: &[Instr]) -> Result<Checked, Fail>
 {
     let mut functions = Sequence::new(alloc);
     functions.push(function(alloc, code)?)?;
-    match check(Module { functions }) {
+    match check(alloc, Module { functions }) {
         Ok(checked) => Ok(checked),
         Err(_) => Err("nothing is owned at the end")?,
     }
