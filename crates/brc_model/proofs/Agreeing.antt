@@ -1,6 +1,6 @@
 -- The rule of a row says that its counts agree.
 use Rattle.std.proofs.Common.{◌≡◌, ℕ, ◌+◌, ◌<◌, ◌≤◌, refl, arith}
-use Rattle.brc_model.specs.Words.{local_part, biased_part, phase_part, bias}
+use Rattle.brc_word.specs.Words.{local_part, biased_part, phase_part, bias}
 use Rattle.brc_model.specs.Duties.{block_of}
 use Rattle.brc_model.specs.Machine.{Life, Unborn, Live, Dying, Closed, Machine}
 use Rattle.brc_lang.specs.declared.module.Module.{Module}

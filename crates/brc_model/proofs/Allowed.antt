@@ -4,7 +4,9 @@ use Rattle.std.specs.Prelude.{◌==◌, ◌&&◌, ◌||◌, nat_lt}
 use Rattle.std.specs.List.{list_any}
 use Rattle.std.proofs.lemmas.Bool.{eq-eqb, lt-ltb}
 use Rattle.brc_model.specs.declared.thread.Control.{Control}
-use Rattle.brc_model.specs.Plain.{none_row, is_counted, is_among, Holding, ByVariable, Reference, Plain, same, without, references_to, Gain, Lose, Finalise, is_allowed, move, are_allowed}
+use Rattle.brc_model.specs.declared.duty.Holding.{Holding}
+use Rattle.brc_model.specs.declared.duty.Holding.TheVariants.{ByVariable}
+use Rattle.brc_model.specs.Plain.{none_row, is_counted, is_among, Reference, Plain, same, without, references_to, Gain, Lose, Finalise, is_allowed, move, are_allowed}
 use Rattle.brc_model.specs.Threads.{Retain, Release}
 use Rattle.brc_model.specs.Steps.{Scene, closes, moves_of, is_bad_request}
 use Rattle.brc_model.proofs.Invariant.{reference_of, FitsCounts}

@@ -5,7 +5,9 @@ use Rattle.std.specs.List.{list_any}
 use Rattle.std.proofs.lemmas.Bool.{eqb-true, eq-eqb}
 use Rattle.std.proofs.lemmas.List.Sums.{sum_by-cons}
 use Rattle.brc_model.proofs.Lists.{and_first, and_second}
-use Rattle.brc_model.specs.Plain.{Holding, ByVariable, AsCaller, InHand, Reference, same_holding, same, without, references_to}
+use Rattle.brc_model.specs.declared.duty.Holding.{Holding}
+use Rattle.brc_model.specs.declared.duty.Holding.TheVariants.{ByVariable, AsCaller, InHand}
+use Rattle.brc_model.specs.Plain.{Reference, same_holding, same, without, references_to}
 
 -- how many such references the bag has
 abbrev pub held : Reference → List Reference → ℕ

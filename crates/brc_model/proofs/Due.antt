@@ -16,7 +16,8 @@ use Rattle.brc_model.specs.declared.thread.Control.{Control}
 use Rattle.brc_model.specs.declared.thread.Control.TheVariants.{Standing, Inside, Gone}
 use Rattle.brc_model.specs.Slots.{slot_of, is_empty, is_owned, is_borrowed, kind_of, put, after, target, entry}
 use Rattle.brc_model.specs.Walks.{At, walk, IsAcceptableCode}
-use Rattle.brc_model.specs.Plain.{root_row, ByVariable, AsCaller, Reference, same, without, references_to}
+use Rattle.brc_model.specs.declared.duty.Holding.TheVariants.{ByVariable, AsCaller}
+use Rattle.brc_model.specs.Plain.{root_row, Reference, same, without, references_to}
 use Rattle.brc_model.specs.Threads.{Request, NoStep, Stuck, Quiet, Retain, Release, row_of, entry_variables, with_row, instruction_request, request}
 use Rattle.brc_model.proofs.Bag.{held, held-le-references_to}
 use Rattle.brc_model.proofs.Lists.{first_false, get_or-replicate_default}

@@ -14,7 +14,9 @@ use Rattle.brc_model.specs.declared.slot.State.{State}
 use Rattle.brc_model.specs.declared.thread.Control.{Control}
 use Rattle.brc_model.specs.declared.thread.Control.TheVariants.{Standing, Inside, Gone}
 use Rattle.brc_model.specs.Slots.{slot_of, is_owned, names}
-use Rattle.brc_model.specs.Plain.{root_row, Holding, ByVariable, AsCaller, InHand, Reference}
+use Rattle.brc_model.specs.declared.duty.Holding.{Holding}
+use Rattle.brc_model.specs.declared.duty.Holding.TheVariants.{ByVariable, AsCaller, InHand}
+use Rattle.brc_model.specs.Plain.{root_row, Reference}
 use Rattle.brc_model.specs.Threads.{row_of}
 use Rattle.brc_model.specs.Steps.{Scene}
 use Rattle.brc_model.proofs.Bag.{held, one_if, same-refl, held-cons}

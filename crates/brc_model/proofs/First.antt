@@ -10,7 +10,9 @@ use Rattle.brc_lang.specs.Grammar.{IsInstruction, IsFunction, IsModule}
 use Rattle.brc_model.specs.declared.thread.Call.{Call}
 use Rattle.brc_model.specs.declared.thread.Thread.{Thread}
 use Rattle.brc_model.specs.Walks.{IsAcceptableCode, IsAcceptable}
-use Rattle.brc_model.specs.Plain.{root_row, Holding, ByVariable, AsCaller, InHand, same, references_to}
+use Rattle.brc_model.specs.declared.duty.Holding.{Holding}
+use Rattle.brc_model.specs.declared.duty.Holding.TheVariants.{ByVariable, AsCaller, InHand}
+use Rattle.brc_model.specs.Plain.{root_row, same, references_to}
 use Rattle.brc_model.specs.Steps.{code_of, main_thread, worker_of, caller_reference, callers_below, first_scene}
 use Rattle.brc_model.specs.Safety.{IsCall, AreCalls}
 use Rattle.brc_model.proofs.Bag.{held, one_if, same-other_thread, held-cons, references_to-cons}

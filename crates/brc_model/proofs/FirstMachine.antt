@@ -11,8 +11,11 @@ use Rattle.brc_model.specs.declared.thread.Call.{Call}
 use Rattle.brc_model.specs.Walks.{IsAcceptable}
 use Rattle.brc_model.specs.Steps.{callers_below}
 use Rattle.brc_model.specs.Safety.{IsCall, AreCalls}
-use Rattle.brc_model.specs.Duties.{Duty, ThreadWord, block_of}
-use Rattle.brc_model.specs.Machine.{Standing, Departing, Actor, Unborn, Closed, main_actor, worker_actor, first_memory, first_life, first_machine}
+use Rattle.brc_model.specs.declared.duty.Duty.{Duty}
+use Rattle.brc_model.specs.declared.address.Address.TheVariants.{ThreadWord}
+use Rattle.brc_model.specs.Duties.{block_of}
+use Rattle.brc_model.specs.declared.actor.Place.TheVariants.{Standing, Departing}
+use Rattle.brc_model.specs.Machine.{Actor, Unborn, Closed, main_actor, worker_actor, first_memory, first_life, first_machine}
 use Rattle.brc_model.proofs.Bag.{one_if}
 use Rattle.brc_model.proofs.Lists.{some_is, all_of_found, slice_get-map}
 use Rattle.brc_model.proofs.First.{callers_beyond, callers_hold, root_references, other_references, function_fits}

@@ -8,10 +8,17 @@ use Rattle.brc_lang.specs.Grammar.{IsModule}
 use Rattle.brc_model.specs.declared.thread.Call.{Call}
 use Rattle.brc_model.specs.Walks.{IsAcceptable}
 use Rattle.brc_model.specs.Steps.{code_of}
-use Rattle.brc_model.specs.Plain.{root_row, is_among, Holding, references_to}
+use Rattle.brc_model.specs.declared.duty.Holding.{Holding}
+use Rattle.brc_model.specs.Plain.{root_row, is_among, references_to}
 use Rattle.brc_model.specs.Safety.{AreCalls}
-use Rattle.brc_model.specs.Duties.{Duty, Mark, ThreadWord, block_of}
-use Rattle.brc_model.specs.Machine.{Status, Running, Leaving, Gone, Place, Departing, Actor, Life, Unborn, Live, Dying, Closed, Machine, main_actor, worker_actor, first_machine}
+use Rattle.brc_model.specs.declared.duty.Duty.{Duty}
+use Rattle.brc_model.specs.declared.address.Address.TheVariants.{Mark, ThreadWord}
+use Rattle.brc_model.specs.Duties.{block_of}
+use Rattle.brc_model.specs.declared.actor.Status.{Status}
+use Rattle.brc_model.specs.declared.actor.Status.TheVariants.{Running, Leaving, Gone}
+use Rattle.brc_model.specs.declared.actor.Place.{Place}
+use Rattle.brc_model.specs.declared.actor.Place.TheVariants.{Departing}
+use Rattle.brc_model.specs.Machine.{Actor, Life, Unborn, Live, Dying, Closed, Machine, main_actor, worker_actor, first_machine}
 use Rattle.brc_model.specs.Guarantee.{has_gone, AllGone, IsSafeNow, SafeOverHeaders}
 use Rattle.brc_model.proofs.Bag.{held, one_if, empty_bag}
 use Rattle.brc_model.proofs.Lists.{some_is, list_all_found, slice_get-map}

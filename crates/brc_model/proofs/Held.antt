@@ -9,7 +9,9 @@ use Rattle.brc_model.specs.declared.slot.Slot.{Slot}
 use Rattle.brc_model.specs.declared.slot.Slot.TheVariants.{Empty, Owned}
 use Rattle.brc_model.specs.declared.slot.State.{State}
 use Rattle.brc_model.specs.Slots.{slot_of, is_owned, names, put, entry}
-use Rattle.brc_model.specs.Plain.{root_row, Holding, ByVariable, AsCaller, InHand, Reference, same_holding, same, without}
+use Rattle.brc_model.specs.declared.duty.Holding.{Holding}
+use Rattle.brc_model.specs.declared.duty.Holding.TheVariants.{ByVariable, AsCaller, InHand}
+use Rattle.brc_model.specs.Plain.{root_row, Reference, same_holding, same, without}
 use Rattle.brc_model.specs.Threads.{row_of, entry_variables}
 use Rattle.brc_model.proofs.Bag.{held, one_if, same-true, same_holding-refl, same-other_thread, held-cons, held-without, held_has}
 use Rattle.brc_model.proofs.Lists.{none_at, get_or-replicate_default}

@@ -13,7 +13,9 @@ use Rattle.brc_model.specs.declared.thread.Control.TheVariants.{Standing, Inside
 use Rattle.brc_model.specs.declared.thread.Thread.{Thread}
 use Rattle.brc_model.specs.Slots.{slot_of, is_owned, names}
 use Rattle.brc_model.specs.Walks.{At, walk, IsAcceptableCode}
-use Rattle.brc_model.specs.Plain.{root_row, Holding, ByVariable, AsCaller, InHand, Reference, is_among, references_to}
+use Rattle.brc_model.specs.declared.duty.Holding.{Holding}
+use Rattle.brc_model.specs.declared.duty.Holding.TheVariants.{ByVariable, AsCaller, InHand}
+use Rattle.brc_model.specs.Plain.{root_row, Reference, is_among, references_to}
 use Rattle.brc_model.specs.Threads.{row_of}
 use Rattle.brc_model.specs.Steps.{Scene, code_of}
 use Rattle.brc_model.proofs.Bag.{held, one_if}

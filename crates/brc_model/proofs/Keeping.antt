@@ -11,7 +11,9 @@ use Rattle.brc_model.specs.declared.thread.Choice.{Choice}
 use Rattle.brc_model.specs.declared.thread.Control.{Control}
 use Rattle.brc_model.specs.declared.thread.Control.TheVariants.{Standing, Inside, Gone}
 use Rattle.brc_model.specs.declared.thread.Thread.{Thread}
-use Rattle.brc_model.specs.Plain.{Holding, ByVariable, Reference, Plain, without, Lose, Finalise, moved}
+use Rattle.brc_model.specs.declared.duty.Holding.{Holding}
+use Rattle.brc_model.specs.declared.duty.Holding.TheVariants.{ByVariable}
+use Rattle.brc_model.specs.Plain.{Reference, Plain, without, Lose, Finalise, moved}
 use Rattle.brc_model.specs.Threads.{Request, NoStep, Stuck, Quiet, Retain, Release, request}
 use Rattle.brc_model.specs.Steps.{World, Scene, code_of, request_of_thread, request_of, with_control, going_on, counted_up, counted_down, closes, stepped, moves_of, is_bad_request, is_bad, next_scene}
 use Rattle.brc_model.proofs.Lists.{some_is, slice_get-set_same, slice_get-set_other}

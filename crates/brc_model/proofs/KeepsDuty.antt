@@ -6,10 +6,16 @@ use Rattle.std.proofs.lemmas.Bool.Decides.{eqb_tells}
 use Rattle.std.proofs.lemmas.List.{length-set}
 use Rattle.std.proofs.lemmas.Option.{slice_get_within}
 use Rattle.brc_lang.specs.declared.module.Module.{Module}
-use Rattle.brc_model.specs.Plain.{Holding, ByVariable, AsCaller, InHand, Reference, Plain, same, without, references_to, Move, Gain, Lose, HandOn, Finalise, move, moved}
-use Rattle.brc_model.specs.Words.{is_immortal_word}
-use Rattle.brc_model.specs.Duties.{Own, Duty, RetainLoad, RetainStore, RetainAdd, ReleaseLoad, ReleaseStore, SharedExchange, SettleCell, SettleEnd, Cell, Mark}
-use Rattle.brc_model.specs.Machine.{Gone, Actor, Machine, hand_on, gain, lose, moves_by, actor_by, done_by, same_address}
+use Rattle.brc_model.specs.declared.duty.Holding.{Holding}
+use Rattle.brc_model.specs.declared.duty.Holding.TheVariants.{ByVariable, AsCaller, InHand}
+use Rattle.brc_model.specs.Plain.{Reference, Plain, same, without, references_to, Move, Gain, Lose, HandOn, Finalise, move, moved}
+use Rattle.brc_word.specs.Words.{is_immortal_word}
+use Rattle.brc_model.specs.declared.duty.Reason.TheVariants.{Own}
+use Rattle.brc_model.specs.declared.duty.Duty.{Duty}
+use Rattle.brc_model.specs.declared.duty.Duty.TheVariants.{RetainLoad, RetainStore, RetainAdd, ReleaseLoad, ReleaseStore, SharedExchange, SettleCell, SettleEnd}
+use Rattle.brc_model.specs.declared.address.Address.TheVariants.{Cell, Mark}
+use Rattle.brc_model.specs.declared.actor.Status.TheVariants.{Gone}
+use Rattle.brc_model.specs.Machine.{Actor, Machine, hand_on, gain, lose, moves_by, actor_by, done_by, same_address}
 use Rattle.brc_model.proofs.Lists.{some_is, slice_get-set_same, slice_get-set_other}
 use Rattle.brc_model.proofs.Bag.{one_if, same-true, references_to-cons}
 use Rattle.brc_model.proofs.Rule.{HeadFits, HandedOnce, AgendaFits, ActorFits, IsWatched, Rule}

@@ -5,9 +5,14 @@ use Rattle.std.proofs.lemmas.Bool.{eqb-true, eq-eqb, ne_eqb}
 use Rattle.std.proofs.lemmas.Bool.Decides.{eqb_tells}
 use Rattle.std.proofs.lemmas.List.Sums.{sum_by-cons}
 use Rattle.brc_lang.specs.declared.module.Module.{Module}
-use Rattle.brc_model.specs.Plain.{InHand}
-use Rattle.brc_model.specs.Words.{owner_part, biased_part, phase_part, fresh_word, released_word, merged_word}
-use Rattle.brc_model.specs.Duties.{Reason, Own, Handed, Duty, RetainLoad, RetainStore, RetainAdd, ReleaseLoad, ReleaseStore, DecideAtZero, SharedLoad, SharedExchange, Look, MergeSwap, MergeLoad, MergeExchange, Die, Settle, SettleEnd, Leave, Finish, Local, Shared, Gate, ThreadWord, block_of, address_of, left_by}
+use Rattle.brc_model.specs.declared.duty.Holding.TheVariants.{InHand}
+use Rattle.brc_word.specs.Words.{owner_part, biased_part, phase_part, fresh_word, released_word, merged_word}
+use Rattle.brc_model.specs.declared.duty.Reason.{Reason}
+use Rattle.brc_model.specs.declared.duty.Reason.TheVariants.{Own, Handed}
+use Rattle.brc_model.specs.declared.duty.Duty.{Duty}
+use Rattle.brc_model.specs.declared.duty.Duty.TheVariants.{RetainLoad, RetainStore, RetainAdd, ReleaseLoad, ReleaseStore, DecideAtZero, SharedLoad, SharedExchange, Look, MergeSwap, MergeLoad, MergeExchange, Die, Settle, SettleEnd, Leave, Finish}
+use Rattle.brc_model.specs.declared.address.Address.TheVariants.{Local, Shared, Gate, ThreadWord}
+use Rattle.brc_model.specs.Duties.{block_of, address_of, left_by}
 use Rattle.brc_model.specs.Machine.{Actor, Dying, Machine, written}
 use Rattle.brc_model.proofs.Bag.{held, one_if, held-le-references_to}
 use Rattle.brc_model.proofs.Invariant.{reference_of}

@@ -5,9 +5,15 @@ use Rattle.std.proofs.lemmas.Bool.{eq-eqb}
 use Rattle.std.proofs.lemmas.Bool.Decides.{eqb_tells}
 use Rattle.std.proofs.lemmas.List.Sums.{sum_by-cons}
 use Rattle.brc_lang.specs.declared.module.Module.{Module}
-use Rattle.brc_model.specs.Words.{biased_part, phase_part, bias, dead_word, merged_word}
-use Rattle.brc_model.specs.Duties.{Handed, Duty, SharedLoad, MergeSwap, MergeLoad, MergeExchange, Settle, Leave, Scan, Finish, Local, Shared, ThreadWord}
-use Rattle.brc_model.specs.Machine.{Status, Running, Leaving, Gone, Place, Actor, Machine}
+use Rattle.brc_word.specs.Words.{biased_part, phase_part, bias, dead_word, merged_word}
+use Rattle.brc_model.specs.declared.duty.Reason.TheVariants.{Handed}
+use Rattle.brc_model.specs.declared.duty.Duty.{Duty}
+use Rattle.brc_model.specs.declared.duty.Duty.TheVariants.{SharedLoad, MergeSwap, MergeLoad, MergeExchange, Settle, Leave, Scan, Finish}
+use Rattle.brc_model.specs.declared.address.Address.TheVariants.{Local, Shared, ThreadWord}
+use Rattle.brc_model.specs.declared.actor.Status.{Status}
+use Rattle.brc_model.specs.declared.actor.Status.TheVariants.{Running, Leaving, Gone}
+use Rattle.brc_model.specs.declared.actor.Place.{Place}
+use Rattle.brc_model.specs.Machine.{Actor, Machine}
 use Rattle.brc_model.proofs.Lists.{some_is}
 use Rattle.brc_model.proofs.Bag.{one_if}
 use Rattle.brc_model.proofs.Rows.{waits, carries, merges, agenda_weight, weight, Phased, IsDefault, IsQueued, InOwned, InSwapped, InMerged}

@@ -1,9 +1,13 @@
 -- The moves of a thread's step change no other thread's references.
 use Rattle.std.proofs.Common.{◌≡◌, ◌≢◌, ℕ, Bool, true, false, cond, List, [], ◌∷◌, ◌++◌, refl, sym, ap, ◌∙◌, arith}
 use Rattle.std.specs.Prelude.{◌==◌}
-use Rattle.brc_model.specs.Plain.{Holding, ByVariable, AsCaller, InHand, Reference, Plain, same, without, Move, Gain, Lose, HandOn, Finalise, move, moved}
-use Rattle.brc_model.specs.Words.{is_immortal_word}
-use Rattle.brc_model.specs.Duties.{Own, Duty, RetainLoad, RetainStore, RetainAdd, ReleaseLoad, ReleaseStore, SharedExchange, SettleEnd}
+use Rattle.brc_model.specs.declared.duty.Holding.{Holding}
+use Rattle.brc_model.specs.declared.duty.Holding.TheVariants.{ByVariable, AsCaller, InHand}
+use Rattle.brc_model.specs.Plain.{Reference, Plain, same, without, Move, Gain, Lose, HandOn, Finalise, move, moved}
+use Rattle.brc_word.specs.Words.{is_immortal_word}
+use Rattle.brc_model.specs.declared.duty.Reason.TheVariants.{Own}
+use Rattle.brc_model.specs.declared.duty.Duty.{Duty}
+use Rattle.brc_model.specs.declared.duty.Duty.TheVariants.{RetainLoad, RetainStore, RetainAdd, ReleaseLoad, ReleaseStore, SharedExchange, SettleEnd}
 use Rattle.brc_model.specs.Machine.{hand_on, gain, lose, moves_by}
 use Rattle.brc_model.proofs.Bag.{held, one_if, same-true, same-other_thread, held-cons}
 use Rattle.brc_model.proofs.Invariant.{reference_of}

@@ -4,8 +4,13 @@ use Rattle.std.specs.Prelude.{slice_get}
 use Rattle.brc_lang.specs.declared.module.Module.{Module}
 use Rattle.brc_model.specs.Plain.{Reference, moved}
 use Rattle.brc_model.specs.Steps.{code_of}
-use Rattle.brc_model.specs.Duties.{Duty, Address, Gate, ThreadWord, address_of, left_by, head_by, ready}
-use Rattle.brc_model.specs.Machine.{Status, Running, Leaving, Gone, Actor, Life, Dying, Closed, Machine, status_by, moves_by, dies_next, ended_row, with_life, life_by, actor_by, done_by, written}
+use Rattle.brc_model.specs.declared.duty.Duty.{Duty}
+use Rattle.brc_model.specs.declared.address.Address.{Address}
+use Rattle.brc_model.specs.declared.address.Address.TheVariants.{Gate, ThreadWord}
+use Rattle.brc_model.specs.Duties.{address_of, left_by, head_by, ready}
+use Rattle.brc_model.specs.declared.actor.Status.{Status}
+use Rattle.brc_model.specs.declared.actor.Status.TheVariants.{Running, Leaving, Gone}
+use Rattle.brc_model.specs.Machine.{Actor, Life, Dying, Closed, Machine, status_by, moves_by, dies_next, ended_row, with_life, life_by, actor_by, done_by, written}
 use Rattle.brc_model.proofs.Bag.{one_if}
 use Rattle.brc_model.proofs.Rule.{PlaceFits, HeadOf, Agenda, HandedOnce, hand_of, dies_by, ChainFits, ActorFits, AgendaFits, status_word}
 use Rattle.brc_model.proofs.Leaves.{AtDuty}

@@ -4,9 +4,13 @@ use Rattle.std.specs.Prelude.{◌==◌, ◌&&◌}
 use Rattle.std.specs.List.{list_any}
 use Rattle.std.proofs.lemmas.Bool.{eqb-true, eqb-false, eq-eqb, ne_eqb}
 use Rattle.brc_lang.specs.declared.module.Module.{Module}
-use Rattle.brc_model.specs.Plain.{Holding, ByVariable, AsCaller, InHand, Reference, same_holding, same, without}
-use Rattle.brc_model.specs.Words.{local_part, is_immortal_word}
-use Rattle.brc_model.specs.Duties.{Duty, RetainLoad, Local}
+use Rattle.brc_model.specs.declared.duty.Holding.{Holding}
+use Rattle.brc_model.specs.declared.duty.Holding.TheVariants.{ByVariable, AsCaller, InHand}
+use Rattle.brc_model.specs.Plain.{Reference, same_holding, same, without}
+use Rattle.brc_word.specs.Words.{local_part, is_immortal_word}
+use Rattle.brc_model.specs.declared.duty.Duty.{Duty}
+use Rattle.brc_model.specs.declared.duty.Duty.TheVariants.{RetainLoad}
+use Rattle.brc_model.specs.declared.address.Address.TheVariants.{Local}
 use Rattle.brc_model.specs.Machine.{Actor, Machine}
 use Rattle.brc_model.proofs.Bag.{one_if, held-cons, held-without}
 use Rattle.brc_model.proofs.Invariant.{reference_of}

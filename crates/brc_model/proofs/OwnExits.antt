@@ -3,10 +3,17 @@ use Rattle.std.proofs.Common.{◌≡◌, ℕ, zero, suc, ◌+◌, ◌-◌, ◌<�
 use Rattle.std.specs.Prelude.{◌==◌, ◌&&◌, nat_lt}
 use Rattle.std.proofs.lemmas.Bool.{eqb-true}
 use Rattle.brc_lang.specs.declared.module.Module.{Module}
-use Rattle.brc_model.specs.Plain.{Holding}
-use Rattle.brc_model.specs.Words.{local_part, is_immortal_word, fresh_word, dead_word, released_word, merged_word}
-use Rattle.brc_model.specs.Duties.{Own, Handed, Duty, RetainLoad, RetainStore, RetainAdd, ReleaseLoad, ReleaseStore, DecideAtZero, SharedLoad, SharedExchange, SetMark, Look, TakeMark, MergeSwap, MergeLoad, MergeExchange, Die, Settle, SettleKind, SettleCell, SettleEnd, Leave, Scan, Finish, ClaimMark, Gate, Mark, ThreadWord, block_of, next_by, counts_locally, claimed, shared_result, cells_of, cells_from, release_found, head_by, ready}
-use Rattle.brc_model.specs.Machine.{Status, Leaving, Gone, Place, Actor, Life, Machine, is_running, first_row, status_by, dies_next, ended_row, actor_by, done_by}
+use Rattle.brc_model.specs.declared.duty.Holding.{Holding}
+use Rattle.brc_word.specs.Words.{local_part, is_immortal_word, fresh_word, dead_word, released_word, merged_word}
+use Rattle.brc_model.specs.declared.duty.Reason.TheVariants.{Own, Handed}
+use Rattle.brc_model.specs.declared.duty.Duty.{Duty}
+use Rattle.brc_model.specs.declared.duty.Duty.TheVariants.{RetainLoad, RetainStore, RetainAdd, ReleaseLoad, ReleaseStore, DecideAtZero, SharedLoad, SharedExchange, SetMark, Look, TakeMark, MergeSwap, MergeLoad, MergeExchange, Die, Settle, SettleKind, SettleCell, SettleEnd, Leave, Scan, Finish, ClaimMark}
+use Rattle.brc_model.specs.declared.address.Address.TheVariants.{Gate, Mark, ThreadWord}
+use Rattle.brc_model.specs.Duties.{block_of, next_by, counts_locally, claimed, shared_result, cells_of, cells_from, release_found, head_by, ready}
+use Rattle.brc_model.specs.declared.actor.Status.{Status}
+use Rattle.brc_model.specs.declared.actor.Status.TheVariants.{Leaving, Gone}
+use Rattle.brc_model.specs.declared.actor.Place.{Place}
+use Rattle.brc_model.specs.Machine.{Actor, Life, Machine, is_running, first_row, status_by, dies_next, ended_row, actor_by, done_by}
 use Rattle.brc_model.proofs.Bag.{one_if}
 use Rattle.brc_model.proofs.Rule.{extra_of, lacks_of, Later, Agenda, NoneHanded, HandedOnce, numbers_of, hand_of, dies_by, ChainFits, Rule}
 use Rattle.brc_model.proofs.Rows.{RowRule}

@@ -3,10 +3,16 @@ use Rattle.std.proofs.Common.{◌≡◌, ℕ, Bool, true, false, cond, List, [],
 use Rattle.std.specs.Prelude.{◌==◌}
 use Rattle.std.proofs.lemmas.Bool.{eqb-true, eqb-false, eq-eqb, ne_eqb}
 use Rattle.brc_lang.specs.declared.module.Module.{Module}
-use Rattle.brc_model.specs.Plain.{Holding}
-use Rattle.brc_model.specs.Words.{local_part, phase_part, dead_word, merged_word}
-use Rattle.brc_model.specs.Duties.{Reason, Own, Handed, Duty, SharedLoad, SetMark, Look, TakeMark, MergeSwap, MergeLoad, MergeExchange, Die, Local, Shared, ThreadWord, block_of}
-use Rattle.brc_model.specs.Machine.{Gone, Actor, Machine, done_by, actor_by}
+use Rattle.brc_model.specs.declared.duty.Holding.{Holding}
+use Rattle.brc_word.specs.Words.{local_part, phase_part, dead_word, merged_word}
+use Rattle.brc_model.specs.declared.duty.Reason.{Reason}
+use Rattle.brc_model.specs.declared.duty.Reason.TheVariants.{Own, Handed}
+use Rattle.brc_model.specs.declared.duty.Duty.{Duty}
+use Rattle.brc_model.specs.declared.duty.Duty.TheVariants.{SharedLoad, SetMark, Look, TakeMark, MergeSwap, MergeLoad, MergeExchange, Die}
+use Rattle.brc_model.specs.declared.address.Address.TheVariants.{Local, Shared, ThreadWord}
+use Rattle.brc_model.specs.Duties.{block_of}
+use Rattle.brc_model.specs.declared.actor.Status.TheVariants.{Gone}
+use Rattle.brc_model.specs.Machine.{Actor, Machine, done_by, actor_by}
 use Rattle.brc_model.proofs.Bag.{one_if}
 use Rattle.brc_model.proofs.Rows.{decides, InOwned, InSwapped, InMerged}
 use Rattle.brc_model.proofs.RowSteps.{shared_merged}

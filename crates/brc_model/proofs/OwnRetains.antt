@@ -4,10 +4,16 @@ use Rattle.std.specs.Prelude.{◌==◌, ◌&&◌, nat_lt, slice_get, sum_by}
 use Rattle.std.proofs.lemmas.Bool.{eqb-true, ltb-true}
 use Rattle.std.proofs.lemmas.List.Sums.{sum_by-cons}
 use Rattle.brc_lang.specs.declared.module.Module.{Module}
-use Rattle.brc_model.specs.Plain.{Holding, Reference, same_holding, moved}
-use Rattle.brc_model.specs.Words.{owner_part, local_part, is_immortal_word}
-use Rattle.brc_model.specs.Duties.{Duty, RetainLoad, RetainStore, RetainAdd, Settle, Scan, Local, next_by, counts_locally, ready}
-use Rattle.brc_model.specs.Machine.{Status, Running, Leaving, Gone, Actor, Machine, is_running, gain, done_by, actor_by}
+use Rattle.brc_model.specs.declared.duty.Holding.{Holding}
+use Rattle.brc_model.specs.Plain.{Reference, same_holding, moved}
+use Rattle.brc_word.specs.Words.{owner_part, local_part, is_immortal_word}
+use Rattle.brc_model.specs.declared.duty.Duty.{Duty}
+use Rattle.brc_model.specs.declared.duty.Duty.TheVariants.{RetainLoad, RetainStore, RetainAdd, Settle, Scan}
+use Rattle.brc_model.specs.declared.address.Address.TheVariants.{Local}
+use Rattle.brc_model.specs.Duties.{next_by, counts_locally, ready}
+use Rattle.brc_model.specs.declared.actor.Status.{Status}
+use Rattle.brc_model.specs.declared.actor.Status.TheVariants.{Running, Leaving, Gone}
+use Rattle.brc_model.specs.Machine.{Actor, Machine, is_running, gain, done_by, actor_by}
 use Rattle.brc_model.proofs.Lists.{and_first, and_second}
 use Rattle.brc_model.proofs.Bag.{held}
 use Rattle.brc_model.proofs.Invariant.{reference_of}

@@ -5,11 +5,16 @@ use Rattle.std.proofs.lemmas.Bool.{eq-eqb, ltb-true}
 use Rattle.std.proofs.lemmas.Bool.Decides.{eqb_tells}
 use Rattle.std.proofs.lemmas.List.Sums.{sum_by-cons}
 use Rattle.brc_lang.specs.declared.module.Module.{Module}
-use Rattle.brc_model.specs.Plain.{Holding}
+use Rattle.brc_model.specs.declared.duty.Holding.{Holding}
 use Rattle.brc_model.specs.Steps.{code_of}
-use Rattle.brc_model.specs.Words.{dying_word, next_part, closed_word}
-use Rattle.brc_model.specs.Duties.{Duty, Die, Settle, SettleKind, SettleCell, SettleEnd, Gate, KindOf, Cell, ThreadWord, head_by, ready, cells_of, cells_from, release_found}
-use Rattle.brc_model.specs.Machine.{Status, Gone, Actor, Unborn, Live, Dying, Closed, Machine, status_by, ended_row, with_life, actor_by, done_by, written}
+use Rattle.brc_word.specs.Words.{dying_word, next_part, closed_word}
+use Rattle.brc_model.specs.declared.duty.Duty.{Duty}
+use Rattle.brc_model.specs.declared.duty.Duty.TheVariants.{Die, Settle, SettleKind, SettleCell, SettleEnd}
+use Rattle.brc_model.specs.declared.address.Address.TheVariants.{Gate, KindOf, Cell, ThreadWord}
+use Rattle.brc_model.specs.Duties.{head_by, ready, cells_of, cells_from, release_found}
+use Rattle.brc_model.specs.declared.actor.Status.{Status}
+use Rattle.brc_model.specs.declared.actor.Status.TheVariants.{Gone}
+use Rattle.brc_model.specs.Machine.{Actor, Unborn, Live, Dying, Closed, Machine, status_by, ended_row, with_life, actor_by, done_by, written}
 use Rattle.brc_model.proofs.Bag.{one_if}
 use Rattle.brc_model.proofs.Rule.{extra_of, lacks_of, PlaceFits, HeadOf, Later, Agenda, NoneHanded, HandedOnce, Linked, hand_of, dies_by, ChainFits, AgendaFits, Rule, status_word}
 use Rattle.brc_model.proofs.Written.{written_here, written_apart, written_load, apart_gate}

@@ -6,8 +6,13 @@ use Rattle.std.proofs.lemmas.Bool.{eq-eqb}
 use Rattle.std.proofs.lemmas.Bool.Decides.{eqb_tells}
 use Rattle.brc_lang.specs.declared.module.Module.{Module}
 use Rattle.brc_model.specs.Steps.{code_of}
-use Rattle.brc_model.specs.Duties.{Duty, Look, Die, Settle, SettleKind, SettleCell, SettleEnd, Leave, Finish, Gate, ThreadWord, head_by, ready, block_of}
-use Rattle.brc_model.specs.Machine.{Status, Gone, Actor, Life, Live, Dying, Closed, Machine, status_by, dies_next, ended_row, with_life, life_by, actor_by, done_by}
+use Rattle.brc_model.specs.declared.duty.Duty.{Duty}
+use Rattle.brc_model.specs.declared.duty.Duty.TheVariants.{Look, Die, Settle, SettleKind, SettleCell, SettleEnd, Leave, Finish}
+use Rattle.brc_model.specs.declared.address.Address.TheVariants.{Gate, ThreadWord}
+use Rattle.brc_model.specs.Duties.{head_by, ready, block_of}
+use Rattle.brc_model.specs.declared.actor.Status.{Status}
+use Rattle.brc_model.specs.declared.actor.Status.TheVariants.{Gone}
+use Rattle.brc_model.specs.Machine.{Actor, Life, Live, Dying, Closed, Machine, status_by, dies_next, ended_row, with_life, life_by, actor_by, done_by}
 use Rattle.brc_model.proofs.Bag.{one_if}
 use Rattle.brc_model.proofs.Rule.{extra_of, lacks_of, PlaceFits, HeadFits, HeadOf, Later, Agenda, NoneHanded, HandedOnce, hand_of, dies_by, ChainFits, status_word}
 use Rattle.brc_model.proofs.Written.{written_load}

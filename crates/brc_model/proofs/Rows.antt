@@ -2,8 +2,10 @@
 -- duties about it come to, and the rule that ties them together.
 use Rattle.std.proofs.Common.{◌≡◌, ℕ, ◌+◌, ◌<◌, ◌≤◌, cond, List}
 use Rattle.std.specs.Prelude.{◌==◌, sum_by}
-use Rattle.brc_model.specs.Words.{owner_part, local_part, biased_part, phase_part, bias, fresh_word}
-use Rattle.brc_model.specs.Duties.{Own, Handed, Duty, DecideAtZero, SharedLoad, SharedExchange, SetMark, MergeSwap, MergeLoad, MergeExchange}
+use Rattle.brc_word.specs.Words.{owner_part, local_part, biased_part, phase_part, bias, fresh_word}
+use Rattle.brc_model.specs.declared.duty.Reason.TheVariants.{Own, Handed}
+use Rattle.brc_model.specs.declared.duty.Duty.{Duty}
+use Rattle.brc_model.specs.declared.duty.Duty.TheVariants.{DecideAtZero, SharedLoad, SharedExchange, SetMark, MergeSwap, MergeLoad, MergeExchange}
 use Rattle.brc_model.specs.Machine.{Life, Unborn, Live, Dying, Closed, Actor}
 use Rattle.brc_model.proofs.Bag.{one_if}
 

@@ -3,9 +3,15 @@ use Rattle.std.proofs.Common.{◌≡◌, ℕ, ◌+◌, ◌-◌, ◌<◌, ◌≤�
 use Rattle.std.specs.Prelude.{◌&&◌, nat_lt}
 use Rattle.std.proofs.lemmas.Bool.Decides.{eqb_tells}
 use Rattle.brc_lang.specs.declared.module.Module.{Module}
-use Rattle.brc_model.specs.Plain.{Holding, ByVariable, AsCaller, InHand, without, references_to, Plain, moved}
-use Rattle.brc_model.specs.Words.{local_part, is_immortal_word, fresh_word}
-use Rattle.brc_model.specs.Duties.{Own, Duty, RetainLoad, RetainStore, RetainAdd, ReleaseLoad, ReleaseStore, DecideAtZero, SharedLoad, MergeSwap, Die, Local, Shared, block_of, counts_locally}
+use Rattle.brc_model.specs.declared.duty.Holding.{Holding}
+use Rattle.brc_model.specs.declared.duty.Holding.TheVariants.{ByVariable, AsCaller, InHand}
+use Rattle.brc_model.specs.Plain.{without, references_to, Plain, moved}
+use Rattle.brc_word.specs.Words.{local_part, is_immortal_word, fresh_word}
+use Rattle.brc_model.specs.declared.duty.Reason.TheVariants.{Own}
+use Rattle.brc_model.specs.declared.duty.Duty.{Duty}
+use Rattle.brc_model.specs.declared.duty.Duty.TheVariants.{RetainLoad, RetainStore, RetainAdd, ReleaseLoad, ReleaseStore, DecideAtZero, SharedLoad, MergeSwap, Die}
+use Rattle.brc_model.specs.declared.address.Address.TheVariants.{Local, Shared}
+use Rattle.brc_model.specs.Duties.{block_of, counts_locally}
 use Rattle.brc_model.specs.Machine.{Live, Dying, Actor, Machine, gain, lose, hand_on}
 use Rattle.brc_model.proofs.Bag.{references_to-cons, same_holding-refl}
 use Rattle.brc_model.proofs.Invariant.{reference_of}

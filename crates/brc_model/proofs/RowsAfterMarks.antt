@@ -4,7 +4,11 @@ use Rattle.std.specs.Prelude.{◌==◌}
 use Rattle.std.proofs.lemmas.List.Sums.{sum_by-append}
 use Rattle.brc_lang.specs.declared.module.Module.{Module}
 use Rattle.brc_model.specs.Plain.{references_to}
-use Rattle.brc_model.specs.Duties.{Handed, Duty, SharedLoad, SetMark, Look, TakeMark, MergeSwap, Die, Settle, SettleKind, SettleCell, SettleEnd, Scan, ClaimMark, Local, Shared, Mark, Cell, block_of, claimed, cells_of, cells_from}
+use Rattle.brc_model.specs.declared.duty.Reason.TheVariants.{Handed}
+use Rattle.brc_model.specs.declared.duty.Duty.{Duty}
+use Rattle.brc_model.specs.declared.duty.Duty.TheVariants.{SharedLoad, SetMark, Look, TakeMark, MergeSwap, Die, Settle, SettleKind, SettleCell, SettleEnd, Scan, ClaimMark}
+use Rattle.brc_model.specs.declared.address.Address.TheVariants.{Local, Shared, Mark, Cell}
+use Rattle.brc_model.specs.Duties.{block_of, claimed, cells_of, cells_from}
 use Rattle.brc_model.specs.Machine.{Life, Live, Dying, Closed, Actor, Machine, with_life, dies_next, life_by, done_by}
 use Rattle.brc_model.proofs.Rows.{waits, carries, merges, decides, RowRule}
 use Rattle.brc_model.proofs.RowSteps.{mark_set, mark_taken}

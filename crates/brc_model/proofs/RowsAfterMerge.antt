@@ -5,8 +5,13 @@ use Rattle.std.proofs.lemmas.Bool.{ne_eqb}
 use Rattle.std.proofs.lemmas.Bool.Decides.{eqb_tells}
 use Rattle.std.proofs.lemmas.List.Sums.{sum_by-cons}
 use Rattle.brc_lang.specs.declared.module.Module.{Module}
-use Rattle.brc_model.specs.Words.{local_part, dead_word, merged_word}
-use Rattle.brc_model.specs.Duties.{Own, Handed, Duty, SharedLoad, MergeSwap, MergeLoad, MergeExchange, Die, Address, Local, Shared, block_of}
+use Rattle.brc_word.specs.Words.{local_part, dead_word, merged_word}
+use Rattle.brc_model.specs.declared.duty.Reason.TheVariants.{Own, Handed}
+use Rattle.brc_model.specs.declared.duty.Duty.{Duty}
+use Rattle.brc_model.specs.declared.duty.Duty.TheVariants.{SharedLoad, MergeSwap, MergeLoad, MergeExchange, Die}
+use Rattle.brc_model.specs.declared.address.Address.{Address}
+use Rattle.brc_model.specs.declared.address.Address.TheVariants.{Local, Shared}
+use Rattle.brc_model.specs.Duties.{block_of}
 use Rattle.brc_model.specs.Machine.{Live, Dying, Actor, Machine, written, done_by}
 use Rattle.brc_model.proofs.Bag.{one_if}
 use Rattle.brc_model.proofs.Rows.{waits, carries, merges, agenda_weight, weight, IsLive, InOwned, InSwapped, InMerged}

@@ -5,10 +5,16 @@ use Rattle.std.specs.List.{list_any}
 use Rattle.std.proofs.lemmas.Bool.{eq-eqb, ne_eqb}
 use Rattle.brc_lang.specs.declared.module.Module.{Module}
 use Rattle.brc_lang.specs.declared.module.Instr.{Instr}
-use Rattle.brc_model.specs.Plain.{Holding, Reference, same, without, references_to}
-use Rattle.brc_model.specs.Words.{local_part, is_immortal_word}
-use Rattle.brc_model.specs.Duties.{Duty, Address, Local, Shared, Mark, block_of}
-use Rattle.brc_model.specs.Machine.{Place, Standing, Inside, Departing, Life, Actor, Machine, written, same_address, with_life, ended_row, done_by}
+use Rattle.brc_model.specs.declared.duty.Holding.{Holding}
+use Rattle.brc_model.specs.Plain.{Reference, same, without, references_to}
+use Rattle.brc_word.specs.Words.{local_part, is_immortal_word}
+use Rattle.brc_model.specs.declared.duty.Duty.{Duty}
+use Rattle.brc_model.specs.declared.address.Address.{Address}
+use Rattle.brc_model.specs.declared.address.Address.TheVariants.{Local, Shared, Mark}
+use Rattle.brc_model.specs.Duties.{block_of}
+use Rattle.brc_model.specs.declared.actor.Place.{Place}
+use Rattle.brc_model.specs.declared.actor.Place.TheVariants.{Standing, Inside, Departing}
+use Rattle.brc_model.specs.Machine.{Life, Actor, Machine, written, same_address, with_life, ended_row, done_by}
 use Rattle.brc_model.proofs.Bag.{held, one_if, held_has, held-le-references_to, references_to-without}
 use Rattle.brc_model.proofs.Invariant.{nothing, the_root, of_variables, reference_of}
 use Rattle.brc_model.proofs.Rows.{Numbers, InOwned, InSwapped, InMerged, IsLive}

@@ -3,9 +3,16 @@ use Rattle.std.proofs.Common.{◌≡◌, ◌≢◌, ℕ, ◌+◌, ◌-◌, ◌<�
 use Rattle.std.specs.Prelude.{◌==◌}
 use Rattle.std.proofs.lemmas.Bool.Decides.{eqb_tells}
 use Rattle.brc_lang.specs.declared.module.Module.{Module}
-use Rattle.brc_model.specs.Plain.{InHand, references_to, Plain, moved}
-use Rattle.brc_model.specs.Words.{fresh_word, dead_word, released_word}
-use Rattle.brc_model.specs.Duties.{Reason, Own, Handed, Duty, SharedLoad, SharedExchange, SetMark, Die, Address, Shared, block_of}
+use Rattle.brc_model.specs.declared.duty.Holding.TheVariants.{InHand}
+use Rattle.brc_model.specs.Plain.{references_to, Plain, moved}
+use Rattle.brc_word.specs.Words.{fresh_word, dead_word, released_word}
+use Rattle.brc_model.specs.declared.duty.Reason.{Reason}
+use Rattle.brc_model.specs.declared.duty.Reason.TheVariants.{Own, Handed}
+use Rattle.brc_model.specs.declared.duty.Duty.{Duty}
+use Rattle.brc_model.specs.declared.duty.Duty.TheVariants.{SharedLoad, SharedExchange, SetMark, Die}
+use Rattle.brc_model.specs.declared.address.Address.{Address}
+use Rattle.brc_model.specs.declared.address.Address.TheVariants.{Shared}
+use Rattle.brc_model.specs.Duties.{block_of}
 use Rattle.brc_model.specs.Machine.{Live, Dying, Actor, Machine, written, lose, moves_by}
 use Rattle.brc_model.proofs.Invariant.{reference_of}
 use Rattle.brc_model.proofs.Rows.{waits}

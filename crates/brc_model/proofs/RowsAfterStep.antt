@@ -3,7 +3,9 @@ use Rattle.std.proofs.Common.{◌≡◌, ℕ, ◌+◌, ◌<◌, ◌≤◌, List,
 use Rattle.std.specs.Prelude.{sum_by, slice_get}
 use Rattle.brc_lang.specs.declared.module.Module.{Module}
 use Rattle.brc_model.specs.Plain.{references_to}
-use Rattle.brc_model.specs.Duties.{Duty, Local, Shared, Mark, block_of, address_of, next_by}
+use Rattle.brc_model.specs.declared.duty.Duty.{Duty}
+use Rattle.brc_model.specs.declared.address.Address.TheVariants.{Local, Shared, Mark}
+use Rattle.brc_model.specs.Duties.{block_of, address_of, next_by}
 use Rattle.brc_model.specs.Machine.{Life, Unborn, Live, Dying, Closed, Actor, Machine, is_running, life_by, done_by}
 use Rattle.brc_model.proofs.Rows.{waits, carries, merges, decides, Numbers, IsLive, RowRule}
 use Rattle.brc_model.proofs.Rule.{Rule, HeadFits, HeadOf, numbers_of}

@@ -6,11 +6,22 @@ use Rattle.brc_lang.specs.declared.module.Instr.{Instr}
 use Rattle.brc_lang.specs.declared.module.Module.{Module}
 use Rattle.brc_model.specs.declared.slot.State.{State}
 use Rattle.brc_model.specs.Walks.{IsAcceptableCode}
-use Rattle.brc_model.specs.Plain.{Holding, InHand, Reference, same_holding, is_among, references_to}
+use Rattle.brc_model.specs.declared.duty.Holding.{Holding}
+use Rattle.brc_model.specs.declared.duty.Holding.TheVariants.{InHand}
+use Rattle.brc_model.specs.Plain.{Reference, same_holding, is_among, references_to}
 use Rattle.brc_model.specs.Steps.{code_of}
-use Rattle.brc_model.specs.Words.{owner_part, local_part, phase_part, dying_word}
-use Rattle.brc_model.specs.Duties.{Own, Handed, Duty, RetainLoad, RetainStore, RetainAdd, ReleaseLoad, ReleaseStore, DecideAtZero, SharedLoad, SharedExchange, SetMark, Look, TakeMark, MergeSwap, MergeLoad, MergeExchange, Die, Settle, SettleKind, SettleCell, SettleEnd, Leave, Scan, Finish, ClaimMark, Address, Local, Shared, Gate, Mark, Cell, ThreadWord, block_of}
-use Rattle.brc_model.specs.Machine.{Status, Running, Leaving, Gone, Place, Standing, Inside, Departing, Actor, Life, Unborn, Live, Dying, Closed, Machine, first_row}
+use Rattle.brc_word.specs.Words.{owner_part, local_part, phase_part, dying_word}
+use Rattle.brc_model.specs.declared.duty.Reason.TheVariants.{Own, Handed}
+use Rattle.brc_model.specs.declared.duty.Duty.{Duty}
+use Rattle.brc_model.specs.declared.duty.Duty.TheVariants.{RetainLoad, RetainStore, RetainAdd, ReleaseLoad, ReleaseStore, DecideAtZero, SharedLoad, SharedExchange, SetMark, Look, TakeMark, MergeSwap, MergeLoad, MergeExchange, Die, Settle, SettleKind, SettleCell, SettleEnd, Leave, Scan, Finish, ClaimMark}
+use Rattle.brc_model.specs.declared.address.Address.{Address}
+use Rattle.brc_model.specs.declared.address.Address.TheVariants.{Local, Shared, Gate, Mark, Cell, ThreadWord}
+use Rattle.brc_model.specs.Duties.{block_of}
+use Rattle.brc_model.specs.declared.actor.Status.{Status}
+use Rattle.brc_model.specs.declared.actor.Status.TheVariants.{Running, Leaving, Gone}
+use Rattle.brc_model.specs.declared.actor.Place.{Place}
+use Rattle.brc_model.specs.declared.actor.Place.TheVariants.{Standing, Inside, Departing}
+use Rattle.brc_model.specs.Machine.{Actor, Life, Unborn, Live, Dying, Closed, Machine, first_row}
 use Rattle.brc_model.proofs.Bag.{held, one_if}
 use Rattle.brc_model.proofs.Invariant.{nothing, the_root, of_variables, reference_of, IsInside, AreInstructions}
 use Rattle.brc_model.proofs.Rows.{waits, carries, merges, decides, weight, Numbers, RowRule}

@@ -4,10 +4,17 @@ use Rattle.std.specs.Prelude.{slice_get, sum_by}
 use Rattle.std.proofs.lemmas.List.Sums.{sum_by-cons}
 use Rattle.brc_lang.specs.declared.module.Function.{Function}
 use Rattle.brc_lang.specs.declared.module.Module.{Module}
-use Rattle.brc_model.specs.Plain.{Holding, Reference, references_to}
+use Rattle.brc_model.specs.declared.duty.Holding.{Holding}
+use Rattle.brc_model.specs.Plain.{Reference, references_to}
 use Rattle.brc_model.specs.Steps.{code_of}
-use Rattle.brc_model.specs.Duties.{Duty, RetainLoad, ReleaseLoad, Settle, Leave, ClaimMark, block_of}
-use Rattle.brc_model.specs.Machine.{Status, Running, Leaving, Gone, Place, Standing, Departing, Actor, Machine, first_row, begun, begun_by}
+use Rattle.brc_model.specs.declared.duty.Duty.{Duty}
+use Rattle.brc_model.specs.declared.duty.Duty.TheVariants.{RetainLoad, ReleaseLoad, Settle, Leave, ClaimMark}
+use Rattle.brc_model.specs.Duties.{block_of}
+use Rattle.brc_model.specs.declared.actor.Status.{Status}
+use Rattle.brc_model.specs.declared.actor.Status.TheVariants.{Running, Leaving, Gone}
+use Rattle.brc_model.specs.declared.actor.Place.{Place}
+use Rattle.brc_model.specs.declared.actor.Place.TheVariants.{Standing, Departing}
+use Rattle.brc_model.specs.Machine.{Actor, Machine, first_row, begun, begun_by}
 use Rattle.brc_model.proofs.Bag.{held-le-references_to}
 use Rattle.brc_model.proofs.Invariant.{reference_of, the_root}
 use Rattle.brc_model.proofs.Rows.{waits, carries, merges, decides}

@@ -11,10 +11,14 @@ use Rattle.brc_model.specs.declared.slot.State.{State}
 use Rattle.brc_model.specs.declared.slot.Exit.TheVariants.{Success}
 use Rattle.brc_model.specs.Slots.{slot_of, is_empty, is_owned, kind_of, put, entry}
 use Rattle.brc_model.specs.Walks.{IsAcceptableCode}
-use Rattle.brc_model.specs.Plain.{root_row, Holding, ByVariable, AsCaller, InHand, Reference, same_holding, references_to}
+use Rattle.brc_model.specs.declared.duty.Holding.{Holding}
+use Rattle.brc_model.specs.declared.duty.Holding.TheVariants.{ByVariable, AsCaller, InHand}
+use Rattle.brc_model.specs.Plain.{root_row, Reference, same_holding, references_to}
 use Rattle.brc_model.specs.Threads.{row_of, entry_variables}
-use Rattle.brc_model.specs.Duties.{RetainLoad, ReleaseLoad, Settle}
-use Rattle.brc_model.specs.Machine.{Place, Standing, Inside, Departing, Work, begun_instruction, begun}
+use Rattle.brc_model.specs.declared.duty.Duty.TheVariants.{RetainLoad, ReleaseLoad, Settle}
+use Rattle.brc_model.specs.declared.actor.Place.{Place}
+use Rattle.brc_model.specs.declared.actor.Place.TheVariants.{Standing, Inside, Departing}
+use Rattle.brc_model.specs.Machine.{Work, begun_instruction, begun}
 use Rattle.brc_model.proofs.Bag.{held, one_if, held-le-references_to}
 use Rattle.brc_model.proofs.Lists.{first_false}
 use Rattle.brc_model.proofs.Invariant.{the_root, of_variables, reference_of, Holds, IsGrounded, IsInside, AreInstructions}

@@ -5,9 +5,16 @@ use Rattle.std.proofs.lemmas.Bool.{eqb-true, ne_eqb, leb-true, le-leb}
 use Rattle.std.proofs.lemmas.Bool.Decides.{eqb_tells}
 use Rattle.std.proofs.lemmas.List.Sums.{sum_by-cons, sum_by-append}
 use Rattle.brc_lang.specs.declared.module.Module.{Module}
-use Rattle.brc_model.specs.Words.{local_part, is_immortal_word, fresh_word, dead_word, released_word, merged_word}
-use Rattle.brc_model.specs.Duties.{Own, Handed, Duty, RetainLoad, RetainStore, RetainAdd, ReleaseLoad, ReleaseStore, DecideAtZero, SharedLoad, SharedExchange, SetMark, Look, TakeMark, MergeSwap, MergeLoad, MergeExchange, Die, Settle, SettleKind, SettleCell, SettleEnd, Leave, Scan, Finish, ClaimMark, Mark, ThreadWord, block_of, next_by, counts_locally, claimed, shared_result, cells_of, cells_from, release_found, head_by, ready}
-use Rattle.brc_model.specs.Machine.{Status, Gone, Place, Actor, Machine, is_running, first_row, actor_by, done_by, written}
+use Rattle.brc_word.specs.Words.{local_part, is_immortal_word, fresh_word, dead_word, released_word, merged_word}
+use Rattle.brc_model.specs.declared.duty.Reason.TheVariants.{Own, Handed}
+use Rattle.brc_model.specs.declared.duty.Duty.{Duty}
+use Rattle.brc_model.specs.declared.duty.Duty.TheVariants.{RetainLoad, RetainStore, RetainAdd, ReleaseLoad, ReleaseStore, DecideAtZero, SharedLoad, SharedExchange, SetMark, Look, TakeMark, MergeSwap, MergeLoad, MergeExchange, Die, Settle, SettleKind, SettleCell, SettleEnd, Leave, Scan, Finish, ClaimMark}
+use Rattle.brc_model.specs.declared.address.Address.TheVariants.{Mark, ThreadWord}
+use Rattle.brc_model.specs.Duties.{block_of, next_by, counts_locally, claimed, shared_result, cells_of, cells_from, release_found, head_by, ready}
+use Rattle.brc_model.specs.declared.actor.Status.{Status}
+use Rattle.brc_model.specs.declared.actor.Status.TheVariants.{Gone}
+use Rattle.brc_model.specs.declared.actor.Place.{Place}
+use Rattle.brc_model.specs.Machine.{Actor, Machine, is_running, first_row, actor_by, done_by, written}
 use Rattle.brc_model.proofs.Lists.{some_is, slice_get-set_other}
 use Rattle.brc_model.proofs.Bag.{one_if}
 use Rattle.brc_model.proofs.Rows.{agenda_weight, weight}

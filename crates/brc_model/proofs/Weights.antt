@@ -4,7 +4,9 @@ use Rattle.std.specs.Prelude.{◌==◌, sum_by, slice_get, slice_set}
 use Rattle.std.proofs.lemmas.Bool.Decides.{eqb_tells}
 use Rattle.std.proofs.lemmas.Option.{slice_get_within, get_or_from_slice_get}
 use Rattle.std.proofs.lemmas.List.Sums.{sum_by-cons, sum_by-append, sum_by-set, get_or-le-sum_by}
-use Rattle.brc_model.specs.Duties.{Duty, MergeLoad, MergeExchange, Settle, Scan, address_of, next_by, head_by, ready}
+use Rattle.brc_model.specs.declared.duty.Duty.{Duty}
+use Rattle.brc_model.specs.declared.duty.Duty.TheVariants.{MergeLoad, MergeExchange, Settle, Scan}
+use Rattle.brc_model.specs.Duties.{address_of, next_by, head_by, ready}
 use Rattle.brc_model.specs.Machine.{Actor, Machine, is_running, done_by}
 use Rattle.brc_model.proofs.Bag.{one_if}
 use Rattle.brc_model.proofs.Rows.{waits, carries, merges, decides, agenda_weight, weight}

@@ -5,8 +5,16 @@ use Rattle.std.proofs.lemmas.Bool.{eqb-true, ltb-true, leb-true}
 use Rattle.std.proofs.lemmas.List.{nil_from_length}
 use Rattle.brc_lang.specs.declared.module.Module.{Module}
 use Rattle.brc_model.specs.Steps.{code_of}
-use Rattle.brc_model.specs.Duties.{Duty, ClaimMark, block_of}
-use Rattle.brc_model.specs.Machine.{Status, Running, Leaving, Gone, Place, Standing, Inside, Departing, Actor, Machine, Begun, Stuck, Quiet, Work, begun_by, done_by, at_place, with_actor, begins, goes_on, acts, may_claim, first_row, is_running, Choice, Ok, Fault, Claim, chosen, next_machine, machine_after}
+use Rattle.brc_model.specs.declared.duty.Duty.{Duty}
+use Rattle.brc_model.specs.declared.duty.Duty.TheVariants.{ClaimMark}
+use Rattle.brc_model.specs.Duties.{block_of}
+use Rattle.brc_model.specs.declared.actor.Status.{Status}
+use Rattle.brc_model.specs.declared.actor.Status.TheVariants.{Running, Leaving, Gone}
+use Rattle.brc_model.specs.declared.actor.Place.{Place}
+use Rattle.brc_model.specs.declared.actor.Place.TheVariants.{Standing, Inside, Departing}
+use Rattle.brc_model.specs.declared.thread.Choice.{Choice}
+use Rattle.brc_model.specs.declared.thread.Choice.TheVariants.{Ok, Fault, Claim}
+use Rattle.brc_model.specs.Machine.{Actor, Machine, Begun, Stuck, Quiet, Work, begun_by, done_by, at_place, with_actor, begins, goes_on, acts, may_claim, first_row, is_running, chosen, next_machine, machine_after}
 use Rattle.brc_model.specs.Events.{is_bad_duty, is_bad_begun, is_bad_agenda, is_bad_status, is_bad_choice, is_bad_event}
 use Rattle.brc_model.proofs.Lists.{and_first, and_second}
 use Rattle.brc_model.proofs.Rule.{PlaceFits}

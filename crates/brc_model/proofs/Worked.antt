@@ -4,7 +4,11 @@ use Rattle.std.specs.Prelude.{replicate}
 use Rattle.brc_lang.specs.declared.module.Instr.TheVariants.{Fail}
 use Rattle.brc_lang.specs.declared.module.Module.{Module}
 use Rattle.brc_model.specs.declared.thread.Call.{Call}
-use Rattle.brc_model.specs.Machine.{Status, Running, Gone, Live, Closed, Choice, Ok, Claim, Machine, Actor, first_machine, machine_after}
+use Rattle.brc_model.specs.declared.actor.Status.{Status}
+use Rattle.brc_model.specs.declared.actor.Status.TheVariants.{Running, Gone}
+use Rattle.brc_model.specs.declared.thread.Choice.{Choice}
+use Rattle.brc_model.specs.declared.thread.Choice.TheVariants.{Ok, Claim}
+use Rattle.brc_model.specs.Machine.{Live, Closed, Machine, Actor, first_machine, machine_after}
 
 smallest : Module
 smallest = record { functions = record { name = 102 ∷ []; code = Fail ∷ [] } ∷ [] }

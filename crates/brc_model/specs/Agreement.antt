@@ -2,8 +2,11 @@
 -- are its local count and its shared count together; it is freed from default and merged alone.)
 use Rattle.std.specs.Prelude.{◌≡◌, ℕ, ◌+◌, ◌<◌, ◌≤◌, ◌==◌, if◌then◌else◌, sum_by}
 use Rattle.brc_model.specs.Plain.{references_to}
-use Rattle.brc_model.specs.Words.{local_part, biased_part, phase_part, bias}
-use Rattle.brc_model.specs.Duties.{Handed, Duty, SharedLoad, SharedExchange, SetMark, MergeLoad, MergeExchange, Local, Shared, Mark}
+use Rattle.brc_word.specs.Words.{local_part, biased_part, phase_part, bias}
+use Rattle.brc_model.specs.declared.duty.Reason.TheVariants.{Handed}
+use Rattle.brc_model.specs.declared.duty.Duty.{Duty}
+use Rattle.brc_model.specs.declared.duty.Duty.TheVariants.{SharedLoad, SharedExchange, SetMark, MergeLoad, MergeExchange}
+use Rattle.brc_model.specs.declared.address.Address.TheVariants.{Local, Shared, Mark}
 use Rattle.brc_model.specs.Machine.{Live, Actor, Machine}
 
 -- ---- weights of a duty at a row

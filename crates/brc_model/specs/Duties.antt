@@ -1,56 +1,15 @@
 -- What a thread has still to do inside an instruction or its exit: an agenda of duties, each of which is one step on one
 -- word, and names the duties that follow it by what the step found.
 use Rattle.std.specs.Prelude.{ℕ, zero, suc, ◌+◌, ◌-◌, ◌/◌, Bool, ◌&&◌, ◌==◌, nat_lt, if◌then◌else◌, List, [], ◌∷◌, ◌++◌}
-use Rattle.brc_model.specs.Plain.{Holding, InHand}
-use Rattle.brc_model.specs.Words.{owner_part, local_part, is_immortal_word, fresh_word, dead_word, released_word, merged_word, dying_word, next_part, closed_word, kind_part, argument_part}
-
--- whose reference a release by the shared word gives up: the thread's own, or the one that was handed to a queue
-pub data Reason : Type 0 where
-  Own : Reason
-  Handed : Reason
-
-pub data Duty : Type 0 where
-  -- a new reference, for the holder
-  RetainLoad : ℕ → Holding → Duty
-  RetainStore : ℕ → Holding → ℕ → Duty
-  RetainAdd : ℕ → Holding → Duty
-  -- the holder's reference is given up
-  ReleaseLoad : ℕ → Holding → Duty
-  ReleaseStore : ℕ → ℕ → Duty
-  DecideAtZero : ℕ → Duty
-  SharedLoad : ℕ → Reason → Duty
-  SharedExchange : ℕ → Reason → ℕ → Duty
-  -- an object is put into its owner's queue
-  SetMark : ℕ → Duty
-  Look : ℕ → Duty
-  TakeMark : ℕ → Duty
-  -- the local count goes over to the shared one
-  MergeSwap : ℕ → Reason → Duty
-  MergeLoad : ℕ → ℕ → Duty
-  MergeExchange : ℕ → ℕ → ℕ → Duty
-  -- an object dies, and the dying ones are finalised
-  Die : ℕ → Duty
-  Settle : Duty
-  SettleKind : ℕ → Duty
-  SettleCell : ℕ → ℕ → ℕ → Duty
-  SettleEnd : ℕ → Duty
-  -- the thread leaves: it says so, looks through the marks of so many rows from one on, and is gone
-  Leave : ℕ → ℕ → Duty
-  Scan : ℕ → ℕ → Duty
-  Finish : Duty
-  -- the queue of a running thread is looked into
-  ClaimMark : ℕ → Duty
+use Rattle.brc_model.specs.declared.duty.Holding.TheVariants.{InHand}
+use Rattle.brc_model.specs.declared.duty.Reason.TheVariants.{Own, Handed}
+use Rattle.brc_model.specs.declared.duty.Duty.{Duty}
+use Rattle.brc_model.specs.declared.duty.Duty.TheVariants.{RetainLoad, RetainStore, RetainAdd, ReleaseLoad, ReleaseStore, DecideAtZero, SharedLoad, SharedExchange, SetMark, Look, TakeMark, MergeSwap, MergeLoad, MergeExchange, Die, Settle, SettleKind, SettleCell, SettleEnd, Leave, Scan, Finish, ClaimMark}
+use Rattle.brc_model.specs.declared.address.Address.{Address}
+use Rattle.brc_model.specs.declared.address.Address.TheVariants.{Local, Shared, Gate, KindOf, Mark, Cell, ThreadWord}
+use Rattle.brc_word.specs.Words.{owner_part, local_part, is_immortal_word, fresh_word, dead_word, released_word, merged_word, dying_word, next_part, closed_word, kind_part, argument_part}
 
 -- ---- the word of a step
-
-pub data Address : Type 0 where
-  Local : ℕ → Address
-  Shared : ℕ → Address
-  Gate : ℕ → Address
-  KindOf : ℕ → Address
-  Mark : ℕ → Address
-  Cell : ℕ → ℕ → Address
-  ThreadWord : ℕ → Address
 
 -- the thread of the row's block; each worker has so many rows
 abbrev pub block_of : ℕ → ℕ → ℕ

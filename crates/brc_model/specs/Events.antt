@@ -1,8 +1,16 @@
 -- Which events are bad: one that touches a freed row, one that makes a move that isn't allowed, and one that can't go on.
 use Rattle.std.specs.Prelude.{ℕ, Bool, true, false, ◌||◌, ◌==◌, not, if◌then◌else◌, List, [], ◌∷◌, Option, None, Some, slice_get}
 use Rattle.brc_model.specs.Plain.{are_allowed}
-use Rattle.brc_model.specs.Duties.{Duty, ClaimMark, Address, Local, Shared, Gate, KindOf, Mark, Cell, ThreadWord, address_of}
-use Rattle.brc_model.specs.Machine.{Status, Running, Leaving, Gone, Actor, Life, Unborn, Live, Dying, Closed, Machine, Begun, Stuck, Quiet, Work, begun_by, moves_by, may_claim, Choice, Ok, Fault, Claim}
+use Rattle.brc_model.specs.declared.duty.Duty.{Duty}
+use Rattle.brc_model.specs.declared.duty.Duty.TheVariants.{ClaimMark}
+use Rattle.brc_model.specs.declared.address.Address.{Address}
+use Rattle.brc_model.specs.declared.address.Address.TheVariants.{Local, Shared, Gate, KindOf, Mark, Cell, ThreadWord}
+use Rattle.brc_model.specs.Duties.{address_of}
+use Rattle.brc_model.specs.declared.actor.Status.{Status}
+use Rattle.brc_model.specs.declared.actor.Status.TheVariants.{Running, Leaving, Gone}
+use Rattle.brc_model.specs.declared.thread.Choice.{Choice}
+use Rattle.brc_model.specs.declared.thread.Choice.TheVariants.{Ok, Fault, Claim}
+use Rattle.brc_model.specs.Machine.{Actor, Life, Unborn, Live, Dying, Closed, Machine, Begun, Stuck, Quiet, Work, begun_by, moves_by, may_claim}
 
 -- marks and thread words belong to no row
 abbrev pub touched_row : Address → Option ℕ

@@ -5,7 +5,10 @@ use Rattle.brc_lang.specs.declared.module.Module.{Module}
 use Rattle.brc_model.specs.declared.thread.Call.{Call}
 use Rattle.brc_model.specs.Plain.{root_row, is_among, references_to}
 use Rattle.brc_model.specs.Safety.{AreCalls}
-use Rattle.brc_model.specs.Machine.{Status, Running, Leaving, Gone, Actor, Unborn, Live, Machine, Choice, first_machine, machine_after}
+use Rattle.brc_model.specs.declared.actor.Status.{Status}
+use Rattle.brc_model.specs.declared.actor.Status.TheVariants.{Running, Leaving, Gone}
+use Rattle.brc_model.specs.declared.thread.Choice.{Choice}
+use Rattle.brc_model.specs.Machine.{Actor, Unborn, Live, Machine, first_machine, machine_after}
 use Rattle.brc_model.specs.Agreement.{AgreesAt, IsFreeOf}
 use Rattle.brc_model.specs.Events.{is_bad_event}
 

@@ -5,9 +5,10 @@ pub mod Plain
 pub mod Threads
 pub mod Steps
 pub mod Safety
-pub mod Words
 pub mod Duties
 pub mod Machine
 pub mod Agreement
 pub mod Events
 pub mod Guarantee
+pub mod World
+pub mod Within

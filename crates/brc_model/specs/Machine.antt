@@ -6,27 +6,26 @@ use Rattle.brc_lang.specs.declared.module.Instr.TheVariants.{Newref, Drop, Ret, 
 use Rattle.brc_lang.specs.declared.module.Function.{Function}
 use Rattle.brc_lang.specs.declared.module.Module.{Module}
 use Rattle.brc_model.specs.declared.thread.Call.{Call}
-use Rattle.brc_model.specs.Plain.{root_row, Holding, ByVariable, AsCaller, InHand, Plain, Move, Gain, Lose, HandOn, Finalise, moved}
+use Rattle.brc_model.specs.declared.thread.Choice.{Choice}
+use Rattle.brc_model.specs.declared.thread.Choice.TheVariants.{Ok, Fault, Claim}
+use Rattle.brc_model.specs.declared.actor.Status.{Status}
+use Rattle.brc_model.specs.declared.actor.Status.TheVariants.{Running, Leaving, Gone}
+use Rattle.brc_model.specs.declared.actor.Place.{Place}
+use Rattle.brc_model.specs.declared.actor.Place.TheVariants.{Standing, Inside, Departing}
+use Rattle.brc_model.specs.declared.duty.Holding.{Holding}
+use Rattle.brc_model.specs.declared.duty.Holding.TheVariants.{ByVariable, AsCaller, InHand}
+use Rattle.brc_model.specs.Plain.{root_row, Plain, Move, Gain, Lose, HandOn, Finalise, moved}
 use Rattle.brc_model.specs.Threads.{row_of, entry_variables}
 use Rattle.brc_model.specs.Steps.{code_of, callers_below}
-use Rattle.brc_model.specs.Words.{is_immortal_word, local_word, fresh_word}
-use Rattle.brc_model.specs.Duties.{Own, Duty, RetainLoad, RetainStore, RetainAdd, ReleaseLoad, ReleaseStore, SharedExchange, Die, Settle, SettleEnd, Leave, Finish, ClaimMark, Address, Local, Shared, Gate, KindOf, Mark, Cell, ThreadWord, address_of, left_by, next_by, head_by, ready}
+use Rattle.brc_word.specs.Words.{is_immortal_word, local_word, fresh_word}
+use Rattle.brc_model.specs.declared.duty.Reason.TheVariants.{Own}
+use Rattle.brc_model.specs.declared.duty.Duty.{Duty}
+use Rattle.brc_model.specs.declared.duty.Duty.TheVariants.{RetainLoad, RetainStore, RetainAdd, ReleaseLoad, ReleaseStore, SharedExchange, Die, Settle, SettleEnd, Leave, Finish, ClaimMark}
+use Rattle.brc_model.specs.declared.address.Address.{Address}
+use Rattle.brc_model.specs.declared.address.Address.TheVariants.{Local, Shared, Gate, KindOf, Mark, Cell, ThreadWord}
+use Rattle.brc_model.specs.Duties.{address_of, left_by, next_by, head_by, ready}
 
 -- ---- threads
-
-pub data Status : Type 0 where
-  Running : Status
-  Leaving : Status
-  Gone : Status
-
--- where a thread stands when its agenda is done
-pub data Place : Type 0 where
-  -- before its first call, between two calls or after the last, with so many calls still to make
-  Standing : ℕ → Place
-  -- before an instruction of a call, with so many calls to make after this one
-  Inside : ℕ → ℕ → List (Option ℕ) → Place
-  -- its exit is taken up
-  Departing : Place
 
 pub record Actor : Type 0 where
   pub function : ℕ
@@ -214,11 +213,6 @@ may_claim m t a row = elim a.place [
   | Inside left at variables ↦ false
   | Departing ↦ false
 ]
-
-pub data Choice : Type 0 where
-  Ok : Choice
-  Fault : Choice
-  Claim : ℕ → Choice
 
 abbrev pub chosen : Machine → ℕ → Choice → Option Actor → Machine
 chosen m t choice None = m

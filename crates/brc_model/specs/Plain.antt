@@ -1,6 +1,8 @@
 -- The plain world knows nothing of counts: it is the bag of all references, each with its holder and its object, and the
 -- list of the objects that were closed. (Python/C API manual, Reference Count Details: a reference is owned by one holder.)
 use Rattle.std.specs.Prelude.{ℕ, Bool, true, false, ◌&&◌, ◌||◌, ◌==◌, not, nat_lt, if◌then◌else◌, List, [], ◌∷◌, ◌++◌, count_by}
+use Rattle.brc_model.specs.declared.duty.Holding.{Holding}
+use Rattle.brc_model.specs.declared.duty.Holding.TheVariants.{ByVariable, AsCaller, InHand}
 use Rattle.std.specs.List.{list_any}
 
 -- the object none, which is immortal: it isn't counted, and is never closed
@@ -13,13 +15,6 @@ root_row = 1
 
 abbrev pub is_counted : ℕ → Bool
 is_counted object = nat_lt 0 object
-
--- how a thread holds a reference: by a variable of its current call, as the caller that lends the root, or in its hand,
--- where a reference is that is being given up
-pub data Holding : Type 0 where
-  ByVariable : ℕ → Holding
-  AsCaller : Holding
-  InHand : Holding
 
 pub record Reference : Type 0 where
   pub thread : ℕ

@@ -9,7 +9,8 @@ use Rattle.brc_model.specs.declared.thread.Choice.{Choice}
 use Rattle.brc_model.specs.declared.thread.Control.{Control}
 use Rattle.brc_model.specs.declared.thread.Control.TheVariants.{Standing}
 use Rattle.brc_model.specs.declared.thread.Thread.{Thread}
-use Rattle.brc_model.specs.Plain.{root_row, is_counted, is_among, ByVariable, AsCaller, Reference, Plain, Move, Gain, Lose, Finalise, moved, are_allowed}
+use Rattle.brc_model.specs.declared.duty.Holding.TheVariants.{ByVariable, AsCaller}
+use Rattle.brc_model.specs.Plain.{root_row, is_counted, is_among, Reference, Plain, Move, Gain, Lose, Finalise, moved, are_allowed}
 use Rattle.brc_model.specs.Threads.{Request, NoStep, Stuck, Quiet, Retain, Release, request}
 
 pub record World : Type 0 where

@@ -4,12 +4,18 @@
 //! bodies whose contracts are the laws.
 #![tactic(auto)]
 
+mod actor;
+mod address;
 mod code;
+mod duty;
 mod laws;
 mod slot;
 mod thread;
 
+pub use actor::{Place, Status};
+pub use address::Address;
 pub use code::CheckCode;
-pub use laws::accepted_is_safe;
+pub use duty::{Duty, Holding, Reason};
+pub use laws::{accepted_is_safe, accepted_is_safe_over_headers};
 pub use slot::{Exit, Slot, State};
 pub use thread::{Call, Choice, Control, Thread};

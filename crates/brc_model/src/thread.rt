@@ -6,11 +6,15 @@ pub struct Call {
     pub times: u32,
 }
 
-/// The exit that a step takes where it is a host call. Elsewhere both mean the same.
+/// What a step is to do.
 #[derive(Clone, Copy, Debug, PartialEq, Eq)]
 pub enum Choice {
+    /// The thread goes on. Where that is a host call, it succeeds.
     Ok,
+    /// The thread goes on. Where that is a host call, it faults.
     Fault,
+    /// The thread looks whether the object of the row waits in its queue.
+    Claim { row: u32 },
 }
 
 /// Where a thread stands. The beginning of a call is no step of its own.

@@ -9,7 +9,7 @@ use Rattle.brc_model.specs.declared.thread.Choice.{Choice}
 use Rattle.brc_model.specs.declared.thread.Control.{Control}
 use Rattle.brc_model.specs.declared.thread.Control.TheVariants.{Standing, Inside, Gone}
 use Rattle.brc_model.specs.declared.thread.Thread.{Thread}
-use Rattle.brc_model.specs.Plain.{Holding}
+use Rattle.brc_model.specs.declared.duty.Holding.{Holding}
 use Rattle.brc_model.specs.Threads as threads
 use Rattle.brc_model.specs.Threads.{Request, row_of, with_row, instruction_request, request, entry_variables}
 use Rattle.brc_model.specs.Steps.{World, step, stepped, request_of, request_of_thread, code_of, with_control, going_on, main_thread, counted_up, counted_down, closes}

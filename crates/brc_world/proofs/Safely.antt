@@ -7,7 +7,9 @@ use Rattle.brc_lang.specs.declared.module.Module.{Module}
 use Rattle.brc_model.specs.declared.thread.Choice.{Choice}
 use Rattle.brc_model.specs.declared.thread.Choice.TheVariants as choices
 use Rattle.brc_model.specs.declared.thread.Control.{Control}
-use Rattle.brc_model.specs.Plain.{Reference, Holding, ByVariable, Plain, Gain, same, same_holding, is_allowed, is_among, are_allowed, references_to}
+use Rattle.brc_model.specs.declared.duty.Holding.{Holding}
+use Rattle.brc_model.specs.declared.duty.Holding.TheVariants.{ByVariable}
+use Rattle.brc_model.specs.Plain.{Reference, Plain, Gain, same, same_holding, is_allowed, is_among, are_allowed, references_to}
 use Rattle.brc_model.specs.Threads.{Request, Retain, Release}
 use Rattle.brc_model.specs.Steps.{World, Scene, first_scene, scene_after, request_of, is_bad_request, moves_of}
 use Rattle.brc_model.specs.Safety.{Safe, IsSafeAt}

@@ -1,0 +1,50 @@
+-- What a step can rely on: the word that it asks for is there, and the words that it finds and leaves have the forms of a
+-- header's, below all bounds.
+use Rattle.std.specs.Prelude.{◌≡◌, ◌≢◌, ℕ, ◌+◌, ◌*◌, ◌<◌, ◌≤◌, Bool, true, List, ◌∷◌, [], length}
+use Rattle.brc_word.specs.Words.{owner_part, local_part, biased_part, phase_part, bias}
+use Rattle.brc_model.specs.declared.actor.Status.TheVariants.{Running, Gone}
+use Rattle.brc_model.specs.declared.actor.Place.{Place}
+use Rattle.brc_model.specs.declared.address.Address.{Address}
+use Rattle.brc_model.specs.declared.address.Address.TheVariants.{Local, Shared, Gate, KindOf, Mark, Cell, ThreadWord}
+use Rattle.brc_model.specs.declared.duty.Duty.{Duty}
+use Rattle.brc_model.specs.declared.duty.Duty.TheVariants.{RetainStore, RetainAdd, ReleaseLoad, ReleaseStore, SharedExchange, MergeExchange, SettleCell, ClaimMark}
+use Rattle.brc_model.specs.Duties.{address_of}
+use Rattle.brc_model.specs.Machine.{Actor, Work, begun_by, may_claim, is_running}
+use Rattle.brc_model.specs.World.{World, machine_of, row_count}
+
+-- the word at the address is there: so many rows and threads
+abbrev pub IsThere : ℕ → ℕ → Address → Type 0
+IsThere n threads (Local x) = x < n
+IsThere n threads (Shared x) = x < n
+IsThere n threads (Gate x) = x < n
+IsThere n threads (KindOf x) = x < n
+IsThere n threads (Mark x) = x < n
+IsThere n threads (Cell x i) = (x < n) × (i < 8)
+IsThere n threads (ThreadWord t) = t < threads
+
+-- a shared word that a header can have: its count is from -2^40 to 2^40 - 1, and its state isn't the unused one
+pub record IsShared (word : ℕ) : Type 0 where
+  pub low : biased_part word < 2 * bias
+  pub state : phase_part word ≢ 1
+
+-- what the thread's duty can do with the word that it finds
+abbrev pub Suits : ℕ → Bool → ℕ → Duty → ℕ → Type 0
+Suits t running n (RetainStore x h w) found = local_part w < 4294967294
+Suits t running n (RetainAdd x h) found = IsShared found × (biased_part found + 1 < 2 * bias)
+Suits t running n (ReleaseLoad x h) found = running ≡ true → owner_part found ≡ t + 1 → 1 ≤ local_part found
+Suits t running n (ReleaseStore x w) found = 1 ≤ local_part w
+Suits t running n (SharedExchange x r w) found = found ≡ w → IsShared w × (1 ≤ biased_part w)
+Suits t running n (MergeExchange x c w) found = (c < 4294967296) × (found ≡ w → IsShared w × (biased_part w + c < 2 * bias))
+Suits t running n (SettleCell x i k) found = found ≤ n
+Suits t running n _ found = Unit {0}
+
+pub record IsWithin (w : World) (t : ℕ) (a : Actor) (d : Duty) : Type 0 where
+  pub there : IsThere (row_count w) (length w.actors) (address_of w.rows t a.head d)
+  pub head : a.head ≤ row_count w
+  pub suits : Suits t (is_running a.status) (row_count w) d (w.memory (address_of w.rows t a.head d))
+
+-- whatever duty comes next: the first of the agenda, the first that is taken up, or a claim
+pub record StepsWithin (w : World) (t : ℕ) (a : Actor) : Type 0 where
+  pub goes_on : (d : Duty) (rest : List Duty) → a.status ≢ Gone → a.agenda ≡ d ∷ rest → IsWithin w t a d
+  pub takes_up : (d : Duty) (rest : List Duty) (place : Place) → a.status ≢ Gone → a.agenda ≡ [] → begun_by (machine_of w) t a ≡ Work (d ∷ rest) place → IsWithin w t a d
+  pub claims : (row : ℕ) → may_claim (machine_of w) t a row ≡ true → IsWithin w t a (ClaimMark row)

@@ -1,0 +1,57 @@
+-- What the threads of a machine see and change: the words, and the threads themselves. A step looks at nothing else: the
+-- plain world and the lives of the rows stand beside it, for what is promised.
+use Rattle.std.specs.Prelude.{◌≡◌, ℕ, ◌+◌, ◌*◌, ◌-◌, ◌<◌, ◌≤◌, List, [], length}
+use Rattle.brc_lang.specs.declared.module.Function.{Function}
+use Rattle.brc_lang.specs.declared.module.Module.{Module}
+use Rattle.brc_lang.specs.Grammar.{IsModule}
+use Rattle.brc_model.specs.declared.address.Address.{Address}
+use Rattle.brc_model.specs.declared.thread.Call.{Call}
+use Rattle.brc_model.specs.declared.thread.Choice.{Choice}
+use Rattle.brc_model.specs.Walks.{IsAcceptable}
+use Rattle.brc_model.specs.Safety.{AreCalls}
+use Rattle.brc_model.specs.Machine.{Actor, Unborn, Machine, next_machine, first_machine, machine_after}
+
+pub record World : Type 0 where
+  pub functions : List Function
+  -- rows of each worker
+  pub rows : ℕ
+  pub memory : Address → ℕ
+  -- by the thread's number: main is 0, the workers 1, 2, ..
+  pub actors : List Actor
+
+abbrev pub world_of : Machine → World
+world_of m = record { functions = m.functions; rows = m.rows; memory = m.memory; actors = m.actors }
+
+-- a machine with nothing beside
+abbrev pub machine_of : World → Machine
+machine_of w = record {
+  functions = w.functions;
+  rows = w.rows;
+  memory = w.memory;
+  actors = w.actors;
+  plain = record { references = []; closed = [] };
+  life = λ x. Unborn;
+}
+
+abbrev pub first_world : Module → ℕ → List Call → World
+first_world m rows calls = world_of (first_machine m rows calls)
+
+-- one step of one thread
+abbrev pub step : World → ℕ → Choice → World
+step w t choice = world_of (next_machine (machine_of w) (t, choice))
+
+-- none, the root, and each worker's rows
+abbrev pub row_count : World → ℕ
+row_count w = 2 + (length w.actors - 1) * w.rows
+
+-- the worlds that there are: those that some list of steps leads to from a first one
+pub record IsReachable (p : Module) (w : World) : Type 0 where
+  pub fits : IsModule p
+  pub accepted : IsAcceptable p
+  pub rows : ℕ
+  pub calls : List Call
+  pub events : List (ℕ × Choice)
+  pub some_rows : 0 < rows
+  pub most_rows : rows ≤ 1024
+  pub calls_fit : AreCalls p calls
+  pub reached : w ≡ world_of (machine_after (first_machine p rows calls) events)
