@@ -1,0 +1,89 @@
+//! What a duty leaves in its word, and of its thread.
+
+ghost use Rattle.std.specs.Prelude.{◌≡◌, ℕ, ◌+◌, ◌<◌, ◌^◌};
+ghost use Rattle.brc_model.specs.declared.duty.Duty.TheVariants.{Die as dies};
+ghost use Rattle.brc_model.specs.Duties.{left_by, head_by};
+ghost use Rattle.brc_model.specs.Machine.{status_by};
+ghost use Rattle.brc_model.specs.Within.{Suits};
+
+use brc_model::{Duty, Status};
+use brc_word::{
+    closed, dying, local_with_one_less, local_with_one_more, merged, next_of_dying, released,
+    shared_with_one_more,
+};
+
+/// A thread that leaves.
+const LEAVING: u64 = 2;
+
+/// A thread that is gone.
+const GONE: u64 = 3;
+
+/// A mark that is set.
+const SET: u64 = 1;
+
+/// What the step leaves in the word that it found so. There are so many rows in all.
+pub fn left_by(thread: u8, running: bool, rows: u32, head: u32, duty: Duty, found: u64) -> u64
+    requires { Suits thread running rows duty found }
+    ensures { result ≡ left_by thread head duty found }
+{
+    match duty {
+        Duty::RetainLoad { .. }
+        | Duty::ReleaseLoad { .. }
+        | Duty::DecideAtZero { .. }
+        | Duty::SharedLoad { .. }
+        | Duty::Look { .. }
+        | Duty::MergeLoad { .. }
+        | Duty::Settle
+        | Duty::SettleKind { .. } => found,
+        Duty::RetainStore { word, .. } => local_with_one_more(word),
+        Duty::RetainAdd { .. } => shared_with_one_more(found),
+        Duty::ReleaseStore { word, .. } => local_with_one_less(word),
+        Duty::SharedExchange { word, .. } => {
+            if found == word {
+                released(word)
+            } else {
+                found
+            }
+        }
+        Duty::MergeExchange { carried, word, .. } => {
+            if found == word {
+                merged(word, carried)
+            } else {
+                found
+            }
+        }
+        Duty::SetMark { .. } => SET,
+        Duty::TakeMark { .. }
+        | Duty::Scan { .. }
+        | Duty::ClaimMark { .. }
+        | Duty::MergeSwap { .. }
+        | Duty::SettleCell { .. } => 0,
+        Duty::Die { .. } => dying(thread, head),
+        Duty::SettleEnd { .. } => closed(),
+        Duty::Leave { .. } => LEAVING,
+        Duty::Finish => GONE,
+    }
+}
+
+/// The head of the thread's dying chain afterwards: 0, or a row and 1.
+pub fn head_by(head: u32, duty: Duty, found: u64) -> u32
+    requires { (x : ℕ) → duty ≡ dies x → x + 1 < 2 ^ 32 }
+    ensures { result ≡ head_by head duty found }
+{
+    match duty {
+        Duty::Die { row } => row + 1,
+        Duty::Settle => next_of_dying(found),
+        _ => head,
+    }
+}
+
+/// How far the thread is with its life afterwards.
+pub fn status_by(status: Status, duty: Duty) -> Status
+    ensures { result ≡ status_by status duty }
+{
+    match duty {
+        Duty::Leave { .. } => Status::Leaving,
+        Duty::Finish => Status::Gone,
+        _ => status,
+    }
+}
