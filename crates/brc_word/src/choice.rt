@@ -1,5 +1,6 @@
-ghost use Rattle.std.specs.Prelude.{◌≡◌, ◌+◌, ◌-◌, ◌^◌, ◌≤◌, ◌↔◌, pos, neg_ℤ, Some, IsTrue};
+ghost use Rattle.std.specs.Prelude.{◌≡◌, ◌+◌, ◌-◌, ◌^◌, ◌≤◌, ◌↔◌, ◌==◌, ◌&&◌, nat_lt, if◌then◌else◌, pos, neg_ℤ, Some, IsTrue};
 ghost use Rattle.brc_word.specs.Header.{IsLocalWord, OfHeader, IsImmortal, MayCount, HasRoom, is_store, IfStored, MovesTotal, IsMortalWord};
+ghost use Rattle.brc_word.specs.Words.{owner_part, local_part, is_immortal_word};
 
 use crate::local::{LOCAL_COUNTS, is_immortal};
 
@@ -20,6 +21,7 @@ const MOST_COUNTED: u64 = 4294967294;
 /// Whether the thread may change the local count.
 fn may_count(word: u64, thread: u8, running: bool) -> bool
     ensures exact { OfHeader word (λ owner local. IsTrue result ↔ MayCount owner thread running) }
+    ensures word { result ≡ (running && (owner_part word == thread + 1)) }
     ensures above { IsTrue result → 2 ^ 32 ≤ word }
 {
     running && word / LOCAL_COUNTS == u64::from(thread) + 1
@@ -38,6 +40,12 @@ pub fn retain_choice(word: u64, thread: u8, running: bool) -> LocalChoice
         IfStored result (λ next. IsLocalWord next owner (local + 1))) }
     ensures total { IfStored result (λ next. MovesTotal word next (pos 1)) }
     ensures mortal { IfStored result IsMortalWord }
+
+    // The same of the word alone.
+    ensures word { result ≡ (if is_immortal_word word then LocalChoice.Skip
+        else if (running && (owner_part word == thread + 1)) && nat_lt (local_part word) 4294967294
+        then LocalChoice.Store (word + 1)
+        else LocalChoice.Share) }
 {
     if is_immortal(word) {
         return LocalChoice::Skip;
@@ -50,7 +58,7 @@ pub fn retain_choice(word: u64, thread: u8, running: bool) -> LocalChoice
 
 /// What giving up a reference does, where `thread` asks for it. The owner gives up no local reference where none is left.
 pub fn release_choice_local(word: u64, thread: u8, running: bool) -> LocalChoice
-    requires { IsTrue running → ¬ IsLocalWord word (Some thread) 0 }
+    requires { IsTrue running → thread ≤ 32 → owner_part word ≡ thread + 1 → 1 ≤ local_part word }
     ensures skip { OfHeader word (λ owner local. (result ≡ LocalChoice.Skip) ↔ IsImmortal local) }
     ensures store { OfHeader word (λ owner local.
         IsTrue (is_store result) ↔ (¬ IsImmortal local × MayCount owner thread running)) }
@@ -62,6 +70,11 @@ pub fn release_choice_local(word: u64, thread: u8, running: bool) -> LocalChoice
         IfStored result (λ next. IsLocalWord next owner (local - 1))) }
     ensures total { IfStored result (λ next. MovesTotal word next (neg_ℤ (pos 1))) }
     ensures mortal { OfHeader word (λ owner local. IfStored result IsMortalWord) }
+
+    // The same of the word alone.
+    ensures word { result ≡ (if is_immortal_word word then LocalChoice.Skip
+        else if running && (owner_part word == thread + 1) then LocalChoice.Store (word - 1)
+        else LocalChoice.Share) }
 {
     if is_immortal(word) {
         return LocalChoice::Skip;

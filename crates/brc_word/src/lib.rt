@@ -6,14 +6,22 @@
 #![tactic(auto)]
 
 mod choice;
+mod gate;
+mod kind;
 mod laws;
 mod local;
 mod shared;
+mod shared_word;
 
 pub use choice::{LocalChoice, release_choice_local, retain_choice};
+pub use gate::{closed, dying, is_closed, next_of_dying};
+pub use kind::{kind_argument, kind_number, kind_word};
 pub use laws::{header_words, pack_and_unpack};
-pub use local::{is_immortal, local_word, read_local};
+pub use local::{
+    is_immortal, local_count, local_with_one_less, local_with_one_more, local_word, read_local,
+};
 pub use shared::{Phase, Shared, SharedChoice, merge_word, pack, release_choice, unpack};
+pub use shared_word::{is_dead, is_fresh, merged, released, shared_with_one_more};
 
 #[cfg(test)]
 mod tests;

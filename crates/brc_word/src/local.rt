@@ -1,5 +1,6 @@
-ghost use Rattle.std.specs.Prelude.{◌≡◌, ℕ, ◌≤◌, ◌↔◌, Option, None, Some, IsTrue, IsNone, IfSome};
+ghost use Rattle.std.specs.Prelude.{◌≡◌, ℕ, ◌+◌, ◌-◌, ◌≤◌, ◌<◌, ◌↔◌, Option, None, Some, IsTrue, IsNone, IfSome};
 ghost use Rattle.brc_word.specs.Header.{IsLocalWord, IsHeaderWord, OfHeader, IsImmortal, owned};
+ghost use Rattle.brc_word.specs.Words.{local_part, is_immortal_word, local_word};
 
 /// One more than the largest local count: the owner stands above the count in the word.
 pub(crate) const LOCAL_COUNTS: u64 = 4294967296;
@@ -10,7 +11,8 @@ const IMMORTAL: u64 = 4294967295;
 pub fn local_word(owner: Option<u8>, local: u32) -> u64
     requires nobody { owner ≡ None → local ≡ 0 }
     requires known { IfSome owner (λ thread. thread ≤ 32) }
-    ensures { IsLocalWord result owner local }
+    ensures header { IsLocalWord result owner local }
+    ensures word { IfSome owner (λ thread. result ≡ local_word thread local) }
 {
     match owner {
         None => 0,
@@ -34,7 +36,35 @@ pub fn read_local(word: u64) -> Option<(u8, u32)>
 
 /// Whether the object is never counted.
 pub fn is_immortal(word: u64) -> bool
-    ensures { OfHeader word (λ owner local. IsTrue result ↔ IsImmortal local) }
+    ensures header { OfHeader word (λ owner local. IsTrue result ↔ IsImmortal local) }
+    ensures word { result ≡ is_immortal_word word }
 {
     word % LOCAL_COUNTS == IMMORTAL
+}
+
+/// The local count of a word, from 0 to 4294967295.
+pub fn local_count(word: u64) -> u32
+    ensures header { OfHeader word (λ owner local. result ≡ local) }
+    ensures word { result ≡ local_part word }
+{
+    (word % LOCAL_COUNTS) as u32
+}
+
+/// The local word after a reference more, which the owner counts. (PEP 703, Biased Reference Counting.)
+pub fn local_with_one_more(word: u64) -> u64
+    requires { local_part word < 4294967295 }
+    ensures header { (thread local : ℕ) → IsLocalWord word (Some thread) local
+        → IsLocalWord result (Some thread) (local + 1) }
+    ensures word { result ≡ word + 1 }
+{
+    word + 1
+}
+
+/// The local word after a reference fewer, which the owner counts. (PEP 703, Biased Reference Counting.)
+pub fn local_with_one_less(word: u64) -> u64
+    requires { 1 ≤ local_part word }
+    ensures header { OfHeader word (λ owner local. IsLocalWord result owner (local - 1)) }
+    ensures word { result ≡ word - 1 }
+{
+    word - 1
 }
