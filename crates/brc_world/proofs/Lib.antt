@@ -1,9 +1,2 @@
-mod Reaching
-mod Safely
-mod Going
-mod ScheduleWords
-mod ScheduleLines
-mod ScheduleReading
-mod ScheduleMachine
-mod ScheduleUniqueness
-mod Running
+pub mod Storing
+pub mod Acting

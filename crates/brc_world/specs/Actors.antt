@@ -1,15 +1,24 @@
 -- The threads as the model has them, and what each thread's step begins with: the first duty of its agenda, or what its next
 -- instruction or its exit asks for.
-use Rattle.std.specs.Prelude.{ℕ, Bool, false, ◌==◌, List, [], ◌∷◌}
+use Rattle.std.specs.Prelude.{◌≡◌, ◌≢◌, ℕ, ◌<◌, Bool, false, ◌==◌, List, [], ◌∷◌, slice_get}
+use Rattle.brc_lang.specs.declared.module.Function.{Function}
+use Rattle.brc_model.specs.declared.actor.Status.{Status}
+use Rattle.brc_model.specs.declared.actor.Status.TheVariants.{Running, Leaving, Gone}
+use Rattle.brc_model.specs.declared.address.Address.{Address}
 use Rattle.brc_model.specs.declared.duty.Duty.{Duty}
-use Rattle.brc_model.specs.declared.duty.Duty.TheVariants.{RetainLoad, ReleaseLoad, Settle, Leave, Scan}
+use Rattle.brc_model.specs.declared.duty.Duty.TheVariants.{RetainLoad, ReleaseLoad, Die, Settle, SettleCell, Leave, Scan}
 use Rattle.brc_model.specs.declared.duty.Holding.TheVariants.{AsCaller}
 use Rattle.brc_model.specs.declared.actor.Place.TheVariants.{Departing}
 use Rattle.brc_model.specs.Plain.{root_row}
+use Rattle.brc_model.specs.Steps.{code_of}
+use Rattle.brc_model.specs.Duties.{address_of, left_by}
+use Rattle.brc_model.specs.Within.{IsThere, Suits}
 use Rattle.brc_model.specs.Machine as model
 use Rattle.brc_model.specs.Machine.{Actor, at_place}
 use Rattle.brc_world.specs.declared.begun.Begun.{Begun}
 use Rattle.brc_world.specs.declared.begun.Begun.TheVariants.{Stuck, Quiet, Retain, Release, Exit}
+use Rattle.brc_world.specs.declared.did.Did.{Did}
+use Rattle.brc_world.specs.declared.did.Did.TheVariants as answers
 use Rattle.brc_world.specs.declared.start.Start.{Start}
 use Rattle.brc_world.specs.declared.start.Start.TheVariants as starts
 use Rattle.brc_world.specs.declared.thread.Thread.{Thread}
@@ -54,3 +63,67 @@ abbrev pub is_idle : ℕ → Duty → Bool
 is_idle head Settle = head == 0
 is_idle head (Scan x n) = n == 0
 is_idle head _ = false
+
+-- the row and the cell of a duty that goes on to the next one are there, among so many rows
+abbrev pub IsNumbered : ℕ → Duty → Type 0
+IsNumbered n (Die x) = x < n
+IsNumbered n (Scan x k) = x < n
+IsNumbered n (SettleCell x i k) = i < 8
+IsNumbered n _ = Unit {0}
+
+-- ---- a step of one thread, as it changes the words and the thread
+
+abbrev pub begun_of : List Function → ℕ → ℕ → Actor → model.Begun
+begun_of functions rows t a = model.begun rows t a.used (code_of (slice_get functions a.function)) a.place
+
+abbrev pub start_of : List Function → ℕ → ℕ → Actor → Start
+start_of functions rows t a = start_on a.agenda (begun_of functions rows t a)
+
+abbrev pub started : List Function → ℕ → ℕ → Actor → Actor
+started functions rows t a = actor_on a a.agenda (begun_of functions rows t a)
+
+abbrev pub found_by : ℕ → ℕ → (Address → ℕ) → Actor → Duty → ℕ
+found_by rows t memory a d = memory (address_of rows t a.head d)
+
+-- a duty that isn't in the agenda any more
+abbrev pub memory_done : ℕ → ℕ → (Address → ℕ) → Actor → Duty → Address → ℕ
+memory_done rows t memory a d = model.written memory (address_of rows t a.head d) (left_by t a.head d (found_by rows t memory a d))
+
+abbrev pub actor_done : ℕ → ℕ → (Address → ℕ) → Actor → Duty → Actor
+actor_done rows t memory a d = model.actor_by t a d a.agenda (found_by rows t memory a d)
+
+abbrev pub memory_from : ℕ → ℕ → (Address → ℕ) → Actor → Start → Address → ℕ
+memory_from rows t memory a starts.Stuck = memory
+memory_from rows t memory a starts.Moved = memory
+memory_from rows t memory a (starts.Doing d) = memory_done rows t memory a d
+
+abbrev pub actor_from : ℕ → ℕ → (Address → ℕ) → Actor → Start → Actor
+actor_from rows t memory a starts.Stuck = a
+actor_from rows t memory a starts.Moved = a
+actor_from rows t memory a (starts.Doing d) = actor_done rows t memory a d
+
+abbrev pub memory_by : List Function → ℕ → ℕ → (Address → ℕ) → Actor → Status → Address → ℕ
+memory_by functions rows t memory a Gone = memory
+memory_by functions rows t memory a Running = memory_from rows t memory (started functions rows t a) (start_of functions rows t a)
+memory_by functions rows t memory a Leaving = memory_from rows t memory (started functions rows t a) (start_of functions rows t a)
+
+abbrev pub actor_by : List Function → ℕ → ℕ → (Address → ℕ) → Actor → Status → Actor
+actor_by functions rows t memory a Gone = a
+actor_by functions rows t memory a Running = actor_from rows t memory (started functions rows t a) (start_of functions rows t a)
+actor_by functions rows t memory a Leaving = actor_from rows t memory (started functions rows t a) (start_of functions rows t a)
+
+-- the step's answer
+abbrev pub did_from : Start → Did
+did_from starts.Stuck = answers.Same
+did_from starts.Moved = answers.Moved
+did_from (starts.Doing d) = answers.Moved
+
+abbrev pub did_by : List Function → ℕ → ℕ → Actor → Status → Did
+did_by functions rows t a Gone = answers.Gone
+did_by functions rows t a Running = did_from (start_of functions rows t a)
+did_by functions rows t a Leaving = did_from (start_of functions rows t a)
+
+-- the duty that the step begins with can be done
+abbrev pub CanStart : List Function → ℕ → ℕ → ℕ → ℕ → (Address → ℕ) → Actor → Type 0
+CanStart functions rows t n threads memory a =
+    (d : Duty) → a.status ≢ Gone → start_of functions rows t a ≡ starts.Doing d → IsThere n threads (address_of rows t a.head d) × Suits t (model.is_running a.status) n d (found_by rows t memory a d)

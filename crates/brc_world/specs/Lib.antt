@@ -1,7 +1,2 @@
-pub mod Reach
-pub mod Asking
-pub mod Answers
-pub mod Tallies
-pub mod ScheduleText
-pub mod ScheduleFault
-pub mod Runs
+pub mod Storage
+pub mod Actors

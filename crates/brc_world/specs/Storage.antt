@@ -1,18 +1,10 @@
--- The words of a world: so many rows, so many threads, and what stands at each address.
+-- The words of a world, and what stands at each address.
 use Rattle.std.specs.Prelude.{◌≡◌, ℕ, ◌+◌, ◌*◌, nat_lt, if◌then◌else◌, List, length}
 use Rattle.std.specs.List.{slice_index_or}
 use Rattle.brc_word.specs.Words.{fresh_word}
+use Rattle.brc_model.specs.Machine.{written}
 use Rattle.brc_model.specs.declared.address.Address.{Address}
 use Rattle.brc_model.specs.declared.address.Address.TheVariants.{Local, Shared, Gate, KindOf, Mark, Cell, ThreadWord}
-use Rattle.brc_model.specs.Machine.{written}
-
-pub record Storage : Type 0 where
-  pub rows : ℕ
-  pub threads : ℕ
-  pub word : Address → ℕ
-
-abbrev pub stored : Storage → Address → ℕ → Storage
-stored s address word = record { rows = s.rows; threads = s.threads; word = written s.word address word }
 
 -- the words by kind; the eight cells of a row stand side by side
 pub record Columns : Type 0 where
@@ -34,9 +26,6 @@ word_in c (Mark x) = slice_index_or c.mark x 0
 word_in c (Cell x i) = if nat_lt i 8 then slice_index_or c.cell (8 * x + i) 0 else 0
 word_in c (ThreadWord t) = slice_index_or c.thread t 0
 
-abbrev pub storage_of : Columns → Storage
-storage_of c = record { rows = length c.local; threads = length c.thread; word = word_in c }
-
 -- each row has its words
 pub record AreColumns (c : Columns) : Type 0 where
   pub shared : length c.shared ≡ length c.local
@@ -44,3 +33,9 @@ pub record AreColumns (c : Columns) : Type 0 where
   pub kind : length c.kind ≡ length c.local
   pub mark : length c.mark ≡ length c.local
   pub cell : length c.cell ≡ 8 * length c.local
+
+-- as many rows and threads as before, and one word written
+pub record IsStored (old : Columns) (address : Address) (word : ℕ) (new : Columns) : Type 0 where
+  pub rows : length new.local ≡ length old.local
+  pub threads : length new.thread ≡ length old.thread
+  pub words : word_in new ≡ written (word_in old) address word

@@ -29,7 +29,10 @@ pub enum Begun {
         place: Place,
     },
     /// The thread gives up its reference to the root, and leaves: it has so many rows from the first on.
-    Exit { first: u32, rows: u32 },
+    Exit {
+        first: u32,
+        rows: u32,
+    },
 }
 
 /// The row of the root.
@@ -39,7 +42,14 @@ pub const ROOT: u32 = 1;
 type Variables = [Option<u32>; 16];
 
 /// What a thread takes up at its place: each worker has so many rows, of which this one used so many.
-pub fn begun(functions: &[Function], function: usize, rows: u16, number: u8, used: u32, place: &Place) -> Begun
+pub fn take_up(
+    functions: &[Function],
+    function: usize,
+    rows: u16,
+    number: u8,
+    used: u32,
+    place: &Place,
+) -> Begun
     ensures { begun_as result ≡ begun rows number used (code_of (slice_get functions.now function)) place.now }
 {
     let code = code_of(functions, function);
@@ -91,12 +101,12 @@ fn at_instruction(code: &[Instr], left: u32, at: usize, variables: &Variables) -
     ensures { begun_as result ≡ begun_instruction left at variables.now (slice_get code.now at) }
 {
     match code.get(at) {
-        Some(instr) => begun_instruction(left, at, variables, *instr),
+        Some(instr) => instruction_begun(left, at, variables, *instr),
         None => Begun::Stuck,
     }
 }
 
-fn begun_instruction(left: u32, at: usize, variables: &Variables, instr: Instr) -> Begun
+fn instruction_begun(left: u32, at: usize, variables: &Variables, instr: Instr) -> Begun
     requires { at + 1 < 2 ^ 64 }
     ensures { begun_as result ≡ begun_instruction left at variables.now (Some instr) }
 {

@@ -1,34 +1,35 @@
-ghost use Rattle.std.specs.Prelude.{◌≡◌, ◌+◌, ◌*◌, ◌≤◌, ◌∷◌, map, replicate, IfOk};
-ghost use Rattle.brc_model.specs.Steps.{main_thread, worker_of};
+ghost use Rattle.std.specs.Prelude.{◌≡◌, ◌∷◌, map, IfOk};
+ghost use Rattle.brc_model.specs.Machine.{main_actor, worker_actor};
+ghost use Rattle.brc_world.specs.Actors.{actor_of};
 
 use crate::no_memory::NoMemory;
-use brc_model::{Call, Control, Thread};
+use crate::thread::Thread;
+use brc_model::{Call, Place, Status};
 use std::alloc::Global;
+use std::collections::VecDeque;
 
-/// Main, and a worker for each of the calls.
+/// Main, and a worker for each of the calls. The rows that main uses are those of none and of the root.
 pub fn first_threads(alloc: Global, calls: &[Call]) -> Result<Vec<Thread>, NoMemory>
-    ensures { IfOk result (λ threads. threads.items ≡ main_thread ∷ map worker_of calls.now) }
+    ensures { IfOk result (λ threads. map actor_of threads.items ≡ main_actor ∷ map worker_actor calls.now) }
 {
     let mut threads = Vec::with_capacity(alloc, 1 + calls.len())?;
     threads.push(Thread {
         function: 0,
-        control: Control::Standing { left: 0 },
+        place: Place::Standing { left: 0 },
+        status: Status::Running,
+        agenda: VecDeque::new(alloc),
+        head: 0,
+        used: 2,
     })?;
     for call in calls {
         threads.push(Thread {
             function: call.function,
-            control: Control::Standing { left: call.times },
+            place: Place::Standing { left: call.times },
+            status: Status::Running,
+            agenda: VecDeque::new(alloc),
+            head: 0,
+            used: 0,
         })?;
     }
     Ok(threads)
-}
-
-/// Main and each worker hold the root.
-pub fn first_counts(alloc: Global, workers: usize, rows: u16) -> Result<Vec<u32>, NoMemory>
-    requires { workers ≤ 32 }
-    ensures { IfOk result (λ counts. counts.items ≡ 0 ∷ (1 + workers) ∷ replicate (workers * rows) 0) }
-{
-    let mut counts = vec![in alloc; 0u32; 2 + workers * usize::from(rows)]?;
-    counts[1] = 1 + workers as u32;
-    Ok(counts)
 }

@@ -1,10 +1,10 @@
 //! What a duty leaves in its word, and of its thread.
 
-ghost use Rattle.std.specs.Prelude.{◌≡◌, ℕ, ◌+◌, ◌<◌, ◌^◌};
-ghost use Rattle.brc_model.specs.declared.duty.Duty.TheVariants.{Die as dies};
+ghost use Rattle.std.specs.Prelude.{◌≡◌};
 ghost use Rattle.brc_model.specs.Duties.{left_by, head_by};
 ghost use Rattle.brc_model.specs.Machine.{status_by};
 ghost use Rattle.brc_model.specs.Within.{Suits};
+ghost use Rattle.brc_world.specs.Actors.{IsNumbered};
 
 use brc_model::{Duty, Status};
 use brc_word::{
@@ -38,13 +38,7 @@ pub fn left_by(thread: u8, running: bool, rows: u32, head: u32, duty: Duty, foun
         Duty::RetainStore { word, .. } => local_with_one_more(word),
         Duty::RetainAdd { .. } => shared_with_one_more(found),
         Duty::ReleaseStore { word, .. } => local_with_one_less(word),
-        Duty::SharedExchange { word, .. } => {
-            if found == word {
-                released(word)
-            } else {
-                found
-            }
-        }
+        Duty::SharedExchange { word, .. } => { if found == word { released(word) } else { found } }
         Duty::MergeExchange { carried, word, .. } => {
             if found == word {
                 merged(word, carried)
@@ -65,9 +59,9 @@ pub fn left_by(thread: u8, running: bool, rows: u32, head: u32, duty: Duty, foun
     }
 }
 
-/// The head of the thread's dying chain afterwards: 0, or a row and 1.
-pub fn head_by(head: u32, duty: Duty, found: u64) -> u32
-    requires { (x : ℕ) → duty ≡ dies x → x + 1 < 2 ^ 32 }
+/// The head of the thread's dying chain afterwards: 0, or a row and 1. There are so many rows in all.
+pub fn head_by(rows: u32, head: u32, duty: Duty, found: u64) -> u32
+    requires { IsNumbered rows duty }
     ensures { result ≡ head_by head duty found }
 {
     match duty {

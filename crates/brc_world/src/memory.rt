@@ -1,9 +1,9 @@
 //! The words that threads share.
 
-ghost use Rattle.std.specs.Prelude.{◌≡◌, ◌+◌, ◌*◌, ◌≤◌, ◌<◌, ◌^◌, IfOk};
+ghost use Rattle.std.specs.Prelude.{◌≡◌, ◌+◌, ◌*◌, ◌≤◌, length, IfOk};
 ghost use Rattle.brc_model.specs.Within.{IsThere};
 ghost use Rattle.brc_model.specs.Machine.{first_memory};
-ghost use Rattle.brc_world.specs.Storage.{stored};
+ghost use Rattle.brc_world.specs.Storage.{word_in, IsStored};
 
 use crate::no_memory::NoMemory;
 use brc_model::Address;
@@ -24,11 +24,11 @@ pub struct Memory {
 }
 
 impl Model for Memory {
-    ghost use Rattle.brc_world.specs.Storage.{Storage, storage_of, AreColumns};
+    ghost use Rattle.brc_world.specs.Storage.{Columns, AreColumns};
 
-    ghost Value = { Storage };
+    ghost Value = { Columns };
 
-    ghost view = { λ m. storage_of (record { local = m.local.items; shared = m.shared.items; gate = m.gate.items; kind = m.kind.items; mark = m.mark.items; cell = m.cell.items; thread = m.thread.items }) };
+    ghost view = { λ m. (record { local = m.local.items; shared = m.shared.items; gate = m.gate.items; kind = m.kind.items; mark = m.mark.items; cell = m.cell.items; thread = m.thread.items }) };
 
     ghost invariant = { λ m. AreColumns (record { local = m.local.items; shared = m.shared.items; gate = m.gate.items; kind = m.kind.items; mark = m.mark.items; cell = m.cell.items; thread = m.thread.items }) };
 }
@@ -43,10 +43,17 @@ const FREE: u64 = 1;
 const RUNNING: u64 = 1;
 
 impl Memory {
+    /// How many rows there are.
+    pub fn rows(&self) -> usize
+        ensures { result ≡ length self.now.local }
+    {
+        self.local.len()
+    }
+
     /// The word at the address.
     pub fn load(&self, address: Address) -> u64
-        requires { IsThere self.now.rows self.now.threads address }
-        ensures { result ≡ self.now.word address }
+        requires { IsThere (length self.now.local) (length self.now.thread) address }
+        ensures { result ≡ word_in self.now address }
     {
         match address {
             Address::Local { row } => self.local[row as usize],
@@ -61,8 +68,8 @@ impl Memory {
 
     /// The word at the address becomes this one.
     pub fn store(&mut self, address: Address, word: u64)
-        requires { IsThere self.old.rows self.old.threads address }
-        ensures { self.new ≡ stored self.old address word }
+        requires { IsThere (length self.old.local) (length self.old.thread) address }
+        ensures { IsStored self.old address word self.new }
     {
         match address {
             Address::Local { row } => self.local[row as usize] = word,
@@ -80,9 +87,9 @@ impl Memory {
 /// main's and one of each worker's. Each worker has so many rows.
 pub fn first_memory(alloc: Global, workers: usize, rows: u16) -> Result<Memory, NoMemory>
     requires { workers ≤ 32 }
-    ensures words { IfOk result (λ memory. memory.word ≡ first_memory workers) }
-    ensures rows { IfOk result (λ memory. memory.rows ≡ 2 + workers * rows) }
-    ensures threads { IfOk result (λ memory. memory.threads ≡ 1 + workers) }
+    ensures words { IfOk result (λ memory. word_in memory ≡ first_memory workers) }
+    ensures rows { IfOk result (λ memory. length memory.local ≡ 2 + workers * rows) }
+    ensures threads { IfOk result (λ memory. length memory.thread ≡ 1 + workers) }
 {
     let n = 2 + workers * usize::from(rows);
     let fresh = pack(Shared {

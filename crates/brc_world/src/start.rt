@@ -6,7 +6,7 @@ ghost use Rattle.brc_model.specs.Steps.{code_of};
 ghost use Rattle.brc_model.specs.Machine.{begun};
 ghost use Rattle.brc_world.specs.Actors.{actor_of, begun_as, start_on, actor_on, start_begun, actor_begun};
 
-use crate::begun::{Begun, ROOT, begun};
+use crate::begun::{Begun, ROOT, take_up};
 use crate::thread::Thread;
 use brc_lang::Function;
 use brc_model::{Duty, Holding, Place};
@@ -23,7 +23,7 @@ pub enum Start {
 }
 
 /// The first duty of the agenda, or what the next instruction or the exit asks for.
-pub fn start(functions: &[Function], rows: u16, number: u8, thread: &mut Thread) -> Start
+pub fn first_duty(functions: &[Function], rows: u16, number: u8, thread: &mut Thread) -> Start
     requires room { deque_len thread.old.agenda + 8 ≤ deque_capacity thread.old.agenda }
     ensures starts { result ≡ start_on thread.old.agenda.items (begun rows number thread.old.used (code_of (slice_get functions.now thread.old.function)) thread.old.place) }
     ensures actor { actor_of thread.new ≡ actor_on (actor_of thread.old) thread.old.agenda.items (begun rows number thread.old.used (code_of (slice_get functions.now thread.old.function)) thread.old.place) }
@@ -31,12 +31,22 @@ pub fn start(functions: &[Function], rows: u16, number: u8, thread: &mut Thread)
 {
     match thread.agenda.pop_front() {
         Some(duty) => Start::Doing(duty),
-        None => take_up(begun(functions, thread.function, rows, number, thread.used, &thread.place), thread),
+        None => {
+            let begun = take_up(
+                functions,
+                thread.function,
+                rows,
+                number,
+                thread.used,
+                &thread.place,
+            );
+            go_on_to(begun, thread)
+        }
     }
 }
 
 /// The thread goes on to what it has begun: its agenda is empty.
-fn take_up(begun: Begun, thread: &mut Thread) -> Start
+fn go_on_to(begun: Begun, thread: &mut Thread) -> Start
     requires empty { deque_len thread.old.agenda ≡ 0 }
     requires room { 8 ≤ deque_capacity thread.old.agenda }
     ensures starts { result ≡ start_begun (begun_as begun) }
@@ -68,7 +78,9 @@ fn take_up(begun: Begun, thread: &mut Thread) -> Start
         }
         Begun::Exit { first, rows } => {
             thread.place = Place::Departing;
-            thread.agenda.push_front_reserved(Duty::Leave { row: first, rows });
+            thread
+                .agenda
+                .push_front_reserved(Duty::Leave { row: first, rows });
             thread.agenda.push_front_reserved(Duty::Settle);
             Start::Doing(Duty::ReleaseLoad {
                 row: ROOT,

@@ -1,0 +1,91 @@
+//! One step of one thread: the words that it changes, and the thread itself.
+
+ghost use Rattle.std.specs.Prelude.{◌≡◌, ◌+◌, ◌<◌, ◌≤◌, length, OnOk, OnErr, IfOk};
+ghost use Rattle.std.specs.VecDeque.{deque_len, deque_capacity};
+ghost use Rattle.brc_model.specs.Duties.{address_of, left_by};
+ghost use Rattle.brc_model.specs.Machine.{is_running};
+ghost use Rattle.brc_model.specs.Within.{IsThere, Suits};
+ghost use Rattle.brc_world.specs.Storage.{word_in, IsStored};
+ghost use Rattle.brc_world.specs.Actors.{actor_of, found_by, actor_done, memory_by, actor_by, did_by, CanStart};
+
+use crate::address::address_of;
+use crate::did::Did;
+use crate::follow::{Doer, follow, pass_over};
+use crate::left::{head_by, left_by, status_by};
+use crate::memory::Memory;
+use crate::no_memory::NoMemory;
+use crate::start::{Start, first_duty};
+use crate::thread::Thread;
+use brc_lang::Function;
+use brc_model::{Duty, Status};
+
+/// How many duties a step puts into an agenda at most.
+const ROOM: usize = 8;
+
+/// The thread's duty, which has left its agenda, is done on its word.
+pub fn do_duty(memory: &mut Memory, rows: u16, number: u8, thread: &mut Thread, duty: &Duty)
+    requires some_rows { 0 < rows }
+    requires small { length memory.old.local ≤ 32770 }
+    requires there { IsThere (length memory.old.local) (length memory.old.thread) (address_of rows number thread.old.head duty.now) }
+    requires suits { Suits number (is_running thread.old.status) (length memory.old.local) duty.now (found_by rows number (word_in memory.old) (actor_of thread.old) duty.now) }
+    requires room { deque_len thread.old.agenda + 4 ≤ deque_capacity thread.old.agenda }
+    ensures word { IsStored memory.old (address_of rows number thread.old.head duty.now) (left_by number thread.old.head duty.now (found_by rows number (word_in memory.old) (actor_of thread.old) duty.now)) memory.new }
+    ensures actor { actor_of thread.new ≡ actor_done rows number (word_in memory.old) (actor_of thread.old) duty.now }
+{
+    let all = memory.rows() as u32;
+    let head = thread.head;
+    let running = is_running(thread.status);
+    let address = address_of(rows, number, head, *duty);
+    let found = memory.load(address);
+    let left = left_by(number, running, all, head, *duty, found);
+    memory.store(address, left);
+    let by = Doer {
+        number,
+        running,
+        head,
+        rows: all,
+    };
+    follow(&mut thread.agenda, by, *duty, found);
+    thread.head = head_by(all, head, *duty, found);
+    thread.status = status_by(thread.status, *duty);
+    pass_over(&mut thread.agenda, thread.head);
+}
+
+fn is_running(status: Status) -> bool
+    ensures { result ≡ is_running status }
+{
+    matches!(status, Status::Running)
+}
+
+/// The thread goes on by one step. Where memory is refused, nothing changes.
+pub fn act(
+    functions: &[Function],
+    memory: &mut Memory,
+    rows: u16,
+    number: u8,
+    thread: &mut Thread,
+) -> Result<Did, NoMemory>
+    requires some_rows { 0 < rows }
+    requires small { length memory.old.local ≤ 32770 }
+    requires can { CanStart functions.now rows number (length memory.old.local) (length memory.old.thread) (word_in memory.old) (actor_of thread.old) }
+    ensures did { IfOk result (λ did. did ≡ did_by functions.now rows number (actor_of thread.old) thread.old.status) }
+    ensures words { OnOk result (word_in memory.new ≡ memory_by functions.now rows number (word_in memory.old) (actor_of thread.old) thread.old.status) }
+    ensures actor { OnOk result (actor_of thread.new ≡ actor_by functions.now rows number (word_in memory.old) (actor_of thread.old) thread.old.status) }
+    ensures same_words { OnErr result (memory.new ≡ memory.old) }
+    ensures same_actor { OnErr result (actor_of thread.new ≡ actor_of thread.old) }
+    ensures as_many_rows { length memory.new.local ≡ length memory.old.local }
+    ensures as_many_threads { length memory.new.thread ≡ length memory.old.thread }
+{
+    if let Status::Gone = thread.status {
+        return Ok(Did::Gone);
+    }
+    thread.agenda.reserve(ROOM)?;
+    match first_duty(functions, rows, number, thread) {
+        Start::Stuck => Ok(Did::Same),
+        Start::Moved => Ok(Did::Moved),
+        Start::Doing(duty) => {
+            do_duty(memory, rows, number, thread, &duty);
+            Ok(Did::Moved)
+        }
+    }
+}
