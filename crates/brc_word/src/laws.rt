@@ -1,9 +1,9 @@
 //! What holds of all words, whatever is done with them.
 
-ghost use Rattle.std.specs.Prelude.{◌≡◌, ◌≢◌, ℕ, ◌+◌, ◌*◌, ◌^◌, ◌%◌, ◌≤◌, ◌<◌, ◌↔◌, ◌==◌, ◌&&◌, nat_lt, pos, ◌+ℤ◌, Bool, Option, None, IsTrue};
+ghost use Rattle.std.specs.Prelude.{◌≡◌, ◌≢◌, ℕ, ◌+◌, ◌^◌, ◌%◌, ◌≤◌, ◌<◌, ◌↔◌, ◌==◌, ◌&&◌, nat_lt, pos, ◌+ℤ◌, Bool, Option, None, IsTrue};
 ghost use Rattle.brc_word.specs.declared.shared.Shared.{Shared};
 ghost use Rattle.brc_word.specs.Header.{IsLocalWord, IsHeaderWord, OfHeader, IsImmortal, MayCount, HasRoom, IsCount, IsSharedWord, state_of, total, at_zero, at_end, after_choice};
-ghost use Rattle.brc_word.specs.Words.{owner_part, local_part, local_word, is_immortal_word, biased_part, phase_part, bias, fresh_word, dead_word, released_word, merged_word};
+ghost use Rattle.brc_word.specs.Words.{owner_part, local_part, local_word, is_immortal_word, biased_part, phase_part, fresh_word, dead_word, released_word, merged_word};
 
 use crate::shared::{Phase, SharedChoice};
 
