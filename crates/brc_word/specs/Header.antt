@@ -94,6 +94,10 @@ IfStored _ P = Unit {0}
 abbrev pub at_zero : Shared
 at_zero = record { count = pos 0; phase = Default }
 
+-- no reference is left, and nobody owns the object
+abbrev pub at_end : Shared
+at_end = record { count = pos 0; phase = Merged }
+
 -- the shared field after a choice
 abbrev pub after_choice : SharedChoice → Shared → Shared
 after_choice Subtract shared = record { count = shared.count -ℤ pos 1; phase = shared.phase }

@@ -1,4 +1,4 @@
-ghost use Rattle.std.specs.Prelude.{◌≡◌, ◌+◌, ◌-◌, ◌^◌, ◌≤◌, ◌↔◌, ◌==◌, ◌&&◌, nat_lt, if◌then◌else◌, pos, neg_ℤ, Some, IsTrue};
+ghost use Rattle.std.specs.Prelude.{◌≡◌, ◌+◌, ◌-◌, ◌^◌, ◌≤◌, ◌↔◌, ◌==◌, ◌&&◌, nat_lt, if◌then◌else◌, pos, neg_ℤ, IsTrue};
 ghost use Rattle.brc_word.specs.Header.{IsLocalWord, OfHeader, IsImmortal, MayCount, HasRoom, is_store, IfStored, MovesTotal, IsMortalWord};
 ghost use Rattle.brc_word.specs.Words.{owner_part, local_part, is_immortal_word};
 

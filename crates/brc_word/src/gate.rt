@@ -1,4 +1,6 @@
-ghost use Rattle.std.specs.Prelude.{◌≡◌, ◌==◌};
+//! The gate of an object, which says how far its close has come.
+
+ghost use Rattle.std.specs.Prelude.{◌≡◌, ◌≢◌, ◌==◌};
 ghost use Rattle.brc_word.specs.Words.{dying_word, next_part, closed_word};
 
 /// The thread of a dying object stands above the next object of its chain.
@@ -9,7 +11,9 @@ const CLOSED: u64 = 9223372036854775808;
 /// The gate of an object that dies, in the chain of the thread that closes it: `next` is the row of the next object of the chain
 /// and 1, or 0 at its end.
 pub fn dying(thread: u8, next: u32) -> u64
-    ensures { result ≡ dying_word thread next }
+    ensures word { result ≡ dying_word thread next }
+    ensures chain { next_part result ≡ next }
+    ensures unclosed { result ≢ closed_word }
 {
     (u64::from(thread) + 1) * CHAINED + u64::from(next)
 }

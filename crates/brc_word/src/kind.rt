@@ -1,3 +1,5 @@
+//! The word of an object's kind, which has a number above and an argument below.
+
 ghost use Rattle.std.specs.Prelude.{◌≡◌, ◌+◌, ◌*◌};
 ghost use Rattle.brc_word.specs.Words.{kind_part, argument_part};
 
@@ -6,7 +8,9 @@ const ARGUMENTS: u64 = 4294967296;
 
 /// The word of a kind and its argument.
 pub fn kind_word(kind: u32, argument: u32) -> u64
-    ensures { result ≡ kind * 4294967296 + argument }
+    ensures word { result ≡ kind * 4294967296 + argument }
+    ensures kind { kind_part result ≡ kind }
+    ensures argument { argument_part result ≡ argument }
 {
     u64::from(kind) * ARGUMENTS + u64::from(argument)
 }
