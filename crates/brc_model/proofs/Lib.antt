@@ -57,3 +57,4 @@ pub mod WholeEvents
 pub mod Guaranteed
 pub mod FewHeld
 pub mod Ranges
+pub mod RangesEvents
