@@ -58,3 +58,5 @@ pub mod Guaranteed
 pub mod FewHeld
 pub mod Ranges
 pub mod RangesEvents
+pub mod Bounds
+pub mod StepsAreWithin
