@@ -42,7 +42,7 @@ names_one None object other e f = absurd cc
 names_one (Some r) object other e f = eqb-true object r e ∙ sym (eqb-true other r f)
 
 -- only the sixteen variables own
-owned_low : (s : State) (v : ℕ) → length s.slots ≡ 16 → is_owned (slot_of s v) ≡ true → v < 16
+pub owned_low : (s : State) (v : ℕ) → length s.slots ≡ 16 → is_owned (slot_of s v) ≡ true → v < 16
 owned_low s v slots owned =
     elim (cases_lt v 16) [
       | inl lt ↦ lt

@@ -55,3 +55,8 @@ pub mod Watches
 pub mod Whole
 pub mod WholeEvents
 pub mod Guaranteed
+pub mod FewHeld
+pub mod Ranges
+pub mod RangesEvents
+pub mod Bounds
+pub mod StepsAreWithin

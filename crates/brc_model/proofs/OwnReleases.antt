@@ -72,7 +72,7 @@ release_held : (p : Module) (n : ℕ) (m : Machine) (t : ℕ) (a : Actor) (x : �
 release_held p n m t a x h rest here =
     extra_here p n m t a (ReleaseLoad x h) rest h x here (ap (λ (b : Bool). b && (x == x)) (same_holding-refl h) ∙ eq-eqb x x refl) refl
 
-release_alive : (p : Module) (n : ℕ) (m : Machine) (t : ℕ) (a : Actor) (x : ℕ) (h : Holding) (rest : List Duty) → AtDuty p n m t a (ReleaseLoad x h) rest → Alive m x
+pub release_alive : (p : Module) (n : ℕ) (m : Machine) (t : ℕ) (a : Actor) (x : ℕ) (h : Holding) (rest : List Duty) → AtDuty p n m t a (ReleaseLoad x h) rest → Alive m x
 release_alive p n m t a x h rest here =
     alive_referenced p n m x here.rule (head_of p n m t a (ReleaseLoad x h) rest here) (omega (arith, release_held p n m t a x h rest here, held-le-references_to (reference_of t h x) m.plain.references))
 

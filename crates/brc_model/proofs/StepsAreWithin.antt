@@ -1,0 +1,158 @@
+-- Each step of a world that steps lead to asks for words that are there, and finds words that suit its duty.
+use Rattle.std.proofs.Common.{◌≡◌, ◌≢◌, ℕ, zero, suc, ◌+◌, ◌-◌, ◌*◌, ◌<◌, ◌≤◌, true, List, [], ◌∷◌, length, Some, refl, sym, ap, ◌∙◌, subst, arith}
+use Rattle.std.specs.Prelude.{slice_get, map}
+use Rattle.std.proofs.lemmas.List.{length-set, length-map}
+use Rattle.std.proofs.lemmas.Option.{slice_get_within}
+use Rattle.brc_lang.specs.declared.module.Function.{Function}
+use Rattle.brc_lang.specs.declared.module.Module.{Module}
+use Rattle.brc_model.specs.declared.duty.Duty.{Duty}
+use Rattle.brc_model.specs.declared.duty.Duty.TheVariants.{RetainLoad, RetainStore, RetainAdd, ReleaseLoad, ReleaseStore, DecideAtZero, SharedLoad, SharedExchange, SetMark, Look, TakeMark, MergeSwap, MergeLoad, MergeExchange, Die, Settle, SettleKind, SettleCell, SettleEnd, Leave, Scan, Finish, ClaimMark}
+use Rattle.brc_model.specs.declared.actor.Status.TheVariants.{Running, Gone}
+use Rattle.brc_model.specs.declared.actor.Place.{Place}
+use Rattle.brc_model.specs.Steps.{code_of}
+use Rattle.brc_model.specs.Duties.{address_of, block_of}
+use Rattle.brc_model.specs.Machine.{Actor, Machine, Begun, Work, begun_by, may_claim, is_running, with_actor, main_actor, worker_actor, first_machine, machine_after}
+use Rattle.brc_model.specs.World.{World, world_of, machine_of, row_count, IsReachable}
+use Rattle.brc_model.specs.Within.{IsThere, Suits, IsWithin, StepsWithin}
+use Rattle.brc_model.proofs.Lists.{slice_get-set_same}
+use Rattle.brc_model.proofs.Leaves.{AtDuty, head_of}
+use Rattle.brc_model.proofs.Neutral.{agenda_here}
+use Rattle.brc_model.proofs.Begins.{Taken, IsTaken}
+use Rattle.brc_model.proofs.Sits.{sitting, AtRest}
+use Rattle.brc_model.proofs.TakenSits.{taken_sits, rests, begun_fits}
+use Rattle.brc_model.proofs.Whole.{Whole, whole_sits, starts_settled}
+use Rattle.brc_model.proofs.Guaranteed.{first_whole}
+use Rattle.brc_model.proofs.Ranges.{IsSmall, AreSmall, head_small}
+use Rattle.brc_model.proofs.RangesEvents.{starts_small, used_small, claim_small, Bounded, bounded_after, first_ranges}
+use Rattle.brc_model.proofs.Bounds.{duty_suits}
+
+-- ---- the word is there
+
+-- none and the root are there, whatever the workers' rows
+first_two : (k x : ℕ) → x ≤ 1 → x < 2 + k
+first_two k x low = omega (arith, low)
+
+main_block : (rows x : ℕ) → x ≤ 1 → block_of rows x ≡ 0
+main_block rows zero low = refl
+main_block rows (suc zero) low = refl
+main_block rows (suc (suc x)) low = absurd (omega (arith, low))
+
+duty_there : (p : Module) (n : ℕ) (m : Machine) (t : ℕ) (a : Actor) (d : Duty) (rest : List Duty) (k : ℕ) → Whole p n m → AtDuty p n m t a d rest → (a.status ≡ Gone → ⊥) → IsSmall d
+    → IsThere (2 + k) (length m.actors) (address_of m.rows t a.head d)
+duty_there p n m t a (RetainLoad x h) rest k whole here alive small = first_two k x small
+duty_there p n m t a (RetainStore x h w) rest k whole here alive small = first_two k x small
+duty_there p n m t a (RetainAdd x h) rest k whole here alive small = first_two k x small
+duty_there p n m t a (ReleaseLoad x h) rest k whole here alive small = first_two k x small
+duty_there p n m t a (ReleaseStore x w) rest k whole here alive small = first_two k x small
+duty_there p n m t a (DecideAtZero x) rest k whole here alive small = first_two k x small
+duty_there p n m t a (SharedLoad x r) rest k whole here alive small = first_two k x small
+duty_there p n m t a (SharedExchange x r w) rest k whole here alive small = first_two k x small
+duty_there p n m t a (SetMark x) rest k whole here alive small = first_two k x small
+duty_there p n m t a (Look x) rest k whole here alive small = omega (arith, main_block m.rows x small, slice_get_within m.actors t a here.found)
+duty_there p n m t a (TakeMark x) rest k whole here alive small = first_two k x small
+duty_there p n m t a (MergeSwap x r) rest k whole here alive small = first_two k x small
+duty_there p n m t a (MergeLoad x c) rest k whole here alive small = first_two k x small
+duty_there p n m t a (MergeExchange x c w) rest k whole here alive small = first_two k x small
+duty_there p n m t a (Die x) rest k whole here alive small = first_two k x small
+duty_there p n m t a Settle rest k whole here alive small = first_two k (a.head - 1) (omega (arith, head_small p n m t a here.rule here.found))
+duty_there p n m t a (SettleKind x) rest k whole here alive small = first_two k x small
+duty_there p n m t a (SettleCell x i c) rest k whole here alive small =
+    let (pos, dies, more) = head_of p n m t a (SettleCell x i c) rest here in
+    (first_two k x small.0, omega (arith, more, small.1))
+duty_there p n m t a (SettleEnd x) rest k whole here alive small = first_two k x small
+duty_there p n m t a (Leave x c) rest k whole here alive small = slice_get_within m.actors t a here.found
+duty_there p n m t a (Scan x c) rest k whole here alive small =
+    let fits = agenda_here p n m t a (Scan x c) rest here alive in
+    let some = head_of p n m t a (Scan x c) rest here in
+    first_two k x (used_small m.rows t a.used x (whole.used t a here.found) fits.1 (omega (arith, fits.2, some)))
+duty_there p n m t a Finish rest k whole here alive small = slice_get_within m.actors t a here.found
+duty_there p n m t a (ClaimMark x) rest k whole here alive small = first_two k x small
+
+-- ---- a duty
+
+duty_within : (p : Module) (n : ℕ) (m : Machine) (t : ℕ) (a : Actor) (d : Duty) (rest : List Duty) → Whole p n m → slice_get m.actors t ≡ Some a → a.agenda ≡ d ∷ rest → (a.status ≡ Gone → ⊥) → IsSmall d → n ≤ 33
+    → IsWithin (world_of m) t a d
+duty_within p n m t a d rest whole found is alive small few =
+    let here : AtDuty p n m t a d rest = record { rule = whole.rule; found = found; agenda = is } in
+    record {
+      there = duty_there p n m t a d rest ((length m.actors - 1) * m.rows) whole here alive small;
+      head = omega (arith, head_small p n m t a whole.rule found);
+      suits = duty_suits p n m t a d rest (row_count (world_of m)) here alive few;
+    }
+
+-- what is taken up, by the thread that already has it
+taken_within : (p : Module) (n : ℕ) (m : Machine) (t : ℕ) (a : Actor) (d : Duty) (rest : List Duty) (place : Place) → Whole p n m → AtRest p n m t a → n ≤ 33
+    → Taken (code_of (slice_get p.functions a.function)) m.plain.references m.rows t a.used place d rest → IsWithin (world_of m) t a d
+taken_within p n m t a d rest place whole at few taken =
+    let now = sitting a place (d ∷ rest) in
+    let settled = starts_settled m.plain.references m.rows t a.used a.head place d rest taken.starts taken.follows in
+    let middle : Whole p n (with_actor m t now) = whole_sits p n m t a place (d ∷ rest) whole at (taken_sits p n m t a place d rest at taken) settled in
+    let alive : a.status ≡ Gone → ⊥ = λ e. (let wrong : Running ≡ Gone = sym at.running ∙ e in absurd cc) in
+    let within : IsWithin (world_of (with_actor m t now)) t now d =
+    duty_within p n (with_actor m t now) t now d rest middle (slice_get-set_same m.actors t now (slice_get_within m.actors t a at.found)) refl alive (starts_small p n m t d at.rule taken.starts) few in
+    let long = length-set m.actors t now in
+    record {
+      there = subst (λ (l : ℕ). IsThere (2 + (l - 1) * m.rows) l (address_of m.rows t a.head d)) long within.there;
+      head = subst (λ (l : ℕ). a.head ≤ 2 + (l - 1) * m.rows) long within.head;
+      suits = subst (λ (l : ℕ). Suits t (is_running a.status) (2 + (l - 1) * m.rows) d (m.memory (address_of m.rows t a.head d))) long within.suits;
+    }
+
+begun_within : (p : Module) (n : ℕ) (m : Machine) (t : ℕ) (a : Actor) (d : Duty) (rest : List Duty) (place : Place) → Whole p n m → slice_get m.actors t ≡ Some a → n ≤ 33
+    → (a.status ≡ Gone → ⊥) → a.agenda ≡ [] → begun_by m t a ≡ Work (d ∷ rest) place → IsWithin (world_of m) t a d
+begun_within p n m t a d rest place whole found few alive is work =
+    let at_rest = rests p n m t a whole.rule found alive is in
+    let at : AtRest p n m t a = record { rule = whole.rule; found = found; agenda = is; running = at_rest.1 } in
+    taken_within p n m t a d rest place whole at few
+    (subst (λ (b : Begun). IsTaken (code_of (slice_get p.functions a.function)) m.plain.references m.rows t a.used b) work (begun_fits p n m t a at at_rest.0))
+
+claim_within : (p : Module) (n : ℕ) (m : Machine) (t : ℕ) (a : Actor) (row : ℕ) → Whole p n m → slice_get m.actors t ≡ Some a → row ≤ 1 → IsWithin (world_of m) t a (ClaimMark row)
+claim_within p n m t a row whole found small = record {
+  there = first_two ((length m.actors - 1) * m.rows) row small;
+  head = omega (arith, head_small p n m t a whole.rule found);
+  suits = tt;
+}
+
+machine_within : (p : Module) (n : ℕ) (m : Machine) (t : ℕ) (a : Actor) → Bounded p n m → n ≤ 33 → slice_get m.actors t ≡ Some a → StepsWithin (world_of m) t a
+machine_within p n m t a bounded few found = record {
+  goes_on = λ d rest alive is. duty_within p n m t a d rest bounded.whole found is alive (subst AreSmall is (bounded.ranges.each t a found)).0 few;
+  takes_up = λ d rest place alive is work. begun_within p n m t a d rest place bounded.whole found few alive is work;
+  claims = λ row may. claim_within p n m t a row bounded.whole found (claim_small p n m t a row a.place bounded.whole found may);
+}
+
+-- ---- the worlds that steps lead to
+
+reached_bounded : (p : Module) (w : World) (r : IsReachable p w) → Bounded p (1 + length r.calls) (machine_after (first_machine p r.rows r.calls) r.events)
+reached_bounded p w r = bounded_after p (1 + length r.calls) (first_machine p r.rows r.calls) r.events (record {
+  whole = first_whole p r.rows r.calls r.fits r.accepted r.calls_fit r.some_rows;
+  ranges = first_ranges p r.rows r.calls r.most_rows;
+})
+
+pub steps_within : (p : Module) (w : World) (t : ℕ) (a : Actor) → IsReachable p w → slice_get w.actors t ≡ Some a → StepsWithin w t a
+steps_within p w t a r found =
+    let m = machine_after (first_machine p r.rows r.calls) r.events in
+    let there : slice_get m.actors t ≡ Some a = sym (ap (λ (v : World). slice_get v.actors t) r.reached) ∙ found in
+    subst (λ (v : World). StepsWithin v t a) (sym r.reached) (machine_within p (1 + length r.calls) m t a (reached_bounded p w r) (omega (arith, r.calls_fit.most)) there)
+
+-- ---- how large a world is
+
+pub same_functions : (p : Module) (w : World) → IsReachable p w → w.functions ≡ p.functions
+same_functions p w r = ap (λ (v : World). v.functions) r.reached ∙ (reached_bounded p w r).whole.rule.functions
+
+threads_are : (p : Module) (w : World) (r : IsReachable p w) → length w.actors ≡ 1 + length r.calls
+threads_are p w r = ap (λ (v : World). length v.actors) r.reached ∙ (reached_bounded p w r).whole.rule.threads
+
+pub some_threads : (p : Module) (w : World) → IsReachable p w → 1 < length w.actors
+some_threads p w r = omega (arith, threads_are p w r, r.calls_fit.some)
+
+pub few_threads : (p : Module) (w : World) → IsReachable p w → length w.actors ≤ 33
+few_threads p w r = omega (arith, threads_are p w r, r.calls_fit.most)
+
+pub some_rows : (p : Module) (w : World) → IsReachable p w → 0 < w.rows
+some_rows p w r =
+    let same : w.rows ≡ (machine_after (first_machine p r.rows r.calls) r.events).rows = ap (λ (v : World). v.rows) r.reached in
+    omega (arith, same, (reached_bounded p w r).whole.rule.some_rows)
+
+pub few_rows : (p : Module) (w : World) → IsReachable p w → w.rows ≤ 1024
+few_rows p w r =
+    let same : w.rows ≡ (machine_after (first_machine p r.rows r.calls) r.events).rows = ap (λ (v : World). v.rows) r.reached in
+    omega (arith, same, (reached_bounded p w r).ranges.rows)
