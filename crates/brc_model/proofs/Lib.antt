@@ -55,3 +55,4 @@ pub mod Watches
 pub mod Whole
 pub mod WholeEvents
 pub mod Guaranteed
+pub mod Worlds
