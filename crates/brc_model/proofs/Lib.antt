@@ -56,3 +56,4 @@ pub mod Whole
 pub mod WholeEvents
 pub mod Guaranteed
 pub mod Worlds
+pub mod AgendaMoves
