@@ -57,3 +57,5 @@ pub mod WholeEvents
 pub mod Guaranteed
 pub mod Worlds
 pub mod AgendaMoves
+pub mod Emptied
+pub mod StepsMove

@@ -69,7 +69,7 @@ own_fits p n m t a Finish rest here alive settled = own_finish p n m t a rest he
 own_fits p n m t a (ClaimMark x) rest here alive settled = own_claim_mark p n m t a x rest here alive
 
 -- what the other threads had, they have
-written_actor : (P : ℕ → Actor → Type 0) (actors : List Actor) (t : ℕ) (a after : Actor) → slice_get actors t ≡ Some a → P t after → ((u : ℕ) (b : Actor) → slice_get actors u ≡ Some b → P u b)
+pub written_actor : (P : ℕ → Actor → Type 0) (actors : List Actor) (t : ℕ) (a after : Actor) → slice_get actors t ≡ Some a → P t after → ((u : ℕ) (b : Actor) → slice_get actors u ≡ Some b → P u b)
     → (u : ℕ) (b : Actor) → slice_get (slice_set actors t after) u ≡ Some b → P u b
 written_actor P actors t a after found own others u b is =
     elim (eqb_tells u t) [
