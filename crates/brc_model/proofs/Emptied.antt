@@ -1,5 +1,5 @@
 -- A thread with nothing left to do has an empty dying chain: whatever may make a row die has a settling behind it.
-use Rattle.std.proofs.Common.{◌≡◌, ℕ, zero, suc, ◌+◌, ◌-◌, Bool, true, false, cond, List, [], ◌∷◌, ◌++◌, inl, inr, Option, None, Some, refl, sym, ap, ◌∙◌, subst, arith}
+use Rattle.std.proofs.Common.{◌≡◌, ℕ, zero, suc, ◌+◌, ◌-◌, Bool, true, false, cond, List, [], ◌∷◌, ◌++◌, Option, None, Some, refl, sym, subst}
 use Rattle.std.specs.Prelude.{◌==◌, ◌&&◌, not, nat_lt, slice_get, slice_set, map}
 use Rattle.brc_lang.specs.declared.module.Instr.{Instr}
 use Rattle.brc_lang.specs.declared.module.Instr.TheVariants.{Newref, Drop, Ret, Fail}
@@ -14,12 +14,12 @@ use Rattle.brc_model.specs.declared.duty.Reason.TheVariants.{Own, Handed}
 use Rattle.brc_model.specs.declared.duty.Duty.{Duty}
 use Rattle.brc_model.specs.declared.duty.Duty.TheVariants.{RetainLoad, RetainStore, RetainAdd, ReleaseLoad, ReleaseStore, DecideAtZero, SharedLoad, SharedExchange, SetMark, Look, TakeMark, MergeSwap, MergeLoad, MergeExchange, Die, Settle, SettleKind, SettleCell, SettleEnd, Leave, Scan, Finish, ClaimMark}
 use Rattle.brc_model.specs.declared.address.Address.TheVariants.{Mark}
-use Rattle.brc_model.specs.Duties.{address_of, next_by, counts_locally, shared_result, cells_of, cells_from, release_found, head_by, ready}
+use Rattle.brc_model.specs.Duties.{address_of, next_by, counts_locally, shared_result, cells_of, head_by, ready}
 use Rattle.brc_model.specs.declared.actor.Status.{Status}
 use Rattle.brc_model.specs.declared.actor.Status.TheVariants.{Running, Leaving, Gone}
 use Rattle.brc_model.specs.declared.actor.Place.{Place}
 use Rattle.brc_model.specs.declared.actor.Place.TheVariants.{Standing, Inside, Departing}
-use Rattle.brc_model.specs.Machine.{Actor, Machine, Begun, Stuck, Quiet, Work, with_row, begun_instruction, begun, begun_by, is_running, actor_by, done_by, at_place, with_actor, begins, goes_on, acts, may_claim, chosen, next_machine, machine_after, main_actor, worker_actor, first_machine}
+use Rattle.brc_model.specs.Machine.{Actor, Machine, Begun, Stuck, Quiet, Work, with_row, begun_instruction, begun, begun_by, is_running, actor_by, done_by, at_place, begins, goes_on, acts, may_claim, chosen, next_machine, machine_after, main_actor, worker_actor, first_machine}
 use Rattle.brc_model.proofs.Lists.{some_is, slice_get-map}
 use Rattle.brc_model.proofs.Whole.{written_actor}
 
