@@ -60,3 +60,7 @@ pub mod Ranges
 pub mod RangesEvents
 pub mod Bounds
 pub mod StepsAreWithin
+pub mod Worlds
+pub mod AgendaMoves
+pub mod Emptied
+pub mod StepsMove

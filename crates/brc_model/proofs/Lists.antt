@@ -26,6 +26,12 @@ slice_get-set_other (y ∷ ys) zero (suc j) x ne = refl
 slice_get-set_other (y ∷ ys) (suc i) zero x ne = refl
 slice_get-set_other (y ∷ ys) (suc i) (suc j) x ne = slice_get-set_other ys i j x (λ e. ne (ap suc e))
 
+-- the element that is there already
+pub set_found : {A : Type 0} (xs : List A) (i : ℕ) (x : A) → slice_get xs i ≡ Some x → set xs i x ≡ xs
+set_found [] i x is = refl
+set_found (y ∷ ys) zero x is = ap (λ z. z ∷ ys) (sym (some_is y x is))
+set_found (y ∷ ys) (suc i) x is = ap (λ zs. y ∷ zs) (set_found ys i x is)
+
 pub first_false : (a b : Bool) → (a || b) ≡ false → a ≡ false
 first_false true b e = absurd cc
 first_false false b e = refl

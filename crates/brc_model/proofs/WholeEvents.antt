@@ -101,6 +101,25 @@ claim_by p n m t a row (Standing left) whole found place e = claim_now p n m t a
 claim_by p n m t a row (Inside left at variables) whole found place e = absurd (let wrong : false ≡ true = sym (ap (claims_where m t a row) place) ∙ e in cc)
 claim_by p n m t a row Departing whole found place e = absurd (let wrong : false ≡ true = sym (ap (claims_where m t a row) place) ∙ e in cc)
 
+-- a thread claims with nothing else to do
+rests_where : (m : Machine) (t : ℕ) (a : Actor) (row : ℕ) (place : Place) → a.place ≡ place → may_claim m t a row ≡ true → a.agenda ≡ []
+rests_where m t a row (Standing left) place e = (claims_at m t a left row (sym (ap (claims_where m t a row) place) ∙ e)).1
+rests_where m t a row (Inside left at variables) place e = absurd (let wrong : false ≡ true = sym (ap (claims_where m t a row) place) ∙ e in cc)
+rests_where m t a row Departing place e = absurd (let wrong : false ≡ true = sym (ap (claims_where m t a row) place) ∙ e in cc)
+
+pub claimer_rests : (m : Machine) (t : ℕ) (a : Actor) (row : ℕ) → may_claim m t a row ≡ true → a.agenda ≡ []
+claimer_rests m t a row e = rests_where m t a row a.place refl e
+
+-- and no thread that is gone claims
+gone_where : (m : Machine) (t : ℕ) (a : Actor) (row : ℕ) (place : Place) → a.place ≡ place → a.status ≡ Gone → may_claim m t a row ≡ false
+gone_where m t a row (Standing left) place gone =
+    ap (claims_where m t a row) place ∙ ap (λ (s : Status). is_running s && (length a.agenda == 0) && nat_le (first_row m.rows t) row && nat_lt row (first_row m.rows t + a.used)) gone
+gone_where m t a row (Inside left at variables) place gone = ap (claims_where m t a row) place
+gone_where m t a row Departing place gone = ap (claims_where m t a row) place
+
+pub gone_claims_none : (m : Machine) (t : ℕ) (a : Actor) (row : ℕ) → a.status ≡ Gone → may_claim m t a row ≡ false
+gone_claims_none m t a row gone = gone_where m t a row a.place refl gone
+
 -- ---- every event
 
 choice_keeps : (p : Module) (n : ℕ) (m : Machine) (t : ℕ) (choice : Choice) (o : Option Actor) → Whole p n m → slice_get m.actors t ≡ o → KeepsOn p n (is_bad_choice m t choice o) (chosen m t choice o)

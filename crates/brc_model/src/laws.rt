@@ -1,8 +1,16 @@
+ghost use Rattle.std.specs.Prelude.{ℕ, ◌≡◌, ◌≢◌, ◌<◌, ◌≤◌, true, false, List, Some, slice_get};
 ghost use Rattle.brc_lang.specs.declared.module.Module.{Module};
 ghost use Rattle.brc_lang.specs.Grammar.{IsModule};
 ghost use Rattle.brc_model.specs.Walks.{IsAcceptable};
-ghost use Rattle.brc_model.specs.Safety.{Safe};
+ghost use Rattle.brc_model.specs.Safety.{AreCalls, Safe};
 ghost use Rattle.brc_model.specs.Guarantee.{SafeOverHeaders};
+ghost use Rattle.brc_model.specs.declared.thread.Call.{Call};
+ghost use Rattle.brc_model.specs.declared.thread.Choice.{Choice};
+ghost use Rattle.brc_model.specs.declared.thread.Choice.TheVariants.{Ok, Fault, Claim};
+ghost use Rattle.brc_model.specs.declared.address.Address.TheVariants.{Mark};
+ghost use Rattle.brc_model.specs.declared.actor.Status.TheVariants.{Gone};
+ghost use Rattle.brc_model.specs.Machine.{Actor, Machine, may_claim, next_machine};
+ghost use Rattle.brc_model.specs.World.{World, world_of, machine_of, first_world, step, IsReachable};
 
 /// An accepted module is safe, for every number of workers and rows, every list of calls and every list of steps.
 pub fn accepted_is_safe()
@@ -13,4 +21,24 @@ pub fn accepted_is_safe()
 /// every list of steps and choices, wherever the list stops.
 pub fn accepted_is_safe_over_headers()
     ensures { (m : Module) → IsModule m → IsAcceptable m → SafeOverHeaders m }
+{}
+
+/// A machine's step is a step of the world that its threads see: a step looks at nothing else.
+pub fn worlds_follow_machines()
+    ensures { (m : Machine) (event : ℕ × Choice) → world_of (next_machine m event) ≡ step (world_of m) event.0 event.1 }
+{}
+
+/// Steps lead from a world that steps lead to only to such.
+pub fn worlds_lead_on()
+    ensures first { (p : Module) (rows : ℕ) (calls : List Call) → IsModule p → IsAcceptable p → 0 < rows → rows ≤ 1024 → AreCalls p calls → IsReachable p (first_world p rows calls) }
+    ensures step { (p : Module) (w : World) (t : ℕ) (choice : Choice) → IsReachable p w → IsReachable p (step w t choice) }
+{}
+
+/// Each step of a thread that isn't gone changes the world, but for a claim that is out of place or finds no mark.
+pub fn steps_move()
+    ensures goes_on { (p : Module) (w : World) (t : ℕ) (a : Actor) → IsReachable p w → slice_get w.actors t ≡ Some a → a.status ≢ Gone → (step w t Ok ≢ w) × (step w t Fault ≢ w) }
+    ensures claims { (w : World) (t : ℕ) (a : Actor) (row : ℕ) → slice_get w.actors t ≡ Some a → may_claim (machine_of w) t a row ≡ true → w.memory (Mark row) ≢ 0 → step w t (Claim row) ≢ w }
+    ensures misses { (p : Module) (w : World) (t : ℕ) (a : Actor) (row : ℕ) → IsReachable p w → slice_get w.actors t ≡ Some a → may_claim (machine_of w) t a row ≡ true → w.memory (Mark row) ≡ 0 → step w t (Claim row) ≡ w }
+    ensures stays { (w : World) (t : ℕ) (a : Actor) (row : ℕ) → slice_get w.actors t ≡ Some a → may_claim (machine_of w) t a row ≡ false → step w t (Claim row) ≡ w }
+    ensures gone { (w : World) (t : ℕ) (a : Actor) (row : ℕ) → slice_get w.actors t ≡ Some a → a.status ≡ Gone → (step w t Ok ≡ w) × (step w t Fault ≡ w) × (step w t (Claim row) ≡ w) }
 {}
