@@ -16,10 +16,10 @@ use Rattle.brc_model.proofs.Rule.{dies_by}
 use Rattle.brc_model.proofs.Leaves.{AtDuty}
 use Rattle.brc_model.proofs.Closing.{GoesOn, BeginsToDie, IsClosed, life_step, SameClosed, OneMore, closed_step}
 
-dying_not_closed : (t : ℕ) → Dying t ≡ Closed → ⊥
+pub dying_not_closed : (t : ℕ) → Dying t ≡ Closed → ⊥
 dying_not_closed t e = cc
 
-live_not_closed : Live ≡ Closed → ⊥
+pub live_not_closed : Live ≡ Closed → ⊥
 live_not_closed e = cc
 
 unborn_not_live : Unborn ≡ Live → ⊥

@@ -55,3 +55,5 @@ pub mod Watches
 pub mod Whole
 pub mod WholeEvents
 pub mod Guaranteed
+pub mod StepCases
+pub mod Gates
