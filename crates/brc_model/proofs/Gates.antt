@@ -28,7 +28,7 @@ use Rattle.brc_model.proofs.ClosedAfter.{live_not_closed, dying_not_closed}
 use Rattle.brc_model.proofs.Whole.{Whole, Doing, used_rows}
 use Rattle.brc_model.proofs.WholeEvents.{event_keeps, whole_after}
 use Rattle.brc_model.proofs.Guaranteed.{first_whole}
-use Rattle.brc_model.proofs.StepCases.{ShowsSteps, event_shows}
+use Rattle.brc_model.proofs.StepCases.{ShowsSteps, at_duty, event_shows}
 
 -- ---- what a step does to a gate
 
@@ -101,7 +101,7 @@ gates_kept p n few = record {
   stays = λ t m whole gates. gates;
   sits = λ t m new a place agenda found q. λ gates. q (λ x. record { is = (gates x).is; has = (gates x).has });
   moves = λ t m a place whole found gates x. record { is = (gates x).is; has = (gates x).has };
-  does = λ t m a d rest doing gates x. gate_after p n m t a d rest x (record { rule = doing.whole.rule; found = doing.found; agenda = doing.agenda }) few (gates x);
+  does = λ t m a d rest doing gates x. gate_after p n m t a d rest x (at_duty doing) few (gates x);
 }
 
 gates_after : (p : Module) (n : ℕ) (m : Machine) (events : List (ℕ × Choice)) → n ≤ 33 → Whole p n m → ((x : ℕ) → GateFits m x) → (x : ℕ) → GateFits (machine_after m events) x

@@ -57,3 +57,5 @@ pub mod WholeEvents
 pub mod Guaranteed
 pub mod StepCases
 pub mod Gates
+pub mod StatesRise
+pub mod Immortals

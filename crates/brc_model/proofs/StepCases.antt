@@ -15,6 +15,7 @@ use Rattle.brc_model.specs.Machine.{Actor, Machine, Begun, Stuck, Quiet, Work, b
 use Rattle.brc_model.proofs.Begins.{IsTaken}
 use Rattle.brc_model.proofs.Sits.{sitting, Sits, AtRest, taken_up_step}
 use Rattle.brc_model.proofs.TakenSits.{taken_sits, rests, begun_fits}
+use Rattle.brc_model.proofs.Leaves.{AtDuty}
 use Rattle.brc_model.proofs.OwnExits.{IsSettled}
 use Rattle.brc_model.proofs.Whole.{Whole, Doing, sits_down, starts_settled}
 use Rattle.brc_model.proofs.WholeEvents.{ClaimsSo, claims_so, event_keeps}
@@ -29,6 +30,10 @@ pub record ShowsSteps (Q : ℕ → Machine → Machine → Type 0) (p : Module) 
   pub moves : (t : ℕ) (m : Machine) (a : Actor) (place : Place) → Whole p n m → slice_get m.actors t ≡ Some a → Q t m (with_actor m t (at_place a place))
   -- the thread does its first duty
   pub does : (t : ℕ) (m : Machine) (a : Actor) (d : Duty) (rest : List Duty) → Doing p n m t a d rest → Q t m (done_by m t a d rest)
+
+-- the rule at the thread's first duty
+pub at_duty : {p : Module} {n : ℕ} {m : Machine} {t : ℕ} {a : Actor} {d : Duty} {rest : List Duty} → Doing p n m t a d rest → AtDuty p n m t a d rest
+at_duty doing = record { rule = doing.whole.rule; found = doing.found; agenda = doing.agenda }
 
 taken_shows : {Q : ℕ → Machine → Machine → Type 0} {p : Module} {n : ℕ} → ShowsSteps Q p n → (m : Machine) (t : ℕ) (a : Actor) (place : Place) (d : Duty) (rest : List Duty) → Whole p n m → AtRest p n m t a → Sits p m t a place (d ∷ rest) → IsSettled a.head (d ∷ rest) → Q t m (done_by m t (at_place a place) d rest)
 taken_shows {Q = Q} {p = p} {n = n} shows m t a place d rest whole at sits settled =
