@@ -60,7 +60,7 @@ closed_is_after p n m t a d rest x here is =
           ]
     ]
 
-among_more : (x : ℕ) (xs ys : List ℕ) → is_among x xs ≡ true → is_among x (xs ++ ys) ≡ true
+pub among_more : (x : ℕ) (xs ys : List ℕ) → is_among x xs ≡ true → is_among x (xs ++ ys) ≡ true
 among_more x xs ys e = list_any-append (λ z. z == x) xs ys ∙ ap (λ (b : Bool). b || is_among x ys) e
 
 among_last : (x : ℕ) (xs : List ℕ) → is_among x (xs ++ x ∷ []) ≡ true

@@ -59,3 +59,6 @@ pub mod StepCases
 pub mod Gates
 pub mod StatesRise
 pub mod Immortals
+pub mod Owners
+pub mod ClosedOnce
+pub mod RowLaws

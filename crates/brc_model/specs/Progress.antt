@@ -1,7 +1,7 @@
 -- What one event may change in the words of a row, and what it never changes. (PEP 703, Biased Reference Counting: an object's
 -- state goes from default by queued to merged, only the owning thread changes the local count, and immortal objects stay as
 -- they are.)
-use Rattle.std.specs.Prelude.{◌≡◌, ◌≢◌, ◌⊎◌, ℕ, ◌+◌, ◌<◌, ◌≤◌, ◌==◌, Bool, true, false, List, count_by, slice_get, Some, ◌↔◌}
+use Rattle.std.specs.Prelude.{◌≡◌, ◌≢◌, ◌⊎◌, ℕ, ◌+◌, ◌<◌, ◌≤◌, ◌==◌, Bool, true, false, List, [], ◌∷◌, ◌++◌, count_by, slice_get, Some, ◌↔◌}
 use Rattle.brc_lang.specs.declared.module.Module.{Module}
 use Rattle.brc_model.specs.declared.thread.Call.{Call}
 use Rattle.brc_model.specs.declared.thread.Choice.{Choice}
@@ -43,6 +43,10 @@ OwnersStay m event = (x : ℕ) → (owner_part ((next_machine m event).memory (L
 -- what is closed stays closed
 abbrev pub ClosedStays : Machine → ℕ × Choice → Type 0
 ClosedStays m event = (x : ℕ) → is_among x m.plain.closed ≡ true → is_among x (next_machine m event).plain.closed ≡ true
+
+-- an event finalises nothing, or one row that wasn't finalised before
+abbrev pub ClosesAnew : Machine → ℕ × Choice → Type 0
+ClosesAnew m event = ((next_machine m event).plain.closed ≡ m.plain.closed) ⊎ ((row : ℕ) × (is_among row m.plain.closed ≡ false) × ((next_machine m event).plain.closed ≡ m.plain.closed ++ row ∷ []))
 
 -- an immortal row's words stay as they are
 pub record StaysAt (m next : Machine) (x : ℕ) : Type 0 where

@@ -3,7 +3,7 @@ ghost use Rattle.brc_lang.specs.Grammar.{IsModule};
 ghost use Rattle.brc_model.specs.Walks.{IsAcceptable};
 ghost use Rattle.brc_model.specs.Safety.{Safe};
 ghost use Rattle.brc_model.specs.Guarantee.{SafeOverHeaders};
-ghost use Rattle.brc_model.specs.Progress.{Always, GatesTell, BornAreUsed};
+ghost use Rattle.brc_model.specs.Progress.{Always, AtEachEvent, StatesRise, OnlyOwnersCount, OwnersStay, ClosedStays, ClosesAnew, ImmortalsStay, ClosedOnce, GatesTell, BornAreUsed};
 
 /// An accepted module is safe, for every number of workers and rows, every list of calls and every list of steps.
 pub fn accepted_is_safe()
@@ -14,6 +14,41 @@ pub fn accepted_is_safe()
 /// every list of steps and choices, wherever the list stops.
 pub fn accepted_is_safe_over_headers()
     ensures { (m : Module) → IsModule m → IsAcceptable m → SafeOverHeaders m }
+{}
+
+/// A row's state never falls: from default by queued to merged, and never back.
+pub fn states_only_rise()
+    ensures { (m : Module) → IsModule m → IsAcceptable m → AtEachEvent StatesRise m }
+{}
+
+/// While its owner runs, a row's local word is changed by the owner's events alone.
+pub fn only_a_running_owner_counts()
+    ensures { (m : Module) → IsModule m → IsAcceptable m → AtEachEvent OnlyOwnersCount m }
+{}
+
+/// A row keeps its owner, or nobody owns it any more.
+pub fn nobody_takes_a_row_over()
+    ensures { (m : Module) → IsModule m → IsAcceptable m → AtEachEvent OwnersStay m }
+{}
+
+/// The words of an immortal row stay as they are: none's, for no other row is immortal.
+pub fn immortal_words_stay()
+    ensures { (m : Module) → IsModule m → IsAcceptable m → AtEachEvent ImmortalsStay m }
+{}
+
+/// What is closed stays closed.
+pub fn closed_rows_stay_closed()
+    ensures { (m : Module) → IsModule m → IsAcceptable m → AtEachEvent ClosedStays m }
+{}
+
+/// An event finalises nothing, or one row that wasn't finalised before.
+pub fn an_event_closes_one_row_anew()
+    ensures { (m : Module) → IsModule m → IsAcceptable m → AtEachEvent ClosesAnew m }
+{}
+
+/// No row is finalised twice, over all events.
+pub fn a_row_is_finalised_once()
+    ensures { (m : Module) → IsModule m → IsAcceptable m → Always ClosedOnce m }
 {}
 
 /// A row's gate says that it is closed, just where it was finalised.
