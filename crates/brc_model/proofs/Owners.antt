@@ -1,16 +1,15 @@
 -- While its owner runs, a row's local word is changed by the owner's events alone, and nobody takes a row over.
-use Rattle.std.proofs.Common.{◌≡◌, ◌≢◌, ℕ, zero, suc, ◌+◌, ◌-◌, ◌<◌, ◌≤◌, List, ◌⊎◌, inl, inr, Some, refl, sym, ap, ◌∙◌, subst, arith}
+use Rattle.std.proofs.Common.{◌≡◌, ◌≢◌, ℕ, zero, suc, ◌+◌, ◌-◌, List, ◌⊎◌, inl, inr, Some, refl, sym, ap, ◌∙◌, subst, arith}
 use Rattle.std.specs.Prelude.{slice_get}
 use Rattle.std.proofs.lemmas.Bool.Decides.{eqb_tells}
 use Rattle.std.proofs.lemmas.Option.{slice_get_within}
 use Rattle.brc_lang.specs.declared.module.Module.{Module}
-use Rattle.brc_word.specs.Words.{owner_part, local_part}
+use Rattle.brc_word.specs.Words.{owner_part}
 use Rattle.brc_model.specs.declared.thread.Choice.{Choice}
 use Rattle.brc_model.specs.declared.duty.Duty.{Duty}
 use Rattle.brc_model.specs.declared.duty.Duty.TheVariants.{RetainLoad, RetainStore, ReleaseLoad, ReleaseStore, MergeSwap}
 use Rattle.brc_model.specs.declared.address.Address.TheVariants.{Local}
 use Rattle.brc_model.specs.declared.actor.Place.{Place}
-use Rattle.brc_model.specs.declared.actor.Status.TheVariants.{Running}
 use Rattle.brc_model.specs.Machine.{Actor, Machine, written, with_actor, done_by}
 use Rattle.brc_model.specs.Progress.{Runs, OnlyOwnersCount, OwnersStay}
 use Rattle.brc_model.proofs.Lists.{some_is, slice_get-set_same, slice_get-set_other}
@@ -35,7 +34,8 @@ runs_still m t u a place agenda found runs =
       | inr apart ↦ (runs.0, slice_get-set_other m.actors t u now apart.1 ∙ runs.1, runs.2)
     ]
 
-local_left : (p : Module) (n : ℕ) (m : Machine) (t : ℕ) (a : Actor) (d : Duty) (rest : List Duty) (x owner : ℕ) → AtDuty p n m t a d rest → owner ≢ t → owner_part (m.memory (Local x)) ≡ owner + 1 → Runs m owner → memory_by m t a d (Local x) ≡ m.memory (Local x)
+local_left : (p : Module) (n : ℕ) (m : Machine) (t : ℕ) (a : Actor) (d : Duty) (rest : List Duty) (x owner : ℕ) → AtDuty p n m t a d rest → owner ≢ t
+    → owner_part (m.memory (Local x)) ≡ owner + 1 → Runs m owner → memory_by m t a d (Local x) ≡ m.memory (Local x)
 local_left p n m t a d rest zero owner here ne owns runs = none_local p n m t a d rest here
 local_left p n m t a d rest (suc x) owner here ne owns runs =
     locals_left p n m t a d rest here owner (suc x) runs.0 ne runs.1 (record { running = runs.2; owner = owns; low = counted_low p n m (suc x) here.rule (omega arith) })

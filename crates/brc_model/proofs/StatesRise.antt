@@ -1,5 +1,5 @@
 -- A row's state never falls: default, queued, merged.
-use Rattle.std.proofs.Common.{◌≡◌, ℕ, ◌+◌, ◌-◌, ◌≤◌, Bool, true, false, cond, List, inl, inr, refl, sym, ap, ◌∙◌, subst, arith}
+use Rattle.std.proofs.Common.{◌≡◌, ℕ, ◌+◌, ◌-◌, ◌≤◌, Bool, cond, List, inl, inr, ap, subst, arith}
 use Rattle.std.specs.Prelude.{◌==◌}
 use Rattle.std.proofs.lemmas.Bool.Decides.{eqb_tells}
 use Rattle.brc_lang.specs.declared.module.Module.{Module}
@@ -11,7 +11,7 @@ use Rattle.brc_model.specs.declared.address.Address.TheVariants.{Shared}
 use Rattle.brc_model.specs.Machine.{Actor, Machine, written}
 use Rattle.brc_model.specs.Progress.{StatesRise}
 use Rattle.brc_model.proofs.RowSteps.{shared_range, shared_up, shared_down, shared_merged}
-use Rattle.brc_model.proofs.Written.{written_here, written_apart, written_load, apart_shared}
+use Rattle.brc_model.proofs.Written.{written_here, written_apart, apart_shared}
 use Rattle.brc_model.proofs.Leaves.{AtDuty, exchange_alive}
 use Rattle.brc_model.proofs.Neutral.{memory_by}
 use Rattle.brc_model.proofs.Whole.{Whole}
