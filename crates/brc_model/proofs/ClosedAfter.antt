@@ -16,10 +16,10 @@ use Rattle.brc_model.proofs.Rule.{dies_by}
 use Rattle.brc_model.proofs.Leaves.{AtDuty}
 use Rattle.brc_model.proofs.Closing.{GoesOn, BeginsToDie, IsClosed, life_step, SameClosed, OneMore, closed_step}
 
-dying_not_closed : (t : ℕ) → Dying t ≡ Closed → ⊥
+pub dying_not_closed : (t : ℕ) → Dying t ≡ Closed → ⊥
 dying_not_closed t e = cc
 
-live_not_closed : Live ≡ Closed → ⊥
+pub live_not_closed : Live ≡ Closed → ⊥
 live_not_closed e = cc
 
 unborn_not_live : Unborn ≡ Live → ⊥
@@ -60,7 +60,7 @@ closed_is_after p n m t a d rest x here is =
           ]
     ]
 
-among_more : (x : ℕ) (xs ys : List ℕ) → is_among x xs ≡ true → is_among x (xs ++ ys) ≡ true
+pub among_more : (x : ℕ) (xs ys : List ℕ) → is_among x xs ≡ true → is_among x (xs ++ ys) ≡ true
 among_more x xs ys e = list_any-append (λ z. z == x) xs ys ∙ ap (λ (b : Bool). b || is_among x ys) e
 
 among_last : (x : ℕ) (xs : List ℕ) → is_among x (xs ++ x ∷ []) ≡ true

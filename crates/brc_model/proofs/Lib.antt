@@ -64,3 +64,10 @@ pub mod Worlds
 pub mod AgendaMoves
 pub mod Emptied
 pub mod StepsMove
+pub mod StepCases
+pub mod Gates
+pub mod StatesRise
+pub mod Immortals
+pub mod Owners
+pub mod ClosedOnce
+pub mod RowLaws

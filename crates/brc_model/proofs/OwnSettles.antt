@@ -95,7 +95,7 @@ hand_not_chained : (m : Machine) (t head x : ℕ) (agenda : List Duty) (chain : 
 hand_not_chained m t head x agenda chain at = let one : one_if (hand_of agenda x) ≡ 1 = ap one_if at in omega (arith, one, chain.once x, one_if_low (dies_by (m.life x) t))
 
 -- the head is a dying row's
-head_low : (p : Module) (n : ℕ) (m : Machine) (t head : ℕ) (agenda : List Duty) (chained : List ℕ) → Rule p n m → Linked m.memory t head chained
+pub head_low : (p : Module) (n : ℕ) (m : Machine) (t head : ℕ) (agenda : List Duty) (chained : List ℕ) → Rule p n m → Linked m.memory t head chained
     → ((x : ℕ) → one_if (hand_of agenda x) + count_by (λ y. y == x) chained ≡ one_if (dies_by (m.life x) t)) → head < 4294967296
 head_low p n m t head agenda [] rule linked once = omega (arith, linked)
 head_low p n m t head agenda (x ∷ xs) rule linked once =

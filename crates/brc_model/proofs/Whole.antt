@@ -122,19 +122,22 @@ whole_sits p n m t a place agenda whole rest sits settled = record {
   root_born = whole.root_born;
 }
 
+-- the thread that has taken duties up stands at the first of them
+pub sits_down : (p : Module) (n : ℕ) (m : Machine) (t : ℕ) (a : Actor) (place : Place) (d : Duty) (rest : List Duty) → Whole p n m → AtRest p n m t a → Sits p m t a place (d ∷ rest) → IsSettled a.head (d ∷ rest)
+    → Doing p n (with_actor m t (sitting a place (d ∷ rest))) t (sitting a place (d ∷ rest)) d rest
+sits_down p n m t a place d rest whole at sits settled = record {
+  whole = whole_sits p n m t a place (d ∷ rest) whole at sits settled;
+  found = slice_get-set_same m.actors t (sitting a place (d ∷ rest)) (slice_get_within m.actors t a at.found);
+  agenda = refl;
+  alive = λ e. let wrong : Running ≡ Gone = sym at.running ∙ e in absurd cc;
+}
+
 -- a duty that is taken up and done at once
 pub taken_up : (p : Module) (n : ℕ) (m : Machine) (t : ℕ) (a : Actor) (place : Place) (d : Duty) (rest : List Duty) → Whole p n m → AtRest p n m t a → Sits p m t a place (d ∷ rest) → IsSettled a.head (d ∷ rest)
     → KeepsOn p n (is_bad_duty m t a d) (done_by m t (at_place a place) d rest)
 taken_up p n m t a place d rest whole at sits settled =
     let now = sitting a place (d ∷ rest) in
-    let middle = with_actor m t now in
-    let doing : Doing p n middle t now d rest = record {
-      whole = whole_sits p n m t a place (d ∷ rest) whole at sits settled;
-      found = slice_get-set_same m.actors t now (slice_get_within m.actors t a at.found);
-      agenda = refl;
-      alive = λ e. let wrong : Running ≡ Gone = sym at.running ∙ e in absurd cc;
-    } in
-    let done = keeps_duty p n middle t now d rest doing in
+    let done = keeps_duty p n (with_actor m t now) t now d rest (sits_down p n m t a place d rest whole at sits settled) in
     (done.0, subst (Whole p n) (taken_up_step m t a place d rest) done.1)
 
 pub starts_settled : (bag : List Reference) (rows t used head : ℕ) (place : Place) (d : Duty) (rest : List Duty) → Starts bag t d → Follows rows t used place rest → IsSettled head (d ∷ rest)

@@ -20,7 +20,7 @@ use Rattle.brc_model.proofs.Lists.{and_first, and_second}
 use Rattle.brc_model.proofs.Rule.{PlaceFits}
 use Rattle.brc_model.proofs.OwnRetains.{running_is}
 use Rattle.brc_model.proofs.Begins.{IsTaken}
-use Rattle.brc_model.proofs.Sits.{sitting, AtRest}
+use Rattle.brc_model.proofs.Sits.{sitting, Sits, AtRest}
 use Rattle.brc_model.proofs.TakenSits.{taken_sits, quiet_sits, claim_sits, rests, begun_fits}
 use Rattle.brc_model.proofs.Whole.{used_rows, Whole, KeepsOn, keeps_duty, whole_sits, taken_up, starts_settled}
 
@@ -69,25 +69,28 @@ claims_at m t a left row e =
     let low = and_second (is_running a.status && (length a.agenda == 0)) (nat_le (first_row m.rows t) row) front in
     (running_is a.status (and_first (is_running a.status) (length a.agenda == 0) pair), nil_from_length a.agenda (eqb-true _ _ (and_second (is_running a.status) (length a.agenda == 0) pair)), leb-true _ _ low, ltb-true _ _ high)
 
+-- a claim is made by a thread at rest, of a row of its own block
+pub record ClaimsSo (p : Module) (n : ℕ) (m : Machine) (t : ℕ) (a : Actor) (row : ℕ) : Type 0 where
+  pub place : Place
+  pub stands : a.place ≡ place
+  pub at : AtRest p n m t a
+  pub sits : Sits p m t a place (ClaimMark row ∷ [])
+
 claim_now : (p : Module) (n : ℕ) (m : Machine) (t : ℕ) (a : Actor) (left row : ℕ) → Whole p n m → slice_get m.actors t ≡ Some a → a.place ≡ Standing left
     → (is_running a.status && (length a.agenda == 0) && nat_le (first_row m.rows t) row && nat_lt row (first_row m.rows t + a.used)) ≡ true
-    → KeepsOn p n (is_bad_duty m t a (ClaimMark row)) (done_by m t a (ClaimMark row) [])
+    → ClaimsSo p n m t a row
 claim_now p n m t a left row whole found place e =
     let may = claims_at m t a left row e in
-    let at : AtRest p n m t a = record { rule = whole.rule; found = found; agenda = may.1; running = may.0 } in
     let old = (whole.rule.each t a found).0 in
     let code = code_of (slice_get p.functions a.function) in
     let placed : PlaceFits code m.plain.references t [] (Standing left) =
     subst (λ (l : List Duty). PlaceFits code m.plain.references t l (Standing left)) may.1 (subst (λ (q : Place). PlaceFits code m.plain.references t a.agenda q) place old.placed) in
-    let mine = block_used m.rows t a.used row (whole.used t a found) may.2 may.3 in
-    let done = taken_up p n m t a (Standing left) (ClaimMark row) [] whole at (claim_sits p m t a left row placed mine) tt in
-    let same : done_by m t (at_place a (Standing left)) (ClaimMark row) [] ≡ done_by m t a (ClaimMark row) [] = ap (λ (q : Place). done_by m t (at_place a q) (ClaimMark row) []) (sym place) in
-    (done.0, subst (Whole p n) same done.1)
-
-if_claims : (p : Module) (n : ℕ) (m : Machine) (t : ℕ) (a : Actor) (row : ℕ) (b : Bool) → Whole p n m → (b ≡ true → KeepsOn p n (is_bad_duty m t a (ClaimMark row)) (done_by m t a (ClaimMark row) []))
-    → KeepsOn p n (cond b (is_bad_duty m t a (ClaimMark row)) false) (cond b (done_by m t a (ClaimMark row) []) m)
-if_claims p n m t a row true whole claims = claims refl
-if_claims p n m t a row false whole claims = (refl, whole)
+    record {
+      place = Standing left;
+      stands = place;
+      at = record { rule = whole.rule; found = found; agenda = may.1; running = may.0 };
+      sits = claim_sits p m t a left row placed (block_used m.rows t a.used row (whole.used t a found) may.2 may.3);
+    }
 
 abbrev claims_where : Machine → ℕ → Actor → ℕ → Place → Bool
 claims_where m t a row place = elim place [
@@ -96,10 +99,21 @@ claims_where m t a row place = elim place [
   | Departing ↦ false
 ]
 
-claim_by : (p : Module) (n : ℕ) (m : Machine) (t : ℕ) (a : Actor) (row : ℕ) (place : Place) → Whole p n m → slice_get m.actors t ≡ Some a → a.place ≡ place → may_claim m t a row ≡ true → KeepsOn p n (is_bad_duty m t a (ClaimMark row)) (done_by m t a (ClaimMark row) [])
-claim_by p n m t a row (Standing left) whole found place e = claim_now p n m t a left row whole found place (sym (ap (claims_where m t a row) place) ∙ e)
-claim_by p n m t a row (Inside left at variables) whole found place e = absurd (let wrong : false ≡ true = sym (ap (claims_where m t a row) place) ∙ e in cc)
-claim_by p n m t a row Departing whole found place e = absurd (let wrong : false ≡ true = sym (ap (claims_where m t a row) place) ∙ e in cc)
+pub claims_so : (p : Module) (n : ℕ) (m : Machine) (t : ℕ) (a : Actor) (row : ℕ) (place : Place) → Whole p n m → slice_get m.actors t ≡ Some a → a.place ≡ place → may_claim m t a row ≡ true → ClaimsSo p n m t a row
+claims_so p n m t a row (Standing left) whole found place e = claim_now p n m t a left row whole found place (sym (ap (claims_where m t a row) place) ∙ e)
+claims_so p n m t a row (Inside left at variables) whole found place e = absurd (let wrong : false ≡ true = sym (ap (claims_where m t a row) place) ∙ e in cc)
+claims_so p n m t a row Departing whole found place e = absurd (let wrong : false ≡ true = sym (ap (claims_where m t a row) place) ∙ e in cc)
+
+claim_keeps : (p : Module) (n : ℕ) (m : Machine) (t : ℕ) (a : Actor) (row : ℕ) → Whole p n m → ClaimsSo p n m t a row → KeepsOn p n (is_bad_duty m t a (ClaimMark row)) (done_by m t a (ClaimMark row) [])
+claim_keeps p n m t a row whole so =
+    let done = taken_up p n m t a so.place (ClaimMark row) [] whole so.at so.sits tt in
+    let same : done_by m t (at_place a so.place) (ClaimMark row) [] ≡ done_by m t a (ClaimMark row) [] = ap (λ (q : Place). done_by m t (at_place a q) (ClaimMark row) []) (sym so.stands) in
+    (done.0, subst (Whole p n) same done.1)
+
+if_claims : (p : Module) (n : ℕ) (m : Machine) (t : ℕ) (a : Actor) (row : ℕ) (b : Bool) → Whole p n m → (b ≡ true → ClaimsSo p n m t a row)
+    → KeepsOn p n (cond b (is_bad_duty m t a (ClaimMark row)) false) (cond b (done_by m t a (ClaimMark row) []) m)
+if_claims p n m t a row true whole claims = claim_keeps p n m t a row whole (claims refl)
+if_claims p n m t a row false whole claims = (refl, whole)
 
 -- a thread claims with nothing else to do
 rests_where : (m : Machine) (t : ℕ) (a : Actor) (row : ℕ) (place : Place) → a.place ≡ place → may_claim m t a row ≡ true → a.agenda ≡ []
@@ -126,7 +140,7 @@ choice_keeps : (p : Module) (n : ℕ) (m : Machine) (t : ℕ) (choice : Choice) 
 choice_keeps p n m t choice None whole found = (refl, whole)
 choice_keeps p n m t Ok (Some a) whole found = status_keeps p n m t a a.status whole found refl
 choice_keeps p n m t Fault (Some a) whole found = status_keeps p n m t a a.status whole found refl
-choice_keeps p n m t (Claim row) (Some a) whole found = if_claims p n m t a row (may_claim m t a row) whole (λ e. claim_by p n m t a row a.place whole found refl e)
+choice_keeps p n m t (Claim row) (Some a) whole found = if_claims p n m t a row (may_claim m t a row) whole (λ e. claims_so p n m t a row a.place whole found refl e)
 
 pub event_keeps : (p : Module) (n : ℕ) (m : Machine) (event : ℕ × Choice) → Whole p n m → KeepsOn p n (is_bad_event m event) (next_machine m event)
 event_keeps p n m event whole = choice_keeps p n m event.0 event.1 (slice_get m.actors event.0) whole refl

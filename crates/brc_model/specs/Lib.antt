@@ -12,3 +12,4 @@ pub mod Events
 pub mod Guarantee
 pub mod World
 pub mod Within
+pub mod Progress

@@ -13,7 +13,9 @@ pub enum Status {
 #[derive(Clone, Copy, Debug)]
 pub enum Place {
     /// Before its first call, between two calls or after the last, with so many calls still to make.
-    Standing { left: u32 },
+    Standing {
+        left: u32,
+    },
     /// Before the instruction `at` of a call, with so many calls to make after this one; a variable names a row or none.
     Inside {
         left: u32,

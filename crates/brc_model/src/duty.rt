@@ -25,7 +25,10 @@ pub enum Reason {
 #[derive(Clone, Copy, Debug)]
 pub enum Duty {
     /// A new reference for the holder: the local word is looked at.
-    RetainLoad { row: u32, holding: Holding },
+    RetainLoad {
+        row: u32,
+        holding: Holding,
+    },
     /// The owner counts it in the local word.
     RetainStore {
         row: u32,
@@ -33,15 +36,29 @@ pub enum Duty {
         word: u64,
     },
     /// It is counted in the shared word.
-    RetainAdd { row: u32, holding: Holding },
+    RetainAdd {
+        row: u32,
+        holding: Holding,
+    },
     /// The holder gives a reference up: the local word is looked at.
-    ReleaseLoad { row: u32, holding: Holding },
+    ReleaseLoad {
+        row: u32,
+        holding: Holding,
+    },
     /// The owner counts it down in the local word.
-    ReleaseStore { row: u32, word: u64 },
+    ReleaseStore {
+        row: u32,
+        word: u64,
+    },
     /// No local reference is left: the shared word is looked at.
-    DecideAtZero { row: u32 },
+    DecideAtZero {
+        row: u32,
+    },
     /// A reference is given up by the shared word, which is looked at.
-    SharedLoad { row: u32, reason: Reason },
+    SharedLoad {
+        row: u32,
+        reason: Reason,
+    },
     /// The shared word is exchanged for one with a reference less, if it is still as it was found.
     SharedExchange {
         row: u32,
@@ -49,33 +66,67 @@ pub enum Duty {
         word: u64,
     },
     /// The object is put into its owner's queue: its mark is set.
-    SetMark { row: u32 },
+    SetMark {
+        row: u32,
+    },
     /// Whether the owner still runs is looked at.
-    Look { row: u32 },
+    Look {
+        row: u32,
+    },
     /// The mark is taken, for the owner runs no longer.
-    TakeMark { row: u32 },
+    TakeMark {
+        row: u32,
+    },
     /// The local word is swapped for that of nobody.
-    MergeSwap { row: u32, reason: Reason },
+    MergeSwap {
+        row: u32,
+        reason: Reason,
+    },
     /// The shared word is looked at, with so many local references to be added.
-    MergeLoad { row: u32, carried: u32 },
+    MergeLoad {
+        row: u32,
+        carried: u32,
+    },
     /// The shared word is exchanged for the merged one, if it is still as it was found.
-    MergeExchange { row: u32, carried: u32, word: u64 },
+    MergeExchange {
+        row: u32,
+        carried: u32,
+        word: u64,
+    },
     /// The object dies: it is put in front of the thread's dying chain.
-    Die { row: u32 },
+    Die {
+        row: u32,
+    },
     /// The first of the dying chain is taken from it.
     Settle,
     /// It is looked at what the dying object is.
-    SettleKind { row: u32 },
+    SettleKind {
+        row: u32,
+    },
     /// The dying list's cell is emptied.
-    SettleCell { row: u32, cell: u32, cells: u32 },
+    SettleCell {
+        row: u32,
+        cell: u32,
+        cells: u32,
+    },
     /// The dying object is closed.
-    SettleEnd { row: u32 },
+    SettleEnd {
+        row: u32,
+    },
     /// The thread says that it leaves; it has so many marks to look through from the row on.
-    Leave { row: u32, rows: u32 },
+    Leave {
+        row: u32,
+        rows: u32,
+    },
     /// The row's mark is taken, with so many to look through from it on.
-    Scan { row: u32, rows: u32 },
+    Scan {
+        row: u32,
+        rows: u32,
+    },
     /// The thread says that it is gone.
     Finish,
     /// The mark of a row of the thread's own is taken, while it runs.
-    ClaimMark { row: u32 },
+    ClaimMark {
+        row: u32,
+    },
 }

@@ -11,6 +11,7 @@ ghost use Rattle.brc_model.specs.declared.address.Address.TheVariants.{Mark};
 ghost use Rattle.brc_model.specs.declared.actor.Status.TheVariants.{Gone};
 ghost use Rattle.brc_model.specs.Machine.{Actor, Machine, may_claim, next_machine};
 ghost use Rattle.brc_model.specs.World.{World, world_of, machine_of, first_world, step, IsReachable};
+ghost use Rattle.brc_model.specs.Progress.{Always, AtEachEvent, StatesRise, OnlyOwnersCount, OwnersStay, ClosedStays, ClosesAnew, ImmortalsStay, ClosedOnce, GatesTell, BornAreUsed};
 
 /// An accepted module is safe, for every number of workers and rows, every list of calls and every list of steps.
 pub fn accepted_is_safe()
@@ -41,4 +42,49 @@ pub fn steps_move()
     ensures misses { (p : Module) (w : World) (t : ℕ) (a : Actor) (row : ℕ) → IsReachable p w → slice_get w.actors t ≡ Some a → may_claim (machine_of w) t a row ≡ true → w.memory (Mark row) ≡ 0 → step w t (Claim row) ≡ w }
     ensures stays { (w : World) (t : ℕ) (a : Actor) (row : ℕ) → slice_get w.actors t ≡ Some a → may_claim (machine_of w) t a row ≡ false → step w t (Claim row) ≡ w }
     ensures gone { (w : World) (t : ℕ) (a : Actor) (row : ℕ) → slice_get w.actors t ≡ Some a → a.status ≡ Gone → (step w t Ok ≡ w) × (step w t Fault ≡ w) × (step w t (Claim row) ≡ w) }
+{}
+
+/// A row's state never falls: from default by queued to merged, and never back.
+pub fn states_only_rise()
+    ensures { (m : Module) → IsModule m → IsAcceptable m → AtEachEvent StatesRise m }
+{}
+
+/// While its owner runs, a row's local word is changed by the owner's events alone.
+pub fn only_a_running_owner_counts()
+    ensures { (m : Module) → IsModule m → IsAcceptable m → AtEachEvent OnlyOwnersCount m }
+{}
+
+/// A row keeps its owner, or nobody owns it any more.
+pub fn nobody_takes_a_row_over()
+    ensures { (m : Module) → IsModule m → IsAcceptable m → AtEachEvent OwnersStay m }
+{}
+
+/// The words of an immortal row stay as they are: none's, for no other row is immortal.
+pub fn immortal_words_stay()
+    ensures { (m : Module) → IsModule m → IsAcceptable m → AtEachEvent ImmortalsStay m }
+{}
+
+/// What is closed stays closed.
+pub fn closed_rows_stay_closed()
+    ensures { (m : Module) → IsModule m → IsAcceptable m → AtEachEvent ClosedStays m }
+{}
+
+/// An event finalises nothing, or one row that wasn't finalised before.
+pub fn an_event_closes_one_row_anew()
+    ensures { (m : Module) → IsModule m → IsAcceptable m → AtEachEvent ClosesAnew m }
+{}
+
+/// No row is finalised twice, over all events.
+pub fn a_row_is_finalised_once()
+    ensures { (m : Module) → IsModule m → IsAcceptable m → Always ClosedOnce m }
+{}
+
+/// A row's gate says that it is closed, just where it was finalised.
+pub fn gates_tell_what_is_closed()
+    ensures { (m : Module) → IsModule m → IsAcceptable m → Always GatesTell m }
+{}
+
+/// Each row that is born is among the used rows of its thread's block.
+pub fn born_rows_are_used()
+    ensures { (m : Module) → IsModule m → IsAcceptable m → Always BornAreUsed m }
 {}
