@@ -13,12 +13,14 @@ use Rattle.brc_lang.specs.Fault.{words, is_line_feed, line_count}
 use Rattle.brc_lang.proofs.Cuts.{first_part, one_part, parts_some, lacks_all}
 use Rattle.brc_lang.proofs.Lines.{line_at, line_count-append, line_count_one}
 use Rattle.brc_lang.proofs.Instructions.{chosen}
+use Rattle.brc_model.specs.declared.thread.Choice.{Choice}
+use Rattle.brc_model.specs.declared.thread.Choice.TheVariants as choices
 use Rattle.brc_world.specs.declared.beginning.Beginning.{Beginning}
 use Rattle.brc_world.specs.declared.beginning.Beginning.TheVariants.{Opened, Staffed, Planned}
 use Rattle.brc_world.specs.declared.schedule.PlannedCall.{PlannedCall}
 use Rattle.brc_world.specs.declared.schedule.Schedule.{Schedule}
 use Rattle.brc_world.specs.declared.schedule.Steps.{Steps}
-use Rattle.brc_world.specs.ScheduleText.{spaced, line_of, size_words, call_words, choice_word, step_words, first_line, workers_line, rows_line, calls_from, steps_text, text, IsPlannedCall, AreSteps}
+use Rattle.brc_world.specs.ScheduleText.{spaced, line_of, size_words, call_words, words_of, step_words, first_line, workers_line, rows_line, calls_from, steps_text, text, IsPlannedCall, AreSteps}
 use Rattle.brc_world.specs.ScheduleFault.{next_of, is_whole, fault_in, fault_of, beginning, IsPlan, IsBeginning}
 use Rattle.brc_world.proofs.ScheduleWords.{IsPlain, size_again, call_again, steps_again, size_plain, call_plain, steps_plain, line_words, line_plain}
 
@@ -111,8 +113,22 @@ one_line w ws plain = line_count_one (spaced (w ∷ ws)) (line_plain w ws plain)
 abbrev call_operands : ℕ → PlannedCall → List (List ℕ)
 call_operands worker call = decimal worker ∷ call.name ∷ decimal call.times ∷ []
 
-abbrev step_operands : Steps → List (List ℕ)
-step_operands steps = decimal steps.thread ∷ choice_word steps.choice ∷ decimal steps.times ∷ []
+abbrev step_operands : ℕ → List ℕ → ℕ → List (List ℕ)
+step_operands thread choice times = decimal thread ∷ choice ∷ decimal times ∷ []
+
+abbrev claim_operands : ℕ → ℕ → List (List ℕ)
+claim_operands thread row = decimal thread ∷ decimal row ∷ []
+
+one_of_steps : (thread times : ℕ) (c : Choice) → AllByRecursion IsPlain (words_of thread times c) → line_count (line_of (words_of thread times c)) ≡ 1
+one_of_steps thread times choices.Ok plain = one_line (codes "step") (step_operands thread (codes "ok") times) plain
+one_of_steps thread times choices.Fault plain = one_line (codes "step") (step_operands thread (codes "fault") times) plain
+one_of_steps thread times (choices.Claim row) plain = one_line (codes "claim") (claim_operands thread row) plain
+
+steps_line_passes : (n : ℕ) (b c : Beginning) (thread times : ℕ) (choice : Choice) (rest : List ℕ) → AllByRecursion IsPlain (words_of thread times choice) → next_of b (words_of thread times choice) ≡ Ok c
+    → read_rest n b (line_of (words_of thread times choice) ++ rest) ≡ read_rest (n + 1) c rest
+steps_line_passes n b c thread times choices.Ok rest plain next = line_passes n b c (codes "step") (step_operands thread (codes "ok") times) rest plain next
+steps_line_passes n b c thread times choices.Fault rest plain next = line_passes n b c (codes "step") (step_operands thread (codes "fault") times) rest plain next
+steps_line_passes n b c thread times (choices.Claim row) rest plain next = line_passes n b c (codes "claim") (claim_operands thread row) rest plain next
 
 abbrev plan : ℕ → ℕ → List PlannedCall → List Steps → Schedule
 plan workers rows calls steps = record { workers = workers; rows = rows; calls = calls; steps = steps }
@@ -148,9 +164,9 @@ steps_pass n workers rows calls front (x ∷ steps) rest few fits whole =
     rw (le-ltb (length calls) workers all, steps_again workers x small fits.0) refl in
     let others = steps_pass (n + 1) workers rows calls (front ++ x ∷ []) steps rest few fits.1 (λ _. all) in
     let plain = steps_plain workers x small fits.0 in
-    let one : line_count (line_of (step_words x)) ≡ 1 = one_line (codes "step") (step_operands x) plain in
+    let one : line_count (line_of (step_words x)) ≡ 1 = one_of_steps x.thread x.times x.choice plain in
     ap (read_rest n (Planned (plan workers rows calls front))) (append_assoc (line_of (step_words x)) below rest)
-    ∙ line_passes n (Planned (plan workers rows calls front)) (Planned (plan workers rows calls (front ++ x ∷ []))) (codes "step") (step_operands x) (below ++ rest) plain next
+    ∙ steps_line_passes n (Planned (plan workers rows calls front)) (Planned (plan workers rows calls (front ++ x ∷ []))) x.thread x.times x.choice (below ++ rest) plain next
     ∙ (rw (append_assoc front (x ∷ []) steps) at others)
     ∙ ap (λ (k : ℕ). read_rest k (Planned (plan workers rows calls (front ++ x ∷ steps))) rest) (omega (arith, line_count-append (line_of (step_words x)) below, one))
 

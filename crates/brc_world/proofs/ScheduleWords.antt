@@ -1,5 +1,5 @@
 -- The words of a schedule's lines: what is read is spelled so, and what is spelled is read again.
-use Rattle.std.proofs.Common.{◌≡◌, ℕ, ◌^◌, ◌<◌, ◌≤◌, true, false, cond, leb, List, [], ◌∷◌, length, Result, Ok, Err, refl, sym, ap, subst, ◌∙◌, arith, inl, inr}
+use Rattle.std.proofs.Common.{◌≡◌, ℕ, ◌^◌, ◌<◌, ◌≤◌, true, false, cond, leb, ◌⊎◌, List, [], ◌∷◌, length, Result, Ok, Err, refl, sym, ap, subst, ◌∙◌, arith, inl, inr}
 use Rattle.std.specs.Prelude.{codes}
 use Rattle.std.specs.List.{list_any, AllByRecursion}
 use Rattle.std.specs.Fmt.{decimal}
@@ -18,7 +18,7 @@ use Rattle.brc_model.specs.declared.thread.Choice.{Choice}
 use Rattle.brc_model.specs.declared.thread.Choice.TheVariants as choices
 use Rattle.brc_world.specs.declared.schedule.PlannedCall.{PlannedCall}
 use Rattle.brc_world.specs.declared.schedule.Steps.{Steps}
-use Rattle.brc_world.specs.ScheduleText.{spaced, size_words, call_words, choice_word, step_words, IsPlannedCall, AreSteps}
+use Rattle.brc_world.specs.ScheduleText.{spaced, size_words, call_words, words_of, step_words, IsPlannedCall, IsChoiceOf, AreSteps}
 use Rattle.brc_world.specs.ScheduleFault.{number_between, size_in, name_in, call_in, choice_in, steps_in}
 
 -- ---- how many words there are
@@ -45,23 +45,22 @@ between_spelled low high word n small e =
 between_again : (low high n : ℕ) → low ≤ n → n ≤ high → high < 2 ^ 64 → number_between low high (decimal n) ≡ Ok n
 between_again low high n from to small = rw (number_again high n to (omega arith), le-leb low n from) refl
 
-choice_spelled : (word : List ℕ) (c : Choice) → choice_in word ≡ Ok c → word ≡ choice_word c
+choice_spelled : (word : List ℕ) (c : Choice) → choice_in word ≡ Ok c → ((word ≡ codes "ok") × (choices.Ok ≡ c)) ⊎ ((word ≡ codes "fault") × (choices.Fault ≡ c))
 choice_spelled word c e = elim (chosen (bytes_eq word (codes "ok")) (Ok choices.Ok) _ (Ok c) e) [
-  | inl h ↦ let is : choices.Ok ≡ c = (let s = h.1 in cc) in same_text word (codes "ok") h.0 ∙ ap choice_word is
+  | inl h ↦ inl (same_text word (codes "ok") h.0, let s = h.1 in cc)
   | inr other ↦ elim (chosen (bytes_eq word (codes "fault")) (Ok choices.Fault) (Err UnknownWord) (Ok c) other.1) [
-    | inl h ↦ let is : choices.Fault ≡ c = (let s = h.1 in cc) in same_text word (codes "fault") h.0 ∙ ap choice_word is
+    | inl h ↦ inr (same_text word (codes "fault") h.0, let s = h.1 in cc)
     | inr never ↦ let n = never.1 in absurd cc
   ]
 ]
-
-choice_again : (c : Choice) → choice_in (choice_word c) ≡ Ok c
-choice_again choices.Ok = refl
-choice_again choices.Fault = refl
 
 -- ---- from words to what they say
 
 four_same : (a b c d e f g h : List ℕ) → a ≡ e → b ≡ f → c ≡ g → d ≡ h → (a ∷ b ∷ c ∷ d ∷ []) ≡ (e ∷ f ∷ g ∷ h ∷ [])
 four_same a b c d e f g h p q r s = cc
+
+three_same : (a b c d e f : List ℕ) → a ≡ d → b ≡ e → c ≡ f → (a ∷ b ∷ c ∷ []) ≡ (d ∷ e ∷ f ∷ [])
+three_same a b c d e f p q r = cc
 
 abbrev pub SizeSpelled : List ℕ → ℕ → List (List ℕ) → ℕ → Type 0
 SizeSpelled name most ws n = (ws ≡ size_words name n) × (0 < n) × (n ≤ most)
@@ -112,23 +111,43 @@ StepsSpelled workers ws steps = (ws ≡ step_words steps) × AreSteps workers st
 steps_is : (x y : Steps) → ◌≡◌ {A = Result Steps FaultCode} (Ok x) (Ok y) → x ≡ y
 steps_is x y e = cc
 
+-- a line of this choice, whose word is given
+chose_spelled : (workers t k : ℕ) (choice : List ℕ) (c : Choice) → t ≤ workers → 0 < k → k ≤ 1000000 → choice_in choice ≡ Ok c
+    → StepsSpelled workers (codes "step" ∷ decimal t ∷ choice ∷ decimal k ∷ []) (record { thread = t; choice = c; times = k })
+chose_spelled workers t k choice c thread some most e =
+    let Spelled : Choice → Type 0 = λ d. StepsSpelled workers (codes "step" ∷ decimal t ∷ choice ∷ decimal k ∷ []) (record { thread = t; choice = d; times = k }) in
+    elim (choice_spelled choice c e) [
+      | inl h ↦ subst Spelled h.1 (rw h.0 refl, record { thread = thread; some = some; most = most; choice = tt })
+      | inr h ↦ subst Spelled h.1 (rw h.0 refl, record { thread = thread; some = some; most = most; choice = tt })
+    ]
+
 pub steps_spelled : (workers : ℕ) (ws : List (List ℕ)) (steps : Steps) → workers < 2 ^ 64 → steps_in workers ws ≡ Ok steps → StepsSpelled workers ws steps
 steps_spelled workers [] steps small e = absurd cc
 steps_spelled workers (w ∷ []) steps small e = absurd cc
 steps_spelled workers (w ∷ thread ∷ []) steps small e = absurd cc
-steps_spelled workers (w ∷ thread ∷ choice ∷ []) steps small e = absurd cc
+steps_spelled workers (w ∷ thread ∷ row ∷ []) steps small e = elim (chosen (bytes_eq w (codes "claim")) _ (Err UnknownWord) (Ok steps) e) [
+  | inl h ↦
+      let t = bind_ok (number_between 0 workers thread) _ steps h.1 in
+      let r = bind_ok (number_between 0 32769 row) _ steps t.2 in
+      let numbered = between_spelled 0 workers thread t.0 small t.1 in
+      let rowed = between_spelled 0 32769 row r.0 (omega arith) r.1 in
+      let made : Steps = record { thread = t.0; choice = choices.Claim r.0; times = 1 } in
+      let fits : AreSteps workers made = record { thread = numbered.2; some = omega arith; most = omega arith; choice = (refl, rowed.2) } in
+      let same : (w ∷ thread ∷ row ∷ []) ≡ step_words made = three_same w thread row (codes "claim") (decimal t.0) (decimal r.0) (same_text w (codes "claim") h.0) numbered.0 rowed.0 in
+      subst (StepsSpelled workers (w ∷ thread ∷ row ∷ [])) (steps_is made steps r.2) (same, fits)
+  | inr never ↦ let f = never.1 in absurd cc
+]
 steps_spelled workers (w ∷ thread ∷ choice ∷ times ∷ []) steps small e = elim (chosen (bytes_eq w (codes "step")) _ (Err UnknownWord) (Ok steps) e) [
   | inl h ↦
       let t = bind_ok (number_between 0 workers thread) _ steps h.1 in
       let c = bind_ok (choice_in choice) _ steps t.2 in
       let k = bind_ok (number_between 1 1000000 times) _ steps c.2 in
       let numbered = between_spelled 0 workers thread t.0 small t.1 in
-      let chose = choice_spelled choice c.0 c.1 in
       let timed = between_spelled 1 1000000 times k.0 (omega arith) k.1 in
       let made : Steps = record { thread = t.0; choice = c.0; times = k.0 } in
-      let fits : AreSteps workers made = record { thread = numbered.2; some = omega (arith, timed.1); most = timed.2 } in
-      let same : (w ∷ thread ∷ choice ∷ times ∷ []) ≡ step_words made = four_same w thread choice times (codes "step") (decimal t.0) (choice_word c.0) (decimal k.0) (same_text w (codes "step") h.0) numbered.0 chose timed.0 in
-      subst (StepsSpelled workers (w ∷ thread ∷ choice ∷ times ∷ [])) (steps_is made steps k.2) (same, fits)
+      let same : (w ∷ thread ∷ choice ∷ times ∷ []) ≡ codes "step" ∷ decimal t.0 ∷ choice ∷ decimal k.0 ∷ [] = four_same w thread choice times (codes "step") (decimal t.0) choice (decimal k.0) (same_text w (codes "step") h.0) numbered.0 refl timed.0 in
+      let spelled = chose_spelled workers t.0 k.0 choice c.0 numbered.2 (omega (arith, timed.1)) timed.2 c.1 in
+      subst (StepsSpelled workers (w ∷ thread ∷ choice ∷ times ∷ [])) (steps_is made steps k.2) (same ∙ spelled.0, spelled.1)
   | inr never ↦ let f = never.1 in absurd cc
 ]
 steps_spelled workers (w ∷ thread ∷ choice ∷ times ∷ x ∷ ws) steps small e = absurd cc
@@ -143,10 +162,14 @@ call_again worker call small fits =
     let some = fits.some in
     rw (between_again worker worker worker (omega arith) (omega arith) small, fits.name, between_again 1 1000000 call.times (omega arith) fits.most (omega arith)) refl
 
+words_again : (workers thread times : ℕ) (c : Choice) → workers < 2 ^ 64 → thread ≤ workers → 0 < times → times ≤ 1000000 → IsChoiceOf times c
+    → steps_in workers (words_of thread times c) ≡ Ok (record { thread = thread; choice = c; times = times })
+words_again workers thread times choices.Ok small who some most fits = rw (between_again 0 workers thread (omega arith) who small, between_again 1 1000000 times (omega arith) most (omega arith)) refl
+words_again workers thread times choices.Fault small who some most fits = rw (between_again 0 workers thread (omega arith) who small, between_again 1 1000000 times (omega arith) most (omega arith)) refl
+words_again workers thread times (choices.Claim row) small who some most fits = rw (between_again 0 workers thread (omega arith) who small, between_again 0 32769 row (omega arith) fits.1 (omega arith), fits.0) refl
+
 pub steps_again : (workers : ℕ) (steps : Steps) → workers < 2 ^ 64 → AreSteps workers steps → steps_in workers (step_words steps) ≡ Ok steps
-steps_again workers steps small fits =
-    let some = fits.some in
-    rw (between_again 0 workers steps.thread (omega arith) fits.thread small, choice_again steps.choice, between_again 1 1000000 steps.times (omega arith) fits.most (omega arith)) refl
+steps_again workers steps small fits = words_again workers steps.thread steps.times steps.choice small fits.thread fits.some fits.most fits.choice
 
 -- ---- a line of such words
 
@@ -164,14 +187,14 @@ pub call_plain : (worker : ℕ) (call : PlannedCall) → worker < 2 ^ 64 → IsP
 call_plain worker call small fits =
     let most = fits.most in ((refl, refl), (plain_number worker small, ((name_no_space call.name fits.name, name_plain call.name fits.name), (plain_number call.times (omega arith), tt))))
 
-plain_choice : (c : Choice) → IsPlain (choice_word c)
-plain_choice choices.Ok = (refl, refl)
-plain_choice choices.Fault = (refl, refl)
+words_plain : (thread times : ℕ) (c : Choice) → thread < 2 ^ 64 → times ≤ 1000000 → IsChoiceOf times c → AllByRecursion IsPlain (words_of thread times c)
+words_plain thread times choices.Ok small most fits = ((refl, refl), (plain_number thread small, ((refl, refl), (plain_number times (omega arith), tt))))
+words_plain thread times choices.Fault small most fits = ((refl, refl), (plain_number thread small, ((refl, refl), (plain_number times (omega arith), tt))))
+words_plain thread times (choices.Claim row) small most fits = ((refl, refl), (plain_number thread small, (plain_number row (omega (arith, fits.1)), tt)))
 
 pub steps_plain : (workers : ℕ) (steps : Steps) → workers < 2 ^ 64 → AreSteps workers steps → AllByRecursion IsPlain (step_words steps)
 steps_plain workers steps small fits =
-    let thread = fits.thread in
-    let most = fits.most in ((refl, refl), (plain_number steps.thread (omega arith), (plain_choice steps.choice, (plain_number steps.times (omega arith), tt))))
+    let thread = fits.thread in words_plain steps.thread steps.times steps.choice (omega arith) fits.most fits.choice
 
 pub line_words : (w : List ℕ) (ws : List (List ℕ)) → AllByRecursion IsPlain (w ∷ ws) → words (spaced (w ∷ ws)) ≡ w ∷ ws
 line_words w [] plain = one_word w plain.0.0

@@ -46,6 +46,10 @@ steps_in workers (w ∷ thread ∷ choice ∷ times ∷ []) =
     if bytes_eq w (codes "step")
     then (number_between 0 workers thread >>= λ t. choice_in choice >>= λ c. number_between 1 1000000 times >>= λ k. Ok (record { thread = t; choice = c; times = k }))
     else Err UnknownWord
+steps_in workers (w ∷ thread ∷ row ∷ []) =
+    if bytes_eq w (codes "claim")
+    then (number_between 0 workers thread >>= λ t. number_between 0 32769 row >>= λ r. Ok (record { thread = t; choice = choices.Claim r; times = 1 }))
+    else Err UnknownWord
 steps_in workers _ = Err UnknownWord
 
 -- ---- a line after those above it

@@ -24,12 +24,14 @@ size_words name size = name ∷ decimal size ∷ []
 abbrev pub call_words : ℕ → PlannedCall → List (List ℕ)
 call_words worker call = codes "call" ∷ decimal worker ∷ call.name ∷ decimal call.times ∷ []
 
-abbrev pub choice_word : Choice → List ℕ
-choice_word choices.Ok = codes "ok"
-choice_word choices.Fault = codes "fault"
+-- so many steps of a thread, by their choice
+abbrev pub words_of : ℕ → ℕ → Choice → List (List ℕ)
+words_of thread times choices.Ok = codes "step" ∷ decimal thread ∷ codes "ok" ∷ decimal times ∷ []
+words_of thread times choices.Fault = codes "step" ∷ decimal thread ∷ codes "fault" ∷ decimal times ∷ []
+words_of thread times (choices.Claim row) = codes "claim" ∷ decimal thread ∷ decimal row ∷ []
 
 abbrev pub step_words : Steps → List (List ℕ)
-step_words steps = codes "step" ∷ decimal steps.thread ∷ choice_word steps.choice ∷ decimal steps.times ∷ []
+step_words steps = words_of steps.thread steps.times steps.choice
 
 abbrev pub first_line : List ℕ
 first_line = line (codes "schedule 1")
@@ -58,11 +60,18 @@ pub record IsPlannedCall (call : PlannedCall) : Type 0 where
   pub some : 0 < call.times
   pub most : call.times ≤ 1000000
 
+-- a claim is one step, since its line says no number of times, of a row of the largest world: two rows, and 1024 for each of 32 workers
+abbrev pub IsChoiceOf : ℕ → Choice → Type 0
+IsChoiceOf times choices.Ok = Unit {0}
+IsChoiceOf times choices.Fault = Unit {0}
+IsChoiceOf times (choices.Claim row) = (times ≡ 1) × (row ≤ 32769)
+
 -- steps of main or of a worker
 pub record AreSteps (workers : ℕ) (steps : Steps) : Type 0 where
   pub thread : steps.thread ≤ workers
   pub some : 0 < steps.times
   pub most : steps.times ≤ 1000000
+  pub choice : IsChoiceOf steps.times steps.choice
 
 -- 1 to 32 workers, 1 to 1024 rows
 pub record AreSizes (workers rows : ℕ) : Type 0 where

@@ -10,7 +10,7 @@ pub struct Schedule {
     pub rows: u16,
     /// A call for each worker, in turn.
     pub calls: Sequence<PlannedCall>,
-    /// The steps, in order.
+    /// The steps and claims, in order.
     pub steps: Sequence<Steps>,
 }
 
@@ -26,7 +26,8 @@ pub struct PlannedCall {
 #[derive(Clone, Copy, Debug)]
 pub struct Steps {
     pub thread: u8,
+    /// The row of a claim is 0 to 32769, as far as the largest world's rows go.
     pub choice: Choice,
-    /// 1 to 1,000,000.
+    /// 1 to 1,000,000; of a claim 1.
     pub times: u32,
 }

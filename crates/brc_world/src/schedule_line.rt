@@ -11,6 +11,9 @@ use brc_model::Choice;
 /// The most calls or steps that one line asks for.
 const MOST_TIMES: u32 = 1_000_000;
 
+/// The last row of the largest world: two rows, and then 1024 for each of 32 workers.
+const LAST_ROW: u32 = 32_769;
+
 /// The number behind this name, from 1 on.
 pub fn size(name: &[u8], most: u32, text: &[u8]) -> Result<u32, FaultCode>
     ensures { result ≡ size_in name.now most (words text.now) }
@@ -45,24 +48,51 @@ pub fn planned_call(worker: u32, text: &[u8]) -> Result<PlannedCall, FaultCode>
     })
 }
 
-/// Steps of main or of one of the workers.
+/// Steps of main or of one of the workers, or a claim of one of them.
 pub fn steps(workers: u8, text: &[u8]) -> Result<Steps, FaultCode>
     ensures { result ≡ steps_in workers (words text.now) }
 {
+    if let Some((word, thread, row)) = three_words(text) {
+        return claim(workers, word, thread, row);
+    }
     let Some((word, thread, choice, times)) = four_words(text) else {
         return Err(FaultCode::UnknownWord);
     };
     if !is_word(word, b"step") {
         return Err(FaultCode::UnknownWord);
     }
-    let thread = number_between(0, u32::from(workers), thread)?;
+    let thread = thread_of(workers, thread)?;
     let choice = choice_of(choice)?;
     let times = number_between(1, MOST_TIMES, times)?;
     Ok(Steps {
-        thread: thread as u8,
+        thread,
         choice,
         times,
     })
+}
+
+/// One step, which looks whether the object of the row waits.
+fn claim(workers: u8, word: &[u8], thread: &[u8], row: &[u8]) -> Result<Steps, FaultCode>
+    ensures { result ≡ steps_in workers (word.now ∷ thread.now ∷ row.now ∷ []) }
+{
+    if !is_word(word, b"claim") {
+        return Err(FaultCode::UnknownWord);
+    }
+    let thread = thread_of(workers, thread)?;
+    let row = number_between(0, LAST_ROW, row)?;
+    Ok(Steps {
+        thread,
+        choice: Choice::Claim { row },
+        times: 1,
+    })
+}
+
+/// Main or a worker.
+fn thread_of(workers: u8, thread: &[u8]) -> Result<u8, FaultCode>
+    ensures { result ≡ number_between 0 workers thread.now }
+{
+    let thread = number_between(0, u32::from(workers), thread)?;
+    Ok(thread as u8)
 }
 
 fn choice_of(word: &[u8]) -> Result<Choice, FaultCode>
@@ -100,6 +130,15 @@ fn two_words(line: &[u8]) -> Option<(&[u8], &[u8])>
     }
 }
 
+/// The words of a line of three.
+fn three_words(line: &[u8]) -> Option<(&[u8], &[u8], &[u8])>
+    ensures { MatchOption result (length (words line.now) ≢ 3) (λ w. words line.now ≡ w.0.now ∷ w.1.now ∷ w.2.now ∷ []) }
+{
+    let (first, rest) = split_word(line);
+    let (second, third) = two_words(rest?)?;
+    Some((first, second, third))
+}
+
 type FourWords<'a> = (&'a [u8], &'a [u8], &'a [u8], &'a [u8]);
 
 /// The words of a line of four.
@@ -107,7 +146,6 @@ fn four_words(line: &[u8]) -> Option<FourWords<'_>>
     ensures { MatchOption result (length (words line.now) ≢ 4) (λ w. words line.now ≡ w.0.now ∷ w.1.now ∷ w.2.now ∷ w.3.now ∷ []) }
 {
     let (first, rest) = split_word(line);
-    let (second, rest) = split_word(rest?);
-    let (third, fourth) = two_words(rest?)?;
+    let (second, third, fourth) = three_words(rest?)?;
     Some((first, second, third, fourth))
 }

@@ -58,6 +58,23 @@ fn reads_steps(rt: HostRuntime) -> Result<(), Fail> {
 }
 
 #[test]
+fn reads_claims(rt: HostRuntime) -> Result<(), Fail> {
+    let mut text = Vec::from_slice(rt.alloc(), TWO_WORKERS)?;
+    text.extend_from_slice(b"claim 0 32769\nstep 1 ok 3\nclaim 2 0\n")?;
+    let schedule = schedule_of(rt.alloc(), &text)?;
+    assert_eq!(rt; schedule.steps.len(), 3);
+    let expected = [
+        (0, Choice::Claim { row: 32_769 }, 1),
+        (1, Choice::Ok, 3),
+        (2, Choice::Claim { row: 0 }, 1),
+    ];
+    for (steps, expected) in schedule.steps.as_slice().iter().zip(expected) {
+        assert_eq!(rt; (steps.thread, steps.choice, steps.times), expected);
+    }
+    Ok(())
+}
+
+#[test]
 fn refuses_sizes_and_calls(rt: HostRuntime) {
     let table: [(&[u8], u64, FaultCode); 18] = [
         (b"", 1, FaultCode::FirstLine),
@@ -106,7 +123,7 @@ fn refuses_sizes_and_calls(rt: HostRuntime) {
 
 #[test]
 fn refuses_lines_below_the_calls(rt: HostRuntime) -> Result<(), Fail> {
-    let table: [(&[u8], u64, FaultCode); 13] = [
+    let table: [(&[u8], u64, FaultCode); 12] = [
         (b"step 3 ok 1\n", 6, FaultCode::Number),
         (b"step 1 maybe 1\n", 6, FaultCode::UnknownWord),
         (b"step x maybe 1\n", 6, FaultCode::Number),
@@ -115,7 +132,6 @@ fn refuses_lines_below_the_calls(rt: HostRuntime) -> Result<(), Fail> {
         (b"step 1 ok\n", 6, FaultCode::UnknownWord),
         (b"step 1 ok 1", 6, FaultCode::CutOff),
         (b"\n", 6, FaultCode::UnknownWord),
-        (b"claim 0 1\n", 6, FaultCode::UnknownWord),
         (b"step 1 ok 1\ncall 1 f 1\n", 7, FaultCode::UnknownWord),
         (b"step  ok 1\n", 6, FaultCode::Number),
         (b"step 1  1\n", 6, FaultCode::UnknownWord),
@@ -126,6 +142,34 @@ fn refuses_lines_below_the_calls(rt: HostRuntime) -> Result<(), Fail> {
         text.extend_from_slice(below)?;
         assert_eq!(rt; answer(rt.alloc(), &text), (line, Some(code)), "{below:?}");
     }
+    Ok(())
+}
+
+#[test]
+fn refuses_claims(rt: HostRuntime) -> Result<(), Fail> {
+    let table: [(&[u8], u64, FaultCode); 10] = [
+        (b"claim 0 32770\n", 6, FaultCode::Number),
+        (b"claim 3 1\n", 6, FaultCode::Number),
+        (b"claim x 1\n", 6, FaultCode::Number),
+        (b"claim 0 01\n", 6, FaultCode::Number),
+        (b"claim 0 \n", 6, FaultCode::Number),
+        (b"claim 0\n", 6, FaultCode::UnknownWord),
+        (b"claim 0 1 1\n", 6, FaultCode::UnknownWord),
+        (b"claim 0 ok 1\n", 6, FaultCode::UnknownWord),
+        (b"step 0 1\n", 6, FaultCode::UnknownWord),
+        (b"claim 0 1", 6, FaultCode::CutOff),
+    ];
+    for (below, line, code) in table {
+        let mut text = Vec::from_slice(rt.alloc(), TWO_WORKERS)?;
+        text.extend_from_slice(below)?;
+        assert_eq!(rt; answer(rt.alloc(), &text), (line, Some(code)), "{below:?}");
+    }
+    // No claim stands above the last call.
+    let early = b"schedule 1\nworkers 2\nrows 4\ncall 1 f 1\nclaim 0 1\n";
+    assert_eq!(rt;
+        answer(rt.alloc(), early),
+        (5, Some(FaultCode::UnknownWord))
+    );
     Ok(())
 }
 
