@@ -197,7 +197,7 @@ chosen_emptied : (m : Machine) (t : â„•) (choice : Choice) (o : Option Actor) â†
 chosen_emptied m t choice None are found = are
 chosen_emptied m t Ok (Some a) are found = acts_emptied m t a a.status are found
 chosen_emptied m t Fault (Some a) are found = acts_emptied m t a a.status are found
-chosen_emptied m t (Claim row) (Some a) are found = if_claims_emptied m t a row (may_claim m t a row) are found
+chosen_emptied m t (Claim row) (Some a) are found = if_claims_emptied m t a row (may_claim m.rows t a row) are found
 
 -- ---- every machine that steps lead to
 

@@ -100,7 +100,7 @@ choice_ranges : (p : Module) (n : ℕ) (m : Machine) (t : ℕ) (choice : Choice)
 choice_ranges p n m t choice None whole ranges found = ranges
 choice_ranges p n m t Ok (Some a) whole ranges found = status_ranges p n m t a a.status whole.rule ranges found refl
 choice_ranges p n m t Fault (Some a) whole ranges found = status_ranges p n m t a a.status whole.rule ranges found refl
-choice_ranges p n m t (Claim row) (Some a) whole ranges found = claim_ranges p n m t a row (may_claim m t a row) whole ranges found (λ e. claim_small p n m t a row a.place whole found e)
+choice_ranges p n m t (Claim row) (Some a) whole ranges found = claim_ranges p n m t a row (may_claim m.rows t a row) whole ranges found (λ e. claim_small p n m t a row a.place whole found e)
 
 -- both invariants, of each machine that steps lead to
 pub record Bounded (p : Module) (n : ℕ) (m : Machine) : Type 0 where

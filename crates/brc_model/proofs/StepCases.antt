@@ -80,7 +80,7 @@ choice_shows : {Q : ℕ → Machine → Machine → Type 0} {p : Module} {n : �
 choice_shows {Q = Q} {p = p} {n = n} shows m t choice None whole found = shows.stays t m whole
 choice_shows {Q = Q} {p = p} {n = n} shows m t Ok (Some a) whole found = status_shows shows m t a a.status whole found refl
 choice_shows {Q = Q} {p = p} {n = n} shows m t Fault (Some a) whole found = status_shows shows m t a a.status whole found refl
-choice_shows {Q = Q} {p = p} {n = n} shows m t (Claim row) (Some a) whole found = claim_shows shows m t a row (may_claim m t a row) whole (λ e. claims_so p n m t a row a.place whole found refl e)
+choice_shows {Q = Q} {p = p} {n = n} shows m t (Claim row) (Some a) whole found = claim_shows shows m t a row (may_claim m.rows t a row) whole (λ e. claims_so p n m t a row a.place whole found refl e)
 
 -- so it holds of each event
 pub event_shows : {Q : ℕ → Machine → Machine → Type 0} {p : Module} {n : ℕ} → ShowsSteps Q p n → (m : Machine) (event : ℕ × Choice) → Whole p n m → Q event.0 m (next_machine m event)

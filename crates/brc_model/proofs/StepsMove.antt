@@ -117,12 +117,12 @@ going_on_moves p w t a here found alive =
 
 -- ---- claims
 
-claim_is : (w : World) (t : ℕ) (a : Actor) (row : ℕ) (may : Bool) → slice_get w.actors t ≡ Some a → may_claim (machine_of w) t a row ≡ may
+claim_is : (w : World) (t : ℕ) (a : Actor) (row : ℕ) (may : Bool) → slice_get w.actors t ≡ Some a → may_claim w.rows t a row ≡ may
     → step w t (Claim row) ≡ world_of (cond may (done_by (machine_of w) t a (ClaimMark row) []) (machine_of w))
 claim_is w t a row may found is =
     ap (λ (o : Option Actor). world_of (chosen (machine_of w) t (Claim row) o)) found ∙ ap (λ (b : Bool). world_of (cond b (done_by (machine_of w) t a (ClaimMark row) []) (machine_of w))) is
 
-pub claim_moves : (w : World) (t : ℕ) (a : Actor) (row : ℕ) → slice_get w.actors t ≡ Some a → may_claim (machine_of w) t a row ≡ true → w.memory (Mark row) ≢ 0 → step w t (Claim row) ≢ w
+pub claim_moves : (w : World) (t : ℕ) (a : Actor) (row : ℕ) → slice_get w.actors t ≡ Some a → may_claim w.rows t a row ≡ true → w.memory (Mark row) ≢ 0 → step w t (Claim row) ≢ w
 claim_moves w t a row found may marked e =
     let done : world_of (done_by (machine_of w) t a (ClaimMark row) []) ≡ w = sym (claim_is w t a row true found may) ∙ e in
     marked (sym (ap (λ (v : World). v.memory (Mark row)) done) ∙ written_here w.memory (Mark row) 0)
@@ -144,13 +144,13 @@ miss_stays w t a row found rest empty none =
     let memory = unmarked_stays w.memory row none in
     λ i. record { functions = w.functions; rows = w.rows; memory = memory i; actors = actors i }
 
-pub claim_misses : (p : Module) (w : World) (t : ℕ) (a : Actor) (row : ℕ) → IsReachable p w → slice_get w.actors t ≡ Some a → may_claim (machine_of w) t a row ≡ true → w.memory (Mark row) ≡ 0 → step w t (Claim row) ≡ w
+pub claim_misses : (p : Module) (w : World) (t : ℕ) (a : Actor) (row : ℕ) → IsReachable p w → slice_get w.actors t ≡ Some a → may_claim w.rows t a row ≡ true → w.memory (Mark row) ≡ 0 → step w t (Claim row) ≡ w
 claim_misses p w t a row here found may none =
     let rest = claimer_rests (machine_of w) t a row may in
     let there : slice_get (machine_after (first_machine p here.rows here.calls) here.events).actors t ≡ Some a = ap (λ (v : World). slice_get v.actors t) (sym here.reached) ∙ found in
     claim_is w t a row true found may ∙ miss_stays w t a row found rest (chain_empty p here.rows here.calls here.events t a there rest) none
 
-pub claim_stays : (w : World) (t : ℕ) (a : Actor) (row : ℕ) → slice_get w.actors t ≡ Some a → may_claim (machine_of w) t a row ≡ false → step w t (Claim row) ≡ w
+pub claim_stays : (w : World) (t : ℕ) (a : Actor) (row : ℕ) → slice_get w.actors t ≡ Some a → may_claim w.rows t a row ≡ false → step w t (Claim row) ≡ w
 claim_stays w t a row found may = claim_is w t a row false found may
 
 -- ---- a thread that is gone

@@ -99,7 +99,7 @@ claims_where m t a row place = elim place [
   | Departing ↦ false
 ]
 
-pub claims_so : (p : Module) (n : ℕ) (m : Machine) (t : ℕ) (a : Actor) (row : ℕ) (place : Place) → Whole p n m → slice_get m.actors t ≡ Some a → a.place ≡ place → may_claim m t a row ≡ true → ClaimsSo p n m t a row
+pub claims_so : (p : Module) (n : ℕ) (m : Machine) (t : ℕ) (a : Actor) (row : ℕ) (place : Place) → Whole p n m → slice_get m.actors t ≡ Some a → a.place ≡ place → may_claim m.rows t a row ≡ true → ClaimsSo p n m t a row
 claims_so p n m t a row (Standing left) whole found place e = claim_now p n m t a left row whole found place (sym (ap (claims_where m t a row) place) ∙ e)
 claims_so p n m t a row (Inside left at variables) whole found place e = absurd (let wrong : false ≡ true = sym (ap (claims_where m t a row) place) ∙ e in cc)
 claims_so p n m t a row Departing whole found place e = absurd (let wrong : false ≡ true = sym (ap (claims_where m t a row) place) ∙ e in cc)
@@ -116,22 +116,22 @@ if_claims p n m t a row true whole claims = claim_keeps p n m t a row whole (cla
 if_claims p n m t a row false whole claims = (refl, whole)
 
 -- a thread claims with nothing else to do
-rests_where : (m : Machine) (t : ℕ) (a : Actor) (row : ℕ) (place : Place) → a.place ≡ place → may_claim m t a row ≡ true → a.agenda ≡ []
+rests_where : (m : Machine) (t : ℕ) (a : Actor) (row : ℕ) (place : Place) → a.place ≡ place → may_claim m.rows t a row ≡ true → a.agenda ≡ []
 rests_where m t a row (Standing left) place e = (claims_at m t a left row (sym (ap (claims_where m t a row) place) ∙ e)).1
 rests_where m t a row (Inside left at variables) place e = absurd (let wrong : false ≡ true = sym (ap (claims_where m t a row) place) ∙ e in cc)
 rests_where m t a row Departing place e = absurd (let wrong : false ≡ true = sym (ap (claims_where m t a row) place) ∙ e in cc)
 
-pub claimer_rests : (m : Machine) (t : ℕ) (a : Actor) (row : ℕ) → may_claim m t a row ≡ true → a.agenda ≡ []
+pub claimer_rests : (m : Machine) (t : ℕ) (a : Actor) (row : ℕ) → may_claim m.rows t a row ≡ true → a.agenda ≡ []
 claimer_rests m t a row e = rests_where m t a row a.place refl e
 
 -- and no thread that is gone claims
-gone_where : (m : Machine) (t : ℕ) (a : Actor) (row : ℕ) (place : Place) → a.place ≡ place → a.status ≡ Gone → may_claim m t a row ≡ false
+gone_where : (m : Machine) (t : ℕ) (a : Actor) (row : ℕ) (place : Place) → a.place ≡ place → a.status ≡ Gone → may_claim m.rows t a row ≡ false
 gone_where m t a row (Standing left) place gone =
     ap (claims_where m t a row) place ∙ ap (λ (s : Status). is_running s && (length a.agenda == 0) && nat_le (first_row m.rows t) row && nat_lt row (first_row m.rows t + a.used)) gone
 gone_where m t a row (Inside left at variables) place gone = ap (claims_where m t a row) place
 gone_where m t a row Departing place gone = ap (claims_where m t a row) place
 
-pub gone_claims_none : (m : Machine) (t : ℕ) (a : Actor) (row : ℕ) → a.status ≡ Gone → may_claim m t a row ≡ false
+pub gone_claims_none : (m : Machine) (t : ℕ) (a : Actor) (row : ℕ) → a.status ≡ Gone → may_claim m.rows t a row ≡ false
 gone_claims_none m t a row gone = gone_where m t a row a.place refl gone
 
 -- ---- every event
@@ -140,7 +140,7 @@ choice_keeps : (p : Module) (n : ℕ) (m : Machine) (t : ℕ) (choice : Choice) 
 choice_keeps p n m t choice None whole found = (refl, whole)
 choice_keeps p n m t Ok (Some a) whole found = status_keeps p n m t a a.status whole found refl
 choice_keeps p n m t Fault (Some a) whole found = status_keeps p n m t a a.status whole found refl
-choice_keeps p n m t (Claim row) (Some a) whole found = if_claims p n m t a row (may_claim m t a row) whole (λ e. claims_so p n m t a row a.place whole found refl e)
+choice_keeps p n m t (Claim row) (Some a) whole found = if_claims p n m t a row (may_claim m.rows t a row) whole (λ e. claims_so p n m t a row a.place whole found refl e)
 
 pub event_keeps : (p : Module) (n : ℕ) (m : Machine) (event : ℕ × Choice) → Whole p n m → KeepsOn p n (is_bad_event m event) (next_machine m event)
 event_keeps p n m event whole = choice_keeps p n m event.0 event.1 (slice_get m.actors event.0) whole refl

@@ -45,7 +45,7 @@ chosen_alike : (m : Machine) (t : ℕ) (choice : Choice) (o : Option Actor) → 
 chosen_alike m t choice None = refl
 chosen_alike m t Ok (Some a) = acts_alike m t a a.status
 chosen_alike m t Fault (Some a) = acts_alike m t a a.status
-chosen_alike m t (Claim row) (Some a) = claims_alike m t a row (may_claim m t a row)
+chosen_alike m t (Claim row) (Some a) = claims_alike m t a row (may_claim m.rows t a row)
 
 pub worlds_follow : (m : Machine) (event : ℕ × Choice) → world_of (next_machine m event) ≡ step (world_of m) event.0 event.1
 worlds_follow m event = chosen_alike m event.0 event.1 (slice_get m.actors event.0)

@@ -56,7 +56,7 @@ abbrev pub is_bad_choice : Machine → ℕ → Choice → Option Actor → Bool
 is_bad_choice m t choice None = false
 is_bad_choice m t Ok (Some a) = is_bad_status m t a a.status
 is_bad_choice m t Fault (Some a) = is_bad_status m t a a.status
-is_bad_choice m t (Claim row) (Some a) = if may_claim m t a row then is_bad_duty m t a (ClaimMark row) else false
+is_bad_choice m t (Claim row) (Some a) = if may_claim m.rows t a row then is_bad_duty m t a (ClaimMark row) else false
 
 abbrev pub is_bad_event : Machine → ℕ × Choice → Bool
 is_bad_event m event = is_bad_choice m event.0 event.1 (slice_get m.actors event.0)

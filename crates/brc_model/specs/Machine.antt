@@ -207,9 +207,9 @@ acts m t a Running = goes_on m t a a.agenda
 acts m t a Leaving = goes_on m t a a.agenda
 
 -- a queue is looked into by a running thread that stands outside its calls, for a used row of its own block
-abbrev pub may_claim : Machine → ℕ → Actor → ℕ → Bool
-may_claim m t a row = elim a.place [
-  | Standing left ↦ is_running a.status && (length a.agenda == 0) && nat_le (first_row m.rows t) row && nat_lt row (first_row m.rows t + a.used)
+abbrev pub may_claim : ℕ → ℕ → Actor → ℕ → Bool
+may_claim rows t a row = elim a.place [
+  | Standing left ↦ is_running a.status && (length a.agenda == 0) && nat_le (first_row rows t) row && nat_lt row (first_row rows t + a.used)
   | Inside left at variables ↦ false
   | Departing ↦ false
 ]
@@ -218,7 +218,7 @@ abbrev pub chosen : Machine → ℕ → Choice → Option Actor → Machine
 chosen m t choice None = m
 chosen m t Ok (Some a) = acts m t a a.status
 chosen m t Fault (Some a) = acts m t a a.status
-chosen m t (Claim row) (Some a) = if may_claim m t a row then done_by m t a (ClaimMark row) [] else m
+chosen m t (Claim row) (Some a) = if may_claim m.rows t a row then done_by m t a (ClaimMark row) [] else m
 
 abbrev pub next_machine : Machine → ℕ × Choice → Machine
 next_machine m event = chosen m event.0 event.1 (slice_get m.actors event.0)

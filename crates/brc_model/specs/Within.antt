@@ -47,4 +47,4 @@ pub record IsWithin (w : World) (t : ℕ) (a : Actor) (d : Duty) : Type 0 where
 pub record StepsWithin (w : World) (t : ℕ) (a : Actor) : Type 0 where
   pub goes_on : (d : Duty) (rest : List Duty) → a.status ≢ Gone → a.agenda ≡ d ∷ rest → IsWithin w t a d
   pub takes_up : (d : Duty) (rest : List Duty) (place : Place) → a.status ≢ Gone → a.agenda ≡ [] → begun_by (machine_of w) t a ≡ Work (d ∷ rest) place → IsWithin w t a d
-  pub claims : (row : ℕ) → may_claim (machine_of w) t a row ≡ true → IsWithin w t a (ClaimMark row)
+  pub claims : (row : ℕ) → may_claim w.rows t a row ≡ true → IsWithin w t a (ClaimMark row)

@@ -38,9 +38,9 @@ pub fn worlds_lead_on()
 /// Each step of a thread that isn't gone changes the world, but for a claim that is out of place or finds no mark.
 pub fn steps_move()
     ensures goes_on { (p : Module) (w : World) (t : ℕ) (a : Actor) → IsReachable p w → slice_get w.actors t ≡ Some a → a.status ≢ Gone → (step w t Ok ≢ w) × (step w t Fault ≢ w) }
-    ensures claims { (w : World) (t : ℕ) (a : Actor) (row : ℕ) → slice_get w.actors t ≡ Some a → may_claim (machine_of w) t a row ≡ true → w.memory (Mark row) ≢ 0 → step w t (Claim row) ≢ w }
-    ensures misses { (p : Module) (w : World) (t : ℕ) (a : Actor) (row : ℕ) → IsReachable p w → slice_get w.actors t ≡ Some a → may_claim (machine_of w) t a row ≡ true → w.memory (Mark row) ≡ 0 → step w t (Claim row) ≡ w }
-    ensures stays { (w : World) (t : ℕ) (a : Actor) (row : ℕ) → slice_get w.actors t ≡ Some a → may_claim (machine_of w) t a row ≡ false → step w t (Claim row) ≡ w }
+    ensures claims { (w : World) (t : ℕ) (a : Actor) (row : ℕ) → slice_get w.actors t ≡ Some a → may_claim w.rows t a row ≡ true → w.memory (Mark row) ≢ 0 → step w t (Claim row) ≢ w }
+    ensures misses { (p : Module) (w : World) (t : ℕ) (a : Actor) (row : ℕ) → IsReachable p w → slice_get w.actors t ≡ Some a → may_claim w.rows t a row ≡ true → w.memory (Mark row) ≡ 0 → step w t (Claim row) ≡ w }
+    ensures stays { (w : World) (t : ℕ) (a : Actor) (row : ℕ) → slice_get w.actors t ≡ Some a → may_claim w.rows t a row ≡ false → step w t (Claim row) ≡ w }
     ensures gone { (w : World) (t : ℕ) (a : Actor) (row : ℕ) → slice_get w.actors t ≡ Some a → a.status ≡ Gone → (step w t Ok ≡ w) × (step w t Fault ≡ w) × (step w t (Claim row) ≡ w) }
 {}
 
