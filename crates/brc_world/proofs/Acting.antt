@@ -1,10 +1,11 @@
 -- A thread that isn't gone does what its step begins with.
-use Rattle.std.proofs.Common.{◌≡◌, ◌≢◌, ℕ, List, [], ◌∷◌, refl, sym, ap, ◌∙◌, subst}
+use Rattle.std.proofs.Common.{◌≡◌, ◌≢◌, ℕ, true, List, [], ◌∷◌, refl, sym, ap, ◌∙◌}
 use Rattle.brc_lang.specs.declared.module.Function.{Function}
 use Rattle.brc_model.specs.declared.actor.Status.{Status}
 use Rattle.brc_model.specs.declared.actor.Status.TheVariants.{Running, Leaving, Gone}
 use Rattle.brc_model.specs.declared.address.Address.{Address}
 use Rattle.brc_model.specs.declared.duty.Duty.{Duty}
+use Rattle.brc_model.specs.declared.duty.Duty.TheVariants.{ClaimMark}
 use Rattle.brc_model.specs.Duties.{address_of}
 use Rattle.brc_model.specs.Machine as model
 use Rattle.brc_model.specs.Machine.{Actor}
@@ -12,7 +13,7 @@ use Rattle.brc_model.specs.Within.{IsThere, Suits}
 use Rattle.brc_world.specs.declared.did.Did.TheVariants as answers
 use Rattle.brc_world.specs.declared.start.Start.{Start}
 use Rattle.brc_world.specs.declared.start.Start.TheVariants.{Stuck, Moved, Doing}
-use Rattle.brc_world.specs.Actors.{actor_on, begun_of, start_of, started, found_by, memory_done, actor_done, memory_from, actor_from, memory_by, actor_by, did_from, did_by, CanStart}
+use Rattle.brc_world.specs.Actors.{actor_on, begun_of, start_of, started, found_by, memory_done, actor_done, memory_from, actor_from, memory_by, actor_by, did_from, did_by, CanStart, finds_mark, memory_claimed, actor_claimed, did_claim}
 
 -- ---- what a step begins with leaves the thread's head and status
 
@@ -74,3 +75,16 @@ can_do functions rows t n threads memory a b d begins can =
     let head : b.head ≡ a.head = ap (λ (x : Actor). x.head) begins.actor ∙ head_on a a.agenda (begun_of functions rows t a) in
     let status : b.status ≡ a.status = ap (λ (x : Actor). x.status) begins.actor ∙ status_on a a.agenda (begun_of functions rows t a) in
     rw (head, status) (can d begins.alive (sym begins.starts))
+
+-- ---- a claim that finds a mark
+
+pub claim_did : (rows t : ℕ) (memory : Address → ℕ) (a : Actor) (row : ℕ) (s : Status) → s ≢ Gone → finds_mark rows t memory a row ≡ true → answers.Moved ≡ did_claim rows t memory a row s
+claim_did rows t memory a row Running alive found = rw found refl
+claim_did rows t memory a row Leaving alive found = rw found refl
+claim_did rows t memory a row Gone alive found = absurd (alive refl)
+
+pub claim_words : (rows t : ℕ) (memory : Address → ℕ) (a : Actor) (row : ℕ) → finds_mark rows t memory a row ≡ true → memory_done rows t memory a (ClaimMark row) ≡ memory_claimed rows t memory a row
+claim_words rows t memory a row found = rw found refl
+
+pub claim_actor : (rows t : ℕ) (memory : Address → ℕ) (a : Actor) (row : ℕ) → finds_mark rows t memory a row ≡ true → actor_done rows t memory a (ClaimMark row) ≡ actor_claimed rows t memory a row
+claim_actor rows t memory a row found = rw found refl

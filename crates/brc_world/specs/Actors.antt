@@ -1,12 +1,13 @@
 -- The threads as the model has them, and what each thread's step begins with: the first duty of its agenda, or what its next
 -- instruction or its exit asks for.
-use Rattle.std.specs.Prelude.{◌≡◌, ◌≢◌, ℕ, ◌<◌, Bool, false, ◌==◌, List, [], ◌∷◌, slice_get}
+use Rattle.std.specs.Prelude.{◌≡◌, ◌≢◌, ℕ, ◌<◌, Bool, true, false, ◌==◌, ◌&&◌, not, if◌then◌else◌, List, [], ◌∷◌, slice_get}
 use Rattle.brc_lang.specs.declared.module.Function.{Function}
 use Rattle.brc_model.specs.declared.actor.Status.{Status}
 use Rattle.brc_model.specs.declared.actor.Status.TheVariants.{Running, Leaving, Gone}
 use Rattle.brc_model.specs.declared.address.Address.{Address}
+use Rattle.brc_model.specs.declared.address.Address.TheVariants.{Mark}
 use Rattle.brc_model.specs.declared.duty.Duty.{Duty}
-use Rattle.brc_model.specs.declared.duty.Duty.TheVariants.{RetainLoad, ReleaseLoad, Die, Settle, SettleCell, Leave, Scan}
+use Rattle.brc_model.specs.declared.duty.Duty.TheVariants.{RetainLoad, ReleaseLoad, Die, Settle, SettleCell, Leave, Scan, ClaimMark}
 use Rattle.brc_model.specs.declared.duty.Holding.TheVariants.{AsCaller}
 use Rattle.brc_model.specs.declared.actor.Place.TheVariants.{Departing}
 use Rattle.brc_model.specs.Plain.{root_row}
@@ -127,3 +128,23 @@ did_by functions rows t a Leaving = did_from (start_of functions rows t a)
 abbrev pub CanStart : List Function → ℕ → ℕ → ℕ → ℕ → (Address → ℕ) → Actor → Type 0
 CanStart functions rows t n threads memory a =
     (d : Duty) → a.status ≢ Gone → start_of functions rows t a ≡ starts.Doing d → IsThere n threads (address_of rows t a.head d) × Suits t (model.is_running a.status) n d (found_by rows t memory a d)
+
+-- ---- a claim
+
+-- it finds a mark where it may look for one
+abbrev pub finds_mark : ℕ → ℕ → (Address → ℕ) → Actor → ℕ → Bool
+finds_mark rows t memory a row = model.may_claim rows t a row && not (memory (Mark row) == 0)
+
+abbrev pub memory_claimed : ℕ → ℕ → (Address → ℕ) → Actor → ℕ → Address → ℕ
+memory_claimed rows t memory a row = if finds_mark rows t memory a row then memory_done rows t memory a (ClaimMark row) else memory
+
+abbrev pub actor_claimed : ℕ → ℕ → (Address → ℕ) → Actor → ℕ → Actor
+actor_claimed rows t memory a row = if finds_mark rows t memory a row then actor_done rows t memory a (ClaimMark row) else a
+
+abbrev pub did_claim : ℕ → ℕ → (Address → ℕ) → Actor → ℕ → Status → Did
+did_claim rows t memory a row Gone = answers.Gone
+did_claim rows t memory a row Running = if finds_mark rows t memory a row then answers.Moved else answers.Same
+did_claim rows t memory a row Leaving = if finds_mark rows t memory a row then answers.Moved else answers.Same
+
+abbrev pub CanClaim : ℕ → ℕ → ℕ → ℕ → Actor → ℕ → Type 0
+CanClaim rows t n threads a row = model.may_claim rows t a row ≡ true → IsThere n threads (Mark row)

@@ -3,12 +3,13 @@
 ghost use Rattle.std.specs.Prelude.{◌≡◌, ◌+◌, ◌<◌, ◌≤◌, length, OnOk, OnErr, IfOk};
 ghost use Rattle.std.specs.VecDeque.{deque_len, deque_capacity};
 ghost use Rattle.brc_model.specs.Duties.{address_of, left_by};
-ghost use Rattle.brc_model.specs.Machine.{is_running};
+ghost use Rattle.brc_model.specs.Machine.{is_running, may_claim};
 ghost use Rattle.brc_model.specs.Within.{IsThere, Suits};
 ghost use Rattle.brc_world.specs.Storage.{word_in, IsStored};
-ghost use Rattle.brc_world.specs.Actors.{actor_of, found_by, actor_done, memory_by, actor_by, did_by, CanStart};
+ghost use Rattle.brc_world.specs.Actors.{actor_of, found_by, actor_done, memory_by, actor_by, did_by, CanStart, finds_mark, memory_claimed, actor_claimed, did_claim, CanClaim};
 
 use crate::address::address_of;
+use crate::begun::first_row;
 use crate::did::Did;
 use crate::follow::{Doer, follow, pass_over};
 use crate::left::{head_by, left_by, status_by};
@@ -17,7 +18,7 @@ use crate::no_memory::NoMemory;
 use crate::start::{Start, first_duty};
 use crate::thread::Thread;
 use brc_lang::Function;
-use brc_model::{Duty, Status};
+use brc_model::{Address, Duty, Place, Status};
 
 /// How many duties a step puts into an agenda at most.
 const ROOM: usize = 8;
@@ -87,5 +88,58 @@ pub fn act(
             do_duty(memory, rows, number, thread, &duty);
             Ok(Did::Moved)
         }
+    }
+}
+
+/// The thread looks whether the row's mark is set, where it may. Where memory is refused, nothing changes.
+pub fn claim(
+    memory: &mut Memory,
+    rows: u16,
+    number: u8,
+    thread: &mut Thread,
+    row: u32,
+) -> Result<Did, NoMemory>
+    requires some_rows { 0 < rows }
+    requires small { length memory.old.local ≤ 32770 }
+    requires can { CanClaim rows number (length memory.old.local) (length memory.old.thread) (actor_of thread.old) row }
+    ensures did { IfOk result (λ did. did ≡ did_claim rows number (word_in memory.old) (actor_of thread.old) row thread.old.status) }
+    ensures words { OnOk result (word_in memory.new ≡ memory_claimed rows number (word_in memory.old) (actor_of thread.old) row) }
+    ensures actor { OnOk result (actor_of thread.new ≡ actor_claimed rows number (word_in memory.old) (actor_of thread.old) row) }
+    ensures same_words { OnErr result (memory.new ≡ memory.old) }
+    ensures same_actor { OnErr result (actor_of thread.new ≡ actor_of thread.old) }
+    ensures as_many_rows { length memory.new.local ≡ length memory.old.local }
+    ensures as_many_threads { length memory.new.thread ≡ length memory.old.thread }
+{
+    if let Status::Gone = thread.status {
+        return Ok(Did::Gone);
+    }
+    if !finds_mark(memory, rows, number, thread, row) {
+        return Ok(Did::Same);
+    }
+    thread.agenda.reserve(ROOM)?;
+    do_duty(memory, rows, number, thread, &Duty::ClaimMark { row });
+    Ok(Did::Moved)
+}
+
+fn finds_mark(memory: &Memory, rows: u16, number: u8, thread: &Thread, row: u32) -> bool
+    requires { CanClaim rows number (length memory.now.local) (length memory.now.thread) (actor_of thread.now) row }
+    ensures { result ≡ finds_mark rows number (word_in memory.now) (actor_of thread.now) row }
+{
+    may_claim(rows, number, thread, row) && memory.load(Address::Mark { row }) != 0
+}
+
+/// Whether the thread runs, stands outside its calls, and has used the row.
+fn may_claim(rows: u16, number: u8, thread: &Thread, row: u32) -> bool
+    ensures { result ≡ may_claim rows number (actor_of thread.now) row }
+{
+    match thread.place {
+        Place::Standing { .. } => {
+            let first = first_row(rows, number);
+            is_running(thread.status)
+                && thread.agenda.is_empty()
+                && first <= row
+                && row - first < thread.used
+        }
+        Place::Inside { .. } | Place::Departing => false,
     }
 }
