@@ -1,17 +1,17 @@
 -- The words that a duty finds at a row: a shared word has few counts more than its bias, and suits what is done with it.
-use Rattle.std.proofs.Common.{◌≡◌, ◌≢◌, ℕ, ◌+◌, ◌*◌, ◌<◌, ◌≤◌, Bool, true, List, ◌∷◌, inl, inr, refl, sym, ap, ◌∙◌, subst, arith}
+use Rattle.std.proofs.Common.{◌≡◌, ◌≢◌, ℕ, ◌+◌, ◌≤◌, Bool, true, List, refl, ap, ◌∙◌, arith}
 use Rattle.std.specs.Prelude.{◌==◌, ◌&&◌}
 use Rattle.std.proofs.lemmas.Bool.{eq-eqb}
 use Rattle.brc_lang.specs.declared.module.Module.{Module}
 use Rattle.brc_word.specs.Words.{owner_part, local_part, biased_part, phase_part, bias}
 use Rattle.brc_model.specs.declared.duty.Holding.{Holding}
 use Rattle.brc_model.specs.declared.duty.Duty.{Duty}
-use Rattle.brc_model.specs.declared.duty.Duty.TheVariants.{RetainLoad, RetainStore, RetainAdd, ReleaseLoad, ReleaseStore, DecideAtZero, SharedLoad, SharedExchange, SetMark, Look, TakeMark, MergeSwap, MergeLoad, MergeExchange, Die, Settle, SettleKind, SettleCell, SettleEnd, Leave, Scan, Finish, ClaimMark}
+use Rattle.brc_model.specs.declared.duty.Duty.TheVariants.{RetainStore, RetainAdd, ReleaseLoad, ReleaseStore, SharedExchange, MergeExchange, SettleCell}
 use Rattle.brc_model.specs.declared.address.Address.TheVariants.{Local, Shared}
 use Rattle.brc_model.specs.Duties.{address_of, block_of, counts_locally}
 use Rattle.brc_model.specs.declared.actor.Status.TheVariants.{Gone}
 use Rattle.brc_model.specs.Machine.{Actor, Machine, is_running}
-use Rattle.brc_model.specs.Within.{IsShared, Suits}
+use Rattle.brc_model.specs.Within.{Suits}
 use Rattle.brc_model.proofs.Rows.{carries, weight, Numbers, Phased, IsDefault, IsQueued, InOwned, InSwapped, InMerged, IsLive}
 use Rattle.brc_model.proofs.RowSteps.{shared_range}
 use Rattle.brc_model.proofs.Rule.{numbers_of, Rule}
@@ -74,13 +74,12 @@ duty_suits p n m t a (SharedExchange x r w) rest count here alive few = λ same.
     let near = near_bias p n m x here.rule few (exchange_alive p n m t a x w r rest here) in
     let word : biased_part (m.memory (Shared x)) ≡ biased_part w = ap biased_part same in
     (record { low = omega (arith, near.high, word); state = λ e. near.state (ap phase_part same ∙ e) }, omega (arith, near.some, word))
-duty_suits p n m t a (MergeExchange x c w) rest count here alive few =
-    (
-      (head_of p n m t a (MergeExchange x c w) rest here).1,
-      λ same.
-          let near = near_bias p n m x here.rule few (merge_alive p n m t a x c w rest here) in
-          let word : biased_part (m.memory (Shared x)) ≡ biased_part w = ap biased_part same in
-          (record { low = omega (arith, near.high, word); state = λ e. near.state (ap phase_part same ∙ e) }, omega (arith, near.high, word, carried_is p n m t a x c w rest here)),
-    )
+duty_suits p n m t a (MergeExchange x c w) rest count here alive few = (
+  (head_of p n m t a (MergeExchange x c w) rest here).1,
+  λ same.
+      let near = near_bias p n m x here.rule few (merge_alive p n m t a x c w rest here) in
+      let word : biased_part (m.memory (Shared x)) ≡ biased_part w = ap biased_part same in
+      (record { low = omega (arith, near.high, word); state = λ e. near.state (ap phase_part same ∙ e) }, omega (arith, near.high, word, carried_is p n m t a x c w rest here)),
+)
 duty_suits p n m t a (SettleCell x i k) rest count here alive few = omega (arith, here.rule.cells x i)
 duty_suits p n m t a _ rest count here alive few = tt

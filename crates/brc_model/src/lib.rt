@@ -16,6 +16,8 @@ pub use actor::{Place, Status};
 pub use address::Address;
 pub use code::CheckCode;
 pub use duty::{Duty, Holding, Reason};
-pub use laws::{accepted_is_safe, accepted_is_safe_over_headers};
+pub use laws::{
+    accepted_is_safe, accepted_is_safe_over_headers, steps_are_within, worlds_are_small,
+};
 pub use slot::{Exit, Slot, State};
 pub use thread::{Call, Choice, Control, Thread};
