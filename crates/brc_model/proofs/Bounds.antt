@@ -1,17 +1,17 @@
 -- The words that a duty finds at a row: a shared word has few counts more than its bias, and suits what is done with it.
-use Rattle.std.proofs.Common.{◌≡◌, ◌≢◌, ℕ, ◌+◌, ◌*◌, ◌<◌, ◌≤◌, Bool, true, List, ◌∷◌, inl, inr, refl, sym, ap, ◌∙◌, subst, arith}
+use Rattle.std.proofs.Common.{◌≡◌, ◌≢◌, ℕ, ◌+◌, ◌≤◌, Bool, true, List, refl, ap, ◌∙◌, arith}
 use Rattle.std.specs.Prelude.{◌==◌, ◌&&◌}
 use Rattle.std.proofs.lemmas.Bool.{eq-eqb}
 use Rattle.brc_lang.specs.declared.module.Module.{Module}
 use Rattle.brc_word.specs.Words.{owner_part, local_part, biased_part, phase_part, bias}
 use Rattle.brc_model.specs.declared.duty.Holding.{Holding}
 use Rattle.brc_model.specs.declared.duty.Duty.{Duty}
-use Rattle.brc_model.specs.declared.duty.Duty.TheVariants.{RetainLoad, RetainStore, RetainAdd, ReleaseLoad, ReleaseStore, DecideAtZero, SharedLoad, SharedExchange, SetMark, Look, TakeMark, MergeSwap, MergeLoad, MergeExchange, Die, Settle, SettleKind, SettleCell, SettleEnd, Leave, Scan, Finish, ClaimMark}
+use Rattle.brc_model.specs.declared.duty.Duty.TheVariants.{RetainStore, RetainAdd, ReleaseLoad, ReleaseStore, SharedExchange, MergeExchange, SettleCell}
 use Rattle.brc_model.specs.declared.address.Address.TheVariants.{Local, Shared}
 use Rattle.brc_model.specs.Duties.{address_of, block_of, counts_locally}
 use Rattle.brc_model.specs.declared.actor.Status.TheVariants.{Gone}
 use Rattle.brc_model.specs.Machine.{Actor, Machine, is_running}
-use Rattle.brc_model.specs.Within.{IsShared, Suits}
+use Rattle.brc_model.specs.Within.{Suits}
 use Rattle.brc_model.proofs.Rows.{carries, weight, Numbers, Phased, IsDefault, IsQueued, InOwned, InSwapped, InMerged, IsLive}
 use Rattle.brc_model.proofs.RowSteps.{shared_range}
 use Rattle.brc_model.proofs.Rule.{numbers_of, Rule}

@@ -1,8 +1,8 @@
 -- A thread holds an object in at most nineteen ways, and in each at most twice: so an object has few references.
 use Rattle.std.proofs.Common.{◌≡◌, ℕ, zero, suc, ◌+◌, ◌*◌, ◌<◌, ◌≤◌, Bool, true, false, List, [], ◌∷◌, length, Option, Some, inl, inr, refl, sym, ap, ◌∙◌, subst, arith}
-use Rattle.std.specs.Prelude.{◌==◌, ◌||◌, ◌&&◌, slice_get, sum_by}
+use Rattle.std.specs.Prelude.{◌==◌, ◌||◌, slice_get, sum_by}
 use Rattle.std.specs.List.{list_any}
-use Rattle.std.proofs.lemmas.Bool.{cases_lt, eqb-true}
+use Rattle.std.proofs.lemmas.Bool.{cases_lt}
 use Rattle.std.proofs.lemmas.Bool.Decides.{eqb_tells}
 use Rattle.std.proofs.lemmas.Option.{slice_get_cases}
 use Rattle.std.proofs.lemmas.List.Sums.{sum_by-cons}
@@ -10,12 +10,12 @@ use Rattle.brc_lang.specs.declared.module.Instr.{Instr}
 use Rattle.brc_lang.specs.declared.module.Module.{Module}
 use Rattle.brc_model.specs.declared.duty.Holding.{Holding}
 use Rattle.brc_model.specs.declared.duty.Holding.TheVariants.{ByVariable, AsCaller, InHand}
-use Rattle.brc_model.specs.declared.duty.Reason.TheVariants.{Own, Handed}
+use Rattle.brc_model.specs.declared.duty.Reason.TheVariants.{Own}
 use Rattle.brc_model.specs.declared.duty.Duty.{Duty}
 use Rattle.brc_model.specs.declared.duty.Duty.TheVariants.{ReleaseLoad, ReleaseStore, SharedLoad, SharedExchange}
 use Rattle.brc_model.specs.declared.actor.Place.{Place}
 use Rattle.brc_model.specs.declared.actor.Place.TheVariants.{Standing, Inside, Departing}
-use Rattle.brc_model.specs.Plain.{Reference, same_holding, same, references_to}
+use Rattle.brc_model.specs.Plain.{Reference, same, references_to}
 use Rattle.brc_model.specs.Steps.{code_of}
 use Rattle.brc_model.specs.Machine.{Actor, Machine}
 use Rattle.brc_model.proofs.Bag.{held, one_if, same_holding-true, same-true, same-refl, held-cons, references_to-cons}

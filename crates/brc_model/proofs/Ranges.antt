@@ -1,20 +1,19 @@
 -- The rows, cells and chains that threads' duties are about are small, and each step keeps them so.
-use Rattle.std.proofs.Common.{◌≡◌, ℕ, zero, suc, ◌+◌, ◌-◌, ◌<◌, ◌≤◌, Bool, true, false, cond, List, [], ◌∷◌, ◌++◌, inl, inr, Some, refl, sym, ap, ◌∙◌, subst, arith}
+use Rattle.std.proofs.Common.{◌≡◌, ℕ, zero, suc, ◌+◌, ◌<◌, ◌≤◌, Bool, true, false, cond, List, [], ◌∷◌, ◌++◌, inl, inr, Some, refl, sym, ap, ◌∙◌, subst, arith}
 use Rattle.std.specs.Prelude.{◌==◌, ◌&&◌, nat_lt, slice_get, count_by}
 use Rattle.std.proofs.lemmas.Bool.{eq-eqb, eqb-true, cases_lt}
 use Rattle.std.proofs.lemmas.List.Sums.{sum_by-cons}
 use Rattle.brc_lang.specs.declared.module.Module.{Module}
 use Rattle.brc_word.specs.Words.{local_part, is_immortal_word, fresh_word, dead_word, released_word, merged_word}
 use Rattle.brc_model.specs.Plain.{references_to}
-use Rattle.brc_model.specs.declared.duty.Reason.TheVariants.{Own, Handed}
 use Rattle.brc_model.specs.declared.duty.Duty.{Duty}
 use Rattle.brc_model.specs.declared.duty.Duty.TheVariants.{RetainLoad, RetainStore, RetainAdd, ReleaseLoad, ReleaseStore, DecideAtZero, SharedLoad, SharedExchange, SetMark, Look, TakeMark, MergeSwap, MergeLoad, MergeExchange, Die, Settle, SettleKind, SettleCell, SettleEnd, Leave, Scan, Finish, ClaimMark}
 use Rattle.brc_model.specs.declared.address.Address.TheVariants.{KindOf, Mark}
 use Rattle.brc_model.specs.Duties.{address_of, left_by, next_by, ready, counts_locally, claimed, shared_result, cells_of, cells_from, release_found, block_of}
-use Rattle.brc_model.specs.Machine.{Actor, Life, Unborn, Live, Dying, Closed, Machine, written, is_running, actor_by, done_by}
+use Rattle.brc_model.specs.Machine.{Actor, Life, Unborn, Machine, written, is_running, actor_by, done_by}
 use Rattle.brc_model.proofs.Bag.{one_if}
 use Rattle.brc_model.proofs.Rows.{RowRule}
-use Rattle.brc_model.proofs.Rule.{numbers_of, Linked, hand_of, dies_by, Rule}
+use Rattle.brc_model.proofs.Rule.{numbers_of, Linked, dies_by, Rule}
 use Rattle.brc_model.proofs.Written.{written_load}
 use Rattle.brc_model.proofs.Whole.{written_actor}
 

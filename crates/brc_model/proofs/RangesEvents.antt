@@ -1,10 +1,9 @@
 -- Each event keeps what threads' duties are about small.
-use Rattle.std.proofs.Common.{◌≡◌, ℕ, zero, suc, ◌+◌, ◌<◌, ◌≤◌, Bool, true, false, cond, List, [], ◌∷◌, length, Option, None, Some, refl, sym, ap, ◌∙◌, subst, arith}
+use Rattle.std.proofs.Common.{◌≡◌, ℕ, zero, suc, ◌+◌, ◌<◌, ◌≤◌, Bool, true, false, cond, List, [], ◌∷◌, length, Option, None, Some, refl, sym, ◌∙◌, subst, arith}
 use Rattle.std.specs.Prelude.{◌==◌, ◌&&◌, nat_lt, nat_le, slice_get, map}
 use Rattle.std.proofs.lemmas.Bool.{ltb-true, leb-true}
 use Rattle.brc_lang.specs.declared.module.Module.{Module}
 use Rattle.brc_model.specs.declared.thread.Call.{Call}
-use Rattle.brc_model.specs.Plain.{Reference}
 use Rattle.brc_model.specs.Steps.{code_of}
 use Rattle.brc_model.specs.declared.duty.Duty.{Duty}
 use Rattle.brc_model.specs.declared.duty.Duty.TheVariants.{ClaimMark}
@@ -16,7 +15,7 @@ use Rattle.brc_model.specs.declared.actor.Place.{Place}
 use Rattle.brc_model.specs.declared.actor.Place.TheVariants.{Standing, Inside, Departing}
 use Rattle.brc_model.specs.declared.thread.Choice.{Choice}
 use Rattle.brc_model.specs.declared.thread.Choice.TheVariants.{Ok, Fault, Claim}
-use Rattle.brc_model.specs.Machine.{Actor, Machine, Begun, Stuck, Quiet, Work, begun_by, done_by, at_place, with_actor, begins, goes_on, acts, may_claim, first_row, is_running, chosen, next_machine, machine_after, main_actor, worker_actor, first_machine, first_memory}
+use Rattle.brc_model.specs.Machine.{Actor, Machine, Begun, Stuck, Quiet, Work, begun_by, done_by, at_place, begins, goes_on, acts, may_claim, first_row, is_running, chosen, next_machine, machine_after, main_actor, worker_actor, first_machine, first_memory}
 use Rattle.brc_model.proofs.Bag.{held-le-references_to}
 use Rattle.brc_model.proofs.Lists.{some_is, slice_get-map, and_first, and_second}
 use Rattle.brc_model.proofs.Invariant.{reference_of}
@@ -71,9 +70,6 @@ status_ranges p n m t a Leaving rule ranges found is = agenda_ranges p n m t a a
 pub used_small : (rows t used x : ℕ) → used ≡ used_rows t → first_row rows t ≤ x → x < first_row rows t + used → x ≤ 1
 used_small rows zero used x is low high = omega (arith, is, high)
 used_small rows (suc t) used x is low high = absurd (omega (arith, is, low, high))
-
-abbrev is_within : Machine → ℕ → Actor → ℕ → Bool
-is_within m t a row = nat_le (first_row m.rows t) row && nat_lt row (first_row m.rows t + a.used)
 
 abbrev claims_where : Machine → ℕ → Actor → ℕ → Place → Bool
 claims_where m t a row place = elim place [

@@ -1,9 +1,8 @@
 -- Each step of a world that steps lead to asks for words that are there, and finds words that suit its duty.
-use Rattle.std.proofs.Common.{◌≡◌, ◌≢◌, ℕ, zero, suc, ◌+◌, ◌-◌, ◌*◌, ◌<◌, ◌≤◌, true, List, [], ◌∷◌, length, Some, refl, sym, ap, ◌∙◌, subst, arith}
-use Rattle.std.specs.Prelude.{slice_get, map}
-use Rattle.std.proofs.lemmas.List.{length-set, length-map}
+use Rattle.std.proofs.Common.{◌≡◌, ℕ, zero, suc, ◌+◌, ◌-◌, ◌*◌, ◌<◌, ◌≤◌, List, [], ◌∷◌, length, Some, refl, sym, ap, ◌∙◌, subst, arith}
+use Rattle.std.specs.Prelude.{slice_get}
+use Rattle.std.proofs.lemmas.List.{length-set}
 use Rattle.std.proofs.lemmas.Option.{slice_get_within}
-use Rattle.brc_lang.specs.declared.module.Function.{Function}
 use Rattle.brc_lang.specs.declared.module.Module.{Module}
 use Rattle.brc_model.specs.declared.duty.Duty.{Duty}
 use Rattle.brc_model.specs.declared.duty.Duty.TheVariants.{RetainLoad, RetainStore, RetainAdd, ReleaseLoad, ReleaseStore, DecideAtZero, SharedLoad, SharedExchange, SetMark, Look, TakeMark, MergeSwap, MergeLoad, MergeExchange, Die, Settle, SettleKind, SettleCell, SettleEnd, Leave, Scan, Finish, ClaimMark}
@@ -11,8 +10,8 @@ use Rattle.brc_model.specs.declared.actor.Status.TheVariants.{Running, Gone}
 use Rattle.brc_model.specs.declared.actor.Place.{Place}
 use Rattle.brc_model.specs.Steps.{code_of}
 use Rattle.brc_model.specs.Duties.{address_of, block_of}
-use Rattle.brc_model.specs.Machine.{Actor, Machine, Begun, Work, begun_by, may_claim, is_running, with_actor, main_actor, worker_actor, first_machine, machine_after}
-use Rattle.brc_model.specs.World.{World, world_of, machine_of, row_count, IsReachable}
+use Rattle.brc_model.specs.Machine.{Actor, Machine, Begun, Work, begun_by, is_running, with_actor, first_machine, machine_after}
+use Rattle.brc_model.specs.World.{World, world_of, row_count, IsReachable}
 use Rattle.brc_model.specs.Within.{IsThere, Suits, IsWithin, StepsWithin}
 use Rattle.brc_model.proofs.Lists.{slice_get-set_same}
 use Rattle.brc_model.proofs.Leaves.{AtDuty, head_of}

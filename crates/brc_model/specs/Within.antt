@@ -2,7 +2,7 @@
 -- header's, below all bounds.
 use Rattle.std.specs.Prelude.{◌≡◌, ◌≢◌, ℕ, ◌+◌, ◌*◌, ◌<◌, ◌≤◌, Bool, true, List, ◌∷◌, [], length}
 use Rattle.brc_word.specs.Words.{owner_part, local_part, biased_part, phase_part, bias}
-use Rattle.brc_model.specs.declared.actor.Status.TheVariants.{Running, Gone}
+use Rattle.brc_model.specs.declared.actor.Status.TheVariants.{Gone}
 use Rattle.brc_model.specs.declared.actor.Place.{Place}
 use Rattle.brc_model.specs.declared.address.Address.{Address}
 use Rattle.brc_model.specs.declared.address.Address.TheVariants.{Local, Shared, Gate, KindOf, Mark, Cell, ThreadWord}

@@ -1,4 +1,4 @@
-ghost use Rattle.std.specs.Prelude.{ℕ, ◌≡◌, ◌≢◌, ◌<◌, ◌≤◌, true, false, List, Some, slice_get};
+ghost use Rattle.std.specs.Prelude.{ℕ, ◌≡◌, ◌≢◌, ◌<◌, ◌≤◌, true, false, List, length, Some, slice_get};
 ghost use Rattle.brc_lang.specs.declared.module.Module.{Module};
 ghost use Rattle.brc_lang.specs.Grammar.{IsModule};
 ghost use Rattle.brc_model.specs.Walks.{IsAcceptable};
@@ -12,6 +12,7 @@ ghost use Rattle.brc_model.specs.declared.actor.Status.TheVariants.{Gone};
 ghost use Rattle.brc_model.specs.Machine.{Actor, Machine, may_claim, next_machine};
 ghost use Rattle.brc_model.specs.World.{World, world_of, machine_of, first_world, step, IsReachable};
 ghost use Rattle.brc_model.specs.Progress.{Always, AtEachEvent, StatesRise, OnlyOwnersCount, OwnersStay, ClosedStays, ClosesAnew, ImmortalsStay, ClosedOnce, GatesTell, BornAreUsed};
+ghost use Rattle.brc_model.specs.Within.{StepsWithin};
 
 /// An accepted module is safe, for every number of workers and rows, every list of calls and every list of steps.
 pub fn accepted_is_safe()
@@ -87,4 +88,20 @@ pub fn gates_tell_what_is_closed()
 /// Each row that is born is among the used rows of its thread's block.
 pub fn born_rows_are_used()
     ensures { (m : Module) → IsModule m → IsAcceptable m → Always BornAreUsed m }
+{}
+
+/// What each step of a world that steps lead to can rely on: the word that it asks for is there, and what it finds there
+/// suits what it does with it.
+pub fn steps_are_within()
+    ensures { (p : Module) (w : World) (t : ℕ) (a : Actor) → IsReachable p w → slice_get w.actors t ≡ Some a → StepsWithin w t a }
+{}
+
+/// A world that steps lead to is of its module, and has as many threads and rows as it began with: main and 1 to 32
+/// workers, each with 1 to 1024 rows.
+pub fn worlds_are_small()
+    ensures functions { (p : Module) (w : World) → IsReachable p w → w.functions ≡ p.functions }
+    ensures some_threads { (p : Module) (w : World) → IsReachable p w → 1 < length w.actors }
+    ensures few_threads { (p : Module) (w : World) → IsReachable p w → length w.actors ≤ 33 }
+    ensures some_rows { (p : Module) (w : World) → IsReachable p w → 0 < w.rows }
+    ensures few_rows { (p : Module) (w : World) → IsReachable p w → w.rows ≤ 1024 }
 {}

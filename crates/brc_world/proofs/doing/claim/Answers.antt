@@ -1,18 +1,20 @@
 -- A mark that is found is taken.
-use Rattle.std.proofs.Common.{sym, ◌∙◌}
+use Rattle.std.proofs.Common.{◌≡◌, true, sym, ◌∙◌}
+use Rattle.std.proofs.lemmas.Bool.{not-false}
 use Rattle.brc_world.specs.Storage.{word_in}
-use Rattle.brc_world.specs.Actors.{actor_of}
+use Rattle.brc_world.specs.Actors.{actor_of, finds_mark}
 use Rattle.brc_world.proofs.Acting.{claim_did, claim_words, claim_actor}
 use Rattle.brc_world.proofs.doing.claim.Goals as goal
 
 pub returns : goal.returns
 returns c =
-    let found = sym c.finds_mark.ensures ∙ ? in
     let memory = word_in c.args.memory.now in
+    let thread = actor_of c.args.thread.now in
+    let found : finds_mark c.args.rows c.args.number memory thread c.args.row ≡ true = sym c.finds_mark.ensures ∙ c.if-not-finds_mark.false in
     record {
-      did = claim_did c.args.rows c.args.number memory (actor_of c.args.thread.now) c.args.row c.args.thread.now.status c.in_default.not-Gone found;
-      words = ?;
-      actor = ?;
+      did = claim_did c.args.rows c.args.number memory thread c.args.row c.args.thread.now.status c.in_default.not-Gone found;
+      words = c.do_duty.ensures.word.words ∙ claim_words c.args.rows c.args.number memory thread c.args.row found;
+      actor = (rw c.in_ok-reserve.ensures.items at c.do_duty.ensures.actor) ∙ claim_actor c.args.rows c.args.number memory thread c.args.row found;
       same_words = tt;
       same_actor = tt;
       as_many_rows = c.do_duty.ensures.word.rows;
