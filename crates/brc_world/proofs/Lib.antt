@@ -1,2 +1,5 @@
 pub mod Storing
 pub mod Acting
+pub mod Stepping
+pub mod Outcomes
+pub mod Answering

@@ -1,2 +1,4 @@
 pub mod Storage
 pub mod Actors
+pub mod Worlds
+pub mod Answers

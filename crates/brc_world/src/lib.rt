@@ -6,11 +6,15 @@ mod address;
 mod begun;
 mod did;
 mod doing;
+mod first;
 mod follow;
 mod left;
 mod memory;
 mod no_memory;
 mod start;
 mod thread;
+mod world;
 
+pub use did::Did;
 pub use no_memory::NoMemory;
+pub use world::World;

@@ -1,0 +1,35 @@
+ghost use Rattle.std.specs.Prelude.{◌≡◌, ◌∷◌, map, IfOk};
+ghost use Rattle.brc_model.specs.Machine.{main_actor, worker_actor};
+ghost use Rattle.brc_world.specs.Actors.{actor_of};
+
+use crate::no_memory::NoMemory;
+use crate::thread::Thread;
+use brc_model::{Call, Place, Status};
+use std::alloc::Global;
+use std::collections::VecDeque;
+
+/// Main, and a worker for each of the calls. The rows that main uses are those of none and of the root.
+pub fn first_threads(alloc: Global, calls: &[Call]) -> Result<Vec<Thread>, NoMemory>
+    ensures { IfOk result (λ threads. map actor_of threads.items ≡ main_actor ∷ map worker_actor calls.now) }
+{
+    let mut threads = Vec::with_capacity(alloc, 1 + calls.len())?;
+    threads.push(Thread {
+        function: 0,
+        place: Place::Standing { left: 0 },
+        status: Status::Running,
+        agenda: VecDeque::new(alloc),
+        head: 0,
+        used: 2,
+    })?;
+    for call in calls {
+        threads.push(Thread {
+            function: call.function,
+            place: Place::Standing { left: call.times },
+            status: Status::Running,
+            agenda: VecDeque::new(alloc),
+            head: 0,
+            used: 0,
+        })?;
+    }
+    Ok(threads)
+}
