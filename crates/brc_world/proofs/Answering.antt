@@ -33,10 +33,10 @@ pub going_answers : (w : World) (t : ℕ) (a : Actor) (s : Status) → slice_get
 going_answers w t a Gone found is moves = gone_is w t a Gone found is
 going_answers w t a Running found is moves =
     start_answers w t (start_of w.functions w.rows t a) (gone_is w t a Running found is) (moves (λ e. cc))
-      (λ stuck. going_on_by w t a Running found is ∙ (rw stuck (stuck_is w t a found stuck)))
+    (λ stuck. going_on_by w t a Running found is ∙ (rw stuck (stuck_is w t a found stuck)))
 going_answers w t a Leaving found is moves =
     start_answers w t (start_of w.functions w.rows t a) (gone_is w t a Leaving found is) (moves (λ e. cc))
-      (λ stuck. going_on_by w t a Leaving found is ∙ (rw stuck (stuck_is w t a found stuck)))
+    (λ stuck. going_on_by w t a Leaving found is ∙ (rw stuck (stuck_is w t a found stuck)))
 
 -- ---- claims
 

@@ -3,3 +3,10 @@ pub mod Acting
 pub mod Stepping
 pub mod Outcomes
 pub mod Answering
+pub mod Tallying
+pub mod ScheduleWords
+pub mod ScheduleLines
+pub mod ScheduleMachine
+pub mod ScheduleReading
+pub mod ScheduleUniqueness
+pub mod Running

@@ -75,7 +75,7 @@ pub goes : (p : Module) (rows : ℕ) (old new : Columns) (threads : List Thread)
     → IsWorld p (contents p.functions rows new (slice_set threads t after))
 goes p rows old new threads t choice before after (Ok did) memory next turned at is world leads =
     let now : seen (contents p.functions rows new (slice_set threads t after)) ≡ step (seen (contents p.functions rows old threads)) t choice =
-        made p.functions rows old new threads t choice (actor_of before) after (Ok did) memory next turned is in
+    made p.functions rows old new threads t choice (actor_of before) after (Ok did) memory next turned is in
     sized p rows old new threads t after world turned.rows turned.threads (subst (IsReachable p) (sym now) leads)
 goes p rows old new threads t choice before after (Err e) memory next turned at is world leads =
     let same : contents p.functions rows new (slice_set threads t after) ≡ contents p.functions rows old threads = stays p.functions rows old new threads t before after (Err e) memory next turned at in

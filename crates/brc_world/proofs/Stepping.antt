@@ -46,8 +46,8 @@ begins_as w t a (model.Work (d ∷ rest) place) found = refl
 
 goes_on_as : (w : World) (t : ℕ) (a : Actor) (agenda : List Duty) → slice_get w.actors t ≡ Some a
     → world_of (goes_on (machine_of w) t a agenda)
-      ≡ with_words w t (memory_from w.rows t w.memory (actor_on a agenda (begun_of w.functions w.rows t a)) (start_on agenda (begun_of w.functions w.rows t a)))
-        (actor_from w.rows t w.memory (actor_on a agenda (begun_of w.functions w.rows t a)) (start_on agenda (begun_of w.functions w.rows t a)))
+    ≡ with_words w t (memory_from w.rows t w.memory (actor_on a agenda (begun_of w.functions w.rows t a)) (start_on agenda (begun_of w.functions w.rows t a)))
+    (actor_from w.rows t w.memory (actor_on a agenda (begun_of w.functions w.rows t a)) (start_on agenda (begun_of w.functions w.rows t a)))
 goes_on_as w t a [] found = begins_as w t a (begun_of w.functions w.rows t a) found
 goes_on_as w t a (d ∷ rest) found = refl
 

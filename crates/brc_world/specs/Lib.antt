@@ -2,3 +2,7 @@ pub mod Storage
 pub mod Actors
 pub mod Worlds
 pub mod Answers
+pub mod Tallies
+pub mod ScheduleText
+pub mod ScheduleFault
+pub mod Runs

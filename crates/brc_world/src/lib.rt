@@ -1,20 +1,36 @@
-//! The step world: threads that take one step at a time over an accepted module, one count an object, and what was closed;
-//! and the schedules that list such steps.
+//! The step world over biased headers: threads that take one step at a time over an accepted module, each step one event on
+//! one word; and the schedules that list such steps.
 #![tactic(auto)]
 
 mod address;
+mod beginning;
 mod begun;
 mod did;
 mod doing;
 mod first;
 mod follow;
+mod laws;
 mod left;
 mod memory;
 mod no_memory;
+mod run;
+mod schedule;
+mod schedule_line;
+mod schedule_reading;
 mod start;
+mod tally;
 mod thread;
 mod world;
 
 pub use did::Did;
+pub use laws::{one_schedule, runs_follow_machines};
 pub use no_memory::NoMemory;
+pub use schedule::{PlannedCall, Schedule, Steps};
+pub use schedule_reading::read_schedule;
+pub use tally::{Left, Tally};
 pub use world::World;
+
+#[cfg(test)]
+mod schedule_tests;
+#[cfg(test)]
+mod tests;

@@ -1,21 +1,26 @@
-ghost use Rattle.std.specs.Prelude.{◌≡◌, ◌<◌, ◌≤◌, length, IfOk, OnOk, OnErr};
+ghost use Rattle.std.specs.Prelude.{◌≡◌, ◌<◌, ◌≤◌, not, length, map, filter, slice_get, IfOk, OnOk, OnErr};
+ghost use Rattle.std.specs.List.{All};
 ghost use Rattle.brc_model.specs.declared.thread.Choice.TheVariants.{Ok as goes_on, Claim as claims};
 ghost use Rattle.brc_model.specs.Safety.{AreCalls};
-ghost use Rattle.brc_model.specs.World.{first_world, step};
+ghost use Rattle.brc_model.specs.World.{first_world, row_count, step};
 ghost use Rattle.brc_world.specs.Worlds.{seen};
+ghost use Rattle.brc_world.specs.Tallies.{used_of, is_born, is_closed_row, rows_born, left_in, tally_of};
 ghost use Rattle.brc_world.specs.Answers.{is_gone_at, IsAnswer};
 
+use crate::address::block_of;
 use crate::did::Did;
 use crate::doing::{act, claim};
 use crate::first::first_threads;
 use crate::memory::{Memory, first_memory};
 use crate::no_memory::NoMemory;
+use crate::tally::{Left, Tally, first_of_block, kind_numbered, running_in};
 use crate::thread::Thread;
 use brc_check::Checked;
-use brc_lang::Module;
+use brc_lang::{Module, Sequence};
 use brc_model::{
-    Call, Choice, Status, steps_are_within, steps_move, worlds_are_small, worlds_lead_on,
+    Address, Call, Choice, Status, steps_are_within, steps_move, worlds_are_small, worlds_lead_on,
 };
+use brc_word::{is_closed, kind_number};
 use std::alloc::Global;
 use std::marker::Model;
 
@@ -81,6 +86,90 @@ impl<'a> World<'a> {
         ensures { result ≡ is_gone_at (seen self.now) thread }
     {
         matches!(self.threads[thread].status, Status::Gone)
+    }
+
+    /// What the world comes to.
+    pub fn tally(&self, alloc: Global) -> Result<Tally, NoMemory>
+        ensures { IfOk result (λ tally. tally ≡ tally_of (seen self.now)) }
+    {
+        worlds_are_small();
+        let born = self.rows_born(alloc)?;
+        let left = self.left_of(alloc, &born)?;
+        Ok(Tally {
+            threads: self.threads.len() as u64 - 1,
+            running: running_in(&self.threads) as u64,
+            created: born.len() as u64,
+            closed: born.len().saturating_sub(left.len()) as u64,
+            alive: left.len() as u64,
+            host_faults: 0,
+            close_faults: 0,
+            left,
+        })
+    }
+
+    /// The counted rows that are born, by rising number.
+    fn rows_born(&self, alloc: Global) -> Result<Vec<u32>, NoMemory>
+        ensures { IfOk result (λ born. born.items ≡ rows_born (seen self.now)) }
+    {
+        worlds_are_small();
+        let mut born = Vec::new(alloc);
+        for row in 1..self.memory.rows() as u32 {
+            if self.is_born(row) {
+                born.push(row)?;
+            }
+        }
+        Ok(born)
+    }
+
+    /// Those of the rows that aren't closed, with their kinds.
+    fn left_of(&self, alloc: Global, born: &[u32]) -> Result<Sequence<Left>, NoMemory>
+        requires { All (λ row. row < row_count (seen self.now)) born.now }
+        ensures { IfOk result (λ left. left ≡ map (left_in (seen self.now)) (filter (λ row. not (is_closed_row (seen self.now) row)) born.now)) }
+    {
+        let mut left = Sequence::new(alloc);
+        for row in born {
+            if !self.is_closed(*row) {
+                left.push(self.left_in(*row))?;
+            }
+        }
+        Ok(left)
+    }
+
+    fn is_closed(&self, row: u32) -> bool
+        requires { row < row_count (seen self.now) }
+        ensures { result ≡ is_closed_row (seen self.now) row }
+    {
+        is_closed(self.memory.load(Address::Gate { row }))
+    }
+
+    /// Whether the row's thread has used it.
+    fn is_born(&self, row: u32) -> bool
+        ensures { result ≡ is_born (seen self.now) row }
+    {
+        worlds_are_small();
+        let block = block_of(self.rows, row);
+        let first = first_of_block(self.rows, block);
+        u64::from(row) < first + u64::from(self.used_in(block))
+    }
+
+    /// How many rows of its block the thread has used, or 0 where there is no such thread.
+    fn used_in(&self, block: u32) -> u32
+        ensures { result ≡ used_of (slice_get self.now.actors block) }
+    {
+        match self.threads.get(block as usize) {
+            Some(thread) => thread.used,
+            None => 0,
+        }
+    }
+
+    fn left_in(&self, row: u32) -> Left
+        requires { row < row_count (seen self.now) }
+        ensures { result ≡ left_in (seen self.now) row }
+    {
+        Left {
+            row,
+            kind: kind_numbered(kind_number(self.memory.load(Address::KindOf { row }))),
+        }
     }
 
     /// One step of the thread: one event on one word. Where memory is refused, nothing changes. No step is a host call yet,

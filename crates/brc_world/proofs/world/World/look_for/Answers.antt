@@ -105,8 +105,8 @@ returns-clause-answer c =
     let is = claim_is p w t (actor_of before) c.args.row c.self.invariant.reachable here (c.steps_move.ensures.misses p w t (actor_of before) c.args.row c.self.invariant.reachable here) (c.steps_move.ensures.stays w t (actor_of before) c.args.row here) in
     let now = made p.functions rows words c.claim.new.memory threads t (Claim c.args.row) (actor_of before) after c.claim.result memory next turned is in
     rw (sym c.self.view_is) (answered w _ _ t c.claim.result _ now c.claim.ensures.did (claim_answers w t (actor_of before) c.args.row before.status here refl
-        (λ found. claim_moves w t (actor_of before) c.args.row found (λ may marked. c.steps_move.ensures.claims w t (actor_of before) c.args.row here may marked))
-        (λ missed. claim_stays w t (actor_of before) c.args.row missed (c.steps_move.ensures.misses p w t (actor_of before) c.args.row c.self.invariant.reachable here) (c.steps_move.ensures.stays w t (actor_of before) c.args.row here))))
+    (λ found. claim_moves w t (actor_of before) c.args.row found (λ may marked. c.steps_move.ensures.claims w t (actor_of before) c.args.row here may marked))
+    (λ missed. claim_stays w t (actor_of before) c.args.row missed (c.steps_move.ensures.misses p w t (actor_of before) c.args.row c.self.invariant.reachable here) (c.steps_move.ensures.stays w t (actor_of before) c.args.row here))))
 
 pub returns-clause-unchanged : goal.returns-clause-unchanged
 returns-clause-unchanged c =

@@ -1,0 +1,11 @@
+use Rattle.std.proofs.Common.{◌≡◌, ◌-◌, ◌≤◌}
+use Rattle.brc_world.specs.Worlds.{seen}
+use Rattle.brc_world.specs.Tallies.{born_below}
+use Rattle.brc_world.proofs.world.World.rows_born.Given as goal
+
+-- the rows below that are born
+abbrev pub invariant-loop-row : goal.invariant-loop-row
+invariant-loop-row l = record {
+  first : 1 ≤ l.row;
+  born : l.born.items ≡ born_below (seen l.fn.self) (l.row - 1);
+}

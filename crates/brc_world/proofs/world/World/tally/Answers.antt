@@ -1,0 +1,27 @@
+use Rattle.std.proofs.Common.{sym, ◌∙◌, arith}
+use Rattle.std.proofs.lemmas.Grind.{common_steps}
+use Rattle.brc_world.specs.Worlds.{seen}
+use Rattle.brc_world.specs.Tallies.{still_runs}
+use Rattle.brc_world.specs.Actors.{actor_of}
+use Rattle.brc_world.proofs.Tallying.{born_there, count_over, tally_as}
+use Rattle.brc_world.proofs.world.World.tally.Goals as goal
+
+pub left_of-requires : goal.left_of-requires
+left_of-requires c = rw (c.deref.ensures.value, c.in_ok-born.ensures) (born_there (seen c.args.self.now) (omega arith))
+
+pub overflow_sub-result : goal.overflow_sub-result
+overflow_sub-result c =
+    let some = c.worlds_are_small.ensures.some_threads _ _ c.self.invariant.reachable in
+    grind (arith, common_steps, some)
+
+pub returns : goal.returns
+returns c =
+    rw (sym c.self.view_is)
+      (tally_as (seen _) c.len.result c.running_in.result c.len-2.result c.saturating_sub.result c.len-5.result c.in_ok-left.left c.in_ok-born.born.items
+        ?
+        (c.running_in.ensures ∙ ?)
+        ?
+        ?
+        ?
+        ?
+        c.len-5.ensures)

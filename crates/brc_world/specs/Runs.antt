@@ -1,0 +1,23 @@
+-- The steps that a schedule lists, and where they lead.
+use Rattle.std.specs.Prelude.{◌≡◌, ℕ, List, ◌++◌, fold, replicate}
+use Rattle.std.specs.List.{flat_map}
+use Rattle.brc_model.specs.declared.thread.Choice.{Choice}
+use Rattle.brc_model.specs.World.{World, step}
+use Rattle.brc_world.specs.declared.schedule.Steps.{Steps}
+
+-- the world after a list of steps, each a thread and a choice
+abbrev pub world_after : World → List (ℕ × Choice) → World
+world_after w events = fold (λ v event. step v event.0 event.1) w events
+
+abbrev pub events_of_line : Steps → List (ℕ × Choice)
+events_of_line line = replicate line.times (line.thread, line.choice)
+
+abbrev pub events_of : List Steps → List (ℕ × Choice)
+events_of lines = flat_map events_of_line lines
+
+-- the world after a beginning of the list
+pub record StandsWithin (old : World) (events : List (ℕ × Choice)) (new : World) : Type 0 where
+  pub made : List (ℕ × Choice)
+  pub left : List (ℕ × Choice)
+  pub parts : events ≡ made ++ left
+  pub stands : new ≡ world_after old made

@@ -1,0 +1,73 @@
+-- The counts of a world, and what stands in it unclosed.
+use Rattle.std.specs.Prelude.{ℕ, ◌+◌, ◌-◌, Bool, ◌==◌, not, nat_lt, if◌then◌else◌, List, length, map, filter, count_by, Option, None, Some, slice_get}
+use Rattle.std.specs.List.{range_with_len}
+use Rattle.brc_word.specs.Words.{closed_word, kind_part}
+use Rattle.brc_lang.specs.declared.kind.Kind.{Kind}
+use Rattle.brc_lang.specs.declared.kind.Kind.TheVariants as kinds
+use Rattle.brc_model.specs.declared.address.Address.TheVariants.{Gate, KindOf}
+use Rattle.brc_model.specs.Duties.{block_of}
+use Rattle.brc_model.specs.Guarantee.{has_gone}
+use Rattle.brc_model.specs.Machine.{Actor, first_row}
+use Rattle.brc_model.specs.World.{World, row_count}
+use Rattle.brc_world.specs.declared.tally.Tally.{Tally}
+use Rattle.brc_world.specs.declared.tally.Left.{Left}
+
+-- ---- threads
+
+abbrev pub still_runs : Actor → Bool
+still_runs a = not (has_gone a.status)
+
+-- ---- rows
+
+abbrev pub used_of : Option Actor → ℕ
+used_of None = 0
+used_of (Some a) = a.used
+
+-- a row is born once its thread has used it
+abbrev pub is_born : World → ℕ → Bool
+is_born w row = nat_lt row (first_row w.rows (block_of w.rows row) + used_of (slice_get w.actors (block_of w.rows row)))
+
+abbrev pub is_closed_row : World → ℕ → Bool
+is_closed_row w row = w.memory (Gate row) == closed_word
+
+-- so many rows from 1 on: what is born and counted, for only none isn't counted
+abbrev pub born_below : World → ℕ → List ℕ
+born_below w n = filter (is_born w) (range_with_len 1 n)
+
+abbrev pub rows_born : World → List ℕ
+rows_born w = born_below w (row_count w - 1)
+
+abbrev pub rows_closed : World → List ℕ
+rows_closed w = filter (is_closed_row w) (rows_born w)
+
+-- by rising row
+abbrev pub rows_left : World → List ℕ
+rows_left w = filter (λ row. not (is_closed_row w row)) (rows_born w)
+
+-- ---- kinds
+
+abbrev pub kind_numbered : ℕ → Kind
+kind_numbered n =
+    if n == 2 then kinds.Num
+    else if n == 3 then kinds.List
+    else if n == 4 then kinds.File
+    else if n == 5 then kinds.Sock
+    else kinds.None
+
+abbrev pub left_in : World → ℕ → Left
+left_in w row = record { row = row; kind = kind_numbered (kind_part (w.memory (KindOf row))) }
+
+-- ---- the report
+
+-- no step yet is a host call, so nothing faults
+abbrev pub tally_of : World → Tally
+tally_of w = record {
+  threads = length w.actors - 1;
+  running = count_by still_runs w.actors;
+  created = length (rows_born w);
+  closed = length (rows_closed w);
+  alive = length (rows_left w);
+  host_faults = 0;
+  close_faults = 0;
+  left = map (left_in w) (rows_left w);
+}

@@ -1,0 +1,42 @@
+//! A schedule's steps, one after another.
+
+ghost use Rattle.std.specs.Prelude.{◌≡◌, ◌<◌, length, OnOk, OnErr};
+ghost use Rattle.std.specs.List.{All};
+ghost use Rattle.brc_world.specs.Worlds.{seen};
+ghost use Rattle.brc_world.specs.Runs.{world_after, events_of_line, events_of, StandsWithin};
+
+use crate::did::Did;
+use crate::no_memory::NoMemory;
+use crate::schedule::{Schedule, Steps};
+use crate::world::World;
+
+impl World<'_> {
+    /// The steps of the schedule in order; its calls are those that the world began with. Where memory is refused, the
+    /// world stands after the steps made so far.
+    pub fn run(&mut self, schedule: &Schedule) -> Result<(), NoMemory>
+        requires { All (λ line. line.thread < length self.old.actors) schedule.now.steps }
+        ensures done { OnOk result (seen self.new ≡ world_after (seen self.old) (events_of schedule.now.steps)) }
+        ensures stopped { OnErr result (StandsWithin (seen self.old) (events_of schedule.now.steps) (seen self.new)) }
+        ensures as_many { length self.new.actors ≡ length self.old.actors }
+    {
+        for line in schedule.steps.as_slice() {
+            self.run_line(*line)?;
+        }
+        Ok(())
+    }
+
+    fn run_line(&mut self, line: Steps) -> Result<(), NoMemory>
+        requires { line.thread < length self.old.actors }
+        ensures done { OnOk result (seen self.new ≡ world_after (seen self.old) (events_of_line line)) }
+        ensures stopped { OnErr result (StandsWithin (seen self.old) (events_of_line line) (seen self.new)) }
+        ensures as_many { length self.new.actors ≡ length self.old.actors }
+    {
+        let thread = usize::from(line.thread);
+        for _ in 0..line.times {
+            if let Did::Gone = self.step(thread, line.choice)? {
+                return Ok(());
+            }
+        }
+        Ok(())
+    }
+}

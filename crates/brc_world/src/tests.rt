@@ -1,0 +1,148 @@
+ghost use Rattle.std.specs.Prelude.{◌≡◌, ◌<◌, ◌≤◌, length, IfOk};
+ghost use Rattle.brc_lang.specs.Grammar.{IsInstruction, IsFunction, IsModule};
+
+use super::*;
+use brc_check::{Checked, check};
+use brc_lang::{Function, Instr, Kind, Module, Name, Sequence, Variable};
+use brc_model::{Call, Choice};
+use std::alloc::{AllocError, Global};
+use std::test::*;
+
+/// The most rounds that any of these worlds takes.
+const ROUNDS: u32 = 10_000;
+
+fn known(instr: Instr) -> Instr
+    ensures same { result ≡ instr }
+    ensures fits { IsInstruction instr }
+{
+    match instr {
+        Instr::Newref { to, from } => {
+            let _numbers = (to.number(), from.number());
+        }
+        Instr::Drop { from } | Instr::Ret { from } => {
+            let _number = from.number();
+        }
+        Instr::Fail => (),
+    }
+    instr
+}
+
+fn function(alloc: Global, code: &[Instr]) -> Result<Function, AllocError>
+    requires some { 0 < length code.now }
+    requires most { length code.now ≤ 256 }
+    ensures { IfOk result (λ f. IsFunction f) }
+{
+    let mut copy = Sequence::new(alloc);
+    for instr in code {
+        copy.push(known(*instr))?;
+    }
+    Ok(Function {
+        name: Name::new(b"f"),
+        code: copy,
+    })
+}
+
+/// A module of the one function.
+pub fn accepted(alloc: Global, code: &[Instr]) -> Result<Checked, Fail>
+    requires some { 0 < length code.now }
+    requires most { length code.now ≤ 256 }
+    ensures { IfOk result (λ checked. length checked.functions ≡ 1) }
+{
+    let mut functions = Sequence::new(alloc);
+    functions.push(function(alloc, code)?)?;
+    match check(alloc, Module { functions }) {
+        Ok(checked) => Ok(checked),
+        Err(_) => Err("nothing is owned at the end")?,
+    }
+}
+
+/// Steps the workers in turn until they are gone, and then main.
+fn finish(world: &mut World<'_>) -> Result<(), NoMemory> {
+    let threads = world.threads();
+    for _ in 0..ROUNDS {
+        for thread in 1..threads {
+            world.step(thread, Choice::Ok)?;
+        }
+    }
+    world.step(0, Choice::Ok)?;
+    Ok(())
+}
+
+pub fn numbers(tally: &Tally) -> [u64; 7] {
+    [
+        tally.threads,
+        tally.running,
+        tally.created,
+        tally.closed,
+        tally.alive,
+        tally.host_faults,
+        tally.close_faults,
+    ]
+}
+
+pub const ROOT_LEFT: [Left; 1] = [Left {
+    row: 1,
+    kind: Kind::List,
+}];
+
+#[test]
+fn smallest_module(rt: HostRuntime) -> Result<(), Fail> {
+    let checked = accepted(rt.alloc(), &[Instr::Fail])?;
+    let calls = [Call {
+        function: 0,
+        times: 1,
+    }];
+    let mut world = World::new(rt.alloc(), &checked, 1, 4, &calls)?;
+    let before = world.tally(rt.alloc())?;
+    assert_eq!(rt; numbers(&before), [1, 2, 1, 0, 1, 0, 0]);
+    assert_eq!(rt; before.left.as_slice(), ROOT_LEFT.as_slice());
+    finish(&mut world)?;
+    let after = world.tally(rt.alloc())?;
+    assert_eq!(rt; numbers(&after), [1, 0, 1, 1, 0, 0, 0]);
+    assert!(rt; after.left.as_slice().is_empty());
+    assert!(rt; world.threads() == 2 && world.is_gone(1));
+    assert_eq!(rt; world.step(1, Choice::Ok)?, Did::Gone);
+    assert_eq!(rt; numbers(&world.tally(rt.alloc())?), [1, 0, 1, 1, 0, 0, 0]);
+    Ok(())
+}
+
+pub fn take_and_drop() -> [Instr; 3] {
+    let v0 = Variable::new(0);
+    let v1 = Variable::new(1);
+    [
+        Instr::Newref { to: v1, from: v0 },
+        Instr::Drop { from: v1 },
+        Instr::Fail,
+    ]
+}
+
+#[test]
+fn four_workers(rt: HostRuntime) -> Result<(), Fail> {
+    let checked = accepted(rt.alloc(), &take_and_drop())?;
+    let call = Call {
+        function: 0,
+        times: 1000,
+    };
+    let mut world = World::new(rt.alloc(), &checked, 4, 1, &[call, call, call, call])?;
+    finish(&mut world)?;
+    let tally = world.tally(rt.alloc())?;
+    assert_eq!(rt; numbers(&tally), [4, 0, 1, 1, 0, 0, 0]);
+    assert!(rt; tally.left.as_slice().is_empty());
+    Ok(())
+}
+
+#[test]
+fn one_step(rt: HostRuntime) -> Result<(), Fail> {
+    let checked = accepted(rt.alloc(), &take_and_drop())?;
+    let call = Call {
+        function: 0,
+        times: 1,
+    };
+    let mut world = World::new(rt.alloc(), &checked, 2, 1024, &[call, call])?;
+    assert!(rt; world.threads() == 3);
+    assert_eq!(rt; world.step(1, Choice::Ok)?, Did::Moved);
+    let tally = world.tally(rt.alloc())?;
+    assert_eq!(rt; numbers(&tally), [2, 3, 1, 0, 1, 0, 0]);
+    assert_eq!(rt; tally.left.as_slice(), ROOT_LEFT.as_slice());
+    Ok(())
+}
