@@ -1,4 +1,4 @@
--- The invariant says what an accepted module promises, so each accepted module is safe over headers.
+-- The invariant says what an accepted module promises, so each accepted module is safe.
 use Rattle.std.proofs.Common.{◌≡◌, ℕ, zero, suc, ◌+◌, ◌<◌, true, false, List, [], ◌∷◌, inl, inr, length, Some, refl, sym, ap, ◌∙◌, subst, arith}
 use Rattle.std.specs.Prelude.{◌==◌, ◌||◌, slice_get, count_by, sum_by, map}
 use Rattle.std.proofs.lemmas.Bool.{eqb-true, eq-eqb, false≢true}
@@ -10,7 +10,6 @@ use Rattle.brc_model.specs.Walks.{IsAcceptable}
 use Rattle.brc_model.specs.Steps.{code_of}
 use Rattle.brc_model.specs.declared.duty.Holding.{Holding}
 use Rattle.brc_model.specs.Plain.{root_row, is_among, references_to}
-use Rattle.brc_model.specs.Safety.{AreCalls}
 use Rattle.brc_model.specs.declared.duty.Duty.{Duty}
 use Rattle.brc_model.specs.declared.address.Address.TheVariants.{Mark, ThreadWord}
 use Rattle.brc_model.specs.Duties.{block_of}
@@ -19,7 +18,7 @@ use Rattle.brc_model.specs.declared.actor.Status.TheVariants.{Running, Leaving, 
 use Rattle.brc_model.specs.declared.actor.Place.{Place}
 use Rattle.brc_model.specs.declared.actor.Place.TheVariants.{Departing}
 use Rattle.brc_model.specs.Machine.{Actor, Life, Unborn, Live, Dying, Closed, Machine, main_actor, worker_actor, first_machine}
-use Rattle.brc_model.specs.Guarantee.{has_gone, AllGone, IsSafeNow, SafeOverHeaders}
+use Rattle.brc_model.specs.Safety.{AreCalls, has_gone, AllGone, IsSafeNow, Safe}
 use Rattle.brc_model.proofs.Bag.{held, one_if, empty_bag}
 use Rattle.brc_model.proofs.Lists.{some_is, list_all_found, slice_get-map}
 use Rattle.brc_model.proofs.Invariant.{nothing, reference_of}
@@ -184,6 +183,6 @@ first_whole m rows calls fits accepted are_calls some = record {
   root_born = λ e. (let wrong : Live ≡ Unborn = e in cc);
 }
 
-pub safe_over_headers : (m : Module) → IsModule m → IsAcceptable m → SafeOverHeaders m
-safe_over_headers m fits accepted = λ rows calls events some most are_calls.
+pub accepted_is_safe : (m : Module) → IsModule m → IsAcceptable m → Safe m
+accepted_is_safe m fits accepted = λ rows calls events some most are_calls.
     safe_now m (1 + length calls) _ (whole_after m (1 + length calls) (first_machine m rows calls) events (first_whole m rows calls fits accepted are_calls some)) (omega arith)

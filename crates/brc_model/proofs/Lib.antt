@@ -9,7 +9,6 @@ pub mod Due
 pub mod Keeping
 pub mod First
 pub mod Few
-pub mod Safe
 pub mod Worked
 pub mod Rows
 pub mod RowSteps

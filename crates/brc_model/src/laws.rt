@@ -3,7 +3,6 @@ ghost use Rattle.brc_lang.specs.declared.module.Module.{Module};
 ghost use Rattle.brc_lang.specs.Grammar.{IsModule};
 ghost use Rattle.brc_model.specs.Walks.{IsAcceptable};
 ghost use Rattle.brc_model.specs.Safety.{AreCalls, Safe};
-ghost use Rattle.brc_model.specs.Guarantee.{SafeOverHeaders};
 ghost use Rattle.brc_model.specs.declared.thread.Call.{Call};
 ghost use Rattle.brc_model.specs.declared.thread.Choice.{Choice};
 ghost use Rattle.brc_model.specs.declared.thread.Choice.TheVariants.{Ok, Fault, Claim};
@@ -14,15 +13,10 @@ ghost use Rattle.brc_model.specs.World.{World, world_of, machine_of, first_world
 ghost use Rattle.brc_model.specs.Progress.{Always, AtEachEvent, StatesRise, OnlyOwnersCount, OwnersStay, ClosedStays, ClosesAnew, ImmortalsStay, ClosedOnce, GatesTell, BornAreUsed};
 ghost use Rattle.brc_model.specs.Within.{StepsWithin};
 
-/// An accepted module is safe, for every number of workers and rows, every list of calls and every list of steps.
+/// An accepted module is safe, for every number of workers and rows, every list of calls, and every list of steps and
+/// choices, wherever the list stops.
 pub fn accepted_is_safe()
     ensures { (m : Module) → IsModule m → IsAcceptable m → Safe m }
-{}
-
-/// An accepted module is safe over biased headers, for every number of workers and rows, every list of calls, and
-/// every list of steps and choices, wherever the list stops.
-pub fn accepted_is_safe_over_headers()
-    ensures { (m : Module) → IsModule m → IsAcceptable m → SafeOverHeaders m }
 {}
 
 /// A machine's step is a step of the world that its threads see: a step looks at nothing else.
