@@ -3,7 +3,6 @@ pub mod Walks
 pub mod Tables
 pub mod Plain
 pub mod Threads
-pub mod Steps
 pub mod Duties
 pub mod Machine
 pub mod Agreement

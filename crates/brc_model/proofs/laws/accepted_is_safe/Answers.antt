@@ -1,5 +1,5 @@
-use Rattle.brc_model.proofs.Guaranteed as guaranteed
+use Rattle.brc_model.proofs.Safe as safe
 use Rattle.brc_model.proofs.laws.accepted_is_safe.Goals as goal
 
 pub returns : goal.returns
-returns c = guaranteed.accepted_is_safe
+returns c = safe.accepted_is_safe

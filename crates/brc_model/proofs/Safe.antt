@@ -7,7 +7,7 @@ use Rattle.brc_lang.specs.declared.module.Module.{Module}
 use Rattle.brc_lang.specs.Grammar.{IsModule}
 use Rattle.brc_model.specs.declared.thread.Call.{Call}
 use Rattle.brc_model.specs.Walks.{IsAcceptable}
-use Rattle.brc_model.specs.Steps.{code_of}
+use Rattle.brc_model.specs.Threads.{code_of}
 use Rattle.brc_model.specs.declared.duty.Holding.{Holding}
 use Rattle.brc_model.specs.Plain.{root_row, is_among, references_to}
 use Rattle.brc_model.specs.declared.duty.Duty.{Duty}
@@ -21,7 +21,7 @@ use Rattle.brc_model.specs.Machine.{Actor, Life, Unborn, Live, Dying, Closed, Ma
 use Rattle.brc_model.specs.Safety.{AreCalls, has_gone, AllGone, IsSafeNow, Safe}
 use Rattle.brc_model.proofs.Bag.{held, one_if, empty_bag}
 use Rattle.brc_model.proofs.Lists.{some_is, list_all_found, slice_get-map}
-use Rattle.brc_model.proofs.Invariant.{nothing, reference_of}
+use Rattle.brc_model.proofs.Holds.{nothing, reference_of}
 use Rattle.brc_model.proofs.Rows.{waits, carries, merges, decides, agenda_weight, weight, IsDefault, IsQueued, AtZero, AboveZero, InOwned, InSwapped, InMerged, IsLive, RowRule}
 use Rattle.brc_model.proofs.Rule.{numbers_of, HoldsAt, PlaceFits, AgendaFits, scans, Linked, dies_by, hand_of, looks, ByRunning, ByExit, ByLook, Rule, status_word}
 use Rattle.brc_model.proofs.Agreeing.{agrees_at, is_free_of}
