@@ -1,5 +1,5 @@
 use Rattle.brc_model.proofs.Worlds as worlds
-use Rattle.brc_model.proofs.laws.worlds_lead_on.Goals as goal
+use Rattle.brc_model.proofs.world_laws.worlds_lead_on.Goals as goal
 
 pub returns-clause-first : goal.returns-clause-first
 returns-clause-first c = worlds.first_reachable

@@ -1,5 +1,5 @@
 use Rattle.brc_model.proofs.StepsAreWithin as within
-use Rattle.brc_model.proofs.laws.worlds_are_small.Goals as goal
+use Rattle.brc_model.proofs.world_laws.worlds_are_small.Goals as goal
 
 pub returns-clause-functions : goal.returns-clause-functions
 returns-clause-functions c = within.same_functions

@@ -1,5 +1,5 @@
 use Rattle.brc_model.proofs.StepsMove.{going_on_moves, claim_moves, claim_misses, claim_stays, gone_stays}
-use Rattle.brc_model.proofs.laws.steps_move.Goals as goal
+use Rattle.brc_model.proofs.world_laws.steps_move.Goals as goal
 
 pub returns-clause-goes_on : goal.returns-clause-goes_on
 returns-clause-goes_on c = going_on_moves
