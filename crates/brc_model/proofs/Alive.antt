@@ -13,7 +13,7 @@ use Rattle.brc_model.specs.declared.actor.Place.{Place}
 use Rattle.brc_model.specs.declared.actor.Place.TheVariants.{Standing, Inside, Departing}
 use Rattle.brc_model.specs.Machine.{Life, Unborn, Live, Dying, Closed, Actor, Machine}
 use Rattle.brc_model.proofs.Bag.{held, one_if, held-le-references_to}
-use Rattle.brc_model.proofs.Invariant.{nothing, the_root, of_variables, reference_of}
+use Rattle.brc_model.proofs.Holds.{nothing, the_root, of_variables, reference_of}
 use Rattle.brc_model.proofs.Rows.{waits, merges, decides, agenda_weight, weight, Numbers, IsLive, RowRule}
 use Rattle.brc_model.proofs.Rule.{numbers_of, extra_of, lacks_of, HoldsAt, PlaceFits, IsBacked, Rule}
 

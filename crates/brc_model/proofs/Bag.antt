@@ -2,7 +2,7 @@
 use Rattle.std.proofs.Common.{◌≡◌, ◌≢◌, ℕ, ◌+◌, ◌<◌, ◌≤◌, Bool, true, false, cond, List, [], ◌∷◌, refl, sym, ap, ◌∙◌, arith}
 use Rattle.std.specs.Prelude.{◌==◌, ◌&&◌, count_by}
 use Rattle.std.specs.List.{list_any}
-use Rattle.std.proofs.lemmas.Bool.{eqb-true, eq-eqb}
+use Rattle.std.proofs.lemmas.Bool.{eqb-true, eq-eqb, false≢true}
 use Rattle.std.proofs.lemmas.List.Sums.{sum_by-cons}
 use Rattle.brc_model.proofs.Lists.{and_first, and_second}
 use Rattle.brc_model.specs.declared.duty.Holding.{Holding}
@@ -47,6 +47,17 @@ same-refl r = rw (eq-eqb r.thread r.thread refl, same_holding-refl r.holding, eq
 pub same-other_thread : (r q : Reference) → r.thread ≢ q.thread → same r q ≡ false
 same-other_thread r q ne =
     elim (same r q) as (λ b. same r q ≡ b → same r q ≡ false) [ true ↦ λ e. absurd (ne (ap (λ (x : Reference). x.thread) (same-true r q e))) | false ↦ λ e. e ] refl
+
+-- a reference that is held otherwise is another reference
+pub same-other_holding : (r q : Reference) → same_holding r.holding q.holding ≡ false → same r q ≡ false
+same-other_holding r q other =
+    elim (same r q) as (λ b. same r q ≡ b → b ≡ false) [
+      | true ↦ λ e.
+          let both : q.holding ≡ r.holding = sym (ap (λ (x : Reference). x.holding) (same-true r q e)) in
+          let itself : same_holding r.holding q.holding ≡ true = ap (same_holding r.holding) both ∙ same_holding-refl r.holding in
+          absurd (false≢true (sym other ∙ itself))
+      | false ↦ λ e. refl
+    ] refl
 
 -- ---- a reference is there, or isn't
 

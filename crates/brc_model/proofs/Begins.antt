@@ -20,8 +20,8 @@ use Rattle.brc_model.specs.declared.actor.Place.TheVariants.{Standing, Inside, D
 use Rattle.brc_model.specs.Machine.{Begun, Stuck, Quiet, Work, with_row, first_row}
 use Rattle.brc_model.proofs.Bag.{held, one_if}
 use Rattle.brc_model.proofs.Lists.{none_at}
-use Rattle.brc_model.proofs.Invariant.{the_root, of_variables, reference_of, Holds}
-use Rattle.brc_model.proofs.Held.{slot_of-put_same, slot_of-put_other, row_of-set_same, row_of-set_other}
+use Rattle.brc_model.proofs.Holds.{the_root, of_variables, reference_of, Holds}
+use Rattle.brc_model.proofs.Grounded.{slot_of-put_same, slot_of-put_other, row_of-set_same, row_of-set_other}
 use Rattle.brc_model.proofs.OwnCounts.{flip_eqb}
 use Rattle.brc_model.proofs.Rule.{HoldsAt, PlaceFits}
 

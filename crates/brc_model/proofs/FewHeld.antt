@@ -16,12 +16,12 @@ use Rattle.brc_model.specs.declared.duty.Duty.TheVariants.{ReleaseLoad, ReleaseS
 use Rattle.brc_model.specs.declared.actor.Place.{Place}
 use Rattle.brc_model.specs.declared.actor.Place.TheVariants.{Standing, Inside, Departing}
 use Rattle.brc_model.specs.Plain.{Reference, same, references_to}
-use Rattle.brc_model.specs.Steps.{code_of}
+use Rattle.brc_model.specs.Threads.{code_of}
 use Rattle.brc_model.specs.Machine.{Actor, Machine}
 use Rattle.brc_model.proofs.Bag.{held, one_if, same_holding-true, same-true, same-refl, held-cons, references_to-cons}
 use Rattle.brc_model.proofs.Lists.{and_first}
-use Rattle.brc_model.proofs.Invariant.{nothing, the_root, of_variables, reference_of}
-use Rattle.brc_model.proofs.Few.{owned_low}
+use Rattle.brc_model.proofs.Holds.{nothing, the_root, of_variables, reference_of}
+use Rattle.brc_model.proofs.Grounded.{owned_low}
 use Rattle.brc_model.proofs.Rule.{extra, extra_of, HoldsAt, PlaceFits, Rule}
 
 -- ---- a list that all references to an object are among

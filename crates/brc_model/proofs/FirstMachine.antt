@@ -1,27 +1,40 @@
--- The rule holds of the first state over headers.
-use Rattle.std.proofs.Common.{◌≡◌, ◌≢◌, ℕ, zero, suc, ◌+◌, ◌<◌, ◌≤◌, Bool, true, false, cond, List, [], ◌∷◌, inl, length, Some, refl, sym, ap, subst, arith}
+-- The rule holds of the first machine.
+use Rattle.std.proofs.Common.{◌≡◌, ◌≢◌, ℕ, zero, suc, ◌+◌, ◌<◌, ◌≤◌, Bool, true, false, cond, List, [], ◌∷◌, inl, length, Option, Some, refl, sym, ap, subst, arith}
 use Rattle.std.specs.Prelude.{slice_get, map}
 use Rattle.std.proofs.lemmas.Bool.{eqb-true, eq-eqb}
 use Rattle.std.proofs.lemmas.List.{length-map}
 use Rattle.std.proofs.lemmas.List.Sums.{sum_by-cons}
 use Rattle.std.proofs.lemmas.Option.{slice_get_within}
 use Rattle.brc_lang.specs.declared.module.Module.{Module}
-use Rattle.brc_lang.specs.Grammar.{IsModule}
+use Rattle.brc_lang.specs.declared.module.Function.{Function}
+use Rattle.brc_lang.specs.Grammar.{IsInstruction, IsFunction, IsModule}
 use Rattle.brc_model.specs.declared.thread.Call.{Call}
-use Rattle.brc_model.specs.Walks.{IsAcceptable}
-use Rattle.brc_model.specs.Steps.{callers_below}
+use Rattle.brc_model.specs.Walks.{IsAcceptableCode, IsAcceptable}
+use Rattle.brc_model.specs.Threads.{code_of}
+use Rattle.brc_model.specs.Machine.{callers_below, Actor, Unborn, Closed, main_actor, worker_actor, first_memory, first_life, first_machine}
 use Rattle.brc_model.specs.Safety.{IsCall, AreCalls}
 use Rattle.brc_model.specs.declared.duty.Duty.{Duty}
 use Rattle.brc_model.specs.declared.address.Address.TheVariants.{ThreadWord}
 use Rattle.brc_model.specs.Duties.{block_of}
 use Rattle.brc_model.specs.declared.actor.Place.TheVariants.{Standing, Departing}
-use Rattle.brc_model.specs.Machine.{Actor, Unborn, Closed, main_actor, worker_actor, first_memory, first_life, first_machine}
 use Rattle.brc_model.proofs.Bag.{one_if}
-use Rattle.brc_model.proofs.Lists.{some_is, all_of_found, slice_get-map}
-use Rattle.brc_model.proofs.First.{callers_beyond, callers_hold, root_references, other_references, function_fits}
-use Rattle.brc_model.proofs.Invariant.{the_root}
+use Rattle.brc_model.proofs.Lists.{some_is, all_at, all_of_found, slice_get-map}
+use Rattle.brc_model.proofs.Callers.{callers_beyond, callers_hold, root_references, other_references}
+use Rattle.brc_model.proofs.Grounded.{AreInstructions}
+use Rattle.brc_model.proofs.Holds.{the_root}
 use Rattle.brc_model.proofs.Rows.{waits, carries, merges, decides, agenda_weight, weight, IsDefault, AboveZero, InOwned, RowRule}
 use Rattle.brc_model.proofs.Rule.{numbers_of, HoldsAt, ChainFits, ActorFits, AgendaFits, HandedOnce, dies_by, Rule}
+
+-- ---- the code of each function
+
+function_fits : (m : Module) (i : ℕ) → IsModule m → IsAcceptable m → i < length m.functions → IsAcceptableCode (code_of (slice_get m.functions i)) × AreInstructions (code_of (slice_get m.functions i))
+function_fits m i fits accepted within =
+    let good = all_at (λ (f : Function). IsAcceptableCode f.code) m.functions i accepted within in
+    let form = all_of_found IsFunction m.functions i good.found fits.functions good.is_there in
+    let P : Option Function → Type 0 = λ o. IsAcceptableCode (code_of o) × AreInstructions (code_of o) in
+    subst P (sym good.is_there) (good.holds, record { each = λ at instr found. all_of_found IsInstruction good.found.code at instr form.code found })
+
+-- ---- the rows
 
 -- nobody has anything to do
 no_weight : (f : Duty → ℕ) (calls : List Call) → weight f (map worker_actor calls) ≡ 0

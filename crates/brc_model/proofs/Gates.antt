@@ -23,7 +23,7 @@ use Rattle.brc_model.proofs.Closing.{GoesOn, BeginsToDie, IsClosed, life_step}
 use Rattle.brc_model.proofs.ClosedAfter.{live_not_closed, dying_not_closed}
 use Rattle.brc_model.proofs.Whole.{Whole}
 use Rattle.brc_model.proofs.WholeEvents.{event_keeps, whole_after}
-use Rattle.brc_model.proofs.Guaranteed.{first_whole}
+use Rattle.brc_model.proofs.Safe.{first_whole}
 use Rattle.brc_model.proofs.StepCases.{ShowsSteps, at_duty, event_shows}
 
 -- ---- what a step does to a gate

@@ -15,7 +15,7 @@ use Rattle.brc_model.specs.declared.address.Address.TheVariants.{Local, Shared, 
 use Rattle.brc_model.specs.Duties.{block_of, address_of, left_by}
 use Rattle.brc_model.specs.Machine.{Actor, Dying, Machine, written}
 use Rattle.brc_model.proofs.Bag.{held, one_if, held-le-references_to}
-use Rattle.brc_model.proofs.Invariant.{reference_of}
+use Rattle.brc_model.proofs.Holds.{reference_of}
 use Rattle.brc_model.proofs.Rows.{waits, decides, merges, InOwned, InSwapped, InMerged}
 use Rattle.brc_model.proofs.RowSteps.{shared_range, shared_up, shared_down, shared_merged}
 use Rattle.brc_model.proofs.Rule.{extra_of, lacks_of, OwnsLocally, FollowsHanded, HeadFits, HeadOf, dies_by, Rule, status_word}

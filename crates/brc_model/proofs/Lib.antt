@@ -1,15 +1,9 @@
 pub mod Bag
 pub mod Lists
-pub mod Invariant
-pub mod Counts
-pub mod Allowed
+pub mod Holds
 pub mod Passing
-pub mod Held
-pub mod Due
-pub mod Keeping
-pub mod First
-pub mod Few
-pub mod Safe
+pub mod Grounded
+pub mod Callers
 pub mod Worked
 pub mod Rows
 pub mod RowSteps
@@ -54,7 +48,7 @@ pub mod OwnExits
 pub mod Watches
 pub mod Whole
 pub mod WholeEvents
-pub mod Guaranteed
+pub mod Safe
 pub mod FewHeld
 pub mod Ranges
 pub mod RangesEvents

@@ -10,7 +10,7 @@ use Rattle.brc_model.specs.declared.duty.Duty.{Duty}
 use Rattle.brc_model.specs.declared.duty.Duty.TheVariants.{RetainLoad, RetainStore, RetainAdd, ReleaseLoad, ReleaseStore, SharedExchange, SettleEnd}
 use Rattle.brc_model.specs.Machine.{hand_on, gain, lose, moves_by}
 use Rattle.brc_model.proofs.Bag.{held, one_if, same-true, same-other_thread, held-cons}
-use Rattle.brc_model.proofs.Invariant.{reference_of}
+use Rattle.brc_model.proofs.Holds.{reference_of}
 
 -- what another reference's loss leaves
 pub held-without_apart : (x r : Reference) (bag : List Reference) → same x r ≡ false → held x (without r bag) ≡ held x bag

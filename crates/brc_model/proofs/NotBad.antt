@@ -20,7 +20,7 @@ use Rattle.brc_model.specs.declared.actor.Place.TheVariants.{Standing, Inside, D
 use Rattle.brc_model.specs.Machine.{Actor, Unborn, Live, Dying, Closed, Machine, hand_on, gain, lose, moves_by}
 use Rattle.brc_model.specs.Events.{touched_row, is_freed_for, touches_freed, is_bad_duty}
 use Rattle.brc_model.proofs.Bag.{held, one_if, same_holding-refl, held_has, held-le-references_to}
-use Rattle.brc_model.proofs.Invariant.{nothing, the_root, of_variables, reference_of}
+use Rattle.brc_model.proofs.Holds.{nothing, the_root, of_variables, reference_of}
 use Rattle.brc_model.proofs.Rows.{waits, decides, merges, InOwned, InSwapped, InMerged}
 use Rattle.brc_model.proofs.Rule.{extra_of, lacks_of, HoldsAt, PlaceFits, IsBacked, Linked, dies_by, Rule}
 use Rattle.brc_model.proofs.Agreeing.{is_free_of}

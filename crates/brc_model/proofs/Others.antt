@@ -17,7 +17,7 @@ use Rattle.brc_model.specs.declared.actor.Place.{Place}
 use Rattle.brc_model.specs.declared.actor.Place.TheVariants.{Standing, Inside, Departing}
 use Rattle.brc_model.specs.Machine.{Actor, Life, Unborn, Live, Dying, Closed, Machine}
 use Rattle.brc_model.proofs.Bag.{held, one_if}
-use Rattle.brc_model.proofs.Invariant.{the_root, nothing, of_variables, reference_of}
+use Rattle.brc_model.proofs.Holds.{the_root, nothing, of_variables, reference_of}
 use Rattle.brc_model.proofs.Rule.{HoldsAt, PlaceFits, OwnsLocally, IsBacked, MayMerge, IsMergeOf, HeadFits, HeadOf, Linked, dies_by, ChainFits, ActorFits}
 
 -- what the others rely on

@@ -1,5 +1,5 @@
 -- A thread after its own step: what it holds, its chain and its agenda, put together from what the step changed.
-use Rattle.std.proofs.Common.{◌≡◌, ℕ, zero, suc, ◌+◌, ◌<◌, Bool, false, List, [], ◌∷◌, refl, arith}
+use Rattle.std.proofs.Common.{◌≡◌, ℕ, zero, suc, ◌+◌, Bool, false, List, [], ◌∷◌, refl, arith}
 use Rattle.brc_lang.specs.declared.module.Instr.{Instr}
 use Rattle.brc_model.specs.declared.duty.Holding.{Holding}
 use Rattle.brc_model.specs.Plain.{Reference}
@@ -13,7 +13,7 @@ use Rattle.brc_model.specs.declared.actor.Place.{Place}
 use Rattle.brc_model.specs.declared.actor.Place.TheVariants.{Standing, Inside, Departing}
 use Rattle.brc_model.specs.Machine.{Actor, Machine}
 use Rattle.brc_model.proofs.Bag.{held, one_if}
-use Rattle.brc_model.proofs.Invariant.{the_root, nothing, of_variables, reference_of}
+use Rattle.brc_model.proofs.Holds.{the_root, nothing, of_variables, reference_of}
 use Rattle.brc_model.proofs.Rule.{extra_of, lacks_of, HoldsAt, PlaceFits, HeadOf, Later, Agenda, NoneHanded, HandedOnce, hand_of, dies_by, ChainFits}
 use Rattle.brc_model.proofs.Others.{linked_kept}
 
@@ -33,24 +33,6 @@ place_step code bag new t agenda later (Inside left at variables) step fits = (f
 place_step code bag new t agenda later Departing step fits = holds_step bag new t nothing agenda later step fits
 
 -- ---- agendas
-
--- a duty that isn't passed over stays first
-pub data IsFirst : Duty → Type 0 where
-  First : (d : Duty) → ((head : ℕ) (rest : List Duty) → ready head (d ∷ rest) ≡ d ∷ rest) → IsFirst d
-
-pub ready_settle : (head : ℕ) (rest : List Duty) → 0 < head → ready head (Settle ∷ rest) ≡ Settle ∷ rest
-ready_settle zero rest some = absurd (omega arith)
-ready_settle (suc head) rest some = refl
-
-pub ready_scan : (head x k : ℕ) (rest : List Duty) → 0 < k → ready head (Scan x k ∷ rest) ≡ Scan x k ∷ rest
-ready_scan zero x zero rest some = absurd (omega arith)
-ready_scan zero x (suc k) rest some = refl
-ready_scan (suc head) x zero rest some = absurd (omega arith)
-ready_scan (suc head) x (suc k) rest some = refl
-
-pub ready_scan_none : (head x : ℕ) (rest : List Duty) → ready head (Scan x zero ∷ rest) ≡ ready head rest
-ready_scan_none zero x rest = refl
-ready_scan_none (suc head) x rest = refl
 
 -- what is known of an agenda that begins with duties for later
 pub record IsReady (rows t used : ℕ) (status : Status) (place : Place) (head : ℕ) (agenda : List Duty) : Type 0 where

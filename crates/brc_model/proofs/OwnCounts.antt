@@ -13,7 +13,7 @@ use Rattle.brc_model.specs.declared.duty.Duty.TheVariants.{RetainLoad}
 use Rattle.brc_model.specs.declared.address.Address.TheVariants.{Local}
 use Rattle.brc_model.specs.Machine.{Actor, Machine}
 use Rattle.brc_model.proofs.Bag.{one_if, held-cons, held-without}
-use Rattle.brc_model.proofs.Invariant.{reference_of}
+use Rattle.brc_model.proofs.Holds.{reference_of}
 use Rattle.brc_model.proofs.Rows.{InOwned, InSwapped, InMerged}
 use Rattle.brc_model.proofs.Rule.{extra_of, lacks_of}
 use Rattle.brc_model.proofs.Alive.{alive_backed}

@@ -20,7 +20,7 @@ use Rattle.brc_model.specs.declared.actor.Place.{Place}
 use Rattle.brc_model.specs.declared.actor.Place.TheVariants.{Standing, Inside, Departing}
 use Rattle.brc_model.specs.Machine.{Actor, Machine, is_running, lose, hand_on, done_by, actor_by}
 use Rattle.brc_model.proofs.Bag.{held, one_if, same_holding-refl, held-cons, held-without, held_has, held-le-references_to}
-use Rattle.brc_model.proofs.Invariant.{nothing, the_root, of_variables, reference_of}
+use Rattle.brc_model.proofs.Holds.{nothing, the_root, of_variables, reference_of}
 use Rattle.brc_model.proofs.Rows.{InOwned, InSwapped, InMerged}
 use Rattle.brc_model.proofs.RowSteps.{owner_down}
 use Rattle.brc_model.proofs.Rule.{extra_of, lacks_of, HoldsAt, PlaceFits, NoneHanded, HandedOnce}

@@ -16,7 +16,7 @@ use Rattle.brc_model.specs.declared.actor.Status.TheVariants.{Running, Leaving, 
 use Rattle.brc_model.specs.Machine.{Actor, Machine, is_running, gain, done_by, actor_by}
 use Rattle.brc_model.proofs.Lists.{and_first, and_second}
 use Rattle.brc_model.proofs.Bag.{held}
-use Rattle.brc_model.proofs.Invariant.{reference_of}
+use Rattle.brc_model.proofs.Holds.{reference_of}
 use Rattle.brc_model.proofs.Rows.{decides, agenda_weight, weight, InOwned, InSwapped, InMerged, AtZero, AboveZero}
 use Rattle.brc_model.proofs.Rule.{extra_of, lacks_of, OwnsLocally, IsBacked, Rule}
 use Rattle.brc_model.proofs.Alive.{Alive, alive_backed}

@@ -14,7 +14,7 @@ use Rattle.brc_model.specs.declared.address.Address.TheVariants.{Local, Shared}
 use Rattle.brc_model.specs.Duties.{block_of, counts_locally}
 use Rattle.brc_model.specs.Machine.{Live, Dying, Actor, Machine, gain, lose, hand_on}
 use Rattle.brc_model.proofs.Bag.{references_to-cons, same_holding-refl}
-use Rattle.brc_model.proofs.Invariant.{reference_of}
+use Rattle.brc_model.proofs.Holds.{reference_of}
 use Rattle.brc_model.proofs.RowSteps.{local_up, local_down, local_to_zero, zero_dies, shared_gained}
 use Rattle.brc_model.proofs.Rule.{numbers_of}
 use Rattle.brc_model.proofs.RowsAfterStep.{Doing, head_fits_of, KeepsRow, weighed, row_becomes, row_quiet}

@@ -16,7 +16,7 @@ use Rattle.brc_model.specs.declared.actor.Place.{Place}
 use Rattle.brc_model.specs.declared.actor.Place.TheVariants.{Standing, Inside, Departing}
 use Rattle.brc_model.specs.Machine.{Life, Actor, Machine, written, same_address, with_life, ended_row, done_by}
 use Rattle.brc_model.proofs.Bag.{held, one_if, held_has, held-le-references_to, references_to-without}
-use Rattle.brc_model.proofs.Invariant.{nothing, the_root, of_variables, reference_of}
+use Rattle.brc_model.proofs.Holds.{nothing, the_root, of_variables, reference_of}
 use Rattle.brc_model.proofs.Rows.{Numbers, InOwned, InSwapped, InMerged, IsLive}
 use Rattle.brc_model.proofs.Rule.{numbers_of, extra, lacks, extra_of, lacks_of, HoldsAt, PlaceFits, IsBacked}
 use Rattle.brc_model.proofs.RowsAfterStep.{Doing, following, KeepsRow, IsQuiet, row_quiet, Lives, row_lives}

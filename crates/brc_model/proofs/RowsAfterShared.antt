@@ -14,7 +14,7 @@ use Rattle.brc_model.specs.declared.address.Address.{Address}
 use Rattle.brc_model.specs.declared.address.Address.TheVariants.{Shared}
 use Rattle.brc_model.specs.Duties.{block_of}
 use Rattle.brc_model.specs.Machine.{Live, Dying, Actor, Machine, written, lose, moves_by}
-use Rattle.brc_model.proofs.Invariant.{reference_of}
+use Rattle.brc_model.proofs.Holds.{reference_of}
 use Rattle.brc_model.proofs.Rows.{waits}
 use Rattle.brc_model.proofs.RowSteps.{shared_queued, shared_lost, shared_dies, handed_lost, handed_dies}
 use Rattle.brc_model.proofs.Rule.{numbers_of}

@@ -1,4 +1,4 @@
--- What holds of each state of the step world over headers: each row's rule, what each thread holds and knows, and that the
+-- What holds of each machine that steps lead to: each row's rule, what each thread holds and knows, and that the
 -- dying rows are at hand or chained.
 use Rattle.std.proofs.Common.{◌≡◌, ◌≢◌, ℕ, ◌+◌, ◌<◌, ◌≤◌, Bool, true, false, List, [], ◌∷◌, ◌⊎◌, length, Some}
 use Rattle.std.specs.Prelude.{◌==◌, ◌&&◌, nat_le, slice_get, count_by, AllPairs}
@@ -9,7 +9,7 @@ use Rattle.brc_model.specs.Walks.{IsAcceptableCode}
 use Rattle.brc_model.specs.declared.duty.Holding.{Holding}
 use Rattle.brc_model.specs.declared.duty.Holding.TheVariants.{InHand}
 use Rattle.brc_model.specs.Plain.{Reference, same_holding, is_among, references_to}
-use Rattle.brc_model.specs.Steps.{code_of}
+use Rattle.brc_model.specs.Threads.{code_of}
 use Rattle.brc_word.specs.Words.{owner_part, local_part, phase_part, dying_word}
 use Rattle.brc_model.specs.declared.duty.Reason.TheVariants.{Own, Handed}
 use Rattle.brc_model.specs.declared.duty.Duty.{Duty}
@@ -23,7 +23,8 @@ use Rattle.brc_model.specs.declared.actor.Place.{Place}
 use Rattle.brc_model.specs.declared.actor.Place.TheVariants.{Standing, Inside, Departing}
 use Rattle.brc_model.specs.Machine.{Actor, Life, Unborn, Live, Dying, Closed, Machine, first_row}
 use Rattle.brc_model.proofs.Bag.{held, one_if}
-use Rattle.brc_model.proofs.Invariant.{nothing, the_root, of_variables, reference_of, IsInside, AreInstructions}
+use Rattle.brc_model.proofs.Holds.{nothing, the_root, of_variables, reference_of}
+use Rattle.brc_model.proofs.Grounded.{IsInside, AreInstructions}
 use Rattle.brc_model.proofs.Rows.{waits, carries, merges, decides, weight, Numbers, RowRule}
 
 -- ---- rows

@@ -1,79 +1,188 @@
--- The invariant holds after every list of steps, so an accepted module is safe.
-use Rattle.std.proofs.Common.{◌≡◌, ◌≢◌, ℕ, ◌+◌, true, false, List, [], ◌∷◌, length, refl, sym, ap, ◌∙◌, subst, arith, inl, inr}
-use Rattle.std.specs.Prelude.{◌==◌, ◌||◌, AllPairs}
-use Rattle.std.proofs.lemmas.Bool.{eqb-true}
+-- The invariant says what an accepted module promises, so each accepted module is safe.
+use Rattle.std.proofs.Common.{◌≡◌, ℕ, zero, suc, ◌+◌, ◌<◌, true, false, List, [], ◌∷◌, inl, inr, length, Some, refl, sym, ap, ◌∙◌, subst, arith}
+use Rattle.std.specs.Prelude.{◌==◌, ◌||◌, slice_get, count_by, sum_by, map}
+use Rattle.std.proofs.lemmas.Bool.{eqb-true, eq-eqb, false≢true}
 use Rattle.std.proofs.lemmas.Option.{slice_get_cases}
-use Rattle.brc_lang.specs.declared.module.Instr.{Instr}
 use Rattle.brc_lang.specs.declared.module.Module.{Module}
 use Rattle.brc_lang.specs.Grammar.{IsModule}
-use Rattle.brc_model.specs.declared.thread.Choice.{Choice}
-use Rattle.brc_model.specs.declared.thread.Control.{Control}
-use Rattle.brc_model.specs.declared.thread.Control.TheVariants.{Standing, Inside, Gone}
-use Rattle.brc_model.specs.declared.thread.Thread.{Thread}
+use Rattle.brc_model.specs.declared.thread.Call.{Call}
 use Rattle.brc_model.specs.Walks.{IsAcceptable}
-use Rattle.brc_model.specs.Plain.{root_row, is_among, Reference, references_to}
-use Rattle.brc_model.specs.Steps.{Scene, first_scene, next_scene, scene_after}
-use Rattle.brc_model.specs.Safety.{is_gone, IsDone, ClosedExactly, IsSafeAt, Safe}
-use Rattle.brc_model.proofs.Bag.{empty_bag}
-use Rattle.brc_model.proofs.Lists.{list_all_found}
-use Rattle.brc_model.proofs.Invariant.{nothing, Holds, FitsControl, Keeps}
-use Rattle.brc_model.proofs.Keeping.{keeps_step}
-use Rattle.brc_model.proofs.First.{first_keeps}
-use Rattle.brc_model.proofs.Few.{few_references}
-
-pub keeps_after : (m : Module) (n : ℕ) (sc : Scene) (events : List (ℕ × Choice)) → Keeps m n sc → Keeps m n (scene_after sc events)
-keeps_after m n sc [] keeps = keeps
-keeps_after m n sc (e ∷ events) keeps = keeps_after m n (next_scene sc e) events (keeps_step m n sc e keeps).1
+use Rattle.brc_model.specs.Threads.{code_of}
+use Rattle.brc_model.specs.declared.duty.Holding.{Holding}
+use Rattle.brc_model.specs.Plain.{root_row, is_among, references_to}
+use Rattle.brc_model.specs.declared.duty.Duty.{Duty}
+use Rattle.brc_model.specs.declared.address.Address.TheVariants.{Mark, ThreadWord}
+use Rattle.brc_model.specs.Duties.{block_of}
+use Rattle.brc_model.specs.declared.actor.Status.{Status}
+use Rattle.brc_model.specs.declared.actor.Status.TheVariants.{Running, Leaving, Gone}
+use Rattle.brc_model.specs.declared.actor.Place.{Place}
+use Rattle.brc_model.specs.declared.actor.Place.TheVariants.{Departing}
+use Rattle.brc_model.specs.Machine.{Actor, Life, Unborn, Live, Dying, Closed, Machine, main_actor, worker_actor, first_machine}
+use Rattle.brc_model.specs.Safety.{AreCalls, has_gone, AllGone, IsSafeNow, Safe}
+use Rattle.brc_model.proofs.Bag.{held, one_if, empty_bag}
+use Rattle.brc_model.proofs.Lists.{some_is, list_all_found, slice_get-map}
+use Rattle.brc_model.proofs.Holds.{nothing, reference_of}
+use Rattle.brc_model.proofs.Rows.{waits, carries, merges, decides, agenda_weight, weight, IsDefault, IsQueued, AtZero, AboveZero, InOwned, InSwapped, InMerged, IsLive, RowRule}
+use Rattle.brc_model.proofs.Rule.{numbers_of, HoldsAt, PlaceFits, AgendaFits, scans, Linked, dies_by, hand_of, looks, ByRunning, ByExit, ByLook, Rule, status_word}
+use Rattle.brc_model.proofs.Agreeing.{agrees_at, is_free_of}
+use Rattle.brc_model.proofs.Deciders.{sum_zero}
+use Rattle.brc_model.proofs.OwnExits.{IsSettled}
+use Rattle.brc_model.proofs.FirstMachine.{first_rule}
+use Rattle.brc_model.proofs.Whole.{used_rows, Whole}
+use Rattle.brc_model.proofs.WholeEvents.{event_keeps, whole_after}
 
 -- ---- when all threads are gone
 
-gone_holds : (code : List Instr) (bag : List Reference) (t : ℕ) (control : Control) → is_gone control ≡ true → FitsControl code bag t control → Holds bag t nothing
-gone_holds code bag t (Standing left) e fits = absurd cc
-gone_holds code bag t (Inside left at rows) e fits = absurd cc
-gone_holds code bag t Gone e fits = fits
+gone_is : (status : Status) → has_gone status ≡ true → status ≡ Gone
+gone_is Running e = absurd cc
+gone_is Leaving e = absurd cc
+gone_is Gone e = refl
 
-all_hold_nothing : (m : Module) (n : ℕ) (sc : Scene) (t : ℕ) → Keeps m n sc → IsDone sc.world → Holds sc.plain.references t nothing
-all_hold_nothing m n sc t keeps done =
-    elim (slice_get_cases sc.world.threads t).1 [
+pub record IsGoneAt (m : Machine) (t : ℕ) (a : Actor) : Type 0 where
+  pub status : a.status ≡ Gone
+  pub agenda : a.agenda ≡ []
+  pub place : a.place ≡ Departing
+  pub head : a.head ≡ 0
+
+gone_at : (p : Module) (n : ℕ) (m : Machine) (t : ℕ) (a : Actor) → Rule p n m → AllGone m → slice_get m.actors t ≡ Some a → IsGoneAt m t a
+gone_at p n m t a rule done found =
+    let status : a.status ≡ Gone = gone_is a.status (list_all_found (λ (b : Actor). has_gone b.status) m.actors t a done found) in
+    let fits : AgendaFits m.rows t a Gone = subst (λ (s : Status). AgendaFits m.rows t a s) status (rule.each t a found).1 in
+    record { status = status; agenda = fits.0; place = fits.1; head = fits.2 }
+
+gone_holds : (p : Module) (n : ℕ) (m : Machine) (t : ℕ) (k : Holding) (object : ℕ) → Rule p n m → AllGone m → held (reference_of t k object) m.plain.references ≡ 0
+gone_holds p n m t k object rule done =
+    elim (slice_get_cases m.actors t).1 [
       | inl found ↦
-          let gone : is_gone found.0.control ≡ true = list_all_found (λ (thread : Thread). is_gone thread.control) sc.world.threads t found.0 done found.2 in
-          gone_holds _ sc.plain.references t found.0.control gone (keeps.each t found.0 found.2).stands
-      | inr past ↦ keeps.beyond t (omega (arith, past.0, keeps.threads))
+          let a = found.0 in
+          let gone = gone_at p n m t a rule done found.2 in
+          let old = (rule.each t a found.2).0 in
+          let placed : HoldsAt m.plain.references t nothing [] =
+          subst (λ (q : Place). PlaceFits (code_of (slice_get p.functions found.0.function)) m.plain.references t [] q) gone.place (subst (λ (l : List Duty). PlaceFits (code_of (slice_get p.functions found.0.function)) m.plain.references t l a.place) gone.agenda old.placed) in
+          omega (arith, placed.each k object)
+      | inr past ↦ rule.beyond t (omega (arith, past.0, rule.threads)) k object
     ]
 
-nothing_left : (m : Module) (n : ℕ) (sc : Scene) → Keeps m n sc → IsDone sc.world → sc.plain.references ≡ []
-nothing_left m n sc keeps done = empty_bag sc.plain.references (λ r. (all_hold_nothing m n sc r.thread keeps done).each r.holding r.object)
+pub none_left : (p : Module) (n : ℕ) (m : Machine) → Rule p n m → AllGone m → m.plain.references ≡ []
+none_left p n m rule done = empty_bag m.plain.references (λ r. gone_holds p n m r.thread r.holding r.object rule done)
 
-among_root : (object : ℕ) → is_among object (root_row ∷ []) ≡ true → object ≡ root_row
-among_root object is = elim (root_row == object) as (λ b. (root_row == object) ≡ b → (b || false) ≡ true → object ≡ root_row) [
-  | true ↦ λ e t. sym (eqb-true root_row object e)
-  | false ↦ λ e t. absurd cc
+no_weights : (p : Module) (n : ℕ) (m : Machine) (f : Duty → ℕ) → Rule p n m → AllGone m → weight f m.actors ≡ 0
+no_weights p n m f rule done = sum_zero (agenda_weight f) m.actors (λ t a found. ap (sum_by f) (gone_at p n m t a rule done found).agenda)
+
+-- no mark is left: nobody watches
+no_mark : (p : Module) (n : ℕ) (m : Machine) (x : ℕ) → Rule p n m → AllGone m → block_of m.rows x < n → m.memory (Mark x) ≡ 0
+no_mark p n m x rule done within =
+    elim (rule.marks x) [
+      | inl none ↦ none
+      | inr set ↦
+          elim set.2 [
+            | ByRunning one ↦
+                elim (slice_get_cases m.actors (block_of m.rows x)).1 [
+                  | inl found ↦
+                      let gone = gone_at p n m (block_of m.rows x) found.0 rule done found.2 in
+                      let word : m.memory (ThreadWord (block_of m.rows x)) ≡ 3 = (rule.each (block_of m.rows x) found.0 found.2).0.word ∙ ap status_word gone.status in
+                      absurd (omega (arith, one, word))
+                  | inr past ↦ absurd (omega (arith, past.0, rule.threads, within))
+                ]
+            | ByExit b found scanned ↦ absurd (false≢true (sym (ap (scans x) (gone_at p n m (block_of m.rows x) b rule done found).agenda) ∙ scanned))
+            | ByLook some ↦ absurd (omega (arith, some, no_weights p n m (looks x) rule done))
+          ]
+    ]
+
+-- a live row has a reference
+live_referenced : (p : Module) (n : ℕ) (m : Machine) (x : ℕ) → Rule p n m → AllGone m → block_of m.rows x < n → IsLive (block_of m.rows x) (numbers_of m x) → 0 < references_to x m.plain.references
+live_referenced p n m x rule done within live =
+    let mark = no_mark p n m x rule done within in
+    let waiting = no_weights p n m (waits x) rule done in
+    let carried = no_weights p n m (carries x) rule done in
+    let merging = no_weights p n m (merges x) rule done in
+    let deciding = no_weights p n m (decides x) rule done in
+    elim live.mode [
+      | InOwned o ↦
+          elim o.decided [
+            | AtZero z d ↦ absurd (omega (arith, d, deciding))
+            | AboveZero z d ↦ elim o.phased [
+              | IsDefault q w b ↦ omega (arith, live.sum, z, b, mark, waiting)
+              | IsQueued q w ↦ absurd (omega (arith, w, mark, waiting))
+            ]
+          ]
+      | InSwapped s ↦ absurd (omega (arith, s.merging, merging))
+      | InMerged g ↦ omega (arith, live.sum, g.counted, mark, waiting)
+    ]
+
+-- no row is dying: every chain is empty
+none_dying : (p : Module) (n : ℕ) (m : Machine) (x t : ℕ) → Rule p n m → AllGone m → m.life x ≡ Dying t → ⊥
+none_dying p n m x t rule done dying =
+    let dies : dies_by (m.life x) t ≡ true = ap (λ (l : Life). dies_by l t) dying ∙ eq-eqb t t refl in
+    elim (slice_get_cases m.actors t).1 [
+      | inl found ↦
+          let gone = gone_at p n m t found.0 rule done found.2 in
+          let chain = (rule.each t found.0 found.2).0.chain in
+          let hand : one_if (hand_of found.0.agenda x) ≡ 0 = ap (λ (l : List Duty). one_if (hand_of l x)) gone.agenda in
+          let one : one_if (dies_by (m.life x) t) ≡ 1 = ap one_if dies in
+          elim chain.chained as (λ l. chain.chained ≡ l → Linked m.memory t found.0.head l → ⊥) [
+            | [] ↦ λ e linked.
+                let none : count_by (λ y. y == x) chain.chained ≡ 0 = ap (count_by (λ y. y == x)) e in
+                absurd (omega (arith, chain.once x, hand, one, none))
+            | y ∷ ys ↦ λ e linked. absurd (omega (arith, linked.0, gone.head))
+          ] refl chain.linked
+      | inr past ↦ false≢true (sym (rule.dying x t (omega (arith, past.0, rule.threads))) ∙ dies)
+    ]
+
+among_root : (x : ℕ) → is_among x (root_row ∷ []) ≡ true → x ≡ root_row
+among_root x is = elim (root_row == x) as (λ b. (root_row == x) ≡ b → (b || false) ≡ true → x ≡ root_row) [
+  | true ↦ λ e f. sym (eqb-true root_row x e)
+  | false ↦ λ e f. absurd cc
 ] refl is
 
-closed_exactly : (m : Module) (n : ℕ) (sc : Scene) → Keeps m n sc → IsDone sc.world → ClosedExactly sc
-closed_exactly m n sc keeps done = λ object. (
-  λ is.
-      let was = keeps.counts.closed_is object (sym (ap (is_among object) keeps.same_closed) ∙ is) in
-      (ap (λ (x : ℕ). is_among x (root_row ∷ [])) was.0, ap (references_to object) (nothing_left m n sc keeps done)),
-  λ born.
-      let root : object ≡ root_row = among_root object born.0 in
-      let none : references_to root_row sc.plain.references ≡ 0 = ap (references_to root_row) (nothing_left m n sc keeps done) in
-      ap (is_among object) keeps.same_closed ∙ ap (λ (x : ℕ). is_among x sc.plain.closed) root ∙ keeps.counts.closes none,
-)
+closed_is_root : (p : Module) (n : ℕ) (m : Machine) (x : ℕ) → Rule p n m → m.life x ≡ Closed → x ≡ root_row
+closed_is_root p n m zero rule closed = absurd (let wrong : Live ≡ Closed = sym rule.none_lives ∙ closed in cc)
+closed_is_root p n m (suc zero) rule closed = refl
+closed_is_root p n m (suc (suc x)) rule closed = absurd (let wrong : Unborn ≡ Closed = sym (rule.only_root (suc (suc x)) (omega arith)) ∙ closed in cc)
 
--- ---- the whole
+root_closed : (p : Module) (n : ℕ) (m : Machine) (l : Life) → Whole p n m → AllGone m → 0 < n → references_to root_row m.plain.references ≡ 0 → m.life root_row ≡ l → m.life root_row ≡ Closed
+root_closed p n m Unborn whole done some none is = absurd (whole.root_born is)
+root_closed p n m Live whole done some none is =
+    let live : IsLive (block_of m.rows root_row) (numbers_of m root_row) = subst (λ (l : Life). RowRule (block_of m.rows root_row) l (numbers_of m root_row)) is (whole.rule.rows root_row (omega arith)) in
+    absurd (omega (arith, live_referenced p n m root_row whole.rule done some live, none))
+root_closed p n m (Dying t) whole done some none is = absurd (none_dying p n m root_row t whole.rule done is)
+root_closed p n m Closed whole done some none is = is
 
-pub safe_at : (m : Module) (n : ℕ) (sc : Scene) → Keeps m n sc → IsSafeAt sc
-safe_at m n sc keeps = record {
-  none_bad = λ t choice. (keeps_step m n sc (t, choice) keeps).0;
-  agree = λ object counted. omega (arith, keeps.counts.agree object counted);
-  few = omega (arith, few_references m n sc keeps, keeps.threads);
-  same_closed = keeps.same_closed;
-  closed_once = subst (λ (l : List ℕ). AllPairs (λ x y. x ≢ y) l) (sym keeps.same_closed) keeps.counts.once;
-  closed_at_end = λ done. closed_exactly m n sc keeps done;
-  none_left = λ done. nothing_left m n sc keeps done;
+-- ---- the promise
+
+pub safe_now : (p : Module) (n : ℕ) (m : Machine) → Whole p n m → 0 < n → IsSafeNow m
+safe_now p n m whole some = record {
+  none_bad = λ event. (event_keeps p n m event whole).0;
+  agrees = λ x pos. agrees_at p n m x whole.rule pos;
+  free = λ x pos alive born. is_free_of p n m x whole.rule pos alive born;
+  closed_once = whole.rule.once;
+  closed_at_end = λ done x. (
+    λ closed.
+        let root = closed_is_root p n m x whole.rule (whole.rule.closed_is x closed) in
+        (ap (λ (y : ℕ). is_among y (root_row ∷ [])) root, ap (references_to x) (none_left p n m whole.rule done)),
+    λ born.
+        let root = among_root x born.0 in
+        let none : references_to root_row m.plain.references ≡ 0 = ap (references_to root_row) (none_left p n m whole.rule done) in
+        whole.rule.closed_has x (ap m.life root ∙ root_closed p n m (m.life root_row) whole done some none refl ∙ refl),
+  );
+  none_left = λ done. none_left p n m whole.rule done;
+}
+
+first_settled : (calls : List Call) (t : ℕ) (a : Actor) → slice_get (main_actor ∷ map worker_actor calls) t ≡ Some a → IsSettled a.head a.agenda × (a.used ≡ used_rows t)
+first_settled calls zero a is = let P : Actor → Type 0 = λ b. IsSettled b.head b.agenda × (b.used ≡ 2) in subst P (some_is main_actor a is) (tt, refl)
+first_settled calls (suc t) a is =
+    let call = slice_get-map worker_actor calls t a is in
+    let P : Actor → Type 0 = λ b. IsSettled b.head b.agenda × (b.used ≡ 0) in
+    subst P call.is_image (tt, refl)
+
+pub first_whole : (m : Module) (rows : ℕ) (calls : List Call) → IsModule m → IsAcceptable m → AreCalls m calls → 0 < rows → Whole m (1 + length calls) (first_machine m rows calls)
+first_whole m rows calls fits accepted are_calls some = record {
+  rule = first_rule m rows calls fits accepted are_calls some;
+  settled = λ t a is. (first_settled calls t a is).0;
+  used = λ t a is. (first_settled calls t a is).1;
+  root_born = λ e. (let wrong : Live ≡ Unborn = e in cc);
 }
 
 pub accepted_is_safe : (m : Module) → IsModule m → IsAcceptable m → Safe m
 accepted_is_safe m fits accepted = λ rows calls events some most are_calls.
-    safe_at m (1 + length calls) _ (keeps_after m (1 + length calls) (first_scene m rows calls) events (first_keeps m rows calls fits accepted are_calls))
+    safe_now m (1 + length calls) _ (whole_after m (1 + length calls) (first_machine m rows calls) events (first_whole m rows calls fits accepted are_calls some)) (omega arith)

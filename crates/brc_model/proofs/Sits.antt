@@ -6,7 +6,7 @@ use Rattle.std.proofs.lemmas.Bool.Decides.{eqb_tells}
 use Rattle.std.proofs.lemmas.List.{length-set, set-set}
 use Rattle.std.proofs.lemmas.Option.{slice_get_within}
 use Rattle.brc_lang.specs.declared.module.Module.{Module}
-use Rattle.brc_model.specs.Steps.{code_of}
+use Rattle.brc_model.specs.Threads.{code_of}
 use Rattle.brc_model.specs.declared.duty.Duty.{Duty}
 use Rattle.brc_model.specs.Duties.{block_of, address_of}
 use Rattle.brc_model.specs.declared.actor.Status.{Status}

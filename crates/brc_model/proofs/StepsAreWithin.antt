@@ -8,7 +8,7 @@ use Rattle.brc_model.specs.declared.duty.Duty.{Duty}
 use Rattle.brc_model.specs.declared.duty.Duty.TheVariants.{RetainLoad, RetainStore, RetainAdd, ReleaseLoad, ReleaseStore, DecideAtZero, SharedLoad, SharedExchange, SetMark, Look, TakeMark, MergeSwap, MergeLoad, MergeExchange, Die, Settle, SettleKind, SettleCell, SettleEnd, Leave, Scan, Finish, ClaimMark}
 use Rattle.brc_model.specs.declared.actor.Status.TheVariants.{Running, Gone}
 use Rattle.brc_model.specs.declared.actor.Place.{Place}
-use Rattle.brc_model.specs.Steps.{code_of}
+use Rattle.brc_model.specs.Threads.{code_of}
 use Rattle.brc_model.specs.Duties.{address_of, block_of}
 use Rattle.brc_model.specs.Machine.{Actor, Machine, Begun, Work, begun_by, is_running, with_actor, first_machine, machine_after}
 use Rattle.brc_model.specs.World.{World, world_of, row_count, IsReachable}
@@ -20,7 +20,7 @@ use Rattle.brc_model.proofs.Begins.{Taken, IsTaken}
 use Rattle.brc_model.proofs.Sits.{sitting, AtRest}
 use Rattle.brc_model.proofs.TakenSits.{taken_sits, rests, begun_fits}
 use Rattle.brc_model.proofs.Whole.{Whole, whole_sits, starts_settled}
-use Rattle.brc_model.proofs.Guaranteed.{first_whole}
+use Rattle.brc_model.proofs.Safe.{first_whole}
 use Rattle.brc_model.proofs.Ranges.{IsSmall, AreSmall, head_small}
 use Rattle.brc_model.proofs.RangesEvents.{starts_small, used_small, claim_small, Bounded, bounded_after, first_ranges}
 use Rattle.brc_model.proofs.Bounds.{duty_suits}

@@ -8,8 +8,7 @@ use Rattle.brc_lang.specs.declared.module.Instr.TheVariants.{Newref, Drop, Ret, 
 use Rattle.brc_lang.specs.declared.module.Module.{Module}
 use Rattle.brc_model.specs.declared.thread.Choice.TheVariants.{Ok, Fault, Claim}
 use Rattle.brc_model.specs.Plain.{Reference}
-use Rattle.brc_model.specs.Threads.{row_of, entry_variables}
-use Rattle.brc_model.specs.Steps.{code_of}
+use Rattle.brc_model.specs.Threads.{row_of, entry_variables, code_of}
 use Rattle.brc_model.specs.declared.duty.Reason.TheVariants.{Handed}
 use Rattle.brc_model.specs.declared.duty.Duty.{Duty}
 use Rattle.brc_model.specs.declared.duty.Duty.TheVariants.{SharedLoad, MergeSwap, Settle, ClaimMark}
@@ -29,7 +28,7 @@ use Rattle.brc_model.proofs.Sits.{AtRest}
 use Rattle.brc_model.proofs.TakenSits.{rests, begun_fits}
 use Rattle.brc_model.proofs.Whole.{Whole}
 use Rattle.brc_model.proofs.WholeEvents.{claimer_rests, gone_claims_none, whole_after}
-use Rattle.brc_model.proofs.Guaranteed.{first_whole}
+use Rattle.brc_model.proofs.Safe.{first_whole}
 use Rattle.brc_model.proofs.Worlds.{worlds_follow}
 use Rattle.brc_model.proofs.AgendaMoves.{agenda_moves}
 use Rattle.brc_model.proofs.Emptied.{chain_empty}

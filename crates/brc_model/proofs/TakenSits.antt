@@ -6,7 +6,7 @@ use Rattle.brc_lang.specs.declared.module.Function.{Function}
 use Rattle.brc_lang.specs.declared.module.Module.{Module}
 use Rattle.brc_model.specs.declared.duty.Holding.{Holding}
 use Rattle.brc_model.specs.Plain.{Reference, references_to}
-use Rattle.brc_model.specs.Steps.{code_of}
+use Rattle.brc_model.specs.Threads.{code_of}
 use Rattle.brc_model.specs.declared.duty.Duty.{Duty}
 use Rattle.brc_model.specs.declared.duty.Duty.TheVariants.{RetainLoad, ReleaseLoad, Settle, Leave, ClaimMark}
 use Rattle.brc_model.specs.Duties.{block_of}
@@ -16,7 +16,7 @@ use Rattle.brc_model.specs.declared.actor.Place.{Place}
 use Rattle.brc_model.specs.declared.actor.Place.TheVariants.{Standing, Departing}
 use Rattle.brc_model.specs.Machine.{Actor, Machine, first_row, begun, begun_by}
 use Rattle.brc_model.proofs.Bag.{held-le-references_to}
-use Rattle.brc_model.proofs.Invariant.{reference_of, the_root}
+use Rattle.brc_model.proofs.Holds.{reference_of, the_root}
 use Rattle.brc_model.proofs.Rows.{waits, carries, merges, decides}
 use Rattle.brc_model.proofs.Rule.{HoldsAt, PlaceFits, Later, Agenda, AgendaFits, NoneHanded, looks, Rule}
 use Rattle.brc_model.proofs.Begins.{Starts, Gives, Takes, Follows, Nothing, Settles, Leaves, Taken, IsTaken}

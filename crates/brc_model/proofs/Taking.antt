@@ -21,10 +21,9 @@ use Rattle.brc_model.specs.declared.actor.Place.TheVariants.{Standing, Inside, D
 use Rattle.brc_model.specs.Machine.{Work, begun_instruction, begun}
 use Rattle.brc_model.proofs.Bag.{held, one_if, held-le-references_to}
 use Rattle.brc_model.proofs.Lists.{first_false}
-use Rattle.brc_model.proofs.Invariant.{the_root, of_variables, reference_of, Holds, IsGrounded, IsInside, AreInstructions}
+use Rattle.brc_model.proofs.Holds.{the_root, of_variables, reference_of, Holds, owned_has, caller_has, holds-ended, holds-entered}
+use Rattle.brc_model.proofs.Grounded.{IsGrounded, IsInside, AreInstructions, live_slot, owned_slot, owned_row, grounded-put, StandsAt, entry_inside}
 use Rattle.brc_model.proofs.Passing.{passes_on}
-use Rattle.brc_model.proofs.Held.{owned_has, caller_has, holds-ended, holds-entered}
-use Rattle.brc_model.proofs.Due.{live_slot, owned_slot, owned_row, grounded-put, StandsAt, entry_inside}
 use Rattle.brc_model.proofs.OwnCounts.{flip_eqb}
 use Rattle.brc_model.proofs.Rule.{HoldsAt, PlaceFits}
 use Rattle.brc_model.proofs.Begins.{holds_plain, holds_at_none, Gives, Takes, Nothing, Settles, Leaves, Taken, IsTaken, taken_with_row, standing_stays, inside_stays, newref_held, emptied_held, ended_says}

@@ -217,16 +217,6 @@ look_after p n m t a _ rest x here spares some = look_kept p n m t a _ rest x he
 abbrev pub UsesRoot : Machine → Type 0
 UsesRoot m = (b : Actor) → slice_get m.actors 0 ≡ Some b → b.used ≡ 2
 
-pub uses_after : (m : Machine) (t : ℕ) (a : Actor) (d : Duty) (rest : List Duty) → slice_get m.actors t ≡ Some a → UsesRoot m → UsesRoot (done_by m t a d rest)
-uses_after m t a d rest found uses b at =
-    let after = actor_by t a d rest (found_by m t a d) in
-    elim (eqb_tells 0 t) [
-      | inl same ↦
-          let it : after ≡ b = some_is after b (sym (set_found m.actors t a after found) ∙ ap (slice_get (set m.actors t after)) (sym same.1) ∙ at) in
-          ap (λ (c : Actor). c.used) (sym it) ∙ uses a (ap (slice_get m.actors) same.1 ∙ found)
-      | inr other ↦ uses b (sym (slice_get-set_other m.actors t 0 after other.1) ∙ at)
-    ]
-
 root_within : (rows t used x : ℕ) → x ≡ 1 → block_of rows x ≡ t → (t ≡ 0 → used ≡ 2) → (first_row rows t ≤ x) × (x < first_row rows t + used)
 root_within rows zero used x is block uses = (omega arith, omega (arith, is, uses refl))
 root_within rows (suc t) used x is block uses = let none : block_of rows x ≡ 0 = ap (block_of rows) is in absurd (omega (arith, none, block))

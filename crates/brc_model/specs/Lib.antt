@@ -3,13 +3,11 @@ pub mod Walks
 pub mod Tables
 pub mod Plain
 pub mod Threads
-pub mod Steps
-pub mod Safety
 pub mod Duties
 pub mod Machine
 pub mod Agreement
 pub mod Events
-pub mod Guarantee
+pub mod Safety
 pub mod World
 pub mod Within
 pub mod Progress

@@ -1,4 +1,4 @@
--- The step world over headers: memory, a word at each address; threads, each with an agenda; and beside them the plain world
+-- The step world: memory, a word at each address; threads, each with an agenda; and beside them the plain world
 -- and the life of each row. A step does the first duty of one thread's agenda, or takes up its next instruction with it.
 use Rattle.std.specs.Prelude.{ℕ, zero, suc, ◌+◌, ◌*◌, Bool, true, false, ◌&&◌, ◌==◌, nat_lt, nat_le, if◌then◌else◌, List, [], ◌∷◌, ◌++◌, length, map, Option, None, Some, fold, slice_get, slice_set}
 use Rattle.brc_lang.specs.declared.module.Instr.{Instr}
@@ -14,9 +14,8 @@ use Rattle.brc_model.specs.declared.actor.Place.{Place}
 use Rattle.brc_model.specs.declared.actor.Place.TheVariants.{Standing, Inside, Departing}
 use Rattle.brc_model.specs.declared.duty.Holding.{Holding}
 use Rattle.brc_model.specs.declared.duty.Holding.TheVariants.{ByVariable, AsCaller, InHand}
-use Rattle.brc_model.specs.Plain.{root_row, Plain, Move, Gain, Lose, HandOn, Finalise, moved}
-use Rattle.brc_model.specs.Threads.{row_of, entry_variables}
-use Rattle.brc_model.specs.Steps.{code_of, callers_below}
+use Rattle.brc_model.specs.Plain.{root_row, Reference, Plain, Move, Gain, Lose, HandOn, Finalise, moved}
+use Rattle.brc_model.specs.Threads.{code_of, row_of, entry_variables}
 use Rattle.brc_word.specs.Words.{is_immortal_word, local_word, fresh_word}
 use Rattle.brc_model.specs.declared.duty.Reason.TheVariants.{Own}
 use Rattle.brc_model.specs.declared.duty.Duty.{Duty}
@@ -252,6 +251,14 @@ abbrev pub first_life : ℕ → Life
 first_life zero = Live
 first_life (suc zero) = Live
 first_life (suc (suc x)) = Unborn
+
+abbrev pub caller_reference : ℕ → Reference
+caller_reference t = record { thread = t; holding = AsCaller; object = root_row }
+
+-- the callers of the threads below n
+abbrev pub callers_below : ℕ → List Reference
+callers_below zero = []
+callers_below (suc n) = caller_reference n ∷ callers_below n
 
 abbrev pub first_machine : Module → ℕ → List Call → Machine
 first_machine m rows calls = record {

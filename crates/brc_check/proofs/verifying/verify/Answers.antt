@@ -21,3 +21,7 @@ returns-in-Some-clause-shape c =
 pub returns-in-None-clause-shape : goal.returns-in-None-clause-shape
 returns-in-None-clause-shape c =
     λ other. absurd (other (are_verified c.args.module c.args.table c.as_slice.result.now c.rows.result.now c.as_slice.ensures c.rows.ensures c.in-None.ensures).truth.shape)
+
+pub returns-in-None-clause-safe : goal.returns-in-None-clause-safe
+returns-in-None-clause-safe c =
+    c.accepted_is_safe.ensures c.args.module c.requires (are_verified c.args.module c.args.table c.as_slice.result.now c.rows.result.now c.as_slice.ensures c.rows.ensures c.in-None.ensures).acceptable

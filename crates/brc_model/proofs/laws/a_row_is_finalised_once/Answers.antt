@@ -1,5 +1,0 @@
-use Rattle.brc_model.proofs.RowLaws as rows
-use Rattle.brc_model.proofs.laws.a_row_is_finalised_once.Goals as goal
-
-pub returns : goal.returns
-returns c = rows.closed_once

@@ -1,5 +1,0 @@
-use Rattle.brc_model.proofs.RowLaws as rows
-use Rattle.brc_model.proofs.laws.an_event_closes_one_row_anew.Goals as goal
-
-pub returns : goal.returns
-returns c = rows.closes_anew

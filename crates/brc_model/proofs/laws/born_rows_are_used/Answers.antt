@@ -1,5 +1,0 @@
-use Rattle.brc_model.proofs.Gates as gates
-use Rattle.brc_model.proofs.laws.born_rows_are_used.Goals as goal
-
-pub returns : goal.returns
-returns c = gates.born_are_used

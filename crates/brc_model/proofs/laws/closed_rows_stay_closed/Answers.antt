@@ -1,5 +1,0 @@
-use Rattle.brc_model.proofs.RowLaws as rows
-use Rattle.brc_model.proofs.laws.closed_rows_stay_closed.Goals as goal
-
-pub returns : goal.returns
-returns c = rows.closed_stays

@@ -1,5 +1,0 @@
-use Rattle.brc_model.proofs.Gates as gates
-use Rattle.brc_model.proofs.laws.gates_tell_what_is_closed.Goals as goal
-
-pub returns : goal.returns
-returns c = gates.gates_tell

@@ -1,5 +1,0 @@
-use Rattle.brc_model.proofs.RowLaws as rows
-use Rattle.brc_model.proofs.laws.immortal_words_stay.Goals as goal
-
-pub returns : goal.returns
-returns c = rows.immortals_stay

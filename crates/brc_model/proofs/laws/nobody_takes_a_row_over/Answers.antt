@@ -1,5 +1,0 @@
-use Rattle.brc_model.proofs.RowLaws as rows
-use Rattle.brc_model.proofs.laws.nobody_takes_a_row_over.Goals as goal
-
-pub returns : goal.returns
-returns c = rows.owners_stay

@@ -1,5 +1,0 @@
-use Rattle.brc_model.proofs.RowLaws as rows
-use Rattle.brc_model.proofs.laws.only_a_running_owner_counts.Goals as goal
-
-pub returns : goal.returns
-returns c = rows.only_owners_count

@@ -1,5 +1,0 @@
-use Rattle.brc_model.proofs.RowLaws as rows
-use Rattle.brc_model.proofs.laws.states_only_rise.Goals as goal
-
-pub returns : goal.returns
-returns c = rows.states_rise

@@ -1,5 +1,0 @@
-use Rattle.brc_model.proofs.StepsAreWithin as within
-use Rattle.brc_model.proofs.laws.steps_are_within.Goals as goal
-
-pub returns : goal.returns
-returns c = within.steps_within

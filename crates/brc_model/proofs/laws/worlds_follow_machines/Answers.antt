@@ -1,5 +1,0 @@
-use Rattle.brc_model.proofs.Worlds as worlds
-use Rattle.brc_model.proofs.laws.worlds_follow_machines.Goals as goal
-
-pub returns : goal.returns
-returns c = worlds.worlds_follow

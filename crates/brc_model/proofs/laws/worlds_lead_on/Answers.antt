@@ -1,8 +1,0 @@
-use Rattle.brc_model.proofs.Worlds as worlds
-use Rattle.brc_model.proofs.laws.worlds_lead_on.Goals as goal
-
-pub returns-clause-first : goal.returns-clause-first
-returns-clause-first c = worlds.first_reachable
-
-pub returns-clause-step : goal.returns-clause-step
-returns-clause-step c = worlds.step_reachable

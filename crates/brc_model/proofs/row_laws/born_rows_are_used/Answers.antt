@@ -1,0 +1,5 @@
+use Rattle.brc_model.proofs.Gates as gates
+use Rattle.brc_model.proofs.row_laws.born_rows_are_used.Goals as goal
+
+pub returns : goal.returns
+returns c = gates.born_are_used

@@ -1,0 +1,5 @@
+use Rattle.brc_model.proofs.RowLaws as rows
+use Rattle.brc_model.proofs.row_laws.immortal_words_stay.Goals as goal
+
+pub returns : goal.returns
+returns c = rows.immortals_stay

@@ -1,0 +1,5 @@
+use Rattle.brc_model.proofs.RowLaws as rows
+use Rattle.brc_model.proofs.row_laws.states_only_rise.Goals as goal
+
+pub returns : goal.returns
+returns c = rows.states_rise

@@ -1,0 +1,17 @@
+use Rattle.brc_model.proofs.StepsMove.{going_on_moves, claim_moves, claim_misses, claim_stays, gone_stays}
+use Rattle.brc_model.proofs.world_laws.steps_move.Goals as goal
+
+pub returns-clause-goes_on : goal.returns-clause-goes_on
+returns-clause-goes_on c = going_on_moves
+
+pub returns-clause-claims : goal.returns-clause-claims
+returns-clause-claims c = claim_moves
+
+pub returns-clause-misses : goal.returns-clause-misses
+returns-clause-misses c = claim_misses
+
+pub returns-clause-stays : goal.returns-clause-stays
+returns-clause-stays c = claim_stays
+
+pub returns-clause-gone : goal.returns-clause-gone
+returns-clause-gone c = gone_stays

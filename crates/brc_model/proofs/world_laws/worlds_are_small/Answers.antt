@@ -1,0 +1,17 @@
+use Rattle.brc_model.proofs.StepsAreWithin as within
+use Rattle.brc_model.proofs.world_laws.worlds_are_small.Goals as goal
+
+pub returns-clause-functions : goal.returns-clause-functions
+returns-clause-functions c = within.same_functions
+
+pub returns-clause-some_threads : goal.returns-clause-some_threads
+returns-clause-some_threads c = within.some_threads
+
+pub returns-clause-few_threads : goal.returns-clause-few_threads
+returns-clause-few_threads c = within.few_threads
+
+pub returns-clause-some_rows : goal.returns-clause-some_rows
+returns-clause-some_rows c = within.some_rows
+
+pub returns-clause-few_rows : goal.returns-clause-few_rows
+returns-clause-few_rows c = within.few_rows

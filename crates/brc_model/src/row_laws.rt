@@ -1,0 +1,51 @@
+//! What the events of an accepted module's threads keep in the words of a row, and in the list of what was closed.
+
+ghost use Rattle.brc_lang.specs.declared.module.Module.{Module};
+ghost use Rattle.brc_lang.specs.Grammar.{IsModule};
+ghost use Rattle.brc_model.specs.Walks.{IsAcceptable};
+ghost use Rattle.brc_model.specs.Progress.{Always, AtEachEvent, StatesRise, OnlyOwnersCount, OwnersStay, ClosedStays, ClosesAnew, ImmortalsStay, ClosedOnce, GatesTell, BornAreUsed};
+
+/// A row's state never falls: from default by queued to merged, and never back.
+pub fn states_only_rise()
+    ensures { (m : Module) → IsModule m → IsAcceptable m → AtEachEvent StatesRise m }
+{}
+
+/// While its owner runs, a row's local word is changed by the owner's events alone.
+pub fn only_a_running_owner_counts()
+    ensures { (m : Module) → IsModule m → IsAcceptable m → AtEachEvent OnlyOwnersCount m }
+{}
+
+/// A row keeps its owner, or nobody owns it any more.
+pub fn nobody_takes_a_row_over()
+    ensures { (m : Module) → IsModule m → IsAcceptable m → AtEachEvent OwnersStay m }
+{}
+
+/// The words of an immortal row stay as they are: none's, for no other row is immortal.
+pub fn immortal_words_stay()
+    ensures { (m : Module) → IsModule m → IsAcceptable m → AtEachEvent ImmortalsStay m }
+{}
+
+/// What is closed stays closed.
+pub fn closed_rows_stay_closed()
+    ensures { (m : Module) → IsModule m → IsAcceptable m → AtEachEvent ClosedStays m }
+{}
+
+/// An event finalises nothing, or one row that wasn't finalised before.
+pub fn an_event_closes_one_row_anew()
+    ensures { (m : Module) → IsModule m → IsAcceptable m → AtEachEvent ClosesAnew m }
+{}
+
+/// No row is finalised twice, over all events.
+pub fn a_row_is_finalised_once()
+    ensures { (m : Module) → IsModule m → IsAcceptable m → Always ClosedOnce m }
+{}
+
+/// A row's gate says that it is closed, just where it was finalised.
+pub fn gates_tell_what_is_closed()
+    ensures { (m : Module) → IsModule m → IsAcceptable m → Always GatesTell m }
+{}
+
+/// Each row that is born is among the used rows of its thread's block.
+pub fn born_rows_are_used()
+    ensures { (m : Module) → IsModule m → IsAcceptable m → Always BornAreUsed m }
+{}
