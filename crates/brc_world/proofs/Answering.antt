@@ -4,7 +4,7 @@ use Rattle.std.specs.Prelude.{◌==◌, ◌&&◌, not, if◌then◌else◌, slic
 use Rattle.brc_model.specs.declared.actor.Status.{Status}
 use Rattle.brc_model.specs.declared.actor.Status.TheVariants.{Running, Leaving, Gone}
 use Rattle.brc_model.specs.declared.thread.Choice.TheVariants.{Ok, Claim}
-use Rattle.brc_model.specs.Guarantee.{has_gone}
+use Rattle.brc_model.specs.Safety.{has_gone}
 use Rattle.brc_model.specs.Machine.{Actor}
 use Rattle.brc_model.specs.World.{World, step}
 use Rattle.brc_world.specs.declared.did.Did.{Did}

@@ -11,7 +11,7 @@ use Rattle.brc_model.specs.declared.actor.Status.{Status}
 use Rattle.brc_model.specs.declared.actor.Status.TheVariants.{Running, Leaving, Gone}
 use Rattle.brc_model.specs.declared.thread.Choice.{Choice}
 use Rattle.brc_model.specs.declared.thread.Choice.TheVariants as choices
-use Rattle.brc_model.specs.Guarantee.{has_gone}
+use Rattle.brc_model.specs.Safety.{has_gone}
 use Rattle.brc_model.specs.Machine.{Actor, Machine, chosen, may_claim, next_machine, machine_after}
 use Rattle.brc_model.specs.World.{World, world_of, machine_of, step}
 use Rattle.brc_world.specs.declared.schedule.Steps.{Steps}

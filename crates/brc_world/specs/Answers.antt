@@ -1,7 +1,7 @@
 -- What a step answers.
 use Rattle.std.specs.Prelude.{◌≡◌, ◌≢◌, ℕ, Bool, true, false, Option, None, Some, slice_get}
 use Rattle.brc_model.specs.Machine.{Actor}
-use Rattle.brc_model.specs.Guarantee.{has_gone}
+use Rattle.brc_model.specs.Safety.{has_gone}
 use Rattle.brc_model.specs.World.{World}
 use Rattle.brc_world.specs.declared.did.Did.{Did}
 use Rattle.brc_world.specs.declared.did.Did.TheVariants.{Moved, Same, Gone}

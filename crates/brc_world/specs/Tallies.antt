@@ -6,7 +6,7 @@ use Rattle.brc_lang.specs.declared.kind.Kind.{Kind}
 use Rattle.brc_lang.specs.declared.kind.Kind.TheVariants as kinds
 use Rattle.brc_model.specs.declared.address.Address.TheVariants.{Gate, KindOf}
 use Rattle.brc_model.specs.Duties.{block_of}
-use Rattle.brc_model.specs.Guarantee.{has_gone}
+use Rattle.brc_model.specs.Safety.{has_gone}
 use Rattle.brc_model.specs.Machine.{Actor, first_row}
 use Rattle.brc_model.specs.World.{World, row_count}
 use Rattle.brc_world.specs.declared.tally.Tally.{Tally}

@@ -2,7 +2,7 @@
 
 ghost use Rattle.std.specs.Prelude.{◌≡◌, ◌+◌, ◌<◌, ◌^◌, slice_get, slice_set, Some};
 ghost use Rattle.brc_model.specs.Threads.{row_of, entry_variables};
-ghost use Rattle.brc_model.specs.Steps.{code_of};
+ghost use Rattle.brc_model.specs.Threads.{code_of};
 ghost use Rattle.brc_model.specs.Machine.{begun, begun_instruction, first_row};
 ghost use Rattle.brc_world.specs.Actors.{begun_as};
 

@@ -2,7 +2,7 @@
 
 ghost use Rattle.std.specs.Prelude.{◌≡◌, ◌+◌, ◌≤◌, slice_get};
 ghost use Rattle.std.specs.VecDeque.{deque_len, deque_capacity};
-ghost use Rattle.brc_model.specs.Steps.{code_of};
+ghost use Rattle.brc_model.specs.Threads.{code_of};
 ghost use Rattle.brc_model.specs.Machine.{begun};
 ghost use Rattle.brc_world.specs.Actors.{actor_of, begun_as, start_on, actor_on, start_begun, actor_begun};
 
