@@ -31,6 +31,10 @@ pub use tally::{Left, Tally};
 pub use world::World;
 
 #[cfg(test)]
+mod interleaving_tests;
+#[cfg(test)]
 mod schedule_tests;
 #[cfg(test)]
 mod tests;
+#[cfg(test)]
+mod worked_tests;

@@ -11,7 +11,7 @@ use std::test::*;
 /// Two workers and their calls.
 const TWO_WORKERS: &[u8] = b"schedule 1\nworkers 2\nrows 4\ncall 1 f 1\ncall 2 f 1\n";
 
-fn schedule_of(alloc: Global, text: &[u8]) -> Result<Schedule, Fail>
+pub fn schedule_of(alloc: Global, text: &[u8]) -> Result<Schedule, Fail>
     ensures { IfOk result (λ s. IsSchedule s) }
 {
     match read_schedule(alloc, text) {
@@ -174,7 +174,7 @@ fn refuses_claims(rt: HostRuntime) -> Result<(), Fail> {
 }
 
 /// Runs the schedule over a world of as many workers.
-fn run(world: &mut World<'_>, schedule: &Schedule) -> Result<(), Fail>
+pub fn run(world: &mut World<'_>, schedule: &Schedule) -> Result<(), Fail>
     requires { IsSchedule schedule.now }
 {
     if world.threads() != 1 + usize::from(schedule.workers) {
@@ -223,7 +223,7 @@ fn runs_no_step(rt: HostRuntime) -> Result<(), Fail> {
 #[test]
 fn runs_to_the_end(rt: HostRuntime) -> Result<(), Fail> {
     let mut text = Vec::from_slice(rt.alloc(), TWO_WORKERS)?;
-    text.extend_from_slice(b"step 1 ok 1000000\nstep 0 fault 1000000\nstep 2 ok 4\n")?;
+    text.extend_from_slice(b"step 1 ok 1000000\nstep 0 fault 1000000\nstep 2 ok 1000\n")?;
     let schedule = schedule_of(rt.alloc(), &text)?;
     let checked = accepted(rt.alloc(), &take_and_drop())?;
     let call = Call {

@@ -9,7 +9,7 @@ use std::alloc::{AllocError, Global};
 use std::test::*;
 
 /// The most rounds that any of these worlds takes.
-const ROUNDS: u32 = 10_000;
+const ROUNDS: u32 = 50_000;
 
 fn known(instr: Instr) -> Instr
     ensures same { result ≡ instr }
@@ -58,13 +58,22 @@ pub fn accepted(alloc: Global, code: &[Instr]) -> Result<Checked, Fail>
 
 /// Steps the workers in turn until they are gone, and then main.
 fn finish(world: &mut World<'_>) -> Result<(), NoMemory> {
-    let threads = world.threads();
     for _ in 0..ROUNDS {
-        for thread in 1..threads {
-            world.step(thread, Choice::Ok)?;
+        for thread in 1..world.threads() {
+            step(world, thread, Choice::Ok)?;
         }
     }
-    world.step(0, Choice::Ok)?;
+    for _ in 0..ROUNDS {
+        step(world, 0, Choice::Ok)?;
+    }
+    Ok(())
+}
+
+/// One step, where there is such a thread.
+pub fn step(world: &mut World<'_>, thread: usize, choice: Choice) -> Result<(), NoMemory> {
+    if thread < world.threads() {
+        world.step(thread, choice)?;
+    }
     Ok(())
 }
 
