@@ -129,7 +129,7 @@ next_line old at new all index d so_far lt is =
     let line = get_or all index d in
     let front = take index all in
     let parts : events_of (take (index + 1) all) ≡ events_of front ++ events_of_line line =
-        ap events_of (take_more all index d lt) ∙ events_push front line [] ∙ ap (λ (es : List (ℕ × Choice)). events_of front ++ es) (append-nil (events_of_line line)) in
+    ap events_of (take_more all index d lt) ∙ events_push front line [] ∙ ap (λ (es : List (ℕ × Choice)). events_of front ++ es) (append-nil (events_of_line line)) in
     is ∙ ap (λ (v : World). world_after v (events_of_line line)) so_far ∙ sym (after_both old (events_of front) (events_of_line line)) ∙ ap (world_after old) (sym parts)
 
 pub last_line : (old at : World) (all : List Steps) (index : ℕ) → at ≡ world_after old (events_of (take index all)) → length all ≤ index → at ≡ world_after old (events_of all)

@@ -1,8 +1,10 @@
+ghost use Rattle.std.specs.Prelude.{◌≡◌, length};
+
 use crate::tests::{accepted, numbers, step, take_and_drop};
 use crate::{NoMemory, World};
 use brc_check::Checked;
 use brc_model::{Call, Choice};
-use std::alloc::Global;
+use std::alloc::{AllocError, Global};
 use std::collections::BTreeSet;
 use std::test::*;
 
@@ -13,7 +15,9 @@ const MOST_STATES: usize = 100_000;
 const MOVES: u8 = 4;
 
 /// Two workers that call the function once.
-fn first(alloc: Global, checked: &Checked) -> Result<World<'_>, NoMemory> {
+fn first(alloc: Global, checked: &Checked) -> Result<World<'_>, NoMemory>
+    requires { length checked.now.functions ≡ 1 }
+{
     let call = Call {
         function: 0,
         times: 1,
@@ -22,48 +26,88 @@ fn first(alloc: Global, checked: &Checked) -> Result<World<'_>, NoMemory> {
 }
 
 /// The world after the moves, one after another.
-fn after<'a>(alloc: Global, checked: &'a Checked, moves: &[u8]) -> Result<World<'a>, NoMemory> {
+fn after<'a>(alloc: Global, checked: &'a Checked, moves: &[u8]) -> Result<World<'a>, NoMemory>
+    requires { length checked.now.functions ≡ 1 }
+{
     let mut world = first(alloc, checked)?;
     for turn in moves {
         match turn {
             3 => step(&mut world, 0, Choice::Claim { row: 1 })?,
             thread => step(&mut world, usize::from(*thread), Choice::Ok)?,
-        }
+        };
     }
     Ok(world)
 }
 
-/// Every interleaving of two workers and main that each take a reference, drop it and fail, with main's claims among them: in
-/// each state what was created is closed or alive, and once all are gone it is closed.
-#[test]
-fn every_interleaving(rt: HostRuntime) -> Result<(), Fail> {
-    let alloc = rt.alloc();
-    let checked = accepted(alloc, &take_and_drop())?;
+fn one_move_more(alloc: Global, moves: &[u8], turn: u8) -> Result<Vec<u8>, AllocError> {
+    let mut more = Vec::from_slice(alloc, moves)?;
+    more.push(turn)?;
+    Ok(more)
+}
+
+/// Whether all threads are gone. What was created is closed or alive, and at the end it is closed.
+fn is_last(tally: [u64; 7]) -> Result<bool, Fail> {
+    let [_, running, created, closed, alive, _, _] = tally;
+    if closed.checked_add(alive) != Some(created) {
+        return Err("what was created is neither closed nor alive")?;
+    }
+    if running > 0 {
+        return Ok(false);
+    }
+    if (created, closed) != (1, 1) {
+        return Err("all threads are gone, and the root isn't closed")?;
+    }
+    Ok(true)
+}
+
+/// The state after the moves is looked at where it is a new one; says whether it is new and the last.
+fn visit(
+    alloc: Global,
+    checked: &Checked,
+    moves: Vec<u8>,
+    seen: &mut BTreeSet<String>,
+    paths: &mut Vec<Vec<u8>>,
+) -> Result<bool, Fail>
+    requires { length checked.now.functions ≡ 1 }
+{
+    let world = after(alloc, checked, &moves)?;
+    if !seen.insert(format!(in alloc; "{world:?}")?)? {
+        return Ok(false);
+    }
+    let last = is_last(numbers(&world.tally(alloc)?))?;
+    paths.push(moves)?;
+    Ok(last)
+}
+
+/// The states that the moves lead to, the first one before any, and how many of them are last ones.
+fn search(alloc: Global, checked: &Checked) -> Result<(usize, usize), Fail>
+    requires { length checked.now.functions ≡ 1 }
+{
     let mut seen = BTreeSet::new(alloc);
     let mut paths: Vec<Vec<u8>> = Vec::new(alloc);
     paths.push(Vec::new(alloc))?;
-    let mut finals = 0u32;
+    let mut last = 0usize;
     for state in 0..MOST_STATES {
         if state >= paths.len() {
             break;
         }
         for turn in 0..MOVES {
-            let mut path = Vec::from_slice(alloc, &paths[state])?;
-            path.push(turn)?;
-            let world = after(alloc, &checked, &path)?;
-            if seen.insert(format!(in alloc; "{world:?}")?)? {
-                let tally = numbers(&world.tally(alloc)?);
-                let [_, running, created, closed, alive, _, _] = tally;
-                assert_eq!(rt; created, closed + alive);
-                if running == 0 {
-                    finals += 1;
-                    assert_eq!(rt; tally, [2, 0, 1, 1, 0, 0, 0]);
-                }
-                paths.push(path)?;
+            let moves = one_move_more(alloc, &paths[state], turn)?;
+            if visit(alloc, checked, moves, &mut seen, &mut paths)? {
+                last = last.saturating_add(1);
             }
         }
     }
-    println!(rt; "{} states, {finals} of them final", paths.len())?;
-    assert!(rt; finals > 0 && paths.len() < MOST_STATES);
+    Ok((paths.len(), last))
+}
+
+/// Every interleaving of two workers and main, where each worker takes a reference, drops it and fails, and main looks for the
+/// root's mark at any time.
+#[test]
+fn every_interleaving(rt: HostRuntime) -> Result<(), Fail> {
+    let checked = accepted(rt.alloc(), &take_and_drop())?;
+    let (states, last) = search(rt.alloc(), &checked)?;
+    println!(rt; "{states} states, {last} of them last ones")?;
+    assert!(rt; last > 0 && states < MOST_STATES);
     Ok(())
 }

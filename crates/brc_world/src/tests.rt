@@ -70,11 +70,16 @@ fn finish(world: &mut World<'_>) -> Result<(), NoMemory> {
 }
 
 /// One step, where there is such a thread.
-pub fn step(world: &mut World<'_>, thread: usize, choice: Choice) -> Result<(), NoMemory> {
+pub fn step(world: &mut World<'_>, thread: usize, choice: Choice) -> Result<Option<Did>, NoMemory> {
     if thread < world.threads() {
-        world.step(thread, choice)?;
+        Ok(Some(world.step(thread, choice)?))
+    } else {
+        Ok(None)
     }
-    Ok(())
+}
+
+fn is_gone(world: &World<'_>, thread: usize) -> bool {
+    thread < world.threads() && world.is_gone(thread)
 }
 
 pub fn numbers(tally: &Tally) -> [u64; 7] {
@@ -109,8 +114,8 @@ fn smallest_module(rt: HostRuntime) -> Result<(), Fail> {
     let after = world.tally(rt.alloc())?;
     assert_eq!(rt; numbers(&after), [1, 0, 1, 1, 0, 0, 0]);
     assert!(rt; after.left.as_slice().is_empty());
-    assert!(rt; world.threads() == 2 && world.is_gone(1));
-    assert_eq!(rt; world.step(1, Choice::Ok)?, Did::Gone);
+    assert!(rt; world.threads() == 2 && is_gone(&world, 1));
+    assert_eq!(rt; step(&mut world, 1, Choice::Ok)?, Some(Did::Gone));
     assert_eq!(rt; numbers(&world.tally(rt.alloc())?), [1, 0, 1, 1, 0, 0, 0]);
     Ok(())
 }

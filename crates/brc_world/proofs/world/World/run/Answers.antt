@@ -12,7 +12,7 @@ pub loop-line-preserved : goal.loop-line-preserved
 loop-line-preserved c = record {
   stands =
       next_line (seen c.args.self.now) (seen c.loop-line.self) (seen c.run_line.new.self) c.as_slice-line-items.result.now c.loop-line.line-index _ c.loop-line.invariant.stands c.loop-line-test.true
-        c.in_ok-run_line.ensures.done;
+      c.in_ok-run_line.ensures.done;
   as_many = c.in_ok-run_line.ensures.as_many ∙ c.loop-line.invariant.as_many;
 }
 

@@ -17,6 +17,6 @@ pub loop-preserved : goal.loop-preserved
 loop-preserved c = record {
   stands =
       one_more (seen c.args.self.now) (seen c.loop.self) (seen c.step.new.self) c.args.line.thread c.args.line.choice c.loop.counter c.loop.invariant.stands
-        (rw c.from-thread.ensures at c.in_ok-step.ensures.made);
+      (rw c.from-thread.ensures at c.in_ok-step.ensures.made);
   as_many = c.in_ok-step.ensures.as_many ∙ c.loop.invariant.as_many;
 }
