@@ -66,3 +66,4 @@ pub mod Owners
 pub mod ClosedOnce
 pub mod RowLaws
 pub mod MarksWatched
+pub mod Trail

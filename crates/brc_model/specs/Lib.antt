@@ -12,3 +12,4 @@ pub mod World
 pub mod Within
 pub mod Progress
 pub mod Watched
+pub mod Trail

@@ -27,6 +27,6 @@ pub use row_laws::{
 pub use slot::{Exit, Slot, State};
 pub use thread::{Call, Choice};
 pub use world_laws::{
-    steps_are_within, steps_move, worlds_are_small,
+    steps_are_within, steps_move, threads_make_their_trails, worlds_are_small,
     worlds_follow_machines, worlds_lead_on,
 };
