@@ -65,3 +65,5 @@ pub mod Immortals
 pub mod Owners
 pub mod ClosedOnce
 pub mod RowLaws
+pub mod MarksWatched
+pub mod Trail

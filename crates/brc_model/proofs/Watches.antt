@@ -222,7 +222,7 @@ root_within rows zero used x is block uses = (omega arith, omega (arith, is, use
 root_within rows (suc t) used x is block uses = let none : block_of rows x ≡ 0 = ap (block_of rows) is in absurd (omega (arith, none, block))
 
 -- the marked row is one of the used rows of its block's thread
-marked_within : (p : Module) (n : ℕ) (m : Machine) (t : ℕ) (a : Actor) (x : ℕ) → Rule p n m → UsesRoot m → slice_get m.actors t ≡ Some a → m.memory (Mark x) ≡ 1 → block_of m.rows x ≡ t
+pub marked_within : (p : Module) (n : ℕ) (m : Machine) (t : ℕ) (a : Actor) (x : ℕ) → Rule p n m → UsesRoot m → slice_get m.actors t ≡ Some a → m.memory (Mark x) ≡ 1 → block_of m.rows x ≡ t
     → (first_row m.rows t ≤ x) × (x < first_row m.rows t + a.used)
 marked_within p n m t a x rule uses found marked block = root_within m.rows t a.used x (marked_is_root p n m x rule marked) block (λ e. uses a (ap (slice_get m.actors) (sym e) ∙ found))
 

@@ -11,3 +11,5 @@ pub mod Safety
 pub mod World
 pub mod Within
 pub mod Progress
+pub mod Watched
+pub mod Trail

@@ -21,11 +21,12 @@ pub use duty::{Duty, Holding, Reason};
 pub use laws::accepted_is_safe;
 pub use row_laws::{
     a_row_is_finalised_once, an_event_closes_one_row_anew, born_rows_are_used,
-    closed_rows_stay_closed, gates_tell_what_is_closed, immortal_words_stay,
+    closed_rows_stay_closed, gates_tell_what_is_closed, immortal_words_stay, marks_are_watched,
     nobody_takes_a_row_over, only_a_running_owner_counts, states_only_rise,
 };
 pub use slot::{Exit, Slot, State};
 pub use thread::{Call, Choice};
 pub use world_laws::{
-    steps_are_within, steps_move, worlds_are_small, worlds_follow_machines, worlds_lead_on,
+    steps_are_within, steps_move, threads_make_their_trails, worlds_are_small,
+    worlds_follow_machines, worlds_lead_on,
 };

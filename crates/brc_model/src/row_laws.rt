@@ -4,6 +4,7 @@ ghost use Rattle.brc_lang.specs.declared.module.Module.{Module};
 ghost use Rattle.brc_lang.specs.Grammar.{IsModule};
 ghost use Rattle.brc_model.specs.Walks.{IsAcceptable};
 ghost use Rattle.brc_model.specs.Progress.{Always, AtEachEvent, StatesRise, OnlyOwnersCount, OwnersStay, ClosedStays, ClosesAnew, ImmortalsStay, ClosedOnce, GatesTell, BornAreUsed};
+ghost use Rattle.brc_model.specs.Watched.{MarksWatched};
 
 /// A row's state never falls: from default by queued to merged, and never back.
 pub fn states_only_rise()
@@ -48,4 +49,9 @@ pub fn gates_tell_what_is_closed()
 /// Each row that is born is among the used rows of its thread's block.
 pub fn born_rows_are_used()
     ensures { (m : Module) → IsModule m → IsAcceptable m → Always BornAreUsed m }
+{}
+
+/// Each mark that is set is watched: by its block's running thread, by that thread's exit, or by a thread that will look.
+pub fn marks_are_watched()
+    ensures { (m : Module) → IsModule m → IsAcceptable m → Always MarksWatched m }
 {}

@@ -11,9 +11,10 @@ ghost use Rattle.brc_model.specs.declared.thread.Choice.{Choice};
 ghost use Rattle.brc_model.specs.declared.thread.Choice.TheVariants.{Ok, Fault, Claim};
 ghost use Rattle.brc_model.specs.declared.address.Address.TheVariants.{Mark};
 ghost use Rattle.brc_model.specs.declared.actor.Status.TheVariants.{Gone};
-ghost use Rattle.brc_model.specs.Machine.{Actor, Machine, may_claim, next_machine};
+ghost use Rattle.brc_model.specs.Machine.{Actor, Machine, may_claim, next_machine, machine_after};
 ghost use Rattle.brc_model.specs.World.{World, world_of, first_world, step, IsReachable};
 ghost use Rattle.brc_model.specs.Within.{StepsWithin};
+ghost use Rattle.brc_model.specs.Trail.{CanMake, events_on};
 
 /// A machine's step is a step of the world that its threads see: a step looks at nothing else.
 pub fn worlds_follow_machines()
@@ -49,4 +50,10 @@ pub fn worlds_are_small()
     ensures few_threads { (p : Module) (w : World) → IsReachable p w → length w.actors ≤ 33 }
     ensures some_rows { (p : Module) (w : World) → IsReachable p w → 0 < w.rows }
     ensures few_rows { (p : Module) (w : World) → IsReachable p w → w.rows ≤ 1024 }
+{}
+
+/// What a thread does with words along any events is what its automaton can make: its next step depends on what it finds,
+/// and on nothing else that others do.
+pub fn threads_make_their_trails()
+    ensures { (m : Machine) (events : List (ℕ × Choice)) (t : ℕ) (a b : Actor) → slice_get m.actors t ≡ Some a → slice_get (machine_after m events).actors t ≡ Some b → CanMake m.functions m.rows t a (events_on t m events) b }
 {}

@@ -1,0 +1,139 @@
+-- Each mark that is set is watched, in each machine that events lead to: read off the invariant's word about marks.
+use Rattle.std.proofs.Common.{◌≡◌, ℕ, zero, suc, ◌+◌, ◌<◌, Bool, true, false, List, [], ◌∷◌, inl, inr, length, Some, refl, sym, ap, ◌∙◌, arith}
+use Rattle.std.specs.Prelude.{◌&&◌, ◌||◌, nat_le, nat_lt, slice_get, sum_by}
+use Rattle.std.specs.List.{list_any}
+use Rattle.std.proofs.lemmas.Bool.{lt-ltb}
+use Rattle.std.proofs.lemmas.Option.{slice_get_cases}
+use Rattle.std.proofs.lemmas.List.Sums.{sum_by-cons}
+use Rattle.brc_lang.specs.declared.module.Module.{Module}
+use Rattle.brc_lang.specs.Grammar.{IsModule}
+use Rattle.brc_model.specs.Walks.{IsAcceptable}
+use Rattle.brc_model.specs.declared.duty.Reason.TheVariants.{Handed}
+use Rattle.brc_model.specs.declared.duty.Duty.{Duty}
+use Rattle.brc_model.specs.declared.duty.Duty.TheVariants.{SharedLoad, Look, TakeMark, Settle, Leave, Scan, Finish}
+use Rattle.brc_model.specs.declared.address.Address.TheVariants.{Mark, ThreadWord}
+use Rattle.brc_model.specs.declared.actor.Status.{Status}
+use Rattle.brc_model.specs.declared.actor.Status.TheVariants.{Running, Leaving, Gone}
+use Rattle.brc_model.specs.declared.actor.Place.{Place}
+use Rattle.brc_model.specs.Duties.{block_of}
+use Rattle.brc_model.specs.Machine.{Actor, Machine, first_row, first_machine}
+use Rattle.brc_model.specs.Progress.{Always}
+use Rattle.brc_model.specs.Watched.{looks_at, scans_over, IsWatched, ByRunning, ByExit, ByLook, MarksWatched}
+use Rattle.brc_model.proofs.Bag.{one_if}
+use Rattle.brc_model.proofs.Rows.{agenda_weight, weight}
+use Rattle.brc_model.proofs.Rule.{Later, Agenda, AgendaFits, scans, looks, status_word}
+use Rattle.brc_model.proofs.Rule as rule
+use Rattle.brc_model.proofs.OwnExits.{marked_is_root}
+use Rattle.brc_model.proofs.Watches.{marked_within}
+use Rattle.brc_model.proofs.Whole.{Whole}
+use Rattle.brc_model.proofs.WholeEvents.{whole_after}
+use Rattle.brc_model.proofs.Safe.{first_whole}
+
+-- ---- by its running thread
+
+status_runs : (s : Status) → status_word s ≡ 1 → s ≡ Running
+status_runs Running e = refl
+status_runs Leaving e = absurd (omega (arith, e))
+status_runs Gone e = absurd (omega (arith, e))
+
+-- the marked row is the root, so its block's thread is main, which is there
+by_running : (p : Module) (n : ℕ) (m : Machine) (x : ℕ) → Whole p n m → 0 < n → m.memory (Mark x) ≡ 1 → m.memory (ThreadWord (block_of m.rows x)) ≡ 1 → IsWatched m x
+by_running p n m x whole some marked word =
+    let is_main : block_of m.rows x ≡ 0 = ap (block_of m.rows) (marked_is_root p n m x whole.rule marked) in
+    elim (slice_get_cases m.actors 0).1 [
+      | inl found ↦
+          let fits = (whole.rule.each 0 found.0 found.2).0 in
+          let runs : status_word found.0.status ≡ 1 = sym fits.word ∙ ap (λ (t : ℕ). m.memory (ThreadWord t)) (sym is_main) ∙ word in
+          ByRunning (found.0, ap (slice_get m.actors) is_main ∙ found.2, status_runs found.0.status runs)
+      | inr past ↦ absurd (omega (arith, past.0, whole.rule.threads, some))
+    ]
+
+-- ---- by an exit
+
+both_true : (a b c : Bool) → a ≡ true → b ≡ true → (a && b || c) ≡ true
+both_true true true c ea eb = refl
+both_true true false c ea eb = absurd cc
+both_true false b c ea eb = absurd cc
+
+-- a scan goes on to the end of the used rows, and is an exit's
+later_scans : (rows t used : ℕ) (status : Status) (place : Place) (x : ℕ) (l : List Duty) → Later rows t used status place l → x < first_row rows t + used → scans x l ≡ true
+    → (status ≡ Leaving) × (list_any (scans_over x) l ≡ true)
+later_scans rows t used status place x [] later low e = absurd cc
+later_scans rows t used status place x (Settle ∷ rest) later low e = later_scans rows t used status place x rest later low e
+later_scans rows t used status place x (SharedLoad y Handed ∷ rest) later low e = later_scans rows t used status place x rest later.1 low e
+later_scans rows t used status place x (Leave y k ∷ []) later low e = absurd cc
+later_scans rows t used status place x (Scan y k ∷ rest) later low e =
+    (later.0, both_true (nat_le y x) (nat_lt x (y + k)) (list_any (scans_over x) rest) e (lt-ltb x (y + k) (omega (arith, low, later.2))))
+later_scans rows t used status place x (Finish ∷ []) later low e = absurd cc
+later_scans rows t used status place x _ later low e = absurd later
+
+agenda_scans : (rows t used : ℕ) (status : Status) (place : Place) (x : ℕ) (l : List Duty) → Agenda rows t used status place l → x < first_row rows t + used → scans x l ≡ true
+    → (status ≡ Leaving) × (list_any (scans_over x) l ≡ true)
+agenda_scans rows t used status place x [] fits low e = absurd cc
+agenda_scans rows t used status place x (Settle ∷ rest) fits low e = later_scans rows t used status place x (Settle ∷ rest) fits low e
+agenda_scans rows t used status place x (Leave y k ∷ rest) fits low e = later_scans rows t used status place x (Leave y k ∷ rest) fits low e
+agenda_scans rows t used status place x (Scan y k ∷ rest) fits low e = later_scans rows t used status place x (Scan y k ∷ rest) fits low e
+agenda_scans rows t used status place x (Finish ∷ rest) fits low e = later_scans rows t used status place x (Finish ∷ rest) fits low e
+agenda_scans rows t used status place x (_ ∷ rest) fits low e = later_scans rows t used status place x rest fits low e
+
+exit_scans : (rows t : ℕ) (a : Actor) (status : Status) (x : ℕ) → AgendaFits rows t a status → x < first_row rows t + a.used → scans x a.agenda ≡ true → (status ≡ Leaving) × (list_any (scans_over x) a.agenda ≡ true)
+exit_scans rows t a Gone x fits low e = let none : false ≡ true = ap (scans x) (sym fits.0) ∙ e in absurd cc
+exit_scans rows t a Running x fits low e = agenda_scans rows t a.used Running a.place x a.agenda fits low e
+exit_scans rows t a Leaving x fits low e = agenda_scans rows t a.used Leaving a.place x a.agenda fits low e
+
+by_exit : (p : Module) (n : ℕ) (m : Machine) (x : ℕ) (a : Actor) → Whole p n m → m.memory (Mark x) ≡ 1 → slice_get m.actors (block_of m.rows x) ≡ Some a → scans x a.agenda ≡ true → IsWatched m x
+by_exit p n m x a whole marked found e =
+    let t = block_of m.rows x in
+    let within = marked_within p n m t a x whole.rule (λ b is. whole.used 0 b is) found marked refl in
+    let shown = exit_scans m.rows t a a.status x (whole.rule.each t a found).1 within.1 e in
+    ByExit a found shown.0 shown.1
+
+-- ---- by a look
+
+looks_are : (x : ℕ) (d : Duty) → looks x d ≡ one_if (looks_at x d)
+looks_are x (Look y) = refl
+looks_are x (TakeMark y) = refl
+looks_are x _ = refl
+
+looks_in : (b : Bool) (x : ℕ) (rest : List Duty) → 0 < one_if b + sum_by (looks x) rest → (0 < sum_by (looks x) rest → list_any (looks_at x) rest ≡ true) → (b || list_any (looks_at x) rest) ≡ true
+looks_in true x rest some behind = refl
+looks_in false x rest some behind = behind (omega (arith, some))
+
+agenda_looks : (x : ℕ) (agenda : List Duty) → 0 < sum_by (looks x) agenda → list_any (looks_at x) agenda ≡ true
+agenda_looks x [] some = absurd (omega (arith, some))
+agenda_looks x (d ∷ rest) some = looks_in (looks_at x d) x rest (omega (arith, some, sum_by-cons (looks x) d rest, looks_are x d)) (agenda_looks x rest)
+
+record Looking (x : ℕ) (actors : List Actor) : Type 0 where
+  thread : ℕ
+  actor : Actor
+  is_there : slice_get actors thread ≡ Some actor
+  looks_so : list_any (looks_at x) actor.agenda ≡ true
+
+looking_first : (x : ℕ) (a : Actor) (rest : List Actor) (n : ℕ) → agenda_weight (looks x) a ≡ n → 0 < n + weight (looks x) rest → (0 < weight (looks x) rest → Looking x rest) → Looking x (a ∷ rest)
+looking_first x a rest zero is some behind =
+    let it = behind (omega (arith, some)) in
+    record { thread = suc it.thread; actor = it.actor; is_there = it.is_there; looks_so = it.looks_so }
+looking_first x a rest (suc n) is some behind = record { thread = 0; actor = a; is_there = refl; looks_so = agenda_looks x a.agenda (omega (arith, is)) }
+
+looking : (x : ℕ) (actors : List Actor) → 0 < weight (looks x) actors → Looking x actors
+looking x [] some = absurd (omega (arith, some))
+looking x (a ∷ rest) some = looking_first x a rest (agenda_weight (looks x) a) refl (omega (arith, some, sum_by-cons (agenda_weight (looks x)) a rest)) (looking x rest)
+
+-- ---- all marks
+
+watched_so : (p : Module) (n : ℕ) (m : Machine) (x : ℕ) → Whole p n m → 0 < n → m.memory (Mark x) ≡ 1 → rule.IsWatched m x → IsWatched m x
+watched_so p n m x whole some marked (rule.ByRunning word) = by_running p n m x whole some marked word
+watched_so p n m x whole some marked (rule.ByExit a found e) = by_exit p n m x a whole marked found e
+watched_so p n m x whole some marked (rule.ByLook weighs) = let it = looking x m.actors weighs in ByLook it.thread it.actor it.is_there it.looks_so
+
+all_watched : (p : Module) (n : ℕ) (m : Machine) → Whole p n m → 0 < n → MarksWatched m
+all_watched p n m whole some = λ x set.
+    elim (whole.rule.marks x) [
+      | inl none ↦ absurd (set none)
+      | inr marked ↦ watched_so p n m x whole some marked.0 marked.2
+    ]
+
+pub marks_watched : (p : Module) → IsModule p → IsAcceptable p → Always MarksWatched p
+marks_watched p fits accepted = λ rows calls events some most are_calls.
+    let n = 1 + length calls in
+    all_watched p n _ (whole_after p n (first_machine p rows calls) events (first_whole p rows calls fits accepted are_calls some)) (omega arith)
