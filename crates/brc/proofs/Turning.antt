@@ -5,7 +5,7 @@ use Rattle.std.proofs.lemmas.List.Sums.{fold-append}
 use Rattle.brc_lang.specs.declared.module.Module.{Module}
 use Rattle.brc_model.specs.declared.thread.Call.{Call}
 use Rattle.brc_model.specs.declared.thread.Choice.{Choice}
-use Rattle.brc_model.specs.Steps.{World, step, first_world}
+use Rattle.brc_model.specs.World.{World, step, first_world}
 use Rattle.brc_world.specs.declared.tally.Tally.{Tally}
 use Rattle.brc_world.specs.Runs.{world_after}
 use Rattle.brc_world.specs.Tallies.{tally_of}
@@ -36,3 +36,8 @@ tally_of_run m rows workers call first mid last calls (Ok tally) same is begun e
   counted = counted;
 }
 tally_of_run m rows workers call first mid last calls (Err e) same is begun ended counted = counted
+
+pub tally_of_last : {E : Type 0} (m : Module) (rows : ℕ) (calls planned : List Call) (events : List (ℕ × Choice)) (first last : World) (r : Result Tally E) → calls ≡ planned → first ≡ first_world m rows calls → last ≡ world_after first events → IfOk r (λ tally. tally ≡ tally_of last) → IfOk r (λ tally. tally ≡ tally_of (world_after (first_world m rows planned) events))
+tally_of_last m rows calls planned events first last (Ok tally) same is led counted =
+    counted ∙ ap tally_of (led ∙ ap (λ (w : World). world_after w events) (is ∙ ap (first_world m rows) same))
+tally_of_last m rows calls planned events first last (Err e) same is led counted = counted

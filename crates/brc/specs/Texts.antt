@@ -6,7 +6,7 @@ use Rattle.brc_lang.specs.Grammar as modules
 use Rattle.brc_lang.specs.Fault as module_faults
 use Rattle.brc_lang.specs.Written.{AppendsBeginning}
 use Rattle.brc_model.specs.Walks.{IsAcceptable}
-use Rattle.brc_model.specs.Steps.{World, first_world}
+use Rattle.brc_model.specs.World.{World, first_world}
 use Rattle.brc_check.specs.Refusal.{IsRefusedFor}
 use Rattle.brc_world.specs.declared.schedule.Schedule.{Schedule}
 use Rattle.brc_world.specs.declared.tally.Tally.{Tally}

@@ -60,7 +60,7 @@ fn run_file<'a, L: Load, W: Write>(
     let bytes = bytes_of(alloc, asked.file, load)?;
     let checked = checked(alloc, bytes.as_slice())?;
     let call = call_of(checked.module(), asked)?;
-    let tally = run(alloc, &checked, asked.threads, call).map_err(|_| Stop::NoMemory)?;
+    let tally = run(alloc, &checked, asked.threads, asked.rows, call).map_err(|_| Stop::NoMemory)?;
     write_tally(&tally, out).map_err(|_| Stop::CannotWrite)
 }
 

@@ -1,5 +1,6 @@
 ghost use Rattle.std.specs.Prelude.{◌<◌, ◌≤◌};
 
+use brc_lang::number;
 use clap::error::ErrorKind;
 use clap::{Arg, ArgMatches, Command, Error, value_parser};
 use std::alloc::{AllocError, Global};
@@ -7,7 +8,11 @@ use std::convert::AsStr;
 
 const MOST_THREADS: u32 = 32;
 
+const MOST_ROWS: u16 = 1024;
+
 const MOST_TIMES: u32 = 1_000_000;
+
+const SIGNED_ROWS: &str = "invalid value for '--rows <N>': a sign or a leading zero";
 
 /// What a command line asks for.
 #[derive(Clone, Copy, Debug)]
@@ -28,10 +33,14 @@ pub struct Run<'a> {
     pub function: &'a str,
     /// The workers: 1 to 32.
     pub threads: u32,
+    /// The rows of each worker: 1 to 1024.
+    pub rows: u16,
     /// The calls that each worker makes: 1 to 1,000,000.
     pub times: u32,
     ghost some_threads: { 0 < threads },
     ghost most_threads: { threads ≤ 32 },
+    ghost some_rows: { 0 < rows },
+    ghost most_rows: { rows ≤ 1024 },
     ghost some_times: { 0 < times },
     ghost most_times: { times ≤ 1000000 },
 }
@@ -40,6 +49,9 @@ pub struct Run<'a> {
 pub fn parse<'a, S: AsStr>(alloc: Global, words: &'a [S]) -> Result<Asked<'a>, Error> {
     let mut command = program(alloc)?;
     let matches = command.try_get_matches_from_mut(words)?;
+    if !has_plain_rows(&matches) {
+        return Err(command.error(ErrorKind::ValueValidation, SIGNED_ROWS)?);
+    }
     match asked_in(&matches) {
         Some(asked) => Ok(asked),
         None => Err(command.error(ErrorKind::MissingSubcommand, "a command is required")?),
@@ -81,6 +93,14 @@ fn run_command<'a>(alloc: Global) -> Result<Command<'a>, AllocError> {
                 .help("How many threads call it, 1 to 32"),
         )?
         .arg(
+            Arg::new(alloc, "rows")
+                .long("rows")
+                .value_name("N")
+                .value_parser(value_parser!(u16).range(1..=i64::from(MOST_ROWS)))
+                .default_value("1024")
+                .help("How many rows each thread has, 1 to 1024"),
+        )?
+        .arg(
             Arg::new(alloc, "times")
                 .long("times")
                 .value_name("N")
@@ -120,17 +140,33 @@ fn asked_in<'a>(matches: &ArgMatches<'a>) -> Option<Asked<'a>> {
     run_of(matches.subcommand_matches("run")?)
 }
 
+// The number of rows is written as a schedule's is: clap takes a sign and leading zeros too.
+fn has_plain_rows(matches: &ArgMatches) -> bool {
+    let Some(run) = matches.subcommand_matches("run") else {
+        return true;
+    };
+    match run.get_str("rows") {
+        Some(rows) => number(u32::from(MOST_ROWS), rows.as_bytes()).is_ok(),
+        None => true,
+    }
+}
+
 fn run_of<'a>(run: &ArgMatches<'a>) -> Option<Asked<'a>> {
     let threads = run.get_one("threads")?;
+    let rows = run.get_one("rows")?;
     let times = run.get_one("times")?;
     // The parser has seen to the ranges, but doesn't promise them of a subcommand's values.
     if threads == 0 || threads > MOST_THREADS || times == 0 || times > MOST_TIMES {
+        return None;
+    }
+    if rows == 0 || rows > MOST_ROWS {
         return None;
     }
     Some(Asked::Run(Run {
         file: run.get_str("FILE")?,
         function: run.get_str("call")?,
         threads,
+        rows,
         times,
     }))
 }

@@ -1,5 +1,6 @@
 ghost use Rattle.std.specs.Prelude.{◌<◌, ◌≤◌, IfOk, OnOk};
 ghost use Rattle.brc_model.specs.Safety.{IsCall};
+ghost use Rattle.brc_world.specs.Worlds.{seen};
 ghost use Rattle.brc.specs.Turns.{LeadsTo, IsTallyOfRun};
 
 use brc_check::Checked;
@@ -7,19 +8,24 @@ use brc_model::{Call, Choice};
 use brc_world::{Did, NoMemory, Tally, World};
 use std::alloc::Global;
 
-/// How many rows of its own a worker has.
-const ROWS: u16 = 1024;
-
-/// Runs so many workers (1 to 32) that each make the call, one step of each in turn until all are gone, and then main. The
-/// tally is that of a world that steps lead to from the first one.
-pub fn run(alloc: Global, checked: &Checked, workers: u32, call: Call) -> Result<Tally, NoMemory>
+/// Runs so many workers (1 to 32), each with so many rows (1 to 1024), that each make the call: one step of each in turn
+/// until all are gone, and then main. The tally is that of a world that steps lead to from the first one.
+pub fn run(
+    alloc: Global,
+    checked: &Checked,
+    workers: u32,
+    rows: u16,
+    call: Call,
+) -> Result<Tally, NoMemory>
     requires some { 0 < workers }
     requires most { workers ≤ 32 }
+    requires some_rows { 0 < rows }
+    requires most_rows { rows ≤ 1024 }
     requires call { IsCall checked.now call }
-    ensures { IfOk result (λ tally. IsTallyOfRun checked.now 1024 workers call tally) }
+    ensures { IfOk result (λ tally. IsTallyOfRun checked.now rows workers call tally) }
 {
     let calls = vec![in alloc; call; workers as usize]?;
-    let mut world = World::new(alloc, checked, workers as usize, ROWS, calls.as_slice())?;
+    let mut world = World::new(alloc, checked, workers as usize, rows, calls.as_slice())?;
     finish_workers(&mut world)?;
     finish_main(&mut world)?;
     world.tally(alloc)
@@ -27,7 +33,7 @@ pub fn run(alloc: Global, checked: &Checked, workers: u32, call: Call) -> Result
 
 // The workers in turn, until all are gone.
 fn finish_workers(world: &mut World) -> Result<(), NoMemory>
-    ensures { OnOk result (LeadsTo world.old world.new) }
+    ensures { OnOk result (LeadsTo (seen world.old) (seen world.new)) }
 {
     for _ in 0..u64::MAX {
         if step_workers(world)? {
@@ -38,7 +44,7 @@ fn finish_workers(world: &mut World) -> Result<(), NoMemory>
 }
 
 fn finish_main(world: &mut World) -> Result<(), NoMemory>
-    ensures { OnOk result (LeadsTo world.old world.new) }
+    ensures { OnOk result (LeadsTo (seen world.old) (seen world.new)) }
 {
     for _ in 0..u64::MAX {
         if step(world, 0)? == Did::Gone {
@@ -50,7 +56,7 @@ fn finish_main(world: &mut World) -> Result<(), NoMemory>
 
 // One step of each worker, and whether all were gone.
 fn step_workers(world: &mut World) -> Result<bool, NoMemory>
-    ensures { OnOk result (LeadsTo world.old world.new) }
+    ensures { OnOk result (LeadsTo (seen world.old) (seen world.new)) }
 {
     let mut all_gone = true;
     for worker in 1..world.threads() {
@@ -61,7 +67,7 @@ fn step_workers(world: &mut World) -> Result<bool, NoMemory>
 
 // One step of the thread; one that isn't there is gone.
 fn step(world: &mut World, thread: usize) -> Result<Did, NoMemory>
-    ensures { OnOk result (LeadsTo world.old world.new) }
+    ensures { OnOk result (LeadsTo (seen world.old) (seen world.new)) }
 {
     if thread < world.threads() {
         world.step(thread, Choice::Ok)

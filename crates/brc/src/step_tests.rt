@@ -1,6 +1,6 @@
 use crate::act::act;
 use crate::load::{Load, LoadError};
-use crate::tests::{FIRST, Narrow, SMALLEST, Stopping, told};
+use crate::tests::{FIRST, Narrow, ONE_REPORT, SMALLEST, Stopping, told};
 use std::alloc::Global;
 use std::process::Abort;
 use std::test::Fail;
@@ -119,9 +119,56 @@ fn checks_modules(rt: HostRuntime) {
     }
 }
 
+// Two workers that call `f` once, with main's exit first. The root's local count is 3, and main alone changes it.
+//
+// Main gives up its reference to the root and is gone: load, store, leaving, a look at each of its two marks, gone: 6 steps.
+// With `FIRST` a worker's reference to the root takes 2 steps (load, add), its drop 3 (load, shared load, exchange) and
+// `fail` 1. The exit of worker 1 is load, shared load, exchange, which queues the root, mark, look at main's word, which says
+// gone, and so: the mark taken, the merge (local swap, shared load, exchange: 2 are left), and the release that was handed
+// (shared load, exchange: 1 is left). Leaving and gone follow: 6 + 5 + 1 + 3 + 2 + 2 = 19 steps.
+// The exit of worker 2 is load, shared load, exchange, which leaves nothing: 9 steps so far. Then the root dies: gate, gate
+// read, kind, eight cells, closed: 12 steps, 21 so far. Leaving and gone make 23.
+#[test]
+fn counts_each_step(rt: HostRuntime) {
+    let cases: [(&'static [u8], &[u8]); 6] = [
+        (
+            b"schedule 1\nworkers 2\nrows 4\ncall 1 f 1\ncall 2 f 1\nstep 0 ok 5\n",
+            b"threads 2\nrunning 3\ncreated 1\nclosed 0\nalive 1\nhost faults 0\nclose faults 0\nleft 1 list\n",
+        ),
+        (
+            b"schedule 1\nworkers 2\nrows 4\ncall 1 f 1\ncall 2 f 1\nstep 0 ok 6\nstep 1 fault 18\n",
+            b"threads 2\nrunning 2\ncreated 1\nclosed 0\nalive 1\nhost faults 0\nclose faults 0\nleft 1 list\n",
+        ),
+        (
+            b"schedule 1\nworkers 2\nrows 4\ncall 1 f 1\ncall 2 f 1\nstep 0 ok 6\nstep 1 fault 19\nstep 2 ok 20\n",
+            b"threads 2\nrunning 1\ncreated 1\nclosed 0\nalive 1\nhost faults 0\nclose faults 0\nleft 1 list\n",
+        ),
+        (
+            b"schedule 1\nworkers 2\nrows 4\ncall 1 f 1\ncall 2 f 1\nstep 0 ok 6\nstep 1 fault 19\nstep 2 ok 21\n",
+            b"threads 2\nrunning 1\ncreated 1\nclosed 1\nalive 0\nhost faults 0\nclose faults 0\n",
+        ),
+        (
+            b"schedule 1\nworkers 2\nrows 4\ncall 1 f 1\ncall 2 f 1\nstep 0 ok 6\nstep 1 fault 19\nstep 2 ok 22\n",
+            b"threads 2\nrunning 1\ncreated 1\nclosed 1\nalive 0\nhost faults 0\nclose faults 0\n",
+        ),
+        (
+            b"schedule 1\nworkers 2\nrows 4\ncall 1 f 1\ncall 2 f 1\nstep 0 ok 6\nstep 1 fault 19\nstep 2 ok 23\n",
+            b"threads 2\nrunning 0\ncreated 1\nclosed 1\nalive 0\nhost faults 0\nclose faults 0\n",
+        ),
+    ];
+    for (schedule, report) in cases {
+        assert_told(
+            &rt,
+            STEP.as_slice(),
+            both(FIRST, schedule),
+            (report, b"", 0),
+        );
+    }
+}
+
 #[test]
 fn steps_schedules(rt: HostRuntime) {
-    let cases: [(&'static [u8], &'static [u8], &[u8]); 4] = [
+    let cases: [(&'static [u8], &'static [u8], &[u8]); 3] = [
         (
             FIRST,
             b"schedule 1\nworkers 2\nrows 4\ncall 1 f 1\ncall 2 f 1\nstep 1 ok 1\n",
@@ -132,15 +179,9 @@ fn steps_schedules(rt: HostRuntime) {
             ONE_CALL,
             b"threads 1\nrunning 2\ncreated 1\nclosed 0\nalive 1\nhost faults 0\nclose faults 0\nleft 1 list\n",
         ),
-        // Each worker takes three steps inside its call and one to be gone, and main one.
         (
             FIRST,
-            b"schedule 1\nworkers 2\nrows 4\ncall 1 f 1\ncall 2 f 1\nstep 0 ok 1\nstep 1 fault 4\nstep 2 ok 3\n",
-            b"threads 2\nrunning 1\ncreated 1\nclosed 0\nalive 1\nhost faults 0\nclose faults 0\nleft 1 list\n",
-        ),
-        (
-            FIRST,
-            b"schedule 1\nworkers 2\nrows 4\ncall 1 f 1\ncall 2 f 1\nstep 0 ok 1\nstep 1 fault 4\nstep 2 ok 1000000\n",
+            b"schedule 1\nworkers 2\nrows 4\ncall 1 f 1\ncall 2 f 1\nstep 0 ok 1000\nstep 1 fault 1000\nstep 2 ok 1000000\n",
             b"threads 2\nrunning 0\ncreated 1\nclosed 1\nalive 0\nhost faults 0\nclose faults 0\n",
         ),
     ];
@@ -150,6 +191,48 @@ fn steps_schedules(rt: HostRuntime) {
             STEP.as_slice(),
             both(module, schedule),
             (report, b"", 0),
+        );
+    }
+}
+
+// With `SMALLEST`: worker 1's `fail` is a step, and with the fourth one, an exchange, it has queued the root. The fifth sets
+// the mark, which main finds: at its exit, or by a claim before it. Without the mark main finds nothing, and the worker sees
+// that main is gone. Each schedule is then closed by the rest of worker 1.
+#[test]
+fn steps_the_queue(rt: HostRuntime) {
+    let closed: &[u8] =
+        b"threads 1\nrunning 1\ncreated 1\nclosed 1\nalive 0\nhost faults 0\nclose faults 0\n";
+    let left: &[u8] =
+        b"threads 1\nrunning 1\ncreated 1\nclosed 0\nalive 1\nhost faults 0\nclose faults 0\nleft 1 list\n";
+    let cases: [(&'static [u8], &'static [u8], &[u8]); 3] = [
+        (
+            b"schedule 1\nworkers 1\nrows 4\ncall 1 f 1\nstep 1 ok 5\nstep 0 ok 1000\n",
+            b"schedule 1\nworkers 1\nrows 4\ncall 1 f 1\nstep 1 ok 5\nstep 0 ok 1000\nstep 1 ok 1000\n",
+            closed,
+        ),
+        (
+            b"schedule 1\nworkers 1\nrows 4\ncall 1 f 1\nstep 1 ok 4\nstep 0 ok 1000\n",
+            b"schedule 1\nworkers 1\nrows 4\ncall 1 f 1\nstep 1 ok 4\nstep 0 ok 1000\nstep 1 ok 1000\n",
+            left,
+        ),
+        (
+            b"schedule 1\nworkers 1\nrows 4\ncall 1 f 1\nstep 1 ok 5\nclaim 0 1\nstep 0 ok 1000\n",
+            b"schedule 1\nworkers 1\nrows 4\ncall 1 f 1\nstep 1 ok 5\nclaim 0 1\nstep 0 ok 1000\nstep 1 ok 1000\n",
+            closed,
+        ),
+    ];
+    for (before, whole, report) in cases {
+        assert_told(
+            &rt,
+            STEP.as_slice(),
+            both(SMALLEST, before),
+            (report, b"", 0),
+        );
+        assert_told(
+            &rt,
+            STEP.as_slice(),
+            both(SMALLEST, whole),
+            (ONE_REPORT, b"", 0),
         );
     }
 }

@@ -13,7 +13,7 @@ pub const SMALLEST: &[u8] = b"module 1\nfunc f\nfail\nend\n";
 
 pub const FIRST: &[u8] = b"module 1\nfunc f\nnewref v1 v0\ndrop v1\nfail\nend\n";
 
-const ONE_REPORT: &[u8] =
+pub const ONE_REPORT: &[u8] =
     b"threads 1\nrunning 0\ncreated 1\nclosed 1\nalive 0\nhost faults 0\nclose faults 0\n";
 
 const FOUR_REPORT: &[u8] =
@@ -144,6 +144,10 @@ fn takes_each_end_of_a_range(rt: HostRuntime) {
     assert_reports(&rt, low.as_slice(), holding(SMALLEST), ONE_REPORT);
     let threads = ["brc", "run", "m.brc", "--call", "f", "--threads", "32"];
     assert_reports(&rt, threads.as_slice(), holding(SMALLEST), many.as_slice());
+    for number in ["1", "1024"] {
+        let rows = ["brc", "run", "m.brc", "--call", "f", "--rows", number];
+        assert_reports(&rt, rows.as_slice(), holding(SMALLEST), ONE_REPORT);
+    }
     let times = ["brc", "run", "m.brc", "--call", "f", "--times", "1000000"];
     assert_reports(&rt, times.as_slice(), holding(SMALLEST), ONE_REPORT);
 }
@@ -166,6 +170,10 @@ fn refuses_command_lines(rt: HostRuntime) {
         ("--threads", "-1"),
         ("--threads", "1.5"),
         ("--threads", ""),
+        ("--rows", "0"),
+        ("--rows", "1025"),
+        ("--rows", "01"),
+        ("--rows", "x"),
         ("--times", "0"),
         ("--times", "1000001"),
         ("--times", "often"),

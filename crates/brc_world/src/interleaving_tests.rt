@@ -39,6 +39,17 @@ fn after<'a>(alloc: Global, checked: &'a Checked, moves: &[u8]) -> Result<World<
     Ok(world)
 }
 
+fn moves_to(
+    alloc: Global,
+    paths: &[Vec<u8>],
+    state: usize,
+) -> Result<Option<Vec<u8>>, AllocError> {
+    match paths.get(state) {
+        Some(moves) => Ok(Some(Vec::from_slice(alloc, moves)?)),
+        None => Ok(None),
+    }
+}
+
 fn one_move_more(alloc: Global, moves: &[u8], turn: u8) -> Result<Vec<u8>, AllocError> {
     let mut more = Vec::from_slice(alloc, moves)?;
     more.push(turn)?;
@@ -88,12 +99,12 @@ fn search(alloc: Global, checked: &Checked) -> Result<(usize, usize), Fail>
     paths.push(Vec::new(alloc))?;
     let mut last = 0usize;
     for state in 0..MOST_STATES {
-        if state >= paths.len() {
+        let Some(moves) = moves_to(alloc, &paths, state)? else {
             break;
-        }
+        };
         for turn in 0..MOVES {
-            let moves = one_move_more(alloc, &paths[state], turn)?;
-            if visit(alloc, checked, moves, &mut seen, &mut paths)? {
+            let more = one_move_more(alloc, &moves, turn)?;
+            if visit(alloc, checked, more, &mut seen, &mut paths)? {
                 last = last.saturating_add(1);
             }
         }

@@ -99,14 +99,21 @@ pub const ROOT_LEFT: [Left; 1] = [Left {
     kind: Kind::List,
 }];
 
+/// A worker that calls the function once.
+fn one_worker(alloc: Global, checked: &Checked) -> Result<World<'_>, NoMemory>
+    requires { length checked.now.functions ≡ 1 }
+{
+    let call = Call {
+        function: 0,
+        times: 1,
+    };
+    World::new(alloc, checked, 1, 4, &[call])
+}
+
 #[test]
 fn smallest_module(rt: HostRuntime) -> Result<(), Fail> {
     let checked = accepted(rt.alloc(), &[Instr::Fail])?;
-    let calls = [Call {
-        function: 0,
-        times: 1,
-    }];
-    let mut world = World::new(rt.alloc(), &checked, 1, 4, &calls)?;
+    let mut world = one_worker(rt.alloc(), &checked)?;
     let before = world.tally(rt.alloc())?;
     assert_eq!(rt; numbers(&before), [1, 2, 1, 0, 1, 0, 0]);
     assert_eq!(rt; before.left.as_slice(), ROOT_LEFT.as_slice());
