@@ -39,11 +39,7 @@ fn after<'a>(alloc: Global, checked: &'a Checked, moves: &[u8]) -> Result<World<
     Ok(world)
 }
 
-fn moves_to(
-    alloc: Global,
-    paths: &[Vec<u8>],
-    state: usize,
-) -> Result<Option<Vec<u8>>, AllocError> {
+fn moves_to(alloc: Global, paths: &[Vec<u8>], state: usize) -> Result<Option<Vec<u8>>, AllocError> {
     match paths.get(state) {
         Some(moves) => Ok(Some(Vec::from_slice(alloc, moves)?)),
         None => Ok(None),

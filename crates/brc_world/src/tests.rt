@@ -110,20 +110,43 @@ fn one_worker(alloc: Global, checked: &Checked) -> Result<World<'_>, NoMemory>
     World::new(alloc, checked, 1, 4, &[call])
 }
 
+pub fn report(alloc: Global, world: &World<'_>) -> Result<[u64; 7], NoMemory> {
+    Ok(numbers(&world.tally(alloc)?))
+}
+
+/// The reports before the first step and after the last.
+fn smallest(alloc: Global) -> Result<([u64; 7], [u64; 7]), Fail> {
+    let checked = accepted(alloc, &[Instr::Fail])?;
+    let mut world = one_worker(alloc, &checked)?;
+    let before = report(alloc, &world)?;
+    finish(&mut world)?;
+    Ok((before, report(alloc, &world)?))
+}
+
 #[test]
 fn smallest_module(rt: HostRuntime) -> Result<(), Fail> {
-    let checked = accepted(rt.alloc(), &[Instr::Fail])?;
-    let mut world = one_worker(rt.alloc(), &checked)?;
-    let before = world.tally(rt.alloc())?;
-    assert_eq!(rt; numbers(&before), [1, 2, 1, 0, 1, 0, 0]);
-    assert_eq!(rt; before.left.as_slice(), ROOT_LEFT.as_slice());
+    let (before, after) = smallest(rt.alloc())?;
+    assert_eq!(rt; before, [1, 2, 1, 0, 1, 0, 0]);
+    assert_eq!(rt; after, [1, 0, 1, 1, 0, 0, 0]);
+    Ok(())
+}
+
+/// What a step of a worker that is gone answers, and the report then.
+fn step_of_the_gone(alloc: Global) -> Result<(bool, Option<Did>, [u64; 7]), Fail> {
+    let checked = accepted(alloc, &[Instr::Fail])?;
+    let mut world = one_worker(alloc, &checked)?;
     finish(&mut world)?;
-    let after = world.tally(rt.alloc())?;
-    assert_eq!(rt; numbers(&after), [1, 0, 1, 1, 0, 0, 0]);
-    assert!(rt; after.left.as_slice().is_empty());
-    assert!(rt; world.threads() == 2 && is_gone(&world, 1));
-    assert_eq!(rt; step(&mut world, 1, Choice::Ok)?, Some(Did::Gone));
-    assert_eq!(rt; numbers(&world.tally(rt.alloc())?), [1, 0, 1, 1, 0, 0, 0]);
+    let gone = is_gone(&world, 1);
+    let did = step(&mut world, 1, Choice::Ok)?;
+    Ok((gone, did, report(alloc, &world)?))
+}
+
+#[test]
+fn gone_for_good(rt: HostRuntime) -> Result<(), Fail> {
+    let (gone, did, after) = step_of_the_gone(rt.alloc())?;
+    assert!(rt; gone);
+    assert_eq!(rt; did, Some(Did::Gone));
+    assert_eq!(rt; after, [1, 0, 1, 1, 0, 0, 0]);
     Ok(())
 }
 
