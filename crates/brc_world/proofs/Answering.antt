@@ -1,17 +1,16 @@
 -- A step's answer says whether the world changed.
-use Rattle.std.proofs.Common.{◌≡◌, ◌≢◌, ℕ, Bool, true, false, List, [], ◌∷◌, Some, inl, inr, refl, sym, ap, ◌∙◌, subst}
-use Rattle.std.specs.Prelude.{◌==◌, ◌&&◌, not, if◌then◌else◌, slice_get}
+use Rattle.std.proofs.Common.{◌≡◌, ◌≢◌, ℕ, Bool, true, false, Some, refl, ap, ◌∙◌}
+use Rattle.std.specs.Prelude.{if◌then◌else◌, slice_get}
 use Rattle.brc_model.specs.declared.actor.Status.{Status}
 use Rattle.brc_model.specs.declared.actor.Status.TheVariants.{Running, Leaving, Gone}
 use Rattle.brc_model.specs.declared.thread.Choice.TheVariants.{Ok, Claim}
 use Rattle.brc_model.specs.Safety.{has_gone}
 use Rattle.brc_model.specs.Machine.{Actor}
 use Rattle.brc_model.specs.World.{World, step}
-use Rattle.brc_world.specs.declared.did.Did.{Did}
 use Rattle.brc_world.specs.declared.did.Did.TheVariants as answers
 use Rattle.brc_world.specs.declared.start.Start.{Start}
 use Rattle.brc_world.specs.declared.start.Start.TheVariants.{Stuck, Moved, Doing}
-use Rattle.brc_world.specs.Actors.{begun_of, start_of, started, memory_by, actor_by, did_from, did_by, finds_mark, did_claim}
+use Rattle.brc_world.specs.Actors.{begun_of, start_of, started, did_from, did_by, finds_mark, did_claim}
 use Rattle.brc_world.specs.Answers.{is_gone, is_gone_at, IsAnswer}
 use Rattle.brc_world.proofs.Stepping.{with_words, unchanged, going_on_by, stuck_stays}
 

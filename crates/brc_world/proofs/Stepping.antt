@@ -1,5 +1,5 @@
 -- What a thread's step does to its words and to itself is the model's step of the world.
-use Rattle.std.proofs.Common.{◌≡◌, ◌≢◌, ℕ, ◌+◌, Bool, true, false, List, [], ◌∷◌, Option, None, Some, inl, inr, refl, sym, ap, ◌∙◌, subst}
+use Rattle.std.proofs.Common.{◌≡◌, ◌≢◌, ℕ, ◌+◌, true, false, List, [], ◌∷◌, Option, Some, inl, inr, refl, sym, ap, ◌∙◌}
 use Rattle.std.specs.Prelude.{◌==◌, ◌&&◌, not, nat_le, nat_lt, length, slice_get, slice_set}
 use Rattle.std.proofs.lemmas.Bool.{cases_Bool, eqb-true, and_parts}
 use Rattle.std.proofs.lemmas.Bool.Decides.{eqb_tells}
@@ -12,17 +12,14 @@ use Rattle.brc_model.specs.declared.actor.Status.TheVariants.{Running, Leaving, 
 use Rattle.brc_model.specs.declared.address.Address.{Address}
 use Rattle.brc_model.specs.declared.address.Address.TheVariants.{Mark}
 use Rattle.brc_model.specs.declared.duty.Duty.{Duty}
-use Rattle.brc_model.specs.declared.duty.Duty.TheVariants.{ClaimMark}
-use Rattle.brc_model.specs.declared.thread.Choice.{Choice}
 use Rattle.brc_model.specs.declared.thread.Choice.TheVariants.{Ok, Claim}
 use Rattle.brc_model.specs.Machine as model
 use Rattle.brc_model.specs.Machine.{Actor, acts, begins, goes_on, begun_by, chosen, done_by, is_running, first_row, may_claim}
 use Rattle.brc_lang.specs.declared.module.Module.{Module}
 use Rattle.brc_model.specs.World.{IsReachable, World, world_of, machine_of, step, row_count}
 use Rattle.brc_model.specs.Within.{IsWithin, StepsWithin}
-use Rattle.brc_world.specs.declared.start.Start.{Start}
 use Rattle.brc_world.specs.declared.start.Start.TheVariants.{Stuck, Doing}
-use Rattle.brc_world.specs.Actors.{start_on, actor_on, start_begun, actor_begun, begun_of, start_of, started, memory_from, actor_from, memory_by, actor_by, finds_mark, memory_claimed, actor_claimed, CanStart}
+use Rattle.brc_world.specs.Actors.{start_on, actor_on, start_begun, actor_begun, begun_of, memory_from, actor_from, memory_by, actor_by, finds_mark, memory_claimed, actor_claimed, CanStart}
 
 -- the world with other words and another thread
 abbrev pub with_words : World → ℕ → (Address → ℕ) → Actor → World

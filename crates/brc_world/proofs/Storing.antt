@@ -1,15 +1,13 @@
 -- One word stored among the columns is one word written, and the first columns have the first words.
-use Rattle.std.proofs.Common.{◌≡◌, ◌≢◌, ℕ, zero, suc, ◌+◌, ◌*◌, ◌<◌, ◌≤◌, Bool, true, false, List, [], ◌∷◌, length, inl, inr, refl, sym, ap, ◌∙◌, arith, get_or, get_or-set_same, replicate}
-use Rattle.std.specs.Prelude.{pos, nat_lt, nat_le, ◌==◌, ◌&&◌, if◌then◌else◌}
-use Rattle.std.specs.List.{slice_index_or, slice_set}
+use Rattle.std.proofs.Common.{◌≡◌, ℕ, zero, suc, ◌+◌, ◌*◌, ◌<◌, Bool, true, false, List, ◌∷◌, length, inl, inr, refl, sym, arith, get_or, get_or-set_same, replicate}
+use Rattle.std.specs.Prelude.{pos, nat_lt, nat_le, if◌then◌else◌}
+use Rattle.std.specs.List.{slice_set}
 use Rattle.std.proofs.Math.Path.{fun_ext}
-use Rattle.std.proofs.lemmas.Bool.{cond-true, cond-false}
 use Rattle.std.proofs.lemmas.Bool.Decides.{eqb_tells, leb_tells}
 use Rattle.std.proofs.lemmas.List.{get_or-replicate, get_or-set_other, get_or_past, length-replicate}
 use Rattle.brc_word.specs.declared.shared.Phase.TheVariants.{Default}
 use Rattle.brc_word.specs.Header.{IsSharedWord}
 use Rattle.brc_word.specs.Words.{fresh_word, local_word}
-use Rattle.brc_model.specs.declared.address.Address.{Address}
 use Rattle.brc_model.specs.declared.address.Address.TheVariants.{Local, Shared, Gate, KindOf, Mark, Cell, ThreadWord}
 use Rattle.brc_model.specs.Machine.{written, first_memory}
 use Rattle.brc_world.specs.Storage.{Columns, word_in, AreColumns, IsStored}

@@ -1,6 +1,5 @@
 -- A mark that is found is taken.
 use Rattle.std.proofs.Common.{◌≡◌, true, sym, ◌∙◌}
-use Rattle.std.proofs.lemmas.Bool.{not-false}
 use Rattle.brc_world.specs.Storage.{word_in}
 use Rattle.brc_world.specs.Actors.{actor_of, finds_mark}
 use Rattle.brc_world.proofs.Acting.{claim_did, claim_words, claim_actor}

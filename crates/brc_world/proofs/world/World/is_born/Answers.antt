@@ -1,4 +1,3 @@
-use Rattle.std.proofs.Common.{arith}
 use Rattle.brc_world.proofs.world.World.is_born.Goals as goal
 
 pub block_of-block-requires : goal.block_of-block-requires
