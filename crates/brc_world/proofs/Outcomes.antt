@@ -40,13 +40,13 @@ seen_as : (functions : List Function) (rows : ℕ) (old new : Columns) (threads 
     → seen (contents functions rows new (slice_set threads t after)) ≡ with_words (seen (contents functions rows old threads)) t memory next
 seen_as functions rows old new threads t after memory next words actor = rw (map-set actor_of threads t after, words, actor) refl
 
-pub made : (functions : List Function) (rows : ℕ) (old new : Columns) (threads : List Thread) (t : ℕ) (choice : Choice) (a : Actor) (after : Thread) (r : Result Did NoMemory) (memory : Address → ℕ) (next : Actor)
+made : (functions : List Function) (rows : ℕ) (old new : Columns) (threads : List Thread) (t : ℕ) (choice : Choice) (a : Actor) (after : Thread) (r : Result Did NoMemory) (memory : Address → ℕ) (next : Actor)
     → Turned old new a (actor_of after) r memory next → step (seen (contents functions rows old threads)) t choice ≡ with_words (seen (contents functions rows old threads)) t memory next
     → OnOk r (seen (contents functions rows new (slice_set threads t after)) ≡ step (seen (contents functions rows old threads)) t choice)
 made functions rows old new threads t choice a after (Ok did) memory next turned is = seen_as functions rows old new threads t after memory next turned.words turned.actor ∙ sym is
 made functions rows old new threads t choice a after (Err e) memory next turned is = tt
 
-pub stays : (functions : List Function) (rows : ℕ) (old new : Columns) (threads : List Thread) (t : ℕ) (before after : Thread) (r : Result Did NoMemory) (memory : Address → ℕ) (next : Actor)
+stays : (functions : List Function) (rows : ℕ) (old new : Columns) (threads : List Thread) (t : ℕ) (before after : Thread) (r : Result Did NoMemory) (memory : Address → ℕ) (next : Actor)
     → Turned old new (actor_of before) (actor_of after) r memory next → before ≡ slice_index_or threads t before
     → OnErr r (contents functions rows new (slice_set threads t after) ≡ contents functions rows old threads)
 stays functions rows old new threads t before after (Ok did) memory next turned at = tt
@@ -66,7 +66,7 @@ sized p rows old new threads t after world same_rows same_threads reachable =
       threads = same_threads ∙ world.threads ∙ sym many;
     }
 
-pub goes : (p : Module) (rows : ℕ) (old new : Columns) (threads : List Thread) (t : ℕ) (choice : Choice) (before after : Thread) (r : Result Did NoMemory) (memory : Address → ℕ) (next : Actor)
+goes : (p : Module) (rows : ℕ) (old new : Columns) (threads : List Thread) (t : ℕ) (choice : Choice) (before after : Thread) (r : Result Did NoMemory) (memory : Address → ℕ) (next : Actor)
     → Turned old new (actor_of before) (actor_of after) r memory next → before ≡ slice_index_or threads t before
     → step (seen (contents p.functions rows old threads)) t choice ≡ with_words (seen (contents p.functions rows old threads)) t memory next
     → IsWorld p (contents p.functions rows old threads) → IsReachable p (step (seen (contents p.functions rows old threads)) t choice)
@@ -78,6 +78,23 @@ goes p rows old new threads t choice before after (Ok did) memory next turned at
 goes p rows old new threads t choice before after (Err e) memory next turned at is world leads =
     let same : contents p.functions rows new (slice_set threads t after) ≡ contents p.functions rows old threads = stays p.functions rows old new threads t before after (Err e) memory next turned at in
     subst (IsWorld p) (sym same) world
+
+-- what the world is then, in one
+pub record Outcome (p : Module) (rows : ℕ) (old new : Columns) (threads : List Thread) (t : ℕ) (choice : Choice) (after : Thread) (r : Result Did NoMemory) : Type 0 where
+  pub world : IsWorld p (contents p.functions rows new (slice_set threads t after))
+  pub made : OnOk r (seen (contents p.functions rows new (slice_set threads t after)) ≡ step (seen (contents p.functions rows old threads)) t choice)
+  pub stays : OnErr r (contents p.functions rows new (slice_set threads t after) ≡ contents p.functions rows old threads)
+
+pub outcome : (p : Module) (rows : ℕ) (old new : Columns) (threads : List Thread) (t : ℕ) (choice : Choice) (before after : Thread) (r : Result Did NoMemory) (memory : Address → ℕ) (next : Actor)
+    → Turned old new (actor_of before) (actor_of after) r memory next → before ≡ slice_index_or threads t before
+    → step (seen (contents p.functions rows old threads)) t choice ≡ with_words (seen (contents p.functions rows old threads)) t memory next
+    → IsWorld p (contents p.functions rows old threads) → IsReachable p (step (seen (contents p.functions rows old threads)) t choice)
+    → Outcome p rows old new threads t choice after r
+outcome p rows old new threads t choice before after r memory next turned at is world leads = record {
+  world = goes p rows old new threads t choice before after r memory next turned at is world leads;
+  made = made p.functions rows old new threads t choice (actor_of before) after r memory next turned is;
+  stays = stays p.functions rows old new threads t before after r memory next turned at;
+}
 
 -- ---- the thread that steps
 

@@ -3,7 +3,7 @@ use Rattle.brc_model.specs.declared.thread.Choice.TheVariants.{Ok}
 use Rattle.brc_world.specs.Actors.{actor_of, memory_by, actor_by}
 use Rattle.brc_world.specs.Storage.{word_in}
 use Rattle.brc_world.specs.Worlds.{seen}
-use Rattle.brc_world.proofs.Outcomes.{contents, Turned, made, stays, goes, answered, thread_at, rows_small}
+use Rattle.brc_world.proofs.Outcomes.{contents, Turned, Outcome, outcome, answered, thread_at, rows_small}
 use Rattle.brc_world.proofs.Answering.{going_answers}
 use Rattle.brc_world.proofs.Stepping.{going_on, can_start}
 use Rattle.brc_world.proofs.world.World.go_on.Goals as goal
@@ -30,8 +30,9 @@ act-requires-clause-can c =
     let steps = c.steps_are_within.ensures _ _ c.args.thread _ c.self.invariant.reachable here in
     rw (c.as_slice.ensures, c.self.invariant.rows, c.self.invariant.threads) (can_start _ _ _ steps)
 
-pub invariant_of-self : goal.invariant_of-self
-invariant_of-self c =
+-- the world after the step, and where the step's thread stood
+outcome_of : (c : goal.After-self-1) → Outcome c.self.inside.accepted.now c.self.inside.rows c.self.inside.memory c.act.new.memory c.self.inside.threads.items c.args.thread Ok c.act.new.thread c.act.result
+outcome_of c =
     let p = c.self.inside.accepted.now in
     let rows = c.self.inside.rows in
     let words = c.self.inside.memory in
@@ -53,80 +54,24 @@ invariant_of-self c =
     let within = rw (sym c.self.view_is) at c.requires in
     let here = thread_at p.functions rows words threads t before c.index_mut.ensures.value within in
     let is = going_on w t (actor_of before) here in
-    goes p rows words c.act.new.memory threads t Ok before after c.act.result memory next turned c.index_mut.ensures.value is c.self.invariant (c.worlds_lead_on.ensures.step p w t Ok c.self.invariant.reachable)
+    outcome p rows words c.act.new.memory threads t Ok before after c.act.result memory next turned c.index_mut.ensures.value is c.self.invariant (c.worlds_lead_on.ensures.step p w t Ok c.self.invariant.reachable)
+
+pub invariant_of-self : goal.invariant_of-self
+invariant_of-self c = (outcome_of c).world
 
 pub returns-clause-made : goal.returns-clause-made
-returns-clause-made c =
-    let p = c.self.inside.accepted.now in
-    let rows = c.self.inside.rows in
-    let words = c.self.inside.memory in
-    let threads = c.self.inside.threads.items in
-    let t = c.args.thread in
-    let before = c.index_mut.result.now in
-    let after = c.act.new.thread in
-    let w = seen (contents p.functions rows words threads) in
-    let memory = memory_by p.functions rows t (word_in words) (actor_of before) before.status in
-    let next = actor_by p.functions rows t (word_in words) (actor_of before) before.status in
-    let turned : Turned words c.act.new.memory (actor_of before) (actor_of after) c.act.result memory next = record {
-      words = rw c.as_slice.ensures at c.act.ensures.words;
-      actor = rw c.as_slice.ensures at c.act.ensures.actor;
-      same_words = c.act.ensures.same_words;
-      same_actor = c.act.ensures.same_actor;
-      rows = c.act.ensures.as_many_rows;
-      threads = c.act.ensures.as_many_threads;
-    } in
-    let within = rw (sym c.self.view_is) at c.requires in
-    let here = thread_at p.functions rows words threads t before c.index_mut.ensures.value within in
-    let is = going_on w t (actor_of before) here in
-    rw (sym c.self.view_is) (made p.functions rows words c.act.new.memory threads t Ok (actor_of before) after c.act.result memory next turned is)
+returns-clause-made c = rw (sym c.self.view_is) (outcome_of c).made
+
+pub returns-clause-unchanged : goal.returns-clause-unchanged
+returns-clause-unchanged c = rw (sym c.self.view_is) (outcome_of c).stays
 
 pub returns-clause-answer : goal.returns-clause-answer
 returns-clause-answer c =
     let p = c.self.inside.accepted.now in
-    let rows = c.self.inside.rows in
-    let words = c.self.inside.memory in
     let threads = c.self.inside.threads.items in
     let t = c.args.thread in
     let before = c.index_mut.result.now in
-    let after = c.act.new.thread in
-    let w = seen (contents p.functions rows words threads) in
-    let memory = memory_by p.functions rows t (word_in words) (actor_of before) before.status in
-    let next = actor_by p.functions rows t (word_in words) (actor_of before) before.status in
-    let turned : Turned words c.act.new.memory (actor_of before) (actor_of after) c.act.result memory next = record {
-      words = rw c.as_slice.ensures at c.act.ensures.words;
-      actor = rw c.as_slice.ensures at c.act.ensures.actor;
-      same_words = c.act.ensures.same_words;
-      same_actor = c.act.ensures.same_actor;
-      rows = c.act.ensures.as_many_rows;
-      threads = c.act.ensures.as_many_threads;
-    } in
+    let w = seen (contents p.functions c.self.inside.rows c.self.inside.memory threads) in
     let within = rw (sym c.self.view_is) at c.requires in
-    let here = thread_at p.functions rows words threads t before c.index_mut.ensures.value within in
-    let is = going_on w t (actor_of before) here in
-    let now = made p.functions rows words c.act.new.memory threads t Ok (actor_of before) after c.act.result memory next turned is in
-    rw (sym c.self.view_is) (answered w _ _ t c.act.result _ now (rw c.as_slice.ensures at c.act.ensures.did) (going_answers w t (actor_of before) before.status here refl (λ alive. (c.steps_move.ensures.goes_on p w t (actor_of before) c.self.invariant.reachable here alive).0)))
-
-pub returns-clause-unchanged : goal.returns-clause-unchanged
-returns-clause-unchanged c =
-    let p = c.self.inside.accepted.now in
-    let rows = c.self.inside.rows in
-    let words = c.self.inside.memory in
-    let threads = c.self.inside.threads.items in
-    let t = c.args.thread in
-    let before = c.index_mut.result.now in
-    let after = c.act.new.thread in
-    let w = seen (contents p.functions rows words threads) in
-    let memory = memory_by p.functions rows t (word_in words) (actor_of before) before.status in
-    let next = actor_by p.functions rows t (word_in words) (actor_of before) before.status in
-    let turned : Turned words c.act.new.memory (actor_of before) (actor_of after) c.act.result memory next = record {
-      words = rw c.as_slice.ensures at c.act.ensures.words;
-      actor = rw c.as_slice.ensures at c.act.ensures.actor;
-      same_words = c.act.ensures.same_words;
-      same_actor = c.act.ensures.same_actor;
-      rows = c.act.ensures.as_many_rows;
-      threads = c.act.ensures.as_many_threads;
-    } in
-    let within = rw (sym c.self.view_is) at c.requires in
-    let here = thread_at p.functions rows words threads t before c.index_mut.ensures.value within in
-    let is = going_on w t (actor_of before) here in
-    rw (sym c.self.view_is) (stays p.functions rows words c.act.new.memory threads t before after c.act.result memory next turned c.index_mut.ensures.value)
+    let here = thread_at p.functions c.self.inside.rows c.self.inside.memory threads t before c.index_mut.ensures.value within in
+    rw (sym c.self.view_is) (answered w _ _ t c.act.result _ (outcome_of c).made (rw c.as_slice.ensures at c.act.ensures.did) (going_answers w t (actor_of before) before.status here refl (λ alive. (c.steps_move.ensures.goes_on p w t (actor_of before) c.self.invariant.reachable here alive).0)))

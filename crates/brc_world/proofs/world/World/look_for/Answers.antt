@@ -3,7 +3,7 @@ use Rattle.brc_model.specs.declared.thread.Choice.TheVariants.{Claim}
 use Rattle.brc_world.specs.Actors.{actor_of, memory_claimed, actor_claimed}
 use Rattle.brc_world.specs.Storage.{word_in}
 use Rattle.brc_world.specs.Worlds.{seen}
-use Rattle.brc_world.proofs.Outcomes.{contents, Turned, made, stays, goes, answered, thread_at, rows_small}
+use Rattle.brc_world.proofs.Outcomes.{contents, Turned, Outcome, outcome, answered, thread_at, rows_small}
 use Rattle.brc_world.proofs.Answering.{claim_answers}
 use Rattle.brc_world.proofs.Stepping.{claim_is, claim_moves, claim_stays}
 use Rattle.brc_world.proofs.world.World.look_for.Goals as goal
@@ -30,8 +30,9 @@ claim-requires-clause-can c =
     let steps = c.steps_are_within.ensures _ _ c.args.thread _ c.self.invariant.reachable here in
     rw c.self.invariant.rows (λ may. (steps.claims c.args.row may).there)
 
-pub invariant_of-self : goal.invariant_of-self
-invariant_of-self c =
+-- the world after the step, and where the step's thread stood
+outcome_of : (c : goal.After-self-1) → Outcome c.self.inside.accepted.now c.self.inside.rows c.self.inside.memory c.claim.new.memory c.self.inside.threads.items c.args.thread (Claim c.args.row) c.claim.new.thread c.claim.result
+outcome_of c =
     let p = c.self.inside.accepted.now in
     let rows = c.self.inside.rows in
     let words = c.self.inside.memory in
@@ -53,82 +54,26 @@ invariant_of-self c =
     let within = rw (sym c.self.view_is) at c.requires in
     let here = thread_at p.functions rows words threads t before c.index_mut.ensures.value within in
     let is = claim_is p w t (actor_of before) c.args.row c.self.invariant.reachable here (c.steps_move.ensures.misses p w t (actor_of before) c.args.row c.self.invariant.reachable here) (c.steps_move.ensures.stays w t (actor_of before) c.args.row here) in
-    goes p rows words c.claim.new.memory threads t (Claim c.args.row) before after c.claim.result memory next turned c.index_mut.ensures.value is c.self.invariant (c.worlds_lead_on.ensures.step p w t (Claim c.args.row) c.self.invariant.reachable)
+    outcome p rows words c.claim.new.memory threads t (Claim c.args.row) before after c.claim.result memory next turned c.index_mut.ensures.value is c.self.invariant (c.worlds_lead_on.ensures.step p w t (Claim c.args.row) c.self.invariant.reachable)
+
+pub invariant_of-self : goal.invariant_of-self
+invariant_of-self c = (outcome_of c).world
 
 pub returns-clause-made : goal.returns-clause-made
-returns-clause-made c =
-    let p = c.self.inside.accepted.now in
-    let rows = c.self.inside.rows in
-    let words = c.self.inside.memory in
-    let threads = c.self.inside.threads.items in
-    let t = c.args.thread in
-    let before = c.index_mut.result.now in
-    let after = c.claim.new.thread in
-    let w = seen (contents p.functions rows words threads) in
-    let memory = memory_claimed rows t (word_in words) (actor_of before) c.args.row in
-    let next = actor_claimed rows t (word_in words) (actor_of before) c.args.row in
-    let turned : Turned words c.claim.new.memory (actor_of before) (actor_of after) c.claim.result memory next = record {
-      words = c.claim.ensures.words;
-      actor = c.claim.ensures.actor;
-      same_words = c.claim.ensures.same_words;
-      same_actor = c.claim.ensures.same_actor;
-      rows = c.claim.ensures.as_many_rows;
-      threads = c.claim.ensures.as_many_threads;
-    } in
-    let within = rw (sym c.self.view_is) at c.requires in
-    let here = thread_at p.functions rows words threads t before c.index_mut.ensures.value within in
-    let is = claim_is p w t (actor_of before) c.args.row c.self.invariant.reachable here (c.steps_move.ensures.misses p w t (actor_of before) c.args.row c.self.invariant.reachable here) (c.steps_move.ensures.stays w t (actor_of before) c.args.row here) in
-    rw (sym c.self.view_is) (made p.functions rows words c.claim.new.memory threads t (Claim c.args.row) (actor_of before) after c.claim.result memory next turned is)
+returns-clause-made c = rw (sym c.self.view_is) (outcome_of c).made
+
+pub returns-clause-unchanged : goal.returns-clause-unchanged
+returns-clause-unchanged c = rw (sym c.self.view_is) (outcome_of c).stays
 
 pub returns-clause-answer : goal.returns-clause-answer
 returns-clause-answer c =
     let p = c.self.inside.accepted.now in
-    let rows = c.self.inside.rows in
-    let words = c.self.inside.memory in
     let threads = c.self.inside.threads.items in
     let t = c.args.thread in
     let before = c.index_mut.result.now in
-    let after = c.claim.new.thread in
-    let w = seen (contents p.functions rows words threads) in
-    let memory = memory_claimed rows t (word_in words) (actor_of before) c.args.row in
-    let next = actor_claimed rows t (word_in words) (actor_of before) c.args.row in
-    let turned : Turned words c.claim.new.memory (actor_of before) (actor_of after) c.claim.result memory next = record {
-      words = c.claim.ensures.words;
-      actor = c.claim.ensures.actor;
-      same_words = c.claim.ensures.same_words;
-      same_actor = c.claim.ensures.same_actor;
-      rows = c.claim.ensures.as_many_rows;
-      threads = c.claim.ensures.as_many_threads;
-    } in
+    let w = seen (contents p.functions c.self.inside.rows c.self.inside.memory threads) in
     let within = rw (sym c.self.view_is) at c.requires in
-    let here = thread_at p.functions rows words threads t before c.index_mut.ensures.value within in
-    let is = claim_is p w t (actor_of before) c.args.row c.self.invariant.reachable here (c.steps_move.ensures.misses p w t (actor_of before) c.args.row c.self.invariant.reachable here) (c.steps_move.ensures.stays w t (actor_of before) c.args.row here) in
-    let now = made p.functions rows words c.claim.new.memory threads t (Claim c.args.row) (actor_of before) after c.claim.result memory next turned is in
-    rw (sym c.self.view_is) (answered w _ _ t c.claim.result _ now c.claim.ensures.did (claim_answers w t (actor_of before) c.args.row before.status here refl
+    let here = thread_at p.functions c.self.inside.rows c.self.inside.memory threads t before c.index_mut.ensures.value within in
+    rw (sym c.self.view_is) (answered w _ _ t c.claim.result _ (outcome_of c).made c.claim.ensures.did (claim_answers w t (actor_of before) c.args.row before.status here refl
     (λ found. claim_moves w t (actor_of before) c.args.row found (λ may marked. c.steps_move.ensures.claims w t (actor_of before) c.args.row here may marked))
     (λ missed. claim_stays w t (actor_of before) c.args.row missed (c.steps_move.ensures.misses p w t (actor_of before) c.args.row c.self.invariant.reachable here) (c.steps_move.ensures.stays w t (actor_of before) c.args.row here))))
-
-pub returns-clause-unchanged : goal.returns-clause-unchanged
-returns-clause-unchanged c =
-    let p = c.self.inside.accepted.now in
-    let rows = c.self.inside.rows in
-    let words = c.self.inside.memory in
-    let threads = c.self.inside.threads.items in
-    let t = c.args.thread in
-    let before = c.index_mut.result.now in
-    let after = c.claim.new.thread in
-    let w = seen (contents p.functions rows words threads) in
-    let memory = memory_claimed rows t (word_in words) (actor_of before) c.args.row in
-    let next = actor_claimed rows t (word_in words) (actor_of before) c.args.row in
-    let turned : Turned words c.claim.new.memory (actor_of before) (actor_of after) c.claim.result memory next = record {
-      words = c.claim.ensures.words;
-      actor = c.claim.ensures.actor;
-      same_words = c.claim.ensures.same_words;
-      same_actor = c.claim.ensures.same_actor;
-      rows = c.claim.ensures.as_many_rows;
-      threads = c.claim.ensures.as_many_threads;
-    } in
-    let within = rw (sym c.self.view_is) at c.requires in
-    let here = thread_at p.functions rows words threads t before c.index_mut.ensures.value within in
-    let is = claim_is p w t (actor_of before) c.args.row c.self.invariant.reachable here (c.steps_move.ensures.misses p w t (actor_of before) c.args.row c.self.invariant.reachable here) (c.steps_move.ensures.stays w t (actor_of before) c.args.row here) in
-    rw (sym c.self.view_is) (stays p.functions rows words c.claim.new.memory threads t before after c.claim.result memory next turned c.index_mut.ensures.value)
