@@ -8,21 +8,13 @@ ghost use Rattle.brc_model.specs.Duties.{next_by, cells_of, cells_from, ready};
 ghost use Rattle.brc_model.specs.Within.{Suits};
 ghost use Rattle.brc_world.specs.Actors.{is_idle, IsNumbered};
 
+use crate::states::{LIST, RUNNING, SET};
 use brc_model::{Duty, Holding, Reason};
 use brc_word::{
     LocalChoice, is_dead, is_fresh, kind_argument, kind_number, local_count, merged,
     release_choice_local, released, retain_choice,
 };
 use std::collections::VecDeque;
-
-/// A thread that runs.
-const RUNNING: u64 = 1;
-
-/// A mark that is set.
-const SET: u64 = 1;
-
-/// The number of the kind list.
-const LIST: u32 = 3;
 
 /// The duties that a thread has still to do.
 type Agenda = VecDeque<Duty>;

@@ -6,20 +6,12 @@ ghost use Rattle.brc_model.specs.Machine.{status_by};
 ghost use Rattle.brc_model.specs.Within.{Suits};
 ghost use Rattle.brc_world.specs.Actors.{IsNumbered};
 
+use crate::states::{GONE, LEAVING, SET};
 use brc_model::{Duty, Status};
 use brc_word::{
     closed, dying, local_with_one_less, local_with_one_more, merged, next_of_dying, released,
     shared_with_one_more,
 };
-
-/// A thread that leaves.
-const LEAVING: u64 = 2;
-
-/// A thread that is gone.
-const GONE: u64 = 3;
-
-/// A mark that is set.
-const SET: u64 = 1;
 
 /// What the step leaves in the word that it found so. There are so many rows in all.
 pub fn left_by(thread: u8, running: bool, rows: u32, head: u32, duty: Duty, found: u64) -> u64

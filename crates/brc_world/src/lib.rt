@@ -18,6 +18,7 @@ mod schedule;
 mod schedule_line;
 mod schedule_reading;
 mod start;
+mod states;
 mod tally;
 mod thread;
 mod world;

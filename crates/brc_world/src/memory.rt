@@ -6,6 +6,7 @@ ghost use Rattle.brc_model.specs.Machine.{first_memory};
 ghost use Rattle.brc_world.specs.Storage.{word_in, IsStored};
 
 use crate::no_memory::NoMemory;
+use crate::states::{FREE, LIST, NONE, RUNNING};
 use brc_model::Address;
 use brc_word::{Phase, Shared, kind_word, local_word, pack};
 use std::alloc::Global;
@@ -35,12 +36,6 @@ impl Model for Memory {
 
 /// The cells of a row.
 const CELLS: usize = 8;
-
-/// A gate that is free.
-const FREE: u64 = 1;
-
-/// A thread that runs.
-const RUNNING: u64 = 1;
 
 impl Memory {
     /// How many rows there are.
@@ -100,8 +95,8 @@ pub fn first_memory(alloc: Global, workers: usize, rows: u16) -> Result<Memory, 
     local[0] = local_word(Some(0), u32::MAX);
     local[1] = local_word(Some(0), 1 + workers as u32);
     let mut kind = vec![in alloc; 0u64; n]?;
-    kind[0] = kind_word(1, 0);
-    kind[1] = kind_word(3, CELLS as u32);
+    kind[0] = kind_word(NONE, 0);
+    kind[1] = kind_word(LIST, CELLS as u32);
     Ok(Memory {
         local,
         shared: vec![in alloc; fresh; n]?,
