@@ -12,7 +12,7 @@ const MOST_ROWS: u16 = 1024;
 
 const MOST_TIMES: u32 = 1_000_000;
 
-const SIGNED_ROWS: &str = "invalid value for '--rows <N>': a sign or a leading zero";
+const SIGNED: &str = "invalid value for a number: a sign or a leading zero";
 
 /// What a command line asks for.
 #[derive(Clone, Copy, Debug)]
@@ -49,8 +49,8 @@ pub struct Run<'a> {
 pub fn parse<'a, S: AsStr>(alloc: Global, words: &'a [S]) -> Result<Asked<'a>, Error> {
     let mut command = program(alloc)?;
     let matches = command.try_get_matches_from_mut(words)?;
-    if !has_plain_rows(&matches) {
-        return Err(command.error(ErrorKind::ValueValidation, SIGNED_ROWS)?);
+    if !has_plain_numbers(&matches) {
+        return Err(command.error(ErrorKind::ValueValidation, SIGNED)?);
     }
     match asked_in(&matches) {
         Some(asked) => Ok(asked),
@@ -140,13 +140,17 @@ fn asked_in<'a>(matches: &ArgMatches<'a>) -> Option<Asked<'a>> {
     run_of(matches.subcommand_matches("run")?)
 }
 
-// The number of rows is written as a schedule's is: clap takes a sign and leading zeros too.
-fn has_plain_rows(matches: &ArgMatches) -> bool {
-    let Some(run) = matches.subcommand_matches("run") else {
-        return true;
-    };
-    match run.get_str("rows") {
-        Some(rows) => number(u32::from(MOST_ROWS), rows.as_bytes()).is_ok(),
+// A number is written as those of a text are: clap takes a sign and leading zeros too.
+fn has_plain_numbers(matches: &ArgMatches) -> bool {
+    match matches.subcommand_matches("run") {
+        Some(run) => is_plain(run, "threads") && is_plain(run, "rows") && is_plain(run, "times"),
+        None => true,
+    }
+}
+
+fn is_plain(run: &ArgMatches, name: &str) -> bool {
+    match run.get_str(name) {
+        Some(text) => number(u32::MAX, text.as_bytes()).is_ok(),
         None => true,
     }
 }

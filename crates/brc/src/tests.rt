@@ -173,6 +173,8 @@ fn refuses_command_lines(rt: HostRuntime) {
         ("--rows", "0"),
         ("--rows", "1025"),
         ("--rows", "01"),
+        ("--threads", "01"),
+        ("--times", "+3"),
         ("--rows", "x"),
         ("--times", "0"),
         ("--times", "1000001"),
