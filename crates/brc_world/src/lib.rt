@@ -1,5 +1,5 @@
 //! The step world over biased headers: threads that take one step at a time over an accepted module, each step one event on
-//! one word; and the schedules that list such steps.
+//! one word at most; and the schedules that list such steps.
 #![tactic(auto)]
 
 mod address;

@@ -172,8 +172,8 @@ impl<'a> World<'a> {
         }
     }
 
-    /// One step of the thread: one event on one word. Where memory is refused, nothing changes. No step is a host call yet,
-    /// so `Ok` and `Fault` mean the same.
+    /// One step of the thread: one event, on one word at most. Where memory is refused, nothing changes. No step is a host
+    /// call yet, so `Ok` and `Fault` mean the same.
     pub fn step(&mut self, thread: usize, choice: Choice) -> Result<Did, NoMemory>
         requires { thread < length self.old.actors }
         ensures made { OnOk result (seen self.new ≡ step (seen self.old) thread choice) }
