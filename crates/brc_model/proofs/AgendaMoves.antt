@@ -4,8 +4,8 @@ use Rattle.std.specs.Prelude.{◌==◌, ◌&&◌, nat_lt}
 use Rattle.brc_word.specs.Words.{local_part, is_immortal_word, fresh_word, dead_word, released_word, merged_word}
 use Rattle.brc_model.specs.declared.duty.Reason.TheVariants.{Own, Handed}
 use Rattle.brc_model.specs.declared.duty.Duty.{Duty}
-use Rattle.brc_model.specs.declared.duty.Duty.TheVariants.{RetainLoad, RetainStore, RetainAdd, ReleaseLoad, ReleaseStore, DecideAtZero, SharedLoad, SharedExchange, SetMark, Look, TakeMark, MergeSwap, MergeLoad, MergeExchange, Die, Settle, SettleKind, SettleCell, SettleEnd, Leave, Scan, Finish, ClaimMark}
-use Rattle.brc_model.specs.Duties.{next_by, counts_locally, shared_result, cells_of, cells_from, release_found, ready}
+use Rattle.brc_model.specs.declared.duty.Duty.TheVariants.{RetainLoad, RetainStore, RetainAdd, ReleaseLoad, ReleaseStore, DecideAtZero, SharedLoad, SharedExchange, SetMark, Look, TakeMark, MergeSwap, MergeLoad, MergeExchange, Die, Settle, SettleKind, SettleCell, TakeSlot, CloseResource, SettleEnd, Leave, Scan, Finish, ClaimMark, BirthKind, BirthSlot, BirthLocal}
+use Rattle.brc_model.specs.Duties.{next_by, counts_locally, shared_result, cells_of, cells_from, release_found, ready, has_resource}
 use Rattle.brc_model.proofs.OwnRetains.{is_passed, ready_first}
 
 -- what is passed over makes the agenda no longer
@@ -113,10 +113,17 @@ agenda_moves t running before head (MergeExchange x c w) rest found =
     (other_follows head _ rest (MergeLoad x c) [] refl (λ e. cc))
 agenda_moves t running before head (Die x) rest found = none_follows head _ rest
 agenda_moves t running before head Settle rest found = other_follows head _ rest (SettleKind (before - 1)) (Settle ∷ []) refl (λ e. cc)
-agenda_moves t running before head (SettleKind x) rest found = cells_follow head _ rest x 0 (cells_of found) (λ e. cc) (λ e. cc)
+agenda_moves t running before head (SettleKind x) rest found =
+    either_follows head _ rest (has_resource found) (TakeSlot x ∷ []) (cells_from x 0 (cells_of found)) (other_follows head _ rest (TakeSlot x) [] refl (λ e. cc)) (cells_follow head _ rest x 0 (cells_of found) (λ e. cc) (λ e. cc))
 agenda_moves t running before head (SettleCell x i n) rest found = cell_follows head x i n rest found
+agenda_moves t running before head (TakeSlot x) rest found = other_follows head _ rest (CloseResource x) [] refl (λ e. cc)
+agenda_moves t running before head (CloseResource x) rest found = other_follows head _ rest (SettleEnd x) [] refl (λ e. cc)
 agenda_moves t running before head (SettleEnd x) rest found = none_follows head _ rest
 agenda_moves t running before head (Leave x n) rest found = leave_follows head x n n rest
 agenda_moves t running before head (Scan x n) rest found = scans_follow head x n (n - 1) rest (found == 1)
 agenda_moves t running before head Finish rest found = none_follows head _ rest
 agenda_moves t running before head (ClaimMark x) rest found = claims_follow head x rest (found == 1)
+agenda_moves t running before head (BirthKind x h w) rest found =
+    either_follows head _ rest (has_resource w) (BirthSlot x h ∷ []) (BirthLocal x h ∷ []) (other_follows head _ rest (BirthSlot x h) [] refl (λ e. cc)) (other_follows head _ rest (BirthLocal x h) [] refl (λ e. cc))
+agenda_moves t running before head (BirthSlot x h) rest found = other_follows head _ rest (BirthLocal x h) [] refl (λ e. cc)
+agenda_moves t running before head (BirthLocal x h) rest found = none_follows head _ rest

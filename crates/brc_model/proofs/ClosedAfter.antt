@@ -14,7 +14,7 @@ use Rattle.brc_model.specs.Machine.{Actor, Life, Unborn, Live, Dying, Closed, Ma
 use Rattle.brc_model.proofs.Lists.{some_is}
 use Rattle.brc_model.proofs.Rule.{dies_by}
 use Rattle.brc_model.proofs.Leaves.{AtDuty}
-use Rattle.brc_model.proofs.Closing.{GoesOn, BeginsToDie, IsClosed, life_step, SameClosed, OneMore, closed_step}
+use Rattle.brc_model.proofs.Closing.{GoesOn, BeginsToDie, IsClosed, IsBorn, life_step, SameClosed, OneMore, closed_step}
 
 pub dying_not_closed : (t : ℕ) → Dying t ≡ Closed → ⊥
 dying_not_closed t e = cc
@@ -22,17 +22,14 @@ dying_not_closed t e = cc
 pub live_not_closed : Live ≡ Closed → ⊥
 live_not_closed e = cc
 
-unborn_not_live : Unborn ≡ Live → ⊥
-unborn_not_live e = cc
+pub unborn_not_closed : Unborn ≡ Closed → ⊥
+unborn_not_closed e = cc
 
-unborn_not_dying : (t : ℕ) → Unborn ≡ Dying t → ⊥
-unborn_not_dying t e = cc
-
-either_true : (a b : Bool) → (a || b) ≡ true → (a ≡ true) ⊎ (b ≡ true)
+pub either_true : (a b : Bool) → (a || b) ≡ true → (a ≡ true) ⊎ (b ≡ true)
 either_true true b e = inl refl
 either_true false b e = inr e
 
-one_is : (x y : ℕ) → is_among x (y ∷ []) ≡ true → y ≡ x
+pub one_is : (x y : ℕ) → is_among x (y ∷ []) ≡ true → y ≡ x
 one_is x y e = elim (either_true (y == x) false e) [ inl same ↦ eqb-true y x same | inr wrong ↦ absurd cc ]
 
 -- a row that was closed is closed still, and one that is closed now was, or ended
@@ -42,6 +39,7 @@ closed_stays p n m t a d rest x here was =
       | GoesOn same other ↦ same ∙ was
       | BeginsToDie now alive positive none ↦ absurd (live_not_closed (sym alive ∙ was))
       | IsClosed now dying positive ended ↦ now
+      | IsBorn now unborn above born none ↦ absurd (unborn_not_closed (sym unborn ∙ was))
     ]
 
 pub closed_is_after : (p : Module) (n : ℕ) (m : Machine) (t : ℕ) (a : Actor) (d : Duty) (rest : List Duty) (x : ℕ) → AtDuty p n m t a d rest → is_among x (done_by m t a d rest).plain.closed ≡ true → (done_by m t a d rest).life x ≡ Closed
@@ -56,6 +54,7 @@ closed_is_after p n m t a d rest x here is =
                   | GoesOn same other ↦ absurd (other (ended ∙ ap Some (one_is x y new)))
                   | BeginsToDie now alive positive none ↦ absurd (let wrong : None ≡ Some y = sym none ∙ ended in cc)
                   | IsClosed now dying positive e ↦ now
+                  | IsBorn now unborn above born none ↦ absurd (let wrong : None ≡ Some y = sym none ∙ ended in cc)
                 ]
           ]
     ]
@@ -63,7 +62,7 @@ closed_is_after p n m t a d rest x here is =
 pub among_more : (x : ℕ) (xs ys : List ℕ) → is_among x xs ≡ true → is_among x (xs ++ ys) ≡ true
 among_more x xs ys e = list_any-append (λ z. z == x) xs ys ∙ ap (λ (b : Bool). b || is_among x ys) e
 
-among_last : (x : ℕ) (xs : List ℕ) → is_among x (xs ++ x ∷ []) ≡ true
+pub among_last : (x : ℕ) (xs : List ℕ) → is_among x (xs ++ x ∷ []) ≡ true
 among_last x xs =
     list_any-append (λ z. z == x) xs (x ∷ []) ∙ elim (is_among x xs) as (λ b. (b || is_among x (x ∷ [])) ≡ true) [ true ↦ refl | false ↦ ap (λ (b : Bool). b || false) (eq-eqb x x refl) ]
 
@@ -76,12 +75,14 @@ closed_has_after p n m t a d rest x here is =
             | GoesOn now other ↦ here.rule.closed_has x (sym now ∙ is)
             | BeginsToDie now alive positive e ↦ absurd (dying_not_closed t (sym now ∙ is))
             | IsClosed now dying positive ended ↦ absurd (let wrong : None ≡ Some x = sym none ∙ ended in cc)
+            | IsBorn now unborn above born e ↦ absurd (live_not_closed (sym now ∙ is))
           ])
       | OneMore y ended more ↦
           subst Q (sym more) (elim (life_step p n m t a d rest x here) [
             | GoesOn now other ↦ among_more x m.plain.closed (y ∷ []) (here.rule.closed_has x (sym now ∙ is))
             | BeginsToDie now alive positive e ↦ absurd (dying_not_closed t (sym now ∙ is))
             | IsClosed now dying positive e ↦ subst (λ (z : ℕ). is_among x (m.plain.closed ++ z ∷ []) ≡ true) (some_is x y (sym e ∙ ended)) (among_last x m.plain.closed)
+            | IsBorn now unborn above born e ↦ absurd (live_not_closed (sym now ∙ is))
           ])
     ]
 
@@ -97,18 +98,11 @@ closed_once_after p n m t a d rest here =
             | GoesOn now other ↦ absurd (other ended)
             | BeginsToDie now alive positive none ↦ absurd (live_not_closed (sym alive ∙ here.rule.closed_is y found))
             | IsClosed now dying positive last ↦ absurd (dying_not_closed t (sym dying ∙ here.rule.closed_is y found))
+            | IsBorn now unborn above born none ↦ absurd (unborn_not_closed (sym unborn ∙ here.rule.closed_is y found))
           ]))
     ]
 
--- ---- the other rows
-
-pub only_root_after : (p : Module) (n : ℕ) (m : Machine) (t : ℕ) (a : Actor) (d : Duty) (rest : List Duty) (x : ℕ) → AtDuty p n m t a d rest → 1 < x → (done_by m t a d rest).life x ≡ Unborn
-only_root_after p n m t a d rest x here above =
-    elim (life_step p n m t a d rest x here) [
-      | GoesOn now other ↦ now ∙ here.rule.only_root x above
-      | BeginsToDie now alive positive none ↦ absurd (unborn_not_live (sym (here.rule.only_root x above) ∙ alive))
-      | IsClosed now dying positive ended ↦ absurd (unborn_not_dying t (sym (here.rule.only_root x above) ∙ dying))
-    ]
+-- ---- who dies
 
 pub none_lives_after : (p : Module) (n : ℕ) (m : Machine) (t : ℕ) (a : Actor) (d : Duty) (rest : List Duty) → AtDuty p n m t a d rest → (done_by m t a d rest).life 0 ≡ Live
 none_lives_after p n m t a d rest here =
@@ -116,6 +110,7 @@ none_lives_after p n m t a d rest here =
       | GoesOn now other ↦ now ∙ here.rule.none_lives
       | BeginsToDie now alive positive none ↦ absurd (omega (arith, positive))
       | IsClosed now dying positive ended ↦ absurd (omega (arith, positive))
+      | IsBorn now unborn above born none ↦ absurd (omega (arith, above))
     ]
 
 pub dying_after : (p : Module) (n : ℕ) (m : Machine) (t : ℕ) (a : Actor) (d : Duty) (rest : List Duty) (x u : ℕ) → AtDuty p n m t a d rest → n ≤ u → dies_by ((done_by m t a d rest).life x) u ≡ false
@@ -125,4 +120,5 @@ dying_after p n m t a d rest x u here past =
       | GoesOn now other ↦ ap (λ (l : Life). dies_by l u) now ∙ here.rule.dying x u past
       | BeginsToDie now alive positive none ↦ ap (λ (l : Life). dies_by l u) now ∙ ne_eqb t u (λ e. absurd (omega (arith, within, past, e)))
       | IsClosed now dying positive ended ↦ ap (λ (l : Life). dies_by l u) now
+      | IsBorn now unborn above born none ↦ ap (λ (l : Life). dies_by l u) now
     ]

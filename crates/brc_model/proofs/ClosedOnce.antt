@@ -11,8 +11,8 @@ use Rattle.brc_model.specs.Duties.{address_of}
 use Rattle.brc_model.specs.Machine.{Actor, Machine, ended_row, done_by}
 use Rattle.brc_model.specs.Progress.{ClosedStays, ClosesAnew, ClosedOnce}
 use Rattle.brc_model.proofs.Bag.{one_if}
-use Rattle.brc_model.proofs.Closing.{GoesOn, BeginsToDie, IsClosed, life_step, SameClosed, OneMore, closed_step}
-use Rattle.brc_model.proofs.ClosedAfter.{live_not_closed, dying_not_closed, among_more}
+use Rattle.brc_model.proofs.Closing.{GoesOn, BeginsToDie, IsClosed, life_step, SameClosed, OneMore, closed_step, IsBorn}
+use Rattle.brc_model.proofs.ClosedAfter.{live_not_closed, dying_not_closed, among_more, unborn_not_closed}
 use Rattle.brc_model.proofs.Leaves.{AtDuty}
 use Rattle.brc_model.proofs.Whole.{Whole}
 use Rattle.brc_model.proofs.StepCases.{ShowsSteps, at_duty, event_shows}
@@ -55,6 +55,7 @@ ends_open p n m t a d rest row here ended was =
       | GoesOn now other ↦ other ended
       | BeginsToDie now alive positive none ↦ live_not_closed (sym alive ∙ here.rule.closed_is row was)
       | IsClosed now dying positive last ↦ dying_not_closed t (sym dying ∙ here.rule.closed_is row was)
+      | IsBorn now unborn above born none ↦ unborn_not_closed (sym unborn ∙ here.rule.closed_is row was)
     ]
 
 closes_at_duty : (p : Module) (n : ℕ) (m : Machine) (t : ℕ) (a : Actor) (d : Duty) (rest : List Duty) → AtDuty p n m t a d rest → ClosesSo m (done_by m t a d rest)

@@ -5,20 +5,23 @@ use Rattle.std.proofs.lemmas.Bool.Decides.{eqb_tells}
 use Rattle.brc_lang.specs.declared.module.Module.{Module}
 use Rattle.brc_model.specs.declared.duty.Holding.{Holding}
 use Rattle.brc_model.specs.declared.duty.Holding.TheVariants.{ByVariable, AsCaller, InHand}
-use Rattle.brc_model.specs.Plain.{Plain, Move, Gain, Lose, HandOn, Finalise, move, moved}
+use Rattle.brc_model.specs.Plain.{Plain, Move, Born, Gain, Lose, HandOn, Finalise, move, moved}
 use Rattle.brc_word.specs.Words.{is_immortal_word}
 use Rattle.brc_model.specs.declared.duty.Reason.TheVariants.{Own, Handed}
 use Rattle.brc_model.specs.declared.duty.Duty.{Duty}
-use Rattle.brc_model.specs.declared.duty.Duty.TheVariants.{RetainLoad, RetainStore, RetainAdd, ReleaseLoad, ReleaseStore, DecideAtZero, SharedExchange, MergeExchange, SettleEnd}
+use Rattle.brc_model.specs.declared.duty.Duty.TheVariants.{RetainLoad, RetainStore, RetainAdd, ReleaseLoad, ReleaseStore, DecideAtZero, SharedExchange, MergeExchange, SettleEnd, BirthLocal}
 use Rattle.brc_model.specs.Duties.{address_of}
-use Rattle.brc_model.specs.Machine.{Actor, Life, Live, Dying, Closed, Machine, hand_on, gain, lose, moves_by, dies_next, ended_row, with_life, done_by}
+use Rattle.brc_model.specs.Machine.{Actor, Life, Unborn, Live, Dying, Closed, Machine, hand_on, gain, lose, moves_by, dies_next, ended_row, born_row, with_life, done_by}
 use Rattle.brc_model.proofs.Lists.{some_is}
+use Rattle.brc_model.proofs.Rule.{IsNext}
+use Rattle.brc_model.proofs.Blocks.{next_above, next_unborn}
 use Rattle.brc_model.proofs.Leaves.{AtDuty, head_of}
 use Rattle.brc_model.proofs.Lives.{MayDie, next_of, next_dies, cell_found, dying_was_alive}
 
 -- ---- the list of closed rows
 
 abbrev KeepsClosed : Move → Type 0
+KeepsClosed (Born r) = Unit {0}
 KeepsClosed (Gain r) = Unit {0}
 KeepsClosed (Lose r) = Unit {0}
 KeepsClosed (HandOn r h) = Unit {0}
@@ -30,6 +33,7 @@ AllKeepClosed (mv ∷ mvs) = KeepsClosed mv × AllKeepClosed mvs
 
 moved_closed : (p : Plain) (mvs : List Move) → AllKeepClosed mvs → (moved p mvs).closed ≡ p.closed
 moved_closed p [] keep = refl
+moved_closed p (Born r ∷ mvs) keep = moved_closed (move p (Born r)) mvs keep.1
 moved_closed p (Gain r ∷ mvs) keep = moved_closed (move p (Gain r)) mvs keep.1
 moved_closed p (Lose r ∷ mvs) keep = moved_closed (move p (Lose r)) mvs keep.1
 moved_closed p (HandOn r h ∷ mvs) keep = moved_closed (move p (HandOn r h)) mvs keep.1
@@ -57,6 +61,7 @@ moves_keep t (ReleaseLoad x h) found e = append_keep (hand_on t h x) (cond (is_i
 moves_keep t (ReleaseStore x w) found e = (tt, tt)
 moves_keep t (SharedExchange x Own w) found e = either_keep (found == w) (lose t x) [] (tt, tt) tt
 moves_keep t (SettleEnd x) found e = absurd (let wrong : Some x ≡ None = e in cc)
+moves_keep t (BirthLocal x h) found e = (tt, tt)
 moves_keep t _ found e = tt
 
 -- ---- the rows that change
@@ -68,11 +73,13 @@ may_die_positive p n m t a (SharedExchange x Handed w) rest y here is = subst (�
 may_die_positive p n m t a (MergeExchange x c w) rest y here is = subst (λ (z : ℕ). 0 < z) is (head_of p n m t a (MergeExchange x c w) rest here).0
 may_die_positive p n m t a _ rest y here is = absurd is
 
--- a row's life after the step: it goes on, or it was alive and dies by this thread, or it was dying by it and is closed
+-- a row's life after the step: it goes on, or it was alive and dies by this thread, or it was dying by it and is closed, or it
+-- is born
 pub data LifeStep (m : Machine) (t : ℕ) (d : Duty) (x : ℕ) (now : Life) : Type 0 where
   GoesOn : now ≡ m.life x → (ended_row d ≡ Some x → ⊥) → LifeStep m t d x now
   BeginsToDie : now ≡ Dying t → m.life x ≡ Live → 0 < x → ended_row d ≡ None → LifeStep m t d x now
   IsClosed : now ≡ Closed → m.life x ≡ Dying t → 0 < x → ended_row d ≡ Some x → LifeStep m t d x now
+  IsBorn : now ≡ Live → m.life x ≡ Unborn → 1 < x → born_row d ≡ Some x → ended_row d ≡ None → LifeStep m t d x now
 
 none_is_not : {A : Type 0} (x : A) → None ≡ Some x → ⊥
 none_is_not x e = cc
@@ -110,6 +117,13 @@ life_with p n m t a d rest x (Some y) None here dies ended =
 life_with p n m t a d rest x (Some y) (Some z) here dies ended = absurd (none_is_not y (sym (ended_kills_none m t a d z ended) ∙ dies))
 
 pub life_step : (p : Module) (n : ℕ) (m : Machine) (t : ℕ) (a : Actor) (d : Duty) (rest : List Duty) (x : ℕ) → AtDuty p n m t a d rest → LifeStep m t d x ((done_by m t a d rest).life x)
+life_step p n m t a (BirthLocal y h) rest x here =
+    let next : IsNext m t a y = (head_of p n m t a (BirthLocal y h) rest here).0 in
+    elim (eqb_tells y x) [
+      | inl same ↦
+          IsBorn (ap (λ (b : Bool). cond b Live (m.life x)) same.0) (ap m.life (sym same.1) ∙ next_unborn p n m t a y here.rule here.found next) (subst (λ (z : ℕ). 1 < z) same.1 (next_above m t a y next)) (ap Some same.1) refl
+      | inr other ↦ GoesOn (ap (λ (b : Bool). cond b Live (m.life x)) other.0) (λ e. none_is_not x e)
+    ]
 life_step p n m t a d rest x here = life_with p n m t a d rest x (dies_next (next_of m t a d)) (ended_row d) here refl refl
 
 -- ---- what is closed after the step

@@ -11,16 +11,15 @@ use Rattle.brc_model.specs.declared.thread.Choice.TheVariants.{Ok, Fault, Claim}
 use Rattle.brc_model.specs.Threads.{row_of, entry_variables, code_of}
 use Rattle.brc_model.specs.declared.duty.Reason.TheVariants.{Own, Handed}
 use Rattle.brc_model.specs.declared.duty.Duty.{Duty}
-use Rattle.brc_model.specs.declared.duty.Duty.TheVariants.{RetainLoad, RetainStore, RetainAdd, ReleaseLoad, ReleaseStore, DecideAtZero, SharedLoad, SharedExchange, SetMark, Look, TakeMark, MergeSwap, MergeLoad, MergeExchange, Die, Settle, SettleKind, SettleCell, SettleEnd, Leave, Scan, Finish, ClaimMark}
+use Rattle.brc_model.specs.declared.duty.Duty.TheVariants.{RetainLoad, RetainStore, RetainAdd, ReleaseLoad, ReleaseStore, DecideAtZero, SharedLoad, SharedExchange, SetMark, Look, TakeMark, MergeSwap, MergeLoad, MergeExchange, Die, Settle, SettleKind, SettleCell, TakeSlot, CloseResource, SettleEnd, Leave, Scan, Finish, ClaimMark, BirthKind, BirthSlot, BirthLocal}
 use Rattle.brc_model.specs.declared.address.Address.TheVariants.{Mark}
-use Rattle.brc_model.specs.Duties.{address_of, next_by, counts_locally, shared_result, cells_of, head_by, ready}
+use Rattle.brc_model.specs.Duties.{address_of, next_by, counts_locally, shared_result, cells_of, head_by, ready, has_resource, cells_from}
 use Rattle.brc_model.specs.declared.actor.Status.{Status}
 use Rattle.brc_model.specs.declared.actor.Status.TheVariants.{Running, Leaving, Gone}
 use Rattle.brc_model.specs.declared.actor.Place.{Place}
 use Rattle.brc_model.specs.declared.actor.Place.TheVariants.{Standing, Inside, Departing}
 use Rattle.brc_model.specs.Machine.{Actor, Machine, Begun, Stuck, Quiet, Work, with_row, begun_instruction, begun, begun_by, is_running, actor_by, done_by, at_place, begins, goes_on, acts, may_claim, chosen, next_machine, machine_after, main_actor, worker_actor, first_machine}
-use Rattle.brc_model.proofs.Lists.{some_is, slice_get-map}
-use Rattle.brc_model.proofs.Whole.{written_actor}
+use Rattle.brc_model.proofs.Lists.{some_is, slice_get-map, written_actor}
 
 -- ---- agendas
 
@@ -40,6 +39,9 @@ empties full (Leave x n ∷ rest) = empties full rest
 empties full (Scan x n ∷ rest) = empties full rest
 empties full (Finish ∷ rest) = empties full rest
 empties full (ClaimMark x ∷ rest) = empties full rest
+empties full (BirthKind x h w ∷ rest) = empties full rest
+empties full (BirthSlot x h ∷ rest) = empties full rest
+empties full (BirthLocal x h ∷ rest) = empties full rest
 empties full (_ ∷ rest) = empties true rest
 
 abbrev pub Empties : ℕ → List Duty → Type 0
@@ -57,6 +59,9 @@ asks_less false (Leave x n ∷ rest) e = asks_less false rest e
 asks_less false (Scan x n ∷ rest) e = asks_less false rest e
 asks_less false (Finish ∷ rest) e = asks_less false rest e
 asks_less false (ClaimMark x ∷ rest) e = asks_less false rest e
+asks_less false (BirthKind x h w ∷ rest) e = asks_less false rest e
+asks_less false (BirthSlot x h ∷ rest) e = asks_less false rest e
+asks_less false (BirthLocal x h ∷ rest) e = asks_less false rest e
 asks_less false (_ ∷ rest) e = e
 
 asks_least : (full : Bool) (agenda : List Duty) → empties full agenda ≡ true → empties false agenda ≡ true
@@ -110,14 +115,21 @@ next_empties t running head (MergeExchange x c w) rest found e =
     either_makes (some_chain head) rest (found == w) _ (MergeLoad x c ∷ []) (either_makes (some_chain head) rest (merged_word w c == dead_word) (Die x ∷ []) [] e (asks_less (some_chain head) rest e)) e
 next_empties t running head (Die x) rest found e = asks_less (some_chain (x + 1)) rest e
 next_empties t running head Settle rest found e = e
-next_empties t running head (SettleKind x) rest found e = either_makes (some_chain head) rest (nat_lt 0 (cells_of found)) (SettleCell x 0 (cells_of found) ∷ []) (SettleEnd x ∷ []) e e
+next_empties t running head (SettleKind x) rest found e =
+    either_makes (some_chain head) rest (has_resource found) (TakeSlot x ∷ []) (cells_from x 0 (cells_of found)) e
+    (either_makes (some_chain head) rest (nat_lt 0 (cells_of found)) (SettleCell x 0 (cells_of found) ∷ []) (SettleEnd x ∷ []) e e)
 next_empties t running head (SettleCell x i n) rest zero e = either_makes (some_chain head) rest (nat_lt (i + 1) n) (SettleCell x (i + 1) n ∷ []) (SettleEnd x ∷ []) e e
 next_empties t running head (SettleCell x i n) rest (suc y) e = either_makes true rest (nat_lt (i + 1) n) (SettleCell x (i + 1) n ∷ []) (SettleEnd x ∷ []) e e
+next_empties t running head (TakeSlot x) rest found e = e
+next_empties t running head (CloseResource x) rest found e = e
 next_empties t running head (SettleEnd x) rest found e = asks_less (some_chain head) rest e
 next_empties t running head (Leave x n) rest found e = e
 next_empties t running head (Scan x n) rest found e = claim_empties (some_chain head) x (found == 1) (Scan (x + 1) (n - 1) ∷ []) rest (asks_least (some_chain head) rest e)
 next_empties t running head Finish rest found e = e
 next_empties t running head (ClaimMark x) rest found e = claim_empties (some_chain head) x (found == 1) [] rest (asks_least (some_chain head) rest e)
+next_empties t running head (BirthKind x h w) rest found e = either_makes (some_chain head) rest (has_resource w) (BirthSlot x h ∷ []) (BirthLocal x h ∷ []) e e
+next_empties t running head (BirthSlot x h) rest found e = e
+next_empties t running head (BirthLocal x h) rest found e = e
 
 -- ---- threads
 

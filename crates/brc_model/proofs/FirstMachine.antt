@@ -1,6 +1,6 @@
 -- The rule holds of the first machine.
 use Rattle.std.proofs.Common.{◌≡◌, ◌≢◌, ℕ, zero, suc, ◌+◌, ◌<◌, ◌≤◌, Bool, true, false, cond, List, [], ◌∷◌, inl, length, Option, Some, refl, sym, ap, subst, arith}
-use Rattle.std.specs.Prelude.{slice_get, map}
+use Rattle.std.specs.Prelude.{slice_get, map, ◌==◌, ◌||◌}
 use Rattle.std.proofs.lemmas.Bool.{eqb-true, eq-eqb}
 use Rattle.std.proofs.lemmas.List.{length-map}
 use Rattle.std.proofs.lemmas.List.Sums.{sum_by-cons}
@@ -11,7 +11,7 @@ use Rattle.brc_lang.specs.Grammar.{IsInstruction, IsFunction, IsModule}
 use Rattle.brc_model.specs.declared.thread.Call.{Call}
 use Rattle.brc_model.specs.Walks.{IsAcceptableCode, IsAcceptable}
 use Rattle.brc_model.specs.Threads.{code_of}
-use Rattle.brc_model.specs.Machine.{callers_below, Actor, Unborn, Closed, main_actor, worker_actor, first_memory, first_life, first_machine}
+use Rattle.brc_model.specs.Machine.{callers_below, Actor, Unborn, Closed, main_actor, worker_actor, first_memory, first_life, first_machine, Live}
 use Rattle.brc_model.specs.Safety.{IsCall, AreCalls}
 use Rattle.brc_model.specs.declared.duty.Duty.{Duty}
 use Rattle.brc_model.specs.declared.address.Address.TheVariants.{ThreadWord}
@@ -23,7 +23,9 @@ use Rattle.brc_model.proofs.Callers.{callers_beyond, callers_hold, root_referenc
 use Rattle.brc_model.proofs.Grounded.{AreInstructions}
 use Rattle.brc_model.proofs.Holds.{the_root}
 use Rattle.brc_model.proofs.Rows.{waits, carries, merges, decides, agenda_weight, weight, IsDefault, AboveZero, InOwned, RowRule}
-use Rattle.brc_model.proofs.Rule.{numbers_of, HoldsAt, ChainFits, ActorFits, AgendaFits, HandedOnce, dies_by, Rule}
+use Rattle.brc_model.proofs.Rule.{numbers_of, HoldsAt, ChainFits, ActorFits, AgendaFits, HandedOnce, dies_by, Rule, UsesFit}
+use Rattle.brc_model.proofs.Blocks.{block_main}
+use Rattle.brc_model.specs.Plain.{root_row, is_among}
 
 -- ---- the code of each function
 
@@ -134,19 +136,71 @@ rest_unborn zero above = absurd (omega arith)
 rest_unborn (suc zero) above = absurd (omega arith)
 rest_unborn (suc (suc x)) above = refl
 
-pub first_rule : (m : Module) (rows : ℕ) (calls : List Call) → IsModule m → IsAcceptable m → AreCalls m calls → 0 < rows → Rule m (1 + length calls) (first_machine m rows calls)
-first_rule m rows calls fits accepted are_calls some_rows = record {
+-- ---- what is born, and used
+
+first_born : (x : ℕ) → x < 2 → first_life x ≢ Unborn
+first_born zero low = λ e. let wrong : Live ≡ Unborn = e in cc
+first_born (suc zero) low = λ e. let wrong : Live ≡ Unborn = e in cc
+first_born (suc (suc x)) low = absurd (omega (arith, low))
+
+main_uses : (rows : ℕ) → UsesFit rows first_life 0 2
+main_uses rows = record {
+  main = λ e. refl;
+  few = λ e. absurd (omega (arith, e));
+  born = λ x low high. first_born x high;
+  unborn = λ x block past. absurd (omega (arith, block_main rows x block, past));
+}
+
+worker_uses : (rows t : ℕ) → UsesFit rows first_life (suc t) 0
+worker_uses rows t = record {
+  main = λ e. absurd (omega (arith, e));
+  few = λ e. omega arith;
+  born = λ x low high. absurd (omega (arith, low, high));
+  unborn = λ x block past. rest_unborn x (omega (arith, past));
+}
+
+first_uses : (rows : ℕ) (calls : List Call) (t : ℕ) (a : Actor) → slice_get (main_actor ∷ map worker_actor calls) t ≡ Some a → UsesFit rows first_life t a.used
+first_uses rows calls zero a is = subst (λ (b : Actor). UsesFit rows first_life 0 b.used) (some_is main_actor a is) (main_uses rows)
+first_uses rows calls (suc t) a is = let call = slice_get-map worker_actor calls t a is in subst (λ (b : Actor). UsesFit rows first_life (suc t) b.used) call.is_image (worker_uses rows t)
+
+-- a block that isn't main's has none of the first rows
+far_unborn : (rows n x : ℕ) → 0 < n → n ≤ block_of rows x → first_life x ≡ Unborn
+far_unborn rows n zero some past = absurd (omega (arith, some, past))
+far_unborn rows n (suc zero) some past = absurd (omega (arith, some, past))
+far_unborn rows n (suc (suc x)) some past = refl
+
+root_is : (x : ℕ) → is_among x (root_row ∷ []) ≡ true → x ≡ root_row
+root_is x is = elim (root_row == x) as (λ b. (root_row == x) ≡ b → (b || false) ≡ true → x ≡ root_row) [
+  | true ↦ λ e f. sym (eqb-true root_row x e)
+  | false ↦ λ e f. absurd cc
+] refl is
+
+first_born_is : (x : ℕ) → is_among x (root_row ∷ []) ≡ true → (0 < x) × (first_life x ≢ Unborn)
+first_born_is x is = let root = root_is x is in (omega (arith, root), first_born x (omega (arith, root)))
+
+first_born_has : (x : ℕ) → 0 < x → first_life x ≢ Unborn → is_among x (root_row ∷ []) ≡ true
+first_born_has zero above born = absurd (omega (arith, above))
+first_born_has (suc zero) above born = refl
+first_born_has (suc (suc x)) above born = absurd (born refl)
+
+pub first_rule : (m : Module) (rows : ℕ) (calls : List Call) → IsModule m → IsAcceptable m → AreCalls m calls → 0 < rows → rows ≤ 1024 → Rule m (1 + length calls) (first_machine m rows calls)
+first_rule m rows calls fits accepted are_calls some_rows few_rows = record {
   functions = refl;
   threads = omega (arith, length-map calls worker_actor);
   some_rows = some_rows;
+  few_threads = omega (arith, are_calls.most);
+  few_rows = few_rows;
   rows = first_row_rule m rows calls are_calls;
   marks = λ x. inl refl;
   each = λ t a is. first_actor m rows calls t a fits accepted are_calls is;
   beyond = λ t past k object. callers_beyond (1 + length calls) t k object past;
   dying = λ x t past. none_dies x t;
   cells = λ x i. refl;
-  only_root = rest_unborn;
+  uses = first_uses rows calls;
+  no_block = λ x past. far_unborn rows (1 + length calls) x (omega arith) past;
   none_lives = refl;
+  born_is = first_born_is;
+  born_has = first_born_has;
   closed_is = λ x is. absurd (let wrong : false ≡ true = is in cc);
   closed_has = λ x is. absurd (life_not_closed x is);
   once = λ i j d lt within. absurd (omega arith);

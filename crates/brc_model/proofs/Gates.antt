@@ -19,12 +19,14 @@ use Rattle.brc_model.proofs.Written.{written_here, written_apart, written_load, 
 use Rattle.brc_model.proofs.Leaves.{AtDuty, head_of}
 use Rattle.brc_model.proofs.Neutral.{memory_by}
 use Rattle.brc_model.proofs.OwnSettles.{chain_here, head_low}
-use Rattle.brc_model.proofs.Closing.{GoesOn, BeginsToDie, IsClosed, life_step}
-use Rattle.brc_model.proofs.ClosedAfter.{live_not_closed, dying_not_closed}
+use Rattle.brc_model.proofs.Closing.{GoesOn, BeginsToDie, IsClosed, life_step, IsBorn}
+use Rattle.brc_model.proofs.ClosedAfter.{live_not_closed, dying_not_closed, unborn_not_closed}
 use Rattle.brc_model.proofs.Whole.{Whole}
 use Rattle.brc_model.proofs.WholeEvents.{event_keeps, whole_after}
 use Rattle.brc_model.proofs.Safe.{first_whole}
 use Rattle.brc_model.proofs.StepCases.{ShowsSteps, at_duty, event_shows}
+use Rattle.brc_model.proofs.Blocks.{born_used}
+use Rattle.brc_model.proofs.Rule.{Rule}
 
 -- ---- what a step does to a gate
 
@@ -73,6 +75,7 @@ gate_after p n m t a d rest x here few before =
         | GoesOn now going ↦ record { is = λ e. now ∙ before.is (sym same ∙ e); has = λ c. same ∙ before.has (sym now ∙ c) }
         | BeginsToDie now alive positive none ↦ record { is = λ e. absurd (live_not_closed (sym alive ∙ before.is (sym same ∙ e))); has = λ c. absurd (dying_not_closed t (sym now ∙ c)) }
         | IsClosed now dying positive ended ↦ absurd (other ended)
+        | IsBorn now unborn above born none ↦ record { is = λ e. absurd (unborn_not_closed (sym unborn ∙ before.is (sym same ∙ e))); has = λ c. absurd (live_not_closed (sym now ∙ c)) }
       ]
       | IsChained apart was other ↦ record {
         is = λ e. absurd (apart e);
@@ -80,6 +83,7 @@ gate_after p n m t a d rest x here few before =
           | GoesOn now going ↦ absurd (dying_not_closed t (sym was ∙ sym now ∙ c))
           | BeginsToDie now alive positive none ↦ absurd (dying_not_closed t (sym now ∙ c))
           | IsClosed now dying positive ended ↦ absurd (other ended)
+          | IsBorn now unborn above born none ↦ absurd (live_not_closed (sym now ∙ c))
         ];
       }
       | Ends word last ↦ record {
@@ -87,6 +91,7 @@ gate_after p n m t a d rest x here few before =
           | GoesOn now going ↦ absurd (going last)
           | BeginsToDie now alive positive none ↦ absurd (no_end x (sym none ∙ last))
           | IsClosed now dying positive ended ↦ now
+          | IsBorn now unborn above born none ↦ absurd (no_end x (sym none ∙ last))
         ];
         has = λ c. word;
       }
@@ -118,7 +123,7 @@ pub gates_tell : (p : Module) → IsModule p → IsAcceptable p → Always Gates
 gates_tell p fits accepted = λ rows calls events some most are_calls.
     let n = 1 + length calls in
     let first = first_machine p rows calls in
-    let whole = first_whole p rows calls fits accepted are_calls some in
+    let whole = first_whole p rows calls fits accepted are_calls some most in
     let few : n ≤ 33 = omega (arith, are_calls.most) in
     let gates = gates_after p n first events few whole (first_gates p rows calls) in
     let rule = (whole_after p n first events whole).rule in
@@ -126,22 +131,10 @@ gates_tell p fits accepted = λ rows calls events some most are_calls.
 
 -- ---- what is born
 
--- main's rows are none and the root
-main_uses : (p : Module) (n : ℕ) (m : Machine) → Whole p n m → 0 < n → (x : ℕ) → x < 2 → (a : Actor) × (slice_get m.actors 0 ≡ Some a) × (0 ≤ x) × (x < 0 + a.used)
-main_uses p n m whole some x low =
-    elim (slice_get_cases m.actors 0).1 [
-      | inl found ↦
-          let used : found.0.used ≡ 2 = whole.used 0 found.0 found.2 in
-          (found.0, found.2, omega arith, omega (arith, used, low))
-      | inr past ↦ absurd (omega (arith, past.0, whole.rule.threads, some))
-    ]
-
-born_used : (p : Module) (n : ℕ) (m : Machine) → Whole p n m → 0 < n → BornAreUsed m
-born_used p n m whole some zero born = main_uses p n m whole some 0 (omega arith)
-born_used p n m whole some (suc zero) born = main_uses p n m whole some 1 (omega arith)
-born_used p n m whole some (suc (suc x)) born = absurd (born (whole.rule.only_root (suc (suc x)) (omega arith)))
+each_used : (p : Module) (n : ℕ) (m : Machine) → Rule p n m → BornAreUsed m
+each_used p n m rule x born = let used = born_used p n m x rule born in (used.by, used.found, used.low, used.high)
 
 pub born_are_used : (p : Module) → IsModule p → IsAcceptable p → Always BornAreUsed p
 born_are_used p fits accepted = λ rows calls events some most are_calls.
     let n = 1 + length calls in
-    born_used p n _ (whole_after p n (first_machine p rows calls) events (first_whole p rows calls fits accepted are_calls some)) (omega arith)
+    each_used p n _ (whole_after p n (first_machine p rows calls) events (first_whole p rows calls fits accepted are_calls some most)).rule

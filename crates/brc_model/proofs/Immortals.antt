@@ -1,24 +1,25 @@
 -- An immortal row's words stay as they are: none is the only one, and no duty but a load is about none.
 use Rattle.std.proofs.Common.{◌≡◌, ℕ, zero, suc, ◌+◌, ◌-◌, ◌<◌, true, List, inl, inr, refl, sym, ◌∙◌, subst, arith}
-use Rattle.std.proofs.lemmas.Bool.{eqb-true}
+use Rattle.std.proofs.lemmas.Bool.{eqb-true, ne_eqb}
 use Rattle.brc_lang.specs.declared.module.Module.{Module}
-use Rattle.brc_word.specs.Words.{local_part, is_immortal_word, dying_word, closed_word}
+use Rattle.brc_word.specs.Words.{local_part, is_immortal_word, dying_word, closed_word, local_word}
 use Rattle.brc_model.specs.declared.thread.Choice.{Choice}
 use Rattle.brc_model.specs.declared.duty.Reason.TheVariants.{Own, Handed}
 use Rattle.brc_model.specs.declared.duty.Duty.{Duty}
-use Rattle.brc_model.specs.declared.duty.Duty.TheVariants.{RetainLoad, RetainStore, RetainAdd, ReleaseLoad, ReleaseStore, DecideAtZero, SharedLoad, SharedExchange, MergeSwap, MergeLoad, MergeExchange, Die, Settle, SettleKind, SettleEnd}
-use Rattle.brc_model.specs.declared.address.Address.TheVariants.{Local, Shared, Gate, KindOf, Mark}
+use Rattle.brc_model.specs.declared.duty.Duty.TheVariants.{RetainLoad, RetainStore, RetainAdd, ReleaseLoad, ReleaseStore, DecideAtZero, SharedLoad, SharedExchange, MergeSwap, MergeLoad, MergeExchange, Die, Settle, SettleKind, SettleEnd, TakeSlot, CloseResource, BirthKind, BirthSlot, BirthLocal}
+use Rattle.brc_model.specs.declared.address.Address.TheVariants.{Local, Shared, Gate, KindOf, Mark, Slot, Resource}
 use Rattle.brc_model.specs.Duties.{block_of}
 use Rattle.brc_model.specs.Machine.{Actor, Life, Unborn, Live, Dying, Closed, Machine, written, next_machine}
 use Rattle.brc_model.specs.Progress.{StaysAt, ImmortalsStay}
 use Rattle.brc_model.proofs.Rows.{Numbers, InOwned, InSwapped, InMerged, RowRule}
-use Rattle.brc_model.proofs.Rule.{numbers_of, Rule}
+use Rattle.brc_model.proofs.Rule.{numbers_of, Rule, IsNext}
 use Rattle.brc_model.proofs.Written.{written_apart, written_load, apart_local, apart_shared, apart_gate}
 use Rattle.brc_model.proofs.Leaves.{AtDuty, head_of}
 use Rattle.brc_model.proofs.Neutral.{memory_by}
 use Rattle.brc_model.proofs.Whole.{Whole}
 use Rattle.brc_model.proofs.WholeEvents.{event_keeps}
 use Rattle.brc_model.proofs.StepCases.{ShowsSteps, at_duty, event_shows}
+use Rattle.brc_model.proofs.Blocks.{next_above}
 
 -- ---- which rows are immortal
 
@@ -54,11 +55,15 @@ shared_apart m y v pos = written_apart m.memory (Shared y) (Shared 0) v (apart_s
 gate_apart : (m : Machine) (y v : ℕ) → 0 < y → written m.memory (Gate y) v (Gate 0) ≡ m.memory (Gate 0)
 gate_apart m y v pos = written_apart m.memory (Gate y) (Gate 0) v (apart_gate y 0 (above y pos))
 
+next_counted : (m : Machine) (t : ℕ) (a : Actor) (y : ℕ) → IsNext m t a y → 0 < y
+next_counted m t a y next = let above = next_above m t a y next in omega (arith, above)
+
 pub none_local : (p : Module) (n : ℕ) (m : Machine) (t : ℕ) (a : Actor) (d : Duty) (rest : List Duty) → AtDuty p n m t a d rest → memory_by m t a d (Local 0) ≡ m.memory (Local 0)
 none_local p n m t a (RetainLoad y h) rest here = written_load m.memory (Local y) (Local 0)
 none_local p n m t a (ReleaseLoad y h) rest here = written_load m.memory (Local y) (Local 0)
 none_local p n m t a (RetainStore y h w) rest here = local_apart m y (w + 1) (head_of p n m t a (RetainStore y h w) rest here).0
 none_local p n m t a (ReleaseStore y w) rest here = local_apart m y (w - 1) (head_of p n m t a (ReleaseStore y w) rest here).0
+none_local p n m t a (BirthLocal y h) rest here = local_apart m y (local_word t 1) (next_counted m t a y (head_of p n m t a (BirthLocal y h) rest here).0)
 none_local p n m t a (MergeSwap y Own) rest here = local_apart m y 0 (head_of p n m t a (MergeSwap y Own) rest here).0
 none_local p n m t a (MergeSwap y Handed) rest here = local_apart m y 0 (head_of p n m t a (MergeSwap y Handed) rest here).0
 none_local p n m t a _ rest here = refl
@@ -79,10 +84,20 @@ none_gate p n m t a Settle rest here = written_load m.memory (Gate (a.head - 1))
 none_gate p n m t a (SettleEnd y) rest here = gate_apart m y closed_word (head_of p n m t a (SettleEnd y) rest here).0
 none_gate p n m t a _ rest here = refl
 
--- no step changes what a row is
-kinds : (m : Machine) (t : ℕ) (a : Actor) (d : Duty) (x : ℕ) → memory_by m t a d (KindOf x) ≡ m.memory (KindOf x)
-kinds m t a (SettleKind y) x = written_load m.memory (KindOf y) (KindOf x)
-kinds m t a _ x = refl
+none_kind : (p : Module) (n : ℕ) (m : Machine) (t : ℕ) (a : Actor) (d : Duty) (rest : List Duty) → AtDuty p n m t a d rest → memory_by m t a d (KindOf 0) ≡ m.memory (KindOf 0)
+none_kind p n m t a (SettleKind y) rest here = written_load m.memory (KindOf y) (KindOf 0)
+none_kind p n m t a (BirthKind y h w) rest here =
+    written_apart m.memory (KindOf y) (KindOf 0) w (ne_eqb y 0 (above y (next_counted m t a y (head_of p n m t a (BirthKind y h w) rest here).0)))
+none_kind p n m t a _ rest here = refl
+
+none_slot : (p : Module) (n : ℕ) (m : Machine) (t : ℕ) (a : Actor) (d : Duty) (rest : List Duty) → AtDuty p n m t a d rest → memory_by m t a d (Slot 0) ≡ m.memory (Slot 0)
+none_slot p n m t a (TakeSlot y) rest here = written_apart m.memory (Slot y) (Slot 0) 0 (ne_eqb y 0 (above y (head_of p n m t a (TakeSlot y) rest here).0))
+none_slot p n m t a (BirthSlot y h) rest here = written_apart m.memory (Slot y) (Slot 0) 1 (ne_eqb y 0 (above y (next_counted m t a y (head_of p n m t a (BirthSlot y h) rest here).0)))
+none_slot p n m t a _ rest here = refl
+
+none_resource : (p : Module) (n : ℕ) (m : Machine) (t : ℕ) (a : Actor) (d : Duty) (rest : List Duty) → AtDuty p n m t a d rest → memory_by m t a d (Resource 0) ≡ m.memory (Resource 0)
+none_resource p n m t a (CloseResource y) rest here = written_apart m.memory (Resource y) (Resource 0) 0 (ne_eqb y 0 (above y (head_of p n m t a (CloseResource y) rest here).0))
+none_resource p n m t a _ rest here = refl
 
 -- ---- each event
 
@@ -91,17 +106,21 @@ record NoneStays (m new : Machine) : Type 0 where
   shared : new.memory (Shared 0) ≡ m.memory (Shared 0)
   gate : new.memory (Gate 0) ≡ m.memory (Gate 0)
   kind : new.memory (KindOf 0) ≡ m.memory (KindOf 0)
+  slot : new.memory (Slot 0) ≡ m.memory (Slot 0)
+  resource : new.memory (Resource 0) ≡ m.memory (Resource 0)
 
 none_shown : (p : Module) (n : ℕ) → ShowsSteps (λ t m new. NoneStays m new) p n
 none_shown p n = record {
-  stays = λ t m whole. record { local = refl; shared = refl; gate = refl; kind = refl };
-  sits = λ t m new a place agenda found shown. record { local = shown.local; shared = shown.shared; gate = shown.gate; kind = shown.kind };
-  moves = λ t m a place whole found. record { local = refl; shared = refl; gate = refl; kind = refl };
+  stays = λ t m whole. record { local = refl; shared = refl; gate = refl; kind = refl; slot = refl; resource = refl };
+  sits = λ t m new a place agenda found shown. record { local = shown.local; shared = shown.shared; gate = shown.gate; kind = shown.kind; slot = shown.slot; resource = shown.resource };
+  moves = λ t m a place whole found. record { local = refl; shared = refl; gate = refl; kind = refl; slot = refl; resource = refl };
   does = λ t m a d rest doing. record {
     local = none_local p n m t a d rest (at_duty doing);
     shared = none_shared p n m t a d rest (at_duty doing);
     gate = none_gate p n m t a d rest (at_duty doing);
-    kind = kinds m t a d 0;
+    kind = none_kind p n m t a d rest (at_duty doing);
+    slot = none_slot p n m t a d rest (at_duty doing);
+    resource = none_resource p n m t a d rest (at_duty doing);
   };
 }
 
@@ -118,6 +137,8 @@ none_stays p n m event whole =
       shared = words.shared;
       gate = words.gate;
       kind = words.kind;
+      slot = words.slot;
+      resource = words.resource;
       mark = none_mark p n (next_machine m event) new.rule ∙ sym (none_mark p n m whole.rule);
       cells = λ i. new.rule.cells 0 i ∙ sym (whole.rule.cells 0 i);
     }

@@ -8,11 +8,11 @@ use Rattle.std.proofs.lemmas.Option.{slice_get_within}
 use Rattle.brc_lang.specs.declared.module.Module.{Module}
 use Rattle.brc_model.specs.declared.duty.Holding.{Holding}
 use Rattle.brc_model.specs.declared.duty.Holding.TheVariants.{ByVariable, AsCaller, InHand}
-use Rattle.brc_model.specs.Plain.{Reference, Plain, same, without, references_to, Move, Gain, Lose, HandOn, Finalise, move, moved}
+use Rattle.brc_model.specs.Plain.{Reference, Plain, same, without, references_to, Move, Gain, Lose, HandOn, Finalise, move, moved, Born}
 use Rattle.brc_word.specs.Words.{is_immortal_word}
 use Rattle.brc_model.specs.declared.duty.Reason.TheVariants.{Own}
 use Rattle.brc_model.specs.declared.duty.Duty.{Duty}
-use Rattle.brc_model.specs.declared.duty.Duty.TheVariants.{RetainLoad, RetainStore, RetainAdd, ReleaseLoad, ReleaseStore, SharedExchange, SettleCell, SettleEnd}
+use Rattle.brc_model.specs.declared.duty.Duty.TheVariants.{RetainLoad, RetainStore, RetainAdd, ReleaseLoad, ReleaseStore, SharedExchange, SettleCell, SettleEnd, BirthLocal}
 use Rattle.brc_model.specs.declared.address.Address.TheVariants.{Cell, Mark}
 use Rattle.brc_model.specs.declared.actor.Status.TheVariants.{Gone}
 use Rattle.brc_model.specs.Machine.{Actor, Machine, hand_on, gain, lose, moves_by, actor_by, done_by, same_address}
@@ -25,7 +25,9 @@ use Rattle.brc_model.proofs.Leaves.{AtDuty, head_of}
 use Rattle.brc_model.proofs.Lives.{leaves_others}
 use Rattle.brc_model.proofs.Neutral.{OwnFits, found_by, memory_by}
 use Rattle.brc_model.proofs.RowsAfter.{rows_after}
-use Rattle.brc_model.proofs.ClosedAfter.{closed_is_after, closed_has_after, closed_once_after, only_root_after, none_lives_after, dying_after}
+use Rattle.brc_model.proofs.ClosedAfter.{closed_is_after, closed_has_after, closed_once_after, none_lives_after, dying_after}
+use Rattle.brc_model.proofs.Blocks.{next_above}
+use Rattle.brc_model.proofs.UsesAfter.{uses_after, no_block_after, born_is_after, born_has_after}
 
 -- ---- cells stay empty
 
@@ -41,6 +43,7 @@ cells_left m t a _ x i empty = empty
 
 -- the moves are of counted rows
 abbrev IsCounted : Move → Type 0
+IsCounted (Born r) = 0 < r.object
 IsCounted (Gain r) = 0 < r.object
 IsCounted (Lose r) = 0 < r.object
 IsCounted (HandOn r h) = 0 < r.object
@@ -66,6 +69,7 @@ none_less r (q ∷ qs) pos =
 
 none_moved : (p : Plain) (mvs : List Move) → AreCounted mvs → references_to 0 (moved p mvs).references ≡ references_to 0 p.references
 none_moved p [] counted = refl
+none_moved p (Born r ∷ mvs) counted = none_moved (move p (Born r)) mvs counted.1 ∙ none_more r p.references counted.0
 none_moved p (Gain r ∷ mvs) counted = none_moved (move p (Gain r)) mvs counted.1 ∙ none_more r p.references counted.0
 none_moved p (Lose r ∷ mvs) counted = none_moved (move p (Lose r)) mvs counted.1 ∙ none_less r p.references counted.0
 none_moved p (HandOn r h ∷ mvs) counted =
@@ -93,6 +97,7 @@ moves_counted m t a (ReleaseLoad x h) rest found fits = append_counted (hand_on 
 moves_counted m t a (ReleaseStore x w) rest found fits = (fits.0, tt)
 moves_counted m t a (SharedExchange x Own w) rest found fits = if_counted (found == w) (lose t x) (fits, tt)
 moves_counted m t a (SettleEnd x) rest found fits = (tt, tt)
+moves_counted m t a (BirthLocal x h) rest found fits = (let above = next_above m t a x fits.0 in omega (arith, above), tt)
 moves_counted m t a _ rest found fits = tt
 
 -- ---- all threads
@@ -126,13 +131,18 @@ keeps_by p n m t a d rest here alive own marks =
       functions = here.rule.functions;
       threads = length-set m.actors t (actor_by t a d rest (found_by m t a d)) ∙ here.rule.threads;
       some_rows = here.rule.some_rows;
+      few_threads = here.rule.few_threads;
+      few_rows = here.rule.few_rows;
       rows = λ x pos. rows_after p n m t a d rest here.rule here.found here.agenda alive x pos;
       marks = marks;
       each = λ u b is. others_and_own p n m t a d rest here own u b is;
       beyond = λ u past k object. moves_apart m.plain u t k object d (found_by m t a d) (λ e. absurd (omega (arith, within, past, e))) ∙ here.rule.beyond u past k object;
       dying = λ x u past. dying_after p n m t a d rest x u here past;
       cells = λ x i. cells_left m t a d x i (here.rule.cells x i);
-      only_root = λ x above. only_root_after p n m t a d rest x here above;
+      uses = λ u b is. uses_after p n m t a d rest here u b is;
+      no_block = λ x past. no_block_after p n m t a d rest here x past;
+      born_is = λ x is. born_is_after p n m t a d rest here x is;
+      born_has = λ x above is. born_has_after p n m t a d rest here x above is;
       none_lives = none_lives_after p n m t a d rest here;
       closed_is = λ x is. closed_is_after p n m t a d rest x here is;
       closed_has = λ x is. closed_has_after p n m t a d rest x here is;

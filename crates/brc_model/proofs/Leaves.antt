@@ -6,22 +6,23 @@ use Rattle.std.proofs.lemmas.Bool.Decides.{eqb_tells}
 use Rattle.std.proofs.lemmas.List.Sums.{sum_by-cons}
 use Rattle.brc_lang.specs.declared.module.Module.{Module}
 use Rattle.brc_model.specs.declared.duty.Holding.TheVariants.{InHand}
-use Rattle.brc_word.specs.Words.{owner_part, biased_part, phase_part, fresh_word, released_word, merged_word}
+use Rattle.brc_word.specs.Words.{owner_part, biased_part, phase_part, fresh_word, released_word, merged_word, local_word}
 use Rattle.brc_model.specs.declared.duty.Reason.{Reason}
 use Rattle.brc_model.specs.declared.duty.Reason.TheVariants.{Own, Handed}
 use Rattle.brc_model.specs.declared.duty.Duty.{Duty}
-use Rattle.brc_model.specs.declared.duty.Duty.TheVariants.{RetainLoad, RetainStore, RetainAdd, ReleaseLoad, ReleaseStore, DecideAtZero, SharedLoad, SharedExchange, Look, MergeSwap, MergeLoad, MergeExchange, Die, Settle, SettleEnd, Leave, Finish}
+use Rattle.brc_model.specs.declared.duty.Duty.TheVariants.{RetainLoad, RetainStore, RetainAdd, ReleaseLoad, ReleaseStore, DecideAtZero, SharedLoad, SharedExchange, Look, MergeSwap, MergeLoad, MergeExchange, Die, Settle, SettleEnd, Leave, Finish, BirthLocal}
 use Rattle.brc_model.specs.declared.address.Address.TheVariants.{Local, Shared, Gate, ThreadWord}
 use Rattle.brc_model.specs.Duties.{block_of, address_of, left_by}
-use Rattle.brc_model.specs.Machine.{Actor, Dying, Machine, written}
+use Rattle.brc_model.specs.Machine.{Actor, Dying, Machine, written, Unborn, Life}
 use Rattle.brc_model.proofs.Bag.{held, one_if, held-le-references_to}
 use Rattle.brc_model.proofs.Holds.{reference_of}
-use Rattle.brc_model.proofs.Rows.{waits, decides, merges, InOwned, InSwapped, InMerged}
+use Rattle.brc_model.proofs.Rows.{waits, decides, merges, InOwned, InSwapped, InMerged, RowRule}
 use Rattle.brc_model.proofs.RowSteps.{shared_range, shared_up, shared_down, shared_merged}
-use Rattle.brc_model.proofs.Rule.{extra_of, lacks_of, OwnsLocally, FollowsHanded, HeadFits, HeadOf, dies_by, Rule, status_word}
+use Rattle.brc_model.proofs.Rule.{extra_of, lacks_of, OwnsLocally, FollowsHanded, HeadFits, HeadOf, dies_by, Rule, status_word, numbers_of}
 use Rattle.brc_model.proofs.Alive.{first_weighs, Alive, alive_referenced, alive_waiting, alive_deciding, alive_merging, hand_holds}
 use Rattle.brc_model.proofs.Written.{written_here, written_apart, written_load, apart_local, apart_shared, apart_gate, apart_thread}
 use Rattle.brc_model.proofs.Others.{is_dying}
+use Rattle.brc_model.proofs.Blocks.{next_above, next_unborn}
 
 -- a thread at its first duty
 pub record AtDuty (p : Module) (n : ℕ) (m : Machine) (t : ℕ) (a : Actor) (d : Duty) (rest : List Duty) : Type 0 where
@@ -89,6 +90,13 @@ claim_clash p n m t u x y a b rest here ne found other same =
       | inr stopped ↦ stopped (ap (λ (z : ℕ). m.memory (ThreadWord z)) (sym block) ∙ (here.rule.each u b found).0.word ∙ ap status_word other.running)
     ]
 
+-- nobody owns what isn't born
+unowned_clash : (p : Module) (n : ℕ) (m : Machine) (u x y : ℕ) (b : Actor) → Rule p n m → 1 < y → m.life y ≡ Unborn → OwnsLocally m u b x → y ≡ x → ⊥
+unowned_clash p n m u x y b rule above unborn other same =
+    let theirs : owner_part (m.memory (Local y)) ≡ u + 1 = ap (λ (z : ℕ). owner_part (m.memory (Local z))) same ∙ other.owner in
+    let row = subst (λ (l : Life). RowRule (block_of m.rows y) l (numbers_of m y)) unborn (rule.rows y (omega (arith, above))) in
+    omega (arith, theirs, row.local)
+
 local_kept : (m : Machine) (y x v : ℕ) → (y ≡ x → ⊥) → written m.memory (Local y) v (Local x) ≡ m.memory (Local x)
 local_kept m y x v ne = written_apart m.memory (Local y) (Local x) v (apart_local y x ne)
 
@@ -102,6 +110,9 @@ locals_left p n m t a (ReleaseStore y w) rest here u x b ne found other =
     local_kept m y x (w - 1) (owners_clash m t u x y a b ne (head_of p n m t a (ReleaseStore y w) rest here).1 other)
 locals_left p n m t a (MergeSwap y Own) rest here u x b ne found other =
     local_kept m y x 0 (owners_clash m t u x y a b ne (head_of p n m t a (MergeSwap y Own) rest here).1 other)
+locals_left p n m t a (BirthLocal y h) rest here u x b ne found other =
+    local_kept m y x (local_word t 1) (unowned_clash p n m u x y b here.rule (next_above m t a y (head_of p n m t a (BirthLocal y h) rest here).0)
+        (next_unborn p n m t a y here.rule here.found (head_of p n m t a (BirthLocal y h) rest here).0) other)
 locals_left p n m t a (MergeSwap y Handed) rest here u x b ne found other = local_kept m y x 0 (claim_clash p n m t u x y a b rest here ne found other)
 locals_left p n m t a _ rest here u x b ne found other = refl
 

@@ -3,6 +3,10 @@ pub mod Lists
 pub mod Holds
 pub mod Passing
 pub mod Grounded
+pub mod Blocks
+pub mod RowsAfterBirths
+pub mod OwnBirths
+pub mod UsesAfter
 pub mod Callers
 pub mod Worked
 pub mod Rows

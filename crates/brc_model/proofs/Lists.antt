@@ -1,7 +1,9 @@
 -- What a list has at a place after a write.
-use Rattle.std.proofs.Common.{◌≡◌, ◌≢◌, ℕ, zero, suc, ◌<◌, List, [], ◌∷◌, length, set, get_or, Some, refl, sym, ap, subst, ◌∙◌, arith, Bool, true, false}
-use Rattle.std.specs.Prelude.{slice_get, ◌||◌, ◌&&◌, replicate, map}
+use Rattle.std.proofs.Common.{◌≡◌, ◌≢◌, ℕ, zero, suc, ◌<◌, List, [], ◌∷◌, length, set, get_or, Some, refl, sym, ap, subst, ◌∙◌, arith, Bool, true, false, inl, inr}
+use Rattle.std.specs.Prelude.{slice_get, ◌||◌, ◌&&◌, replicate, map, slice_set}
 use Rattle.std.specs.List.{list_any, list_all, AllByRecursion}
+use Rattle.std.proofs.lemmas.Bool.Decides.{eqb_tells}
+use Rattle.std.proofs.lemmas.Option.{slice_get_within}
 
 pub some_is : {A : Type 0} (x y : A) → Some x ≡ Some y → x ≡ y
 some_is x y e = cc
@@ -13,6 +15,12 @@ and_first false b e = absurd cc
 pub and_second : (a b : Bool) → (a && b) ≡ true → b ≡ true
 and_second true b e = e
 and_second false b e = absurd cc
+
+-- a place within a list has an element
+pub some_within : {A : Type 0} (xs : List A) (i : ℕ) → i < length xs → (x : A) × (slice_get xs i ≡ Some x)
+some_within [] i h = absurd (omega arith)
+some_within (x ∷ xs) zero h = (x, refl)
+some_within (x ∷ xs) (suc i) h = some_within xs i (omega arith)
 
 pub slice_get-set_same : {A : Type 0} (xs : List A) (i : ℕ) (x : A) → i < length xs → slice_get (set xs i x) i ≡ Some x
 slice_get-set_same [] i x h = absurd (omega arith)
@@ -83,3 +91,14 @@ pub slice_get-map : {A B : Type 0} (f : A → B) (xs : List A) (i : ℕ) (y : B)
 slice_get-map f [] i y is = absurd cc
 slice_get-map f (x ∷ xs) zero y is = record { source = x; is_there = refl; is_image = some_is (f x) y is }
 slice_get-map f (x ∷ xs) (suc i) y is = let rest = slice_get-map f xs i y is in record { source = rest.source; is_there = rest.is_there; is_image = rest.is_image }
+
+-- what holds at the other places still does
+pub written_actor : {A : Type 0} (P : ℕ → A → Type 0) (actors : List A) (t : ℕ) (a after : A) → slice_get actors t ≡ Some a → P t after → ((u : ℕ) (b : A) → slice_get actors u ≡ Some b → P u b)
+    → (u : ℕ) (b : A) → slice_get (slice_set actors t after) u ≡ Some b → P u b
+written_actor P actors t a after found own others u b is =
+    elim (eqb_tells u t) [
+      | inl same ↦
+          let now : Some after ≡ Some b = sym (ap (slice_get (slice_set actors t after)) same.1 ∙ slice_get-set_same actors t after (slice_get_within actors t a found)) ∙ is in
+          subst (P u) (some_is after b now) (subst (λ (w : ℕ). P w after) (sym same.1) own)
+      | inr apart ↦ others u b (sym (slice_get-set_other actors t u after apart.1) ∙ is)
+    ]

@@ -8,12 +8,13 @@ use Rattle.brc_word.specs.Words.{local_part, is_immortal_word, fresh_word, dead_
 use Rattle.brc_model.specs.declared.duty.Reason.{Reason}
 use Rattle.brc_model.specs.declared.duty.Reason.TheVariants.{Own, Handed}
 use Rattle.brc_model.specs.declared.duty.Duty.{Duty}
-use Rattle.brc_model.specs.declared.duty.Duty.TheVariants.{RetainLoad, RetainStore, RetainAdd, ReleaseLoad, ReleaseStore, DecideAtZero, SharedLoad, SharedExchange, SetMark, Look, TakeMark, MergeSwap, MergeLoad, MergeExchange, Die, Settle, SettleKind, SettleCell, SettleEnd, Leave, Scan, Finish, ClaimMark}
-use Rattle.brc_model.specs.Duties.{address_of, next_by, counts_locally, shared_result, cells_of, cells_from, release_found}
-use Rattle.brc_model.specs.Machine.{Actor, Life, Live, Dying, Closed, Machine, is_running, dies_next, ended_row, with_life, life_by, done_by}
+use Rattle.brc_model.specs.declared.duty.Duty.TheVariants.{RetainLoad, RetainStore, RetainAdd, ReleaseLoad, ReleaseStore, DecideAtZero, SharedLoad, SharedExchange, SetMark, Look, TakeMark, MergeSwap, MergeLoad, MergeExchange, Die, Settle, SettleKind, SettleCell, TakeSlot, CloseResource, SettleEnd, Leave, Scan, Finish, ClaimMark, BirthKind, BirthSlot, BirthLocal}
+use Rattle.brc_model.specs.Duties.{address_of, next_by, counts_locally, shared_result, has_resource, cells_of, cells_from, release_found}
+use Rattle.brc_model.specs.Machine.{Actor, Life, Unborn, Live, Dying, Closed, Machine, is_running, dies_next, ended_row, born_row, with_life, life_by, done_by}
 use Rattle.brc_model.proofs.Lists.{some_is}
 use Rattle.brc_model.proofs.Rule.{dies_by, Rule}
 use Rattle.brc_model.proofs.Alive.{Alive}
+use Rattle.brc_model.proofs.Blocks.{next_unborn}
 use Rattle.brc_model.proofs.Others.{LeavesOthers}
 use Rattle.brc_model.proofs.Leaves.{AtDuty, head_of, exchange_alive, decide_alive, merge_alive, locals_left, merged_left, stopped_left, words_left, gates_left}
 use Rattle.brc_model.proofs.MovesApart.{moves_apart}
@@ -77,15 +78,21 @@ next_dies t running head (MergeLoad x c) found y cells e = none_some y e
 next_dies t running head (MergeExchange x c w) found y cells e = merge_dies (found == w) (merged_word w c == dead_word) x y c e
 next_dies t running head (Die x) found y cells e = none_some y e
 next_dies t running head Settle found y cells e = none_some y e
-next_dies t running head (SettleKind x) found y cells e = cells_none (nat_lt 0 (cells_of found)) x 0 (cells_of found) y e
+next_dies t running head (SettleKind x) found y cells e =
+    absurd (either_none (has_resource found) (TakeSlot x ∷ []) (cells_from x 0 (cells_of found)) y (none_some y) (cells_none (nat_lt 0 (cells_of found)) x 0 (cells_of found) y) e)
 next_dies t running head (SettleCell x i n) found y cells e =
     let empty : release_found found ≡ [] = ap release_found (cells x i n refl) in
     cells_none (nat_lt (i + 1) n) x (i + 1) n y (sym (ap (λ (l : List Duty). dies_next (l ++ cells_from x (i + 1) n)) empty) ∙ e)
+next_dies t running head (TakeSlot x) found y cells e = none_some y e
+next_dies t running head (CloseResource x) found y cells e = none_some y e
 next_dies t running head (SettleEnd x) found y cells e = none_some y e
 next_dies t running head (Leave x k) found y cells e = none_some y e
 next_dies t running head (Scan x k) found y cells e = claimed_none (found == 1) x y _ (none_some y) e
 next_dies t running head Finish found y cells e = none_some y e
 next_dies t running head (ClaimMark x) found y cells e = claimed_none (found == 1) x y _ (none_some y) e
+next_dies t running head (BirthKind x h w) found y cells e = either_none (has_resource w) (BirthSlot x h ∷ []) (BirthLocal x h ∷ []) y (none_some y) (none_some y) e
+next_dies t running head (BirthSlot x h) found y cells e = none_some y e
+next_dies t running head (BirthLocal x h) found y cells e = none_some y e
 
 -- ---- the rows that die are alive
 
@@ -134,11 +141,26 @@ ended_mine p n m t a (SettleEnd x) rest u y here ne e =
     ap (λ (l : Life). dies_by l u) mine ∙ ne_eqb t u (λ q. ne (sym q))
 ended_mine p n m t a _ rest u y here ne e = absurd (none_some y e)
 
+-- a row is born that nobody lets die
+born_with : (life : ℕ → Life) (o : Option ℕ) (u x : ℕ) → ((y : ℕ) → o ≡ Some y → dies_by (life y) u ≡ false) → dies_by (with_life life o Live x) u ≡ dies_by (life x) u
+born_with life None u x was = refl
+born_with life (Some y) u x was =
+    elim (eqb_tells y x) [
+      | inl same ↦ ap (λ (b : Bool). dies_by (cond b Live (life x)) u) same.0 ∙ sym (ap (λ (z : ℕ). dies_by (life z) u) (sym same.1) ∙ was y refl)
+      | inr other ↦ ap (λ (b : Bool). dies_by (cond b Live (life x)) u) other.0
+    ]
+
+born_was : (p : Module) (n : ℕ) (m : Machine) (t : ℕ) (a : Actor) (d : Duty) (rest : List Duty) (y : ℕ) → AtDuty p n m t a d rest → born_row d ≡ Some y → m.life y ≡ Unborn
+born_was p n m t a (BirthLocal x h) rest y here e = ap m.life (sym (some_is x y e)) ∙ next_unborn p n m t a x here.rule here.found (head_of p n m t a (BirthLocal x h) rest here).0
+born_was p n m t a _ rest y here e = absurd (none_some y e)
+
 lives_left : (p : Module) (n : ℕ) (m : Machine) (t : ℕ) (a : Actor) (d : Duty) (rest : List Duty) → AtDuty p n m t a d rest → (u x : ℕ) → u ≢ t
     → dies_by (life_by m.life t d (next_of m t a d) x) u ≡ dies_by (m.life x) u
 lives_left p n m t a d rest here u x ne =
     let first = λ (z : ℕ). dies_with m.life (dies_next (next_of m t a d)) t u z ne (λ y e. (dying_was_alive p n m t a d rest y here e).life) in
-    closes_with (with_life m.life (dies_next (next_of m t a d)) (Dying t)) (ended_row d) u x (λ y e. first y ∙ ended_mine p n m t a d rest u y here ne e) ∙ first x
+    let second = λ (z : ℕ). closes_with (with_life m.life (dies_next (next_of m t a d)) (Dying t)) (ended_row d) u z (λ y e. first y ∙ ended_mine p n m t a d rest u y here ne e) ∙ first z in
+    born_with (with_life (with_life m.life (dies_next (next_of m t a d)) (Dying t)) (ended_row d) Closed) (born_row d) u x
+        (λ y e. second y ∙ ap (λ (l : Life). dies_by l u) (born_was p n m t a d rest y here e)) ∙ second x
 
 -- ---- all that others rely on
 

@@ -23,11 +23,12 @@ use Rattle.brc_model.proofs.Bag.{one_if}
 use Rattle.brc_model.proofs.Rows.{agenda_weight, weight}
 use Rattle.brc_model.proofs.Rule.{Later, Agenda, AgendaFits, scans, looks, status_word}
 use Rattle.brc_model.proofs.Rule as rule
-use Rattle.brc_model.proofs.OwnExits.{marked_is_root}
+use Rattle.brc_model.proofs.OwnExits.{marked_born}
 use Rattle.brc_model.proofs.Watches.{marked_within}
 use Rattle.brc_model.proofs.Whole.{Whole}
 use Rattle.brc_model.proofs.WholeEvents.{whole_after}
 use Rattle.brc_model.proofs.Safe.{first_whole}
+use Rattle.brc_model.proofs.Blocks.{born_used}
 
 -- ---- by its running thread
 
@@ -36,17 +37,12 @@ status_runs Running e = refl
 status_runs Leaving e = absurd (omega (arith, e))
 status_runs Gone e = absurd (omega (arith, e))
 
--- the marked row is the root, so its block's thread is main, which is there
-by_running : (p : Module) (n : ℕ) (m : Machine) (x : ℕ) → Whole p n m → 0 < n → m.memory (Mark x) ≡ 1 → m.memory (ThreadWord (block_of m.rows x)) ≡ 1 → IsWatched m x
-by_running p n m x whole some marked word =
-    let is_main : block_of m.rows x ≡ 0 = ap (block_of m.rows) (marked_is_root p n m x whole.rule marked) in
-    elim (slice_get_cases m.actors 0).1 [
-      | inl found ↦
-          let fits = (whole.rule.each 0 found.0 found.2).0 in
-          let runs : status_word found.0.status ≡ 1 = sym fits.word ∙ ap (λ (t : ℕ). m.memory (ThreadWord t)) (sym is_main) ∙ word in
-          ByRunning (found.0, ap (slice_get m.actors) is_main ∙ found.2, status_runs found.0.status runs)
-      | inr past ↦ absurd (omega (arith, past.0, whole.rule.threads, some))
-    ]
+-- the marked row was born, so its block's thread is there
+by_running : (p : Module) (n : ℕ) (m : Machine) (x : ℕ) → Whole p n m → m.memory (Mark x) ≡ 1 → m.memory (ThreadWord (block_of m.rows x)) ≡ 1 → IsWatched m x
+by_running p n m x whole marked word =
+    let used = born_used p n m x whole.rule (marked_born p n m x whole.rule marked) in
+    let fits = (whole.rule.each (block_of m.rows x) used.by used.found).0 in
+    ByRunning (used.by, used.found, status_runs used.by.status (sym fits.word ∙ word))
 
 -- ---- by an exit
 
@@ -84,7 +80,7 @@ exit_scans rows t a Leaving x fits low e = agenda_scans rows t a.used Leaving a.
 by_exit : (p : Module) (n : ℕ) (m : Machine) (x : ℕ) (a : Actor) → Whole p n m → m.memory (Mark x) ≡ 1 → slice_get m.actors (block_of m.rows x) ≡ Some a → scans x a.agenda ≡ true → IsWatched m x
 by_exit p n m x a whole marked found e =
     let t = block_of m.rows x in
-    let within = marked_within p n m t a x whole.rule (λ b is. whole.used 0 b is) found marked refl in
+    let within = marked_within p n m t a x whole.rule found marked refl in
     let shown = exit_scans m.rows t a a.status x (whole.rule.each t a found).1 within.1 e in
     ByExit a found shown.0 shown.1
 
@@ -121,19 +117,19 @@ looking x (a ∷ rest) some = looking_first x a rest (agenda_weight (looks x) a)
 
 -- ---- all marks
 
-watched_so : (p : Module) (n : ℕ) (m : Machine) (x : ℕ) → Whole p n m → 0 < n → m.memory (Mark x) ≡ 1 → rule.IsWatched m x → IsWatched m x
-watched_so p n m x whole some marked (rule.ByRunning word) = by_running p n m x whole some marked word
-watched_so p n m x whole some marked (rule.ByExit a found e) = by_exit p n m x a whole marked found e
-watched_so p n m x whole some marked (rule.ByLook weighs) = let it = looking x m.actors weighs in ByLook it.thread it.actor it.is_there it.looks_so
+watched_so : (p : Module) (n : ℕ) (m : Machine) (x : ℕ) → Whole p n m → m.memory (Mark x) ≡ 1 → rule.IsWatched m x → IsWatched m x
+watched_so p n m x whole marked (rule.ByRunning word) = by_running p n m x whole marked word
+watched_so p n m x whole marked (rule.ByExit a found e) = by_exit p n m x a whole marked found e
+watched_so p n m x whole marked (rule.ByLook weighs) = let it = looking x m.actors weighs in ByLook it.thread it.actor it.is_there it.looks_so
 
-all_watched : (p : Module) (n : ℕ) (m : Machine) → Whole p n m → 0 < n → MarksWatched m
-all_watched p n m whole some = λ x set.
+all_watched : (p : Module) (n : ℕ) (m : Machine) → Whole p n m → MarksWatched m
+all_watched p n m whole = λ x set.
     elim (whole.rule.marks x) [
       | inl none ↦ absurd (set none)
-      | inr marked ↦ watched_so p n m x whole some marked.0 marked.2
+      | inr marked ↦ watched_so p n m x whole marked.0 marked.2
     ]
 
 pub marks_watched : (p : Module) → IsModule p → IsAcceptable p → Always MarksWatched p
 marks_watched p fits accepted = λ rows calls events some most are_calls.
     let n = 1 + length calls in
-    all_watched p n _ (whole_after p n (first_machine p rows calls) events (first_whole p rows calls fits accepted are_calls some)) (omega arith)
+    all_watched p n _ (whole_after p n (first_machine p rows calls) events (first_whole p rows calls fits accepted are_calls some most))

@@ -3,11 +3,11 @@ use Rattle.std.proofs.Common.{◌≡◌, ◌≢◌, ℕ, Bool, true, false, cond
 use Rattle.std.specs.Prelude.{◌==◌}
 use Rattle.brc_model.specs.declared.duty.Holding.{Holding}
 use Rattle.brc_model.specs.declared.duty.Holding.TheVariants.{ByVariable, AsCaller, InHand}
-use Rattle.brc_model.specs.Plain.{Reference, Plain, same, without, Move, Gain, Lose, HandOn, Finalise, move, moved}
+use Rattle.brc_model.specs.Plain.{Reference, Plain, same, without, Move, Born, Gain, Lose, HandOn, Finalise, move, moved}
 use Rattle.brc_word.specs.Words.{is_immortal_word}
 use Rattle.brc_model.specs.declared.duty.Reason.TheVariants.{Own}
 use Rattle.brc_model.specs.declared.duty.Duty.{Duty}
-use Rattle.brc_model.specs.declared.duty.Duty.TheVariants.{RetainLoad, RetainStore, RetainAdd, ReleaseLoad, ReleaseStore, SharedExchange, SettleEnd}
+use Rattle.brc_model.specs.declared.duty.Duty.TheVariants.{RetainLoad, RetainStore, RetainAdd, ReleaseLoad, ReleaseStore, SharedExchange, SettleEnd, BirthLocal}
 use Rattle.brc_model.specs.Machine.{hand_on, gain, lose, moves_by}
 use Rattle.brc_model.proofs.Bag.{held, one_if, same-true, same-other_thread, held-cons}
 use Rattle.brc_model.proofs.Holds.{reference_of}
@@ -28,6 +28,7 @@ held-cons_apart x r bag apart = let none : one_if (same x r) ≡ 0 = ap one_if a
 
 -- the holders of the move are of the thread
 abbrev IsOf : ℕ → Move → Type 0
+IsOf t (Born r) = r.thread ≡ t
 IsOf t (Gain r) = r.thread ≡ t
 IsOf t (Lose r) = r.thread ≡ t
 IsOf t (HandOn r h) = r.thread ≡ t
@@ -41,6 +42,7 @@ apart_thread : (u t : ℕ) (k : Holding) (object : ℕ) (r : Reference) → u �
 apart_thread u t k object r ne of = same-other_thread (reference_of u k object) r (λ e. ne (e ∙ of))
 
 move_apart : (p : Plain) (u t : ℕ) (k : Holding) (object : ℕ) (mv : Move) → u ≢ t → IsOf t mv → held (reference_of u k object) (move p mv).references ≡ held (reference_of u k object) p.references
+move_apart p u t k object (Born r) ne of = held-cons_apart (reference_of u k object) r p.references (apart_thread u t k object r ne of)
 move_apart p u t k object (Gain r) ne of = held-cons_apart (reference_of u k object) r p.references (apart_thread u t k object r ne of)
 move_apart p u t k object (Lose r) ne of = held-without_apart (reference_of u k object) r p.references (apart_thread u t k object r ne of)
 move_apart p u t k object (HandOn r h) ne of =
@@ -73,6 +75,7 @@ moves_of_thread t (ReleaseLoad x h) found = append_of t (hand_on t h x) (cond (i
 moves_of_thread t (ReleaseStore x w) found = (refl, tt)
 moves_of_thread t (SharedExchange x Own w) found = either_of t (found == w) (lose t x) [] (refl, tt) tt
 moves_of_thread t (SettleEnd x) found = (tt, tt)
+moves_of_thread t (BirthLocal x h) found = (refl, tt)
 moves_of_thread t _ found = tt
 
 pub moves_apart : (p : Plain) (u t : ℕ) (k : Holding) (object : ℕ) (d : Duty) (found : ℕ) → u ≢ t → held (reference_of u k object) (moved p (moves_by t d found)).references ≡ held (reference_of u k object) p.references

@@ -1,5 +1,5 @@
 -- A thread after a step that lets no row die and finalises none.
-use Rattle.std.proofs.Common.{◌≡◌, ℕ, List, ◌∷◌, ◌++◌, Option, None, refl, sym, ap, ◌∙◌, subst, arith}
+use Rattle.std.proofs.Common.{◌≡◌, ℕ, List, ◌∷◌, ◌++◌, Option, None, refl, sym, ap, ◌∙◌, subst, arith, Some}
 use Rattle.std.specs.Prelude.{slice_get}
 use Rattle.brc_lang.specs.declared.module.Module.{Module}
 use Rattle.brc_model.specs.Plain.{Reference, moved}
@@ -10,12 +10,13 @@ use Rattle.brc_model.specs.declared.address.Address.TheVariants.{Gate, ThreadWor
 use Rattle.brc_model.specs.Duties.{address_of, left_by, head_by, ready}
 use Rattle.brc_model.specs.declared.actor.Status.{Status}
 use Rattle.brc_model.specs.declared.actor.Status.TheVariants.{Running, Leaving, Gone}
-use Rattle.brc_model.specs.Machine.{Actor, Life, Dying, Closed, Machine, status_by, moves_by, dies_next, ended_row, with_life, life_by, actor_by, done_by, written}
+use Rattle.brc_model.specs.Machine.{Actor, Life, Dying, Closed, Machine, status_by, moves_by, dies_next, ended_row, with_life, life_by, actor_by, done_by, written, born_row, used_by, Live}
 use Rattle.brc_model.proofs.Bag.{one_if}
 use Rattle.brc_model.proofs.Rule.{PlaceFits, HeadOf, Agenda, HandedOnce, hand_of, dies_by, ChainFits, ActorFits, AgendaFits, status_word}
 use Rattle.brc_model.proofs.Leaves.{AtDuty}
 use Rattle.brc_model.proofs.Lives.{next_of}
 use Rattle.brc_model.proofs.Own.{HeldStep, place_step, ChainSame, chain_same}
+use Rattle.brc_model.specs.declared.duty.Duty.TheVariants.{BirthLocal}
 
 -- all that the rule says of one thread
 pub record OwnFits (p : Module) (m : Machine) (t : ℕ) (a : Actor) : Type 0 where
@@ -58,6 +59,7 @@ pub record NeutralStep (m : Machine) (t : ℕ) (a : Actor) (d : Duty) (rest next
   pub next_is : next_of m t a d ≡ next
   pub none_dies : dies_next next ≡ None
   pub none_ends : ended_row d ≡ None
+  pub none_born : born_row d ≡ None
   pub same_head : head_by a.head d (found_by m t a d) ≡ a.head
   pub same_status : status_by a.status d ≡ a.status
   pub agenda_is : ready a.head (next ++ rest) ≡ agenda
@@ -67,11 +69,17 @@ pub record NeutralStep (m : Machine) (t : ℕ) (a : Actor) (d : Duty) (rest next
   pub held : HeldStep m.plain.references (bag_by m t a d) t (d ∷ rest) agenda
   pub fits : Agenda m.rows t a.used a.status a.place agenda
   pub handed : HandedOnce agenda
-  pub knows : (b : Actor) → b.status ≡ a.status → b.head ≡ a.head → HeadOf (done_by m t a d rest) t b agenda
+  pub knows : (b : Actor) → b.status ≡ a.status → b.head ≡ a.head → b.used ≡ a.used → HeadOf (done_by m t a d rest) t b agenda
 
-pub life_same : (m : Machine) (t : ℕ) (a : Actor) (d : Duty) (next : List Duty) (x : ℕ) → next_of m t a d ≡ next → dies_next next ≡ None → ended_row d ≡ None → life_by m.life t d (next_of m t a d) x ≡ m.life x
-life_same m t a d next x is dies ends =
-    ap (λ (o : Option ℕ). with_life (with_life m.life o (Dying t)) (ended_row d) Closed x) (ap dies_next is ∙ dies) ∙ ap (λ (o : Option ℕ). with_life m.life o Closed x) ends
+-- only a birth uses a row
+pub uses_same : (used : ℕ) (d : Duty) → born_row d ≡ None → used_by used d ≡ used
+uses_same used (BirthLocal x h) none = absurd (let wrong : Some x ≡ None = none in cc)
+uses_same used _ none = refl
+
+pub life_same : (m : Machine) (t : ℕ) (a : Actor) (d : Duty) (next : List Duty) (x : ℕ) → next_of m t a d ≡ next → dies_next next ≡ None → ended_row d ≡ None → born_row d ≡ None → life_by m.life t d (next_of m t a d) x ≡ m.life x
+life_same m t a d next x is dies ends born =
+    ap (λ (o : Option ℕ). with_life (with_life (with_life m.life o (Dying t)) (ended_row d) Closed) (born_row d) Live x) (ap dies_next is ∙ dies) ∙ ap (λ (o : Option ℕ). with_life (with_life m.life o Closed) (born_row d) Live x) ends
+    ∙ ap (λ (o : Option ℕ). with_life m.life o Live x) born
 
 pub own_neutral : (p : Module) (n : ℕ) (m : Machine) (t : ℕ) (a : Actor) (d : Duty) (rest next agenda : List Duty) → AtDuty p n m t a d rest → (a.status ≡ Gone → ⊥) → NeutralStep m t a d rest next agenda
     → OwnFits p (done_by m t a d rest) t (actor_by t a d rest (found_by m t a d))
@@ -87,7 +95,7 @@ own_neutral p n m t a d rest next agenda here alive step =
       gates = step.gates;
       hands = λ x.
           let hands : one_if (hand_of agenda x) ≡ one_if (hand_of a.agenda x) = ap one_if (step.hands x ∙ ap (λ (l : List Duty). hand_of l x) (sym here.agenda)) in
-          let life : one_if (dies_by (new.life x) t) ≡ one_if (dies_by (m.life x) t) = ap (λ (l : Life). one_if (dies_by l t)) (life_same m t a d next x step.next_is step.none_dies step.none_ends) in
+          let life : one_if (dies_by (new.life x) t) ≡ one_if (dies_by (m.life x) t) = ap (λ (l : Life). one_if (dies_by l t)) (life_same m t a d next x step.next_is step.none_dies step.none_ends step.none_born) in
           omega (arith, hands, life);
     } in
     let chain : ChainFits new t a.head agenda = chain_same m new t a.head a.agenda agenda same old.chain in
@@ -97,10 +105,11 @@ own_neutral p n m t a d rest next agenda here alive step =
         instructions = old.instructions;
         word = step.word ∙ old.word ∙ ap status_word (sym step.same_status);
         placed = subst (λ (l : List Duty). PlaceFits code new.plain.references t l a.place) (sym whole) placed;
-        head_fits = subst (λ (l : List Duty). HeadOf new t after l) (sym whole) (step.knows after step.same_status step.same_head);
+        head_fits = subst (λ (l : List Duty). HeadOf new t after l) (sym whole) (step.knows after step.same_status step.same_head (uses_same a.used d step.none_born));
         chain = subst (λ (l : List Duty). ChainFits new t after.head l) (sym whole) (subst (λ (h : ℕ). ChainFits new t h agenda) (sym step.same_head) chain);
       };
       agenda = agenda_out m.rows t after after.status (λ e. alive (sym step.same_status ∙ e))
-          (subst (λ (l : List Duty). Agenda m.rows t a.used after.status a.place l) (sym whole) (subst (λ (s : Status). Agenda m.rows t a.used s a.place agenda) (sym step.same_status) step.fits));
+          (subst (λ (l : List Duty). Agenda m.rows t after.used after.status a.place l) (sym whole)
+          (subst (λ (u : ℕ). Agenda m.rows t u after.status a.place agenda) (sym (uses_same a.used d step.none_born)) (subst (λ (s : Status). Agenda m.rows t a.used s a.place agenda) (sym step.same_status) step.fits)));
       handed = subst HandedOnce (sym whole) step.handed;
     }

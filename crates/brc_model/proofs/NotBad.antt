@@ -1,6 +1,6 @@
 -- A thread's first duty touches no freed row, and makes moves that are allowed.
 use Rattle.std.proofs.Common.{◌≡◌, ℕ, ◌-◌, ◌<◌, Bool, true, false, cond, not, List, [], ◌∷◌, ◌++◌, refl, sym, ap, ◌∙◌, subst, arith}
-use Rattle.std.specs.Prelude.{◌==◌, ◌&&◌, ◌||◌, count_by}
+use Rattle.std.specs.Prelude.{◌==◌, ◌&&◌, ◌||◌, count_by, slice_get, Some}
 use Rattle.std.specs.List.{list_any}
 use Rattle.std.proofs.lemmas.Bool.{eq-eqb, ne_eqb, lt-ltb}
 use Rattle.std.proofs.lemmas.List.Sums.{sum_by-cons}
@@ -8,25 +8,26 @@ use Rattle.brc_lang.specs.declared.module.Instr.{Instr}
 use Rattle.brc_lang.specs.declared.module.Module.{Module}
 use Rattle.brc_model.specs.declared.duty.Holding.{Holding}
 use Rattle.brc_model.specs.declared.duty.Holding.TheVariants.{ByVariable, AsCaller, InHand}
-use Rattle.brc_model.specs.Plain.{none_row, is_counted, is_among, Reference, Plain, same_holding, same, references_to, Move, Gain, Lose, HandOn, Finalise, is_allowed, are_allowed}
+use Rattle.brc_model.specs.Plain.{none_row, is_counted, is_among, Reference, Plain, same_holding, same, references_to, Move, Gain, Lose, HandOn, Finalise, is_allowed, are_allowed, Born}
 use Rattle.brc_word.specs.Words.{local_part, is_immortal_word}
 use Rattle.brc_model.specs.declared.duty.Reason.TheVariants.{Own, Handed}
 use Rattle.brc_model.specs.declared.duty.Duty.{Duty}
-use Rattle.brc_model.specs.declared.duty.Duty.TheVariants.{RetainLoad, RetainStore, RetainAdd, ReleaseLoad, ReleaseStore, DecideAtZero, SharedLoad, SharedExchange, MergeSwap, MergeLoad, MergeExchange, Die, Settle, SettleKind, SettleCell, SettleEnd}
+use Rattle.brc_model.specs.declared.duty.Duty.TheVariants.{RetainLoad, RetainStore, RetainAdd, ReleaseLoad, ReleaseStore, DecideAtZero, SharedLoad, SharedExchange, MergeSwap, MergeLoad, MergeExchange, Die, Settle, SettleKind, SettleCell, SettleEnd, TakeSlot, CloseResource, BirthKind, BirthSlot, BirthLocal}
 use Rattle.brc_model.specs.declared.address.Address.TheVariants.{Local}
 use Rattle.brc_model.specs.Duties.{address_of}
 use Rattle.brc_model.specs.declared.actor.Place.{Place}
 use Rattle.brc_model.specs.declared.actor.Place.TheVariants.{Standing, Inside, Departing}
-use Rattle.brc_model.specs.Machine.{Actor, Unborn, Live, Dying, Closed, Machine, hand_on, gain, lose, moves_by}
+use Rattle.brc_model.specs.Machine.{Actor, Unborn, Live, Dying, Closed, Machine, hand_on, gain, lose, moves_by, birth}
 use Rattle.brc_model.specs.Events.{touched_row, is_freed_for, touches_freed, is_bad_duty}
 use Rattle.brc_model.proofs.Bag.{held, one_if, same_holding-refl, held_has, held-le-references_to}
 use Rattle.brc_model.proofs.Holds.{nothing, the_root, of_variables, reference_of}
 use Rattle.brc_model.proofs.Rows.{waits, decides, merges, InOwned, InSwapped, InMerged}
-use Rattle.brc_model.proofs.Rule.{extra_of, lacks_of, HoldsAt, PlaceFits, IsBacked, Linked, dies_by, Rule}
+use Rattle.brc_model.proofs.Rule.{extra_of, lacks_of, HoldsAt, PlaceFits, IsBacked, Linked, dies_by, Rule, IsNext}
 use Rattle.brc_model.proofs.Agreeing.{is_free_of}
 use Rattle.brc_model.proofs.Alive.{Alive, first_weighs, alive_referenced, alive_waiting, alive_deciding, alive_merging, alive_backed}
 use Rattle.brc_model.proofs.Others.{is_dying}
 use Rattle.brc_model.proofs.Leaves.{AtDuty, head_of, exchange_alive, decide_alive, merge_alive, claim_alive}
+use Rattle.brc_model.proofs.Blocks.{next_above, next_unborn}
 
 -- ---- what is given up is held
 
@@ -86,6 +87,10 @@ chain_head_dies p n m t a rest here =
           ap m.life row ∙ is_dying (m.life x) t dies
     ] refl chain.linked
 
+-- nor is what isn't born yet
+next_free : (p : Module) (n : ℕ) (m : Machine) (t : ℕ) (a : Actor) (x : ℕ) → Rule p n m → slice_get m.actors t ≡ Some a → IsNext m t a x → touches_freed m t (Some x) ≡ false
+next_free p n m t a x rule found next = ap (is_freed_for t) (next_unborn p n m t a x rule found next)
+
 touches_none : (p : Module) (n : ℕ) (m : Machine) (t : ℕ) (a : Actor) (d : Duty) (rest : List Duty) → AtDuty p n m t a d rest → touches_freed m t (touched_row (address_of m.rows t a.head d)) ≡ false
 touches_none p n m t a (RetainLoad x h) rest here = let fits = head_of p n m t a (RetainLoad x h) rest here in alive_free m t x (alive_backed p n m t x here.rule fits.0 fits.1)
 touches_none p n m t a (RetainStore x h w) rest here = let fits = head_of p n m t a (RetainStore x h w) rest here in alive_free m t x (alive_backed p n m t x here.rule fits.0 fits.1)
@@ -107,6 +112,11 @@ touches_none p n m t a (Die x) rest here = dying_free m t x (head_of p n m t a (
 touches_none p n m t a Settle rest here = dying_free m t (a.head - 1) (chain_head_dies p n m t a rest here)
 touches_none p n m t a (SettleKind x) rest here = dying_free m t x (head_of p n m t a (SettleKind x) rest here).1
 touches_none p n m t a (SettleCell x i k) rest here = dying_free m t x (head_of p n m t a (SettleCell x i k) rest here).1
+touches_none p n m t a (TakeSlot x) rest here = dying_free m t x (head_of p n m t a (TakeSlot x) rest here).1
+touches_none p n m t a (CloseResource x) rest here = dying_free m t x (head_of p n m t a (CloseResource x) rest here).1
+touches_none p n m t a (BirthKind x h w) rest here = next_free p n m t a x here.rule here.found (head_of p n m t a (BirthKind x h w) rest here).0
+touches_none p n m t a (BirthSlot x h) rest here = next_free p n m t a x here.rule here.found (head_of p n m t a (BirthSlot x h) rest here).0
+touches_none p n m t a (BirthLocal x h) rest here = next_free p n m t a x here.rule here.found (head_of p n m t a (BirthLocal x h) rest here).0
 touches_none p n m t a (SettleEnd x) rest here = dying_free m t x (head_of p n m t a (SettleEnd x) rest here).1
 touches_none p n m t a _ rest here = refl
 
@@ -164,6 +174,17 @@ finalise_allowed p n m t x rule pos dying =
     one_allowed m.plain (Finalise x) (ap (λ (b : Bool). b && (references_to x m.plain.references == 0) && not (is_among x m.plain.closed)) counted
     ∙ ap (λ (b : Bool). b && not (is_among x m.plain.closed)) none ∙ ap not open_still)
 
+-- what is born now wasn't born before
+birth_allowed : (p : Module) (n : ℕ) (m : Machine) (t : ℕ) (a : Actor) (x : ℕ) (h : Holding) → Rule p n m → slice_get m.actors t ≡ Some a → IsNext m t a x → are_allowed m.plain (birth t h x) ≡ true
+birth_allowed p n m t a x h rule found next =
+    let above = next_above m t a x next in
+    let counted : is_counted x ≡ true = lt-ltb 0 x (omega (arith, above)) in
+    let new : is_among x m.plain.born ≡ false = elim (is_among x m.plain.born) as (λ b. is_among x m.plain.born ≡ b → b ≡ false) [
+      | true ↦ λ e. absurd ((rule.born_is x e).1 (next_unborn p n m t a x rule found next))
+      | false ↦ λ e. refl
+    ] refl in
+    one_allowed m.plain (Born (reference_of t h x)) (ap (λ (b : Bool). b && not (is_among x m.plain.born)) counted ∙ ap not new)
+
 moves_allowed : (p : Module) (n : ℕ) (m : Machine) (t : ℕ) (a : Actor) (d : Duty) (rest : List Duty) → AtDuty p n m t a d rest → are_allowed m.plain (moves_by t d (m.memory (address_of m.rows t a.head d))) ≡ true
 moves_allowed p n m t a (RetainLoad x h) rest here =
     if_allowed m.plain (is_immortal_word (m.memory (Local x))) (gain t h x) (λ e. backed_gain m t x h (head_of p n m t a (RetainLoad x h) rest here).1)
@@ -177,6 +198,7 @@ moves_allowed p n m t a (ReleaseStore x w) rest here = one_allowed m.plain (Lose
 moves_allowed p n m t a (SharedExchange x Own w) rest here =
     if_allowed m.plain _ (lose t x) (λ e. one_allowed m.plain (Lose (reference_of t InHand x)) (given_in_bag p n m t a (SharedExchange x Own w) rest InHand x here (holder_same InHand x) refl))
 moves_allowed p n m t a (SettleEnd x) rest here = let fits = head_of p n m t a (SettleEnd x) rest here in finalise_allowed p n m t x here.rule fits.0 fits.1
+moves_allowed p n m t a (BirthLocal x h) rest here = birth_allowed p n m t a x h here.rule here.found (head_of p n m t a (BirthLocal x h) rest here).0
 moves_allowed p n m t a _ rest here = refl
 
 pub duty_not_bad : (p : Module) (n : ℕ) (m : Machine) (t : ℕ) (a : Actor) (d : Duty) (rest : List Duty) → AtDuty p n m t a d rest → is_bad_duty m t a d ≡ false

@@ -1,5 +1,5 @@
 -- What a thread holds and knows stands through the steps of other threads.
-use Rattle.std.proofs.Common.{◌≡◌, ◌≢◌, ℕ, ◌<◌, Bool, true, false, cond, List, [], ◌∷◌, inl, inr, Some, refl, sym, ap, ◌∙◌, subst, arith}
+use Rattle.std.proofs.Common.{◌≡◌, ◌≢◌, ℕ, ◌+◌, ◌<◌, Bool, true, false, cond, List, [], ◌∷◌, inl, inr, Some, refl, sym, ap, ◌∙◌, subst, arith}
 use Rattle.std.specs.Prelude.{◌==◌, slice_get, count_by}
 use Rattle.std.proofs.lemmas.Bool.{eq-eqb, eqb-true}
 use Rattle.std.proofs.lemmas.List.Sums.{sum_by-cons}
@@ -9,16 +9,16 @@ use Rattle.brc_model.specs.declared.duty.Holding.{Holding}
 use Rattle.brc_word.specs.Words.{phase_part, local_part, owner_part}
 use Rattle.brc_model.specs.declared.duty.Reason.TheVariants.{Own, Handed}
 use Rattle.brc_model.specs.declared.duty.Duty.{Duty}
-use Rattle.brc_model.specs.declared.duty.Duty.TheVariants.{RetainLoad, RetainStore, RetainAdd, ReleaseLoad, ReleaseStore, DecideAtZero, SharedLoad, SharedExchange, SetMark, Look, TakeMark, MergeSwap, MergeLoad, MergeExchange, Die, Settle, SettleKind, SettleCell, SettleEnd, Leave, Scan, Finish, ClaimMark}
+use Rattle.brc_model.specs.declared.duty.Duty.TheVariants.{RetainLoad, RetainStore, RetainAdd, ReleaseLoad, ReleaseStore, DecideAtZero, SharedLoad, SharedExchange, SetMark, Look, TakeMark, MergeSwap, MergeLoad, MergeExchange, Die, Settle, SettleKind, SettleCell, TakeSlot, CloseResource, SettleEnd, Leave, Scan, Finish, ClaimMark, BirthKind, BirthSlot, BirthLocal}
 use Rattle.brc_model.specs.declared.address.Address.{Address}
 use Rattle.brc_model.specs.declared.address.Address.TheVariants.{Local, Shared, Gate, ThreadWord}
 use Rattle.brc_model.specs.Duties.{block_of}
 use Rattle.brc_model.specs.declared.actor.Place.{Place}
 use Rattle.brc_model.specs.declared.actor.Place.TheVariants.{Standing, Inside, Departing}
-use Rattle.brc_model.specs.Machine.{Actor, Life, Unborn, Live, Dying, Closed, Machine}
+use Rattle.brc_model.specs.Machine.{Actor, Life, Unborn, Live, Dying, Closed, Machine, first_row}
 use Rattle.brc_model.proofs.Bag.{held, one_if}
 use Rattle.brc_model.proofs.Holds.{the_root, nothing, of_variables, reference_of}
-use Rattle.brc_model.proofs.Rule.{HoldsAt, PlaceFits, OwnsLocally, IsBacked, MayMerge, IsMergeOf, HeadFits, HeadOf, Linked, dies_by, ChainFits, ActorFits}
+use Rattle.brc_model.proofs.Rule.{HoldsAt, PlaceFits, OwnsLocally, IsBacked, MayMerge, IsMergeOf, IsNext, HeadFits, HeadOf, Linked, dies_by, ChainFits, ActorFits}
 
 -- what the others rely on
 pub record LeavesOthers (m new : Machine) (t : ℕ) : Type 0 where
@@ -67,6 +67,14 @@ is_dying Closed u e = absurd cc
 life_kept : (m new : Machine) (t u x : ℕ) → LeavesOthers m new t → u ≢ t → m.life x ≡ Dying u → new.life x ≡ Dying u
 life_kept m new t u x leaves ne is = is_dying (new.life x) u (leaves.lives u x ne ∙ dying_is (m.life x) u is)
 
+next_kept : (m new : Machine) (t u x : ℕ) (b : Actor) → LeavesOthers m new t → IsNext m u b x → IsNext new u b x
+next_kept m new t u x b leaves next = record {
+  running = next.running;
+  worker = next.worker;
+  row = subst (λ (r : ℕ). x ≡ first_row r u + b.used) (sym leaves.rows) next.row;
+  room = omega (arith, next.room, leaves.rows);
+}
+
 head_kept : (m new : Machine) (t u : ℕ) (b : Actor) (d : Duty) (rest : List Duty) → LeavesOthers m new t → u ≢ t → slice_get m.actors u ≡ Some b → HeadFits m u b d rest → HeadFits new u b d rest
 head_kept m new t u b (RetainLoad x h) rest leaves ne found fits = (fits.0, backed_kept m new t u x leaves ne fits.1)
 head_kept m new t u b (RetainStore x h w) rest leaves ne found fits =
@@ -93,11 +101,16 @@ head_kept m new t u b (Die x) rest leaves ne found fits = (fits.0, life_kept m n
 head_kept m new t u b Settle rest leaves ne found fits = fits
 head_kept m new t u b (SettleKind x) rest leaves ne found fits = (fits.0, life_kept m new t u x leaves ne fits.1)
 head_kept m new t u b (SettleCell x i n) rest leaves ne found fits = (fits.0, life_kept m new t u x leaves ne fits.1, fits.2)
+head_kept m new t u b (TakeSlot x) rest leaves ne found fits = (fits.0, life_kept m new t u x leaves ne fits.1)
+head_kept m new t u b (CloseResource x) rest leaves ne found fits = (fits.0, life_kept m new t u x leaves ne fits.1)
 head_kept m new t u b (SettleEnd x) rest leaves ne found fits = (fits.0, life_kept m new t u x leaves ne fits.1)
 head_kept m new t u b (Leave x k) rest leaves ne found fits = fits
 head_kept m new t u b (Scan x k) rest leaves ne found fits = fits
 head_kept m new t u b Finish rest leaves ne found fits = fits
 head_kept m new t u b (ClaimMark x) rest leaves ne found fits = ap (λ (r : ℕ). block_of r x) leaves.rows ∙ fits
+head_kept m new t u b (BirthKind x h w) rest leaves ne found fits = (next_kept m new t u x b leaves fits.0, fits.1)
+head_kept m new t u b (BirthSlot x h) rest leaves ne found fits = (next_kept m new t u x b leaves fits.0, fits.1)
+head_kept m new t u b (BirthLocal x h) rest leaves ne found fits = (next_kept m new t u x b leaves fits.0, fits.1)
 
 head_of_kept : (m new : Machine) (t u : ℕ) (b : Actor) (agenda : List Duty) → LeavesOthers m new t → u ≢ t → slice_get m.actors u ≡ Some b → HeadOf m u b agenda → HeadOf new u b agenda
 head_of_kept m new t u b [] leaves ne found fits = tt

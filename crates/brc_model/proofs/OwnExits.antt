@@ -1,5 +1,5 @@
 -- A thread after its own steps of an exit: it says that it leaves, looks through its rows' marks, and is gone.
-use Rattle.std.proofs.Common.{◌≡◌, ℕ, zero, suc, ◌+◌, ◌-◌, ◌<◌, ◌≤◌, Bool, true, false, cond, List, [], ◌∷◌, ◌++◌, ◌⊎◌, inl, inr, None, refl, sym, ap, ◌∙◌, subst, arith}
+use Rattle.std.proofs.Common.{◌≡◌, ℕ, zero, suc, ◌+◌, ◌-◌, ◌<◌, ◌≤◌, Bool, true, false, cond, List, [], ◌∷◌, ◌++◌, ◌⊎◌, inl, inr, None, refl, sym, ap, ◌∙◌, subst, arith, ◌≢◌}
 use Rattle.std.specs.Prelude.{◌==◌, ◌&&◌, nat_lt}
 use Rattle.std.proofs.lemmas.Bool.{eqb-true}
 use Rattle.brc_lang.specs.declared.module.Module.{Module}
@@ -7,13 +7,13 @@ use Rattle.brc_model.specs.declared.duty.Holding.{Holding}
 use Rattle.brc_word.specs.Words.{local_part, is_immortal_word, fresh_word, dead_word, released_word, merged_word}
 use Rattle.brc_model.specs.declared.duty.Reason.TheVariants.{Own, Handed}
 use Rattle.brc_model.specs.declared.duty.Duty.{Duty}
-use Rattle.brc_model.specs.declared.duty.Duty.TheVariants.{RetainLoad, RetainStore, RetainAdd, ReleaseLoad, ReleaseStore, DecideAtZero, SharedLoad, SharedExchange, SetMark, Look, TakeMark, MergeSwap, MergeLoad, MergeExchange, Die, Settle, SettleKind, SettleCell, SettleEnd, Leave, Scan, Finish, ClaimMark}
+use Rattle.brc_model.specs.declared.duty.Duty.TheVariants.{RetainLoad, RetainStore, RetainAdd, ReleaseLoad, ReleaseStore, DecideAtZero, SharedLoad, SharedExchange, SetMark, Look, TakeMark, MergeSwap, MergeLoad, MergeExchange, Die, Settle, SettleKind, SettleCell, TakeSlot, CloseResource, SettleEnd, Leave, Scan, Finish, ClaimMark, BirthKind, BirthSlot, BirthLocal}
 use Rattle.brc_model.specs.declared.address.Address.TheVariants.{Gate, Mark, ThreadWord}
-use Rattle.brc_model.specs.Duties.{block_of, next_by, counts_locally, claimed, shared_result, cells_of, cells_from, release_found, head_by, ready}
+use Rattle.brc_model.specs.Duties.{block_of, next_by, counts_locally, claimed, shared_result, cells_of, cells_from, release_found, head_by, ready, has_resource}
 use Rattle.brc_model.specs.declared.actor.Status.{Status}
 use Rattle.brc_model.specs.declared.actor.Status.TheVariants.{Leaving, Gone}
 use Rattle.brc_model.specs.declared.actor.Place.{Place}
-use Rattle.brc_model.specs.Machine.{Actor, Life, Machine, is_running, first_row, status_by, dies_next, ended_row, actor_by, done_by}
+use Rattle.brc_model.specs.Machine.{Actor, Life, Machine, is_running, first_row, status_by, dies_next, ended_row, actor_by, done_by, born_row, Unborn}
 use Rattle.brc_model.proofs.Bag.{one_if}
 use Rattle.brc_model.proofs.Rule.{extra_of, lacks_of, Later, Agenda, NoneHanded, HandedOnce, numbers_of, hand_of, dies_by, ChainFits, Rule}
 use Rattle.brc_model.proofs.Rows.{RowRule}
@@ -25,25 +25,18 @@ use Rattle.brc_model.proofs.Neutral.{OwnFits, found_by, bag_by, memory_by, agend
 use Rattle.brc_model.proofs.OwnCounts.{held_same}
 use Rattle.brc_model.proofs.OwnRetains.{ready_first}
 use Rattle.brc_model.proofs.OwnSettles.{own_shown, agenda_shown, chain_here}
+use Rattle.brc_model.proofs.Blocks.{used_block}
 
 -- ---- marked rows
 
 pub mark_above : (p : Module) (n : ℕ) (m : Machine) (x : ℕ) → Rule p n m → m.memory (Mark x) ≡ 1 → 0 < x
 mark_above p n m x rule marked = elim (rule.marks x) [ inl none ↦ absurd (omega (arith, none, marked)) | inr some ↦ some.1 ]
 
--- only the root is ever marked
-pub marked_is_root : (p : Module) (n : ℕ) (m : Machine) (x : ℕ) → Rule p n m → m.memory (Mark x) ≡ 1 → x ≡ 1
-marked_is_root p n m zero rule marked = absurd (omega (arith, mark_above p n m zero rule marked))
-marked_is_root p n m (suc zero) rule marked = refl
-marked_is_root p n m (suc (suc x)) rule marked =
-    let y = suc (suc x) in
-    let unborn = subst (λ (l : Life). RowRule (block_of m.rows y) l (numbers_of m y)) (rule.only_root y (omega arith)) (rule.rows y (omega arith)) in
-    absurd (omega (arith, unborn.mark, marked))
-
--- the root is of the first thread's block
-pub root_of_block : (rows t x : ℕ) → x ≡ 1 → first_row rows t ≤ x → block_of rows x ≡ t
-root_of_block rows zero x is low = ap (block_of rows) is
-root_of_block rows (suc t) x is low = absurd (omega (arith, is, low))
+-- what is marked was born
+pub marked_born : (p : Module) (n : ℕ) (m : Machine) (x : ℕ) → Rule p n m → m.memory (Mark x) ≡ 1 → m.life x ≢ Unborn
+marked_born p n m x rule marked = λ unborn.
+    let row = subst (λ (l : Life). RowRule (block_of m.rows x) l (numbers_of m x)) unborn (rule.rows x (mark_above p n m x rule marked)) in
+    absurd (omega (arith, row.mark, marked))
 
 -- ---- a mark is claimed
 
@@ -52,6 +45,7 @@ record ClaimStep (m : Machine) (t : ℕ) (a : Actor) (d : Duty) (x : ℕ) (rest 
   next_is : next_of m t a d ≡ claimed x (m.memory (Mark x)) ++ behind
   none_dies : dies_next behind ≡ None
   none_ends : ended_row d ≡ None
+  none_born : born_row d ≡ None
   same_head : head_by a.head d (found_by m t a d) ≡ a.head
   same_status : status_by a.status d ≡ a.status
   gates : (y : ℕ) → memory_by m t a d (Gate y) ≡ m.memory (Gate y)
@@ -75,6 +69,7 @@ claim_step p n m t a d x rest behind here alive step =
             next_is = step.next_is ∙ ap (λ (b : Bool). cond b both [] ++ behind) e;
             none_dies = refl;
             none_ends = step.none_ends;
+            none_born = step.none_born;
             same_head = step.same_head;
             same_status = step.same_status;
             agenda_is = ready_first a.head (MergeSwap x Handed) (SharedLoad x Handed ∷ (behind ++ rest)) refl;
@@ -84,7 +79,7 @@ claim_step p n m t a d x rest behind here alive step =
             held = step.held (MergeSwap x Handed ∷ SharedLoad x Handed ∷ (behind ++ rest)) (λ h o. refl) (λ h o. refl);
             fits = (above, step.later);
             handed = (refl, step.none);
-            knows = λ b status head. (above, inl (step.block marked), refl);
+            knows = λ b status head used. (above, inl (step.block marked), refl);
           })
       | false ↦ λ e.
           let ready_so = ready_is m.rows t a.used a.status a.place a.head (behind ++ rest) step.later step.none in
@@ -92,6 +87,7 @@ claim_step p n m t a d x rest behind here alive step =
             next_is = step.next_is ∙ ap (λ (b : Bool). cond b both [] ++ behind) e;
             none_dies = step.none_dies;
             none_ends = step.none_ends;
+            none_born = step.none_born;
             same_head = step.same_head;
             same_status = step.same_status;
             agenda_is = refl;
@@ -101,7 +97,7 @@ claim_step p n m t a d x rest behind here alive step =
             held = step.held (ready a.head (behind ++ rest)) ready_so.more ready_so.less;
             fits = ready_so.fits;
             handed = ready_so.handed;
-            knows = λ b status head. ready_so.knows (done_by m t a d rest) b head;
+            knows = λ b status head used. ready_so.knows (done_by m t a d rest) b head;
           })
     ] refl
 
@@ -114,13 +110,14 @@ own_scan p n m t a x k rest here alive =
       next_is = refl;
       none_dies = refl;
       none_ends = refl;
+      none_born = refl;
       same_head = refl;
       same_status = refl;
       gates = λ y. refl;
       word = refl;
       hands = λ y. refl;
       held = λ agenda more less. held_same m.plain.references t (Scan x k ∷ rest) agenda more less;
-      block = λ marked. root_of_block m.rows t x (marked_is_root p n m x here.rule marked) fits.1;
+      block = λ marked. used_block p n m t a x here.rule here.found fits.1 (omega (arith, fits.2, some));
       later = (fits.0, omega (arith, fits.1), omega (arith, fits.2, some), fits.3);
       none = handed_here p n m t a (Scan x k) rest here;
     })
@@ -133,6 +130,7 @@ own_claim_mark p n m t a x rest here alive =
       next_is = refl;
       none_dies = refl;
       none_ends = refl;
+      none_born = refl;
       same_head = refl;
       same_status = refl;
       gates = λ y. refl;
@@ -172,15 +170,15 @@ own_leave p n m t a x k [] here alive =
       word = written_here m.memory (ThreadWord t) 2;
       held = held_same m.plain.references t (Leave x k ∷ []) (ready a.head looks) ready_so.more ready_so.less;
       chain = exit_chain p n m t a (Leave x k) [] (ready a.head looks) here (λ y. refl) (λ y. refl) (λ y. refl) ready_so.at_hand;
-      fits = agenda_shown m t a (Leave x k) [] (ready a.head looks) Leaving (λ e. cc) refl ready_so.fits;
+      fits = agenda_shown m t a (Leave x k) [] (ready a.head looks) Leaving (λ e. cc) refl refl ready_so.fits;
       handed = ready_so.handed;
-      knows = λ b status head. ready_so.knows (done_by m t a (Leave x k) []) b head;
+      knows = λ b status head used. ready_so.knows (done_by m t a (Leave x k) []) b head;
     })
 own_leave p n m t a x k (e ∷ rest) here alive = absurd (agenda_here p n m t a (Leave x k) (e ∷ rest) here alive)
 
 -- ---- the thread is gone
 
-ready_none : (head : ℕ) → ready head [] ≡ []
+pub ready_none : (head : ℕ) → ready head [] ≡ []
 ready_none zero = refl
 ready_none (suc head) = refl
 
@@ -198,7 +196,7 @@ own_finish p n m t a [] here alive empty =
       chain = exit_chain p n m t a Finish [] [] here (λ y. refl) (λ y. refl) (λ y. refl) (λ y. refl);
       fits = (ready_none a.head, fits.1, empty);
       handed = tt;
-      knows = λ b status head. tt;
+      knows = λ b status head used. tt;
     })
 own_finish p n m t a (e ∷ rest) here alive empty = absurd (agenda_here p n m t a Finish (e ∷ rest) here alive)
 
@@ -332,7 +330,8 @@ next_inner t running head (TakeMark x) found plain = either_inner (found == 1) (
 next_inner t running head (MergeSwap x r) found plain = either_inner (found == 0) [] (MergeLoad x (local_part found) ∷ []) tt (tt, tt)
 next_inner t running head (MergeLoad x c) found plain = (tt, tt)
 next_inner t running head (MergeExchange x c w) found plain = either_inner (found == w) _ (MergeLoad x c ∷ []) (either_inner (merged_word w c == dead_word) (Die x ∷ []) [] (tt, tt) tt) (tt, tt)
-next_inner t running head (SettleKind x) found plain = either_inner (nat_lt 0 (cells_of found)) (SettleCell x 0 (cells_of found) ∷ []) (SettleEnd x ∷ []) (tt, tt) (tt, tt)
+next_inner t running head (SettleKind x) found plain =
+    either_inner (has_resource found) (TakeSlot x ∷ []) (cells_from x 0 (cells_of found)) (tt, tt) (either_inner (nat_lt 0 (cells_of found)) (SettleCell x 0 (cells_of found) ∷ []) (SettleEnd x ∷ []) (tt, tt) (tt, tt))
 next_inner t running head (SettleCell x i n) found plain =
     append_inner (release_found found) (cells_from x (i + 1) n) (release_inner found) (either_inner (nat_lt (i + 1) n) (SettleCell x (i + 1) n ∷ []) (SettleEnd x ∷ []) (tt, tt) (tt, tt))
 next_inner t running head Settle found plain = absurd plain
@@ -340,6 +339,10 @@ next_inner t running head (Leave x k) found plain = absurd plain
 next_inner t running head (Scan x k) found plain = absurd plain
 next_inner t running head Finish found plain = absurd plain
 next_inner t running head (ClaimMark x) found plain = absurd plain
+next_inner t running head (TakeSlot x) found plain = (tt, tt)
+next_inner t running head (CloseResource x) found plain = (tt, tt)
+next_inner t running head (BirthKind x h w) found plain = either_inner (has_resource w) (BirthSlot x h ∷ []) (BirthLocal x h ∷ []) (tt, tt) (tt, tt)
+next_inner t running head (BirthSlot x h) found plain = (tt, tt)
 next_inner t running head _ found plain = tt
 
 plain_inner : (d : Duty) → IsPlain d → IsInner d

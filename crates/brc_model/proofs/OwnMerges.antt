@@ -35,7 +35,7 @@ pub own_set_mark : (p : Module) (n : ℕ) (m : Machine) (t : ℕ) (a : Actor) (x
 own_set_mark p n m t a x rest here alive =
     let d : Duty = SetMark x in
     own_next p n m t a d (Look x) rest here alive refl refl refl refl (held_same m.plain.references t (d ∷ rest) (Look x ∷ rest) (λ k o. refl) (λ k o. refl))
-    (agenda_here p n m t a d rest here alive) (handed_here p n m t a d rest here) (λ b status head. head_of p n m t a d rest here)
+    (agenda_here p n m t a d rest here alive) (handed_here p n m t a d rest here) (λ b status head used. head_of p n m t a d rest here)
 
 pub own_look : (p : Module) (n : ℕ) (m : Machine) (t : ℕ) (a : Actor) (x : ℕ) (rest : List Duty) → AtDuty p n m t a (Look x) rest → (a.status ≡ Gone → ⊥)
     → OwnFits p (done_by m t a (Look x) rest) t (actor_by t a (Look x) rest (found_by m t a (Look x)))
@@ -49,7 +49,7 @@ own_look p n m t a x rest here alive =
           own_done p n m t a d rest here alive refl (ap (λ (b : Bool). cond b [] (TakeMark x ∷ [])) e) later handed (held_same m.plain.references t (d ∷ rest) [] (λ k o. refl) (λ k o. refl))
       | false ↦ λ e.
           own_next p n m t a d (TakeMark x) rest here alive refl refl refl (ap (λ (b : Bool). cond b [] (TakeMark x ∷ [])) e) (held_same m.plain.references t (d ∷ rest) (TakeMark x ∷ rest) (λ k o. refl) (λ k o. refl))
-          later handed (λ b status head. (head_of p n m t a d rest here, (leaves_others p n m t a d rest here).stopped (block_of m.rows x) (eqb-false found 1 e)))
+          later handed (λ b status head used. (head_of p n m t a d rest here, (leaves_others p n m t a d rest here).stopped (block_of m.rows x) (eqb-false found 1 e)))
     ] refl
 
 pub own_take_mark : (p : Module) (n : ℕ) (m : Machine) (t : ℕ) (a : Actor) (x : ℕ) (rest : List Duty) → AtDuty p n m t a (TakeMark x) rest → (a.status ≡ Gone → ⊥)
@@ -71,7 +71,7 @@ own_take_mark p n m t a x rest here alive =
             held = held_same m.plain.references t (d ∷ rest) (MergeSwap x Handed ∷ SharedLoad x Handed ∷ rest) (λ k o. refl) (λ k o. refl);
             fits = (fits.0, later);
             handed = (refl, handed);
-            knows = λ b status head. (fits.0, inr fits.1, refl);
+            knows = λ b status head used. (fits.0, inr fits.1, refl);
           })
       | false ↦ λ e.
           own_done p n m t a d rest here alive refl (ap (λ (b : Bool). cond b after []) e) later handed (held_same m.plain.references t (d ∷ rest) [] (λ k o. refl) (λ k o. refl))
@@ -135,7 +135,7 @@ own_merge_swap_own p n m t a x rest here alive =
     let some : (found == 0) ≡ false = ne_eqb found 0 (λ q. absurd (omega (arith, q, fits.1.owner))) in
     own_next p n m t a d e rest here alive refl refl refl (ap (λ (b : Bool). cond b [] (e ∷ [])) some) (held_same m.plain.references t (d ∷ rest) (e ∷ rest) (λ k o. refl) (λ k o. refl))
     (agenda_here p n m t a d rest here alive) (load_handed x (local_part found) Own rest (handed_here p n m t a d rest here))
-    (λ b status head. (fits.0, omega (arith, fits.1.low), inl (status ∙ fits.1.running, swap_own p n m t a x rest here)))
+    (λ b status head used. (fits.0, omega (arith, fits.1.low), inl (status ∙ fits.1.running, swap_own p n m t a x rest here)))
 
 -- what was handed is given up next, where the object is merged
 handed_next : (p : Module) (n : ℕ) (m : Machine) (t : ℕ) (a : Actor) (d : Duty) (x : ℕ) (rest : List Duty) → AtDuty p n m t a d rest → (a.status ≡ Gone → ⊥) → is_quiet d ≡ true → next_of m t a d ≡ [] → FollowsHanded x rest → FollowsMerge x rest
@@ -151,7 +151,7 @@ handed_next p n m t a d x (SharedLoad y Handed ∷ rest) here alive quiet next f
       held = record { each = λ k object. moves.each k object };
       fits = later.1;
       handed = clean.1;
-      knows = λ b status head. (later.0, subst (λ (z : ℕ). phase_part ((done_by m t a d (SharedLoad y Handed ∷ rest)).memory (Shared z)) ≡ 3) (sym follows) merged);
+      knows = λ b status head used. (later.0, subst (λ (z : ℕ). phase_part ((done_by m t a d (SharedLoad y Handed ∷ rest)).memory (Shared z)) ≡ 3) (sym follows) merged);
     })
 handed_next p n m t a d x _ here alive quiet next follows clean later moves merged = absurd follows
 
@@ -170,7 +170,7 @@ own_merge_swap_handed p n m t a x rest here alive =
           (held_same m.plain.references t (d ∷ rest) [] (λ k o. refl) (λ k o. refl)) (swapped_apart p n m t a x rest here alive (eqb-true found 0 none))
       | false ↦ λ some.
           own_next p n m t a d e rest here alive refl refl refl (ap (λ (b : Bool). cond b [] (e ∷ [])) some) (held_same m.plain.references t (d ∷ rest) (e ∷ rest) (λ k o. refl) (λ k o. refl))
-          later (load_handed x (local_part found) Handed rest handed) (λ b status head. (fits.0, omega arith, inr fits.2))
+          later (load_handed x (local_part found) Handed rest handed) (λ b status head used. (fits.0, omega arith, inr fits.2))
     ] refl
 
 -- ---- the local count is added to the shared one
@@ -183,7 +183,7 @@ own_merge_load p n m t a x c rest here alive =
     let e : Duty = MergeExchange x c (m.memory (Shared x)) in
     own_next p n m t a d e rest here alive refl refl refl refl (held_same m.plain.references t (d ∷ rest) (e ∷ rest) (λ k o. refl) (λ k o. refl))
     (agenda_here p n m t a d rest here alive) (exchange_handed x c (m.memory (Shared x)) rest (handed_here p n m t a d rest here))
-    (λ b status head. (fits.0, fits.1, merge_of_stays m (done_by m t a d rest) t x a b rest refl status fits.2))
+    (λ b status head used. (fits.0, fits.1, merge_of_stays m (done_by m t a d rest) t x a b rest refl status fits.2))
 
 merge_next : (x c w found : ℕ) (dead : Bool) → (found == w) ≡ true → (merged_word w c == dead_word) ≡ dead
     → cond (found == w) (cond (merged_word w c == dead_word) (Die x ∷ []) []) (MergeLoad x c ∷ []) ≡ cond dead (Die x ∷ []) []
@@ -245,5 +245,5 @@ own_merge_exchange p n m t a x c w rest here alive =
           own_next p n m t a d (MergeLoad x c) rest here alive refl refl refl (ap (λ (b : Bool). cond b (cond (merged_word w c == dead_word) (Die x ∷ []) []) (MergeLoad x c ∷ [])) lost)
           (held_same m.plain.references t (d ∷ rest) (MergeLoad x c ∷ rest) (λ k o. refl) (λ k o. refl))
           (agenda_here p n m t a d rest here alive) (again_handed x c w rest (handed_here p n m t a d rest here))
-          (λ b status head. (fits.0, fits.1, merge_of_stays m (done_by m t a d rest) t x a b rest refl status fits.2))
+          (λ b status head used. (fits.0, fits.1, merge_of_stays m (done_by m t a d rest) t x a b rest refl status fits.2))
     ] refl

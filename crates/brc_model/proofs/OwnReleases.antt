@@ -126,11 +126,11 @@ own_release_load p n m t a x h rest here alive =
           let same_word : (done_by m t a d rest).memory (Local x) ≡ word = written_here m.memory (Local x) word in
           own_next p n m t a d (ReleaseStore x word) rest here alive refl refl refl
           (first ∙ ap (λ (b : Bool). cond b (ReleaseStore x word ∷ []) (SharedLoad x Own ∷ [])) e) (keeps (ReleaseStore x word) (λ k o. refl) (λ k o. refl)) later handed
-          (λ b status head. (pos, record { running = status ∙ owns.running; owner = ap owner_part same_word ∙ owns.owner; low = subst (λ (w : ℕ). local_part w < 4294967295) (sym same_word) owns.low }, same_word, some))
+          (λ b status head used. (pos, record { running = status ∙ owns.running; owner = ap owner_part same_word ∙ owns.owner; low = subst (λ (w : ℕ). local_part w < 4294967295) (sym same_word) owns.low }, same_word, some))
       | false ↦ λ e.
           own_next p n m t a d (SharedLoad x Own) rest here alive refl refl refl
           (first ∙ ap (λ (b : Bool). cond b (ReleaseStore x word ∷ []) (SharedLoad x Own ∷ [])) e) (keeps (SharedLoad x Own) (λ k o. refl) (λ k o. refl)) later handed
-          (λ b status head. pos)
+          (λ b status head used. pos)
     ] refl
 
 -- ---- the reference in the hand is lost
@@ -161,7 +161,7 @@ own_release_store p n m t a x w rest here alive =
           let owner : owner_part (w - 1) ≡ t + 1 = down.0 ∙ ap owner_part (sym fits.2) ∙ fits.1.owner in
           own_next p n m t a d (DecideAtZero x) rest here alive refl refl refl
           (ap (λ (b : Bool). cond b (DecideAtZero x ∷ []) []) e) (lost (DecideAtZero x ∷ rest) (λ k o. refl) (λ k o. refl)) later handed
-          (λ b status head. (fits.0, record { running = status ∙ fits.1.running; owner = ap owner_part now ∙ owner; low = subst (λ (v : ℕ). local_part v < 4294967295) (sym now) (omega (arith, zero_left)) }, ap local_part now ∙ zero_left))
+          (λ b status head used. (fits.0, record { running = status ∙ fits.1.running; owner = ap owner_part now ∙ owner; low = subst (λ (v : ℕ). local_part v < 4294967295) (sym now) (omega (arith, zero_left)) }, ap local_part now ∙ zero_left))
       | false ↦ λ e.
           own_done p n m t a d rest here alive refl (ap (λ (b : Bool). cond b (DecideAtZero x ∷ []) []) e) later handed (lost [] (λ k o. refl) (λ k o. refl))
     ] refl
@@ -194,7 +194,7 @@ own_decide p n m t a x rest here alive =
       | false ↦ λ e.
           own_next p n m t a d (MergeSwap x Own) rest here alive refl refl refl
           (ap (λ (b : Bool). cond b (Die x ∷ []) (MergeSwap x Own ∷ [])) e) (held_same m.plain.references t (d ∷ rest) (MergeSwap x Own ∷ rest) (λ k o. refl) (λ k o. refl)) later (swap_handed x Own rest handed)
-          (λ b status head. (fits.0, record { running = status ∙ fits.1.running; owner = fits.1.owner; low = fits.1.low }, fits.2))
+          (λ b status head used. (fits.0, record { running = status ∙ fits.1.running; owner = fits.1.owner; low = fits.1.low }, fits.2))
     ] refl
 
 -- ---- the shared word
@@ -205,13 +205,13 @@ own_shared_load p n m t a x Own rest here alive =
     let d : Duty = SharedLoad x Own in
     own_next p n m t a d (SharedExchange x Own (m.memory (Shared x))) rest here alive refl refl refl refl
     (held_same m.plain.references t (d ∷ rest) (SharedExchange x Own (m.memory (Shared x)) ∷ rest) (λ k o. refl) (λ k o. refl))
-    (agenda_here p n m t a d rest here alive) (handed_here p n m t a d rest here) (λ b status head. head_of p n m t a d rest here)
+    (agenda_here p n m t a d rest here alive) (handed_here p n m t a d rest here) (λ b status head used. head_of p n m t a d rest here)
 own_shared_load p n m t a x Handed rest here alive =
     let d : Duty = SharedLoad x Handed in
     let fits = head_of p n m t a d rest here in
     own_next p n m t a d (SharedExchange x Handed (m.memory (Shared x))) rest here alive refl refl refl refl
     (held_same m.plain.references t (d ∷ rest) (SharedExchange x Handed (m.memory (Shared x)) ∷ rest) (λ k o. refl) (λ k o. refl))
-    (agenda_here p n m t a d rest here alive) (handed_here p n m t a d rest here) (λ b status head. (fits.0, ap phase_part (written_load m.memory (Shared x) (Shared x)) ∙ fits.1))
+    (agenda_here p n m t a d rest here alive) (handed_here p n m t a d rest here) (λ b status head used. (fits.0, ap phase_part (written_load m.memory (Shared x) (Shared x)) ∙ fits.1))
 
 exchange_next : (x w found : ℕ) (r : Reason) (fresh dead : Bool) → (found == w) ≡ true → (w == fresh_word) ≡ fresh → (released_word w == dead_word) ≡ dead
     → cond (found == w) (shared_result x w) (SharedLoad x r ∷ []) ≡ cond fresh (SetMark x ∷ []) (cond dead (Die x ∷ []) [])
@@ -230,7 +230,7 @@ exchange_won p n m t a x w r rest here alive pos won moves =
     elim (w == fresh_word) as (λ b. (w == fresh_word) ≡ b → OwnFits p (done_by m t a d rest) t (actor_by t a d rest (m.memory (Shared x)))) [
       | true ↦ λ fresh.
           own_next p n m t a d (SetMark x) rest here alive refl refl refl (exchange_next x w (m.memory (Shared x)) r true (released_word w == dead_word) won fresh refl)
-          (moves (SetMark x ∷ rest) (λ k o. refl) (λ k o. refl)) later handed (λ b status head. pos)
+          (moves (SetMark x ∷ rest) (λ k o. refl) (λ k o. refl)) later handed (λ b status head used. pos)
       | false ↦ λ other.
           elim (released_word w == dead_word) as (λ b. (released_word w == dead_word) ≡ b → OwnFits p (done_by m t a d rest) t (actor_by t a d rest (m.memory (Shared x)))) [
             | true ↦ λ dead.
@@ -262,7 +262,7 @@ own_shared_exchange p n m t a x Own w rest here alive =
           let bag : bag_by m t a d ≡ m.plain.references = ap (λ (b : Bool). (moved m.plain (cond b (lose t x) [])).references) lost in
           own_next p n m t a d (SharedLoad x Own) rest here alive refl refl refl (ap (λ (b : Bool). cond b (shared_result x w) (SharedLoad x Own ∷ [])) lost)
           (subst (λ (l : List Reference). HeldStep m.plain.references l t (d ∷ rest) (SharedLoad x Own ∷ rest)) (sym bag) (held_same m.plain.references t (d ∷ rest) (SharedLoad x Own ∷ rest) (λ k o. refl) (λ k o. refl)))
-          (agenda_here p n m t a d rest here alive) (handed_here p n m t a d rest here) (λ b status head. pos)
+          (agenda_here p n m t a d rest here alive) (handed_here p n m t a d rest here) (λ b status head used. pos)
     ] refl
 own_shared_exchange p n m t a x Handed w rest here alive =
     let found = m.memory (Shared x) in
@@ -275,5 +275,5 @@ own_shared_exchange p n m t a x Handed w rest here alive =
       | false ↦ λ lost.
           own_next p n m t a d (SharedLoad x Handed) rest here alive refl refl refl (ap (λ (b : Bool). cond b (shared_result x w) (SharedLoad x Handed ∷ [])) lost)
           (held_same m.plain.references t (d ∷ rest) (SharedLoad x Handed ∷ rest) (λ k o. refl) (λ k o. refl))
-          (agenda_here p n m t a d rest here alive) (handed_here p n m t a d rest here) (λ b status head. (fits.0, (leaves_others p n m t a d rest here).merged x fits.1))
+          (agenda_here p n m t a d rest here alive) (handed_here p n m t a d rest here) (λ b status head used. (fits.0, (leaves_others p n m t a d rest here).merged x fits.1))
     ] refl

@@ -103,6 +103,7 @@ own_retain_load p n m t a x h rest here alive =
             next_is = first ∙ ap (λ (b : Bool). cond b (RetainStore x h word ∷ []) (RetainAdd x h ∷ [])) e;
             none_dies = refl;
             none_ends = refl;
+            none_born = refl;
             same_head = refl;
             same_status = refl;
             agenda_is = ready_first a.head (RetainStore x h word) rest refl;
@@ -112,13 +113,14 @@ own_retain_load p n m t a x h rest here alive =
             held = keeps (RetainStore x h word) (λ k o. refl) (λ k o. refl);
             fits = agenda_here p n m t a (RetainLoad x h) rest here alive;
             handed = handed_here p n m t a (RetainLoad x h) rest here;
-            knows = λ b status head. (fits.0, backed, record { running = status ∙ owns.running; owner = ap owner_part same ∙ owns.owner; low = subst (λ (w : ℕ). local_part w < 4294967295) (sym same) owns.low }, same, some, low);
+            knows = λ b status head used. (fits.0, backed, record { running = status ∙ owns.running; owner = ap owner_part same ∙ owns.owner; low = subst (λ (w : ℕ). local_part w < 4294967295) (sym same) owns.low }, same, some, low);
           })
       | false ↦ λ e.
           own_neutral p n m t a (RetainLoad x h) rest (RetainAdd x h ∷ []) (RetainAdd x h ∷ rest) here alive (record {
             next_is = first ∙ ap (λ (b : Bool). cond b (RetainStore x h word ∷ []) (RetainAdd x h ∷ [])) e;
             none_dies = refl;
             none_ends = refl;
+            none_born = refl;
             same_head = refl;
             same_status = refl;
             agenda_is = ready_first a.head (RetainAdd x h) rest refl;
@@ -128,6 +130,6 @@ own_retain_load p n m t a x h rest here alive =
             held = keeps (RetainAdd x h) (λ k o. refl) (λ k o. refl);
             fits = agenda_here p n m t a (RetainLoad x h) rest here alive;
             handed = handed_here p n m t a (RetainLoad x h) rest here;
-            knows = λ b status head. (fits.0, backed);
+            knows = λ b status head used. (fits.0, backed);
           })
     ] refl

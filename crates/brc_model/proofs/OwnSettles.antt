@@ -1,5 +1,5 @@
 -- A thread after its own steps of a death: a row is chained, taken from the chain, and finalised.
-use Rattle.std.proofs.Common.{◌≡◌, ℕ, zero, suc, ◌+◌, ◌-◌, ◌<◌, ◌≤◌, Bool, true, false, cond, List, [], ◌∷◌, ◌++◌, inl, inr, None, Some, refl, sym, ap, ◌∙◌, subst, arith}
+use Rattle.std.proofs.Common.{◌≡◌, ℕ, zero, suc, ◌+◌, ◌-◌, ◌<◌, ◌≤◌, Bool, true, false, cond, List, [], ◌∷◌, ◌++◌, inl, inr, None, Some, refl, sym, ap, ◌∙◌, subst, arith, ◌≢◌}
 use Rattle.std.specs.Prelude.{◌==◌, nat_lt, slice_get, count_by}
 use Rattle.std.proofs.lemmas.Bool.{eq-eqb, ltb-true}
 use Rattle.std.proofs.lemmas.Bool.Decides.{eqb_tells}
@@ -9,22 +9,24 @@ use Rattle.brc_model.specs.declared.duty.Holding.{Holding}
 use Rattle.brc_model.specs.Threads.{code_of}
 use Rattle.brc_word.specs.Words.{dying_word, next_part, closed_word}
 use Rattle.brc_model.specs.declared.duty.Duty.{Duty}
-use Rattle.brc_model.specs.declared.duty.Duty.TheVariants.{Die, Settle, SettleKind, SettleCell, SettleEnd}
+use Rattle.brc_model.specs.declared.duty.Duty.TheVariants.{Die, Settle, SettleKind, SettleCell, SettleEnd, TakeSlot, CloseResource}
 use Rattle.brc_model.specs.declared.address.Address.TheVariants.{Gate, KindOf, Cell, ThreadWord}
-use Rattle.brc_model.specs.Duties.{head_by, ready, cells_of, cells_from, release_found}
+use Rattle.brc_model.specs.Duties.{head_by, ready, cells_of, cells_from, release_found, has_resource}
 use Rattle.brc_model.specs.declared.actor.Status.{Status}
 use Rattle.brc_model.specs.declared.actor.Status.TheVariants.{Gone}
-use Rattle.brc_model.specs.Machine.{Actor, Unborn, Live, Dying, Closed, Machine, status_by, ended_row, with_life, actor_by, done_by, written}
+use Rattle.brc_model.specs.Machine.{Actor, Unborn, Live, Dying, Closed, Machine, status_by, ended_row, with_life, actor_by, done_by, written, born_row, dies_next, used_by}
 use Rattle.brc_model.proofs.Bag.{one_if}
-use Rattle.brc_model.proofs.Rule.{extra_of, lacks_of, PlaceFits, HeadOf, Later, Agenda, NoneHanded, HandedOnce, Linked, hand_of, dies_by, ChainFits, AgendaFits, Rule, status_word}
+use Rattle.brc_model.proofs.Rule.{extra_of, lacks_of, PlaceFits, HeadOf, Later, Agenda, NoneHanded, HandedOnce, Linked, hand_of, dies_by, ChainFits, AgendaFits, Rule, status_word, extra, lacks, HeadFits, at_hand}
 use Rattle.brc_model.proofs.Written.{written_here, written_apart, written_load, apart_gate}
 use Rattle.brc_model.proofs.Others.{is_dying, linked_kept}
 use Rattle.brc_model.proofs.Leaves.{AtDuty, head_of}
 use Rattle.brc_model.proofs.Lives.{next_of}
 use Rattle.brc_model.proofs.Own.{HeldStep, place_step, ready_is}
-use Rattle.brc_model.proofs.Neutral.{OwnFits, found_by, bag_by, memory_by, agenda_out, agenda_here, handed_here, life_same, own_neutral}
+use Rattle.brc_model.proofs.Neutral.{OwnFits, found_by, bag_by, memory_by, agenda_out, agenda_here, handed_here, life_same, own_neutral, uses_same}
 use Rattle.brc_model.proofs.OwnCounts.{held_same}
-use Rattle.brc_model.proofs.OwnRetains.{ready_first}
+use Rattle.brc_model.proofs.OwnRetains.{ready_first, is_passed}
+use Rattle.brc_model.proofs.Blocks.{born_low}
+use Rattle.brc_model.specs.declared.actor.Place.{Place}
 
 -- what a step has to show that changes the head of the chain, a row's life or the thread's status
 pub record ShownStep (m : Machine) (t : ℕ) (a : Actor) (d : Duty) (rest agenda : List Duty) (status : Status) (head : ℕ) : Type 0 where
@@ -36,7 +38,7 @@ pub record ShownStep (m : Machine) (t : ℕ) (a : Actor) (d : Duty) (rest agenda
   pub chain : ChainFits (done_by m t a d rest) t head agenda
   pub fits : AgendaFits m.rows t (actor_by t a d rest (found_by m t a d)) status
   pub handed : HandedOnce agenda
-  pub knows : (b : Actor) → b.status ≡ status → b.head ≡ head → HeadOf (done_by m t a d rest) t b agenda
+  pub knows : (b : Actor) → b.status ≡ status → b.head ≡ head → b.used ≡ used_by a.used d → HeadOf (done_by m t a d rest) t b agenda
 
 pub own_shown : (p : Module) (n : ℕ) (m : Machine) (t : ℕ) (a : Actor) (d : Duty) (rest agenda : List Duty) (status : Status) (head : ℕ) → AtDuty p n m t a d rest → ShownStep m t a d rest agenda status head
     → OwnFits p (done_by m t a d rest) t (actor_by t a d rest (found_by m t a d))
@@ -53,7 +55,7 @@ own_shown p n m t a d rest agenda status head here step =
         instructions = old.instructions;
         word = step.word ∙ ap status_word (sym step.status_is);
         placed = subst (λ (l : List Duty). PlaceFits code new.plain.references t l a.place) (sym step.agenda_is) placed;
-        head_fits = subst (λ (l : List Duty). HeadOf new t after l) (sym step.agenda_is) (step.knows after step.status_is step.head_is);
+        head_fits = subst (λ (l : List Duty). HeadOf new t after l) (sym step.agenda_is) (step.knows after step.status_is step.head_is refl);
         chain = subst (λ (l : List Duty). ChainFits new t after.head l) (sym step.agenda_is) (subst (λ (h : ℕ). ChainFits new t h agenda) (sym step.head_is) step.chain);
       };
       agenda = subst (λ (s : Status). AgendaFits m.rows t after s) (sym step.status_is) step.fits;
@@ -61,10 +63,11 @@ own_shown p n m t a d rest agenda status head here step =
     }
 
 -- the agenda of a thread that isn't gone
-pub agenda_shown : (m : Machine) (t : ℕ) (a : Actor) (d : Duty) (rest agenda : List Duty) (status : Status) → (status ≡ Gone → ⊥) → (actor_by t a d rest (found_by m t a d)).agenda ≡ agenda
+pub agenda_shown : (m : Machine) (t : ℕ) (a : Actor) (d : Duty) (rest agenda : List Duty) (status : Status) → (status ≡ Gone → ⊥) → born_row d ≡ None → (actor_by t a d rest (found_by m t a d)).agenda ≡ agenda
     → Agenda m.rows t a.used status a.place agenda → AgendaFits m.rows t (actor_by t a d rest (found_by m t a d)) status
-agenda_shown m t a d rest agenda status alive is fits =
-    agenda_out m.rows t (actor_by t a d rest (found_by m t a d)) status alive (subst (λ (l : List Duty). Agenda m.rows t a.used status a.place l) (sym is) fits)
+agenda_shown m t a d rest agenda status alive born is fits =
+    agenda_out m.rows t (actor_by t a d rest (found_by m t a d)) status alive
+        (subst (λ (u : ℕ). Agenda m.rows t u status a.place (actor_by t a d rest (found_by m t a d)).agenda) (sym (uses_same a.used d born)) (subst (λ (l : List Duty). Agenda m.rows t a.used status a.place l) (sym is) fits))
 
 -- ---- which rows die
 
@@ -80,11 +83,12 @@ pub one_if_some : (b : Bool) → 0 < one_if b → b ≡ true
 one_if_some true some = refl
 one_if_some false some = absurd (omega arith)
 
--- only the root dies
-pub dying_low : (p : Module) (n : ℕ) (m : Machine) (t x : ℕ) → Rule p n m → m.life x ≡ Dying t → x ≤ 1
-dying_low p n m t zero rule dies = omega arith
-dying_low p n m t (suc zero) rule dies = omega arith
-dying_low p n m t (suc (suc x)) rule dies = absurd (let wrong : Unborn ≡ Dying t = sym (rule.only_root (suc (suc x)) (omega arith)) ∙ dies in cc)
+-- only what was born dies
+pub dying_born : (m : Machine) (t x : ℕ) → m.life x ≡ Dying t → m.life x ≢ Unborn
+dying_born m t x dies unborn = let wrong : Unborn ≡ Dying t = sym unborn ∙ dies in cc
+
+pub dying_low : (p : Module) (n : ℕ) (m : Machine) (t x : ℕ) → Rule p n m → m.life x ≡ Dying t → x < 32770
+dying_low p n m t x rule dies = born_low p n m x rule (dying_born m t x dies)
 
 pub dying_above : (p : Module) (n : ℕ) (m : Machine) (t x : ℕ) → Rule p n m → m.life x ≡ Dying t → 0 < x
 dying_above p n m t zero rule dies = absurd (let wrong : Live ≡ Dying t = sym rule.none_lives ∙ dies in cc)
@@ -136,9 +140,9 @@ own_die p n m t a x rest here alive =
       word = (here.rule.each t a here.found).0.word;
       held = held_same m.plain.references t (Die x ∷ rest) (ready (x + 1) rest) ready_so.more ready_so.less;
       chain = die_chain p n m t a x rest (ready (x + 1) rest) here ready_so.at_hand;
-      fits = agenda_shown m t a (Die x) rest (ready (x + 1) rest) a.status alive refl ready_so.fits;
+      fits = agenda_shown m t a (Die x) rest (ready (x + 1) rest) a.status alive refl refl ready_so.fits;
       handed = ready_so.handed;
-      knows = λ b status head. ready_so.knows (done_by m t a (Die x) rest) b head;
+      knows = λ b status head used. ready_so.knows (done_by m t a (Die x) rest) b head;
     })
 
 -- ---- a row is taken from the chain
@@ -196,9 +200,9 @@ settle_shown p n m t a rest first here alive row_is =
         linked = linked_kept m.memory new.memory t first.next first.others (λ x some. written_load m.memory (Gate (a.head - 1)) (Gate x)) first.linked;
         once = first.once;
       };
-      fits = agenda_shown m t a Settle rest later a.status alive (front (next_part (m.memory (Gate (a.head - 1))))) (agenda_here p n m t a Settle rest here alive);
+      fits = agenda_shown m t a Settle rest later a.status alive refl (front (next_part (m.memory (Gate (a.head - 1))))) (agenda_here p n m t a Settle rest here alive);
       handed = handed_here p n m t a Settle rest here;
-      knows = λ b status h. (dying_above p n m t first.row here.rule first.dies, first.dies);
+      knows = λ b status h used. (dying_above p n m t first.row here.rule first.dies, first.dies);
     }
 
 pub own_settle : (p : Module) (n : ℕ) (m : Machine) (t : ℕ) (a : Actor) (rest : List Duty) → AtDuty p n m t a Settle rest → (a.status ≡ Gone → ⊥)
@@ -207,14 +211,14 @@ own_settle p n m t a rest here alive =
     let first = first_chained p n m t a rest here in
     own_shown p n m t a Settle rest (SettleKind first.row ∷ Settle ∷ rest) a.status first.next here (settle_shown p n m t a rest first here alive (omega (arith, first.head_is)))
 
--- ---- the row's cells
+-- ---- what is done with the row at hand
 
--- what both steps through the cells leave
-record CellsStep (m : Machine) (t : ℕ) (a : Actor) (d : Duty) (x i k : ℕ) (rest : List Duty) : Type 0 where
+-- what the steps between those of the chain and the row's closing leave
+record SettlingStep (m : Machine) (t : ℕ) (a : Actor) (d : Duty) (x : ℕ) (rest : List Duty) : Type 0 where
   above : 0 < x
   dies : m.life x ≡ Dying t
-  next_is : next_of m t a d ≡ cells_from x i k
   none_ends : ended_row d ≡ None
+  none_born : born_row d ≡ None
   same_head : head_by a.head d (found_by m t a d) ≡ a.head
   same_status : status_by a.status d ≡ a.status
   gates : (y : ℕ) → memory_by m t a d (Gate y) ≡ m.memory (Gate y)
@@ -225,56 +229,75 @@ record CellsStep (m : Machine) (t : ℕ) (a : Actor) (d : Duty) (x i k : ℕ) (r
   later : Later m.rows t a.used a.status a.place rest
   none : NoneHanded rest
 
--- a cell or the end follows
-cells_step : (p : Module) (n : ℕ) (m : Machine) (t : ℕ) (a : Actor) (d : Duty) (x i k : ℕ) (rest : List Duty) → AtDuty p n m t a d rest → (a.status ≡ Gone → ⊥) → CellsStep m t a d x i k rest
+-- what follows: a duty that keeps the row at hand
+record KeepsHand (e : Duty) (x : ℕ) : Type 0 where
+  hand : (y : ℕ) → at_hand e y ≡ (x == y)
+  lives : dies_next (e ∷ []) ≡ None
+  stays : is_passed e ≡ false
+  extra_none : (h : Holding) (object : ℕ) → extra e h object ≡ false
+  lacks_none : (h : Holding) (object : ℕ) → lacks e h object ≡ false
+  later : (rows t used : ℕ) (status : Status) (place : Place) (rest : List Duty) → Later rows t used status place rest → Agenda rows t used status place (e ∷ rest)
+  handed : (rest : List Duty) → NoneHanded rest → HandedOnce (e ∷ rest)
+
+settles_on : (p : Module) (n : ℕ) (m : Machine) (t : ℕ) (a : Actor) (d e : Duty) (x : ℕ) (rest : List Duty) → AtDuty p n m t a d rest → (a.status ≡ Gone → ⊥) → SettlingStep m t a d x rest
+    → KeepsHand e x → next_of m t a d ≡ e ∷ [] → ((done_by m t a d rest).life x ≡ Dying t → (b : Actor) → HeadFits (done_by m t a d rest) t b e rest)
     → OwnFits p (done_by m t a d rest) t (actor_by t a d rest (found_by m t a d))
-cells_step p n m t a d x i k rest here alive step =
+settles_on p n m t a d e x rest here alive step keeps next knows =
+    own_neutral p n m t a d rest (e ∷ []) (e ∷ rest) here alive (record {
+      next_is = next;
+      none_dies = keeps.lives;
+      none_ends = step.none_ends;
+      none_born = step.none_born;
+      same_head = step.same_head;
+      same_status = step.same_status;
+      agenda_is = ready_first a.head e rest keeps.stays;
+      gates = step.gates;
+      word = step.word;
+      hands = λ y. keeps.hand y ∙ step.hands y;
+      held = step.held e keeps.extra_none keeps.lacks_none;
+      fits = keeps.later m.rows t a.used a.status a.place rest step.later;
+      handed = keeps.handed rest step.none;
+      knows = λ b status head used. knows (life_same m t a d (e ∷ []) x next keeps.lives step.none_ends step.none_born ∙ step.dies) b;
+    })
+
+keeps_cell : (x i k : ℕ) → KeepsHand (SettleCell x i k) x
+keeps_cell x i k =
+    record { hand = λ y. refl; lives = refl; stays = refl; extra_none = λ h o. refl; lacks_none = λ h o. refl; later = λ rows t used status place rest later. later; handed = λ rest none. none }
+
+keeps_end : (x : ℕ) → KeepsHand (SettleEnd x) x
+keeps_end x = record { hand = λ y. refl; lives = refl; stays = refl; extra_none = λ h o. refl; lacks_none = λ h o. refl; later = λ rows t used status place rest later. later; handed = λ rest none. none }
+
+keeps_slot : (x : ℕ) → KeepsHand (TakeSlot x) x
+keeps_slot x = record { hand = λ y. refl; lives = refl; stays = refl; extra_none = λ h o. refl; lacks_none = λ h o. refl; later = λ rows t used status place rest later. later; handed = λ rest none. none }
+
+keeps_close : (x : ℕ) → KeepsHand (CloseResource x) x
+keeps_close x =
+    record { hand = λ y. refl; lives = refl; stays = refl; extra_none = λ h o. refl; lacks_none = λ h o. refl; later = λ rows t used status place rest later. later; handed = λ rest none. none }
+
+-- a cell or the end follows
+cells_step : (p : Module) (n : ℕ) (m : Machine) (t : ℕ) (a : Actor) (d : Duty) (x i k : ℕ) (rest : List Duty) → AtDuty p n m t a d rest → (a.status ≡ Gone → ⊥) → SettlingStep m t a d x rest → next_of m t a d ≡ cells_from x i k
+    → OwnFits p (done_by m t a d rest) t (actor_by t a d rest (found_by m t a d))
+cells_step p n m t a d x i k rest here alive step next_is =
     elim (nat_lt i k) as (λ b. nat_lt i k ≡ b → OwnFits p (done_by m t a d rest) t (actor_by t a d rest (found_by m t a d))) [
       | true ↦ λ e.
-          let next : next_of m t a d ≡ SettleCell x i k ∷ [] = step.next_is ∙ ap (λ (b : Bool). cond b (SettleCell x i k ∷ []) (SettleEnd x ∷ [])) e in
-          own_neutral p n m t a d rest (SettleCell x i k ∷ []) (SettleCell x i k ∷ rest) here alive (record {
-            next_is = next;
-            none_dies = refl;
-            none_ends = step.none_ends;
-            same_head = step.same_head;
-            same_status = step.same_status;
-            agenda_is = ready_first a.head (SettleCell x i k) rest refl;
-            gates = step.gates;
-            word = step.word;
-            hands = step.hands;
-            held = step.held (SettleCell x i k) (λ h o. refl) (λ h o. refl);
-            fits = step.later;
-            handed = step.none;
-            knows = λ b status head. (step.above, life_same m t a d (SettleCell x i k ∷ []) x next refl step.none_ends ∙ step.dies, ltb-true i k e);
-          })
+          let next : next_of m t a d ≡ SettleCell x i k ∷ [] = next_is ∙ ap (λ (b : Bool). cond b (SettleCell x i k ∷ []) (SettleEnd x ∷ [])) e in
+          settles_on p n m t a d (SettleCell x i k) x rest here alive step (keeps_cell x i k) next (λ dies b. (step.above, dies, ltb-true i k e))
       | false ↦ λ e.
-          let next : next_of m t a d ≡ SettleEnd x ∷ [] = step.next_is ∙ ap (λ (b : Bool). cond b (SettleCell x i k ∷ []) (SettleEnd x ∷ [])) e in
-          own_neutral p n m t a d rest (SettleEnd x ∷ []) (SettleEnd x ∷ rest) here alive (record {
-            next_is = next;
-            none_dies = refl;
-            none_ends = step.none_ends;
-            same_head = step.same_head;
-            same_status = step.same_status;
-            agenda_is = ready_first a.head (SettleEnd x) rest refl;
-            gates = step.gates;
-            word = step.word;
-            hands = step.hands;
-            held = step.held (SettleEnd x) (λ h o. refl) (λ h o. refl);
-            fits = step.later;
-            handed = step.none;
-            knows = λ b status head. (step.above, life_same m t a d (SettleEnd x ∷ []) x next refl step.none_ends ∙ step.dies);
-          })
+          let next : next_of m t a d ≡ SettleEnd x ∷ [] = next_is ∙ ap (λ (b : Bool). cond b (SettleCell x i k ∷ []) (SettleEnd x ∷ [])) e in
+          settles_on p n m t a d (SettleEnd x) x rest here alive step (keeps_end x) next (λ dies b. (step.above, dies))
     ] refl
 
+-- files and sockets give their resource back, and lists their cells
 pub own_settle_kind : (p : Module) (n : ℕ) (m : Machine) (t : ℕ) (a : Actor) (x : ℕ) (rest : List Duty) → AtDuty p n m t a (SettleKind x) rest → (a.status ≡ Gone → ⊥)
     → OwnFits p (done_by m t a (SettleKind x) rest) t (actor_by t a (SettleKind x) rest (found_by m t a (SettleKind x)))
 own_settle_kind p n m t a x rest here alive =
     let fits = head_of p n m t a (SettleKind x) rest here in
-    cells_step p n m t a (SettleKind x) x 0 (cells_of (m.memory (KindOf x))) rest here alive (record {
+    let word = m.memory (KindOf x) in
+    let step : SettlingStep m t a (SettleKind x) x rest = record {
       above = fits.0;
       dies = fits.1;
-      next_is = refl;
       none_ends = refl;
+      none_born = refl;
       same_head = refl;
       same_status = refl;
       gates = λ y. refl;
@@ -283,7 +306,11 @@ own_settle_kind p n m t a x rest here alive =
       held = λ e more less. held_same m.plain.references t (SettleKind x ∷ rest) (e ∷ rest) more less;
       later = agenda_here p n m t a (SettleKind x) rest here alive;
       none = handed_here p n m t a (SettleKind x) rest here;
-    })
+    } in
+    elim (has_resource word) as (λ b. has_resource word ≡ b → OwnFits p (done_by m t a (SettleKind x) rest) t (actor_by t a (SettleKind x) rest word)) [
+      | true ↦ λ e. settles_on p n m t a (SettleKind x) (TakeSlot x) x rest here alive step (keeps_slot x) (ap (λ (b : Bool). cond b (TakeSlot x ∷ []) (cells_from x 0 (cells_of word))) e) (λ dies b. (fits.0, dies))
+      | false ↦ λ e. cells_step p n m t a (SettleKind x) x 0 (cells_of word) rest here alive step (ap (λ (b : Bool). cond b (TakeSlot x ∷ []) (cells_from x 0 (cells_of word))) e)
+    ] refl
 
 -- the cells are empty
 pub own_settle_cell : (p : Module) (n : ℕ) (m : Machine) (t : ℕ) (a : Actor) (x i k : ℕ) (rest : List Duty) → AtDuty p n m t a (SettleCell x i k) rest → (a.status ≡ Gone → ⊥)
@@ -294,8 +321,8 @@ own_settle_cell p n m t a x i k rest here alive =
     cells_step p n m t a (SettleCell x i k) x (i + 1) k rest here alive (record {
       above = fits.0;
       dies = fits.1;
-      next_is = ap (λ (l : List Duty). l ++ cells_from x (i + 1) k) empty;
       none_ends = refl;
+      none_born = refl;
       same_head = refl;
       same_status = refl;
       gates = λ y. refl;
@@ -304,7 +331,47 @@ own_settle_cell p n m t a x i k rest here alive =
       held = λ e more less. held_same m.plain.references t (SettleCell x i k ∷ rest) (e ∷ rest) more less;
       later = agenda_here p n m t a (SettleCell x i k) rest here alive;
       none = handed_here p n m t a (SettleCell x i k) rest here;
-    })
+    }) (ap (λ (l : List Duty). l ++ cells_from x (i + 1) k) empty)
+
+-- ---- the row's resource
+
+pub own_take_slot : (p : Module) (n : ℕ) (m : Machine) (t : ℕ) (a : Actor) (x : ℕ) (rest : List Duty) → AtDuty p n m t a (TakeSlot x) rest → (a.status ≡ Gone → ⊥)
+    → OwnFits p (done_by m t a (TakeSlot x) rest) t (actor_by t a (TakeSlot x) rest (found_by m t a (TakeSlot x)))
+own_take_slot p n m t a x rest here alive =
+    let fits = head_of p n m t a (TakeSlot x) rest here in
+    settles_on p n m t a (TakeSlot x) (CloseResource x) x rest here alive (record {
+      above = fits.0;
+      dies = fits.1;
+      none_ends = refl;
+      none_born = refl;
+      same_head = refl;
+      same_status = refl;
+      gates = λ y. refl;
+      word = refl;
+      hands = λ y. refl;
+      held = λ e more less. held_same m.plain.references t (TakeSlot x ∷ rest) (e ∷ rest) more less;
+      later = agenda_here p n m t a (TakeSlot x) rest here alive;
+      none = handed_here p n m t a (TakeSlot x) rest here;
+    }) (keeps_close x) refl (λ dies b. (fits.0, dies))
+
+pub own_close_resource : (p : Module) (n : ℕ) (m : Machine) (t : ℕ) (a : Actor) (x : ℕ) (rest : List Duty) → AtDuty p n m t a (CloseResource x) rest → (a.status ≡ Gone → ⊥)
+    → OwnFits p (done_by m t a (CloseResource x) rest) t (actor_by t a (CloseResource x) rest (found_by m t a (CloseResource x)))
+own_close_resource p n m t a x rest here alive =
+    let fits = head_of p n m t a (CloseResource x) rest here in
+    settles_on p n m t a (CloseResource x) (SettleEnd x) x rest here alive (record {
+      above = fits.0;
+      dies = fits.1;
+      none_ends = refl;
+      none_born = refl;
+      same_head = refl;
+      same_status = refl;
+      gates = λ y. refl;
+      word = refl;
+      hands = λ y. refl;
+      held = λ e more less. held_same m.plain.references t (CloseResource x ∷ rest) (e ∷ rest) more less;
+      later = agenda_here p n m t a (CloseResource x) rest here alive;
+      none = handed_here p n m t a (CloseResource x) rest here;
+    }) (keeps_end x) refl (λ dies b. (fits.0, dies))
 
 -- ---- the row is closed
 
@@ -341,7 +408,7 @@ own_settle_end p n m t a x rest here alive =
       word = (here.rule.each t a here.found).0.word;
       held = held_same m.plain.references t (SettleEnd x ∷ rest) (ready a.head rest) ready_so.more ready_so.less;
       chain = end_chain p n m t a x rest (ready a.head rest) here ready_so.at_hand;
-      fits = agenda_shown m t a (SettleEnd x) rest (ready a.head rest) a.status alive refl ready_so.fits;
+      fits = agenda_shown m t a (SettleEnd x) rest (ready a.head rest) a.status alive refl refl ready_so.fits;
       handed = ready_so.handed;
-      knows = λ b status head. ready_so.knows (done_by m t a (SettleEnd x) rest) b head;
+      knows = λ b status head used. ready_so.knows (done_by m t a (SettleEnd x) rest) b head;
     })

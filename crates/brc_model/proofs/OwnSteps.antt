@@ -7,19 +7,19 @@ use Rattle.std.proofs.lemmas.Bool.Decides.{eqb_tells}
 use Rattle.brc_lang.specs.declared.module.Module.{Module}
 use Rattle.brc_model.specs.Threads.{code_of}
 use Rattle.brc_model.specs.declared.duty.Duty.{Duty}
-use Rattle.brc_model.specs.declared.duty.Duty.TheVariants.{Look, Die, Settle, SettleKind, SettleCell, SettleEnd, Leave, Finish}
+use Rattle.brc_model.specs.declared.duty.Duty.TheVariants.{Look, Die, Settle, SettleKind, SettleCell, SettleEnd, Leave, Finish, TakeSlot, CloseResource, BirthLocal}
 use Rattle.brc_model.specs.declared.address.Address.TheVariants.{Gate, ThreadWord}
 use Rattle.brc_model.specs.Duties.{head_by, ready, block_of}
 use Rattle.brc_model.specs.declared.actor.Status.{Status}
 use Rattle.brc_model.specs.declared.actor.Status.TheVariants.{Gone}
-use Rattle.brc_model.specs.Machine.{Actor, Life, Live, Dying, Closed, Machine, status_by, dies_next, ended_row, with_life, life_by, actor_by, done_by}
+use Rattle.brc_model.specs.Machine.{Actor, Life, Live, Dying, Closed, Machine, status_by, dies_next, ended_row, with_life, life_by, actor_by, done_by, born_row, used_by}
 use Rattle.brc_model.proofs.Bag.{one_if}
 use Rattle.brc_model.proofs.Rule.{extra_of, lacks_of, PlaceFits, HeadFits, HeadOf, Later, Agenda, NoneHanded, HandedOnce, hand_of, dies_by, ChainFits, status_word}
 use Rattle.brc_model.proofs.Written.{written_load}
 use Rattle.brc_model.proofs.Leaves.{AtDuty}
 use Rattle.brc_model.proofs.Lives.{next_of}
 use Rattle.brc_model.proofs.Own.{HeldStep, place_step, ready_is, ChainSame, chain_same}
-use Rattle.brc_model.proofs.Neutral.{OwnFits, found_by, bag_by, memory_by, agenda_out, own_neutral}
+use Rattle.brc_model.proofs.Neutral.{OwnFits, found_by, bag_by, memory_by, agenda_out, own_neutral, uses_same}
 use Rattle.brc_model.proofs.OwnRetains.{is_passed, ready_first}
 
 -- ---- quiet duties
@@ -29,14 +29,21 @@ is_quiet (Die x) = false
 is_quiet Settle = false
 is_quiet (SettleKind x) = false
 is_quiet (SettleCell x i n) = false
+is_quiet (TakeSlot x) = false
+is_quiet (CloseResource x) = false
 is_quiet (SettleEnd x) = false
 is_quiet (Leave x n) = false
 is_quiet Finish = false
+is_quiet (BirthLocal x h) = false
 is_quiet _ = true
 
 quiet_ends : (d : Duty) → is_quiet d ≡ true → ended_row d ≡ None
 quiet_ends (SettleEnd x) quiet = absurd cc
 quiet_ends _ quiet = refl
+
+quiet_born : (d : Duty) → is_quiet d ≡ true → born_row d ≡ None
+quiet_born (BirthLocal x h) quiet = absurd cc
+quiet_born _ quiet = refl
 
 quiet_head : (head found : ℕ) (d : Duty) → is_quiet d ≡ true → head_by head d found ≡ head
 quiet_head head found (Die x) quiet = absurd cc
@@ -64,6 +71,8 @@ quiet_hand : (d : Duty) (rest : List Duty) (x : ℕ) → is_quiet d ≡ true →
 quiet_hand (Die y) rest x quiet = absurd cc
 quiet_hand (SettleKind y) rest x quiet = absurd cc
 quiet_hand (SettleCell y i n) rest x quiet = absurd cc
+quiet_hand (TakeSlot y) rest x quiet = absurd cc
+quiet_hand (CloseResource y) rest x quiet = absurd cc
 quiet_hand (SettleEnd y) rest x quiet = absurd cc
 quiet_hand _ rest x quiet = refl
 
@@ -82,7 +91,7 @@ pub record QuietStep (m : Machine) (t : ℕ) (a : Actor) (d : Duty) (rest next a
   pub held : HeldStep m.plain.references (bag_by m t a d) t (d ∷ rest) agenda
   pub fits : Agenda m.rows t a.used a.status a.place agenda
   pub handed : HandedOnce agenda
-  pub knows : (b : Actor) → b.status ≡ a.status → b.head ≡ a.head → HeadOf (done_by m t a d rest) t b agenda
+  pub knows : (b : Actor) → b.status ≡ a.status → b.head ≡ a.head → b.used ≡ a.used → HeadOf (done_by m t a d rest) t b agenda
 
 pub own_quiet : (p : Module) (n : ℕ) (m : Machine) (t : ℕ) (a : Actor) (d : Duty) (rest next agenda : List Duty) → AtDuty p n m t a d rest → (a.status ≡ Gone → ⊥) → is_quiet d ≡ true → QuietStep m t a d rest next agenda
     → OwnFits p (done_by m t a d rest) t (actor_by t a d rest (found_by m t a d))
@@ -91,6 +100,7 @@ own_quiet p n m t a d rest next agenda here alive quiet step =
       next_is = step.next_is;
       none_dies = step.none_dies;
       none_ends = quiet_ends d quiet;
+      none_born = quiet_born d quiet;
       same_head = quiet_head a.head (found_by m t a d) d quiet;
       same_status = quiet_status a.status d quiet;
       agenda_is = step.agenda_is;
@@ -122,13 +132,13 @@ own_done p n m t a d rest here alive quiet next later none moves =
       };
       fits = then.fits;
       handed = then.handed;
-      knows = λ b status head. then.knows (done_by m t a d rest) b head;
+      knows = λ b status head used. then.knows (done_by m t a d rest) b head;
     })
 
 -- the agenda goes on with a new first duty
 pub own_next : (p : Module) (n : ℕ) (m : Machine) (t : ℕ) (a : Actor) (d e : Duty) (rest : List Duty) → AtDuty p n m t a d rest → (a.status ≡ Gone → ⊥) → is_quiet d ≡ true → is_quiet e ≡ true → is_passed e ≡ false
     → next_of m t a d ≡ e ∷ [] → HeldStep m.plain.references (bag_by m t a d) t (d ∷ rest) (e ∷ rest) → Agenda m.rows t a.used a.status a.place (e ∷ rest) → HandedOnce (e ∷ rest)
-    → ((b : Actor) → b.status ≡ a.status → b.head ≡ a.head → HeadFits (done_by m t a d rest) t b e rest)
+    → ((b : Actor) → b.status ≡ a.status → b.head ≡ a.head → b.used ≡ a.used → HeadFits (done_by m t a d rest) t b e rest)
     → OwnFits p (done_by m t a d rest) t (actor_by t a d rest (found_by m t a d))
 own_next p n m t a d e rest here alive quiet other stays next moves fits handed knows =
     own_quiet p n m t a d rest (e ∷ []) (e ∷ rest) here alive quiet (record {
@@ -153,9 +163,10 @@ pub record DyingStep (m : Machine) (t : ℕ) (a : Actor) (d : Duty) (rest : List
   pub later : Later m.rows t a.used a.status a.place rest
   pub handed : NoneHanded rest
 
-dying_life : (m : Machine) (t : ℕ) (a : Actor) (d : Duty) (x y : ℕ) → next_of m t a d ≡ Die x ∷ [] → ended_row d ≡ None → life_by m.life t d (next_of m t a d) y ≡ cond (x == y) (Dying t) (m.life y)
-dying_life m t a d x y is ends =
-    ap (λ (l : List Duty). with_life (with_life m.life (dies_next l) (Dying t)) (ended_row d) Closed y) is ∙ ap (λ (o : Option ℕ). with_life (with_life m.life (Some x) (Dying t)) o Closed y) ends
+dying_life : (m : Machine) (t : ℕ) (a : Actor) (d : Duty) (x y : ℕ) → next_of m t a d ≡ Die x ∷ [] → ended_row d ≡ None → born_row d ≡ None → life_by m.life t d (next_of m t a d) y ≡ cond (x == y) (Dying t) (m.life y)
+dying_life m t a d x y is ends born =
+    ap (λ (l : List Duty). with_life (with_life (with_life m.life (dies_next l) (Dying t)) (ended_row d) Closed) (born_row d) Live y) is
+    ∙ ap (λ (o : Option ℕ). with_life (with_life (with_life m.life (Some x) (Dying t)) o Closed) (born_row d) Live y) ends ∙ ap (λ (o : Option ℕ). with_life (with_life m.life (Some x) (Dying t)) o Live y) born
 
 -- the row that begins to die is at hand, and was neither at hand nor dying
 dying_hands : (life : ℕ → Life) (t x y : ℕ) → life x ≡ Live → one_if (x == y) + one_if (dies_by (life y) t) ≡ one_if (dies_by (cond (x == y) (Dying t) (life y)) t)
@@ -183,7 +194,7 @@ own_dying p n m t a d rest x here alive quiet step =
     let same_status : status_by a.status d ≡ a.status = quiet_status a.status d quiet in
     let whole : after.agenda ≡ agenda = ap (λ (h : ℕ). ready h (next_of m t a d ++ rest)) same_head ∙ ap (λ (l : List Duty). ready a.head (l ++ rest)) step.next_is ∙ ready_first a.head (Die x) rest refl in
     let code = code_of (slice_get p.functions a.function) in
-    let life = λ (y : ℕ). dying_life m t a d x y step.next_is (quiet_ends d quiet) in
+    let life = λ (y : ℕ). dying_life m t a d x y step.next_is (quiet_ends d quiet) (quiet_born d quiet) in
     let placed : PlaceFits code new.plain.references t agenda a.place =
     place_step code m.plain.references new.plain.references t (d ∷ rest) agenda a.place step.held (subst (λ (l : List Duty). PlaceFits code m.plain.references t l a.place) here.agenda old.placed) in
     let same : ChainSame m new t a.agenda agenda = record {
@@ -205,6 +216,7 @@ own_dying p n m t a d rest x here alive quiet step =
         chain = subst (λ (l : List Duty). ChainFits new t after.head l) (sym whole) (subst (λ (h : ℕ). ChainFits new t h agenda) (sym same_head) chain);
       };
       agenda = agenda_out m.rows t after after.status (λ e. alive (sym same_status ∙ e))
-          (subst (λ (l : List Duty). Agenda m.rows t a.used after.status a.place l) (sym whole) (subst (λ (s : Status). Later m.rows t a.used s a.place rest) (sym same_status) step.later));
+          (subst (λ (l : List Duty). Agenda m.rows t after.used after.status a.place l) (sym whole)
+          (subst (λ (u : ℕ). Later m.rows t u after.status a.place rest) (sym (uses_same a.used d (quiet_born d quiet))) (subst (λ (s : Status). Later m.rows t a.used s a.place rest) (sym same_status) step.later)));
       handed = subst HandedOnce (sym whole) step.handed;
     }

@@ -4,13 +4,13 @@ use Rattle.std.specs.Prelude.{slice_get}
 use Rattle.std.proofs.lemmas.Bool.Decides.{eqb_tells}
 use Rattle.std.proofs.lemmas.Option.{slice_get_within}
 use Rattle.brc_lang.specs.declared.module.Module.{Module}
-use Rattle.brc_word.specs.Words.{owner_part}
+use Rattle.brc_word.specs.Words.{owner_part, local_word}
 use Rattle.brc_model.specs.declared.thread.Choice.{Choice}
 use Rattle.brc_model.specs.declared.duty.Duty.{Duty}
-use Rattle.brc_model.specs.declared.duty.Duty.TheVariants.{RetainLoad, RetainStore, ReleaseLoad, ReleaseStore, MergeSwap}
+use Rattle.brc_model.specs.declared.duty.Duty.TheVariants.{RetainLoad, RetainStore, ReleaseLoad, ReleaseStore, MergeSwap, BirthLocal}
 use Rattle.brc_model.specs.declared.address.Address.TheVariants.{Local}
 use Rattle.brc_model.specs.declared.actor.Place.{Place}
-use Rattle.brc_model.specs.Machine.{Actor, Machine, written, with_actor, done_by}
+use Rattle.brc_model.specs.Machine.{Actor, Machine, written, with_actor, done_by, Unborn}
 use Rattle.brc_model.specs.Progress.{Runs, OnlyOwnersCount, OwnersStay}
 use Rattle.brc_model.proofs.Lists.{some_is, slice_get-set_same, slice_get-set_other}
 use Rattle.brc_model.proofs.Written.{written_here, written_apart, written_load, apart_local}
@@ -20,6 +20,7 @@ use Rattle.brc_model.proofs.Sits.{sitting}
 use Rattle.brc_model.proofs.Whole.{Whole}
 use Rattle.brc_model.proofs.StepCases.{ShowsSteps, at_duty, event_shows}
 use Rattle.brc_model.proofs.Immortals.{counted_low, none_local}
+use Rattle.brc_model.proofs.Blocks.{next_unborn}
 
 -- ---- others leave a running owner's count
 
@@ -75,24 +76,27 @@ owned_at m y v x here =
       | inr other ↦ inl (ap owner_part (written_apart m.memory (Local y) (Local x) v (apart_local y x other.1)))
     ]
 
-owned_after : (p : Module) (n : ℕ) (m : Machine) (t : ℕ) (a : Actor) (d : Duty) (rest : List Duty) (x : ℕ) → AtDuty p n m t a d rest → OwnedSo (memory_by m t a d (Local x)) (m.memory (Local x))
-owned_after p n m t a (RetainLoad y h) rest x here = inl (ap owner_part (written_load m.memory (Local y) (Local x)))
-owned_after p n m t a (ReleaseLoad y h) rest x here = inl (ap owner_part (written_load m.memory (Local y) (Local x)))
-owned_after p n m t a (RetainStore y h w) rest x here =
+owned_after : (p : Module) (n : ℕ) (m : Machine) (t : ℕ) (a : Actor) (d : Duty) (rest : List Duty) (x : ℕ) → AtDuty p n m t a d rest → m.life x ≢ Unborn → OwnedSo (memory_by m t a d (Local x)) (m.memory (Local x))
+owned_after p n m t a (RetainLoad y h) rest x here born = inl (ap owner_part (written_load m.memory (Local y) (Local x)))
+owned_after p n m t a (ReleaseLoad y h) rest x here born = inl (ap owner_part (written_load m.memory (Local y) (Local x)))
+owned_after p n m t a (RetainStore y h w) rest x here born =
     let fits = head_of p n m t a (RetainStore y h w) rest here in
     owned_at m y (w + 1) x (inl (omega (arith, fits.3, fits.5)))
-owned_after p n m t a (ReleaseStore y w) rest x here =
+owned_after p n m t a (ReleaseStore y w) rest x here born =
     let fits = head_of p n m t a (ReleaseStore y w) rest here in
     owned_at m y (w - 1) x (inl (omega (arith, fits.2, fits.3)))
-owned_after p n m t a (MergeSwap y r) rest x here = owned_at m y 0 x (inr refl)
-owned_after p n m t a _ rest x here = inl refl
+owned_after p n m t a (BirthLocal y h) rest x here born =
+    let apart : y ≡ x → ⊥ = λ e. born (ap m.life (sym e) ∙ next_unborn p n m t a y here.rule here.found (head_of p n m t a (BirthLocal y h) rest here).0) in
+    inl (ap owner_part (written_apart m.memory (Local y) (Local x) (local_word t 1) (apart_local y x apart)))
+owned_after p n m t a (MergeSwap y r) rest x here born = owned_at m y 0 x (inr refl)
+owned_after p n m t a _ rest x here born = inl refl
 
-owners_shown : (p : Module) (n : ℕ) → ShowsSteps (λ t m new. (x : ℕ) → OwnedSo (new.memory (Local x)) (m.memory (Local x))) p n
+owners_shown : (p : Module) (n : ℕ) → ShowsSteps (λ t m new. (x : ℕ) → m.life x ≢ Unborn → OwnedSo (new.memory (Local x)) (m.memory (Local x))) p n
 owners_shown p n = record {
-  stays = λ t m whole x. inl refl;
+  stays = λ t m whole x born. inl refl;
   sits = λ t m new a place agenda found shown. shown;
-  moves = λ t m a place whole found x. inl refl;
-  does = λ t m a d rest doing x. owned_after p n m t a d rest x (at_duty doing);
+  moves = λ t m a place whole found x born. inl refl;
+  does = λ t m a d rest doing x born. owned_after p n m t a d rest x (at_duty doing) born;
 }
 
 pub owners_stay : (p : Module) (n : ℕ) (m : Machine) (event : ℕ × Choice) → Whole p n m → OwnersStay m event

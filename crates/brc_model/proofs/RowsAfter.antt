@@ -5,7 +5,7 @@ use Rattle.std.proofs.lemmas.Bool.Decides.{eqb_tells}
 use Rattle.brc_lang.specs.declared.module.Module.{Module}
 use Rattle.brc_model.specs.declared.duty.Reason.TheVariants.{Own, Handed}
 use Rattle.brc_model.specs.declared.duty.Duty.{Duty}
-use Rattle.brc_model.specs.declared.duty.Duty.TheVariants.{RetainLoad, RetainStore, RetainAdd, ReleaseLoad, ReleaseStore, DecideAtZero, SharedLoad, SharedExchange, SetMark, Look, TakeMark, MergeSwap, MergeLoad, MergeExchange, Die, Settle, SettleKind, SettleCell, SettleEnd, Leave, Scan, Finish, ClaimMark}
+use Rattle.brc_model.specs.declared.duty.Duty.TheVariants.{RetainLoad, RetainStore, RetainAdd, ReleaseLoad, ReleaseStore, DecideAtZero, SharedLoad, SharedExchange, SetMark, Look, TakeMark, MergeSwap, MergeLoad, MergeExchange, Die, Settle, SettleKind, SettleCell, TakeSlot, CloseResource, SettleEnd, Leave, Scan, Finish, ClaimMark, BirthKind, BirthSlot, BirthLocal}
 use Rattle.brc_model.specs.Duties.{block_of}
 use Rattle.brc_model.specs.declared.actor.Status.TheVariants.{Gone}
 use Rattle.brc_model.specs.Machine.{Actor, Machine, done_by}
@@ -15,7 +15,8 @@ use Rattle.brc_model.proofs.RowsAfterStep.{Doing, KeepsRow}
 use Rattle.brc_model.proofs.RowsAfterElsewhere.{subject, row_elsewhere}
 use Rattle.brc_model.proofs.RowsAfterLocal.{row_after_retain_load, row_after_retain_store, row_after_retain_add, row_after_release_load, row_after_release_store, row_after_decide}
 use Rattle.brc_model.proofs.RowsAfterShared.{row_after_shared_load, row_after_own_exchange, row_after_handed_exchange}
-use Rattle.brc_model.proofs.RowsAfterMarks.{row_after_set_mark, row_after_look, row_after_take_mark, row_after_scan, row_after_claim, row_after_die, row_after_kind, row_after_cell, row_after_end}
+use Rattle.brc_model.proofs.RowsAfterMarks.{row_after_set_mark, row_after_look, row_after_take_mark, row_after_scan, row_after_claim, row_after_die, row_after_kind, row_after_cell, row_after_take_slot, row_after_close, row_after_end}
+use Rattle.brc_model.proofs.RowsAfterBirths.{row_after_birth_kind, row_after_birth_slot, row_after_birth_local}
 use Rattle.brc_model.proofs.RowsAfterMerge.{row_after_own_swap, row_after_handed_swap, row_after_merge_load, row_after_merge_exchange}
 
 -- the row that the duty is about
@@ -40,11 +41,16 @@ own_row p n m t a (Die y) rest s some = row_after_die some s
 own_row p n m t a Settle rest s some = absurd (omega (arith, some))
 own_row p n m t a (SettleKind y) rest s some = row_after_kind some s
 own_row p n m t a (SettleCell y i cells) rest s some = row_after_cell some s
+own_row p n m t a (TakeSlot y) rest s some = row_after_take_slot some s
+own_row p n m t a (CloseResource y) rest s some = row_after_close some s
 own_row p n m t a (SettleEnd y) rest s some = row_after_end s
 own_row p n m t a (Leave y left) rest s some = absurd (omega (arith, some))
 own_row p n m t a (Scan y left) rest s some = row_after_scan some s
 own_row p n m t a Finish rest s some = absurd (omega (arith, some))
 own_row p n m t a (ClaimMark y) rest s some = row_after_claim some s
+own_row p n m t a (BirthKind y h w) rest s some = row_after_birth_kind some s
+own_row p n m t a (BirthSlot y h) rest s some = row_after_birth_slot some s
+own_row p n m t a (BirthLocal y h) rest s some = row_after_birth_local s
 
 pub rows_after : (p : Module) (n : ℕ) (m : Machine) (t : ℕ) (a : Actor) (d : Duty) (rest : List Duty) → Rule p n m → slice_get m.actors t ≡ Some a → a.agenda ≡ d ∷ rest → (a.status ≡ Gone → ⊥)
     → (x : ℕ) → 0 < x → RowRule (block_of m.rows x) ((done_by m t a d rest).life x) (numbers_of (done_by m t a d rest) x)

@@ -4,15 +4,15 @@ use Rattle.std.specs.Prelude.{◌==◌, ◌&&◌, nat_lt, if◌then◌else◌, s
 use Rattle.std.proofs.lemmas.List.Sums.{sum_by-cons}
 use Rattle.brc_lang.specs.declared.module.Module.{Module}
 use Rattle.brc_model.specs.declared.duty.Holding.TheVariants.{ByVariable, AsCaller, InHand}
-use Rattle.brc_model.specs.Plain.{Reference, same, without, references_to, Plain, Move, Gain, Lose, HandOn, Finalise, move, moved}
+use Rattle.brc_model.specs.Plain.{Reference, same, without, references_to, Plain, Move, Born, Gain, Lose, HandOn, Finalise, move, moved}
 use Rattle.brc_word.specs.Words.{is_immortal_word, local_part, fresh_word, dead_word, released_word, merged_word}
 use Rattle.brc_model.specs.declared.duty.Reason.TheVariants.{Own, Handed}
 use Rattle.brc_model.specs.declared.duty.Duty.{Duty}
-use Rattle.brc_model.specs.declared.duty.Duty.TheVariants.{RetainLoad, RetainStore, RetainAdd, ReleaseLoad, ReleaseStore, DecideAtZero, SharedLoad, SharedExchange, SetMark, Look, TakeMark, MergeSwap, MergeLoad, MergeExchange, Die, Settle, SettleKind, SettleCell, SettleEnd, Leave, Scan, Finish, ClaimMark}
+use Rattle.brc_model.specs.declared.duty.Duty.TheVariants.{RetainLoad, RetainStore, RetainAdd, ReleaseLoad, ReleaseStore, DecideAtZero, SharedLoad, SharedExchange, SetMark, Look, TakeMark, MergeSwap, MergeLoad, MergeExchange, Die, Settle, SettleKind, SettleCell, TakeSlot, CloseResource, SettleEnd, Leave, Scan, Finish, ClaimMark, BirthKind, BirthSlot, BirthLocal}
 use Rattle.brc_model.specs.declared.address.Address.{Address}
 use Rattle.brc_model.specs.declared.address.Address.TheVariants.{Local, Shared, Mark}
-use Rattle.brc_model.specs.Duties.{address_of, left_by, counts_locally, claimed, cells_of, cells_from, release_found, next_by}
-use Rattle.brc_model.specs.Machine.{Life, Actor, Machine, is_running, same_address, written, moves_by, dies_next, with_life, ended_row}
+use Rattle.brc_model.specs.Duties.{address_of, left_by, counts_locally, claimed, has_resource, cells_of, cells_from, release_found, next_by}
+use Rattle.brc_model.specs.Machine.{Life, Actor, Machine, is_running, same_address, written, moves_by, dies_next, with_life, ended_row, born_row}
 use Rattle.brc_model.proofs.Bag.{one_if, references_to-cons, same-true}
 use Rattle.brc_model.proofs.Rows.{waits, carries, merges, decides}
 use Rattle.brc_model.proofs.RowsAfterStep.{Doing, found_by, following, KeepsRow, IsQuiet, row_quiet}
@@ -37,11 +37,16 @@ subject (Die x) = x
 subject Settle = 0
 subject (SettleKind x) = x
 subject (SettleCell x i n) = x
+subject (TakeSlot x) = x
+subject (CloseResource x) = x
 subject (SettleEnd x) = x
 subject (Leave x n) = 0
 subject (Scan x n) = x
 subject Finish = 0
 subject (ClaimMark x) = x
+subject (BirthKind x h w) = x
+subject (BirthSlot x h) = x
+subject (BirthLocal x h) = x
 
 -- ---- words
 
@@ -51,6 +56,7 @@ other_local rows t head (RetainStore y h w) x e = e
 other_local rows t head (ReleaseLoad y h) x e = e
 other_local rows t head (ReleaseStore y w) x e = e
 other_local rows t head (MergeSwap y r) x e = e
+other_local rows t head (BirthLocal y h) x e = e
 other_local rows t head d x e = refl
 
 other_shared : (rows t head : ℕ) (d : Duty) (x : ℕ) → (subject d == x) ≡ false → same_address (address_of rows t head d) (Shared x) ≡ false
@@ -86,6 +92,7 @@ without_elsewhere x r (q ∷ qs) other =
     ] refl
 
 abbrev object_of : Move → ℕ
+object_of (Born r) = r.object
 object_of (Gain r) = r.object
 object_of (Lose r) = r.object
 object_of (HandOn r h) = r.object
@@ -96,6 +103,7 @@ AreElsewhere x [] = Unit {0}
 AreElsewhere x (mv ∷ ms) = ((object_of mv == x) ≡ false) × AreElsewhere x ms
 
 move_elsewhere : (x : ℕ) (p : Plain) (mv : Move) → (object_of mv == x) ≡ false → references_to x p.references ≡ references_to x (move p mv).references
+move_elsewhere x p (Born r) other = let none : one_if (r.object == x) ≡ 0 = ap one_if other in omega (arith, references_to-cons x r p.references, none)
 move_elsewhere x p (Gain r) other = let none : one_if (r.object == x) ≡ 0 = ap one_if other in omega (arith, references_to-cons x r p.references, none)
 move_elsewhere x p (Lose r) other = sym (without_elsewhere x r p.references other)
 move_elsewhere x p (HandOn r h) other =
@@ -121,6 +129,7 @@ moves_elsewhere x t (ReleaseLoad y (ByVariable v)) found e = (e, elsewhere_if x 
 moves_elsewhere x t (ReleaseStore y w) found e = (e, tt)
 moves_elsewhere x t (SharedExchange y Own w) found e = elsewhere_if x (found == w) _ _ (e, tt) tt
 moves_elsewhere x t (SettleEnd y) found e = (e, tt)
+moves_elsewhere x t (BirthLocal y h) found e = (e, tt)
 moves_elsewhere x t d found e = tt
 
 -- ---- duties
@@ -248,20 +257,29 @@ next_apart t running head (MergeExchange y c w) found x e =
     apart_if (found == w) (apart_if (merged_word w c == dead_word) (one x (Die y) e) (none_apart x)) (one x (MergeLoad y c) e)
 next_apart t running head (Die y) found x e = none_apart x
 next_apart t running head Settle found x e = more_apart x (SettleKind (head - 1)) _ (kind_apart x (head - 1)) (one_apart x Settle (settle_apart x))
-next_apart t running head (SettleKind y) found x e = cells_apart x y 0 (cells_of found)
+next_apart t running head (SettleKind y) found x e = apart_if (has_resource found) (one x (TakeSlot y) e) (cells_apart x y 0 (cells_of found))
 next_apart t running head (SettleCell y i n) found x e = released_apart x found (cells_from y (i + 1) n) (cells_apart x y (i + 1) n)
+next_apart t running head (TakeSlot y) found x e = one x (CloseResource y) e
+next_apart t running head (CloseResource y) found x e = one x (SettleEnd y) e
 next_apart t running head (SettleEnd y) found x e = none_apart x
 next_apart t running head (Leave y n) found x e = more_apart x (Scan y n) _ (scan_apart x y n) (one_apart x Finish (finish_apart x))
 next_apart t running head (Scan y n) found x e =
     claimed_apart x y found (Settle ∷ Scan (y + 1) (n - 1) ∷ []) e (more_apart x Settle _ (settle_apart x) (one_apart x (Scan (y + 1) (n - 1)) (scan_apart x (y + 1) (n - 1))))
 next_apart t running head Finish found x e = none_apart x
 next_apart t running head (ClaimMark y) found x e = claimed_apart x y found (Settle ∷ []) e (one_apart x Settle (settle_apart x))
+next_apart t running head (BirthKind y h w) found x e = apart_if (has_resource w) (one x (BirthSlot y h) e) (one x (BirthLocal y h) e)
+next_apart t running head (BirthSlot y h) found x e = one x (BirthLocal y h) e
+next_apart t running head (BirthLocal y h) found x e = none_apart x
 
 -- ---- the row stays
 
 not_ended : (x : ℕ) (d : Duty) → (subject d == x) ≡ false → (life : ℕ → Life) (state : Life) → with_life life (ended_row d) state x ≡ life x
 not_ended x (SettleEnd y) e life state = ap (λ (b : Bool). cond b state (life x)) e
 not_ended x d e life state = refl
+
+not_born : (x : ℕ) (d : Duty) → (subject d == x) ≡ false → (life : ℕ → Life) (state : Life) → with_life life (born_row d) state x ≡ life x
+not_born x (BirthLocal y h) e life state = ap (λ (b : Bool). cond b state (life x)) e
+not_born x d e life state = refl
 
 pub row_elsewhere : {p : Module} {n : ℕ} {m : Machine} {t : ℕ} {a : Actor} {d : Duty} {rest : List Duty} → Doing p n m t a d rest → (x : ℕ) → 0 < x → (subject d == x) ≡ false → KeepsRow m t a d rest x
 row_elsewhere {m = m} {t = t} {a = a} {d = d} {rest = rest} s x some e =
@@ -272,7 +290,7 @@ row_elsewhere {m = m} {t = t} {a = a} {d = d} {rest = rest} s x some e =
     let this = other_apart x d e in
     let q : IsQuiet m t a d rest x (following m t a d) = record {
       follows = refl;
-      lives = not_ended x d e _ _ ∙ next.lives m.life _;
+      lives = not_born x d e _ _ ∙ not_ended x d e _ _ ∙ next.lives m.life _;
       local = written_elsewhere m.memory at left (Local x) (other_local m.rows t a.head d x e);
       shared = written_elsewhere m.memory at left (Shared x) (other_shared m.rows t a.head d x e);
       mark = written_elsewhere m.memory at left (Mark x) (other_mark m.rows t a.head d x e);

@@ -14,7 +14,7 @@ use Rattle.brc_model.specs.declared.address.Address.TheVariants.{Local, Shared, 
 use Rattle.brc_model.specs.Duties.{block_of}
 use Rattle.brc_model.specs.declared.actor.Place.{Place}
 use Rattle.brc_model.specs.declared.actor.Place.TheVariants.{Standing, Inside, Departing}
-use Rattle.brc_model.specs.Machine.{Life, Actor, Machine, written, same_address, with_life, ended_row, done_by}
+use Rattle.brc_model.specs.Machine.{Life, Live, Actor, Machine, written, same_address, with_life, ended_row, born_row, done_by}
 use Rattle.brc_model.proofs.Bag.{held, one_if, held_has, held-le-references_to, references_to-without}
 use Rattle.brc_model.proofs.Holds.{nothing, the_root, of_variables, reference_of}
 use Rattle.brc_model.proofs.Rows.{Numbers, InOwned, InSwapped, InMerged, IsLive}
@@ -97,7 +97,7 @@ pub record KeepsWords (m after : Machine) (x : ℕ) : Type 0 where
   pub references : references_to x m.plain.references ≡ references_to x after.plain.references
 
 pub row_apart : {p : Module} {n : ℕ} {m : Machine} {t : ℕ} {a : Actor} {d : Duty} {rest : List Duty} → Doing p n m t a d rest → (x : ℕ) → 0 < x → IsApart x d → AreApart x (following m t a d)
-    → ((life : ℕ → Life) (state : Life) → with_life life (ended_row d) state x ≡ life x) → KeepsWords m (done_by m t a d rest) x → KeepsRow m t a d rest x
+    → ((life : ℕ → Life) (state : Life) → with_life (with_life life (ended_row d) state) (born_row d) Live x ≡ life x) → KeepsWords m (done_by m t a d rest) x → KeepsRow m t a d rest x
 row_apart {m = m} {t = t} {a = a} {d = d} {rest = rest} s x some this next ends words =
     let q : IsQuiet m t a d rest x (following m t a d) = record {
       follows = refl;

@@ -13,7 +13,7 @@ use Rattle.brc_model.specs.Threads.{code_of}
 use Rattle.brc_word.specs.Words.{owner_part, local_part, phase_part, dying_word}
 use Rattle.brc_model.specs.declared.duty.Reason.TheVariants.{Own, Handed}
 use Rattle.brc_model.specs.declared.duty.Duty.{Duty}
-use Rattle.brc_model.specs.declared.duty.Duty.TheVariants.{RetainLoad, RetainStore, RetainAdd, ReleaseLoad, ReleaseStore, DecideAtZero, SharedLoad, SharedExchange, SetMark, Look, TakeMark, MergeSwap, MergeLoad, MergeExchange, Die, Settle, SettleKind, SettleCell, SettleEnd, Leave, Scan, Finish, ClaimMark}
+use Rattle.brc_model.specs.declared.duty.Duty.TheVariants.{RetainLoad, RetainStore, RetainAdd, ReleaseLoad, ReleaseStore, DecideAtZero, SharedLoad, SharedExchange, SetMark, Look, TakeMark, MergeSwap, MergeLoad, MergeExchange, Die, Settle, SettleKind, SettleCell, TakeSlot, CloseResource, SettleEnd, Leave, Scan, Finish, ClaimMark, BirthKind, BirthSlot, BirthLocal}
 use Rattle.brc_model.specs.declared.address.Address.{Address}
 use Rattle.brc_model.specs.declared.address.Address.TheVariants.{Local, Shared, Gate, Mark, Cell, ThreadWord}
 use Rattle.brc_model.specs.Duties.{block_of}
@@ -56,6 +56,9 @@ abbrev pub lacks : Duty → Holding → ℕ → Bool
 lacks (RetainLoad x h) k object = same_holding h k && (x == object)
 lacks (RetainStore x h w) k object = same_holding h k && (x == object)
 lacks (RetainAdd x h) k object = same_holding h k && (x == object)
+lacks (BirthKind x h w) k object = same_holding h k && (x == object)
+lacks (BirthSlot x h) k object = same_holding h k && (x == object)
+lacks (BirthLocal x h) k object = same_holding h k && (x == object)
 lacks _ k object = false
 
 abbrev pub extra_of : List Duty → Holding → ℕ → Bool
@@ -106,6 +109,13 @@ FollowsHanded x _ = ⊥
 abbrev pub IsMergeOf : Machine → ℕ → Actor → ℕ → List Duty → Type 0
 IsMergeOf m t a x rest = ((a.status ≡ Running) × (block_of m.rows x ≡ t)) ⊎ FollowsHanded x rest
 
+-- the next row of a running worker's block: it is there, and not used yet
+pub record IsNext (m : Machine) (t : ℕ) (a : Actor) (x : ℕ) : Type 0 where
+  pub running : a.status ≡ Running
+  pub worker : 0 < t
+  pub row : x ≡ first_row m.rows t + a.used
+  pub room : a.used < m.rows
+
 abbrev pub HeadFits : Machine → ℕ → Actor → Duty → List Duty → Type 0
 HeadFits m t a (RetainLoad x h) rest = (0 < x) × IsBacked m t x
 HeadFits m t a (RetainStore x h w) rest = (0 < x) × IsBacked m t x × OwnsLocally m t a x × (m.memory (Local x) ≡ w) × (1 ≤ local_part w) × (local_part w < 4294967294)
@@ -128,11 +138,16 @@ HeadFits m t a (Die x) rest = (0 < x) × (m.life x ≡ Dying t)
 HeadFits m t a Settle rest = 0 < a.head
 HeadFits m t a (SettleKind x) rest = (0 < x) × (m.life x ≡ Dying t)
 HeadFits m t a (SettleCell x i n) rest = (0 < x) × (m.life x ≡ Dying t) × (i < n)
+HeadFits m t a (TakeSlot x) rest = (0 < x) × (m.life x ≡ Dying t)
+HeadFits m t a (CloseResource x) rest = (0 < x) × (m.life x ≡ Dying t)
 HeadFits m t a (SettleEnd x) rest = (0 < x) × (m.life x ≡ Dying t)
 HeadFits m t a (Leave x n) rest = Unit {0}
 HeadFits m t a (Scan x n) rest = 0 < n
 HeadFits m t a Finish rest = Unit {0}
 HeadFits m t a (ClaimMark x) rest = block_of m.rows x ≡ t
+HeadFits m t a (BirthKind x h w) rest = IsNext m t a x × (rest ≡ [])
+HeadFits m t a (BirthSlot x h) rest = IsNext m t a x × (rest ≡ [])
+HeadFits m t a (BirthLocal x h) rest = IsNext m t a x × (rest ≡ [])
 
 abbrev pub HeadOf : Machine → ℕ → Actor → List Duty → Type 0
 HeadOf m t a [] = Unit {0}
@@ -192,6 +207,8 @@ abbrev pub at_hand : Duty → ℕ → Bool
 at_hand (Die y) x = y == x
 at_hand (SettleKind y) x = y == x
 at_hand (SettleCell y i n) x = y == x
+at_hand (TakeSlot y) x = y == x
+at_hand (CloseResource y) x = y == x
 at_hand (SettleEnd y) x = y == x
 at_hand _ x = false
 
@@ -237,20 +254,35 @@ pub data IsWatched (m : Machine) (x : ℕ) : Type 0 where
   ByExit : (a : Actor) → slice_get m.actors (block_of m.rows x) ≡ Some a → scans x a.agenda ≡ true → IsWatched m x
   ByLook : 0 < weight (looks x) m.actors → IsWatched m x
 
+-- ---- births
+
+-- the rows of a thread's block that it has used are born, and the others aren't
+pub record UsesFit (rows : ℕ) (life : ℕ → Life) (t used : ℕ) : Type 0 where
+  -- main uses none and the root; a worker has so many rows
+  pub main : t ≡ 0 → used ≡ 2
+  pub few : 0 < t → used ≤ rows
+  pub born : (x : ℕ) → first_row rows t ≤ x → x < first_row rows t + used → life x ≢ Unborn
+  pub unborn : (x : ℕ) → block_of rows x ≡ t → first_row rows t + used ≤ x → life x ≡ Unborn
+
 -- ---- the whole
 
 pub record Rule (p : Module) (n : ℕ) (m : Machine) : Type 0 where
   pub functions : m.functions ≡ p.functions
   pub threads : length m.actors ≡ n
   pub some_rows : 0 < m.rows
+  pub few_threads : n ≤ 33
+  pub few_rows : m.rows ≤ 1024
   pub rows : (x : ℕ) → 0 < x → RowRule (block_of m.rows x) (m.life x) (numbers_of m x)
   pub marks : (x : ℕ) → m.memory (Mark x) ≡ 0 ⊎ ((m.memory (Mark x) ≡ 1) × (0 < x) × IsWatched m x)
   pub each : (t : ℕ) (a : Actor) → slice_get m.actors t ≡ Some a → ActorFits p m t a × AgendaFits m.rows t a a.status × HandedOnce a.agenda
   pub beyond : (t : ℕ) → n ≤ t → (k : Holding) (object : ℕ) → held (reference_of t k object) m.plain.references ≡ 0
   pub dying : (x t : ℕ) → n ≤ t → dies_by (m.life x) t ≡ false
   pub cells : (x i : ℕ) → m.memory (Cell x i) ≡ 0
-  pub only_root : (x : ℕ) → 1 < x → m.life x ≡ Unborn
+  pub uses : (t : ℕ) (a : Actor) → slice_get m.actors t ≡ Some a → UsesFit m.rows m.life t a.used
+  pub no_block : (x : ℕ) → n ≤ block_of m.rows x → m.life x ≡ Unborn
   pub none_lives : m.life 0 ≡ Live
+  pub born_is : (x : ℕ) → is_among x m.plain.born ≡ true → (0 < x) × (m.life x ≢ Unborn)
+  pub born_has : (x : ℕ) → 0 < x → m.life x ≢ Unborn → is_among x m.plain.born ≡ true
   pub closed_is : (x : ℕ) → is_among x m.plain.closed ≡ true → m.life x ≡ Closed
   pub closed_has : (x : ℕ) → m.life x ≡ Closed → is_among x m.plain.closed ≡ true
   pub once : AllPairs (λ x y. x ≢ y) m.plain.closed

@@ -1,8 +1,8 @@
 -- The invariant says what an accepted module promises, so each accepted module is safe.
-use Rattle.std.proofs.Common.{◌≡◌, ℕ, zero, suc, ◌+◌, ◌<◌, true, false, List, [], ◌∷◌, inl, inr, length, Some, refl, sym, ap, ◌∙◌, subst, arith}
+use Rattle.std.proofs.Common.{◌≡◌, ℕ, zero, suc, ◌+◌, ◌<◌, true, false, List, [], ◌∷◌, inl, inr, length, Some, refl, sym, ap, ◌∙◌, subst, arith, ◌≢◌, ◌≤◌}
 use Rattle.std.specs.Prelude.{◌==◌, ◌||◌, slice_get, count_by, sum_by, map}
 use Rattle.std.proofs.lemmas.Bool.{eqb-true, eq-eqb, false≢true}
-use Rattle.std.proofs.lemmas.Option.{slice_get_cases}
+use Rattle.std.proofs.lemmas.Option.{slice_get_cases, slice_get_within}
 use Rattle.brc_lang.specs.declared.module.Module.{Module}
 use Rattle.brc_lang.specs.Grammar.{IsModule}
 use Rattle.brc_model.specs.declared.thread.Call.{Call}
@@ -28,8 +28,9 @@ use Rattle.brc_model.proofs.Agreeing.{agrees_at, is_free_of}
 use Rattle.brc_model.proofs.Deciders.{sum_zero}
 use Rattle.brc_model.proofs.OwnExits.{IsSettled}
 use Rattle.brc_model.proofs.FirstMachine.{first_rule}
-use Rattle.brc_model.proofs.Whole.{used_rows, Whole}
+use Rattle.brc_model.proofs.Whole.{Whole}
 use Rattle.brc_model.proofs.WholeEvents.{event_keeps, whole_after}
+use Rattle.brc_model.proofs.Blocks.{born_used}
 
 -- ---- when all threads are gone
 
@@ -129,24 +130,21 @@ none_dying p n m x t rule done dying =
       | inr past ↦ false≢true (sym (rule.dying x t (omega (arith, past.0, rule.threads))) ∙ dies)
     ]
 
-among_root : (x : ℕ) → is_among x (root_row ∷ []) ≡ true → x ≡ root_row
-among_root x is = elim (root_row == x) as (λ b. (root_row == x) ≡ b → (b || false) ≡ true → x ≡ root_row) [
-  | true ↦ λ e f. sym (eqb-true root_row x e)
-  | false ↦ λ e f. absurd cc
-] refl is
+-- what was born and has no reference is closed
+born_closed : (p : Module) (n : ℕ) (m : Machine) (x : ℕ) (l : Life) → Rule p n m → AllGone m → 0 < x → references_to x m.plain.references ≡ 0 → (m.life x ≢ Unborn) → m.life x ≡ l → m.life x ≡ Closed
+born_closed p n m x Unborn rule done pos none born is = absurd (born is)
+born_closed p n m x Live rule done pos none born is =
+    let live : IsLive (block_of m.rows x) (numbers_of m x) = subst (λ (l : Life). RowRule (block_of m.rows x) l (numbers_of m x)) is (rule.rows x pos) in
+    let used = born_used p n m x rule born in
+    let within : block_of m.rows x < n = omega (arith, slice_get_within m.actors (block_of m.rows x) used.by used.found, rule.threads) in
+    absurd (omega (arith, live_referenced p n m x rule done within live, none))
+born_closed p n m x (Dying t) rule done pos none born is = absurd (none_dying p n m x t rule done is)
+born_closed p n m x Closed rule done pos none born is = is
 
-closed_is_root : (p : Module) (n : ℕ) (m : Machine) (x : ℕ) → Rule p n m → m.life x ≡ Closed → x ≡ root_row
-closed_is_root p n m zero rule closed = absurd (let wrong : Live ≡ Closed = sym rule.none_lives ∙ closed in cc)
-closed_is_root p n m (suc zero) rule closed = refl
-closed_is_root p n m (suc (suc x)) rule closed = absurd (let wrong : Unborn ≡ Closed = sym (rule.only_root (suc (suc x)) (omega arith)) ∙ closed in cc)
-
-root_closed : (p : Module) (n : ℕ) (m : Machine) (l : Life) → Whole p n m → AllGone m → 0 < n → references_to root_row m.plain.references ≡ 0 → m.life root_row ≡ l → m.life root_row ≡ Closed
-root_closed p n m Unborn whole done some none is = absurd (whole.root_born is)
-root_closed p n m Live whole done some none is =
-    let live : IsLive (block_of m.rows root_row) (numbers_of m root_row) = subst (λ (l : Life). RowRule (block_of m.rows root_row) l (numbers_of m root_row)) is (whole.rule.rows root_row (omega arith)) in
-    absurd (omega (arith, live_referenced p n m root_row whole.rule done some live, none))
-root_closed p n m (Dying t) whole done some none is = absurd (none_dying p n m root_row t whole.rule done is)
-root_closed p n m Closed whole done some none is = is
+-- what is closed was born, and is counted
+closed_born : (p : Module) (n : ℕ) (m : Machine) (x : ℕ) → Rule p n m → m.life x ≡ Closed → (0 < x) × (m.life x ≢ Unborn)
+closed_born p n m zero rule closed = absurd (let wrong : Live ≡ Closed = sym rule.none_lives ∙ closed in cc)
+closed_born p n m (suc x) rule closed = (omega arith, λ e. let wrong : Closed ≡ Unborn = sym closed ∙ e in cc)
 
 -- ---- the promise
 
@@ -158,31 +156,27 @@ safe_now p n m whole some = record {
   closed_once = whole.rule.once;
   closed_at_end = λ done x. (
     λ closed.
-        let root = closed_is_root p n m x whole.rule (whole.rule.closed_is x closed) in
-        (ap (λ (y : ℕ). is_among y (root_row ∷ [])) root, ap (references_to x) (none_left p n m whole.rule done)),
+        let was = closed_born p n m x whole.rule (whole.rule.closed_is x closed) in
+        (whole.rule.born_has x was.0 was.1, ap (references_to x) (none_left p n m whole.rule done)),
     λ born.
-        let root = among_root x born.0 in
-        let none : references_to root_row m.plain.references ≡ 0 = ap (references_to root_row) (none_left p n m whole.rule done) in
-        whole.rule.closed_has x (ap m.life root ∙ root_closed p n m (m.life root_row) whole done some none refl ∙ refl),
+        let was = whole.rule.born_is x born.0 in
+        whole.rule.closed_has x (born_closed p n m x (m.life x) whole.rule done was.0 born.1 was.1 refl),
   );
   none_left = λ done. none_left p n m whole.rule done;
 }
 
-first_settled : (calls : List Call) (t : ℕ) (a : Actor) → slice_get (main_actor ∷ map worker_actor calls) t ≡ Some a → IsSettled a.head a.agenda × (a.used ≡ used_rows t)
-first_settled calls zero a is = let P : Actor → Type 0 = λ b. IsSettled b.head b.agenda × (b.used ≡ 2) in subst P (some_is main_actor a is) (tt, refl)
+first_settled : (calls : List Call) (t : ℕ) (a : Actor) → slice_get (main_actor ∷ map worker_actor calls) t ≡ Some a → IsSettled a.head a.agenda
+first_settled calls zero a is = subst (λ (b : Actor). IsSettled b.head b.agenda) (some_is main_actor a is) tt
 first_settled calls (suc t) a is =
     let call = slice_get-map worker_actor calls t a is in
-    let P : Actor → Type 0 = λ b. IsSettled b.head b.agenda × (b.used ≡ 0) in
-    subst P call.is_image (tt, refl)
+    subst (λ (b : Actor). IsSettled b.head b.agenda) call.is_image tt
 
-pub first_whole : (m : Module) (rows : ℕ) (calls : List Call) → IsModule m → IsAcceptable m → AreCalls m calls → 0 < rows → Whole m (1 + length calls) (first_machine m rows calls)
-first_whole m rows calls fits accepted are_calls some = record {
-  rule = first_rule m rows calls fits accepted are_calls some;
-  settled = λ t a is. (first_settled calls t a is).0;
-  used = λ t a is. (first_settled calls t a is).1;
-  root_born = λ e. (let wrong : Live ≡ Unborn = e in cc);
+pub first_whole : (m : Module) (rows : ℕ) (calls : List Call) → IsModule m → IsAcceptable m → AreCalls m calls → 0 < rows → rows ≤ 1024 → Whole m (1 + length calls) (first_machine m rows calls)
+first_whole m rows calls fits accepted are_calls some few = record {
+  rule = first_rule m rows calls fits accepted are_calls some few;
+  settled = first_settled calls;
 }
 
 pub accepted_is_safe : (m : Module) → IsModule m → IsAcceptable m → Safe m
 accepted_is_safe m fits accepted = λ rows calls events some most are_calls.
-    safe_now m (1 + length calls) _ (whole_after m (1 + length calls) (first_machine m rows calls) events (first_whole m rows calls fits accepted are_calls some)) (omega arith)
+    safe_now m (1 + length calls) _ (whole_after m (1 + length calls) (first_machine m rows calls) events (first_whole m rows calls fits accepted are_calls some most)) (omega arith)

@@ -13,11 +13,11 @@ use Rattle.brc_model.specs.declared.actor.Status.{Status}
 use Rattle.brc_model.specs.declared.actor.Status.TheVariants.{Running}
 use Rattle.brc_model.specs.declared.actor.Place.{Place}
 use Rattle.brc_model.specs.Machine.{Actor, Machine, at_place, with_actor, actor_by, done_by}
-use Rattle.brc_model.proofs.Lists.{some_is, slice_get-set_same, slice_get-set_other}
+use Rattle.brc_model.proofs.Lists.{some_is, slice_get-set_same, slice_get-set_other, written_actor}
 use Rattle.brc_model.proofs.Bag.{one_if}
 use Rattle.brc_model.proofs.Weights.{weight-set}
 use Rattle.brc_model.proofs.Rows.{waits, carries, merges, decides, agenda_weight, weight, Numbers, RowRule}
-use Rattle.brc_model.proofs.Rule.{numbers_of, PlaceFits, HeadOf, Agenda, HandedOnce, scans, hand_of, ActorFits, AgendaFits, looks, IsWatched, ByRunning, ByExit, ByLook, Rule}
+use Rattle.brc_model.proofs.Rule.{numbers_of, PlaceFits, HeadOf, Agenda, HandedOnce, scans, hand_of, ActorFits, AgendaFits, looks, IsWatched, ByRunning, ByExit, ByLook, Rule, UsesFit}
 use Rattle.brc_model.proofs.Others.{LeavesOthers, others_fit}
 
 -- the thread with another place and agenda
@@ -121,14 +121,19 @@ sits_rule p n m t a place agenda rest sits = record {
   functions = rest.rule.functions;
   threads = length-set m.actors t (sitting a place agenda) ∙ rest.rule.threads;
   some_rows = rest.rule.some_rows;
+  few_threads = rest.rule.few_threads;
+  few_rows = rest.rule.few_rows;
   rows = λ x pos. subst (λ (k : Numbers). RowRule (block_of m.rows x) (m.life x) k) (same_numbers p n m t a place agenda x rest sits) (rest.rule.rows x pos);
   marks = λ x. elim (rest.rule.marks x) [ inl none ↦ inl none | inr set ↦ inr (set.0, set.1, still_watched p n m t a place agenda x rest sits set.2) ];
   each = λ u b is. sitting_each p n m t a place agenda rest sits u b is;
   beyond = rest.rule.beyond;
   dying = rest.rule.dying;
   cells = rest.rule.cells;
-  only_root = rest.rule.only_root;
+  uses = λ u b is. written_actor (λ w c. UsesFit m.rows m.life w c.used) m.actors t a (sitting a place agenda) rest.found (rest.rule.uses t a rest.found) rest.rule.uses u b is;
+  no_block = rest.rule.no_block;
   none_lives = rest.rule.none_lives;
+  born_is = rest.rule.born_is;
+  born_has = rest.rule.born_has;
   closed_is = rest.rule.closed_is;
   closed_has = rest.rule.closed_has;
   once = rest.rule.once;

@@ -5,7 +5,7 @@ use Rattle.std.proofs.lemmas.List.{length-set}
 use Rattle.std.proofs.lemmas.Option.{slice_get_within}
 use Rattle.brc_lang.specs.declared.module.Module.{Module}
 use Rattle.brc_model.specs.declared.duty.Duty.{Duty}
-use Rattle.brc_model.specs.declared.duty.Duty.TheVariants.{RetainLoad, RetainStore, RetainAdd, ReleaseLoad, ReleaseStore, DecideAtZero, SharedLoad, SharedExchange, SetMark, Look, TakeMark, MergeSwap, MergeLoad, MergeExchange, Die, Settle, SettleKind, SettleCell, SettleEnd, Leave, Scan, Finish, ClaimMark}
+use Rattle.brc_model.specs.declared.duty.Duty.TheVariants.{RetainLoad, RetainStore, RetainAdd, ReleaseLoad, ReleaseStore, DecideAtZero, SharedLoad, SharedExchange, SetMark, Look, TakeMark, MergeSwap, MergeLoad, MergeExchange, Die, Settle, SettleKind, SettleCell, TakeSlot, CloseResource, SettleEnd, Leave, Scan, Finish, ClaimMark, BirthKind, BirthSlot, BirthLocal}
 use Rattle.brc_model.specs.declared.actor.Status.TheVariants.{Running, Gone}
 use Rattle.brc_model.specs.declared.actor.Place.{Place}
 use Rattle.brc_model.specs.Threads.{code_of}
@@ -21,61 +21,60 @@ use Rattle.brc_model.proofs.Sits.{sitting, AtRest}
 use Rattle.brc_model.proofs.TakenSits.{taken_sits, rests, begun_fits}
 use Rattle.brc_model.proofs.Whole.{Whole, whole_sits, starts_settled}
 use Rattle.brc_model.proofs.Safe.{first_whole}
-use Rattle.brc_model.proofs.Ranges.{IsSmall, AreSmall, head_small}
-use Rattle.brc_model.proofs.RangesEvents.{starts_small, used_small, claim_small, Bounded, bounded_after, first_ranges}
+use Rattle.brc_model.proofs.Ranges.{limit, IsSmall, AreSmall, head_small}
+use Rattle.brc_model.proofs.RangesEvents.{starts_small, claim_small, Bounded, bounded_after, first_ranges}
 use Rattle.brc_model.proofs.Bounds.{duty_suits}
+use Rattle.brc_model.proofs.Blocks.{used_low, block_within}
 
 -- ---- the word is there
 
--- none and the root are there, whatever the workers' rows
-first_two : (k x : ℕ) → x ≤ 1 → x < 2 + k
-first_two k x low = omega (arith, low)
-
-main_block : (rows x : ℕ) → x ≤ 1 → block_of rows x ≡ 0
-main_block rows zero low = refl
-main_block rows (suc zero) low = refl
-main_block rows (suc (suc x)) low = absurd (omega (arith, low))
-
-duty_there : (p : Module) (n : ℕ) (m : Machine) (t : ℕ) (a : Actor) (d : Duty) (rest : List Duty) (k : ℕ) → Whole p n m → AtDuty p n m t a d rest → (a.status ≡ Gone → ⊥) → IsSmall d
-    → IsThere (2 + k) (length m.actors) (address_of m.rows t a.head d)
-duty_there p n m t a (RetainLoad x h) rest k whole here alive small = first_two k x small
-duty_there p n m t a (RetainStore x h w) rest k whole here alive small = first_two k x small
-duty_there p n m t a (RetainAdd x h) rest k whole here alive small = first_two k x small
-duty_there p n m t a (ReleaseLoad x h) rest k whole here alive small = first_two k x small
-duty_there p n m t a (ReleaseStore x w) rest k whole here alive small = first_two k x small
-duty_there p n m t a (DecideAtZero x) rest k whole here alive small = first_two k x small
-duty_there p n m t a (SharedLoad x r) rest k whole here alive small = first_two k x small
-duty_there p n m t a (SharedExchange x r w) rest k whole here alive small = first_two k x small
-duty_there p n m t a (SetMark x) rest k whole here alive small = first_two k x small
-duty_there p n m t a (Look x) rest k whole here alive small = omega (arith, main_block m.rows x small, slice_get_within m.actors t a here.found)
-duty_there p n m t a (TakeMark x) rest k whole here alive small = first_two k x small
-duty_there p n m t a (MergeSwap x r) rest k whole here alive small = first_two k x small
-duty_there p n m t a (MergeLoad x c) rest k whole here alive small = first_two k x small
-duty_there p n m t a (MergeExchange x c w) rest k whole here alive small = first_two k x small
-duty_there p n m t a (Die x) rest k whole here alive small = first_two k x small
-duty_there p n m t a Settle rest k whole here alive small = first_two k (a.head - 1) (omega (arith, head_small p n m t a here.rule here.found))
-duty_there p n m t a (SettleKind x) rest k whole here alive small = first_two k x small
-duty_there p n m t a (SettleCell x i c) rest k whole here alive small =
+duty_there : (p : Module) (n : ℕ) (m : Machine) (t : ℕ) (a : Actor) (d : Duty) (rest : List Duty) → Whole p n m → AtDuty p n m t a d rest → (a.status ≡ Gone → ⊥) → IsSmall (limit n m) d
+    → IsThere (limit n m) (length m.actors) (address_of m.rows t a.head d)
+duty_there p n m t a (RetainLoad x h) rest whole here alive small = small
+duty_there p n m t a (RetainStore x h w) rest whole here alive small = small
+duty_there p n m t a (RetainAdd x h) rest whole here alive small = small
+duty_there p n m t a (ReleaseLoad x h) rest whole here alive small = small
+duty_there p n m t a (ReleaseStore x w) rest whole here alive small = small
+duty_there p n m t a (DecideAtZero x) rest whole here alive small = small
+duty_there p n m t a (SharedLoad x r) rest whole here alive small = small
+duty_there p n m t a (SharedExchange x r w) rest whole here alive small = small
+duty_there p n m t a (SetMark x) rest whole here alive small = small
+duty_there p n m t a (Look x) rest whole here alive small =
+    let within : t < n = omega (arith, slice_get_within m.actors t a here.found, here.rule.threads) in
+    omega (arith, block_within m.rows n x here.rule.some_rows (omega (arith, within)) small, here.rule.threads)
+duty_there p n m t a (TakeMark x) rest whole here alive small = small
+duty_there p n m t a (MergeSwap x r) rest whole here alive small = small
+duty_there p n m t a (MergeLoad x c) rest whole here alive small = small
+duty_there p n m t a (MergeExchange x c w) rest whole here alive small = small
+duty_there p n m t a (Die x) rest whole here alive small = small
+duty_there p n m t a Settle rest whole here alive small = omega (arith, head_small p n m t a here.rule here.found)
+duty_there p n m t a (SettleKind x) rest whole here alive small = small
+duty_there p n m t a (SettleCell x i c) rest whole here alive small =
     let (pos, dies, more) = head_of p n m t a (SettleCell x i c) rest here in
-    (first_two k x small.0, omega (arith, more, small.1))
-duty_there p n m t a (SettleEnd x) rest k whole here alive small = first_two k x small
-duty_there p n m t a (Leave x c) rest k whole here alive small = slice_get_within m.actors t a here.found
-duty_there p n m t a (Scan x c) rest k whole here alive small =
+    (small.0, omega (arith, more, small.1))
+duty_there p n m t a (TakeSlot x) rest whole here alive small = small
+duty_there p n m t a (CloseResource x) rest whole here alive small = small
+duty_there p n m t a (SettleEnd x) rest whole here alive small = small
+duty_there p n m t a (Leave x c) rest whole here alive small = slice_get_within m.actors t a here.found
+duty_there p n m t a (Scan x c) rest whole here alive small =
     let fits = agenda_here p n m t a (Scan x c) rest here alive in
     let some = head_of p n m t a (Scan x c) rest here in
-    first_two k x (used_small m.rows t a.used x (whole.used t a here.found) fits.1 (omega (arith, fits.2, some)))
-duty_there p n m t a Finish rest k whole here alive small = slice_get_within m.actors t a here.found
-duty_there p n m t a (ClaimMark x) rest k whole here alive small = first_two k x small
+    used_low p n m t a x here.rule here.found (omega (arith, slice_get_within m.actors t a here.found, here.rule.threads)) (omega (arith, fits.2, some))
+duty_there p n m t a Finish rest whole here alive small = slice_get_within m.actors t a here.found
+duty_there p n m t a (ClaimMark x) rest whole here alive small = small
+duty_there p n m t a (BirthKind x h w) rest whole here alive small = small.0
+duty_there p n m t a (BirthSlot x h) rest whole here alive small = small
+duty_there p n m t a (BirthLocal x h) rest whole here alive small = small
 
 -- ---- a duty
 
-duty_within : (p : Module) (n : ℕ) (m : Machine) (t : ℕ) (a : Actor) (d : Duty) (rest : List Duty) → Whole p n m → slice_get m.actors t ≡ Some a → a.agenda ≡ d ∷ rest → (a.status ≡ Gone → ⊥) → IsSmall d → n ≤ 33
+duty_within : (p : Module) (n : ℕ) (m : Machine) (t : ℕ) (a : Actor) (d : Duty) (rest : List Duty) → Whole p n m → slice_get m.actors t ≡ Some a → a.agenda ≡ d ∷ rest → (a.status ≡ Gone → ⊥) → IsSmall (limit n m) d → n ≤ 33
     → IsWithin (world_of m) t a d
 duty_within p n m t a d rest whole found is alive small few =
     let here : AtDuty p n m t a d rest = record { rule = whole.rule; found = found; agenda = is } in
     record {
-      there = duty_there p n m t a d rest ((length m.actors - 1) * m.rows) whole here alive small;
-      head = omega (arith, head_small p n m t a whole.rule found);
+      there = subst (λ (l : ℕ). IsThere (2 + (l - 1) * m.rows) (length m.actors) (address_of m.rows t a.head d)) (sym whole.rule.threads) (duty_there p n m t a d rest whole here alive small);
+      head = subst (λ (l : ℕ). a.head ≤ 2 + (l - 1) * m.rows) (sym whole.rule.threads) (head_small p n m t a whole.rule found);
       suits = duty_suits p n m t a d rest (row_count (world_of m)) here alive few;
     }
 
@@ -104,16 +103,16 @@ begun_within p n m t a d rest place whole found few alive is work =
     taken_within p n m t a d rest place whole at few
     (subst (λ (b : Begun). IsTaken (code_of (slice_get p.functions a.function)) m.plain.references m.rows t a.used b) work (begun_fits p n m t a at at_rest.0))
 
-claim_within : (p : Module) (n : ℕ) (m : Machine) (t : ℕ) (a : Actor) (row : ℕ) → Whole p n m → slice_get m.actors t ≡ Some a → row ≤ 1 → IsWithin (world_of m) t a (ClaimMark row)
+claim_within : (p : Module) (n : ℕ) (m : Machine) (t : ℕ) (a : Actor) (row : ℕ) → Whole p n m → slice_get m.actors t ≡ Some a → row < limit n m → IsWithin (world_of m) t a (ClaimMark row)
 claim_within p n m t a row whole found small = record {
-  there = first_two ((length m.actors - 1) * m.rows) row small;
-  head = omega (arith, head_small p n m t a whole.rule found);
+  there = subst (λ (l : ℕ). row < 2 + (l - 1) * m.rows) (sym whole.rule.threads) small;
+  head = subst (λ (l : ℕ). a.head ≤ 2 + (l - 1) * m.rows) (sym whole.rule.threads) (head_small p n m t a whole.rule found);
   suits = tt;
 }
 
 machine_within : (p : Module) (n : ℕ) (m : Machine) (t : ℕ) (a : Actor) → Bounded p n m → n ≤ 33 → slice_get m.actors t ≡ Some a → StepsWithin (world_of m) t a
 machine_within p n m t a bounded few found = record {
-  goes_on = λ d rest alive is. duty_within p n m t a d rest bounded.whole found is alive (subst AreSmall is (bounded.ranges.each t a found)).0 few;
+  goes_on = λ d rest alive is. duty_within p n m t a d rest bounded.whole found is alive (subst (AreSmall (limit n m)) is (bounded.ranges.each t a found)).0 few;
   takes_up = λ d rest place alive is work. begun_within p n m t a d rest place bounded.whole found few alive is work;
   claims = λ row may. claim_within p n m t a row bounded.whole found (claim_small p n m t a row a.place bounded.whole found may);
 }
@@ -122,8 +121,8 @@ machine_within p n m t a bounded few found = record {
 
 reached_bounded : (p : Module) (w : World) (r : IsReachable p w) → Bounded p (1 + length r.calls) (machine_after (first_machine p r.rows r.calls) r.events)
 reached_bounded p w r = bounded_after p (1 + length r.calls) (first_machine p r.rows r.calls) r.events (record {
-  whole = first_whole p r.rows r.calls r.fits r.accepted r.calls_fit r.some_rows;
-  ranges = first_ranges p r.rows r.calls r.most_rows;
+  whole = first_whole p r.rows r.calls r.fits r.accepted r.calls_fit r.some_rows r.most_rows;
+  ranges = first_ranges p r.rows r.calls;
 })
 
 pub steps_within : (p : Module) (w : World) (t : ℕ) (a : Actor) → IsReachable p w → slice_get w.actors t ≡ Some a → StepsWithin w t a
@@ -154,4 +153,4 @@ some_rows p w r =
 pub few_rows : (p : Module) (w : World) → IsReachable p w → w.rows ≤ 1024
 few_rows p w r =
     let same : w.rows ≡ (machine_after (first_machine p r.rows r.calls) r.events).rows = ap (λ (v : World). v.rows) r.reached in
-    omega (arith, same, (reached_bounded p w r).ranges.rows)
+    omega (arith, same, (reached_bounded p w r).whole.rule.few_rows)

@@ -110,7 +110,7 @@ pub going_on_moves : (p : Module) (w : World) (t : ℕ) (a : Actor) → IsReacha
 going_on_moves p w t a here found alive =
     let first = first_machine p here.rows here.calls in
     let n = 1 + length here.calls in
-    let whole : Whole p n (machine_after first here.events) = whole_after p n first here.events (first_whole p here.rows here.calls here.fits here.accepted here.calls_fit here.some_rows) in
+    let whole : Whole p n (machine_after first here.events) = whole_after p n first here.events (first_whole p here.rows here.calls here.fits here.accepted here.calls_fit here.some_rows here.most_rows) in
     let there : slice_get (machine_after first here.events).actors t ≡ Some a = ap (λ (v : World). slice_get v.actors t) (sym here.reached) ∙ found in
     subst (λ (v : World). BothMove v t) (sym here.reached) (machine_moves p n (machine_after first here.events) t a whole there alive)
 

@@ -1,5 +1,5 @@
 -- Marks that are set stay watched: by the block's running thread, by its exit, or by the thread that set the mark.
-use Rattle.std.proofs.Common.{◌≡◌, ◌≢◌, ℕ, zero, suc, ◌+◌, ◌-◌, ◌<◌, ◌≤◌, Bool, true, false, cond, List, [], ◌∷◌, ◌++◌, ◌⊎◌, inl, inr, Some, set, refl, sym, ap, ◌∙◌, arith}
+use Rattle.std.proofs.Common.{◌≡◌, ◌≢◌, ℕ, zero, suc, ◌+◌, ◌-◌, ◌<◌, ◌≤◌, Bool, true, false, cond, List, [], ◌∷◌, ◌++◌, ◌⊎◌, inl, inr, Some, set, refl, sym, ap, ◌∙◌, arith, subst}
 use Rattle.std.specs.Prelude.{◌==◌, ◌&&◌, nat_lt, slice_get, sum_by}
 use Rattle.std.proofs.lemmas.Bool.{eqb-true, ne_eqb, leb-true, le-leb}
 use Rattle.std.proofs.lemmas.Bool.Decides.{eqb_tells}
@@ -8,9 +8,9 @@ use Rattle.brc_lang.specs.declared.module.Module.{Module}
 use Rattle.brc_word.specs.Words.{local_part, is_immortal_word, fresh_word, dead_word, released_word, merged_word}
 use Rattle.brc_model.specs.declared.duty.Reason.TheVariants.{Own, Handed}
 use Rattle.brc_model.specs.declared.duty.Duty.{Duty}
-use Rattle.brc_model.specs.declared.duty.Duty.TheVariants.{RetainLoad, RetainStore, RetainAdd, ReleaseLoad, ReleaseStore, DecideAtZero, SharedLoad, SharedExchange, SetMark, Look, TakeMark, MergeSwap, MergeLoad, MergeExchange, Die, Settle, SettleKind, SettleCell, SettleEnd, Leave, Scan, Finish, ClaimMark}
+use Rattle.brc_model.specs.declared.duty.Duty.TheVariants.{RetainLoad, RetainStore, RetainAdd, ReleaseLoad, ReleaseStore, DecideAtZero, SharedLoad, SharedExchange, SetMark, Look, TakeMark, MergeSwap, MergeLoad, MergeExchange, Die, Settle, SettleKind, SettleCell, TakeSlot, CloseResource, SettleEnd, Leave, Scan, Finish, ClaimMark, BirthKind, BirthSlot, BirthLocal}
 use Rattle.brc_model.specs.declared.address.Address.TheVariants.{Mark, ThreadWord}
-use Rattle.brc_model.specs.Duties.{block_of, next_by, counts_locally, claimed, shared_result, cells_of, cells_from, release_found, head_by, ready}
+use Rattle.brc_model.specs.Duties.{block_of, next_by, counts_locally, claimed, shared_result, cells_of, cells_from, release_found, head_by, ready, has_resource}
 use Rattle.brc_model.specs.declared.actor.Status.{Status}
 use Rattle.brc_model.specs.declared.actor.Status.TheVariants.{Gone}
 use Rattle.brc_model.specs.declared.actor.Place.{Place}
@@ -23,7 +23,8 @@ use Rattle.brc_model.proofs.Written.{written_here, written_apart, written_load, 
 use Rattle.brc_model.proofs.Leaves.{AtDuty, head_of, words_left}
 use Rattle.brc_model.proofs.Lives.{next_of}
 use Rattle.brc_model.proofs.Neutral.{found_by, memory_by, agenda_here}
-use Rattle.brc_model.proofs.OwnExits.{marked_is_root}
+use Rattle.brc_model.proofs.OwnExits.{marked_born}
+use Rattle.brc_model.proofs.Blocks.{born_used}
 
 -- ---- actors
 
@@ -136,9 +137,11 @@ next_scanless t running head (Look x) found none = either_scanless (found == 1) 
 next_scanless t running head (TakeMark x) found none = either_scanless (found == 1) (MergeSwap x Handed ∷ SharedLoad x Handed ∷ []) [] tt tt
 next_scanless t running head (MergeSwap x r) found none = either_scanless (found == 0) [] (MergeLoad x (local_part found) ∷ []) tt tt
 next_scanless t running head (MergeExchange x c w) found none = either_scanless (found == w) _ (MergeLoad x c ∷ []) (either_scanless (merged_word w c == dead_word) (Die x ∷ []) [] tt tt) tt
-next_scanless t running head (SettleKind x) found none = either_scanless (nat_lt 0 (cells_of found)) (SettleCell x 0 (cells_of found) ∷ []) (SettleEnd x ∷ []) tt tt
+next_scanless t running head (SettleKind x) found none =
+    either_scanless (has_resource found) (TakeSlot x ∷ []) (cells_from x 0 (cells_of found)) tt (either_scanless (nat_lt 0 (cells_of found)) (SettleCell x 0 (cells_of found) ∷ []) (SettleEnd x ∷ []) tt tt)
 next_scanless t running head (SettleCell x i n) found none =
     append_scanless (release_found found) (cells_from x (i + 1) n) (release_scanless found) (either_scanless (nat_lt (i + 1) n) (SettleCell x (i + 1) n ∷ []) (SettleEnd x ∷ []) tt tt)
+next_scanless t running head (BirthKind x h w) found none = either_scanless (has_resource w) (BirthSlot x h ∷ []) (BirthLocal x h ∷ []) tt tt
 next_scanless t running head (Leave x k) found none = absurd none
 next_scanless t running head (Scan x k) found none = absurd none
 next_scanless t running head (ClaimMark x) found none =
@@ -213,37 +216,34 @@ look_after p n m t a _ rest x here spares some = look_kept p n m t a _ rest x he
 
 -- ---- the block's thread stays watchful
 
--- main's block has the root and the row of nothing
-abbrev pub UsesRoot : Machine → Type 0
-UsesRoot m = (b : Actor) → slice_get m.actors 0 ≡ Some b → b.used ≡ 2
-
-root_within : (rows t used x : ℕ) → x ≡ 1 → block_of rows x ≡ t → (t ≡ 0 → used ≡ 2) → (first_row rows t ≤ x) × (x < first_row rows t + used)
-root_within rows zero used x is block uses = (omega arith, omega (arith, is, uses refl))
-root_within rows (suc t) used x is block uses = let none : block_of rows x ≡ 0 = ap (block_of rows) is in absurd (omega (arith, none, block))
-
 -- the marked row is one of the used rows of its block's thread
-pub marked_within : (p : Module) (n : ℕ) (m : Machine) (t : ℕ) (a : Actor) (x : ℕ) → Rule p n m → UsesRoot m → slice_get m.actors t ≡ Some a → m.memory (Mark x) ≡ 1 → block_of m.rows x ≡ t
+pub marked_within : (p : Module) (n : ℕ) (m : Machine) (t : ℕ) (a : Actor) (x : ℕ) → Rule p n m → slice_get m.actors t ≡ Some a → m.memory (Mark x) ≡ 1 → block_of m.rows x ≡ t
     → (first_row m.rows t ≤ x) × (x < first_row m.rows t + a.used)
-marked_within p n m t a x rule uses found marked block = root_within m.rows t a.used x (marked_is_root p n m x rule marked) block (λ e. uses a (ap (slice_get m.actors) (sym e) ∙ found))
+marked_within p n m t a x rule found marked block =
+    let used = born_used p n m x rule (marked_born p n m x rule marked) in
+    let it : used.by ≡ a = some_is used.by a (sym used.found ∙ ap (slice_get m.actors) block ∙ found) in
+    let low : first_row m.rows t ≤ x = subst (λ (u : ℕ). first_row m.rows u ≤ x) block used.low in
+    let high : x < first_row m.rows t + used.by.used = subst (λ (u : ℕ). x < first_row m.rows u + used.by.used) block used.high in
+    (low, omega (arith, high, ap (λ (b : Actor). b.used) it))
 
 mine_after : (m : Machine) (t : ℕ) (a : Actor) (d : Duty) (rest : List Duty) (x : ℕ) → slice_get m.actors t ≡ Some a → block_of m.rows x ≡ t → scans x (actor_by t a d rest (found_by m t a d)).agenda ≡ true → IsWatched (done_by m t a d rest) x
 mine_after m t a d rest x found block e =
     let after = actor_by t a d rest (found_by m t a d) in
     ByExit after (ap (slice_get (set m.actors t after)) block ∙ set_found m.actors t a after found) e
 
-running_after : (p : Module) (n : ℕ) (m : Machine) (t : ℕ) (a : Actor) (d : Duty) (rest : List Duty) (x : ℕ) → AtDuty p n m t a d rest → (a.status ≡ Gone → ⊥) → UsesRoot m → m.memory (Mark x) ≡ 1
+running_after : (p : Module) (n : ℕ) (m : Machine) (t : ℕ) (a : Actor) (d : Duty) (rest : List Duty) (x : ℕ) → AtDuty p n m t a d rest → (a.status ≡ Gone → ⊥) → m.memory (Mark x) ≡ 1
     → m.memory (ThreadWord (block_of m.rows x)) ≡ 1 → IsWatched (done_by m t a d rest) x
-running_after p n m t a (Leave y k) [] x here alive uses marked runs =
+running_after p n m t a (Leave y k) [] x here alive marked runs =
     elim (eqb_tells (block_of m.rows x) t) [
       | inl same ↦
           let fits = agenda_here p n m t a (Leave y k) [] here alive in
-          let within = marked_within p n m t a x here.rule uses here.found marked same.1 in
+          let within = marked_within p n m t a x here.rule here.found marked same.1 in
           mine_after m t a (Leave y k) [] x here.found same.1
           (scans_ready x a.head (Scan y k ∷ Finish ∷ []) (omega (arith, within.1, fits.2, fits.3), tt) (le-leb y x (omega (arith, within.0, fits.2))))
       | inr other ↦ ByRunning (words_left m t a (Leave y k) (block_of m.rows x) other.1 ∙ runs)
     ]
-running_after p n m t a (Leave y k) (e ∷ rest) x here alive uses marked runs = absurd (agenda_here p n m t a (Leave y k) (e ∷ rest) here alive)
-running_after p n m t a Finish [] x here alive uses marked runs =
+running_after p n m t a (Leave y k) (e ∷ rest) x here alive marked runs = absurd (agenda_here p n m t a (Leave y k) (e ∷ rest) here alive)
+running_after p n m t a Finish [] x here alive marked runs =
     elim (eqb_tells (block_of m.rows x) t) [
       | inl same ↦
           let fits = agenda_here p n m t a Finish [] here alive in
@@ -252,51 +252,51 @@ running_after p n m t a Finish [] x here alive uses marked runs =
           absurd (omega (arith, word, still))
       | inr other ↦ ByRunning (words_left m t a Finish (block_of m.rows x) other.1 ∙ runs)
     ]
-running_after p n m t a Finish (e ∷ rest) x here alive uses marked runs = absurd (agenda_here p n m t a Finish (e ∷ rest) here alive)
-running_after p n m t a (Look y) rest x here alive uses marked runs = ByRunning (written_load m.memory (ThreadWord (block_of m.rows y)) (ThreadWord (block_of m.rows x)) ∙ runs)
-running_after p n m t a _ rest x here alive uses marked runs = ByRunning runs
+running_after p n m t a Finish (e ∷ rest) x here alive marked runs = absurd (agenda_here p n m t a Finish (e ∷ rest) here alive)
+running_after p n m t a (Look y) rest x here alive marked runs = ByRunning (written_load m.memory (ThreadWord (block_of m.rows y)) (ThreadWord (block_of m.rows x)) ∙ runs)
+running_after p n m t a _ rest x here alive marked runs = ByRunning runs
 
-exit_after : (p : Module) (n : ℕ) (m : Machine) (t : ℕ) (a : Actor) (d : Duty) (rest : List Duty) (x : ℕ) (b : Actor) → AtDuty p n m t a d rest → (a.status ≡ Gone → ⊥) → UsesRoot m → m.memory (Mark x) ≡ 1 → Spares d x
+exit_after : (p : Module) (n : ℕ) (m : Machine) (t : ℕ) (a : Actor) (d : Duty) (rest : List Duty) (x : ℕ) (b : Actor) → AtDuty p n m t a d rest → (a.status ≡ Gone → ⊥) → m.memory (Mark x) ≡ 1 → Spares d x
     → slice_get m.actors (block_of m.rows x) ≡ Some b → scans x b.agenda ≡ true → IsWatched (done_by m t a d rest) x
-exit_after p n m t a d rest x b here alive uses marked spares found e =
+exit_after p n m t a d rest x b here alive marked spares found e =
     elim (eqb_tells (block_of m.rows x) t) [
       | inl same ↦
           let it : b ≡ a = some_is b a (sym found ∙ ap (slice_get m.actors) same.1 ∙ here.found) in
           let still : scans x (d ∷ rest) ≡ true = ap (scans x) (sym here.agenda) ∙ ap (λ (c : Actor). scans x c.agenda) (sym it) ∙ e in
-          mine_after m t a d rest x here.found same.1 (agenda_scans p n m t a d rest x here alive (marked_within p n m t a x here.rule uses here.found marked same.1).1 spares still)
+          mine_after m t a d rest x here.found same.1 (agenda_scans p n m t a d rest x here alive (marked_within p n m t a x here.rule here.found marked same.1).1 spares still)
       | inr other ↦ ByExit b (slice_get-set_other m.actors t (block_of m.rows x) (actor_by t a d rest (found_by m t a d)) other.1 ∙ found) e
     ]
 
-watched_after : (p : Module) (n : ℕ) (m : Machine) (t : ℕ) (a : Actor) (d : Duty) (rest : List Duty) (x : ℕ) → AtDuty p n m t a d rest → (a.status ≡ Gone → ⊥) → UsesRoot m → m.memory (Mark x) ≡ 1 → Spares d x
+watched_after : (p : Module) (n : ℕ) (m : Machine) (t : ℕ) (a : Actor) (d : Duty) (rest : List Duty) (x : ℕ) → AtDuty p n m t a d rest → (a.status ≡ Gone → ⊥) → m.memory (Mark x) ≡ 1 → Spares d x
     → IsWatched m x → IsWatched (done_by m t a d rest) x
-watched_after p n m t a d rest x here alive uses marked spares (ByRunning runs) = running_after p n m t a d rest x here alive uses marked runs
-watched_after p n m t a d rest x here alive uses marked spares (ByExit b found e) = exit_after p n m t a d rest x b here alive uses marked spares found e
-watched_after p n m t a d rest x here alive uses marked spares (ByLook some) = look_after p n m t a d rest x here spares some
+watched_after p n m t a d rest x here alive marked spares (ByRunning runs) = running_after p n m t a d rest x here alive marked runs
+watched_after p n m t a d rest x here alive marked spares (ByExit b found e) = exit_after p n m t a d rest x b here alive marked spares found e
+watched_after p n m t a d rest x here alive marked spares (ByLook some) = look_after p n m t a d rest x here spares some
 
 -- ---- all marks
 
 abbrev pub MarkFits : Machine → ℕ → Type 0
 MarkFits m x = (m.memory (Mark x) ≡ 0) ⊎ ((m.memory (Mark x) ≡ 1) × (0 < x) × IsWatched m x)
 
-mark_kept : (p : Module) (n : ℕ) (m : Machine) (t : ℕ) (a : Actor) (d : Duty) (rest : List Duty) (x : ℕ) → AtDuty p n m t a d rest → (a.status ≡ Gone → ⊥) → UsesRoot m → Spares d x
+mark_kept : (p : Module) (n : ℕ) (m : Machine) (t : ℕ) (a : Actor) (d : Duty) (rest : List Duty) (x : ℕ) → AtDuty p n m t a d rest → (a.status ≡ Gone → ⊥) → Spares d x
     → memory_by m t a d (Mark x) ≡ m.memory (Mark x) → MarkFits (done_by m t a d rest) x
-mark_kept p n m t a d rest x here alive uses spares same =
+mark_kept p n m t a d rest x here alive spares same =
     elim (here.rule.marks x) [
       | inl none ↦ inl (same ∙ none)
-      | inr some ↦ inr (same ∙ some.0, some.1, watched_after p n m t a d rest x here alive uses some.0 spares some.2)
+      | inr some ↦ inr (same ∙ some.0, some.1, watched_after p n m t a d rest x here alive some.0 spares some.2)
     ]
 
 -- a duty that takes the mark of y away
-mark_taken : (p : Module) (n : ℕ) (m : Machine) (t : ℕ) (a : Actor) (d : Duty) (rest : List Duty) (y x : ℕ) → AtDuty p n m t a d rest → (a.status ≡ Gone → ⊥) → UsesRoot m → (y ≢ x → Spares d x)
+mark_taken : (p : Module) (n : ℕ) (m : Machine) (t : ℕ) (a : Actor) (d : Duty) (rest : List Duty) (y x : ℕ) → AtDuty p n m t a d rest → (a.status ≡ Gone → ⊥) → (y ≢ x → Spares d x)
     → ((z : ℕ) → memory_by m t a d (Mark z) ≡ written m.memory (Mark y) 0 (Mark z)) → MarkFits (done_by m t a d rest) x
-mark_taken p n m t a d rest y x here alive uses spares now =
+mark_taken p n m t a d rest y x here alive spares now =
     elim (eqb_tells y x) [
       | inl same ↦ inl (now x ∙ ap (λ (z : ℕ). written m.memory (Mark z) 0 (Mark x)) same.1 ∙ written_here m.memory (Mark x) 0)
-      | inr other ↦ mark_kept p n m t a d rest x here alive uses (spares other.1) (now x ∙ written_apart m.memory (Mark y) (Mark x) 0 (apart_mark y x other.1))
+      | inr other ↦ mark_kept p n m t a d rest x here alive (spares other.1) (now x ∙ written_apart m.memory (Mark y) (Mark x) 0 (apart_mark y x other.1))
     ]
 
-pub marks_after : (p : Module) (n : ℕ) (m : Machine) (t : ℕ) (a : Actor) (d : Duty) (rest : List Duty) → AtDuty p n m t a d rest → (a.status ≡ Gone → ⊥) → (uses : UsesRoot m) → (x : ℕ) → MarkFits (done_by m t a d rest) x
-marks_after p n m t a (SetMark y) rest here alive uses x =
+pub marks_after : (p : Module) (n : ℕ) (m : Machine) (t : ℕ) (a : Actor) (d : Duty) (rest : List Duty) → AtDuty p n m t a d rest → (a.status ≡ Gone → ⊥) → (x : ℕ) → MarkFits (done_by m t a d rest) x
+marks_after p n m t a (SetMark y) rest here alive x =
     elim (eqb_tells y x) [
       | inl same ↦
           let above : 0 < y = head_of p n m t a (SetMark y) rest here in
@@ -307,9 +307,9 @@ marks_after p n m t a (SetMark y) rest here alive uses x =
             omega (arith, above, same.1),
             ByLook (omega (arith, looks_step m t a (SetMark y) rest x here.found here.agenda, one, next)),
           )
-      | inr other ↦ mark_kept p n m t a (SetMark y) rest x here alive uses tt (written_apart m.memory (Mark y) (Mark x) 1 (apart_mark y x other.1))
+      | inr other ↦ mark_kept p n m t a (SetMark y) rest x here alive tt (written_apart m.memory (Mark y) (Mark x) 1 (apart_mark y x other.1))
     ]
-marks_after p n m t a (TakeMark y) rest here alive uses x = mark_taken p n m t a (TakeMark y) rest y x here alive uses (λ ne. ne) (λ z. refl)
-marks_after p n m t a (Scan y k) rest here alive uses x = mark_taken p n m t a (Scan y k) rest y x here alive uses (λ ne. ne) (λ z. refl)
-marks_after p n m t a (ClaimMark y) rest here alive uses x = mark_taken p n m t a (ClaimMark y) rest y x here alive uses (λ ne. tt) (λ z. refl)
-marks_after p n m t a d rest here alive uses x = mark_kept p n m t a d rest x here alive uses tt refl
+marks_after p n m t a (TakeMark y) rest here alive x = mark_taken p n m t a (TakeMark y) rest y x here alive (λ ne. ne) (λ z. refl)
+marks_after p n m t a (Scan y k) rest here alive x = mark_taken p n m t a (Scan y k) rest y x here alive (λ ne. ne) (λ z. refl)
+marks_after p n m t a (ClaimMark y) rest here alive x = mark_taken p n m t a (ClaimMark y) rest y x here alive (λ ne. tt) (λ z. refl)
+marks_after p n m t a d rest here alive x = mark_kept p n m t a d rest x here alive tt refl

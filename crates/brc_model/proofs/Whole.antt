@@ -7,37 +7,30 @@ use Rattle.brc_lang.specs.declared.module.Module.{Module}
 use Rattle.brc_model.specs.Plain.{Reference}
 use Rattle.brc_model.specs.declared.duty.Reason.TheVariants.{Own, Handed}
 use Rattle.brc_model.specs.declared.duty.Duty.{Duty}
-use Rattle.brc_model.specs.declared.duty.Duty.TheVariants.{RetainLoad, RetainStore, RetainAdd, ReleaseLoad, ReleaseStore, DecideAtZero, SharedLoad, SharedExchange, SetMark, Look, TakeMark, MergeSwap, MergeLoad, MergeExchange, Die, Settle, SettleKind, SettleCell, SettleEnd, Leave, Scan, Finish, ClaimMark}
+use Rattle.brc_model.specs.declared.duty.Duty.TheVariants.{RetainLoad, RetainStore, RetainAdd, ReleaseLoad, ReleaseStore, DecideAtZero, SharedLoad, SharedExchange, SetMark, Look, TakeMark, MergeSwap, MergeLoad, MergeExchange, Die, Settle, SettleKind, SettleCell, TakeSlot, CloseResource, SettleEnd, Leave, Scan, Finish, ClaimMark, BirthKind, BirthSlot, BirthLocal}
 use Rattle.brc_model.specs.declared.actor.Status.TheVariants.{Running, Gone}
 use Rattle.brc_model.specs.declared.actor.Place.{Place}
 use Rattle.brc_model.specs.Machine.{Actor, Unborn, Dying, Closed, Machine, actor_by, done_by, at_place, with_actor}
 use Rattle.brc_model.specs.Events.{is_bad_duty}
-use Rattle.brc_model.proofs.Lists.{some_is, slice_get-set_same, slice_get-set_other}
+use Rattle.brc_model.proofs.Lists.{some_is, slice_get-set_same, slice_get-set_other, written_actor}
 use Rattle.brc_model.proofs.Rule.{Rule}
 use Rattle.brc_model.proofs.Leaves.{AtDuty}
 use Rattle.brc_model.proofs.Neutral.{OwnFits, found_by}
 use Rattle.brc_model.proofs.OwnRetains.{own_retain_load}
 use Rattle.brc_model.proofs.OwnReleases.{own_retain_store, own_retain_add, own_release_load, own_release_store, own_decide, own_shared_load, own_shared_exchange}
 use Rattle.brc_model.proofs.OwnMerges.{own_set_mark, own_look, own_take_mark, own_merge_swap_own, own_merge_swap_handed, own_merge_load, own_merge_exchange}
-use Rattle.brc_model.proofs.OwnSettles.{own_die, own_settle, own_settle_kind, own_settle_cell, own_settle_end}
+use Rattle.brc_model.proofs.OwnSettles.{own_die, own_settle, own_settle_kind, own_settle_cell, own_take_slot, own_close_resource, own_settle_end}
 use Rattle.brc_model.proofs.OwnExits.{own_leave, own_scan, own_finish, own_claim_mark, IsSettled, settled_after}
-use Rattle.brc_model.proofs.Watches.{UsesRoot, marks_after}
-use Rattle.brc_model.proofs.Closing.{GoesOn, BeginsToDie, IsClosed, life_step}
+use Rattle.brc_model.proofs.Watches.{marks_after}
 use Rattle.brc_model.proofs.KeepsDuty.{keeps_by}
 use Rattle.brc_model.proofs.NotBad.{duty_not_bad}
 use Rattle.brc_model.proofs.Begins.{Starts, Gives, Takes, Follows, Nothing, Settles as SettlesFirst, Leaves}
 use Rattle.brc_model.proofs.Sits.{sitting, Sits, AtRest, sits_rule, taken_up_step}
-
--- main's block has two used rows, and workers have used none yet
-abbrev pub used_rows : ℕ → ℕ
-used_rows zero = 2
-used_rows (suc t) = 0
+use Rattle.brc_model.proofs.OwnBirths.{own_birth_kind, own_birth_slot, own_birth_local}
 
 pub record Whole (p : Module) (n : ℕ) (m : Machine) : Type 0 where
   pub rule : Rule p n m
   pub settled : (t : ℕ) (a : Actor) → slice_get m.actors t ≡ Some a → IsSettled a.head a.agenda
-  pub used : (t : ℕ) (a : Actor) → slice_get m.actors t ≡ Some a → a.used ≡ used_rows t
-  pub root_born : m.life 1 ≢ Unborn
 
 -- ---- a duty
 
@@ -62,22 +55,16 @@ own_fits p n m t a (Die x) rest here alive settled = own_die p n m t a x rest he
 own_fits p n m t a Settle rest here alive settled = own_settle p n m t a rest here alive
 own_fits p n m t a (SettleKind x) rest here alive settled = own_settle_kind p n m t a x rest here alive
 own_fits p n m t a (SettleCell x i k) rest here alive settled = own_settle_cell p n m t a x i k rest here alive
+own_fits p n m t a (TakeSlot x) rest here alive settled = own_take_slot p n m t a x rest here alive
+own_fits p n m t a (CloseResource x) rest here alive settled = own_close_resource p n m t a x rest here alive
 own_fits p n m t a (SettleEnd x) rest here alive settled = own_settle_end p n m t a x rest here alive
 own_fits p n m t a (Leave x k) rest here alive settled = own_leave p n m t a x k rest here alive
 own_fits p n m t a (Scan x k) rest here alive settled = own_scan p n m t a x k rest here alive
 own_fits p n m t a Finish rest here alive settled = own_finish p n m t a rest here alive settled
 own_fits p n m t a (ClaimMark x) rest here alive settled = own_claim_mark p n m t a x rest here alive
-
--- what the other threads had, they have
-pub written_actor : (P : ℕ → Actor → Type 0) (actors : List Actor) (t : ℕ) (a after : Actor) → slice_get actors t ≡ Some a → P t after → ((u : ℕ) (b : Actor) → slice_get actors u ≡ Some b → P u b)
-    → (u : ℕ) (b : Actor) → slice_get (slice_set actors t after) u ≡ Some b → P u b
-written_actor P actors t a after found own others u b is =
-    elim (eqb_tells u t) [
-      | inl same ↦
-          let now : Some after ≡ Some b = sym (ap (slice_get (slice_set actors t after)) same.1 ∙ slice_get-set_same actors t after (slice_get_within actors t a found)) ∙ is in
-          subst (P u) (some_is after b now) (subst (λ (w : ℕ). P w after) (sym same.1) own)
-      | inr apart ↦ others u b (sym (slice_get-set_other actors t u after apart.1) ∙ is)
-    ]
+own_fits p n m t a (BirthKind x h w) rest here alive settled = own_birth_kind p n m t a x h w rest here alive
+own_fits p n m t a (BirthSlot x h) rest here alive settled = own_birth_slot p n m t a x h rest here alive
+own_fits p n m t a (BirthLocal x h) rest here alive settled = own_birth_local p n m t a x h rest here alive
 
 -- the whole, with a thread at its first duty
 pub record Doing (p : Module) (n : ℕ) (m : Machine) (t : ℕ) (a : Actor) (d : Duty) (rest : List Duty) : Type 0 where
@@ -89,26 +76,15 @@ pub record Doing (p : Module) (n : ℕ) (m : Machine) (t : ℕ) (a : Actor) (d :
 abbrev pub KeepsOn : Module → ℕ → Bool → Machine → Type 0
 KeepsOn p n bad m = (bad ≡ false) × Whole p n m
 
--- a row that was born is never unborn again
-born_stays : (p : Module) (n : ℕ) (m : Machine) (t : ℕ) (a : Actor) (d : Duty) (rest : List Duty) → AtDuty p n m t a d rest → m.life 1 ≢ Unborn → (done_by m t a d rest).life 1 ≢ Unborn
-born_stays p n m t a d rest here born =
-    elim (life_step p n m t a d rest 1 here) [
-      | GoesOn now other ↦ λ e. born (sym now ∙ e)
-      | BeginsToDie now alive positive none ↦ λ e. (let wrong : Dying t ≡ Unborn = sym now ∙ e in cc)
-      | IsClosed now dying positive ended ↦ λ e. (let wrong : Closed ≡ Unborn = sym now ∙ e in cc)
-    ]
-
 pub keeps_duty : (p : Module) (n : ℕ) (m : Machine) (t : ℕ) (a : Actor) (d : Duty) (rest : List Duty) → Doing p n m t a d rest → KeepsOn p n (is_bad_duty m t a d) (done_by m t a d rest)
 keeps_duty p n m t a d rest doing =
     let here : AtDuty p n m t a d rest = record { rule = doing.whole.rule; found = doing.found; agenda = doing.agenda } in
     let settled : IsSettled a.head (d ∷ rest) = subst (IsSettled a.head) doing.agenda (doing.whole.settled t a doing.found) in
-    let uses : UsesRoot m = λ b is. doing.whole.used 0 b is in (
+    (
       duty_not_bad p n m t a d rest here,
       record {
-        rule = keeps_by p n m t a d rest here doing.alive (own_fits p n m t a d rest here doing.alive settled) (λ x. marks_after p n m t a d rest here doing.alive uses x);
+        rule = keeps_by p n m t a d rest here doing.alive (own_fits p n m t a d rest here doing.alive settled) (λ x. marks_after p n m t a d rest here doing.alive x);
         settled = λ u b is. written_actor (λ w c. IsSettled c.head c.agenda) m.actors t a (actor_by t a d rest (found_by m t a d)) doing.found (settled_after p n m t a d rest here doing.alive settled) doing.whole.settled u b is;
-        used = λ u b is. written_actor (λ w c. c.used ≡ used_rows w) m.actors t a (actor_by t a d rest (found_by m t a d)) doing.found (doing.whole.used t a doing.found) doing.whole.used u b is;
-        root_born = born_stays p n m t a d rest here doing.whole.root_born;
       },
     )
 
@@ -118,8 +94,6 @@ pub whole_sits : (p : Module) (n : ℕ) (m : Machine) (t : ℕ) (a : Actor) (pla
 whole_sits p n m t a place agenda whole rest sits settled = record {
   rule = sits_rule p n m t a place agenda rest sits;
   settled = λ u b is. written_actor (λ w c. IsSettled c.head c.agenda) m.actors t a (sitting a place agenda) rest.found settled whole.settled u b is;
-  used = λ u b is. written_actor (λ w c. c.used ≡ used_rows w) m.actors t a (sitting a place agenda) rest.found (whole.used t a rest.found) whole.used u b is;
-  root_born = whole.root_born;
 }
 
 -- the thread that has taken duties up stands at the first of them

@@ -22,7 +22,8 @@ use Rattle.brc_model.proofs.OwnRetains.{running_is}
 use Rattle.brc_model.proofs.Begins.{IsTaken}
 use Rattle.brc_model.proofs.Sits.{sitting, Sits, AtRest}
 use Rattle.brc_model.proofs.TakenSits.{taken_sits, quiet_sits, claim_sits, rests, begun_fits}
-use Rattle.brc_model.proofs.Whole.{used_rows, Whole, KeepsOn, keeps_duty, whole_sits, taken_up, starts_settled}
+use Rattle.brc_model.proofs.Whole.{Whole, KeepsOn, keeps_duty, whole_sits, taken_up, starts_settled}
+use Rattle.brc_model.proofs.Blocks.{used_block}
 
 -- ---- what a thread at rest takes up
 
@@ -53,13 +54,6 @@ status_keeps p n m t a Leaving whole found is = agenda_keeps p n m t a a.agenda 
 
 -- ---- claims
 
--- a used row is of its thread's block
-block_used : (rows t used row : ℕ) → used ≡ used_rows t → first_row rows t ≤ row → row < first_row rows t + used → block_of rows row ≡ t
-block_used rows zero used zero is low high = refl
-block_used rows zero used (suc zero) is low high = refl
-block_used rows zero used (suc (suc row)) is low high = absurd (omega (arith, is, high))
-block_used rows (suc t) used row is low high = absurd (omega (arith, is, low, high))
-
 claims_at : (m : Machine) (t : ℕ) (a : Actor) (left row : ℕ) → (is_running a.status && (length a.agenda == 0) && nat_le (first_row m.rows t) row && nat_lt row (first_row m.rows t + a.used)) ≡ true
     → (a.status ≡ Running) × (a.agenda ≡ []) × (first_row m.rows t ≤ row) × (row < first_row m.rows t + a.used)
 claims_at m t a left row e =
@@ -89,7 +83,7 @@ claim_now p n m t a left row whole found place e =
       place = Standing left;
       stands = place;
       at = record { rule = whole.rule; found = found; agenda = may.1; running = may.0 };
-      sits = claim_sits p m t a left row placed (block_used m.rows t a.used row (whole.used t a found) may.2 may.3);
+      sits = claim_sits p m t a left row placed (used_block p n m t a row whole.rule found may.2 may.3);
     }
 
 abbrev claims_where : Machine → ℕ → Actor → ℕ → Place → Bool

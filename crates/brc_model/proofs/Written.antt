@@ -3,7 +3,7 @@ use Rattle.std.proofs.Common.{◌≡◌, ℕ, Bool, true, false, cond, refl, ap,
 use Rattle.std.specs.Prelude.{◌==◌, ◌&&◌}
 use Rattle.std.proofs.lemmas.Bool.{eqb-true, eq-eqb, ne_eqb}
 use Rattle.brc_model.specs.declared.address.Address.{Address}
-use Rattle.brc_model.specs.declared.address.Address.TheVariants.{Local, Shared, Gate, KindOf, Mark, Cell, ThreadWord}
+use Rattle.brc_model.specs.declared.address.Address.TheVariants.{Local, Shared, Gate, KindOf, Mark, Cell, Slot, Resource, ThreadWord}
 use Rattle.brc_model.specs.Machine.{same_address, written}
 use Rattle.brc_model.proofs.Lists.{and_first, and_second}
 
@@ -14,6 +14,8 @@ same_address-true (Gate x) (Gate y) e = ap Gate (eqb-true x y e)
 same_address-true (KindOf x) (KindOf y) e = ap KindOf (eqb-true x y e)
 same_address-true (Mark x) (Mark y) e = ap Mark (eqb-true x y e)
 same_address-true (Cell x i) (Cell y j) e = λ k. Cell (eqb-true x y (and_first (x == y) (i == j) e) k) (eqb-true i j (and_second (x == y) (i == j) e) k)
+same_address-true (Slot x) (Slot y) e = ap Slot (eqb-true x y e)
+same_address-true (Resource x) (Resource y) e = ap Resource (eqb-true x y e)
 same_address-true (ThreadWord x) (ThreadWord y) e = ap ThreadWord (eqb-true x y e)
 same_address-true _ _ e = absurd cc
 
@@ -24,6 +26,8 @@ same_address-refl (Gate x) = eq-eqb x x refl
 same_address-refl (KindOf x) = eq-eqb x x refl
 same_address-refl (Mark x) = eq-eqb x x refl
 same_address-refl (Cell x i) = ap (λ (b : Bool). b && (i == i)) (eq-eqb x x refl) ∙ eq-eqb i i refl
+same_address-refl (Slot x) = eq-eqb x x refl
+same_address-refl (Resource x) = eq-eqb x x refl
 same_address-refl (ThreadWord x) = eq-eqb x x refl
 
 pub written_here : (memory : Address → ℕ) (a : Address) (v : ℕ) → written memory a v a ≡ v

@@ -1,13 +1,13 @@
 -- What a thread has still to do inside an instruction or its exit: an agenda of duties, each of which is one step on one
 -- word, and names the duties that follow it by what the step found.
-use Rattle.std.specs.Prelude.{ℕ, zero, suc, ◌+◌, ◌-◌, ◌/◌, Bool, ◌&&◌, ◌==◌, nat_lt, if◌then◌else◌, List, [], ◌∷◌, ◌++◌}
+use Rattle.std.specs.Prelude.{ℕ, zero, suc, ◌+◌, ◌-◌, ◌/◌, Bool, ◌&&◌, ◌||◌, ◌==◌, nat_lt, if◌then◌else◌, List, [], ◌∷◌, ◌++◌}
 use Rattle.brc_model.specs.declared.duty.Holding.TheVariants.{InHand}
 use Rattle.brc_model.specs.declared.duty.Reason.TheVariants.{Own, Handed}
 use Rattle.brc_model.specs.declared.duty.Duty.{Duty}
-use Rattle.brc_model.specs.declared.duty.Duty.TheVariants.{RetainLoad, RetainStore, RetainAdd, ReleaseLoad, ReleaseStore, DecideAtZero, SharedLoad, SharedExchange, SetMark, Look, TakeMark, MergeSwap, MergeLoad, MergeExchange, Die, Settle, SettleKind, SettleCell, SettleEnd, Leave, Scan, Finish, ClaimMark}
+use Rattle.brc_model.specs.declared.duty.Duty.TheVariants.{RetainLoad, RetainStore, RetainAdd, ReleaseLoad, ReleaseStore, DecideAtZero, SharedLoad, SharedExchange, SetMark, Look, TakeMark, MergeSwap, MergeLoad, MergeExchange, Die, Settle, SettleKind, SettleCell, TakeSlot, CloseResource, SettleEnd, Leave, Scan, Finish, ClaimMark, BirthKind, BirthSlot, BirthLocal}
 use Rattle.brc_model.specs.declared.address.Address.{Address}
-use Rattle.brc_model.specs.declared.address.Address.TheVariants.{Local, Shared, Gate, KindOf, Mark, Cell, ThreadWord}
-use Rattle.brc_word.specs.Words.{owner_part, local_part, is_immortal_word, fresh_word, dead_word, released_word, merged_word, dying_word, next_part, closed_word, kind_part, argument_part}
+use Rattle.brc_model.specs.declared.address.Address.TheVariants.{Local, Shared, Gate, KindOf, Mark, Cell, Slot, Resource, ThreadWord}
+use Rattle.brc_word.specs.Words.{local_word, owner_part, local_part, is_immortal_word, fresh_word, dead_word, released_word, merged_word, dying_word, next_part, closed_word, kind_part, argument_part}
 
 -- ---- the word of a step
 
@@ -37,11 +37,16 @@ address_of rows t head (Die x) = Gate x
 address_of rows t head Settle = Gate (head - 1)
 address_of rows t head (SettleKind x) = KindOf x
 address_of rows t head (SettleCell x i n) = Cell x i
+address_of rows t head (TakeSlot x) = Slot x
+address_of rows t head (CloseResource x) = Resource x
 address_of rows t head (SettleEnd x) = Gate x
 address_of rows t head (Leave x n) = ThreadWord t
 address_of rows t head (Scan x n) = Mark x
 address_of rows t head Finish = ThreadWord t
 address_of rows t head (ClaimMark x) = Mark x
+address_of rows t head (BirthKind x h w) = KindOf x
+address_of rows t head (BirthSlot x h) = Slot x
+address_of rows t head (BirthLocal x h) = Local x
 
 -- what the step leaves in the word that it found so
 abbrev pub left_by : ℕ → ℕ → Duty → ℕ → ℕ
@@ -63,11 +68,16 @@ left_by t head (Die x) found = dying_word t head
 left_by t head Settle found = found
 left_by t head (SettleKind x) found = found
 left_by t head (SettleCell x i n) found = 0
+left_by t head (TakeSlot x) found = 0
+left_by t head (CloseResource x) found = 0
 left_by t head (SettleEnd x) found = closed_word
 left_by t head (Leave x n) found = 2
 left_by t head (Scan x n) found = 0
 left_by t head Finish found = 3
 left_by t head (ClaimMark x) found = 0
+left_by t head (BirthKind x h w) found = w
+left_by t head (BirthSlot x h) found = 1
+left_by t head (BirthLocal x h) found = local_word t 1
 
 -- ---- what follows a step
 
@@ -82,6 +92,10 @@ claimed x found = if found == 1 then MergeSwap x Handed ∷ SharedLoad x Handed 
 -- after a release by the shared word that found w: a queued object is marked, and one that nothing counts any more dies
 abbrev pub shared_result : ℕ → ℕ → List Duty
 shared_result x w = if w == fresh_word then SetMark x ∷ [] else if released_word w == dead_word then Die x ∷ [] else []
+
+-- files and sockets have a resource of the host's
+abbrev pub has_resource : ℕ → Bool
+has_resource word = (kind_part word == 4) || (kind_part word == 5)
 
 -- a list has its cells looked through; what has no cells is closed
 abbrev pub cells_of : ℕ → ℕ
@@ -119,13 +133,18 @@ next_by t running head (MergeExchange x c w) found =
     if found == w then (if merged_word w c == dead_word then Die x ∷ [] else []) else MergeLoad x c ∷ []
 next_by t running head (Die x) found = []
 next_by t running head Settle found = SettleKind (head - 1) ∷ Settle ∷ []
-next_by t running head (SettleKind x) found = cells_from x 0 (cells_of found)
+next_by t running head (SettleKind x) found = if has_resource found then TakeSlot x ∷ [] else cells_from x 0 (cells_of found)
 next_by t running head (SettleCell x i n) found = release_found found ++ cells_from x (i + 1) n
+next_by t running head (TakeSlot x) found = CloseResource x ∷ []
+next_by t running head (CloseResource x) found = SettleEnd x ∷ []
 next_by t running head (SettleEnd x) found = []
 next_by t running head (Leave x n) found = Scan x n ∷ Finish ∷ []
 next_by t running head (Scan x n) found = claimed x found ++ Settle ∷ Scan (x + 1) (n - 1) ∷ []
 next_by t running head Finish found = []
 next_by t running head (ClaimMark x) found = claimed x found ++ Settle ∷ []
+next_by t running head (BirthKind x h w) found = if has_resource w then BirthSlot x h ∷ [] else BirthLocal x h ∷ []
+next_by t running head (BirthSlot x h) found = BirthLocal x h ∷ []
+next_by t running head (BirthLocal x h) found = []
 
 -- the head of the dying chain afterwards: 0, or a row and 1
 abbrev pub head_by : ℕ → Duty → ℕ → ℕ

@@ -4,7 +4,7 @@ use Rattle.brc_model.specs.Plain.{are_allowed}
 use Rattle.brc_model.specs.declared.duty.Duty.{Duty}
 use Rattle.brc_model.specs.declared.duty.Duty.TheVariants.{ClaimMark}
 use Rattle.brc_model.specs.declared.address.Address.{Address}
-use Rattle.brc_model.specs.declared.address.Address.TheVariants.{Local, Shared, Gate, KindOf, Mark, Cell, ThreadWord}
+use Rattle.brc_model.specs.declared.address.Address.TheVariants.{Local, Shared, Gate, KindOf, Mark, Cell, Slot, Resource, ThreadWord}
 use Rattle.brc_model.specs.Duties.{address_of}
 use Rattle.brc_model.specs.declared.actor.Status.{Status}
 use Rattle.brc_model.specs.declared.actor.Status.TheVariants.{Running, Leaving, Gone}
@@ -19,6 +19,8 @@ touched_row (Shared x) = Some x
 touched_row (Gate x) = Some x
 touched_row (KindOf x) = Some x
 touched_row (Cell x i) = Some x
+touched_row (Slot x) = Some x
+touched_row (Resource x) = Some x
 touched_row (Mark x) = None
 touched_row (ThreadWord t) = None
 

@@ -14,14 +14,14 @@ use Rattle.brc_model.specs.declared.actor.Place.{Place}
 use Rattle.brc_model.specs.declared.actor.Place.TheVariants.{Standing, Inside, Departing}
 use Rattle.brc_model.specs.declared.duty.Holding.{Holding}
 use Rattle.brc_model.specs.declared.duty.Holding.TheVariants.{ByVariable, AsCaller, InHand}
-use Rattle.brc_model.specs.Plain.{root_row, Reference, Plain, Move, Gain, Lose, HandOn, Finalise, moved}
+use Rattle.brc_model.specs.Plain.{root_row, Reference, Plain, Move, Born, Gain, Lose, HandOn, Finalise, moved}
 use Rattle.brc_model.specs.Threads.{code_of, row_of, entry_variables}
 use Rattle.brc_word.specs.Words.{is_immortal_word, local_word, fresh_word}
 use Rattle.brc_model.specs.declared.duty.Reason.TheVariants.{Own}
 use Rattle.brc_model.specs.declared.duty.Duty.{Duty}
-use Rattle.brc_model.specs.declared.duty.Duty.TheVariants.{RetainLoad, RetainStore, RetainAdd, ReleaseLoad, ReleaseStore, SharedExchange, Die, Settle, SettleEnd, Leave, Finish, ClaimMark}
+use Rattle.brc_model.specs.declared.duty.Duty.TheVariants.{RetainLoad, RetainStore, RetainAdd, ReleaseLoad, ReleaseStore, SharedExchange, Die, Settle, SettleEnd, Leave, Finish, ClaimMark, BirthLocal}
 use Rattle.brc_model.specs.declared.address.Address.{Address}
-use Rattle.brc_model.specs.declared.address.Address.TheVariants.{Local, Shared, Gate, KindOf, Mark, Cell, ThreadWord}
+use Rattle.brc_model.specs.declared.address.Address.TheVariants.{Local, Shared, Gate, KindOf, Mark, Cell, Slot, Resource, ThreadWord}
 use Rattle.brc_model.specs.Duties.{address_of, left_by, next_by, head_by, ready}
 
 -- ---- threads
@@ -45,6 +45,11 @@ abbrev pub status_by : Status → Duty → Status
 status_by status (Leave x n) = Leaving
 status_by status Finish = Gone
 status_by status _ = status
+
+-- a birth uses the next row of the thread's block
+abbrev pub used_by : ℕ → Duty → ℕ
+used_by used (BirthLocal x h) = used + 1
+used_by used _ = used
 
 -- what a step takes up: the thread's next instruction, or its exit
 pub data Begun : Type 0 where
@@ -105,6 +110,8 @@ same_address (Gate x) (Gate y) = x == y
 same_address (KindOf x) (KindOf y) = x == y
 same_address (Mark x) (Mark y) = x == y
 same_address (Cell x i) (Cell y j) = (x == y) && (i == j)
+same_address (Slot x) (Slot y) = x == y
+same_address (Resource x) (Resource y) = x == y
 same_address (ThreadWord t) (ThreadWord u) = t == u
 same_address _ _ = false
 
@@ -118,6 +125,9 @@ abbrev pub hand_on : ℕ → Holding → ℕ → List Move
 hand_on t InHand x = []
 hand_on t (ByVariable v) x = HandOn (record { thread = t; holding = ByVariable v; object = x }) InHand ∷ []
 hand_on t AsCaller x = HandOn (record { thread = t; holding = AsCaller; object = x }) InHand ∷ []
+
+abbrev pub birth : ℕ → Holding → ℕ → List Move
+birth t h x = Born (record { thread = t; holding = h; object = x }) ∷ []
 
 abbrev pub gain : ℕ → Holding → ℕ → List Move
 gain t h x = Gain (record { thread = t; holding = h; object = x }) ∷ []
@@ -133,6 +143,7 @@ moves_by t (ReleaseLoad x h) found = hand_on t h x ++ (if is_immortal_word found
 moves_by t (ReleaseStore x w) found = lose t x
 moves_by t (SharedExchange x Own w) found = if found == w then lose t x else []
 moves_by t (SettleEnd x) found = Finalise x ∷ []
+moves_by t (BirthLocal x h) found = birth t h x
 moves_by t _ found = []
 
 -- ---- life
@@ -150,8 +161,12 @@ abbrev pub ended_row : Duty → Option ℕ
 ended_row (SettleEnd x) = Some x
 ended_row _ = None
 
+abbrev pub born_row : Duty → Option ℕ
+born_row (BirthLocal x h) = Some x
+born_row _ = None
+
 abbrev pub life_by : (ℕ → Life) → ℕ → Duty → List Duty → ℕ → Life
-life_by life t d next = with_life (with_life life (dies_next next) (Dying t)) (ended_row d) Closed
+life_by life t d next = with_life (with_life (with_life life (dies_next next) (Dying t)) (ended_row d) Closed) (born_row d) Live
 
 -- ---- one step
 
@@ -163,7 +178,7 @@ actor_by t a d rest found = record {
   status = status_by a.status d;
   agenda = ready (head_by a.head d found) (next_by t (is_running a.status) a.head d found ++ rest);
   head = head_by a.head d found;
-  used = a.used;
+  used = used_by a.used d;
 }
 
 -- one duty on one word
@@ -245,6 +260,8 @@ first_memory workers (KindOf (suc zero)) = 3 * 4294967296 + 8
 first_memory workers (KindOf (suc (suc x))) = 0
 first_memory workers (Mark x) = 0
 first_memory workers (Cell x i) = 0
+first_memory workers (Slot x) = 0
+first_memory workers (Resource x) = 0
 first_memory workers (ThreadWord t) = if nat_le t workers then 1 else 0
 
 abbrev pub first_life : ℕ → Life
@@ -266,6 +283,6 @@ first_machine m rows calls = record {
   rows = rows;
   memory = first_memory (length calls);
   actors = main_actor ∷ map worker_actor calls;
-  plain = record { references = callers_below (1 + length calls); closed = [] };
+  plain = record { references = callers_below (1 + length calls); born = root_row ∷ []; closed = [] };
   life = first_life;
 }

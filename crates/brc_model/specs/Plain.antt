@@ -1,5 +1,5 @@
 -- The plain world knows nothing of counts: it is the bag of all references, each with its holder and its object, and the
--- list of the objects that were closed. (Python/C API manual, Reference Count Details: a reference is owned by one holder.)
+-- lists of the objects that were born and of those that were closed. (Python/C API manual, Reference Count Details: a reference is owned by one holder.)
 use Rattle.std.specs.Prelude.{ℕ, Bool, true, false, ◌&&◌, ◌||◌, ◌==◌, not, nat_lt, if◌then◌else◌, List, [], ◌∷◌, ◌++◌, count_by}
 use Rattle.brc_model.specs.declared.duty.Holding.{Holding}
 use Rattle.brc_model.specs.declared.duty.Holding.TheVariants.{ByVariable, AsCaller, InHand}
@@ -23,6 +23,8 @@ pub record Reference : Type 0 where
 
 pub record Plain : Type 0 where
   pub references : List Reference
+  -- the counted objects, in the order of their births
+  pub born : List ℕ
   pub closed : List ℕ
 
 -- ---- the bag
@@ -51,24 +53,27 @@ is_among object objects = list_any (λ x. x == object) objects
 -- ---- moves
 
 pub data Move : Type 0 where
+  Born : Reference → Move
   Gain : Reference → Move
   Lose : Reference → Move
   HandOn : Reference → Holding → Move
   Finalise : ℕ → Move
 
--- A reference is gained to none or to an object that is referenced already; one that is lost or handed on is there; and what is finalised
--- is a counted object that nothing references, for the first time.
+-- What is born is a counted object that wasn't born before; a reference is gained to none or to an object that is referenced already;
+-- one that is lost or handed on is there; and what is finalised is a counted object that nothing references, for the first time.
 abbrev pub is_allowed : Plain → Move → Bool
+is_allowed p (Born r) = is_counted r.object && not (is_among r.object p.born)
 is_allowed p (Gain r) = (r.object == none_row) || nat_lt 0 (references_to r.object p.references)
 is_allowed p (Lose r) = list_any (same r) p.references
 is_allowed p (HandOn r h) = list_any (same r) p.references
 is_allowed p (Finalise x) = is_counted x && (references_to x p.references == 0) && not (is_among x p.closed)
 
 abbrev pub move : Plain → Move → Plain
-move p (Gain r) = record { references = r ∷ p.references; closed = p.closed }
-move p (Lose r) = record { references = without r p.references; closed = p.closed }
-move p (HandOn r h) = record { references = (record { thread = r.thread; holding = h; object = r.object }) ∷ without r p.references; closed = p.closed }
-move p (Finalise x) = record { references = p.references; closed = p.closed ++ x ∷ [] }
+move p (Born r) = record { references = r ∷ p.references; born = p.born ++ r.object ∷ []; closed = p.closed }
+move p (Gain r) = record { references = r ∷ p.references; born = p.born; closed = p.closed }
+move p (Lose r) = record { references = without r p.references; born = p.born; closed = p.closed }
+move p (HandOn r h) = record { references = (record { thread = r.thread; holding = h; object = r.object }) ∷ without r p.references; born = p.born; closed = p.closed }
+move p (Finalise x) = record { references = p.references; born = p.born; closed = p.closed ++ x ∷ [] }
 
 -- the moves of one event, in order
 abbrev pub moved : Plain → List Move → Plain

@@ -9,7 +9,7 @@ use Rattle.brc_model.specs.Plain.{is_among}
 use Rattle.brc_model.specs.Safety.{AreCalls}
 use Rattle.brc_word.specs.Words.{owner_part, phase_part, is_immortal_word, closed_word}
 use Rattle.brc_model.specs.declared.actor.Status.TheVariants.{Running}
-use Rattle.brc_model.specs.declared.address.Address.TheVariants.{Local, Shared, Gate, KindOf, Mark, Cell}
+use Rattle.brc_model.specs.declared.address.Address.TheVariants.{Local, Shared, Gate, KindOf, Mark, Cell, Slot, Resource}
 use Rattle.brc_model.specs.Duties.{block_of}
 use Rattle.brc_model.specs.Machine.{Actor, Unborn, Machine, first_row, next_machine, first_machine, machine_after}
 
@@ -36,9 +36,9 @@ Runs m t = (a : Actor) × (slice_get m.actors t ≡ Some a) × (a.status ≡ Run
 abbrev pub OnlyOwnersCount : Machine → ℕ × Choice → Type 0
 OnlyOwnersCount m event = (x owner : ℕ) → owner_part (m.memory (Local x)) ≡ owner + 1 → Runs m owner → (next_machine m event).memory (Local x) ≢ m.memory (Local x) → event.0 ≡ owner
 
--- a row keeps its owner, or nobody owns it any more
+-- a row that was born keeps its owner, or nobody owns it any more
 abbrev pub OwnersStay : Machine → ℕ × Choice → Type 0
-OwnersStay m event = (x : ℕ) → (owner_part ((next_machine m event).memory (Local x)) ≡ owner_part (m.memory (Local x))) ⊎ (owner_part ((next_machine m event).memory (Local x)) ≡ 0)
+OwnersStay m event = (x : ℕ) → m.life x ≢ Unborn → (owner_part ((next_machine m event).memory (Local x)) ≡ owner_part (m.memory (Local x))) ⊎ (owner_part ((next_machine m event).memory (Local x)) ≡ 0)
 
 -- what is closed stays closed
 abbrev pub ClosedStays : Machine → ℕ × Choice → Type 0
@@ -56,6 +56,8 @@ pub record StaysAt (m next : Machine) (x : ℕ) : Type 0 where
   pub kind : next.memory (KindOf x) ≡ m.memory (KindOf x)
   pub mark : next.memory (Mark x) ≡ m.memory (Mark x)
   pub cells : (i : ℕ) → next.memory (Cell x i) ≡ m.memory (Cell x i)
+  pub slot : next.memory (Slot x) ≡ m.memory (Slot x)
+  pub resource : next.memory (Resource x) ≡ m.memory (Resource x)
 
 abbrev pub ImmortalsStay : Machine → ℕ × Choice → Type 0
 ImmortalsStay m event = (x : ℕ) → is_immortal_word (m.memory (Local x)) ≡ true → StaysAt m (next_machine m event) x

@@ -6,7 +6,7 @@ use Rattle.brc_model.specs.declared.thread.Call.{Call}
 use Rattle.brc_model.specs.declared.thread.Choice.{Choice}
 use Rattle.brc_model.specs.declared.actor.Status.{Status}
 use Rattle.brc_model.specs.declared.actor.Status.TheVariants.{Running, Leaving, Gone}
-use Rattle.brc_model.specs.Plain.{root_row, is_among, references_to}
+use Rattle.brc_model.specs.Plain.{is_among, references_to}
 use Rattle.brc_model.specs.Machine.{Actor, Unborn, Live, Machine, first_machine, machine_after}
 use Rattle.brc_model.specs.Agreement.{AgreesAt, IsFreeOf}
 use Rattle.brc_model.specs.Events.{is_bad_event}
@@ -38,7 +38,7 @@ pub record IsSafeNow (m : Machine) : Type 0 where
   pub free : (x : ℕ) → 0 < x → m.life x ≢ Live → m.life x ≢ Unborn → IsFreeOf m x
   pub closed_once : AllPairs (λ x y. x ≢ y) m.plain.closed
   -- once all threads are gone, exactly what is born, counted and without a reference is closed, and no reference is left
-  pub closed_at_end : AllGone m → (x : ℕ) → (is_among x m.plain.closed ≡ true) ↔ ((is_among x (root_row ∷ []) ≡ true) × (references_to x m.plain.references ≡ 0))
+  pub closed_at_end : AllGone m → (x : ℕ) → (is_among x m.plain.closed ≡ true) ↔ ((is_among x m.plain.born ≡ true) × (references_to x m.plain.references ≡ 0))
   pub none_left : AllGone m → m.plain.references ≡ []
 
 -- For every number of workers and rows, every list of calls and every list of steps and choices, stopped anywhere: no event

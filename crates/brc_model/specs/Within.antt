@@ -5,7 +5,7 @@ use Rattle.brc_word.specs.Words.{owner_part, local_part, biased_part, phase_part
 use Rattle.brc_model.specs.declared.actor.Status.TheVariants.{Gone}
 use Rattle.brc_model.specs.declared.actor.Place.{Place}
 use Rattle.brc_model.specs.declared.address.Address.{Address}
-use Rattle.brc_model.specs.declared.address.Address.TheVariants.{Local, Shared, Gate, KindOf, Mark, Cell, ThreadWord}
+use Rattle.brc_model.specs.declared.address.Address.TheVariants.{Local, Shared, Gate, KindOf, Mark, Cell, Slot, Resource, ThreadWord}
 use Rattle.brc_model.specs.declared.duty.Duty.{Duty}
 use Rattle.brc_model.specs.declared.duty.Duty.TheVariants.{RetainStore, RetainAdd, ReleaseLoad, ReleaseStore, SharedExchange, MergeExchange, SettleCell, ClaimMark}
 use Rattle.brc_model.specs.Duties.{address_of}
@@ -20,6 +20,8 @@ IsThere n threads (Gate x) = x < n
 IsThere n threads (KindOf x) = x < n
 IsThere n threads (Mark x) = x < n
 IsThere n threads (Cell x i) = (x < n) × (i < 8)
+IsThere n threads (Slot x) = x < n
+IsThere n threads (Resource x) = x < n
 IsThere n threads (ThreadWord t) = t < threads
 
 -- a shared word that a header can have: its count is from -2^40 to 2^40 - 1, and its state isn't the unused one

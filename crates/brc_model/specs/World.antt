@@ -29,7 +29,7 @@ machine_of w = record {
   rows = w.rows;
   memory = w.memory;
   actors = w.actors;
-  plain = record { references = []; closed = [] };
+  plain = record { references = []; born = []; closed = [] };
   life = λ x. Unborn;
 }
 

@@ -13,6 +13,10 @@ pub enum Address {
     Mark { row: u32 },
     /// A list's cell, 0 to 7.
     Cell { row: u32, cell: u32 },
+    /// Whether the file's or socket's resource is in its place.
+    Slot { row: u32 },
+    /// Whether the host has the row's resource open.
+    Resource { row: u32 },
     /// Whether the thread runs, leaves or is gone.
     ThreadWord { thread: u32 },
 }

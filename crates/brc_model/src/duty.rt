@@ -109,6 +109,14 @@ pub enum Duty {
         cell: u32,
         cells: u32,
     },
+    /// The dying file's or socket's resource is taken out of its slot.
+    TakeSlot {
+        row: u32,
+    },
+    /// The host closes the resource.
+    CloseResource {
+        row: u32,
+    },
     /// The dying object is closed.
     SettleEnd {
         row: u32,
@@ -128,5 +136,21 @@ pub enum Duty {
     /// The mark of a row of the thread's own is taken, while it runs.
     ClaimMark {
         row: u32,
+    },
+    /// A new object for the holder: it is said what the object is.
+    BirthKind {
+        row: u32,
+        holding: Holding,
+        word: u64,
+    },
+    /// The new file's or socket's resource is put into its slot.
+    BirthSlot {
+        row: u32,
+        holding: Holding,
+    },
+    /// The new object is counted once, by its owner: it is born.
+    BirthLocal {
+        row: u32,
+        holding: Holding,
     },
 }

@@ -16,7 +16,7 @@ pub fn only_a_running_owner_counts()
     ensures { (m : Module) → IsModule m → IsAcceptable m → AtEachEvent OnlyOwnersCount m }
 {}
 
-/// A row keeps its owner, or nobody owns it any more.
+/// A row that was born keeps its owner, or nobody owns it any more.
 pub fn nobody_takes_a_row_over()
     ensures { (m : Module) → IsModule m → IsAcceptable m → AtEachEvent OwnersStay m }
 {}
