@@ -10,7 +10,7 @@ use Rattle.brc_model.specs.declared.actor.Status.TheVariants.{Running, Gone}
 use Rattle.brc_model.specs.declared.actor.Place.{Place}
 use Rattle.brc_model.specs.Threads.{code_of}
 use Rattle.brc_model.specs.Duties.{address_of, block_of}
-use Rattle.brc_model.specs.Machine.{Actor, Machine, Begun, Work, begun_by, is_running, with_actor, first_machine, machine_after}
+use Rattle.brc_model.specs.Machine.{Actor, Machine, Begun, Work, begun_by, is_running, with_actor, first_machine, machine_after, used_by}
 use Rattle.brc_model.specs.World.{World, world_of, row_count, IsReachable}
 use Rattle.brc_model.specs.Within.{IsThere, Suits, IsWithin, StepsWithin}
 use Rattle.brc_model.proofs.Lists.{slice_get-set_same}
@@ -25,6 +25,9 @@ use Rattle.brc_model.proofs.Ranges.{limit, IsSmall, AreSmall, head_small}
 use Rattle.brc_model.proofs.RangesEvents.{starts_small, claim_small, Bounded, bounded_after, first_ranges}
 use Rattle.brc_model.proofs.Bounds.{duty_suits}
 use Rattle.brc_model.proofs.Blocks.{used_low, block_within}
+use Rattle.brc_model.proofs.Rule.{Rule}
+use Rattle.brc_model.proofs.UsesAfter.{own_uses}
+use Rattle.std.proofs.Math.Nat.{mul-le-mul_right}
 
 -- ---- the word is there
 
@@ -66,6 +69,18 @@ duty_there p n m t a (BirthKind x h w) rest whole here alive small = small.0
 duty_there p n m t a (BirthSlot x h) rest whole here alive small = small
 duty_there p n m t a (BirthLocal x h) rest whole here alive small = small
 
+-- ---- the thread has no more rows than there are
+
+used_within : (p : Module) (n : ℕ) (m : Machine) (t : ℕ) (a : Actor) (used : ℕ) → Rule p n m → slice_get m.actors t ≡ Some a → (0 < t → used ≤ m.rows) → (t ≡ 0 → used ≡ 2) → used ≤ limit n m
+used_within p n m zero a used rule found few main = omega (arith, main refl)
+used_within p n m (suc t) a used rule found few main =
+    let within : suc t < n = omega (arith, slice_get_within m.actors (suc t) a found, rule.threads) in
+    let more : 1 * m.rows ≤ (n - 1) * m.rows = mul-le-mul_right m.rows (omega (arith, within)) in
+    omega (arith, few (omega arith), more)
+
+duty_used : (p : Module) (n : ℕ) (m : Machine) (t : ℕ) (a : Actor) (d : Duty) (rest : List Duty) → AtDuty p n m t a d rest → used_by a.used d ≤ limit n m
+duty_used p n m t a d rest here = let after = own_uses p n m t a d rest here in used_within p n m t a (used_by a.used d) here.rule here.found after.few after.main
+
 -- ---- a duty
 
 duty_within : (p : Module) (n : ℕ) (m : Machine) (t : ℕ) (a : Actor) (d : Duty) (rest : List Duty) → Whole p n m → slice_get m.actors t ≡ Some a → a.agenda ≡ d ∷ rest → (a.status ≡ Gone → ⊥) → IsSmall (limit n m) d → n ≤ 33
@@ -75,6 +90,7 @@ duty_within p n m t a d rest whole found is alive small few =
     record {
       there = subst (λ (l : ℕ). IsThere (2 + (l - 1) * m.rows) (length m.actors) (address_of m.rows t a.head d)) (sym whole.rule.threads) (duty_there p n m t a d rest whole here alive small);
       head = subst (λ (l : ℕ). a.head ≤ 2 + (l - 1) * m.rows) (sym whole.rule.threads) (head_small p n m t a whole.rule found);
+      used = subst (λ (l : ℕ). used_by a.used d ≤ 2 + (l - 1) * m.rows) (sym whole.rule.threads) (duty_used p n m t a d rest here);
       suits = duty_suits p n m t a d rest (row_count (world_of m)) here alive few;
     }
 
@@ -92,6 +108,7 @@ taken_within p n m t a d rest place whole at few taken =
     record {
       there = subst (λ (l : ℕ). IsThere (2 + (l - 1) * m.rows) l (address_of m.rows t a.head d)) long within.there;
       head = subst (λ (l : ℕ). a.head ≤ 2 + (l - 1) * m.rows) long within.head;
+      used = subst (λ (l : ℕ). used_by a.used d ≤ 2 + (l - 1) * m.rows) long within.used;
       suits = subst (λ (l : ℕ). Suits t (is_running a.status) (2 + (l - 1) * m.rows) d (m.memory (address_of m.rows t a.head d))) long within.suits;
     }
 
@@ -107,6 +124,7 @@ claim_within : (p : Module) (n : ℕ) (m : Machine) (t : ℕ) (a : Actor) (row :
 claim_within p n m t a row whole found small = record {
   there = subst (λ (l : ℕ). row < 2 + (l - 1) * m.rows) (sym whole.rule.threads) small;
   head = subst (λ (l : ℕ). a.head ≤ 2 + (l - 1) * m.rows) (sym whole.rule.threads) (head_small p n m t a whole.rule found);
+  used = subst (λ (l : ℕ). a.used ≤ 2 + (l - 1) * m.rows) (sym whole.rule.threads) (let uses = whole.rule.uses t a found in used_within p n m t a a.used whole.rule found uses.few uses.main);
   suits = tt;
 }
 

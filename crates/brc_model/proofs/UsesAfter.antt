@@ -73,7 +73,7 @@ either_born : (d : Duty) → (born_row d ≡ None) ⊎ ((x : ℕ) × (born_row d
 either_born (BirthLocal x h) = inr (x, refl)
 either_born _ = inl refl
 
-own_uses : (p : Module) (n : ℕ) (m : Machine) (t : ℕ) (a : Actor) (d : Duty) (rest : List Duty) → AtDuty p n m t a d rest → UsesFit m.rows (done_by m t a d rest).life t (used_by a.used d)
+pub own_uses : (p : Module) (n : ℕ) (m : Machine) (t : ℕ) (a : Actor) (d : Duty) (rest : List Duty) → AtDuty p n m t a d rest → UsesFit m.rows (done_by m t a d rest).life t (used_by a.used d)
 own_uses p n m t a d rest here =
     let old = here.rule.uses t a here.found in
     elim (either_born d) [

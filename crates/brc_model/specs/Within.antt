@@ -9,7 +9,7 @@ use Rattle.brc_model.specs.declared.address.Address.TheVariants.{Local, Shared, 
 use Rattle.brc_model.specs.declared.duty.Duty.{Duty}
 use Rattle.brc_model.specs.declared.duty.Duty.TheVariants.{RetainStore, RetainAdd, ReleaseLoad, ReleaseStore, SharedExchange, MergeExchange, SettleCell, ClaimMark}
 use Rattle.brc_model.specs.Duties.{address_of}
-use Rattle.brc_model.specs.Machine.{Actor, Work, begun_by, may_claim, is_running}
+use Rattle.brc_model.specs.Machine.{Actor, used_by, Work, begun_by, may_claim, is_running}
 use Rattle.brc_model.specs.World.{World, machine_of, row_count}
 
 -- the word at the address is there: so many rows and threads
@@ -43,6 +43,7 @@ Suits t running n _ found = Unit {0}
 pub record IsWithin (w : World) (t : ℕ) (a : Actor) (d : Duty) : Type 0 where
   pub there : IsThere (row_count w) (length w.actors) (address_of w.rows t a.head d)
   pub head : a.head ≤ row_count w
+  pub used : used_by a.used d ≤ row_count w
   pub suits : Suits t (is_running a.status) (row_count w) d (w.memory (address_of w.rows t a.head d))
 
 -- whatever duty comes next: the first of the agenda, the first that is taken up, or a claim
