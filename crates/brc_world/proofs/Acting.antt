@@ -6,16 +6,14 @@ use Rattle.brc_model.specs.declared.actor.Status.TheVariants.{Running, Leaving, 
 use Rattle.brc_model.specs.declared.address.Address.{Address}
 use Rattle.brc_model.specs.declared.duty.Duty.{Duty}
 use Rattle.brc_model.specs.declared.duty.Duty.TheVariants.{ClaimMark}
-use Rattle.brc_model.specs.Duties.{address_of}
 use Rattle.brc_model.specs.Machine as model
 use Rattle.brc_model.specs.Machine.{Actor}
-use Rattle.brc_model.specs.Within.{IsThere, Suits}
 use Rattle.brc_world.specs.declared.did.Did.TheVariants as answers
 use Rattle.brc_world.specs.declared.start.Start.{Start}
 use Rattle.brc_world.specs.declared.start.Start.TheVariants.{Doing}
-use Rattle.brc_world.specs.Actors.{actor_on, begun_of, start_of, started, found_by, memory_done, actor_done, memory_from, actor_from, memory_by, actor_by, did_from, did_by, CanStart, finds_mark, memory_claimed, actor_claimed, did_claim}
+use Rattle.brc_world.specs.Actors.{actor_on, begun_of, start_of, started, memory_done, actor_done, memory_from, actor_from, memory_by, actor_by, did_from, did_by, CanDo, CanStart, finds_mark, memory_claimed, actor_claimed, did_claim}
 
--- ---- what a step begins with leaves the thread's head and status
+-- ---- what a step begins with leaves the thread's head, status and rows
 
 head_begun : (a : Actor) (b : model.Begun) → (actor_on a [] b).head ≡ a.head
 head_begun a model.Stuck = refl
@@ -36,6 +34,16 @@ status_begun a (model.Work (d ∷ rest) place) = refl
 pub status_on : (a : Actor) (agenda : List Duty) (b : model.Begun) → (actor_on a agenda b).status ≡ a.status
 status_on a [] b = status_begun a b
 status_on a (d ∷ rest) b = refl
+
+used_begun : (a : Actor) (b : model.Begun) → (actor_on a [] b).used ≡ a.used
+used_begun a model.Stuck = refl
+used_begun a (model.Quiet place) = refl
+used_begun a (model.Work [] place) = refl
+used_begun a (model.Work (d ∷ rest) place) = refl
+
+pub used_on : (a : Actor) (agenda : List Duty) (b : model.Begun) → (actor_on a agenda b).used ≡ a.used
+used_on a [] b = used_begun a b
+used_on a (d ∷ rest) b = refl
 
 -- ---- a thread that isn't gone
 
@@ -70,11 +78,13 @@ pub actor_is : (functions : List Function) (rows t : ℕ) (memory : Address → 
 actor_is functions rows t memory a b start begins = rw (begins.actor, begins.starts) (sym (actor_goes functions rows t memory a a.status begins.alive))
 
 pub can_do : (functions : List Function) (rows t n threads : ℕ) (memory : Address → ℕ) (a b : Actor) (d : Duty) → Begins functions rows t a b (Doing d) → CanStart functions rows t n threads memory a
-    → IsThere n threads (address_of rows t b.head d) × Suits t (model.is_running b.status) n d (found_by rows t memory b d)
+    → CanDo rows t n threads memory b d
 can_do functions rows t n threads memory a b d begins can =
     let head : b.head ≡ a.head = ap (λ (x : Actor). x.head) begins.actor ∙ head_on a a.agenda (begun_of functions rows t a) in
     let status : b.status ≡ a.status = ap (λ (x : Actor). x.status) begins.actor ∙ status_on a a.agenda (begun_of functions rows t a) in
-    rw (head, status) (can d begins.alive (sym begins.starts))
+    let used : b.used ≡ a.used = ap (λ (x : Actor). x.used) begins.actor ∙ used_on a a.agenda (begun_of functions rows t a) in
+    let able = can d begins.alive (sym begins.starts) in
+    record { there = rw head able.there; suits = rw (head, status) able.suits; uses = rw used able.uses }
 
 -- ---- a claim that finds a mark
 

@@ -19,7 +19,7 @@ use Rattle.brc_lang.specs.declared.module.Module.{Module}
 use Rattle.brc_model.specs.World.{IsReachable, World, world_of, machine_of, step, row_count}
 use Rattle.brc_model.specs.Within.{IsWithin, StepsWithin}
 use Rattle.brc_world.specs.declared.start.Start.TheVariants.{Stuck, Doing}
-use Rattle.brc_world.specs.Actors.{start_on, actor_on, start_begun, actor_begun, begun_of, memory_from, actor_from, memory_by, actor_by, finds_mark, memory_claimed, actor_claimed, CanStart}
+use Rattle.brc_world.specs.Actors.{start_on, actor_on, start_begun, actor_begun, begun_of, memory_from, actor_from, memory_by, actor_by, finds_mark, memory_claimed, actor_claimed, CanDo, CanStart}
 
 -- the world with other words and another thread
 abbrev pub with_words : World → ℕ → (Address → ℕ) → Actor → World
@@ -137,7 +137,8 @@ start_within w t a [] (model.Quiet place) d steps alive is begins starts = absur
 start_within w t a [] (model.Work [] place) d steps alive is begins starts = absurd cc
 start_within w t a [] (model.Work (e ∷ rest) place) d steps alive is begins starts = steps.takes_up d rest place alive is (rw (doing_is e d starts) at begins)
 
+pub able : (w : World) (t : ℕ) (a : Actor) (d : Duty) → IsWithin w t a d → CanDo w.rows t (row_count w) (length w.actors) w.memory a d
+able w t a d within = record { there = within.there; suits = within.suits; uses = within.used }
+
 pub can_start : (w : World) (t : ℕ) (a : Actor) → StepsWithin w t a → CanStart w.functions w.rows t (row_count w) (length w.actors) w.memory a
-can_start w t a steps d alive starts =
-    let within = start_within w t a a.agenda (begun_by (machine_of w) t a) d steps alive refl refl starts in
-    (within.there, within.suits)
+can_start w t a steps d alive starts = able w t a d (start_within w t a a.agenda (begun_by (machine_of w) t a) d steps alive refl refl starts)

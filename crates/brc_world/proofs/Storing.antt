@@ -8,14 +8,14 @@ use Rattle.std.proofs.lemmas.List.{get_or-replicate, get_or-set_other, get_or_pa
 use Rattle.brc_word.specs.declared.shared.Phase.TheVariants.{Default}
 use Rattle.brc_word.specs.Header.{IsSharedWord}
 use Rattle.brc_word.specs.Words.{fresh_word, local_word}
-use Rattle.brc_model.specs.declared.address.Address.TheVariants.{Local, Shared, Gate, KindOf, Mark, Cell, ThreadWord}
+use Rattle.brc_model.specs.declared.address.Address.TheVariants.{Local, Shared, Gate, KindOf, Mark, Cell, Slot, Resource, ThreadWord}
 use Rattle.brc_model.specs.Machine.{written, first_memory}
 use Rattle.brc_world.specs.Storage.{Columns, word_in, AreColumns, IsStored}
 
 -- ---- a cell
 
 abbrev pub with_cells : Columns → List ℕ → Columns
-with_cells c cells = record { local = c.local; shared = c.shared; gate = c.gate; kind = c.kind; mark = c.mark; cell = cells; thread = c.thread }
+with_cells c cells = record { local = c.local; shared = c.shared; gate = c.gate; kind = c.kind; mark = c.mark; cell = cells; slot = c.slot; resource = c.resource; thread = c.thread }
 
 cell_word : (c : Columns) (x i y j word : ℕ) → length c.cell ≡ 8 * length c.local → x < length c.local → i < 8
     → word_in (with_cells c (slice_set c.cell (8 * x + i) word)) (Cell y j) ≡ written (word_in c) (Cell x i) word (Cell y j)
@@ -49,6 +49,8 @@ stored_cell c x i word columns there low = record {
     | KindOf y ↦ refl
     | Mark y ↦ refl
     | Cell y j ↦ cell_word c x i y j word columns.cell there low
+    | Slot y ↦ refl
+    | Resource y ↦ refl
     | ThreadWord t ↦ refl
   ]);
 }
@@ -76,6 +78,8 @@ first_columns workers n more = record {
   kind = 4294967296 ∷ (3 * 4294967296 + 8) ∷ replicate more 0;
   mark = replicate n 0;
   cell = replicate (8 * n) 0;
+  slot = replicate n 0;
+  resource = replicate n 0;
   thread = replicate (1 + workers) 1;
 }
 
@@ -95,6 +99,8 @@ first_words workers n more = fun_ext (λ a. elim a as (λ b. word_in (first_colu
   | KindOf (suc (suc x)) ↦ all_alike more x 0
   | Mark x ↦ all_alike n x 0
   | Cell x i ↦ no_cell (8 * n) (8 * x + i) (nat_lt i 8)
+  | Slot x ↦ all_alike n x 0
+  | Resource x ↦ all_alike n x 0
   | ThreadWord t ↦ running_word workers t
 ])
 
@@ -102,12 +108,12 @@ first_words workers n more = fun_ext (λ a. elim a as (λ b. word_in (first_colu
 two_set : (n more v a b : ℕ) → n ≡ suc (suc more) → slice_set (slice_set (replicate n v) 0 a) 1 b ≡ a ∷ b ∷ replicate more v
 two_set n more v a b e = rw e refl
 
-pub words_as : (workers n more : ℕ) (local kind shared gate mark cell thread : List ℕ) (none root none_kind root_kind : ℕ) → n ≡ suc (suc more)
+pub words_as : (workers n more : ℕ) (local kind shared gate mark cell slot resource thread : List ℕ) (none root none_kind root_kind : ℕ) → n ≡ suc (suc more)
     → local ≡ replicate n 0 → none ≡ 8589934591 → root ≡ local_word 0 (1 + workers) → kind ≡ replicate n 0 → none_kind ≡ 4294967296 → root_kind ≡ 3 * 4294967296 + 8
-    → shared ≡ replicate n fresh_word → gate ≡ replicate n 1 → mark ≡ replicate n 0 → cell ≡ replicate (8 * n) 0 → thread ≡ replicate (1 + workers) 1
-    → word_in (record { local = slice_set (slice_set local 0 none) 1 root; shared = shared; gate = gate; kind = slice_set (slice_set kind 0 none_kind) 1 root_kind; mark = mark; cell = cell; thread = thread }) ≡ first_memory workers
-words_as workers n more local kind shared gate mark cell thread none root none_kind root_kind e l v r k nk rk s g m c t =
-    rw (l, v, r, k, nk, rk, s, g, m, c, t, two_set n more 0 8589934591 (local_word 0 (1 + workers)) e, two_set n more 0 4294967296 (3 * 4294967296 + 8) e) (first_words workers n more)
+    → shared ≡ replicate n fresh_word → gate ≡ replicate n 1 → mark ≡ replicate n 0 → cell ≡ replicate (8 * n) 0 → slot ≡ replicate n 0 → resource ≡ replicate n 0 → thread ≡ replicate (1 + workers) 1
+    → word_in (record { local = slice_set (slice_set local 0 none) 1 root; shared = shared; gate = gate; kind = slice_set (slice_set kind 0 none_kind) 1 root_kind; mark = mark; cell = cell; slot = slot; resource = resource; thread = thread }) ≡ first_memory workers
+words_as workers n more local kind shared gate mark cell slot resource thread none root none_kind root_kind e l v r k nk rk s g m c o p t =
+    rw (l, v, r, k, nk, rk, s, g, m, c, o, p, t, two_set n more 0 8589934591 (local_word 0 (1 + workers)) e, two_set n more 0 4294967296 (3 * 4294967296 + 8) e) (first_words workers n more)
 
 -- the packed word of no count
 pub fresh_is : (word : ℕ) → IsSharedWord word (record { count = pos 0; phase = Default }) → word ≡ fresh_word

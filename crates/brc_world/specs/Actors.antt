@@ -1,6 +1,6 @@
 -- The threads as the model has them, and what each thread's step begins with: the first duty of its agenda, or what its next
 -- instruction or its exit asks for.
-use Rattle.std.specs.Prelude.{◌≡◌, ◌≢◌, ℕ, ◌<◌, Bool, true, false, ◌==◌, ◌&&◌, not, if◌then◌else◌, List, [], ◌∷◌, slice_get}
+use Rattle.std.specs.Prelude.{◌≡◌, ◌≢◌, ℕ, ◌<◌, ◌≤◌, Bool, true, false, ◌==◌, ◌&&◌, not, if◌then◌else◌, List, [], ◌∷◌, slice_get}
 use Rattle.brc_lang.specs.declared.module.Function.{Function}
 use Rattle.brc_model.specs.declared.actor.Status.{Status}
 use Rattle.brc_model.specs.declared.actor.Status.TheVariants.{Running, Leaving, Gone}
@@ -124,10 +124,15 @@ did_by functions rows t a Gone = answers.Gone
 did_by functions rows t a Running = did_from (start_of functions rows t a)
 did_by functions rows t a Leaving = did_from (start_of functions rows t a)
 
+-- the duty can be done: its word is there, among so many rows and threads, and suits it; and the thread uses no more rows
+pub record CanDo (rows t n threads : ℕ) (memory : Address → ℕ) (a : Actor) (d : Duty) : Type 0 where
+  pub there : IsThere n threads (address_of rows t a.head d)
+  pub suits : Suits t (model.is_running a.status) n d (found_by rows t memory a d)
+  pub uses : model.used_by a.used d ≤ n
+
 -- the duty that the step begins with can be done
 abbrev pub CanStart : List Function → ℕ → ℕ → ℕ → ℕ → (Address → ℕ) → Actor → Type 0
-CanStart functions rows t n threads memory a =
-    (d : Duty) → a.status ≢ Gone → start_of functions rows t a ≡ starts.Doing d → IsThere n threads (address_of rows t a.head d) × Suits t (model.is_running a.status) n d (found_by rows t memory a d)
+CanStart functions rows t n threads memory a = (d : Duty) → a.status ≢ Gone → start_of functions rows t a ≡ starts.Doing d → CanDo rows t n threads memory a d
 
 -- ---- a claim
 
@@ -146,5 +151,6 @@ did_claim rows t memory a row Gone = answers.Gone
 did_claim rows t memory a row Running = if finds_mark rows t memory a row then answers.Moved else answers.Same
 did_claim rows t memory a row Leaving = if finds_mark rows t memory a row then answers.Moved else answers.Same
 
-abbrev pub CanClaim : ℕ → ℕ → ℕ → ℕ → Actor → ℕ → Type 0
-CanClaim rows t n threads a row = model.may_claim rows t a row ≡ true → IsThere n threads (Mark row)
+-- where it may look, it can
+abbrev pub CanClaim : ℕ → ℕ → ℕ → ℕ → (Address → ℕ) → Actor → ℕ → Type 0
+CanClaim rows t n threads memory a row = model.may_claim rows t a row ≡ true → CanDo rows t n threads memory a (ClaimMark row)

@@ -4,7 +4,7 @@ use Rattle.std.specs.List.{slice_index_or}
 use Rattle.brc_word.specs.Words.{fresh_word}
 use Rattle.brc_model.specs.Machine.{written}
 use Rattle.brc_model.specs.declared.address.Address.{Address}
-use Rattle.brc_model.specs.declared.address.Address.TheVariants.{Local, Shared, Gate, KindOf, Mark, Cell, ThreadWord}
+use Rattle.brc_model.specs.declared.address.Address.TheVariants.{Local, Shared, Gate, KindOf, Mark, Cell, Slot, Resource, ThreadWord}
 
 -- the words by kind; the eight cells of a row stand side by side
 pub record Columns : Type 0 where
@@ -14,6 +14,8 @@ pub record Columns : Type 0 where
   pub kind : List ℕ
   pub mark : List ℕ
   pub cell : List ℕ
+  pub slot : List ℕ
+  pub resource : List ℕ
   pub thread : List ℕ
 
 -- an address that there is no word for has the word that it would begin with
@@ -24,6 +26,8 @@ word_in c (Gate x) = slice_index_or c.gate x 1
 word_in c (KindOf x) = slice_index_or c.kind x 0
 word_in c (Mark x) = slice_index_or c.mark x 0
 word_in c (Cell x i) = if nat_lt i 8 then slice_index_or c.cell (8 * x + i) 0 else 0
+word_in c (Slot x) = slice_index_or c.slot x 0
+word_in c (Resource x) = slice_index_or c.resource x 0
 word_in c (ThreadWord t) = slice_index_or c.thread t 0
 
 -- each row has its words
@@ -33,6 +37,8 @@ pub record AreColumns (c : Columns) : Type 0 where
   pub kind : length c.kind ≡ length c.local
   pub mark : length c.mark ≡ length c.local
   pub cell : length c.cell ≡ 8 * length c.local
+  pub slot : length c.slot ≡ length c.local
+  pub resource : length c.resource ≡ length c.local
 
 -- as many rows and threads as before, and one word written
 pub record IsStored (old : Columns) (address : Address) (word : ℕ) (new : Columns) : Type 0 where

@@ -15,7 +15,8 @@ pub fn address_of(rows: u16, thread: u8, head: u32, duty: Duty) -> Address
         | Duty::RetainStore { row, .. }
         | Duty::ReleaseLoad { row, .. }
         | Duty::ReleaseStore { row, .. }
-        | Duty::MergeSwap { row, .. } => Address::Local { row },
+        | Duty::MergeSwap { row, .. }
+        | Duty::BirthLocal { row, .. } => Address::Local { row },
         Duty::RetainAdd { row, .. }
         | Duty::DecideAtZero { row }
         | Duty::SharedLoad { row, .. }
@@ -26,8 +27,10 @@ pub fn address_of(rows: u16, thread: u8, head: u32, duty: Duty) -> Address
         Duty::Settle => Address::Gate {
             row: head.saturating_sub(1),
         },
-        Duty::SettleKind { row } => Address::KindOf { row },
+        Duty::SettleKind { row } | Duty::BirthKind { row, .. } => Address::KindOf { row },
         Duty::SettleCell { row, cell, .. } => Address::Cell { row, cell },
+        Duty::TakeSlot { row } | Duty::BirthSlot { row, .. } => Address::Slot { row },
+        Duty::CloseResource { row } => Address::Resource { row },
         Duty::SetMark { row }
         | Duty::TakeMark { row }
         | Duty::Scan { row, .. }

@@ -3,7 +3,7 @@
 ghost use Rattle.std.specs.Prelude.{◌≡◌, ◌+◌, ◌<◌, ◌≤◌, length, OnOk, OnErr, IfOk};
 ghost use Rattle.std.specs.VecDeque.{deque_len, deque_capacity};
 ghost use Rattle.brc_model.specs.Duties.{address_of, left_by};
-ghost use Rattle.brc_model.specs.Machine.{is_running, may_claim};
+ghost use Rattle.brc_model.specs.Machine.{is_running, used_by, may_claim};
 ghost use Rattle.brc_model.specs.Within.{IsThere, Suits};
 ghost use Rattle.brc_world.specs.Storage.{word_in, IsStored};
 ghost use Rattle.brc_world.specs.Actors.{actor_of, found_by, actor_done, memory_by, actor_by, did_by, CanStart, finds_mark, memory_claimed, actor_claimed, did_claim, CanClaim};
@@ -12,7 +12,7 @@ use crate::address::address_of;
 use crate::begun::first_row;
 use crate::did::Did;
 use crate::follow::{Doer, follow, pass_over};
-use crate::left::{head_by, left_by, status_by};
+use crate::left::{head_by, left_by, status_by, used_by};
 use crate::memory::Memory;
 use crate::no_memory::NoMemory;
 use crate::start::{Start, first_duty};
@@ -27,8 +27,10 @@ const ROOM: usize = 8;
 pub fn do_duty(memory: &mut Memory, rows: u16, number: u8, thread: &mut Thread, duty: &Duty)
     requires some_rows { 0 < rows }
     requires small { length memory.old.local ≤ 32770 }
+    requires known { number ≤ 32 }
     requires there { IsThere (length memory.old.local) (length memory.old.thread) (address_of rows number thread.old.head duty.now) }
     requires suits { Suits number (is_running thread.old.status) (length memory.old.local) duty.now (found_by rows number (word_in memory.old) (actor_of thread.old) duty.now) }
+    requires uses { used_by thread.old.used duty.now ≤ length memory.old.local }
     requires room { deque_len thread.old.agenda + 4 ≤ deque_capacity thread.old.agenda }
     ensures word { IsStored memory.old (address_of rows number thread.old.head duty.now) (left_by number thread.old.head duty.now (found_by rows number (word_in memory.old) (actor_of thread.old) duty.now)) memory.new }
     ensures actor { actor_of thread.new ≡ actor_done rows number (word_in memory.old) (actor_of thread.old) duty.now }
@@ -49,6 +51,7 @@ pub fn do_duty(memory: &mut Memory, rows: u16, number: u8, thread: &mut Thread, 
     follow(&mut thread.agenda, by, *duty, found);
     thread.head = head_by(all, head, *duty, found);
     thread.status = status_by(thread.status, *duty);
+    thread.used = used_by(thread.used, *duty);
     pass_over(&mut thread.agenda, thread.head);
 }
 
@@ -68,6 +71,7 @@ pub fn act(
 ) -> Result<Did, NoMemory>
     requires some_rows { 0 < rows }
     requires small { length memory.old.local ≤ 32770 }
+    requires known { number ≤ 32 }
     requires can { CanStart functions.now rows number (length memory.old.local) (length memory.old.thread) (word_in memory.old) (actor_of thread.old) }
     ensures did { IfOk result (λ did. did ≡ did_by functions.now rows number (actor_of thread.old) thread.old.status) }
     ensures words { OnOk result (word_in memory.new ≡ memory_by functions.now rows number (word_in memory.old) (actor_of thread.old) thread.old.status) }
@@ -101,7 +105,8 @@ pub fn claim(
 ) -> Result<Did, NoMemory>
     requires some_rows { 0 < rows }
     requires small { length memory.old.local ≤ 32770 }
-    requires can { CanClaim rows number (length memory.old.local) (length memory.old.thread) (actor_of thread.old) row }
+    requires known { number ≤ 32 }
+    requires can { CanClaim rows number (length memory.old.local) (length memory.old.thread) (word_in memory.old) (actor_of thread.old) row }
     ensures did { IfOk result (λ did. did ≡ did_claim rows number (word_in memory.old) (actor_of thread.old) row thread.old.status) }
     ensures words { OnOk result (word_in memory.new ≡ memory_claimed rows number (word_in memory.old) (actor_of thread.old) row) }
     ensures actor { OnOk result (actor_of thread.new ≡ actor_claimed rows number (word_in memory.old) (actor_of thread.old) row) }
@@ -122,7 +127,7 @@ pub fn claim(
 }
 
 fn finds_mark(memory: &Memory, rows: u16, number: u8, thread: &Thread, row: u32) -> bool
-    requires { CanClaim rows number (length memory.now.local) (length memory.now.thread) (actor_of thread.now) row }
+    requires { CanClaim rows number (length memory.now.local) (length memory.now.thread) (word_in memory.now) (actor_of thread.now) row }
     ensures { result ≡ finds_mark rows number (word_in memory.now) (actor_of thread.now) row }
 {
     may_claim(rows, number, thread, row) && memory.load(Address::Mark { row }) != 0

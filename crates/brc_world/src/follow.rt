@@ -1,14 +1,14 @@
 //! The duties that take the place of one that is done, by what its step found.
 
-ghost use Rattle.std.specs.Prelude.{◌≡◌, ◌+◌, ◌≤◌, ◌++◌, ◌∷◌, []};
+ghost use Rattle.std.specs.Prelude.{◌≡◌, ◌+◌, ◌≤◌, ◌++◌, ◌∷◌, [], if◌then◌else◌};
 ghost use Rattle.std.specs.VecDeque.{deque_len, deque_capacity};
 ghost use Rattle.brc_model.specs.declared.duty.Duty.TheVariants as duties;
 ghost use Rattle.brc_model.specs.declared.duty.Reason.TheVariants as reasons;
-ghost use Rattle.brc_model.specs.Duties.{next_by, cells_of, cells_from, ready};
+ghost use Rattle.brc_model.specs.Duties.{next_by, has_resource, cells_of, cells_from, ready};
 ghost use Rattle.brc_model.specs.Within.{Suits};
 ghost use Rattle.brc_world.specs.Actors.{is_idle, IsNumbered};
 
-use crate::states::{LIST, RUNNING, SET};
+use crate::states::{FILE, LIST, RUNNING, SET, SOCK};
 use brc_model::{Duty, Holding, Reason};
 use brc_word::{
     LocalChoice, is_dead, is_fresh, kind_argument, kind_number, local_count, merged,
@@ -127,7 +127,7 @@ pub fn follow(agenda: &mut Agenda, by: Doer, duty: Duty, found: u64)
             });
         }
         Duty::SettleKind { row } => {
-            agenda.push_front_reserved(cell_or_end(row, 0, cells_of(found)));
+            agenda.push_front_reserved(first_of_settling(row, found));
         }
         Duty::SettleCell { row, cell, cells } => {
             agenda.push_front_reserved(cell_or_end(row, cell + 1, cells));
@@ -138,6 +138,8 @@ pub fn follow(agenda: &mut Agenda, by: Doer, duty: Duty, found: u64)
                 });
             }
         }
+        Duty::TakeSlot { row } => agenda.push_front_reserved(Duty::CloseResource { row }),
+        Duty::CloseResource { row } => agenda.push_front_reserved(Duty::SettleEnd { row }),
         Duty::Leave { row, rows } => {
             agenda.push_front_reserved(Duty::Finish);
             agenda.push_front_reserved(Duty::Scan { row, rows });
@@ -160,10 +162,17 @@ pub fn follow(agenda: &mut Agenda, by: Doer, duty: Duty, found: u64)
                 agenda.push_front_reserved(handed_merge(row));
             }
         }
+        Duty::BirthKind { row, holding, word } => {
+            agenda.push_front_reserved(slot_or_count(row, holding, word));
+        }
+        Duty::BirthSlot { row, holding } => {
+            agenda.push_front_reserved(Duty::BirthLocal { row, holding });
+        }
         Duty::RetainStore { .. }
         | Duty::RetainAdd { .. }
         | Duty::Die { .. }
         | Duty::SettleEnd { .. }
+        | Duty::BirthLocal { .. }
         | Duty::Finish => (),
     }
 }
@@ -186,6 +195,37 @@ fn handed_release(row: u32) -> Duty
         row,
         reason: Reason::Handed,
     }
+}
+
+/// What is done first with a dying object, by its kind word: a resource is taken out of its slot, a list's first cell is
+/// emptied, and anything else has come to its end.
+fn first_of_settling(row: u32, found: u64) -> Duty
+    ensures { (if has_resource found then duties.TakeSlot row ∷ [] else cells_from row 0 (cells_of found)) ≡ result ∷ [] }
+{
+    if has_resource(found) {
+        Duty::TakeSlot { row }
+    } else {
+        cell_or_end(row, 0, cells_of(found))
+    }
+}
+
+/// What follows once it is said what the new object is: a resource is put into its slot, anything else is counted.
+fn slot_or_count(row: u32, holding: Holding, word: u64) -> Duty
+    ensures { result ≡ (if has_resource word then duties.BirthSlot row holding else duties.BirthLocal row holding) }
+{
+    if has_resource(word) {
+        Duty::BirthSlot { row, holding }
+    } else {
+        Duty::BirthLocal { row, holding }
+    }
+}
+
+/// Whether an object has a resource of the host's, by its kind word: files and sockets have.
+fn has_resource(word: u64) -> bool
+    ensures { result ≡ has_resource word }
+{
+    let kind = kind_number(word);
+    kind == FILE || kind == SOCK
 }
 
 /// The next cell of a dying list, or its end.

@@ -1,21 +1,22 @@
 //! What a duty leaves in its word, and of its thread.
 
-ghost use Rattle.std.specs.Prelude.{◌≡◌};
+ghost use Rattle.std.specs.Prelude.{◌≡◌, ◌^◌, ◌≤◌, ◌<◌};
 ghost use Rattle.brc_model.specs.Duties.{left_by, head_by};
-ghost use Rattle.brc_model.specs.Machine.{status_by};
+ghost use Rattle.brc_model.specs.Machine.{status_by, used_by};
 ghost use Rattle.brc_model.specs.Within.{Suits};
 ghost use Rattle.brc_world.specs.Actors.{IsNumbered};
 
-use crate::states::{GONE, LEAVING, SET};
+use crate::states::{FULL, GONE, LEAVING, SET};
 use brc_model::{Duty, Status};
 use brc_word::{
-    closed, dying, local_with_one_less, local_with_one_more, merged, next_of_dying, released,
-    shared_with_one_more,
+    closed, dying, local_with_one_less, local_with_one_more, local_word, merged, next_of_dying,
+    released, shared_with_one_more,
 };
 
 /// What the step leaves in the word that it found so. There are so many rows in all.
 pub fn left_by(thread: u8, running: bool, rows: u32, head: u32, duty: Duty, found: u64) -> u64
-    requires { Suits thread running rows duty found }
+    requires known { thread ≤ 32 }
+    requires suits { Suits thread running rows duty found }
     ensures { result ≡ left_by thread head duty found }
 {
     match duty {
@@ -43,11 +44,16 @@ pub fn left_by(thread: u8, running: bool, rows: u32, head: u32, duty: Duty, foun
         | Duty::Scan { .. }
         | Duty::ClaimMark { .. }
         | Duty::MergeSwap { .. }
+        | Duty::TakeSlot { .. }
+        | Duty::CloseResource { .. }
         | Duty::SettleCell { .. } => 0,
         Duty::Die { .. } => dying(thread, head),
         Duty::SettleEnd { .. } => closed(),
         Duty::Leave { .. } => LEAVING,
         Duty::Finish => GONE,
+        Duty::BirthKind { word, .. } => word,
+        Duty::BirthSlot { .. } => FULL,
+        Duty::BirthLocal { .. } => local_word(Some(thread), 1),
     }
 }
 
@@ -71,5 +77,16 @@ pub fn status_by(status: Status, duty: Duty) -> Status
         Duty::Leave { .. } => Status::Leaving,
         Duty::Finish => Status::Gone,
         _ => status,
+    }
+}
+
+/// How many rows of its block the thread has used afterwards: a birth uses the next one.
+pub fn used_by(used: u32, duty: Duty) -> u32
+    requires { used_by used duty < 2 ^ 32 }
+    ensures { result ≡ used_by used duty }
+{
+    match duty {
+        Duty::BirthLocal { .. } => used + 1,
+        _ => used,
     }
 }

@@ -21,6 +21,8 @@ pub struct Memory {
     kind: Vec<u64>,
     mark: Vec<u64>,
     cell: Vec<u64>,
+    slot: Vec<u64>,
+    resource: Vec<u64>,
     thread: Vec<u64>,
 }
 
@@ -29,9 +31,9 @@ impl Model for Memory {
 
     ghost Value = { Columns };
 
-    ghost view = { λ m. (record { local = m.local.items; shared = m.shared.items; gate = m.gate.items; kind = m.kind.items; mark = m.mark.items; cell = m.cell.items; thread = m.thread.items }) };
+    ghost view = { λ m. (record { local = m.local.items; shared = m.shared.items; gate = m.gate.items; kind = m.kind.items; mark = m.mark.items; cell = m.cell.items; slot = m.slot.items; resource = m.resource.items; thread = m.thread.items }) };
 
-    ghost invariant = { λ m. AreColumns (record { local = m.local.items; shared = m.shared.items; gate = m.gate.items; kind = m.kind.items; mark = m.mark.items; cell = m.cell.items; thread = m.thread.items }) };
+    ghost invariant = { λ m. AreColumns (record { local = m.local.items; shared = m.shared.items; gate = m.gate.items; kind = m.kind.items; mark = m.mark.items; cell = m.cell.items; slot = m.slot.items; resource = m.resource.items; thread = m.thread.items }) };
 }
 
 /// The cells of a row.
@@ -57,6 +59,8 @@ impl Memory {
             Address::KindOf { row } => self.kind[row as usize],
             Address::Mark { row } => self.mark[row as usize],
             Address::Cell { row, cell } => self.cell[CELLS * row as usize + cell as usize],
+            Address::Slot { row } => self.slot[row as usize],
+            Address::Resource { row } => self.resource[row as usize],
             Address::ThreadWord { thread } => self.thread[thread as usize],
         }
     }
@@ -73,6 +77,8 @@ impl Memory {
             Address::KindOf { row } => self.kind[row as usize] = word,
             Address::Mark { row } => self.mark[row as usize] = word,
             Address::Cell { row, cell } => self.cell[CELLS * row as usize + cell as usize] = word,
+            Address::Slot { row } => self.slot[row as usize] = word,
+            Address::Resource { row } => self.resource[row as usize] = word,
             Address::ThreadWord { thread } => self.thread[thread as usize] = word,
         }
     }
@@ -104,6 +110,8 @@ pub fn first_memory(alloc: Global, workers: usize, rows: u16) -> Result<Memory, 
         kind,
         mark: vec![in alloc; 0u64; n]?,
         cell: vec![in alloc; 0u64; CELLS * n]?,
+        slot: vec![in alloc; 0u64; n]?,
+        resource: vec![in alloc; 0u64; n]?,
         thread: vec![in alloc; RUNNING; 1 + workers]?,
     })
 }

@@ -14,7 +14,7 @@ do_duty-requires c =
       actor = rw c.in_ok-reserve.ensures.items at c.in-Doing.ensures.actor;
     } in
     let can = can_do _ _ _ _ _ (word_in c.args.memory.now) _ _ _ begins c.requires.can in
-    record { some_rows = c.requires.some_rows; small = c.requires.small; there = can.0; suits = can.1; room = c.in-Doing.ensures.room }
+    record { some_rows = c.requires.some_rows; small = c.requires.small; known = c.requires.known; there = can.there; suits = can.suits; uses = can.uses; room = c.in-Doing.ensures.room }
 
 pub returns-in-Doing : goal.returns-in-Doing
 returns-in-Doing c =

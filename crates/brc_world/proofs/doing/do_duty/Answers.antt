@@ -7,4 +7,4 @@ returns-clause-word c = rw (c.left_by-left.ensures, c.load-found.ensures, c.addr
 
 pub returns-clause-actor : goal.returns-clause-actor
 returns-clause-actor c =
-    rw (c.pass_over.ensures, c.follow.ensures, c.status_by-thread.ensures, c.head_by-thread.ensures, c.is_running-running.ensures, c.load-found.ensures, c.address_of-address.ensures) refl
+    rw (c.pass_over.ensures, c.follow.ensures, c.status_by-thread.ensures, c.used_by-thread.ensures, c.head_by-thread.ensures, c.is_running-running.ensures, c.load-found.ensures, c.address_of-address.ensures) refl

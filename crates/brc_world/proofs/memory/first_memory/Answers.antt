@@ -5,8 +5,9 @@ use Rattle.brc_world.proofs.memory.first_memory.Goals as goal
 pub returns-clause-words : goal.returns-clause-words
 returns-clause-words c =
     let n = 2 + c.args.workers * c.from.result in
-    words_as c.args.workers n (c.args.workers * c.from.result) _ _ _ _ _ _ _ _ _ _ _ (omega arith)
+    words_as c.args.workers n (c.args.workers * c.from.result) _ _ _ _ _ _ _ _ _ _ _ _ _ (omega arith)
     (c.in_ok-local.ensures.items_if_clones_equal (λ _ e. e)) c.local_word.ensures.word c.local_word-2.ensures.word
     (c.in_ok-kind.ensures.items_if_clones_equal (λ _ e. e)) c.kind_word.ensures.word c.kind_word-2.ensures.word
     ((c.in_ok-vec.ensures.items_if_clones_equal (λ _ e. e)) ∙ ap (replicate n) (fresh_is _ c.pack-fresh.ensures.word))
     (c.in_ok-vec-2.ensures.items_if_clones_equal (λ _ e. e)) (c.in_ok-vec-3.ensures.items_if_clones_equal (λ _ e. e)) (c.in_ok-vec-4.ensures.items_if_clones_equal (λ _ e. e)) (c.in_ok-vec-5.ensures.items_if_clones_equal (λ _ e. e))
+    (c.in_ok-vec-6.ensures.items_if_clones_equal (λ _ e. e)) (c.in_ok-vec-7.ensures.items_if_clones_equal (λ _ e. e))

@@ -23,6 +23,12 @@ act-requires-clause-small c =
     let few_rows = c.worlds_are_small.ensures.few_rows _ _ c.self.invariant.reachable in
     rw c.self.invariant.rows (rows_small (seen (contents c.self.inside.accepted.now.functions c.self.inside.rows c.self.inside.memory c.self.inside.threads.items)) few few_rows)
 
+pub act-requires-clause-known : goal.act-requires-clause-known
+act-requires-clause-known c =
+    let few = c.worlds_are_small.ensures.few_threads _ _ c.self.invariant.reachable in
+    let within = rw (sym c.self.view_is) at c.requires in
+    omega (arith, few, within)
+
 pub act-requires-clause-can : goal.act-requires-clause-can
 act-requires-clause-can c =
     let within = rw (sym c.self.view_is) at c.requires in

@@ -5,7 +5,7 @@ use Rattle.brc_world.specs.Storage.{word_in}
 use Rattle.brc_world.specs.Worlds.{seen}
 use Rattle.brc_world.proofs.Outcomes.{contents, Turned, Outcome, outcome, answered, thread_at, rows_small}
 use Rattle.brc_world.proofs.Answering.{claim_answers}
-use Rattle.brc_world.proofs.Stepping.{claim_is, claim_moves, claim_stays}
+use Rattle.brc_world.proofs.Stepping.{able, claim_is, claim_moves, claim_stays}
 use Rattle.brc_world.proofs.world.World.look_for.Goals as goal
 
 pub overflow_cast-thread : goal.overflow_cast-thread
@@ -23,12 +23,18 @@ claim-requires-clause-small c =
     let few_rows = c.worlds_are_small.ensures.few_rows _ _ c.self.invariant.reachable in
     rw c.self.invariant.rows (rows_small (seen (contents c.self.inside.accepted.now.functions c.self.inside.rows c.self.inside.memory c.self.inside.threads.items)) few few_rows)
 
+pub claim-requires-clause-known : goal.claim-requires-clause-known
+claim-requires-clause-known c =
+    let few = c.worlds_are_small.ensures.few_threads _ _ c.self.invariant.reachable in
+    let within = rw (sym c.self.view_is) at c.requires in
+    omega (arith, few, within)
+
 pub claim-requires-clause-can : goal.claim-requires-clause-can
 claim-requires-clause-can c =
     let within = rw (sym c.self.view_is) at c.requires in
     let here = thread_at c.self.inside.accepted.now.functions c.self.inside.rows c.self.inside.memory c.self.inside.threads.items c.args.thread c.index_mut.result.now c.index_mut.ensures.value within in
     let steps = c.steps_are_within.ensures _ _ c.args.thread _ c.self.invariant.reachable here in
-    rw c.self.invariant.rows (λ may. (steps.claims c.args.row may).there)
+    rw (c.self.invariant.rows, c.self.invariant.threads) (λ may. able _ _ _ _ (steps.claims c.args.row may))
 
 -- the world after the step, and where the step's thread stood
 outcome_of : (c : goal.After-self-1) → Outcome c.self.inside.accepted.now c.self.inside.rows c.self.inside.memory c.claim.new.memory c.self.inside.threads.items c.args.thread (Claim c.args.row) c.claim.new.thread c.claim.result
