@@ -6,7 +6,7 @@ ghost use Rattle.std.specs.Str.{bytes_eq};
 ghost use Rattle.brc_lang.specs.declared.fault.FaultCode.{FaultCode};
 ghost use Rattle.brc_lang.specs.declared.module.Module.{Module};
 ghost use Rattle.brc_lang.specs.Grammar.{Spells, is_name};
-ghost use Rattle.brc_lang.specs.Fault.{words, instruction_in, heading_fault_of, next_instruction_fault_of, HasFault, IsFaultOf, ReadsAs, Refuses, IsBeginning};
+ghost use Rattle.brc_lang.specs.Fault.{words, instruction_in, heading_fault_of, end_fault_of, next_instruction_fault_of, HasFault, IsFaultOf, ReadsAs, Refuses, IsBeginning};
 ghost use Rattle.brc_lang.specs.Progress.{IsLineFault, Opens, Appends, Ends, IsFaultInside, ReadsFunction, IsFaultBelow, opened, closed};
 
 use crate::fault::{FaultCode, ReadFault};
@@ -16,6 +16,7 @@ use crate::module::{Function, Instr, Module};
 use crate::name::Name;
 use crate::place::Place;
 use crate::sequence::Sequence;
+use crate::targets::leads_forward;
 use std::alloc::Global;
 
 const FIRST_LINE: &[u8] = b"module 1\n";
@@ -151,13 +152,10 @@ fn read_body<'a>(
             line: line + 1,
         };
         if is_word(text, b"end") {
-            if code.len() == 0 {
-                return Err(ReadFault {
-                    line,
-                    code: FaultCode::OverLimit,
-                });
-            }
-            return Ok((Function { name, code }, below));
+            return match end_fault(code.as_slice()) {
+                Some(code) => Err(ReadFault { line, code }),
+                None => Ok((Function { name, code }, below)),
+            };
         }
         if let Err(code) = read_instruction(&mut code, text) {
             return Err(ReadFault { line, code });
@@ -168,6 +166,19 @@ fn read_body<'a>(
         line: place.line,
         code: FaultCode::CutOff,
     })
+}
+
+/// The fault of the line that ends a function of this code, where one stands.
+fn end_fault(code: &[Instr]) -> Option<FaultCode>
+    ensures { result ≡ end_fault_of code.now }
+{
+    if code.is_empty() {
+        Some(FaultCode::OverLimit)
+    } else if leads_forward(code) {
+        None
+    } else {
+        Some(FaultCode::Target)
+    }
 }
 
 /// Puts the instruction of a line behind the others of its function.

@@ -1,4 +1,4 @@
-ghost use Rattle.std.specs.Prelude.{◌++◌, OnOk, OnErr};
+ghost use Rattle.std.specs.Prelude.{◌++◌, OnOk, OnErr, decimal};
 ghost use Rattle.std.specs.Io.KnownBytes.{Appends};
 ghost use Rattle.brc_lang.specs.Written.{AppendsBeginning};
 ghost use Rattle.brc_lang.specs.Grammar.{variable as variable_text, instruction as instruction_text, instructions as instructions_text, line as line_text, heading as heading_text, function as function_text, text as module_text};
@@ -62,11 +62,26 @@ fn write_instruction<W: Write>(instr: Instr, writer: &mut W) -> io::Result<()>
     ensures begun { OnErr result (AppendsBeginning (W.contents writer.old) (W.contents writer.new) (instruction_text instr)) }
 {
     match instr {
+        Instr::Num {
+            to,
+            value,
+            otherwise,
+        } => {
+            write_operand(b"num ", to, writer)?;
+            write_numeral(b" ", u64::from(value), writer)?;
+            write_numeral(b" else @", u64::from(otherwise), writer)
+        }
+        Instr::NoneObject { to } => write_operand(b"none ", to, writer),
         Instr::Newref { to, from } => {
             write_operand(b"newref ", to, writer)?;
             write_operand(b" ", from, writer)
         }
+        Instr::Move { to, from } => {
+            write_operand(b"move ", to, writer)?;
+            write_operand(b" ", from, writer)
+        }
         Instr::Drop { from } => write_operand(b"drop ", from, writer),
+        Instr::Goto { target } => write_numeral(b"goto @", u64::from(target), writer),
         Instr::Ret { from } => write_operand(b"ret ", from, writer),
         Instr::Fail => write_bytes(b"fail", writer),
     }
@@ -78,15 +93,16 @@ fn write_operand<W: Write>(before: &[u8], variable: Variable, writer: &mut W) ->
     ensures begun { OnErr result (AppendsBeginning (W.contents writer.old) (W.contents writer.new) (before.now ++ variable_text variable)) }
 {
     write_bytes(before, writer)?;
-    write_variable(variable, writer)
+    write_numeral(b"v", u64::from(variable.number()), writer)
 }
 
-fn write_variable<W: Write>(variable: Variable, writer: &mut W) -> io::Result<()>
-    ensures whole { OnOk result (Appends (W.contents writer.old) (W.contents writer.new) (variable_text variable)) }
-    ensures begun { OnErr result (AppendsBeginning (W.contents writer.old) (W.contents writer.new) (variable_text variable)) }
+// What stands before the number, and its digits.
+fn write_numeral<W: Write>(before: &[u8], number: u64, writer: &mut W) -> io::Result<()>
+    ensures whole { OnOk result (Appends (W.contents writer.old) (W.contents writer.new) (before.now ++ decimal number)) }
+    ensures begun { OnErr result (AppendsBeginning (W.contents writer.old) (W.contents writer.new) (before.now ++ decimal number)) }
 {
-    write_bytes(b"v", writer)?;
-    write_number(u64::from(variable.number()), writer)
+    write_bytes(before, writer)?;
+    write_number(number, writer)
 }
 
 #[cfg(test)]
