@@ -12,9 +12,10 @@ use crate::variable::Variable;
 pub(crate) fn instruction(line: &[u8]) -> Result<Instr, FaultCode>
     ensures { result ≡ instruction_in (words line.now) }
 {
-    match split_word(line) {
-        (word, Some(operands)) => instruction_with(word, operands),
-        (word, None) => plain_instruction(word),
+    let (word, operands) = split_word(line);
+    match operands {
+        Some(operands) => instruction_with(word, operands),
+        None => plain_instruction(word),
     }
 }
 

@@ -35,9 +35,10 @@ pub fn split_word(line: &[u8]) -> (&[u8], Option<&[u8]>)
 pub fn one_word(line: &[u8]) -> Option<&[u8]>
     ensures { MatchOption result (length (words line.now) ≢ 1) (λ w. words line.now ≡ w.now ∷ []) }
 {
-    match split_word(line) {
-        (word, None) => Some(word),
-        _ => None,
+    let (word, more) = split_word(line);
+    match more {
+        Some(_) => None,
+        None => Some(word),
     }
 }
 

@@ -11,7 +11,7 @@ ghost use Rattle.brc_lang.specs.Progress.{IsLineFault, Opens, Appends, Ends, IsF
 
 use crate::fault::{FaultCode, ReadFault};
 use crate::instruction::instruction;
-use crate::lexing::{is_name, is_word, split_line, split_word};
+use crate::lexing::{is_name, is_word, split_line, two_words};
 use crate::module::{Function, Instr, Module};
 use crate::name::Name;
 use crate::place::Place;
@@ -107,12 +107,10 @@ fn heading(functions: &Sequence<Function>, text: &[u8]) -> Result<Name, FaultCod
     ensures ok { IfOk result (λ name. Opens functions.now text.now name) }
     ensures err { IfErr result (λ code. heading_fault_of functions.now (words text.now) ≡ Some code) }
 {
-    let (word, rest) = split_word(text);
-    let Some(rest) = rest else {
+    let Some((word, name)) = two_words(text) else {
         return Err(FaultCode::UnknownWord);
     };
-    let (name, more) = split_word(rest);
-    if more.is_some() || !is_word(word, b"func") || !is_name(name) {
+    if !is_word(word, b"func") || !is_name(name) {
         return Err(FaultCode::UnknownWord);
     }
     if functions.len() >= MOST_FUNCTIONS {
@@ -152,10 +150,10 @@ fn read_body<'a>(
             line: line + 1,
         };
         if is_word(text, b"end") {
-            return match end_fault(code.as_slice()) {
-                Some(code) => Err(ReadFault { line, code }),
-                None => Ok((Function { name, code }, below)),
-            };
+            if let Some(code) = end_fault(code.as_slice()) {
+                return Err(ReadFault { line, code });
+            }
+            return Ok((Function { name, code }, below));
         }
         if let Err(code) = read_instruction(&mut code, text) {
             return Err(ReadFault { line, code });

@@ -1,7 +1,8 @@
-ghost use Rattle.std.specs.Prelude.{◌++◌, OnOk, OnErr, decimal};
+ghost use Rattle.std.specs.Prelude.{[], ◌∷◌, ◌++◌, OnOk, OnErr, decimal};
 ghost use Rattle.std.specs.Io.KnownBytes.{Appends};
 ghost use Rattle.brc_lang.specs.Written.{AppendsBeginning};
-ghost use Rattle.brc_lang.specs.Grammar.{variable as variable_text, instruction as instruction_text, instructions as instructions_text, line as line_text, heading as heading_text, function as function_text, text as module_text};
+ghost use Rattle.brc_lang.specs.declared.module.Instr.TheVariants.{Num};
+ghost use Rattle.brc_lang.specs.Grammar.{spaced, variable as variable_text, instruction as instruction_text, instructions as instructions_text, line as line_text, heading as heading_text, function as function_text, text as module_text};
 
 use crate::module::{Function, Instr, Module};
 use crate::output::{write_bytes, write_number};
@@ -66,25 +67,43 @@ fn write_instruction<W: Write>(instr: Instr, writer: &mut W) -> io::Result<()>
             to,
             value,
             otherwise,
-        } => {
-            write_operand(b"num ", to, writer)?;
-            write_numeral(b" ", u64::from(value), writer)?;
-            write_numeral(b" else @", u64::from(otherwise), writer)
-        }
+        } => write_num(to, value, otherwise, writer),
         Instr::NoneObject { to } => write_operand(b"none ", to, writer),
-        Instr::Newref { to, from } => {
-            write_operand(b"newref ", to, writer)?;
-            write_operand(b" ", from, writer)
-        }
-        Instr::Move { to, from } => {
-            write_operand(b"move ", to, writer)?;
-            write_operand(b" ", from, writer)
-        }
+        Instr::Newref { to, from } => write_operands(b"newref ", to, from, writer),
+        Instr::Move { to, from } => write_operands(b"move ", to, from, writer),
         Instr::Drop { from } => write_operand(b"drop ", from, writer),
         Instr::Goto { target } => write_numeral(b"goto @", u64::from(target), writer),
         Instr::Ret { from } => write_operand(b"ret ", from, writer),
         Instr::Fail => write_bytes(b"fail", writer),
     }
+}
+
+fn write_num<W: Write>(
+    to: Variable,
+    value: u32,
+    otherwise: u8,
+    writer: &mut W,
+) -> io::Result<()>
+    ensures whole { OnOk result (Appends (W.contents writer.old) (W.contents writer.new) (instruction_text (Num to value otherwise))) }
+    ensures begun { OnErr result (AppendsBeginning (W.contents writer.old) (W.contents writer.new) (instruction_text (Num to value otherwise))) }
+{
+    write_operand(b"num ", to, writer)?;
+    write_numeral(b" ", u64::from(value), writer)?;
+    write_numeral(b" else @", u64::from(otherwise), writer)
+}
+
+// What stands before two variables, and these.
+fn write_operands<W: Write>(
+    before: &[u8],
+    to: Variable,
+    from: Variable,
+    writer: &mut W,
+) -> io::Result<()>
+    ensures whole { OnOk result (Appends (W.contents writer.old) (W.contents writer.new) (before.now ++ spaced (variable_text to ∷ variable_text from ∷ []))) }
+    ensures begun { OnErr result (AppendsBeginning (W.contents writer.old) (W.contents writer.new) (before.now ++ spaced (variable_text to ∷ variable_text from ∷ []))) }
+{
+    write_operand(before, to, writer)?;
+    write_operand(b" ", from, writer)
 }
 
 // What stands before the variable, and the variable.
