@@ -10,7 +10,7 @@ use Rattle.brc_lang.specs.declared.module.Instr.TheVariants.{Num, NoneObject, Ne
 use Rattle.brc_lang.specs.declared.fault.FaultCode.{FaultCode}
 use Rattle.brc_lang.specs.declared.fault.FaultCode.TheVariants.{UnknownWord}
 use Rattle.brc_lang.specs.Grammar.{spaced, variable, target, instruction_words, instruction, IsInstruction}
-use Rattle.brc_lang.specs.Fault.{words, variable_in, target_in, number_in, ◌>>=◌, no_operand_in, one_variable_in, two_variables_in, one_target_in, num_in, instruction_in, is_line_feed}
+use Rattle.brc_lang.specs.Fault.{words, variable_in, target_in, number_in, ◌>>=◌, one_variable_in, two_variables_in, one_target_in, num_in, fail_in, instruction_in, is_line_feed}
 use Rattle.brc_lang.proofs.Words.{joined, some_word, ArePlain, spaced_words, spaced_plain}
 use Rattle.brc_lang.proofs.Spelling.{number_spelled, number_again, number_plain, variable_spelled, variable_again, variable_plain, target_spelled, target_again, target_plain}
 
@@ -33,8 +33,8 @@ same_text : (w text : List ℕ) → bytes_eq w text ≡ true → w ≡ text
 same_text w text e = (bytes_eq-Decides w text).0 e
 
 -- `fail` has no operand
-pub behind_fail : (operands : List ℕ) → Err UnknownWord ≡ no_operand_in (words operands)
-behind_fail operands = let q = some_word operands in sym (ap no_operand_in q.2)
+pub behind_fail : (operands : List ℕ) → Err UnknownWord ≡ fail_in (words operands)
+behind_fail operands = let q = some_word operands in sym (ap fail_in q.2)
 
 -- ---- from words to the operands
 
@@ -120,7 +120,7 @@ goto_spelled w ws i named e =
     let t = one_target_spelled ws b.0 b.1 in
     subst (Spelled (w ∷ ws)) (ok_is (Goto b.0) i b.2) (both_same w (codes "goto") ws (target b.0 ∷ []) named t.0, t.1)
 
-fail_spelled : (w : List ℕ) (ws : List (List ℕ)) (i : Instr) → w ≡ codes "fail" → (no_operand_in ws >>= λ _. Ok Fail) ≡ Ok i → Spelled (w ∷ ws) i
+fail_spelled : (w : List ℕ) (ws : List (List ℕ)) (i : Instr) → w ≡ codes "fail" → fail_in ws ≡ Ok i → Spelled (w ∷ ws) i
 fail_spelled w [] i named e = subst (Spelled (w ∷ [])) (ok_is Fail i e) (ap (λ (x : List ℕ). x ∷ []) named, tt)
 fail_spelled w (a ∷ ws) i named e = absurd cc
 

@@ -45,10 +45,6 @@ abbrev pub ◌>>=◌ : {A B : Type 0} → Result A FaultCode → (A → Result B
 
 -- ---- the words behind the first
 
-abbrev pub no_operand_in : List (List ℕ) → Result (Unit {0}) FaultCode
-no_operand_in [] = Ok tt
-no_operand_in _ = Err UnknownWord
-
 abbrev pub one_variable_in : List (List ℕ) → Result ℕ FaultCode
 one_variable_in (word ∷ []) = variable_in word
 one_variable_in _ = Err UnknownWord
@@ -61,13 +57,17 @@ abbrev pub one_target_in : List (List ℕ) → Result ℕ FaultCode
 one_target_in (word ∷ []) = target_in word
 one_target_in _ = Err UnknownWord
 
--- a variable, a number of 32 bits, `else` and a target
+-- a variable, a number of 32 bits, `else` and a target; `else` is looked at first
 abbrev pub num_in : List (List ℕ) → Result Instr FaultCode
 num_in (to ∷ value ∷ word ∷ otherwise ∷ []) =
     if bytes_eq word (codes "else")
     then (variable_in to >>= λ d. number_in 4294967295 value >>= λ k. target_in otherwise >>= λ l. Ok (Num d k l))
     else Err UnknownWord
 num_in _ = Err UnknownWord
+
+abbrev pub fail_in : List (List ℕ) → Result Instr FaultCode
+fail_in [] = Ok Fail
+fail_in _ = Err UnknownWord
 
 -- the instruction of a line, or its fault: the first word, the number of words and `else` first, then the words from left to right
 abbrev pub instruction_in : List (List ℕ) → Result Instr FaultCode
@@ -80,7 +80,7 @@ instruction_in (w ∷ ws) =
     else if bytes_eq w (codes "drop") then (one_variable_in ws >>= λ s. Ok (Drop s))
     else if bytes_eq w (codes "goto") then (one_target_in ws >>= λ l. Ok (Goto l))
     else if bytes_eq w (codes "ret") then (one_variable_in ws >>= λ s. Ok (Ret s))
-    else if bytes_eq w (codes "fail") then (no_operand_in ws >>= λ _. Ok Fail)
+    else if bytes_eq w (codes "fail") then fail_in ws
     else Err UnknownWord
 
 -- ---- the targets of a function

@@ -4,7 +4,9 @@ ghost use Rattle.std.specs.Prelude.{◌≡◌, ◌∷◌, []};
 ghost use Rattle.brc_lang.specs.Fault.{words, one_variable_in, two_variables_in, one_target_in, num_in, instruction_in};
 
 use crate::fault::FaultCode;
-use crate::lexing::{four_words, is_word, number, one_word, split_word, target, two_words, variable};
+use crate::lexing::{
+    four_words, is_word, number, one_word, split_word, target, two_words, variable,
+};
 use crate::module::Instr;
 use crate::variable::Variable;
 
@@ -90,11 +92,11 @@ fn one_variable(operands: &[u8]) -> Result<Variable, FaultCode>
 fn two_variables(operands: &[u8]) -> Result<(Variable, Variable), FaultCode>
     ensures { result ≡ two_variables_in (words operands.now) }
 {
-    let Some((to, from)) = two_words(operands) else {
+    let Some((first, second)) = two_words(operands) else {
         return Err(FaultCode::UnknownWord);
     };
-    let to = variable(to)?;
-    let from = variable(from)?;
+    let to = variable(first)?;
+    let from = variable(second)?;
     Ok((to, from))
 }
 

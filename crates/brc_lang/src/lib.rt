@@ -32,4 +32,8 @@ pub use variable::Variable;
 pub use writing::write;
 
 #[cfg(test)]
+mod line_tests;
+#[cfg(test)]
+mod target_tests;
+#[cfg(test)]
 mod tests;

@@ -28,17 +28,31 @@ pub enum Instr {
         otherwise: u8,
     },
     /// `none vD`: the object none.
-    NoneObject { to: Variable },
+    NoneObject {
+        to: Variable,
+    },
     /// `newref vD vS`: a new strong reference to what `vS` names (`Py_NewRef`).
-    Newref { to: Variable, from: Variable },
+    Newref {
+        to: Variable,
+        from: Variable,
+    },
     /// `move vD vS`: hands the reference on.
-    Move { to: Variable, from: Variable },
+    Move {
+        to: Variable,
+        from: Variable,
+    },
     /// `drop vS`: gives the reference up (`Py_DECREF`).
-    Drop { from: Variable },
+    Drop {
+        from: Variable,
+    },
     /// `goto @L`: goes on at L.
-    Goto { target: u8 },
+    Goto {
+        target: u8,
+    },
     /// `ret vS`: the end of the call, with the reference handed to the caller.
-    Ret { from: Variable },
+    Ret {
+        from: Variable,
+    },
     /// `fail`: the end of the call, with a fault.
     Fail,
 }

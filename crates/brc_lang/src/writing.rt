@@ -78,12 +78,7 @@ fn write_instruction<W: Write>(instr: Instr, writer: &mut W) -> io::Result<()>
     }
 }
 
-fn write_num<W: Write>(
-    to: Variable,
-    value: u32,
-    otherwise: u8,
-    writer: &mut W,
-) -> io::Result<()>
+fn write_num<W: Write>(to: Variable, value: u32, otherwise: u8, writer: &mut W) -> io::Result<()>
     ensures whole { OnOk result (Appends (W.contents writer.old) (W.contents writer.new) (instruction_text (Num to value otherwise))) }
     ensures begun { OnErr result (AppendsBeginning (W.contents writer.old) (W.contents writer.new) (instruction_text (Num to value otherwise))) }
 {
