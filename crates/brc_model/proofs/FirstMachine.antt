@@ -19,7 +19,7 @@ use Rattle.brc_model.specs.Duties.{block_of}
 use Rattle.brc_model.specs.declared.actor.Place.TheVariants.{Standing, Departing}
 use Rattle.brc_model.proofs.Bag.{one_if}
 use Rattle.brc_model.proofs.Lists.{some_is, all_at, all_of_found, slice_get-map}
-use Rattle.brc_model.proofs.Callers.{callers_beyond, callers_hold, root_references, other_references}
+use Rattle.brc_model.proofs.Callers.{callers_beyond, callers_off_cells, callers_hold, root_references, other_references}
 use Rattle.brc_model.proofs.Grounded.{AreInstructions}
 use Rattle.brc_model.proofs.Holds.{the_root}
 use Rattle.brc_model.proofs.Rows.{waits, carries, merges, decides, agenda_weight, weight, IsDefault, AboveZero, InOwned, RowRule}
@@ -145,6 +145,7 @@ first_rule m rows calls fits accepted are_calls some_rows = record {
   beyond = λ t past k object. callers_beyond (1 + length calls) t k object past;
   dying = λ x t past. none_dies x t;
   cells = λ x i. refl;
+  cells_hold = λ x i object. callers_off_cells (1 + length calls) x i object;
   only_root = rest_unborn;
   none_lives = refl;
   closed_is = λ x is. absurd (let wrong : false ≡ true = is in cc);

@@ -22,7 +22,7 @@ use Rattle.brc_model.specs.declared.actor.Status.TheVariants.{Running, Leaving, 
 use Rattle.brc_model.specs.declared.actor.Place.{Place}
 use Rattle.brc_model.specs.declared.actor.Place.TheVariants.{Standing, Inside, Departing}
 use Rattle.brc_model.specs.Machine.{Actor, Life, Unborn, Live, Dying, Closed, Machine, first_row}
-use Rattle.brc_model.proofs.Bag.{held, one_if}
+use Rattle.brc_model.proofs.Bag.{held, one_if, cell_reference}
 use Rattle.brc_model.proofs.Holds.{nothing, the_root, of_variables, reference_of}
 use Rattle.brc_model.proofs.Grounded.{IsInside, AreInstructions}
 use Rattle.brc_model.proofs.Rows.{waits, carries, merges, decides, weight, Numbers, RowRule}
@@ -249,6 +249,8 @@ pub record Rule (p : Module) (n : ℕ) (m : Machine) : Type 0 where
   pub beyond : (t : ℕ) → n ≤ t → (k : Holding) (object : ℕ) → held (reference_of t k object) m.plain.references ≡ 0
   pub dying : (x t : ℕ) → n ≤ t → dies_by (m.life x) t ≡ false
   pub cells : (x i : ℕ) → m.memory (Cell x i) ≡ 0
+  -- no instruction stores in a cell yet
+  pub cells_hold : (x i object : ℕ) → held (cell_reference x i object) m.plain.references ≡ 0
   pub only_root : (x : ℕ) → 1 < x → m.life x ≡ Unborn
   pub none_lives : m.life 0 ≡ Live
   pub closed_is : (x : ℕ) → is_among x m.plain.closed ≡ true → m.life x ≡ Closed

@@ -127,6 +127,7 @@ sits_rule p n m t a place agenda rest sits = record {
   beyond = rest.rule.beyond;
   dying = rest.rule.dying;
   cells = rest.rule.cells;
+  cells_hold = rest.rule.cells_hold;
   only_root = rest.rule.only_root;
   none_lives = rest.rule.none_lives;
   closed_is = rest.rule.closed_is;
