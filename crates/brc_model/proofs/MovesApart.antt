@@ -1,4 +1,4 @@
--- The moves of a thread's step change the references of no holder that has no part in them: of no other thread, and of no cell that is empty.
+-- The moves of a thread's step leave the references of who has no part in them: of other threads, and of cells that it doesn't find full.
 use Rattle.std.proofs.Common.{◌≡◌, ◌≢◌, ℕ, zero, suc, Bool, true, false, cond, List, [], ◌∷◌, ◌++◌, ◌⊎◌, inl, inr, refl, sym, ap, ◌∙◌, arith}
 use Rattle.std.specs.Prelude.{◌==◌}
 use Rattle.brc_model.specs.declared.duty.Holding.{Holding}
@@ -71,7 +71,7 @@ take_out_aside h t x i zero other cell = tt
 take_out_aside h t x i (suc y) other (inl none) = absurd (omega (arith, none))
 take_out_aside h t x i (suc y) other (inr apart) = ((apart, other InHand), tt)
 
--- nor is it a cell that the thread's duty finds full
+-- who is no way of the thread's, and no cell that its duty finds full, has no part in the step
 pub moves_aside : (h : Holder) (t : ℕ) (d : Duty) (found : ℕ) → IsNoWayOf t h → ((x i n : ℕ) → d ≡ SettleCell x i n → (found ≡ 0) ⊎ (same_holder h (ByCell x i) ≡ false)) → AreAside h (moves_by t d found)
 moves_aside h t (RetainLoad x k) found other cell = either_aside h (is_immortal_word found) (gain t k x) [] (other k, tt) tt
 moves_aside h t (RetainStore x k w) found other cell = (other k, tt)
