@@ -19,7 +19,7 @@ use Rattle.brc_model.specs.Duties.{block_of}
 use Rattle.brc_model.specs.declared.actor.Place.TheVariants.{Standing, Departing}
 use Rattle.brc_model.proofs.Bag.{one_if}
 use Rattle.brc_model.proofs.Lists.{some_is, all_at, all_of_found, slice_get-map}
-use Rattle.brc_model.proofs.Callers.{callers_beyond, callers_hold, root_references, other_references}
+use Rattle.brc_model.proofs.Callers.{callers_beyond, callers_off_cells, callers_hold, root_references, other_references}
 use Rattle.brc_model.proofs.Grounded.{AreInstructions}
 use Rattle.brc_model.proofs.Holds.{the_root}
 use Rattle.brc_model.proofs.Rows.{waits, carries, merges, decides, agenda_weight, weight, IsDefault, AboveZero, InOwned, RowRule}
@@ -198,6 +198,7 @@ first_rule m rows calls fits accepted are_calls some_rows few_rows = record {
   cells = λ x i. refl;
   uses = first_uses rows calls;
   no_block = λ x past. far_unborn rows (1 + length calls) x (omega arith) past;
+  cells_hold = λ x i object. callers_off_cells (1 + length calls) x i object;
   none_lives = refl;
   born_is = first_born_is;
   born_has = first_born_has;

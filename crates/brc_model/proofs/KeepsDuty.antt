@@ -15,14 +15,14 @@ use Rattle.brc_model.specs.declared.duty.Duty.{Duty}
 use Rattle.brc_model.specs.declared.duty.Duty.TheVariants.{RetainLoad, RetainStore, RetainAdd, ReleaseLoad, ReleaseStore, SharedExchange, SettleCell, SettleEnd, BirthLocal}
 use Rattle.brc_model.specs.declared.address.Address.TheVariants.{Cell, Mark}
 use Rattle.brc_model.specs.declared.actor.Status.TheVariants.{Gone}
-use Rattle.brc_model.specs.Machine.{Actor, Machine, hand_on, gain, lose, moves_by, actor_by, done_by, same_address}
+use Rattle.brc_model.specs.Machine.{Actor, Machine, hand_on, gain, lose, take_out, moves_by, actor_by, done_by, same_address}
 use Rattle.brc_model.proofs.Lists.{some_is, slice_get-set_same, slice_get-set_other}
 use Rattle.brc_model.proofs.Bag.{one_if, same-true, references_to-cons}
 use Rattle.brc_model.proofs.Rule.{HeadFits, HandedOnce, AgendaFits, ActorFits, IsWatched, Rule}
 use Rattle.brc_model.proofs.Others.{others_fit}
-use Rattle.brc_model.proofs.MovesApart.{moves_apart}
+use Rattle.brc_model.proofs.MovesApart.{moves_apart, moves_off_cells}
 use Rattle.brc_model.proofs.Leaves.{AtDuty, head_of}
-use Rattle.brc_model.proofs.Lives.{leaves_others}
+use Rattle.brc_model.proofs.Lives.{cell_found, leaves_others}
 use Rattle.brc_model.proofs.Neutral.{OwnFits, found_by, memory_by}
 use Rattle.brc_model.proofs.RowsAfter.{rows_after}
 use Rattle.brc_model.proofs.ClosedAfter.{closed_is_after, closed_has_after, closed_once_after, none_lives_after, dying_after}
@@ -73,7 +73,7 @@ none_moved p (Born r ∷ mvs) counted = none_moved (move p (Born r)) mvs counted
 none_moved p (Gain r ∷ mvs) counted = none_moved (move p (Gain r)) mvs counted.1 ∙ none_more r p.references counted.0
 none_moved p (Lose r ∷ mvs) counted = none_moved (move p (Lose r)) mvs counted.1 ∙ none_less r p.references counted.0
 none_moved p (HandOn r h ∷ mvs) counted =
-    none_moved (move p (HandOn r h)) mvs counted.1 ∙ none_more (record { thread = r.thread; holding = h; object = r.object }) (without r p.references) counted.0 ∙ none_less r p.references counted.0
+    none_moved (move p (HandOn r h)) mvs counted.1 ∙ none_more (record { holder = h; object = r.object }) (without r p.references) counted.0 ∙ none_less r p.references counted.0
 none_moved p (Finalise x ∷ mvs) counted = none_moved (move p (Finalise x)) mvs counted.1
 
 if_counted : (b : Bool) (mvs : List Move) → AreCounted mvs → AreCounted (cond b mvs [])
@@ -89,16 +89,17 @@ hand_on_counted t (ByVariable v) x pos = (pos, tt)
 hand_on_counted t AsCaller x pos = (pos, tt)
 hand_on_counted t InHand x pos = tt
 
-moves_counted : (m : Machine) (t : ℕ) (a : Actor) (d : Duty) (rest : List Duty) (found : ℕ) → HeadFits m t a d rest → AreCounted (moves_by t d found)
-moves_counted m t a (RetainLoad x h) rest found fits = if_counted (is_immortal_word found) (gain t h x) (fits.0, tt)
-moves_counted m t a (RetainStore x h w) rest found fits = (fits.0, tt)
-moves_counted m t a (RetainAdd x h) rest found fits = (fits.0, tt)
-moves_counted m t a (ReleaseLoad x h) rest found fits = append_counted (hand_on t h x) (cond (is_immortal_word found) (lose t x) []) (hand_on_counted t h x fits) (if_counted (is_immortal_word found) (lose t x) (fits, tt))
-moves_counted m t a (ReleaseStore x w) rest found fits = (fits.0, tt)
-moves_counted m t a (SharedExchange x Own w) rest found fits = if_counted (found == w) (lose t x) (fits, tt)
-moves_counted m t a (SettleEnd x) rest found fits = (tt, tt)
-moves_counted m t a (BirthLocal x h) rest found fits = (let above = next_above m t a x fits.0 in omega (arith, above), tt)
-moves_counted m t a _ rest found fits = tt
+moves_counted : (m : Machine) (t : ℕ) (a : Actor) (d : Duty) (rest : List Duty) (found : ℕ) → HeadFits m t a d rest → ((x i k : ℕ) → d ≡ SettleCell x i k → found ≡ 0) → AreCounted (moves_by t d found)
+moves_counted m t a (RetainLoad x h) rest found fits empty = if_counted (is_immortal_word found) (gain t h x) (fits.0, tt)
+moves_counted m t a (RetainStore x h w) rest found fits empty = (fits.0, tt)
+moves_counted m t a (RetainAdd x h) rest found fits empty = (fits.0, tt)
+moves_counted m t a (ReleaseLoad x h) rest found fits empty = append_counted (hand_on t h x) (cond (is_immortal_word found) (lose t x) []) (hand_on_counted t h x fits) (if_counted (is_immortal_word found) (lose t x) (fits, tt))
+moves_counted m t a (ReleaseStore x w) rest found fits empty = (fits.0, tt)
+moves_counted m t a (SharedExchange x Own w) rest found fits empty = if_counted (found == w) (lose t x) (fits, tt)
+moves_counted m t a (SettleCell x i k) rest found fits empty = subst (λ (w : ℕ). AreCounted (take_out t x i w)) (sym (empty x i k refl)) tt
+moves_counted m t a (SettleEnd x) rest found fits empty = (tt, tt)
+moves_counted m t a (BirthLocal x h) rest found fits empty = (let above = next_above m t a x fits.0 in omega (arith, above), tt)
+moves_counted m t a _ rest found fits empty = tt
 
 -- ---- all threads
 
@@ -143,9 +144,10 @@ keeps_by p n m t a d rest here alive own marks =
       no_block = λ x past. no_block_after p n m t a d rest here x past;
       born_is = λ x is. born_is_after p n m t a d rest here x is;
       born_has = λ x above is. born_has_after p n m t a d rest here x above is;
+      cells_hold = λ x i object. moves_off_cells m.plain x i object t d (found_by m t a d) (cell_found p n m t a d here.rule) ∙ here.rule.cells_hold x i object;
       none_lives = none_lives_after p n m t a d rest here;
       closed_is = λ x is. closed_is_after p n m t a d rest x here is;
       closed_has = λ x is. closed_has_after p n m t a d rest x here is;
       once = closed_once_after p n m t a d rest here;
-      none_free = none_moved m.plain (moves_by t d (found_by m t a d)) (moves_counted m t a d rest (found_by m t a d) (head_of p n m t a d rest here)) ∙ here.rule.none_free;
+      none_free = none_moved m.plain (moves_by t d (found_by m t a d)) (moves_counted m t a d rest (found_by m t a d) (head_of p n m t a d rest here) (cell_found p n m t a d here.rule)) ∙ here.rule.none_free;
     }

@@ -8,7 +8,7 @@ use Rattle.brc_lang.specs.declared.module.Instr.{Instr}
 use Rattle.brc_lang.specs.declared.module.Module.{Module}
 use Rattle.brc_model.specs.declared.duty.Holding.{Holding}
 use Rattle.brc_model.specs.declared.duty.Holding.TheVariants.{ByVariable, AsCaller, InHand}
-use Rattle.brc_model.specs.Plain.{none_row, is_counted, is_among, Reference, Plain, same_holding, same, references_to, Move, Gain, Lose, HandOn, Finalise, is_allowed, are_allowed, Born}
+use Rattle.brc_model.specs.Plain.{none_row, is_counted, is_among, Reference, Plain, same_holding, same, references_to, Move, Gain, Lose, HandOn, Finalise, is_allowed, are_allowed, Born, ByThread, holds_by_cells}
 use Rattle.brc_word.specs.Words.{local_part, is_immortal_word}
 use Rattle.brc_model.specs.declared.duty.Reason.TheVariants.{Own, Handed}
 use Rattle.brc_model.specs.declared.duty.Duty.{Duty}
@@ -17,9 +17,9 @@ use Rattle.brc_model.specs.declared.address.Address.TheVariants.{Local}
 use Rattle.brc_model.specs.Duties.{address_of}
 use Rattle.brc_model.specs.declared.actor.Place.{Place}
 use Rattle.brc_model.specs.declared.actor.Place.TheVariants.{Standing, Inside, Departing}
-use Rattle.brc_model.specs.Machine.{Actor, Unborn, Live, Dying, Closed, Machine, hand_on, gain, lose, moves_by, birth}
+use Rattle.brc_model.specs.Machine.{Actor, Unborn, Live, Dying, Closed, Machine, hand_on, gain, lose, moves_by, birth, take_out}
 use Rattle.brc_model.specs.Events.{touched_row, is_freed_for, touches_freed, is_bad_duty}
-use Rattle.brc_model.proofs.Bag.{held, one_if, same_holding-refl, held_has, held-le-references_to}
+use Rattle.brc_model.proofs.Bag.{held, one_if, same_holding-refl, held_has, held-le-references_to, no_cell_holds}
 use Rattle.brc_model.proofs.Holds.{nothing, the_root, of_variables, reference_of}
 use Rattle.brc_model.proofs.Rows.{waits, decides, merges, InOwned, InSwapped, InMerged}
 use Rattle.brc_model.proofs.Rule.{extra_of, lacks_of, HoldsAt, PlaceFits, IsBacked, Linked, dies_by, Rule, IsNext}
@@ -151,8 +151,8 @@ mortal_row m x alive = ne_eqb (local_part (m.memory (Local x))) 4294967295 (elim
 
 -- the holder's reference is handed on, and the object isn't immortal
 hand_on_allowed : (p : Plain) (t x : ℕ) (h : Holding) → list_any (same (reference_of t h x)) p.references ≡ true → are_allowed p (hand_on t h x ++ []) ≡ true
-hand_on_allowed p t x (ByVariable v) has = one_allowed p (HandOn (reference_of t (ByVariable v) x) InHand) has
-hand_on_allowed p t x AsCaller has = one_allowed p (HandOn (reference_of t AsCaller x) InHand) has
+hand_on_allowed p t x (ByVariable v) has = one_allowed p (HandOn (reference_of t (ByVariable v) x) (ByThread t InHand)) has
+hand_on_allowed p t x AsCaller has = one_allowed p (HandOn (reference_of t AsCaller x) (ByThread t InHand)) has
 hand_on_allowed p t x InHand has = refl
 
 dying_is_not_live : (m : Machine) (t x : ℕ) → m.life x ≡ Dying t → (m.life x ≡ Live → ⊥)
@@ -161,7 +161,7 @@ dying_is_not_live m t x dying e = let wrong : Dying t ≡ Live = sym dying ∙ e
 dying_is_not_unborn : (m : Machine) (t x : ℕ) → m.life x ≡ Dying t → (m.life x ≡ Unborn → ⊥)
 dying_is_not_unborn m t x dying e = let wrong : Dying t ≡ Unborn = sym dying ∙ e in cc
 
--- a dying row has no reference, and wasn't closed
+-- a dying row has no reference, its cells hold none, and it wasn't closed
 finalise_allowed : (p : Module) (n : ℕ) (m : Machine) (t x : ℕ) → Rule p n m → 0 < x → m.life x ≡ Dying t → are_allowed m.plain (Finalise x ∷ []) ≡ true
 finalise_allowed p n m t x rule pos dying =
     let free = is_free_of p n m x rule pos (dying_is_not_live m t x dying) (dying_is_not_unborn m t x dying) in
@@ -171,8 +171,8 @@ finalise_allowed p n m t x rule pos dying =
       | true ↦ λ e. absurd (let wrong : Dying t ≡ Closed = sym dying ∙ rule.closed_is x e in cc)
       | false ↦ λ e. refl
     ] refl in
-    one_allowed m.plain (Finalise x) (ap (λ (b : Bool). b && (references_to x m.plain.references == 0) && not (is_among x m.plain.closed)) counted
-    ∙ ap (λ (b : Bool). b && not (is_among x m.plain.closed)) none ∙ ap not open_still)
+    let empty : holds_by_cells x m.plain.references ≡ false = no_cell_holds x m.plain.references (rule.cells_hold x) in
+    one_allowed m.plain (Finalise x) (rw (counted, none, open_still, empty) refl)
 
 -- what is born now wasn't born before
 birth_allowed : (p : Module) (n : ℕ) (m : Machine) (t : ℕ) (a : Actor) (x : ℕ) (h : Holding) → Rule p n m → slice_get m.actors t ≡ Some a → IsNext m t a x → are_allowed m.plain (birth t h x) ≡ true
@@ -197,6 +197,7 @@ moves_allowed p n m t a (ReleaseLoad x h) rest here =
 moves_allowed p n m t a (ReleaseStore x w) rest here = one_allowed m.plain (Lose (reference_of t InHand x)) (given_in_bag p n m t a (ReleaseStore x w) rest InHand x here (holder_same InHand x) refl)
 moves_allowed p n m t a (SharedExchange x Own w) rest here =
     if_allowed m.plain _ (lose t x) (λ e. one_allowed m.plain (Lose (reference_of t InHand x)) (given_in_bag p n m t a (SharedExchange x Own w) rest InHand x here (holder_same InHand x) refl))
+moves_allowed p n m t a (SettleCell x i k) rest here = ap (λ (w : ℕ). are_allowed m.plain (take_out t x i w)) (here.rule.cells x i)
 moves_allowed p n m t a (SettleEnd x) rest here = let fits = head_of p n m t a (SettleEnd x) rest here in finalise_allowed p n m t x here.rule fits.0 fits.1
 moves_allowed p n m t a (BirthLocal x h) rest here = birth_allowed p n m t a x h here.rule here.found (head_of p n m t a (BirthLocal x h) rest here).0
 moves_allowed p n m t a _ rest here = refl

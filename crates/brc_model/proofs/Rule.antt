@@ -22,7 +22,7 @@ use Rattle.brc_model.specs.declared.actor.Status.TheVariants.{Running, Leaving, 
 use Rattle.brc_model.specs.declared.actor.Place.{Place}
 use Rattle.brc_model.specs.declared.actor.Place.TheVariants.{Standing, Inside, Departing}
 use Rattle.brc_model.specs.Machine.{Actor, Life, Unborn, Live, Dying, Closed, Machine, first_row}
-use Rattle.brc_model.proofs.Bag.{held, one_if}
+use Rattle.brc_model.proofs.Bag.{held, one_if, cell_reference}
 use Rattle.brc_model.proofs.Holds.{nothing, the_root, of_variables, reference_of}
 use Rattle.brc_model.proofs.Grounded.{IsInside, AreInstructions}
 use Rattle.brc_model.proofs.Rows.{waits, carries, merges, decides, weight, Numbers, RowRule}
@@ -280,6 +280,8 @@ pub record Rule (p : Module) (n : ℕ) (m : Machine) : Type 0 where
   pub cells : (x i : ℕ) → m.memory (Cell x i) ≡ 0
   pub uses : (t : ℕ) (a : Actor) → slice_get m.actors t ≡ Some a → UsesFit m.rows m.life t a.used
   pub no_block : (x : ℕ) → n ≤ block_of m.rows x → m.life x ≡ Unborn
+  -- no instruction stores in a cell yet
+  pub cells_hold : (x i object : ℕ) → held (cell_reference x i object) m.plain.references ≡ 0
   pub none_lives : m.life 0 ≡ Live
   pub born_is : (x : ℕ) → is_among x m.plain.born ≡ true → (0 < x) × (m.life x ≢ Unborn)
   pub born_has : (x : ℕ) → 0 < x → m.life x ≢ Unborn → is_among x m.plain.born ≡ true

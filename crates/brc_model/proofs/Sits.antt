@@ -131,6 +131,7 @@ sits_rule p n m t a place agenda rest sits = record {
   cells = rest.rule.cells;
   uses = λ u b is. written_actor (λ w c. UsesFit m.rows m.life w c.used) m.actors t a (sitting a place agenda) rest.found (rest.rule.uses t a rest.found) rest.rule.uses u b is;
   no_block = rest.rule.no_block;
+  cells_hold = rest.rule.cells_hold;
   none_lives = rest.rule.none_lives;
   born_is = rest.rule.born_is;
   born_has = rest.rule.born_has;

@@ -14,12 +14,12 @@ use Rattle.brc_model.specs.declared.actor.Place.{Place}
 use Rattle.brc_model.specs.declared.actor.Place.TheVariants.{Standing, Inside, Departing}
 use Rattle.brc_model.specs.declared.duty.Holding.{Holding}
 use Rattle.brc_model.specs.declared.duty.Holding.TheVariants.{ByVariable, AsCaller, InHand}
-use Rattle.brc_model.specs.Plain.{root_row, Reference, Plain, Move, Born, Gain, Lose, HandOn, Finalise, moved}
+use Rattle.brc_model.specs.Plain.{root_row, Reference, Plain, Move, Born, Gain, Lose, HandOn, Finalise, moved, ByThread, ByCell}
 use Rattle.brc_model.specs.Threads.{code_of, row_of, entry_variables}
 use Rattle.brc_word.specs.Words.{is_immortal_word, local_word, fresh_word}
 use Rattle.brc_model.specs.declared.duty.Reason.TheVariants.{Own}
 use Rattle.brc_model.specs.declared.duty.Duty.{Duty}
-use Rattle.brc_model.specs.declared.duty.Duty.TheVariants.{RetainLoad, RetainStore, RetainAdd, ReleaseLoad, ReleaseStore, SharedExchange, Die, Settle, SettleEnd, Leave, Finish, ClaimMark, BirthLocal}
+use Rattle.brc_model.specs.declared.duty.Duty.TheVariants.{RetainLoad, RetainStore, RetainAdd, ReleaseLoad, ReleaseStore, SharedExchange, Die, Settle, SettleEnd, Leave, Finish, ClaimMark, BirthLocal, SettleCell}
 use Rattle.brc_model.specs.declared.address.Address.{Address}
 use Rattle.brc_model.specs.declared.address.Address.TheVariants.{Local, Shared, Gate, KindOf, Mark, Cell, Slot, Resource, ThreadWord}
 use Rattle.brc_model.specs.Duties.{address_of, left_by, next_by, head_by, ready}
@@ -123,17 +123,22 @@ written memory a word b = if same_address a b then word else memory b
 
 abbrev pub hand_on : ℕ → Holding → ℕ → List Move
 hand_on t InHand x = []
-hand_on t (ByVariable v) x = HandOn (record { thread = t; holding = ByVariable v; object = x }) InHand ∷ []
-hand_on t AsCaller x = HandOn (record { thread = t; holding = AsCaller; object = x }) InHand ∷ []
+hand_on t (ByVariable v) x = HandOn (record { holder = ByThread t (ByVariable v); object = x }) (ByThread t InHand) ∷ []
+hand_on t AsCaller x = HandOn (record { holder = ByThread t AsCaller; object = x }) (ByThread t InHand) ∷ []
 
 abbrev pub birth : ℕ → Holding → ℕ → List Move
-birth t h x = Born (record { thread = t; holding = h; object = x }) ∷ []
+birth t h x = Born (record { holder = ByThread t h; object = x }) ∷ []
 
 abbrev pub gain : ℕ → Holding → ℕ → List Move
-gain t h x = Gain (record { thread = t; holding = h; object = x }) ∷ []
+gain t h x = Gain (record { holder = ByThread t h; object = x }) ∷ []
 
 abbrev pub lose : ℕ → ℕ → List Move
-lose t x = Lose (record { thread = t; holding = InHand; object = x }) ∷ []
+lose t x = Lose (record { holder = ByThread t InHand; object = x }) ∷ []
+
+-- what an emptied cell held, a row and 1 or nothing, goes over into the thread's hand
+abbrev pub take_out : ℕ → ℕ → ℕ → ℕ → List Move
+take_out t x i zero = []
+take_out t x i (suc y) = HandOn (record { holder = ByCell x i; object = y }) (ByThread t InHand) ∷ []
 
 abbrev pub moves_by : ℕ → Duty → ℕ → List Move
 moves_by t (RetainLoad x h) found = if is_immortal_word found then gain t h x else []
@@ -142,6 +147,7 @@ moves_by t (RetainAdd x h) found = gain t h x
 moves_by t (ReleaseLoad x h) found = hand_on t h x ++ (if is_immortal_word found then lose t x else [])
 moves_by t (ReleaseStore x w) found = lose t x
 moves_by t (SharedExchange x Own w) found = if found == w then lose t x else []
+moves_by t (SettleCell x i n) found = take_out t x i found
 moves_by t (SettleEnd x) found = Finalise x ∷ []
 moves_by t (BirthLocal x h) found = birth t h x
 moves_by t _ found = []
@@ -270,7 +276,7 @@ first_life (suc zero) = Live
 first_life (suc (suc x)) = Unborn
 
 abbrev pub caller_reference : ℕ → Reference
-caller_reference t = record { thread = t; holding = AsCaller; object = root_row }
+caller_reference t = record { holder = ByThread t AsCaller; object = root_row }
 
 -- the callers of the threads below n
 abbrev pub callers_below : ℕ → List Reference
