@@ -34,7 +34,7 @@ function_fits m i fits accepted within =
     let good = all_at (λ (f : Function). IsAcceptableCode f.code) m.functions i accepted within in
     let form = all_of_found IsFunction m.functions i good.found fits.functions good.is_there in
     let P : Option Function → Type 0 = λ o. IsAcceptableCode (code_of o) × AreInstructions (code_of o) in
-    subst P (sym good.is_there) (good.holds, record { each = λ at instr found. all_of_found IsInstruction good.found.code at instr form.code found })
+    subst P (sym good.is_there) (good.holds, record { forward = form.targets; each = λ at instr found. all_of_found IsInstruction good.found.code at instr form.code found })
 
 -- ---- the rows
 
@@ -205,5 +205,5 @@ first_rule m rows calls fits accepted are_calls some_rows few_rows = record {
   closed_is = λ x is. absurd (let wrong : false ≡ true = is in cc);
   closed_has = λ x is. absurd (life_not_closed x is);
   once = λ i j d lt within. absurd (omega arith);
-  none_free = other_references (1 + length calls) 0 (λ e. absurd (omega (arith, e)));
+  none_word = refl;
 }

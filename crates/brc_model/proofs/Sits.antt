@@ -44,7 +44,7 @@ pub record AtRest (p : Module) (n : ℕ) (m : Machine) (t : ℕ) (a : Actor) : T
   pub agenda : a.agenda ≡ []
   pub running : a.status ≡ Running
 
-same_weight : (f : Duty → ℕ) (actors : List Actor) (t : ℕ) (a : Actor) (place : Place) (agenda : List Duty) → slice_get actors t ≡ Some a → a.agenda ≡ [] → sum_by f agenda ≡ 0
+pub same_weight : (f : Duty → ℕ) (actors : List Actor) (t : ℕ) (a : Actor) (place : Place) (agenda : List Duty) → slice_get actors t ≡ Some a → a.agenda ≡ [] → sum_by f agenda ≡ 0
     → weight f (slice_set actors t (sitting a place agenda)) ≡ weight f actors
 same_weight f actors t a place agenda found none weightless =
     let before : agenda_weight f a ≡ 0 = ap (sum_by f) none in
@@ -138,7 +138,7 @@ sits_rule p n m t a place agenda rest sits = record {
   closed_is = rest.rule.closed_is;
   closed_has = rest.rule.closed_has;
   once = rest.rule.once;
-  none_free = rest.rule.none_free;
+  none_word = rest.rule.none_word;
 }
 
 -- ---- the step of what is taken up is the first duty of the sitting thread
