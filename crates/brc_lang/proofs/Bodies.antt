@@ -1,19 +1,22 @@
 -- Inside a function, line by line.
-use Rattle.std.proofs.Common.{◌≡◌, ℕ, ◌+◌, ◌<◌, true, false, List, [], ◌∷◌, ◌++◌, length, Some, Bor, Result, Ok, Err, refl, sym, ap, subst, ◌∙◌, append_assoc, arith, inl, inr}
+use Rattle.std.proofs.Common.{◌≡◌, ℕ, ◌+◌, ◌<◌, true, false, List, [], ◌∷◌, ◌++◌, length, eqb, Some, None, Bor, Result, Ok, Err, refl, sym, ap, subst, ◌∙◌, append_assoc, arith, inl, inr}
 use Rattle.std.specs.Prelude.{codes}
 use Rattle.std.specs.List.{AllByRecursion}
 use Rattle.std.specs.Str.{bytes_eq}
+use Rattle.std.proofs.lemmas.Bool.{eqb-false}
 use Rattle.std.proofs.lemmas.List.{append-nil, length-append}
 use Rattle.std.proofs.lemmas.List.Concat.{flat_map-append}
 use Rattle.std.proofs.lemmas.Slice.Eq.{bytes_eq-Decides}
 use Rattle.brc_lang.specs.declared.module.Instr.{Instr}
 use Rattle.brc_lang.specs.declared.fault.FaultCode.{FaultCode}
+use Rattle.brc_lang.specs.declared.fault.FaultCode.TheVariants.{OverLimit, Target}
 use Rattle.brc_lang.specs.declared.place.Place.{Place}
-use Rattle.brc_lang.specs.Grammar.{line, instruction, instructions, IsInstruction}
-use Rattle.brc_lang.specs.Fault.{words, instruction_in, Beginning, IsOpen, line_fault_of, next_instruction_fault_of, fault_of}
+use Rattle.brc_lang.specs.Grammar.{line, instruction, instructions, IsInstruction, LeadsForward}
+use Rattle.brc_lang.specs.Fault.{words, instruction_in, Beginning, IsOpen, leads_forward, end_fault_of, line_fault_of, next_instruction_fault_of, fault_of}
 use Rattle.brc_lang.specs.Progress.{IsFirstLineOf, Passes, IsLineFault, Appends, opened, Ends, HasFaultInside, IsFaultInside}
 use Rattle.brc_lang.proofs.Lines.{line_any, line_before, line_count-append, line_count_one}
-use Rattle.brc_lang.proofs.Instructions.{instruction_spelled}
+use Rattle.brc_lang.proofs.Instructions.{chosen, instruction_spelled}
+use Rattle.brc_lang.proofs.Forward.{leads_means}
 
 -- ---- places
 
@@ -64,14 +67,26 @@ goes_on name from at code new text rest so_far first next =
       passed = subst (λ (x : List ℕ). Passes x from (at_place rest (at.line + 1))) lines both;
     }
 
-pub ends : (name : List ℕ) (from at : Place) (code : List Instr) (text : List ℕ) (rest : Bor (List ℕ)) → IsInside name from code at → IsFirstLineOf at.rest.now text rest.now → bytes_eq text (codes "end") ≡ true → 0 < length code
+-- a line that ends it and has no fault
+ends_well : (code : List Instr) → end_fault_of code ≡ None → (0 < length code) × LeadsForward code
+ends_well code fine =
+    elim (chosen (eqb (length code) 0) (Some OverLimit) _ None fine) [
+      | inl empty ↦ let never = empty.1 in absurd cc
+      | inr some ↦ elim (chosen (leads_forward code) None (Some Target) None some.1) [
+        | inl forward ↦ let other = eqb-false (length code) 0 some.0 in (omega arith, leads_means code forward.0)
+        | inr back ↦ let never = back.1 in absurd cc
+      ]
+    ]
+
+pub ends : (name : List ℕ) (from at : Place) (code : List Instr) (text : List ℕ) (rest : Bor (List ℕ)) → IsInside name from code at → IsFirstLineOf at.rest.now text rest.now → bytes_eq text (codes "end") ≡ true → end_fault_of code ≡ None
     → Ends name from (opened name code) (at_place rest (at.line + 1))
-ends name from at code text rest so_far first last some =
+ends name from at code text rest so_far first last fine =
     let same : text ≡ codes "end" = (bytes_eq-Decides text (codes "end")).0 last in
     let both = passes_both (instructions code) (line text) from at (at_place rest (at.line + 1)) so_far.passed (passes_line text at rest first) in
+    let well = ends_well code fine in
     record {
       named = refl;
-      whole = record { name = so_far.open_fits.name; some = some; most = so_far.open_fits.most; code = so_far.open_fits.code };
+      whole = record { name = so_far.open_fits.name; some = well.0; most = so_far.open_fits.most; code = so_far.open_fits.code; targets = well.1 };
       passed = subst (λ (x : List ℕ). Passes (instructions code ++ line x) from (at_place rest (at.line + 1))) same both;
     }
 
@@ -80,6 +95,11 @@ ends name from at code text rest so_far first last some =
 fault_inside : (name : List ℕ) (from at : Place) (code : List Instr) (e : FaultCode) → IsInside name from code at → fault_of (record { done = []; open_function = Some (opened name code) }) at.rest.now ≡ Some e
     → HasFaultInside name from (record { line = at.line; code = e })
 fault_inside name from at code e so_far h = record { code = code; rest = at.rest.now; open_fits = so_far.open_fits; parts = so_far.passed.parts; place = so_far.passed.count; fault = h }
+
+pub end_fault : (name : List ℕ) (from at : Place) (code : List Instr) (text rest : List ℕ) (e : FaultCode) → IsInside name from code at → IsFirstLineOf at.rest.now text rest → bytes_eq text (codes "end") ≡ true
+    → end_fault_of code ≡ Some e → IsFaultInside name from (record { line = at.line; code = e })
+end_fault name from at code text rest e so_far first last h =
+    inr (fault_inside name from at code e so_far (fault_at (record { done = []; open_function = Some (opened name code) }) at.rest.now text rest first ∙ rw last h))
 
 same_code : (name : List ℕ) (code : List Instr) (r : Result Instr FaultCode) → next_instruction_fault_of (opened name code) r ≡ next_instruction_fault_of (opened [] code) r
 same_code name code (Ok i) = refl

@@ -14,7 +14,7 @@ use Rattle.brc_lang.specs.Grammar.{line, is_name, AreNamedApart}
 use Rattle.brc_lang.specs.Fault.{words, heading_fault_of}
 use Rattle.brc_lang.specs.Progress.{Opens}
 use Rattle.brc_lang.proofs.Cuts.{lacks_at}
-use Rattle.brc_lang.proofs.Words.{of_two, one_word, first_word}
+use Rattle.brc_lang.proofs.Words.{joined, one_word, first_word}
 use Rattle.brc_lang.proofs.Spelling.{name_no_space}
 
 abbrev pub has_name : List ℕ → List Function → Bool
@@ -22,8 +22,11 @@ has_name name done = list_any (λ f. bytes_eq f.name name) done
 
 -- ---- which fault
 
-pub third_word : (done : List Function) (text w n x : List ℕ) (others : List (List ℕ)) → words text ≡ w ∷ n ∷ x ∷ others → heading_fault_of done (words text) ≡ Some UnknownWord
-third_word done text w n x others e = ap (heading_fault_of done) e
+pub other_count : (done : List Function) (ws : List (List ℕ)) → (length ws ≡ 2 → ⊥) → heading_fault_of done ws ≡ Some UnknownWord
+other_count done [] h = refl
+other_count done (w ∷ []) h = refl
+other_count done (w ∷ n ∷ []) h = absurd (h refl)
+other_count done (w ∷ n ∷ x ∷ ws) h = refl
 
 pub other_word : (done : List Function) (text w n : List ℕ) → words text ≡ w ∷ n ∷ [] → bytes_eq w (codes "func") ≡ false → heading_fault_of done (words text) ≡ Some UnknownWord
 other_word done text w n e f = ap (heading_fault_of done) e ∙ rw f refl
@@ -38,7 +41,7 @@ second_time done text w n e f g room h = ap (heading_fault_of done) e ∙ rw (f,
 
 pub opens : (done : List Function) (text w n name : List ℕ) → words text ≡ w ∷ n ∷ [] → bytes_eq w (codes "func") ≡ true → is_name n ≡ true → length done < 64 → has_name n done ≡ false → name ≡ n → Opens done text name
 opens done text w n name e f g room h named =
-    let spelled : text ≡ codes "func " ++ n = of_two text w n e ∙ ap (λ (x : List ℕ). x ++ 32 ∷ n) ((bytes_eq-Decides w (codes "func")).0 f) in
+    let spelled : text ≡ codes "func " ++ n = joined text (w ∷ n ∷ []) e ∙ ap (λ (x : List ℕ). x ++ 32 ∷ n) ((bytes_eq-Decides w (codes "func")).0 f) in
     rw named (record { spelled = ap line spelled; name_fits = g; room = room; new_name = h })
 
 heading_words : (name : List ℕ) → is_name name ≡ true → words (codes "func " ++ name) ≡ codes "func" ∷ name ∷ []

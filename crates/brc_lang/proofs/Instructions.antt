@@ -1,18 +1,18 @@
 -- A line that is read as an instruction is its spelling, and the spelling is read again.
-use Rattle.std.proofs.Common.{◌≡◌, ℕ, ◌<◌, Bool, true, false, cond, List, [], ◌∷◌, ◌++◌, Result, Ok, Err, refl, sym, ap, subst, ◌∙◌, append_assoc, inl, inr, Bor}
-use Rattle.std.specs.Prelude.{codes, ◌⊎◌, Option, MatchOption, is_some}
+use Rattle.std.proofs.Common.{◌≡◌, ℕ, ◌<◌, Bool, true, false, cond, List, [], ◌∷◌, Result, Ok, Err, refl, sym, ap, subst, ◌∙◌, arith, inl, inr}
+use Rattle.std.specs.Prelude.{codes, ◌⊎◌}
 use Rattle.std.specs.List.{list_any}
+use Rattle.std.specs.Fmt.{decimal}
 use Rattle.std.specs.Str.{bytes_eq}
 use Rattle.std.proofs.lemmas.Slice.Eq.{bytes_eq-Decides}
 use Rattle.brc_lang.specs.declared.module.Instr.{Instr}
-use Rattle.brc_lang.specs.declared.module.Instr.TheVariants.{Newref, Drop, Ret, Fail}
+use Rattle.brc_lang.specs.declared.module.Instr.TheVariants.{Num, NoneObject, Newref, Move, Drop, Goto, Ret, Fail}
 use Rattle.brc_lang.specs.declared.fault.FaultCode.{FaultCode}
 use Rattle.brc_lang.specs.declared.fault.FaultCode.TheVariants.{UnknownWord}
-use Rattle.brc_lang.specs.Grammar.{variable, instruction, IsInstruction}
-use Rattle.brc_lang.specs.Fault.{words, variable_in, ◌>>=◌, newref_in, drop_in, ret_in, fail_in, instruction_in, is_line_feed}
-use Rattle.brc_lang.proofs.Cuts.{lacks_append}
-use Rattle.brc_lang.proofs.Words.{of_one, of_two, of_three, one_word, first_word, some_word, more_words}
-use Rattle.brc_lang.proofs.Spelling.{variable_spelled, variable_again, variable_no_space, variable_plain}
+use Rattle.brc_lang.specs.Grammar.{spaced, variable, target, instruction_words, instruction, IsInstruction}
+use Rattle.brc_lang.specs.Fault.{words, variable_in, target_in, number_in, ◌>>=◌, one_variable_in, two_variables_in, one_target_in, num_in, fail_in, instruction_in, is_line_feed}
+use Rattle.brc_lang.proofs.Words.{joined, some_word, ArePlain, spaced_words, spaced_plain}
+use Rattle.brc_lang.proofs.Spelling.{number_spelled, number_again, number_plain, variable_spelled, variable_again, variable_plain, target_spelled, target_again, target_plain}
 
 -- the value of a step that did not fail
 pub bind_ok : {A B : Type 0} (r : Result A FaultCode) (f : A → Result B FaultCode) (y : B) → (r >>= f) ≡ Ok y → (x : A) × (r ≡ Ok x) × (f x ≡ Ok y)
@@ -24,117 +24,166 @@ pub chosen : {A : Type 0} (b : Bool) (x y z : A) → cond b x y ≡ z → ((b �
 chosen true x y z e = inl (refl, e)
 chosen false x y z e = inr (refl, e)
 
-cond_same : {A : Type 0} (b : Bool) (x : A) → cond b x x ≡ x
-cond_same true x = refl
-cond_same false x = refl
-
-too_many : (w a b c : List ℕ) (others : List (List ℕ)) → instruction_in (w ∷ a ∷ b ∷ c ∷ others) ≡ Err UnknownWord
-too_many w a b c others = simp cond_same
-
--- four words or more are no instruction
-pub four_words : (text operands others word first second : List ℕ) (more : Option (Bor (List ℕ))) → words text ≡ word ∷ words operands → words operands ≡ first ∷ words others
-    → MatchOption more (words others ≡ second ∷ []) (λ r. words others ≡ second ∷ words r.now) → is_some more ≡ true → Err UnknownWord ≡ instruction_in (words text)
-four_words text operands others word first second more e f g some =
-    let q = more_words operands first others second more f g some in
-    let all : words text ≡ word ∷ first ∷ second ∷ q.0 ∷ q.1 = e ∙ ap (λ (ws : List (List ℕ)). word ∷ ws) q.2 in
-    sym (ap instruction_in all ∙ too_many word first second q.0 q.1)
-
--- ---- from a line to the instruction
-
-abbrev Spelled : List ℕ → Instr → Type 0
-Spelled text i = (text ≡ instruction i) × IsInstruction i
-
-ok_is : (x y : Instr) → ◌≡◌ {A = Result Instr FaultCode} (Ok x) (Ok y) → x ≡ y
-ok_is x y e = cc
+-- what holds either way
+either_way : {A P : Type 0} (b : Bool) (x y z : A) → cond b x y ≡ z → (b ≡ true → x ≡ z → P) → (y ≡ z → P) → P
+either_way true x y z e taken passed = taken refl e
+either_way false x y z e taken passed = passed e
 
 same_text : (w text : List ℕ) → bytes_eq w text ≡ true → w ≡ text
 same_text w text e = (bytes_eq-Decides w text).0 e
 
-unary : (word : List ℕ) (make : ℕ → Instr) (text from : List ℕ) (i : Instr) → text ≡ word ++ 32 ∷ from → ((n : ℕ) → instruction (make n) ≡ word ++ 32 ∷ variable n) → ((n : ℕ) → n < 16 → IsInstruction (make n))
-    → (variable_in from >>= λ s. Ok (make s)) ≡ Ok i → Spelled text i
-unary word make text from i e spelling fits read =
-    let b = bind_ok (variable_in from) (λ s. Ok (make s)) i read in
-    let v = variable_spelled from b.0 b.1 in
-    subst (Spelled text) (ok_is (make b.0) i b.2) (e ∙ ap (λ (x : List ℕ). word ++ 32 ∷ x) v.0 ∙ sym (spelling b.0), fits b.0 v.1)
+-- `fail` has no operand
+pub behind_fail : (operands : List ℕ) → Err UnknownWord ≡ fail_in (words operands)
+behind_fail operands = let q = some_word operands in sym (ap fail_in q.2)
 
-three_parts : (text w a b v c d : List ℕ) → text ≡ w ++ 32 ∷ (a ++ 32 ∷ b) → w ≡ v → a ≡ c → b ≡ d → text ≡ v ++ 32 ∷ (c ++ 32 ∷ d)
-three_parts text w a b v c d e f g h = e ∙ rw (f, g, h) refl
+-- ---- from words to the operands
 
-newref_spelled : (text w : List ℕ) (ws : List (List ℕ)) (i : Instr) → words text ≡ w ∷ ws → w ≡ codes "newref" → newref_in ws ≡ Ok i → Spelled text i
-newref_spelled text w [] i e same read = absurd cc
-newref_spelled text w (a ∷ []) i e same read = absurd cc
-newref_spelled text w (a ∷ b ∷ []) i e same read =
-    let to = bind_ok (variable_in a) (λ d. variable_in b >>= λ s. Ok (Newref d s)) i read in
-    let from = bind_ok (variable_in b) (λ s. Ok (Newref to.0 s)) i to.2 in
-    let v = variable_spelled a to.0 to.1 in
-    let u = variable_spelled b from.0 from.1 in
-    let parts : text ≡ codes "newref" ++ 32 ∷ (variable to.0 ++ 32 ∷ variable from.0) = three_parts text w a b (codes "newref") (variable to.0) (variable from.0) (of_three text w a b e) same v.0 u.0 in
-    let regrouped : instruction (Newref to.0 from.0) ≡ codes "newref" ++ 32 ∷ (variable to.0 ++ 32 ∷ variable from.0) = ap (λ (x : List ℕ). codes "newref " ++ x) (append_assoc (variable to.0) (32 ∷ []) (variable from.0)) in
-    subst (Spelled text) (ok_is (Newref to.0 from.0) i from.2) (parts ∙ sym regrouped, (v.1, u.1))
-newref_spelled text w (a ∷ b ∷ c ∷ ws) i e same read = absurd cc
+ok_is : {A : Type 0} (x y : A) → ◌≡◌ {A = Result A FaultCode} (Ok x) (Ok y) → x ≡ y
+ok_is x y e = cc
 
-drop_spelled : (text w : List ℕ) (ws : List (List ℕ)) (i : Instr) → words text ≡ w ∷ ws → w ≡ codes "drop" → drop_in ws ≡ Ok i → Spelled text i
-drop_spelled text w [] i e same read = absurd cc
-drop_spelled text w (a ∷ []) i e same read = unary (codes "drop") (λ n. Drop n) text a i (of_two text w a e ∙ ap (λ (x : List ℕ). x ++ 32 ∷ a) same) (λ n. refl) (λ n lt. lt) read
-drop_spelled text w (a ∷ b ∷ ws) i e same read = absurd cc
+both_same : (v w : List ℕ) (vs ws : List (List ℕ)) → v ≡ w → vs ≡ ws → (v ∷ vs) ≡ (w ∷ ws)
+both_same v w vs ws e f = cc
 
-ret_spelled : (text w : List ℕ) (ws : List (List ℕ)) (i : Instr) → words text ≡ w ∷ ws → w ≡ codes "ret" → ret_in ws ≡ Ok i → Spelled text i
-ret_spelled text w [] i e same read = absurd cc
-ret_spelled text w (a ∷ []) i e same read = unary (codes "ret") (λ n. Ret n) text a i (of_two text w a e ∙ ap (λ (x : List ℕ). x ++ 32 ∷ a) same) (λ n. refl) (λ n lt. lt) read
-ret_spelled text w (a ∷ b ∷ ws) i e same read = absurd cc
+one_variable_spelled : (ws : List (List ℕ)) (n : ℕ) → one_variable_in ws ≡ Ok n → (ws ≡ variable n ∷ []) × (n < 16)
+one_variable_spelled [] n e = absurd cc
+one_variable_spelled (a ∷ []) n e =
+    let v = variable_spelled a n e in
+    (ap (λ (x : List ℕ). x ∷ []) v.0, v.1)
+one_variable_spelled (a ∷ b ∷ ws) n e = absurd cc
 
-fail_spelled : (text w : List ℕ) (ws : List (List ℕ)) (i : Instr) → words text ≡ w ∷ ws → w ≡ codes "fail" → fail_in ws ≡ Ok i → Spelled text i
-fail_spelled text w [] i e same read = subst (Spelled text) (ok_is Fail i read) (of_one text w e ∙ same, tt)
-fail_spelled text w (a ∷ ws) i e same read = absurd cc
+abbrev AreVariables : List (List ℕ) → ℕ × ℕ → Type 0
+AreVariables ws v = (ws ≡ variable v.0 ∷ variable v.1 ∷ []) × (v.0 < 16) × (v.1 < 16)
+
+two_variables_spelled : (ws : List (List ℕ)) (v : ℕ × ℕ) → two_variables_in ws ≡ Ok v → AreVariables ws v
+two_variables_spelled [] v e = absurd cc
+two_variables_spelled (a ∷ []) v e = absurd cc
+two_variables_spelled (a ∷ b ∷ []) v e =
+    let to = bind_ok (variable_in a) _ v e in
+    let from = bind_ok (variable_in b) _ v to.2 in
+    let p = variable_spelled a to.0 to.1 in
+    let q = variable_spelled b from.0 from.1 in
+    let same : (a ∷ b ∷ []) ≡ variable to.0 ∷ variable from.0 ∷ [] = both_same a (variable to.0) (b ∷ []) (variable from.0 ∷ []) p.0 (ap (λ (x : List ℕ). x ∷ []) q.0) in
+    subst (AreVariables (a ∷ b ∷ [])) (ok_is (to.0, from.0) v from.2) (same, p.1, q.1)
+two_variables_spelled (a ∷ b ∷ c ∷ ws) v e = absurd cc
+
+one_target_spelled : (ws : List (List ℕ)) (n : ℕ) → one_target_in ws ≡ Ok n → (ws ≡ target n ∷ []) × (n < 256)
+one_target_spelled [] n e = absurd cc
+one_target_spelled (a ∷ []) n e =
+    let t = target_spelled a n e in
+    (ap (λ (x : List ℕ). x ∷ []) t.0, t.1)
+one_target_spelled (a ∷ b ∷ ws) n e = absurd cc
+
+-- ---- from words to the instruction
+
+abbrev Spelled : List (List ℕ) → Instr → Type 0
+Spelled ws i = (ws ≡ instruction_words i) × IsInstruction i
+
+num_spelled : (w : List ℕ) (ws : List (List ℕ)) (i : Instr) → w ≡ codes "num" → num_in ws ≡ Ok i → Spelled (w ∷ ws) i
+num_spelled w [] i named e = absurd cc
+num_spelled w (a ∷ []) i named e = absurd cc
+num_spelled w (a ∷ b ∷ []) i named e = absurd cc
+num_spelled w (a ∷ b ∷ c ∷ []) i named e = absurd cc
+num_spelled w (a ∷ b ∷ c ∷ d ∷ []) i named e =
+    either_way (bytes_eq c (codes "else")) _ (Err UnknownWord) (Ok i) e
+    (λ same read.
+    let to = bind_ok (variable_in a) _ i read in
+    let value = bind_ok (number_in 4294967295 b) _ i to.2 in
+    let otherwise = bind_ok (target_in d) _ i value.2 in
+    let p = variable_spelled a to.0 to.1 in
+    let q = number_spelled 4294967295 b value.0 (omega arith) value.1 in
+    let r = target_spelled d otherwise.0 otherwise.1 in
+    let last : (c ∷ d ∷ []) ≡ codes "else" ∷ target otherwise.0 ∷ [] = both_same c (codes "else") (d ∷ []) (target otherwise.0 ∷ []) (same_text c (codes "else") same) (ap (λ (x : List ℕ). x ∷ []) r.0) in
+    let more : (b ∷ c ∷ d ∷ []) ≡ decimal value.0 ∷ codes "else" ∷ target otherwise.0 ∷ [] = both_same b (decimal value.0) (c ∷ d ∷ []) _ q.0 last in
+    let most : (a ∷ b ∷ c ∷ d ∷ []) ≡ variable to.0 ∷ decimal value.0 ∷ codes "else" ∷ target otherwise.0 ∷ [] = both_same a (variable to.0) (b ∷ c ∷ d ∷ []) _ p.0 more in
+    let fits : IsInstruction (Num to.0 value.0 otherwise.0) = (p.1, omega (arith, q.1), r.1) in
+    subst (Spelled (w ∷ a ∷ b ∷ c ∷ d ∷ [])) (ok_is (Num to.0 value.0 otherwise.0) i otherwise.2) (both_same w (codes "num") (a ∷ b ∷ c ∷ d ∷ []) _ named most, fits))
+    (λ never. absurd cc)
+num_spelled w (a ∷ b ∷ c ∷ d ∷ f ∷ ws) i named e = absurd cc
+
+unary : (name : List ℕ) (make : ℕ → Instr) (w : List ℕ) (ws : List (List ℕ)) (i : Instr) → ((n : ℕ) → instruction_words (make n) ≡ name ∷ variable n ∷ []) → ((n : ℕ) → n < 16 → IsInstruction (make n)) → w ≡ name
+    → (one_variable_in ws >>= λ n. Ok (make n)) ≡ Ok i → Spelled (w ∷ ws) i
+unary name make w ws i spelling fits named e =
+    let b = bind_ok (one_variable_in ws) (λ n. Ok (make n)) i e in
+    let v = one_variable_spelled ws b.0 b.1 in
+    subst (Spelled (w ∷ ws)) (ok_is (make b.0) i b.2) (both_same w name ws (variable b.0 ∷ []) named v.0 ∙ sym (spelling b.0), fits b.0 v.1)
+
+binary : (name : List ℕ) (make : ℕ → ℕ → Instr) (w : List ℕ) (ws : List (List ℕ)) (i : Instr) → ((m n : ℕ) → instruction_words (make m n) ≡ name ∷ variable m ∷ variable n ∷ []) → ((m n : ℕ) → m < 16 → n < 16 → IsInstruction (make m n)) → w ≡ name
+    → (two_variables_in ws >>= λ v. Ok (make v.0 v.1)) ≡ Ok i → Spelled (w ∷ ws) i
+binary name make w ws i spelling fits named e =
+    let b = bind_ok (two_variables_in ws) (λ v. Ok (make v.0 v.1)) i e in
+    let v = two_variables_spelled ws b.0 b.1 in
+    subst (Spelled (w ∷ ws)) (ok_is (make b.0.0 b.0.1) i b.2) (both_same w name ws (variable b.0.0 ∷ variable b.0.1 ∷ []) named v.0 ∙ sym (spelling b.0.0 b.0.1), fits b.0.0 b.0.1 v.1 v.2)
+
+goto_spelled : (w : List ℕ) (ws : List (List ℕ)) (i : Instr) → w ≡ codes "goto" → (one_target_in ws >>= λ n. Ok (Goto n)) ≡ Ok i → Spelled (w ∷ ws) i
+goto_spelled w ws i named e =
+    let b = bind_ok (one_target_in ws) (λ n. Ok (Goto n)) i e in
+    let t = one_target_spelled ws b.0 b.1 in
+    subst (Spelled (w ∷ ws)) (ok_is (Goto b.0) i b.2) (both_same w (codes "goto") ws (target b.0 ∷ []) named t.0, t.1)
+
+fail_spelled : (w : List ℕ) (ws : List (List ℕ)) (i : Instr) → w ≡ codes "fail" → fail_in ws ≡ Ok i → Spelled (w ∷ ws) i
+fail_spelled w [] i named e = subst (Spelled (w ∷ [])) (ok_is Fail i e) (ap (λ (x : List ℕ). x ∷ []) named, tt)
+fail_spelled w (a ∷ ws) i named e = absurd cc
+
+words_spelled : (ws : List (List ℕ)) (i : Instr) → instruction_in ws ≡ Ok i → Spelled ws i
+words_spelled [] i read = absurd cc
+words_spelled (w ∷ ws) i read =
+    either_way (bytes_eq w (codes "num")) _ _ (Ok i) read (λ same e. num_spelled w ws i (same_text w (codes "num") same) e)
+    (λ read1.
+    either_way (bytes_eq w (codes "none")) _ _ (Ok i) read1 (λ same e. unary (codes "none") (λ n. NoneObject n) w ws i (λ n. refl) (λ n lt. lt) (same_text w (codes "none") same) e)
+    (λ read2.
+    either_way (bytes_eq w (codes "newref")) _ _ (Ok i) read2 (λ same e. binary (codes "newref") (λ m n. Newref m n) w ws i (λ m n. refl) (λ m n lt ltn. (lt, ltn)) (same_text w (codes "newref") same) e)
+    (λ read3.
+    either_way (bytes_eq w (codes "move")) _ _ (Ok i) read3 (λ same e. binary (codes "move") (λ m n. Move m n) w ws i (λ m n. refl) (λ m n lt ltn. (lt, ltn)) (same_text w (codes "move") same) e)
+    (λ read4.
+    either_way (bytes_eq w (codes "drop")) _ _ (Ok i) read4 (λ same e. unary (codes "drop") (λ n. Drop n) w ws i (λ n. refl) (λ n lt. lt) (same_text w (codes "drop") same) e)
+    (λ read5.
+    either_way (bytes_eq w (codes "goto")) _ _ (Ok i) read5 (λ same e. goto_spelled w ws i (same_text w (codes "goto") same) e)
+    (λ read6.
+    either_way (bytes_eq w (codes "ret")) _ _ (Ok i) read6 (λ same e. unary (codes "ret") (λ n. Ret n) w ws i (λ n. refl) (λ n lt. lt) (same_text w (codes "ret") same) e)
+    (λ read7.
+    either_way (bytes_eq w (codes "fail")) _ (Err UnknownWord) (Ok i) read7 (λ same e. fail_spelled w ws i (same_text w (codes "fail") same) e)
+    (λ never. absurd cc))))))))
 
 pub instruction_spelled : (text : List ℕ) (i : Instr) → instruction_in (words text) ≡ Ok i → (text ≡ instruction i) × IsInstruction i
 instruction_spelled text i read =
-    let q = some_word text in
-    let w = q.0 in
-    let ws = q.1 in
-    let read_parts : instruction_in (w ∷ ws) ≡ Ok i = rw q.2 at read in
-    elim (chosen (bytes_eq w (codes "newref")) (newref_in ws) _ (Ok i) read_parts) [
-      | inl h ↦ newref_spelled text w ws i q.2 (same_text w (codes "newref") h.0) h.1
-      | inr other ↦ elim (chosen (bytes_eq w (codes "drop")) (drop_in ws) _ (Ok i) other.1) [
-        | inl h ↦ drop_spelled text w ws i q.2 (same_text w (codes "drop") h.0) h.1
-        | inr other2 ↦ elim (chosen (bytes_eq w (codes "ret")) (ret_in ws) _ (Ok i) other2.1) [
-          | inl h ↦ ret_spelled text w ws i q.2 (same_text w (codes "ret") h.0) h.1
-          | inr other3 ↦ elim (chosen (bytes_eq w (codes "fail")) (fail_in ws) _ (Ok i) other3.1) [
-            | inl h ↦ fail_spelled text w ws i q.2 (same_text w (codes "fail") h.0) h.1
-            | inr never ↦ let n = never.1 in absurd cc
-          ]
-        ]
-      ]
-    ]
+    let s = words_spelled (words text) i read in
+    (joined text (instruction_words i) s.0, s.1)
 
 -- ---- from the instruction to a line
 
+words_again : (i : Instr) → IsInstruction i → instruction_in (instruction_words i) ≡ Ok i
+words_again (Num to value otherwise) fits = rw (variable_again to fits.0, number_again 4294967295 value (omega (arith, fits.1)) (omega (arith, fits.1)), target_again otherwise fits.2) refl
+words_again (NoneObject to) fits = rw (variable_again to fits) refl
+words_again (Newref to from) fits = rw (variable_again to fits.0, variable_again from fits.1) refl
+words_again (Move to from) fits = rw (variable_again to fits.0, variable_again from fits.1) refl
+words_again (Drop from) fits = rw (variable_again from fits) refl
+words_again (Goto to) fits = rw (target_again to fits) refl
+words_again (Ret from) fits = rw (variable_again from fits) refl
+words_again Fail fits = refl
+
+words_plain : (i : Instr) → IsInstruction i → ArePlain (instruction_words i)
+words_plain (Num to value otherwise) fits = ((refl, refl), (variable_plain to fits.0, (number_plain value (omega (arith, fits.1)), ((refl, refl), (target_plain otherwise fits.2, tt)))))
+words_plain (NoneObject to) fits = ((refl, refl), (variable_plain to fits, tt))
+words_plain (Newref to from) fits = ((refl, refl), (variable_plain to fits.0, (variable_plain from fits.1, tt)))
+words_plain (Move to from) fits = ((refl, refl), (variable_plain to fits.0, (variable_plain from fits.1, tt)))
+words_plain (Drop from) fits = ((refl, refl), (variable_plain from fits, tt))
+words_plain (Goto to) fits = ((refl, refl), (target_plain to fits, tt))
+words_plain (Ret from) fits = ((refl, refl), (variable_plain from fits, tt))
+words_plain Fail fits = ((refl, refl), tt)
+
 pub instruction_again : (i : Instr) → IsInstruction i → instruction_in (words (instruction i)) ≡ Ok i
-instruction_again (Newref to from) fits =
-    let regrouped : instruction (Newref to from) ≡ codes "newref" ++ 32 ∷ (variable to ++ 32 ∷ variable from) = ap (λ (x : List ℕ). codes "newref " ++ x) (append_assoc (variable to) (32 ∷ []) (variable from)) in
-    let parts : words (instruction (Newref to from)) ≡ codes "newref" ∷ variable to ∷ variable from ∷ [] =
-    ap words regrouped ∙ first_word (codes "newref") (variable to ++ 32 ∷ variable from) refl
-    ∙ ap (λ (ws : List (List ℕ)). codes "newref" ∷ ws) (first_word (variable to) (variable from) (variable_no_space to fits.0) ∙ ap (λ (ws : List (List ℕ)). variable to ∷ ws) (one_word (variable from) (variable_no_space from fits.1))) in
-    ap instruction_in parts ∙ rw (variable_again to fits.0, variable_again from fits.1) refl
-instruction_again (Drop from) fits =
-    let parts : words (instruction (Drop from)) ≡ codes "drop" ∷ variable from ∷ [] =
-    first_word (codes "drop") (variable from) refl ∙ ap (λ (ws : List (List ℕ)). codes "drop" ∷ ws) (one_word (variable from) (variable_no_space from fits)) in
-    ap instruction_in parts ∙ rw (variable_again from fits) refl
-instruction_again (Ret from) fits =
-    let parts : words (instruction (Ret from)) ≡ codes "ret" ∷ variable from ∷ [] =
-    first_word (codes "ret") (variable from) refl ∙ ap (λ (ws : List (List ℕ)). codes "ret" ∷ ws) (one_word (variable from) (variable_no_space from fits)) in
-    ap instruction_in parts ∙ rw (variable_again from fits) refl
-instruction_again Fail fits = refl
+instruction_again i fits = ap instruction_in (spaced_words (instruction_words i) (words_plain i fits)) ∙ words_again i fits
 
 -- an instruction is one line, and isn't `end`
 pub instruction_plain : (i : Instr) → IsInstruction i → list_any is_line_feed (instruction i) ≡ false
-instruction_plain (Newref to from) fits = lacks_append is_line_feed (variable to ++ codes " ") (variable from) (lacks_append is_line_feed (variable to) (codes " ") (variable_plain to fits.0) refl) (variable_plain from fits.1)
-instruction_plain (Drop from) fits = variable_plain from fits
-instruction_plain (Ret from) fits = variable_plain from fits
-instruction_plain Fail fits = refl
+instruction_plain i fits = spaced_plain (instruction_words i) (words_plain i fits)
 
 pub instruction_not_end : (i : Instr) → bytes_eq (instruction i) (codes "end") ≡ false
+instruction_not_end (Num to value otherwise) = refl
+instruction_not_end (NoneObject to) = refl
 instruction_not_end (Newref to from) = refl
+instruction_not_end (Move to from) = refl
 instruction_not_end (Drop from) = refl
+instruction_not_end (Goto to) = refl
 instruction_not_end (Ret from) = refl
 instruction_not_end Fail = refl

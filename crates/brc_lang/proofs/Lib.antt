@@ -4,6 +4,7 @@ pub mod Numbers
 pub mod Words
 pub mod Spelling
 pub mod Instructions
+pub mod Forward
 pub mod Headings
 pub mod Machine
 pub mod Uniqueness

@@ -1,4 +1,4 @@
--- The one spelling of a number, of a variable and of a name.
+-- The one spelling of a number, of a variable, of a target and of a name.
 use Rattle.std.proofs.Common.{◌≡◌, ℕ, zero, suc, ◌^◌, ◌<◌, ◌≤◌, Bool, true, false, cond, leb, eqb, not, ◌&&◌, ◌||◌, List, [], ◌∷◌, length, get_or, Result, Ok, Err, refl, sym, ap, ◌∙◌, arith, inl, inr}
 use Rattle.std.specs.List.{list_all, list_any}
 use Rattle.std.specs.Char.{is_ascii_digit}
@@ -10,9 +10,9 @@ use Rattle.std.proofs.lemmas.Fmt.{decimal-digits_value, digits_decimal, digits_v
 use Rattle.std.proofs.lemmas.Str.Parse.{IsDigitsTest, IsNumeralModel, numerals_by_value}
 use Rattle.brc_lang.specs.declared.fault.FaultCode.{FaultCode}
 use Rattle.brc_lang.specs.declared.fault.FaultCode.TheVariants.{UnknownWord, Number}
-use Rattle.brc_lang.specs.Grammar.{variable, is_name, is_letter, is_name_byte}
-use Rattle.brc_lang.specs.Fault.{is_numeral, number_in, variable_in, is_line_feed}
-use Rattle.brc_lang.proofs.Words.{is_space, lacks_from_all}
+use Rattle.brc_lang.specs.Grammar.{variable, target, is_name, is_letter, is_name_byte}
+use Rattle.brc_lang.specs.Fault.{is_numeral, number_in, variable_in, target_in, is_line_feed}
+use Rattle.brc_lang.proofs.Words.{is_space, lacks_from_all, IsPlain}
 
 -- ---- numbers
 
@@ -76,20 +76,34 @@ number_again high n le small =
     let numeral = numeral_from (decimal n) (decimal_digits n small) (decimal_nonempty n small) (decimal_first n small) in
     rw (numeral, digits_value-decimal own n small, le-leb n high le) refl
 
--- ---- variables
+-- ---- variables and targets: a mark, and a number
+
+marked_spelled : (mark high c : ℕ) (cs : List ℕ) (n : ℕ) → high < 2 ^ 64 → cond (eqb c mark) (number_in high cs) (Err UnknownWord) ≡ Ok n → ((c ∷ cs) ≡ mark ∷ decimal n) × (n ≤ high)
+marked_spelled mark high c cs n small e =
+    elim (cases_Bool (eqb c mark)) [
+      | inl same ↦
+          let spelled = number_spelled high cs n small (rw same at e) in
+          (ap (λ (x : ℕ). x ∷ cs) (eqb-true c mark same) ∙ ap (λ (x : List ℕ). mark ∷ x) spelled.0, spelled.1)
+      | inr other ↦ let never : ◌≡◌ {A = Result ℕ FaultCode} (Err UnknownWord) (Ok n) = rw other at e in absurd cc
+    ]
 
 pub variable_spelled : (word : List ℕ) (n : ℕ) → variable_in word ≡ Ok n → (word ≡ variable n) × (n < 16)
 variable_spelled [] n e = absurd cc
 variable_spelled (c ∷ cs) n e =
-    elim (cases_Bool (eqb c 118)) [
-      | inl same ↦
-          let spelled = number_spelled 15 cs n (omega arith) (rw same at e) in
-          (ap (λ (x : ℕ). x ∷ cs) (eqb-true c 118 same) ∙ ap (λ (x : List ℕ). 118 ∷ x) spelled.0, omega (arith, spelled.1))
-      | inr other ↦ let never : ◌≡◌ {A = Result ℕ FaultCode} (Err UnknownWord) (Ok n) = rw other at e in absurd cc
-    ]
+    let s = marked_spelled 118 15 c cs n (omega arith) e in
+    (s.0, omega (arith, s.1))
 
 pub variable_again : (n : ℕ) → n < 16 → variable_in (variable n) ≡ Ok n
 variable_again n lt = number_again 15 n (omega arith) (omega arith)
+
+pub target_spelled : (word : List ℕ) (n : ℕ) → target_in word ≡ Ok n → (word ≡ target n) × (n < 256)
+target_spelled [] n e = absurd cc
+target_spelled (c ∷ cs) n e =
+    let s = marked_spelled 64 255 c cs n (omega arith) e in
+    (s.0, omega (arith, s.1))
+
+pub target_again : (n : ℕ) → n < 256 → target_in (target n) ≡ Ok n
+target_again n lt = number_again 255 n (omega arith) (omega arith)
 
 -- ---- what these lack
 
@@ -105,11 +119,14 @@ decimal_no_space n small = digit_lacks is_space (λ c h. other_than 32 c (omega 
 pub decimal_plain : (n : ℕ) → n < 2 ^ 64 → list_any is_line_feed (decimal n) ≡ false
 decimal_plain n small = digit_lacks is_line_feed (λ c h. other_than 10 c (omega arith) h) n small
 
-pub variable_no_space : (n : ℕ) → n < 16 → list_any is_space (variable n) ≡ false
-variable_no_space n lt = decimal_no_space n (omega arith)
+pub number_plain : (n : ℕ) → n < 2 ^ 64 → IsPlain (decimal n)
+number_plain n small = (decimal_no_space n small, decimal_plain n small)
 
-pub variable_plain : (n : ℕ) → n < 16 → list_any is_line_feed (variable n) ≡ false
-variable_plain n lt = decimal_plain n (omega arith)
+pub variable_plain : (n : ℕ) → n < 16 → IsPlain (variable n)
+variable_plain n lt = number_plain n (omega arith)
+
+pub target_plain : (n : ℕ) → n < 256 → IsPlain (target n)
+target_plain n lt = number_plain n (omega arith)
 
 letter_from : (c : ℕ) → is_letter c ≡ true → 97 ≤ c
 letter_from c e = leb-true 97 c (and_parts (leb 97 c) (leb c 122) e).0

@@ -1,17 +1,17 @@
 -- Which fault a text has: the one of the first line from the top in which any stands.
-use Rattle.std.specs.Prelude.{◌≡◌, ℕ, ◌+◌, ◌≤◌, Bool, false, ◌&&◌, ◌||◌, ◌==◌, not, nat_le, nat_lt, nat_eq, if◌then◌else◌, IsTrue, List, [], ◌∷◌, ◌++◌, length, Option, None, Some, Result, Ok, Err, count_by, codes, ◌⊎◌, MatchResult}
+use Rattle.std.specs.Prelude.{◌≡◌, ℕ, ◌+◌, ◌≤◌, Bool, true, false, ◌&&◌, ◌||◌, ◌==◌, not, nat_le, nat_lt, nat_eq, if◌then◌else◌, IsTrue, List, [], ◌∷◌, ◌++◌, length, Option, None, Some, Result, Ok, Err, count_by, codes, ◌⊎◌, MatchResult}
 use Rattle.std.specs.List.{AllByRecursion, list_all, list_any, slice_split, before_first, starts_with}
 use Rattle.std.specs.Str.{bytes_eq}
 use Rattle.std.specs.Str.Parse.{digits_value}
 use Rattle.std.specs.Char.{is_ascii_digit}
 use Rattle.brc_lang.specs.declared.module.Function.{Function}
 use Rattle.brc_lang.specs.declared.module.Instr.{Instr}
-use Rattle.brc_lang.specs.declared.module.Instr.TheVariants.{Newref, Drop, Ret, Fail}
+use Rattle.brc_lang.specs.declared.module.Instr.TheVariants.{Num, NoneObject, Newref, Move, Drop, Goto, Ret, Fail}
 use Rattle.brc_lang.specs.declared.fault.FaultCode.{FaultCode}
-use Rattle.brc_lang.specs.declared.fault.FaultCode.TheVariants.{FirstLine, UnknownWord, Number, NameTwice, OverLimit, CutOff, NoMemory}
+use Rattle.brc_lang.specs.declared.fault.FaultCode.TheVariants.{FirstLine, UnknownWord, Number, Target, NameTwice, OverLimit, CutOff, NoMemory}
 use Rattle.brc_lang.specs.declared.fault.ReadFault.{ReadFault}
 use Rattle.brc_lang.specs.declared.module.Module.{Module}
-use Rattle.brc_lang.specs.Grammar.{is_name, IsInstruction, IsFunction, AreNamedApart, heading, instructions, functions, first_line}
+use Rattle.brc_lang.specs.Grammar.{is_name, IsInstruction, jump, IsFunction, AreNamedApart, heading, instructions, functions, first_line}
 
 -- ---- one line
 
@@ -33,36 +33,70 @@ abbrev pub variable_in : List ℕ → Result ℕ FaultCode
 variable_in [] = Err UnknownWord
 variable_in (c ∷ cs) = if c == 118 then number_in 15 cs else Err UnknownWord
 
+-- `@`, and a number below 256
+abbrev pub target_in : List ℕ → Result ℕ FaultCode
+target_in [] = Err UnknownWord
+target_in (c ∷ cs) = if c == 64 then number_in 255 cs else Err UnknownWord
+
 infixl 10 ◌>>=◌
 abbrev pub ◌>>=◌ : {A B : Type 0} → Result A FaultCode → (A → Result B FaultCode) → Result B FaultCode
 (Ok x) >>= f = f x
 (Err e) >>= f = Err e
 
-abbrev pub newref_in : List (List ℕ) → Result Instr FaultCode
-newref_in (to ∷ from ∷ []) = variable_in to >>= λ d. variable_in from >>= λ s. Ok (Newref d s)
-newref_in _ = Err UnknownWord
+-- ---- the words behind the first
 
-abbrev pub drop_in : List (List ℕ) → Result Instr FaultCode
-drop_in (from ∷ []) = variable_in from >>= λ s. Ok (Drop s)
-drop_in _ = Err UnknownWord
+abbrev pub one_variable_in : List (List ℕ) → Result ℕ FaultCode
+one_variable_in (word ∷ []) = variable_in word
+one_variable_in _ = Err UnknownWord
 
-abbrev pub ret_in : List (List ℕ) → Result Instr FaultCode
-ret_in (from ∷ []) = variable_in from >>= λ s. Ok (Ret s)
-ret_in _ = Err UnknownWord
+abbrev pub two_variables_in : List (List ℕ) → Result (ℕ × ℕ) FaultCode
+two_variables_in (to ∷ from ∷ []) = variable_in to >>= λ d. variable_in from >>= λ s. Ok (d, s)
+two_variables_in _ = Err UnknownWord
+
+abbrev pub one_target_in : List (List ℕ) → Result ℕ FaultCode
+one_target_in (word ∷ []) = target_in word
+one_target_in _ = Err UnknownWord
+
+-- a variable, a number of 32 bits, `else` and a target; `else` is looked at first
+abbrev pub num_in : List (List ℕ) → Result Instr FaultCode
+num_in (to ∷ value ∷ word ∷ otherwise ∷ []) =
+    if bytes_eq word (codes "else")
+    then (variable_in to >>= λ d. number_in 4294967295 value >>= λ k. target_in otherwise >>= λ l. Ok (Num d k l))
+    else Err UnknownWord
+num_in _ = Err UnknownWord
 
 abbrev pub fail_in : List (List ℕ) → Result Instr FaultCode
 fail_in [] = Ok Fail
 fail_in _ = Err UnknownWord
 
--- the instruction of a line, or its fault: the first word and the number of words first, then the words from left to right
+-- the instruction of a line, or its fault: the first word, the number of words and `else` first, then the words from left to right
 abbrev pub instruction_in : List (List ℕ) → Result Instr FaultCode
 instruction_in [] = Err UnknownWord
 instruction_in (w ∷ ws) =
-    if bytes_eq w (codes "newref") then newref_in ws
-    else if bytes_eq w (codes "drop") then drop_in ws
-    else if bytes_eq w (codes "ret") then ret_in ws
+    if bytes_eq w (codes "num") then num_in ws
+    else if bytes_eq w (codes "none") then (one_variable_in ws >>= λ d. Ok (NoneObject d))
+    else if bytes_eq w (codes "newref") then (two_variables_in ws >>= λ v. Ok (Newref v.0 v.1))
+    else if bytes_eq w (codes "move") then (two_variables_in ws >>= λ v. Ok (Move v.0 v.1))
+    else if bytes_eq w (codes "drop") then (one_variable_in ws >>= λ s. Ok (Drop s))
+    else if bytes_eq w (codes "goto") then (one_target_in ws >>= λ l. Ok (Goto l))
+    else if bytes_eq w (codes "ret") then (one_variable_in ws >>= λ s. Ok (Ret s))
     else if bytes_eq w (codes "fail") then fail_in ws
     else Err UnknownWord
+
+-- ---- the targets of a function
+
+-- the target, if there is one, is the number of a later instruction
+abbrev pub target_fits : ℕ → ℕ → Option ℕ → Bool
+target_fits at count None = true
+target_fits at count (Some target) = nat_lt at target && nat_lt target count
+
+-- of so many instructions, those from this number on
+abbrev pub lead_forward_from : ℕ → ℕ → List Instr → Bool
+lead_forward_from at count [] = true
+lead_forward_from at count (i ∷ code) = target_fits at count (jump i) && lead_forward_from (at + 1) count code
+
+abbrev pub leads_forward : List Instr → Bool
+leads_forward code = lead_forward_from 0 (length code) code
 
 -- ---- a line after those above it
 
@@ -108,8 +142,11 @@ heading_fault_of done (w ∷ name ∷ []) =
     else None
 heading_fault_of done _ = Some UnknownWord
 
-abbrev pub end_fault_of : Function → Option FaultCode
-end_fault_of f = if length f.code == 0 then Some OverLimit else None
+abbrev pub end_fault_of : List Instr → Option FaultCode
+end_fault_of code =
+    if length code == 0 then Some OverLimit
+    else if leads_forward code then None
+    else Some Target
 
 abbrev pub next_instruction_fault_of : Function → Result Instr FaultCode → Option FaultCode
 next_instruction_fault_of f (Err code) = Some code
@@ -118,7 +155,7 @@ next_instruction_fault_of f (Ok i) = if nat_le 256 (length f.code) then Some Ove
 -- the fault of a line, where one stands: outside a function only its heading may stand, inside only instructions and `end`
 abbrev pub line_fault_of : List Function → Option Function → List ℕ → Option FaultCode
 line_fault_of done None line = heading_fault_of done (words line)
-line_fault_of done (Some f) line = if bytes_eq line (codes "end") then end_fault_of f else next_instruction_fault_of f (instruction_in (words line))
+line_fault_of done (Some f) line = if bytes_eq line (codes "end") then end_fault_of f.code else next_instruction_fault_of f (instruction_in (words line))
 
 -- no function is open, and there is one
 abbrev pub is_whole : List Function → Option Function → Bool

@@ -1,11 +1,11 @@
 -- The one spelling of a module: ASCII lines, each ended by a line feed, of words that single spaces part.
-use Rattle.std.specs.Prelude.{◌≡◌, ◌≢◌, ℕ, ◌<◌, ◌≤◌, Bool, false, ◌&&◌, ◌||◌, ◌==◌, nat_le, IsTrue, List, [], ◌∷◌, ◌++◌, length, AllPairs, codes}
-use Rattle.std.specs.List.{flat_map, AllByRecursion, list_all}
+use Rattle.std.specs.Prelude.{◌≡◌, ◌≢◌, ℕ, ◌<◌, ◌≤◌, Bool, false, ◌&&◌, ◌||◌, ◌==◌, nat_le, IsTrue, List, [], ◌∷◌, ◌++◌, length, Option, None, Some, slice_get, AllPairs, codes}
+use Rattle.std.specs.List.{flat_map, join_with_byte, AllByRecursion, list_all}
 use Rattle.std.specs.Fmt.{decimal}
 use Rattle.brc_lang.specs.declared.module.Module.{Module}
 use Rattle.brc_lang.specs.declared.module.Function.{Function}
 use Rattle.brc_lang.specs.declared.module.Instr.{Instr}
-use Rattle.brc_lang.specs.declared.module.Instr.TheVariants.{Newref, Drop, Ret, Fail}
+use Rattle.brc_lang.specs.declared.module.Instr.TheVariants.{Num, NoneObject, Newref, Move, Drop, Goto, Ret, Fail}
 
 -- ---- spellings
 
@@ -13,15 +13,30 @@ use Rattle.brc_lang.specs.declared.module.Instr.TheVariants.{Newref, Drop, Ret, 
 abbrev pub line : List ℕ → List ℕ
 line text = text ++ 10 ∷ []
 
+-- words with single spaces between them
+abbrev pub spaced : List (List ℕ) → List ℕ
+spaced words = join_with_byte 32 words
+
 -- v0 to v15
 abbrev pub variable : ℕ → List ℕ
 variable number = codes "v" ++ decimal number
 
+-- the instruction of a number, from 0
+abbrev pub target : ℕ → List ℕ
+target number = codes "@" ++ decimal number
+
+abbrev pub instruction_words : Instr → List (List ℕ)
+instruction_words (Num to value otherwise) = codes "num" ∷ variable to ∷ decimal value ∷ codes "else" ∷ target otherwise ∷ []
+instruction_words (NoneObject to) = codes "none" ∷ variable to ∷ []
+instruction_words (Newref to from) = codes "newref" ∷ variable to ∷ variable from ∷ []
+instruction_words (Move to from) = codes "move" ∷ variable to ∷ variable from ∷ []
+instruction_words (Drop from) = codes "drop" ∷ variable from ∷ []
+instruction_words (Goto to) = codes "goto" ∷ target to ∷ []
+instruction_words (Ret from) = codes "ret" ∷ variable from ∷ []
+instruction_words Fail = codes "fail" ∷ []
+
 abbrev pub instruction : Instr → List ℕ
-instruction (Newref to from) = codes "newref " ++ variable to ++ codes " " ++ variable from
-instruction (Drop from) = codes "drop " ++ variable from
-instruction (Ret from) = codes "ret " ++ variable from
-instruction Fail = codes "fail"
+instruction i = spaced (instruction_words i)
 
 abbrev pub instructions : List Instr → List ℕ
 instructions code = flat_map (λ i. line (instruction i)) code
@@ -57,10 +72,29 @@ is_name [] = false
 is_name (c ∷ cs) = is_letter c && list_all is_name_byte cs && nat_le (length cs) 15
 
 abbrev pub IsInstruction : Instr → Type 0
+IsInstruction (Num to value otherwise) = (to < 16) × (value < 4294967296) × (otherwise < 256)
+IsInstruction (NoneObject to) = to < 16
 IsInstruction (Newref to from) = (to < 16) × (from < 16)
+IsInstruction (Move to from) = (to < 16) × (from < 16)
 IsInstruction (Drop from) = from < 16
+IsInstruction (Goto to) = to < 256
 IsInstruction (Ret from) = from < 16
 IsInstruction Fail = Unit {0}
+
+-- the target that an instruction names, if it names one
+abbrev pub jump : Instr → Option ℕ
+jump (Num to value otherwise) = Some otherwise
+jump (NoneObject to) = None
+jump (Newref to from) = None
+jump (Move to from) = None
+jump (Drop from) = None
+jump (Goto to) = Some to
+jump (Ret from) = None
+jump Fail = None
+
+-- each target is the number of a later instruction of the code
+abbrev pub LeadsForward : List Instr → Type 0
+LeadsForward code = (at : ℕ) (i : Instr) (target : ℕ) → slice_get code at ≡ Some i → jump i ≡ Some target → (at < target) × (target < length code)
 
 -- 1 to 256 instructions
 pub record IsFunction (f : Function) : Type 0 where
@@ -68,6 +102,7 @@ pub record IsFunction (f : Function) : Type 0 where
   pub some : 0 < length f.code
   pub most : length f.code ≤ 256
   pub code : AllByRecursion IsInstruction f.code
+  pub targets : LeadsForward f.code
 
 -- no name stands twice
 abbrev pub AreNamedApart : List Function → Type 0

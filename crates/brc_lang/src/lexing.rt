@@ -1,13 +1,13 @@
 //! Lines and words, and what single words say.
 
-ghost use Rattle.std.specs.Prelude.{◌≡◌, ◌∷◌, [], ◌&&◌, ◌==◌, false, nat_le, position, MatchOption, Ok, Err, if◌then◌else◌};
+ghost use Rattle.std.specs.Prelude.{◌≡◌, ◌≢◌, ◌∷◌, [], length, ◌&&◌, ◌==◌, false, nat_le, position, MatchOption, Ok, Err, if◌then◌else◌};
 ghost use Rattle.std.specs.List.{list_any, list_all};
 ghost use Rattle.std.specs.Char.{is_ascii_digit};
 ghost use Rattle.std.specs.Str.Parse.{digits_value};
 ghost use Rattle.brc_lang.specs.declared.fault.FaultCode.TheVariants.{Number};
 ghost use Rattle.std.specs.Str.{bytes_eq};
 ghost use Rattle.brc_lang.specs.Grammar.{is_name, is_name_byte};
-ghost use Rattle.brc_lang.specs.Fault.{words, number_in, variable_in, is_line_feed};
+ghost use Rattle.brc_lang.specs.Fault.{words, number_in, variable_in, target_in, is_line_feed};
 ghost use Rattle.brc_lang.specs.Progress.{IsFirstLineOf};
 
 use crate::fault::FaultCode;
@@ -29,6 +29,46 @@ pub fn split_word(line: &[u8]) -> (&[u8], Option<&[u8]>)
         Some(end) => (&line[..end], Some(&line[end + 1..])),
         None => (line, None),
     }
+}
+
+/// The word of a line of one.
+pub fn one_word(line: &[u8]) -> Option<&[u8]>
+    ensures { MatchOption result (length (words line.now) ≢ 1) (λ w. words line.now ≡ w.now ∷ []) }
+{
+    let (word, more) = split_word(line);
+    match more {
+        Some(_) => None,
+        None => Some(word),
+    }
+}
+
+/// The words of a line of two.
+pub fn two_words(line: &[u8]) -> Option<(&[u8], &[u8])>
+    ensures { MatchOption result (length (words line.now) ≢ 2) (λ w. words line.now ≡ w.0.now ∷ w.1.now ∷ []) }
+{
+    let (first, rest) = split_word(line);
+    let second = one_word(rest?)?;
+    Some((first, second))
+}
+
+/// The words of a line of three.
+pub fn three_words(line: &[u8]) -> Option<(&[u8], &[u8], &[u8])>
+    ensures { MatchOption result (length (words line.now) ≢ 3) (λ w. words line.now ≡ w.0.now ∷ w.1.now ∷ w.2.now ∷ []) }
+{
+    let (first, rest) = split_word(line);
+    let (second, third) = two_words(rest?)?;
+    Some((first, second, third))
+}
+
+type FourWords<'a> = (&'a [u8], &'a [u8], &'a [u8], &'a [u8]);
+
+/// The words of a line of four.
+pub fn four_words(line: &[u8]) -> Option<FourWords<'_>>
+    ensures { MatchOption result (length (words line.now) ≢ 4) (λ w. words line.now ≡ w.0.now ∷ w.1.now ∷ w.2.now ∷ w.3.now ∷ []) }
+{
+    let (first, rest) = split_word(line);
+    let (second, third, fourth) = three_words(rest?)?;
+    Some((first, second, third, fourth))
 }
 
 fn place_of(wanted: u8, text: &[u8]) -> Option<usize>
@@ -100,6 +140,16 @@ pub(crate) fn variable(word: &[u8]) -> Result<Variable, FaultCode>
 {
     match word {
         [b'v', digits @ ..] => Ok(Variable::new(number(15, digits)? as u8)),
+        _ => Err(FaultCode::UnknownWord),
+    }
+}
+
+/// `@`, and a number below 256.
+pub(crate) fn target(word: &[u8]) -> Result<u8, FaultCode>
+    ensures { result ≡ target_in word.now }
+{
+    match word {
+        [b'@', digits @ ..] => Ok(number(255, digits)? as u8),
         _ => Err(FaultCode::UnknownWord),
     }
 }

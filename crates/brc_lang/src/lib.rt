@@ -12,13 +12,16 @@ mod output;
 mod place;
 mod reading;
 mod sequence;
+mod targets;
 mod variable;
 mod writing;
 
 pub use fault::{FaultCode, ReadFault};
 pub use kind::Kind;
 pub use laws::{one_reading, one_text};
-pub use lexing::{is_name, is_word, number, split_line, split_word};
+pub use lexing::{
+    four_words, is_name, is_word, number, one_word, split_line, split_word, three_words, two_words,
+};
 pub use module::{Function, Instr, Module};
 pub use name::Name;
 pub use output::{write_bytes, write_number};
@@ -28,5 +31,9 @@ pub use sequence::Sequence;
 pub use variable::Variable;
 pub use writing::write;
 
+#[cfg(test)]
+mod line_tests;
+#[cfg(test)]
+mod target_tests;
 #[cfg(test)]
 mod tests;

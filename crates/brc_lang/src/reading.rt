@@ -6,16 +6,17 @@ ghost use Rattle.std.specs.Str.{bytes_eq};
 ghost use Rattle.brc_lang.specs.declared.fault.FaultCode.{FaultCode};
 ghost use Rattle.brc_lang.specs.declared.module.Module.{Module};
 ghost use Rattle.brc_lang.specs.Grammar.{Spells, is_name};
-ghost use Rattle.brc_lang.specs.Fault.{words, instruction_in, heading_fault_of, next_instruction_fault_of, HasFault, IsFaultOf, ReadsAs, Refuses, IsBeginning};
+ghost use Rattle.brc_lang.specs.Fault.{words, instruction_in, heading_fault_of, end_fault_of, next_instruction_fault_of, HasFault, IsFaultOf, ReadsAs, Refuses, IsBeginning};
 ghost use Rattle.brc_lang.specs.Progress.{IsLineFault, Opens, Appends, Ends, IsFaultInside, ReadsFunction, IsFaultBelow, opened, closed};
 
 use crate::fault::{FaultCode, ReadFault};
 use crate::instruction::instruction;
-use crate::lexing::{is_name, is_word, split_line, split_word};
+use crate::lexing::{is_name, is_word, split_line, two_words};
 use crate::module::{Function, Instr, Module};
 use crate::name::Name;
 use crate::place::Place;
 use crate::sequence::Sequence;
+use crate::targets::leads_forward;
 use std::alloc::Global;
 
 const FIRST_LINE: &[u8] = b"module 1\n";
@@ -106,12 +107,10 @@ fn heading(functions: &Sequence<Function>, text: &[u8]) -> Result<Name, FaultCod
     ensures ok { IfOk result (λ name. Opens functions.now text.now name) }
     ensures err { IfErr result (λ code. heading_fault_of functions.now (words text.now) ≡ Some code) }
 {
-    let (word, rest) = split_word(text);
-    let Some(rest) = rest else {
+    let Some((word, name)) = two_words(text) else {
         return Err(FaultCode::UnknownWord);
     };
-    let (name, more) = split_word(rest);
-    if more.is_some() || !is_word(word, b"func") || !is_name(name) {
+    if !is_word(word, b"func") || !is_name(name) {
         return Err(FaultCode::UnknownWord);
     }
     if functions.len() >= MOST_FUNCTIONS {
@@ -151,11 +150,8 @@ fn read_body<'a>(
             line: line + 1,
         };
         if is_word(text, b"end") {
-            if code.len() == 0 {
-                return Err(ReadFault {
-                    line,
-                    code: FaultCode::OverLimit,
-                });
+            if let Some(code) = end_fault(code.as_slice()) {
+                return Err(ReadFault { line, code });
             }
             return Ok((Function { name, code }, below));
         }
@@ -168,6 +164,19 @@ fn read_body<'a>(
         line: place.line,
         code: FaultCode::CutOff,
     })
+}
+
+/// The fault of the line that ends a function of this code, where one stands.
+fn end_fault(code: &[Instr]) -> Option<FaultCode>
+    ensures { result ≡ end_fault_of code.now }
+{
+    if code.is_empty() {
+        Some(FaultCode::OverLimit)
+    } else if leads_forward(code) {
+        None
+    } else {
+        Some(FaultCode::Target)
+    }
 }
 
 /// Puts the instruction of a line behind the others of its function.

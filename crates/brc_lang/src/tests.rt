@@ -5,7 +5,7 @@ use std::test::Fail;
 const SMALLEST: &[u8; 25] = b"module 1\nfunc f\nfail\nend\n";
 
 // The line and the fault that a text is refused for, or line 0 for a text that is read.
-fn answer(alloc: Global, text: &[u8]) -> (u64, Option<FaultCode>) {
+pub fn answer(alloc: Global, text: &[u8]) -> (u64, Option<FaultCode>) {
     match read(alloc, text) {
         Ok(_) => (0, None),
         Err(fault) => (fault.line, Some(fault.code)),
@@ -156,7 +156,7 @@ fn refuses_lines(rt: HostRuntime) {
             FaultCode::Number,
         ),
         (
-            b"module 1\nfunc f\nnum v1 1 else @2\nend\n",
+            b"module 1\nfunc f\nnumber v1 1 else @2\nend\n",
             3,
             FaultCode::UnknownWord,
         ),

@@ -1,7 +1,8 @@
-ghost use Rattle.std.specs.Prelude.{◌++◌, OnOk, OnErr};
+ghost use Rattle.std.specs.Prelude.{[], ◌∷◌, ◌++◌, OnOk, OnErr, decimal};
 ghost use Rattle.std.specs.Io.KnownBytes.{Appends};
 ghost use Rattle.brc_lang.specs.Written.{AppendsBeginning};
-ghost use Rattle.brc_lang.specs.Grammar.{variable as variable_text, instruction as instruction_text, instructions as instructions_text, line as line_text, heading as heading_text, function as function_text, text as module_text};
+ghost use Rattle.brc_lang.specs.declared.module.Instr.TheVariants.{Num};
+ghost use Rattle.brc_lang.specs.Grammar.{spaced, variable as variable_text, instruction as instruction_text, instructions as instructions_text, line as line_text, heading as heading_text, function as function_text, text as module_text};
 
 use crate::module::{Function, Instr, Module};
 use crate::output::{write_bytes, write_number};
@@ -62,14 +63,42 @@ fn write_instruction<W: Write>(instr: Instr, writer: &mut W) -> io::Result<()>
     ensures begun { OnErr result (AppendsBeginning (W.contents writer.old) (W.contents writer.new) (instruction_text instr)) }
 {
     match instr {
-        Instr::Newref { to, from } => {
-            write_operand(b"newref ", to, writer)?;
-            write_operand(b" ", from, writer)
-        }
+        Instr::Num {
+            to,
+            value,
+            otherwise,
+        } => write_num(to, value, otherwise, writer),
+        Instr::NoneObject { to } => write_operand(b"none ", to, writer),
+        Instr::Newref { to, from } => write_operands(b"newref ", to, from, writer),
+        Instr::Move { to, from } => write_operands(b"move ", to, from, writer),
         Instr::Drop { from } => write_operand(b"drop ", from, writer),
+        Instr::Goto { target } => write_numeral(b"goto @", u64::from(target), writer),
         Instr::Ret { from } => write_operand(b"ret ", from, writer),
         Instr::Fail => write_bytes(b"fail", writer),
     }
+}
+
+fn write_num<W: Write>(to: Variable, value: u32, otherwise: u8, writer: &mut W) -> io::Result<()>
+    ensures whole { OnOk result (Appends (W.contents writer.old) (W.contents writer.new) (instruction_text (Num to value otherwise))) }
+    ensures begun { OnErr result (AppendsBeginning (W.contents writer.old) (W.contents writer.new) (instruction_text (Num to value otherwise))) }
+{
+    write_operand(b"num ", to, writer)?;
+    write_numeral(b" ", u64::from(value), writer)?;
+    write_numeral(b" else @", u64::from(otherwise), writer)
+}
+
+// What stands before two variables, and these.
+fn write_operands<W: Write>(
+    before: &[u8],
+    to: Variable,
+    from: Variable,
+    writer: &mut W,
+) -> io::Result<()>
+    ensures whole { OnOk result (Appends (W.contents writer.old) (W.contents writer.new) (before.now ++ spaced (variable_text to ∷ variable_text from ∷ []))) }
+    ensures begun { OnErr result (AppendsBeginning (W.contents writer.old) (W.contents writer.new) (before.now ++ spaced (variable_text to ∷ variable_text from ∷ []))) }
+{
+    write_operand(before, to, writer)?;
+    write_operand(b" ", from, writer)
 }
 
 // What stands before the variable, and the variable.
@@ -78,15 +107,16 @@ fn write_operand<W: Write>(before: &[u8], variable: Variable, writer: &mut W) ->
     ensures begun { OnErr result (AppendsBeginning (W.contents writer.old) (W.contents writer.new) (before.now ++ variable_text variable)) }
 {
     write_bytes(before, writer)?;
-    write_variable(variable, writer)
+    write_numeral(b"v", u64::from(variable.number()), writer)
 }
 
-fn write_variable<W: Write>(variable: Variable, writer: &mut W) -> io::Result<()>
-    ensures whole { OnOk result (Appends (W.contents writer.old) (W.contents writer.new) (variable_text variable)) }
-    ensures begun { OnErr result (AppendsBeginning (W.contents writer.old) (W.contents writer.new) (variable_text variable)) }
+// What stands before the number, and its digits.
+fn write_numeral<W: Write>(before: &[u8], number: u64, writer: &mut W) -> io::Result<()>
+    ensures whole { OnOk result (Appends (W.contents writer.old) (W.contents writer.new) (before.now ++ decimal number)) }
+    ensures begun { OnErr result (AppendsBeginning (W.contents writer.old) (W.contents writer.new) (before.now ++ decimal number)) }
 {
-    write_bytes(b"v", writer)?;
-    write_number(u64::from(variable.number()), writer)
+    write_bytes(before, writer)?;
+    write_number(number, writer)
 }
 
 #[cfg(test)]

@@ -4,7 +4,7 @@ use Rattle.std.specs.Prelude.{find, nat_lt, slice_get}
 use Rattle.std.proofs.lemmas.List.Sums.{fold-append}
 use Rattle.brc_lang.specs.declared.module.Instr.{Instr}
 use Rattle.brc_model.specs.declared.code.CheckCode.{CheckCode}
-use Rattle.brc_model.specs.declared.code.CheckCode.TheVariants.{EmptyUsed, WrongKind, NotOwned, StillOwns, LeftOwned, RunsOff}
+use Rattle.brc_model.specs.declared.code.CheckCode.TheVariants.{EmptyUsed, WrongKind, NotOwned, StillOwns, LeftOwned, LeftLocked, SecondLock, NotLocked, LockedChanged, RunsOff}
 use Rattle.brc_model.specs.declared.slot.State.{State}
 use Rattle.brc_model.specs.declared.slot.Exit.{Exit}
 use Rattle.brc_model.specs.declared.slot.Exit.TheVariants.{Success}
@@ -17,6 +17,7 @@ pub record AreMet (i : Instr) (s : State) : Type 0 where
   pub owned : stands i s NotOwned ≡ false
   pub free : stands i s StillOwns ≡ false
   pub none_left : stands i s LeftOwned ≡ false
+  pub unlocked : stands i s LockedChanged ≡ false
 
 find_none : {A : Type 0} (test : A → Bool) (x : A) (xs : List A) → find test (x ∷ xs) ≡ None → (test x ≡ false) × (find test xs ≡ None)
 find_none test x xs e =
@@ -32,13 +33,17 @@ are_met i s none =
     let c = find_none (stands i s) NotOwned (drop 3 rising) b.1 in
     let d = find_none (stands i s) StillOwns (drop 4 rising) c.1 in
     let e = find_none (stands i s) LeftOwned (drop 5 rising) d.1 in
-    record { not_empty = a.0; owned = c.0; free = d.0; none_left = e.0 }
+    let f = find_none (stands i s) LeftLocked (drop 6 rising) e.1 in
+    let g = find_none (stands i s) SecondLock (drop 7 rising) f.1 in
+    let h = find_none (stands i s) NotLocked (drop 8 rising) g.1 in
+    let k = find_none (stands i s) LockedChanged (drop 9 rising) h.1 in
+    record { not_empty = a.0; owned = c.0; free = d.0; none_left = e.0; unlocked = k.0 }
 
 pub record PassesOn (code : List Instr) (exits : List Exit) (at : ℕ) (s : State) : Type 0 where
   pub here : Instr
   pub found : slice_get code at ≡ Some here
   pub met : AreMet here s
-  pub leads : (next : ℕ) → target here Success at ≡ Some next → walk code (exits ++ Success ∷ []) ≡ At next (after here Success s)
+  pub leads : (exit : Exit) (next : ℕ) → target here exit at ≡ Some next → walk code (exits ++ exit ∷ []) ≡ At next (after here exit s)
 
 walk-append : (code : List Instr) (exits : List Exit) (e : Exit) → walk code (exits ++ e ∷ []) ≡ follow code (walk code exits) e
 walk-append code exits e = fold-append (follow code) (At 0 entry) exits (e ∷ [])
@@ -50,6 +55,16 @@ arrives_at code at next s never =
       | false ↦ λ e. absurd (never RunsOff (ap (λ (b : Bool). cond b (At next s) (Meets at RunsOff)) e))
     ] refl
 
+-- by either exit
+leads_by : (code : List Instr) (exits : List Exit) (at : ℕ) (s : State) (i : Instr) (exit : Exit) → IsAcceptableCode code → walk code exits ≡ At at s → slice_get code at ≡ Some i → lowest i s ≡ None
+    → (next : ℕ) → target i exit at ≡ Some next → walk code (exits ++ exit ∷ []) ≡ At next (after i exit s)
+leads_by code exits at s i exit accepted walked found none next t =
+    let one_more : walk code (exits ++ exit ∷ []) ≡ passes code at (slice_get code at) exit s = walk-append code exits exit ∙ ap (λ (p : Place). follow code p exit) walked in
+    let on : passes code at (slice_get code at) exit s ≡ arrives code at (target i exit at) (after i exit s) =
+    ap (λ (o : Option Instr). passes code at o exit s) found ∙ ap (λ (o : Option CheckCode). unless_met at o (arrives code at (target i exit at) (after i exit s))) none in
+    let to = one_more ∙ on ∙ ap (λ (o : Option ℕ). arrives code at o (after i exit s)) t in
+    to ∙ arrives_at code at next (after i exit s) (λ met m. accepted.meets_none at met (record { exits = exits ++ exit ∷ []; meets = to ∙ m }))
+
 pub passes_on : (code : List Instr) (exits : List Exit) (at : ℕ) (s : State) → IsAcceptableCode code → walk code exits ≡ At at s → PassesOn code exits at s
 passes_on code exits at s accepted walked =
     let one_more : walk code (exits ++ Success ∷ []) ≡ passes code at (slice_get code at) Success s = walk-append code exits Success ∙ ap (λ (p : Place). follow code p Success) walked in
@@ -60,16 +75,6 @@ passes_on code exits at s accepted walked =
           let there : passes code at (slice_get code at) Success s ≡ unless_met at (lowest i s) (arrives code at (target i Success at) (after i Success s)) = ap (λ (o : Option Instr). passes code at o Success s) e in
           elim (lowest i s) as (λ o. lowest i s ≡ o → PassesOn code exits at s) [
             | Some met ↦ λ l. absurd (never met (there ∙ ap (λ (o : Option CheckCode). unless_met at o (arrives code at (target i Success at) (after i Success s))) l))
-            | None ↦ λ l.
-                let on : passes code at (slice_get code at) Success s ≡ arrives code at (target i Success at) (after i Success s) =
-                there ∙ ap (λ (o : Option CheckCode). unless_met at o (arrives code at (target i Success at) (after i Success s))) l in
-                record {
-                  here = i;
-                  found = e;
-                  met = are_met i s l;
-                  leads = λ next t.
-                      let to = on ∙ ap (λ (o : Option ℕ). arrives code at o (after i Success s)) t in
-                      one_more ∙ to ∙ arrives_at code at next (after i Success s) (λ met m. never met (to ∙ m));
-                }
+            | None ↦ λ l. record { here = i; found = e; met = are_met i s l; leads = λ exit. leads_by code exits at s i exit accepted walked e l }
           ] refl
     ] refl

@@ -6,13 +6,14 @@ use Rattle.std.specs.List.{list_any, slice_index_or}
 use Rattle.brc_lang.specs.declared.kind.Kind.{Kind}
 use Rattle.brc_lang.specs.declared.kind.Kind.TheVariants as kinds
 use Rattle.brc_lang.specs.declared.module.Instr.{Instr}
-use Rattle.brc_lang.specs.declared.module.Instr.TheVariants.{Newref, Drop, Ret, Fail}
+use Rattle.brc_lang.specs.declared.module.Instr.TheVariants.{Num, NoneObject, Newref, Move, Drop, Goto, Ret, Fail}
 use Rattle.brc_model.specs.declared.code.CheckCode.{CheckCode}
 use Rattle.brc_model.specs.declared.code.CheckCode.TheVariants.{EmptyUsed, WrongKind, NotOwned, StillOwns, LeftOwned, LeftLocked, SecondLock, NotLocked, LockedChanged}
 use Rattle.brc_model.specs.declared.slot.Slot.{Slot}
 use Rattle.brc_model.specs.declared.slot.Slot.TheVariants.{Empty, Owned, Caller, Locked}
 use Rattle.brc_model.specs.declared.slot.State.{State}
 use Rattle.brc_model.specs.declared.slot.Exit.{Exit}
+use Rattle.brc_model.specs.declared.slot.Exit.TheVariants.{Success, Fault}
 
 -- ---- one slot
 
@@ -71,8 +72,12 @@ breaks s LeftLocked NothingLocked = is_some s.locked
 breaks s _ _ = false
 
 abbrev pub conditions_of : Instr → List Condition
+conditions_of (Num to value otherwise) = Into to ∷ []
+conditions_of (NoneObject to) = Into to ∷ []
 conditions_of (Newref to from) = Use from ∷ Into to ∷ []
+conditions_of (Move to from) = Give from ∷ Into to ∷ []
 conditions_of (Drop from) = Give from ∷ []
+conditions_of (Goto to) = []
 conditions_of (Ret from) = Give from ∷ NothingOwnedBut from ∷ NothingLocked ∷ []
 conditions_of Fail = NothingOwned ∷ NothingLocked ∷ []
 
@@ -91,15 +96,25 @@ lowest i s = find (stands i s) rising
 
 -- the state after an instruction that leads on
 abbrev pub after : Instr → Exit → State → State
+after (Num to value otherwise) Success s = put s to (Owned kinds.Num)
+after (Num to value otherwise) Fault s = put s to Empty
+after (NoneObject to) exit s = put s to (Owned kinds.None)
 after (Newref to from) exit s = put s to (Owned (kind_of (slot_of s from)))
+after (Move to from) exit s = put (put s from Empty) to (Owned (kind_of (slot_of s from)))
 after (Drop from) exit s = put s from Empty
+after (Goto to) exit s = s
 after (Ret from) exit s = s
 after Fail exit s = s
 
 -- the point that an exit of the instruction at a point leads to, or none where it ends the call
 abbrev pub target : Instr → Exit → ℕ → Option ℕ
+target (Num to value otherwise) Success at = Some (at + 1)
+target (Num to value otherwise) Fault at = Some otherwise
+target (NoneObject to) exit at = Some (at + 1)
 target (Newref to from) exit at = Some (at + 1)
+target (Move to from) exit at = Some (at + 1)
 target (Drop from) exit at = Some (at + 1)
+target (Goto to) exit at = Some to
 target (Ret from) exit at = None
 target Fail exit at = None
 

@@ -84,6 +84,37 @@ fn gives_each_instruction(rt: HostRuntime) -> Result<(), Fail> {
 }
 
 #[test]
+fn gives_num_none_move_and_goto(rt: HostRuntime) -> Result<(), Fail> {
+    let (low, high) = (Variable::new(0), Variable::new(15));
+    let code = [
+        Instr::Num {
+            to: high,
+            value: 4294967295,
+            otherwise: 4,
+        },
+        Instr::Num {
+            to: low,
+            value: 0,
+            otherwise: 255,
+        },
+        Instr::NoneObject { to: high },
+        Instr::Move {
+            to: low,
+            from: high,
+        },
+        Instr::Goto { target: 10 },
+    ];
+    let mut functions = Sequence::new(rt.alloc());
+    functions.push(function(rt.alloc(), b"f", code.as_slice())?)?;
+    let mut out: Vec<u8> = Vec::new(rt.alloc());
+    write(&Module { functions }, &mut out)?;
+    let text =
+        b"module 1\nfunc f\nnum v15 4294967295 else @4\nnum v0 0 else @255\nnone v15\nmove v0 v15\ngoto @10\nend\n";
+    assert_eq!(rt; out.as_slice(), text.as_slice());
+    Ok(())
+}
+
+#[test]
 fn stops_at_the_first_fault(rt: HostRuntime) -> Result<(), Fail> {
     let text = b"module 1\nfunc f\nfail\nend\n";
     let module = smallest(rt.alloc())?;

@@ -1,10 +1,17 @@
-use Rattle.std.proofs.Common.{sym, ◌∙◌, arith}
-use Rattle.brc_lang.proofs.Bodies.{goes_on, ends, other_fault}
+use Rattle.std.proofs.Common.{sym, ap, ◌∙◌}
+use Rattle.brc_lang.specs.Fault.{end_fault_of}
+use Rattle.brc_lang.proofs.Bodies.{goes_on, ends, end_fault, other_fault}
 use Rattle.brc_lang.proofs.reading.read_body.Goals as goal
+
+pub returns-in-Some-end_fault-clause-err : goal.returns-in-Some-end_fault-clause-err
+returns-in-Some-end_fault-clause-err c =
+    end_fault c.args.name c.args.start c.loop-text.place c.loop-text.code c.in-Some.text.now c.in-Some.rest.now c.in-Some-end_fault.code c.loop-text.invariant c.in-Some.ensures (sym c.is_word.ensures ∙ c.if-is_word.true)
+    (ap end_fault_of (sym c.as_slice.ensures) ∙ sym c.end_fault.ensures ∙ c.in-Some-end_fault.is)
 
 pub returns-then-is_word-clause-ok : goal.returns-then-is_word-clause-ok
 returns-then-is_word-clause-ok c =
-    ends c.args.name c.args.start c.loop-text.place c.loop-text.code c.in-Some.text.now c.in-Some.rest c.loop-text.invariant c.in-Some.ensures (sym c.is_word.ensures ∙ c.if-is_word.true) (omega arith)
+    ends c.args.name c.args.start c.loop-text.place c.loop-text.code c.in-Some.text.now c.in-Some.rest c.loop-text.invariant c.in-Some.ensures (sym c.is_word.ensures ∙ c.if-is_word.true)
+    (ap end_fault_of (sym c.as_slice.ensures) ∙ sym c.end_fault.ensures ∙ c.in_default-end_fault.is)
 
 pub returns-in-Err-clause-err : goal.returns-in-Err-clause-err
 returns-in-Err-clause-err c =

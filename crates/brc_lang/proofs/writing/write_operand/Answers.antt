@@ -7,4 +7,6 @@ pub returns-in_err-write_bytes-clause-begun : goal.returns-in_err-write_bytes-cl
 returns-in_err-write_bytes-clause-begun g c = stops_early _ _ _ _ c.args.before.now (variable c.args.variable) refl c.in_err-write_bytes.ensures.begun
 
 pub returns-clause-begun : goal.returns-clause-begun
-returns-clause-begun g c = stops_late _ _ _ _ _ c.args.before.now (variable c.args.variable) refl c.in_ok-write_bytes.ensures.whole c.write_variable.ensures.begun
+returns-clause-begun g c =
+    stops_late _ _ _ _ _ c.args.before.now (variable c.args.variable) refl c.in_ok-write_bytes.ensures.whole
+    (rw (c.from.ensures, c.number.ensures.value) at c.write_numeral.ensures.begun)

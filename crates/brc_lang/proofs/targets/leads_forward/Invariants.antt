@@ -1,0 +1,7 @@
+-- What is left to look at says whether all lead forward.
+use Rattle.std.proofs.Common.{◌≡◌, drop, length}
+use Rattle.brc_lang.specs.Fault.{lead_forward_from, leads_forward}
+use Rattle.brc_lang.proofs.targets.leads_forward.Given as goal
+
+abbrev pub invariant-loop-at : goal.invariant-loop-at
+invariant-loop-at l = leads_forward l.code ≡ lead_forward_from l.at (length l.code) (drop l.at l.code)
