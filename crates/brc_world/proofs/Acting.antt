@@ -17,7 +17,7 @@ use Rattle.brc_world.specs.Actors.{actor_on, begun_of, start_of, started, memory
 
 head_begun : (a : Actor) (b : model.Begun) → (actor_on a [] b).head ≡ a.head
 head_begun a model.Stuck = refl
-head_begun a (model.Quiet place) = refl
+head_begun a (model.Quiet moves place) = refl
 head_begun a (model.Work [] place) = refl
 head_begun a (model.Work (d ∷ rest) place) = refl
 
@@ -27,7 +27,7 @@ head_on a (d ∷ rest) b = refl
 
 status_begun : (a : Actor) (b : model.Begun) → (actor_on a [] b).status ≡ a.status
 status_begun a model.Stuck = refl
-status_begun a (model.Quiet place) = refl
+status_begun a (model.Quiet moves place) = refl
 status_begun a (model.Work [] place) = refl
 status_begun a (model.Work (d ∷ rest) place) = refl
 
@@ -37,7 +37,7 @@ status_on a (d ∷ rest) b = refl
 
 used_begun : (a : Actor) (b : model.Begun) → (actor_on a [] b).used ≡ a.used
 used_begun a model.Stuck = refl
-used_begun a (model.Quiet place) = refl
+used_begun a (model.Quiet moves place) = refl
 used_begun a (model.Work [] place) = refl
 used_begun a (model.Work (d ∷ rest) place) = refl
 

@@ -37,7 +37,7 @@ unchanged w t a found = ap (λ (actors : List Actor). let v : World = record { f
 begins_as : (w : World) (t : ℕ) (a : Actor) (b : model.Begun) → slice_get w.actors t ≡ Some a
     → world_of (begins (machine_of w) t a b) ≡ with_words w t (memory_from w.rows t w.memory (actor_begun a b) (start_begun b)) (actor_from w.rows t w.memory (actor_begun a b) (start_begun b))
 begins_as w t a model.Stuck found = sym (unchanged w t a found)
-begins_as w t a (model.Quiet place) found = refl
+begins_as w t a (model.Quiet moves place) found = refl
 begins_as w t a (model.Work [] place) found = sym (unchanged w t a found)
 begins_as w t a (model.Work (d ∷ rest) place) found = refl
 
@@ -65,7 +65,7 @@ going_on_by w t a s found is = ap (λ (o : Option Actor). world_of (chosen (mach
 -- where the thread can't go on, it stays
 pub stuck_stays : (a : Actor) (agenda : List Duty) (b : model.Begun) → start_on agenda b ≡ Stuck → actor_on a agenda b ≡ a
 stuck_stays a [] model.Stuck e = refl
-stuck_stays a [] (model.Quiet place) e = absurd cc
+stuck_stays a [] (model.Quiet moves place) e = absurd cc
 stuck_stays a [] (model.Work [] place) e = refl
 stuck_stays a [] (model.Work (d ∷ rest) place) e = absurd cc
 stuck_stays a (d ∷ rest) b e = absurd cc
@@ -133,7 +133,7 @@ doing_is d e same = cc
 start_within : (w : World) (t : ℕ) (a : Actor) (agenda : List Duty) (b : model.Begun) (d : Duty) → StepsWithin w t a → a.status ≢ Gone → a.agenda ≡ agenda → begun_by (machine_of w) t a ≡ b → start_on agenda b ≡ Doing d → IsWithin w t a d
 start_within w t a (e ∷ rest) b d steps alive is begins starts = steps.goes_on d rest alive (rw (doing_is e d starts) at is)
 start_within w t a [] model.Stuck d steps alive is begins starts = absurd cc
-start_within w t a [] (model.Quiet place) d steps alive is begins starts = absurd cc
+start_within w t a [] (model.Quiet moves place) d steps alive is begins starts = absurd cc
 start_within w t a [] (model.Work [] place) d steps alive is begins starts = absurd cc
 start_within w t a [] (model.Work (e ∷ rest) place) d steps alive is begins starts = steps.takes_up d rest place alive is (rw (doing_is e d starts) at begins)
 

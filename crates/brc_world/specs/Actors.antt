@@ -7,7 +7,7 @@ use Rattle.brc_model.specs.declared.actor.Status.TheVariants.{Running, Leaving, 
 use Rattle.brc_model.specs.declared.address.Address.{Address}
 use Rattle.brc_model.specs.declared.address.Address.TheVariants.{Mark}
 use Rattle.brc_model.specs.declared.duty.Duty.{Duty}
-use Rattle.brc_model.specs.declared.duty.Duty.TheVariants.{RetainLoad, ReleaseLoad, Die, Settle, SettleCell, Leave, Scan, ClaimMark}
+use Rattle.brc_model.specs.declared.duty.Duty.TheVariants.{RetainLoad, ReleaseLoad, Die, Settle, SettleCell, Leave, Scan, ClaimMark, BirthKind}
 use Rattle.brc_model.specs.declared.duty.Holding.TheVariants.{AsCaller}
 use Rattle.brc_model.specs.declared.actor.Place.TheVariants.{Departing}
 use Rattle.brc_model.specs.Plain.{root_row}
@@ -17,7 +17,7 @@ use Rattle.brc_model.specs.Within.{IsThere, Suits}
 use Rattle.brc_model.specs.Machine as model
 use Rattle.brc_model.specs.Machine.{Actor, at_place}
 use Rattle.brc_world.specs.declared.begun.Begun.{Begun}
-use Rattle.brc_world.specs.declared.begun.Begun.TheVariants.{Stuck, Quiet, Retain, Release, Exit}
+use Rattle.brc_world.specs.declared.begun.Begun.TheVariants.{Stuck, Quiet, Retain, Birth, Release, Exit}
 use Rattle.brc_world.specs.declared.did.Did.{Did}
 use Rattle.brc_world.specs.declared.did.Did.TheVariants as answers
 use Rattle.brc_world.specs.declared.start.Start.{Start}
@@ -33,20 +33,27 @@ with_agenda a agenda = record { function = a.function; place = a.place; status =
 -- what the code says of an instruction or an exit, as the model says it
 abbrev pub begun_as : Begun → model.Begun
 begun_as Stuck = model.Stuck
-begun_as (Quiet place) = model.Quiet place
+begun_as (Quiet place) = model.Quiet [] place
 begun_as (Retain row holding place) = model.Work (RetainLoad row holding ∷ []) place
+begun_as (Birth row holding word place) = model.Work (BirthKind row holding word ∷ []) place
 begun_as (Release row holding place) = model.Work (ReleaseLoad row holding ∷ Settle ∷ []) place
 begun_as (Exit first rows) = model.Work (ReleaseLoad root_row AsCaller ∷ Settle ∷ Leave first rows ∷ []) Departing
 
+-- what is taken up, without the plain moves of a quiet step
+abbrev pub unmoved : model.Begun → model.Begun
+unmoved model.Stuck = model.Stuck
+unmoved (model.Quiet moves place) = model.Quiet [] place
+unmoved (model.Work duties place) = model.Work duties place
+
 abbrev pub start_begun : model.Begun → Start
 start_begun model.Stuck = starts.Stuck
-start_begun (model.Quiet place) = starts.Moved
+start_begun (model.Quiet moves place) = starts.Moved
 start_begun (model.Work [] place) = starts.Stuck
 start_begun (model.Work (d ∷ rest) place) = starts.Doing d
 
 abbrev pub actor_begun : Actor → model.Begun → Actor
 actor_begun a model.Stuck = a
-actor_begun a (model.Quiet place) = at_place a place
+actor_begun a (model.Quiet moves place) = at_place a place
 actor_begun a (model.Work [] place) = a
 actor_begun a (model.Work (d ∷ rest) place) = with_agenda (at_place a place) rest
 

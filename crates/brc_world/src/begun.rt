@@ -1,25 +1,34 @@
 //! What a thread takes up when its agenda is done.
 
-ghost use Rattle.std.specs.Prelude.{◌≡◌, ◌+◌, ◌<◌, ◌^◌, slice_get, slice_set, Some};
+ghost use Rattle.std.specs.Prelude.{◌≡◌, ◌+◌, ◌<◌, ◌^◌, if◌then◌else◌, slice_get, slice_set, None, Some};
 ghost use Rattle.brc_model.specs.Threads.{row_of, entry_variables};
 ghost use Rattle.brc_model.specs.Threads.{code_of};
-ghost use Rattle.brc_model.specs.Machine.{begun, begun_instruction, first_row};
-ghost use Rattle.brc_world.specs.Actors.{begun_as};
+ghost use Rattle.brc_model.specs.Machine.{begun, begun_instruction, first_row, has_room, next_row};
+ghost use Rattle.brc_world.specs.Actors.{begun_as, unmoved};
 
 use brc_lang::{Function, Instr, Variable};
+use crate::states::NUM;
 use brc_model::{Holding, Place};
+use brc_word::kind_word;
 
 /// A thread's next instruction, or its exit.
 #[derive(Clone, Copy, Debug)]
 pub enum Begun {
     /// It can't go on.
     Stuck,
-    /// A step that changes the thread alone.
+    /// A step on no word: where the thread stands then.
     Quiet(Place),
     /// A new reference to the object, for the holder.
     Retain {
         row: u32,
         holding: Holding,
+        place: Place,
+    },
+    /// A new object in the row, for the holder: the word says what it is.
+    Birth {
+        row: u32,
+        holding: Holding,
+        word: u64,
         place: Place,
     },
     /// The holder's reference to the object is given up.
@@ -35,11 +44,22 @@ pub enum Begun {
     },
 }
 
+/// The row of none.
+const NONE_ROW: u32 = 0;
+
 /// The row of the root.
 pub const ROOT: u32 = 1;
 
 /// What each variable names: a row, or nothing.
 type Variables = [Option<u32>; 16];
+
+/// A thread's block: each worker has so many rows, of which this one used so many.
+#[derive(Clone, Copy, Debug)]
+struct Block {
+    rows: u16,
+    number: u8,
+    used: u32,
+}
 
 /// What a thread takes up at its place: each worker has so many rows, of which this one used so many.
 pub fn take_up(
@@ -50,21 +70,22 @@ pub fn take_up(
     used: u32,
     place: &Place,
 ) -> Begun
-    ensures { begun_as result ≡ begun rows number used (code_of (slice_get functions.now function)) place.now }
+    ensures { begun_as result ≡ unmoved (begun rows number used (code_of (slice_get functions.now function)) place.now) }
 {
     let code = code_of(functions, function);
+    let block = Block { rows, number, used };
     match place {
         Place::Departing => Begun::Stuck,
         Place::Standing { left: 0 } => Begun::Exit {
             first: first_row(rows, number),
             rows: used,
         },
-        Place::Standing { left } => at_instruction(code, *left - 1, 0, &entry_variables()),
+        Place::Standing { left } => at_instruction(code, block, *left - 1, 0, &entry_variables()),
         Place::Inside {
             left,
             at,
             variables,
-        } => at_instruction(code, *left, *at, variables),
+        } => at_instruction(code, block, *left, *at, variables),
     }
 }
 
@@ -76,6 +97,17 @@ pub fn first_row(rows: u16, number: u8) -> u32
         0 => 0,
         _ => 2 + u32::from(number - 1) * u32::from(rows),
     }
+}
+
+/// The row of the thread's next birth, if there is room for it: main has two rows.
+fn next_row(block: Block) -> Option<u32>
+    ensures { result ≡ (if has_room block.rows block.number block.used then Some (next_row block.rows block.number block.used) else None) }
+{
+    let size = match block.number {
+        0 => 2,
+        _ => u32::from(block.rows),
+    };
+    (block.used < size).then(|| first_row(block.rows, block.number) + block.used)
 }
 
 /// The function's instructions, or none where there is no such function.
@@ -97,18 +129,30 @@ fn entry_variables() -> Variables
     variables
 }
 
-fn at_instruction(code: &[Instr], left: u32, at: usize, variables: &Variables) -> Begun
-    ensures { begun_as result ≡ begun_instruction left at variables.now (slice_get code.now at) }
+fn at_instruction(
+    code: &[Instr],
+    block: Block,
+    left: u32,
+    at: usize,
+    variables: &Variables,
+) -> Begun
+    ensures { begun_as result ≡ unmoved (begun_instruction block.rows block.number block.used left at variables.now (slice_get code.now at)) }
 {
     match code.get(at) {
-        Some(instr) => instruction_begun(left, at, variables, *instr),
+        Some(instr) => instruction_begun(block, left, at, variables, *instr),
         None => Begun::Stuck,
     }
 }
 
-fn instruction_begun(left: u32, at: usize, variables: &Variables, instr: Instr) -> Begun
+fn instruction_begun(
+    block: Block,
+    left: u32,
+    at: usize,
+    variables: &Variables,
+    instr: Instr,
+) -> Begun
     requires { at + 1 < 2 ^ 64 }
-    ensures { begun_as result ≡ begun_instruction left at variables.now (Some instr) }
+    ensures { begun_as result ≡ unmoved (begun_instruction block.rows block.number block.used left at variables.now (Some instr)) }
 {
     let inside = |variables: Variables| Place::Inside {
         left,
@@ -116,6 +160,38 @@ fn instruction_begun(left: u32, at: usize, variables: &Variables, instr: Instr) 
         variables,
     };
     match instr {
+        Instr::Num {
+            to,
+            value,
+            otherwise,
+        } => match next_row(block) {
+            Some(row) => Begun::Birth {
+                row,
+                holding: Holding::ByVariable(to),
+                word: kind_word(NUM, value),
+                place: inside(with_row(*variables, to, Some(row))),
+            },
+            None => Begun::Quiet(Place::Inside {
+                left,
+                at: usize::from(otherwise),
+                variables: with_row(*variables, to, None),
+            }),
+        },
+        Instr::NoneObject { to } => {
+            Begun::Quiet(inside(with_row(*variables, to, Some(NONE_ROW))))
+        }
+        Instr::Move { to, from } => match row_of(variables, from) {
+            Some(row) => {
+                let emptied = with_row(*variables, from, None);
+                Begun::Quiet(inside(with_row(emptied, to, Some(row))))
+            }
+            None => Begun::Stuck,
+        },
+        Instr::Goto { target } => Begun::Quiet(Place::Inside {
+            left,
+            at: usize::from(target),
+            variables: *variables,
+        }),
         Instr::Newref { to, from } => match row_of(variables, from) {
             Some(row) => Begun::Retain {
                 row,

@@ -67,6 +67,15 @@ fn go_on_to(begun: Begun, thread: &mut Thread) -> Start
             thread.place = place;
             Start::Doing(Duty::RetainLoad { row, holding })
         }
+        Begun::Birth {
+            row,
+            holding,
+            word,
+            place,
+        } => {
+            thread.place = place;
+            Start::Doing(Duty::BirthKind { row, holding, word })
+        }
         Begun::Release {
             row,
             holding,

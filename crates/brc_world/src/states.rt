@@ -21,6 +21,9 @@ pub const FULL: u64 = 1;
 /// The number of the kind none.
 pub const NONE: u32 = 1;
 
+/// The number of the kind num.
+pub const NUM: u32 = 2;
+
 /// The number of the kind list.
 pub const LIST: u32 = 3;
 
