@@ -6,6 +6,7 @@ use Rattle.std.proofs.lemmas.Bool.{cases_eq}
 use Rattle.std.proofs.lemmas.List.{length-set, length-replicate, get_or-set_same, get_or-set_other, get_or_past}
 use Rattle.std.proofs.lemmas.Option.{none-some, same_Some}
 use Rattle.brc_lang.specs.declared.module.Instr.{Instr}
+use Rattle.brc_lang.specs.Grammar.{LeadsForward}
 use Rattle.brc_model.specs.declared.code.CheckCode.{CheckCode}
 use Rattle.brc_model.specs.declared.slot.State.{State}
 use Rattle.brc_model.specs.declared.slot.Exit.{Exit}
@@ -16,7 +17,7 @@ use Rattle.brc_model.specs.Tables.{Reaches, StatesDifferAt, entry_at}
 use Rattle.brc_check.specs.Rows.{StaysOn, IsClosed, IsBlocked}
 use Rattle.brc_check.specs.Filling.{settled, settled_at, IsFilledTo, IsInferred}
 use Rattle.brc_check.specs.Refusal.{IsMet}
-use Rattle.brc_check.proofs.Steps.{ahead-At}
+use Rattle.brc_check.proofs.Steps.{arrives-At, ahead-At}
 use Rattle.brc_check.proofs.Walks.{begins, reaches-more, meets-more, closed-reached, closed-acceptable}
 
 -- ---- one entry
@@ -90,7 +91,7 @@ leads-place row (Meets at c) within = record { same_length = refl; kept = λ k t
 
 leads : (code : List Instr) (row : List (Option State)) (at : ℕ) (s : State) (exit : Exit) → length row ≡ length code
     → Leads row (settled_at row (follow code (At at s) exit)) (follow code (At at s) exit)
-leads code row at s exit same = leads-place row (follow code (At at s) exit) (λ k t e. let within = (ahead-At code at k s t exit e).1 in omega (arith, within, same))
+leads code row at s exit same = leads-place row (follow code (At at s) exit) (λ k t e. let within = (arrives-At code at k s t exit e).within in omega (arith, within, same))
 
 stays-kept : (old new : List (Option State)) (p : Place) → ((k : ℕ) (t : State) → entry_at old k ≡ Some t → entry_at new k ≡ Some t) → StaysOn old p → StaysOn new p
 stays-kept old new (At at s) kept on = kept at s on
@@ -112,7 +113,7 @@ blocked-at : (code : List Instr) (row : List (Option State)) (at : ℕ) (s : Sta
     → length row ≡ length code → AllReached code row → entry_at row at ≡ Some s → follow code (At at s) exit ≡ p
     → IsBlocked (settled_at row p) p k c → IsMet code k c
 blocked-at code row at s exit k c (At next t) same reached here leads_to blocked =
-    let within : next < length row = (let w = (ahead-At code at next s t exit leads_to).1 in omega (arith, w, same)) in
+    let within : next < length row = (let w = (arrives-At code at next s t exit leads_to).within in omega (arith, w, same)) in
     elim (settled-cases row next t within) [
       | inl now ↦ absurd (blocked.2 now)
       | inr found ↦ inr (
@@ -155,11 +156,11 @@ filled_none code row at filled none = record {
   ];
 }
 
-pub filled_both : (code : List Instr) (row : List (Option State)) (at : ℕ) (s : State) → IsFilledTo code row at → entry_at row at ≡ Some s
+pub filled_both : (code : List Instr) (row : List (Option State)) (at : ℕ) (s : State) → LeadsForward code → IsFilledTo code row at → entry_at row at ≡ Some s
     → (let once = settled_at row (follow code (At at s) Success) in
     let twice = settled_at once (follow code (At at s) Fault) in
     StaysOn once (follow code (At at s) Success) → StaysOn twice (follow code (At at s) Fault) → IsFilledTo code twice (at + 1))
-filled_both code row at s filled here on_success on_fault =
+filled_both code row at s forwards filled here on_success on_fault =
     let once = settled_at row (follow code (At at s) Success) in
     let twice = settled_at once (follow code (At at s) Fault) in
     let first = leads code row at s Success filled.same_length in
@@ -168,11 +169,11 @@ filled_both code row at s filled here on_success on_fault =
     let reached_once = reached-led code row at s Success filled.same_length filled.reached here in
     let before_once : (k : ℕ) (t : State) → k ≤ at → entry_at once k ≡ Some t → entry_at row k ≡ Some t = λ k t le e. elim (first.fresh k t e) [
       | inl old ↦ old
-      | inr new ↦ absurd (let far = (ahead-At code at k s t Success new).0 in omega (arith, far, le))
+      | inr new ↦ absurd (let far = ahead-At code at k s t Success forwards new in omega (arith, far, le))
     ] in
     let before_twice : (k : ℕ) (t : State) → k ≤ at → entry_at twice k ≡ Some t → entry_at row k ≡ Some t = λ k t le e. elim (second.fresh k t e) [
       | inl old ↦ before_once k t le old
-      | inr new ↦ absurd (let far = (ahead-At code at k s t Fault new).0 in omega (arith, far, le))
+      | inr new ↦ absurd (let far = ahead-At code at k s t Fault forwards new in omega (arith, far, le))
     ] in
     let here_on : (exit : Exit) → StaysOn twice (follow code (At at s) exit) = λ exit. elim exit as (λ e. StaysOn twice (follow code (At at s) e)) [
       | Success ↦ stays-kept once twice (follow code (At at s) Success) second.kept on_success

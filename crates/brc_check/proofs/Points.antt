@@ -7,6 +7,7 @@ use Rattle.std.proofs.lemmas.Option.{same_Some, slice_get_read, slice_get_within
 use Rattle.std.proofs.lemmas.Bool.{cases_lt}
 use Rattle.brc_lang.specs.declared.module.Instr.{Instr}
 use Rattle.brc_lang.specs.declared.module.Function.{Function}
+use Rattle.brc_lang.specs.Grammar.{LeadsForward}
 use Rattle.brc_model.specs.declared.code.CheckCode.{CheckCode}
 use Rattle.brc_model.specs.declared.slot.State.{State}
 use Rattle.brc_model.specs.declared.slot.Exit.{Exit}
@@ -33,16 +34,16 @@ pub first_met : (code : List Instr) (row once : List (Option State)) (at : ℕ) 
 first_met code row once at s k c filled here is blocked =
     first_blocked code row at s k c filled here (subst (λ (r : List (Option State)). IsBlocked r (follow code (At at s) Success) k c) is blocked)
 
-pub second_met : (code : List Instr) (row once twice : List (Option State)) (at : ℕ) (s : State) (r : Option refused.Met) → IsFilledTo code row at → entry_at row at ≡ Some s
+pub second_met : (code : List Instr) (row once twice : List (Option State)) (at : ℕ) (s : State) (r : Option refused.Met) → LeadsForward code → IsFilledTo code row at → entry_at row at ≡ Some s
     → once ≡ settled_at row (follow code (At at s) Success) → StaysOn once (follow code (At at s) Success)
     → twice ≡ settled_at once (follow code (At at s) Fault)
     → MatchOption r (StaysOn twice (follow code (At at s) Fault)) (λ m. IsBlocked twice (follow code (At at s) Fault) m.at m.code)
     → MatchOption r (IsFilledTo code twice (at + 1)) (λ m. IsMet code m.at m.code)
-second_met code row once twice at s None filled here is on is_twice on_fault =
+second_met code row once twice at s None forwards filled here is on is_twice on_fault =
     let q : twice ≡ settled_at (settled_at row (follow code (At at s) Success)) (follow code (At at s) Fault) = is_twice ∙ ap (λ (r : List (Option State)). settled_at r (follow code (At at s) Fault)) is in
     subst (λ (r : List (Option State)). IsFilledTo code r (at + 1)) (sym q)
-    (filled_both code row at s filled here (subst (λ (r : List (Option State)). StaysOn r (follow code (At at s) Success)) is on) (subst (λ (r : List (Option State)). StaysOn r (follow code (At at s) Fault)) q on_fault))
-second_met code row once twice at s (Some m) filled here is on is_twice blocked =
+    (filled_both code row at s forwards filled here (subst (λ (r : List (Option State)). StaysOn r (follow code (At at s) Success)) is on) (subst (λ (r : List (Option State)). StaysOn r (follow code (At at s) Fault)) q on_fault))
+second_met code row once twice at s (Some m) forwards filled here is on is_twice blocked =
     let q : twice ≡ settled_at (settled_at row (follow code (At at s) Success)) (follow code (At at s) Fault) = is_twice ∙ ap (λ (r : List (Option State)). settled_at r (follow code (At at s) Fault)) is in
     second_blocked code row at s m.at m.code filled here (subst (λ (r : List (Option State)). IsBlocked r (follow code (At at s) Fault) m.at m.code) q blocked)
 

@@ -3,45 +3,64 @@ use Rattle.std.proofs.Common.{◌≡◌, ℕ, ◌+◌, ◌<◌, Bool, true, fals
 use Rattle.std.specs.Prelude.{None, Some, slice_get, nat_lt}
 use Rattle.std.proofs.lemmas.Bool.{ltb-true}
 use Rattle.brc_lang.specs.declared.module.Instr.{Instr}
-use Rattle.brc_lang.specs.declared.module.Instr.TheVariants.{Newref, Drop, Ret, Fail}
+use Rattle.brc_lang.specs.declared.module.Instr.TheVariants.{Num, NoneObject, Newref, Move, Drop, Goto, Ret, Fail}
+use Rattle.brc_lang.specs.Grammar.{jump, LeadsForward}
 use Rattle.brc_model.specs.declared.code.CheckCode.{CheckCode}
 use Rattle.brc_model.specs.declared.code.CheckCode.TheVariants.{RunsOff}
 use Rattle.brc_model.specs.declared.slot.State.{State}
 use Rattle.brc_model.specs.declared.slot.Exit.{Exit}
+use Rattle.brc_model.specs.declared.slot.Exit.TheVariants.{Success, Fault}
 use Rattle.brc_model.specs.Slots.{lowest, after, target}
 use Rattle.brc_model.specs.Walks.{Place, At, Ended, Meets, arrives, unless_met, passes, follow}
 
--- an instruction leads forward
-pub forward : (i : Instr) (exit : Exit) (at next : ℕ) → target i exit at ≡ Some next → at < next
-forward (Newref to from) exit at next e = let same : at + 1 ≡ next = cc in omega arith
-forward (Drop from) exit at next e = let same : at + 1 ≡ next = cc in omega arith
-forward (Ret from) exit at next e = absurd cc
-forward Fail exit at next e = absurd cc
+-- an instruction leads to the next point, or to the target that it names
+forward : (i : Instr) (exit : Exit) (at next : ℕ) → ((to : ℕ) → jump i ≡ Some to → at < to) → target i exit at ≡ Some next → at < next
+forward (Num to value otherwise) Success at next jumps e = let same : at + 1 ≡ next = cc in omega arith
+forward (Num to value otherwise) Fault at next jumps e = jumps next e
+forward (NoneObject to) exit at next jumps e = let same : at + 1 ≡ next = cc in omega arith
+forward (Newref to from) exit at next jumps e = let same : at + 1 ≡ next = cc in omega arith
+forward (Move to from) exit at next jumps e = let same : at + 1 ≡ next = cc in omega arith
+forward (Drop from) exit at next jumps e = let same : at + 1 ≡ next = cc in omega arith
+forward (Goto to) exit at next jumps e = jumps next e
+forward (Ret from) exit at next jumps e = absurd cc
+forward Fail exit at next jumps e = absurd cc
 
--- where a place is a point, it lies behind this one and within the code
-abbrev pub IsAhead : List Instr → ℕ → Place → Type 0
-IsAhead code n (At at s) = (n < at) × (at < length code)
-IsAhead code n Ended = Unit {0}
-IsAhead code n (Meets at c) = Unit {0}
+-- how an exit of a point comes to another: the instruction there leads to it, and it lies within the code
+pub record Arrives (code : List Instr) (at : ℕ) (exit : Exit) (next : ℕ) : Type 0 where
+  pub here : Instr
+  pub found : slice_get code at ≡ Some here
+  pub leads : target here exit at ≡ Some next
+  pub within : next < length code
 
-ahead-unless_met : (code : List Instr) (n at : ℕ) (o : Option CheckCode) (p : Place) → IsAhead code n p → IsAhead code n (unless_met at o p)
-ahead-unless_met code n at None p h = h
-ahead-unless_met code n at (Some c) p h = tt
+-- where a place is a point, the exit comes to it
+abbrev pub IsArrival : List Instr → ℕ → Exit → Place → Type 0
+IsArrival code n exit (At at s) = Arrives code n exit at
+IsArrival code n exit Ended = Unit {0}
+IsArrival code n exit (Meets at c) = Unit {0}
 
-ahead-cond : (code : List Instr) (n next : ℕ) (s : State) (b : Bool) → n < next → nat_lt next (length code) ≡ b → IsAhead code n (cond b (At next s) (Meets n RunsOff))
-ahead-cond code n next s true lt e = (lt, ltb-true next (length code) e)
-ahead-cond code n next s false lt e = tt
+arrival-unless_met : (code : List Instr) (n at : ℕ) (exit : Exit) (o : Option CheckCode) (p : Place) → IsArrival code n exit p → IsArrival code n exit (unless_met at o p)
+arrival-unless_met code n at exit None p h = h
+arrival-unless_met code n at exit (Some c) p h = tt
 
-ahead-arrives : (code : List Instr) (n : ℕ) (o : Option ℕ) (s : State) → ((next : ℕ) → o ≡ Some next → n < next) → IsAhead code n (arrives code n o s)
-ahead-arrives code n None s h = tt
-ahead-arrives code n (Some next) s h = ahead-cond code n next s (nat_lt next (length code)) (h next refl) refl
+arrival-cond : (code : List Instr) (n next : ℕ) (exit : Exit) (i : Instr) (s : State) (b : Bool) → slice_get code n ≡ Some i → target i exit n ≡ Some next → nat_lt next (length code) ≡ b
+    → IsArrival code n exit (cond b (At next s) (Meets n RunsOff))
+arrival-cond code n next exit i s true found leads e = record { here = i; found = found; leads = leads; within = ltb-true next (length code) e }
+arrival-cond code n next exit i s false found leads e = tt
 
-ahead-passes : (code : List Instr) (at : ℕ) (o : Option Instr) (exit : Exit) (s : State) → IsAhead code at (passes code at o exit s)
-ahead-passes code at None exit s = tt
-ahead-passes code at (Some i) exit s = ahead-unless_met code at at (lowest i s) (arrives code at (target i exit at) (after i exit s)) (ahead-arrives code at (target i exit at) (after i exit s) (forward i exit at))
+arrival-arrives : (code : List Instr) (n : ℕ) (exit : Exit) (i : Instr) (o : Option ℕ) (s : State) → slice_get code n ≡ Some i → target i exit n ≡ o → IsArrival code n exit (arrives code n o s)
+arrival-arrives code n exit i None s found leads = tt
+arrival-arrives code n exit i (Some next) s found leads = arrival-cond code n next exit i s (nat_lt next (length code)) found leads refl
 
-pub ahead : (code : List Instr) (at : ℕ) (s : State) (exit : Exit) → IsAhead code at (follow code (At at s) exit)
-ahead code at s exit = ahead-passes code at (slice_get code at) exit s
+arrival-passes : (code : List Instr) (at : ℕ) (o : Option Instr) (exit : Exit) (s : State) → slice_get code at ≡ o → IsArrival code at exit (passes code at o exit s)
+arrival-passes code at None exit s found = tt
+arrival-passes code at (Some i) exit s found =
+    arrival-unless_met code at at exit (lowest i s) (arrives code at (target i exit at) (after i exit s)) (arrival-arrives code at exit i (target i exit at) (after i exit s) found refl)
 
-pub ahead-At : (code : List Instr) (at next : ℕ) (s t : State) (exit : Exit) → follow code (At at s) exit ≡ At next t → (at < next) × (next < length code)
-ahead-At code at next s t exit e = subst (IsAhead code at) e (ahead code at s exit)
+pub arrives-At : (code : List Instr) (at next : ℕ) (s t : State) (exit : Exit) → follow code (At at s) exit ≡ At next t → Arrives code at exit next
+arrives-At code at next s t exit e = subst (IsArrival code at exit) e (arrival-passes code at (slice_get code at) exit s refl)
+
+-- where each target leads forward, each exit comes to a later point
+pub ahead-At : (code : List Instr) (at next : ℕ) (s t : State) (exit : Exit) → LeadsForward code → follow code (At at s) exit ≡ At next t → at < next
+ahead-At code at next s t exit forwards e =
+    let there = arrives-At code at next s t exit e in
+    forward there.here exit at next (λ to jumps. (forwards at there.here to there.found jumps).0) there.leads

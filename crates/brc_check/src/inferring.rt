@@ -1,7 +1,8 @@
-//! A table from a module: one pass over the points of each function, by rising number.
+//! A table from a module: one pass over the points of each function, by rising number. Every exit leads to a later point,
+//! so a point's entry is known once the pass comes to it.
 
 ghost use Rattle.std.specs.Prelude.{◌≡◌, ◌⊎◌, ◌<◌, ◌+◌, ◌-◌, ◌∷◌, length, replicate, IfOk, OnOk, IfErr, MatchOption, MatchResult};
-ghost use Rattle.brc_lang.specs.Grammar.{IsModule, IsFunction};
+ghost use Rattle.brc_lang.specs.Grammar.{IsModule, IsFunction, LeadsForward};
 ghost use Rattle.brc_model.specs.Slots.{entry};
 ghost use Rattle.brc_model.specs.Walks.{IsAcceptable, follow, At};
 ghost use Rattle.brc_model.specs.Tables.{IsTrueTable};
@@ -64,6 +65,7 @@ fn lead(
 /// Follows both exits of a point, where a walk comes to it.
 fn lead_on(code: &[Instr], row: &mut Sequence<Option<State>>, at: usize) -> Option<Met>
     requires within { at < length code.now }
+    requires forward { LeadsForward code.now }
     requires filled { IsFilledTo code.now row.old at }
     ensures { MatchOption result (IsFilledTo code.now row.new (at + 1)) (λ m. IsMet code.now m.at m.code) }
 {
@@ -78,6 +80,7 @@ fn lead_on(code: &[Instr], row: &mut Sequence<Option<State>>, at: usize) -> Opti
 
 fn fill(code: &[Instr], row: &mut Sequence<Option<State>>) -> Option<Met>
     requires some { 0 < length code.now }
+    requires forward { LeadsForward code.now }
     requires begun { row.old ≡ Some entry ∷ replicate (length code.now - 1) None }
     ensures { MatchOption result (IsInferred code.now row.new) (λ m. IsMet code.now m.at m.code) }
 {

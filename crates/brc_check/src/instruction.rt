@@ -37,19 +37,39 @@ fn any_owned(slots: &[Slot; 16]) -> bool
     slots.iter().any(|slot| matches!(slot, Slot::Owned(_)))
 }
 
+/// What `none` is refused for; `num` is refused for the same.
+fn into_refusal(state: &State, to: Variable) -> Option<CheckCode>
+    ensures { result ≡ lowest (Instr.NoneObject to) state.now }
+{
+    if let Slot::Owned(_) = slot(state, to) {
+        return Some(CheckCode::StillOwns);
+    }
+    is_locked(state, to).then_some(CheckCode::LockedChanged)
+}
+
 fn newref_refusal(state: &State, to: Variable, from: Variable) -> Option<CheckCode>
     ensures { result ≡ lowest (Instr.Newref to from) state.now }
 {
     if let Slot::Empty = slot(state, from) {
         return Some(CheckCode::EmptyUsed);
     }
-    if let Slot::Owned(_) = slot(state, to) {
-        return Some(CheckCode::StillOwns);
+    into_refusal(state, to)
+}
+
+fn move_refusal(state: &State, to: Variable, from: Variable) -> Option<CheckCode>
+    ensures { result ≡ lowest (Instr.Move to from) state.now }
+{
+    let source = slot(state, from);
+    if let Slot::Empty = source {
+        return Some(CheckCode::EmptyUsed);
     }
-    if is_locked(state, to) {
-        return Some(CheckCode::LockedChanged);
+    if let Slot::Caller(_) | Slot::Locked(_) = source {
+        return Some(CheckCode::NotOwned);
     }
-    None
+    if let Some(code) = into_refusal(state, to) {
+        return Some(code);
+    }
+    is_locked(state, from).then_some(CheckCode::LockedChanged)
 }
 
 fn drop_refusal(state: &State, from: Variable) -> Option<CheckCode>
@@ -92,8 +112,11 @@ pub fn refusal(instr: Instr, state: &State) -> Option<CheckCode>
     ensures { result ≡ lowest instr state.now }
 {
     match instr {
+        Instr::Num { to, .. } | Instr::NoneObject { to } => into_refusal(state, to),
         Instr::Newref { to, from } => newref_refusal(state, to, from),
+        Instr::Move { to, from } => move_refusal(state, to, from),
         Instr::Drop { from } => drop_refusal(state, from),
+        Instr::Goto { .. } => None,
         Instr::Ret { from } => ret_refusal(state, from),
         Instr::Fail => fail_refusal(state),
     }
@@ -103,14 +126,25 @@ pub fn refusal(instr: Instr, state: &State) -> Option<CheckCode>
 pub fn apply(instr: Instr, exit: Exit, state: &mut State)
     ensures { state.new ≡ after instr exit state.old }
 {
-    let _alike = exit;
     match instr {
+        Instr::Num { to, .. } => {
+            state.slots[to.number() as usize] = match exit {
+                Exit::Success => Slot::Owned(Kind::Num),
+                Exit::Fault => Slot::Empty,
+            };
+        }
+        Instr::NoneObject { to } => state.slots[to.number() as usize] = Slot::Owned(Kind::None),
         Instr::Newref { to, from } => {
             let kind = kind_of(slot(state, from));
             state.slots[to.number() as usize] = Slot::Owned(kind);
         }
+        Instr::Move { to, from } => {
+            let handed = Slot::Owned(kind_of(slot(state, from)));
+            state.slots[from.number() as usize] = Slot::Empty;
+            state.slots[to.number() as usize] = handed;
+        }
         Instr::Drop { from } => state.slots[from.number() as usize] = Slot::Empty,
-        Instr::Ret { .. } | Instr::Fail => (),
+        Instr::Goto { .. } | Instr::Ret { .. } | Instr::Fail => (),
     }
 }
 
@@ -119,9 +153,16 @@ pub fn target_of(instr: Instr, exit: Exit, at: usize) -> Option<usize>
     requires { at + 1 < 2 ^ 64 }
     ensures { result ≡ target instr exit at }
 {
-    let _alike = exit;
     match instr {
-        Instr::Newref { .. } | Instr::Drop { .. } => Some(at + 1),
+        Instr::Num { otherwise, .. } => Some(match exit {
+            Exit::Success => at + 1,
+            Exit::Fault => otherwise as usize,
+        }),
+        Instr::NoneObject { .. }
+        | Instr::Newref { .. }
+        | Instr::Move { .. }
+        | Instr::Drop { .. } => Some(at + 1),
+        Instr::Goto { target } => Some(target as usize),
         Instr::Ret { .. } | Instr::Fail => None,
     }
 }
