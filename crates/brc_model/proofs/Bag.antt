@@ -1,13 +1,13 @@
 -- How many references of each sort are in the bag, before and after a move.
-use Rattle.std.proofs.Common.{◌≡◌, ◌≢◌, ℕ, ◌+◌, ◌<◌, ◌≤◌, Bool, true, false, cond, List, [], ◌∷◌, refl, sym, ap, ◌∙◌, arith}
-use Rattle.std.specs.Prelude.{◌==◌, ◌&&◌, count_by}
+use Rattle.std.proofs.Common.{◌≡◌, ◌≢◌, ℕ, ◌+◌, ◌<◌, ◌≤◌, Bool, true, false, cond, List, [], ◌∷◌, refl, sym, ap, ◌∙◌, subst, arith}
+use Rattle.std.specs.Prelude.{◌==◌, ◌&&◌, ◌||◌, count_by}
 use Rattle.std.specs.List.{list_any}
-use Rattle.std.proofs.lemmas.Bool.{eqb-true, eq-eqb, false≢true}
+use Rattle.std.proofs.lemmas.Bool.{eqb-true, eq-eqb, ne_eqb}
 use Rattle.std.proofs.lemmas.List.Sums.{sum_by-cons}
 use Rattle.brc_model.proofs.Lists.{and_first, and_second}
 use Rattle.brc_model.specs.declared.duty.Holding.{Holding}
 use Rattle.brc_model.specs.declared.duty.Holding.TheVariants.{ByVariable, AsCaller, InHand}
-use Rattle.brc_model.specs.Plain.{Reference, same_holding, same, without, references_to}
+use Rattle.brc_model.specs.Plain.{Holder, ByThread, ByCell, Reference, same_holding, same_holder, same, without, references_to, is_cell_of, holds_by_cells}
 
 -- how many such references the bag has
 abbrev pub held : Reference → List Reference → ℕ
@@ -32,32 +32,38 @@ same_holding-refl (ByVariable v) = eq-eqb v v refl
 same_holding-refl AsCaller = refl
 same_holding-refl InHand = refl
 
+pub same_holder-true : (h k : Holder) → same_holder h k ≡ true → h ≡ k
+same_holder-true (ByThread t h) (ByThread u k) e =
+    let threads : t ≡ u = eqb-true t u (and_first (t == u) (same_holding h k) e) in
+    let holdings : h ≡ k = same_holding-true h k (and_second (t == u) (same_holding h k) e) in
+    λ i. ByThread (threads i) (holdings i)
+same_holder-true (ByCell x i) (ByCell y j) e =
+    let lists : x ≡ y = eqb-true x y (and_first (x == y) (i == j) e) in
+    let cells : i ≡ j = eqb-true i j (and_second (x == y) (i == j) e) in
+    λ w. ByCell (lists w) (cells w)
+same_holder-true (ByThread t h) (ByCell y j) e = absurd cc
+same_holder-true (ByCell x i) (ByThread u k) e = absurd cc
+
+pub same_holder-refl : (h : Holder) → same_holder h h ≡ true
+same_holder-refl (ByThread t h) = rw (eq-eqb t t refl, same_holding-refl h) refl
+same_holder-refl (ByCell x i) = rw (eq-eqb x x refl, eq-eqb i i refl) refl
+
+-- another thread is another holder
+pub other_thread : (t u : ℕ) (h k : Holding) → t ≢ u → same_holder (ByThread t h) (ByThread u k) ≡ false
+other_thread t u h k ne = ap (λ (b : Bool). b && same_holding h k) (ne_eqb t u ne)
+
 pub same-true : (r q : Reference) → same r q ≡ true → r ≡ q
 same-true r q e =
-    let front = and_first (r.thread == q.thread && same_holding r.holding q.holding) (r.object == q.object) e in
-    let threads : r.thread ≡ q.thread = eqb-true _ _ (and_first (r.thread == q.thread) (same_holding r.holding q.holding) front) in
-    let holdings : r.holding ≡ q.holding = same_holding-true _ _ (and_second (r.thread == q.thread) (same_holding r.holding q.holding) front) in
-    let objects : r.object ≡ q.object = eqb-true _ _ (and_second (r.thread == q.thread && same_holding r.holding q.holding) (r.object == q.object) e) in
-    λ i. record { thread = threads i; holding = holdings i; object = objects i }
+    let holders : r.holder ≡ q.holder = same_holder-true _ _ (and_first (same_holder r.holder q.holder) (r.object == q.object) e) in
+    let objects : r.object ≡ q.object = eqb-true _ _ (and_second (same_holder r.holder q.holder) (r.object == q.object) e) in
+    λ i. record { holder = holders i; object = objects i }
 
 pub same-refl : (r : Reference) → same r r ≡ true
-same-refl r = rw (eq-eqb r.thread r.thread refl, same_holding-refl r.holding, eq-eqb r.object r.object refl) refl
+same-refl r = rw (same_holder-refl r.holder, eq-eqb r.object r.object refl) refl
 
--- a reference of another thread is another reference
-pub same-other_thread : (r q : Reference) → r.thread ≢ q.thread → same r q ≡ false
-same-other_thread r q ne =
-    elim (same r q) as (λ b. same r q ≡ b → same r q ≡ false) [ true ↦ λ e. absurd (ne (ap (λ (x : Reference). x.thread) (same-true r q e))) | false ↦ λ e. e ] refl
-
--- a reference that is held otherwise is another reference
-pub same-other_holding : (r q : Reference) → same_holding r.holding q.holding ≡ false → same r q ≡ false
-same-other_holding r q other =
-    elim (same r q) as (λ b. same r q ≡ b → b ≡ false) [
-      | true ↦ λ e.
-          let both : q.holding ≡ r.holding = sym (ap (λ (x : Reference). x.holding) (same-true r q e)) in
-          let itself : same_holding r.holding q.holding ≡ true = ap (same_holding r.holding) both ∙ same_holding-refl r.holding in
-          absurd (false≢true (sym other ∙ itself))
-      | false ↦ λ e. refl
-    ] refl
+-- a reference of another holder is another reference
+pub same-other_holder : (r q : Reference) → same_holder r.holder q.holder ≡ false → same r q ≡ false
+same-other_holder r q other = ap (λ (b : Bool). b && (r.object == q.object)) other
 
 -- ---- a reference is there, or isn't
 
@@ -125,8 +131,27 @@ references_to-without object q bag has = count-without (λ (r : Reference). r.ob
 
 -- ---- an empty bag
 
+held_itself : (q : Reference) (bag : List Reference) → held q (q ∷ bag) ≡ 1 + held q bag
+held_itself q bag = held-cons q q bag ∙ ap (λ (b : Bool). one_if b + held q bag) (same-refl q)
+
 pub empty_bag : (bag : List Reference) → ((r : Reference) → held r bag ≡ 0) → bag ≡ []
 empty_bag [] none = refl
-empty_bag (q ∷ qs) none =
-    let one : held q (q ∷ qs) ≡ 1 + held q qs = held-cons q q qs ∙ ap (λ (b : Bool). one_if b + held q qs) (same-refl q) in
-    absurd (omega (arith, one, none q))
+empty_bag (q ∷ qs) none = absurd (omega (arith, held_itself q qs, none q))
+
+-- ---- cells of lists
+
+abbrev pub cell_reference : ℕ → ℕ → ℕ → Reference
+cell_reference x i object = record { holder = ByCell x i; object = object }
+
+not_by_cell : (x : ℕ) (h : Holder) (object : ℕ) (bag : List Reference) → ((i y : ℕ) → held (cell_reference x i y) bag ≡ 0) → 0 < held (record { holder = h; object = object }) bag → is_cell_of x h ≡ false
+not_by_cell x (ByThread t h) object bag none some = refl
+not_by_cell x (ByCell y i) object bag none some =
+    ne_eqb y x (λ (e : y ≡ x).
+    let there : 0 < held (cell_reference x i object) bag = subst (λ (z : ℕ). 0 < held (cell_reference z i object) bag) e some in
+    omega (arith, there, none i object))
+
+pub no_cell_holds : (x : ℕ) (bag : List Reference) → ((i object : ℕ) → held (cell_reference x i object) bag ≡ 0) → holds_by_cells x bag ≡ false
+no_cell_holds x [] none = refl
+no_cell_holds x (q ∷ qs) none =
+    let first : is_cell_of x q.holder ≡ false = not_by_cell x q.holder q.object (q ∷ qs) none (omega (arith, held_itself q qs)) in
+    ap (λ (b : Bool). b || holds_by_cells x qs) first ∙ no_cell_holds x qs (λ i object. omega (arith, none i object, held-cons (cell_reference x i object) q qs))

@@ -1,5 +1,5 @@
 -- What a thread takes up with its next step: its agenda then fits the place where it will stand.
-use Rattle.std.proofs.Common.{◌≡◌, ◌≢◌, ℕ, ◌+◌, ◌<◌, Bool, true, false, List, [], ◌∷◌, inl, inr, length, Option, None, Some, refl, sym, ap, ◌∙◌, subst, arith}
+use Rattle.std.proofs.Common.{◌≡◌, ◌≢◌, ℕ, ◌+◌, ◌<◌, Bool, true, false, List, [], ◌∷◌, inl, inr, length, Option, None, Some, refl, sym, ap, ◌∙◌, subst, arith, ◌≤◌}
 use Rattle.std.specs.Prelude.{◌==◌, ◌&&◌, slice_set}
 use Rattle.std.specs.List.{list_any}
 use Rattle.std.proofs.lemmas.Bool.{eq-eqb}
@@ -11,19 +11,20 @@ use Rattle.brc_model.specs.declared.slot.State.{State}
 use Rattle.brc_model.specs.Slots.{slot_of, is_owned, names, put}
 use Rattle.brc_model.specs.declared.duty.Holding.{Holding}
 use Rattle.brc_model.specs.declared.duty.Holding.TheVariants.{ByVariable, AsCaller, InHand}
-use Rattle.brc_model.specs.Plain.{Reference, same_holding, references_to}
+use Rattle.brc_model.specs.Plain.{Reference, same_holding, references_to, none_row, same, Move, moved}
 use Rattle.brc_model.specs.Threads.{row_of}
 use Rattle.brc_model.specs.declared.duty.Duty.{Duty}
-use Rattle.brc_model.specs.declared.duty.Duty.TheVariants.{RetainLoad, ReleaseLoad, Settle, Leave}
+use Rattle.brc_model.specs.declared.duty.Duty.TheVariants.{RetainLoad, ReleaseLoad, Settle, Leave, BirthKind}
 use Rattle.brc_model.specs.declared.actor.Place.{Place}
 use Rattle.brc_model.specs.declared.actor.Place.TheVariants.{Standing, Inside, Departing}
-use Rattle.brc_model.specs.Machine.{Begun, Stuck, Quiet, Work, with_row, first_row}
+use Rattle.brc_model.specs.Machine.{Begun, Stuck, Quiet, Work, with_row, first_row, block_size, next_row, gain, pass_on}
 use Rattle.brc_model.proofs.Bag.{held, one_if}
 use Rattle.brc_model.proofs.Lists.{none_at}
 use Rattle.brc_model.proofs.Holds.{the_root, of_variables, reference_of, Holds}
 use Rattle.brc_model.proofs.Grounded.{slot_of-put_same, slot_of-put_other, row_of-set_same, row_of-set_other}
 use Rattle.brc_model.proofs.OwnCounts.{flip_eqb}
 use Rattle.brc_model.proofs.Rule.{HoldsAt, PlaceFits}
+use Rattle.brc_model.specs.Duties.{cells_of}
 
 -- ---- nothing is at hand
 
@@ -35,10 +36,11 @@ holds_at_none bag t says holds = record { each = λ k object. omega (arith, hold
 
 -- ---- what is taken up
 
--- the first duty gives up a reference that is held, or makes one of an object that is referenced
-pub data Starts (bag : List Reference) (t : ℕ) : Duty → Type 0 where
-  Gives : (row : ℕ) (h : Holding) → 0 < references_to row bag → Starts bag t (ReleaseLoad row h)
-  Takes : (row : ℕ) (h by : Holding) → 0 < held (reference_of t by row) bag → Starts bag t (RetainLoad row h)
+-- the first duty gives up a reference that is held, makes one of an object that is referenced, or begins the birth of the next row
+pub data Starts (bag : List Reference) (rows t used : ℕ) : Duty → List Duty → Type 0 where
+  Gives : (row : ℕ) (h : Holding) (rest : List Duty) → 0 < references_to row bag → Starts bag rows t used (ReleaseLoad row h) rest
+  Takes : (row : ℕ) (h by : Holding) (rest : List Duty) → 0 < held (reference_of t by row) bag → Starts bag rows t used (RetainLoad row h) rest
+  Bears : (h : Holding) (w : ℕ) → used < block_size rows t → cells_of w ≤ 8 → Starts bag rows t used (BirthKind (next_row rows t used) h w) []
 
 -- the duties behind it settle, and leave where the thread is to leave
 pub data Follows (rows t used : ℕ) (place : Place) : List Duty → Type 0 where
@@ -48,12 +50,27 @@ pub data Follows (rows t used : ℕ) (place : Place) : List Duty → Type 0 wher
 
 pub record Taken (code : List Instr) (bag : List Reference) (rows t used : ℕ) (place : Place) (d : Duty) (rest : List Duty) : Type 0 where
   pub placed : PlaceFits code bag t (d ∷ rest) place
-  pub starts : Starts bag t d
+  pub starts : Starts bag rows t used d rest
   pub follows : Follows rows t used place rest
+
+-- a quiet step moves nothing, gains a reference to none, or hands one on from one of the thread's holders to another
+pub data QuietMoves (bag : List Reference) (t : ℕ) : List Move → Type 0 where
+  Stays : QuietMoves bag t []
+  GainsNone : (h : Holding) → QuietMoves bag t (gain t h none_row)
+  HandsOn : (from to : Holding) (x : ℕ) → list_any (same (reference_of t from x)) bag ≡ true → QuietMoves bag t (pass_on t from to x)
+
+-- the bag after the moves
+abbrev pub bag_after : List Reference → List Move → List Reference
+bag_after bag moves = (moved (record { references = bag; born = []; closed = [] }) moves).references
+
+pub record QuietTaken (code : List Instr) (bag : List Reference) (t : ℕ) (moves : List Move) (place : Place) : Type 0 where
+  pub moves_fit : QuietMoves bag t moves
+  pub placed : PlaceFits code (bag_after bag moves) t [] place
+  pub stays : place ≢ Departing
 
 abbrev pub IsTaken : List Instr → List Reference → ℕ → ℕ → ℕ → Begun → Type 0
 IsTaken code bag rows t used Stuck = ⊥
-IsTaken code bag rows t used (Quiet place) = PlaceFits code bag t [] place × (place ≢ Departing)
+IsTaken code bag rows t used (Quiet moves place) = QuietTaken code bag t moves place
 IsTaken code bag rows t used (Work [] place) = ⊥
 IsTaken code bag rows t used (Work (d ∷ rest) place) = Taken code bag rows t used place d rest
 
@@ -124,3 +141,23 @@ pub ended_says : (s : State) (variables : List (Option ℕ)) (k : Holding) (obje
 ended_says s variables AsCaller object none = refl
 ended_says s variables InHand object none = refl
 ended_says s variables (ByVariable v) object none = ap (λ (b : Bool). b && names (row_of variables v) object) (none_at is_owned s.slots v Empty none refl)
+
+-- a variable that owns nothing holds nothing once it is emptied either
+pub cleared_held : (bag : List Reference) (t : ℕ) (s : State) (variables : List (Option ℕ)) (to : ℕ) → to < length s.slots → is_owned (slot_of s to) ≡ false → Holds bag t (of_variables s variables)
+    → (k : Holding) (object : ℕ) → held (reference_of t k object) bag ≡ one_if (of_variables (put s to Empty) (slice_set variables to None) k object)
+cleared_held bag t s variables to in_slots free holds AsCaller object = holds.each AsCaller object
+cleared_held bag t s variables to in_slots free holds InHand object = holds.each InHand object
+cleared_held bag t s variables to in_slots free holds (ByVariable v) object =
+    elim (eqb_tells to v) [
+      | inl this ↦
+          let P : ℕ → Type 0 = λ w. held (reference_of t (ByVariable w) object) bag ≡ one_if (of_variables (put s to Empty) (slice_set variables to None) (ByVariable w) object) in
+          let before : held (reference_of t (ByVariable to) object) bag ≡ 0 = holds.each (ByVariable to) object ∙ ap (λ (b : Bool). one_if (b && names (row_of variables to) object)) free in
+          let said : by_variable (slot_of (put s to Empty) to) (row_of (slice_set variables to None) to) object ≡ 0 =
+          ap (λ (x : Slot). by_variable x (row_of (slice_set variables to None) to) object) (slot_of-put_same s to Empty in_slots) in
+          subst P this.1 (before ∙ sym said)
+      | inr other ↦
+          let apart : v ≢ to = λ e. other.1 (sym e) in
+          let said : by_variable (slot_of (put s to Empty) v) (row_of (slice_set variables to None) v) object ≡ by_variable (slot_of s v) (row_of variables v) object =
+          ap (λ (x : Slot). by_variable x (row_of (slice_set variables to None) v) object) (slot_of-put_other s to v Empty apart) ∙ ap (λ (x : Option ℕ). by_variable (slot_of s v) x object) (row_of-set_other variables to v None apart) in
+          holds.each (ByVariable v) object ∙ sym said
+    ]

@@ -6,7 +6,7 @@ use Rattle.std.proofs.lemmas.Nat.{div-mul-add}
 use Rattle.std.proofs.lemmas.Bool.{cases_lt}
 use Rattle.brc_lang.specs.declared.module.Module.{Module}
 use Rattle.brc_model.specs.Duties.{block_of}
-use Rattle.brc_model.specs.Machine.{Actor, Unborn, Live, Machine, first_row}
+use Rattle.brc_model.specs.Machine.{Actor, Unborn, Live, Machine, first_row, block_size, next_row}
 use Rattle.brc_model.proofs.Lists.{some_within}
 use Rattle.brc_model.proofs.Rule.{IsNext, UsesFit, Rule}
 use Rattle.std.proofs.lemmas.Option.{slice_get_within}
@@ -114,3 +114,10 @@ next_block m (suc t) a x next = ap (block_of m.rows) next.row ∙ block_at m.row
 
 pub next_unborn : (p : Module) (n : ℕ) (m : Machine) (t : ℕ) (a : Actor) (x : ℕ) → Rule p n m → slice_get m.actors t ≡ Some a → IsNext m t a x → m.life x ≡ Unborn
 next_unborn p n m t a x rule found next = (rule.uses t a found).unborn x (next_block m t a x next) (omega (arith, next.row))
+
+pub next_within : (p : Module) (n : ℕ) (m : Machine) (t : ℕ) (a : Actor) → Rule p n m → slice_get m.actors t ≡ Some a → a.used < block_size m.rows t → next_row m.rows t a.used < 2 + (n - 1) * m.rows
+next_within p n m zero a rule found room = absurd (omega (arith, room, (rule.uses 0 a found).main refl))
+next_within p n m (suc t) a rule found room =
+    let within : suc t < n = omega (arith, slice_get_within m.actors (suc t) a found, rule.threads) in
+    let more : suc t * m.rows ≤ (n - 1) * m.rows = mul-le-mul_right m.rows (omega (arith, within)) in
+    omega (arith, room, more)

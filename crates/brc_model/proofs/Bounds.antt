@@ -1,5 +1,5 @@
 -- The words that a duty finds at a row: a shared word has few counts more than its bias, and suits what is done with it.
-use Rattle.std.proofs.Common.{◌≡◌, ◌≢◌, ℕ, ◌+◌, ◌≤◌, Bool, true, List, refl, ap, ◌∙◌, arith}
+use Rattle.std.proofs.Common.{◌≡◌, ◌≢◌, ℕ, ◌+◌, ◌≤◌, Bool, true, List, refl, ap, ◌∙◌, arith, zero, suc}
 use Rattle.std.specs.Prelude.{◌==◌, ◌&&◌}
 use Rattle.std.proofs.lemmas.Bool.{eq-eqb}
 use Rattle.brc_lang.specs.declared.module.Module.{Module}
@@ -55,8 +55,10 @@ near_bias p n m x rule few alive =
 
 release_suits : (p : Module) (n : ℕ) (m : Machine) (t : ℕ) (a : Actor) (x : ℕ) (h : Holding) (rest : List Duty) → AtDuty p n m t a (ReleaseLoad x h) rest → (a.status ≡ Gone → ⊥)
     → is_running a.status ≡ true → owner_part (m.memory (Local x)) ≡ t + 1 → 1 ≤ local_part (m.memory (Local x))
-release_suits p n m t a x h rest here alive runs owner =
-    let living = release_alive p n m t a x h rest here in
+release_suits p n m t a zero h rest here alive runs owner = omega (arith, here.rule.none_word)
+release_suits p n m t a (suc y) h rest here alive runs owner =
+    let x = suc y in
+    let living = release_alive p n m t a x h rest (omega arith) here in
     let counts : counts_locally t (is_running a.status) (m.memory (Local x)) ≡ true =
     ap (λ (b : Bool). b && (owner_part (m.memory (Local x)) == t + 1)) runs ∙ eq-eqb (owner_part (m.memory (Local x))) (t + 1) owner in
     count_above p n m t x a here.rule here.found (counts_owner m t a x counts living) (weight_here p n m t x a (ReleaseLoad x h) rest here alive refl) living

@@ -7,7 +7,7 @@ use Rattle.brc_model.specs.declared.duty.Holding.{Holding}
 use Rattle.brc_model.specs.declared.duty.Holding.TheVariants.{ByVariable, AsCaller, InHand}
 use Rattle.brc_model.specs.Plain.{root_row, same, references_to}
 use Rattle.brc_model.specs.Machine.{caller_reference, callers_below}
-use Rattle.brc_model.proofs.Bag.{held, one_if, same-other_thread, same-other_holding, held-cons, references_to-cons}
+use Rattle.brc_model.proofs.Bag.{held, one_if, other_thread, same-other_holder, held-cons, references_to-cons, cell_reference}
 use Rattle.brc_model.proofs.Holds.{the_root, reference_of}
 
 -- by the caller, the object tells
@@ -19,12 +19,16 @@ callers_beyond zero t h object past = refl
 callers_beyond (suc n) t h object past =
     let x = reference_of t h object in
     let apart : t ≢ n = λ e. absurd (omega (arith, e)) in
-    let other : one_if (same x (caller_reference n)) ≡ 0 = ap one_if (same-other_thread x (caller_reference n) apart) in
+    let other : one_if (same x (caller_reference n)) ≡ 0 = ap one_if (same-other_holder x (caller_reference n) (other_thread t n h AsCaller apart)) in
     omega (arith, held-cons x (caller_reference n) (callers_below n), other, callers_beyond n t h object (omega arith))
 
+pub callers_off_cells : (n x i object : ℕ) → held (cell_reference x i object) (callers_below n) ≡ 0
+callers_off_cells zero x i object = refl
+callers_off_cells (suc n) x i object = omega (arith, held-cons (cell_reference x i object) (caller_reference n) (callers_below n), callers_off_cells n x i object)
+
 its_caller : (n : ℕ) (h : Holding) (object : ℕ) → one_if (same (reference_of n h object) (caller_reference n)) ≡ one_if (the_root h object)
-its_caller n (ByVariable v) object = ap one_if (same-other_holding (reference_of n (ByVariable v) object) (caller_reference n) refl)
-its_caller n InHand object = ap one_if (same-other_holding (reference_of n InHand object) (caller_reference n) refl)
+its_caller n (ByVariable v) object = ap one_if (same-other_holder (reference_of n (ByVariable v) object) (caller_reference n) (rw (eq-eqb n n refl) refl))
+its_caller n InHand object = ap one_if (same-other_holder (reference_of n InHand object) (caller_reference n) (rw (eq-eqb n n refl) refl))
 its_caller n AsCaller object = ap one_if (same-one_caller n object root_row)
 
 pub callers_hold : (n t : ℕ) (h : Holding) (object : ℕ) → t < n → held (reference_of t h object) (callers_below n) ≡ one_if (the_root h object)
@@ -36,7 +40,7 @@ callers_hold (suc n) t h object below =
           subst P (sym this.1) (omega (arith, held-cons (reference_of n h object) (caller_reference n) (callers_below n), its_caller n h object, callers_beyond n n h object (omega arith)))
       | inr apart ↦
           let x = reference_of t h object in
-          let other : one_if (same x (caller_reference n)) ≡ 0 = ap one_if (same-other_thread x (caller_reference n) apart.1) in
+          let other : one_if (same x (caller_reference n)) ≡ 0 = ap one_if (same-other_holder x (caller_reference n) (other_thread t n h AsCaller apart.1)) in
           let lower : t < n = omega (arith, below, apart.1) in
           omega (arith, held-cons x (caller_reference n) (callers_below n), other, callers_hold n t h object lower)
     ]

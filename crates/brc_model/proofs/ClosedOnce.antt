@@ -16,6 +16,7 @@ use Rattle.brc_model.proofs.ClosedAfter.{live_not_closed, dying_not_closed, amon
 use Rattle.brc_model.proofs.Leaves.{AtDuty}
 use Rattle.brc_model.proofs.Whole.{Whole}
 use Rattle.brc_model.proofs.StepCases.{ShowsSteps, at_duty, event_shows}
+use Rattle.brc_model.proofs.Quiets.{quiet_closed}
 
 -- ---- what is closed stays closed
 
@@ -33,7 +34,7 @@ closed_shown : (p : Module) (n : ℕ) → ShowsSteps (λ t m new. StaysAmong m n
 closed_shown p n = record {
   stays = λ t m whole x was. was;
   sits = λ t m new a place agenda found shown. shown;
-  moves = λ t m a place whole found x was. was;
+  moves = λ t m a moves place whole found quiet x was. ap (is_among x) (quiet_closed m.plain t moves quiet) ∙ was;
   does = λ t m a d rest doing. stays_among m t a d rest;
 }
 
@@ -69,7 +70,7 @@ closes_shown : (p : Module) (n : ℕ) → ShowsSteps (λ t m new. ClosesSo m new
 closes_shown p n = record {
   stays = λ t m whole. inl refl;
   sits = λ t m new a place agenda found shown. shown;
-  moves = λ t m a place whole found. inl refl;
+  moves = λ t m a moves place whole found quiet. inl (quiet_closed m.plain t moves quiet);
   does = λ t m a d rest doing. closes_at_duty p n m t a d rest (at_duty doing);
 }
 

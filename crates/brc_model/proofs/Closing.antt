@@ -1,5 +1,5 @@
 -- Which rows are closed and alive after a step.
-use Rattle.std.proofs.Common.{◌≡◌, ℕ, ◌<◌, Bool, true, false, cond, List, [], ◌∷◌, ◌++◌, inl, inr, Option, None, Some, refl, sym, ap, ◌∙◌, subst}
+use Rattle.std.proofs.Common.{◌≡◌, ℕ, zero, suc, ◌<◌, Bool, true, false, cond, List, [], ◌∷◌, ◌++◌, inl, inr, Option, None, Some, refl, sym, ap, ◌∙◌, subst}
 use Rattle.std.specs.Prelude.{◌==◌}
 use Rattle.std.proofs.lemmas.Bool.Decides.{eqb_tells}
 use Rattle.brc_lang.specs.declared.module.Module.{Module}
@@ -9,9 +9,9 @@ use Rattle.brc_model.specs.Plain.{Plain, Move, Born, Gain, Lose, HandOn, Finalis
 use Rattle.brc_word.specs.Words.{is_immortal_word}
 use Rattle.brc_model.specs.declared.duty.Reason.TheVariants.{Own, Handed}
 use Rattle.brc_model.specs.declared.duty.Duty.{Duty}
-use Rattle.brc_model.specs.declared.duty.Duty.TheVariants.{RetainLoad, RetainStore, RetainAdd, ReleaseLoad, ReleaseStore, DecideAtZero, SharedExchange, MergeExchange, SettleEnd, BirthLocal}
+use Rattle.brc_model.specs.declared.duty.Duty.TheVariants.{RetainLoad, RetainStore, RetainAdd, ReleaseLoad, ReleaseStore, DecideAtZero, SharedExchange, MergeExchange, SettleEnd, BirthLocal, SettleCell}
 use Rattle.brc_model.specs.Duties.{address_of}
-use Rattle.brc_model.specs.Machine.{Actor, Life, Unborn, Live, Dying, Closed, Machine, hand_on, gain, lose, moves_by, dies_next, ended_row, born_row, with_life, done_by}
+use Rattle.brc_model.specs.Machine.{Actor, Life, Unborn, Live, Dying, Closed, Machine, hand_on, gain, lose, moves_by, dies_next, ended_row, born_row, with_life, done_by, take_out}
 use Rattle.brc_model.proofs.Lists.{some_is}
 use Rattle.brc_model.proofs.Rule.{IsNext}
 use Rattle.brc_model.proofs.Blocks.{next_above, next_unborn}
@@ -52,6 +52,10 @@ hand_on_keeps t (ByVariable v) x = (tt, tt)
 hand_on_keeps t AsCaller x = (tt, tt)
 hand_on_keeps t InHand x = tt
 
+take_out_keeps : (t x i found : ℕ) → AllKeepClosed (take_out t x i found)
+take_out_keeps t x i zero = tt
+take_out_keeps t x i (suc y) = (tt, tt)
+
 -- only the end of a settling closes
 moves_keep : (t : ℕ) (d : Duty) (found : ℕ) → ended_row d ≡ None → AllKeepClosed (moves_by t d found)
 moves_keep t (RetainLoad x h) found e = either_keep (is_immortal_word found) (gain t h x) [] (tt, tt) tt
@@ -60,6 +64,7 @@ moves_keep t (RetainAdd x h) found e = (tt, tt)
 moves_keep t (ReleaseLoad x h) found e = append_keep (hand_on t h x) (cond (is_immortal_word found) (lose t x) []) (hand_on_keeps t h x) (either_keep (is_immortal_word found) (lose t x) [] (tt, tt) tt)
 moves_keep t (ReleaseStore x w) found e = (tt, tt)
 moves_keep t (SharedExchange x Own w) found e = either_keep (found == w) (lose t x) [] (tt, tt) tt
+moves_keep t (SettleCell x i n) found e = take_out_keeps t x i found
 moves_keep t (SettleEnd x) found e = absurd (let wrong : Some x ≡ None = e in cc)
 moves_keep t (BirthLocal x h) found e = (tt, tt)
 moves_keep t _ found e = tt

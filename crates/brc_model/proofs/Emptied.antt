@@ -2,7 +2,7 @@
 use Rattle.std.proofs.Common.{◌≡◌, ℕ, zero, suc, ◌+◌, ◌-◌, Bool, true, false, cond, List, [], ◌∷◌, ◌++◌, Option, None, Some, refl, sym, subst}
 use Rattle.std.specs.Prelude.{◌==◌, ◌&&◌, not, nat_lt, slice_get, slice_set, map}
 use Rattle.brc_lang.specs.declared.module.Instr.{Instr}
-use Rattle.brc_lang.specs.declared.module.Instr.TheVariants.{Newref, Drop, Ret, Fail}
+use Rattle.brc_lang.specs.declared.module.Instr.TheVariants.{Num, NoneObject, Newref, Move as MoveReference, Drop, Goto, Ret, Fail}
 use Rattle.brc_lang.specs.declared.module.Module.{Module}
 use Rattle.brc_word.specs.Words.{local_part, is_immortal_word, fresh_word, dead_word, released_word, merged_word}
 use Rattle.brc_model.specs.declared.thread.Call.{Call}
@@ -18,7 +18,7 @@ use Rattle.brc_model.specs.declared.actor.Status.{Status}
 use Rattle.brc_model.specs.declared.actor.Status.TheVariants.{Running, Leaving, Gone}
 use Rattle.brc_model.specs.declared.actor.Place.{Place}
 use Rattle.brc_model.specs.declared.actor.Place.TheVariants.{Standing, Inside, Departing}
-use Rattle.brc_model.specs.Machine.{Actor, Machine, Begun, Stuck, Quiet, Work, with_row, begun_instruction, begun, begun_by, is_running, actor_by, done_by, at_place, begins, goes_on, acts, may_claim, chosen, next_machine, machine_after, main_actor, worker_actor, first_machine}
+use Rattle.brc_model.specs.Machine.{Actor, Machine, Begun, Stuck, Quiet, Work, with_row, begun_instruction, begun, begun_by, is_running, actor_by, done_by, at_place, begins, goes_on, acts, may_claim, chosen, next_machine, machine_after, main_actor, worker_actor, first_machine, has_room}
 use Rattle.brc_model.proofs.Lists.{some_is, slice_get-map, written_actor}
 
 -- ---- agendas
@@ -152,7 +152,7 @@ duty_emptied m t a b d rest are found e =
 -- what is taken up empties a chain that is empty
 abbrev StartsEmpty : Begun → Type 0
 StartsEmpty Stuck = Unit {0}
-StartsEmpty (Quiet place) = Unit {0}
+StartsEmpty (Quiet moves place) = Unit {0}
 StartsEmpty (Work [] place) = Unit {0}
 StartsEmpty (Work (d ∷ rest) place) = empties false (d ∷ rest) ≡ true
 
@@ -160,18 +160,26 @@ row_starts : (o : Option ℕ) (work : ℕ → Begun) → ((row : ℕ) → Starts
 row_starts None work each = tt
 row_starts (Some row) work each = each row
 
-instruction_starts : (left at : ℕ) (variables : List (Option ℕ)) (i : Option Instr) → StartsEmpty (begun_instruction left at variables i)
-instruction_starts left at variables None = tt
-instruction_starts left at variables (Some (Newref to from)) = row_starts (row_of variables from) _ (λ row. refl)
-instruction_starts left at variables (Some (Drop from)) = row_starts (row_of variables from) _ (λ row. refl)
-instruction_starts left at variables (Some (Ret from)) = row_starts (row_of variables from) _ (λ row. refl)
-instruction_starts left at variables (Some Fail) = tt
+room_starts : (b : Bool) (one two : Begun) → StartsEmpty one → StartsEmpty two → StartsEmpty (cond b one two)
+room_starts true one two first second = first
+room_starts false one two first second = second
+
+instruction_starts : (rows t used left at : ℕ) (variables : List (Option ℕ)) (i : Option Instr) → StartsEmpty (begun_instruction rows t used left at variables i)
+instruction_starts rows t used left at variables None = tt
+instruction_starts rows t used left at variables (Some (Num to value otherwise)) = room_starts (has_room rows t used) _ _ refl tt
+instruction_starts rows t used left at variables (Some (NoneObject to)) = tt
+instruction_starts rows t used left at variables (Some (Newref to from)) = row_starts (row_of variables from) _ (λ row. refl)
+instruction_starts rows t used left at variables (Some (MoveReference to from)) = row_starts (row_of variables from) _ (λ row. tt)
+instruction_starts rows t used left at variables (Some (Drop from)) = row_starts (row_of variables from) _ (λ row. refl)
+instruction_starts rows t used left at variables (Some (Goto to)) = tt
+instruction_starts rows t used left at variables (Some (Ret from)) = row_starts (row_of variables from) _ (λ row. refl)
+instruction_starts rows t used left at variables (Some Fail) = tt
 
 starts_empty : (rows t used : ℕ) (code : List Instr) (place : Place) → StartsEmpty (begun rows t used code place)
 starts_empty rows t used code Departing = tt
 starts_empty rows t used code (Standing zero) = refl
-starts_empty rows t used code (Standing (suc left)) = instruction_starts left 0 entry_variables (slice_get code 0)
-starts_empty rows t used code (Inside left at variables) = instruction_starts left at variables (slice_get code at)
+starts_empty rows t used code (Standing (suc left)) = instruction_starts rows t used left 0 entry_variables (slice_get code 0)
+starts_empty rows t used code (Inside left at variables) = instruction_starts rows t used left at variables (slice_get code at)
 
 no_chain : (head : ℕ) → Empties head [] → head ≡ 0
 no_chain zero e = refl
@@ -179,7 +187,7 @@ no_chain (suc head) e = absurd cc
 
 begins_emptied : (m : Machine) (t : ℕ) (a : Actor) (b : Begun) → AreEmptied m → slice_get m.actors t ≡ Some a → a.head ≡ 0 → StartsEmpty b → AreEmptied (begins m t a b)
 begins_emptied m t a Stuck are found none starts = are
-begins_emptied m t a (Quiet place) are found none starts = sets_emptied m.actors t a (at_place a place) found (are t a found) are
+begins_emptied m t a (Quiet moves place) are found none starts = sets_emptied m.actors t a (at_place a place) found (are t a found) are
 begins_emptied m t a (Work [] place) are found none starts = are
 begins_emptied m t a (Work (d ∷ rest) place) are found none starts = duty_emptied m t a (at_place a place) d rest are found (subst (λ (head : ℕ). Empties head (d ∷ rest)) (sym none) starts)
 

@@ -15,7 +15,7 @@ use Rattle.brc_model.specs.declared.duty.Duty.{Duty}
 use Rattle.brc_model.specs.declared.duty.Duty.TheVariants.{ReleaseLoad, ReleaseStore, SharedLoad, SharedExchange}
 use Rattle.brc_model.specs.declared.actor.Place.{Place}
 use Rattle.brc_model.specs.declared.actor.Place.TheVariants.{Standing, Inside, Departing}
-use Rattle.brc_model.specs.Plain.{Reference, same, references_to}
+use Rattle.brc_model.specs.Plain.{Holder, ByThread, ByCell, Reference, same, references_to}
 use Rattle.brc_model.specs.Threads.{code_of}
 use Rattle.brc_model.specs.Machine.{Actor, Machine}
 use Rattle.brc_model.proofs.Bag.{held, one_if, same_holding-true, same-true, same-refl, held-cons, references_to-cons}
@@ -212,34 +212,38 @@ own_way m t = given_up (agenda_at (slice_get m.actors t))
 says_at : (p : Module) (n : ℕ) (m : Machine) (t : ℕ) (a : Actor) → Rule p n m → slice_get m.actors t ≡ Some a → SaysAt m.plain.references t a.agenda
 says_at p n m t a rule found = place_says (code_of (slice_get p.functions a.function)) m.plain.references t a.agenda a.place (rule.each t a found).0.placed
 
-held_twice : (p : Module) (n : ℕ) (m : Machine) (r : Reference) → Rule p n m → held r m.plain.references ≤ 2
-held_twice p n m r rule =
-    elim (slice_get_cases m.actors r.thread).1 [
+held_twice : (p : Module) (n : ℕ) (m : Machine) (h : Holder) (object : ℕ) → Rule p n m → held (record { holder = h; object = object }) m.plain.references ≤ 2
+held_twice p n m (ByCell x i) object rule = omega (arith, rule.cells_hold x i object)
+held_twice p n m (ByThread t k) object rule =
+    elim (slice_get_cases m.actors t).1 [
       | inl found ↦
           let a = found.0 in
-          let says = says_at p n m r.thread a rule found.2 in
-          omega (arith, says.holds.each r.holding r.object, one_if_low (says.what r.holding r.object), one_if_low (extra_of a.agenda r.holding r.object))
-      | inr past ↦ omega (arith, rule.beyond r.thread (omega (arith, past.0, rule.threads)) r.holding r.object)
+          let says = says_at p n m t a rule found.2 in
+          omega (arith, says.holds.each k object, one_if_low (says.what k object), one_if_low (extra_of a.agenda k object))
+      | inr past ↦ omega (arith, rule.beyond t (omega (arith, past.0, rule.threads)) k object)
     ]
 
-held_way : (p : Module) (n : ℕ) (m : Machine) (r : Reference) → Rule p n m → 0 < held r m.plain.references → list_any (same r) (ways (own_way m) r.object n) ≡ true
-held_way p n m r rule some =
-    elim (slice_get_cases m.actors r.thread).1 [
+held_way : (p : Module) (n : ℕ) (m : Machine) (h : Holder) (object : ℕ) → Rule p n m → 0 < held (record { holder = h; object = object }) m.plain.references
+    → list_any (same (record { holder = h; object = object })) (ways (own_way m) object n) ≡ true
+held_way p n m (ByCell x i) object rule some = absurd (omega (arith, rule.cells_hold x i object, some))
+held_way p n m (ByThread t k) object rule some =
+    let r = reference_of t k object in
+    elim (slice_get_cases m.actors t).1 [
       | inl found ↦
           let a = found.0 in
-          let says = says_at p n m r.thread a rule found.2 in
-          let within : r.thread < n = omega (arith, found.1, rule.threads) in
-          let at_thread : list_any (same r) (ways (own_way m) r.object (suc r.thread)) ≡ true =
-          elim (extra_of a.agenda r.holding r.object) as (λ b. extra_of a.agenda r.holding r.object ≡ b → list_any (same r) (ways (own_way m) r.object (suc r.thread)) ≡ true) [
+          let says = says_at p n m t a rule found.2 in
+          let within : t < n = omega (arith, found.1, rule.threads) in
+          let at_thread : list_any (same r) (ways (own_way m) object (suc t)) ≡ true =
+          elim (extra_of a.agenda k object) as (λ b. extra_of a.agenda k object ≡ b → list_any (same r) (ways (own_way m) object (suc t)) ≡ true) [
             | true ↦ λ e.
-                let own : own_way m r.thread ≡ given_up a.agenda = ap (λ (o : Option Actor). given_up (agenda_at o)) found.2 in
-                among_own (own_way m) r.object r.thread r.holding (extra_given_of a.agenda r.holding r.object e ∙ sym own)
+                let own : own_way m t ≡ given_up a.agenda = ap (λ (o : Option Actor). given_up (agenda_at o)) found.2 in
+                among_own (own_way m) object t k (extra_given_of a.agenda k object e ∙ sym own)
             | false ↦ λ e.
-                let said : says.what r.holding r.object ≡ true = one_if_some _ (extra_of a.agenda r.holding r.object) (omega (arith, says.holds.each r.holding r.object, some)) e in
-                among_low (own_way m) r.object r.thread r.holding (says.low r.holding r.object said)
+                let said : says.what k object ≡ true = one_if_some _ (extra_of a.agenda k object) (omega (arith, says.holds.each k object, some)) e in
+                among_low (own_way m) object t k (says.low k object said)
           ] refl in
-          among_all (own_way m) r r.object r.thread n within at_thread
-      | inr past ↦ absurd (omega (arith, rule.beyond r.thread (omega (arith, past.0, rule.threads)) r.holding r.object, some))
+          among_all (own_way m) r object t n within at_thread
+      | inr past ↦ absurd (omega (arith, rule.beyond t (omega (arith, past.0, rule.threads)) k object, some))
     ]
 
 -- ---- all references to an object
@@ -247,5 +251,5 @@ held_way p n m r rule some =
 pub references_few : (p : Module) (n : ℕ) (m : Machine) (x : ℕ) → Rule p n m → references_to x m.plain.references ≤ 38 * n
 references_few p n m x rule =
     let keys = ways (own_way m) x n in
-    let covers : Covers keys m.plain.references x = record { each = λ r is some. subst (λ (y : ℕ). list_any (same r) (ways (own_way m) y n) ≡ true) is (held_way p n m r rule some) } in
-    omega (arith, covered keys m.plain.references x covers, twice_each keys m.plain.references (λ k. held_twice p n m k rule), ways_long (own_way m) x n)
+    let covers : Covers keys m.plain.references x = record { each = λ r is some. subst (λ (y : ℕ). list_any (same r) (ways (own_way m) y n) ≡ true) is (held_way p n m r.holder r.object rule some) } in
+    omega (arith, covered keys m.plain.references x covers, twice_each keys m.plain.references (λ r. held_twice p n m r.holder r.object rule), ways_long (own_way m) x n)

@@ -19,7 +19,7 @@ use Rattle.brc_model.specs.Duties.{block_of}
 use Rattle.brc_model.specs.declared.actor.Place.TheVariants.{Standing, Departing}
 use Rattle.brc_model.proofs.Bag.{one_if}
 use Rattle.brc_model.proofs.Lists.{some_is, all_at, all_of_found, slice_get-map}
-use Rattle.brc_model.proofs.Callers.{callers_beyond, callers_hold, root_references, other_references}
+use Rattle.brc_model.proofs.Callers.{callers_beyond, callers_off_cells, callers_hold, root_references, other_references}
 use Rattle.brc_model.proofs.Grounded.{AreInstructions}
 use Rattle.brc_model.proofs.Holds.{the_root}
 use Rattle.brc_model.proofs.Rows.{waits, carries, merges, decides, agenda_weight, weight, IsDefault, AboveZero, InOwned, RowRule}
@@ -34,7 +34,7 @@ function_fits m i fits accepted within =
     let good = all_at (λ (f : Function). IsAcceptableCode f.code) m.functions i accepted within in
     let form = all_of_found IsFunction m.functions i good.found fits.functions good.is_there in
     let P : Option Function → Type 0 = λ o. IsAcceptableCode (code_of o) × AreInstructions (code_of o) in
-    subst P (sym good.is_there) (good.holds, record { each = λ at instr found. all_of_found IsInstruction good.found.code at instr form.code found })
+    subst P (sym good.is_there) (good.holds, record { forward = form.targets; each = λ at instr found. all_of_found IsInstruction good.found.code at instr form.code found })
 
 -- ---- the rows
 
@@ -198,11 +198,12 @@ first_rule m rows calls fits accepted are_calls some_rows few_rows = record {
   cells = λ x i. refl;
   uses = first_uses rows calls;
   no_block = λ x past. far_unborn rows (1 + length calls) x (omega arith) past;
+  cells_hold = λ x i object. callers_off_cells (1 + length calls) x i object;
   none_lives = refl;
   born_is = first_born_is;
   born_has = first_born_has;
   closed_is = λ x is. absurd (let wrong : false ≡ true = is in cc);
   closed_has = λ x is. absurd (life_not_closed x is);
   once = λ i j d lt within. absurd (omega arith);
-  none_free = other_references (1 + length calls) 0 (λ e. absurd (omega (arith, e)));
+  none_word = refl;
 }

@@ -101,7 +101,7 @@ gates_kept : (p : Module) (n : ℕ) → n ≤ 33 → ShowsSteps (λ t m new. ((x
 gates_kept p n few = record {
   stays = λ t m whole gates. gates;
   sits = λ t m new a place agenda found q. λ gates. q (λ x. record { is = (gates x).is; has = (gates x).has });
-  moves = λ t m a place whole found gates x. record { is = (gates x).is; has = (gates x).has };
+  moves = λ t m a moves place whole found quiet gates x. record { is = (gates x).is; has = (gates x).has };
   does = λ t m a d rest doing gates x. gate_after p n m t a d rest x (at_duty doing) few (gates x);
 }
 

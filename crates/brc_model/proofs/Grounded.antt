@@ -6,7 +6,7 @@ use Rattle.std.proofs.lemmas.Bool.{cases_lt}
 use Rattle.std.proofs.lemmas.Bool.Decides.{eqb_tells}
 use Rattle.std.proofs.lemmas.List.{get_or_past}
 use Rattle.brc_lang.specs.declared.module.Instr.{Instr}
-use Rattle.brc_lang.specs.Grammar.{IsInstruction}
+use Rattle.brc_lang.specs.Grammar.{IsInstruction, LeadsForward}
 use Rattle.brc_model.specs.declared.slot.Slot.{Slot}
 use Rattle.brc_model.specs.declared.slot.Slot.TheVariants.{Empty, Owned, Caller, Locked}
 use Rattle.brc_model.specs.declared.slot.State.{State}
@@ -38,6 +38,7 @@ pub record IsInside (code : List Instr) (at : ℕ) (variables : List (Option ℕ
   pub grounded : (v : ℕ) → IsGrounded (slot_of s v) (row_of variables v)
 
 pub record AreInstructions (code : List Instr) : Type 0 where
+  pub forward : LeadsForward code
   pub each : (at : ℕ) (i : Instr) → slice_get code at ≡ Some i → IsInstruction i
 
 -- ---- a variable is changed
@@ -120,7 +121,7 @@ pub record StandsAt (code : List Instr) (bag : List Reference) (t at : ℕ) (row
   pub holds : Holds bag t (of_variables s rows)
   pub variables : IsInstruction i
   pub met : AreMet i s
-  pub leads : (next : ℕ) → target i Success at ≡ Some next → walk code (inside.exits ++ Success ∷ []) ≡ At next (after i Success s)
+  pub leads : (exit : Exit) (next : ℕ) → target i exit at ≡ Some next → walk code (inside.exits ++ exit ∷ []) ≡ At next (after i exit s)
 
 entry_grounded : (v : ℕ) → IsGrounded (slot_of entry v) (row_of entry_variables v)
 entry_grounded zero = refl

@@ -20,6 +20,7 @@ use Rattle.brc_model.proofs.Whole.{Whole}
 use Rattle.brc_model.proofs.WholeEvents.{event_keeps}
 use Rattle.brc_model.proofs.StepCases.{ShowsSteps, at_duty, event_shows}
 use Rattle.brc_model.proofs.Blocks.{next_above}
+use Rattle.brc_model.proofs.Nones.{next_counted, none_local}
 
 -- ---- which rows are immortal
 
@@ -46,27 +47,11 @@ immortal_is_none p n m (suc x) rule is = absurd (omega (arith, counted_low p n m
 above : (y : ℕ) → 0 < y → y ≡ 0 → ⊥
 above y pos e = absurd (omega (arith, pos, e))
 
-local_apart : (m : Machine) (y v : ℕ) → 0 < y → written m.memory (Local y) v (Local 0) ≡ m.memory (Local 0)
-local_apart m y v pos = written_apart m.memory (Local y) (Local 0) v (apart_local y 0 (above y pos))
-
 shared_apart : (m : Machine) (y v : ℕ) → 0 < y → written m.memory (Shared y) v (Shared 0) ≡ m.memory (Shared 0)
 shared_apart m y v pos = written_apart m.memory (Shared y) (Shared 0) v (apart_shared y 0 (above y pos))
 
 gate_apart : (m : Machine) (y v : ℕ) → 0 < y → written m.memory (Gate y) v (Gate 0) ≡ m.memory (Gate 0)
 gate_apart m y v pos = written_apart m.memory (Gate y) (Gate 0) v (apart_gate y 0 (above y pos))
-
-next_counted : (m : Machine) (t : ℕ) (a : Actor) (y : ℕ) → IsNext m t a y → 0 < y
-next_counted m t a y next = let above = next_above m t a y next in omega (arith, above)
-
-pub none_local : (p : Module) (n : ℕ) (m : Machine) (t : ℕ) (a : Actor) (d : Duty) (rest : List Duty) → AtDuty p n m t a d rest → memory_by m t a d (Local 0) ≡ m.memory (Local 0)
-none_local p n m t a (RetainLoad y h) rest here = written_load m.memory (Local y) (Local 0)
-none_local p n m t a (ReleaseLoad y h) rest here = written_load m.memory (Local y) (Local 0)
-none_local p n m t a (RetainStore y h w) rest here = local_apart m y (w + 1) (head_of p n m t a (RetainStore y h w) rest here).0
-none_local p n m t a (ReleaseStore y w) rest here = local_apart m y (w - 1) (head_of p n m t a (ReleaseStore y w) rest here).0
-none_local p n m t a (BirthLocal y h) rest here = local_apart m y (local_word t 1) (next_counted m t a y (head_of p n m t a (BirthLocal y h) rest here).0)
-none_local p n m t a (MergeSwap y Own) rest here = local_apart m y 0 (head_of p n m t a (MergeSwap y Own) rest here).0
-none_local p n m t a (MergeSwap y Handed) rest here = local_apart m y 0 (head_of p n m t a (MergeSwap y Handed) rest here).0
-none_local p n m t a _ rest here = refl
 
 none_shared : (p : Module) (n : ℕ) (m : Machine) (t : ℕ) (a : Actor) (d : Duty) (rest : List Duty) → AtDuty p n m t a d rest → memory_by m t a d (Shared 0) ≡ m.memory (Shared 0)
 none_shared p n m t a (RetainAdd y h) rest here = shared_apart m y (m.memory (Shared y) + 4) (head_of p n m t a (RetainAdd y h) rest here).0
@@ -113,7 +98,7 @@ none_shown : (p : Module) (n : ℕ) → ShowsSteps (λ t m new. NoneStays m new)
 none_shown p n = record {
   stays = λ t m whole. record { local = refl; shared = refl; gate = refl; kind = refl; slot = refl; resource = refl };
   sits = λ t m new a place agenda found shown. record { local = shown.local; shared = shown.shared; gate = shown.gate; kind = shown.kind; slot = shown.slot; resource = shown.resource };
-  moves = λ t m a place whole found. record { local = refl; shared = refl; gate = refl; kind = refl; slot = refl; resource = refl };
+  moves = λ t m a moves place whole found quiet. record { local = refl; shared = refl; gate = refl; kind = refl; slot = refl; resource = refl };
   does = λ t m a d rest doing. record {
     local = none_local p n m t a d rest (at_duty doing);
     shared = none_shared p n m t a d rest (at_duty doing);

@@ -15,19 +15,20 @@ use Rattle.brc_model.specs.declared.duty.Duty.{Duty}
 use Rattle.brc_model.specs.declared.duty.Duty.TheVariants.{RetainLoad, RetainStore, RetainAdd, ReleaseLoad, ReleaseStore, SharedExchange, SettleCell, SettleEnd, BirthLocal}
 use Rattle.brc_model.specs.declared.address.Address.TheVariants.{Cell, Mark}
 use Rattle.brc_model.specs.declared.actor.Status.TheVariants.{Gone}
-use Rattle.brc_model.specs.Machine.{Actor, Machine, hand_on, gain, lose, moves_by, actor_by, done_by, same_address}
+use Rattle.brc_model.specs.Machine.{Actor, Machine, hand_on, gain, lose, take_out, moves_by, actor_by, done_by, same_address}
 use Rattle.brc_model.proofs.Lists.{some_is, slice_get-set_same, slice_get-set_other}
 use Rattle.brc_model.proofs.Bag.{one_if, same-true, references_to-cons}
 use Rattle.brc_model.proofs.Rule.{HeadFits, HandedOnce, AgendaFits, ActorFits, IsWatched, Rule}
 use Rattle.brc_model.proofs.Others.{others_fit}
-use Rattle.brc_model.proofs.MovesApart.{moves_apart}
+use Rattle.brc_model.proofs.MovesApart.{moves_apart, moves_off_cells}
 use Rattle.brc_model.proofs.Leaves.{AtDuty, head_of}
-use Rattle.brc_model.proofs.Lives.{leaves_others}
+use Rattle.brc_model.proofs.Lives.{cell_found, leaves_others}
 use Rattle.brc_model.proofs.Neutral.{OwnFits, found_by, memory_by}
 use Rattle.brc_model.proofs.RowsAfter.{rows_after}
 use Rattle.brc_model.proofs.ClosedAfter.{closed_is_after, closed_has_after, closed_once_after, none_lives_after, dying_after}
 use Rattle.brc_model.proofs.Blocks.{next_above}
 use Rattle.brc_model.proofs.UsesAfter.{uses_after, no_block_after, born_is_after, born_has_after}
+use Rattle.brc_model.proofs.Nones.{none_local}
 
 -- ---- cells stay empty
 
@@ -38,67 +39,6 @@ zero_written false v e = e
 cells_left : (m : Machine) (t : ℕ) (a : Actor) (d : Duty) (x i : ℕ) → m.memory (Cell x i) ≡ 0 → memory_by m t a d (Cell x i) ≡ 0
 cells_left m t a (SettleCell y j k) x i empty = zero_written (same_address (Cell y j) (Cell x i)) (m.memory (Cell x i)) empty
 cells_left m t a _ x i empty = empty
-
--- ---- none stays unreferenced
-
--- the moves are of counted rows
-abbrev IsCounted : Move → Type 0
-IsCounted (Born r) = 0 < r.object
-IsCounted (Gain r) = 0 < r.object
-IsCounted (Lose r) = 0 < r.object
-IsCounted (HandOn r h) = 0 < r.object
-IsCounted (Finalise x) = Unit {0}
-
-abbrev AreCounted : List Move → Type 0
-AreCounted [] = Unit {0}
-AreCounted (mv ∷ mvs) = IsCounted mv × AreCounted mvs
-
-not_none : (r : Reference) → 0 < r.object → one_if (r.object == 0) ≡ 0
-not_none r pos = ap one_if (ne_eqb r.object 0 (λ e. absurd (omega (arith, pos, e))))
-
-none_more : (r : Reference) (bag : List Reference) → 0 < r.object → references_to 0 (r ∷ bag) ≡ references_to 0 bag
-none_more r bag pos = omega (arith, references_to-cons 0 r bag, not_none r pos)
-
-none_less : (r : Reference) (bag : List Reference) → 0 < r.object → references_to 0 (without r bag) ≡ references_to 0 bag
-none_less r [] pos = refl
-none_less r (q ∷ qs) pos =
-    elim (same r q) as (λ b. same r q ≡ b → references_to 0 (cond b qs (q ∷ without r qs)) ≡ references_to 0 (q ∷ qs)) [
-      | true ↦ λ e. let this : 0 < q.object = subst (λ (x : Reference). 0 < x.object) (same-true r q e) pos in sym (none_more q qs this)
-      | false ↦ λ e. omega (arith, references_to-cons 0 q qs, references_to-cons 0 q (without r qs), none_less r qs pos)
-    ] refl
-
-none_moved : (p : Plain) (mvs : List Move) → AreCounted mvs → references_to 0 (moved p mvs).references ≡ references_to 0 p.references
-none_moved p [] counted = refl
-none_moved p (Born r ∷ mvs) counted = none_moved (move p (Born r)) mvs counted.1 ∙ none_more r p.references counted.0
-none_moved p (Gain r ∷ mvs) counted = none_moved (move p (Gain r)) mvs counted.1 ∙ none_more r p.references counted.0
-none_moved p (Lose r ∷ mvs) counted = none_moved (move p (Lose r)) mvs counted.1 ∙ none_less r p.references counted.0
-none_moved p (HandOn r h ∷ mvs) counted =
-    none_moved (move p (HandOn r h)) mvs counted.1 ∙ none_more (record { thread = r.thread; holding = h; object = r.object }) (without r p.references) counted.0 ∙ none_less r p.references counted.0
-none_moved p (Finalise x ∷ mvs) counted = none_moved (move p (Finalise x)) mvs counted.1
-
-if_counted : (b : Bool) (mvs : List Move) → AreCounted mvs → AreCounted (cond b mvs [])
-if_counted true mvs c = c
-if_counted false mvs c = tt
-
-append_counted : (mvs others : List Move) → AreCounted mvs → AreCounted others → AreCounted (mvs ++ others)
-append_counted [] others c e = e
-append_counted (mv ∷ mvs) others c e = (c.0, append_counted mvs others c.1 e)
-
-hand_on_counted : (t : ℕ) (h : Holding) (x : ℕ) → 0 < x → AreCounted (hand_on t h x)
-hand_on_counted t (ByVariable v) x pos = (pos, tt)
-hand_on_counted t AsCaller x pos = (pos, tt)
-hand_on_counted t InHand x pos = tt
-
-moves_counted : (m : Machine) (t : ℕ) (a : Actor) (d : Duty) (rest : List Duty) (found : ℕ) → HeadFits m t a d rest → AreCounted (moves_by t d found)
-moves_counted m t a (RetainLoad x h) rest found fits = if_counted (is_immortal_word found) (gain t h x) (fits.0, tt)
-moves_counted m t a (RetainStore x h w) rest found fits = (fits.0, tt)
-moves_counted m t a (RetainAdd x h) rest found fits = (fits.0, tt)
-moves_counted m t a (ReleaseLoad x h) rest found fits = append_counted (hand_on t h x) (cond (is_immortal_word found) (lose t x) []) (hand_on_counted t h x fits) (if_counted (is_immortal_word found) (lose t x) (fits, tt))
-moves_counted m t a (ReleaseStore x w) rest found fits = (fits.0, tt)
-moves_counted m t a (SharedExchange x Own w) rest found fits = if_counted (found == w) (lose t x) (fits, tt)
-moves_counted m t a (SettleEnd x) rest found fits = (tt, tt)
-moves_counted m t a (BirthLocal x h) rest found fits = (let above = next_above m t a x fits.0 in omega (arith, above), tt)
-moves_counted m t a _ rest found fits = tt
 
 -- ---- all threads
 
@@ -143,9 +83,10 @@ keeps_by p n m t a d rest here alive own marks =
       no_block = λ x past. no_block_after p n m t a d rest here x past;
       born_is = λ x is. born_is_after p n m t a d rest here x is;
       born_has = λ x above is. born_has_after p n m t a d rest here x above is;
+      cells_hold = λ x i object. moves_off_cells m.plain x i object t d (found_by m t a d) (cell_found p n m t a d here.rule) ∙ here.rule.cells_hold x i object;
       none_lives = none_lives_after p n m t a d rest here;
       closed_is = λ x is. closed_is_after p n m t a d rest x here is;
       closed_has = λ x is. closed_has_after p n m t a d rest x here is;
       once = closed_once_after p n m t a d rest here;
-      none_free = none_moved m.plain (moves_by t d (found_by m t a d)) (moves_counted m t a d rest (found_by m t a d) (head_of p n m t a d rest here)) ∙ here.rule.none_free;
+      none_word = none_local p n m t a d rest here ∙ here.rule.none_word;
     }

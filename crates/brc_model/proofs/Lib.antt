@@ -6,6 +6,8 @@ pub mod Grounded
 pub mod Blocks
 pub mod RowsAfterBirths
 pub mod OwnBirths
+pub mod Nones
+pub mod Quiets
 pub mod UsesAfter
 pub mod Callers
 pub mod Worked

@@ -1,15 +1,15 @@
--- The moves of a thread's step change no other thread's references.
-use Rattle.std.proofs.Common.{◌≡◌, ◌≢◌, ℕ, Bool, true, false, cond, List, [], ◌∷◌, ◌++◌, refl, sym, ap, ◌∙◌, arith}
+-- The moves of a thread's step leave the references of who has no part in them: of other threads, and of cells that it doesn't find full.
+use Rattle.std.proofs.Common.{◌≡◌, ◌≢◌, ℕ, zero, suc, Bool, true, false, cond, List, [], ◌∷◌, ◌++◌, ◌⊎◌, inl, inr, refl, sym, ap, ◌∙◌, arith}
 use Rattle.std.specs.Prelude.{◌==◌}
 use Rattle.brc_model.specs.declared.duty.Holding.{Holding}
 use Rattle.brc_model.specs.declared.duty.Holding.TheVariants.{ByVariable, AsCaller, InHand}
-use Rattle.brc_model.specs.Plain.{Reference, Plain, same, without, Move, Born, Gain, Lose, HandOn, Finalise, move, moved}
+use Rattle.brc_model.specs.Plain.{Reference, Plain, same, without, Move, Born, Gain, Lose, HandOn, Finalise, move, moved, Holder, ByThread, ByCell, same_holder}
 use Rattle.brc_word.specs.Words.{is_immortal_word}
 use Rattle.brc_model.specs.declared.duty.Reason.TheVariants.{Own}
 use Rattle.brc_model.specs.declared.duty.Duty.{Duty}
-use Rattle.brc_model.specs.declared.duty.Duty.TheVariants.{RetainLoad, RetainStore, RetainAdd, ReleaseLoad, ReleaseStore, SharedExchange, SettleEnd, BirthLocal}
-use Rattle.brc_model.specs.Machine.{hand_on, gain, lose, moves_by}
-use Rattle.brc_model.proofs.Bag.{held, one_if, same-true, same-other_thread, held-cons}
+use Rattle.brc_model.specs.declared.duty.Duty.TheVariants.{RetainLoad, RetainStore, RetainAdd, ReleaseLoad, ReleaseStore, SharedExchange, SettleEnd, BirthLocal, SettleCell}
+use Rattle.brc_model.specs.Machine.{hand_on, gain, lose, moves_by, take_out}
+use Rattle.brc_model.proofs.Bag.{held, one_if, same-true, held-cons, same-other_holder, other_thread, cell_reference}
 use Rattle.brc_model.proofs.Holds.{reference_of}
 
 -- what another reference's loss leaves
@@ -26,57 +26,73 @@ held-without_apart x r (q ∷ qs) apart =
 held-cons_apart : (x r : Reference) (bag : List Reference) → same x r ≡ false → held x (r ∷ bag) ≡ held x bag
 held-cons_apart x r bag apart = let none : one_if (same x r) ≡ 0 = ap one_if apart in omega (arith, held-cons x r bag, none)
 
--- the holders of the move are of the thread
-abbrev IsOf : ℕ → Move → Type 0
-IsOf t (Born r) = r.thread ≡ t
-IsOf t (Gain r) = r.thread ≡ t
-IsOf t (Lose r) = r.thread ≡ t
-IsOf t (HandOn r h) = r.thread ≡ t
-IsOf t (Finalise x) = Unit {0}
+-- the holder has no part in the move
+abbrev pub IsAside : Holder → Move → Type 0
+IsAside h (Born r) = same_holder h r.holder ≡ false
+IsAside h (Gain r) = same_holder h r.holder ≡ false
+IsAside h (Lose r) = same_holder h r.holder ≡ false
+IsAside h (HandOn r k) = (same_holder h r.holder ≡ false) × (same_holder h k ≡ false)
+IsAside h (Finalise x) = Unit {0}
 
-abbrev AreOf : ℕ → List Move → Type 0
-AreOf t [] = Unit {0}
-AreOf t (mv ∷ mvs) = IsOf t mv × AreOf t mvs
+abbrev pub AreAside : Holder → List Move → Type 0
+AreAside h [] = Unit {0}
+AreAside h (mv ∷ mvs) = IsAside h mv × AreAside h mvs
 
-apart_thread : (u t : ℕ) (k : Holding) (object : ℕ) (r : Reference) → u ≢ t → r.thread ≡ t → same (reference_of u k object) r ≡ false
-apart_thread u t k object r ne of = same-other_thread (reference_of u k object) r (λ e. ne (e ∙ of))
+move_aside : (p : Plain) (x : Reference) (mv : Move) → IsAside x.holder mv → held x (move p mv).references ≡ held x p.references
+move_aside p x (Born r) aside = held-cons_apart x r p.references (same-other_holder x r aside)
+move_aside p x (Gain r) aside = held-cons_apart x r p.references (same-other_holder x r aside)
+move_aside p x (Lose r) aside = held-without_apart x r p.references (same-other_holder x r aside)
+move_aside p x (HandOn r h) aside =
+    let q : Reference = record { holder = h; object = r.object } in
+    held-cons_apart x q (without r p.references) (same-other_holder x q aside.1) ∙ held-without_apart x r p.references (same-other_holder x r aside.0)
+move_aside p x (Finalise y) aside = refl
 
-move_apart : (p : Plain) (u t : ℕ) (k : Holding) (object : ℕ) (mv : Move) → u ≢ t → IsOf t mv → held (reference_of u k object) (move p mv).references ≡ held (reference_of u k object) p.references
-move_apart p u t k object (Born r) ne of = held-cons_apart (reference_of u k object) r p.references (apart_thread u t k object r ne of)
-move_apart p u t k object (Gain r) ne of = held-cons_apart (reference_of u k object) r p.references (apart_thread u t k object r ne of)
-move_apart p u t k object (Lose r) ne of = held-without_apart (reference_of u k object) r p.references (apart_thread u t k object r ne of)
-move_apart p u t k object (HandOn r h) ne of =
-    held-cons_apart (reference_of u k object) (record { thread = r.thread; holding = h; object = r.object }) (without r p.references) (apart_thread u t k object (record { thread = r.thread; holding = h; object = r.object }) ne of)
-    ∙ held-without_apart (reference_of u k object) r p.references (apart_thread u t k object r ne of)
-move_apart p u t k object (Finalise x) ne of = refl
+pub moved_aside : (p : Plain) (x : Reference) (mvs : List Move) → AreAside x.holder mvs → held x (moved p mvs).references ≡ held x p.references
+moved_aside p x [] aside = refl
+moved_aside p x (mv ∷ mvs) aside = moved_aside (move p mv) x mvs aside.1 ∙ move_aside p x mv aside.0
 
-moved_apart : (p : Plain) (u t : ℕ) (k : Holding) (object : ℕ) (mvs : List Move) → u ≢ t → AreOf t mvs → held (reference_of u k object) (moved p mvs).references ≡ held (reference_of u k object) p.references
-moved_apart p u t k object [] ne of = refl
-moved_apart p u t k object (mv ∷ mvs) ne of = moved_apart (move p mv) u t k object mvs ne of.1 ∙ move_apart p u t k object mv ne of.0
+either_aside : (h : Holder) (b : Bool) (mvs others : List Move) → AreAside h mvs → AreAside h others → AreAside h (cond b mvs others)
+either_aside h true mvs others f g = f
+either_aside h false mvs others f g = g
 
-either_of : (t : ℕ) (b : Bool) (mvs others : List Move) → AreOf t mvs → AreOf t others → AreOf t (cond b mvs others)
-either_of t true mvs others a b = a
-either_of t false mvs others a b = b
+append_aside : (h : Holder) (mvs others : List Move) → AreAside h mvs → AreAside h others → AreAside h (mvs ++ others)
+append_aside h [] others f g = g
+append_aside h (mv ∷ mvs) others f g = (f.0, append_aside h mvs others f.1 g)
 
-append_of : (t : ℕ) (mvs others : List Move) → AreOf t mvs → AreOf t others → AreOf t (mvs ++ others)
-append_of t [] others a b = b
-append_of t (mv ∷ mvs) others a b = (a.0, append_of t mvs others a.1 b)
+-- a holder that is none of the thread's
+abbrev pub IsNoWayOf : ℕ → Holder → Type 0
+IsNoWayOf t h = (k : Holding) → same_holder h (ByThread t k) ≡ false
 
-hand_on_of : (t : ℕ) (h : Holding) (x : ℕ) → AreOf t (hand_on t h x)
-hand_on_of t (ByVariable v) x = (refl, tt)
-hand_on_of t AsCaller x = (refl, tt)
-hand_on_of t InHand x = tt
+hand_on_aside : (h : Holder) (t : ℕ) (k : Holding) (x : ℕ) → IsNoWayOf t h → AreAside h (hand_on t k x)
+hand_on_aside h t (ByVariable v) x other = ((other (ByVariable v), other InHand), tt)
+hand_on_aside h t AsCaller x other = ((other AsCaller, other InHand), tt)
+hand_on_aside h t InHand x other = tt
 
-moves_of_thread : (t : ℕ) (d : Duty) (found : ℕ) → AreOf t (moves_by t d found)
-moves_of_thread t (RetainLoad x h) found = either_of t (is_immortal_word found) (gain t h x) [] (refl, tt) tt
-moves_of_thread t (RetainStore x h w) found = (refl, tt)
-moves_of_thread t (RetainAdd x h) found = (refl, tt)
-moves_of_thread t (ReleaseLoad x h) found = append_of t (hand_on t h x) (cond (is_immortal_word found) (lose t x) []) (hand_on_of t h x) (either_of t (is_immortal_word found) (lose t x) [] (refl, tt) tt)
-moves_of_thread t (ReleaseStore x w) found = (refl, tt)
-moves_of_thread t (SharedExchange x Own w) found = either_of t (found == w) (lose t x) [] (refl, tt) tt
-moves_of_thread t (SettleEnd x) found = (tt, tt)
-moves_of_thread t (BirthLocal x h) found = (refl, tt)
-moves_of_thread t _ found = tt
+take_out_aside : (h : Holder) (t x i found : ℕ) → IsNoWayOf t h → (found ≡ 0) ⊎ (same_holder h (ByCell x i) ≡ false) → AreAside h (take_out t x i found)
+take_out_aside h t x i zero other cell = tt
+take_out_aside h t x i (suc y) other (inl none) = absurd (omega (arith, none))
+take_out_aside h t x i (suc y) other (inr apart) = ((apart, other InHand), tt)
+
+-- who is no way of the thread's, and no cell that its duty finds full, has no part in the step
+pub moves_aside : (h : Holder) (t : ℕ) (d : Duty) (found : ℕ) → IsNoWayOf t h → ((x i n : ℕ) → d ≡ SettleCell x i n → (found ≡ 0) ⊎ (same_holder h (ByCell x i) ≡ false)) → AreAside h (moves_by t d found)
+moves_aside h t (RetainLoad x k) found other cell = either_aside h (is_immortal_word found) (gain t k x) [] (other k, tt) tt
+moves_aside h t (RetainStore x k w) found other cell = (other k, tt)
+moves_aside h t (RetainAdd x k) found other cell = (other k, tt)
+moves_aside h t (ReleaseLoad x k) found other cell =
+    append_aside h (hand_on t k x) (cond (is_immortal_word found) (lose t x) []) (hand_on_aside h t k x other) (either_aside h (is_immortal_word found) (lose t x) [] (other InHand, tt) tt)
+moves_aside h t (ReleaseStore x w) found other cell = (other InHand, tt)
+moves_aside h t (SharedExchange x Own w) found other cell = either_aside h (found == w) (lose t x) [] (other InHand, tt) tt
+moves_aside h t (SettleCell x i n) found other cell = take_out_aside h t x i found other (cell x i n refl)
+moves_aside h t (SettleEnd x) found other cell = (tt, tt)
+moves_aside h t (BirthLocal x k) found other cell = (other k, tt)
+moves_aside h t _ found other cell = tt
 
 pub moves_apart : (p : Plain) (u t : ℕ) (k : Holding) (object : ℕ) (d : Duty) (found : ℕ) → u ≢ t → held (reference_of u k object) (moved p (moves_by t d found)).references ≡ held (reference_of u k object) p.references
-moves_apart p u t k object d found ne = moved_apart p u t k object (moves_by t d found) ne (moves_of_thread t d found)
+moves_apart p u t k object d found ne =
+    moved_aside p (reference_of u k object) (moves_by t d found) (moves_aside (ByThread u k) t d found (λ h. other_thread u t k h ne) (λ x i n is. inr refl))
+
+-- a cell's references stay, where the thread's duty finds no cell full
+pub moves_off_cells : (p : Plain) (x i object t : ℕ) (d : Duty) (found : ℕ) → ((y j n : ℕ) → d ≡ SettleCell y j n → found ≡ 0)
+    → held (cell_reference x i object) (moved p (moves_by t d found)).references ≡ held (cell_reference x i object) p.references
+moves_off_cells p x i object t d found empty =
+    moved_aside p (cell_reference x i object) (moves_by t d found) (moves_aside (ByCell x i) t d found (λ h. refl) (λ y j n is. inl (empty y j n is)))

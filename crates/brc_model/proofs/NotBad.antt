@@ -1,5 +1,5 @@
 -- A thread's first duty touches no freed row, and makes moves that are allowed.
-use Rattle.std.proofs.Common.{◌≡◌, ℕ, ◌-◌, ◌<◌, Bool, true, false, cond, not, List, [], ◌∷◌, ◌++◌, refl, sym, ap, ◌∙◌, subst, arith}
+use Rattle.std.proofs.Common.{◌≡◌, ℕ, ◌-◌, ◌<◌, Bool, true, false, cond, not, List, [], ◌∷◌, ◌++◌, refl, sym, ap, ◌∙◌, subst, arith, zero, suc}
 use Rattle.std.specs.Prelude.{◌==◌, ◌&&◌, ◌||◌, count_by, slice_get, Some}
 use Rattle.std.specs.List.{list_any}
 use Rattle.std.proofs.lemmas.Bool.{eq-eqb, ne_eqb, lt-ltb}
@@ -8,7 +8,7 @@ use Rattle.brc_lang.specs.declared.module.Instr.{Instr}
 use Rattle.brc_lang.specs.declared.module.Module.{Module}
 use Rattle.brc_model.specs.declared.duty.Holding.{Holding}
 use Rattle.brc_model.specs.declared.duty.Holding.TheVariants.{ByVariable, AsCaller, InHand}
-use Rattle.brc_model.specs.Plain.{none_row, is_counted, is_among, Reference, Plain, same_holding, same, references_to, Move, Gain, Lose, HandOn, Finalise, is_allowed, are_allowed, Born}
+use Rattle.brc_model.specs.Plain.{none_row, is_counted, is_among, Reference, Plain, same_holding, same, references_to, Move, Gain, Lose, HandOn, Finalise, is_allowed, are_allowed, Born, ByThread, holds_by_cells, move, without}
 use Rattle.brc_word.specs.Words.{local_part, is_immortal_word}
 use Rattle.brc_model.specs.declared.duty.Reason.TheVariants.{Own, Handed}
 use Rattle.brc_model.specs.declared.duty.Duty.{Duty}
@@ -17,9 +17,9 @@ use Rattle.brc_model.specs.declared.address.Address.TheVariants.{Local}
 use Rattle.brc_model.specs.Duties.{address_of}
 use Rattle.brc_model.specs.declared.actor.Place.{Place}
 use Rattle.brc_model.specs.declared.actor.Place.TheVariants.{Standing, Inside, Departing}
-use Rattle.brc_model.specs.Machine.{Actor, Unborn, Live, Dying, Closed, Machine, hand_on, gain, lose, moves_by, birth}
+use Rattle.brc_model.specs.Machine.{Actor, Unborn, Live, Dying, Closed, Machine, hand_on, gain, lose, moves_by, birth, take_out}
 use Rattle.brc_model.specs.Events.{touched_row, is_freed_for, touches_freed, is_bad_duty}
-use Rattle.brc_model.proofs.Bag.{held, one_if, same_holding-refl, held_has, held-le-references_to}
+use Rattle.brc_model.proofs.Bag.{held, one_if, same_holding-refl, held_has, held-le-references_to, no_cell_holds, same-refl}
 use Rattle.brc_model.proofs.Holds.{nothing, the_root, of_variables, reference_of}
 use Rattle.brc_model.proofs.Rows.{waits, decides, merges, InOwned, InSwapped, InMerged}
 use Rattle.brc_model.proofs.Rule.{extra_of, lacks_of, HoldsAt, PlaceFits, IsBacked, Linked, dies_by, Rule, IsNext}
@@ -28,6 +28,7 @@ use Rattle.brc_model.proofs.Alive.{Alive, first_weighs, alive_referenced, alive_
 use Rattle.brc_model.proofs.Others.{is_dying}
 use Rattle.brc_model.proofs.Leaves.{AtDuty, head_of, exchange_alive, decide_alive, merge_alive, claim_alive}
 use Rattle.brc_model.proofs.Blocks.{next_above, next_unborn}
+use Rattle.brc_model.proofs.Nones.{none_immortal}
 
 -- ---- what is given up is held
 
@@ -92,10 +93,12 @@ next_free : (p : Module) (n : ℕ) (m : Machine) (t : ℕ) (a : Actor) (x : ℕ)
 next_free p n m t a x rule found next = ap (is_freed_for t) (next_unborn p n m t a x rule found next)
 
 touches_none : (p : Module) (n : ℕ) (m : Machine) (t : ℕ) (a : Actor) (d : Duty) (rest : List Duty) → AtDuty p n m t a d rest → touches_freed m t (touched_row (address_of m.rows t a.head d)) ≡ false
-touches_none p n m t a (RetainLoad x h) rest here = let fits = head_of p n m t a (RetainLoad x h) rest here in alive_free m t x (alive_backed p n m t x here.rule fits.0 fits.1)
+touches_none p n m t a (RetainLoad zero h) rest here = ap (is_freed_for t) here.rule.none_lives
+touches_none p n m t a (RetainLoad (suc x) h) rest here = alive_free m t (suc x) (alive_backed p n m t (suc x) here.rule (omega arith) (head_of p n m t a (RetainLoad (suc x) h) rest here))
 touches_none p n m t a (RetainStore x h w) rest here = let fits = head_of p n m t a (RetainStore x h w) rest here in alive_free m t x (alive_backed p n m t x here.rule fits.0 fits.1)
 touches_none p n m t a (RetainAdd x h) rest here = let fits = head_of p n m t a (RetainAdd x h) rest here in alive_free m t x (alive_backed p n m t x here.rule fits.0 fits.1)
-touches_none p n m t a (ReleaseLoad x h) rest here = alive_free m t x (given_alive p n m t a (ReleaseLoad x h) rest h x here (head_of p n m t a (ReleaseLoad x h) rest here) (holder_same h x) refl)
+touches_none p n m t a (ReleaseLoad zero h) rest here = ap (is_freed_for t) here.rule.none_lives
+touches_none p n m t a (ReleaseLoad (suc x) h) rest here = alive_free m t (suc x) (given_alive p n m t a (ReleaseLoad (suc x) h) rest h (suc x) here (omega arith) (holder_same h (suc x)) refl)
 touches_none p n m t a (ReleaseStore x w) rest here = alive_free m t x (given_alive p n m t a (ReleaseStore x w) rest InHand x here (head_of p n m t a (ReleaseStore x w) rest here).0 (holder_same InHand x) refl)
 touches_none p n m t a (DecideAtZero x) rest here = alive_free m t x (decide_alive p n m t a x rest here)
 touches_none p n m t a (SharedLoad x Own) rest here = alive_free m t x (given_alive p n m t a (SharedLoad x Own) rest InHand x here (head_of p n m t a (SharedLoad x Own) rest here) (holder_same InHand x) refl)
@@ -151,9 +154,21 @@ mortal_row m x alive = ne_eqb (local_part (m.memory (Local x))) 4294967295 (elim
 
 -- the holder's reference is handed on, and the object isn't immortal
 hand_on_allowed : (p : Plain) (t x : ℕ) (h : Holding) → list_any (same (reference_of t h x)) p.references ≡ true → are_allowed p (hand_on t h x ++ []) ≡ true
-hand_on_allowed p t x (ByVariable v) has = one_allowed p (HandOn (reference_of t (ByVariable v) x) InHand) has
-hand_on_allowed p t x AsCaller has = one_allowed p (HandOn (reference_of t AsCaller x) InHand) has
+hand_on_allowed p t x (ByVariable v) has = one_allowed p (HandOn (reference_of t (ByVariable v) x) (ByThread t InHand)) has
+hand_on_allowed p t x AsCaller has = one_allowed p (HandOn (reference_of t AsCaller x) (ByThread t InHand)) has
 hand_on_allowed p t x InHand has = refl
+
+-- and lost from the hand at once, where the object isn't counted
+both_allowed : (p : Plain) (t x : ℕ) (h : Holding) → list_any (same (reference_of t h x)) p.references ≡ true → are_allowed p (HandOn (reference_of t h x) (ByThread t InHand) ∷ lose t x) ≡ true
+both_allowed p t x h has =
+    let r = reference_of t InHand x in
+    ap (λ (b : Bool). b && are_allowed (move p (HandOn (reference_of t h x) (ByThread t InHand))) (lose t x)) has
+    ∙ one_allowed (move p (HandOn (reference_of t h x) (ByThread t InHand))) (Lose r) (ap (λ (b : Bool). b || list_any (same r) (without (reference_of t h x) p.references)) (same-refl r))
+
+let_go_allowed : (p : Plain) (t x : ℕ) (h : Holding) → list_any (same (reference_of t h x)) p.references ≡ true → are_allowed p (hand_on t h x ++ lose t x) ≡ true
+let_go_allowed p t x (ByVariable v) has = both_allowed p t x (ByVariable v) has
+let_go_allowed p t x AsCaller has = both_allowed p t x AsCaller has
+let_go_allowed p t x InHand has = one_allowed p (Lose (reference_of t InHand x)) has
 
 dying_is_not_live : (m : Machine) (t x : ℕ) → m.life x ≡ Dying t → (m.life x ≡ Live → ⊥)
 dying_is_not_live m t x dying e = let wrong : Dying t ≡ Live = sym dying ∙ e in cc
@@ -161,7 +176,7 @@ dying_is_not_live m t x dying e = let wrong : Dying t ≡ Live = sym dying ∙ e
 dying_is_not_unborn : (m : Machine) (t x : ℕ) → m.life x ≡ Dying t → (m.life x ≡ Unborn → ⊥)
 dying_is_not_unborn m t x dying e = let wrong : Dying t ≡ Unborn = sym dying ∙ e in cc
 
--- a dying row has no reference, and wasn't closed
+-- a dying row has no reference, its cells hold none, and it wasn't closed
 finalise_allowed : (p : Module) (n : ℕ) (m : Machine) (t x : ℕ) → Rule p n m → 0 < x → m.life x ≡ Dying t → are_allowed m.plain (Finalise x ∷ []) ≡ true
 finalise_allowed p n m t x rule pos dying =
     let free = is_free_of p n m x rule pos (dying_is_not_live m t x dying) (dying_is_not_unborn m t x dying) in
@@ -171,8 +186,8 @@ finalise_allowed p n m t x rule pos dying =
       | true ↦ λ e. absurd (let wrong : Dying t ≡ Closed = sym dying ∙ rule.closed_is x e in cc)
       | false ↦ λ e. refl
     ] refl in
-    one_allowed m.plain (Finalise x) (ap (λ (b : Bool). b && (references_to x m.plain.references == 0) && not (is_among x m.plain.closed)) counted
-    ∙ ap (λ (b : Bool). b && not (is_among x m.plain.closed)) none ∙ ap not open_still)
+    let empty : holds_by_cells x m.plain.references ≡ false = no_cell_holds x m.plain.references (rule.cells_hold x) in
+    one_allowed m.plain (Finalise x) (rw (counted, none, open_still, empty) refl)
 
 -- what is born now wasn't born before
 birth_allowed : (p : Module) (n : ℕ) (m : Machine) (t : ℕ) (a : Actor) (x : ℕ) (h : Holding) → Rule p n m → slice_get m.actors t ≡ Some a → IsNext m t a x → are_allowed m.plain (birth t h x) ≡ true
@@ -187,16 +202,20 @@ birth_allowed p n m t a x h rule found next =
 
 moves_allowed : (p : Module) (n : ℕ) (m : Machine) (t : ℕ) (a : Actor) (d : Duty) (rest : List Duty) → AtDuty p n m t a d rest → are_allowed m.plain (moves_by t d (m.memory (address_of m.rows t a.head d))) ≡ true
 moves_allowed p n m t a (RetainLoad x h) rest here =
-    if_allowed m.plain (is_immortal_word (m.memory (Local x))) (gain t h x) (λ e. backed_gain m t x h (head_of p n m t a (RetainLoad x h) rest here).1)
+    if_allowed m.plain (is_immortal_word (m.memory (Local x))) (gain t h x) (λ e. backed_gain m t x h (head_of p n m t a (RetainLoad x h) rest here))
 moves_allowed p n m t a (RetainStore x h w) rest here = backed_gain m t x h (head_of p n m t a (RetainStore x h w) rest here).1
 moves_allowed p n m t a (RetainAdd x h) rest here = backed_gain m t x h (head_of p n m t a (RetainAdd x h) rest here).1
-moves_allowed p n m t a (ReleaseLoad x h) rest here =
-    let alive = given_alive p n m t a (ReleaseLoad x h) rest h x here (head_of p n m t a (ReleaseLoad x h) rest here) (holder_same h x) refl in
-    ap (λ (b : Bool). are_allowed m.plain (hand_on t h x ++ cond b (lose t x) [])) (mortal_row m x alive)
-    ∙ hand_on_allowed m.plain t x h (given_in_bag p n m t a (ReleaseLoad x h) rest h x here (holder_same h x) refl)
+moves_allowed p n m t a (ReleaseLoad zero h) rest here =
+    ap (λ (b : Bool). are_allowed m.plain (hand_on t h 0 ++ cond b (lose t 0) [])) (none_immortal p n m here.rule)
+    ∙ let_go_allowed m.plain t 0 h (given_in_bag p n m t a (ReleaseLoad 0 h) rest h 0 here (holder_same h 0) refl)
+moves_allowed p n m t a (ReleaseLoad (suc x) h) rest here =
+    let alive = given_alive p n m t a (ReleaseLoad (suc x) h) rest h (suc x) here (omega arith) (holder_same h (suc x)) refl in
+    ap (λ (b : Bool). are_allowed m.plain (hand_on t h (suc x) ++ cond b (lose t (suc x)) [])) (mortal_row m (suc x) alive)
+    ∙ hand_on_allowed m.plain t (suc x) h (given_in_bag p n m t a (ReleaseLoad (suc x) h) rest h (suc x) here (holder_same h (suc x)) refl)
 moves_allowed p n m t a (ReleaseStore x w) rest here = one_allowed m.plain (Lose (reference_of t InHand x)) (given_in_bag p n m t a (ReleaseStore x w) rest InHand x here (holder_same InHand x) refl)
 moves_allowed p n m t a (SharedExchange x Own w) rest here =
     if_allowed m.plain _ (lose t x) (λ e. one_allowed m.plain (Lose (reference_of t InHand x)) (given_in_bag p n m t a (SharedExchange x Own w) rest InHand x here (holder_same InHand x) refl))
+moves_allowed p n m t a (SettleCell x i k) rest here = ap (λ (w : ℕ). are_allowed m.plain (take_out t x i w)) (here.rule.cells x i)
 moves_allowed p n m t a (SettleEnd x) rest here = let fits = head_of p n m t a (SettleEnd x) rest here in finalise_allowed p n m t x here.rule fits.0 fits.1
 moves_allowed p n m t a (BirthLocal x h) rest here = birth_allowed p n m t a x h here.rule here.found (head_of p n m t a (BirthLocal x h) rest here).0
 moves_allowed p n m t a _ rest here = refl

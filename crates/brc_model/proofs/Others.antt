@@ -76,7 +76,7 @@ next_kept m new t u x b leaves next = record {
 }
 
 head_kept : (m new : Machine) (t u : ℕ) (b : Actor) (d : Duty) (rest : List Duty) → LeavesOthers m new t → u ≢ t → slice_get m.actors u ≡ Some b → HeadFits m u b d rest → HeadFits new u b d rest
-head_kept m new t u b (RetainLoad x h) rest leaves ne found fits = (fits.0, backed_kept m new t u x leaves ne fits.1)
+head_kept m new t u b (RetainLoad x h) rest leaves ne found fits = backed_kept m new t u x leaves ne fits
 head_kept m new t u b (RetainStore x h w) rest leaves ne found fits =
     (fits.0, backed_kept m new t u x leaves ne fits.1, owns_kept m new t u x b leaves ne found fits.2, leaves.locals u x b ne found fits.2 ∙ fits.3, fits.4, fits.5)
 head_kept m new t u b (RetainAdd x h) rest leaves ne found fits = (fits.0, backed_kept m new t u x leaves ne fits.1)

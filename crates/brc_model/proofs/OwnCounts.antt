@@ -1,5 +1,5 @@
 -- A thread after its own steps of a retain and a release.
-use Rattle.std.proofs.Common.{◌≡◌, ℕ, Bool, true, false, List, ◌∷◌, refl, sym, ap, ◌∙◌, arith}
+use Rattle.std.proofs.Common.{◌≡◌, ℕ, Bool, true, false, List, ◌∷◌, refl, sym, ap, ◌∙◌, arith, ◌<◌}
 use Rattle.std.specs.Prelude.{◌==◌, ◌&&◌}
 use Rattle.std.specs.List.{list_any}
 use Rattle.std.proofs.lemmas.Bool.{eqb-true, eqb-false, eq-eqb, ne_eqb}
@@ -86,10 +86,10 @@ held_lost bag t x h agenda later has extra no_less more less = record {
 
 -- ---- retains
 
-pub backed_not_immortal : (p : Module) (n : ℕ) (m : Machine) (t : ℕ) (a : Actor) (x : ℕ) (h : Holding) (rest : List Duty) → AtDuty p n m t a (RetainLoad x h) rest → is_immortal_word (m.memory (Local x)) ≡ false
-backed_not_immortal p n m t a x h rest here =
+pub backed_not_immortal : (p : Module) (n : ℕ) (m : Machine) (t : ℕ) (a : Actor) (x : ℕ) (h : Holding) (rest : List Duty) → 0 < x → AtDuty p n m t a (RetainLoad x h) rest → is_immortal_word (m.memory (Local x)) ≡ false
+backed_not_immortal p n m t a x h rest pos here =
     let fits = head_of p n m t a (RetainLoad x h) rest here in
-    let alive = alive_backed p n m t x here.rule fits.0 fits.1 in
+    let alive = alive_backed p n m t x here.rule pos fits in
     ne_eqb (local_part (m.memory (Local x))) 4294967295 (elim alive.live.mode [
       | InOwned o ↦ λ e. absurd (omega (arith, o.low, e))
       | InSwapped s ↦ λ e. absurd (omega (arith, s.local, e))

@@ -68,13 +68,13 @@ extra_here : (p : Module) (n : ℕ) (m : Machine) (t : ℕ) (a : Actor) (d : Dut
 extra_here p n m t a d rest h x here more less =
     extra_held _ m.plain.references t a.agenda a.place h x (here.rule.each t a here.found).0.placed (ap (λ (l : List Duty). extra_of l h x) here.agenda ∙ more) (ap (λ (l : List Duty). lacks_of l h x) here.agenda ∙ less)
 
-release_held : (p : Module) (n : ℕ) (m : Machine) (t : ℕ) (a : Actor) (x : ℕ) (h : Holding) (rest : List Duty) → AtDuty p n m t a (ReleaseLoad x h) rest → 0 < held (reference_of t h x) m.plain.references
+pub release_held : (p : Module) (n : ℕ) (m : Machine) (t : ℕ) (a : Actor) (x : ℕ) (h : Holding) (rest : List Duty) → AtDuty p n m t a (ReleaseLoad x h) rest → 0 < held (reference_of t h x) m.plain.references
 release_held p n m t a x h rest here =
     extra_here p n m t a (ReleaseLoad x h) rest h x here (ap (λ (b : Bool). b && (x == x)) (same_holding-refl h) ∙ eq-eqb x x refl) refl
 
-pub release_alive : (p : Module) (n : ℕ) (m : Machine) (t : ℕ) (a : Actor) (x : ℕ) (h : Holding) (rest : List Duty) → AtDuty p n m t a (ReleaseLoad x h) rest → Alive m x
-release_alive p n m t a x h rest here =
-    alive_referenced p n m x here.rule (head_of p n m t a (ReleaseLoad x h) rest here) (omega (arith, release_held p n m t a x h rest here, held-le-references_to (reference_of t h x) m.plain.references))
+pub release_alive : (p : Module) (n : ℕ) (m : Machine) (t : ℕ) (a : Actor) (x : ℕ) (h : Holding) (rest : List Duty) → 0 < x → AtDuty p n m t a (ReleaseLoad x h) rest → Alive m x
+release_alive p n m t a x h rest pos here =
+    alive_referenced p n m x here.rule pos (omega (arith, release_held p n m t a x h rest here, held-le-references_to (reference_of t h x) m.plain.references))
 
 alive_mortal : (m : Machine) (x : ℕ) → Alive m x → is_immortal_word (m.memory (Local x)) ≡ false
 alive_mortal m x alive =
@@ -102,13 +102,13 @@ held_handed_on m t x (ByVariable v) rest later has more less = held_taken m.plai
 held_handed_on m t x AsCaller rest later has more less = held_taken m.plain.references t x AsCaller rest later has more less
 held_handed_on m t x InHand rest later has more less = held_same m.plain.references t (ReleaseLoad x InHand ∷ rest) later more less
 
-pub own_release_load : (p : Module) (n : ℕ) (m : Machine) (t : ℕ) (a : Actor) (x : ℕ) (h : Holding) (rest : List Duty) → AtDuty p n m t a (ReleaseLoad x h) rest → (a.status ≡ Gone → ⊥)
+-- of a counted object
+pub own_release_counted : (p : Module) (n : ℕ) (m : Machine) (t : ℕ) (a : Actor) (x : ℕ) (h : Holding) (rest : List Duty) → 0 < x → AtDuty p n m t a (ReleaseLoad x h) rest → (a.status ≡ Gone → ⊥)
     → OwnFits p (done_by m t a (ReleaseLoad x h) rest) t (actor_by t a (ReleaseLoad x h) rest (found_by m t a (ReleaseLoad x h)))
-own_release_load p n m t a x h rest here alive =
+own_release_counted p n m t a x h rest pos here alive =
     let word = m.memory (Local x) in
     let d : Duty = ReleaseLoad x h in
-    let pos = head_of p n m t a d rest here in
-    let living = release_alive p n m t a x h rest here in
+    let living = release_alive p n m t a x h rest pos here in
     let mortal = alive_mortal m x living in
     let has = held_has (reference_of t h x) m.plain.references (release_held p n m t a x h rest here) in
     let bag : bag_by m t a d ≡ (moved m.plain (hand_on t h x ++ [])).references = ap (λ (b : Bool). (moved m.plain (hand_on t h x ++ cond b (lose t x) [])).references) mortal in

@@ -77,16 +77,17 @@ weight_here p n m t x a d rest here alive none =
 retain_bag : (m : Machine) (t : ℕ) (a : Actor) (x : ℕ) (h : Holding) → is_immortal_word (m.memory (Local x)) ≡ false → bag_by m t a (RetainLoad x h) ≡ m.plain.references
 retain_bag m t a x h mortal = ap (λ (b : Bool). (moved m.plain (cond b (gain t h x) [])).references) mortal
 
-pub own_retain_load : (p : Module) (n : ℕ) (m : Machine) (t : ℕ) (a : Actor) (x : ℕ) (h : Holding) (rest : List Duty) → AtDuty p n m t a (RetainLoad x h) rest → (a.status ≡ Gone → ⊥)
+-- of a counted object
+pub own_retain_counted : (p : Module) (n : ℕ) (m : Machine) (t : ℕ) (a : Actor) (x : ℕ) (h : Holding) (rest : List Duty) → 0 < x → AtDuty p n m t a (RetainLoad x h) rest → (a.status ≡ Gone → ⊥)
     → OwnFits p (done_by m t a (RetainLoad x h) rest) t (actor_by t a (RetainLoad x h) rest (found_by m t a (RetainLoad x h)))
-own_retain_load p n m t a x h rest here alive =
+own_retain_counted p n m t a x h rest pos here alive =
     let word = m.memory (Local x) in
     let fits = head_of p n m t a (RetainLoad x h) rest here in
-    let mortal = backed_not_immortal p n m t a x h rest here in
-    let living = alive_backed p n m t x here.rule fits.0 fits.1 in
+    let mortal = backed_not_immortal p n m t a x h rest pos here in
+    let living = alive_backed p n m t x here.rule pos fits in
     let bag = retain_bag m t a x h mortal in
     let new = done_by m t a (RetainLoad x h) rest in
-    let backed : IsBacked new t x = record { by = fits.1.by; held_so = subst (λ (l : List Reference). 0 < held (reference_of t fits.1.by x) l) (sym bag) fits.1.held_so } in
+    let backed : IsBacked new t x = record { by = fits.by; held_so = subst (λ (l : List Reference). 0 < held (reference_of t fits.by x) l) (sym bag) fits.held_so } in
     let first : next_by t (is_running a.status) a.head (RetainLoad x h) word ≡ cond (counts_locally t (is_running a.status) word && nat_lt (local_part word) 4294967294) (RetainStore x h word ∷ []) (RetainAdd x h ∷ []) =
     ap (λ (b : Bool). cond b [] (cond (counts_locally t (is_running a.status) word && nat_lt (local_part word) 4294967294) (RetainStore x h word ∷ []) (RetainAdd x h ∷ []))) mortal in
     let keeps : (e : Duty) → ((k : Holding) (object : ℕ) → extra_of (e ∷ rest) k object ≡ false) → ((k : Holding) (object : ℕ) → lacks_of (e ∷ rest) k object ≡ (same_holding h k && (x == object)))
@@ -113,7 +114,7 @@ own_retain_load p n m t a x h rest here alive =
             held = keeps (RetainStore x h word) (λ k o. refl) (λ k o. refl);
             fits = agenda_here p n m t a (RetainLoad x h) rest here alive;
             handed = handed_here p n m t a (RetainLoad x h) rest here;
-            knows = λ b status head used. (fits.0, backed, record { running = status ∙ owns.running; owner = ap owner_part same ∙ owns.owner; low = subst (λ (w : ℕ). local_part w < 4294967295) (sym same) owns.low }, same, some, low);
+            knows = λ b status head used. (pos, backed, record { running = status ∙ owns.running; owner = ap owner_part same ∙ owns.owner; low = subst (λ (w : ℕ). local_part w < 4294967295) (sym same) owns.low }, same, some, low);
           })
       | false ↦ λ e.
           own_neutral p n m t a (RetainLoad x h) rest (RetainAdd x h ∷ []) (RetainAdd x h ∷ rest) here alive (record {
@@ -130,6 +131,6 @@ own_retain_load p n m t a x h rest here alive =
             held = keeps (RetainAdd x h) (λ k o. refl) (λ k o. refl);
             fits = agenda_here p n m t a (RetainLoad x h) rest here alive;
             handed = handed_here p n m t a (RetainLoad x h) rest here;
-            knows = λ b status head used. (fits.0, backed);
+            knows = λ b status head used. (pos, backed);
           })
     ] refl

@@ -14,7 +14,8 @@ use Rattle.brc_model.specs.declared.address.Address.TheVariants.{Gate, KindOf, C
 use Rattle.brc_model.specs.Duties.{head_by, ready, cells_of, cells_from, release_found, has_resource}
 use Rattle.brc_model.specs.declared.actor.Status.{Status}
 use Rattle.brc_model.specs.declared.actor.Status.TheVariants.{Gone}
-use Rattle.brc_model.specs.Machine.{Actor, Unborn, Live, Dying, Closed, Machine, status_by, ended_row, with_life, actor_by, done_by, written, born_row, dies_next, used_by}
+use Rattle.brc_model.specs.Machine.{Actor, Unborn, Live, Dying, Closed, Machine, status_by, ended_row, with_life, actor_by, done_by, written, born_row, dies_next, used_by, take_out}
+use Rattle.brc_model.specs.Plain.{moved}
 use Rattle.brc_model.proofs.Bag.{one_if}
 use Rattle.brc_model.proofs.Rule.{extra_of, lacks_of, PlaceFits, HeadOf, Later, Agenda, NoneHanded, HandedOnce, Linked, hand_of, dies_by, ChainFits, AgendaFits, Rule, status_word, extra, lacks, HeadFits, at_hand}
 use Rattle.brc_model.proofs.Written.{written_here, written_apart, written_load, apart_gate}
@@ -328,7 +329,8 @@ own_settle_cell p n m t a x i k rest here alive =
       gates = λ y. refl;
       word = refl;
       hands = λ y. refl;
-      held = λ e more less. held_same m.plain.references t (SettleCell x i k ∷ rest) (e ∷ rest) more less;
+      held = λ e more less. subst (λ (w : ℕ). HeldStep m.plain.references (moved m.plain (take_out t x i w)).references t (SettleCell x i k ∷ rest) (e ∷ rest)) (sym (here.rule.cells x i))
+          (held_same m.plain.references t (SettleCell x i k ∷ rest) (e ∷ rest) more less);
       later = agenda_here p n m t a (SettleCell x i k) rest here alive;
       none = handed_here p n m t a (SettleCell x i k) rest here;
     }) (ap (λ (l : List Duty). l ++ cells_from x (i + 1) k) empty)

@@ -19,8 +19,9 @@ use Rattle.brc_model.proofs.Neutral.{memory_by}
 use Rattle.brc_model.proofs.Sits.{sitting}
 use Rattle.brc_model.proofs.Whole.{Whole}
 use Rattle.brc_model.proofs.StepCases.{ShowsSteps, at_duty, event_shows}
-use Rattle.brc_model.proofs.Immortals.{counted_low, none_local}
+use Rattle.brc_model.proofs.Immortals.{counted_low}
 use Rattle.brc_model.proofs.Blocks.{next_unborn}
+use Rattle.brc_model.proofs.Nones.{none_local}
 
 -- ---- others leave a running owner's count
 
@@ -55,7 +56,7 @@ counts_shown : (p : Module) (n : ℕ) → ShowsSteps CountsSo p n
 counts_shown p n = record {
   stays = λ t m whole x owner owns runs changed. absurd (changed refl);
   sits = λ t m new a place agenda found shown x owner owns runs changed. shown x owner owns (runs_still m t owner a place agenda found runs) changed;
-  moves = λ t m a place whole found x owner owns runs changed. absurd (changed refl);
+  moves = λ t m a moves place whole found quiet x owner owns runs changed. absurd (changed refl);
   does = λ t m a d rest doing. counts_at_duty p n m t a d rest (at_duty doing);
 }
 
@@ -95,7 +96,7 @@ owners_shown : (p : Module) (n : ℕ) → ShowsSteps (λ t m new. (x : ℕ) → 
 owners_shown p n = record {
   stays = λ t m whole x born. inl refl;
   sits = λ t m new a place agenda found shown. shown;
-  moves = λ t m a place whole found x born. inl refl;
+  moves = λ t m a moves place whole found quiet x born. inl refl;
   does = λ t m a d rest doing x born. owned_after p n m t a d rest x (at_duty doing) born;
 }
 

@@ -20,20 +20,21 @@ use Rattle.brc_model.proofs.Bag.{held-le-references_to}
 use Rattle.brc_model.proofs.Lists.{some_is, slice_get-map, and_first, and_second, written_actor}
 use Rattle.brc_model.proofs.Holds.{reference_of}
 use Rattle.brc_model.proofs.Rule.{Rule}
-use Rattle.brc_model.proofs.Begins.{Starts, Gives, Takes, Follows, Nothing, Settles, Leaves, IsTaken}
+use Rattle.brc_model.proofs.Begins.{Starts, Gives, Takes, Follows, Nothing, Settles, Leaves, IsTaken, Bears}
 use Rattle.brc_model.proofs.Sits.{AtRest}
 use Rattle.brc_model.proofs.TakenSits.{rests, begun_fits}
 use Rattle.brc_model.proofs.Whole.{Whole}
 use Rattle.brc_model.proofs.WholeEvents.{event_keeps}
 use Rattle.brc_model.proofs.Ranges.{limit, IsSmall, AreSmall, referenced_small, head_small, Ranges, duty_ranges}
-use Rattle.brc_model.proofs.Blocks.{used_low}
+use Rattle.brc_model.proofs.Blocks.{used_low, next_within}
 use Rattle.std.proofs.lemmas.Option.{slice_get_within}
 
 -- ---- what is taken up
 
-pub starts_small : (p : Module) (n : ℕ) (m : Machine) (t : ℕ) (d : Duty) → Rule p n m → Starts m.plain.references t d → IsSmall (limit n m) d
-starts_small p n m t d rule (Gives row h some) = referenced_small p n m row rule some
-starts_small p n m t d rule (Takes row h by some) = referenced_small p n m row rule (omega (arith, some, held-le-references_to (reference_of t by row) m.plain.references))
+pub starts_small : (p : Module) (n : ℕ) (m : Machine) (t : ℕ) (a : Actor) (d : Duty) (rest : List Duty) → Rule p n m → slice_get m.actors t ≡ Some a → Starts m.plain.references m.rows t a.used d rest → IsSmall (limit n m) d
+starts_small p n m t a d rest rule found (Gives row h behind some) = referenced_small p n m row rule some
+starts_small p n m t a d rest rule found (Takes row h by behind some) = referenced_small p n m row rule (omega (arith, some, held-le-references_to (reference_of t by row) m.plain.references))
+starts_small p n m t a d rest rule found (Bears h w room few) = (next_within p n m t a rule found room, few)
 
 follows_small : (k rows t used : ℕ) (place : Place) (rest : List Duty) → Follows rows t used place rest → AreSmall k rest
 follows_small k rows t used place rest (Nothing stays) = tt
@@ -42,14 +43,14 @@ follows_small k rows t used place rest (Leaves leaves) = (tt, (tt, tt))
 
 begun_ranges : (p : Module) (n : ℕ) (m : Machine) (t : ℕ) (a : Actor) (b : Begun) → Ranges n m → AtRest p n m t a → IsTaken (code_of (slice_get p.functions a.function)) m.plain.references m.rows t a.used b → Ranges n (begins m t a b)
 begun_ranges p n m t a Stuck ranges at taken = ranges
-begun_ranges p n m t a (Quiet place) ranges at taken = record {
+begun_ranges p n m t a (Quiet moves place) ranges at taken = record {
   kinds = ranges.kinds;
   each = written_actor (λ u c. AreSmall (limit n m) c.agenda) m.actors t a (at_place a place) at.found (ranges.each t a at.found) ranges.each;
 }
 begun_ranges p n m t a (Work [] place) ranges at taken = ranges
 begun_ranges p n m t a (Work (d ∷ rest) place) ranges at taken =
     duty_ranges p n m t a (at_place a place) d rest at.rule ranges at.found (head_small p n m t a at.rule at.found)
-    (starts_small p n m t d at.rule taken.starts, follows_small (limit n m) m.rows t a.used place rest taken.follows)
+    (starts_small p n m t a d rest at.rule at.found taken.starts, follows_small (limit n m) m.rows t a.used place rest taken.follows)
 
 -- ---- a thread that isn't gone
 

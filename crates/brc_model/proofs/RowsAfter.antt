@@ -21,10 +21,10 @@ use Rattle.brc_model.proofs.RowsAfterMerge.{row_after_own_swap, row_after_handed
 
 -- the row that the duty is about
 own_row : (p : Module) (n : ℕ) (m : Machine) (t : ℕ) (a : Actor) (d : Duty) (rest : List Duty) → Doing p n m t a d rest → 0 < subject d → KeepsRow m t a d rest (subject d)
-own_row p n m t a (RetainLoad y h) rest s some = row_after_retain_load s
+own_row p n m t a (RetainLoad y h) rest s some = row_after_retain_load some s
 own_row p n m t a (RetainStore y h w) rest s some = row_after_retain_store s
 own_row p n m t a (RetainAdd y h) rest s some = row_after_retain_add s
-own_row p n m t a (ReleaseLoad y h) rest s some = row_after_release_load s
+own_row p n m t a (ReleaseLoad y h) rest s some = row_after_release_load some s
 own_row p n m t a (ReleaseStore y w) rest s some = row_after_release_store s
 own_row p n m t a (DecideAtZero y) rest s some = row_after_decide s
 own_row p n m t a (SharedLoad y r) rest s some = row_after_shared_load some s

@@ -1,5 +1,5 @@
 -- A step changes nothing about the rows that its duty isn't about.
-use Rattle.std.proofs.Common.{◌≡◌, ℕ, zero, suc, ◌+◌, ◌-◌, ◌<◌, Bool, true, false, cond, List, [], ◌∷◌, ◌++◌, refl, sym, ap, ◌∙◌, arith}
+use Rattle.std.proofs.Common.{◌≡◌, ℕ, zero, suc, ◌+◌, ◌-◌, ◌<◌, Bool, true, false, cond, List, [], ◌∷◌, ◌++◌, refl, sym, ap, ◌∙◌, subst, arith}
 use Rattle.std.specs.Prelude.{◌==◌, ◌&&◌, nat_lt, if◌then◌else◌, sum_by}
 use Rattle.std.proofs.lemmas.List.Sums.{sum_by-cons}
 use Rattle.brc_lang.specs.declared.module.Module.{Module}
@@ -12,9 +12,10 @@ use Rattle.brc_model.specs.declared.duty.Duty.TheVariants.{RetainLoad, RetainSto
 use Rattle.brc_model.specs.declared.address.Address.{Address}
 use Rattle.brc_model.specs.declared.address.Address.TheVariants.{Local, Shared, Mark}
 use Rattle.brc_model.specs.Duties.{address_of, left_by, counts_locally, claimed, has_resource, cells_of, cells_from, release_found, next_by}
-use Rattle.brc_model.specs.Machine.{Life, Actor, Machine, is_running, same_address, written, moves_by, dies_next, with_life, ended_row, born_row}
+use Rattle.brc_model.specs.Machine.{Life, Actor, Machine, is_running, same_address, written, moves_by, dies_next, with_life, ended_row, born_row, take_out}
 use Rattle.brc_model.proofs.Bag.{one_if, references_to-cons, same-true}
 use Rattle.brc_model.proofs.Rows.{waits, carries, merges, decides}
+use Rattle.brc_model.proofs.Lives.{cell_found}
 use Rattle.brc_model.proofs.RowsAfterStep.{Doing, found_by, following, KeepsRow, IsQuiet, row_quiet}
 
 -- the row that a duty is about, or none
@@ -108,7 +109,7 @@ move_elsewhere x p (Gain r) other = let none : one_if (r.object == x) ≡ 0 = ap
 move_elsewhere x p (Lose r) other = sym (without_elsewhere x r p.references other)
 move_elsewhere x p (HandOn r h) other =
     let none : one_if (r.object == x) ≡ 0 = ap one_if other in
-    omega (arith, references_to-cons x (record { thread = r.thread; holding = h; object = r.object }) (without r p.references), none, without_elsewhere x r p.references other)
+    omega (arith, references_to-cons x (record { holder = h; object = r.object }) (without r p.references), none, without_elsewhere x r p.references other)
 move_elsewhere x p (Finalise y) other = refl
 
 moved_elsewhere : (x : ℕ) (p : Plain) (ms : List Move) → AreElsewhere x ms → references_to x p.references ≡ references_to x (moved p ms).references
@@ -119,18 +120,19 @@ elsewhere_if : (x : ℕ) (b : Bool) (ms ks : List Move) → AreElsewhere x ms �
 elsewhere_if x true ms ks first second = first
 elsewhere_if x false ms ks first second = second
 
-moves_elsewhere : (x t : ℕ) (d : Duty) (found : ℕ) → (subject d == x) ≡ false → AreElsewhere x (moves_by t d found)
-moves_elsewhere x t (RetainLoad y h) found e = elsewhere_if x (is_immortal_word found) _ _ (e, tt) tt
-moves_elsewhere x t (RetainStore y h w) found e = (e, tt)
-moves_elsewhere x t (RetainAdd y h) found e = (e, tt)
-moves_elsewhere x t (ReleaseLoad y InHand) found e = elsewhere_if x (is_immortal_word found) _ _ (e, tt) tt
-moves_elsewhere x t (ReleaseLoad y AsCaller) found e = (e, elsewhere_if x (is_immortal_word found) _ _ (e, tt) tt)
-moves_elsewhere x t (ReleaseLoad y (ByVariable v)) found e = (e, elsewhere_if x (is_immortal_word found) _ _ (e, tt) tt)
-moves_elsewhere x t (ReleaseStore y w) found e = (e, tt)
-moves_elsewhere x t (SharedExchange y Own w) found e = elsewhere_if x (found == w) _ _ (e, tt) tt
-moves_elsewhere x t (SettleEnd y) found e = (e, tt)
-moves_elsewhere x t (BirthLocal y h) found e = (e, tt)
-moves_elsewhere x t d found e = tt
+moves_elsewhere : (x t : ℕ) (d : Duty) (found : ℕ) → (subject d == x) ≡ false → ((y i n : ℕ) → d ≡ SettleCell y i n → found ≡ 0) → AreElsewhere x (moves_by t d found)
+moves_elsewhere x t (RetainLoad y h) found e empty = elsewhere_if x (is_immortal_word found) _ _ (e, tt) tt
+moves_elsewhere x t (RetainStore y h w) found e empty = (e, tt)
+moves_elsewhere x t (RetainAdd y h) found e empty = (e, tt)
+moves_elsewhere x t (ReleaseLoad y InHand) found e empty = elsewhere_if x (is_immortal_word found) _ _ (e, tt) tt
+moves_elsewhere x t (ReleaseLoad y AsCaller) found e empty = (e, elsewhere_if x (is_immortal_word found) _ _ (e, tt) tt)
+moves_elsewhere x t (ReleaseLoad y (ByVariable v)) found e empty = (e, elsewhere_if x (is_immortal_word found) _ _ (e, tt) tt)
+moves_elsewhere x t (ReleaseStore y w) found e empty = (e, tt)
+moves_elsewhere x t (SharedExchange y Own w) found e empty = elsewhere_if x (found == w) _ _ (e, tt) tt
+moves_elsewhere x t (SettleCell y i n) found e empty = subst (λ (w : ℕ). AreElsewhere x (take_out t y i w)) (sym (empty y i n refl)) tt
+moves_elsewhere x t (SettleEnd y) found e empty = (e, tt)
+moves_elsewhere x t (BirthLocal y h) found e empty = (e, tt)
+moves_elsewhere x t d found e empty = tt
 
 -- ---- duties
 
@@ -282,7 +284,7 @@ not_born x (BirthLocal y h) e life state = ap (λ (b : Bool). cond b state (life
 not_born x d e life state = refl
 
 pub row_elsewhere : {p : Module} {n : ℕ} {m : Machine} {t : ℕ} {a : Actor} {d : Duty} {rest : List Duty} → Doing p n m t a d rest → (x : ℕ) → 0 < x → (subject d == x) ≡ false → KeepsRow m t a d rest x
-row_elsewhere {m = m} {t = t} {a = a} {d = d} {rest = rest} s x some e =
+row_elsewhere {p = p} {n = n} {m = m} {t = t} {a = a} {d = d} {rest = rest} s x some e =
     let found = found_by m t a d in
     let at = address_of m.rows t a.head d in
     let left = left_by t a.head d found in
@@ -294,7 +296,7 @@ row_elsewhere {m = m} {t = t} {a = a} {d = d} {rest = rest} s x some e =
       local = written_elsewhere m.memory at left (Local x) (other_local m.rows t a.head d x e);
       shared = written_elsewhere m.memory at left (Shared x) (other_shared m.rows t a.head d x e);
       mark = written_elsewhere m.memory at left (Mark x) (other_mark m.rows t a.head d x e);
-      references = moved_elsewhere x m.plain (moves_by t d found) (moves_elsewhere x t d found e);
+      references = moved_elsewhere x m.plain (moves_by t d found) (moves_elsewhere x t d found e (cell_found p n m t a d s.rule));
       waiting = next.waiting ∙ sym this.waiting;
       carried = next.carried ∙ sym this.carried;
       merging = next.merging ∙ sym this.merging;

@@ -30,15 +30,15 @@ retain_apart x y h w = (
   record { waiting = refl; carried = refl; merging = refl; deciding = refl; lives = λ life state. refl },
 )
 
-pub row_after_retain_load : {p : Module} {n : ℕ} {m : Machine} {t : ℕ} {a : Actor} {y : ℕ} {h : Holding} {rest : List Duty} → Doing p n m t a (RetainLoad y h) rest → KeepsRow m t a (RetainLoad y h) rest y
-row_after_retain_load {m = m} {t = t} {y = y} {h = h} s =
+pub row_after_retain_load : {p : Module} {n : ℕ} {m : Machine} {t : ℕ} {a : Actor} {y : ℕ} {h : Holding} {rest : List Duty} → 0 < y → Doing p n m t a (RetainLoad y h) rest → KeepsRow m t a (RetainLoad y h) rest y
+row_after_retain_load {m = m} {t = t} {y = y} {h = h} some s =
     let fits = head_fits_of s in
     let w = m.memory (Local y) in
-    let lives = lives_backed s y fits.0 fits.1 in
+    let lives = lives_backed s y some fits in
     let counted : is_immortal_word w ≡ false = counted_word (block_of m.rows y) (numbers_of m y) lives.rule in
     let parts = retain_apart y y h w in
     let next = apart_if (is_immortal_word w) (none_apart y) (apart_if (counts_locally t _ w && nat_lt (local_part w) 4294967294) (one_apart y _ parts.1) (one_apart y _ parts.2)) in
-    row_apart s y fits.0 parts.0 next (λ life state. refl) (record {
+    row_apart s y some parts.0 next (λ life state. refl) (record {
       local = sym (written_here m.memory (Local y) w (own y));
       shared = refl;
       mark = refl;
@@ -90,9 +90,8 @@ handed_on t y InHand p lost = refl
 handed_on t y AsCaller p lost = let one = one_own y in omega (arith, references_to-cons y (reference_of t InHand y) (without (reference_of t AsCaller y) p.references), lost.less, one)
 handed_on t y (ByVariable v) p lost = let one = one_own y in omega (arith, references_to-cons y (reference_of t InHand y) (without (reference_of t (ByVariable v) y) p.references), lost.less, one)
 
-pub row_after_release_load : {p : Module} {n : ℕ} {m : Machine} {t : ℕ} {a : Actor} {y : ℕ} {h : Holding} {rest : List Duty} → Doing p n m t a (ReleaseLoad y h) rest → KeepsRow m t a (ReleaseLoad y h) rest y
-row_after_release_load {m = m} {t = t} {y = y} {h = h} s =
-    let some : 0 < y = head_fits_of s in
+pub row_after_release_load : {p : Module} {n : ℕ} {m : Machine} {t : ℕ} {a : Actor} {y : ℕ} {h : Holding} {rest : List Duty} → 0 < y → Doing p n m t a (ReleaseLoad y h) rest → KeepsRow m t a (ReleaseLoad y h) rest y
+row_after_release_load {m = m} {t = t} {y = y} {h = h} some s =
     let w = m.memory (Local y) in
     let lost = is_lost m.plain.references (reference_of t h y) (gives_up s h y (rw (same_holding-refl h, own y) refl) refl) in
     let lives = lives_so s y some (omega (arith, lost.before)) in

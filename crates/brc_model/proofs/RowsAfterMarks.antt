@@ -3,13 +3,13 @@ use Rattle.std.proofs.Common.{◌≡◌, ℕ, ◌+◌, ◌-◌, ◌<◌, ◌≤�
 use Rattle.std.specs.Prelude.{◌==◌}
 use Rattle.std.proofs.lemmas.List.Sums.{sum_by-append}
 use Rattle.brc_lang.specs.declared.module.Module.{Module}
-use Rattle.brc_model.specs.Plain.{references_to}
+use Rattle.brc_model.specs.Plain.{references_to, moved}
 use Rattle.brc_model.specs.declared.duty.Reason.TheVariants.{Handed}
 use Rattle.brc_model.specs.declared.duty.Duty.{Duty}
 use Rattle.brc_model.specs.declared.duty.Duty.TheVariants.{SharedLoad, SetMark, Look, TakeMark, MergeSwap, Die, Settle, SettleKind, SettleCell, TakeSlot, CloseResource, SettleEnd, Scan, ClaimMark}
 use Rattle.brc_model.specs.declared.address.Address.TheVariants.{Local, Shared, Mark, Cell, KindOf}
 use Rattle.brc_model.specs.Duties.{block_of, claimed, has_resource, cells_of, cells_from}
-use Rattle.brc_model.specs.Machine.{Life, Live, Dying, Closed, Actor, Machine, with_life, dies_next, life_by, done_by}
+use Rattle.brc_model.specs.Machine.{Life, Live, Dying, Closed, Actor, Machine, with_life, dies_next, life_by, done_by, take_out}
 use Rattle.brc_model.proofs.Rows.{waits, carries, merges, decides, RowRule}
 use Rattle.brc_model.proofs.RowSteps.{mark_set, mark_taken}
 use Rattle.brc_model.proofs.Rule.{numbers_of}
@@ -159,10 +159,10 @@ row_after_kind {m = m} {y = y} some s =
     row_apart s y some (kind_apart y y) (apart_if (has_resource (m.memory (KindOf y))) (one_apart y (TakeSlot y) (record { waiting = refl; carried = refl; merging = refl; deciding = refl; lives = λ life state. refl })) (cells_apart y y 0 (cells_of (m.memory (KindOf y))))) (λ life state. refl) (record { local = refl; shared = refl; mark = refl; references = refl })
 
 pub row_after_cell : {p : Module} {n : ℕ} {m : Machine} {t : ℕ} {a : Actor} {y i cells : ℕ} {rest : List Duty} → 0 < y → Doing p n m t a (SettleCell y i cells) rest → KeepsRow m t a (SettleCell y i cells) rest y
-row_after_cell {m = m} {y = y} {i = i} {cells = cells} some s =
+row_after_cell {m = m} {t = t} {y = y} {i = i} {cells = cells} some s =
     let this : IsApart y (SettleCell y i cells) = record { waiting = refl; carried = refl; merging = refl; deciding = refl; lives = λ life state. refl } in
     row_apart s y some this (released_apart y (m.memory (Cell y i)) (cells_from y (i + 1) cells) (cells_apart y y (i + 1) cells)) (λ life state. refl)
-    (record { local = refl; shared = refl; mark = refl; references = refl })
+    (record { local = refl; shared = refl; mark = refl; references = ap (λ (w : ℕ). references_to y (moved m.plain (take_out t y i w)).references) (sym (s.rule.cells y i)) })
 
 pub row_after_take_slot : {p : Module} {n : ℕ} {m : Machine} {t : ℕ} {a : Actor} {y : ℕ} {rest : List Duty} → 0 < y → Doing p n m t a (TakeSlot y) rest → KeepsRow m t a (TakeSlot y) rest y
 row_after_take_slot {y = y} some s =

@@ -22,7 +22,7 @@ use Rattle.brc_model.specs.declared.actor.Status.TheVariants.{Running, Leaving, 
 use Rattle.brc_model.specs.declared.actor.Place.{Place}
 use Rattle.brc_model.specs.declared.actor.Place.TheVariants.{Standing, Inside, Departing}
 use Rattle.brc_model.specs.Machine.{Actor, Life, Unborn, Live, Dying, Closed, Machine, first_row}
-use Rattle.brc_model.proofs.Bag.{held, one_if}
+use Rattle.brc_model.proofs.Bag.{held, one_if, cell_reference}
 use Rattle.brc_model.proofs.Holds.{nothing, the_root, of_variables, reference_of}
 use Rattle.brc_model.proofs.Grounded.{IsInside, AreInstructions}
 use Rattle.brc_model.proofs.Rows.{waits, carries, merges, decides, weight, Numbers, RowRule}
@@ -117,10 +117,10 @@ pub record IsNext (m : Machine) (t : ℕ) (a : Actor) (x : ℕ) : Type 0 where
   pub room : a.used < m.rows
 
 abbrev pub HeadFits : Machine → ℕ → Actor → Duty → List Duty → Type 0
-HeadFits m t a (RetainLoad x h) rest = (0 < x) × IsBacked m t x
+HeadFits m t a (RetainLoad x h) rest = IsBacked m t x
 HeadFits m t a (RetainStore x h w) rest = (0 < x) × IsBacked m t x × OwnsLocally m t a x × (m.memory (Local x) ≡ w) × (1 ≤ local_part w) × (local_part w < 4294967294)
 HeadFits m t a (RetainAdd x h) rest = (0 < x) × IsBacked m t x
-HeadFits m t a (ReleaseLoad x h) rest = 0 < x
+HeadFits m t a (ReleaseLoad x h) rest = Unit {0}
 HeadFits m t a (ReleaseStore x w) rest = (0 < x) × OwnsLocally m t a x × (m.memory (Local x) ≡ w) × (1 ≤ local_part w)
 HeadFits m t a (DecideAtZero x) rest = (0 < x) × OwnsLocally m t a x × (local_part (m.memory (Local x)) ≡ 0)
 HeadFits m t a (SharedLoad x Own) rest = 0 < x
@@ -280,11 +280,13 @@ pub record Rule (p : Module) (n : ℕ) (m : Machine) : Type 0 where
   pub cells : (x i : ℕ) → m.memory (Cell x i) ≡ 0
   pub uses : (t : ℕ) (a : Actor) → slice_get m.actors t ≡ Some a → UsesFit m.rows m.life t a.used
   pub no_block : (x : ℕ) → n ≤ block_of m.rows x → m.life x ≡ Unborn
+  -- no instruction stores in a cell yet
+  pub cells_hold : (x i object : ℕ) → held (cell_reference x i object) m.plain.references ≡ 0
   pub none_lives : m.life 0 ≡ Live
   pub born_is : (x : ℕ) → is_among x m.plain.born ≡ true → (0 < x) × (m.life x ≢ Unborn)
   pub born_has : (x : ℕ) → 0 < x → m.life x ≢ Unborn → is_among x m.plain.born ≡ true
   pub closed_is : (x : ℕ) → is_among x m.plain.closed ≡ true → m.life x ≡ Closed
   pub closed_has : (x : ℕ) → m.life x ≡ Closed → is_among x m.plain.closed ≡ true
   pub once : AllPairs (λ x y. x ≢ y) m.plain.closed
-  -- no instruction takes a reference to none yet
-  pub none_free : references_to 0 m.plain.references ≡ 0
+  -- none is immortal
+  pub none_word : m.memory (Local 0) ≡ 8589934591

@@ -9,7 +9,7 @@ use Rattle.brc_model.specs.declared.thread.Call.{Call}
 use Rattle.brc_model.specs.Walks.{IsAcceptable}
 use Rattle.brc_model.specs.Threads.{code_of}
 use Rattle.brc_model.specs.declared.duty.Holding.{Holding}
-use Rattle.brc_model.specs.Plain.{root_row, is_among, references_to}
+use Rattle.brc_model.specs.Plain.{root_row, Holder, ByThread, ByCell, is_among, references_to}
 use Rattle.brc_model.specs.declared.duty.Duty.{Duty}
 use Rattle.brc_model.specs.declared.address.Address.TheVariants.{Mark, ThreadWord}
 use Rattle.brc_model.specs.Duties.{block_of}
@@ -64,8 +64,12 @@ gone_holds p n m t k object rule done =
       | inr past ↦ rule.beyond t (omega (arith, past.0, rule.threads)) k object
     ]
 
+none_holds : (p : Module) (n : ℕ) (m : Machine) (h : Holder) (object : ℕ) → Rule p n m → AllGone m → held (record { holder = h; object = object }) m.plain.references ≡ 0
+none_holds p n m (ByThread t k) object rule done = gone_holds p n m t k object rule done
+none_holds p n m (ByCell x i) object rule done = rule.cells_hold x i object
+
 pub none_left : (p : Module) (n : ℕ) (m : Machine) → Rule p n m → AllGone m → m.plain.references ≡ []
-none_left p n m rule done = empty_bag m.plain.references (λ r. gone_holds p n m r.thread r.holding r.object rule done)
+none_left p n m rule done = empty_bag m.plain.references (λ r. none_holds p n m r.holder r.object rule done)
 
 no_weights : (p : Module) (n : ℕ) (m : Machine) (f : Duty → ℕ) → Rule p n m → AllGone m → weight f m.actors ≡ 0
 no_weights p n m f rule done = sum_zero (agenda_weight f) m.actors (λ t a found. ap (sum_by f) (gone_at p n m t a rule done found).agenda)

@@ -44,7 +44,7 @@ pub record AtRest (p : Module) (n : ℕ) (m : Machine) (t : ℕ) (a : Actor) : T
   pub agenda : a.agenda ≡ []
   pub running : a.status ≡ Running
 
-same_weight : (f : Duty → ℕ) (actors : List Actor) (t : ℕ) (a : Actor) (place : Place) (agenda : List Duty) → slice_get actors t ≡ Some a → a.agenda ≡ [] → sum_by f agenda ≡ 0
+pub same_weight : (f : Duty → ℕ) (actors : List Actor) (t : ℕ) (a : Actor) (place : Place) (agenda : List Duty) → slice_get actors t ≡ Some a → a.agenda ≡ [] → sum_by f agenda ≡ 0
     → weight f (slice_set actors t (sitting a place agenda)) ≡ weight f actors
 same_weight f actors t a place agenda found none weightless =
     let before : agenda_weight f a ≡ 0 = ap (sum_by f) none in
@@ -131,13 +131,14 @@ sits_rule p n m t a place agenda rest sits = record {
   cells = rest.rule.cells;
   uses = λ u b is. written_actor (λ w c. UsesFit m.rows m.life w c.used) m.actors t a (sitting a place agenda) rest.found (rest.rule.uses t a rest.found) rest.rule.uses u b is;
   no_block = rest.rule.no_block;
+  cells_hold = rest.rule.cells_hold;
   none_lives = rest.rule.none_lives;
   born_is = rest.rule.born_is;
   born_has = rest.rule.born_has;
   closed_is = rest.rule.closed_is;
   closed_has = rest.rule.closed_has;
   once = rest.rule.once;
-  none_free = rest.rule.none_free;
+  none_word = rest.rule.none_word;
 }
 
 -- ---- the step of what is taken up is the first duty of the sitting thread

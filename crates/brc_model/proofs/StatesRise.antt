@@ -82,7 +82,7 @@ states_shown : (p : Module) (n : ℕ) → ShowsSteps (λ t m new. (x : ℕ) → 
 states_shown p n = record {
   stays = λ t m whole x. omega arith;
   sits = λ t m new a place agenda found shown. shown;
-  moves = λ t m a place whole found x. omega arith;
+  moves = λ t m a moves place whole found quiet x. omega arith;
   does = λ t m a d rest doing x. rises p n m t a d rest x (at_duty doing);
 }
 

@@ -11,14 +11,15 @@ use Rattle.brc_model.specs.declared.actor.Status.TheVariants.{Running, Leaving, 
 use Rattle.brc_model.specs.declared.actor.Place.{Place}
 use Rattle.brc_model.specs.declared.thread.Choice.{Choice}
 use Rattle.brc_model.specs.declared.thread.Choice.TheVariants.{Ok, Fault, Claim}
-use Rattle.brc_model.specs.Machine.{Actor, Machine, Begun, Stuck, Quiet, Work, begun_by, done_by, at_place, with_actor, begins, goes_on, acts, may_claim, chosen, next_machine}
-use Rattle.brc_model.proofs.Begins.{IsTaken}
+use Rattle.brc_model.specs.Machine.{Actor, Machine, Begun, Stuck, Quiet, Work, begun_by, done_by, at_place, with_actor, begins, goes_on, acts, may_claim, chosen, next_machine, with_moves}
+use Rattle.brc_model.proofs.Begins.{IsTaken, QuietMoves}
 use Rattle.brc_model.proofs.Sits.{sitting, Sits, AtRest, taken_up_step}
 use Rattle.brc_model.proofs.TakenSits.{taken_sits, rests, begun_fits}
 use Rattle.brc_model.proofs.Leaves.{AtDuty}
 use Rattle.brc_model.proofs.OwnExits.{IsSettled}
 use Rattle.brc_model.proofs.Whole.{Whole, Doing, sits_down, starts_settled}
 use Rattle.brc_model.proofs.WholeEvents.{ClaimsSo, claims_so}
+use Rattle.brc_model.specs.Plain.{Move}
 
 -- what a property of a machine, of the thread that steps and of the machine afterwards has to show
 pub record ShowsSteps (Q : ℕ → Machine → Machine → Type 0) (p : Module) (n : ℕ) : Type 0 where
@@ -26,8 +27,8 @@ pub record ShowsSteps (Q : ℕ → Machine → Machine → Type 0) (p : Module) 
   pub stays : (t : ℕ) (m : Machine) → Whole p n m → Q t m m
   -- it doesn't look at where the thread stands, nor at what it has to do
   pub sits : (t : ℕ) (m new : Machine) (a : Actor) (place : Place) (agenda : List Duty) → slice_get m.actors t ≡ Some a → Q t (with_actor m t (sitting a place agenda)) new → Q t m new
-  -- the thread stands elsewhere, and that is all
-  pub moves : (t : ℕ) (m : Machine) (a : Actor) (place : Place) → Whole p n m → slice_get m.actors t ≡ Some a → Q t m (with_actor m t (at_place a place))
+  -- the thread stands elsewhere, and some of its references move
+  pub moves : (t : ℕ) (m : Machine) (a : Actor) (moves : List Move) (place : Place) → Whole p n m → slice_get m.actors t ≡ Some a → QuietMoves m.plain.references t moves → Q t m (with_moves (with_actor m t (at_place a place)) moves)
   -- the thread does its first duty
   pub does : (t : ℕ) (m : Machine) (a : Actor) (d : Duty) (rest : List Duty) → Doing p n m t a d rest → Q t m (done_by m t a d rest)
 
@@ -47,7 +48,7 @@ begun_shows : {Q : ℕ → Machine → Machine → Type 0} {p : Module} {n : ℕ
     → Whole p n m → AtRest p n m t a → IsTaken (code_of (slice_get p.functions a.function)) m.plain.references m.rows t a.used b
     → Q t m (begins m t a b)
 begun_shows {Q = Q} {p = p} {n = n} shows m t a Stuck whole at taken = absurd taken
-begun_shows {Q = Q} {p = p} {n = n} shows m t a (Quiet place) whole at taken = shows.moves t m a place whole at.found
+begun_shows {Q = Q} {p = p} {n = n} shows m t a (Quiet moves place) whole at taken = shows.moves t m a moves place whole at.found taken.moves_fit
 begun_shows {Q = Q} {p = p} {n = n} shows m t a (Work [] place) whole at taken = absurd taken
 begun_shows {Q = Q} {p = p} {n = n} shows m t a (Work (d ∷ rest) place) whole at taken =
     taken_shows shows m t a place d rest whole at (taken_sits p n m t a place d rest at taken) (starts_settled m.plain.references m.rows t a.used a.head place d rest taken.starts taken.follows)

@@ -103,7 +103,7 @@ taken_within p n m t a d rest place whole at few taken =
     let middle : Whole p n (with_actor m t now) = whole_sits p n m t a place (d ∷ rest) whole at (taken_sits p n m t a place d rest at taken) settled in
     let alive : a.status ≡ Gone → ⊥ = λ e. (let wrong : Running ≡ Gone = sym at.running ∙ e in absurd cc) in
     let within : IsWithin (world_of (with_actor m t now)) t now d =
-    duty_within p n (with_actor m t now) t now d rest middle (slice_get-set_same m.actors t now (slice_get_within m.actors t a at.found)) refl alive (starts_small p n m t d at.rule taken.starts) few in
+    duty_within p n (with_actor m t now) t now d rest middle (slice_get-set_same m.actors t now (slice_get_within m.actors t a at.found)) refl alive (starts_small p n m t a d rest at.rule at.found taken.starts) few in
     let long = length-set m.actors t now in
     record {
       there = subst (λ (l : ℕ). IsThere (2 + (l - 1) * m.rows) l (address_of m.rows t a.head d)) long within.there;

@@ -1,13 +1,13 @@
 -- Which steps change the world: each of a thread that isn't gone, but for a claim that is out of place or finds no mark.
-use Rattle.std.proofs.Common.{◌≡◌, ◌≢◌, ℕ, zero, suc, ◌+◌, Bool, true, false, cond, List, [], ◌∷◌, ◌++◌, length, Option, None, Some, refl, sym, ap, ◌∙◌, subst, arith}
+use Rattle.std.proofs.Common.{◌≡◌, ◌≢◌, ℕ, zero, suc, ◌+◌, Bool, true, false, cond, List, [], ◌∷◌, ◌++◌, length, Option, None, Some, refl, sym, ap, ◌∙◌, subst, arith, ◌<◌}
 use Rattle.std.specs.Prelude.{◌==◌, slice_get, slice_set}
 use Rattle.std.proofs.Math.Path.{fun_ext}
 use Rattle.std.proofs.lemmas.Option.{slice_get_within}
 use Rattle.brc_lang.specs.declared.module.Instr.{Instr}
-use Rattle.brc_lang.specs.declared.module.Instr.TheVariants.{Newref, Drop, Ret, Fail}
+use Rattle.brc_lang.specs.declared.module.Instr.TheVariants.{Num, NoneObject, Newref, Move as MoveReference, Drop, Goto, Ret, Fail}
 use Rattle.brc_lang.specs.declared.module.Module.{Module}
 use Rattle.brc_model.specs.declared.thread.Choice.TheVariants.{Ok, Fault, Claim}
-use Rattle.brc_model.specs.Plain.{Reference}
+use Rattle.brc_model.specs.Plain.{Reference, none_row}
 use Rattle.brc_model.specs.Threads.{row_of, entry_variables, code_of}
 use Rattle.brc_model.specs.declared.duty.Reason.TheVariants.{Handed}
 use Rattle.brc_model.specs.declared.duty.Duty.{Duty}
@@ -19,7 +19,7 @@ use Rattle.brc_model.specs.declared.actor.Status.{Status}
 use Rattle.brc_model.specs.declared.actor.Status.TheVariants.{Running, Leaving, Gone}
 use Rattle.brc_model.specs.declared.actor.Place.{Place}
 use Rattle.brc_model.specs.declared.actor.Place.TheVariants.{Standing, Inside, Departing}
-use Rattle.brc_model.specs.Machine.{Actor, Machine, Begun, Stuck, Quiet, Work, with_row, begun_instruction, begun, begun_by, is_running, actor_by, done_by, at_place, begins, goes_on, acts, may_claim, chosen, next_machine, first_machine, machine_after, written}
+use Rattle.brc_model.specs.Machine.{Actor, Machine, Begun, Stuck, Quiet, Work, with_row, begun_instruction, begun, begun_by, is_running, actor_by, done_by, at_place, begins, goes_on, acts, may_claim, chosen, next_machine, first_machine, machine_after, written, has_room, next_row}
 use Rattle.brc_model.specs.World.{World, world_of, machine_of, step, IsReachable}
 use Rattle.brc_model.proofs.Lists.{some_is, slice_get-set_same, set_found}
 use Rattle.brc_model.proofs.Written.{written_here, written_load}
@@ -32,6 +32,8 @@ use Rattle.brc_model.proofs.Safe.{first_whole}
 use Rattle.brc_model.proofs.Worlds.{worlds_follow}
 use Rattle.brc_model.proofs.AgendaMoves.{agenda_moves}
 use Rattle.brc_model.proofs.Emptied.{chain_empty}
+use Rattle.brc_lang.specs.Grammar.{LeadsForward}
+use Rattle.brc_lang.specs.declared.module.Function.{Function}
 
 -- ---- a thread that goes on
 
@@ -43,39 +45,53 @@ actor_apart v w t a b found set apart e =
 -- the thread then stands elsewhere
 abbrev IsElsewhere : Place → Begun → Type 0
 IsElsewhere place Stuck = Unit {0}
-IsElsewhere place (Quiet next) = next ≢ place
+IsElsewhere place (Quiet moves next) = next ≢ place
 IsElsewhere place (Work duties next) = next ≢ place
 
 row_elsewhere : (place : Place) (o : Option ℕ) (work : ℕ → Begun) → ((row : ℕ) → IsElsewhere place (work row)) → IsElsewhere place (with_row o work)
 row_elsewhere place None work each = tt
 row_elsewhere place (Some row) work each = each row
 
--- the next instruction of a call, or the end of the call
-instruction_elsewhere : (place : Place) (left at : ℕ) (variables : List (Option ℕ)) (i : Option Instr) → ((later : List (Option ℕ)) → Inside left (at + 1) later ≢ place) → Standing left ≢ place
-    → IsElsewhere place (begun_instruction left at variables i)
-instruction_elsewhere place left at variables None inside ends = tt
-instruction_elsewhere place left at variables (Some (Newref to from)) inside ends = row_elsewhere place (row_of variables from) _ (λ row. inside (slice_set variables to (Some row)))
-instruction_elsewhere place left at variables (Some (Drop from)) inside ends = row_elsewhere place (row_of variables from) _ (λ row. inside (slice_set variables from None))
-instruction_elsewhere place left at variables (Some (Ret from)) inside ends = row_elsewhere place (row_of variables from) _ (λ row. ends)
-instruction_elsewhere place left at variables (Some Fail) inside ends = ends
+room_elsewhere : (place : Place) (b : Bool) (one two : Begun) → IsElsewhere place one → IsElsewhere place two → IsElsewhere place (cond b one two)
+room_elsewhere place true one two first second = first
+room_elsewhere place false one two first second = second
+
+-- a later instruction of a call, or the end of the call
+instruction_elsewhere : (place : Place) (rows t used left at : ℕ) (variables : List (Option ℕ)) (code : List Instr) (i : Option Instr) → LeadsForward code → slice_get code at ≡ i
+    → ((next : ℕ) (later : List (Option ℕ)) → at < next → Inside left next later ≢ place) → Standing left ≢ place → IsElsewhere place (begun_instruction rows t used left at variables i)
+instruction_elsewhere place rows t used left at variables code None forward found inside ends = tt
+instruction_elsewhere place rows t used left at variables code (Some (Num to value otherwise)) forward found inside ends =
+    room_elsewhere place (has_room rows t used) _ _ (inside (at + 1) (slice_set variables to (Some (next_row rows t used))) (omega arith))
+    (inside otherwise (slice_set variables to None) (forward at (Num to value otherwise) otherwise found refl).0)
+instruction_elsewhere place rows t used left at variables code (Some (NoneObject to)) forward found inside ends = inside (at + 1) (slice_set variables to (Some none_row)) (omega arith)
+instruction_elsewhere place rows t used left at variables code (Some (Newref to from)) forward found inside ends =
+    row_elsewhere place (row_of variables from) _ (λ row. inside (at + 1) (slice_set variables to (Some row)) (omega arith))
+instruction_elsewhere place rows t used left at variables code (Some (MoveReference to from)) forward found inside ends =
+    row_elsewhere place (row_of variables from) _ (λ row. inside (at + 1) (slice_set (slice_set variables from None) to (Some row)) (omega arith))
+instruction_elsewhere place rows t used left at variables code (Some (Drop from)) forward found inside ends =
+    row_elsewhere place (row_of variables from) _ (λ row. inside (at + 1) (slice_set variables from None) (omega arith))
+instruction_elsewhere place rows t used left at variables code (Some (Goto to)) forward found inside ends = inside to variables (forward at (Goto to) to found refl).0
+instruction_elsewhere place rows t used left at variables code (Some (Ret from)) forward found inside ends = row_elsewhere place (row_of variables from) _ (λ row. ends)
+instruction_elsewhere place rows t used left at variables code (Some Fail) forward found inside ends = ends
 
 one_call_less : (left : ℕ) → Standing left ≢ Standing (suc left)
 one_call_less left e = (let same : left ≡ suc left = cc in omega (arith, same))
 
-one_point_on : (left at : ℕ) (variables later : List (Option ℕ)) → Inside left (at + 1) later ≢ Inside left at variables
-one_point_on left at variables later e = (let same : at + 1 ≡ at = cc in omega (arith, same))
+one_point_on : (left at next : ℕ) (variables later : List (Option ℕ)) → at < next → Inside left next later ≢ Inside left at variables
+one_point_on left at next variables later on e = (let same : next ≡ at = cc in omega (arith, same, on))
 
-begun_elsewhere : (rows t used : ℕ) (code : List Instr) (place : Place) → IsElsewhere place (begun rows t used code place)
-begun_elsewhere rows t used code Departing = tt
-begun_elsewhere rows t used code (Standing zero) = λ e. cc
-begun_elsewhere rows t used code (Standing (suc left)) = instruction_elsewhere (Standing (suc left)) left 0 entry_variables (slice_get code 0) (λ later e. cc) (one_call_less left)
-begun_elsewhere rows t used code (Inside left at variables) =
-    instruction_elsewhere (Inside left at variables) left at variables (slice_get code at) (λ later e. one_point_on left at variables later e) (λ e. cc)
+begun_elsewhere : (rows t used : ℕ) (code : List Instr) (place : Place) → LeadsForward code → IsElsewhere place (begun rows t used code place)
+begun_elsewhere rows t used code Departing forward = tt
+begun_elsewhere rows t used code (Standing zero) forward = λ e. cc
+begun_elsewhere rows t used code (Standing (suc left)) forward =
+    instruction_elsewhere (Standing (suc left)) rows t used left 0 entry_variables code (slice_get code 0) forward refl (λ next later on e. cc) (one_call_less left)
+begun_elsewhere rows t used code (Inside left at variables) forward =
+    instruction_elsewhere (Inside left at variables) rows t used left at variables code (slice_get code at) forward refl (λ next later on e. one_point_on left at next variables later on e) (λ e. cc)
 
 begins_move : (m : Machine) (t : ℕ) (a : Actor) (b : Begun) (code : List Instr) (bag : List Reference) → slice_get m.actors t ≡ Some a → IsTaken code bag m.rows t a.used b → IsElsewhere a.place b → world_of (begins m t a b) ≢ world_of m
 begins_move m t a Stuck code bag found taken elsewhere = absurd taken
-begins_move m t a (Quiet place) code bag found taken elsewhere =
-    actor_apart (world_of (begins m t a (Quiet place))) (world_of m) t a (at_place a place) found refl (λ e. elsewhere (ap (λ (c : Actor). c.place) e))
+begins_move m t a (Quiet moves place) code bag found taken elsewhere =
+    actor_apart (world_of (begins m t a (Quiet moves place))) (world_of m) t a (at_place a place) found refl (λ e. elsewhere (ap (λ (c : Actor). c.place) e))
 begins_move m t a (Work [] place) code bag found taken elsewhere = absurd taken
 begins_move m t a (Work (d ∷ rest) place) code bag found taken elsewhere =
     actor_apart (world_of (begins m t a (Work (d ∷ rest) place))) (world_of m) t a (actor_by t (at_place a place) d rest (m.memory (address_of m.rows t a.head d))) found refl (λ e. elsewhere (ap (λ (c : Actor). c.place) e))
@@ -84,8 +100,10 @@ goes_on_move : (p : Module) (n : ℕ) (m : Machine) (t : ℕ) (a : Actor) (agend
 goes_on_move p n m t a [] whole found alive is =
     let at_rest = rests p n m t a whole.rule found alive is in
     let at : AtRest p n m t a = record { rule = whole.rule; found = found; agenda = is; running = at_rest.1 } in
+    let forward : LeadsForward (code_of (slice_get m.functions a.function)) =
+    subst (λ (fs : List Function). LeadsForward (code_of (slice_get fs a.function))) (sym whole.rule.functions) (whole.rule.each t a found).0.instructions.forward in
     begins_move m t a (begun_by m t a) (code_of (slice_get p.functions a.function)) m.plain.references found (begun_fits p n m t a at at_rest.0)
-    (begun_elsewhere m.rows t a.used (code_of (slice_get m.functions a.function)) a.place)
+    (begun_elsewhere m.rows t a.used (code_of (slice_get m.functions a.function)) a.place forward)
 goes_on_move p n m t a (d ∷ rest) whole found alive is =
     let word = m.memory (address_of m.rows t a.head d) in
     actor_apart (world_of (done_by m t a d rest)) (world_of m) t a (actor_by t a d rest word) found refl

@@ -8,24 +8,26 @@ use Rattle.brc_model.specs.declared.duty.Holding.{Holding}
 use Rattle.brc_model.specs.Plain.{Reference, references_to}
 use Rattle.brc_model.specs.Threads.{code_of}
 use Rattle.brc_model.specs.declared.duty.Duty.{Duty}
-use Rattle.brc_model.specs.declared.duty.Duty.TheVariants.{RetainLoad, ReleaseLoad, Settle, Leave, ClaimMark}
+use Rattle.brc_model.specs.declared.duty.Duty.TheVariants.{RetainLoad, ReleaseLoad, Settle, Leave, ClaimMark, BirthKind}
 use Rattle.brc_model.specs.Duties.{block_of}
 use Rattle.brc_model.specs.declared.actor.Status.{Status}
 use Rattle.brc_model.specs.declared.actor.Status.TheVariants.{Running, Leaving, Gone}
 use Rattle.brc_model.specs.declared.actor.Place.{Place}
 use Rattle.brc_model.specs.declared.actor.Place.TheVariants.{Standing, Departing}
-use Rattle.brc_model.specs.Machine.{Actor, Machine, first_row, begun, begun_by}
+use Rattle.brc_model.specs.Machine.{Actor, Machine, first_row, begun, begun_by, with_actor, block_size, next_row}
 use Rattle.brc_model.proofs.Bag.{held-le-references_to}
 use Rattle.brc_model.proofs.Holds.{reference_of, the_root}
 use Rattle.brc_model.proofs.Rows.{waits, carries, merges, decides}
-use Rattle.brc_model.proofs.Rule.{HoldsAt, PlaceFits, Later, Agenda, AgendaFits, NoneHanded, looks, Rule}
-use Rattle.brc_model.proofs.Begins.{Starts, Gives, Takes, Follows, Nothing, Settles, Leaves, Taken, IsTaken}
+use Rattle.brc_model.proofs.Rule.{HoldsAt, PlaceFits, Later, Agenda, AgendaFits, NoneHanded, looks, Rule, IsNext}
+use Rattle.brc_model.proofs.Begins.{Starts, Gives, Takes, Follows, Nothing, Settles, Leaves, Taken, IsTaken, Bears}
 use Rattle.brc_model.proofs.Taking.{begun_taken}
-use Rattle.brc_model.proofs.Sits.{Sits, AtRest}
+use Rattle.brc_model.proofs.Sits.{Sits, AtRest, sitting}
 
-row_positive : (p : Module) (n : ℕ) (m : Machine) (row : ℕ) → Rule p n m → 0 < references_to row m.plain.references → 0 < row
-row_positive p n m zero rule some = absurd (omega (arith, rule.none_free, some))
-row_positive p n m (suc row) rule some = omega arith
+-- a thread with room is no main, which has used all its rows
+next_is : (p : Module) (n : ℕ) (m : Machine) (t : ℕ) (a : Actor) (place : Place) (agenda : List Duty) → AtRest p n m t a → a.used < block_size m.rows t
+    → IsNext (with_actor m t (sitting a place agenda)) t (sitting a place agenda) (next_row m.rows t a.used)
+next_is p n m zero a place agenda at room = absurd (omega (arith, room, (at.rule.uses 0 a at.found).main refl))
+next_is p n m (suc t) a place agenda at room = record { running = at.running; worker = omega arith; row = refl; room = room }
 
 later_follows : (rows t used : ℕ) (place : Place) (rest : List Duty) → Follows rows t used place rest → Later rows t used Running place rest
 later_follows rows t used place rest (Nothing stays) = (stays, refl)
@@ -45,12 +47,12 @@ follows_weigh rows t used place rest f settle leave (Leaves leaves) =
     let x = first_row rows t in omega (arith, sum_by-cons f Settle (Leave x used ∷ []), sum_by-cons f (Leave x used) [], settle, leave x used)
 
 starts_sit : (p : Module) (n : ℕ) (m : Machine) (t : ℕ) (a : Actor) (place : Place) (d : Duty) (rest : List Duty) → AtRest p n m t a → PlaceFits (code_of (slice_get p.functions a.function)) m.plain.references t (d ∷ rest) place
-    → Starts m.plain.references t d → Follows m.rows t a.used place rest → Sits p m t a place (d ∷ rest)
-starts_sit p n m t a place d rest at placed (Gives row h some) follows =
+    → Starts m.plain.references m.rows t a.used d rest → Follows m.rows t a.used place rest → Sits p m t a place (d ∷ rest)
+starts_sit p n m t a place d rest at placed (Gives row h behind some) follows =
     let weigh = λ (f : Duty → ℕ) (settle : f Settle ≡ 0) (leave : (x k : ℕ) → f (Leave x k) ≡ 0). follows_weigh m.rows t a.used place rest f settle leave follows in
     record {
       placed = placed;
-      knows = row_positive p n m row at.rule some;
+      knows = tt;
       fits = later_follows m.rows t a.used place rest follows;
       handed = none_handed m.rows t a.used place rest follows;
       hands = λ x. refl;
@@ -60,12 +62,11 @@ starts_sit p n m t a place d rest at placed (Gives row h some) follows =
       no_decides = λ x. omega (arith, sum_by-cons (decides x) (ReleaseLoad row h) rest, weigh (decides x) refl (λ y k. refl));
       no_looks = λ x. omega (arith, sum_by-cons (looks x) (ReleaseLoad row h) rest, weigh (looks x) refl (λ y k. refl));
     }
-starts_sit p n m t a place d rest at placed (Takes row h by some) follows =
+starts_sit p n m t a place d rest at placed (Takes row h by behind some) follows =
     let weigh = λ (f : Duty → ℕ) (settle : f Settle ≡ 0) (leave : (x k : ℕ) → f (Leave x k) ≡ 0). follows_weigh m.rows t a.used place rest f settle leave follows in
-    let referenced : 0 < references_to row m.plain.references = omega (arith, some, held-le-references_to (reference_of t by row) m.plain.references) in
     record {
       placed = placed;
-      knows = (row_positive p n m row at.rule referenced, record { by = by; held_so = some });
+      knows = record { by = by; held_so = some };
       fits = later_follows m.rows t a.used place rest follows;
       handed = none_handed m.rows t a.used place rest follows;
       hands = λ x. refl;
@@ -76,24 +77,24 @@ starts_sit p n m t a place d rest at placed (Takes row h by some) follows =
       no_looks = λ x. omega (arith, sum_by-cons (looks x) (RetainLoad row h) rest, weigh (looks x) refl (λ y k. refl));
     }
 
+starts_sit p n m t a place d rest at placed (Bears h w room few) follows =
+    let row = next_row m.rows t a.used in
+    record {
+      placed = placed;
+      knows = (next_is p n m t a place (BirthKind row h w ∷ []) at room, refl);
+      fits = later_follows m.rows t a.used place [] follows;
+      handed = tt;
+      hands = λ x. refl;
+      no_waits = λ x. sum_by-cons (waits x) (BirthKind row h w) [];
+      no_carries = λ x. sum_by-cons (carries x) (BirthKind row h w) [];
+      no_merges = λ x. sum_by-cons (merges x) (BirthKind row h w) [];
+      no_decides = λ x. sum_by-cons (decides x) (BirthKind row h w) [];
+      no_looks = λ x. sum_by-cons (looks x) (BirthKind row h w) [];
+    }
+
 pub taken_sits : (p : Module) (n : ℕ) (m : Machine) (t : ℕ) (a : Actor) (place : Place) (d : Duty) (rest : List Duty) → AtRest p n m t a
     → Taken (code_of (slice_get p.functions a.function)) m.plain.references m.rows t a.used place d rest → Sits p m t a place (d ∷ rest)
 taken_sits p n m t a place d rest at taken = starts_sit p n m t a place d rest at taken.placed taken.starts taken.follows
-
--- a thread that only stands elsewhere
-pub quiet_sits : (p : Module) (m : Machine) (t : ℕ) (a : Actor) (place : Place) → PlaceFits (code_of (slice_get p.functions a.function)) m.plain.references t [] place → (place ≢ Departing) → Sits p m t a place []
-quiet_sits p m t a place placed stays = record {
-  placed = placed;
-  knows = tt;
-  fits = (stays, refl);
-  handed = tt;
-  hands = λ x. refl;
-  no_waits = λ x. refl;
-  no_carries = λ x. refl;
-  no_merges = λ x. refl;
-  no_decides = λ x. refl;
-  no_looks = λ x. refl;
-}
 
 -- the claim of a row of the thread's own block
 same_at : (bag : List Reference) (t row : ℕ) (says : Holding → ℕ → Bool) → HoldsAt bag t says [] → HoldsAt bag t says (ClaimMark row ∷ [])

@@ -38,12 +38,12 @@ set_goes m t a b found = slice_get-set_same m.actors t b (slice_get_within m.act
 
 begins_goes : (m : Machine) (t : ℕ) (a : Actor) (b : Begun) → slice_get m.actors t ≡ Some a → a.status ≢ Gone → a.agenda ≡ [] → begun_by m t a ≡ b → Goes m (begins m t a b) t a (made_beginning m t a b)
 begins_goes m t a Stuck found alive rests is = stands m t a found
-begins_goes m t a (Quiet place) found alive rests is = record {
+begins_goes m t a (Quiet moves place) found alive rests is = record {
   functions = refl;
   rows = refl;
   after = at_place a place;
   is_there = set_goes m t a (at_place a place) found;
-  went = Steps (Quietly place alive rests is);
+  went = Steps (Quietly moves place alive rests is);
 }
 begins_goes m t a (Work [] place) found alive rests is = stands m t a found
 begins_goes m t a (Work (d ∷ rest) place) found alive rests is =
@@ -106,7 +106,7 @@ leaves_all m t = record { functions = refl; rows = refl; actor = refl }
 
 begins_leaves : (m : Machine) (u t : ℕ) (a : Actor) (b : Begun) → t ≢ u → LeavesAt m (begins m u a b) t
 begins_leaves m u t a Stuck ne = leaves_all m t
-begins_leaves m u t a (Quiet place) ne = record { functions = refl; rows = refl; actor = slice_get-set_other m.actors u t (at_place a place) ne }
+begins_leaves m u t a (Quiet moves place) ne = record { functions = refl; rows = refl; actor = slice_get-set_other m.actors u t (at_place a place) ne }
 begins_leaves m u t a (Work [] place) ne = leaves_all m t
 begins_leaves m u t a (Work (d ∷ rest) place) ne = record {
   functions = refl;

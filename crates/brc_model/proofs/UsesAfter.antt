@@ -1,5 +1,5 @@
 -- Which rows are born after a step, and which are used.
-use Rattle.std.proofs.Common.{◌≡◌, ◌≢◌, ℕ, ◌+◌, ◌<◌, ◌≤◌, Bool, true, false, cond, List, [], ◌∷◌, ◌++◌, ◌⊎◌, inl, inr, Option, None, Some, refl, sym, ap, ◌∙◌, subst, arith}
+use Rattle.std.proofs.Common.{◌≡◌, ◌≢◌, ℕ, ◌+◌, ◌<◌, ◌≤◌, Bool, true, false, cond, List, [], ◌∷◌, ◌++◌, ◌⊎◌, inl, inr, Option, None, Some, refl, sym, ap, ◌∙◌, subst, arith, zero, suc}
 use Rattle.std.specs.Prelude.{◌==◌, ◌||◌, slice_get, slice_set}
 use Rattle.std.proofs.lemmas.Bool.{eq-eqb, eqb-true, cases_lt}
 use Rattle.std.proofs.lemmas.Bool.Decides.{eqb_tells}
@@ -12,9 +12,9 @@ use Rattle.brc_model.specs.Plain.{is_among, Plain, Move, Born, Gain, Lose, HandO
 use Rattle.brc_word.specs.Words.{is_immortal_word}
 use Rattle.brc_model.specs.declared.duty.Reason.TheVariants.{Own}
 use Rattle.brc_model.specs.declared.duty.Duty.{Duty}
-use Rattle.brc_model.specs.declared.duty.Duty.TheVariants.{RetainLoad, RetainStore, RetainAdd, ReleaseLoad, ReleaseStore, SharedExchange, SettleEnd, BirthLocal}
+use Rattle.brc_model.specs.declared.duty.Duty.TheVariants.{RetainLoad, RetainStore, RetainAdd, ReleaseLoad, ReleaseStore, SharedExchange, SettleEnd, BirthLocal, SettleCell}
 use Rattle.brc_model.specs.Duties.{block_of, address_of}
-use Rattle.brc_model.specs.Machine.{Actor, Life, Unborn, Live, Dying, Closed, Machine, first_row, used_by, hand_on, gain, lose, moves_by, born_row, with_life, actor_by, done_by}
+use Rattle.brc_model.specs.Machine.{Actor, Life, Unborn, Live, Dying, Closed, Machine, first_row, used_by, hand_on, gain, lose, moves_by, born_row, with_life, actor_by, done_by, take_out}
 use Rattle.brc_model.proofs.Lists.{some_is, written_actor, slice_get-set_same, slice_get-set_other}
 use Rattle.brc_model.proofs.Rule.{IsNext, UsesFit, Rule}
 use Rattle.brc_model.proofs.Blocks.{next_above, next_block, next_unborn}
@@ -164,6 +164,10 @@ hand_on_none t (ByVariable v) x = (tt, tt)
 hand_on_none t AsCaller x = (tt, tt)
 hand_on_none t InHand x = tt
 
+take_out_none : (t x i found : ℕ) → AllBearNone (take_out t x i found)
+take_out_none t x i zero = tt
+take_out_none t x i (suc y) = (tt, tt)
+
 moves_none : (t : ℕ) (d : Duty) (found : ℕ) → born_row d ≡ None → AllBearNone (moves_by t d found)
 moves_none t (RetainLoad x h) found e = either_none (is_immortal_word found) (gain t h x) [] (tt, tt) tt
 moves_none t (RetainStore x h w) found e = (tt, tt)
@@ -171,6 +175,7 @@ moves_none t (RetainAdd x h) found e = (tt, tt)
 moves_none t (ReleaseLoad x h) found e = append_none (hand_on t h x) (cond (is_immortal_word found) (lose t x) []) (hand_on_none t h x) (either_none (is_immortal_word found) (lose t x) [] (tt, tt) tt)
 moves_none t (ReleaseStore x w) found e = (tt, tt)
 moves_none t (SharedExchange x Own w) found e = either_none (found == w) (lose t x) [] (tt, tt) tt
+moves_none t (SettleCell x i k) found e = take_out_none t x i found
 moves_none t (SettleEnd x) found e = (tt, tt)
 moves_none t (BirthLocal x h) found e = absurd (let wrong : Some x ≡ None = e in cc)
 moves_none t _ found e = tt

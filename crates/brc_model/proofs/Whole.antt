@@ -1,5 +1,5 @@
 -- The whole invariant, and that each event keeps it and is not bad.
-use Rattle.std.proofs.Common.{◌≡◌, ◌≢◌, ℕ, zero, suc, Bool, false, List, ◌∷◌, inl, inr, Some, refl, sym, ap, ◌∙◌, subst}
+use Rattle.std.proofs.Common.{◌≡◌, ◌≢◌, ℕ, zero, suc, Bool, false, List, ◌∷◌, inl, inr, Some, refl, sym, ap, ◌∙◌, subst, arith}
 use Rattle.std.specs.Prelude.{slice_get, slice_set}
 use Rattle.std.proofs.lemmas.Bool.Decides.{eqb_tells}
 use Rattle.std.proofs.lemmas.Option.{slice_get_within}
@@ -16,17 +16,18 @@ use Rattle.brc_model.proofs.Lists.{some_is, slice_get-set_same, slice_get-set_ot
 use Rattle.brc_model.proofs.Rule.{Rule}
 use Rattle.brc_model.proofs.Leaves.{AtDuty}
 use Rattle.brc_model.proofs.Neutral.{OwnFits, found_by}
-use Rattle.brc_model.proofs.OwnRetains.{own_retain_load}
-use Rattle.brc_model.proofs.OwnReleases.{own_retain_store, own_retain_add, own_release_load, own_release_store, own_decide, own_shared_load, own_shared_exchange}
+use Rattle.brc_model.proofs.OwnRetains.{own_retain_counted}
+use Rattle.brc_model.proofs.OwnReleases.{own_retain_store, own_retain_add, own_release_counted, release_held, own_release_store, own_decide, own_shared_load, own_shared_exchange}
 use Rattle.brc_model.proofs.OwnMerges.{own_set_mark, own_look, own_take_mark, own_merge_swap_own, own_merge_swap_handed, own_merge_load, own_merge_exchange}
 use Rattle.brc_model.proofs.OwnSettles.{own_die, own_settle, own_settle_kind, own_settle_cell, own_take_slot, own_close_resource, own_settle_end}
 use Rattle.brc_model.proofs.OwnExits.{own_leave, own_scan, own_finish, own_claim_mark, IsSettled, settled_after}
 use Rattle.brc_model.proofs.Watches.{marks_after}
 use Rattle.brc_model.proofs.KeepsDuty.{keeps_by}
 use Rattle.brc_model.proofs.NotBad.{duty_not_bad}
-use Rattle.brc_model.proofs.Begins.{Starts, Gives, Takes, Follows, Nothing, Settles as SettlesFirst, Leaves}
+use Rattle.brc_model.proofs.Begins.{Starts, Gives, Takes, Follows, Nothing, Settles as SettlesFirst, Leaves, Bears}
 use Rattle.brc_model.proofs.Sits.{sitting, Sits, AtRest, sits_rule, taken_up_step}
 use Rattle.brc_model.proofs.OwnBirths.{own_birth_kind, own_birth_slot, own_birth_local}
+use Rattle.brc_model.proofs.Nones.{own_retain_none, own_release_none}
 
 pub record Whole (p : Module) (n : ℕ) (m : Machine) : Type 0 where
   pub rule : Rule p n m
@@ -36,10 +37,12 @@ pub record Whole (p : Module) (n : ℕ) (m : Machine) : Type 0 where
 
 own_fits : (p : Module) (n : ℕ) (m : Machine) (t : ℕ) (a : Actor) (d : Duty) (rest : List Duty) → AtDuty p n m t a d rest → (a.status ≡ Gone → ⊥) → IsSettled a.head (d ∷ rest)
     → OwnFits p (done_by m t a d rest) t (actor_by t a d rest (found_by m t a d))
-own_fits p n m t a (RetainLoad x h) rest here alive settled = own_retain_load p n m t a x h rest here alive
+own_fits p n m t a (RetainLoad zero h) rest here alive settled = own_retain_none p n m t a h rest here alive
+own_fits p n m t a (RetainLoad (suc x) h) rest here alive settled = own_retain_counted p n m t a (suc x) h rest (omega arith) here alive
 own_fits p n m t a (RetainStore x h w) rest here alive settled = own_retain_store p n m t a x h w rest here alive
 own_fits p n m t a (RetainAdd x h) rest here alive settled = own_retain_add p n m t a x h rest here alive
-own_fits p n m t a (ReleaseLoad x h) rest here alive settled = own_release_load p n m t a x h rest here alive
+own_fits p n m t a (ReleaseLoad zero h) rest here alive settled = own_release_none p n m t a h rest here alive (release_held p n m t a 0 h rest here)
+own_fits p n m t a (ReleaseLoad (suc x) h) rest here alive settled = own_release_counted p n m t a (suc x) h rest (omega arith) here alive
 own_fits p n m t a (ReleaseStore x w) rest here alive settled = own_release_store p n m t a x w rest here alive
 own_fits p n m t a (DecideAtZero x) rest here alive settled = own_decide p n m t a x rest here alive
 own_fits p n m t a (SharedLoad x r) rest here alive settled = own_shared_load p n m t a x r rest here alive
@@ -114,10 +117,11 @@ taken_up p n m t a place d rest whole at sits settled =
     let done = keeps_duty p n (with_actor m t now) t now d rest (sits_down p n m t a place d rest whole at sits settled) in
     (done.0, subst (Whole p n) (taken_up_step m t a place d rest) done.1)
 
-pub starts_settled : (bag : List Reference) (rows t used head : ℕ) (place : Place) (d : Duty) (rest : List Duty) → Starts bag t d → Follows rows t used place rest → IsSettled head (d ∷ rest)
-starts_settled bag rows t used head place d rest (Gives row h some) (Nothing stays) = tt
-starts_settled bag rows t used head place d rest (Gives row h some) (SettlesFirst stays) = tt
-starts_settled bag rows t used head place d rest (Gives row h some) (Leaves leaves) = tt
-starts_settled bag rows t used head place d rest (Takes row h by some) (Nothing stays) = tt
-starts_settled bag rows t used head place d rest (Takes row h by some) (SettlesFirst stays) = tt
-starts_settled bag rows t used head place d rest (Takes row h by some) (Leaves leaves) = tt
+pub starts_settled : (bag : List Reference) (rows t used head : ℕ) (place : Place) (d : Duty) (rest : List Duty) → Starts bag rows t used d rest → Follows rows t used place rest → IsSettled head (d ∷ rest)
+starts_settled bag rows t used head place d rest (Gives row h behind some) (Nothing stays) = tt
+starts_settled bag rows t used head place d rest (Gives row h behind some) (SettlesFirst stays) = tt
+starts_settled bag rows t used head place d rest (Gives row h behind some) (Leaves leaves) = tt
+starts_settled bag rows t used head place d rest (Takes row h by behind some) (Nothing stays) = tt
+starts_settled bag rows t used head place d rest (Takes row h by behind some) (SettlesFirst stays) = tt
+starts_settled bag rows t used head place d rest (Takes row h by behind some) (Leaves leaves) = tt
+starts_settled bag rows t used head place d rest (Bears h w room few) follows = tt

@@ -1,5 +1,5 @@
 -- Each event, by whatever thread and choice, keeps the whole invariant and is not bad.
-use Rattle.std.proofs.Common.{◌≡◌, ℕ, zero, suc, ◌+◌, ◌<◌, ◌≤◌, Bool, true, false, cond, List, [], ◌∷◌, length, Option, None, Some, refl, sym, ap, ◌∙◌, subst, arith}
+use Rattle.std.proofs.Common.{◌≡◌, ℕ, zero, suc, ◌+◌, ◌<◌, ◌≤◌, Bool, true, false, cond, List, [], ◌∷◌, length, Option, None, Some, refl, sym, ap, ◌∙◌, subst, arith, not}
 use Rattle.std.specs.Prelude.{◌==◌, ◌&&◌, nat_lt, nat_le, slice_get}
 use Rattle.std.proofs.lemmas.Bool.{eqb-true, ltb-true, leb-true}
 use Rattle.std.proofs.lemmas.List.{nil_from_length}
@@ -14,26 +14,31 @@ use Rattle.brc_model.specs.declared.actor.Place.{Place}
 use Rattle.brc_model.specs.declared.actor.Place.TheVariants.{Standing, Inside, Departing}
 use Rattle.brc_model.specs.declared.thread.Choice.{Choice}
 use Rattle.brc_model.specs.declared.thread.Choice.TheVariants.{Ok, Fault, Claim}
-use Rattle.brc_model.specs.Machine.{Actor, Machine, Begun, Stuck, Quiet, Work, begun_by, done_by, at_place, with_actor, begins, goes_on, acts, may_claim, first_row, is_running, chosen, next_machine, machine_after}
+use Rattle.brc_model.specs.Machine.{Actor, Machine, Begun, Stuck, Quiet, Work, begun_by, done_by, at_place, with_actor, begins, goes_on, acts, may_claim, first_row, is_running, chosen, next_machine, machine_after, with_moves}
 use Rattle.brc_model.specs.Events.{is_bad_duty, is_bad_begun, is_bad_agenda, is_bad_status, is_bad_choice, is_bad_event}
-use Rattle.brc_model.proofs.Lists.{and_first, and_second}
+use Rattle.brc_model.proofs.Lists.{and_first, and_second, written_actor}
 use Rattle.brc_model.proofs.Rule.{PlaceFits}
 use Rattle.brc_model.proofs.OwnRetains.{running_is}
 use Rattle.brc_model.proofs.Begins.{IsTaken}
 use Rattle.brc_model.proofs.Sits.{sitting, Sits, AtRest}
-use Rattle.brc_model.proofs.TakenSits.{taken_sits, quiet_sits, claim_sits, rests, begun_fits}
+use Rattle.brc_model.proofs.TakenSits.{taken_sits, claim_sits, rests, begun_fits}
 use Rattle.brc_model.proofs.Whole.{Whole, KeepsOn, keeps_duty, whole_sits, taken_up, starts_settled}
 use Rattle.brc_model.proofs.Blocks.{used_block}
+use Rattle.brc_model.proofs.Quiets.{quieted, quiet_rule, quiet_allowed}
+use Rattle.brc_model.proofs.OwnExits.{IsSettled}
 
 -- ---- what a thread at rest takes up
 
 begun_keeps : (p : Module) (n : ℕ) (m : Machine) (t : ℕ) (a : Actor) (b : Begun) → Whole p n m → AtRest p n m t a → IsTaken (code_of (slice_get p.functions a.function)) m.plain.references m.rows t a.used b
     → KeepsOn p n (is_bad_begun m t a b) (begins m t a b)
 begun_keeps p n m t a Stuck whole at taken = absurd taken
-begun_keeps p n m t a (Quiet place) whole at taken =
-    let here = whole_sits p n m t a place [] whole at (quiet_sits p m t a place taken.0 taken.1) tt in
-    let same : with_actor m t (sitting a place []) ≡ with_actor m t (at_place a place) = ap (λ (l : List Duty). with_actor m t (sitting a place l)) (sym at.agenda) in
-    (refl, subst (Whole p n) same here)
+begun_keeps p n m t a (Quiet moves place) whole at taken =
+    let here : Whole p n (quieted m t a moves place) = record {
+      rule = quiet_rule p n m t a moves place at taken;
+      settled = λ u b is. written_actor (λ w c. IsSettled c.head c.agenda) m.actors t a (sitting a place []) at.found tt whole.settled u b is;
+    } in
+    let same : quieted m t a moves place ≡ with_moves (with_actor m t (at_place a place)) moves = ap (λ (l : List Duty). with_moves (with_actor m t (sitting a place l)) moves) (sym at.agenda) in
+    (ap not (quiet_allowed m.plain t moves taken.moves_fit), subst (Whole p n) same here)
 begun_keeps p n m t a (Work [] place) whole at taken = absurd taken
 begun_keeps p n m t a (Work (d ∷ rest) place) whole at taken =
     taken_up p n m t a place d rest whole at (taken_sits p n m t a place d rest at taken) (starts_settled m.plain.references m.rows t a.used a.head place d rest taken.starts taken.follows)

@@ -24,7 +24,7 @@ bared m = machine_of (world_of m)
 
 begins_alike : (m : Machine) (t : ℕ) (a : Actor) (b : Begun) → world_of (begins m t a b) ≡ world_of (begins (bared m) t a b)
 begins_alike m t a Stuck = refl
-begins_alike m t a (Quiet place) = refl
+begins_alike m t a (Quiet moves place) = refl
 begins_alike m t a (Work [] place) = refl
 begins_alike m t a (Work (d ∷ rest) place) = refl
 

@@ -41,7 +41,7 @@ is_bad_duty m t a d =
 
 abbrev pub is_bad_begun : Machine → ℕ → Actor → Begun → Bool
 is_bad_begun m t a Stuck = true
-is_bad_begun m t a (Quiet place) = false
+is_bad_begun m t a (Quiet moves place) = not (are_allowed m.plain moves)
 is_bad_begun m t a (Work [] place) = false
 is_bad_begun m t a (Work (d ∷ rest) place) = is_bad_duty m t a d
 

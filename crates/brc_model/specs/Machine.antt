@@ -2,7 +2,7 @@
 -- and the life of each row. A step does the first duty of one thread's agenda, or takes up its next instruction with it.
 use Rattle.std.specs.Prelude.{ℕ, zero, suc, ◌+◌, ◌*◌, Bool, true, false, ◌&&◌, ◌==◌, nat_lt, nat_le, if◌then◌else◌, List, [], ◌∷◌, ◌++◌, length, map, Option, None, Some, fold, slice_get, slice_set}
 use Rattle.brc_lang.specs.declared.module.Instr.{Instr}
-use Rattle.brc_lang.specs.declared.module.Instr.TheVariants.{Newref, Drop, Ret, Fail}
+use Rattle.brc_lang.specs.declared.module.Instr.TheVariants.{Num, NoneObject, Newref, Move as MoveReference, Drop, Goto, Ret, Fail}
 use Rattle.brc_lang.specs.declared.module.Function.{Function}
 use Rattle.brc_lang.specs.declared.module.Module.{Module}
 use Rattle.brc_model.specs.declared.thread.Call.{Call}
@@ -14,15 +14,40 @@ use Rattle.brc_model.specs.declared.actor.Place.{Place}
 use Rattle.brc_model.specs.declared.actor.Place.TheVariants.{Standing, Inside, Departing}
 use Rattle.brc_model.specs.declared.duty.Holding.{Holding}
 use Rattle.brc_model.specs.declared.duty.Holding.TheVariants.{ByVariable, AsCaller, InHand}
-use Rattle.brc_model.specs.Plain.{root_row, Reference, Plain, Move, Born, Gain, Lose, HandOn, Finalise, moved}
+use Rattle.brc_model.specs.Plain.{none_row, root_row, Reference, Plain, Move, Born, Gain, Lose, HandOn, Finalise, moved, ByThread, ByCell}
 use Rattle.brc_model.specs.Threads.{code_of, row_of, entry_variables}
 use Rattle.brc_word.specs.Words.{is_immortal_word, local_word, fresh_word}
 use Rattle.brc_model.specs.declared.duty.Reason.TheVariants.{Own}
 use Rattle.brc_model.specs.declared.duty.Duty.{Duty}
-use Rattle.brc_model.specs.declared.duty.Duty.TheVariants.{RetainLoad, RetainStore, RetainAdd, ReleaseLoad, ReleaseStore, SharedExchange, Die, Settle, SettleEnd, Leave, Finish, ClaimMark, BirthLocal}
+use Rattle.brc_model.specs.declared.duty.Duty.TheVariants.{RetainLoad, RetainStore, RetainAdd, ReleaseLoad, ReleaseStore, SharedExchange, Die, Settle, SettleEnd, Leave, Finish, ClaimMark, BirthLocal, SettleCell, BirthKind}
 use Rattle.brc_model.specs.declared.address.Address.{Address}
 use Rattle.brc_model.specs.declared.address.Address.TheVariants.{Local, Shared, Gate, KindOf, Mark, Cell, Slot, Resource, ThreadWord}
 use Rattle.brc_model.specs.Duties.{address_of, left_by, next_by, head_by, ready}
+
+-- ---- the plain moves of a thread
+
+abbrev pub hand_on : ℕ → Holding → ℕ → List Move
+hand_on t InHand x = []
+hand_on t (ByVariable v) x = HandOn (record { holder = ByThread t (ByVariable v); object = x }) (ByThread t InHand) ∷ []
+hand_on t AsCaller x = HandOn (record { holder = ByThread t AsCaller; object = x }) (ByThread t InHand) ∷ []
+
+abbrev pub birth : ℕ → Holding → ℕ → List Move
+birth t h x = Born (record { holder = ByThread t h; object = x }) ∷ []
+
+-- from one of its holders to another
+abbrev pub pass_on : ℕ → Holding → Holding → ℕ → List Move
+pass_on t from to x = HandOn (record { holder = ByThread t from; object = x }) (ByThread t to) ∷ []
+
+abbrev pub gain : ℕ → Holding → ℕ → List Move
+gain t h x = Gain (record { holder = ByThread t h; object = x }) ∷ []
+
+abbrev pub lose : ℕ → ℕ → List Move
+lose t x = Lose (record { holder = ByThread t InHand; object = x }) ∷ []
+
+-- what an emptied cell held, a row and 1 or nothing, goes over into the thread's hand
+abbrev pub take_out : ℕ → ℕ → ℕ → ℕ → List Move
+take_out t x i zero = []
+take_out t x i (suc y) = HandOn (record { holder = ByCell x i; object = y }) (ByThread t InHand) ∷ []
 
 -- ---- threads
 
@@ -55,8 +80,8 @@ used_by used _ = used
 pub data Begun : Type 0 where
   -- it can't go on
   Stuck : Begun
-  -- a step that changes the thread alone
-  Quiet : Place → Begun
+  -- a step on no word: where the thread stands then, and what of its references moves
+  Quiet : List Move → Place → Begun
   -- duties to do, and where the thread stands when they are done
   Work : List Duty → Place → Begun
 
@@ -64,27 +89,53 @@ abbrev pub with_row : Option ℕ → (ℕ → Begun) → Begun
 with_row None work = Stuck
 with_row (Some row) work = work row
 
-abbrev pub begun_instruction : ℕ → ℕ → List (Option ℕ) → Option Instr → Begun
-begun_instruction left at variables None = Stuck
-begun_instruction left at variables (Some (Newref to from)) =
-    with_row (row_of variables from) (λ row. Work (RetainLoad row (ByVariable to) ∷ []) (Inside left (at + 1) (slice_set variables to (Some row))))
-begun_instruction left at variables (Some (Drop from)) =
-    with_row (row_of variables from) (λ row. Work (ReleaseLoad row (ByVariable from) ∷ Settle ∷ []) (Inside left (at + 1) (slice_set variables from None)))
-begun_instruction left at variables (Some (Ret from)) =
-    with_row (row_of variables from) (λ row. Work (ReleaseLoad row (ByVariable from) ∷ Settle ∷ []) (Standing left))
-begun_instruction left at variables (Some Fail) = Quiet (Standing left)
-
 -- the first row of a thread's block
 abbrev pub first_row : ℕ → ℕ → ℕ
 first_row rows zero = 0
 first_row rows (suc t) = 2 + t * rows
 
+-- how many rows the block has: main's none and the root, and so many of each worker
+abbrev pub block_size : ℕ → ℕ → ℕ
+block_size rows zero = 2
+block_size rows (suc t) = rows
+
+-- the row of the thread's next birth, if there is room for it
+abbrev pub next_row : ℕ → ℕ → ℕ → ℕ
+next_row rows t used = first_row rows t + used
+
+abbrev pub has_room : ℕ → ℕ → ℕ → Bool
+has_room rows t used = nat_lt used (block_size rows t)
+
+-- the kind word of a number
+abbrev pub number_word : ℕ → ℕ
+number_word value = 2 * 4294967296 + value
+
+-- the next instruction of a thread that has used so many rows of its block
+abbrev pub begun_instruction : ℕ → ℕ → ℕ → ℕ → ℕ → List (Option ℕ) → Option Instr → Begun
+begun_instruction rows t used left at variables None = Stuck
+begun_instruction rows t used left at variables (Some (Num to value otherwise)) =
+    if has_room rows t used
+    then Work (BirthKind (next_row rows t used) (ByVariable to) (number_word value) ∷ []) (Inside left (at + 1) (slice_set variables to (Some (next_row rows t used))))
+    else Quiet [] (Inside left otherwise (slice_set variables to None))
+begun_instruction rows t used left at variables (Some (NoneObject to)) =
+    Quiet (gain t (ByVariable to) none_row) (Inside left (at + 1) (slice_set variables to (Some none_row)))
+begun_instruction rows t used left at variables (Some (Newref to from)) =
+    with_row (row_of variables from) (λ row. Work (RetainLoad row (ByVariable to) ∷ []) (Inside left (at + 1) (slice_set variables to (Some row))))
+begun_instruction rows t used left at variables (Some (MoveReference to from)) =
+    with_row (row_of variables from) (λ row. Quiet (pass_on t (ByVariable from) (ByVariable to) row) (Inside left (at + 1) (slice_set (slice_set variables from None) to (Some row))))
+begun_instruction rows t used left at variables (Some (Drop from)) =
+    with_row (row_of variables from) (λ row. Work (ReleaseLoad row (ByVariable from) ∷ Settle ∷ []) (Inside left (at + 1) (slice_set variables from None)))
+begun_instruction rows t used left at variables (Some (Goto to)) = Quiet [] (Inside left to variables)
+begun_instruction rows t used left at variables (Some (Ret from)) =
+    with_row (row_of variables from) (λ row. Work (ReleaseLoad row (ByVariable from) ∷ Settle ∷ []) (Standing left))
+begun_instruction rows t used left at variables (Some Fail) = Quiet [] (Standing left)
+
 -- with no call left a thread gives up its reference to the root, settles, and leaves
 abbrev pub begun : ℕ → ℕ → ℕ → List Instr → Place → Begun
 begun rows t used code Departing = Stuck
 begun rows t used code (Standing zero) = Work (ReleaseLoad root_row AsCaller ∷ Settle ∷ Leave (first_row rows t) used ∷ []) Departing
-begun rows t used code (Standing (suc left)) = begun_instruction left 0 entry_variables (slice_get code 0)
-begun rows t used code (Inside left at variables) = begun_instruction left at variables (slice_get code at)
+begun rows t used code (Standing (suc left)) = begun_instruction rows t used left 0 entry_variables (slice_get code 0)
+begun rows t used code (Inside left at variables) = begun_instruction rows t used left at variables (slice_get code at)
 
 -- ---- the world
 
@@ -121,20 +172,6 @@ written memory a word b = if same_address a b then word else memory b
 
 -- ---- the plain moves of a step
 
-abbrev pub hand_on : ℕ → Holding → ℕ → List Move
-hand_on t InHand x = []
-hand_on t (ByVariable v) x = HandOn (record { thread = t; holding = ByVariable v; object = x }) InHand ∷ []
-hand_on t AsCaller x = HandOn (record { thread = t; holding = AsCaller; object = x }) InHand ∷ []
-
-abbrev pub birth : ℕ → Holding → ℕ → List Move
-birth t h x = Born (record { thread = t; holding = h; object = x }) ∷ []
-
-abbrev pub gain : ℕ → Holding → ℕ → List Move
-gain t h x = Gain (record { thread = t; holding = h; object = x }) ∷ []
-
-abbrev pub lose : ℕ → ℕ → List Move
-lose t x = Lose (record { thread = t; holding = InHand; object = x }) ∷ []
-
 abbrev pub moves_by : ℕ → Duty → ℕ → List Move
 moves_by t (RetainLoad x h) found = if is_immortal_word found then gain t h x else []
 moves_by t (RetainStore x h w) found = gain t h x
@@ -142,6 +179,7 @@ moves_by t (RetainAdd x h) found = gain t h x
 moves_by t (ReleaseLoad x h) found = hand_on t h x ++ (if is_immortal_word found then lose t x else [])
 moves_by t (ReleaseStore x w) found = lose t x
 moves_by t (SharedExchange x Own w) found = if found == w then lose t x else []
+moves_by t (SettleCell x i n) found = take_out t x i found
 moves_by t (SettleEnd x) found = Finalise x ∷ []
 moves_by t (BirthLocal x h) found = birth t h x
 moves_by t _ found = []
@@ -201,9 +239,13 @@ at_place a place = record { function = a.function; place = place; status = a.sta
 abbrev pub with_actor : Machine → ℕ → Actor → Machine
 with_actor m t a = record { functions = m.functions; rows = m.rows; memory = m.memory; actors = slice_set m.actors t a; plain = m.plain; life = m.life }
 
+-- the machine after so many moves of the plain world
+abbrev pub with_moves : Machine → List Move → Machine
+with_moves m moves = record { functions = m.functions; rows = m.rows; memory = m.memory; actors = m.actors; plain = moved m.plain moves; life = m.life }
+
 abbrev pub begins : Machine → ℕ → Actor → Begun → Machine
 begins m t a Stuck = m
-begins m t a (Quiet place) = with_actor m t (at_place a place)
+begins m t a (Quiet moves place) = with_moves (with_actor m t (at_place a place)) moves
 begins m t a (Work [] place) = m
 begins m t a (Work (d ∷ rest) place) = done_by m t (at_place a place) d rest
 
@@ -270,7 +312,7 @@ first_life (suc zero) = Live
 first_life (suc (suc x)) = Unborn
 
 abbrev pub caller_reference : ℕ → Reference
-caller_reference t = record { thread = t; holding = AsCaller; object = root_row }
+caller_reference t = record { holder = ByThread t AsCaller; object = root_row }
 
 -- the callers of the threads below n
 abbrev pub callers_below : ℕ → List Reference

@@ -16,9 +16,13 @@ root_row = 1
 abbrev pub is_counted : ℕ → Bool
 is_counted object = nat_lt 0 object
 
+-- who holds a reference: a thread, in one of its ways, or a cell of a list, by the list's row and the cell's number
+pub data Holder : Type 0 where
+  ByThread : ℕ → Holding → Holder
+  ByCell : ℕ → ℕ → Holder
+
 pub record Reference : Type 0 where
-  pub thread : ℕ
-  pub holding : Holding
+  pub holder : Holder
   pub object : ℕ
 
 pub record Plain : Type 0 where
@@ -35,8 +39,13 @@ same_holding AsCaller AsCaller = true
 same_holding InHand InHand = true
 same_holding _ _ = false
 
+abbrev pub same_holder : Holder → Holder → Bool
+same_holder (ByThread t h) (ByThread u k) = (t == u) && same_holding h k
+same_holder (ByCell x i) (ByCell y j) = (x == y) && (i == j)
+same_holder _ _ = false
+
 abbrev pub same : Reference → Reference → Bool
-same r q = (r.thread == q.thread) && same_holding r.holding q.holding && (r.object == q.object)
+same r q = same_holder r.holder q.holder && (r.object == q.object)
 
 -- the bag without one such reference
 abbrev pub without : Reference → List Reference → List Reference
@@ -47,6 +56,14 @@ without r (q ∷ qs) = if same r q then qs else q ∷ without r qs
 abbrev pub references_to : ℕ → List Reference → ℕ
 references_to object bag = count_by (λ r. r.object == object) bag
 
+abbrev pub is_cell_of : ℕ → Holder → Bool
+is_cell_of x (ByThread t h) = false
+is_cell_of x (ByCell y i) = y == x
+
+-- whether a cell of the list holds a reference
+abbrev pub holds_by_cells : ℕ → List Reference → Bool
+holds_by_cells x bag = list_any (λ r. is_cell_of x r.holder) bag
+
 abbrev pub is_among : ℕ → List ℕ → Bool
 is_among object objects = list_any (λ x. x == object) objects
 
@@ -56,23 +73,24 @@ pub data Move : Type 0 where
   Born : Reference → Move
   Gain : Reference → Move
   Lose : Reference → Move
-  HandOn : Reference → Holding → Move
+  HandOn : Reference → Holder → Move
   Finalise : ℕ → Move
 
 -- What is born is a counted object that wasn't born before; a reference is gained to none or to an object that is referenced already;
--- one that is lost or handed on is there; and what is finalised is a counted object that nothing references, for the first time.
+-- one that is lost or handed on is there; and what is finalised is a counted object that nothing references, for the first time, and a
+-- list only when its cells hold no reference.
 abbrev pub is_allowed : Plain → Move → Bool
 is_allowed p (Born r) = is_counted r.object && not (is_among r.object p.born)
 is_allowed p (Gain r) = (r.object == none_row) || nat_lt 0 (references_to r.object p.references)
 is_allowed p (Lose r) = list_any (same r) p.references
 is_allowed p (HandOn r h) = list_any (same r) p.references
-is_allowed p (Finalise x) = is_counted x && (references_to x p.references == 0) && not (is_among x p.closed)
+is_allowed p (Finalise x) = is_counted x && (references_to x p.references == 0) && not (is_among x p.closed) && not (holds_by_cells x p.references)
 
 abbrev pub move : Plain → Move → Plain
 move p (Born r) = record { references = r ∷ p.references; born = p.born ++ r.object ∷ []; closed = p.closed }
 move p (Gain r) = record { references = r ∷ p.references; born = p.born; closed = p.closed }
 move p (Lose r) = record { references = without r p.references; born = p.born; closed = p.closed }
-move p (HandOn r h) = record { references = (record { thread = r.thread; holding = h; object = r.object }) ∷ without r p.references; born = p.born; closed = p.closed }
+move p (HandOn r h) = record { references = (record { holder = h; object = r.object }) ∷ without r p.references; born = p.born; closed = p.closed }
 move p (Finalise x) = record { references = p.references; born = p.born; closed = p.closed ++ x ∷ [] }
 
 -- the moves of one event, in order

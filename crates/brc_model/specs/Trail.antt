@@ -13,6 +13,7 @@ use Rattle.brc_model.specs.declared.actor.Place.{Place}
 use Rattle.brc_model.specs.Threads.{code_of}
 use Rattle.brc_model.specs.Duties.{address_of, left_by}
 use Rattle.brc_model.specs.Machine.{Actor, Begun, Stuck, Quiet, Work, begun, Machine, actor_by, at_place, begun_by, may_claim, next_machine}
+use Rattle.brc_model.specs.Plain.{Move}
 
 -- a word that a thread looked at, what it found there, and what it left
 pub record WordEvent : Type 0 where
@@ -33,7 +34,7 @@ begun_in functions rows t a = begun rows t a.used (code_of (slice_get functions 
 -- one step of a thread, with the word events that it makes, and the thread afterwards
 pub data MakesStep (functions : List Function) (rows t : ℕ) (a : Actor) : List WordEvent → Actor → Type 0 where
   -- with nothing to do, it stands elsewhere
-  Quietly : (place : Place) → a.status ≢ Gone → a.agenda ≡ [] → begun_in functions rows t a ≡ Quiet place
+  Quietly : (moves : List Move) (place : Place) → a.status ≢ Gone → a.agenda ≡ [] → begun_in functions rows t a ≡ Quiet moves place
       → MakesStep functions rows t a [] (at_place a place)
   -- it does the first duty of its agenda
   DoesDuty : (d : Duty) (rest : List Duty) (found : ℕ) → a.status ≢ Gone → a.agenda ≡ d ∷ rest
@@ -58,7 +59,7 @@ event_by m t a d = event_of m.rows t a d (m.memory (address_of m.rows t a.head d
 
 abbrev pub made_beginning : Machine → ℕ → Actor → Begun → List WordEvent
 made_beginning m t a Stuck = []
-made_beginning m t a (Quiet place) = []
+made_beginning m t a (Quiet moves place) = []
 made_beginning m t a (Work [] place) = []
 made_beginning m t a (Work (d ∷ rest) place) = event_by m t (at_place a place) d
 
