@@ -7,8 +7,7 @@ use std::alloc::Global;
 use std::test::*;
 
 /// Where no row is left for a number, the function goes on behind the line that drops it.
-const TWO_NUMBERS: &[u8] =
-    b"num v1 1 else @4\nnum v2 2 else @3\ndrop v2\ndrop v1\nfail\n";
+const TWO_NUMBERS: &[u8] = b"num v1 1 else @4\nnum v2 2 else @3\ndrop v2\ndrop v1\nfail\n";
 
 const NUMBER: Slot = Slot::Owned(Kind::Num);
 
@@ -46,7 +45,11 @@ fn smallest_of_each_code(rt: HostRuntime) -> Result<(), Fail> {
         (b"goto @1\nnone v1\n", 1, CheckCode::RunsOff),
     ];
     for (lines, at, code) in cases {
-        assert_eq!(rt; refusal_of(rt.alloc(), lines)?, Some((at, code)), "{lines:?}");
+        assert_eq!(rt;
+            refusal_of(rt.alloc(), lines)?,
+            Some((at, code)),
+            "{lines:?}"
+        );
     }
     Ok(())
 }
@@ -54,8 +57,9 @@ fn smallest_of_each_code(rt: HostRuntime) -> Result<(), Fail> {
 // Where the number is made it is left, and where it isn't the states differ: either may be named.
 #[test]
 fn paths_differ(rt: HostRuntime) -> Result<(), Fail> {
-    let (at, code) = refusal_of(rt.alloc(), b"num v1 1 else @1\nfail\n")?
-        .ok_or("one path owns a number")?;
+    let (at, code) = refusal_of(rt.alloc(), b"num v1 1 else @1\nfail\n")?.ok_or(
+        "one path owns a number",
+    )?;
     assert_eq!(rt; at, 1);
     assert!(rt; matches!(code, CheckCode::LeftOwned | CheckCode::StatesDiffer));
     Ok(())
@@ -85,7 +89,11 @@ fn refused_behind_an_exit(rt: HostRuntime) -> Result<(), Fail> {
     let cases: [(&[u8], usize, CheckCode); 8] = [
         // The number is there by the success exit,
         (b"num v1 1 else @2\nfail\nfail\n", 1, CheckCode::LeftOwned),
-        (b"num v1 1 else @2\nnone v1\nfail\n", 1, CheckCode::StillOwns),
+        (
+            b"num v1 1 else @2\nnone v1\nfail\n",
+            1,
+            CheckCode::StillOwns,
+        ),
         // and nothing is by the other, whatever was there.
         (
             b"num v1 1 else @2\nret v1\nret v1\n",
@@ -116,7 +124,11 @@ fn refused_behind_an_exit(rt: HostRuntime) -> Result<(), Fail> {
         ),
     ];
     for (lines, at, code) in cases {
-        assert_eq!(rt; refusal_of(rt.alloc(), lines)?, Some((at, code)), "{lines:?}");
+        assert_eq!(rt;
+            refusal_of(rt.alloc(), lines)?,
+            Some((at, code)),
+            "{lines:?}"
+        );
     }
     Ok(())
 }
@@ -128,8 +140,7 @@ fn not_reached(rt: HostRuntime) -> Result<(), Fail> {
     let table = infer(rt.alloc(), &module)
         .ok()
         .ok_or("nothing is owned at the end")?;
-    let entry = with_v1(Slot::Empty);
-    let want = [Some(entry), None, Some(entry)];
+    let want = [Some(with_v1(Slot::Empty)), None, Some(with_v1(Slot::Empty))];
     for (at, entry) in want.iter().enumerate() {
         assert_eq!(rt; table.entry(0, at), *entry, "at point {at}");
     }
@@ -168,9 +179,11 @@ fn answer_to_change(
     if !table.change(0, at, entry) {
         Err("there is such a point")?;
     }
-    Ok(verify(module, table)
-        .err()
-        .map(|refused| (refused.at, refused.code)))
+    Ok(
+        verify(module, table)
+            .err()
+            .map(|refused| (refused.at, refused.code)),
+    )
 }
 
 #[test]
@@ -186,7 +199,11 @@ fn unchanged_entries(rt: HostRuntime) -> Result<(), Fail> {
 fn missing_entries(rt: HostRuntime) -> Result<(), Fail> {
     for at in 0..SLOTS.len() {
         let answer = answer_to_change(rt.alloc(), at, None)?;
-        assert_eq!(rt; answer, Some((at, CheckCode::StatesDiffer)), "at point {at}");
+        assert_eq!(rt;
+            answer,
+            Some((at, CheckCode::StatesDiffer)),
+            "at point {at}"
+        );
     }
     Ok(())
 }
@@ -199,7 +216,11 @@ fn changed_slots(rt: HostRuntime) -> Result<(), Fail> {
                 if (first, second) != *slots {
                     let wrong = with_two((first, second));
                     let answer = answer_to_change(rt.alloc(), at, Some(wrong))?;
-                    assert_eq!(rt; answer, Some((at, CheckCode::StatesDiffer)), "at point {at}");
+                    assert_eq!(rt;
+                        answer,
+                        Some((at, CheckCode::StatesDiffer)),
+                        "at point {at}"
+                    );
                 }
             }
         }
@@ -213,7 +234,11 @@ fn changed_locks(rt: HostRuntime) -> Result<(), Fail> {
         let mut wrong = with_two(*slots);
         wrong.locked = Some(Variable::new(0));
         let answer = answer_to_change(rt.alloc(), at, Some(wrong))?;
-        assert_eq!(rt; answer, Some((at, CheckCode::StatesDiffer)), "at point {at}");
+        assert_eq!(rt;
+            answer,
+            Some((at, CheckCode::StatesDiffer)),
+            "at point {at}"
+        );
     }
     Ok(())
 }

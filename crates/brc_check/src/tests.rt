@@ -28,9 +28,11 @@ pub fn function_of(alloc: Global, lines: &[u8]) -> Result<Module, Fail>
 
 /// The point and the code that a function of these lines is refused with, or none where it is accepted.
 pub fn refusal_of(alloc: Global, lines: &[u8]) -> Result<Option<(usize, CheckCode)>, Fail> {
-    Ok(check(alloc, function_of(alloc, lines)?)
-        .err()
-        .map(|refused| (refused.at, refused.code)))
+    Ok(
+        check(alloc, function_of(alloc, lines)?)
+            .err()
+            .map(|refused| (refused.at, refused.code)),
+    )
 }
 
 #[test]
@@ -43,10 +45,7 @@ fn one_function(rt: HostRuntime) -> Result<(), Fail> {
         (b"drop v1\nfail\n", Some((0, CheckCode::EmptyUsed))),
         (b"newref v2 v1\nfail\n", Some((0, CheckCode::EmptyUsed))),
         (b"drop v0\nfail\n", Some((0, CheckCode::NotOwned))),
-        (
-            b"newref v1 v0\nret v0\n",
-            Some((1, CheckCode::NotOwned)),
-        ),
+        (b"newref v1 v0\nret v0\n", Some((1, CheckCode::NotOwned))),
         (
             b"newref v1 v0\nnewref v1 v0\ndrop v1\nfail\n",
             Some((1, CheckCode::StillOwns)),
