@@ -31,8 +31,9 @@ fn with_two(slots: (Slot, Slot)) -> State {
 }
 
 #[test]
-fn smallest_of_each_code(rt: HostRuntime) -> Result<(), Fail> {
-    let cases: [(&[u8], usize, CheckCode); 10] = [
+fn refused_functions(rt: HostRuntime) -> Result<(), Fail> {
+    let cases: [(&[u8], usize, CheckCode); 18] = [
+        // Each code by its smallest functions.
         (b"drop v1\n", 0, CheckCode::EmptyUsed),
         (b"move v1 v2\n", 0, CheckCode::EmptyUsed),
         (b"drop v0\n", 0, CheckCode::NotOwned),
@@ -43,6 +44,40 @@ fn smallest_of_each_code(rt: HostRuntime) -> Result<(), Fail> {
         (TWO_KINDS, 3, CheckCode::StatesDiffer),
         (b"none v1\n", 0, CheckCode::RunsOff),
         (b"goto @1\nnone v1\n", 1, CheckCode::RunsOff),
+        // By the success exit of a num its number is there, and by the fault exit nothing is, whatever was there before.
+        (b"num v1 1 else @2\nfail\nfail\n", 1, CheckCode::LeftOwned),
+        (
+            b"num v1 1 else @2\nnone v1\nfail\n",
+            1,
+            CheckCode::StillOwns,
+        ),
+        (
+            b"num v1 1 else @2\nret v1\nret v1\n",
+            2,
+            CheckCode::EmptyUsed,
+        ),
+        (
+            b"num v0 1 else @2\nret v0\nnewref v1 v0\n",
+            2,
+            CheckCode::EmptyUsed,
+        ),
+        // A reference that was handed on is with its new variable alone, and nothing is put over one that is owned.
+        (
+            b"none v1\nmove v2 v1\ndrop v1\nfail\n",
+            2,
+            CheckCode::EmptyUsed,
+        ),
+        (b"none v1\nmove v2 v1\nfail\n", 2, CheckCode::LeftOwned),
+        (
+            b"none v1\nnone v2\nmove v1 v2\nfail\n",
+            2,
+            CheckCode::StillOwns,
+        ),
+        (
+            b"none v1\nnum v1 1 else @2\nfail\n",
+            1,
+            CheckCode::StillOwns,
+        ),
     ];
     for (lines, at, code) in cases {
         assert_eq!(rt;
@@ -80,55 +115,6 @@ fn paths_agree(rt: HostRuntime) -> Result<(), Fail> {
     ];
     for lines in cases {
         assert_eq!(rt; refusal_of(rt.alloc(), lines)?, None, "{lines:?}");
-    }
-    Ok(())
-}
-
-#[test]
-fn refused_behind_an_exit(rt: HostRuntime) -> Result<(), Fail> {
-    let cases: [(&[u8], usize, CheckCode); 8] = [
-        // The number is there by the success exit,
-        (b"num v1 1 else @2\nfail\nfail\n", 1, CheckCode::LeftOwned),
-        (
-            b"num v1 1 else @2\nnone v1\nfail\n",
-            1,
-            CheckCode::StillOwns,
-        ),
-        // and nothing is by the other, whatever was there.
-        (
-            b"num v1 1 else @2\nret v1\nret v1\n",
-            2,
-            CheckCode::EmptyUsed,
-        ),
-        (
-            b"num v0 1 else @2\nret v0\nnewref v1 v0\nret v1\n",
-            2,
-            CheckCode::EmptyUsed,
-        ),
-        (
-            b"none v1\nnum v1 1 else @2\nfail\n",
-            1,
-            CheckCode::StillOwns,
-        ),
-        // A reference that was handed on is with its new variable alone.
-        (
-            b"none v1\nmove v2 v1\ndrop v1\nfail\n",
-            2,
-            CheckCode::EmptyUsed,
-        ),
-        (b"none v1\nmove v2 v1\nfail\n", 2, CheckCode::LeftOwned),
-        (
-            b"none v1\nnone v2\nmove v1 v2\nfail\n",
-            2,
-            CheckCode::StillOwns,
-        ),
-    ];
-    for (lines, at, code) in cases {
-        assert_eq!(rt;
-            refusal_of(rt.alloc(), lines)?,
-            Some((at, code)),
-            "{lines:?}"
-        );
     }
     Ok(())
 }
