@@ -112,7 +112,7 @@ locals_left p n m t a (MergeSwap y Own) rest here u x b ne found other =
     local_kept m y x 0 (owners_clash m t u x y a b ne (head_of p n m t a (MergeSwap y Own) rest here).1 other)
 locals_left p n m t a (BirthLocal y h) rest here u x b ne found other =
     local_kept m y x (local_word t 1) (unowned_clash p n m u x y b here.rule (next_above m t a y (head_of p n m t a (BirthLocal y h) rest here).0)
-        (next_unborn p n m t a y here.rule here.found (head_of p n m t a (BirthLocal y h) rest here).0) other)
+    (next_unborn p n m t a y here.rule here.found (head_of p n m t a (BirthLocal y h) rest here).0) other)
 locals_left p n m t a (MergeSwap y Handed) rest here u x b ne found other = local_kept m y x 0 (claim_clash p n m t u x y a b rest here ne found other)
 locals_left p n m t a _ rest here u x b ne found other = refl
 

@@ -68,7 +68,7 @@ pub agenda_shown : (m : Machine) (t : ℕ) (a : Actor) (d : Duty) (rest agenda :
     → Agenda m.rows t a.used status a.place agenda → AgendaFits m.rows t (actor_by t a d rest (found_by m t a d)) status
 agenda_shown m t a d rest agenda status alive born is fits =
     agenda_out m.rows t (actor_by t a d rest (found_by m t a d)) status alive
-        (subst (λ (u : ℕ). Agenda m.rows t u status a.place (actor_by t a d rest (found_by m t a d)).agenda) (sym (uses_same a.used d born)) (subst (λ (l : List Duty). Agenda m.rows t a.used status a.place l) (sym is) fits))
+    (subst (λ (u : ℕ). Agenda m.rows t u status a.place (actor_by t a d rest (found_by m t a d)).agenda) (sym (uses_same a.used d born)) (subst (λ (l : List Duty). Agenda m.rows t a.used status a.place l) (sym is) fits))
 
 -- ---- which rows die
 

@@ -1,25 +1,23 @@
 -- A thread at rest stands elsewhere, and some of its references move: the moves are allowed, and the rule holds afterwards.
-use Rattle.std.proofs.Common.{◌≡◌, ◌≢◌, ℕ, ◌+◌, ◌<◌, Bool, true, false, List, [], ◌∷◌, inl, inr, Some, refl, sym, ap, ◌∙◌, subst, arith}
-use Rattle.std.specs.Prelude.{◌==◌, ◌&&◌, ◌||◌, slice_get, slice_set, sum_by, AllPairs}
-use Rattle.std.proofs.lemmas.Bool.{eqb-true, ne_eqb, false≢true}
+use Rattle.std.proofs.Common.{◌≡◌, ◌≢◌, ℕ, ◌<◌, Bool, true, false, List, [], inl, inr, Some, refl, sym, ap, ◌∙◌, subst, arith}
+use Rattle.std.specs.Prelude.{◌==◌, ◌&&◌, slice_get, slice_set, AllPairs}
+use Rattle.std.proofs.lemmas.Bool.{ne_eqb, false≢true}
 use Rattle.std.proofs.lemmas.Bool.Decides.{eqb_tells}
 use Rattle.std.proofs.lemmas.List.{length-set}
 use Rattle.std.proofs.lemmas.Option.{slice_get_within}
 use Rattle.brc_lang.specs.declared.module.Module.{Module}
-use Rattle.brc_model.specs.declared.duty.Holding.{Holding}
-use Rattle.brc_model.specs.Plain.{none_row, Holder, ByThread, Reference, Plain, same, without, references_to, Move, Gain, HandOn, is_allowed, are_allowed, moved, is_among}
+use Rattle.brc_model.specs.Plain.{none_row, Holder, ByThread, Reference, Plain, same, without, references_to, Move, are_allowed, moved, is_among}
 use Rattle.brc_model.specs.Threads.{code_of}
 use Rattle.brc_model.specs.declared.duty.Duty.{Duty}
 use Rattle.brc_model.specs.Duties.{block_of}
 use Rattle.brc_model.specs.declared.actor.Status.{Status}
-use Rattle.brc_model.specs.declared.actor.Status.TheVariants.{Running}
 use Rattle.brc_model.specs.declared.actor.Place.{Place}
-use Rattle.brc_model.specs.Machine.{Actor, Machine, with_actor, with_moves, pass_on, gain}
+use Rattle.brc_model.specs.Machine.{Actor, Machine, with_actor, with_moves}
 use Rattle.brc_model.proofs.Lists.{some_is, written_actor, slice_get-set_same, slice_get-set_other}
-use Rattle.brc_model.proofs.Bag.{held, one_if, references_to-cons, references_to-without, other_thread, cell_reference}
+use Rattle.brc_model.proofs.Bag.{one_if, references_to-cons, references_to-without, other_thread, cell_reference}
 use Rattle.brc_model.proofs.Holds.{reference_of}
 use Rattle.brc_model.proofs.MovesApart.{AreAside, IsNoWayOf, moved_aside}
-use Rattle.brc_model.proofs.Rows.{waits, carries, merges, decides, agenda_weight, weight, Numbers, RowRule}
+use Rattle.brc_model.proofs.Rows.{waits, carries, merges, decides, weight, Numbers, RowRule}
 use Rattle.brc_model.proofs.Rule.{numbers_of, PlaceFits, HandedOnce, scans, ActorFits, AgendaFits, UsesFit, looks, IsWatched, ByRunning, ByExit, ByLook, Rule, ChainFits}
 use Rattle.brc_model.proofs.Others.{LeavesOthers, others_fit}
 use Rattle.brc_model.proofs.Begins.{QuietMoves, Stays, GainsNone, HandsOn, bag_after, QuietTaken}

@@ -1,7 +1,7 @@
 -- Which rows are born after a step, and which are used.
-use Rattle.std.proofs.Common.{◌≡◌, ◌≢◌, ℕ, ◌+◌, ◌<◌, ◌≤◌, Bool, true, false, cond, List, [], ◌∷◌, ◌++◌, ◌⊎◌, inl, inr, Option, None, Some, refl, sym, ap, ◌∙◌, subst, arith, zero, suc}
-use Rattle.std.specs.Prelude.{◌==◌, ◌||◌, slice_get, slice_set}
-use Rattle.std.proofs.lemmas.Bool.{eq-eqb, eqb-true, cases_lt}
+use Rattle.std.proofs.Common.{◌≡◌, ◌≢◌, ℕ, ◌+◌, ◌<◌, ◌≤◌, Bool, true, false, cond, List, [], ◌∷◌, ◌++◌, ◌⊎◌, inl, inr, None, Some, refl, sym, ap, ◌∙◌, subst, arith, zero, suc}
+use Rattle.std.specs.Prelude.{◌==◌, slice_get, slice_set}
+use Rattle.std.proofs.lemmas.Bool.{eq-eqb, cases_lt}
 use Rattle.std.proofs.lemmas.Bool.Decides.{eqb_tells}
 use Rattle.std.proofs.lemmas.List.Folds.{list_any-append}
 use Rattle.std.proofs.lemmas.Option.{slice_get_within}
@@ -14,10 +14,10 @@ use Rattle.brc_model.specs.declared.duty.Reason.TheVariants.{Own}
 use Rattle.brc_model.specs.declared.duty.Duty.{Duty}
 use Rattle.brc_model.specs.declared.duty.Duty.TheVariants.{RetainLoad, RetainStore, RetainAdd, ReleaseLoad, ReleaseStore, SharedExchange, SettleEnd, BirthLocal, SettleCell}
 use Rattle.brc_model.specs.Duties.{block_of, address_of}
-use Rattle.brc_model.specs.Machine.{Actor, Life, Unborn, Live, Dying, Closed, Machine, first_row, used_by, hand_on, gain, lose, moves_by, born_row, with_life, actor_by, done_by, take_out}
-use Rattle.brc_model.proofs.Lists.{some_is, written_actor, slice_get-set_same, slice_get-set_other}
-use Rattle.brc_model.proofs.Rule.{IsNext, UsesFit, Rule}
-use Rattle.brc_model.proofs.Blocks.{next_above, next_block, next_unborn}
+use Rattle.brc_model.specs.Machine.{Actor, Unborn, Live, Dying, Closed, Machine, first_row, used_by, hand_on, gain, lose, moves_by, born_row, actor_by, done_by, take_out}
+use Rattle.brc_model.proofs.Lists.{some_is, slice_get-set_same, slice_get-set_other}
+use Rattle.brc_model.proofs.Rule.{IsNext, UsesFit}
+use Rattle.brc_model.proofs.Blocks.{next_above, next_block}
 use Rattle.brc_model.proofs.Leaves.{AtDuty, head_of}
 use Rattle.brc_model.proofs.Neutral.{found_by, uses_same}
 use Rattle.brc_model.proofs.Closing.{GoesOn, BeginsToDie, IsClosed, IsBorn, life_step}

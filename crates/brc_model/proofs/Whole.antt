@@ -1,7 +1,6 @@
 -- The whole invariant, and that each event keeps it and is not bad.
-use Rattle.std.proofs.Common.{◌≡◌, ◌≢◌, ℕ, zero, suc, Bool, false, List, ◌∷◌, inl, inr, Some, refl, sym, ap, ◌∙◌, subst, arith}
-use Rattle.std.specs.Prelude.{slice_get, slice_set}
-use Rattle.std.proofs.lemmas.Bool.Decides.{eqb_tells}
+use Rattle.std.proofs.Common.{◌≡◌, ℕ, zero, suc, Bool, false, List, ◌∷◌, Some, refl, sym, ◌∙◌, subst, arith}
+use Rattle.std.specs.Prelude.{slice_get}
 use Rattle.std.proofs.lemmas.Option.{slice_get_within}
 use Rattle.brc_lang.specs.declared.module.Module.{Module}
 use Rattle.brc_model.specs.Plain.{Reference}
@@ -10,9 +9,9 @@ use Rattle.brc_model.specs.declared.duty.Duty.{Duty}
 use Rattle.brc_model.specs.declared.duty.Duty.TheVariants.{RetainLoad, RetainStore, RetainAdd, ReleaseLoad, ReleaseStore, DecideAtZero, SharedLoad, SharedExchange, SetMark, Look, TakeMark, MergeSwap, MergeLoad, MergeExchange, Die, Settle, SettleKind, SettleCell, TakeSlot, CloseResource, SettleEnd, Leave, Scan, Finish, ClaimMark, BirthKind, BirthSlot, BirthLocal}
 use Rattle.brc_model.specs.declared.actor.Status.TheVariants.{Running, Gone}
 use Rattle.brc_model.specs.declared.actor.Place.{Place}
-use Rattle.brc_model.specs.Machine.{Actor, Unborn, Dying, Closed, Machine, actor_by, done_by, at_place, with_actor}
+use Rattle.brc_model.specs.Machine.{Actor, Machine, actor_by, done_by, at_place, with_actor}
 use Rattle.brc_model.specs.Events.{is_bad_duty}
-use Rattle.brc_model.proofs.Lists.{some_is, slice_get-set_same, slice_get-set_other, written_actor}
+use Rattle.brc_model.proofs.Lists.{slice_get-set_same, written_actor}
 use Rattle.brc_model.proofs.Rule.{Rule}
 use Rattle.brc_model.proofs.Leaves.{AtDuty}
 use Rattle.brc_model.proofs.Neutral.{OwnFits, found_by}
@@ -82,8 +81,7 @@ KeepsOn p n bad m = (bad ≡ false) × Whole p n m
 pub keeps_duty : (p : Module) (n : ℕ) (m : Machine) (t : ℕ) (a : Actor) (d : Duty) (rest : List Duty) → Doing p n m t a d rest → KeepsOn p n (is_bad_duty m t a d) (done_by m t a d rest)
 keeps_duty p n m t a d rest doing =
     let here : AtDuty p n m t a d rest = record { rule = doing.whole.rule; found = doing.found; agenda = doing.agenda } in
-    let settled : IsSettled a.head (d ∷ rest) = subst (IsSettled a.head) doing.agenda (doing.whole.settled t a doing.found) in
-    (
+    let settled : IsSettled a.head (d ∷ rest) = subst (IsSettled a.head) doing.agenda (doing.whole.settled t a doing.found) in (
       duty_not_bad p n m t a d rest here,
       record {
         rule = keeps_by p n m t a d rest here doing.alive (own_fits p n m t a d rest here doing.alive settled) (λ x. marks_after p n m t a d rest here doing.alive x);
