@@ -17,7 +17,7 @@ use Rattle.brc_model.proofs.Lists.{some_is}
 use Rattle.brc_model.proofs.Written.{written_here, written_apart, written_load, apart_gate}
 use Rattle.brc_model.proofs.Leaves.{AtDuty, head_of}
 use Rattle.brc_model.proofs.Neutral.{memory_by}
-use Rattle.brc_model.proofs.OwnSettles.{chain_here, head_low}
+use Rattle.brc_model.proofs.OwnChains.{chain_here, head_low}
 use Rattle.brc_model.proofs.Closing.{GoesOn, BeginsToDie, IsClosed, life_step, IsBorn}
 use Rattle.brc_model.proofs.ClosedAfter.{live_not_closed, dying_not_closed, unborn_not_closed}
 use Rattle.brc_model.proofs.Whole.{Whole}

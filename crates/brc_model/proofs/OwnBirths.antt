@@ -18,8 +18,9 @@ use Rattle.brc_model.proofs.Neutral.{OwnFits, found_by, agenda_here, handed_here
 use Rattle.brc_model.proofs.OwnCounts.{held_same, held_gained}
 use Rattle.brc_model.proofs.OwnRetains.{ready_first}
 use Rattle.brc_model.proofs.OwnSteps.{own_quiet}
-use Rattle.brc_model.proofs.OwnSettles.{own_shown, chain_here}
-use Rattle.brc_model.proofs.OwnExits.{ready_none}
+use Rattle.brc_model.proofs.OwnShown.{own_shown}
+use Rattle.brc_model.proofs.OwnChains.{chain_here}
+use Rattle.brc_model.proofs.Settled.{ready_none}
 
 -- the row is still the next one
 still_next : (m new : Machine) (t : ℕ) (a b : Actor) (x : ℕ) → new.rows ≡ m.rows → b.status ≡ a.status → b.used ≡ a.used → IsNext m t a x → IsNext new t b x

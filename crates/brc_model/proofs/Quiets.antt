@@ -65,7 +65,8 @@ quiet_aside bag h t _ (HandsOn from to x has) other = ((other from, other to), t
 abbrev pub quieted : Machine → ℕ → Actor → List Move → Place → Machine
 quieted m t a moves place = with_moves (with_actor m t (sitting a place [])) moves
 
-same_numbers : (p : Module) (n : ℕ) (m : Machine) (t : ℕ) (a : Actor) (moves : List Move) (place : Place) (x : ℕ) → AtRest p n m t a → QuietMoves m.plain.references t moves → 0 < x → numbers_of m x ≡ numbers_of (quieted m t a moves place) x
+same_numbers : (p : Module) (n : ℕ) (m : Machine) (t : ℕ) (a : Actor) (moves : List Move) (place : Place) (x : ℕ) → AtRest p n m t a → QuietMoves m.plain.references t moves → 0 < x
+    → numbers_of m x ≡ numbers_of (quieted m t a moves place) x
 same_numbers p n m t a moves place x rest quiet pos =
     let r = quiet_references m.plain t x moves quiet pos in
     let w : weight (waits x) m.actors ≡ weight (waits x) (slice_set m.actors t (sitting a place [])) = sym (same_weight (waits x) m.actors t a place [] rest.found rest.agenda refl) in
@@ -148,7 +149,9 @@ quiet_rule p n m t a moves place rest taken =
       rows = λ x pos. subst (λ (k : Numbers). RowRule (block_of m.rows x) (m.life x) k) (same_numbers p n m t a moves place x rest quiet pos) (rest.rule.rows x pos);
       marks = λ x. elim (rest.rule.marks x) [ inl none ↦ inl none | inr set ↦ inr (set.0, set.1, still_watched p n m t a moves place x rest set.2) ];
       each = λ u b is. each_fits p n m t a moves place rest taken u b is;
-      beyond = λ u past k object. moved_aside m.plain (reference_of u k object) moves (quiet_aside m.plain.references (ByThread u k) t moves quiet (λ h. other_thread u t k h (λ e. absurd (omega (arith, within, past, e))))) ∙ rest.rule.beyond u past k object;
+      beyond = λ u past k object.
+          moved_aside m.plain (reference_of u k object) moves (quiet_aside m.plain.references (ByThread u k) t moves quiet (λ h. other_thread u t k h (λ e. absurd (omega (arith, within, past, e)))))
+          ∙ rest.rule.beyond u past k object;
       dying = rest.rule.dying;
       cells = rest.rule.cells;
       cells_hold = λ x i object. moved_aside m.plain (cell_reference x i object) moves (quiet_aside m.plain.references (cell_reference x i object).holder t moves quiet (λ h. refl)) ∙ rest.rule.cells_hold x i object;

@@ -183,7 +183,8 @@ kinds_left m t a (BirthKind y h w) k x small was = elim (y == x) as (λ b. cells
 kinds_left m t a _ k x small was = was
 
 -- a duty that is small, done by a thread in whose place another stood
-pub duty_ranges : (p : Module) (n : ℕ) (m : Machine) (t : ℕ) (b a : Actor) (d : Duty) (rest : List Duty) → Rule p n m → Ranges n m → slice_get m.actors t ≡ Some b → a.head ≤ limit n m → AreSmall (limit n m) (d ∷ rest) → Ranges n (done_by m t a d rest)
+pub duty_ranges : (p : Module) (n : ℕ) (m : Machine) (t : ℕ) (b a : Actor) (d : Duty) (rest : List Duty) → Rule p n m → Ranges n m → slice_get m.actors t ≡ Some b → a.head ≤ limit n m
+    → AreSmall (limit n m) (d ∷ rest) → Ranges n (done_by m t a d rest)
 duty_ranges p n m t b a d rest rule ranges found head small =
     let word = m.memory (address_of m.rows t a.head d) in
     let next = next_small (limit n m) t (is_running a.status) a.head d word small.0 (finds_small p n m t a d rule ranges head) in

@@ -82,7 +82,8 @@ claim_small p n m t a row (Standing left) whole found e =
 claim_small p n m t a row (Inside left at variables) whole found e = absurd cc
 claim_small p n m t a row Departing whole found e = absurd cc
 
-claim_ranges : (p : Module) (n : ℕ) (m : Machine) (t : ℕ) (a : Actor) (row : ℕ) (b : Bool) → Whole p n m → Ranges n m → slice_get m.actors t ≡ Some a → (b ≡ true → row < limit n m) → Ranges n (cond b (done_by m t a (ClaimMark row) []) m)
+claim_ranges : (p : Module) (n : ℕ) (m : Machine) (t : ℕ) (a : Actor) (row : ℕ) (b : Bool) → Whole p n m → Ranges n m → slice_get m.actors t ≡ Some a → (b ≡ true → row < limit n m)
+    → Ranges n (cond b (done_by m t a (ClaimMark row) []) m)
 claim_ranges p n m t a row true whole ranges found small = duty_ranges p n m t a a (ClaimMark row) [] whole.rule ranges found (head_small p n m t a whole.rule found) (small refl, tt)
 claim_ranges p n m t a row false whole ranges found small = ranges
 

@@ -16,7 +16,7 @@ use Rattle.brc_model.proofs.Begins.{IsTaken, QuietMoves}
 use Rattle.brc_model.proofs.Sits.{sitting, Sits, AtRest, taken_up_step}
 use Rattle.brc_model.proofs.TakenSits.{taken_sits, rests, begun_fits}
 use Rattle.brc_model.proofs.Leaves.{AtDuty}
-use Rattle.brc_model.proofs.OwnExits.{IsSettled}
+use Rattle.brc_model.proofs.Settled.{IsSettled}
 use Rattle.brc_model.proofs.Whole.{Whole, Doing, sits_down, starts_settled}
 use Rattle.brc_model.proofs.WholeEvents.{ClaimsSo, claims_so}
 use Rattle.brc_model.specs.Plain.{Move}

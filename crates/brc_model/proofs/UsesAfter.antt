@@ -104,7 +104,8 @@ own_uses p n m t a d rest here =
           subst (λ (u : ℕ). UsesFit m.rows (done_by m t a d rest).life t u) (sym next.1) now
     ]
 
-others_uses : (p : Module) (n : ℕ) (m : Machine) (t : ℕ) (a : Actor) (d : Duty) (rest : List Duty) (u : ℕ) (b : Actor) → AtDuty p n m t a d rest → u ≢ t → slice_get m.actors u ≡ Some b → UsesFit m.rows (done_by m t a d rest).life u b.used
+others_uses : (p : Module) (n : ℕ) (m : Machine) (t : ℕ) (a : Actor) (d : Duty) (rest : List Duty) (u : ℕ) (b : Actor) → AtDuty p n m t a d rest → u ≢ t → slice_get m.actors u ≡ Some b
+    → UsesFit m.rows (done_by m t a d rest).life u b.used
 others_uses p n m t a d rest u b here ne found =
     let old = here.rule.uses u b found in
     record {
@@ -114,7 +115,8 @@ others_uses p n m t a d rest u b here ne found =
       unborn = λ x block past. stays_unborn p n m t a d rest x here (old.unborn x block past) (λ e. ne (sym block ∙ next_block m t a x (born_next p n m t a d rest x here e).0));
     }
 
-pub uses_after : (p : Module) (n : ℕ) (m : Machine) (t : ℕ) (a : Actor) (d : Duty) (rest : List Duty) → AtDuty p n m t a d rest → (u : ℕ) (b : Actor) → slice_get (done_by m t a d rest).actors u ≡ Some b → UsesFit m.rows (done_by m t a d rest).life u b.used
+pub uses_after : (p : Module) (n : ℕ) (m : Machine) (t : ℕ) (a : Actor) (d : Duty) (rest : List Duty) → AtDuty p n m t a d rest → (u : ℕ) (b : Actor) → slice_get (done_by m t a d rest).actors u ≡ Some b
+    → UsesFit m.rows (done_by m t a d rest).life u b.used
 uses_after p n m t a d rest here u b is =
     let after = actor_by t a d rest (found_by m t a d) in
     elim (eqb_tells u t) [

@@ -18,8 +18,10 @@ use Rattle.brc_model.proofs.Neutral.{OwnFits, found_by}
 use Rattle.brc_model.proofs.OwnRetains.{own_retain_counted}
 use Rattle.brc_model.proofs.OwnReleases.{own_retain_store, own_retain_add, own_release_counted, release_held, own_release_store, own_decide, own_shared_load, own_shared_exchange}
 use Rattle.brc_model.proofs.OwnMerges.{own_set_mark, own_look, own_take_mark, own_merge_swap_own, own_merge_swap_handed, own_merge_load, own_merge_exchange}
-use Rattle.brc_model.proofs.OwnSettles.{own_die, own_settle, own_settle_kind, own_settle_cell, own_take_slot, own_close_resource, own_settle_end}
-use Rattle.brc_model.proofs.OwnExits.{own_leave, own_scan, own_finish, own_claim_mark, IsSettled, settled_after}
+use Rattle.brc_model.proofs.OwnChains.{own_die, own_settle, own_settle_end}
+use Rattle.brc_model.proofs.OwnSettles.{own_settle_kind, own_settle_cell, own_take_slot, own_close_resource}
+use Rattle.brc_model.proofs.OwnExits.{own_leave, own_scan, own_finish, own_claim_mark}
+use Rattle.brc_model.proofs.Settled.{IsSettled, settled_after}
 use Rattle.brc_model.proofs.Watches.{marks_after}
 use Rattle.brc_model.proofs.KeepsDuty.{keeps_by}
 use Rattle.brc_model.proofs.NotBad.{duty_not_bad}
@@ -91,7 +93,8 @@ keeps_duty p n m t a d rest doing =
 
 -- ---- what is taken up
 
-pub whole_sits : (p : Module) (n : ℕ) (m : Machine) (t : ℕ) (a : Actor) (place : Place) (agenda : List Duty) → Whole p n m → AtRest p n m t a → Sits p m t a place agenda → IsSettled a.head agenda → Whole p n (with_actor m t (sitting a place agenda))
+pub whole_sits : (p : Module) (n : ℕ) (m : Machine) (t : ℕ) (a : Actor) (place : Place) (agenda : List Duty) → Whole p n m → AtRest p n m t a → Sits p m t a place agenda → IsSettled a.head agenda
+    → Whole p n (with_actor m t (sitting a place agenda))
 whole_sits p n m t a place agenda whole rest sits settled = record {
   rule = sits_rule p n m t a place agenda rest sits;
   settled = λ u b is. written_actor (λ w c. IsSettled c.head c.agenda) m.actors t a (sitting a place agenda) rest.found settled whole.settled u b is;

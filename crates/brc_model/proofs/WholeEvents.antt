@@ -24,7 +24,7 @@ use Rattle.brc_model.proofs.TakenSits.{taken_sits, claim_sits, rests, begun_fits
 use Rattle.brc_model.proofs.Whole.{Whole, KeepsOn, keeps_duty, taken_up, starts_settled}
 use Rattle.brc_model.proofs.Blocks.{used_block}
 use Rattle.brc_model.proofs.Quiets.{quieted, quiet_rule, quiet_allowed}
-use Rattle.brc_model.proofs.OwnExits.{IsSettled}
+use Rattle.brc_model.proofs.Settled.{IsSettled}
 
 -- ---- what a thread at rest takes up
 
@@ -44,7 +44,8 @@ begun_keeps p n m t a (Work (d ∷ rest) place) whole at taken =
 
 -- ---- a thread that isn't gone
 
-agenda_keeps : (p : Module) (n : ℕ) (m : Machine) (t : ℕ) (a : Actor) (agenda : List Duty) → Whole p n m → slice_get m.actors t ≡ Some a → (a.status ≡ Gone → ⊥) → a.agenda ≡ agenda → KeepsOn p n (is_bad_agenda m t a agenda) (goes_on m t a agenda)
+agenda_keeps : (p : Module) (n : ℕ) (m : Machine) (t : ℕ) (a : Actor) (agenda : List Duty) → Whole p n m → slice_get m.actors t ≡ Some a → (a.status ≡ Gone → ⊥) → a.agenda ≡ agenda
+    → KeepsOn p n (is_bad_agenda m t a agenda) (goes_on m t a agenda)
 agenda_keeps p n m t a [] whole found alive is =
     let at_rest = rests p n m t a whole.rule found alive is in
     let at : AtRest p n m t a = record { rule = whole.rule; found = found; agenda = is; running = at_rest.1 } in
