@@ -32,6 +32,8 @@ pub use tally::{Left, Tally};
 pub use world::World;
 
 #[cfg(test)]
+mod birth_tests;
+#[cfg(test)]
 mod interleaving_tests;
 #[cfg(test)]
 mod schedule_tests;
