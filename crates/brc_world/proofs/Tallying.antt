@@ -1,5 +1,5 @@
 -- The rows that are born, one after another, and how many of them are closed.
-use Rattle.std.proofs.Common.{◌≡◌, ℕ, ◌+◌, ◌-◌, ◌<◌, ◌≤◌, Bool, true, false, cond, List, [], ◌∷◌, ◌++◌, length, map, inl, inr, refl, sym, ap, ◌∙◌, subst, arith}
+use Rattle.std.proofs.Common.{◌≡◌, ℕ, zero, suc, ◌+◌, ◌-◌, ◌*◌, ◌/◌, ◌<◌, ◌≤◌, Bool, true, false, cond, List, [], ◌∷◌, ◌++◌, length, map, inl, inr, refl, sym, ap, ◌∙◌, subst, arith}
 use Rattle.std.specs.Prelude.{filter, not, sum_by, count_by}
 use Rattle.std.specs.List.{All, range_with_len}
 use Rattle.std.proofs.lemmas.Bool.{cases_Bool}
@@ -7,6 +7,8 @@ use Rattle.std.proofs.lemmas.List.{map-id, append-nil, length-map}
 use Rattle.std.proofs.lemmas.List.FromFn.{map-range_with_len_more, length-range_with_len, get_or-range_with_len}
 use Rattle.std.proofs.lemmas.List.Elements.{filter-append, All-filter}
 use Rattle.std.proofs.lemmas.List.Sums.{sum_by-cons}
+use Rattle.std.proofs.lemmas.Nat.{div_below}
+use Rattle.brc_model.specs.Duties.{block_of}
 use Rattle.brc_model.specs.World.{World, row_count}
 use Rattle.brc_world.specs.declared.tally.Tally.{Tally}
 use Rattle.brc_world.specs.declared.tally.Left.{Left}
@@ -52,6 +54,17 @@ pub born_there : (w : World) → 1 ≤ row_count w → All (λ row. row < row_co
 born_there w some =
     let all : 1 + (row_count w - 1) ≡ row_count w = omega (arith, some) in
     All-filter (is_born w) (λ row. row < row_count w) (range_with_len 1 (row_count w - 1)) (subst (λ (m : ℕ). All (λ row. row < m) (range_with_len 1 (row_count w - 1))) all (rows_there 1 (row_count w - 1)))
+
+-- ---- blocks
+
+-- a row that is there is of main's block or of a worker's
+pub block_there : (rows workers row : ℕ) → 0 < rows → row < 2 + workers * rows → block_of rows row ≤ workers
+block_there rows workers zero some there = omega arith
+block_there rows workers (suc zero) some there = omega arith
+block_there rows workers (suc (suc x)) some there =
+    let within : x < workers * rows = omega (arith, there) in
+    let below : x / rows < workers = div_below x rows workers some within in
+    omega (arith, below)
 
 -- ---- counts over a view
 

@@ -1,5 +1,4 @@
-ghost use Rattle.std.specs.Prelude.{◌≡◌, ◌<◌, ◌^◌, count_by};
-ghost use Rattle.brc_model.specs.Machine.{first_row};
+ghost use Rattle.std.specs.Prelude.{◌≡◌, count_by};
 ghost use Rattle.brc_world.specs.Actors.{actor_of};
 ghost use Rattle.brc_world.specs.Tallies.{still_runs, kind_numbered};
 
@@ -41,17 +40,6 @@ pub fn running_in(threads: &[Thread]) -> usize
         .iter()
         .filter(|thread| !matches!(thread.status, Status::Gone))
         .count()
-}
-
-/// The first row of a thread's block.
-pub fn first_of_block(rows: u16, block: u32) -> u64
-    ensures row { result ≡ first_row rows block }
-    ensures below { result < 2 ^ 49 }
-{
-    match block {
-        0 => 0,
-        _ => 2 + u64::from(block - 1) * u64::from(rows),
-    }
 }
 
 /// The kind of this number in a kind word.

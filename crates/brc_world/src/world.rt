@@ -8,12 +8,13 @@ ghost use Rattle.brc_world.specs.Tallies.{used_of, is_born, is_closed_row, rows_
 ghost use Rattle.brc_world.specs.Answers.{is_gone_at, IsAnswer};
 
 use crate::address::block_of;
+use crate::begun::first_row;
 use crate::did::Did;
 use crate::doing::{act, claim};
 use crate::first::first_threads;
 use crate::memory::{Memory, first_memory};
 use crate::no_memory::NoMemory;
-use crate::tally::{Left, Tally, first_of_block, kind_numbered, running_in};
+use crate::tally::{Left, Tally, kind_numbered, running_in};
 use crate::thread::Thread;
 use brc_check::Checked;
 use brc_lang::{Module, Sequence};
@@ -144,12 +145,13 @@ impl<'a> World<'a> {
 
     /// Whether the row's thread has used it.
     fn is_born(&self, row: u32) -> bool
+        requires { row < row_count (seen self.now) }
         ensures { result ≡ is_born (seen self.now) row }
     {
         worlds_are_small();
         let block = block_of(self.rows, row);
-        let first = first_of_block(self.rows, block);
-        u64::from(row) < first + u64::from(self.used_in(block))
+        let first = first_row(self.rows, block as u8);
+        u64::from(row) < u64::from(first) + u64::from(self.used_in(block))
     }
 
     /// How many rows of its block the thread has used, or 0 where there is no such thread.
