@@ -1,5 +1,5 @@
 -- What a thread's step does to its words and to itself is the model's step of the world.
-use Rattle.std.proofs.Common.{◌≡◌, ◌≢◌, ℕ, ◌+◌, true, false, List, [], ◌∷◌, Option, Some, inl, inr, refl, sym, ap, ◌∙◌}
+use Rattle.std.proofs.Common.{◌≡◌, ◌≢◌, ℕ, ◌+◌, true, false, List, [], ◌∷◌, Option, Some, inl, inr, refl, sym, ap, ◌∙◌, None}
 use Rattle.std.specs.Prelude.{◌==◌, ◌&&◌, not, nat_le, nat_lt, length, slice_get, slice_set}
 use Rattle.std.proofs.lemmas.Bool.{cases_Bool, eqb-true, and_parts}
 use Rattle.std.proofs.lemmas.Bool.Decides.{eqb_tells}
@@ -12,7 +12,7 @@ use Rattle.brc_model.specs.declared.actor.Status.TheVariants.{Running, Leaving, 
 use Rattle.brc_model.specs.declared.address.Address.{Address}
 use Rattle.brc_model.specs.declared.address.Address.TheVariants.{Mark}
 use Rattle.brc_model.specs.declared.duty.Duty.{Duty}
-use Rattle.brc_model.specs.declared.thread.Choice.TheVariants.{Ok, Claim}
+use Rattle.brc_model.specs.declared.thread.Choice.TheVariants.{Ok, Claim, Fault}
 use Rattle.brc_model.specs.Machine as model
 use Rattle.brc_model.specs.Machine.{Actor, acts, begins, goes_on, begun_by, chosen, done_by, is_running, first_row, may_claim}
 use Rattle.brc_lang.specs.declared.module.Module.{Module}
@@ -61,6 +61,10 @@ going_on w t a found = ap (λ (o : Option Actor). world_of (chosen (machine_of w
 pub going_on_by : (w : World) (t : ℕ) (a : Actor) (s : Status) → slice_get w.actors t ≡ Some a → a.status ≡ s
     → step w t Ok ≡ with_words w t (memory_by w.functions w.rows t w.memory a s) (actor_by w.functions w.rows t w.memory a s)
 going_on_by w t a s found is = ap (λ (o : Option Actor). world_of (chosen (machine_of w) t Ok o)) found ∙ ap (λ (u : Status). world_of (acts (machine_of w) t a u)) is ∙ acts_as w t a s found
+
+-- no step is a host call, so a fault is as good
+pub fault_goes_on : (w : World) (t : ℕ) → step w t Fault ≡ step w t Ok
+fault_goes_on w t = elim (slice_get w.actors t) as (λ o. world_of (chosen (machine_of w) t Fault o) ≡ world_of (chosen (machine_of w) t Ok o)) [ None ↦ refl | Some a ↦ refl ]
 
 -- where the thread can't go on, it stays
 pub stuck_stays : (a : Actor) (agenda : List Duty) (b : model.Begun) → start_on agenda b ≡ Stuck → actor_on a agenda b ≡ a
