@@ -158,10 +158,8 @@ pub fn target_of(instr: Instr, exit: Exit, at: usize) -> Option<usize>
             Exit::Success => at + 1,
             Exit::Fault => otherwise as usize,
         }),
-        Instr::NoneObject { .. }
-        | Instr::Newref { .. }
-        | Instr::Move { .. }
-        | Instr::Drop { .. } => Some(at + 1),
+        Instr::NoneObject { .. } | Instr::Newref { .. } | Instr::Move { .. } | Instr::Drop { .. } =>
+            Some(at + 1),
         Instr::Goto { target } => Some(target as usize),
         Instr::Ret { .. } | Instr::Fail => None,
     }

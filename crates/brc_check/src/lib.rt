@@ -24,4 +24,6 @@ pub use table::Table;
 pub use verifying::verify;
 
 #[cfg(test)]
+mod joins_tests;
+#[cfg(test)]
 mod tests;

@@ -1,124 +1,68 @@
-ghost use Rattle.std.specs.Prelude.{◌≡◌, ◌≢◌, ◌<◌, ◌≤◌, length, IsTrue, IfOk};
-ghost use Rattle.brc_lang.specs.Grammar.{is_name, IsInstruction, IsFunction, IsModule};
+ghost use Rattle.std.specs.Prelude.{IfOk};
+ghost use Rattle.brc_lang.specs.Grammar.{IsModule};
 
 use super::*;
-use brc_lang::{Function, Instr, Kind, Module, Name, Sequence, Variable};
-use std::alloc::{AllocError, Global};
+use brc_lang::{Kind, Module, read};
+use std::alloc::Global;
 use std::test::*;
 
-fn known(instr: Instr) -> Instr
-    ensures same { result ≡ instr }
-    ensures fits { IsInstruction instr }
-{
-    match instr {
-        Instr::Newref { to, from } => {
-            let _numbers = (to.number(), from.number());
-        }
-        Instr::Drop { from } | Instr::Ret { from } => {
-            let _number = from.number();
-        }
-        Instr::Fail => (),
-    }
-    instr
-}
-
-fn function(alloc: Global, name: &[u8], code: &[Instr]) -> Result<Function, AllocError>
-    requires name { IsTrue (is_name name.now) }
-    requires short { length name.now ≤ 16 }
-    requires some { 0 < length code.now }
-    requires most { length code.now ≤ 256 }
-    ensures named { IfOk result (λ f. f.name ≡ name.now) }
-    ensures fits { IfOk result (λ f. IsFunction f) }
-{
-    let mut copy = Sequence::new(alloc);
-    for instr in code {
-        copy.push(known(*instr))?;
-    }
-    Ok(Function {
-        name: Name::new(name),
-        code: copy,
-    })
-}
-
-fn module_of(alloc: Global, function: Function) -> Result<Module, AllocError>
-    requires { IsFunction function }
+/// The module of a text.
+fn module_of(alloc: Global, text: &[u8]) -> Result<Module, Fail>
     ensures { IfOk result (λ m. IsModule m) }
 {
-    let mut functions = Sequence::new(alloc);
-    functions.push(function)?;
-    Ok(Module { functions })
+    match read(alloc, text) {
+        Ok(module) => Ok(module),
+        Err(_) => Err("the text is a module")?,
+    }
 }
 
-fn module_of_two(alloc: Global, first: Function, second: Function) -> Result<Module, AllocError>
-    requires first { IsFunction first }
-    requires second { IsFunction second }
-    requires apart { first.name ≢ second.name }
+/// The module of a function `f` of these lines.
+pub fn function_of(alloc: Global, lines: &[u8]) -> Result<Module, Fail>
     ensures { IfOk result (λ m. IsModule m) }
 {
-    let mut functions = Sequence::new(alloc);
-    functions.push(first)?;
-    functions.push(second)?;
-    Ok(Module { functions })
+    let mut text = Vec::from_slice(alloc, b"module 1\nfunc f\n")?;
+    text.extend_from_slice(lines)?;
+    text.extend_from_slice(b"end\n")?;
+    module_of(alloc, &text)
+}
+
+/// The point and the code that a function of these lines is refused with, or none where it is accepted.
+pub fn refusal_of(alloc: Global, lines: &[u8]) -> Result<Option<(usize, CheckCode)>, Fail> {
+    Ok(
+        check(alloc, function_of(alloc, lines)?)
+            .err()
+            .map(|refused| (refused.at, refused.code)),
+    )
 }
 
 #[test]
 fn one_function(rt: HostRuntime) -> Result<(), Fail> {
-    let v0 = Variable::new(0);
-    let v1 = Variable::new(1);
-    let v2 = Variable::new(2);
-    let take = Instr::Newref { to: v1, from: v0 };
-    let cases: [(&[Instr], Option<(usize, CheckCode)>); 11] = [
-        (&[Instr::Fail], None),
-        (&[take, Instr::Drop { from: v1 }, Instr::Fail], None),
-        (&[take, Instr::Ret { from: v1 }], None),
+    let cases: [(&[u8], Option<(usize, CheckCode)>); 11] = [
+        (b"fail\n", None),
+        (b"newref v1 v0\ndrop v1\nfail\n", None),
+        (b"newref v1 v0\nret v1\n", None),
+        (b"newref v0 v0\nret v0\n", None),
+        (b"drop v1\nfail\n", Some((0, CheckCode::EmptyUsed))),
+        (b"newref v2 v1\nfail\n", Some((0, CheckCode::EmptyUsed))),
+        (b"drop v0\nfail\n", Some((0, CheckCode::NotOwned))),
+        (b"newref v1 v0\nret v0\n", Some((1, CheckCode::NotOwned))),
         (
-            &[Instr::Newref { to: v0, from: v0 }, Instr::Ret { from: v0 }],
-            None,
-        ),
-        (
-            &[Instr::Drop { from: v1 }, Instr::Fail],
-            Some((0, CheckCode::EmptyUsed)),
-        ),
-        (
-            &[Instr::Newref { to: v2, from: v1 }, Instr::Fail],
-            Some((0, CheckCode::EmptyUsed)),
-        ),
-        (
-            &[Instr::Drop { from: v0 }, Instr::Fail],
-            Some((0, CheckCode::NotOwned)),
-        ),
-        (
-            &[take, Instr::Ret { from: v0 }],
-            Some((1, CheckCode::NotOwned)),
-        ),
-        (
-            &[take, take, Instr::Drop { from: v1 }, Instr::Fail],
+            b"newref v1 v0\nnewref v1 v0\ndrop v1\nfail\n",
             Some((1, CheckCode::StillOwns)),
         ),
-        (&[take, Instr::Fail], Some((1, CheckCode::LeftOwned))),
-        (&[take], Some((0, CheckCode::RunsOff))),
+        (b"newref v1 v0\nfail\n", Some((1, CheckCode::LeftOwned))),
+        (b"newref v1 v0\n", Some((0, CheckCode::RunsOff))),
     ];
-    for (i, (code, want)) in cases.iter().enumerate() {
-        assert!(rt; !code.is_empty() && code.len() <= 256);
-        let module = module_of(rt.alloc(), function(rt.alloc(), b"f", code)?)?;
-        let met = check(rt.alloc(), module)
-            .err()
-            .map(|refused| (refused.at, refused.code));
-        assert_eq!(rt; met, *want, "at case {i}");
+    for (lines, want) in cases {
+        assert_eq!(rt; refusal_of(rt.alloc(), lines)?, want, "{lines:?}");
     }
     Ok(())
 }
 
 #[test]
 fn second_function(rt: HostRuntime) -> Result<(), Fail> {
-    let first = function(rt.alloc(), b"first", &[Instr::Fail])?;
-    let v0 = Variable::new(0);
-    let second = function(
-        rt.alloc(),
-        b"second",
-        &[Instr::Drop { from: v0 }, Instr::Fail],
-    )?;
-    let refused = check(rt.alloc(), module_of_two(rt.alloc(), first, second)?)
+    let text = b"module 1\nfunc first\nfail\nend\nfunc second\ndrop v0\nfail\nend\n";
+    let refused = check(rt.alloc(), module_of(rt.alloc(), text)?)
         .err()
         .ok_or("the second function gives up what it borrows")?;
     assert_eq!(rt; refused.function.as_bytes(), b"second".as_slice());
@@ -129,30 +73,21 @@ fn second_function(rt: HostRuntime) -> Result<(), Fail> {
 
 #[test]
 fn accepted_module(rt: HostRuntime) -> Result<(), Fail> {
-    let only = function(rt.alloc(), b"only", &[Instr::Fail])?;
-    let checked = check(rt.alloc(), module_of(rt.alloc(), only)?)
+    let checked = check(rt.alloc(), function_of(rt.alloc(), b"fail\n")?)
         .ok()
         .ok_or("nothing is owned at the end")?;
     assert_eq!(rt; checked.module().functions.len(), 1);
     Ok(())
 }
 
-/// `newref v1 v0`, `drop v1`, `fail`.
-fn taken_and_dropped(alloc: Global) -> Result<Module, AllocError>
+fn taken_and_dropped(alloc: Global) -> Result<Module, Fail>
     ensures { IfOk result (λ m. IsModule m) }
 {
-    let v0 = Variable::new(0);
-    let v1 = Variable::new(1);
-    let code = [
-        Instr::Newref { to: v1, from: v0 },
-        Instr::Drop { from: v1 },
-        Instr::Fail,
-    ];
-    module_of(alloc, function(alloc, b"f", &code)?)
+    function_of(alloc, b"newref v1 v0\ndrop v1\nfail\n")
 }
 
 /// The state with v1 as given: v0 is the caller's list, and the others are empty.
-fn with_v1(slot: Slot) -> State {
+pub fn with_v1(slot: Slot) -> State {
     let mut slots = [Slot::Empty; 16];
     slots[0] = Slot::Caller(Kind::List);
     slots[1] = slot;
@@ -213,10 +148,9 @@ fn changed_outside(rt: HostRuntime) -> Result<(), Fail> {
 
 #[test]
 fn other_shapes(rt: HostRuntime) -> Result<(), Fail> {
-    let f = function(rt.alloc(), b"f", &[Instr::Fail])?;
-    let g = function(rt.alloc(), b"g", &[Instr::Fail])?;
-    let two = module_of_two(rt.alloc(), f, g)?;
-    let one = module_of(rt.alloc(), function(rt.alloc(), b"f", &[Instr::Fail])?)?;
+    let text = b"module 1\nfunc f\nfail\nend\nfunc g\nfail\nend\n";
+    let two = module_of(rt.alloc(), text)?;
+    let one = function_of(rt.alloc(), b"fail\n")?;
     let three_points = taken_and_dropped(rt.alloc())?;
     let two_rows = infer(rt.alloc(), &two).ok().ok_or("a true table")?;
     let one_point = infer(rt.alloc(), &one).ok().ok_or("a true table")?;

@@ -9,7 +9,7 @@ use Rattle.std.proofs.lemmas.List.Quantifiers.{all_pairs_push}
 use Rattle.std.proofs.lemmas.List.Recursion.{or_from_places}
 use Rattle.std.proofs.lemmas.Slice.Eq.{bytes_eq-Decides}
 use Rattle.brc_lang.specs.declared.module.Function.{Function}
-use Rattle.brc_lang.specs.declared.fault.FaultCode.TheVariants.{UnknownWord, NameTwice}
+use Rattle.brc_lang.specs.declared.fault.FaultCode.TheVariants.{NameTwice}
 use Rattle.brc_lang.specs.Grammar.{line, is_name, AreNamedApart}
 use Rattle.brc_lang.specs.Fault.{words, heading_fault_of}
 use Rattle.brc_lang.specs.Progress.{Opens}
@@ -21,18 +21,6 @@ abbrev pub has_name : List ℕ → List Function → Bool
 has_name name done = list_any (λ f. bytes_eq f.name name) done
 
 -- ---- which fault
-
-pub other_count : (done : List Function) (ws : List (List ℕ)) → (length ws ≡ 2 → ⊥) → heading_fault_of done ws ≡ Some UnknownWord
-other_count done [] h = refl
-other_count done (w ∷ []) h = refl
-other_count done (w ∷ n ∷ []) h = absurd (h refl)
-other_count done (w ∷ n ∷ x ∷ ws) h = refl
-
-pub other_word : (done : List Function) (text w n : List ℕ) → words text ≡ w ∷ n ∷ [] → bytes_eq w (codes "func") ≡ false → heading_fault_of done (words text) ≡ Some UnknownWord
-other_word done text w n e f = ap (heading_fault_of done) e ∙ rw f refl
-
-pub no_name : (done : List Function) (text w n : List ℕ) → words text ≡ w ∷ n ∷ [] → bytes_eq w (codes "func") ≡ true → is_name n ≡ false → heading_fault_of done (words text) ≡ Some UnknownWord
-no_name done text w n e f g = ap (heading_fault_of done) e ∙ rw (f, g) refl
 
 pub second_time : (done : List Function) (text w n : List ℕ) → words text ≡ w ∷ n ∷ [] → bytes_eq w (codes "func") ≡ true → is_name n ≡ true → length done < 64 → has_name n done ≡ true → heading_fault_of done (words text) ≡ Some NameTwice
 second_time done text w n e f g room h = ap (heading_fault_of done) e ∙ rw (f, g, lt-leb 64 (length done) room, h) refl

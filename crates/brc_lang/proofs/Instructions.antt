@@ -9,7 +9,7 @@ use Rattle.brc_lang.specs.declared.module.Instr.{Instr}
 use Rattle.brc_lang.specs.declared.module.Instr.TheVariants.{Num, NoneObject, Newref, Move, Drop, Goto, Ret, Fail}
 use Rattle.brc_lang.specs.declared.fault.FaultCode.{FaultCode}
 use Rattle.brc_lang.specs.declared.fault.FaultCode.TheVariants.{UnknownWord}
-use Rattle.brc_lang.specs.Grammar.{spaced, variable, target, instruction_words, instruction, IsInstruction}
+use Rattle.brc_lang.specs.Grammar.{variable, target, instruction_words, instruction, IsInstruction}
 use Rattle.brc_lang.specs.Fault.{words, variable_in, target_in, number_in, ◌>>=◌, one_variable_in, two_variables_in, one_target_in, num_in, fail_in, instruction_in, is_line_feed}
 use Rattle.brc_lang.proofs.Words.{joined, some_word, ArePlain, spaced_words, spaced_plain}
 use Rattle.brc_lang.proofs.Spelling.{number_spelled, number_again, number_plain, variable_spelled, variable_again, variable_plain, target_spelled, target_again, target_plain}
@@ -29,7 +29,7 @@ either_way : {A P : Type 0} (b : Bool) (x y z : A) → cond b x y ≡ z → (b �
 either_way true x y z e taken passed = taken refl e
 either_way false x y z e taken passed = passed e
 
-same_text : (w text : List ℕ) → bytes_eq w text ≡ true → w ≡ text
+pub same_text : (w text : List ℕ) → bytes_eq w text ≡ true → w ≡ text
 same_text w text e = (bytes_eq-Decides w text).0 e
 
 -- `fail` has no operand

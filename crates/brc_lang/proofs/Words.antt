@@ -15,9 +15,6 @@ is_space c = eqb c 32
 pub joined : (text : List ℕ) (ws : List (List ℕ)) → words text ≡ ws → text ≡ spaced ws
 joined text ws e = sym (join_with_byte-slice_split 32 text) ∙ ap spaced e
 
-pub of_two : (text a b : List ℕ) → words text ≡ a ∷ b ∷ [] → text ≡ a ++ 32 ∷ b
-of_two text a b e = joined text (a ∷ b ∷ []) e
-
 -- ---- from a line to words
 
 pub one_word : (a : List ℕ) → list_any is_space a ≡ false → words a ≡ a ∷ []

@@ -74,7 +74,8 @@ IsTaken code bag rows t used (Quiet moves place) = QuietTaken code bag t moves p
 IsTaken code bag rows t used (Work [] place) = ⊥
 IsTaken code bag rows t used (Work (d ∷ rest) place) = Taken code bag rows t used place d rest
 
-pub taken_with_row : (code : List Instr) (bag : List Reference) (rows t used object : ℕ) (row : Option ℕ) (work : ℕ → Begun) → row ≡ Some object → IsTaken code bag rows t used (work object) → IsTaken code bag rows t used (with_row row work)
+pub taken_with_row : (code : List Instr) (bag : List Reference) (rows t used object : ℕ) (row : Option ℕ) (work : ℕ → Begun) → row ≡ Some object → IsTaken code bag rows t used (work object)
+    → IsTaken code bag rows t used (with_row row work)
 taken_with_row code bag rows t used object row work is taken = subst (λ (o : Option ℕ). IsTaken code bag rows t used (with_row o work)) (sym is) taken
 
 pub standing_stays : (left : ℕ) → Standing left ≢ Departing
@@ -89,7 +90,8 @@ abbrev by_variable : Slot → Option ℕ → ℕ → ℕ
 by_variable slot row object = one_if (is_owned slot && names row object)
 
 -- the destination lacks its new reference
-pub newref_held : (bag : List Reference) (t : ℕ) (s : State) (variables : List (Option ℕ)) (to row : ℕ) (slot : Slot) → to < length s.slots → to < length variables → is_owned (slot_of s to) ≡ false → is_owned slot ≡ true → Holds bag t (of_variables s variables)
+pub newref_held : (bag : List Reference) (t : ℕ) (s : State) (variables : List (Option ℕ)) (to row : ℕ) (slot : Slot) → to < length s.slots → to < length variables → is_owned (slot_of s to) ≡ false
+    → is_owned slot ≡ true → Holds bag t (of_variables s variables)
     → (k : Holding) (object : ℕ) → held (reference_of t k object) bag + one_if (same_holding (ByVariable to) k && (row == object)) ≡ one_if (of_variables (put s to slot) (slice_set variables to (Some row)) k object) + 0
 newref_held bag t s variables to row slot in_slots in_rows free owned holds AsCaller object = omega (arith, holds.each AsCaller object)
 newref_held bag t s variables to row slot in_slots in_rows free owned holds InHand object = omega (arith, holds.each InHand object)
@@ -100,7 +102,8 @@ newref_held bag t s variables to row slot in_slots in_rows free owned holds (ByV
           let before : held (reference_of t (ByVariable to) object) bag ≡ 0 = holds.each (ByVariable to) object ∙ ap (λ (b : Bool). one_if (b && names (row_of variables to) object)) free in
           let more : one_if ((to == to) && (row == object)) ≡ one_if (row == object) = ap (λ (b : Bool). one_if (b && (row == object))) (eq-eqb to to refl) in
           let said : by_variable (slot_of (put s to slot) to) (row_of (slice_set variables to (Some row)) to) object ≡ one_if (object == row) =
-          ap (λ (x : Slot). by_variable x (row_of (slice_set variables to (Some row)) to) object) (slot_of-put_same s to slot in_slots) ∙ ap (λ (b : Bool). one_if (b && names (row_of (slice_set variables to (Some row)) to) object)) owned
+          ap (λ (x : Slot). by_variable x (row_of (slice_set variables to (Some row)) to) object) (slot_of-put_same s to slot in_slots)
+          ∙ ap (λ (b : Bool). one_if (b && names (row_of (slice_set variables to (Some row)) to) object)) owned
           ∙ ap (λ (x : Option ℕ). one_if (names x object)) (row_of-set_same variables to (Some row) in_rows) in
           let flipped : one_if (object == row) ≡ one_if (row == object) = ap one_if (flip_eqb object row) in
           subst P this.1 (omega (arith, before, more, said, flipped))
@@ -108,12 +111,14 @@ newref_held bag t s variables to row slot in_slots in_rows free owned holds (ByV
           let none : one_if ((to == v) && (row == object)) ≡ 0 = ap (λ (b : Bool). one_if (b && (row == object))) other.0 in
           let apart : v ≢ to = λ e. other.1 (sym e) in
           let said : by_variable (slot_of (put s to slot) v) (row_of (slice_set variables to (Some row)) v) object ≡ by_variable (slot_of s v) (row_of variables v) object =
-          ap (λ (x : Slot). by_variable x (row_of (slice_set variables to (Some row)) v) object) (slot_of-put_other s to v slot apart) ∙ ap (λ (x : Option ℕ). by_variable (slot_of s v) x object) (row_of-set_other variables to v (Some row) apart) in
+          ap (λ (x : Slot). by_variable x (row_of (slice_set variables to (Some row)) v) object) (slot_of-put_other s to v slot apart)
+          ∙ ap (λ (x : Option ℕ). by_variable (slot_of s v) x object) (row_of-set_other variables to v (Some row) apart) in
           omega (arith, holds.each (ByVariable v) object, none, said)
     ]
 
 -- the variable that is emptied has its reference more than the place says
-pub emptied_held : (bag : List Reference) (t : ℕ) (s : State) (variables : List (Option ℕ)) (from row : ℕ) → from < length s.slots → is_owned (slot_of s from) ≡ true → row_of variables from ≡ Some row → Holds bag t (of_variables s variables)
+pub emptied_held : (bag : List Reference) (t : ℕ) (s : State) (variables : List (Option ℕ)) (from row : ℕ) → from < length s.slots → is_owned (slot_of s from) ≡ true → row_of variables from ≡ Some row
+    → Holds bag t (of_variables s variables)
     → (k : Holding) (object : ℕ) → held (reference_of t k object) bag + 0 ≡ one_if (of_variables (put s from Empty) (slice_set variables from None) k object) + one_if (same_holding (ByVariable from) k && (row == object))
 emptied_held bag t s variables from row in_slots owned is holds AsCaller object = omega (arith, holds.each AsCaller object)
 emptied_held bag t s variables from row in_slots owned is holds InHand object = omega (arith, holds.each InHand object)
@@ -132,7 +137,8 @@ emptied_held bag t s variables from row in_slots owned is holds (ByVariable v) o
           let none : one_if ((from == v) && (row == object)) ≡ 0 = ap (λ (b : Bool). one_if (b && (row == object))) other.0 in
           let apart : v ≢ from = λ e. other.1 (sym e) in
           let said : by_variable (slot_of (put s from Empty) v) (row_of (slice_set variables from None) v) object ≡ by_variable (slot_of s v) (row_of variables v) object =
-          ap (λ (x : Slot). by_variable x (row_of (slice_set variables from None) v) object) (slot_of-put_other s from v Empty apart) ∙ ap (λ (x : Option ℕ). by_variable (slot_of s v) x object) (row_of-set_other variables from v None apart) in
+          ap (λ (x : Slot). by_variable x (row_of (slice_set variables from None) v) object) (slot_of-put_other s from v Empty apart)
+          ∙ ap (λ (x : Option ℕ). by_variable (slot_of s v) x object) (row_of-set_other variables from v None apart) in
           omega (arith, holds.each (ByVariable v) object, none, said)
     ]
 
@@ -158,6 +164,7 @@ cleared_held bag t s variables to in_slots free holds (ByVariable v) object =
       | inr other ↦
           let apart : v ≢ to = λ e. other.1 (sym e) in
           let said : by_variable (slot_of (put s to Empty) v) (row_of (slice_set variables to None) v) object ≡ by_variable (slot_of s v) (row_of variables v) object =
-          ap (λ (x : Slot). by_variable x (row_of (slice_set variables to None) v) object) (slot_of-put_other s to v Empty apart) ∙ ap (λ (x : Option ℕ). by_variable (slot_of s v) x object) (row_of-set_other variables to v None apart) in
+          ap (λ (x : Slot). by_variable x (row_of (slice_set variables to None) v) object) (slot_of-put_other s to v Empty apart)
+          ∙ ap (λ (x : Option ℕ). by_variable (slot_of s v) x object) (row_of-set_other variables to v None apart) in
           holds.each (ByVariable v) object ∙ sym said
     ]

@@ -1,14 +1,14 @@
 -- The rows of each thread's block: which are used, born, or next to be born.
-use Rattle.std.proofs.Common.{◌≡◌, ◌≢◌, ℕ, zero, suc, ◌+◌, ◌-◌, ◌*◌, ◌<◌, ◌≤◌, length, Option, None, Some, refl, sym, ap, ◌∙◌, subst, arith, inl, inr}
+use Rattle.std.proofs.Common.{◌≡◌, ◌≢◌, ℕ, zero, suc, ◌+◌, ◌-◌, ◌*◌, ◌<◌, ◌≤◌, Some, refl, sym, ap, ◌∙◌, subst, arith, inl, inr}
 use Rattle.std.specs.Prelude.{◌/◌, slice_get}
 use Rattle.std.proofs.Math.Nat.{div-mul-le_self, lt-div-mul-add, div-lt_iff_lt-mul, mul-le-mul, mul-le-mul_right}
 use Rattle.std.proofs.lemmas.Nat.{div-mul-add}
 use Rattle.std.proofs.lemmas.Bool.{cases_lt}
 use Rattle.brc_lang.specs.declared.module.Module.{Module}
 use Rattle.brc_model.specs.Duties.{block_of}
-use Rattle.brc_model.specs.Machine.{Actor, Unborn, Live, Machine, first_row, block_size, next_row}
+use Rattle.brc_model.specs.Machine.{Actor, Unborn, Machine, first_row, block_size, next_row}
 use Rattle.brc_model.proofs.Lists.{some_within}
-use Rattle.brc_model.proofs.Rule.{IsNext, UsesFit, Rule}
+use Rattle.brc_model.proofs.Rule.{IsNext, Rule}
 use Rattle.std.proofs.lemmas.Option.{slice_get_within}
 
 -- ---- arithmetic

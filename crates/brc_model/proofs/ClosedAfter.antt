@@ -42,7 +42,8 @@ closed_stays p n m t a d rest x here was =
       | IsBorn now unborn above born none ↦ absurd (unborn_not_closed (sym unborn ∙ was))
     ]
 
-pub closed_is_after : (p : Module) (n : ℕ) (m : Machine) (t : ℕ) (a : Actor) (d : Duty) (rest : List Duty) (x : ℕ) → AtDuty p n m t a d rest → is_among x (done_by m t a d rest).plain.closed ≡ true → (done_by m t a d rest).life x ≡ Closed
+pub closed_is_after : (p : Module) (n : ℕ) (m : Machine) (t : ℕ) (a : Actor) (d : Duty) (rest : List Duty) (x : ℕ) → AtDuty p n m t a d rest → is_among x (done_by m t a d rest).plain.closed ≡ true
+    → (done_by m t a d rest).life x ≡ Closed
 closed_is_after p n m t a d rest x here is =
     elim (closed_step m t d (m.memory (address_of m.rows t a.head d))) [
       | SameClosed none same ↦ closed_stays p n m t a d rest x here (here.rule.closed_is x (sym (ap (is_among x) same) ∙ is))
@@ -66,7 +67,8 @@ pub among_last : (x : ℕ) (xs : List ℕ) → is_among x (xs ++ x ∷ []) ≡ t
 among_last x xs =
     list_any-append (λ z. z == x) xs (x ∷ []) ∙ elim (is_among x xs) as (λ b. (b || is_among x (x ∷ [])) ≡ true) [ true ↦ refl | false ↦ ap (λ (b : Bool). b || false) (eq-eqb x x refl) ]
 
-pub closed_has_after : (p : Module) (n : ℕ) (m : Machine) (t : ℕ) (a : Actor) (d : Duty) (rest : List Duty) (x : ℕ) → AtDuty p n m t a d rest → (done_by m t a d rest).life x ≡ Closed → is_among x (done_by m t a d rest).plain.closed ≡ true
+pub closed_has_after : (p : Module) (n : ℕ) (m : Machine) (t : ℕ) (a : Actor) (d : Duty) (rest : List Duty) (x : ℕ) → AtDuty p n m t a d rest → (done_by m t a d rest).life x ≡ Closed
+    → is_among x (done_by m t a d rest).plain.closed ≡ true
 closed_has_after p n m t a d rest x here is =
     let Q : List ℕ → Type 0 = λ l. is_among x l ≡ true in
     elim (closed_step m t d (m.memory (address_of m.rows t a.head d))) [

@@ -66,8 +66,10 @@ agenda_decides : (p : Module) (n : ℕ) (m : Machine) (u x : ℕ) (b : Actor) (a
     → (agenda_weight (decides x) b ≡ 0) ⊎ OwnsLocally m u b x
 agenda_decides p n m u x b [] is status was fits head = inl (ap (sum_by (decides x)) is)
 agenda_decides p n m u x b (d ∷ rest) is Gone was fits head = absurd (let wrong : [] ≡ d ∷ rest = sym fits.0 ∙ is in cc)
-agenda_decides p n m u x b (d ∷ rest) is Running was fits head = first_decides m u x b d rest is (rest_decides m.rows u b.used Running b.place x d rest (subst (λ (l : List Duty). Agenda m.rows u b.used Running b.place l) is fits)) head
-agenda_decides p n m u x b (d ∷ rest) is Leaving was fits head = first_decides m u x b d rest is (rest_decides m.rows u b.used Leaving b.place x d rest (subst (λ (l : List Duty). Agenda m.rows u b.used Leaving b.place l) is fits)) head
+agenda_decides p n m u x b (d ∷ rest) is Running was fits head =
+    first_decides m u x b d rest is (rest_decides m.rows u b.used Running b.place x d rest (subst (λ (l : List Duty). Agenda m.rows u b.used Running b.place l) is fits)) head
+agenda_decides p n m u x b (d ∷ rest) is Leaving was fits head =
+    first_decides m u x b d rest is (rest_decides m.rows u b.used Leaving b.place x d rest (subst (λ (l : List Duty). Agenda m.rows u b.used Leaving b.place l) is fits)) head
 
 -- where the running owner is at a duty that decides about nothing, nobody decides
 pub nobody_decides : (p : Module) (n : ℕ) (m : Machine) (t x : ℕ) (a : Actor) → Rule p n m → slice_get m.actors t ≡ Some a → OwnsLocally m t a x → agenda_weight (decides x) a ≡ 0 → weight (decides x) m.actors ≡ 0

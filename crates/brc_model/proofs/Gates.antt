@@ -1,8 +1,7 @@
 -- A row's gate says that it is closed, just where it was finalised; and what is born is among the used rows.
 use Rattle.std.proofs.Common.{◌≡◌, ◌≢◌, ℕ, zero, suc, ◌+◌, ◌-◌, ◌<◌, ◌≤◌, List, [], ◌∷◌, inl, inr, length, None, Some, refl, sym, ap, ◌∙◌, subst, arith}
-use Rattle.std.specs.Prelude.{slice_get}
 use Rattle.std.proofs.lemmas.Bool.Decides.{eqb_tells}
-use Rattle.std.proofs.lemmas.Option.{slice_get_within, slice_get_cases}
+use Rattle.std.proofs.lemmas.Option.{slice_get_within}
 use Rattle.brc_lang.specs.declared.module.Module.{Module}
 use Rattle.brc_lang.specs.Grammar.{IsModule}
 use Rattle.brc_model.specs.Walks.{IsAcceptable}
@@ -18,7 +17,7 @@ use Rattle.brc_model.proofs.Lists.{some_is}
 use Rattle.brc_model.proofs.Written.{written_here, written_apart, written_load, apart_gate}
 use Rattle.brc_model.proofs.Leaves.{AtDuty, head_of}
 use Rattle.brc_model.proofs.Neutral.{memory_by}
-use Rattle.brc_model.proofs.OwnSettles.{chain_here, head_low}
+use Rattle.brc_model.proofs.OwnChains.{chain_here, head_low}
 use Rattle.brc_model.proofs.Closing.{GoesOn, BeginsToDie, IsClosed, life_step, IsBorn}
 use Rattle.brc_model.proofs.ClosedAfter.{live_not_closed, dying_not_closed, unborn_not_closed}
 use Rattle.brc_model.proofs.Whole.{Whole}

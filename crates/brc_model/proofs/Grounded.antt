@@ -11,7 +11,6 @@ use Rattle.brc_model.specs.declared.slot.Slot.{Slot}
 use Rattle.brc_model.specs.declared.slot.Slot.TheVariants.{Empty, Owned, Caller, Locked}
 use Rattle.brc_model.specs.declared.slot.State.{State}
 use Rattle.brc_model.specs.declared.slot.Exit.{Exit}
-use Rattle.brc_model.specs.declared.slot.Exit.TheVariants.{Success}
 use Rattle.brc_model.specs.Slots.{slot_of, is_empty, is_owned, is_borrowed, put, after, target, entry}
 use Rattle.brc_model.specs.Walks.{At, walk}
 use Rattle.brc_model.specs.declared.duty.Holding.TheVariants.{ByVariable, AsCaller}

@@ -1,32 +1,25 @@
 -- The rule holds after a thread's first duty, where it holds of that thread and of the marks.
-use Rattle.std.proofs.Common.{◌≡◌, ℕ, ◌<◌, Bool, true, false, cond, List, [], ◌∷◌, ◌++◌, ◌⊎◌, inl, inr, Some, refl, sym, ap, ◌∙◌, subst, arith}
-use Rattle.std.specs.Prelude.{◌==◌, slice_get, slice_set}
-use Rattle.std.proofs.lemmas.Bool.{ne_eqb}
+use Rattle.std.proofs.Common.{◌≡◌, ℕ, ◌<◌, Bool, true, false, cond, List, ◌⊎◌, inl, inr, Some, refl, sym, ap, ◌∙◌, subst, arith}
+use Rattle.std.specs.Prelude.{slice_get, slice_set}
 use Rattle.std.proofs.lemmas.Bool.Decides.{eqb_tells}
 use Rattle.std.proofs.lemmas.List.{length-set}
 use Rattle.std.proofs.lemmas.Option.{slice_get_within}
 use Rattle.brc_lang.specs.declared.module.Module.{Module}
-use Rattle.brc_model.specs.declared.duty.Holding.{Holding}
-use Rattle.brc_model.specs.declared.duty.Holding.TheVariants.{ByVariable, AsCaller, InHand}
-use Rattle.brc_model.specs.Plain.{Reference, Plain, same, without, references_to, Move, Gain, Lose, HandOn, Finalise, move, moved, Born}
-use Rattle.brc_word.specs.Words.{is_immortal_word}
-use Rattle.brc_model.specs.declared.duty.Reason.TheVariants.{Own}
+use Rattle.brc_model.specs.Plain.{same}
 use Rattle.brc_model.specs.declared.duty.Duty.{Duty}
-use Rattle.brc_model.specs.declared.duty.Duty.TheVariants.{RetainLoad, RetainStore, RetainAdd, ReleaseLoad, ReleaseStore, SharedExchange, SettleCell, SettleEnd, BirthLocal}
+use Rattle.brc_model.specs.declared.duty.Duty.TheVariants.{SettleCell}
 use Rattle.brc_model.specs.declared.address.Address.TheVariants.{Cell, Mark}
 use Rattle.brc_model.specs.declared.actor.Status.TheVariants.{Gone}
-use Rattle.brc_model.specs.Machine.{Actor, Machine, hand_on, gain, lose, take_out, moves_by, actor_by, done_by, same_address}
+use Rattle.brc_model.specs.Machine.{Actor, Machine, actor_by, done_by, same_address}
 use Rattle.brc_model.proofs.Lists.{some_is, slice_get-set_same, slice_get-set_other}
-use Rattle.brc_model.proofs.Bag.{one_if, same-true, references_to-cons}
-use Rattle.brc_model.proofs.Rule.{HeadFits, HandedOnce, AgendaFits, ActorFits, IsWatched, Rule}
+use Rattle.brc_model.proofs.Rule.{HandedOnce, AgendaFits, ActorFits, IsWatched, Rule}
 use Rattle.brc_model.proofs.Others.{others_fit}
 use Rattle.brc_model.proofs.MovesApart.{moves_apart, moves_off_cells}
-use Rattle.brc_model.proofs.Leaves.{AtDuty, head_of}
+use Rattle.brc_model.proofs.Leaves.{AtDuty}
 use Rattle.brc_model.proofs.Lives.{cell_found, leaves_others}
 use Rattle.brc_model.proofs.Neutral.{OwnFits, found_by, memory_by}
 use Rattle.brc_model.proofs.RowsAfter.{rows_after}
 use Rattle.brc_model.proofs.ClosedAfter.{closed_is_after, closed_has_after, closed_once_after, none_lives_after, dying_after}
-use Rattle.brc_model.proofs.Blocks.{next_above}
 use Rattle.brc_model.proofs.UsesAfter.{uses_after, no_block_after, born_is_after, born_has_after}
 use Rattle.brc_model.proofs.Nones.{none_local}
 

@@ -39,7 +39,8 @@ own_alive : (p : Module) (n : ℕ) (m : Machine) (t : ℕ) (a : Actor) (d : Duty
     → lacks_of (d ∷ rest) InHand x ≡ false → Alive m x
 own_alive p n m t a d rest x here pos more less =
     let fits = (here.rule.each t a here.found).0 in
-    let one : held (reference_of t InHand x) m.plain.references ≡ 1 = hand_holds _ m.plain.references t a.agenda a.place x fits.placed (ap (λ (l : List Duty). extra_of l InHand x) here.agenda ∙ more) (ap (λ (l : List Duty). lacks_of l InHand x) here.agenda ∙ less) in
+    let one : held (reference_of t InHand x) m.plain.references ≡ 1 =
+    hand_holds _ m.plain.references t a.agenda a.place x fits.placed (ap (λ (l : List Duty). extra_of l InHand x) here.agenda ∙ more) (ap (λ (l : List Duty). lacks_of l InHand x) here.agenda ∙ less) in
     alive_referenced p n m x here.rule pos (omega (arith, one, held-le-references_to (reference_of t InHand x) m.plain.references))
 
 pub exchange_alive : (p : Module) (n : ℕ) (m : Machine) (t : ℕ) (a : Actor) (x w : ℕ) (r : Reason) (rest : List Duty) → AtDuty p n m t a (SharedExchange x r w) rest → Alive m x
@@ -112,7 +113,7 @@ locals_left p n m t a (MergeSwap y Own) rest here u x b ne found other =
     local_kept m y x 0 (owners_clash m t u x y a b ne (head_of p n m t a (MergeSwap y Own) rest here).1 other)
 locals_left p n m t a (BirthLocal y h) rest here u x b ne found other =
     local_kept m y x (local_word t 1) (unowned_clash p n m u x y b here.rule (next_above m t a y (head_of p n m t a (BirthLocal y h) rest here).0)
-        (next_unborn p n m t a y here.rule here.found (head_of p n m t a (BirthLocal y h) rest here).0) other)
+    (next_unborn p n m t a y here.rule here.found (head_of p n m t a (BirthLocal y h) rest here).0) other)
 locals_left p n m t a (MergeSwap y Handed) rest here u x b ne found other = local_kept m y x 0 (claim_clash p n m t u x y a b rest here ne found other)
 locals_left p n m t a _ rest here u x b ne found other = refl
 

@@ -49,7 +49,10 @@ pub mod OwnReleases
 pub mod MergesOnce
 pub mod OwnMerges
 pub mod TakenSits
+pub mod OwnShown
+pub mod OwnChains
 pub mod OwnSettles
+pub mod Settled
 pub mod OwnExits
 pub mod Watches
 pub mod Whole

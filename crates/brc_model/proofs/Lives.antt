@@ -160,7 +160,7 @@ lives_left p n m t a d rest here u x ne =
     let first = λ (z : ℕ). dies_with m.life (dies_next (next_of m t a d)) t u z ne (λ y e. (dying_was_alive p n m t a d rest y here e).life) in
     let second = λ (z : ℕ). closes_with (with_life m.life (dies_next (next_of m t a d)) (Dying t)) (ended_row d) u z (λ y e. first y ∙ ended_mine p n m t a d rest u y here ne e) ∙ first z in
     born_with (with_life (with_life m.life (dies_next (next_of m t a d)) (Dying t)) (ended_row d) Closed) (born_row d) u x
-        (λ y e. second y ∙ ap (λ (l : Life). dies_by l u) (born_was p n m t a d rest y here e)) ∙ second x
+    (λ y e. second y ∙ ap (λ (l : Life). dies_by l u) (born_was p n m t a d rest y here e)) ∙ second x
 
 -- ---- all that others rely on
 

@@ -1,11 +1,10 @@
 -- None is immortal: its word stays, its references aren't counted, and a thread gets and gives them up with one step.
-use Rattle.std.proofs.Common.{◌≡◌, ℕ, ◌<◌, Bool, true, false, cond, List, [], ◌∷◌, ◌++◌, refl, sym, ap, ◌∙◌, subst, arith, ◌+◌, ◌-◌}
-use Rattle.std.specs.Prelude.{◌==◌, ◌&&◌, nat_lt}
-use Rattle.std.specs.List.{list_any}
+use Rattle.std.proofs.Common.{◌≡◌, ℕ, ◌<◌, Bool, true, cond, List, [], ◌∷◌, ◌++◌, refl, sym, ap, ◌∙◌, subst, arith, ◌+◌, ◌-◌}
+use Rattle.std.specs.Prelude.{◌&&◌, nat_lt}
 use Rattle.brc_lang.specs.declared.module.Module.{Module}
 use Rattle.brc_model.specs.declared.duty.Holding.{Holding}
 use Rattle.brc_model.specs.declared.duty.Holding.TheVariants.{ByVariable, AsCaller, InHand}
-use Rattle.brc_model.specs.Plain.{Reference, Plain, same, without, same_holding, moved}
+use Rattle.brc_model.specs.Plain.{Reference, Plain, without, moved}
 use Rattle.brc_word.specs.Words.{local_word, is_immortal_word, local_part}
 use Rattle.brc_model.specs.declared.duty.Reason.TheVariants.{Own, Handed}
 use Rattle.brc_model.specs.declared.duty.Duty.{Duty}
@@ -15,7 +14,7 @@ use Rattle.brc_model.specs.declared.actor.Status.TheVariants.{Gone}
 use Rattle.brc_model.specs.Machine.{Actor, Machine, gain, lose, hand_on, written, done_by, actor_by, is_running}
 use Rattle.brc_model.proofs.Bag.{held_has, same-refl, held}
 use Rattle.brc_model.proofs.Holds.{reference_of}
-use Rattle.brc_model.proofs.Rule.{extra_of, lacks_of, IsNext, Rule}
+use Rattle.brc_model.proofs.Rule.{IsNext, Rule}
 use Rattle.brc_model.proofs.Written.{written_apart, written_load, apart_local}
 use Rattle.brc_model.proofs.Blocks.{next_above}
 use Rattle.brc_model.proofs.Leaves.{AtDuty, head_of}

@@ -32,7 +32,8 @@ use Rattle.brc_model.proofs.Nones.{none_immortal}
 
 -- ---- what is given up is held
 
-extra_at : (bag : List Reference) (t : ℕ) (says : Holding → ℕ → Bool) (agenda : List Duty) (k : Holding) (x : ℕ) → HoldsAt bag t says agenda → extra_of agenda k x ≡ true → lacks_of agenda k x ≡ false → 0 < held (reference_of t k x) bag
+extra_at : (bag : List Reference) (t : ℕ) (says : Holding → ℕ → Bool) (agenda : List Duty) (k : Holding) (x : ℕ) → HoldsAt bag t says agenda → extra_of agenda k x ≡ true → lacks_of agenda k x ≡ false
+    → 0 < held (reference_of t k x) bag
 extra_at bag t says agenda k x holds more less =
     let a : one_if (extra_of agenda k x) ≡ 1 = ap one_if more in
     let b : one_if (lacks_of agenda k x) ≡ 0 = ap one_if less in

@@ -1,17 +1,16 @@
 -- A thread after its own steps of a birth: the object's reference is gained with the last.
-use Rattle.std.proofs.Common.{◌≡◌, ◌≢◌, ℕ, ◌+◌, Bool, true, false, cond, List, [], ◌∷◌, Some, inl, inr, refl, sym, ap, ◌∙◌, subst, arith}
-use Rattle.std.specs.Prelude.{slice_get, ◌==◌}
+use Rattle.std.proofs.Common.{◌≡◌, ℕ, ◌+◌, Bool, true, false, cond, List, [], ◌∷◌, inl, inr, refl, sym, ap, ◌∙◌, subst, arith}
+use Rattle.std.specs.Prelude.{◌==◌}
 use Rattle.std.proofs.lemmas.Bool.Decides.{eqb_tells}
 use Rattle.brc_lang.specs.declared.module.Module.{Module}
 use Rattle.brc_model.specs.declared.duty.Holding.{Holding}
-use Rattle.brc_word.specs.Words.{local_word}
 use Rattle.brc_model.specs.declared.duty.Duty.{Duty}
 use Rattle.brc_model.specs.declared.duty.Duty.TheVariants.{BirthKind, BirthSlot, BirthLocal}
-use Rattle.brc_model.specs.Duties.{ready, has_resource}
-use Rattle.brc_model.specs.declared.actor.Status.TheVariants.{Running, Gone}
+use Rattle.brc_model.specs.Duties.{has_resource}
+use Rattle.brc_model.specs.declared.actor.Status.TheVariants.{Gone}
 use Rattle.brc_model.specs.Machine.{Actor, Life, Unborn, Live, Machine, done_by, actor_by, first_row}
 use Rattle.brc_model.proofs.Bag.{one_if}
-use Rattle.brc_model.proofs.Rule.{IsNext, Agenda, dies_by, status_word}
+use Rattle.brc_model.proofs.Rule.{IsNext, Agenda, dies_by}
 use Rattle.brc_model.proofs.Blocks.{next_unborn}
 use Rattle.brc_model.proofs.Leaves.{AtDuty, head_of}
 use Rattle.brc_model.proofs.Own.{chain_same}
@@ -19,8 +18,9 @@ use Rattle.brc_model.proofs.Neutral.{OwnFits, found_by, agenda_here, handed_here
 use Rattle.brc_model.proofs.OwnCounts.{held_same, held_gained}
 use Rattle.brc_model.proofs.OwnRetains.{ready_first}
 use Rattle.brc_model.proofs.OwnSteps.{own_quiet}
-use Rattle.brc_model.proofs.OwnSettles.{own_shown, chain_here}
-use Rattle.brc_model.proofs.OwnExits.{ready_none}
+use Rattle.brc_model.proofs.OwnShown.{own_shown}
+use Rattle.brc_model.proofs.OwnChains.{chain_here}
+use Rattle.brc_model.proofs.Settled.{ready_none}
 
 -- the row is still the next one
 still_next : (m new : Machine) (t : ℕ) (a b : Actor) (x : ℕ) → new.rows ≡ m.rows → b.status ≡ a.status → b.used ≡ a.used → IsNext m t a x → IsNext new t b x

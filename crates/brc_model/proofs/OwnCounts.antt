@@ -50,7 +50,8 @@ same_is t x h k object =
     front ∙ both_ways k h object x
 
 -- nothing moves, and the duty at hand has the same
-pub held_same : (bag : List Reference) (t : ℕ) (agenda later : List Duty) → ((k : Holding) (object : ℕ) → extra_of later k object ≡ extra_of agenda k object) → ((k : Holding) (object : ℕ) → lacks_of later k object ≡ lacks_of agenda k object)
+pub held_same : (bag : List Reference) (t : ℕ) (agenda later : List Duty) → ((k : Holding) (object : ℕ) → extra_of later k object ≡ extra_of agenda k object)
+    → ((k : Holding) (object : ℕ) → lacks_of later k object ≡ lacks_of agenda k object)
     → HeldStep bag bag t agenda later
 held_same bag t agenda later more less = record {
   each = λ k object. let a : one_if (extra_of later k object) ≡ one_if (extra_of agenda k object) = ap one_if (more k object) in
@@ -58,7 +59,8 @@ held_same bag t agenda later more less = record {
 }
 
 -- what was lacking is gained
-pub held_gained : (bag : List Reference) (t x : ℕ) (h : Holding) (agenda later : List Duty) → ((k : Holding) (object : ℕ) → lacks_of agenda k object ≡ (same_holding h k && (x == object))) → ((k : Holding) (object : ℕ) → extra_of agenda k object ≡ false)
+pub held_gained : (bag : List Reference) (t x : ℕ) (h : Holding) (agenda later : List Duty) → ((k : Holding) (object : ℕ) → lacks_of agenda k object ≡ (same_holding h k && (x == object)))
+    → ((k : Holding) (object : ℕ) → extra_of agenda k object ≡ false)
     → ((k : Holding) (object : ℕ) → extra_of later k object ≡ false) → ((k : Holding) (object : ℕ) → lacks_of later k object ≡ false) → HeldStep bag (reference_of t h x ∷ bag) t agenda later
 held_gained bag t x h agenda later lacked no_more more less = record {
   each = λ k object.
@@ -71,7 +73,8 @@ held_gained bag t x h agenda later lacked no_more more less = record {
 }
 
 -- what was extra is lost
-pub held_lost : (bag : List Reference) (t x : ℕ) (h : Holding) (agenda later : List Duty) → list_any (same (reference_of t h x)) bag ≡ true → ((k : Holding) (object : ℕ) → extra_of agenda k object ≡ (same_holding h k && (x == object)))
+pub held_lost : (bag : List Reference) (t x : ℕ) (h : Holding) (agenda later : List Duty) → list_any (same (reference_of t h x)) bag ≡ true
+    → ((k : Holding) (object : ℕ) → extra_of agenda k object ≡ (same_holding h k && (x == object)))
     → ((k : Holding) (object : ℕ) → lacks_of agenda k object ≡ false) → ((k : Holding) (object : ℕ) → extra_of later k object ≡ false) → ((k : Holding) (object : ℕ) → lacks_of later k object ≡ false)
     → HeldStep bag (without (reference_of t h x) bag) t agenda later
 held_lost bag t x h agenda later has extra no_less more less = record {

@@ -138,7 +138,8 @@ own_merge_swap_own p n m t a x rest here alive =
     (λ b status head used. (fits.0, omega (arith, fits.1.low), inl (status ∙ fits.1.running, swap_own p n m t a x rest here)))
 
 -- what was handed is given up next, where the object is merged
-handed_next : (p : Module) (n : ℕ) (m : Machine) (t : ℕ) (a : Actor) (d : Duty) (x : ℕ) (rest : List Duty) → AtDuty p n m t a d rest → (a.status ≡ Gone → ⊥) → is_quiet d ≡ true → next_of m t a d ≡ [] → FollowsHanded x rest → FollowsMerge x rest
+handed_next : (p : Module) (n : ℕ) (m : Machine) (t : ℕ) (a : Actor) (d : Duty) (x : ℕ) (rest : List Duty) → AtDuty p n m t a d rest → (a.status ≡ Gone → ⊥) → is_quiet d ≡ true → next_of m t a d ≡ []
+    → FollowsHanded x rest → FollowsMerge x rest
     → Later m.rows t a.used a.status a.place rest → HeldStep m.plain.references (bag_by m t a d) t (d ∷ rest) [] → phase_part ((done_by m t a d rest).memory (Shared x)) ≡ 3
     → OwnFits p (done_by m t a d rest) t (actor_by t a d rest (found_by m t a d))
 handed_next p n m t a d x [] here alive quiet next follows clean later moves merged = absurd follows

@@ -50,7 +50,8 @@ own_retain_add p n m t a x h rest here alive =
 
 -- ---- a reference is taken to the hand
 
-extra_by : (bag : List Reference) (t : ℕ) (says : Holding → ℕ → Bool) (agenda : List Duty) (h : Holding) (x : ℕ) → HoldsAt bag t says agenda → extra_of agenda h x ≡ true → lacks_of agenda h x ≡ false → 0 < held (reference_of t h x) bag
+extra_by : (bag : List Reference) (t : ℕ) (says : Holding → ℕ → Bool) (agenda : List Duty) (h : Holding) (x : ℕ) → HoldsAt bag t says agenda → extra_of agenda h x ≡ true → lacks_of agenda h x ≡ false
+    → 0 < held (reference_of t h x) bag
 extra_by bag t says agenda h x holds more less =
     let a : one_if (extra_of agenda h x) ≡ 1 = ap one_if more in
     let b : one_if (lacks_of agenda h x) ≡ 0 = ap one_if less in
@@ -96,7 +97,8 @@ held_taken bag t x h rest later has more less = record {
       omega (arith, held-cons r (reference_of t InHand x) (without (reference_of t h x) bag), held-without r (reference_of t h x) bag has, lost, gained, c);
 }
 
-held_handed_on : (m : Machine) (t x : ℕ) (h : Holding) (rest later : List Duty) → list_any (same (reference_of t h x)) m.plain.references ≡ true → ((k : Holding) (object : ℕ) → extra_of later k object ≡ (same_holding InHand k && (x == object)))
+held_handed_on : (m : Machine) (t x : ℕ) (h : Holding) (rest later : List Duty) → list_any (same (reference_of t h x)) m.plain.references ≡ true
+    → ((k : Holding) (object : ℕ) → extra_of later k object ≡ (same_holding InHand k && (x == object)))
     → ((k : Holding) (object : ℕ) → lacks_of later k object ≡ false) → HeldStep m.plain.references (moved m.plain (hand_on t h x ++ [])).references t (ReleaseLoad x h ∷ rest) later
 held_handed_on m t x (ByVariable v) rest later has more less = held_taken m.plain.references t x (ByVariable v) rest later has more less
 held_handed_on m t x AsCaller rest later has more less = held_taken m.plain.references t x AsCaller rest later has more less
@@ -136,7 +138,8 @@ own_release_counted p n m t a x h rest pos here alive =
 -- ---- the reference in the hand is lost
 
 -- its duty has the hand's reference more, and what comes next has nothing
-held_let_go : (p : Module) (n : ℕ) (m : Machine) (t : ℕ) (a : Actor) (d : Duty) (rest later : List Duty) (x : ℕ) → AtDuty p n m t a d rest → ((k : Holding) (object : ℕ) → extra_of (d ∷ rest) k object ≡ (same_holding InHand k && (x == object)))
+held_let_go : (p : Module) (n : ℕ) (m : Machine) (t : ℕ) (a : Actor) (d : Duty) (rest later : List Duty) (x : ℕ) → AtDuty p n m t a d rest
+    → ((k : Holding) (object : ℕ) → extra_of (d ∷ rest) k object ≡ (same_holding InHand k && (x == object)))
     → ((k : Holding) (object : ℕ) → lacks_of (d ∷ rest) k object ≡ false) → ((k : Holding) (object : ℕ) → extra_of later k object ≡ false) → ((k : Holding) (object : ℕ) → lacks_of later k object ≡ false)
     → HeldStep m.plain.references (without (reference_of t InHand x) m.plain.references) t (d ∷ rest) later
 held_let_go p n m t a d rest later x here extra none more less =
@@ -161,7 +164,11 @@ own_release_store p n m t a x w rest here alive =
           let owner : owner_part (w - 1) ≡ t + 1 = down.0 ∙ ap owner_part (sym fits.2) ∙ fits.1.owner in
           own_next p n m t a d (DecideAtZero x) rest here alive refl refl refl
           (ap (λ (b : Bool). cond b (DecideAtZero x ∷ []) []) e) (lost (DecideAtZero x ∷ rest) (λ k o. refl) (λ k o. refl)) later handed
-          (λ b status head used. (fits.0, record { running = status ∙ fits.1.running; owner = ap owner_part now ∙ owner; low = subst (λ (v : ℕ). local_part v < 4294967295) (sym now) (omega (arith, zero_left)) }, ap local_part now ∙ zero_left))
+          (λ b status head used. (
+            fits.0,
+            record { running = status ∙ fits.1.running; owner = ap owner_part now ∙ owner; low = subst (λ (v : ℕ). local_part v < 4294967295) (sym now) (omega (arith, zero_left)) },
+            ap local_part now ∙ zero_left,
+          ))
       | false ↦ λ e.
           own_done p n m t a d rest here alive refl (ap (λ (b : Bool). cond b (DecideAtZero x ∷ []) []) e) later handed (lost [] (λ k o. refl) (λ k o. refl))
     ] refl
@@ -221,7 +228,8 @@ exchange_next x w found r fresh dead won is_fresh is_dead =
 
 -- the exchange was made: what the word was says what follows
 exchange_won : (p : Module) (n : ℕ) (m : Machine) (t : ℕ) (a : Actor) (x w : ℕ) (r : Reason) (rest : List Duty) → AtDuty p n m t a (SharedExchange x r w) rest → (a.status ≡ Gone → ⊥) → 0 < x → (m.memory (Shared x) == w) ≡ true
-    → ((later : List Duty) → ((k : Holding) (object : ℕ) → extra_of later k object ≡ false) → ((k : Holding) (object : ℕ) → lacks_of later k object ≡ false) → HeldStep m.plain.references (bag_by m t a (SharedExchange x r w)) t (SharedExchange x r w ∷ rest) later)
+    → ((later : List Duty) → ((k : Holding) (object : ℕ) → extra_of later k object ≡ false) → ((k : Holding) (object : ℕ) → lacks_of later k object ≡ false)
+    → HeldStep m.plain.references (bag_by m t a (SharedExchange x r w)) t (SharedExchange x r w ∷ rest) later)
     → OwnFits p (done_by m t a (SharedExchange x r w) rest) t (actor_by t a (SharedExchange x r w) rest (m.memory (Shared x)))
 exchange_won p n m t a x w r rest here alive pos won moves =
     let d : Duty = SharedExchange x r w in

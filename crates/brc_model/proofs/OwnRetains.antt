@@ -72,7 +72,9 @@ count_above p n m t x a rule found owns mine alive =
 
 pub weight_here : (p : Module) (n : ℕ) (m : Machine) (t x : ℕ) (a : Actor) (d : Duty) (rest : List Duty) → AtDuty p n m t a d rest → (a.status ≡ Gone → ⊥) → decides x d ≡ 0 → agenda_weight (decides x) a ≡ 0
 weight_here p n m t x a d rest here alive none =
-    ap (sum_by (decides x)) here.agenda ∙ (let whole = sum_by-cons (decides x) d rest in let others = rest_decides m.rows t a.used a.status a.place x d rest (agenda_here p n m t a d rest here alive) in omega (arith, whole, none, others))
+    let whole = sum_by-cons (decides x) d rest in
+    let others = rest_decides m.rows t a.used a.status a.place x d rest (agenda_here p n m t a d rest here alive) in
+    ap (sum_by (decides x)) here.agenda ∙ omega (arith, whole, none, others)
 
 retain_bag : (m : Machine) (t : ℕ) (a : Actor) (x : ℕ) (h : Holding) → is_immortal_word (m.memory (Local x)) ≡ false → bag_by m t a (RetainLoad x h) ≡ m.plain.references
 retain_bag m t a x h mortal = ap (λ (b : Bool). (moved m.plain (cond b (gain t h x) [])).references) mortal
@@ -93,7 +95,8 @@ own_retain_counted p n m t a x h rest pos here alive =
     let keeps : (e : Duty) → ((k : Holding) (object : ℕ) → extra_of (e ∷ rest) k object ≡ false) → ((k : Holding) (object : ℕ) → lacks_of (e ∷ rest) k object ≡ (same_holding h k && (x == object)))
     → HeldStep m.plain.references (bag_by m t a (RetainLoad x h)) t (RetainLoad x h ∷ rest) (e ∷ rest) =
     λ e more less. subst (λ (l : List Reference). HeldStep m.plain.references l t (RetainLoad x h ∷ rest) (e ∷ rest)) (sym bag) (held_same m.plain.references t (RetainLoad x h ∷ rest) (e ∷ rest) more less) in
-    elim (counts_locally t (is_running a.status) word && nat_lt (local_part word) 4294967294) as (λ b. (counts_locally t (is_running a.status) word && nat_lt (local_part word) 4294967294) ≡ b → OwnFits p new t (actor_by t a (RetainLoad x h) rest word)) [
+    let is_local = counts_locally t (is_running a.status) word && nat_lt (local_part word) 4294967294 in
+    elim is_local as (λ b. is_local ≡ b → OwnFits p new t (actor_by t a (RetainLoad x h) rest word)) [
       | true ↦ λ e.
           let counts = and_first (counts_locally t (is_running a.status) word) (nat_lt (local_part word) 4294967294) e in
           let low : local_part word < 4294967294 = ltb-true _ _ (and_second (counts_locally t (is_running a.status) word) (nat_lt (local_part word) 4294967294) e) in

@@ -1,4 +1,4 @@
--- A thread after a quiet step: one that leaves its status, the head of its chain and all gates. Either no row dies by it, or
+-- A thread after the step of a quiet duty: one that leaves its status, the head of its chain and all gates. Either no row dies by it, or
 -- its own row begins to die, and is at hand from then on.
 use Rattle.std.proofs.Common.{◌≡◌, ℕ, ◌+◌, ◌<◌, Bool, true, false, cond, List, [], ◌∷◌, ◌++◌, inl, inr, Option, None, Some, refl, sym, ap, ◌∙◌, subst, arith}
 use Rattle.std.specs.Prelude.{◌==◌, slice_get}
@@ -12,7 +12,7 @@ use Rattle.brc_model.specs.declared.address.Address.TheVariants.{Gate, ThreadWor
 use Rattle.brc_model.specs.Duties.{head_by, ready, block_of}
 use Rattle.brc_model.specs.declared.actor.Status.{Status}
 use Rattle.brc_model.specs.declared.actor.Status.TheVariants.{Gone}
-use Rattle.brc_model.specs.Machine.{Actor, Life, Live, Dying, Closed, Machine, status_by, dies_next, ended_row, with_life, life_by, actor_by, done_by, born_row, used_by}
+use Rattle.brc_model.specs.Machine.{Actor, Life, Live, Dying, Closed, Machine, status_by, dies_next, ended_row, with_life, life_by, actor_by, done_by, born_row}
 use Rattle.brc_model.proofs.Bag.{one_if}
 use Rattle.brc_model.proofs.Rule.{extra_of, lacks_of, PlaceFits, HeadFits, HeadOf, Later, Agenda, NoneHanded, HandedOnce, hand_of, dies_by, ChainFits, status_word}
 use Rattle.brc_model.proofs.Written.{written_load}

@@ -1,25 +1,23 @@
 -- A thread at rest stands elsewhere, and some of its references move: the moves are allowed, and the rule holds afterwards.
-use Rattle.std.proofs.Common.{◌≡◌, ◌≢◌, ℕ, ◌+◌, ◌<◌, Bool, true, false, List, [], ◌∷◌, inl, inr, Some, refl, sym, ap, ◌∙◌, subst, arith}
-use Rattle.std.specs.Prelude.{◌==◌, ◌&&◌, ◌||◌, slice_get, slice_set, sum_by, AllPairs}
-use Rattle.std.proofs.lemmas.Bool.{eqb-true, ne_eqb, false≢true}
+use Rattle.std.proofs.Common.{◌≡◌, ◌≢◌, ℕ, ◌<◌, Bool, true, false, List, [], inl, inr, Some, refl, sym, ap, ◌∙◌, subst, arith}
+use Rattle.std.specs.Prelude.{◌==◌, ◌&&◌, slice_get, slice_set, AllPairs}
+use Rattle.std.proofs.lemmas.Bool.{ne_eqb, false≢true}
 use Rattle.std.proofs.lemmas.Bool.Decides.{eqb_tells}
 use Rattle.std.proofs.lemmas.List.{length-set}
 use Rattle.std.proofs.lemmas.Option.{slice_get_within}
 use Rattle.brc_lang.specs.declared.module.Module.{Module}
-use Rattle.brc_model.specs.declared.duty.Holding.{Holding}
-use Rattle.brc_model.specs.Plain.{none_row, Holder, ByThread, Reference, Plain, same, without, references_to, Move, Gain, HandOn, is_allowed, are_allowed, moved, is_among}
+use Rattle.brc_model.specs.Plain.{none_row, Holder, ByThread, Reference, Plain, same, without, references_to, Move, are_allowed, moved, is_among}
 use Rattle.brc_model.specs.Threads.{code_of}
 use Rattle.brc_model.specs.declared.duty.Duty.{Duty}
 use Rattle.brc_model.specs.Duties.{block_of}
 use Rattle.brc_model.specs.declared.actor.Status.{Status}
-use Rattle.brc_model.specs.declared.actor.Status.TheVariants.{Running}
 use Rattle.brc_model.specs.declared.actor.Place.{Place}
-use Rattle.brc_model.specs.Machine.{Actor, Machine, with_actor, with_moves, pass_on, gain}
+use Rattle.brc_model.specs.Machine.{Actor, Machine, with_actor, with_moves}
 use Rattle.brc_model.proofs.Lists.{some_is, written_actor, slice_get-set_same, slice_get-set_other}
-use Rattle.brc_model.proofs.Bag.{held, one_if, references_to-cons, references_to-without, other_thread, cell_reference}
+use Rattle.brc_model.proofs.Bag.{one_if, references_to-cons, references_to-without, other_thread, cell_reference}
 use Rattle.brc_model.proofs.Holds.{reference_of}
 use Rattle.brc_model.proofs.MovesApart.{AreAside, IsNoWayOf, moved_aside}
-use Rattle.brc_model.proofs.Rows.{waits, carries, merges, decides, agenda_weight, weight, Numbers, RowRule}
+use Rattle.brc_model.proofs.Rows.{waits, carries, merges, decides, weight, Numbers, RowRule}
 use Rattle.brc_model.proofs.Rule.{numbers_of, PlaceFits, HandedOnce, scans, ActorFits, AgendaFits, UsesFit, looks, IsWatched, ByRunning, ByExit, ByLook, Rule, ChainFits}
 use Rattle.brc_model.proofs.Others.{LeavesOthers, others_fit}
 use Rattle.brc_model.proofs.Begins.{QuietMoves, Stays, GainsNone, HandsOn, bag_after, QuietTaken}
@@ -67,7 +65,8 @@ quiet_aside bag h t _ (HandsOn from to x has) other = ((other from, other to), t
 abbrev pub quieted : Machine → ℕ → Actor → List Move → Place → Machine
 quieted m t a moves place = with_moves (with_actor m t (sitting a place [])) moves
 
-same_numbers : (p : Module) (n : ℕ) (m : Machine) (t : ℕ) (a : Actor) (moves : List Move) (place : Place) (x : ℕ) → AtRest p n m t a → QuietMoves m.plain.references t moves → 0 < x → numbers_of m x ≡ numbers_of (quieted m t a moves place) x
+same_numbers : (p : Module) (n : ℕ) (m : Machine) (t : ℕ) (a : Actor) (moves : List Move) (place : Place) (x : ℕ) → AtRest p n m t a → QuietMoves m.plain.references t moves → 0 < x
+    → numbers_of m x ≡ numbers_of (quieted m t a moves place) x
 same_numbers p n m t a moves place x rest quiet pos =
     let r = quiet_references m.plain t x moves quiet pos in
     let w : weight (waits x) m.actors ≡ weight (waits x) (slice_set m.actors t (sitting a place [])) = sym (same_weight (waits x) m.actors t a place [] rest.found rest.agenda refl) in
@@ -150,7 +149,9 @@ quiet_rule p n m t a moves place rest taken =
       rows = λ x pos. subst (λ (k : Numbers). RowRule (block_of m.rows x) (m.life x) k) (same_numbers p n m t a moves place x rest quiet pos) (rest.rule.rows x pos);
       marks = λ x. elim (rest.rule.marks x) [ inl none ↦ inl none | inr set ↦ inr (set.0, set.1, still_watched p n m t a moves place x rest set.2) ];
       each = λ u b is. each_fits p n m t a moves place rest taken u b is;
-      beyond = λ u past k object. moved_aside m.plain (reference_of u k object) moves (quiet_aside m.plain.references (ByThread u k) t moves quiet (λ h. other_thread u t k h (λ e. absurd (omega (arith, within, past, e))))) ∙ rest.rule.beyond u past k object;
+      beyond = λ u past k object.
+          moved_aside m.plain (reference_of u k object) moves (quiet_aside m.plain.references (ByThread u k) t moves quiet (λ h. other_thread u t k h (λ e. absurd (omega (arith, within, past, e)))))
+          ∙ rest.rule.beyond u past k object;
       dying = rest.rule.dying;
       cells = rest.rule.cells;
       cells_hold = λ x i object. moved_aside m.plain (cell_reference x i object) moves (quiet_aside m.plain.references (cell_reference x i object).holder t moves quiet (λ h. refl)) ∙ rest.rule.cells_hold x i object;

@@ -1,7 +1,7 @@
 -- The rows, cells and chains that threads' duties are about are small, and each step keeps them so.
-use Rattle.std.proofs.Common.{◌≡◌, ℕ, zero, suc, ◌+◌, ◌<◌, ◌≤◌, Bool, true, false, cond, List, [], ◌∷◌, ◌++◌, inl, inr, Some, refl, sym, ap, ◌∙◌, subst, arith, ◌-◌, ◌*◌, ◌≢◌}
+use Rattle.std.proofs.Common.{◌≡◌, ℕ, zero, suc, ◌+◌, ◌<◌, ◌≤◌, Bool, true, false, cond, List, [], ◌∷◌, ◌++◌, Some, refl, sym, ap, ◌∙◌, subst, arith, ◌-◌, ◌*◌}
 use Rattle.std.specs.Prelude.{◌==◌, ◌&&◌, nat_lt, slice_get, count_by}
-use Rattle.std.proofs.lemmas.Bool.{eq-eqb, eqb-true, cases_lt}
+use Rattle.std.proofs.lemmas.Bool.{eq-eqb, eqb-true}
 use Rattle.std.proofs.lemmas.List.Sums.{sum_by-cons}
 use Rattle.brc_lang.specs.declared.module.Module.{Module}
 use Rattle.brc_word.specs.Words.{local_part, is_immortal_word, fresh_word, dead_word, released_word, merged_word}
@@ -183,7 +183,8 @@ kinds_left m t a (BirthKind y h w) k x small was = elim (y == x) as (λ b. cells
 kinds_left m t a _ k x small was = was
 
 -- a duty that is small, done by a thread in whose place another stood
-pub duty_ranges : (p : Module) (n : ℕ) (m : Machine) (t : ℕ) (b a : Actor) (d : Duty) (rest : List Duty) → Rule p n m → Ranges n m → slice_get m.actors t ≡ Some b → a.head ≤ limit n m → AreSmall (limit n m) (d ∷ rest) → Ranges n (done_by m t a d rest)
+pub duty_ranges : (p : Module) (n : ℕ) (m : Machine) (t : ℕ) (b a : Actor) (d : Duty) (rest : List Duty) → Rule p n m → Ranges n m → slice_get m.actors t ≡ Some b → a.head ≤ limit n m
+    → AreSmall (limit n m) (d ∷ rest) → Ranges n (done_by m t a d rest)
 duty_ranges p n m t b a d rest rule ranges found head small =
     let word = m.memory (address_of m.rows t a.head d) in
     let next = next_small (limit n m) t (is_running a.status) a.head d word small.0 (finds_small p n m t a d rule ranges head) in

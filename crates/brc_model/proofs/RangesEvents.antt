@@ -1,7 +1,7 @@
 -- Each event keeps what threads' duties are about small.
 use Rattle.std.proofs.Common.{◌≡◌, ℕ, zero, suc, ◌+◌, ◌<◌, ◌≤◌, Bool, true, false, cond, List, [], ◌∷◌, length, Option, None, Some, refl, sym, ◌∙◌, subst, arith}
 use Rattle.std.specs.Prelude.{◌==◌, ◌&&◌, nat_lt, nat_le, slice_get, map}
-use Rattle.std.proofs.lemmas.Bool.{ltb-true, leb-true}
+use Rattle.std.proofs.lemmas.Bool.{ltb-true}
 use Rattle.brc_lang.specs.declared.module.Module.{Module}
 use Rattle.brc_model.specs.declared.thread.Call.{Call}
 use Rattle.brc_model.specs.Threads.{code_of}
@@ -17,7 +17,7 @@ use Rattle.brc_model.specs.declared.thread.Choice.{Choice}
 use Rattle.brc_model.specs.declared.thread.Choice.TheVariants.{Ok, Fault, Claim}
 use Rattle.brc_model.specs.Machine.{Actor, Machine, Begun, Stuck, Quiet, Work, begun_by, done_by, at_place, begins, goes_on, acts, may_claim, first_row, is_running, chosen, next_machine, machine_after, main_actor, worker_actor, first_machine, first_memory}
 use Rattle.brc_model.proofs.Bag.{held-le-references_to}
-use Rattle.brc_model.proofs.Lists.{some_is, slice_get-map, and_first, and_second, written_actor}
+use Rattle.brc_model.proofs.Lists.{some_is, slice_get-map, and_second, written_actor}
 use Rattle.brc_model.proofs.Holds.{reference_of}
 use Rattle.brc_model.proofs.Rule.{Rule}
 use Rattle.brc_model.proofs.Begins.{Starts, Gives, Takes, Follows, Nothing, Settles, Leaves, IsTaken, Bears}
@@ -82,7 +82,8 @@ claim_small p n m t a row (Standing left) whole found e =
 claim_small p n m t a row (Inside left at variables) whole found e = absurd cc
 claim_small p n m t a row Departing whole found e = absurd cc
 
-claim_ranges : (p : Module) (n : ℕ) (m : Machine) (t : ℕ) (a : Actor) (row : ℕ) (b : Bool) → Whole p n m → Ranges n m → slice_get m.actors t ≡ Some a → (b ≡ true → row < limit n m) → Ranges n (cond b (done_by m t a (ClaimMark row) []) m)
+claim_ranges : (p : Module) (n : ℕ) (m : Machine) (t : ℕ) (a : Actor) (row : ℕ) (b : Bool) → Whole p n m → Ranges n m → slice_get m.actors t ≡ Some a → (b ≡ true → row < limit n m)
+    → Ranges n (cond b (done_by m t a (ClaimMark row) []) m)
 claim_ranges p n m t a row true whole ranges found small = duty_ranges p n m t a a (ClaimMark row) [] whole.rule ranges found (head_small p n m t a whole.rule found) (small refl, tt)
 claim_ranges p n m t a row false whole ranges found small = ranges
 

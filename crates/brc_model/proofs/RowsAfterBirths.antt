@@ -1,19 +1,18 @@
 -- A birth keeps the rule of the row that is born.
-use Rattle.std.proofs.Common.{◌≡◌, ℕ, zero, suc, ◌+◌, ◌*◌, ◌<◌, ◌≤◌, Bool, true, false, cond, List, [], ◌∷◌, Some, refl, sym, ap, ◌∙◌, subst, arith}
-use Rattle.std.specs.Prelude.{◌==◌, ◌/◌, slice_get}
+use Rattle.std.proofs.Common.{ℕ, ◌+◌, ◌<◌, Bool, cond, List, [], ◌∷◌, refl, sym, ap, subst, arith}
 use Rattle.std.proofs.lemmas.Option.{slice_get_within}
 use Rattle.brc_lang.specs.declared.module.Module.{Module}
 use Rattle.brc_model.specs.declared.duty.Holding.{Holding}
-use Rattle.brc_word.specs.Words.{owner_part, local_part, biased_part, phase_part, bias, local_word}
+use Rattle.brc_word.specs.Words.{local_word}
 use Rattle.brc_model.specs.declared.duty.Duty.{Duty}
 use Rattle.brc_model.specs.declared.duty.Duty.TheVariants.{BirthKind, BirthSlot, BirthLocal}
 use Rattle.brc_model.specs.declared.address.Address.TheVariants.{Local}
 use Rattle.brc_model.specs.Duties.{block_of, has_resource}
-use Rattle.brc_model.specs.Machine.{Actor, Life, Unborn, Live, Machine, first_row, done_by}
-use Rattle.brc_model.proofs.Bag.{one_if, references_to-cons}
+use Rattle.brc_model.specs.Machine.{Actor, Life, Live, Machine}
+use Rattle.brc_model.proofs.Bag.{references_to-cons}
 use Rattle.brc_model.proofs.Holds.{reference_of}
 use Rattle.brc_model.proofs.Rows.{Numbers, IsDefault, AboveZero, InOwned, IsLive, IsUnborn, RowRule}
-use Rattle.brc_model.proofs.Rule.{Rule, IsNext, UsesFit, numbers_of}
+use Rattle.brc_model.proofs.Rule.{IsNext, numbers_of}
 use Rattle.brc_model.proofs.RowsAfterOwn.{own, one_own, written_here, row_apart}
 use Rattle.brc_model.proofs.RowsAfterStep.{Doing, KeepsRow, head_fits_of, weighed, row_becomes, row_quiet}
 use Rattle.brc_model.proofs.RowsAfterElsewhere.{IsApart, apart_if, one_apart}

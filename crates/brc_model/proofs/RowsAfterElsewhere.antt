@@ -231,7 +231,9 @@ claimed_apart x y found ds e others =
     ]
 
 pub cells_apart : (x y i n : ℕ) → AreApart x (cells_from y i n)
-cells_apart x y i n = apart_if (nat_lt i n) (record { waiting = refl; carried = refl; merging = refl; deciding = refl; lives = λ life state. refl }) (record { waiting = refl; carried = refl; merging = refl; deciding = refl; lives = λ life state. refl })
+cells_apart x y i n =
+    apart_if (nat_lt i n) (record { waiting = refl; carried = refl; merging = refl; deciding = refl; lives = λ life state. refl })
+    (record { waiting = refl; carried = refl; merging = refl; deciding = refl; lives = λ life state. refl })
 
 pub released_apart : (x found : ℕ) (ds : List Duty) → AreApart x ds → AreApart x (release_found found ++ ds)
 released_apart x zero ds others = others

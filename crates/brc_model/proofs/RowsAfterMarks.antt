@@ -156,7 +156,10 @@ row_after_die {y = y} some s =
 
 pub row_after_kind : {p : Module} {n : ℕ} {m : Machine} {t : ℕ} {a : Actor} {y : ℕ} {rest : List Duty} → 0 < y → Doing p n m t a (SettleKind y) rest → KeepsRow m t a (SettleKind y) rest y
 row_after_kind {m = m} {y = y} some s =
-    row_apart s y some (kind_apart y y) (apart_if (has_resource (m.memory (KindOf y))) (one_apart y (TakeSlot y) (record { waiting = refl; carried = refl; merging = refl; deciding = refl; lives = λ life state. refl })) (cells_apart y y 0 (cells_of (m.memory (KindOf y))))) (λ life state. refl) (record { local = refl; shared = refl; mark = refl; references = refl })
+    let word = m.memory (KindOf y) in
+    let slot : IsApart y (TakeSlot y) = record { waiting = refl; carried = refl; merging = refl; deciding = refl; lives = λ life state. refl } in
+    let next = apart_if (has_resource word) (one_apart y (TakeSlot y) slot) (cells_apart y y 0 (cells_of word)) in
+    row_apart s y some (kind_apart y y) next (λ life state. refl) (record { local = refl; shared = refl; mark = refl; references = refl })
 
 pub row_after_cell : {p : Module} {n : ℕ} {m : Machine} {t : ℕ} {a : Actor} {y i cells : ℕ} {rest : List Duty} → 0 < y → Doing p n m t a (SettleCell y i cells) rest → KeepsRow m t a (SettleCell y i cells) rest y
 row_after_cell {m = m} {t = t} {y = y} {i = i} {cells = cells} some s =

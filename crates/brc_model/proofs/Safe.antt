@@ -1,7 +1,7 @@
 -- The invariant says what an accepted module promises, so each accepted module is safe.
-use Rattle.std.proofs.Common.{◌≡◌, ℕ, zero, suc, ◌+◌, ◌<◌, true, false, List, [], ◌∷◌, inl, inr, length, Some, refl, sym, ap, ◌∙◌, subst, arith, ◌≢◌, ◌≤◌}
-use Rattle.std.specs.Prelude.{◌==◌, ◌||◌, slice_get, count_by, sum_by, map}
-use Rattle.std.proofs.lemmas.Bool.{eqb-true, eq-eqb, false≢true}
+use Rattle.std.proofs.Common.{◌≡◌, ℕ, zero, suc, ◌+◌, ◌<◌, true, List, [], ◌∷◌, inl, inr, length, Some, refl, sym, ap, ◌∙◌, subst, arith, ◌≢◌, ◌≤◌}
+use Rattle.std.specs.Prelude.{◌==◌, slice_get, count_by, sum_by, map}
+use Rattle.std.proofs.lemmas.Bool.{eq-eqb, false≢true}
 use Rattle.std.proofs.lemmas.Option.{slice_get_cases, slice_get_within}
 use Rattle.brc_lang.specs.declared.module.Module.{Module}
 use Rattle.brc_lang.specs.Grammar.{IsModule}
@@ -9,7 +9,7 @@ use Rattle.brc_model.specs.declared.thread.Call.{Call}
 use Rattle.brc_model.specs.Walks.{IsAcceptable}
 use Rattle.brc_model.specs.Threads.{code_of}
 use Rattle.brc_model.specs.declared.duty.Holding.{Holding}
-use Rattle.brc_model.specs.Plain.{root_row, Holder, ByThread, ByCell, is_among, references_to}
+use Rattle.brc_model.specs.Plain.{Holder, ByThread, ByCell, references_to}
 use Rattle.brc_model.specs.declared.duty.Duty.{Duty}
 use Rattle.brc_model.specs.declared.address.Address.TheVariants.{Mark, ThreadWord}
 use Rattle.brc_model.specs.Duties.{block_of}
@@ -26,7 +26,7 @@ use Rattle.brc_model.proofs.Rows.{waits, carries, merges, decides, agenda_weight
 use Rattle.brc_model.proofs.Rule.{numbers_of, HoldsAt, PlaceFits, AgendaFits, scans, Linked, dies_by, hand_of, looks, ByRunning, ByExit, ByLook, Rule, status_word}
 use Rattle.brc_model.proofs.Agreeing.{agrees_at, is_free_of}
 use Rattle.brc_model.proofs.Deciders.{sum_zero}
-use Rattle.brc_model.proofs.OwnExits.{IsSettled}
+use Rattle.brc_model.proofs.Settled.{IsSettled}
 use Rattle.brc_model.proofs.FirstMachine.{first_rule}
 use Rattle.brc_model.proofs.Whole.{Whole}
 use Rattle.brc_model.proofs.WholeEvents.{event_keeps, whole_after}
@@ -58,8 +58,9 @@ gone_holds p n m t k object rule done =
           let a = found.0 in
           let gone = gone_at p n m t a rule done found.2 in
           let old = (rule.each t a found.2).0 in
+          let code = code_of (slice_get p.functions a.function) in
           let placed : HoldsAt m.plain.references t nothing [] =
-          subst (λ (q : Place). PlaceFits (code_of (slice_get p.functions found.0.function)) m.plain.references t [] q) gone.place (subst (λ (l : List Duty). PlaceFits (code_of (slice_get p.functions found.0.function)) m.plain.references t l a.place) gone.agenda old.placed) in
+          subst (λ (q : Place). PlaceFits code m.plain.references t [] q) gone.place (subst (λ (l : List Duty). PlaceFits code m.plain.references t l a.place) gone.agenda old.placed) in
           omega (arith, placed.each k object)
       | inr past ↦ rule.beyond t (omega (arith, past.0, rule.threads)) k object
     ]

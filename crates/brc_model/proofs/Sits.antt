@@ -50,7 +50,8 @@ same_weight f actors t a place agenda found none weightless =
     let before : agenda_weight f a ≡ 0 = ap (sum_by f) none in
     omega (arith, weight-set f actors t a (sitting a place agenda) found, before, weightless)
 
-same_numbers : (p : Module) (n : ℕ) (m : Machine) (t : ℕ) (a : Actor) (place : Place) (agenda : List Duty) (x : ℕ) → AtRest p n m t a → Sits p m t a place agenda → numbers_of m x ≡ numbers_of (with_actor m t (sitting a place agenda)) x
+same_numbers : (p : Module) (n : ℕ) (m : Machine) (t : ℕ) (a : Actor) (place : Place) (agenda : List Duty) (x : ℕ) → AtRest p n m t a → Sits p m t a place agenda
+    → numbers_of m x ≡ numbers_of (with_actor m t (sitting a place agenda)) x
 same_numbers p n m t a place agenda x rest sits =
     let w : weight (waits x) m.actors ≡ weight (waits x) (slice_set m.actors t (sitting a place agenda)) = sym (same_weight (waits x) m.actors t a place agenda rest.found rest.agenda (sits.no_waits x)) in
     let c : weight (carries x) m.actors ≡ weight (carries x) (slice_set m.actors t (sitting a place agenda)) = sym (same_weight (carries x) m.actors t a place agenda rest.found rest.agenda (sits.no_carries x)) in

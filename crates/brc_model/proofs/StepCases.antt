@@ -1,5 +1,5 @@
 -- What is to be shown of an event, whatever thread and choice it has: that nothing happens, that a thread sits down elsewhere with
--- new duties before it steps, and that it does its first duty.
+-- new duties before it steps, that it takes a quiet step, and that it does its first duty.
 use Rattle.std.proofs.Common.{◌≡◌, ℕ, Bool, true, false, cond, List, [], ◌∷◌, Option, None, Some, refl, sym, ap, ◌∙◌, subst}
 use Rattle.std.specs.Prelude.{slice_get}
 use Rattle.brc_lang.specs.declared.module.Module.{Module}
@@ -16,7 +16,7 @@ use Rattle.brc_model.proofs.Begins.{IsTaken, QuietMoves}
 use Rattle.brc_model.proofs.Sits.{sitting, Sits, AtRest, taken_up_step}
 use Rattle.brc_model.proofs.TakenSits.{taken_sits, rests, begun_fits}
 use Rattle.brc_model.proofs.Leaves.{AtDuty}
-use Rattle.brc_model.proofs.OwnExits.{IsSettled}
+use Rattle.brc_model.proofs.Settled.{IsSettled}
 use Rattle.brc_model.proofs.Whole.{Whole, Doing, sits_down, starts_settled}
 use Rattle.brc_model.proofs.WholeEvents.{ClaimsSo, claims_so}
 use Rattle.brc_model.specs.Plain.{Move}

@@ -9,7 +9,7 @@ use Rattle.brc_model.specs.declared.duty.Duty.TheVariants.{RetainLoad, RetainSto
 use Rattle.brc_model.specs.declared.actor.Status.TheVariants.{Running, Gone}
 use Rattle.brc_model.specs.declared.actor.Place.{Place}
 use Rattle.brc_model.specs.Threads.{code_of}
-use Rattle.brc_model.specs.Duties.{address_of, block_of}
+use Rattle.brc_model.specs.Duties.{address_of}
 use Rattle.brc_model.specs.Machine.{Actor, Machine, Begun, Work, begun_by, is_running, with_actor, first_machine, machine_after, used_by}
 use Rattle.brc_model.specs.World.{World, world_of, row_count, IsReachable}
 use Rattle.brc_model.specs.Within.{IsThere, Suits, IsWithin, StepsWithin}

@@ -88,7 +88,8 @@ begun_elsewhere rows t used code (Standing (suc left)) forward =
 begun_elsewhere rows t used code (Inside left at variables) forward =
     instruction_elsewhere (Inside left at variables) rows t used left at variables code (slice_get code at) forward refl (λ next later on e. one_point_on left at next variables later on e) (λ e. cc)
 
-begins_move : (m : Machine) (t : ℕ) (a : Actor) (b : Begun) (code : List Instr) (bag : List Reference) → slice_get m.actors t ≡ Some a → IsTaken code bag m.rows t a.used b → IsElsewhere a.place b → world_of (begins m t a b) ≢ world_of m
+begins_move : (m : Machine) (t : ℕ) (a : Actor) (b : Begun) (code : List Instr) (bag : List Reference) → slice_get m.actors t ≡ Some a → IsTaken code bag m.rows t a.used b → IsElsewhere a.place b
+    → world_of (begins m t a b) ≢ world_of m
 begins_move m t a Stuck code bag found taken elsewhere = absurd taken
 begins_move m t a (Quiet moves place) code bag found taken elsewhere =
     actor_apart (world_of (begins m t a (Quiet moves place))) (world_of m) t a (at_place a place) found refl (λ e. elsewhere (ap (λ (c : Actor). c.place) e))

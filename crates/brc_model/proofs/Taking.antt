@@ -87,7 +87,8 @@ newref_taken code bag rows t used left at variables s to from here =
     } in
     taken_with_row code bag rows t used live.object (row_of variables from) (λ row. Work (RetainLoad row (ByVariable to) ∷ []) (Inside left (at + 1) (slice_set variables to (Some row)))) live.is_row taken
 
-given_referenced : (bag : List Reference) (t : ℕ) (s : State) (variables : List (Option ℕ)) (from row : ℕ) → is_owned (slot_of s from) ≡ true → row_of variables from ≡ Some row → Holds bag t (of_variables s variables) → 0 < references_to row bag
+given_referenced : (bag : List Reference) (t : ℕ) (s : State) (variables : List (Option ℕ)) (from row : ℕ) → is_owned (slot_of s from) ≡ true → row_of variables from ≡ Some row
+    → Holds bag t (of_variables s variables) → 0 < references_to row bag
 given_referenced bag t s variables from row owned is holds =
     let one : held (reference_of t (ByVariable from) row) bag ≡ 1 = owned_has bag t s variables from row owned is holds in
     omega (arith, one, held-le-references_to (reference_of t (ByVariable from) row) bag)
@@ -136,7 +137,8 @@ ret_taken code bag rows t used left at variables s from here =
 
 -- ---- a new number
 
-num_born : (code : List Instr) (bag : List Reference) (rows t used left at : ℕ) (variables : List (Option ℕ)) (s : State) (to value otherwise : ℕ) → StandsAt code bag t at variables s (Num to value otherwise) → has_room rows t used ≡ true
+num_born : (code : List Instr) (bag : List Reference) (rows t used left at : ℕ) (variables : List (Option ℕ)) (s : State) (to value otherwise : ℕ)
+    → StandsAt code bag t at variables s (Num to value otherwise) → has_room rows t used ≡ true
     → Taken code bag rows t used (Inside left (at + 1) (slice_set variables to (Some (next_row rows t used)))) (BirthKind (next_row rows t used) (ByVariable to) (number_word value)) []
 num_born code bag rows t used left at variables s to value otherwise here room =
     let row = next_row rows t used in
@@ -176,7 +178,8 @@ num_fails code bag t left at variables s to value otherwise here =
     let holds : Holds bag t (of_variables (put s to Empty) (slice_set variables to None)) = record { each = cleared_held bag t s variables to in_slots free here.holds } in
     record { moves_fit = Stays; placed = (put s to Empty, next, holds_at_none bag t _ holds); stays = inside_stays left otherwise (slice_set variables to None) }
 
-either_taken : (code : List Instr) (bag : List Reference) (rows t used : ℕ) (b : Bool) (one two : Begun) → (b ≡ true → IsTaken code bag rows t used one) → IsTaken code bag rows t used two → IsTaken code bag rows t used (cond b one two)
+either_taken : (code : List Instr) (bag : List Reference) (rows t used : ℕ) (b : Bool) (one two : Begun) → (b ≡ true → IsTaken code bag rows t used one) → IsTaken code bag rows t used two
+    → IsTaken code bag rows t used (cond b one two)
 either_taken code bag rows t used true one two first second = first refl
 either_taken code bag rows t used false one two first second = second
 
@@ -210,7 +213,8 @@ none_taken code bag rows t used left at variables s to here =
 -- ---- a reference is handed on
 
 -- the reference that a variable owns is lost, and the variable emptied
-lost_holds : (bag : List Reference) (t : ℕ) (s : State) (variables : List (Option ℕ)) (from row : ℕ) → from < length s.slots → is_owned (slot_of s from) ≡ true → row_of variables from ≡ Some row → Holds bag t (of_variables s variables)
+lost_holds : (bag : List Reference) (t : ℕ) (s : State) (variables : List (Option ℕ)) (from row : ℕ) → from < length s.slots → is_owned (slot_of s from) ≡ true → row_of variables from ≡ Some row
+    → Holds bag t (of_variables s variables)
     → list_any (same (reference_of t (ByVariable from) row)) bag ≡ true
     → Holds (without (reference_of t (ByVariable from) row) bag) t (of_variables (put s from Empty) (slice_set variables from None))
 lost_holds bag t s variables from row in_slots owned is holds has = record {
@@ -306,7 +310,8 @@ exit_held bag t holds InHand object = omega (arith, holds.each InHand object)
 exit_held bag t holds (ByVariable v) object = omega (arith, holds.each (ByVariable v) object)
 
 -- whatever a thread at rest takes up is fit
-pub begun_taken : (code : List Instr) (bag : List Reference) (rows t used : ℕ) (place : Place) → IsAcceptableCode code → AreInstructions code → (place ≢ Departing) → PlaceFits code bag t [] place → IsTaken code bag rows t used (begun rows t used code place)
+pub begun_taken : (code : List Instr) (bag : List Reference) (rows t used : ℕ) (place : Place) → IsAcceptableCode code → AreInstructions code → (place ≢ Departing) → PlaceFits code bag t [] place
+    → IsTaken code bag rows t used (begun rows t used code place)
 begun_taken code bag rows t used Departing accepted instructions stays fits = absurd (stays refl)
 begun_taken code bag rows t used (Standing zero) accepted instructions stays fits =
     let holds = holds_plain bag t the_root fits in

@@ -1,7 +1,7 @@
 -- Which rows are born after a step, and which are used.
-use Rattle.std.proofs.Common.{◌≡◌, ◌≢◌, ℕ, ◌+◌, ◌<◌, ◌≤◌, Bool, true, false, cond, List, [], ◌∷◌, ◌++◌, ◌⊎◌, inl, inr, Option, None, Some, refl, sym, ap, ◌∙◌, subst, arith, zero, suc}
-use Rattle.std.specs.Prelude.{◌==◌, ◌||◌, slice_get, slice_set}
-use Rattle.std.proofs.lemmas.Bool.{eq-eqb, eqb-true, cases_lt}
+use Rattle.std.proofs.Common.{◌≡◌, ◌≢◌, ℕ, ◌+◌, ◌<◌, ◌≤◌, Bool, true, false, cond, List, [], ◌∷◌, ◌++◌, ◌⊎◌, inl, inr, None, Some, refl, sym, ap, ◌∙◌, subst, arith, zero, suc}
+use Rattle.std.specs.Prelude.{◌==◌, slice_get, slice_set}
+use Rattle.std.proofs.lemmas.Bool.{eq-eqb, cases_lt}
 use Rattle.std.proofs.lemmas.Bool.Decides.{eqb_tells}
 use Rattle.std.proofs.lemmas.List.Folds.{list_any-append}
 use Rattle.std.proofs.lemmas.Option.{slice_get_within}
@@ -14,10 +14,10 @@ use Rattle.brc_model.specs.declared.duty.Reason.TheVariants.{Own}
 use Rattle.brc_model.specs.declared.duty.Duty.{Duty}
 use Rattle.brc_model.specs.declared.duty.Duty.TheVariants.{RetainLoad, RetainStore, RetainAdd, ReleaseLoad, ReleaseStore, SharedExchange, SettleEnd, BirthLocal, SettleCell}
 use Rattle.brc_model.specs.Duties.{block_of, address_of}
-use Rattle.brc_model.specs.Machine.{Actor, Life, Unborn, Live, Dying, Closed, Machine, first_row, used_by, hand_on, gain, lose, moves_by, born_row, with_life, actor_by, done_by, take_out}
-use Rattle.brc_model.proofs.Lists.{some_is, written_actor, slice_get-set_same, slice_get-set_other}
-use Rattle.brc_model.proofs.Rule.{IsNext, UsesFit, Rule}
-use Rattle.brc_model.proofs.Blocks.{next_above, next_block, next_unborn}
+use Rattle.brc_model.specs.Machine.{Actor, Unborn, Live, Dying, Closed, Machine, first_row, used_by, hand_on, gain, lose, moves_by, born_row, actor_by, done_by, take_out}
+use Rattle.brc_model.proofs.Lists.{some_is, slice_get-set_same, slice_get-set_other}
+use Rattle.brc_model.proofs.Rule.{IsNext, UsesFit}
+use Rattle.brc_model.proofs.Blocks.{next_above, next_block}
 use Rattle.brc_model.proofs.Leaves.{AtDuty, head_of}
 use Rattle.brc_model.proofs.Neutral.{found_by, uses_same}
 use Rattle.brc_model.proofs.Closing.{GoesOn, BeginsToDie, IsClosed, IsBorn, life_step}
@@ -104,7 +104,8 @@ own_uses p n m t a d rest here =
           subst (λ (u : ℕ). UsesFit m.rows (done_by m t a d rest).life t u) (sym next.1) now
     ]
 
-others_uses : (p : Module) (n : ℕ) (m : Machine) (t : ℕ) (a : Actor) (d : Duty) (rest : List Duty) (u : ℕ) (b : Actor) → AtDuty p n m t a d rest → u ≢ t → slice_get m.actors u ≡ Some b → UsesFit m.rows (done_by m t a d rest).life u b.used
+others_uses : (p : Module) (n : ℕ) (m : Machine) (t : ℕ) (a : Actor) (d : Duty) (rest : List Duty) (u : ℕ) (b : Actor) → AtDuty p n m t a d rest → u ≢ t → slice_get m.actors u ≡ Some b
+    → UsesFit m.rows (done_by m t a d rest).life u b.used
 others_uses p n m t a d rest u b here ne found =
     let old = here.rule.uses u b found in
     record {
@@ -114,7 +115,8 @@ others_uses p n m t a d rest u b here ne found =
       unborn = λ x block past. stays_unborn p n m t a d rest x here (old.unborn x block past) (λ e. ne (sym block ∙ next_block m t a x (born_next p n m t a d rest x here e).0));
     }
 
-pub uses_after : (p : Module) (n : ℕ) (m : Machine) (t : ℕ) (a : Actor) (d : Duty) (rest : List Duty) → AtDuty p n m t a d rest → (u : ℕ) (b : Actor) → slice_get (done_by m t a d rest).actors u ≡ Some b → UsesFit m.rows (done_by m t a d rest).life u b.used
+pub uses_after : (p : Module) (n : ℕ) (m : Machine) (t : ℕ) (a : Actor) (d : Duty) (rest : List Duty) → AtDuty p n m t a d rest → (u : ℕ) (b : Actor) → slice_get (done_by m t a d rest).actors u ≡ Some b
+    → UsesFit m.rows (done_by m t a d rest).life u b.used
 uses_after p n m t a d rest here u b is =
     let after = actor_by t a d rest (found_by m t a d) in
     elim (eqb_tells u t) [

@@ -8,7 +8,7 @@ use Rattle.brc_lang.specs.declared.module.Module.{Module}
 use Rattle.brc_word.specs.Words.{local_part, is_immortal_word, fresh_word, dead_word, released_word, merged_word}
 use Rattle.brc_model.specs.declared.duty.Reason.TheVariants.{Own, Handed}
 use Rattle.brc_model.specs.declared.duty.Duty.{Duty}
-use Rattle.brc_model.specs.declared.duty.Duty.TheVariants.{RetainLoad, RetainStore, RetainAdd, ReleaseLoad, ReleaseStore, DecideAtZero, SharedLoad, SharedExchange, SetMark, Look, TakeMark, MergeSwap, MergeLoad, MergeExchange, Die, Settle, SettleKind, SettleCell, TakeSlot, CloseResource, SettleEnd, Leave, Scan, Finish, ClaimMark, BirthKind, BirthSlot, BirthLocal}
+use Rattle.brc_model.specs.declared.duty.Duty.TheVariants.{RetainLoad, RetainStore, RetainAdd, ReleaseLoad, ReleaseStore, DecideAtZero, SharedLoad, SharedExchange, SetMark, Look, TakeMark, MergeSwap, MergeLoad, MergeExchange, Die, Settle, SettleKind, SettleCell, TakeSlot, SettleEnd, Leave, Scan, Finish, ClaimMark, BirthKind, BirthSlot, BirthLocal}
 use Rattle.brc_model.specs.declared.address.Address.TheVariants.{Mark, ThreadWord}
 use Rattle.brc_model.specs.Duties.{block_of, next_by, counts_locally, claimed, shared_result, cells_of, cells_from, release_found, head_by, ready, has_resource}
 use Rattle.brc_model.specs.declared.actor.Status.{Status}
@@ -226,7 +226,8 @@ marked_within p n m t a x rule found marked block =
     let high : x < first_row m.rows t + used.by.used = subst (λ (u : ℕ). x < first_row m.rows u + used.by.used) block used.high in
     (low, omega (arith, high, ap (λ (b : Actor). b.used) it))
 
-mine_after : (m : Machine) (t : ℕ) (a : Actor) (d : Duty) (rest : List Duty) (x : ℕ) → slice_get m.actors t ≡ Some a → block_of m.rows x ≡ t → scans x (actor_by t a d rest (found_by m t a d)).agenda ≡ true → IsWatched (done_by m t a d rest) x
+mine_after : (m : Machine) (t : ℕ) (a : Actor) (d : Duty) (rest : List Duty) (x : ℕ) → slice_get m.actors t ≡ Some a → block_of m.rows x ≡ t
+    → scans x (actor_by t a d rest (found_by m t a d)).agenda ≡ true → IsWatched (done_by m t a d rest) x
 mine_after m t a d rest x found block e =
     let after = actor_by t a d rest (found_by m t a d) in
     ByExit after (ap (slice_get (set m.actors t after)) block ∙ set_found m.actors t a after found) e

@@ -1,7 +1,6 @@
 -- The whole invariant, and that each event keeps it and is not bad.
-use Rattle.std.proofs.Common.{◌≡◌, ◌≢◌, ℕ, zero, suc, Bool, false, List, ◌∷◌, inl, inr, Some, refl, sym, ap, ◌∙◌, subst, arith}
-use Rattle.std.specs.Prelude.{slice_get, slice_set}
-use Rattle.std.proofs.lemmas.Bool.Decides.{eqb_tells}
+use Rattle.std.proofs.Common.{◌≡◌, ℕ, zero, suc, Bool, false, List, ◌∷◌, Some, refl, sym, ◌∙◌, subst, arith}
+use Rattle.std.specs.Prelude.{slice_get}
 use Rattle.std.proofs.lemmas.Option.{slice_get_within}
 use Rattle.brc_lang.specs.declared.module.Module.{Module}
 use Rattle.brc_model.specs.Plain.{Reference}
@@ -10,17 +9,19 @@ use Rattle.brc_model.specs.declared.duty.Duty.{Duty}
 use Rattle.brc_model.specs.declared.duty.Duty.TheVariants.{RetainLoad, RetainStore, RetainAdd, ReleaseLoad, ReleaseStore, DecideAtZero, SharedLoad, SharedExchange, SetMark, Look, TakeMark, MergeSwap, MergeLoad, MergeExchange, Die, Settle, SettleKind, SettleCell, TakeSlot, CloseResource, SettleEnd, Leave, Scan, Finish, ClaimMark, BirthKind, BirthSlot, BirthLocal}
 use Rattle.brc_model.specs.declared.actor.Status.TheVariants.{Running, Gone}
 use Rattle.brc_model.specs.declared.actor.Place.{Place}
-use Rattle.brc_model.specs.Machine.{Actor, Unborn, Dying, Closed, Machine, actor_by, done_by, at_place, with_actor}
+use Rattle.brc_model.specs.Machine.{Actor, Machine, actor_by, done_by, at_place, with_actor}
 use Rattle.brc_model.specs.Events.{is_bad_duty}
-use Rattle.brc_model.proofs.Lists.{some_is, slice_get-set_same, slice_get-set_other, written_actor}
+use Rattle.brc_model.proofs.Lists.{slice_get-set_same, written_actor}
 use Rattle.brc_model.proofs.Rule.{Rule}
 use Rattle.brc_model.proofs.Leaves.{AtDuty}
 use Rattle.brc_model.proofs.Neutral.{OwnFits, found_by}
 use Rattle.brc_model.proofs.OwnRetains.{own_retain_counted}
 use Rattle.brc_model.proofs.OwnReleases.{own_retain_store, own_retain_add, own_release_counted, release_held, own_release_store, own_decide, own_shared_load, own_shared_exchange}
 use Rattle.brc_model.proofs.OwnMerges.{own_set_mark, own_look, own_take_mark, own_merge_swap_own, own_merge_swap_handed, own_merge_load, own_merge_exchange}
-use Rattle.brc_model.proofs.OwnSettles.{own_die, own_settle, own_settle_kind, own_settle_cell, own_take_slot, own_close_resource, own_settle_end}
-use Rattle.brc_model.proofs.OwnExits.{own_leave, own_scan, own_finish, own_claim_mark, IsSettled, settled_after}
+use Rattle.brc_model.proofs.OwnChains.{own_die, own_settle, own_settle_end}
+use Rattle.brc_model.proofs.OwnSettles.{own_settle_kind, own_settle_cell, own_take_slot, own_close_resource}
+use Rattle.brc_model.proofs.OwnExits.{own_leave, own_scan, own_finish, own_claim_mark}
+use Rattle.brc_model.proofs.Settled.{IsSettled, settled_after}
 use Rattle.brc_model.proofs.Watches.{marks_after}
 use Rattle.brc_model.proofs.KeepsDuty.{keeps_by}
 use Rattle.brc_model.proofs.NotBad.{duty_not_bad}
@@ -82,8 +83,7 @@ KeepsOn p n bad m = (bad ≡ false) × Whole p n m
 pub keeps_duty : (p : Module) (n : ℕ) (m : Machine) (t : ℕ) (a : Actor) (d : Duty) (rest : List Duty) → Doing p n m t a d rest → KeepsOn p n (is_bad_duty m t a d) (done_by m t a d rest)
 keeps_duty p n m t a d rest doing =
     let here : AtDuty p n m t a d rest = record { rule = doing.whole.rule; found = doing.found; agenda = doing.agenda } in
-    let settled : IsSettled a.head (d ∷ rest) = subst (IsSettled a.head) doing.agenda (doing.whole.settled t a doing.found) in
-    (
+    let settled : IsSettled a.head (d ∷ rest) = subst (IsSettled a.head) doing.agenda (doing.whole.settled t a doing.found) in (
       duty_not_bad p n m t a d rest here,
       record {
         rule = keeps_by p n m t a d rest here doing.alive (own_fits p n m t a d rest here doing.alive settled) (λ x. marks_after p n m t a d rest here doing.alive x);
@@ -93,7 +93,8 @@ keeps_duty p n m t a d rest doing =
 
 -- ---- what is taken up
 
-pub whole_sits : (p : Module) (n : ℕ) (m : Machine) (t : ℕ) (a : Actor) (place : Place) (agenda : List Duty) → Whole p n m → AtRest p n m t a → Sits p m t a place agenda → IsSettled a.head agenda → Whole p n (with_actor m t (sitting a place agenda))
+pub whole_sits : (p : Module) (n : ℕ) (m : Machine) (t : ℕ) (a : Actor) (place : Place) (agenda : List Duty) → Whole p n m → AtRest p n m t a → Sits p m t a place agenda → IsSettled a.head agenda
+    → Whole p n (with_actor m t (sitting a place agenda))
 whole_sits p n m t a place agenda whole rest sits settled = record {
   rule = sits_rule p n m t a place agenda rest sits;
   settled = λ u b is. written_actor (λ w c. IsSettled c.head c.agenda) m.actors t a (sitting a place agenda) rest.found settled whole.settled u b is;

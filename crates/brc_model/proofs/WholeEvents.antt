@@ -1,5 +1,5 @@
 -- Each event, by whatever thread and choice, keeps the whole invariant and is not bad.
-use Rattle.std.proofs.Common.{◌≡◌, ℕ, zero, suc, ◌+◌, ◌<◌, ◌≤◌, Bool, true, false, cond, List, [], ◌∷◌, length, Option, None, Some, refl, sym, ap, ◌∙◌, subst, arith, not}
+use Rattle.std.proofs.Common.{◌≡◌, ℕ, ◌+◌, ◌<◌, ◌≤◌, Bool, true, false, cond, List, [], ◌∷◌, length, Option, None, Some, refl, sym, ap, ◌∙◌, subst, not}
 use Rattle.std.specs.Prelude.{◌==◌, ◌&&◌, nat_lt, nat_le, slice_get}
 use Rattle.std.proofs.lemmas.Bool.{eqb-true, ltb-true, leb-true}
 use Rattle.std.proofs.lemmas.List.{nil_from_length}
@@ -7,7 +7,6 @@ use Rattle.brc_lang.specs.declared.module.Module.{Module}
 use Rattle.brc_model.specs.Threads.{code_of}
 use Rattle.brc_model.specs.declared.duty.Duty.{Duty}
 use Rattle.brc_model.specs.declared.duty.Duty.TheVariants.{ClaimMark}
-use Rattle.brc_model.specs.Duties.{block_of}
 use Rattle.brc_model.specs.declared.actor.Status.{Status}
 use Rattle.brc_model.specs.declared.actor.Status.TheVariants.{Running, Leaving, Gone}
 use Rattle.brc_model.specs.declared.actor.Place.{Place}
@@ -22,10 +21,10 @@ use Rattle.brc_model.proofs.OwnRetains.{running_is}
 use Rattle.brc_model.proofs.Begins.{IsTaken}
 use Rattle.brc_model.proofs.Sits.{sitting, Sits, AtRest}
 use Rattle.brc_model.proofs.TakenSits.{taken_sits, claim_sits, rests, begun_fits}
-use Rattle.brc_model.proofs.Whole.{Whole, KeepsOn, keeps_duty, whole_sits, taken_up, starts_settled}
+use Rattle.brc_model.proofs.Whole.{Whole, KeepsOn, keeps_duty, taken_up, starts_settled}
 use Rattle.brc_model.proofs.Blocks.{used_block}
 use Rattle.brc_model.proofs.Quiets.{quieted, quiet_rule, quiet_allowed}
-use Rattle.brc_model.proofs.OwnExits.{IsSettled}
+use Rattle.brc_model.proofs.Settled.{IsSettled}
 
 -- ---- what a thread at rest takes up
 
@@ -45,7 +44,8 @@ begun_keeps p n m t a (Work (d ∷ rest) place) whole at taken =
 
 -- ---- a thread that isn't gone
 
-agenda_keeps : (p : Module) (n : ℕ) (m : Machine) (t : ℕ) (a : Actor) (agenda : List Duty) → Whole p n m → slice_get m.actors t ≡ Some a → (a.status ≡ Gone → ⊥) → a.agenda ≡ agenda → KeepsOn p n (is_bad_agenda m t a agenda) (goes_on m t a agenda)
+agenda_keeps : (p : Module) (n : ℕ) (m : Machine) (t : ℕ) (a : Actor) (agenda : List Duty) → Whole p n m → slice_get m.actors t ≡ Some a → (a.status ≡ Gone → ⊥) → a.agenda ≡ agenda
+    → KeepsOn p n (is_bad_agenda m t a agenda) (goes_on m t a agenda)
 agenda_keeps p n m t a [] whole found alive is =
     let at_rest = rests p n m t a whole.rule found alive is in
     let at : AtRest p n m t a = record { rule = whole.rule; found = found; agenda = is; running = at_rest.1 } in

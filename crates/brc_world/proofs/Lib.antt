@@ -1,3 +1,4 @@
+pub mod Calling
 pub mod Storing
 pub mod Acting
 pub mod Stepping

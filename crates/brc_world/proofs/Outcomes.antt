@@ -1,5 +1,5 @@
 -- What the world is after a thread's step, with its promise, whether memory was refused or not.
-use Rattle.std.proofs.Common.{◌≡◌, ℕ, ◌+◌, ◌-◌, ◌*◌, ◌<◌, ◌≤◌, List, ◌∷◌, Some, Result, Ok, Err, OnOk, OnErr, IfOk, length, map, refl, sym, ap, ◌∙◌, subst, arith}
+use Rattle.std.proofs.Common.{◌≡◌, ℕ, ◌+◌, ◌-◌, ◌*◌, ◌<◌, ◌≤◌, List, ◌∷◌, Some, Result, Ok, Err, OnOk, OnErr, IfOk, IfErr, length, map, refl, sym, ap, ◌∙◌, subst, arith}
 use Rattle.std.specs.Prelude.{slice_get, slice_set}
 use Rattle.std.specs.List.{slice_index_or}
 use Rattle.std.proofs.Math.Seq.{map-set_same}
@@ -118,6 +118,12 @@ rows_small w few few_rows =
 pub answered : (old new stepped : World) (t : ℕ) (r : Result Did NoMemory) (did : Did) → OnOk r (new ≡ stepped) → IfOk r (λ d. d ≡ did) → IsAnswer old t stepped did → IfOk r (IsAnswer old t new)
 answered old new stepped t (Ok d) did is same answer = rw (is, same) answer
 answered old new stepped t (Err e) did is same answer = tt
+
+-- ---- what a refusal says, said otherwise
+
+pub refusal : {P Q : Type 0} (r : Result Did NoMemory) → (P → Q) → IfErr r (λ _. P) → IfErr r (λ _. Q)
+refusal (Ok did) says given = tt
+refusal (Err e) says given = says given
 
 -- ---- the first world
 

@@ -1,5 +1,5 @@
 -- Lists of steps, one after another.
-use Rattle.std.proofs.Common.{◌≡◌, ℕ, zero, suc, ◌+◌, ◌-◌, ◌<◌, ◌≤◌, true, false, List, [], ◌∷◌, ◌++◌, Option, Some, None, slice_get, replicate, take, drop, length, get_or, refl, sym, ap, subst, ◌∙◌, append_assoc, arith}
+use Rattle.std.proofs.Common.{◌≡◌, ◌≢◌, ℕ, zero, suc, ◌+◌, ◌-◌, ◌<◌, ◌≤◌, true, false, List, [], ◌∷◌, ◌++◌, Option, Some, None, slice_get, replicate, take, drop, length, get_or, refl, sym, ap, subst, ◌∙◌, append_assoc, arith}
 use Rattle.std.specs.Prelude.{Result, Ok, Err, OnErr}
 use Rattle.std.proofs.Math.Seq.{split_at}
 use Rattle.std.proofs.lemmas.List.{replicate-append-replicate, take_more, take_all, append-nil}
@@ -92,13 +92,18 @@ pub on_err : {T E P : Type 0} (r : Result T E) → P → OnErr r P
 on_err (Ok x) p = tt
 on_err (Err e) p = p
 
-pub stopped_at : (old at new : World) (t : ℕ) (choice : Choice) (made times : ℕ) → at ≡ world_after old (repeated t choice made) → made ≤ times → new ≡ at → StandsWithin old (repeated t choice times) new
-stopped_at old at new t choice made times so_far le same = record {
-  made = repeated t choice made;
-  left = repeated t choice (times - made);
-  parts = split_times t choice made times le;
-  stands = same ∙ so_far;
-}
+pub stopped_at : (old at new : World) (number t : ℕ) (choice : Choice) (made times : ℕ) → number ≡ t → at ≡ world_after old (repeated t choice made) → made < times → new ≡ at → step at number choice ≢ at
+    → StandsWithin old (repeated t choice times) new
+stopped_at old at new number t choice made times number_is so_far lt same moves =
+    let rest : times - made ≡ suc (times - made - 1) = omega (arith, lt) in
+    record {
+      made = repeated t choice made;
+      next = (t, choice);
+      left = repeated t choice (times - made - 1);
+      parts = split_times t choice made times (omega (arith, lt)) ∙ ap (λ (n : ℕ). repeated t choice made ++ repeated t choice n) rest;
+      stands = same ∙ so_far;
+      moves = rw (same, sym number_is) moves;
+    }
 
 -- ---- one line after another
 
@@ -108,13 +113,15 @@ events_push front line back = flat_map-append events_of_line front (line ∷ bac
 stopped_in : (old at new : World) (front : List Steps) (line : Steps) (back all : List Steps) → at ≡ world_after old (events_of front) → StandsWithin at (events_of_line line) new → all ≡ front ++ line ∷ back → StandsWithin old (events_of all) new
 stopped_in old at new front line back all so_far h e = record {
   made = events_of front ++ h.made;
+  next = h.next;
   left = h.left ++ events_of back;
   parts =
       ap events_of e ∙ events_push front line back
       ∙ ap (λ (es : List (ℕ × Choice)). events_of front ++ (es ++ events_of back)) h.parts
-      ∙ ap (λ (es : List (ℕ × Choice)). events_of front ++ es) (append_assoc h.made h.left (events_of back))
-      ∙ sym (append_assoc (events_of front) h.made (h.left ++ events_of back));
+      ∙ ap (λ (es : List (ℕ × Choice)). events_of front ++ es) (append_assoc h.made (h.next ∷ h.left) (events_of back))
+      ∙ sym (append_assoc (events_of front) h.made (h.next ∷ h.left ++ events_of back));
   stands = h.stands ∙ ap (λ (w : World). world_after w h.made) so_far ∙ sym (after_both old (events_of front) h.made);
+  moves = h.moves;
 }
 
 pub stopped_after : (old at new : World) (all : List Steps) (index : ℕ) (d : Steps) → at ≡ world_after old (events_of (take index all)) → index < length all → StandsWithin at (events_of_line (get_or all index d)) new

@@ -1,5 +1,5 @@
 -- The steps that a schedule lists, and where they lead.
-use Rattle.std.specs.Prelude.{◌≡◌, ℕ, List, ◌++◌, fold, replicate}
+use Rattle.std.specs.Prelude.{◌≡◌, ◌≢◌, ℕ, List, ◌∷◌, ◌++◌, fold, replicate}
 use Rattle.std.specs.List.{flat_map}
 use Rattle.brc_model.specs.declared.thread.Choice.{Choice}
 use Rattle.brc_model.specs.World.{World, step}
@@ -15,9 +15,11 @@ events_of_line line = replicate line.times (line.thread, line.choice)
 abbrev pub events_of : List Steps → List (ℕ × Choice)
 events_of lines = flat_map events_of_line lines
 
--- the world after a beginning of the list
+-- the world after a beginning of the list, where the next step would change it
 pub record StandsWithin (old : World) (events : List (ℕ × Choice)) (new : World) : Type 0 where
   pub made : List (ℕ × Choice)
+  pub next : ℕ × Choice
   pub left : List (ℕ × Choice)
-  pub parts : events ≡ made ++ left
+  pub parts : events ≡ made ++ next ∷ left
   pub stands : new ≡ world_after old made
+  pub moves : step new next.0 next.1 ≢ new

@@ -1,7 +1,8 @@
 //! One step of one thread: the words that it changes, and the thread itself.
 
-ghost use Rattle.std.specs.Prelude.{◌≡◌, ◌+◌, ◌<◌, ◌≤◌, length, OnOk, OnErr, IfOk};
+ghost use Rattle.std.specs.Prelude.{◌≡◌, ◌≢◌, ◌+◌, ◌<◌, ◌≤◌, true, length, OnOk, OnErr, IfOk, IfErr};
 ghost use Rattle.std.specs.VecDeque.{deque_len, deque_capacity};
+ghost use Rattle.brc_model.specs.declared.actor.Status.TheVariants.{Gone};
 ghost use Rattle.brc_model.specs.Duties.{address_of, left_by};
 ghost use Rattle.brc_model.specs.Machine.{is_running, used_by, may_claim};
 ghost use Rattle.brc_model.specs.Within.{IsThere, Suits};
@@ -76,6 +77,7 @@ pub fn act(
     ensures did { IfOk result (λ did. did ≡ did_by functions.now rows number (actor_of thread.old) thread.old.status) }
     ensures words { OnOk result (word_in memory.new ≡ memory_by functions.now rows number (word_in memory.old) (actor_of thread.old) thread.old.status) }
     ensures actor { OnOk result (actor_of thread.new ≡ actor_by functions.now rows number (word_in memory.old) (actor_of thread.old) thread.old.status) }
+    ensures refused { IfErr result (λ _. thread.old.status ≢ Gone) }
     ensures same_words { OnErr result (memory.new ≡ memory.old) }
     ensures same_actor { OnErr result (actor_of thread.new ≡ actor_of thread.old) }
     ensures as_many_rows { length memory.new.local ≡ length memory.old.local }
@@ -110,6 +112,7 @@ pub fn claim(
     ensures did { IfOk result (λ did. did ≡ did_claim rows number (word_in memory.old) (actor_of thread.old) row thread.old.status) }
     ensures words { OnOk result (word_in memory.new ≡ memory_claimed rows number (word_in memory.old) (actor_of thread.old) row) }
     ensures actor { OnOk result (actor_of thread.new ≡ actor_claimed rows number (word_in memory.old) (actor_of thread.old) row) }
+    ensures refused { IfErr result (λ _. finds_mark rows number (word_in memory.old) (actor_of thread.old) row ≡ true) }
     ensures same_words { OnErr result (memory.new ≡ memory.old) }
     ensures same_actor { OnErr result (actor_of thread.new ≡ actor_of thread.old) }
     ensures as_many_rows { length memory.new.local ≡ length memory.old.local }

@@ -12,7 +12,7 @@ use crate::world::World;
 
 impl World<'_> {
     /// The steps of the schedule in order; its calls are those that the world began with. Where memory is refused, the
-    /// world stands after the steps made so far.
+    /// world stands after the steps made so far, and before one that would change it.
     pub fn run(&mut self, schedule: &Schedule) -> Result<(), NoMemory>
         requires { All (λ line. line.thread < length self.old.actors) schedule.now.steps }
         ensures done { OnOk result (seen self.new ≡ world_after (seen self.old) (events_of schedule.now.steps)) }

@@ -1,4 +1,4 @@
-ghost use Rattle.std.specs.Prelude.{◌≡◌, ◌<◌, ◌≤◌, not, length, map, filter, slice_get, IfOk, OnOk, OnErr};
+ghost use Rattle.std.specs.Prelude.{◌≡◌, ◌≢◌, ◌<◌, ◌≤◌, not, length, map, filter, slice_get, IfOk, IfErr, OnOk, OnErr};
 ghost use Rattle.std.specs.List.{All};
 ghost use Rattle.brc_model.specs.declared.thread.Choice.TheVariants.{Ok as goes_on, Claim as claims};
 ghost use Rattle.brc_model.specs.Safety.{AreCalls};
@@ -172,13 +172,14 @@ impl<'a> World<'a> {
         }
     }
 
-    /// One step of the thread: one event, on one word at most. Where memory is refused, nothing changes. No step is a host
-    /// call yet, so `Ok` and `Fault` mean the same.
+    /// One step of the thread: one event, on one word at most. Where memory is refused, nothing changes; a step that would
+    /// change nothing takes none. No step is a host call yet, so `Ok` and `Fault` mean the same.
     pub fn step(&mut self, thread: usize, choice: Choice) -> Result<Did, NoMemory>
         requires { thread < length self.old.actors }
         ensures made { OnOk result (seen self.new ≡ step (seen self.old) thread choice) }
         ensures answer { IfOk result (IsAnswer (seen self.old) thread (seen self.new)) }
         ensures unchanged { OnErr result (self.new ≡ self.old) }
+        ensures refused { IfErr result (λ _. step (seen self.old) thread choice ≢ seen self.old) }
         ensures as_many { length self.new.actors ≡ length self.old.actors }
     {
         match choice {
@@ -192,6 +193,7 @@ impl<'a> World<'a> {
         ensures made { OnOk result (seen self.new ≡ step (seen self.old) thread goes_on) }
         ensures answer { IfOk result (IsAnswer (seen self.old) thread (seen self.new)) }
         ensures unchanged { OnErr result (self.new ≡ self.old) }
+        ensures refused { IfErr result (λ _. step (seen self.old) thread goes_on ≢ seen self.old) }
         ensures as_many { length self.new.actors ≡ length self.old.actors }
     {
         worlds_are_small();
@@ -212,6 +214,7 @@ impl<'a> World<'a> {
         ensures made { OnOk result (seen self.new ≡ step (seen self.old) thread (claims row)) }
         ensures answer { IfOk result (IsAnswer (seen self.old) thread (seen self.new)) }
         ensures unchanged { OnErr result (self.new ≡ self.old) }
+        ensures refused { IfErr result (λ _. step (seen self.old) thread (claims row) ≢ seen self.old) }
         ensures as_many { length self.new.actors ≡ length self.old.actors }
     {
         worlds_are_small();

@@ -1,4 +1,4 @@
-use Rattle.std.proofs.Common.{List, [], ◌∷◌, ◌++◌, ℕ, codes, sym, append_assoc}
+use Rattle.std.proofs.Common.{◌++◌, codes, sym, append_assoc}
 use Rattle.brc_lang.specs.Grammar.{variable}
 use Rattle.brc_lang.proofs.Written.{stops_early, stops_late}
 use Rattle.brc_lang.proofs.writing.write_operands.Goals as goal

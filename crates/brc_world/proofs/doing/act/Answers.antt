@@ -29,6 +29,7 @@ returns-in-Doing c =
       actor = c.do_duty.ensures.actor ∙ actor_is _ _ _ (word_in c.args.memory.now) _ _ _ begins;
       same_words = tt;
       same_actor = tt;
+      refused = tt;
       as_many_rows = c.do_duty.ensures.word.rows;
       as_many_threads = c.do_duty.ensures.word.threads;
     }

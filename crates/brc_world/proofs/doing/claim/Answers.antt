@@ -16,6 +16,7 @@ returns c =
       actor = (rw c.in_ok-reserve.ensures.items at c.do_duty.ensures.actor) ∙ claim_actor c.args.rows c.args.number memory thread c.args.row found;
       same_words = tt;
       same_actor = tt;
+      refused = tt;
       as_many_rows = c.do_duty.ensures.word.rows;
       as_many_threads = c.do_duty.ensures.word.threads;
     }

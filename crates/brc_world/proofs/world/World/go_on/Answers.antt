@@ -3,7 +3,7 @@ use Rattle.brc_model.specs.declared.thread.Choice.TheVariants.{Ok}
 use Rattle.brc_world.specs.Actors.{actor_of, memory_by, actor_by}
 use Rattle.brc_world.specs.Storage.{word_in}
 use Rattle.brc_world.specs.Worlds.{seen}
-use Rattle.brc_world.proofs.Outcomes.{contents, Turned, Outcome, outcome, answered, thread_at, rows_small}
+use Rattle.brc_world.proofs.Outcomes.{contents, Turned, Outcome, outcome, answered, refusal, thread_at, rows_small}
 use Rattle.brc_world.proofs.Answering.{going_answers}
 use Rattle.brc_world.proofs.Stepping.{going_on, can_start}
 use Rattle.brc_world.proofs.world.World.go_on.Goals as goal
@@ -81,3 +81,14 @@ returns-clause-answer c =
     let within = rw (sym c.self.view_is) at c.requires in
     let here = thread_at p.functions c.self.inside.rows c.self.inside.memory threads t before c.index_mut.ensures.value within in
     rw (sym c.self.view_is) (answered w _ _ t c.act.result _ (outcome_of c).made (rw c.as_slice.ensures at c.act.ensures.did) (going_answers w t (actor_of before) before.status here refl (λ alive. (c.steps_move.ensures.goes_on p w t (actor_of before) c.self.invariant.reachable here alive).0)))
+
+pub returns-clause-refused : goal.returns-clause-refused
+returns-clause-refused c =
+    let p = c.self.inside.accepted.now in
+    let threads = c.self.inside.threads.items in
+    let t = c.args.thread in
+    let before = c.index_mut.result.now in
+    let w = seen (contents p.functions c.self.inside.rows c.self.inside.memory threads) in
+    let within = rw (sym c.self.view_is) at c.requires in
+    let here = thread_at p.functions c.self.inside.rows c.self.inside.memory threads t before c.index_mut.ensures.value within in
+    rw (sym c.self.view_is) (refusal c.act.result (λ alive. (c.steps_move.ensures.goes_on p w t (actor_of before) c.self.invariant.reachable here alive).0) c.act.ensures.refused)

@@ -3,7 +3,7 @@ use Rattle.brc_model.specs.declared.thread.Choice.TheVariants.{Claim}
 use Rattle.brc_world.specs.Actors.{actor_of, memory_claimed, actor_claimed}
 use Rattle.brc_world.specs.Storage.{word_in}
 use Rattle.brc_world.specs.Worlds.{seen}
-use Rattle.brc_world.proofs.Outcomes.{contents, Turned, Outcome, outcome, answered, thread_at, rows_small}
+use Rattle.brc_world.proofs.Outcomes.{contents, Turned, Outcome, outcome, answered, refusal, thread_at, rows_small}
 use Rattle.brc_world.proofs.Answering.{claim_answers}
 use Rattle.brc_world.proofs.Stepping.{able, claim_is, claim_moves, claim_stays}
 use Rattle.brc_world.proofs.world.World.look_for.Goals as goal
@@ -83,3 +83,14 @@ returns-clause-answer c =
     rw (sym c.self.view_is) (answered w _ _ t c.claim.result _ (outcome_of c).made c.claim.ensures.did (claim_answers w t (actor_of before) c.args.row before.status here refl
     (λ found. claim_moves w t (actor_of before) c.args.row found (λ may marked. c.steps_move.ensures.claims w t (actor_of before) c.args.row here may marked))
     (λ missed. claim_stays w t (actor_of before) c.args.row missed (c.steps_move.ensures.misses p w t (actor_of before) c.args.row c.self.invariant.reachable here) (c.steps_move.ensures.stays w t (actor_of before) c.args.row here))))
+
+pub returns-clause-refused : goal.returns-clause-refused
+returns-clause-refused c =
+    let p = c.self.inside.accepted.now in
+    let threads = c.self.inside.threads.items in
+    let t = c.args.thread in
+    let before = c.index_mut.result.now in
+    let w = seen (contents p.functions c.self.inside.rows c.self.inside.memory threads) in
+    let within = rw (sym c.self.view_is) at c.requires in
+    let here = thread_at p.functions c.self.inside.rows c.self.inside.memory threads t before c.index_mut.ensures.value within in
+    rw (sym c.self.view_is) (refusal c.claim.result (λ found. claim_moves w t (actor_of before) c.args.row found (λ may marked. c.steps_move.ensures.claims w t (actor_of before) c.args.row here may marked)) c.claim.ensures.refused)
