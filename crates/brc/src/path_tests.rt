@@ -9,10 +9,7 @@ fn refuses_paths(rt: HostRuntime) {
             b"module 1\nfunc f\nnum v1 1 else @2\ngoto @3\nnone v1\nret v1\nend\n",
             b"refused f @3 C10\n",
         ),
-        (
-            b"module 1\nfunc f\nnone v1\nend\n",
-            b"refused f @0 C11\n",
-        ),
+        (b"module 1\nfunc f\nnone v1\nend\n", b"refused f @0 C11\n"),
         (
             b"module 1\nfunc f\nnum v1 1 else @2\ndrop v1\ndrop v1\nfail\nend\n",
             b"refused f @2 C1\n",
