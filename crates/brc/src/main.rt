@@ -3,9 +3,13 @@
 
 mod accepted;
 mod act;
+#[cfg(test)]
+mod birth_tests;
 mod calls;
 mod command;
 mod load;
+#[cfg(test)]
+mod path_tests;
 mod report;
 mod run;
 mod shown;

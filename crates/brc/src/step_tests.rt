@@ -5,9 +5,9 @@ use std::alloc::Global;
 use std::process::Abort;
 use std::test::Fail;
 
-const CHECK: [&str; 3] = ["brc", "check", "m.brc"];
+pub const CHECK: [&str; 3] = ["brc", "check", "m.brc"];
 
-const STEP: [&str; 4] = ["brc", "step", "m.brc", "s.txt"];
+pub const STEP: [&str; 4] = ["brc", "step", "m.brc", "s.txt"];
 
 const ONE_CALL: &[u8] = b"schedule 1\nworkers 1\nrows 4\ncall 1 f 1\n";
 
@@ -21,7 +21,7 @@ type Bytes = Result<&'static [u8], LoadError>;
 
 // The files `m.brc` and `s.txt`, or what stands in the way of each.
 #[derive(Clone, Copy)]
-struct Pair {
+pub struct Pair {
     module: Bytes,
     schedule: Bytes,
 }
@@ -40,7 +40,7 @@ impl Load for Pair {
     }
 }
 
-fn both(module: &'static [u8], schedule: &'static [u8]) -> Pair {
+pub fn both(module: &'static [u8], schedule: &'static [u8]) -> Pair {
     Pair {
         module: Ok(module),
         schedule: Ok(schedule),
@@ -48,7 +48,7 @@ fn both(module: &'static [u8], schedule: &'static [u8]) -> Pair {
 }
 
 // The command writes this on standard output, and that on standard error.
-fn assert_told(
+pub fn assert_told(
     rt: &(impl Abort + AllocGlobal),
     words: &[&str],
     load: Pair,
