@@ -2,8 +2,8 @@ ghost use Rattle.std.specs.Prelude.{IfOk};
 ghost use Rattle.brc_world.specs.ScheduleText.{IsSchedule};
 
 use crate::tests::{ROOT_LEFT, accepted, numbers, take_and_drop};
-use crate::{Schedule, World, read_schedule};
-use brc_lang::{FaultCode, Instr};
+use crate::{Schedule, Tally, World, read_schedule};
+use brc_lang::FaultCode;
 use brc_model::{Call, Choice};
 use std::alloc::Global;
 use std::test::*;
@@ -184,37 +184,25 @@ pub fn run(world: &mut World<'_>, schedule: &Schedule) -> Result<(), Fail>
     Ok(())
 }
 
-#[test]
-fn runs_one_step(rt: HostRuntime) -> Result<(), Fail> {
-    let mut text = Vec::from_slice(rt.alloc(), TWO_WORKERS)?;
-    text.extend_from_slice(b"step 1 ok 1\n")?;
-    let schedule = schedule_of(rt.alloc(), &text)?;
-    let checked = accepted(rt.alloc(), &take_and_drop())?;
+/// What there is after the steps of the lines: two workers call, once, a function that takes a reference and drops it.
+fn tally_after(alloc: Global, lines: &[u8]) -> Result<Tally, Fail> {
+    let mut text = Vec::from_slice(alloc, TWO_WORKERS)?;
+    text.extend_from_slice(lines)?;
+    let schedule = schedule_of(alloc, &text)?;
+    let checked = accepted(alloc, &take_and_drop())?;
     let call = Call {
         function: 0,
         times: 1,
     };
-    let mut world = World::new(rt.alloc(), &checked, 2, 4, &[call, call])?;
+    let mut world = World::new(alloc, &checked, 2, 4, &[call, call])?;
     run(&mut world, &schedule)?;
-    let tally = world.tally(rt.alloc())?;
-    assert_eq!(rt; numbers(&tally), [2, 3, 1, 0, 1, 0, 0]);
-    assert_eq!(rt; tally.left.as_slice(), ROOT_LEFT.as_slice());
-    Ok(())
+    Ok(world.tally(alloc)?)
 }
 
 #[test]
-fn runs_no_step(rt: HostRuntime) -> Result<(), Fail> {
-    let text = b"schedule 1\nworkers 1\nrows 4\ncall 1 f 1\n";
-    let schedule = schedule_of(rt.alloc(), text)?;
-    let checked = accepted(rt.alloc(), &[Instr::Fail])?;
-    let call = Call {
-        function: 0,
-        times: 1,
-    };
-    let mut world = World::new(rt.alloc(), &checked, 1, 4, &[call])?;
-    run(&mut world, &schedule)?;
-    let tally = world.tally(rt.alloc())?;
-    assert_eq!(rt; numbers(&tally), [1, 2, 1, 0, 1, 0, 0]);
+fn runs_one_step(rt: HostRuntime) -> Result<(), Fail> {
+    let tally = tally_after(rt.alloc(), b"step 1 ok 1\n")?;
+    assert_eq!(rt; numbers(&tally), [2, 3, 1, 0, 1, 0, 0]);
     assert_eq!(rt; tally.left.as_slice(), ROOT_LEFT.as_slice());
     Ok(())
 }
@@ -222,17 +210,8 @@ fn runs_no_step(rt: HostRuntime) -> Result<(), Fail> {
 /// Each thread is run until it is gone, and past that.
 #[test]
 fn runs_to_the_end(rt: HostRuntime) -> Result<(), Fail> {
-    let mut text = Vec::from_slice(rt.alloc(), TWO_WORKERS)?;
-    text.extend_from_slice(b"step 1 ok 1000000\nstep 0 fault 1000000\nstep 2 ok 1000\n")?;
-    let schedule = schedule_of(rt.alloc(), &text)?;
-    let checked = accepted(rt.alloc(), &take_and_drop())?;
-    let call = Call {
-        function: 0,
-        times: 1,
-    };
-    let mut world = World::new(rt.alloc(), &checked, 2, 4, &[call, call])?;
-    run(&mut world, &schedule)?;
-    let tally = world.tally(rt.alloc())?;
+    let lines = b"step 1 ok 1000000\nstep 0 fault 1000000\nstep 2 ok 1000\n";
+    let tally = tally_after(rt.alloc(), lines)?;
     assert_eq!(rt; numbers(&tally), [2, 0, 1, 1, 0, 0, 0]);
     assert!(rt; tally.left.as_slice().is_empty());
     Ok(())

@@ -160,32 +160,44 @@ pub fn take_and_drop() -> [Instr; 3] {
     ]
 }
 
-#[test]
-fn four_workers(rt: HostRuntime) -> Result<(), Fail> {
-    let checked = accepted(rt.alloc(), &take_and_drop())?;
+/// What there is after four workers have called the function a thousand times each.
+fn four_finished(alloc: Global) -> Result<Tally, Fail> {
+    let checked = accepted(alloc, &take_and_drop())?;
     let call = Call {
         function: 0,
         times: 1000,
     };
-    let mut world = World::new(rt.alloc(), &checked, 4, 1, &[call, call, call, call])?;
+    let mut world = World::new(alloc, &checked, 4, 1, &[call, call, call, call])?;
     finish(&mut world)?;
-    let tally = world.tally(rt.alloc())?;
+    Ok(world.tally(alloc)?)
+}
+
+#[test]
+fn four_workers(rt: HostRuntime) -> Result<(), Fail> {
+    let tally = four_finished(rt.alloc())?;
     assert_eq!(rt; numbers(&tally), [4, 0, 1, 1, 0, 0, 0]);
     assert!(rt; tally.left.as_slice().is_empty());
     Ok(())
 }
 
-#[test]
-fn one_step(rt: HostRuntime) -> Result<(), Fail> {
-    let checked = accepted(rt.alloc(), &take_and_drop())?;
+/// How many threads there are with two workers, what the first step answers, and what there is then.
+fn first_step(alloc: Global) -> Result<(usize, Option<Did>, Tally), Fail> {
+    let checked = accepted(alloc, &take_and_drop())?;
     let call = Call {
         function: 0,
         times: 1,
     };
-    let mut world = World::new(rt.alloc(), &checked, 2, 1024, &[call, call])?;
-    assert!(rt; world.threads() == 3);
-    assert_eq!(rt; world.step(1, Choice::Ok)?, Did::Moved);
-    let tally = world.tally(rt.alloc())?;
+    let mut world = World::new(alloc, &checked, 2, 1024, &[call, call])?;
+    let threads = world.threads();
+    let did = step(&mut world, 1, Choice::Ok)?;
+    Ok((threads, did, world.tally(alloc)?))
+}
+
+#[test]
+fn one_step(rt: HostRuntime) -> Result<(), Fail> {
+    let (threads, did, tally) = first_step(rt.alloc())?;
+    assert_eq!(rt; threads, 3);
+    assert_eq!(rt; did, Some(Did::Moved));
     assert_eq!(rt; numbers(&tally), [2, 3, 1, 0, 1, 0, 0]);
     assert_eq!(rt; tally.left.as_slice(), ROOT_LEFT.as_slice());
     Ok(())

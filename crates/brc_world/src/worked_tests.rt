@@ -26,6 +26,16 @@ fn reports(alloc: Global, lines: &[u8]) -> Result<(Tally, Tally), Fail> {
     Ok((before, world.tally(alloc)?))
 }
 
+/// With no step everything is as it began; the worker's last steps leave the root to main.
+#[test]
+fn runs_no_step(rt: HostRuntime) -> Result<(), Fail> {
+    let (before, after) = reports(rt.alloc(), b"")?;
+    assert_eq!(rt; numbers(&before), [1, 2, 1, 0, 1, 0, 0]);
+    assert_eq!(rt; before.left.as_slice(), ROOT_LEFT.as_slice());
+    assert_eq!(rt; numbers(&after), [1, 1, 1, 0, 1, 0, 0]);
+    Ok(())
+}
+
 /// The worker has set the root's mark, and hasn't looked whether main runs: main's exit finds the mark.
 #[test]
 fn a_mark_is_found_at_the_exit(rt: HostRuntime) -> Result<(), Fail> {
