@@ -6,8 +6,8 @@ ghost use Rattle.brc_model.specs.Threads.{code_of};
 ghost use Rattle.brc_model.specs.Machine.{begun, begun_instruction, first_row, has_room, next_row};
 ghost use Rattle.brc_world.specs.Actors.{begun_as, unmoved};
 
-use brc_lang::{Function, Instr, Variable};
 use crate::states::NUM;
+use brc_lang::{Function, Instr, Variable};
 use brc_model::{Holding, Place};
 use brc_word::kind_word;
 

@@ -1,6 +1,6 @@
-ghost use Rattle.std.specs.Prelude.{◌≡◌, length};
+ghost use Rattle.std.specs.Prelude.{◌<◌, length};
 
-use crate::tests::{accepted, numbers, step, take_and_drop};
+use crate::tests::{TAKE_AND_DROP, accepted, numbers, step};
 use crate::{NoMemory, World};
 use brc_check::Checked;
 use brc_model::{Call, Choice};
@@ -16,7 +16,7 @@ const MOVES: u8 = 4;
 
 /// Two workers that call the function once.
 fn first(alloc: Global, checked: &Checked) -> Result<World<'_>, NoMemory>
-    requires { length checked.now.functions ≡ 1 }
+    requires { 0 < length checked.now.functions }
 {
     let call = Call {
         function: 0,
@@ -27,7 +27,7 @@ fn first(alloc: Global, checked: &Checked) -> Result<World<'_>, NoMemory>
 
 /// The world after the moves, one after another.
 fn after<'a>(alloc: Global, checked: &'a Checked, moves: &[u8]) -> Result<World<'a>, NoMemory>
-    requires { length checked.now.functions ≡ 1 }
+    requires { 0 < length checked.now.functions }
 {
     let mut world = first(alloc, checked)?;
     for turn in moves {
@@ -75,7 +75,7 @@ fn visit(
     seen: &mut BTreeSet<String>,
     paths: &mut Vec<Vec<u8>>,
 ) -> Result<bool, Fail>
-    requires { length checked.now.functions ≡ 1 }
+    requires { 0 < length checked.now.functions }
 {
     let world = after(alloc, checked, &moves)?;
     if !seen.insert(format!(in alloc; "{world:?}")?)? {
@@ -88,7 +88,7 @@ fn visit(
 
 /// The states that the moves lead to, the first one before any, and how many of them are last ones.
 fn search(alloc: Global, checked: &Checked) -> Result<(usize, usize), Fail>
-    requires { length checked.now.functions ≡ 1 }
+    requires { 0 < length checked.now.functions }
 {
     let mut seen = BTreeSet::new(alloc);
     let mut paths: Vec<Vec<u8>> = Vec::new(alloc);
@@ -112,7 +112,7 @@ fn search(alloc: Global, checked: &Checked) -> Result<(usize, usize), Fail>
 /// root's mark at any time.
 #[test]
 fn every_interleaving(rt: HostRuntime) -> Result<(), Fail> {
-    let checked = accepted(rt.alloc(), &take_and_drop())?;
+    let checked = accepted(rt.alloc(), TAKE_AND_DROP)?;
     let (states, last) = search(rt.alloc(), &checked)?;
     println!(rt; "{states} states, {last} of them last ones")?;
     assert!(rt; last > 0 && states < MOST_STATES);

@@ -1,7 +1,7 @@
 ghost use Rattle.std.specs.Prelude.{IfOk};
 ghost use Rattle.brc_world.specs.ScheduleText.{IsSchedule};
 
-use crate::tests::{ROOT_LEFT, accepted, numbers, take_and_drop};
+use crate::tests::{ROOT_LEFT, TAKE_AND_DROP, accepted, numbers};
 use crate::{Schedule, Tally, World, read_schedule};
 use brc_lang::FaultCode;
 use brc_model::{Call, Choice};
@@ -189,7 +189,7 @@ fn tally_after(alloc: Global, lines: &[u8]) -> Result<Tally, Fail> {
     let mut text = Vec::from_slice(alloc, TWO_WORKERS)?;
     text.extend_from_slice(lines)?;
     let schedule = schedule_of(alloc, &text)?;
-    let checked = accepted(alloc, &take_and_drop())?;
+    let checked = accepted(alloc, TAKE_AND_DROP)?;
     let call = Call {
         function: 0,
         times: 1,

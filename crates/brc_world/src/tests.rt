@@ -1,56 +1,26 @@
-ghost use Rattle.std.specs.Prelude.{◌≡◌, ◌<◌, ◌≤◌, length, IfOk};
-ghost use Rattle.brc_lang.specs.Grammar.{IsInstruction, IsFunction, IsModule};
+ghost use Rattle.std.specs.Prelude.{◌<◌, length, IfOk};
 
 use super::*;
 use brc_check::{Checked, check};
-use brc_lang::{Function, Instr, Kind, Module, Name, Sequence, Variable};
+use brc_lang::{Kind, read};
 use brc_model::{Call, Choice};
-use std::alloc::{AllocError, Global};
+use std::alloc::Global;
 use std::test::*;
 
 /// The most rounds that any of these worlds takes.
 const ROUNDS: u32 = 50_000;
 
-fn known(instr: Instr) -> Instr
-    ensures same { result ≡ instr }
-    ensures fits { IsInstruction instr }
+/// The accepted module of a function `f` of these lines.
+pub fn accepted(alloc: Global, lines: &[u8]) -> Result<Checked, Fail>
+    ensures { IfOk result (λ checked. 0 < length checked.functions) }
 {
-    match instr {
-        Instr::Newref { to, from } => {
-            let _numbers = (to.number(), from.number());
-        }
-        Instr::Drop { from } | Instr::Ret { from } => {
-            let _number = from.number();
-        }
-        Instr::Fail => (),
-    }
-    instr
-}
-
-fn function(alloc: Global, code: &[Instr]) -> Result<Function, AllocError>
-    requires some { 0 < length code.now }
-    requires most { length code.now ≤ 256 }
-    ensures { IfOk result (λ f. IsFunction f) }
-{
-    let mut copy = Sequence::new(alloc);
-    for instr in code {
-        copy.push(known(*instr))?;
-    }
-    Ok(Function {
-        name: Name::new(b"f"),
-        code: copy,
-    })
-}
-
-/// A module of the one function.
-pub fn accepted(alloc: Global, code: &[Instr]) -> Result<Checked, Fail>
-    requires some { 0 < length code.now }
-    requires most { length code.now ≤ 256 }
-    ensures { IfOk result (λ checked. length checked.functions ≡ 1) }
-{
-    let mut functions = Sequence::new(alloc);
-    functions.push(function(alloc, code)?)?;
-    match check(alloc, Module { functions }) {
+    let mut text = Vec::from_slice(alloc, b"module 1\nfunc f\n")?;
+    text.extend_from_slice(lines)?;
+    text.extend_from_slice(b"end\n")?;
+    let Ok(module) = read(alloc, &text) else {
+        return Err("the text is a module")?;
+    };
+    match check(alloc, module) {
         Ok(checked) => Ok(checked),
         Err(_) => Err("nothing is owned at the end")?,
     }
@@ -101,7 +71,7 @@ pub const ROOT_LEFT: [Left; 1] = [Left {
 
 /// A worker that calls the function once.
 fn one_worker(alloc: Global, checked: &Checked) -> Result<World<'_>, NoMemory>
-    requires { length checked.now.functions ≡ 1 }
+    requires { 0 < length checked.now.functions }
 {
     let call = Call {
         function: 0,
@@ -116,7 +86,7 @@ pub fn report(alloc: Global, world: &World<'_>) -> Result<[u64; 7], NoMemory> {
 
 /// The reports before the first step and after the last.
 fn smallest(alloc: Global) -> Result<([u64; 7], [u64; 7]), Fail> {
-    let checked = accepted(alloc, &[Instr::Fail])?;
+    let checked = accepted(alloc, b"fail\n")?;
     let mut world = one_worker(alloc, &checked)?;
     let before = report(alloc, &world)?;
     finish(&mut world)?;
@@ -133,7 +103,7 @@ fn smallest_module(rt: HostRuntime) -> Result<(), Fail> {
 
 /// What a step of a worker that is gone answers, and the report then.
 fn step_of_the_gone(alloc: Global) -> Result<(bool, Option<Did>, [u64; 7]), Fail> {
-    let checked = accepted(alloc, &[Instr::Fail])?;
+    let checked = accepted(alloc, b"fail\n")?;
     let mut world = one_worker(alloc, &checked)?;
     finish(&mut world)?;
     let gone = is_gone(&world, 1);
@@ -150,19 +120,12 @@ fn gone_for_good(rt: HostRuntime) -> Result<(), Fail> {
     Ok(())
 }
 
-pub fn take_and_drop() -> [Instr; 3] {
-    let v0 = Variable::new(0);
-    let v1 = Variable::new(1);
-    [
-        Instr::Newref { to: v1, from: v0 },
-        Instr::Drop { from: v1 },
-        Instr::Fail,
-    ]
-}
+/// A reference to the root is made and given up.
+pub const TAKE_AND_DROP: &[u8] = b"newref v1 v0\ndrop v1\nfail\n";
 
 /// What there is after four workers have called the function a thousand times each.
 fn four_finished(alloc: Global) -> Result<Tally, Fail> {
-    let checked = accepted(alloc, &take_and_drop())?;
+    let checked = accepted(alloc, TAKE_AND_DROP)?;
     let call = Call {
         function: 0,
         times: 1000,
@@ -182,7 +145,7 @@ fn four_workers(rt: HostRuntime) -> Result<(), Fail> {
 
 /// How many threads there are with two workers, what the first step answers, and what there is then.
 fn first_step(alloc: Global) -> Result<(usize, Option<Did>, Tally), Fail> {
-    let checked = accepted(alloc, &take_and_drop())?;
+    let checked = accepted(alloc, TAKE_AND_DROP)?;
     let call = Call {
         function: 0,
         times: 1,

@@ -1,7 +1,6 @@
 use crate::schedule_tests::{run, schedule_of};
 use crate::tests::{ROOT_LEFT, accepted, numbers};
 use crate::{Tally, World};
-use brc_lang::Instr;
 use brc_model::Call;
 use std::alloc::Global;
 use std::test::*;
@@ -14,7 +13,7 @@ fn reports(alloc: Global, lines: &[u8]) -> Result<(Tally, Tally), Fail> {
     text.extend_from_slice(lines)?;
     let mut last = Vec::from_slice(alloc, head)?;
     last.extend_from_slice(b"step 1 ok 1000\n")?;
-    let checked = accepted(alloc, &[Instr::Fail])?;
+    let checked = accepted(alloc, b"fail\n")?;
     let call = Call {
         function: 0,
         times: 1,
