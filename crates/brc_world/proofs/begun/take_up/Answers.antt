@@ -2,7 +2,7 @@ use Rattle.std.proofs.Common.{◌≡◌, ℕ, ◌-◌, List, Option, sym, ap, �
 use Rattle.std.specs.Prelude.{slice_get}
 use Rattle.brc_lang.specs.declared.module.Instr.{Instr}
 use Rattle.brc_model.specs.declared.actor.Place.TheVariants as model
-use Rattle.brc_model.specs.Threads.{entry_variables, code_of}
+use Rattle.brc_model.specs.Threads.{code_of}
 use Rattle.brc_model.specs.Machine.{begun, begun_instruction}
 use Rattle.brc_world.specs.Actors.{unmoved}
 use Rattle.brc_world.proofs.Calling.{standing_begins}
