@@ -36,7 +36,7 @@ holds_at_none bag t says holds = record { each = λ k object. omega (arith, hold
 
 -- ---- what is taken up
 
--- the first duty gives up a reference that is held, makes one of an object that is referenced, or begins the birth of the next row
+-- the first duty gives up a reference that is held, makes one of an object that is referenced, or begins the next row's birth
 pub data Starts (bag : List Reference) (rows t used : ℕ) : Duty → List Duty → Type 0 where
   Gives : (row : ℕ) (h : Holding) (rest : List Duty) → 0 < references_to row bag → Starts bag rows t used (ReleaseLoad row h) rest
   Takes : (row : ℕ) (h by : Holding) (rest : List Duty) → 0 < held (reference_of t by row) bag → Starts bag rows t used (RetainLoad row h) rest

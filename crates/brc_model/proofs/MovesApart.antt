@@ -1,4 +1,5 @@
--- The moves of a thread's step leave the references of who has no part in them: of other threads, and of cells that it doesn't find full.
+-- The moves of a thread's step leave the references of who has no part in them: of other threads, and of cells that it doesn't
+-- find full.
 use Rattle.std.proofs.Common.{◌≡◌, ◌≢◌, ℕ, zero, suc, Bool, true, false, cond, List, [], ◌∷◌, ◌++◌, ◌⊎◌, inl, inr, refl, sym, ap, ◌∙◌, arith}
 use Rattle.std.specs.Prelude.{◌==◌}
 use Rattle.brc_model.specs.declared.duty.Holding.{Holding}

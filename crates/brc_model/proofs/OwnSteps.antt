@@ -1,5 +1,5 @@
--- A thread after the step of a quiet duty: one that leaves its status, the head of its chain and all gates. Either no row dies by it, or
--- its own row begins to die, and is at hand from then on.
+-- A thread after the step of a quiet duty: one that leaves its status, the head of its chain and all gates. Either no row dies
+-- by it, or its own row begins to die, and is at hand from then on.
 use Rattle.std.proofs.Common.{◌≡◌, ℕ, ◌+◌, ◌<◌, Bool, true, false, cond, List, [], ◌∷◌, ◌++◌, inl, inr, Option, None, Some, refl, sym, ap, ◌∙◌, subst, arith}
 use Rattle.std.specs.Prelude.{◌==◌, slice_get}
 use Rattle.std.proofs.lemmas.Bool.{eq-eqb}

@@ -1,5 +1,5 @@
--- What is to be shown of an event, whatever thread and choice it has: that nothing happens, that a thread sits down elsewhere with
--- new duties before it steps, that it takes a quiet step, and that it does its first duty.
+-- What is to be shown of an event, whatever thread and choice it has: that nothing happens, that a thread sits down elsewhere
+-- with new duties before it steps, that it takes a quiet step, and that it does its first duty.
 use Rattle.std.proofs.Common.{◌≡◌, ℕ, Bool, true, false, cond, List, [], ◌∷◌, Option, None, Some, refl, sym, ap, ◌∙◌, subst}
 use Rattle.std.specs.Prelude.{slice_get}
 use Rattle.brc_lang.specs.declared.module.Module.{Module}
