@@ -10,9 +10,9 @@ use Rattle.brc_lang.specs.declared.module.Module.{Module}
 use Rattle.brc_lang.proofs.Cuts.{found_place, found_none}
 use Rattle.brc_model.specs.Safety.{AreCalls, IsCall}
 use Rattle.brc_model.specs.declared.thread.Call.{Call}
-use Rattle.brc_world.specs.declared.schedule.PlannedCall.{PlannedCall}
-use Rattle.brc_world.specs.declared.schedule.Schedule.{Schedule}
-use Rattle.brc_world.specs.ScheduleText.{IsPlannedCall, IsSchedule}
+use Rattle.brc_schedule.specs.declared.schedule.PlannedCall.{PlannedCall}
+use Rattle.brc_schedule.specs.declared.schedule.Schedule.{Schedule}
+use Rattle.brc_schedule.specs.Text.{IsPlannedCall, IsSchedule}
 use Rattle.brc.specs.Calls.{has_name, is_known, call_of, calls_of, AreKnown, IsFirstUnknown}
 
 -- ---- one look-up

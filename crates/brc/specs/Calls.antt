@@ -5,7 +5,7 @@ use Rattle.std.specs.Str.{bytes_eq}
 use Rattle.brc_lang.specs.declared.module.Function.{Function}
 use Rattle.brc_lang.specs.declared.module.Module.{Module}
 use Rattle.brc_model.specs.declared.thread.Call.{Call}
-use Rattle.brc_world.specs.declared.schedule.PlannedCall.{PlannedCall}
+use Rattle.brc_schedule.specs.declared.schedule.PlannedCall.{PlannedCall}
 
 abbrev pub has_name : List ℕ → Function → Bool
 has_name name f = bytes_eq f.name name

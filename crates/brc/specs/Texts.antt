@@ -8,10 +8,10 @@ use Rattle.brc_lang.specs.Written.{AppendsBeginning}
 use Rattle.brc_model.specs.Walks.{IsAcceptable}
 use Rattle.brc_model.specs.World.{World, first_world}
 use Rattle.brc_check.specs.Refusal.{IsRefusedFor}
-use Rattle.brc_world.specs.declared.schedule.Schedule.{Schedule}
+use Rattle.brc_schedule.specs.declared.schedule.Schedule.{Schedule}
 use Rattle.brc_world.specs.declared.tally.Tally.{Tally}
-use Rattle.brc_world.specs.ScheduleText as schedules
-use Rattle.brc_world.specs.ScheduleFault as schedule_faults
+use Rattle.brc_schedule.specs.Text as schedules
+use Rattle.brc_schedule.specs.Fault as schedule_faults
 use Rattle.brc_world.specs.Runs.{world_after, events_of}
 use Rattle.brc_world.specs.Tallies.{tally_of}
 use Rattle.brc.specs.declared.step_fault.StepFault.{StepFault}

@@ -2,14 +2,14 @@
 
 ghost use Rattle.std.specs.Prelude.{◌≡◌, position, IfOk, OnOk, IfErr};
 ghost use Rattle.brc_model.specs.Safety.{AreCalls};
-ghost use Rattle.brc_world.specs.ScheduleText.{IsSchedule};
+ghost use Rattle.brc_schedule.specs.Text.{IsSchedule};
 ghost use Rattle.brc.specs.Calls.{has_name, calls_of, AreKnown};
 ghost use Rattle.brc.specs.Texts.{IsCallFault};
 
 use crate::step_fault::StepFault;
 use brc_lang::{Function, Module};
 use brc_model::Call;
-use brc_world::Schedule;
+use brc_schedule::Schedule;
 use std::alloc::Global;
 
 /// The number of the first function of this name.

@@ -2,7 +2,7 @@
 
 ghost use Rattle.std.specs.Prelude.{◌≡◌, ◌≢◌, ◌⊎◌, IfOk, IfErr, OnOk, IsErrOf, MatchResult};
 ghost use Rattle.brc_model.specs.Safety.{AreCalls};
-ghost use Rattle.brc_world.specs.ScheduleText.{IsSchedule};
+ghost use Rattle.brc_schedule.specs.Text.{IsSchedule};
 ghost use Rattle.brc_world.specs.Tallies.{tally_of};
 ghost use Rattle.brc.specs.declared.step_fault.StepFault.TheVariants.{Output};
 ghost use Rattle.brc.specs.Calls.{calls_of};
@@ -14,7 +14,8 @@ use crate::step_fault::StepFault;
 use crate::texts::{accepted, module_of, schedule_of};
 use brc_check::Checked;
 use brc_model::Call;
-use brc_world::{NoMemory, Schedule, Tally, World};
+use brc_schedule::Schedule;
+use brc_world::{NoMemory, Tally, World};
 use std::alloc::Global;
 use std::io::Write;
 

@@ -3,13 +3,13 @@
 ghost use Rattle.std.specs.Prelude.{◌≡◌, MatchResult};
 ghost use Rattle.brc_lang.specs.Grammar.{IsModule, Spells};
 ghost use Rattle.brc_model.specs.Walks.{IsAcceptable};
-ghost use Rattle.brc_world.specs.ScheduleText as schedules;
+ghost use Rattle.brc_schedule.specs.Text as schedules;
 ghost use Rattle.brc.specs.Texts.{IsTextFault, IsPlanFault, IsCheckFault};
 
 use crate::step_fault::StepFault;
 use brc_check::{CheckCode, Checked, check};
 use brc_lang::{FaultCode, Module, read};
-use brc_world::{Schedule, read_schedule};
+use brc_schedule::{Schedule, read_schedule};
 use std::alloc::Global;
 
 /// The module that the bytes spell.

@@ -5,9 +5,4 @@ pub mod Stepping
 pub mod Outcomes
 pub mod Answering
 pub mod Tallying
-pub mod ScheduleWords
-pub mod ScheduleLines
-pub mod ScheduleMachine
-pub mod ScheduleReading
-pub mod ScheduleUniqueness
 pub mod Running

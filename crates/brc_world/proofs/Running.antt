@@ -14,7 +14,7 @@ use Rattle.brc_model.specs.declared.thread.Choice.TheVariants as choices
 use Rattle.brc_model.specs.Safety.{has_gone}
 use Rattle.brc_model.specs.Machine.{Actor, Machine, chosen, may_claim, next_machine, machine_after}
 use Rattle.brc_model.specs.World.{World, world_of, machine_of, step}
-use Rattle.brc_world.specs.declared.schedule.Steps.{Steps}
+use Rattle.brc_schedule.specs.declared.schedule.Steps.{Steps}
 use Rattle.brc_world.specs.declared.did.Did.{Did}
 use Rattle.brc_world.specs.declared.did.Did.TheVariants as dids
 use Rattle.brc_world.specs.Answers.{is_gone, is_gone_at, IsAnswer}

@@ -3,6 +3,4 @@ pub mod Actors
 pub mod Worlds
 pub mod Answers
 pub mod Tallies
-pub mod ScheduleText
-pub mod ScheduleFault
 pub mod Runs

@@ -3,7 +3,7 @@ use Rattle.std.specs.Prelude.{◌≡◌, ◌≢◌, ℕ, List, ◌∷◌, ◌++�
 use Rattle.std.specs.List.{flat_map}
 use Rattle.brc_model.specs.declared.thread.Choice.{Choice}
 use Rattle.brc_model.specs.World.{World, step}
-use Rattle.brc_world.specs.declared.schedule.Steps.{Steps}
+use Rattle.brc_schedule.specs.declared.schedule.Steps.{Steps}
 
 -- the world after a list of steps, each a thread and a choice
 abbrev pub world_after : World → List (ℕ × Choice) → World

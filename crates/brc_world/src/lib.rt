@@ -1,9 +1,8 @@
 //! The step world over biased headers: threads that take one step at a time over an accepted module, each step one event on
-//! one word at most; and the schedules that list such steps.
+//! one word at most.
 #![tactic(auto)]
 
 mod address;
-mod beginning;
 mod begun;
 mod did;
 mod doing;
@@ -14,9 +13,6 @@ mod left;
 mod memory;
 mod no_memory;
 mod run;
-mod schedule;
-mod schedule_line;
-mod schedule_reading;
 mod start;
 mod states;
 mod tally;
@@ -24,10 +20,8 @@ mod thread;
 mod world;
 
 pub use did::Did;
-pub use laws::{one_schedule, runs_follow_machines};
+pub use laws::runs_follow_machines;
 pub use no_memory::NoMemory;
-pub use schedule::{PlannedCall, Schedule, Steps};
-pub use schedule_reading::read_schedule;
 pub use tally::{Left, Tally};
 pub use world::World;
 
@@ -36,7 +30,7 @@ mod birth_tests;
 #[cfg(test)]
 mod interleaving_tests;
 #[cfg(test)]
-mod schedule_tests;
+mod run_tests;
 #[cfg(test)]
 mod tests;
 #[cfg(test)]

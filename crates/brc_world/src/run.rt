@@ -7,8 +7,8 @@ ghost use Rattle.brc_world.specs.Runs.{world_after, events_of_line, events_of, S
 
 use crate::did::Did;
 use crate::no_memory::NoMemory;
-use crate::schedule::{Schedule, Steps};
 use crate::world::World;
+use brc_schedule::{Schedule, Steps};
 
 impl World<'_> {
     /// The steps of the schedule in order; its calls are those that the world began with. Where memory is refused, the

@@ -64,10 +64,24 @@ pub fn numbers(tally: &Tally) -> [u64; 7] {
     ]
 }
 
-pub const ROOT_LEFT: [Left; 1] = [Left {
+/// The numbers of a tally, and the object that it lists as left, if any.
+pub type Told = ([u64; 7], Option<Left>);
+
+/// The root.
+pub const ROOT: Left = Left {
     row: 1,
     kind: Kind::List,
-}];
+};
+
+/// What the tally of the world tells, where one object at most is left.
+pub fn told(alloc: Global, world: &World<'_>) -> Result<Told, Fail> {
+    let tally = world.tally(alloc)?;
+    match tally.left.as_slice() {
+        [] => Ok((numbers(&tally), None)),
+        [left] => Ok((numbers(&tally), Some(*left))),
+        _ => Err("more than one object is left")?,
+    }
+}
 
 /// A worker that calls the function once.
 fn one_worker(alloc: Global, checked: &Checked) -> Result<World<'_>, NoMemory>
@@ -80,35 +94,38 @@ fn one_worker(alloc: Global, checked: &Checked) -> Result<World<'_>, NoMemory>
     World::new(alloc, checked, 1, 4, &[call])
 }
 
-pub fn report(alloc: Global, world: &World<'_>) -> Result<[u64; 7], NoMemory> {
-    Ok(numbers(&world.tally(alloc)?))
+/// What there is before the first step.
+fn smallest_before(alloc: Global) -> Result<Told, Fail> {
+    let checked = accepted(alloc, b"fail\n")?;
+    let world = one_worker(alloc, &checked)?;
+    told(alloc, &world)
 }
 
-/// The reports before the first step and after the last.
-fn smallest(alloc: Global) -> Result<([u64; 7], [u64; 7]), Fail> {
+/// What there is after the last step.
+fn smallest_after(alloc: Global) -> Result<Told, Fail> {
     let checked = accepted(alloc, b"fail\n")?;
     let mut world = one_worker(alloc, &checked)?;
-    let before = report(alloc, &world)?;
     finish(&mut world)?;
-    Ok((before, report(alloc, &world)?))
+    told(alloc, &world)
 }
 
 #[test]
 fn smallest_module(rt: HostRuntime) -> Result<(), Fail> {
-    let (before, after) = smallest(rt.alloc())?;
-    assert_eq!(rt; before, [1, 2, 1, 0, 1, 0, 0]);
-    assert_eq!(rt; after, [1, 0, 1, 1, 0, 0, 0]);
+    let before = smallest_before(rt.alloc())?;
+    assert_eq!(rt; before, ([1, 2, 1, 0, 1, 0, 0], Some(ROOT)));
+    let after = smallest_after(rt.alloc())?;
+    assert_eq!(rt; after, ([1, 0, 1, 1, 0, 0, 0], None));
     Ok(())
 }
 
 /// What a step of a worker that is gone answers, and the report then.
-fn step_of_the_gone(alloc: Global) -> Result<(bool, Option<Did>, [u64; 7]), Fail> {
+fn step_of_the_gone(alloc: Global) -> Result<(bool, Option<Did>, Told), Fail> {
     let checked = accepted(alloc, b"fail\n")?;
     let mut world = one_worker(alloc, &checked)?;
     finish(&mut world)?;
     let gone = is_gone(&world, 1);
     let did = step(&mut world, 1, Choice::Ok)?;
-    Ok((gone, did, report(alloc, &world)?))
+    Ok((gone, did, told(alloc, &world)?))
 }
 
 #[test]
@@ -116,7 +133,7 @@ fn gone_for_good(rt: HostRuntime) -> Result<(), Fail> {
     let (gone, did, after) = step_of_the_gone(rt.alloc())?;
     assert!(rt; gone);
     assert_eq!(rt; did, Some(Did::Gone));
-    assert_eq!(rt; after, [1, 0, 1, 1, 0, 0, 0]);
+    assert_eq!(rt; after, ([1, 0, 1, 1, 0, 0, 0], None));
     Ok(())
 }
 
@@ -124,7 +141,7 @@ fn gone_for_good(rt: HostRuntime) -> Result<(), Fail> {
 pub const TAKE_AND_DROP: &[u8] = b"newref v1 v0\ndrop v1\nfail\n";
 
 /// What there is after four workers have called the function a thousand times each.
-fn four_finished(alloc: Global) -> Result<Tally, Fail> {
+fn four_finished(alloc: Global) -> Result<Told, Fail> {
     let checked = accepted(alloc, TAKE_AND_DROP)?;
     let call = Call {
         function: 0,
@@ -132,19 +149,18 @@ fn four_finished(alloc: Global) -> Result<Tally, Fail> {
     };
     let mut world = World::new(alloc, &checked, 4, 1, &[call, call, call, call])?;
     finish(&mut world)?;
-    Ok(world.tally(alloc)?)
+    told(alloc, &world)
 }
 
 #[test]
 fn four_workers(rt: HostRuntime) -> Result<(), Fail> {
-    let tally = four_finished(rt.alloc())?;
-    assert_eq!(rt; numbers(&tally), [4, 0, 1, 1, 0, 0, 0]);
-    assert!(rt; tally.left.as_slice().is_empty());
+    let after = four_finished(rt.alloc())?;
+    assert_eq!(rt; after, ([4, 0, 1, 1, 0, 0, 0], None));
     Ok(())
 }
 
 /// How many threads there are with two workers, what the first step answers, and what there is then.
-fn first_step(alloc: Global) -> Result<(usize, Option<Did>, Tally), Fail> {
+fn first_step(alloc: Global) -> Result<(usize, Option<Did>, Told), Fail> {
     let checked = accepted(alloc, TAKE_AND_DROP)?;
     let call = Call {
         function: 0,
@@ -153,15 +169,14 @@ fn first_step(alloc: Global) -> Result<(usize, Option<Did>, Tally), Fail> {
     let mut world = World::new(alloc, &checked, 2, 1024, &[call, call])?;
     let threads = world.threads();
     let did = step(&mut world, 1, Choice::Ok)?;
-    Ok((threads, did, world.tally(alloc)?))
+    Ok((threads, did, told(alloc, &world)?))
 }
 
 #[test]
 fn one_step(rt: HostRuntime) -> Result<(), Fail> {
-    let (threads, did, tally) = first_step(rt.alloc())?;
+    let (threads, did, after) = first_step(rt.alloc())?;
     assert_eq!(rt; threads, 3);
     assert_eq!(rt; did, Some(Did::Moved));
-    assert_eq!(rt; numbers(&tally), [2, 3, 1, 0, 1, 0, 0]);
-    assert_eq!(rt; tally.left.as_slice(), ROOT_LEFT.as_slice());
+    assert_eq!(rt; after, ([2, 3, 1, 0, 1, 0, 0], Some(ROOT)));
     Ok(())
 }

@@ -1,6 +1,6 @@
 use Rattle.std.proofs.Common.{List, ap, subst, sym, ◌∙◌}
 use Rattle.std.proofs.lemmas.List.{take_all}
-use Rattle.brc_world.specs.declared.schedule.PlannedCall.{PlannedCall}
+use Rattle.brc_schedule.specs.declared.schedule.PlannedCall.{PlannedCall}
 use Rattle.brc_model.specs.Safety.{AreCalls}
 use Rattle.brc.specs.Calls.{calls_of, AreKnown, IsFirstUnknown}
 use Rattle.brc.proofs.Calling.{made, known_there, known_next, calls_next, first_unknown, calls_fit, looked_up}

@@ -1,0 +1,5 @@
+pub mod Words
+pub mod Lines
+pub mod Machine
+pub mod LineToLine
+pub mod Uniqueness

@@ -1,0 +1,15 @@
+//! Schedules: the text that lists the workers of a world, their calls, and its single steps, one after another.
+#![tactic(auto)]
+
+mod beginning;
+mod laws;
+mod line;
+mod reading;
+mod schedule;
+
+pub use laws::one_schedule;
+pub use reading::read_schedule;
+pub use schedule::{PlannedCall, Schedule, Steps};
+
+#[cfg(test)]
+mod tests;

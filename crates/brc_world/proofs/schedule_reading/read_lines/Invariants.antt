@@ -1,9 +1,0 @@
-use Rattle.std.proofs.Common.{◌+◌, ◌^◌, ◌<◌, length}
-use Rattle.brc_world.proofs.ScheduleReading.{IsReadTo}
-use Rattle.brc_world.proofs.schedule_reading.read_lines.Given as goal
-
-abbrev pub invariant-loop-text : goal.invariant-loop-text
-invariant-loop-text l = record { read : IsReadTo l.bytes l.above l.place; room : l.place.line + length l.place.rest.now < 2 ^ 64 }
-
-abbrev pub decreases-loop-text : goal.decreases-loop-text
-decreases-loop-text l = length l.place.rest.now

@@ -1,8 +1,0 @@
-use Rattle.brc_world.proofs.ScheduleUniqueness.{only, refused}
-use Rattle.brc_world.proofs.schedule_reading.read_schedule.Goals as goal
-
-pub returns-clause-only : goal.returns-clause-only
-returns-clause-only c = only c.args.bytes.now c.read_lines.result c.read_lines.ensures
-
-pub returns-clause-refused : goal.returns-clause-refused
-returns-clause-refused c = refused c.args.bytes.now c.read_lines.result c.read_lines.ensures
