@@ -8,7 +8,7 @@ use Rattle.brc_lang.specs.declared.module.Function.{Function}
 use Rattle.brc_lang.specs.declared.module.Module.{Module}
 use Rattle.brc_lang.specs.Grammar.{IsFunction, IsModule}
 use Rattle.brc.specs.Accepted.{instruction_count, accepted_text}
-use Rattle.brc.specs.Report.{entry}
+use Rattle.brc_report.specs.Report.{entry}
 
 most_each : (fs : List Function) → AllByRecursion IsFunction fs → instruction_count fs ≤ length fs * 256
 most_each [] all = omega arith

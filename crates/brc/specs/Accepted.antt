@@ -3,7 +3,7 @@ use Rattle.std.specs.Prelude.{ℕ, List, ◌++◌, length, sum_by, codes}
 use Rattle.brc_lang.specs.declared.module.Function.{Function}
 use Rattle.brc_lang.specs.declared.module.Module.{Module}
 use Rattle.brc_lang.specs.Grammar.{line}
-use Rattle.brc.specs.Report.{entry}
+use Rattle.brc_report.specs.Report.{entry}
 
 -- the instructions of all functions together
 abbrev pub instruction_count : List Function → ℕ

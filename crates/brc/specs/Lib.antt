@@ -1,4 +1,3 @@
-pub mod Report
 pub mod Accepted
 pub mod Calls
 pub mod Texts

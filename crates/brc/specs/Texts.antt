@@ -9,7 +9,7 @@ use Rattle.brc_model.specs.Walks.{IsAcceptable}
 use Rattle.brc_model.specs.World.{World, first_world}
 use Rattle.brc_check.specs.Refusal.{IsRefusedFor}
 use Rattle.brc_schedule.specs.declared.schedule.Schedule.{Schedule}
-use Rattle.brc_world.specs.declared.tally.Tally.{Tally}
+use Rattle.brc_report.specs.declared.tally.Tally.{Tally}
 use Rattle.brc_schedule.specs.Text as schedules
 use Rattle.brc_schedule.specs.Fault as schedule_faults
 use Rattle.brc_world.specs.Runs.{world_after, events_of}
@@ -17,7 +17,7 @@ use Rattle.brc_world.specs.Tallies.{tally_of}
 use Rattle.brc.specs.declared.step_fault.StepFault.{StepFault}
 use Rattle.brc.specs.declared.step_fault.StepFault.TheVariants.{Text, Plan, Refused, NoFunction, NoMemory, Output}
 use Rattle.brc.specs.Calls.{calls_of, AreKnown, IsFirstUnknown}
-use Rattle.brc.specs.Report.{tally_text}
+use Rattle.brc_report.specs.Report.{tally_text}
 
 -- ---- what is stepped
 

@@ -4,7 +4,7 @@ use Rattle.brc_lang.specs.declared.module.Module.{Module}
 use Rattle.brc_model.specs.declared.thread.Call.{Call}
 use Rattle.brc_model.specs.declared.thread.Choice.{Choice}
 use Rattle.brc_model.specs.World.{World, first_world}
-use Rattle.brc_world.specs.declared.tally.Tally.{Tally}
+use Rattle.brc_report.specs.declared.tally.Tally.{Tally}
 use Rattle.brc_world.specs.Runs.{world_after}
 use Rattle.brc_world.specs.Tallies.{tally_of}
 

@@ -5,9 +5,9 @@ ghost use Rattle.std.specs.Io.KnownBytes.{Appends};
 ghost use Rattle.brc_lang.specs.Written.{AppendsBeginning};
 ghost use Rattle.brc.specs.Accepted.{instruction_count, accepted_text};
 
-use crate::report::write_entry;
 use brc_check::Checked;
 use brc_lang::{Function, write_bytes};
+use brc_report::write_entry;
 use std::io;
 use std::io::Write;
 

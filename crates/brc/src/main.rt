@@ -10,7 +10,6 @@ mod command;
 mod load;
 #[cfg(test)]
 mod path_tests;
-mod report;
 mod run;
 mod shown;
 mod step_fault;

@@ -5,7 +5,8 @@ ghost use Rattle.brc.specs.Turns.{LeadsTo, IsTallyOfRun};
 
 use brc_check::Checked;
 use brc_model::{Call, Choice};
-use brc_world::{Did, NoMemory, Tally, World};
+use brc_report::Tally;
+use brc_world::{Did, NoMemory, World};
 use std::alloc::Global;
 
 /// Runs so many workers (1 to 32), each with so many rows (1 to 1024), that each make the call: one step of each in turn

@@ -9,13 +9,13 @@ ghost use Rattle.brc.specs.Calls.{calls_of};
 ghost use Rattle.brc.specs.Texts.{last_world, HasTally, StepsTo, StepsTowards, IsFaultOfTexts};
 
 use crate::calls::calls_of;
-use crate::report::write_tally;
 use crate::step_fault::StepFault;
 use crate::texts::{accepted, module_of, schedule_of};
 use brc_check::Checked;
 use brc_model::Call;
+use brc_report::{Tally, write_tally};
 use brc_schedule::Schedule;
-use brc_world::{NoMemory, Tally, World};
+use brc_world::{NoMemory, World};
 use std::alloc::Global;
 use std::io::Write;
 

@@ -1,8 +1,5 @@
 use crate::act::act;
 use crate::load::{Load, LoadError};
-use crate::report::write_tally;
-use brc_lang::{Kind, Sequence};
-use brc_world::{Left, Tally};
 use std::alloc::Global;
 use std::io;
 use std::io::{ErrorKind, Write};
@@ -323,35 +320,4 @@ fn keeps_the_status_without_standard_error(rt: HostRuntime) {
     );
     assert_eq!(rt; status, 2);
     assert!(rt; err.taken.is_empty());
-}
-
-#[test]
-fn reports_what_is_left(rt: HostRuntime) -> Result<(), Fail> {
-    let mut left = Sequence::new(rt.alloc());
-    left.push(Left {
-        row: 1,
-        kind: Kind::List,
-    })?;
-    left.push(Left {
-        row: 1026,
-        kind: Kind::Sock,
-    })?;
-    let tally = Tally {
-        threads: 32,
-        running: 33,
-        created: u64::MAX,
-        closed: 0,
-        alive: 2,
-        host_faults: 5,
-        close_faults: 6,
-        left,
-    };
-    let mut out: Vec<u8> = Vec::new(rt.alloc());
-    write_tally(&tally, &mut out)?;
-    let counts =
-        b"threads 32\nrunning 33\ncreated 18446744073709551615\nclosed 0\nalive 2\nhost faults 5\nclose faults 6\n";
-    assert!(rt; out.as_slice().starts_with(counts));
-    assert!(rt; out.as_slice().ends_with(b"\nleft 1 list\nleft 1026 sock\n"));
-    assert_eq!(rt; out.len(), counts.len() + 27);
-    Ok(())
 }

@@ -17,7 +17,7 @@ use Rattle.brc_model.proofs.Own.{chain_same}
 use Rattle.brc_model.proofs.Neutral.{OwnFits, found_by, agenda_here, handed_here, agenda_out}
 use Rattle.brc_model.proofs.OwnCounts.{held_same, held_gained}
 use Rattle.brc_model.proofs.OwnRetains.{ready_first}
-use Rattle.brc_model.proofs.OwnSteps.{own_quiet}
+use Rattle.brc_model.proofs.OwnSteps.{own_keeps}
 use Rattle.brc_model.proofs.OwnShown.{own_shown}
 use Rattle.brc_model.proofs.OwnChains.{chain_here}
 use Rattle.brc_model.proofs.Settled.{ready_none}
@@ -39,7 +39,7 @@ own_birth_kind p n m t a x h w rest here alive =
     let new = done_by m t a d rest in
     elim (has_resource w) as (λ b. has_resource w ≡ b → OwnFits p new t (actor_by t a d rest (found_by m t a d))) [
       | true ↦ λ e.
-          own_quiet p n m t a d rest (BirthSlot x h ∷ []) (BirthSlot x h ∷ rest) here alive refl (record {
+          own_keeps p n m t a d rest (BirthSlot x h ∷ []) (BirthSlot x h ∷ rest) here alive refl (record {
             next_is = ap (λ (b : Bool). cond b (BirthSlot x h ∷ []) (BirthLocal x h ∷ [])) e;
             none_dies = refl;
             agenda_is = ready_first a.head (BirthSlot x h) rest refl;
@@ -50,7 +50,7 @@ own_birth_kind p n m t a x h w rest here alive =
             knows = λ b status head used. (still_next m new t a b x refl status used fits.0, fits.1);
           })
       | false ↦ λ e.
-          own_quiet p n m t a d rest (BirthLocal x h ∷ []) (BirthLocal x h ∷ rest) here alive refl (record {
+          own_keeps p n m t a d rest (BirthLocal x h ∷ []) (BirthLocal x h ∷ rest) here alive refl (record {
             next_is = ap (λ (b : Bool). cond b (BirthSlot x h ∷ []) (BirthLocal x h ∷ [])) e;
             none_dies = refl;
             agenda_is = ready_first a.head (BirthLocal x h) rest refl;
@@ -68,7 +68,7 @@ own_birth_slot p n m t a x h rest here alive =
     let d : Duty = BirthSlot x h in
     let fits = head_of p n m t a d rest here in
     let new = done_by m t a d rest in
-    own_quiet p n m t a d rest (BirthLocal x h ∷ []) (BirthLocal x h ∷ rest) here alive refl (record {
+    own_keeps p n m t a d rest (BirthLocal x h ∷ []) (BirthLocal x h ∷ rest) here alive refl (record {
       next_is = refl;
       none_dies = refl;
       agenda_is = ready_first a.head (BirthLocal x h) rest refl;

@@ -25,7 +25,7 @@ use Rattle.brc_model.proofs.Own.{HeldStep}
 use Rattle.brc_model.proofs.Neutral.{OwnFits, found_by, bag_by, agenda_here, handed_here}
 use Rattle.brc_model.proofs.OwnCounts.{held_same}
 use Rattle.brc_model.proofs.OwnRetains.{ready_first}
-use Rattle.brc_model.proofs.OwnSteps.{is_quiet, own_quiet, own_done, own_next, own_dying}
+use Rattle.brc_model.proofs.OwnSteps.{keeps_lives, own_keeps, own_done, own_next, own_dying}
 use Rattle.brc_model.proofs.MergesOnce.{swapped_apart, awaited_lives}
 
 -- ---- a mark is set, and looked after
@@ -63,7 +63,7 @@ own_take_mark p n m t a x rest here alive =
     let after : List Duty = MergeSwap x Handed ∷ SharedLoad x Handed ∷ [] in
     elim (found == 1) as (λ b. (found == 1) ≡ b → OwnFits p (done_by m t a d rest) t (actor_by t a d rest found)) [
       | true ↦ λ e.
-          own_quiet p n m t a d rest after (MergeSwap x Handed ∷ SharedLoad x Handed ∷ rest) here alive refl (record {
+          own_keeps p n m t a d rest after (MergeSwap x Handed ∷ SharedLoad x Handed ∷ rest) here alive refl (record {
             next_is = ap (λ (b : Bool). cond b after []) e;
             none_dies = refl;
             agenda_is = ready_first a.head (MergeSwap x Handed) (SharedLoad x Handed ∷ rest) refl;
@@ -138,13 +138,13 @@ own_merge_swap_own p n m t a x rest here alive =
     (λ b status head used. (fits.0, omega (arith, fits.1.low), inl (status ∙ fits.1.running, swap_own p n m t a x rest here)))
 
 -- what was handed is given up next, where the object is merged
-handed_next : (p : Module) (n : ℕ) (m : Machine) (t : ℕ) (a : Actor) (d : Duty) (x : ℕ) (rest : List Duty) → AtDuty p n m t a d rest → (a.status ≡ Gone → ⊥) → is_quiet d ≡ true → next_of m t a d ≡ []
+handed_next : (p : Module) (n : ℕ) (m : Machine) (t : ℕ) (a : Actor) (d : Duty) (x : ℕ) (rest : List Duty) → AtDuty p n m t a d rest → (a.status ≡ Gone → ⊥) → keeps_lives d ≡ true → next_of m t a d ≡ []
     → FollowsHanded x rest → FollowsMerge x rest
     → Later m.rows t a.used a.status a.place rest → HeldStep m.plain.references (bag_by m t a d) t (d ∷ rest) [] → phase_part ((done_by m t a d rest).memory (Shared x)) ≡ 3
     → OwnFits p (done_by m t a d rest) t (actor_by t a d rest (found_by m t a d))
-handed_next p n m t a d x [] here alive quiet next follows clean later moves merged = absurd follows
-handed_next p n m t a d x (SharedLoad y Handed ∷ rest) here alive quiet next follows clean later moves merged =
-    own_quiet p n m t a d (SharedLoad y Handed ∷ rest) [] (SharedLoad y Handed ∷ rest) here alive quiet (record {
+handed_next p n m t a d x [] here alive kept next follows clean later moves merged = absurd follows
+handed_next p n m t a d x (SharedLoad y Handed ∷ rest) here alive kept next follows clean later moves merged =
+    own_keeps p n m t a d (SharedLoad y Handed ∷ rest) [] (SharedLoad y Handed ∷ rest) here alive kept (record {
       next_is = next;
       none_dies = refl;
       agenda_is = ready_first a.head (SharedLoad y Handed) rest refl;
@@ -154,7 +154,7 @@ handed_next p n m t a d x (SharedLoad y Handed ∷ rest) here alive quiet next f
       handed = clean.1;
       knows = λ b status head used. (later.0, subst (λ (z : ℕ). phase_part ((done_by m t a d (SharedLoad y Handed ∷ rest)).memory (Shared z)) ≡ 3) (sym follows) merged);
     })
-handed_next p n m t a d x _ here alive quiet next follows clean later moves merged = absurd follows
+handed_next p n m t a d x _ here alive kept next follows clean later moves merged = absurd follows
 
 pub own_merge_swap_handed : (p : Module) (n : ℕ) (m : Machine) (t : ℕ) (a : Actor) (x : ℕ) (rest : List Duty) → AtDuty p n m t a (MergeSwap x Handed) rest → (a.status ≡ Gone → ⊥)
     → OwnFits p (done_by m t a (MergeSwap x Handed) rest) t (actor_by t a (MergeSwap x Handed) rest (found_by m t a (MergeSwap x Handed)))

@@ -14,7 +14,7 @@ use Rattle.brc_model.proofs.Holds.{reference_of}
 use Rattle.brc_model.proofs.Rows.{Numbers, IsDefault, AboveZero, InOwned, IsLive, IsUnborn, RowRule}
 use Rattle.brc_model.proofs.Rule.{IsNext, numbers_of}
 use Rattle.brc_model.proofs.RowsAfterOwn.{own, one_own, written_here, row_apart}
-use Rattle.brc_model.proofs.RowsAfterStep.{Doing, KeepsRow, head_fits_of, weighed, row_becomes, row_quiet}
+use Rattle.brc_model.proofs.RowsAfterStep.{Doing, KeepsRow, head_fits_of, weighed, row_becomes, row_stays}
 use Rattle.brc_model.proofs.RowsAfterElsewhere.{IsApart, apart_if, one_apart}
 use Rattle.brc_model.proofs.Blocks.{next_above, next_unborn, next_block}
 
@@ -29,7 +29,7 @@ row_after_birth_kind {y = y} {h = h} {w = w} some s =
 
 pub row_after_birth_slot : {p : Module} {n : ℕ} {m : Machine} {t : ℕ} {a : Actor} {y : ℕ} {h : Holding} {rest : List Duty} → 0 < y → Doing p n m t a (BirthSlot y h) rest → KeepsRow m t a (BirthSlot y h) rest y
 row_after_birth_slot {y = y} {h = h} some s =
-    row_quiet {next = BirthLocal y h ∷ []} {x = y} s some (record { follows = refl; lives = refl; local = refl; shared = refl; mark = refl; references = refl; waiting = refl; carried = refl; merging = refl; deciding = refl })
+    row_stays {next = BirthLocal y h ∷ []} {x = y} s some (record { follows = refl; lives = refl; local = refl; shared = refl; mark = refl; references = refl; waiting = refl; carried = refl; merging = refl; deciding = refl })
 
 -- ---- the object is counted
 

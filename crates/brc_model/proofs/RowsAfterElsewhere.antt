@@ -16,7 +16,7 @@ use Rattle.brc_model.specs.Machine.{Life, Actor, Machine, is_running, same_addre
 use Rattle.brc_model.proofs.Bag.{one_if, references_to-cons, same-true}
 use Rattle.brc_model.proofs.Rows.{waits, carries, merges, decides}
 use Rattle.brc_model.proofs.Lives.{cell_found}
-use Rattle.brc_model.proofs.RowsAfterStep.{Doing, found_by, following, KeepsRow, IsQuiet, row_quiet}
+use Rattle.brc_model.proofs.RowsAfterStep.{Doing, found_by, following, KeepsRow, RowStays, row_stays}
 
 -- the row that a duty is about, or none
 abbrev pub subject : Duty → ℕ
@@ -292,7 +292,7 @@ row_elsewhere {p = p} {n = n} {m = m} {t = t} {a = a} {d = d} {rest = rest} s x 
     let left = left_by t a.head d found in
     let next = next_apart t (is_running a.status) a.head d found x e in
     let this = other_apart x d e in
-    let q : IsQuiet m t a d rest x (following m t a d) = record {
+    let q : RowStays m t a d rest x (following m t a d) = record {
       follows = refl;
       lives = not_born x d e _ _ ∙ not_ended x d e _ _ ∙ next.lives m.life _;
       local = written_elsewhere m.memory at left (Local x) (other_local m.rows t a.head d x e);
@@ -304,4 +304,4 @@ row_elsewhere {p = p} {n = n} {m = m} {t = t} {a = a} {d = d} {rest = rest} s x 
       merging = next.merging ∙ sym this.merging;
       deciding = next.deciding ∙ sym this.deciding;
     } in
-    row_quiet s some q
+    row_stays s some q

@@ -17,7 +17,7 @@ use Rattle.brc_model.proofs.Bag.{references_to-cons, same_holding-refl}
 use Rattle.brc_model.proofs.Holds.{reference_of}
 use Rattle.brc_model.proofs.RowSteps.{local_up, local_down, local_to_zero, zero_dies, shared_gained}
 use Rattle.brc_model.proofs.Rule.{numbers_of}
-use Rattle.brc_model.proofs.RowsAfterStep.{Doing, head_fits_of, KeepsRow, weighed, row_becomes, row_quiet}
+use Rattle.brc_model.proofs.RowsAfterStep.{Doing, head_fits_of, KeepsRow, weighed, row_becomes, row_stays}
 use Rattle.brc_model.proofs.RowsAfterElsewhere.{IsApart, none_apart, one_apart, apart_if}
 use Rattle.brc_model.proofs.RowsAfterOwn.{own, one_own, written_here, gives_up, IsLost, is_lost, lives_so, lives_backed, counted_word, row_apart}
 
@@ -168,7 +168,7 @@ row_after_decide {m = m} {t = t} {a = a} {y = y} {rest = rest} s =
             deciding = omega (arith, weights.deciding, one);
           }) (zero_dies (block_of m.rows y) k lives.rule fits.2 decided fresh.1)
       | inr other ↦
-          row_quiet {next = MergeSwap y Own ∷ []} {x = y} s fits.0 (record {
+          row_stays {next = MergeSwap y Own ∷ []} {x = y} s fits.0 (record {
             follows = rw other.0 refl;
             lives = refl;
             local = refl;

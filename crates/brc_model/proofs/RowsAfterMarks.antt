@@ -13,7 +13,7 @@ use Rattle.brc_model.specs.Machine.{Life, Live, Dying, Closed, Actor, Machine, w
 use Rattle.brc_model.proofs.Rows.{waits, carries, merges, decides, RowRule}
 use Rattle.brc_model.proofs.RowSteps.{mark_set, mark_taken}
 use Rattle.brc_model.proofs.Rule.{numbers_of}
-use Rattle.brc_model.proofs.RowsAfterStep.{Doing, head_fits_of, following, KeepsRow, weighed, row_becomes, row_quiet}
+use Rattle.brc_model.proofs.RowsAfterStep.{Doing, head_fits_of, following, KeepsRow, weighed, row_becomes, row_stays}
 use Rattle.brc_model.proofs.RowsAfterElsewhere.{IsApart, AreApart, none_apart, one_apart, more_apart, apart_if, settle_apart, scan_apart, kind_apart, cells_apart, released_apart}
 use Rattle.brc_model.proofs.RowsAfterOwn.{own, one_own, written_here, lives_so, row_apart}
 
@@ -63,7 +63,7 @@ takes_none : {p : Module} {n : ℕ} {m : Machine} {t : ℕ} {a : Actor} {d : Dut
     → KeepsRow m t a d rest y
 takes_none {m = m} {t = t} {a = a} {d = d} {rest = rest} {tail = tail} {y = y} s some takes unset =
     let follows : following m t a d ≡ tail = takes.follows ∙ ap (λ (w : ℕ). claimed y w ++ tail) unset in
-    row_quiet {next = tail} {x = y} s some (record {
+    row_stays {next = tail} {x = y} s some (record {
       follows = follows;
       lives = takes.lives tail ∙ takes.others.lives m.life (Dying t);
       local = takes.local;
@@ -152,7 +152,7 @@ row_after_claim {m = m} {t = t} {a = a} {y = y} {rest = rest} some s =
 
 pub row_after_die : {p : Module} {n : ℕ} {m : Machine} {t : ℕ} {a : Actor} {y : ℕ} {rest : List Duty} → 0 < y → Doing p n m t a (Die y) rest → KeepsRow m t a (Die y) rest y
 row_after_die {y = y} some s =
-    row_quiet {next = []} {x = y} s some (record { follows = refl; lives = refl; local = refl; shared = refl; mark = refl; references = refl; waiting = refl; carried = refl; merging = refl; deciding = refl })
+    row_stays {next = []} {x = y} s some (record { follows = refl; lives = refl; local = refl; shared = refl; mark = refl; references = refl; waiting = refl; carried = refl; merging = refl; deciding = refl })
 
 pub row_after_kind : {p : Module} {n : ℕ} {m : Machine} {t : ℕ} {a : Actor} {y : ℕ} {rest : List Duty} → 0 < y → Doing p n m t a (SettleKind y) rest → KeepsRow m t a (SettleKind y) rest y
 row_after_kind {m = m} {y = y} some s =
@@ -169,11 +169,11 @@ row_after_cell {m = m} {t = t} {y = y} {i = i} {cells = cells} some s =
 
 pub row_after_take_slot : {p : Module} {n : ℕ} {m : Machine} {t : ℕ} {a : Actor} {y : ℕ} {rest : List Duty} → 0 < y → Doing p n m t a (TakeSlot y) rest → KeepsRow m t a (TakeSlot y) rest y
 row_after_take_slot {y = y} some s =
-    row_quiet {next = CloseResource y ∷ []} {x = y} s some (record { follows = refl; lives = refl; local = refl; shared = refl; mark = refl; references = refl; waiting = refl; carried = refl; merging = refl; deciding = refl })
+    row_stays {next = CloseResource y ∷ []} {x = y} s some (record { follows = refl; lives = refl; local = refl; shared = refl; mark = refl; references = refl; waiting = refl; carried = refl; merging = refl; deciding = refl })
 
 pub row_after_close : {p : Module} {n : ℕ} {m : Machine} {t : ℕ} {a : Actor} {y : ℕ} {rest : List Duty} → 0 < y → Doing p n m t a (CloseResource y) rest → KeepsRow m t a (CloseResource y) rest y
 row_after_close {y = y} some s =
-    row_quiet {next = SettleEnd y ∷ []} {x = y} s some (record { follows = refl; lives = refl; local = refl; shared = refl; mark = refl; references = refl; waiting = refl; carried = refl; merging = refl; deciding = refl })
+    row_stays {next = SettleEnd y ∷ []} {x = y} s some (record { follows = refl; lives = refl; local = refl; shared = refl; mark = refl; references = refl; waiting = refl; carried = refl; merging = refl; deciding = refl })
 
 -- a row that was dying is closed
 pub row_after_end : {p : Module} {n : ℕ} {m : Machine} {t : ℕ} {a : Actor} {y : ℕ} {rest : List Duty} → Doing p n m t a (SettleEnd y) rest → KeepsRow m t a (SettleEnd y) rest y

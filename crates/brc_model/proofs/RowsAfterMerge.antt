@@ -18,7 +18,7 @@ use Rattle.brc_model.proofs.Rows.{waits, carries, merges, agenda_weight, weight,
 use Rattle.brc_model.proofs.RowSteps.{swapped_own, swapped_claimed, merged_live, merged_dies}
 use Rattle.brc_model.proofs.Rule.{numbers_of, FollowsHanded}
 use Rattle.brc_model.proofs.Weights.{agenda_weight-le, none_carried}
-use Rattle.brc_model.proofs.RowsAfterStep.{Doing, head_fits_of, KeepsRow, weighed, row_becomes, row_quiet}
+use Rattle.brc_model.proofs.RowsAfterStep.{Doing, head_fits_of, KeepsRow, weighed, row_becomes, row_stays}
 use Rattle.brc_model.proofs.RowsAfterOwn.{own, one_own, written_here, lives_so}
 use Rattle.brc_model.proofs.RowsAfterDeciders.{none_decides}
 
@@ -85,7 +85,7 @@ pub row_after_handed_swap : {p : Module} {n : ℕ} {m : Machine} {t : ℕ} {a : 
 row_after_handed_swap {m = m} {y = y} s =
     elim (eqb_tells (m.memory (Local y)) 0) [
       | inl none ↦
-          row_quiet {next = []} {x = y} s (head_fits_of s).0 (record {
+          row_stays {next = []} {x = y} s (head_fits_of s).0 (record {
             follows = rw none.0 refl;
             lives = refl;
             local = none.1 ∙ sym (written_here m.memory (Local y) 0 (own y));
@@ -105,7 +105,7 @@ row_after_handed_swap {m = m} {y = y} s =
 pub row_after_merge_load : {p : Module} {n : ℕ} {m : Machine} {t : ℕ} {a : Actor} {y c : ℕ} {rest : List Duty} → Doing p n m t a (MergeLoad y c) rest → KeepsRow m t a (MergeLoad y c) rest y
 row_after_merge_load {m = m} {y = y} {c = c} s =
     let found = m.memory (Shared y) in
-    row_quiet {next = MergeExchange y c found ∷ []} {x = y} s (head_fits_of s).0 (record {
+    row_stays {next = MergeExchange y c found ∷ []} {x = y} s (head_fits_of s).0 (record {
       follows = refl;
       lives = refl;
       local = refl;
@@ -191,7 +191,7 @@ row_after_merge_exchange {m = m} {y = y} {c = c} {w = w} s =
         | inr alive ↦ merge_stays s same.0 same.1 alive.0 alive.1
       ]
       | inr other ↦
-          row_quiet {next = MergeLoad y c ∷ []} {x = y} s (head_fits_of s).0 (record {
+          row_stays {next = MergeLoad y c ∷ []} {x = y} s (head_fits_of s).0 (record {
             follows = rw other.0 refl;
             lives = refl;
             local = refl;

@@ -19,7 +19,7 @@ use Rattle.brc_model.proofs.Bag.{held, one_if, held_has, held-le-references_to, 
 use Rattle.brc_model.proofs.Holds.{nothing, the_root, of_variables, reference_of}
 use Rattle.brc_model.proofs.Rows.{Numbers, InOwned, InSwapped, InMerged, IsLive}
 use Rattle.brc_model.proofs.Rule.{numbers_of, extra, lacks, extra_of, lacks_of, HoldsAt, PlaceFits, IsBacked}
-use Rattle.brc_model.proofs.RowsAfterStep.{Doing, following, KeepsRow, IsQuiet, row_quiet, Lives, row_lives}
+use Rattle.brc_model.proofs.RowsAfterStep.{Doing, following, KeepsRow, RowStays, row_stays, Lives, row_lives}
 use Rattle.brc_model.proofs.RowsAfterElsewhere.{AreApart, IsApart}
 
 pub own : (y : ℕ) → (y == y) ≡ true
@@ -99,7 +99,7 @@ pub record KeepsWords (m after : Machine) (x : ℕ) : Type 0 where
 pub row_apart : {p : Module} {n : ℕ} {m : Machine} {t : ℕ} {a : Actor} {d : Duty} {rest : List Duty} → Doing p n m t a d rest → (x : ℕ) → 0 < x → IsApart x d → AreApart x (following m t a d)
     → ((life : ℕ → Life) (state : Life) → with_life (with_life life (ended_row d) state) (born_row d) Live x ≡ life x) → KeepsWords m (done_by m t a d rest) x → KeepsRow m t a d rest x
 row_apart {m = m} {t = t} {a = a} {d = d} {rest = rest} s x some this next ends words =
-    let q : IsQuiet m t a d rest x (following m t a d) = record {
+    let q : RowStays m t a d rest x (following m t a d) = record {
       follows = refl;
       lives = ends _ _ ∙ next.lives m.life _;
       local = words.local;
@@ -111,4 +111,4 @@ row_apart {m = m} {t = t} {a = a} {d = d} {rest = rest} s x some this next ends 
       merging = next.merging ∙ sym this.merging;
       deciding = next.deciding ∙ sym this.deciding;
     } in
-    row_quiet s some q
+    row_stays s some q

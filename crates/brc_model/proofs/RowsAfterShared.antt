@@ -18,7 +18,7 @@ use Rattle.brc_model.proofs.Holds.{reference_of}
 use Rattle.brc_model.proofs.Rows.{waits}
 use Rattle.brc_model.proofs.RowSteps.{shared_queued, shared_lost, shared_dies, handed_lost, handed_dies}
 use Rattle.brc_model.proofs.Rule.{numbers_of}
-use Rattle.brc_model.proofs.RowsAfterStep.{Doing, head_fits_of, KeepsRow, weighed, row_becomes, row_quiet}
+use Rattle.brc_model.proofs.RowsAfterStep.{Doing, head_fits_of, KeepsRow, weighed, row_becomes, row_stays}
 use Rattle.brc_model.proofs.RowsAfterOwn.{own, one_own, written_here, gives_up, is_lost, lives_so}
 
 -- a load and an exchange weigh the same
@@ -29,7 +29,7 @@ same_waits x y Handed w = refl
 pub row_after_shared_load : {p : Module} {n : ℕ} {m : Machine} {t : ℕ} {a : Actor} {y : ℕ} {r : Reason} {rest : List Duty} → 0 < y → Doing p n m t a (SharedLoad y r) rest → KeepsRow m t a (SharedLoad y r) rest y
 row_after_shared_load {m = m} {y = y} {r = r} some s =
     let found = m.memory (Shared y) in
-    row_quiet {next = SharedExchange y r found ∷ []} {x = y} s some (record {
+    row_stays {next = SharedExchange y r found ∷ []} {x = y} s some (record {
       follows = refl;
       lives = refl;
       local = refl;
@@ -58,7 +58,7 @@ exchange_moves t y Handed w found p e = refl
 row_after_lost_exchange : {p : Module} {n : ℕ} {m : Machine} {t : ℕ} {a : Actor} {y : ℕ} {r : Reason} {w : ℕ} {rest : List Duty} → 0 < y → Doing p n m t a (SharedExchange y r w) rest
     → (m.memory (Shared y) == w) ≡ false → KeepsRow m t a (SharedExchange y r w) rest y
 row_after_lost_exchange {m = m} {t = t} {y = y} {r = r} {w = w} some s other =
-    row_quiet {next = SharedLoad y r ∷ []} {x = y} s some (record {
+    row_stays {next = SharedLoad y r ∷ []} {x = y} s some (record {
       follows = rw other refl;
       lives = refl;
       local = refl;

@@ -60,7 +60,7 @@ row_becomes m t a d rest x next follows life lives k same holds =
 
 -- ---- a step that changes nothing about the row
 
-pub record IsQuiet (m : Machine) (t : ℕ) (a : Actor) (d : Duty) (rest : List Duty) (x : ℕ) (next : List Duty) : Type 0 where
+pub record RowStays (m : Machine) (t : ℕ) (a : Actor) (d : Duty) (rest : List Duty) (x : ℕ) (next : List Duty) : Type 0 where
   pub follows : following m t a d ≡ next
   pub lives : life_by m.life t d next x ≡ m.life x
   pub local : m.memory (Local x) ≡ (done_by m t a d rest).memory (Local x)
@@ -72,8 +72,8 @@ pub record IsQuiet (m : Machine) (t : ℕ) (a : Actor) (d : Duty) (rest : List D
   pub merging : sum_by (merges x) next ≡ merges x d
   pub deciding : sum_by (decides x) next ≡ decides x d
 
-pub row_quiet : {p : Module} {n : ℕ} {m : Machine} {t : ℕ} {a : Actor} {d : Duty} {rest next : List Duty} {x : ℕ} → Doing p n m t a d rest → 0 < x → IsQuiet m t a d rest x next → KeepsRow m t a d rest x
-row_quiet {m = m} {t = t} {a = a} {d = d} {rest = rest} {next = next} {x = x} s some q =
+pub row_stays : {p : Module} {n : ℕ} {m : Machine} {t : ℕ} {a : Actor} {d : Duty} {rest next : List Duty} {x : ℕ} → Doing p n m t a d rest → 0 < x → RowStays m t a d rest x next → KeepsRow m t a d rest x
+row_stays {m = m} {t = t} {a = a} {d = d} {rest = rest} {next = next} {x = x} s some q =
     let w = weighed s next q.follows x in
     row_becomes m t a d rest x next q.follows (m.life x) q.lives (numbers_of m x) (record {
       local = q.local;

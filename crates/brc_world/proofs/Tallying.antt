@@ -10,8 +10,8 @@ use Rattle.std.proofs.lemmas.List.Sums.{sum_by-cons}
 use Rattle.std.proofs.lemmas.Nat.{div_below}
 use Rattle.brc_model.specs.Duties.{block_of}
 use Rattle.brc_model.specs.World.{World, row_count}
-use Rattle.brc_world.specs.declared.tally.Tally.{Tally}
-use Rattle.brc_world.specs.declared.tally.Left.{Left}
+use Rattle.brc_report.specs.declared.tally.Tally.{Tally}
+use Rattle.brc_report.specs.declared.tally.Left.{Left}
 use Rattle.brc_world.specs.Tallies.{still_runs, is_born, is_closed_row, born_below, rows_born, rows_closed, rows_left, left_in, tally_of}
 
 more_rows : (a n : ℕ) → range_with_len a (n + 1) ≡ range_with_len a n ++ (a + n) ∷ []

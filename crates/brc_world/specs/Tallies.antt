@@ -9,8 +9,8 @@ use Rattle.brc_model.specs.Duties.{block_of}
 use Rattle.brc_model.specs.Safety.{has_gone}
 use Rattle.brc_model.specs.Machine.{Actor, first_row}
 use Rattle.brc_model.specs.World.{World, row_count}
-use Rattle.brc_world.specs.declared.tally.Tally.{Tally}
-use Rattle.brc_world.specs.declared.tally.Left.{Left}
+use Rattle.brc_report.specs.declared.tally.Tally.{Tally}
+use Rattle.brc_report.specs.declared.tally.Left.{Left}
 
 -- ---- threads
 

@@ -1,6 +1,6 @@
 ghost use Rattle.std.specs.Prelude.{◌<◌, length};
 
-use crate::tests::{TAKE_AND_DROP, accepted, numbers, step};
+use crate::tests::{TAKE_AND_DROP, accepted, step, told};
 use crate::{NoMemory, World};
 use brc_check::Checked;
 use brc_model::{Call, Choice};
@@ -81,7 +81,8 @@ fn visit(
     if !seen.insert(format!(in alloc; "{world:?}")?)? {
         return Ok(false);
     }
-    let last = is_last(numbers(&world.tally(alloc)?))?;
+    let (numbers, _) = told(alloc, &world)?;
+    let last = is_last(numbers)?;
     paths.push(moves)?;
     Ok(last)
 }

@@ -19,10 +19,11 @@ mod tally;
 mod thread;
 mod world;
 
+pub use brc_report::{Left, Tally};
+pub use brc_schedule::{PlannedCall, Schedule, Steps, read_schedule};
 pub use did::Did;
 pub use laws::runs_follow_machines;
 pub use no_memory::NoMemory;
-pub use tally::{Left, Tally};
 pub use world::World;
 
 #[cfg(test)]

@@ -52,7 +52,7 @@ fn told_after(alloc: Global, lines: &[u8]) -> Result<Told, Fail> {
     };
     let mut world = World::new(alloc, &checked, 2, 4, &[call, call])?;
     run_lines(alloc, &mut world, TWO_WORKERS, lines)?;
-    told(alloc, &world)
+    Ok(told(alloc, &world)?)
 }
 
 #[test]

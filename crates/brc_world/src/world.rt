@@ -14,13 +14,14 @@ use crate::doing::{act, claim};
 use crate::first::first_threads;
 use crate::memory::{Memory, first_memory};
 use crate::no_memory::NoMemory;
-use crate::tally::{Left, Tally, kind_numbered, running_in};
+use crate::tally::{kind_numbered, running_in};
 use crate::thread::Thread;
 use brc_check::Checked;
 use brc_lang::{Module, Sequence};
 use brc_model::{
     Address, Call, Choice, Status, steps_are_within, steps_move, worlds_are_small, worlds_lead_on,
 };
+use brc_report::{Left, Tally};
 use brc_word::{is_closed, kind_number};
 use std::alloc::Global;
 use std::marker::Model;

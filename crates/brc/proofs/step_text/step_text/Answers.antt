@@ -1,7 +1,7 @@
 use Rattle.std.proofs.Common.{ap, subst}
 use Rattle.std.specs.Io.KnownBytes.{Appends}
 use Rattle.brc_lang.specs.Written.{AppendsBeginning}
-use Rattle.brc.specs.Report.{tally_text}
+use Rattle.brc_report.specs.Report.{tally_text}
 use Rattle.brc.proofs.step_text.step_text.Goals as goal
 
 pub returns-in-Ok-clause-stepped : goal.returns-in-Ok-clause-stepped

@@ -2,8 +2,8 @@ use Rattle.std.proofs.Common.{◌++◌, ◌∙◌, ℕ, List, [], Bor, suc, take
 use Rattle.std.specs.List.{flat_map}
 use Rattle.brc_lang.specs.Grammar.{line}
 use Rattle.brc_lang.proofs.Written.{stops_between, flat_map_around}
-use Rattle.brc.specs.Report.{entry}
-use Rattle.brc.proofs.report.write_counts.Goals as goal
+use Rattle.brc_report.specs.Report.{entry}
+use Rattle.brc_report.proofs.report.write_counts.Goals as goal
 
 abbrev count_line : Bor (List ℕ) × ℕ → List ℕ
 count_line c = line (entry c.0.now c.1)

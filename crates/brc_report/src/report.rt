@@ -1,12 +1,14 @@
+//! The bytes of a tally.
+
 ghost use Rattle.std.specs.Prelude.{◌≡◌, OnOk, OnErr};
 ghost use Rattle.std.specs.List.{flat_map};
 ghost use Rattle.std.specs.Io.KnownBytes.{Appends};
 ghost use Rattle.brc_lang.specs.Grammar.{line};
 ghost use Rattle.brc_lang.specs.Written.{AppendsBeginning};
-ghost use Rattle.brc.specs.Report.{entry, kind_word as kind_text, left_text, tally_text};
+ghost use Rattle.brc_report.specs.Report.{entry, kind_word as kind_text, left_text, tally_text};
 
+use crate::tally::{Left, Tally};
 use brc_lang::{Kind, write_bytes, write_number};
-use brc_world::{Left, Tally};
 use std::io;
 use std::io::Write;
 

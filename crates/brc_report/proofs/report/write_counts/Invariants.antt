@@ -3,8 +3,8 @@ use Rattle.std.specs.Prelude.{take}
 use Rattle.std.specs.List.{flat_map}
 use Rattle.std.specs.Io.KnownBytes.{Appends}
 use Rattle.brc_lang.specs.Grammar.{line}
-use Rattle.brc.specs.Report.{entry}
-use Rattle.brc.proofs.report.write_counts.Given as goal
+use Rattle.brc_report.specs.Report.{entry}
+use Rattle.brc_report.proofs.report.write_counts.Given as goal
 
 abbrev pub invariant-loop-label : goal.invariant-loop-label
 invariant-loop-label g l =

@@ -4,8 +4,8 @@ use Rattle.std.specs.List.{flat_map}
 use Rattle.brc_lang.specs.Grammar.{line}
 use Rattle.brc_lang.specs.declared.kind.Kind.{Kind}
 use Rattle.brc_lang.specs.declared.kind.Kind.TheVariants.{None, Num, List as ListKind, File, Sock, Any}
-use Rattle.brc_world.specs.declared.tally.Tally.{Tally}
-use Rattle.brc_world.specs.declared.tally.Left.{Left}
+use Rattle.brc_report.specs.declared.tally.Tally.{Tally}
+use Rattle.brc_report.specs.declared.tally.Left.{Left}
 
 -- a word, or words, and a number behind them
 abbrev pub entry : List ℕ → ℕ → List ℕ

@@ -1,7 +1,7 @@
 use Rattle.std.proofs.Common.{codes, refl}
 use Rattle.brc_lang.proofs.Written.{stops_early, stops_late}
-use Rattle.brc.specs.Report.{entry}
-use Rattle.brc.proofs.report.write_count.Goals as goal
+use Rattle.brc_report.specs.Report.{entry}
+use Rattle.brc_report.proofs.report.write_count.Goals as goal
 
 pub returns-in_err-write_entry-clause-begun : goal.returns-in_err-write_entry-clause-begun
 returns-in_err-write_entry-clause-begun g c = stops_early _ _ _ _ (entry c.args.label.now c.args.count) (codes "\n") refl c.in_err-write_entry.ensures.begun

@@ -1,7 +1,7 @@
 use Rattle.std.proofs.Common.{◌++◌, append_assoc, codes, decimal, refl}
 use Rattle.std.proofs.KnownBytes.{Appends-trans}
 use Rattle.brc_lang.proofs.Written.{stops_early, stops_between, stops_late}
-use Rattle.brc.proofs.report.write_entry.Goals as goal
+use Rattle.brc_report.proofs.report.write_entry.Goals as goal
 
 pub returns-in_err-write_bytes-clause-begun : goal.returns-in_err-write_bytes-clause-begun
 returns-in_err-write_bytes-clause-begun g c =

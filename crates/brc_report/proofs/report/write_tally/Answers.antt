@@ -1,8 +1,8 @@
 use Rattle.std.proofs.Common.{◌++◌, refl, ap, sym}
 use Rattle.std.specs.List.{flat_map}
 use Rattle.brc_lang.proofs.Written.{stops_early, stops_late}
-use Rattle.brc.specs.Report.{counts_text, left_text}
-use Rattle.brc.proofs.report.write_tally.Goals as goal
+use Rattle.brc_report.specs.Report.{counts_text, left_text}
+use Rattle.brc_report.proofs.report.write_tally.Goals as goal
 
 pub returns-in_err-write_counts-clause-begun : goal.returns-in_err-write_counts-clause-begun
 returns-in_err-write_counts-clause-begun g c =

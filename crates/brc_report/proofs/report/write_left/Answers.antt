@@ -1,9 +1,9 @@
 use Rattle.std.proofs.Common.{◌≡◌, ◌++◌, ◌∙◌, ℕ, List, ap, append_assoc, codes, refl, sym}
 use Rattle.std.proofs.KnownBytes.{Appends-trans}
 use Rattle.brc_lang.proofs.Written.{stops_early, stops_between, stops_late}
-use Rattle.brc_world.specs.declared.tally.Left.{Left}
-use Rattle.brc.specs.Report.{entry, kind_word, left_text}
-use Rattle.brc.proofs.report.write_left.Goals as goal
+use Rattle.brc_report.specs.declared.tally.Left.{Left}
+use Rattle.brc_report.specs.Report.{entry, kind_word, left_text}
+use Rattle.brc_report.proofs.report.write_left.Goals as goal
 
 -- the line, with the number and the word as the code has them
 parts : (l : Left) (row : ℕ) (word : List ℕ) → row ≡ l.row → word ≡ kind_word l.kind → left_text l ≡ entry (codes "left") row ++ codes " " ++ word ++ codes "\n"
