@@ -65,7 +65,7 @@ fn numbers(tally: &Tally) -> [u64; 7] {
     ]
 }
 
-/// The numbers of a tally, and what it lists as left, where that is one object.
+/// The numbers of a tally, and the object that it lists as left, if any.
 pub type Told = ([u64; 7], Option<Left>);
 
 /// The root.
@@ -74,7 +74,7 @@ pub const ROOT: Left = Left {
     kind: Kind::List,
 };
 
-/// What the tally of the world tells. What is alive is counted too, so that no object of several is passed over.
+/// What the tally of the world tells.
 pub fn told(alloc: Global, world: &World<'_>) -> Result<Told, NoMemory> {
     let tally = tally(alloc, world)?;
     Ok((numbers(&tally), only(tally.left.as_slice())))
@@ -85,10 +85,15 @@ fn tally(alloc: Global, world: &World<'_>) -> Result<Tally, NoMemory> {
     world.tally(alloc)
 }
 
+/// The one object of the list; none's row, which is never left, stands for several.
 fn only(left: &[Left]) -> Option<Left> {
     match left {
+        [] => None,
         [left] => Some(*left),
-        _ => None,
+        _ => Some(Left {
+            row: 0,
+            kind: Kind::None,
+        }),
     }
 }
 
