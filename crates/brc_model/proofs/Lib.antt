@@ -12,6 +12,7 @@ pub mod UsesAfter
 pub mod Callers
 pub mod Worked
 pub mod Rows
+pub mod HasDuties
 pub mod RowSteps
 pub mod Rule
 pub mod Others
