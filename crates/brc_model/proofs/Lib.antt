@@ -9,6 +9,7 @@ pub mod OwnBirths
 pub mod Nones
 pub mod Quiets
 pub mod UsesAfter
+pub mod KindsAfter
 pub mod Callers
 pub mod Worked
 pub mod Rows

@@ -158,6 +158,7 @@ pub safe_now : (p : Module) (n : ℕ) (m : Machine) → Whole p n m → 0 < n �
 safe_now p n m whole some = record {
   none_bad = λ event. (event_keeps p n m event whole).0;
   agrees = λ x pos. agrees_at p n m x whole.rule pos;
+  kinds = whole.rule.kinds;
   free = λ x pos alive born. is_free_of p n m x whole.rule pos alive born;
   closed_once = whole.rule.once;
   closed_at_end = λ done x. (

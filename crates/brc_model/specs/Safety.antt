@@ -7,6 +7,9 @@ use Rattle.brc_model.specs.declared.thread.Choice.{Choice}
 use Rattle.brc_model.specs.declared.actor.Status.{Status}
 use Rattle.brc_model.specs.declared.actor.Status.TheVariants.{Running, Leaving, Gone}
 use Rattle.brc_model.specs.Plain.{Reference, Plain, ByCell, is_among, references_to}
+use Rattle.brc_word.specs.Words.{kind_part}
+use Rattle.brc_model.specs.Kinds.{kind_number}
+use Rattle.brc_model.specs.declared.address.Address.TheVariants.{KindOf}
 use Rattle.brc_model.specs.Machine.{Actor, Unborn, Live, Machine, first_machine, machine_after}
 use Rattle.brc_model.specs.Agreement.{AgreesAt, IsFreeOf}
 use Rattle.brc_model.specs.Events.{is_bad_event}
@@ -41,6 +44,8 @@ pub record IsSafeNow (m : Machine) : Type 0 where
   pub none_bad : (event : ℕ × Choice) → is_bad_event m event ≡ false
   -- the counts of each row add up to the references held and the decrements that await, and each phase says what it says
   pub agrees : (x : ℕ) → 0 < x → AgreesAt m x
+  -- the kind word of what was born says its kind
+  pub kinds : (x : ℕ) → m.life x ≢ Unborn → kind_part (m.memory (KindOf x)) ≡ kind_number (m.plain.kinds x)
   -- what is dying or closed is free
   pub free : (x : ℕ) → 0 < x → m.life x ≢ Live → m.life x ≢ Unborn → IsFreeOf m x
   pub closed_once : AllPairs (λ x y. x ≢ y) m.plain.closed
