@@ -1,6 +1,6 @@
 -- The rule holds of the first machine.
 use Rattle.std.proofs.Common.{◌≡◌, ◌≢◌, ℕ, zero, suc, ◌+◌, ◌<◌, ◌≤◌, Bool, true, false, cond, List, [], ◌∷◌, inl, length, Option, Some, refl, sym, ap, subst, arith}
-use Rattle.std.specs.Prelude.{slice_get, map, ◌==◌, ◌||◌}
+use Rattle.std.specs.Prelude.{slice_get, count_by, map, ◌==◌, ◌||◌}
 use Rattle.std.proofs.lemmas.Bool.{eqb-true, eq-eqb}
 use Rattle.std.proofs.lemmas.List.{length-map}
 use Rattle.std.proofs.lemmas.List.Sums.{sum_by-cons}
@@ -25,6 +25,7 @@ use Rattle.brc_model.proofs.Holds.{the_root}
 use Rattle.brc_model.proofs.Rows.{waits, carries, merges, decides, agenda_weight, weight, IsDefault, AboveZero, InOwned, RowRule}
 use Rattle.brc_model.proofs.Rule.{numbers_of, HoldsAt, ChainFits, ActorFits, AgendaFits, HandedOnce, dies_by, Rule, UsesFit}
 use Rattle.brc_model.proofs.Blocks.{block_main}
+use Rattle.brc_model.proofs.UsesAfter.{one_at_most}
 use Rattle.brc_word.specs.Words.{kind_part}
 use Rattle.brc_model.specs.Kinds.{kind_number}
 use Rattle.brc_model.specs.Plain.{root_row, is_among}
@@ -191,6 +192,9 @@ first_kinds_said workers zero born = omega arith
 first_kinds_said workers (suc zero) born = omega arith
 first_kinds_said workers (suc (suc x)) born = absurd (born refl)
 
+one_root : (x : ℕ) → count_by (λ y. y == x) (root_row ∷ []) ≤ 1
+one_root x = omega (arith, sum_by-cons (λ (y : ℕ). cond (y == x) 1 0) root_row [], one_at_most (root_row == x))
+
 pub first_rule : (m : Module) (rows : ℕ) (calls : List Call) → IsModule m → IsAcceptable m → AreCalls m calls → 0 < rows → rows ≤ 1024 → Rule m (1 + length calls) (first_machine m rows calls)
 first_rule m rows calls fits accepted are_calls some_rows few_rows = record {
   functions = refl;
@@ -210,6 +214,7 @@ first_rule m rows calls fits accepted are_calls some_rows few_rows = record {
   none_lives = refl;
   born_is = first_born_is;
   born_has = first_born_has;
+  born_once = one_root;
   closed_is = λ x is. absurd (let wrong : false ≡ true = is in cc);
   closed_has = λ x is. absurd (life_not_closed x is);
   once = λ i j d lt within. absurd (omega arith);

@@ -20,7 +20,7 @@ use Rattle.brc_model.proofs.Lives.{cell_found, leaves_others}
 use Rattle.brc_model.proofs.Neutral.{OwnFits, found_by, memory_by}
 use Rattle.brc_model.proofs.RowsAfter.{rows_after}
 use Rattle.brc_model.proofs.ClosedAfter.{closed_is_after, closed_has_after, closed_once_after, none_lives_after, dying_after}
-use Rattle.brc_model.proofs.UsesAfter.{uses_after, no_block_after, born_is_after, born_has_after}
+use Rattle.brc_model.proofs.UsesAfter.{uses_after, no_block_after, born_is_after, born_has_after, born_once_after}
 use Rattle.brc_model.proofs.KindsAfter.{kinds_after}
 use Rattle.brc_model.proofs.Nones.{none_local}
 
@@ -77,6 +77,7 @@ keeps_by p n m t a d rest here alive own marks =
       no_block = λ x past. no_block_after p n m t a d rest here x past;
       born_is = λ x is. born_is_after p n m t a d rest here x is;
       born_has = λ x above is. born_has_after p n m t a d rest here x above is;
+      born_once = λ x. born_once_after p n m t a d rest here x;
       cells_hold = λ x i object. moves_off_cells m.memory m.plain x i object t d (found_by m t a d) (cell_found p n m t a d here.rule) ∙ here.rule.cells_hold x i object;
       none_lives = none_lives_after p n m t a d rest here;
       closed_is = λ x is. closed_is_after p n m t a d rest x here is;

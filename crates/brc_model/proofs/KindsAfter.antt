@@ -1,7 +1,6 @@
 -- What was born is of the kind that its kind word says, after each step too.
 use Rattle.std.proofs.Common.{◌≡◌, ◌≢◌, ℕ, Bool, true, false, cond, List, [], ◌∷◌, None, Some, inl, inr, refl, sym, ap}
-use Rattle.std.proofs.Common.{◌∙◌, subst, arith}
-use Rattle.std.specs.Prelude.{◌==◌, if◌then◌else◌}
+use Rattle.std.proofs.Common.{◌∙◌}
 use Rattle.std.proofs.lemmas.Bool.{ne_eqb, eq-eqb}
 use Rattle.std.proofs.lemmas.Bool.Decides.{eqb_tells}
 use Rattle.brc_lang.specs.declared.module.Module.{Module}
@@ -18,7 +17,7 @@ use Rattle.brc_model.proofs.Written.{written_apart, written_load}
 use Rattle.brc_model.proofs.Blocks.{next_unborn}
 use Rattle.brc_model.proofs.Leaves.{AtDuty, head_of}
 use Rattle.brc_model.proofs.Neutral.{found_by, memory_by}
-use Rattle.brc_model.proofs.UsesAfter.{BearsNone, AllBearNone, moves_none, before_or_now}
+use Rattle.brc_model.proofs.UsesAfter.{AllBearNone, moves_none, before_or_now}
 use Rattle.brc_model.proofs.Lists.{some_is}
 
 -- ---- numbers and kinds
@@ -26,17 +25,21 @@ use Rattle.brc_model.proofs.Lists.{some_is}
 -- a kind word that says a counted kind has that kind's number
 pub counted_number : (n : ℕ) → is_counted_kind (kind_numbered n) ≡ true → n ≡ kind_number (kind_numbered n)
 counted_number n counts =
-    elim (eqb_tells n 2) [
-      | inl two ↦ rw (two.1) refl
-      | inr not_two ↦ elim (eqb_tells n 3) [
-        | inl three ↦ rw (three.1) refl
-        | inr not_three ↦ elim (eqb_tells n 4) [
-          | inl four ↦ rw (four.1) refl
-          | inr not_four ↦ elim (eqb_tells n 5) [
-            | inl five ↦ rw (five.1) refl
-            | inr not_five ↦
-                let none : kind_numbered n ≡ kinds.None = rw (not_two.0, not_three.0, not_four.0, not_five.0) refl in
-                absurd (let wrong : false ≡ true = ap is_counted_kind (sym none) ∙ counts in cc)
+    elim (eqb_tells n 1) [
+      | inl one ↦ rw (one.1) refl
+      | inr not_one ↦ elim (eqb_tells n 2) [
+        | inl two ↦ rw (two.1) refl
+        | inr not_two ↦ elim (eqb_tells n 3) [
+          | inl three ↦ rw (three.1) refl
+          | inr not_three ↦ elim (eqb_tells n 4) [
+            | inl four ↦ rw (four.1) refl
+            | inr not_four ↦ elim (eqb_tells n 5) [
+              | inl five ↦ rw (five.1) refl
+              | inr not_five ↦
+                  let any : kind_numbered n ≡ kinds.Any =
+                  rw (not_one.0, not_two.0, not_three.0, not_four.0, not_five.0) refl in
+                  absurd (let wrong : false ≡ true = ap is_counted_kind (sym any) ∙ counts in cc)
+            ]
           ]
         ]
       ]

@@ -76,5 +76,6 @@ pub mod Immortals
 pub mod Owners
 pub mod ClosedOnce
 pub mod RowLaws
+pub mod Births
 pub mod MarksWatched
 pub mod Trail

@@ -17,7 +17,7 @@ use Rattle.brc_model.specs.Machine.{Actor, Machine}
 use Rattle.brc_model.proofs.Lists.{some_is}
 use Rattle.brc_model.proofs.Bag.{one_if}
 use Rattle.brc_model.proofs.Rows.{waits, carries, merges, agenda_weight, weight, Phased, IsDefault, IsQueued, InOwned, InSwapped, InMerged}
-use Rattle.brc_model.proofs.HasDuties.{Weighs, some_weighs}
+use Rattle.brc_model.proofs.HasDuties.{some_weighs}
 use Rattle.brc_model.proofs.RowSteps.{shared_merged}
 use Rattle.brc_model.proofs.Rule.{numbers_of, FollowsHanded, IsMergeOf, HeadFits, HeadOf, Later, Agenda, AgendaFits, status_word}
 use Rattle.brc_model.proofs.Alive.{agenda_in, first_weighs}

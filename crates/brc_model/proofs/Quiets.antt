@@ -1,6 +1,6 @@
 -- A thread at rest stands elsewhere, and some of its references move: the moves are allowed, and the rule holds afterwards.
-use Rattle.std.proofs.Common.{◌≡◌, ◌≢◌, ℕ, ◌<◌, Bool, true, false, List, [], inl, inr, Some, refl, sym, ap, ◌∙◌, subst, arith}
-use Rattle.std.specs.Prelude.{◌==◌, ◌&&◌, slice_get, slice_set, AllPairs}
+use Rattle.std.proofs.Common.{◌≡◌, ◌≢◌, ℕ, ◌<◌, Bool, true, false, List, [], inl, inr, Some, refl, sym, ap, ◌∙◌, subst, arith, ◌≤◌}
+use Rattle.std.specs.Prelude.{count_by, ◌==◌, ◌&&◌, slice_get, slice_set, AllPairs}
 use Rattle.std.proofs.lemmas.Bool.{ne_eqb, false≢true}
 use Rattle.std.proofs.lemmas.Bool.Decides.{eqb_tells}
 use Rattle.std.proofs.lemmas.List.{length-set}
@@ -168,6 +168,7 @@ quiet_rule p n m t a moves place rest taken =
       none_lives = rest.rule.none_lives;
       born_is = λ x is. rest.rule.born_is x (sym (ap (is_among x) born) ∙ is);
       born_has = λ x above is. ap (is_among x) born ∙ rest.rule.born_has x above is;
+      born_once = subst (λ (l : List ℕ). (x : ℕ) → count_by (λ y. y == x) l ≤ 1) (sym born) rest.rule.born_once;
       closed_is = λ x is. rest.rule.closed_is x (sym (ap (is_among x) closed) ∙ is);
       closed_has = λ x is. ap (is_among x) closed ∙ rest.rule.closed_has x is;
       once = subst (λ (l : List ℕ). AllPairs (λ x y. x ≢ y) l) (sym closed) rest.rule.once;

@@ -290,6 +290,7 @@ pub record Rule (p : Module) (n : ℕ) (m : Machine) : Type 0 where
   pub none_lives : m.life 0 ≡ Live
   pub born_is : (x : ℕ) → is_among x m.plain.born ≡ true → (0 < x) × (m.life x ≢ Unborn)
   pub born_has : (x : ℕ) → 0 < x → m.life x ≢ Unborn → is_among x m.plain.born ≡ true
+  pub born_once : (x : ℕ) → count_by (λ y. y == x) m.plain.born ≤ 1
   pub closed_is : (x : ℕ) → is_among x m.plain.closed ≡ true → m.life x ≡ Closed
   pub closed_has : (x : ℕ) → m.life x ≡ Closed → is_among x m.plain.closed ≡ true
   pub once : AllPairs (λ x y. x ≢ y) m.plain.closed

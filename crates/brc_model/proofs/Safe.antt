@@ -148,7 +148,7 @@ born_closed p n m x (Dying t) rule done pos none born is = absurd (none_dying p 
 born_closed p n m x Closed rule done pos none born is = is
 
 -- what is closed was born, and is counted
-closed_born : (p : Module) (n : ℕ) (m : Machine) (x : ℕ) → Rule p n m → m.life x ≡ Closed → (0 < x) × (m.life x ≢ Unborn)
+pub closed_born : (p : Module) (n : ℕ) (m : Machine) (x : ℕ) → Rule p n m → m.life x ≡ Closed → (0 < x) × (m.life x ≢ Unborn)
 closed_born p n m zero rule closed = absurd (let wrong : Live ≡ Closed = sym rule.none_lives ∙ closed in cc)
 closed_born p n m (suc x) rule closed = (omega arith, λ e. let wrong : Closed ≡ Unborn = sym closed ∙ e in cc)
 

@@ -137,6 +137,7 @@ sits_rule p n m t a place agenda rest sits = record {
   none_lives = rest.rule.none_lives;
   born_is = rest.rule.born_is;
   born_has = rest.rule.born_has;
+  born_once = rest.rule.born_once;
   closed_is = rest.rule.closed_is;
   closed_has = rest.rule.closed_has;
   once = rest.rule.once;

@@ -1,6 +1,8 @@
 -- Which rows are born after a step, and which are used.
 use Rattle.std.proofs.Common.{◌≡◌, ◌≢◌, ℕ, ◌+◌, ◌<◌, ◌≤◌, Bool, true, false, cond, List, [], ◌∷◌, ◌++◌, ◌⊎◌, inl, inr, None, Some, refl, sym, ap, ◌∙◌, subst, arith, zero, suc}
-use Rattle.std.specs.Prelude.{◌==◌, slice_get, slice_set}
+use Rattle.std.specs.Prelude.{◌==◌, ◌||◌, slice_get, slice_set, count_by}
+use Rattle.std.proofs.lemmas.List.Sums.{sum_by-cons, sum_by-append}
+use Rattle.brc_model.proofs.Bag.{one_if}
 use Rattle.std.proofs.lemmas.Bool.{eq-eqb, cases_lt}
 use Rattle.std.proofs.lemmas.Bool.Decides.{eqb_tells}
 use Rattle.std.proofs.lemmas.List.Folds.{list_any-append}
@@ -17,8 +19,8 @@ use Rattle.brc_model.specs.declared.address.Address.{Address}
 use Rattle.brc_model.specs.Duties.{block_of, address_of}
 use Rattle.brc_model.specs.Machine.{Actor, Unborn, Live, Dying, Closed, Machine, first_row, used_by, hand_on, gain, lose, moves_by, born_row, actor_by, done_by, take_out}
 use Rattle.brc_model.proofs.Lists.{some_is, slice_get-set_same, slice_get-set_other}
-use Rattle.brc_model.proofs.Rule.{IsNext, UsesFit}
-use Rattle.brc_model.proofs.Blocks.{next_above, next_block}
+use Rattle.brc_model.proofs.Rule.{IsNext, UsesFit, Rule}
+use Rattle.brc_model.proofs.Blocks.{next_above, next_block, next_unborn}
 use Rattle.brc_model.proofs.Leaves.{AtDuty, head_of}
 use Rattle.brc_model.proofs.Neutral.{found_by, uses_same}
 use Rattle.brc_model.proofs.Closing.{GoesOn, BeginsToDie, IsClosed, IsBorn, life_step}
@@ -231,4 +233,55 @@ born_has_after p n m t a d rest here x above born =
             | inl was ↦ among_more x m.plain.born (y ∷ []) (here.rule.born_has x above was)
             | inr this ↦ subst (λ (z : ℕ). is_among x (m.plain.born ++ z ∷ []) ≡ true) (some_is x y (sym this ∙ bears)) (among_last x m.plain.born)
           ])
+    ]
+
+-- ---- nothing is born twice
+
+none_counted : (x : ℕ) (l : List ℕ) → is_among x l ≡ false → count_by (λ y. y == x) l ≡ 0
+none_counted x [] none = refl
+none_counted x (y ∷ ys) none =
+    elim (y == x) as (λ b. (y == x) ≡ b → (b || is_among x ys) ≡ false → count_by (λ z. z == x) (y ∷ ys) ≡ 0) [
+      | true ↦ λ e wrong. absurd cc
+      | false ↦ λ e later.
+          let apart : one_if (y == x) ≡ 0 = ap one_if e in
+          omega (arith, sum_by-cons (λ (z : ℕ). cond (z == x) 1 0) y ys, apart, none_counted x ys later)
+    ] refl none
+
+not_listed : (p : Module) (n : ℕ) (m : Machine) (x : ℕ) → Rule p n m → m.life x ≡ Unborn → is_among x m.plain.born ≡ false
+not_listed p n m x rule unborn =
+    elim (is_among x m.plain.born) as (λ b. is_among x m.plain.born ≡ b → b ≡ false) [
+      | true ↦ λ e. absurd ((rule.born_is x e).1 unborn)
+      | false ↦ λ e. refl
+    ] refl
+
+pub one_at_most : (b : Bool) → one_if b ≤ 1
+one_at_most true = omega arith
+one_at_most false = omega arith
+
+-- one more, that isn't in the list
+one_more : (x y : ℕ) (l : List ℕ) → count_by (λ z. z == x) l ≤ 1 → is_among y l ≡ false
+    → count_by (λ z. z == x) (l ++ y ∷ []) ≤ 1
+one_more x y l once none =
+    let parts : count_by (λ z. z == x) (l ++ y ∷ []) ≡ count_by (λ z. z == x) l + count_by (λ z. z == x) (y ∷ []) =
+    sum_by-append (λ (z : ℕ). cond (z == x) 1 0) l (y ∷ []) in
+    let last : count_by (λ z. z == x) (y ∷ []) ≡ one_if (y == x) = omega (arith, sum_by-cons (λ (z : ℕ). cond (z == x) 1 0) y []) in
+    elim (eqb_tells y x) [
+      | inl same ↦
+          let zero_before : count_by (λ z. z == x) l ≡ 0 = none_counted x l (ap (λ (z : ℕ). is_among z l) (sym same.1) ∙ none) in
+          omega (arith, parts, zero_before, last, one_at_most (y == x))
+      | inr apart ↦
+          let other : one_if (y == x) ≡ 0 = ap one_if apart.0 in
+          omega (arith, parts, once, last, other)
+    ]
+
+pub born_once_after : (p : Module) (n : ℕ) (m : Machine) (t : ℕ) (a : Actor) (d : Duty) (rest : List Duty)
+    → AtDuty p n m t a d rest → (x : ℕ) → count_by (λ y. y == x) (done_by m t a d rest).plain.born ≤ 1
+born_once_after p n m t a d rest here x =
+    let Q : List ℕ → Type 0 = λ l. count_by (λ y. y == x) l ≤ 1 in
+    elim (born_step m t d (m.memory (address_of m.rows t a.head d))) [
+      | SameBorn none same ↦ subst Q (sym same) (here.rule.born_once x)
+      | OneBorn y bears more ↦
+          let next = (born_next p n m t a d rest y here bears).0 in
+          let unborn = next_unborn p n m t a y here.rule here.found next in
+          subst Q (sym more) (one_more x y m.plain.born (here.rule.born_once x) (not_listed p n m y here.rule unborn))
     ]

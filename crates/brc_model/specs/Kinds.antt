@@ -4,7 +4,7 @@ use Rattle.brc_word.specs.Words.{kind_part}
 use Rattle.brc_lang.specs.declared.kind.Kind.{Kind}
 use Rattle.brc_lang.specs.declared.kind.Kind.TheVariants as kinds
 
--- 0 until a birth begins
+-- a word that no birth has stored has the number 0
 abbrev pub kind_number : Kind → ℕ
 kind_number kinds.Any = 0
 kind_number kinds.None = 1
@@ -15,11 +15,12 @@ kind_number kinds.Sock = 5
 
 abbrev pub kind_numbered : ℕ → Kind
 kind_numbered n =
-    if n == 2 then kinds.Num
+    if n == 1 then kinds.None
+    else if n == 2 then kinds.Num
     else if n == 3 then kinds.List
     else if n == 4 then kinds.File
     else if n == 5 then kinds.Sock
-    else kinds.None
+    else kinds.Any
 
 -- what a kind word says that the object is
 abbrev pub kind_of_word : ℕ → Kind

@@ -12,6 +12,7 @@ use Rattle.brc_model.specs.declared.actor.Status.TheVariants.{Running}
 use Rattle.brc_model.specs.declared.address.Address.TheVariants.{Local, Shared, Gate, KindOf, Mark, Cell, Slot, Resource}
 use Rattle.brc_model.specs.Duties.{block_of}
 use Rattle.brc_model.specs.Machine.{Actor, Unborn, Machine, first_row, next_machine, first_machine, machine_after}
+use Rattle.brc_model.specs.World.{world_of, row_count}
 
 -- ---- what is promised of a module
 
@@ -62,7 +63,30 @@ pub record StaysAt (m next : Machine) (x : ℕ) : Type 0 where
 abbrev pub ImmortalsStay : Machine → ℕ × Choice → Type 0
 ImmortalsStay m event = (x : ℕ) → is_immortal_word (m.memory (Local x)) ≡ true → StaysAt m (next_machine m event) x
 
--- ---- what holds of each machine
+-- ---- what holds of each machine: what was born
+
+-- no object is born twice
+abbrev pub BornOnce : Machine → Type 0
+BornOnce m = (x : ℕ) → count_by (λ y. y == x) m.plain.born ≤ 1
+
+-- the born objects are the rows that aren't unborn, but for none
+abbrev pub BornListed : Machine → Type 0
+BornListed m = (x : ℕ) → (is_among x m.plain.born ≡ true) ↔ ((0 < x) × (m.life x ≢ Unborn))
+
+-- a row that is born is one of those that there are
+abbrev pub BornAreThere : Machine → Type 0
+BornAreThere m = (x : ℕ) → m.life x ≢ Unborn → x < row_count (world_of m)
+
+-- each row that its block's thread has used is born
+abbrev pub UsedAreBorn : Machine → Type 0
+UsedAreBorn m = (x : ℕ) (a : Actor) → slice_get m.actors (block_of m.rows x) ≡ Some a
+    → x < first_row m.rows (block_of m.rows x) + a.used → m.life x ≢ Unborn
+
+-- ---- and what was closed
+
+-- what was closed was born
+abbrev pub ClosedWereBorn : Machine → Type 0
+ClosedWereBorn m = (x : ℕ) → is_among x m.plain.closed ≡ true → is_among x m.plain.born ≡ true
 
 -- no row has been finalised twice
 abbrev pub ClosedOnce : Machine → Type 0

@@ -3,7 +3,7 @@
 ghost use Rattle.brc_lang.specs.declared.module.Module.{Module};
 ghost use Rattle.brc_lang.specs.Grammar.{IsModule};
 ghost use Rattle.brc_model.specs.Walks.{IsAcceptable};
-ghost use Rattle.brc_model.specs.Progress.{Always, AtEachEvent, StatesRise, OnlyOwnersCount, OwnersStay, ClosedStays, ClosesAnew, ImmortalsStay, ClosedOnce, GatesTell, BornAreUsed};
+ghost use Rattle.brc_model.specs.Progress.{Always, AtEachEvent, StatesRise, OnlyOwnersCount, OwnersStay, ClosedStays, ClosesAnew, ImmortalsStay, ClosedOnce, GatesTell, BornAreUsed, BornOnce, BornListed, BornAreThere, UsedAreBorn, ClosedWereBorn};
 ghost use Rattle.brc_model.specs.Watched.{MarksWatched};
 
 /// A row's state never falls: from default by queued to merged, and never back.
@@ -49,6 +49,31 @@ pub fn gates_tell_what_is_closed()
 /// Each row that is born is among the used rows of its thread's block.
 pub fn born_rows_are_used()
     ensures { (m : Module) → IsModule m → IsAcceptable m → Always BornAreUsed m }
+{}
+
+/// Each row that its block's thread has used is born.
+pub fn used_rows_are_born()
+    ensures { (m : Module) → IsModule m → IsAcceptable m → Always UsedAreBorn m }
+{}
+
+/// No object is born twice.
+pub fn an_object_is_born_once()
+    ensures { (m : Module) → IsModule m → IsAcceptable m → Always BornOnce m }
+{}
+
+/// The list of the born objects has just the rows that aren't unborn, but for none.
+pub fn born_rows_are_listed()
+    ensures { (m : Module) → IsModule m → IsAcceptable m → Always BornListed m }
+{}
+
+/// A row that is born is one of those that there are.
+pub fn born_rows_are_there()
+    ensures { (m : Module) → IsModule m → IsAcceptable m → Always BornAreThere m }
+{}
+
+/// What was closed was born.
+pub fn closed_rows_were_born()
+    ensures { (m : Module) → IsModule m → IsAcceptable m → Always ClosedWereBorn m }
 {}
 
 /// Each mark that is set is watched: by its block's running thread, by that thread's exit, or by a thread that will look.

@@ -1,0 +1,5 @@
+use Rattle.brc_model.proofs.Births as births
+use Rattle.brc_model.proofs.row_laws.used_rows_are_born.Goals as goal
+
+pub returns : goal.returns
+returns c = births.used_are_born
