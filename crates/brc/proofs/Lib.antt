@@ -1,3 +1,4 @@
 mod Accepting
 mod Calling
+mod Machines
 mod Turning

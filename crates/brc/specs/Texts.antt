@@ -6,6 +6,7 @@ use Rattle.brc_lang.specs.Grammar as modules
 use Rattle.brc_lang.specs.Fault as module_faults
 use Rattle.brc_lang.specs.Written.{AppendsBeginning}
 use Rattle.brc_model.specs.Walks.{IsAcceptable}
+use Rattle.brc_model.specs.Machine.{Machine, first_machine, machine_after}
 use Rattle.brc_model.specs.World.{World, first_world}
 use Rattle.brc_check.specs.Refusal.{IsRefusedFor}
 use Rattle.brc_schedule.specs.declared.schedule.Schedule.{Schedule}
@@ -14,6 +15,7 @@ use Rattle.brc_schedule.specs.Text as schedules
 use Rattle.brc_schedule.specs.Fault as schedule_faults
 use Rattle.brc_world.specs.Runs.{world_after, events_of}
 use Rattle.brc_world.specs.Tallies.{tally_of}
+use Rattle.brc_world.specs.MachineTallies.{machine_tally}
 use Rattle.brc.specs.declared.step_fault.StepFault.{StepFault}
 use Rattle.brc.specs.declared.step_fault.StepFault.TheVariants.{Text, Plan, Refused, NoFunction, NoMemory, Output}
 use Rattle.brc.specs.Calls.{calls_of, AreKnown, IsFirstUnknown}
@@ -32,6 +34,10 @@ pub record IsReady (module_text schedule_text : List ℕ) (m : Module) (s : Sche
 abbrev pub last_world : Module → Schedule → World
 last_world m s = world_after (first_world m s.rows (calls_of m s.calls)) (events_of s.steps)
 
+-- and the machine
+abbrev pub last_machine : Module → Schedule → Machine
+last_machine m s = machine_after (first_machine m s.rows (calls_of m s.calls)) (events_of s.steps)
+
 abbrev pub report : Module → Schedule → List ℕ
 report m s = tally_text (tally_of (last_world m s))
 
@@ -48,6 +54,8 @@ pub record StepsTo (module_text schedule_text : List ℕ) (old new : Option (Lis
   pub s : Schedule
   pub ready : IsReady module_text schedule_text m s
   pub reported : Appends old new (report m s)
+  -- and says what was born, closed and left in the machine that the steps lead to
+  pub machine : tally_of (last_world m s) ≡ machine_tally (last_machine m s)
 
 -- a beginning of the report is what was written
 pub record StepsTowards (module_text schedule_text : List ℕ) (old new : Option (List ℕ)) : Type 0 where

@@ -15,7 +15,7 @@ use brc_check::Checked;
 use brc_model::Call;
 use brc_report::{Tally, write_tally};
 use brc_schedule::Schedule;
-use brc_world::{NoMemory, World};
+use brc_world::{NoMemory, World, runs_follow_machines, tallies_follow_machines};
 use std::alloc::Global;
 use std::io::Write;
 
@@ -31,6 +31,8 @@ pub fn step_text<W: Write>(
     ensures unwritten { IfErr result (λ e. e ≢ Output → W.contents out.new ≡ W.contents out.old) }
     ensures begun { IsErrOf result Output → StepsTowards module.now schedule.now (W.contents out.old) (W.contents out.new) }
 {
+    runs_follow_machines();
+    tallies_follow_machines();
     let tally = tally_of_texts(alloc, module, schedule)?;
     match write_tally(&tally, out) {
         Ok(()) => Ok(()),

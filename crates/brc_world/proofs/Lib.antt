@@ -5,4 +5,5 @@ pub mod Stepping
 pub mod Outcomes
 pub mod Answering
 pub mod Tallying
+pub mod MachineTallying
 pub mod Running

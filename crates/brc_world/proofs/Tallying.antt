@@ -33,7 +33,7 @@ pub unborn_here : (w : World) (row : ℕ) → 1 ≤ row → is_born w row ≡ fa
 unborn_here w row low unborn = born_more w row low ∙ ap (λ (b : Bool). born_below w (row - 1) ++ cond b (row ∷ []) []) unborn ∙ append-nil (born_below w (row - 1))
 
 -- what passes a test and what doesn't are all
-parts : (p : ℕ → Bool) (xs : List ℕ) → length (filter p xs) + length (filter (λ x. not (p x)) xs) ≡ length xs
+pub parts : (p : ℕ → Bool) (xs : List ℕ) → length (filter p xs) + length (filter (λ x. not (p x)) xs) ≡ length xs
 parts p [] = refl
 parts p (x ∷ xs) = elim (cases_Bool (p x)) [
   | inl e ↦ rw e (omega (arith, parts p xs))

@@ -3,4 +3,5 @@ pub mod Actors
 pub mod Worlds
 pub mod Answers
 pub mod Tallies
+pub mod MachineTallies
 pub mod Runs

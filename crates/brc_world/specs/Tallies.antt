@@ -1,10 +1,9 @@
 -- The counts of a world, and what stands in it unclosed.
-use Rattle.std.specs.Prelude.{ℕ, ◌+◌, ◌-◌, Bool, ◌==◌, not, nat_lt, if◌then◌else◌, List, length, map, filter, count_by, Option, None, Some, slice_get}
+use Rattle.std.specs.Prelude.{ℕ, ◌+◌, ◌-◌, Bool, ◌==◌, not, nat_lt, List, length, map, filter, count_by, Option, None, Some, slice_get}
 use Rattle.std.specs.List.{range_with_len}
 use Rattle.brc_word.specs.Words.{closed_word, kind_part}
-use Rattle.brc_lang.specs.declared.kind.Kind.{Kind}
-use Rattle.brc_lang.specs.declared.kind.Kind.TheVariants as kinds
 use Rattle.brc_model.specs.declared.address.Address.TheVariants.{Gate, KindOf}
+use Rattle.brc_model.specs.Kinds.{kind_numbered}
 use Rattle.brc_model.specs.Duties.{block_of}
 use Rattle.brc_model.specs.Safety.{has_gone}
 use Rattle.brc_model.specs.Machine.{Actor, first_row}
@@ -43,16 +42,6 @@ rows_closed w = filter (is_closed_row w) (rows_born w)
 -- by rising row
 abbrev pub rows_left : World → List ℕ
 rows_left w = filter (λ row. not (is_closed_row w row)) (rows_born w)
-
--- ---- kinds
-
-abbrev pub kind_numbered : ℕ → Kind
-kind_numbered n =
-    if n == 2 then kinds.Num
-    else if n == 3 then kinds.List
-    else if n == 4 then kinds.File
-    else if n == 5 then kinds.Sock
-    else kinds.None
 
 abbrev pub left_in : World → ℕ → Left
 left_in w row = record { row = row; kind = kind_numbered (kind_part (w.memory (KindOf row))) }

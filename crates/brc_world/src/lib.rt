@@ -22,7 +22,7 @@ mod world;
 pub use brc_report::{Left, Tally};
 pub use brc_schedule::{PlannedCall, Schedule, Steps, read_schedule};
 pub use did::Did;
-pub use laws::runs_follow_machines;
+pub use laws::{runs_follow_machines, tallies_follow_machines};
 pub use no_memory::NoMemory;
 pub use world::World;
 

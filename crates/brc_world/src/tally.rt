@@ -2,7 +2,8 @@
 
 ghost use Rattle.std.specs.Prelude.{◌≡◌, count_by};
 ghost use Rattle.brc_world.specs.Actors.{actor_of};
-ghost use Rattle.brc_world.specs.Tallies.{still_runs, kind_numbered};
+ghost use Rattle.brc_model.specs.Kinds.{kind_numbered};
+ghost use Rattle.brc_world.specs.Tallies.{still_runs};
 
 use crate::thread::Thread;
 use brc_lang::Kind;
@@ -22,7 +23,9 @@ pub fn running_in(threads: &[Thread]) -> usize
 pub fn kind_numbered(number: u32) -> Kind
     ensures { result ≡ kind_numbered number }
 {
-    if number == 2 {
+    if number == 1 {
+        Kind::None
+    } else if number == 2 {
         Kind::Num
     } else if number == 3 {
         Kind::List
@@ -31,6 +34,6 @@ pub fn kind_numbered(number: u32) -> Kind
     } else if number == 5 {
         Kind::Sock
     } else {
-        Kind::None
+        Kind::Any
     }
 }

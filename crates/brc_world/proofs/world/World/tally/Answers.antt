@@ -1,7 +1,7 @@
-use Rattle.std.proofs.Common.{refl, sym, ◌∙◌, arith}
+use Rattle.std.proofs.Common.{refl, sym, ap, ◌∙◌, arith}
 use Rattle.std.proofs.lemmas.Grind.{common_steps}
 use Rattle.brc_world.specs.Worlds.{seen}
-use Rattle.brc_world.specs.Tallies.{still_runs}
+use Rattle.brc_world.specs.Tallies.{still_runs, tally_of}
 use Rattle.brc_world.specs.Actors.{actor_of}
 use Rattle.brc_world.proofs.Tallying.{born_there, count_over, tally_as}
 use Rattle.brc_world.proofs.world.World.tally.Goals as goal
@@ -14,8 +14,8 @@ overflow_sub-result c =
     let some = c.worlds_are_small.ensures.some_threads _ _ c.self.invariant.reachable in
     grind (arith, common_steps, some)
 
-pub returns : goal.returns
-returns c =
+pub returns-clause-counted : goal.returns-clause-counted
+returns-clause-counted c =
     tally_as (seen c.args.self.now) c.len.result c.running_in.result c.len-2.result c.saturating_sub.result c.len-5.result c.in_ok-left.left c.in_ok-born.born.items
     (rw (sym c.self.view_is) (grind (arith, common_steps)))
     (rw (sym c.self.view_is) (c.running_in.ensures ∙ (rw c.deref-2.ensures.value (count_over still_runs actor_of c.self.inside.threads.items))))
@@ -24,3 +24,7 @@ returns c =
     (rw c.deref.ensures.value at c.in_ok-left.ensures)
     (rw (c.saturating_sub.ensures, c.len-3.ensures, c.len-4.ensures, c.len-2.ensures) refl)
     c.len-5.ensures
+
+pub returns-clause-machine : goal.returns-clause-machine
+returns-clause-machine c = λ p m of is.
+    returns-clause-counted c ∙ ap tally_of (sym is) ∙ c.tallies_follow_machines.ensures p m of

@@ -1,0 +1,313 @@
+-- The tally of a machine's world, which is read off words, is that of its abstract state.
+use Rattle.std.proofs.Common.{◌≡◌, ◌≢◌, ℕ, zero, suc, ◌+◌, ◌-◌, ◌<◌, ◌≤◌, Bool, true, false, cond, List, [], ◌∷◌}
+use Rattle.std.proofs.Common.{length, map, inl, inr, refl, sym, ap, ◌∙◌, subst, arith}
+use Rattle.std.specs.Prelude.{◌==◌, ◌&&◌, ◌||◌, not, slice_get, filter, count_by}
+use Rattle.std.specs.List.{range_with_len}
+use Rattle.std.proofs.lemmas.Bool.{cases_Bool, cases_lt, eq-eqb, eqb-true, lt-ltb, ltb-true}
+use Rattle.std.proofs.lemmas.Bool.Decides.{eqb_tells}
+use Rattle.std.proofs.lemmas.Option.{slice_get_cases}
+use Rattle.std.proofs.lemmas.List.{map-id}
+use Rattle.std.proofs.lemmas.List.Sums.{sum_by-cons, length-filter}
+use Rattle.brc_lang.specs.declared.kind.Kind.{Kind}
+use Rattle.brc_lang.specs.declared.kind.Kind.TheVariants as kinds
+use Rattle.brc_lang.specs.declared.module.Module.{Module}
+use Rattle.brc_word.specs.Words.{closed_word, kind_part}
+use Rattle.brc_model.specs.declared.address.Address.TheVariants.{Gate, KindOf}
+use Rattle.brc_model.specs.Duties.{block_of}
+use Rattle.brc_model.specs.Kinds.{kind_number, kind_numbered}
+use Rattle.brc_model.specs.Plain.{is_among}
+use Rattle.brc_model.specs.Progress.{Always, BornOnce, BornListed, BornAreThere, BornAreUsed, UsedAreBorn, ClosedWereBorn, ClosedOnce, GatesTell}
+use Rattle.brc_model.specs.Machine.{Unborn, Machine}
+use Rattle.brc_model.specs.World.{world_of, row_count, IsReachable}
+use Rattle.brc_world.specs.Tallies.{used_of, is_born, is_closed_row, rows_born, rows_closed, rows_left, left_in, tally_of}
+use Rattle.brc_world.specs.MachineTallies.{IsMachineOf, is_left, objects_left, left_object, machine_tally}
+use Rattle.brc_world.proofs.Tallying.{parts, block_there}
+
+-- ---- tests
+
+-- two tests that hold alike are one
+same_test : (b c : Bool) → (b ≡ true → c ≡ true) → (c ≡ true → b ≡ true) → b ≡ c
+same_test true true f g = refl
+same_test true false f g = sym (f refl)
+same_test false true f g = g refl
+same_test false false f g = refl
+
+second_of : (b c : Bool) → (b && c) ≡ true → c ≡ true
+second_of true c e = e
+second_of false c e = absurd cc
+
+first_of : (b c : Bool) → (b && c) ≡ true → b ≡ true
+first_of true c e = refl
+first_of false c e = absurd cc
+
+both_of : (b c : Bool) → b ≡ true → c ≡ true → (b && c) ≡ true
+both_of true c e f = f
+both_of false c e f = absurd cc
+
+-- ---- picking rows
+
+-- what passes two tests, one after the other, is what passes a third, with what is said of it
+picked : {X : Type 0} (f g : ℕ → X) (p q r : ℕ → Bool) (a n : ℕ)
+    → ((x : ℕ) → a ≤ x → x < a + n → (p x && q x) ≡ r x) → ((x : ℕ) → r x ≡ true → f x ≡ g x)
+    → map f (filter q (filter p (range_with_len a n))) ≡ map g (filter r (range_with_len a n))
+picked f g p q r a zero same says = refl
+picked f g p q r a (suc n) same says =
+    let behind = picked f g p q r (a + 1) n (λ x low high. same x (omega (arith, low)) (omega (arith, high))) says in
+    let here : (p a && q a) ≡ r a = same a (omega arith) (omega arith) in
+    elim (cases_Bool (p a)) [
+      | inl passes ↦ elim (cases_Bool (q a)) [
+        | inl both ↦
+            let third : r a ≡ true = sym here ∙ both_of (p a) (q a) passes both in
+            rw (passes, both, third, says a third, behind) refl
+        | inr one ↦
+            let third : r a ≡ false = sym here ∙ (rw (passes, one) refl) in
+            rw (passes, one, third, behind) refl
+      ]
+      | inr fails ↦
+          let third : r a ≡ false = sym here ∙ (rw fails refl) in
+          rw (fails, third, behind) refl
+    ]
+
+-- by one test
+picked_once : (p r : ℕ → Bool) (a n : ℕ) → ((x : ℕ) → a ≤ x → x < a + n → p x ≡ r x)
+    → filter p (range_with_len a n) ≡ filter r (range_with_len a n)
+picked_once p r a zero same = refl
+picked_once p r a (suc n) same =
+    let behind = picked_once p r (a + 1) n (λ x low high. same x (omega (arith, low)) (omega (arith, high))) in
+    rw (same a (omega arith) (omega arith), behind) refl
+
+-- ---- a list without repetitions is as long as the rows that are among it
+
+abbrev times : List ℕ → ℕ → ℕ
+times xs row = count_by (λ y. y == row) xs
+
+abbrev one_if : Bool → ℕ
+one_if b = cond b 1 0
+
+times-cons : (y : ℕ) (ys : List ℕ) (row : ℕ) → times (y ∷ ys) row ≡ one_if (y == row) + times ys row
+times-cons y ys row = sum_by-cons (λ (z : ℕ). cond (z == row) 1 0) y ys
+
+-- how often it is in the list, for each of the rows
+abbrev times_in : List ℕ → ℕ → ℕ → ℕ
+times_in xs a zero = 0
+times_in xs a (suc n) = times xs a + times_in xs (a + 1) n
+
+abbrev ones_in : ℕ → ℕ → ℕ → ℕ
+ones_in y a zero = 0
+ones_in y a (suc n) = one_if (y == a) + ones_in y (a + 1) n
+
+none_below : (y a n : ℕ) → y < a → ones_in y a n ≡ 0
+none_below y a zero low = refl
+none_below y a (suc n) low =
+    elim (eqb_tells y a) [
+      | inl same ↦ absurd (omega (arith, low, same.1))
+      | inr other ↦
+          let none : one_if (y == a) ≡ 0 = ap one_if other.0 in
+          omega (arith, none, none_below y (a + 1) n (omega (arith, low)))
+    ]
+
+one_within : (y a n : ℕ) → a ≤ y → y < a + n → ones_in y a n ≡ 1
+one_within y a zero low high = absurd (omega (arith, low, high))
+one_within y a (suc n) low high =
+    elim (eqb_tells y a) [
+      | inl same ↦
+          let one : one_if (y == a) ≡ 1 = ap one_if same.0 in
+          omega (arith, one, none_below y (a + 1) n (omega (arith, same.1)))
+      | inr other ↦
+          let none : one_if (y == a) ≡ 0 = ap one_if other.0 in
+          let above : a < y = elim (cases_lt a y) [ inl less ↦ less | inr not_less ↦ absurd (other.1 (omega (arith, low, not_less))) ] in
+          omega (arith, none, one_within y (a + 1) n (omega (arith, above)) (omega (arith, high)))
+    ]
+
+times_none : (a n : ℕ) → times_in [] a n ≡ 0
+times_none a zero = refl
+times_none a (suc n) = omega (arith, times_none (a + 1) n)
+
+times_more : (y : ℕ) (ys : List ℕ) (a n : ℕ) → times_in (y ∷ ys) a n ≡ ones_in y a n + times_in ys a n
+times_more y ys a zero = refl
+times_more y ys a (suc n) = omega (arith, times-cons y ys a, times_more y ys (a + 1) n)
+
+head_among : (y : ℕ) (ys : List ℕ) → is_among y (y ∷ ys) ≡ true
+head_among y ys = ap (λ (b : Bool). b || is_among y ys) (eq-eqb y y refl)
+
+tail_among : (x y : ℕ) (ys : List ℕ) → is_among x ys ≡ true → is_among x (y ∷ ys) ≡ true
+tail_among x y ys e = elim (y == x) as (λ b. (b || is_among x ys) ≡ true) [ true ↦ refl | false ↦ e ]
+
+-- each of the list is one of the rows
+all_counted : (xs : List ℕ) (a n : ℕ) → ((x : ℕ) → is_among x xs ≡ true → (a ≤ x) × (x < a + n)) → times_in xs a n ≡ length xs
+all_counted [] a n within = times_none a n
+all_counted (y ∷ ys) a n within =
+    let here = within y (head_among y ys) in
+    let behind = all_counted ys a n (λ x is. within x (tail_among x y ys is)) in
+    omega (arith, times_more y ys a n, one_within y a n here.0 here.1, behind)
+
+-- and is counted as often as it is in the list: once
+among_times : (x : ℕ) (xs : List ℕ) → times xs x ≤ 1 → one_if (is_among x xs) ≡ times xs x
+among_times x [] once = refl
+among_times x (y ∷ ys) once =
+    elim (y == x) as (λ b. (y == x) ≡ b → one_if (b || is_among x ys) ≡ times (y ∷ ys) x) [
+      | true ↦ λ e.
+          let one : one_if (y == x) ≡ 1 = ap one_if e in
+          omega (arith, times-cons y ys x, one, once)
+      | false ↦ λ e.
+          let none : one_if (y == x) ≡ 0 = ap one_if e in
+          omega (arith, times-cons y ys x, none, among_times x ys (omega (arith, times-cons y ys x, none, once)))
+    ] refl
+
+count-cons : (p : ℕ → Bool) (x : ℕ) (xs : List ℕ) → count_by p (x ∷ xs) ≡ one_if (p x) + count_by p xs
+count-cons p x xs = sum_by-cons (λ (z : ℕ). cond (p z) 1 0) x xs
+
+counted_in : (xs : List ℕ) (a n : ℕ) → ((x : ℕ) → times xs x ≤ 1)
+    → count_by (λ x. is_among x xs) (range_with_len a n) ≡ times_in xs a n
+counted_in xs a zero once = refl
+counted_in xs a (suc n) once =
+    omega (arith, count-cons (λ x. is_among x xs) a (range_with_len (a + 1) n), among_times a xs (once a), counted_in xs (a + 1) n once)
+
+as_long : (xs : List ℕ) (a n : ℕ) → ((x : ℕ) → times xs x ≤ 1) → ((x : ℕ) → is_among x xs ≡ true → (a ≤ x) × (x < a + n))
+    → length (filter (λ x. is_among x xs) (range_with_len a n)) ≡ length xs
+as_long xs a n once within =
+    length-filter (λ x. is_among x xs) (range_with_len a n) ∙ counted_in xs a n once ∙ all_counted xs a n within
+
+-- ---- what the laws say of a machine
+
+pub record Facts (m : Machine) : Type 0 where
+  pub some_rows : 0 < m.rows
+  pub some_threads : 0 < length m.actors
+  pub used : BornAreUsed m
+  pub born : UsedAreBorn m
+  pub listed : BornListed m
+  pub there : BornAreThere m
+  pub born_once : BornOnce m
+  pub were_born : ClosedWereBorn m
+  pub closed_once : ClosedOnce m
+  pub gates : GatesTell m
+  pub kinds : (x : ℕ) → m.life x ≢ Unborn → kind_part (m.memory (KindOf x)) ≡ kind_number (m.plain.kinds x)
+
+-- what always is, is so of a machine that there is
+pub at_machine : (P : Machine → Type 0) (p : Module) (m : Machine) → IsMachineOf p m → Always P p → P m
+at_machine P p m of always =
+    subst P (sym of.reached) (always of.rows of.calls of.events of.some_rows of.most_rows of.calls_fit)
+
+pub is_reachable : (p : Module) (m : Machine) → IsMachineOf p m → IsReachable p (world_of m)
+is_reachable p m of = record {
+  fits = of.fits;
+  accepted = of.accepted;
+  rows = of.rows;
+  calls = of.calls;
+  events = of.events;
+  some_rows = of.some_rows;
+  most_rows = of.most_rows;
+  calls_fit = of.calls_fit;
+  reached = ap world_of of.reached;
+}
+
+-- all rows but none's
+abbrev others : Machine → ℕ
+others m = row_count (world_of m) - 1
+
+-- ---- what is born
+
+born_is_listed : (m : Machine) (x : ℕ) → Facts m → 0 < x → x < row_count (world_of m)
+    → is_born (world_of m) x ≡ true → is_among x m.plain.born ≡ true
+born_is_listed m x facts above within e =
+    elim (slice_get_cases m.actors (block_of m.rows x)).1 [
+      | inl found ↦
+          let count : used_of (slice_get m.actors (block_of m.rows x)) ≡ found.0.used = ap used_of found.2 in
+          let high = ltb-true _ _ e in
+          (facts.listed x).1 (above, facts.born x found.0 found.2 (omega (arith, high, count)))
+      | inr past ↦
+          let block = block_there m.rows (length m.actors - 1) x facts.some_rows within in
+          absurd (omega (arith, past.0, block, facts.some_threads))
+    ]
+
+listed_is_born : (m : Machine) (x : ℕ) → Facts m → is_among x m.plain.born ≡ true → is_born (world_of m) x ≡ true
+listed_is_born m x facts listed =
+    let used = facts.used x ((facts.listed x).0 listed).1 in
+    let count : used_of (slice_get m.actors (block_of m.rows x)) ≡ used.0.used = ap used_of used.1 in
+    lt-ltb _ _ (omega (arith, used.3, count))
+
+born_same : (m : Machine) → Facts m → (x : ℕ) → 1 ≤ x → x < 1 + others m → is_born (world_of m) x ≡ is_among x m.plain.born
+born_same m facts x above within =
+    same_test (is_born (world_of m) x) (is_among x m.plain.born)
+    (born_is_listed m x facts above (omega (arith, within)))
+    (listed_is_born m x facts)
+
+born_within : (m : Machine) → Facts m → (x : ℕ) → is_among x m.plain.born ≡ true → (1 ≤ x) × (x < 1 + others m)
+born_within m facts x listed =
+    let was = (facts.listed x).0 listed in
+    let there = facts.there x was.1 in
+    (was.0, omega (arith, there))
+
+created : (m : Machine) → Facts m → length (rows_born (world_of m)) ≡ length m.plain.born
+created m facts =
+    ap (λ (l : List ℕ). length l) (picked_once (is_born (world_of m)) (λ x. is_among x m.plain.born) 1 (others m) (born_same m facts))
+    ∙ as_long m.plain.born 1 (others m) facts.born_once (born_within m facts)
+
+-- ---- what is closed
+
+closed_test : (m : Machine) → Facts m → (x : ℕ) → is_closed_row (world_of m) x ≡ is_among x m.plain.closed
+closed_test m facts x =
+    same_test (is_closed_row (world_of m) x) (is_among x m.plain.closed)
+    (λ e. (facts.gates x).0 (eqb-true (m.memory (Gate x)) closed_word e))
+    (λ e. eq-eqb (m.memory (Gate x)) closed_word ((facts.gates x).1 e))
+
+closed_same : (m : Machine) → Facts m → (x : ℕ) → 1 ≤ x → x < 1 + others m
+    → (is_born (world_of m) x && is_closed_row (world_of m) x) ≡ is_among x m.plain.closed
+closed_same m facts x above within =
+    same_test (is_born (world_of m) x && is_closed_row (world_of m) x) (is_among x m.plain.closed)
+    (λ e. sym (closed_test m facts x) ∙ second_of (is_born (world_of m) x) (is_closed_row (world_of m) x) e)
+    (λ e. both_of (is_born (world_of m) x) (is_closed_row (world_of m) x)
+    (listed_is_born m x facts (facts.were_born x e)) (closed_test m facts x ∙ e))
+
+closed : (m : Machine) → Facts m → length (rows_closed (world_of m)) ≡ length m.plain.closed
+closed m facts =
+    let each : ℕ → ℕ = λ x. x in
+    let rows = picked each each (is_born (world_of m)) (is_closed_row (world_of m)) (λ x. is_among x m.plain.closed) 1 (others m)
+    (closed_same m facts) (λ x e. refl) in
+    ap (λ (l : List ℕ). length l) (sym (map-id (rows_closed (world_of m))) ∙ rows ∙ map-id (filter (λ x. is_among x m.plain.closed) (range_with_len 1 (others m))))
+    ∙ as_long m.plain.closed 1 (others m) facts.closed_once (λ x e. born_within m facts x (facts.were_born x e))
+
+alive : (m : Machine) → Facts m → length (rows_left (world_of m)) ≡ length m.plain.born - length m.plain.closed
+alive m facts =
+    omega (arith, parts (is_closed_row (world_of m)) (rows_born (world_of m)), created m facts, closed m facts)
+
+-- ---- what is left
+
+kind_back : (k : Kind) → kind_numbered (kind_number k) ≡ k
+kind_back kinds.Any = refl
+kind_back kinds.None = refl
+kind_back kinds.Num = refl
+kind_back kinds.List = refl
+kind_back kinds.File = refl
+kind_back kinds.Sock = refl
+
+left_same : (m : Machine) → Facts m → (x : ℕ) → 1 ≤ x → x < 1 + others m
+    → (is_born (world_of m) x && not (is_closed_row (world_of m) x)) ≡ is_left m.plain x
+left_same m facts x above within = rw (born_same m facts x above within, closed_test m facts x) refl
+
+left_kind : (m : Machine) → Facts m → (x : ℕ) → is_left m.plain x ≡ true → left_in (world_of m) x ≡ left_object m.plain x
+left_kind m facts x left =
+    let listed = first_of (is_among x m.plain.born) (not (is_among x m.plain.closed)) left in
+    let was = (facts.listed x).0 listed in
+    let kind : kind_numbered (kind_part (m.memory (KindOf x))) ≡ m.plain.kinds x =
+    ap kind_numbered (facts.kinds x was.1) ∙ kind_back (m.plain.kinds x) in
+    λ i. record { row = x; kind = kind i }
+
+left : (m : Machine) → Facts m → map (left_in (world_of m)) (rows_left (world_of m)) ≡ map (left_object m.plain) (objects_left m)
+left m facts =
+    picked (left_in (world_of m)) (left_object m.plain) (is_born (world_of m)) (λ x. not (is_closed_row (world_of m) x))
+    (is_left m.plain) 1 (others m) (left_same m facts) (left_kind m facts)
+
+-- ---- the tally
+
+pub tally_same : (m : Machine) → Facts m → tally_of (world_of m) ≡ machine_tally m
+tally_same m facts = λ i. record {
+  threads = length m.actors - 1;
+  running = (machine_tally m).running;
+  created = created m facts i;
+  closed = closed m facts i;
+  alive = alive m facts i;
+  host_faults = 0;
+  close_faults = 0;
+  left = left m facts i;
+}
