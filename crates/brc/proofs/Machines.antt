@@ -28,8 +28,11 @@ is_machine module_text schedule_text m s ready =
       reached = refl;
     }
 
-pub tally_of_machine : ((m : Machine) (events : List (ℕ × Choice)) → world_of (machine_after m events) ≡ world_after (world_of m) events)
-    → ((p : Module) (m : Machine) → IsMachineOf p m → tally_of (world_of m) ≡ machine_tally m)
+abbrev Follow : Type 0
+Follow =
+    (m : Machine) (events : List (ℕ × Choice)) → world_of (machine_after m events) ≡ world_after (world_of m) events
+
+pub tally_of_machine : Follow → ((p : Module) (m : Machine) → IsMachineOf p m → tally_of (world_of m) ≡ machine_tally m)
     → (module_text schedule_text : List ℕ) (m : Module) (s : Schedule) → IsReady module_text schedule_text m s
     → tally_of (last_world m s) ≡ machine_tally (last_machine m s)
 tally_of_machine follows tallies module_text schedule_text m s ready =

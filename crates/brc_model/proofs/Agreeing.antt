@@ -151,8 +151,10 @@ agrees_at p n m x rule pos =
       merged_free = λ live e. (says.live live).merged_free e;
       merged_counts = λ live e. (says.live live).merged_counts e;
       phase = λ live. (says.live live).phase;
-      default_local = λ live e. default_local p n m x rule ((says.live live).local (λ three. absurd (omega (arith, e, three))));
-      queued_local = λ live e. queued_local p n m x rule ((says.live live).local (λ three. absurd (omega (arith, e, three))));
+      default_local = λ live e.
+          default_local p n m x rule ((says.live live).local (λ three. absurd (omega (arith, e, three))));
+      queued_local = λ live e.
+          queued_local p n m x rule ((says.live live).local (λ three. absurd (omega (arith, e, three))));
     }
 
 free_row : (owner : ℕ) (l : Life) (n : Numbers) → RowRule owner l n → (l ≡ Live → ⊥) → (l ≡ Unborn → ⊥) → IsDead n

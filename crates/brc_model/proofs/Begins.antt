@@ -42,7 +42,8 @@ holds_at_none bag t says holds = record { each = λ k object. omega (arith, hold
 pub data Starts (bag : List Reference) (rows t used : ℕ) : Duty → List Duty → Type 0 where
   Gives : (row : ℕ) (h : Holding) (rest : List Duty) → 0 < references_to row bag → Starts bag rows t used (ReleaseLoad row h) rest
   Takes : (row : ℕ) (h by : Holding) (rest : List Duty) → 0 < held (reference_of t by row) bag → Starts bag rows t used (RetainLoad row h) rest
-  Bears : (h : Holding) (w : ℕ) → used < block_size rows t → cells_of w ≤ 8 → is_counted_kind (kind_of_word w) ≡ true → Starts bag rows t used (BirthKind (next_row rows t used) h w) []
+  Bears : (h : Holding) (w : ℕ) → used < block_size rows t → cells_of w ≤ 8 → is_counted_kind (kind_of_word w) ≡ true
+      → Starts bag rows t used (BirthKind (next_row rows t used) h w) []
 
 -- the duties behind it settle, and leave where the thread is to leave
 pub data Follows (rows t used : ℕ) (place : Place) : List Duty → Type 0 where

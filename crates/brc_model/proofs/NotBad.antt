@@ -193,7 +193,8 @@ finalise_allowed p n m t x rule pos dying =
     one_allowed m.plain (Finalise x) (rw (counted, none, open_still, empty) refl)
 
 -- what is born now wasn't born before
-birth_allowed : (p : Module) (n : ℕ) (m : Machine) (t : ℕ) (a : Actor) (x : ℕ) (h : Holding) (kind : Kind) → Rule p n m → slice_get m.actors t ≡ Some a → IsNext m t a x
+birth_allowed : (p : Module) (n : ℕ) (m : Machine) (t : ℕ) (a : Actor) (x : ℕ) (h : Holding) (kind : Kind)
+    → Rule p n m → slice_get m.actors t ≡ Some a → IsNext m t a x
     → is_counted_kind kind ≡ true → are_allowed m.plain (birth t h x kind) ≡ true
 birth_allowed p n m t a x h kind rule found next counts =
     let above = next_above m t a x next in
@@ -221,7 +222,9 @@ moves_allowed p n m t a (SharedExchange x Own w) rest here =
     if_allowed m.plain _ (lose t x) (λ e. one_allowed m.plain (Lose (reference_of t InHand x)) (given_in_bag p n m t a (SharedExchange x Own w) rest InHand x here (holder_same InHand x) refl))
 moves_allowed p n m t a (SettleCell x i k) rest here = ap (λ (w : ℕ). are_allowed m.plain (take_out t x i w)) (here.rule.cells x i)
 moves_allowed p n m t a (SettleEnd x) rest here = let fits = head_of p n m t a (SettleEnd x) rest here in finalise_allowed p n m t x here.rule fits.0 fits.1
-moves_allowed p n m t a (BirthLocal x h) rest here = let fits = head_of p n m t a (BirthLocal x h) rest here in birth_allowed p n m t a x h (kind_of_word (m.memory (KindOf x))) here.rule here.found fits.0 fits.2
+moves_allowed p n m t a (BirthLocal x h) rest here =
+    let fits = head_of p n m t a (BirthLocal x h) rest here in
+    birth_allowed p n m t a x h (kind_of_word (m.memory (KindOf x))) here.rule here.found fits.0 fits.2
 moves_allowed p n m t a _ rest here = refl
 
 pub duty_not_bad : (p : Module) (n : ℕ) (m : Machine) (t : ℕ) (a : Actor) (d : Duty) (rest : List Duty) → AtDuty p n m t a d rest → is_bad_duty m t a d ≡ false

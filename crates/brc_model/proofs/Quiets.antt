@@ -42,7 +42,8 @@ quiet_born p t [] Stays = refl
 quiet_born p t _ (GainsNone h) = refl
 quiet_born p t _ (HandsOn from to x has) = refl
 
-quiet_kinds : (p : Plain) (t : ℕ) (moves : List Move) → QuietMoves p.references t moves → (moved p moves).kinds ≡ p.kinds
+quiet_kinds : (p : Plain) (t : ℕ) (moves : List Move) → QuietMoves p.references t moves
+    → (moved p moves).kinds ≡ p.kinds
 quiet_kinds p t [] Stays = refl
 quiet_kinds p t _ (GainsNone h) = refl
 quiet_kinds p t _ (HandsOn from to x has) = refl
@@ -172,6 +173,7 @@ quiet_rule p n m t a moves place rest taken =
       closed_is = λ x is. rest.rule.closed_is x (sym (ap (is_among x) closed) ∙ is);
       closed_has = λ x is. ap (is_among x) closed ∙ rest.rule.closed_has x is;
       once = subst (λ (l : List ℕ). AllPairs (λ x y. x ≢ y) l) (sym closed) rest.rule.once;
-      kinds = λ x born. rest.rule.kinds x born ∙ ap (λ (k : ℕ → Kind). kind_number (k x)) (sym (quiet_kinds m.plain t moves quiet));
+      kinds = λ x born.
+          rest.rule.kinds x born ∙ ap (λ (k : ℕ → Kind). kind_number (k x)) (sym (quiet_kinds m.plain t moves quiet));
       none_word = rest.rule.none_word;
     }

@@ -170,7 +170,8 @@ safe_now p n m whole some = record {
         whole.rule.closed_has x (born_closed p n m x (m.life x) whole.rule done was.0 born.1 was.1 refl),
   );
   none_left = λ done. none_left p n m whole.rule done;
-  left_in_lists = λ done. subst (All (IsHeldByOpenList m.plain)) (sym (none_left p n m whole.rule done)) (λ i d within. absurd (omega (arith, within)));
+  left_in_lists = λ done.
+      subst (All (IsHeldByOpenList m.plain)) (sym (none_left p n m whole.rule done)) (λ i d within. absurd (omega (arith, within)));
 }
 
 first_settled : (calls : List Call) (t : ℕ) (a : Actor) → slice_get (main_actor ∷ map worker_actor calls) t ≡ Some a → IsSettled a.head a.agenda

@@ -164,7 +164,8 @@ num_born code bag rows t used left at variables s to value otherwise here room =
     record { each = newref_held bag t s variables to row slot in_slots in_rows free refl here.holds } in
     record {
       placed = (put s to slot, next, held_now);
-      starts = Bears (ByVariable to) (number_word value) (ltb-true used (block_size rows t) room) (number_cells value here.variables.1) (number_counts value here.variables.1);
+      starts = Bears (ByVariable to) (number_word value) (ltb-true used (block_size rows t) room)
+          (number_cells value here.variables.1) (number_counts value here.variables.1);
       follows = Nothing (inside_stays left (at + 1) (slice_set variables to (Some row)));
     }
 

@@ -247,7 +247,8 @@ none_counted x (y ∷ ys) none =
           omega (arith, sum_by-cons (λ (z : ℕ). cond (z == x) 1 0) y ys, apart, none_counted x ys later)
     ] refl none
 
-not_listed : (p : Module) (n : ℕ) (m : Machine) (x : ℕ) → Rule p n m → m.life x ≡ Unborn → is_among x m.plain.born ≡ false
+not_listed : (p : Module) (n : ℕ) (m : Machine) (x : ℕ) → Rule p n m → m.life x ≡ Unborn
+    → is_among x m.plain.born ≡ false
 not_listed p n m x rule unborn =
     elim (is_among x m.plain.born) as (λ b. is_among x m.plain.born ≡ b → b ≡ false) [
       | true ↦ λ e. absurd ((rule.born_is x e).1 unborn)
@@ -264,10 +265,12 @@ one_more : (x y : ℕ) (l : List ℕ) → count_by (λ z. z == x) l ≤ 1 → is
 one_more x y l once none =
     let parts : count_by (λ z. z == x) (l ++ y ∷ []) ≡ count_by (λ z. z == x) l + count_by (λ z. z == x) (y ∷ []) =
     sum_by-append (λ (z : ℕ). cond (z == x) 1 0) l (y ∷ []) in
-    let last : count_by (λ z. z == x) (y ∷ []) ≡ one_if (y == x) = omega (arith, sum_by-cons (λ (z : ℕ). cond (z == x) 1 0) y []) in
+    let last : count_by (λ z. z == x) (y ∷ []) ≡ one_if (y == x) =
+    omega (arith, sum_by-cons (λ (z : ℕ). cond (z == x) 1 0) y []) in
     elim (eqb_tells y x) [
       | inl same ↦
-          let zero_before : count_by (λ z. z == x) l ≡ 0 = none_counted x l (ap (λ (z : ℕ). is_among z l) (sym same.1) ∙ none) in
+          let zero_before : count_by (λ z. z == x) l ≡ 0 =
+          none_counted x l (ap (λ (z : ℕ). is_among z l) (sym same.1) ∙ none) in
           omega (arith, parts, zero_before, last, one_at_most (y == x))
       | inr apart ↦
           let other : one_if (y == x) ≡ 0 = ap one_if apart.0 in

@@ -335,6 +335,11 @@ first_machine m rows calls = record {
   rows = rows;
   memory = first_memory (length calls);
   actors = main_actor ∷ map worker_actor calls;
-  plain = record { references = callers_below (1 + length calls); born = root_row ∷ []; closed = []; kinds = first_kinds };
+  plain = record {
+    references = callers_below (1 + length calls);
+    born = root_row ∷ [];
+    closed = [];
+    kinds = first_kinds;
+  };
   life = first_life;
 }

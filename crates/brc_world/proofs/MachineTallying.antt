@@ -16,10 +16,12 @@ use Rattle.brc_model.specs.declared.address.Address.TheVariants.{Gate, KindOf}
 use Rattle.brc_model.specs.Duties.{block_of}
 use Rattle.brc_model.specs.Kinds.{kind_number, kind_numbered}
 use Rattle.brc_model.specs.Plain.{is_among}
-use Rattle.brc_model.specs.Progress.{Always, BornOnce, BornListed, BornAreThere, BornAreUsed, UsedAreBorn, ClosedWereBorn, ClosedOnce, GatesTell}
+use Rattle.brc_model.specs.Progress.{Always, BornOnce, BornListed, BornAreThere, BornAreUsed, UsedAreBorn}
+use Rattle.brc_model.specs.Progress.{ClosedWereBorn, ClosedOnce, GatesTell}
 use Rattle.brc_model.specs.Machine.{Unborn, Machine}
 use Rattle.brc_model.specs.World.{world_of, row_count, IsReachable}
-use Rattle.brc_world.specs.Tallies.{used_of, is_born, is_closed_row, rows_born, rows_closed, rows_left, left_in, tally_of}
+use Rattle.brc_world.specs.Tallies.{used_of, is_born, is_closed_row, rows_born, rows_closed, rows_left}
+use Rattle.brc_world.specs.Tallies.{left_in, tally_of}
 use Rattle.brc_world.specs.MachineTallies.{IsMachineOf, is_left, objects_left, left_object, machine_tally}
 use Rattle.brc_world.proofs.Tallying.{parts, block_there}
 
@@ -115,7 +117,10 @@ one_within y a (suc n) low high =
           omega (arith, one, none_below y (a + 1) n (omega (arith, same.1)))
       | inr other ↦
           let none : one_if (y == a) ≡ 0 = ap one_if other.0 in
-          let above : a < y = elim (cases_lt a y) [ inl less ↦ less | inr not_less ↦ absurd (other.1 (omega (arith, low, not_less))) ] in
+          let above : a < y = elim (cases_lt a y) [
+            | inl less ↦ less
+            | inr not_less ↦ absurd (other.1 (omega (arith, low, not_less)))
+          ] in
           omega (arith, none, one_within y (a + 1) n (omega (arith, above)) (omega (arith, high)))
     ]
 
@@ -134,7 +139,10 @@ tail_among : (x y : ℕ) (ys : List ℕ) → is_among x ys ≡ true → is_among
 tail_among x y ys e = elim (y == x) as (λ b. (b || is_among x ys) ≡ true) [ true ↦ refl | false ↦ e ]
 
 -- each of the list is one of the rows
-all_counted : (xs : List ℕ) (a n : ℕ) → ((x : ℕ) → is_among x xs ≡ true → (a ≤ x) × (x < a + n)) → times_in xs a n ≡ length xs
+abbrev AreRows : List ℕ → ℕ → ℕ → Type 0
+AreRows xs a n = (x : ℕ) → is_among x xs ≡ true → (a ≤ x) × (x < a + n)
+
+all_counted : (xs : List ℕ) (a n : ℕ) → AreRows xs a n → times_in xs a n ≡ length xs
 all_counted [] a n within = times_none a n
 all_counted (y ∷ ys) a n within =
     let here = within y (head_among y ys) in
@@ -161,9 +169,10 @@ counted_in : (xs : List ℕ) (a n : ℕ) → ((x : ℕ) → times xs x ≤ 1)
     → count_by (λ x. is_among x xs) (range_with_len a n) ≡ times_in xs a n
 counted_in xs a zero once = refl
 counted_in xs a (suc n) once =
-    omega (arith, count-cons (λ x. is_among x xs) a (range_with_len (a + 1) n), among_times a xs (once a), counted_in xs (a + 1) n once)
+    let first = count-cons (λ x. is_among x xs) a (range_with_len (a + 1) n) in
+    omega (arith, first, among_times a xs (once a), counted_in xs (a + 1) n once)
 
-as_long : (xs : List ℕ) (a n : ℕ) → ((x : ℕ) → times xs x ≤ 1) → ((x : ℕ) → is_among x xs ≡ true → (a ≤ x) × (x < a + n))
+as_long : (xs : List ℕ) (a n : ℕ) → ((x : ℕ) → times xs x ≤ 1) → AreRows xs a n
     → length (filter (λ x. is_among x xs) (range_with_len a n)) ≡ length xs
 as_long xs a n once within =
     length-filter (λ x. is_among x xs) (range_with_len a n) ∙ counted_in xs a n once ∙ all_counted xs a n within
@@ -226,21 +235,23 @@ listed_is_born m x facts listed =
     let count : used_of (slice_get m.actors (block_of m.rows x)) ≡ used.0.used = ap used_of used.1 in
     lt-ltb _ _ (omega (arith, used.3, count))
 
-born_same : (m : Machine) → Facts m → (x : ℕ) → 1 ≤ x → x < 1 + others m → is_born (world_of m) x ≡ is_among x m.plain.born
+born_same : (m : Machine) → Facts m → (x : ℕ) → 1 ≤ x → x < 1 + others m
+    → is_born (world_of m) x ≡ is_among x m.plain.born
 born_same m facts x above within =
     same_test (is_born (world_of m) x) (is_among x m.plain.born)
     (born_is_listed m x facts above (omega (arith, within)))
     (listed_is_born m x facts)
 
-born_within : (m : Machine) → Facts m → (x : ℕ) → is_among x m.plain.born ≡ true → (1 ≤ x) × (x < 1 + others m)
-born_within m facts x listed =
+born_within : (m : Machine) → Facts m → AreRows m.plain.born 1 (others m)
+born_within m facts = λ x listed.
     let was = (facts.listed x).0 listed in
     let there = facts.there x was.1 in
     (was.0, omega (arith, there))
 
 created : (m : Machine) → Facts m → length (rows_born (world_of m)) ≡ length m.plain.born
 created m facts =
-    ap (λ (l : List ℕ). length l) (picked_once (is_born (world_of m)) (λ x. is_among x m.plain.born) 1 (others m) (born_same m facts))
+    let born = picked_once (is_born (world_of m)) (λ x. is_among x m.plain.born) 1 (others m) (born_same m facts) in
+    ap (λ (l : List ℕ). length l) born
     ∙ as_long m.plain.born 1 (others m) facts.born_once (born_within m facts)
 
 -- ---- what is closed
@@ -262,9 +273,11 @@ closed_same m facts x above within =
 closed : (m : Machine) → Facts m → length (rows_closed (world_of m)) ≡ length m.plain.closed
 closed m facts =
     let each : ℕ → ℕ = λ x. x in
-    let rows = picked each each (is_born (world_of m)) (is_closed_row (world_of m)) (λ x. is_among x m.plain.closed) 1 (others m)
+    let is_it : ℕ → Bool = λ x. is_among x m.plain.closed in
+    let rows = picked each each (is_born (world_of m)) (is_closed_row (world_of m)) is_it 1 (others m)
     (closed_same m facts) (λ x e. refl) in
-    ap (λ (l : List ℕ). length l) (sym (map-id (rows_closed (world_of m))) ∙ rows ∙ map-id (filter (λ x. is_among x m.plain.closed) (range_with_len 1 (others m))))
+    let same = sym (map-id (rows_closed (world_of m))) ∙ rows ∙ map-id (filter is_it (range_with_len 1 (others m))) in
+    ap (λ (l : List ℕ). length l) same
     ∙ as_long m.plain.closed 1 (others m) facts.closed_once (λ x e. born_within m facts x (facts.were_born x e))
 
 alive : (m : Machine) → Facts m → length (rows_left (world_of m)) ≡ length m.plain.born - length m.plain.closed
@@ -285,7 +298,8 @@ left_same : (m : Machine) → Facts m → (x : ℕ) → 1 ≤ x → x < 1 + othe
     → (is_born (world_of m) x && not (is_closed_row (world_of m) x)) ≡ is_left m.plain x
 left_same m facts x above within = rw (born_same m facts x above within, closed_test m facts x) refl
 
-left_kind : (m : Machine) → Facts m → (x : ℕ) → is_left m.plain x ≡ true → left_in (world_of m) x ≡ left_object m.plain x
+left_kind : (m : Machine) → Facts m → (x : ℕ) → is_left m.plain x ≡ true
+    → left_in (world_of m) x ≡ left_object m.plain x
 left_kind m facts x left =
     let listed = first_of (is_among x m.plain.born) (not (is_among x m.plain.closed)) left in
     let was = (facts.listed x).0 listed in
@@ -293,7 +307,8 @@ left_kind m facts x left =
     ap kind_numbered (facts.kinds x was.1) ∙ kind_back (m.plain.kinds x) in
     λ i. record { row = x; kind = kind i }
 
-left : (m : Machine) → Facts m → map (left_in (world_of m)) (rows_left (world_of m)) ≡ map (left_object m.plain) (objects_left m)
+left : (m : Machine) → Facts m
+    → map (left_in (world_of m)) (rows_left (world_of m)) ≡ map (left_object m.plain) (objects_left m)
 left m facts =
     picked (left_in (world_of m)) (left_object m.plain) (is_born (world_of m)) (λ x. not (is_closed_row (world_of m) x))
     (is_left m.plain) 1 (others m) (left_same m facts) (left_kind m facts)

@@ -1,4 +1,4 @@
--- What a machine comes to, said of its abstract state: what was born and closed there, and of which kind each object is.
+-- What a machine comes to, said of its abstract state: what was born and closed there, and the kind of each object.
 use Rattle.std.specs.Prelude.{◌≡◌, ℕ, ◌-◌, ◌<◌, ◌≤◌, Bool, ◌&&◌, not, List, length, map, filter, count_by}
 use Rattle.std.specs.List.{range_with_len}
 use Rattle.brc_lang.specs.declared.module.Module.{Module}
@@ -9,7 +9,7 @@ use Rattle.brc_model.specs.Walks.{IsAcceptable}
 use Rattle.brc_model.specs.Plain.{Plain, is_among}
 use Rattle.brc_model.specs.Safety.{AreCalls}
 use Rattle.brc_model.specs.Machine.{Machine, first_machine, machine_after}
-use Rattle.brc_model.specs.World.{world_of, row_count}
+use Rattle.brc_model.specs.World.{World, world_of, row_count}
 use Rattle.brc_report.specs.declared.tally.Tally.{Tally}
 use Rattle.brc_report.specs.declared.tally.Left.{Left}
 use Rattle.brc_world.specs.Tallies.{still_runs}
@@ -49,3 +49,7 @@ machine_tally m = record {
   close_faults = 0;
   left = map (left_object m.plain) (objects_left m);
 }
+
+-- the tally of each machine whose world this is
+abbrev pub IsMachineTally : World → Tally → Type 0
+IsMachineTally w tally = (p : Module) (m : Machine) → IsMachineOf p m → world_of m ≡ w → tally ≡ machine_tally m

@@ -22,7 +22,8 @@ pub fn runs_follow_machines()
     worlds_follow_machines();
 }
 
-/// The tally of a world is that of the abstract state of each machine whose world it is: what is born, closed and left there.
+/// The tally of a world is that of its machine: it counts what was born and closed in the abstract state, and lists what is
+/// left there with its kind.
 pub fn tallies_follow_machines()
     ensures { (p : Module) (m : Machine) → IsMachineOf p m → tally_of (world_of m) ≡ machine_tally m }
 {

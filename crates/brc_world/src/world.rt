@@ -2,12 +2,10 @@ ghost use Rattle.std.specs.Prelude.{◌≡◌, ◌≢◌, ◌<◌, ◌≤◌, no
 ghost use Rattle.std.specs.List.{All};
 ghost use Rattle.brc_model.specs.declared.thread.Choice.TheVariants.{Ok as goes_on, Claim as claims};
 ghost use Rattle.brc_model.specs.Safety.{AreCalls};
-ghost use Rattle.brc_lang.specs.declared.module.Module.{Module};
-ghost use Rattle.brc_model.specs.Machine.{Machine};
-ghost use Rattle.brc_model.specs.World.{world_of, first_world, row_count, step};
+ghost use Rattle.brc_model.specs.World.{first_world, row_count, step};
 ghost use Rattle.brc_world.specs.Worlds.{seen};
 ghost use Rattle.brc_world.specs.Tallies.{used_of, is_born, is_closed_row, rows_born, left_in, tally_of};
-ghost use Rattle.brc_world.specs.MachineTallies.{IsMachineOf, machine_tally};
+ghost use Rattle.brc_world.specs.MachineTallies.{IsMachineTally};
 ghost use Rattle.brc_world.specs.Answers.{is_gone_at, IsAnswer};
 
 use crate::address::block_of;
@@ -97,7 +95,7 @@ impl<'a> World<'a> {
     /// What the world comes to.
     pub fn tally(&self, alloc: Global) -> Result<Tally, NoMemory>
         ensures counted { IfOk result (λ tally. tally ≡ tally_of (seen self.now)) }
-        ensures machine { IfOk result (λ tally. (p : Module) (m : Machine) → IsMachineOf p m → world_of m ≡ seen self.now → tally ≡ machine_tally m) }
+        ensures machine { IfOk result (IsMachineTally (seen self.now)) }
     {
         worlds_are_small();
         tallies_follow_machines();

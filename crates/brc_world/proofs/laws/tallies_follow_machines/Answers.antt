@@ -1,5 +1,6 @@
 use Rattle.std.proofs.Common.{arith}
-use Rattle.brc_model.specs.Progress.{BornOnce, BornListed, BornAreThere, BornAreUsed, UsedAreBorn, ClosedWereBorn, ClosedOnce, GatesTell}
+use Rattle.brc_model.specs.Progress.{BornOnce, BornListed, BornAreThere, BornAreUsed, UsedAreBorn}
+use Rattle.brc_model.specs.Progress.{ClosedWereBorn, ClosedOnce, GatesTell}
 use Rattle.brc_model.specs.Safety.{IsSafeNow}
 use Rattle.brc_model.specs.World.{world_of}
 use Rattle.brc_world.proofs.MachineTallying.{at_machine, is_reachable, tally_same}
