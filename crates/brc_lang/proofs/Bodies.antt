@@ -43,7 +43,7 @@ pub record IsInside (name : List ℕ) (from : Place) (code : List Instr) (to : P
   pub open_fits : IsOpen (opened name code)
   pub passed : Passes (instructions code) from to
 
-all_push : (code : List Instr) (i : Instr) → AllByRecursion IsInstruction code → IsInstruction i → AllByRecursion IsInstruction (code ++ i ∷ [])
+pub all_push : (code : List Instr) (i : Instr) → AllByRecursion IsInstruction code → IsInstruction i → AllByRecursion IsInstruction (code ++ i ∷ [])
 all_push [] i all here = (here, tt)
 all_push (j ∷ code) i all here = (all.0, all_push code i all.1 here)
 
@@ -68,7 +68,7 @@ goes_on name from at code new text rest so_far first next =
     }
 
 -- a line that ends it and has no fault
-ends_well : (code : List Instr) → end_fault_of code ≡ None → (0 < length code) × LeadsForward code
+pub ends_well : (code : List Instr) → end_fault_of code ≡ None → (0 < length code) × LeadsForward code
 ends_well code fine =
     elim (chosen (eqb (length code) 0) (Some OverLimit) _ None fine) [
       | inl empty ↦ let never = empty.1 in absurd cc

@@ -47,7 +47,7 @@ body_below done p text name rest e fits first opening (inr h) =
 
 -- ---- one more function
 
-functions_all_push : (done : List Function) (f : Function) → AllByRecursion IsFunction done → IsFunction f → AllByRecursion IsFunction (done ++ f ∷ [])
+pub functions_all_push : (done : List Function) (f : Function) → AllByRecursion IsFunction done → IsFunction f → AllByRecursion IsFunction (done ++ f ∷ [])
 functions_all_push [] f all here = (here, tt)
 functions_all_push (g ∷ done) f all here = (all.0, functions_all_push done f all.1 here)
 
@@ -78,7 +78,7 @@ pub record IsReadTo (bytes : List ℕ) (done : List Function) (p : Place) : Type
   pub parts : bytes ≡ beginning (closed done) ++ p.rest.now
   pub place : p.line ≡ line_count (beginning (closed done)) + 1
 
-above_closed : (done : List Function) → beginning (closed done) ≡ first_line ++ functions done
+pub above_closed : (done : List Function) → beginning (closed done) ≡ first_line ++ functions done
 above_closed done = append-nil (first_line ++ functions done)
 
 pub fault_below : (bytes : List ℕ) (done : List Function) (p : Place) (e : ReadFault) → IsReadTo bytes done p → IsFaultBelow done p e → IsFaultOf bytes e

@@ -10,4 +10,6 @@ pub mod Machine
 pub mod Uniqueness
 pub mod Bodies
 pub mod Functions
+pub mod EachText
+pub mod OwnFaults
 pub mod Written

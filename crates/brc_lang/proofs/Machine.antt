@@ -163,7 +163,7 @@ open_end n done (Some f) rest fits =
     let room : length done < 64 = omega (arith, length-append done (f ∷ []), fits.most) in
     open_passes n done f.name f.code rest fits.open_fits.name room (new_name_from done f [] fits.names) fits.open_fits.code fits.open_fits.most
 
-done_apart : (done : List Function) (o : Option Function) → AreNamedApart (named done o) → length (named done o) ≤ 64 → AreNamedApart done × (length done ≤ 64)
+pub done_apart : (done : List Function) (o : Option Function) → AreNamedApart (named done o) → length (named done o) ≤ 64 → AreNamedApart done × (length done ≤ 64)
 done_apart done None apart few = (apart, few)
 done_apart done (Some f) apart few =
     let len = length-append done (f ∷ []) in (

@@ -1,5 +1,6 @@
 pub mod Padding
 pub mod Grammar
 pub mod Fault
+pub mod EachText
 pub mod Progress
 pub mod Written

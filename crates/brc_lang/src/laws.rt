@@ -1,16 +1,24 @@
 //! What holds of all texts.
 
-ghost use Rattle.std.specs.Prelude.{◌≡◌, ℕ, List};
+ghost use Rattle.std.specs.Prelude.{◌≡◌, ◌≢◌, ◌⊎◌, ℕ, List};
 ghost use Rattle.brc_lang.specs.declared.fault.FaultCode.{FaultCode};
+ghost use Rattle.brc_lang.specs.declared.fault.FaultCode.TheVariants.{NoMemory};
 ghost use Rattle.brc_lang.specs.declared.module.Module.{Module};
 ghost use Rattle.brc_lang.specs.Grammar.{Spells, IsModule, text};
 ghost use Rattle.brc_lang.specs.Fault.{HasFault};
+ghost use Rattle.brc_lang.specs.EachText.{SpellsAModule, HasAFault};
 
 /// A text spells one module at most, or has one fault at most, and not both.
 pub fn one_reading()
     ensures one_module { (bytes : List ℕ) (m n : Module) → Spells bytes m → Spells bytes n → m ≡ n }
     ensures one_fault { (bytes : List ℕ) (k l : ℕ) (c d : FaultCode) → HasFault bytes k c → HasFault bytes l d → (k ≡ l) × (c ≡ d) }
     ensures apart { (bytes : List ℕ) (m : Module) (line : ℕ) (code : FaultCode) → Spells bytes m → HasFault bytes line code → ⊥ }
+{}
+
+/// Each text spells a module or has a fault. No fault of a text is want of memory.
+pub fn each_text_reads()
+    ensures a_module_or_a_fault { (bytes : List ℕ) → SpellsAModule bytes ⊎ HasAFault bytes }
+    ensures own_fault { (bytes : List ℕ) (line : ℕ) (code : FaultCode) → HasFault bytes line code → code ≢ NoMemory }
 {}
 
 /// No two modules have one text.

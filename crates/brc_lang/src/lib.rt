@@ -18,7 +18,7 @@ mod writing;
 
 pub use fault::{FaultCode, ReadFault};
 pub use kind::Kind;
-pub use laws::{one_reading, one_text};
+pub use laws::{each_text_reads, one_reading, one_text};
 pub use lexing::{
     four_words, is_name, is_word, number, one_word, split_line, split_word, three_words, two_words,
 };

@@ -3,3 +3,5 @@ pub mod Lines
 pub mod Machine
 pub mod LineToLine
 pub mod Uniqueness
+pub mod EachText
+pub mod OwnFaults

@@ -7,7 +7,7 @@ mod line;
 mod reading;
 mod schedule;
 
-pub use laws::one_schedule;
+pub use laws::{each_text_reads, one_schedule};
 pub use reading::read_schedule;
 pub use schedule::{PlannedCall, Schedule, Steps};
 

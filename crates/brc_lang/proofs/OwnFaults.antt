@@ -1,0 +1,166 @@
+-- The fault of a text is never want of memory.
+use Rattle.std.proofs.Common.{◌≢◌, ℕ, Bool, true, false, cond, leb, eqb, not, ◌&&◌, List, [], ◌∷◌, length, Option}
+use Rattle.std.proofs.Common.{Some, None, Result, Ok, Err, sym, subst, inl, inr}
+use Rattle.std.specs.Prelude.{codes}
+use Rattle.std.specs.List.{list_any, before_first}
+use Rattle.std.specs.Str.{bytes_eq}
+use Rattle.std.specs.Str.Parse.{digits_value}
+use Rattle.brc_lang.specs.declared.module.Function.{Function}
+use Rattle.brc_lang.specs.declared.module.Instr.{Instr}
+use Rattle.brc_lang.specs.declared.fault.FaultCode.{FaultCode}
+use Rattle.brc_lang.specs.declared.fault.FaultCode.TheVariants.{FirstLine, UnknownWord, Number, Target, NameTwice}
+use Rattle.brc_lang.specs.declared.fault.FaultCode.TheVariants.{OverLimit, CutOff, NoMemory}
+use Rattle.brc_lang.specs.Grammar.{is_name}
+use Rattle.brc_lang.specs.Fault.{words, is_numeral, number_in, variable_in, target_in, ◌>>=◌, one_variable_in}
+use Rattle.brc_lang.specs.Fault.{two_variables_in, one_target_in, num_in, fail_in, instruction_in, leads_forward}
+use Rattle.brc_lang.specs.Fault.{Beginning, heading_fault_of, end_fault_of, next_instruction_fault_of, line_fault_of}
+use Rattle.brc_lang.specs.Fault.{is_whole, is_line_feed, fault_of, HasFault}
+use Rattle.brc_lang.proofs.Headings.{has_name}
+
+-- ---- results and options whose fault, if any, is the text's own
+
+abbrev pub IsOwn : {A : Type 0} → Result A FaultCode → Type 0
+IsOwn (Ok x) = Unit {0}
+IsOwn (Err code) = code ≢ NoMemory
+
+abbrev pub IsOwnFault : Option FaultCode → Type 0
+IsOwnFault None = Unit {0}
+IsOwnFault (Some code) = code ≢ NoMemory
+
+pub own_then : {A B : Type 0} (r : Result A FaultCode) (f : A → Result B FaultCode) → IsOwn r
+    → ((x : A) → IsOwn (f x)) → IsOwn (r >>= f)
+own_then (Ok x) f here then = then x
+own_then (Err code) f here then = here
+
+pub own_either : {A : Type 0} (b : Bool) (x y : Result A FaultCode) → IsOwn x → IsOwn y → IsOwn (cond b x y)
+own_either true x y here there = here
+own_either false x y here there = there
+
+pub own_fault_either : (b : Bool) (x y : Option FaultCode) → IsOwnFault x → IsOwnFault y → IsOwnFault (cond b x y)
+own_fault_either true x y here there = here
+own_fault_either false x y here there = there
+
+pub own_word : UnknownWord ≢ NoMemory
+own_word e = cc
+
+pub own_number : Number ≢ NoMemory
+own_number e = cc
+
+own_target : Target ≢ NoMemory
+own_target e = cc
+
+own_name : NameTwice ≢ NoMemory
+own_name e = cc
+
+own_limit : OverLimit ≢ NoMemory
+own_limit e = cc
+
+pub own_cut : CutOff ≢ NoMemory
+own_cut e = cc
+
+pub own_first : FirstLine ≢ NoMemory
+own_first e = cc
+
+-- ---- words
+
+pub number_own : (high : ℕ) (word : List ℕ) → IsOwn (number_in high word)
+number_own high word =
+    let n = digits_value 10 word in
+    own_either (is_numeral word && leb n high) (Ok n) (Err Number) tt own_number
+
+variable_own : (word : List ℕ) → IsOwn (variable_in word)
+variable_own [] = own_word
+variable_own (c ∷ cs) = own_either (eqb c 118) (number_in 15 cs) (Err UnknownWord) (number_own 15 cs) own_word
+
+target_own : (word : List ℕ) → IsOwn (target_in word)
+target_own [] = own_word
+target_own (c ∷ cs) = own_either (eqb c 64) (number_in 255 cs) (Err UnknownWord) (number_own 255 cs) own_word
+
+one_variable_own : (ws : List (List ℕ)) → IsOwn (one_variable_in ws)
+one_variable_own [] = own_word
+one_variable_own (a ∷ []) = variable_own a
+one_variable_own (a ∷ b ∷ ws) = own_word
+
+two_variables_own : (ws : List (List ℕ)) → IsOwn (two_variables_in ws)
+two_variables_own [] = own_word
+two_variables_own (a ∷ []) = own_word
+two_variables_own (a ∷ b ∷ []) =
+    own_then (variable_in a) _ (variable_own a) (λ d.
+    own_then (variable_in b) _ (variable_own b) (λ s. tt))
+two_variables_own (a ∷ b ∷ c ∷ ws) = own_word
+
+one_target_own : (ws : List (List ℕ)) → IsOwn (one_target_in ws)
+one_target_own [] = own_word
+one_target_own (a ∷ []) = target_own a
+one_target_own (a ∷ b ∷ ws) = own_word
+
+-- the greatest value of a number
+abbrev most_value : ℕ
+most_value = 4294967295
+
+num_own : (ws : List (List ℕ)) → IsOwn (num_in ws)
+num_own [] = own_word
+num_own (a ∷ []) = own_word
+num_own (a ∷ b ∷ []) = own_word
+num_own (a ∷ b ∷ c ∷ []) = own_word
+num_own (a ∷ b ∷ c ∷ d ∷ []) =
+    own_either (bytes_eq c (codes "else")) _ (Err UnknownWord)
+    (own_then (variable_in a) _ (variable_own a) (λ to.
+    own_then (number_in most_value b) _ (number_own most_value b) (λ k.
+    own_then (target_in d) _ (target_own d) (λ l. tt)))) own_word
+num_own (a ∷ b ∷ c ∷ d ∷ x ∷ ws) = own_word
+
+fail_own : (ws : List (List ℕ)) → IsOwn (fail_in ws)
+fail_own [] = tt
+fail_own (a ∷ ws) = own_word
+
+instruction_own : (ws : List (List ℕ)) → IsOwn (instruction_in ws)
+instruction_own [] = own_word
+instruction_own (w ∷ ws) =
+    own_either (bytes_eq w (codes "num")) _ _ (num_own ws)
+    (own_either (bytes_eq w (codes "none")) _ _ (own_then (one_variable_in ws) _ (one_variable_own ws) (λ n. tt))
+    (own_either (bytes_eq w (codes "newref")) _ _ (own_then (two_variables_in ws) _ (two_variables_own ws) (λ v. tt))
+    (own_either (bytes_eq w (codes "move")) _ _ (own_then (two_variables_in ws) _ (two_variables_own ws) (λ v. tt))
+    (own_either (bytes_eq w (codes "drop")) _ _ (own_then (one_variable_in ws) _ (one_variable_own ws) (λ n. tt))
+    (own_either (bytes_eq w (codes "goto")) _ _ (own_then (one_target_in ws) _ (one_target_own ws) (λ n. tt))
+    (own_either (bytes_eq w (codes "ret")) _ _ (own_then (one_variable_in ws) _ (one_variable_own ws) (λ n. tt))
+    (own_either (bytes_eq w (codes "fail")) _ (Err UnknownWord) (fail_own ws) own_word)))))))
+
+-- ---- lines
+
+heading_own : (done : List Function) (ws : List (List ℕ)) → IsOwnFault (heading_fault_of done ws)
+heading_own done [] = own_word
+heading_own done (w ∷ []) = own_word
+heading_own done (w ∷ n ∷ []) =
+    own_fault_either (not (bytes_eq w (codes "func") && is_name n)) (Some UnknownWord) _ own_word
+    (own_fault_either (leb 64 (length done)) (Some OverLimit) _ own_limit
+    (own_fault_either (has_name n done) (Some NameTwice) None own_name tt))
+heading_own done (w ∷ n ∷ x ∷ ws) = own_word
+
+end_own : (code : List Instr) → IsOwnFault (end_fault_of code)
+end_own code =
+    own_fault_either (eqb (length code) 0) (Some OverLimit) _ own_limit
+    (own_fault_either (leads_forward code) None (Some Target) tt own_target)
+
+next_own : (f : Function) (r : Result Instr FaultCode) → IsOwn r → IsOwnFault (next_instruction_fault_of f r)
+next_own f (Ok i) here = own_fault_either (leb 256 (length f.code)) (Some OverLimit) None own_limit tt
+next_own f (Err code) here = here
+
+line_own : (done : List Function) (o : Option Function) (line : List ℕ) → IsOwnFault (line_fault_of done o line)
+line_own done None line = heading_own done (words line)
+line_own done (Some f) line =
+    own_fault_either (bytes_eq line (codes "end")) (end_fault_of f.code) _ (end_own f.code)
+    (next_own f (instruction_in (words line)) (instruction_own (words line)))
+
+rest_own : (b : Beginning) (rest : List ℕ) → IsOwnFault (fault_of b rest)
+rest_own b rest =
+    let line = before_first is_line_feed rest in
+    own_fault_either (list_any is_line_feed rest) (line_fault_of b.done b.open_function line) _
+    (line_own b.done b.open_function line)
+    (own_fault_either (eqb (length rest) 0 && is_whole b.done b.open_function) None (Some CutOff) tt own_cut)
+
+-- ---- texts
+
+pub own_fault : (bytes : List ℕ) (line : ℕ) (code : FaultCode) → HasFault bytes line code → code ≢ NoMemory
+own_fault bytes line code (inl h) = subst (λ (c : FaultCode). c ≢ NoMemory) (sym h.fault) own_first
+own_fault bytes line code (inr h) = subst IsOwnFault h.fault (rest_own h.above h.rest)
