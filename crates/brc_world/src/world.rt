@@ -8,8 +8,8 @@ ghost use Rattle.brc_world.specs.Tallies.{used_of, is_born, is_closed_row, rows_
 ghost use Rattle.brc_world.specs.Answers.{is_gone_at, IsAnswer};
 
 use crate::address::block_of;
-use crate::begun::first_row;
 use crate::did::Did;
+use crate::dispatch::first_row;
 use crate::doing::{act, claim};
 use crate::first::first_threads;
 use crate::memory::{Memory, first_memory};
