@@ -22,8 +22,8 @@ pub fn run(
     requires most { workers ≤ 32 }
     requires some_rows { 0 < rows }
     requires most_rows { rows ≤ 1024 }
-    requires call { IsCall checked.now call }
-    ensures { IfOk result (λ tally. IsTallyOfRun checked.now rows workers call tally) }
+    requires call { IsCall checked.now.module call }
+    ensures { IfOk result (λ tally. IsTallyOfRun checked.now.module rows workers call tally) }
 {
     let calls = vec![in alloc; call; workers as usize]?;
     let mut world = World::new(alloc, checked, workers as usize, rows, calls.as_slice())?;

@@ -55,9 +55,9 @@ fn last_tally(
     calls: &[Call],
 ) -> Result<Tally, NoMemory>
     requires fits { IsSchedule schedule.now }
-    requires found { calls.now ≡ calls_of checked.now schedule.now.calls }
-    requires calls_fit { AreCalls checked.now calls.now }
-    ensures { IfOk result (λ tally. tally ≡ tally_of (last_world checked.now schedule.now)) }
+    requires found { calls.now ≡ calls_of checked.now.module schedule.now.calls }
+    requires calls_fit { AreCalls checked.now.module calls.now }
+    ensures { IfOk result (λ tally. tally ≡ tally_of (last_world checked.now.module schedule.now)) }
 {
     let workers = usize::from(schedule.workers);
     let mut world = World::new(alloc, checked, workers, schedule.rows, calls)?;

@@ -41,7 +41,7 @@ pub fn schedule_of(alloc: Global, bytes: &[u8]) -> Result<Schedule, StepFault>
 /// The module as an accepted one.
 pub fn accepted(alloc: Global, module: Module) -> Result<Checked, StepFault>
     requires { IsModule «module» }
-    ensures { MatchResult result (λ c. (c ≡ «module») × IsAcceptable «module») (λ e. IsCheckFault «module» e) }
+    ensures { MatchResult result (λ c. (c.module ≡ «module») × IsAcceptable «module») (λ e. IsCheckFault «module» e) }
 {
     match check(alloc, module) {
         Ok(checked) => Ok(checked),

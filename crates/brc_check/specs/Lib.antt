@@ -1,3 +1,4 @@
+pub mod Accepted
 pub mod Refusal
 pub mod Rows
 pub mod Filling

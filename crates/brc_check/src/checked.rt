@@ -15,14 +15,14 @@ pub struct Checked {
 }
 
 impl Model for Checked {
-    ghost use Rattle.brc_lang.specs.declared.module.Module.{Module};
     ghost use Rattle.brc_lang.specs.Grammar.{IsModule};
     ghost use Rattle.brc_model.specs.Walks.{IsAcceptable};
     ghost use Rattle.brc_model.specs.Tables.{IsTrueWhereReached};
+    ghost use Rattle.brc_check.specs.Accepted.{Accepted};
 
-    ghost Value = { Module };
+    ghost Value = { Accepted };
 
-    ghost view = { λ c. c.module };
+    ghost view = { λ c. record { «module» = c.module; table = c.table } };
 
     ghost invariant = { λ c. IsModule c.module × IsAcceptable c.module × IsTrueWhereReached c.module c.table };
 }
@@ -33,7 +33,8 @@ impl Checked {
         requires fits { IsModule accepted }
         requires acceptable { IsAcceptable accepted }
         requires truth { IsTrueWhereReached accepted table }
-        ensures { result ≡ accepted }
+        ensures accepted { result.module ≡ accepted }
+        ensures table { result.table ≡ table }
     {
         Checked {
             module: accepted,
@@ -43,16 +44,17 @@ impl Checked {
 
     /// The module.
     pub fn module(&self) -> &Module
-        ensures value { result.now ≡ self.now }
-        ensures fits { IsModule self.now }
-        ensures accepted { IsAcceptable self.now }
+        ensures value { result.now ≡ self.now.module }
+        ensures fits { IsModule self.now.module }
+        ensures accepted { IsAcceptable self.now.module }
     {
         &self.module
     }
 
     /// The table that shows why the module was accepted.
     pub fn table(&self) -> &Table
-        ensures { IsTrueWhereReached self.now result.now }
+        ensures value { result.now ≡ self.now.table }
+        ensures truth { IsTrueWhereReached self.now.module result.now }
     {
         &self.table
     }

@@ -3,6 +3,7 @@
 ghost use Rattle.std.specs.Prelude.{◌≡◌, IfOk, OnOk, IfErr};
 ghost use Rattle.brc_lang.specs.Grammar.{IsModule};
 ghost use Rattle.brc_model.specs.Walks.{IsAcceptable};
+ghost use Rattle.brc_model.specs.Tables.{IsTrueTable};
 ghost use Rattle.brc_model.specs.Safety.{Safe};
 ghost use Rattle.brc_check.specs.Refusal.{IsForMemory, IsRefusal};
 
@@ -16,7 +17,8 @@ use std::alloc::Global;
 /// Accepts the module where every way through every function obeys the ownership rules. A refusal drops it.
 pub fn check(alloc: Global, module: Module) -> Result<Checked, Refused>
     requires { IsModule «module» }
-    ensures accepted { IfOk result (λ c. c ≡ «module») }
+    ensures accepted { IfOk result (λ c. c.module ≡ «module») }
+    ensures table { IfOk result (λ c. IsTrueTable «module» c.table) }
     ensures acceptable { OnOk result (IsAcceptable «module») }
     ensures safe { OnOk result (Safe «module») }
     ensures refused { IfErr result (λ r. IsRefusal «module».functions r) }

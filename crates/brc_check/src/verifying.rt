@@ -97,7 +97,8 @@ fn table_fault(functions: &[Function], rows: &[Sequence<Option<State>>]) -> Opti
 /// come from anywhere. A refusal drops both.
 pub fn verify(module: Module, table: Table) -> Result<Checked, Refused>
     requires { IsModule «module» }
-    ensures accepted { IfOk result (λ c. c ≡ «module») }
+    ensures accepted { IfOk result (λ c. c.module ≡ «module») }
+    ensures table { IfOk result (λ c. c.table ≡ table) }
     ensures acceptable { OnOk result (IsAcceptable «module») }
     ensures safe { OnOk result (Safe «module») }
     ensures truth { OnOk result (IsTrueWhereReached «module» table) }

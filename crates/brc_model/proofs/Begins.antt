@@ -25,6 +25,8 @@ use Rattle.brc_model.proofs.Grounded.{slot_of-put_same, slot_of-put_other, row_o
 use Rattle.brc_model.proofs.OwnCounts.{flip_eqb}
 use Rattle.brc_model.proofs.Rule.{HoldsAt, PlaceFits}
 use Rattle.brc_model.specs.Duties.{cells_of}
+use Rattle.brc_lang.specs.declared.kind.Kind.TheVariants as kinds
+use Rattle.brc_model.specs.Kinds.{kind_of_word, is_counted_kind}
 
 -- ---- nothing is at hand
 
@@ -40,7 +42,7 @@ holds_at_none bag t says holds = record { each = λ k object. omega (arith, hold
 pub data Starts (bag : List Reference) (rows t used : ℕ) : Duty → List Duty → Type 0 where
   Gives : (row : ℕ) (h : Holding) (rest : List Duty) → 0 < references_to row bag → Starts bag rows t used (ReleaseLoad row h) rest
   Takes : (row : ℕ) (h by : Holding) (rest : List Duty) → 0 < held (reference_of t by row) bag → Starts bag rows t used (RetainLoad row h) rest
-  Bears : (h : Holding) (w : ℕ) → used < block_size rows t → cells_of w ≤ 8 → Starts bag rows t used (BirthKind (next_row rows t used) h w) []
+  Bears : (h : Holding) (w : ℕ) → used < block_size rows t → cells_of w ≤ 8 → is_counted_kind (kind_of_word w) ≡ true → Starts bag rows t used (BirthKind (next_row rows t used) h w) []
 
 -- the duties behind it settle, and leave where the thread is to leave
 pub data Follows (rows t used : ℕ) (place : Place) : List Duty → Type 0 where
@@ -61,7 +63,7 @@ pub data QuietMoves (bag : List Reference) (t : ℕ) : List Move → Type 0 wher
 
 -- the bag after the moves
 abbrev pub bag_after : List Reference → List Move → List Reference
-bag_after bag moves = (moved (record { references = bag; born = []; closed = [] }) moves).references
+bag_after bag moves = (moved (record { references = bag; born = []; closed = []; kinds = λ x. kinds.Any }) moves).references
 
 pub record QuietTaken (code : List Instr) (bag : List Reference) (t : ℕ) (moves : List Move) (place : Place) : Type 0 where
   pub moves_fit : QuietMoves bag t moves

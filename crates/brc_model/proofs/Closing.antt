@@ -10,6 +10,7 @@ use Rattle.brc_word.specs.Words.{is_immortal_word}
 use Rattle.brc_model.specs.declared.duty.Reason.TheVariants.{Own, Handed}
 use Rattle.brc_model.specs.declared.duty.Duty.{Duty}
 use Rattle.brc_model.specs.declared.duty.Duty.TheVariants.{RetainLoad, RetainStore, RetainAdd, ReleaseLoad, ReleaseStore, DecideAtZero, SharedExchange, MergeExchange, SettleEnd, BirthLocal, SettleCell}
+use Rattle.brc_model.specs.declared.address.Address.{Address}
 use Rattle.brc_model.specs.Duties.{address_of}
 use Rattle.brc_model.specs.Machine.{Actor, Life, Unborn, Live, Dying, Closed, Machine, hand_on, gain, lose, moves_by, dies_next, ended_row, born_row, with_life, done_by, take_out}
 use Rattle.brc_model.proofs.Lists.{some_is}
@@ -21,7 +22,7 @@ use Rattle.brc_model.proofs.Lives.{MayDie, next_of, next_dies, cell_found, dying
 -- ---- the list of closed rows
 
 abbrev KeepsClosed : Move → Type 0
-KeepsClosed (Born r) = Unit {0}
+KeepsClosed (Born r kind) = Unit {0}
 KeepsClosed (Gain r) = Unit {0}
 KeepsClosed (Lose r) = Unit {0}
 KeepsClosed (HandOn r h) = Unit {0}
@@ -33,7 +34,7 @@ AllKeepClosed (mv ∷ mvs) = KeepsClosed mv × AllKeepClosed mvs
 
 moved_closed : (p : Plain) (mvs : List Move) → AllKeepClosed mvs → (moved p mvs).closed ≡ p.closed
 moved_closed p [] keep = refl
-moved_closed p (Born r ∷ mvs) keep = moved_closed (move p (Born r)) mvs keep.1
+moved_closed p (Born r kind ∷ mvs) keep = moved_closed (move p (Born r kind)) mvs keep.1
 moved_closed p (Gain r ∷ mvs) keep = moved_closed (move p (Gain r)) mvs keep.1
 moved_closed p (Lose r ∷ mvs) keep = moved_closed (move p (Lose r)) mvs keep.1
 moved_closed p (HandOn r h ∷ mvs) keep = moved_closed (move p (HandOn r h)) mvs keep.1
@@ -57,17 +58,17 @@ take_out_keeps t x i zero = tt
 take_out_keeps t x i (suc y) = (tt, tt)
 
 -- only the end of a settling closes
-moves_keep : (t : ℕ) (d : Duty) (found : ℕ) → ended_row d ≡ None → AllKeepClosed (moves_by t d found)
-moves_keep t (RetainLoad x h) found e = either_keep (is_immortal_word found) (gain t h x) [] (tt, tt) tt
-moves_keep t (RetainStore x h w) found e = (tt, tt)
-moves_keep t (RetainAdd x h) found e = (tt, tt)
-moves_keep t (ReleaseLoad x h) found e = append_keep (hand_on t h x) (cond (is_immortal_word found) (lose t x) []) (hand_on_keeps t h x) (either_keep (is_immortal_word found) (lose t x) [] (tt, tt) tt)
-moves_keep t (ReleaseStore x w) found e = (tt, tt)
-moves_keep t (SharedExchange x Own w) found e = either_keep (found == w) (lose t x) [] (tt, tt) tt
-moves_keep t (SettleCell x i n) found e = take_out_keeps t x i found
-moves_keep t (SettleEnd x) found e = absurd (let wrong : Some x ≡ None = e in cc)
-moves_keep t (BirthLocal x h) found e = (tt, tt)
-moves_keep t _ found e = tt
+moves_keep : (memory : Address → ℕ) (t : ℕ) (d : Duty) (found : ℕ) → ended_row d ≡ None → AllKeepClosed (moves_by memory t d found)
+moves_keep memory t (RetainLoad x h) found e = either_keep (is_immortal_word found) (gain t h x) [] (tt, tt) tt
+moves_keep memory t (RetainStore x h w) found e = (tt, tt)
+moves_keep memory t (RetainAdd x h) found e = (tt, tt)
+moves_keep memory t (ReleaseLoad x h) found e = append_keep (hand_on t h x) (cond (is_immortal_word found) (lose t x) []) (hand_on_keeps t h x) (either_keep (is_immortal_word found) (lose t x) [] (tt, tt) tt)
+moves_keep memory t (ReleaseStore x w) found e = (tt, tt)
+moves_keep memory t (SharedExchange x Own w) found e = either_keep (found == w) (lose t x) [] (tt, tt) tt
+moves_keep memory t (SettleCell x i n) found e = take_out_keeps t x i found
+moves_keep memory t (SettleEnd x) found e = absurd (let wrong : Some x ≡ None = e in cc)
+moves_keep memory t (BirthLocal x h) found e = (tt, tt)
+moves_keep memory t _ found e = tt
 
 -- ---- the rows that change
 
@@ -135,9 +136,9 @@ life_step p n m t a d rest x here = life_with p n m t a d rest x (dies_next (nex
 
 -- the closed rows grow by the one that ends
 pub data ClosedStep (m : Machine) (t : ℕ) (d : Duty) (found : ℕ) : Type 0 where
-  SameClosed : ended_row d ≡ None → (moved m.plain (moves_by t d found)).closed ≡ m.plain.closed → ClosedStep m t d found
-  OneMore : (y : ℕ) → ended_row d ≡ Some y → (moved m.plain (moves_by t d found)).closed ≡ m.plain.closed ++ y ∷ [] → ClosedStep m t d found
+  SameClosed : ended_row d ≡ None → (moved m.plain (moves_by m.memory t d found)).closed ≡ m.plain.closed → ClosedStep m t d found
+  OneMore : (y : ℕ) → ended_row d ≡ Some y → (moved m.plain (moves_by m.memory t d found)).closed ≡ m.plain.closed ++ y ∷ [] → ClosedStep m t d found
 
 pub closed_step : (m : Machine) (t : ℕ) (d : Duty) (found : ℕ) → ClosedStep m t d found
 closed_step m t (SettleEnd x) found = OneMore x refl refl
-closed_step m t d found = SameClosed refl (moved_closed m.plain (moves_by t d found) (moves_keep t d found refl))
+closed_step m t d found = SameClosed refl (moved_closed m.plain (moves_by m.memory t d found) (moves_keep m.memory t d found refl))

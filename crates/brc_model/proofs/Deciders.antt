@@ -62,7 +62,7 @@ first_decides m u x b d rest is none head =
     ] refl
 
 -- a thread that is gone, or has nothing to do, decides about nothing
-agenda_decides : (p : Module) (n : ℕ) (m : Machine) (u x : ℕ) (b : Actor) (agenda : List Duty) → b.agenda ≡ agenda → (status : Status) → b.status ≡ status → AgendaFits m.rows u b status → HeadOf m u b agenda
+pub agenda_decides : (p : Module) (n : ℕ) (m : Machine) (u x : ℕ) (b : Actor) (agenda : List Duty) → b.agenda ≡ agenda → (status : Status) → b.status ≡ status → AgendaFits m.rows u b status → HeadOf m u b agenda
     → (agenda_weight (decides x) b ≡ 0) ⊎ OwnsLocally m u b x
 agenda_decides p n m u x b [] is status was fits head = inl (ap (sum_by (decides x)) is)
 agenda_decides p n m u x b (d ∷ rest) is Gone was fits head = absurd (let wrong : [] ≡ d ∷ rest = sym fits.0 ∙ is in cc)

@@ -11,10 +11,10 @@ use Rattle.brc_lang.specs.Grammar.{IsInstruction, IsFunction, IsModule}
 use Rattle.brc_model.specs.declared.thread.Call.{Call}
 use Rattle.brc_model.specs.Walks.{IsAcceptableCode, IsAcceptable}
 use Rattle.brc_model.specs.Threads.{code_of}
-use Rattle.brc_model.specs.Machine.{callers_below, Actor, Unborn, Closed, main_actor, worker_actor, first_memory, first_life, first_machine, Live}
+use Rattle.brc_model.specs.Machine.{callers_below, Actor, Unborn, Closed, main_actor, worker_actor, first_memory, first_life, first_kinds, first_machine, Live}
 use Rattle.brc_model.specs.Safety.{IsCall, AreCalls}
 use Rattle.brc_model.specs.declared.duty.Duty.{Duty}
-use Rattle.brc_model.specs.declared.address.Address.TheVariants.{ThreadWord}
+use Rattle.brc_model.specs.declared.address.Address.TheVariants.{KindOf, ThreadWord}
 use Rattle.brc_model.specs.Duties.{block_of}
 use Rattle.brc_model.specs.declared.actor.Place.TheVariants.{Standing, Departing}
 use Rattle.brc_model.proofs.Bag.{one_if}
@@ -25,6 +25,8 @@ use Rattle.brc_model.proofs.Holds.{the_root}
 use Rattle.brc_model.proofs.Rows.{waits, carries, merges, decides, agenda_weight, weight, IsDefault, AboveZero, InOwned, RowRule}
 use Rattle.brc_model.proofs.Rule.{numbers_of, HoldsAt, ChainFits, ActorFits, AgendaFits, HandedOnce, dies_by, Rule, UsesFit}
 use Rattle.brc_model.proofs.Blocks.{block_main}
+use Rattle.brc_word.specs.Words.{kind_part}
+use Rattle.brc_model.specs.Kinds.{kind_number}
 use Rattle.brc_model.specs.Plain.{root_row, is_among}
 
 -- ---- the code of each function
@@ -183,6 +185,12 @@ first_born_has zero above born = absurd (omega (arith, above))
 first_born_has (suc zero) above born = refl
 first_born_has (suc (suc x)) above born = absurd (born refl)
 
+first_kinds_said : (workers x : ℕ) → first_life x ≢ Unborn
+    → kind_part (first_memory workers (KindOf x)) ≡ kind_number (first_kinds x)
+first_kinds_said workers zero born = omega arith
+first_kinds_said workers (suc zero) born = omega arith
+first_kinds_said workers (suc (suc x)) born = absurd (born refl)
+
 pub first_rule : (m : Module) (rows : ℕ) (calls : List Call) → IsModule m → IsAcceptable m → AreCalls m calls → 0 < rows → rows ≤ 1024 → Rule m (1 + length calls) (first_machine m rows calls)
 first_rule m rows calls fits accepted are_calls some_rows few_rows = record {
   functions = refl;
@@ -205,5 +213,6 @@ first_rule m rows calls fits accepted are_calls some_rows few_rows = record {
   closed_is = λ x is. absurd (let wrong : false ≡ true = is in cc);
   closed_has = λ x is. absurd (life_not_closed x is);
   once = λ i j d lt within. absurd (omega arith);
+  kinds = first_kinds_said (length calls);
   none_word = refl;
 }

@@ -21,6 +21,7 @@ use Rattle.brc_model.proofs.Neutral.{OwnFits, found_by, memory_by}
 use Rattle.brc_model.proofs.RowsAfter.{rows_after}
 use Rattle.brc_model.proofs.ClosedAfter.{closed_is_after, closed_has_after, closed_once_after, none_lives_after, dying_after}
 use Rattle.brc_model.proofs.UsesAfter.{uses_after, no_block_after, born_is_after, born_has_after}
+use Rattle.brc_model.proofs.KindsAfter.{kinds_after}
 use Rattle.brc_model.proofs.Nones.{none_local}
 
 -- ---- cells stay empty
@@ -69,17 +70,18 @@ keeps_by p n m t a d rest here alive own marks =
       rows = λ x pos. rows_after p n m t a d rest here.rule here.found here.agenda alive x pos;
       marks = marks;
       each = λ u b is. others_and_own p n m t a d rest here own u b is;
-      beyond = λ u past k object. moves_apart m.plain u t k object d (found_by m t a d) (λ e. absurd (omega (arith, within, past, e))) ∙ here.rule.beyond u past k object;
+      beyond = λ u past k object. moves_apart m.memory m.plain u t k object d (found_by m t a d) (λ e. absurd (omega (arith, within, past, e))) ∙ here.rule.beyond u past k object;
       dying = λ x u past. dying_after p n m t a d rest x u here past;
       cells = λ x i. cells_left m t a d x i (here.rule.cells x i);
       uses = λ u b is. uses_after p n m t a d rest here u b is;
       no_block = λ x past. no_block_after p n m t a d rest here x past;
       born_is = λ x is. born_is_after p n m t a d rest here x is;
       born_has = λ x above is. born_has_after p n m t a d rest here x above is;
-      cells_hold = λ x i object. moves_off_cells m.plain x i object t d (found_by m t a d) (cell_found p n m t a d here.rule) ∙ here.rule.cells_hold x i object;
+      cells_hold = λ x i object. moves_off_cells m.memory m.plain x i object t d (found_by m t a d) (cell_found p n m t a d here.rule) ∙ here.rule.cells_hold x i object;
       none_lives = none_lives_after p n m t a d rest here;
       closed_is = λ x is. closed_is_after p n m t a d rest x here is;
       closed_has = λ x is. closed_has_after p n m t a d rest x here is;
       once = closed_once_after p n m t a d rest here;
+      kinds = λ x born. kinds_after p n m t a d rest here x born;
       none_word = none_local p n m t a d rest here ∙ here.rule.none_word;
     }

@@ -9,9 +9,11 @@ pub mod OwnBirths
 pub mod Nones
 pub mod Quiets
 pub mod UsesAfter
+pub mod KindsAfter
 pub mod Callers
 pub mod Worked
 pub mod Rows
+pub mod HasDuties
 pub mod RowSteps
 pub mod Rule
 pub mod Others

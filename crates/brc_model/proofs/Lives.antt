@@ -12,7 +12,10 @@ use Rattle.brc_model.specs.declared.duty.Duty.TheVariants.{RetainLoad, RetainSto
 use Rattle.brc_model.specs.Duties.{address_of, next_by, counts_locally, shared_result, has_resource, cells_of, cells_from, release_found}
 use Rattle.brc_model.specs.Machine.{Actor, Life, Unborn, Live, Dying, Closed, Machine, is_running, dies_next, ended_row, born_row, with_life, life_by, done_by}
 use Rattle.brc_model.proofs.Lists.{some_is}
-use Rattle.brc_model.proofs.Rule.{dies_by, Rule}
+use Rattle.brc_model.proofs.Rule.{dies_by, HasCountedKind, Rule}
+use Rattle.brc_model.proofs.Written.{written_load}
+use Rattle.brc_model.specs.declared.address.Address.TheVariants.{KindOf}
+use Rattle.brc_model.specs.Kinds.{kind_of_word, is_counted_kind}
 use Rattle.brc_model.proofs.Alive.{Alive}
 use Rattle.brc_model.proofs.Blocks.{next_unborn}
 use Rattle.brc_model.proofs.Others.{LeavesOthers}
@@ -162,16 +165,32 @@ lives_left p n m t a d rest here u x ne =
     born_with (with_life (with_life m.life (dies_next (next_of m t a d)) (Dying t)) (ended_row d) Closed) (born_row d) u x
     (λ y e. second y ∙ ap (λ (l : Life). dies_by l u) (born_was p n m t a d rest y here e)) ∙ second x
 
+-- ---- kinds
+
+-- a birth says a kind that is counted
+kinds_left : (p : Module) (n : ℕ) (m : Machine) (t : ℕ) (a : Actor) (d : Duty) (rest : List Duty)
+    → AtDuty p n m t a d rest → (x : ℕ) → HasCountedKind m.memory x → HasCountedKind (done_by m t a d rest).memory x
+kinds_left p n m t a (SettleKind y) rest here x was =
+    ap (λ (w : ℕ). is_counted_kind (kind_of_word w)) (written_load m.memory (KindOf y) (KindOf x)) ∙ was
+kinds_left p n m t a (BirthKind y h w) rest here x was =
+    let said = (head_of p n m t a (BirthKind y h w) rest here).2 in
+    elim (y == x) as (λ b. is_counted_kind (kind_of_word (cond b w (m.memory (KindOf x)))) ≡ true) [
+      | true ↦ said
+      | false ↦ was
+    ]
+kinds_left p n m t a _ rest here x was = was
+
 -- ---- all that others rely on
 
 pub leaves_others : (p : Module) (n : ℕ) (m : Machine) (t : ℕ) (a : Actor) (d : Duty) (rest : List Duty) → AtDuty p n m t a d rest → LeavesOthers m (done_by m t a d rest) t
 leaves_others p n m t a d rest here = record {
   rows = refl;
-  bag = λ u k object ne. moves_apart m.plain u t k object d (m.memory (address_of m.rows t a.head d)) ne;
+  bag = λ u k object ne. moves_apart m.memory m.plain u t k object d (m.memory (address_of m.rows t a.head d)) ne;
   locals = λ u x b ne found owns. locals_left p n m t a d rest here u x b ne found owns;
   merged = λ x was. merged_left p n m t a d rest here x was;
   stopped = λ u was. stopped_left m t a d u was;
   words = λ u ne. words_left m t a d u ne;
   gates = λ u x ne dies. gates_left p n m t a d rest here u x ne dies;
+  kinds = λ x was. kinds_left p n m t a d rest here x was;
   lives = λ u x ne. lives_left p n m t a d rest here u x ne;
 }

@@ -19,7 +19,8 @@ use Rattle.brc_model.specs.Machine.{Actor, Machine, first_row, first_machine}
 use Rattle.brc_model.specs.Progress.{Always}
 use Rattle.brc_model.specs.Watched.{looks_at, scans_over, IsWatched, ByRunning, ByExit, ByLook, MarksWatched}
 use Rattle.brc_model.proofs.Bag.{one_if}
-use Rattle.brc_model.proofs.Rows.{agenda_weight, weight}
+use Rattle.brc_model.proofs.Rows.{weight}
+use Rattle.brc_model.proofs.HasDuties.{some_weighs, is_listed}
 use Rattle.brc_model.proofs.Rule.{Later, Agenda, AgendaFits, scans, looks, status_word}
 use Rattle.brc_model.proofs.Rule as rule
 use Rattle.brc_model.proofs.OwnExits.{marked_born}
@@ -85,41 +86,22 @@ by_exit p n m x a whole marked found e =
 
 -- ---- by a look
 
-looks_are : (x : ℕ) (d : Duty) → looks x d ≡ one_if (looks_at x d)
-looks_are x (Look y) = refl
-looks_are x (TakeMark y) = refl
-looks_are x _ = refl
+looks_only : (x : ℕ) (d : Duty) → looks_at x d ≡ false → looks x d ≡ 0
+looks_only x (Look y) other = ap one_if other
+looks_only x (TakeMark y) other = ap one_if other
+looks_only x _ other = refl
 
-looks_in : (b : Bool) (x : ℕ) (rest : List Duty) → 0 < one_if b + sum_by (looks x) rest → (0 < sum_by (looks x) rest → list_any (looks_at x) rest ≡ true) → (b || list_any (looks_at x) rest) ≡ true
-looks_in true x rest some behind = refl
-looks_in false x rest some behind = behind (omega (arith, some))
-
-agenda_looks : (x : ℕ) (agenda : List Duty) → 0 < sum_by (looks x) agenda → list_any (looks_at x) agenda ≡ true
-agenda_looks x [] some = absurd (omega (arith, some))
-agenda_looks x (d ∷ rest) some = looks_in (looks_at x d) x rest (omega (arith, some, sum_by-cons (looks x) d rest, looks_are x d)) (agenda_looks x rest)
-
-record Looking (x : ℕ) (actors : List Actor) : Type 0 where
-  thread : ℕ
-  actor : Actor
-  is_there : slice_get actors thread ≡ Some actor
-  looks_so : list_any (looks_at x) actor.agenda ≡ true
-
-looking_first : (x : ℕ) (a : Actor) (rest : List Actor) (n : ℕ) → agenda_weight (looks x) a ≡ n → 0 < n + weight (looks x) rest → (0 < weight (looks x) rest → Looking x rest) → Looking x (a ∷ rest)
-looking_first x a rest zero is some behind =
-    let it = behind (omega (arith, some)) in
-    record { thread = suc it.thread; actor = it.actor; is_there = it.is_there; looks_so = it.looks_so }
-looking_first x a rest (suc n) is some behind = record { thread = 0; actor = a; is_there = refl; looks_so = agenda_looks x a.agenda (omega (arith, is)) }
-
-looking : (x : ℕ) (actors : List Actor) → 0 < weight (looks x) actors → Looking x actors
-looking x [] some = absurd (omega (arith, some))
-looking x (a ∷ rest) some = looking_first x a rest (agenda_weight (looks x) a) refl (omega (arith, some, sum_by-cons (agenda_weight (looks x)) a rest)) (looking x rest)
+by_look : (m : Machine) (x : ℕ) → 0 < weight (looks x) m.actors → IsWatched m x
+by_look m x weighs =
+    let it = some_weighs (looks x) m.actors weighs in
+    ByLook it.who it.which it.found (is_listed (looks x) (looks_at x) (looks_only x) it.which.agenda it.some)
 
 -- ---- all marks
 
 watched_so : (p : Module) (n : ℕ) (m : Machine) (x : ℕ) → Whole p n m → m.memory (Mark x) ≡ 1 → rule.IsWatched m x → IsWatched m x
 watched_so p n m x whole marked (rule.ByRunning word) = by_running p n m x whole marked word
 watched_so p n m x whole marked (rule.ByExit a found e) = by_exit p n m x a whole marked found e
-watched_so p n m x whole marked (rule.ByLook weighs) = let it = looking x m.actors weighs in ByLook it.thread it.actor it.is_there it.looks_so
+watched_so p n m x whole marked (rule.ByLook weighs) = by_look m x weighs
 
 all_watched : (p : Module) (n : ℕ) (m : Machine) → Whole p n m → MarksWatched m
 all_watched p n m whole = λ x set.

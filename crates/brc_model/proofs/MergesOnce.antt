@@ -17,6 +17,7 @@ use Rattle.brc_model.specs.Machine.{Actor, Machine}
 use Rattle.brc_model.proofs.Lists.{some_is}
 use Rattle.brc_model.proofs.Bag.{one_if}
 use Rattle.brc_model.proofs.Rows.{waits, carries, merges, agenda_weight, weight, Phased, IsDefault, IsQueued, InOwned, InSwapped, InMerged}
+use Rattle.brc_model.proofs.HasDuties.{Weighs, some_weighs}
 use Rattle.brc_model.proofs.RowSteps.{shared_merged}
 use Rattle.brc_model.proofs.Rule.{numbers_of, FollowsHanded, IsMergeOf, HeadFits, HeadOf, Later, Agenda, AgendaFits, status_word}
 use Rattle.brc_model.proofs.Alive.{agenda_in, first_weighs}
@@ -24,23 +25,6 @@ use Rattle.brc_model.proofs.Leaves.{AtDuty, head_of, handed_weighs, claim_alive,
 use Rattle.brc_model.proofs.Neutral.{agenda_here}
 
 -- ---- weights of agendas
-
--- some agenda weighs, where all together do
-record Weighs (f : Duty → ℕ) (actors : List Actor) : Type 0 where
-  pub who : ℕ
-  pub which : Actor
-  pub found : slice_get actors who ≡ Some which
-  pub some : 0 < agenda_weight f which
-
-some_weighs : (f : Duty → ℕ) (actors : List Actor) → 0 < weight f actors → Weighs f actors
-some_weighs f [] some = absurd (omega (arith, some))
-some_weighs f (b ∷ rest) some =
-    elim (agenda_weight f b) as (λ k. agenda_weight f b ≡ k → Weighs f (b ∷ rest)) [
-      | zero ↦ λ e.
-          let later = some_weighs f rest (omega (arith, sum_by-cons (agenda_weight f) b rest, some, e)) in
-          record { who = suc later.who; which = later.which; found = later.found; some = later.some }
-      | suc k ↦ λ e. record { who = 0; which = b; found = refl; some = omega (arith, e) }
-    ] refl
 
 -- two threads' agendas weigh no more than all
 two_weigh : (f : Duty → ℕ) (actors : List Actor) (t u : ℕ) (a b : Actor) → u ≢ t → slice_get actors t ≡ Some a → slice_get actors u ≡ Some b → agenda_weight f a + agenda_weight f b ≤ weight f actors

@@ -9,6 +9,7 @@ use Rattle.brc_word.specs.Words.{is_immortal_word}
 use Rattle.brc_model.specs.declared.duty.Reason.TheVariants.{Own}
 use Rattle.brc_model.specs.declared.duty.Duty.{Duty}
 use Rattle.brc_model.specs.declared.duty.Duty.TheVariants.{RetainLoad, RetainStore, RetainAdd, ReleaseLoad, ReleaseStore, SharedExchange, SettleEnd, BirthLocal, SettleCell}
+use Rattle.brc_model.specs.declared.address.Address.{Address}
 use Rattle.brc_model.specs.Machine.{hand_on, gain, lose, moves_by, take_out}
 use Rattle.brc_model.proofs.Bag.{held, one_if, same-true, held-cons, same-other_holder, other_thread, cell_reference}
 use Rattle.brc_model.proofs.Holds.{reference_of}
@@ -29,7 +30,7 @@ held-cons_apart x r bag apart = let none : one_if (same x r) ≡ 0 = ap one_if a
 
 -- the holder has no part in the move
 abbrev pub IsAside : Holder → Move → Type 0
-IsAside h (Born r) = same_holder h r.holder ≡ false
+IsAside h (Born r kind) = same_holder h r.holder ≡ false
 IsAside h (Gain r) = same_holder h r.holder ≡ false
 IsAside h (Lose r) = same_holder h r.holder ≡ false
 IsAside h (HandOn r k) = (same_holder h r.holder ≡ false) × (same_holder h k ≡ false)
@@ -40,7 +41,7 @@ AreAside h [] = Unit {0}
 AreAside h (mv ∷ mvs) = IsAside h mv × AreAside h mvs
 
 move_aside : (p : Plain) (x : Reference) (mv : Move) → IsAside x.holder mv → held x (move p mv).references ≡ held x p.references
-move_aside p x (Born r) aside = held-cons_apart x r p.references (same-other_holder x r aside)
+move_aside p x (Born r kind) aside = held-cons_apart x r p.references (same-other_holder x r aside)
 move_aside p x (Gain r) aside = held-cons_apart x r p.references (same-other_holder x r aside)
 move_aside p x (Lose r) aside = held-without_apart x r p.references (same-other_holder x r aside)
 move_aside p x (HandOn r h) aside =
@@ -75,25 +76,25 @@ take_out_aside h t x i (suc y) other (inl none) = absurd (omega (arith, none))
 take_out_aside h t x i (suc y) other (inr apart) = ((apart, other InHand), tt)
 
 -- who is no way of the thread's, and no cell that its duty finds full, has no part in the step
-pub moves_aside : (h : Holder) (t : ℕ) (d : Duty) (found : ℕ) → IsNoWayOf t h → ((x i n : ℕ) → d ≡ SettleCell x i n → (found ≡ 0) ⊎ (same_holder h (ByCell x i) ≡ false)) → AreAside h (moves_by t d found)
-moves_aside h t (RetainLoad x k) found other cell = either_aside h (is_immortal_word found) (gain t k x) [] (other k, tt) tt
-moves_aside h t (RetainStore x k w) found other cell = (other k, tt)
-moves_aside h t (RetainAdd x k) found other cell = (other k, tt)
-moves_aside h t (ReleaseLoad x k) found other cell =
+pub moves_aside : (memory : Address → ℕ) (h : Holder) (t : ℕ) (d : Duty) (found : ℕ) → IsNoWayOf t h → ((x i n : ℕ) → d ≡ SettleCell x i n → (found ≡ 0) ⊎ (same_holder h (ByCell x i) ≡ false)) → AreAside h (moves_by memory t d found)
+moves_aside memory h t (RetainLoad x k) found other cell = either_aside h (is_immortal_word found) (gain t k x) [] (other k, tt) tt
+moves_aside memory h t (RetainStore x k w) found other cell = (other k, tt)
+moves_aside memory h t (RetainAdd x k) found other cell = (other k, tt)
+moves_aside memory h t (ReleaseLoad x k) found other cell =
     append_aside h (hand_on t k x) (cond (is_immortal_word found) (lose t x) []) (hand_on_aside h t k x other) (either_aside h (is_immortal_word found) (lose t x) [] (other InHand, tt) tt)
-moves_aside h t (ReleaseStore x w) found other cell = (other InHand, tt)
-moves_aside h t (SharedExchange x Own w) found other cell = either_aside h (found == w) (lose t x) [] (other InHand, tt) tt
-moves_aside h t (SettleCell x i n) found other cell = take_out_aside h t x i found other (cell x i n refl)
-moves_aside h t (SettleEnd x) found other cell = (tt, tt)
-moves_aside h t (BirthLocal x k) found other cell = (other k, tt)
-moves_aside h t _ found other cell = tt
+moves_aside memory h t (ReleaseStore x w) found other cell = (other InHand, tt)
+moves_aside memory h t (SharedExchange x Own w) found other cell = either_aside h (found == w) (lose t x) [] (other InHand, tt) tt
+moves_aside memory h t (SettleCell x i n) found other cell = take_out_aside h t x i found other (cell x i n refl)
+moves_aside memory h t (SettleEnd x) found other cell = (tt, tt)
+moves_aside memory h t (BirthLocal x k) found other cell = (other k, tt)
+moves_aside memory h t _ found other cell = tt
 
-pub moves_apart : (p : Plain) (u t : ℕ) (k : Holding) (object : ℕ) (d : Duty) (found : ℕ) → u ≢ t → held (reference_of u k object) (moved p (moves_by t d found)).references ≡ held (reference_of u k object) p.references
-moves_apart p u t k object d found ne =
-    moved_aside p (reference_of u k object) (moves_by t d found) (moves_aside (ByThread u k) t d found (λ h. other_thread u t k h ne) (λ x i n is. inr refl))
+pub moves_apart : (memory : Address → ℕ) (p : Plain) (u t : ℕ) (k : Holding) (object : ℕ) (d : Duty) (found : ℕ) → u ≢ t → held (reference_of u k object) (moved p (moves_by memory t d found)).references ≡ held (reference_of u k object) p.references
+moves_apart memory p u t k object d found ne =
+    moved_aside p (reference_of u k object) (moves_by memory t d found) (moves_aside memory (ByThread u k) t d found (λ h. other_thread u t k h ne) (λ x i n is. inr refl))
 
 -- a cell's references stay, where the thread's duty finds no cell full
-pub moves_off_cells : (p : Plain) (x i object t : ℕ) (d : Duty) (found : ℕ) → ((y j n : ℕ) → d ≡ SettleCell y j n → found ≡ 0)
-    → held (cell_reference x i object) (moved p (moves_by t d found)).references ≡ held (cell_reference x i object) p.references
-moves_off_cells p x i object t d found empty =
-    moved_aside p (cell_reference x i object) (moves_by t d found) (moves_aside (ByCell x i) t d found (λ h. refl) (λ y j n is. inl (empty y j n is)))
+pub moves_off_cells : (memory : Address → ℕ) (p : Plain) (x i object t : ℕ) (d : Duty) (found : ℕ) → ((y j n : ℕ) → d ≡ SettleCell y j n → found ≡ 0)
+    → held (cell_reference x i object) (moved p (moves_by memory t d found)).references ≡ held (cell_reference x i object) p.references
+moves_off_cells memory p x i object t d found empty =
+    moved_aside p (cell_reference x i object) (moves_by memory t d found) (moves_aside memory (ByCell x i) t d found (λ h. refl) (λ y j n is. inl (empty y j n is)))

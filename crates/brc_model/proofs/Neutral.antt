@@ -28,7 +28,7 @@ abbrev pub found_by : Machine → ℕ → Actor → Duty → ℕ
 found_by m t a d = m.memory (address_of m.rows t a.head d)
 
 abbrev pub bag_by : Machine → ℕ → Actor → Duty → List Reference
-bag_by m t a d = (moved m.plain (moves_by t d (found_by m t a d))).references
+bag_by m t a d = (moved m.plain (moves_by m.memory t d (found_by m t a d))).references
 
 abbrev pub memory_by : Machine → ℕ → Actor → Duty → Address → ℕ
 memory_by m t a d = written m.memory (address_of m.rows t a.head d) (left_by t a.head d (found_by m t a d))

@@ -13,7 +13,9 @@ use Rattle.brc_word.specs.Words.{local_part, is_immortal_word}
 use Rattle.brc_model.specs.declared.duty.Reason.TheVariants.{Own, Handed}
 use Rattle.brc_model.specs.declared.duty.Duty.{Duty}
 use Rattle.brc_model.specs.declared.duty.Duty.TheVariants.{RetainLoad, RetainStore, RetainAdd, ReleaseLoad, ReleaseStore, DecideAtZero, SharedLoad, SharedExchange, MergeSwap, MergeLoad, MergeExchange, Die, Settle, SettleKind, SettleCell, SettleEnd, TakeSlot, CloseResource, BirthKind, BirthSlot, BirthLocal}
-use Rattle.brc_model.specs.declared.address.Address.TheVariants.{Local}
+use Rattle.brc_lang.specs.declared.kind.Kind.{Kind}
+use Rattle.brc_model.specs.Kinds.{kind_of_word, is_counted_kind}
+use Rattle.brc_model.specs.declared.address.Address.TheVariants.{Local, KindOf}
 use Rattle.brc_model.specs.Duties.{address_of}
 use Rattle.brc_model.specs.declared.actor.Place.{Place}
 use Rattle.brc_model.specs.declared.actor.Place.TheVariants.{Standing, Inside, Departing}
@@ -191,17 +193,18 @@ finalise_allowed p n m t x rule pos dying =
     one_allowed m.plain (Finalise x) (rw (counted, none, open_still, empty) refl)
 
 -- what is born now wasn't born before
-birth_allowed : (p : Module) (n : ℕ) (m : Machine) (t : ℕ) (a : Actor) (x : ℕ) (h : Holding) → Rule p n m → slice_get m.actors t ≡ Some a → IsNext m t a x → are_allowed m.plain (birth t h x) ≡ true
-birth_allowed p n m t a x h rule found next =
+birth_allowed : (p : Module) (n : ℕ) (m : Machine) (t : ℕ) (a : Actor) (x : ℕ) (h : Holding) (kind : Kind) → Rule p n m → slice_get m.actors t ≡ Some a → IsNext m t a x
+    → is_counted_kind kind ≡ true → are_allowed m.plain (birth t h x kind) ≡ true
+birth_allowed p n m t a x h kind rule found next counts =
     let above = next_above m t a x next in
     let counted : is_counted x ≡ true = lt-ltb 0 x (omega (arith, above)) in
     let new : is_among x m.plain.born ≡ false = elim (is_among x m.plain.born) as (λ b. is_among x m.plain.born ≡ b → b ≡ false) [
       | true ↦ λ e. absurd ((rule.born_is x e).1 (next_unborn p n m t a x rule found next))
       | false ↦ λ e. refl
     ] refl in
-    one_allowed m.plain (Born (reference_of t h x)) (ap (λ (b : Bool). b && not (is_among x m.plain.born)) counted ∙ ap not new)
+    one_allowed m.plain (Born (reference_of t h x) kind) (rw (counted, counts, new) refl)
 
-moves_allowed : (p : Module) (n : ℕ) (m : Machine) (t : ℕ) (a : Actor) (d : Duty) (rest : List Duty) → AtDuty p n m t a d rest → are_allowed m.plain (moves_by t d (m.memory (address_of m.rows t a.head d))) ≡ true
+moves_allowed : (p : Module) (n : ℕ) (m : Machine) (t : ℕ) (a : Actor) (d : Duty) (rest : List Duty) → AtDuty p n m t a d rest → are_allowed m.plain (moves_by m.memory t d (m.memory (address_of m.rows t a.head d))) ≡ true
 moves_allowed p n m t a (RetainLoad x h) rest here =
     if_allowed m.plain (is_immortal_word (m.memory (Local x))) (gain t h x) (λ e. backed_gain m t x h (head_of p n m t a (RetainLoad x h) rest here))
 moves_allowed p n m t a (RetainStore x h w) rest here = backed_gain m t x h (head_of p n m t a (RetainStore x h w) rest here).1
@@ -218,9 +221,9 @@ moves_allowed p n m t a (SharedExchange x Own w) rest here =
     if_allowed m.plain _ (lose t x) (λ e. one_allowed m.plain (Lose (reference_of t InHand x)) (given_in_bag p n m t a (SharedExchange x Own w) rest InHand x here (holder_same InHand x) refl))
 moves_allowed p n m t a (SettleCell x i k) rest here = ap (λ (w : ℕ). are_allowed m.plain (take_out t x i w)) (here.rule.cells x i)
 moves_allowed p n m t a (SettleEnd x) rest here = let fits = head_of p n m t a (SettleEnd x) rest here in finalise_allowed p n m t x here.rule fits.0 fits.1
-moves_allowed p n m t a (BirthLocal x h) rest here = birth_allowed p n m t a x h here.rule here.found (head_of p n m t a (BirthLocal x h) rest here).0
+moves_allowed p n m t a (BirthLocal x h) rest here = let fits = head_of p n m t a (BirthLocal x h) rest here in birth_allowed p n m t a x h (kind_of_word (m.memory (KindOf x))) here.rule here.found fits.0 fits.2
 moves_allowed p n m t a _ rest here = refl
 
 pub duty_not_bad : (p : Module) (n : ℕ) (m : Machine) (t : ℕ) (a : Actor) (d : Duty) (rest : List Duty) → AtDuty p n m t a d rest → is_bad_duty m t a d ≡ false
 duty_not_bad p n m t a d rest here =
-    ap (λ (b : Bool). b || not (are_allowed m.plain (moves_by t d (m.memory (address_of m.rows t a.head d))))) (touches_none p n m t a d rest here) ∙ ap not (moves_allowed p n m t a d rest here)
+    ap (λ (b : Bool). b || not (are_allowed m.plain (moves_by m.memory t d (m.memory (address_of m.rows t a.head d))))) (touches_none p n m t a d rest here) ∙ ap not (moves_allowed p n m t a d rest here)

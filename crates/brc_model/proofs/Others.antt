@@ -18,7 +18,7 @@ use Rattle.brc_model.specs.declared.actor.Place.TheVariants.{Standing, Inside, D
 use Rattle.brc_model.specs.Machine.{Actor, Life, Unborn, Live, Dying, Closed, Machine, first_row}
 use Rattle.brc_model.proofs.Bag.{held, one_if}
 use Rattle.brc_model.proofs.Holds.{the_root, nothing, of_variables, reference_of}
-use Rattle.brc_model.proofs.Rule.{HoldsAt, PlaceFits, OwnsLocally, IsBacked, MayMerge, IsMergeOf, IsNext, HeadFits, HeadOf, Linked, dies_by, ChainFits, ActorFits}
+use Rattle.brc_model.proofs.Rule.{HoldsAt, PlaceFits, OwnsLocally, IsBacked, MayMerge, IsMergeOf, IsNext, HasCountedKind, HeadFits, HeadOf, Linked, dies_by, ChainFits, ActorFits}
 
 -- what the others rely on
 pub record LeavesOthers (m new : Machine) (t : ℕ) : Type 0 where
@@ -29,6 +29,8 @@ pub record LeavesOthers (m new : Machine) (t : ℕ) : Type 0 where
   pub stopped : (u : ℕ) → m.memory (ThreadWord u) ≢ 1 → new.memory (ThreadWord u) ≢ 1
   pub words : (u : ℕ) → u ≢ t → new.memory (ThreadWord u) ≡ m.memory (ThreadWord u)
   pub gates : (u x : ℕ) → u ≢ t → dies_by (m.life x) u ≡ true → new.memory (Gate x) ≡ m.memory (Gate x)
+  -- what a birth said of an object stays said
+  pub kinds : (x : ℕ) → HasCountedKind m.memory x → HasCountedKind new.memory x
   pub lives : (u x : ℕ) → u ≢ t → dies_by (new.life x) u ≡ dies_by (m.life x) u
 
 holds_kept : (m new : Machine) (t u : ℕ) (says : Holding → ℕ → Bool) (agenda : List Duty) → LeavesOthers m new t → u ≢ t → HoldsAt m.plain.references u says agenda → HoldsAt new.plain.references u says agenda
@@ -108,9 +110,9 @@ head_kept m new t u b (Leave x k) rest leaves ne found fits = fits
 head_kept m new t u b (Scan x k) rest leaves ne found fits = fits
 head_kept m new t u b Finish rest leaves ne found fits = fits
 head_kept m new t u b (ClaimMark x) rest leaves ne found fits = ap (λ (r : ℕ). block_of r x) leaves.rows ∙ fits
-head_kept m new t u b (BirthKind x h w) rest leaves ne found fits = (next_kept m new t u x b leaves fits.0, fits.1)
-head_kept m new t u b (BirthSlot x h) rest leaves ne found fits = (next_kept m new t u x b leaves fits.0, fits.1)
-head_kept m new t u b (BirthLocal x h) rest leaves ne found fits = (next_kept m new t u x b leaves fits.0, fits.1)
+head_kept m new t u b (BirthKind x h w) rest leaves ne found fits = (next_kept m new t u x b leaves fits.0, fits.1, fits.2)
+head_kept m new t u b (BirthSlot x h) rest leaves ne found fits = (next_kept m new t u x b leaves fits.0, fits.1, leaves.kinds x fits.2)
+head_kept m new t u b (BirthLocal x h) rest leaves ne found fits = (next_kept m new t u x b leaves fits.0, fits.1, leaves.kinds x fits.2)
 
 head_of_kept : (m new : Machine) (t u : ℕ) (b : Actor) (agenda : List Duty) → LeavesOthers m new t → u ≢ t → slice_get m.actors u ≡ Some b → HeadOf m u b agenda → HeadOf new u b agenda
 head_of_kept m new t u b [] leaves ne found fits = tt

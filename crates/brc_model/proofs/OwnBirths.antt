@@ -10,7 +10,10 @@ use Rattle.brc_model.specs.Duties.{has_resource}
 use Rattle.brc_model.specs.declared.actor.Status.TheVariants.{Gone}
 use Rattle.brc_model.specs.Machine.{Actor, Life, Unborn, Live, Machine, done_by, actor_by, first_row}
 use Rattle.brc_model.proofs.Bag.{one_if}
-use Rattle.brc_model.proofs.Rule.{IsNext, Agenda, dies_by}
+use Rattle.brc_model.proofs.Rule.{IsNext, HasCountedKind, Agenda, dies_by}
+use Rattle.brc_model.proofs.Written.{written_here}
+use Rattle.brc_model.specs.declared.address.Address.TheVariants.{KindOf}
+use Rattle.brc_model.specs.Kinds.{kind_of_word, is_counted_kind}
 use Rattle.brc_model.proofs.Blocks.{next_unborn}
 use Rattle.brc_model.proofs.Leaves.{AtDuty, head_of}
 use Rattle.brc_model.proofs.Own.{chain_same}
@@ -37,6 +40,8 @@ own_birth_kind p n m t a x h w rest here alive =
     let d : Duty = BirthKind x h w in
     let fits = head_of p n m t a d rest here in
     let new = done_by m t a d rest in
+    let said : HasCountedKind new.memory x =
+    ap (λ (v : ℕ). is_counted_kind (kind_of_word v)) (written_here m.memory (KindOf x) w) ∙ fits.2 in
     elim (has_resource w) as (λ b. has_resource w ≡ b → OwnFits p new t (actor_by t a d rest (found_by m t a d))) [
       | true ↦ λ e.
           own_keeps p n m t a d rest (BirthSlot x h ∷ []) (BirthSlot x h ∷ rest) here alive refl (record {
@@ -47,7 +52,7 @@ own_birth_kind p n m t a x h w rest here alive =
             held = held_same m.plain.references t (d ∷ rest) (BirthSlot x h ∷ rest) (λ k o. refl) (λ k o. refl);
             fits = agenda_here p n m t a d rest here alive;
             handed = handed_here p n m t a d rest here;
-            knows = λ b status head used. (still_next m new t a b x refl status used fits.0, fits.1);
+            knows = λ b status head used. (still_next m new t a b x refl status used fits.0, fits.1, said);
           })
       | false ↦ λ e.
           own_keeps p n m t a d rest (BirthLocal x h ∷ []) (BirthLocal x h ∷ rest) here alive refl (record {
@@ -58,7 +63,7 @@ own_birth_kind p n m t a x h w rest here alive =
             held = held_same m.plain.references t (d ∷ rest) (BirthLocal x h ∷ rest) (λ k o. refl) (λ k o. refl);
             fits = agenda_here p n m t a d rest here alive;
             handed = handed_here p n m t a d rest here;
-            knows = λ b status head used. (still_next m new t a b x refl status used fits.0, fits.1);
+            knows = λ b status head used. (still_next m new t a b x refl status used fits.0, fits.1, said);
           })
     ] refl
 
@@ -76,7 +81,7 @@ own_birth_slot p n m t a x h rest here alive =
       held = held_same m.plain.references t (d ∷ rest) (BirthLocal x h ∷ rest) (λ k o. refl) (λ k o. refl);
       fits = agenda_here p n m t a d rest here alive;
       handed = handed_here p n m t a d rest here;
-      knows = λ b status head used. (still_next m new t a b x refl status used fits.0, fits.1);
+      knows = λ b status head used. (still_next m new t a b x refl status used fits.0, fits.1, fits.2);
     })
 
 -- no row that dies changes

@@ -19,6 +19,8 @@ use Rattle.brc_model.proofs.Holds.{reference_of}
 use Rattle.brc_model.proofs.MovesApart.{AreAside, IsNoWayOf, moved_aside}
 use Rattle.brc_model.proofs.Rows.{waits, carries, merges, decides, weight, Numbers, RowRule}
 use Rattle.brc_model.proofs.Rule.{numbers_of, PlaceFits, HandedOnce, scans, ActorFits, AgendaFits, UsesFit, looks, IsWatched, ByRunning, ByExit, ByLook, Rule, ChainFits}
+use Rattle.brc_lang.specs.declared.kind.Kind.{Kind}
+use Rattle.brc_model.specs.Kinds.{kind_number}
 use Rattle.brc_model.proofs.Others.{LeavesOthers, others_fit}
 use Rattle.brc_model.proofs.Begins.{QuietMoves, Stays, GainsNone, HandsOn, bag_after, QuietTaken}
 use Rattle.brc_model.proofs.Sits.{sitting, AtRest, same_weight}
@@ -39,6 +41,11 @@ quiet_born : (p : Plain) (t : ℕ) (moves : List Move) → QuietMoves p.referenc
 quiet_born p t [] Stays = refl
 quiet_born p t _ (GainsNone h) = refl
 quiet_born p t _ (HandsOn from to x has) = refl
+
+quiet_kinds : (p : Plain) (t : ℕ) (moves : List Move) → QuietMoves p.references t moves → (moved p moves).kinds ≡ p.kinds
+quiet_kinds p t [] Stays = refl
+quiet_kinds p t _ (GainsNone h) = refl
+quiet_kinds p t _ (HandsOn from to x has) = refl
 
 pub quiet_allowed : (p : Plain) (t : ℕ) (moves : List Move) → QuietMoves p.references t moves → are_allowed p moves ≡ true
 quiet_allowed p t [] Stays = refl
@@ -96,6 +103,7 @@ leaves m t a moves place quiet = record {
   stopped = λ u was. was;
   words = λ u ne. refl;
   gates = λ u x ne dies. refl;
+  kinds = λ x was. was;
   lives = λ u x ne. refl;
 }
 
@@ -163,5 +171,6 @@ quiet_rule p n m t a moves place rest taken =
       closed_is = λ x is. rest.rule.closed_is x (sym (ap (is_among x) closed) ∙ is);
       closed_has = λ x is. ap (is_among x) closed ∙ rest.rule.closed_has x is;
       once = subst (λ (l : List ℕ). AllPairs (λ x y. x ≢ y) l) (sym closed) rest.rule.once;
+      kinds = λ x born. rest.rule.kinds x born ∙ ap (λ (k : ℕ → Kind). kind_number (k x)) (sym (quiet_kinds m.plain t moves quiet));
       none_word = rest.rule.none_word;
     }

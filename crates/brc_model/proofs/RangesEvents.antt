@@ -34,7 +34,7 @@ use Rattle.std.proofs.lemmas.Option.{slice_get_within}
 pub starts_small : (p : Module) (n : ℕ) (m : Machine) (t : ℕ) (a : Actor) (d : Duty) (rest : List Duty) → Rule p n m → slice_get m.actors t ≡ Some a → Starts m.plain.references m.rows t a.used d rest → IsSmall (limit n m) d
 starts_small p n m t a d rest rule found (Gives row h behind some) = referenced_small p n m row rule some
 starts_small p n m t a d rest rule found (Takes row h by behind some) = referenced_small p n m row rule (omega (arith, some, held-le-references_to (reference_of t by row) m.plain.references))
-starts_small p n m t a d rest rule found (Bears h w room few) = (next_within p n m t a rule found room, few)
+starts_small p n m t a d rest rule found (Bears h w room few said) = (next_within p n m t a rule found room, few)
 
 follows_small : (k rows t used : ℕ) (place : Place) (rest : List Duty) → Follows rows t used place rest → AreSmall k rest
 follows_small k rows t used place rest (Nothing stays) = tt

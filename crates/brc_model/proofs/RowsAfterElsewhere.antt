@@ -93,7 +93,7 @@ without_elsewhere x r (q ∷ qs) other =
     ] refl
 
 abbrev object_of : Move → ℕ
-object_of (Born r) = r.object
+object_of (Born r kind) = r.object
 object_of (Gain r) = r.object
 object_of (Lose r) = r.object
 object_of (HandOn r h) = r.object
@@ -104,7 +104,7 @@ AreElsewhere x [] = Unit {0}
 AreElsewhere x (mv ∷ ms) = ((object_of mv == x) ≡ false) × AreElsewhere x ms
 
 move_elsewhere : (x : ℕ) (p : Plain) (mv : Move) → (object_of mv == x) ≡ false → references_to x p.references ≡ references_to x (move p mv).references
-move_elsewhere x p (Born r) other = let none : one_if (r.object == x) ≡ 0 = ap one_if other in omega (arith, references_to-cons x r p.references, none)
+move_elsewhere x p (Born r kind) other = let none : one_if (r.object == x) ≡ 0 = ap one_if other in omega (arith, references_to-cons x r p.references, none)
 move_elsewhere x p (Gain r) other = let none : one_if (r.object == x) ≡ 0 = ap one_if other in omega (arith, references_to-cons x r p.references, none)
 move_elsewhere x p (Lose r) other = sym (without_elsewhere x r p.references other)
 move_elsewhere x p (HandOn r h) other =
@@ -120,19 +120,19 @@ elsewhere_if : (x : ℕ) (b : Bool) (ms ks : List Move) → AreElsewhere x ms �
 elsewhere_if x true ms ks first second = first
 elsewhere_if x false ms ks first second = second
 
-moves_elsewhere : (x t : ℕ) (d : Duty) (found : ℕ) → (subject d == x) ≡ false → ((y i n : ℕ) → d ≡ SettleCell y i n → found ≡ 0) → AreElsewhere x (moves_by t d found)
-moves_elsewhere x t (RetainLoad y h) found e empty = elsewhere_if x (is_immortal_word found) _ _ (e, tt) tt
-moves_elsewhere x t (RetainStore y h w) found e empty = (e, tt)
-moves_elsewhere x t (RetainAdd y h) found e empty = (e, tt)
-moves_elsewhere x t (ReleaseLoad y InHand) found e empty = elsewhere_if x (is_immortal_word found) _ _ (e, tt) tt
-moves_elsewhere x t (ReleaseLoad y AsCaller) found e empty = (e, elsewhere_if x (is_immortal_word found) _ _ (e, tt) tt)
-moves_elsewhere x t (ReleaseLoad y (ByVariable v)) found e empty = (e, elsewhere_if x (is_immortal_word found) _ _ (e, tt) tt)
-moves_elsewhere x t (ReleaseStore y w) found e empty = (e, tt)
-moves_elsewhere x t (SharedExchange y Own w) found e empty = elsewhere_if x (found == w) _ _ (e, tt) tt
-moves_elsewhere x t (SettleCell y i n) found e empty = subst (λ (w : ℕ). AreElsewhere x (take_out t y i w)) (sym (empty y i n refl)) tt
-moves_elsewhere x t (SettleEnd y) found e empty = (e, tt)
-moves_elsewhere x t (BirthLocal y h) found e empty = (e, tt)
-moves_elsewhere x t d found e empty = tt
+moves_elsewhere : (memory : Address → ℕ) (x t : ℕ) (d : Duty) (found : ℕ) → (subject d == x) ≡ false → ((y i n : ℕ) → d ≡ SettleCell y i n → found ≡ 0) → AreElsewhere x (moves_by memory t d found)
+moves_elsewhere memory x t (RetainLoad y h) found e empty = elsewhere_if x (is_immortal_word found) _ _ (e, tt) tt
+moves_elsewhere memory x t (RetainStore y h w) found e empty = (e, tt)
+moves_elsewhere memory x t (RetainAdd y h) found e empty = (e, tt)
+moves_elsewhere memory x t (ReleaseLoad y InHand) found e empty = elsewhere_if x (is_immortal_word found) _ _ (e, tt) tt
+moves_elsewhere memory x t (ReleaseLoad y AsCaller) found e empty = (e, elsewhere_if x (is_immortal_word found) _ _ (e, tt) tt)
+moves_elsewhere memory x t (ReleaseLoad y (ByVariable v)) found e empty = (e, elsewhere_if x (is_immortal_word found) _ _ (e, tt) tt)
+moves_elsewhere memory x t (ReleaseStore y w) found e empty = (e, tt)
+moves_elsewhere memory x t (SharedExchange y Own w) found e empty = elsewhere_if x (found == w) _ _ (e, tt) tt
+moves_elsewhere memory x t (SettleCell y i n) found e empty = subst (λ (w : ℕ). AreElsewhere x (take_out t y i w)) (sym (empty y i n refl)) tt
+moves_elsewhere memory x t (SettleEnd y) found e empty = (e, tt)
+moves_elsewhere memory x t (BirthLocal y h) found e empty = (e, tt)
+moves_elsewhere memory x t d found e empty = tt
 
 -- ---- duties
 
@@ -298,7 +298,7 @@ row_elsewhere {p = p} {n = n} {m = m} {t = t} {a = a} {d = d} {rest = rest} s x 
       local = written_elsewhere m.memory at left (Local x) (other_local m.rows t a.head d x e);
       shared = written_elsewhere m.memory at left (Shared x) (other_shared m.rows t a.head d x e);
       mark = written_elsewhere m.memory at left (Mark x) (other_mark m.rows t a.head d x e);
-      references = moved_elsewhere x m.plain (moves_by t d found) (moves_elsewhere x t d found e (cell_found p n m t a d s.rule));
+      references = moved_elsewhere x m.plain (moves_by m.memory t d found) (moves_elsewhere m.memory x t d found e (cell_found p n m t a d s.rule));
       waiting = next.waiting ∙ sym this.waiting;
       carried = next.carried ∙ sym this.carried;
       merging = next.merging ∙ sym this.merging;

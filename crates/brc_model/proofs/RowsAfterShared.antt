@@ -50,9 +50,9 @@ exchanged : (memory : Address → ℕ) (y w : ℕ) (b : Bool) → (memory (Share
 exchanged memory y w b e = written_here memory (Shared y) _ (own y) ∙ ap (λ (c : Bool). cond c (released_word w) (memory (Shared y))) e
 
 -- the references, by its test
-exchange_moves : (t y : ℕ) (r : Reason) (w found : ℕ) (p : Plain) → (found == w) ≡ false → references_to y p.references ≡ references_to y (moved p (moves_by t (SharedExchange y r w) found)).references
-exchange_moves t y Own w found p e = sym (ap (λ (b : Bool). references_to y (moved p (cond b (lose t y) [])).references) e)
-exchange_moves t y Handed w found p e = refl
+exchange_moves : (memory : Address → ℕ) (t y : ℕ) (r : Reason) (w found : ℕ) (p : Plain) → (found == w) ≡ false → references_to y p.references ≡ references_to y (moved p (moves_by memory t (SharedExchange y r w) found)).references
+exchange_moves memory t y Own w found p e = sym (ap (λ (b : Bool). references_to y (moved p (cond b (lose t y) [])).references) e)
+exchange_moves memory t y Handed w found p e = refl
 
 -- another thread was faster: it loads anew
 row_after_lost_exchange : {p : Module} {n : ℕ} {m : Machine} {t : ℕ} {a : Actor} {y : ℕ} {r : Reason} {w : ℕ} {rest : List Duty} → 0 < y → Doing p n m t a (SharedExchange y r w) rest
@@ -64,7 +64,7 @@ row_after_lost_exchange {m = m} {t = t} {y = y} {r = r} {w = w} some s other =
       local = refl;
       shared = sym (exchanged m.memory y w false other);
       mark = refl;
-      references = exchange_moves t y r w (m.memory (Shared y)) m.plain other;
+      references = exchange_moves m.memory t y r w (m.memory (Shared y)) m.plain other;
       waiting = omega (arith, same_waits y y r w);
       carried = refl;
       merging = refl;
@@ -74,8 +74,8 @@ row_after_lost_exchange {m = m} {t = t} {y = y} {r = r} {w = w} some s other =
 -- ---- a reference of the thread's own
 
 -- the references are one fewer
-own_moves : (t y w found : ℕ) (p : Plain) → (found == w) ≡ true → references_to y (moved p (moves_by t (SharedExchange y Own w) found)).references ≡ references_to y (moved p (lose t y)).references
-own_moves t y w found p e = ap (λ (b : Bool). references_to y (moved p (cond b (lose t y) [])).references) e
+own_moves : (memory : Address → ℕ) (t y w found : ℕ) (p : Plain) → (found == w) ≡ true → references_to y (moved p (moves_by memory t (SharedExchange y Own w) found)).references ≡ references_to y (moved p (lose t y)).references
+own_moves memory t y w found p e = ap (λ (b : Bool). references_to y (moved p (cond b (lose t y) [])).references) e
 
 own_queues : {p : Module} {n : ℕ} {m : Machine} {t : ℕ} {a : Actor} {y w : ℕ} {rest : List Duty} → Doing p n m t a (SharedExchange y Own w) rest
     → (m.memory (Shared y) == w) ≡ true → m.memory (Shared y) ≡ w → (w == fresh_word) ≡ true → w ≡ fresh_word → KeepsRow m t a (SharedExchange y Own w) rest y
@@ -92,7 +92,7 @@ own_queues {m = m} {t = t} {a = a} {y = y} {w = w} {rest = rest} s test same is_
       local = refl;
       shared = omega (arith, exchanged m.memory y w true test, left, same);
       mark = refl;
-      references = omega (arith, own_moves t y w (m.memory (Shared y)) m.plain test, lost.less);
+      references = omega (arith, own_moves m.memory t y w (m.memory (Shared y)) m.plain test, lost.less);
       waiting = omega (arith, weights.waiting, one);
       carried = omega (arith, weights.carried);
       merging = omega (arith, weights.merging);
@@ -113,7 +113,7 @@ own_dies {m = m} {t = t} {a = a} {y = y} {w = w} {rest = rest} s test same other
       local = refl;
       shared = omega (arith, exchanged m.memory y w true test, left, same);
       mark = refl;
-      references = omega (arith, own_moves t y w (m.memory (Shared y)) m.plain test, lost.less);
+      references = omega (arith, own_moves m.memory t y w (m.memory (Shared y)) m.plain test, lost.less);
       waiting = omega (arith, weights.waiting);
       carried = omega (arith, weights.carried);
       merging = omega (arith, weights.merging);
@@ -134,7 +134,7 @@ own_loses {m = m} {t = t} {a = a} {y = y} {w = w} {rest = rest} s test same othe
       local = refl;
       shared = omega (arith, exchanged m.memory y w true test, left, same);
       mark = refl;
-      references = omega (arith, own_moves t y w (m.memory (Shared y)) m.plain test, lost.less);
+      references = omega (arith, own_moves m.memory t y w (m.memory (Shared y)) m.plain test, lost.less);
       waiting = omega (arith, weights.waiting);
       carried = omega (arith, weights.carried);
       merging = omega (arith, weights.merging);

@@ -10,12 +10,13 @@ use Rattle.brc_model.specs.declared.duty.Holding.{Holding}
 use Rattle.brc_model.specs.declared.duty.Holding.TheVariants.{InHand}
 use Rattle.brc_model.specs.Plain.{Reference, same_holding, is_among, references_to}
 use Rattle.brc_model.specs.Threads.{code_of}
-use Rattle.brc_word.specs.Words.{owner_part, local_part, phase_part, dying_word}
+use Rattle.brc_word.specs.Words.{owner_part, local_part, phase_part, dying_word, kind_part}
+use Rattle.brc_model.specs.Kinds.{kind_number, kind_of_word, is_counted_kind}
 use Rattle.brc_model.specs.declared.duty.Reason.TheVariants.{Own, Handed}
 use Rattle.brc_model.specs.declared.duty.Duty.{Duty}
 use Rattle.brc_model.specs.declared.duty.Duty.TheVariants.{RetainLoad, RetainStore, RetainAdd, ReleaseLoad, ReleaseStore, DecideAtZero, SharedLoad, SharedExchange, SetMark, Look, TakeMark, MergeSwap, MergeLoad, MergeExchange, Die, Settle, SettleKind, SettleCell, TakeSlot, CloseResource, SettleEnd, Leave, Scan, Finish, ClaimMark, BirthKind, BirthSlot, BirthLocal}
 use Rattle.brc_model.specs.declared.address.Address.{Address}
-use Rattle.brc_model.specs.declared.address.Address.TheVariants.{Local, Shared, Gate, Mark, Cell, ThreadWord}
+use Rattle.brc_model.specs.declared.address.Address.TheVariants.{Local, Shared, Gate, KindOf, Mark, Cell, ThreadWord}
 use Rattle.brc_model.specs.Duties.{block_of}
 use Rattle.brc_model.specs.declared.actor.Status.{Status}
 use Rattle.brc_model.specs.declared.actor.Status.TheVariants.{Running, Leaving, Gone}
@@ -116,6 +117,10 @@ pub record IsNext (m : Machine) (t : ℕ) (a : Actor) (x : ℕ) : Type 0 where
   pub row : x ≡ first_row m.rows t + a.used
   pub room : a.used < m.rows
 
+-- the kind word says that the row's object is one that is counted
+abbrev pub HasCountedKind : (Address → ℕ) → ℕ → Type 0
+HasCountedKind memory x = is_counted_kind (kind_of_word (memory (KindOf x))) ≡ true
+
 abbrev pub HeadFits : Machine → ℕ → Actor → Duty → List Duty → Type 0
 HeadFits m t a (RetainLoad x h) rest = IsBacked m t x
 HeadFits m t a (RetainStore x h w) rest = (0 < x) × IsBacked m t x × OwnsLocally m t a x × (m.memory (Local x) ≡ w) × (1 ≤ local_part w) × (local_part w < 4294967294)
@@ -145,9 +150,9 @@ HeadFits m t a (Leave x n) rest = Unit {0}
 HeadFits m t a (Scan x n) rest = 0 < n
 HeadFits m t a Finish rest = Unit {0}
 HeadFits m t a (ClaimMark x) rest = block_of m.rows x ≡ t
-HeadFits m t a (BirthKind x h w) rest = IsNext m t a x × (rest ≡ [])
-HeadFits m t a (BirthSlot x h) rest = IsNext m t a x × (rest ≡ [])
-HeadFits m t a (BirthLocal x h) rest = IsNext m t a x × (rest ≡ [])
+HeadFits m t a (BirthKind x h w) rest = IsNext m t a x × (rest ≡ []) × (is_counted_kind (kind_of_word w) ≡ true)
+HeadFits m t a (BirthSlot x h) rest = IsNext m t a x × (rest ≡ []) × HasCountedKind m.memory x
+HeadFits m t a (BirthLocal x h) rest = IsNext m t a x × (rest ≡ []) × HasCountedKind m.memory x
 
 abbrev pub HeadOf : Machine → ℕ → Actor → List Duty → Type 0
 HeadOf m t a [] = Unit {0}
@@ -288,5 +293,6 @@ pub record Rule (p : Module) (n : ℕ) (m : Machine) : Type 0 where
   pub closed_is : (x : ℕ) → is_among x m.plain.closed ≡ true → m.life x ≡ Closed
   pub closed_has : (x : ℕ) → m.life x ≡ Closed → is_among x m.plain.closed ≡ true
   pub once : AllPairs (λ x y. x ≢ y) m.plain.closed
+  pub kinds : (x : ℕ) → m.life x ≢ Unborn → kind_part (m.memory (KindOf x)) ≡ kind_number (m.plain.kinds x)
   -- none is immortal
   pub none_word : m.memory (Local 0) ≡ 8589934591

@@ -1,6 +1,7 @@
 -- The invariant says what an accepted module promises, so each accepted module is safe.
 use Rattle.std.proofs.Common.{◌≡◌, ℕ, zero, suc, ◌+◌, ◌<◌, true, List, [], ◌∷◌, inl, inr, length, Some, refl, sym, ap, ◌∙◌, subst, arith, ◌≢◌, ◌≤◌}
 use Rattle.std.specs.Prelude.{◌==◌, slice_get, count_by, sum_by, map}
+use Rattle.std.specs.List.{All}
 use Rattle.std.proofs.lemmas.Bool.{eq-eqb, false≢true}
 use Rattle.std.proofs.lemmas.Option.{slice_get_cases, slice_get_within}
 use Rattle.brc_lang.specs.declared.module.Module.{Module}
@@ -18,7 +19,7 @@ use Rattle.brc_model.specs.declared.actor.Status.TheVariants.{Running, Leaving, 
 use Rattle.brc_model.specs.declared.actor.Place.{Place}
 use Rattle.brc_model.specs.declared.actor.Place.TheVariants.{Departing}
 use Rattle.brc_model.specs.Machine.{Actor, Life, Unborn, Live, Dying, Closed, Machine, main_actor, worker_actor, first_machine}
-use Rattle.brc_model.specs.Safety.{AreCalls, has_gone, AllGone, IsSafeNow, Safe}
+use Rattle.brc_model.specs.Safety.{AreCalls, has_gone, AllGone, IsHeldByOpenList, IsSafeNow, Safe}
 use Rattle.brc_model.proofs.Bag.{held, one_if, empty_bag}
 use Rattle.brc_model.proofs.Lists.{some_is, list_all_found, slice_get-map}
 use Rattle.brc_model.proofs.Holds.{nothing, reference_of}
@@ -157,6 +158,7 @@ pub safe_now : (p : Module) (n : ℕ) (m : Machine) → Whole p n m → 0 < n �
 safe_now p n m whole some = record {
   none_bad = λ event. (event_keeps p n m event whole).0;
   agrees = λ x pos. agrees_at p n m x whole.rule pos;
+  kinds = whole.rule.kinds;
   free = λ x pos alive born. is_free_of p n m x whole.rule pos alive born;
   closed_once = whole.rule.once;
   closed_at_end = λ done x. (
@@ -168,6 +170,7 @@ safe_now p n m whole some = record {
         whole.rule.closed_has x (born_closed p n m x (m.life x) whole.rule done was.0 born.1 was.1 refl),
   );
   none_left = λ done. none_left p n m whole.rule done;
+  left_in_lists = λ done. subst (All (IsHeldByOpenList m.plain)) (sym (none_left p n m whole.rule done)) (λ i d within. absurd (omega (arith, within)));
 }
 
 first_settled : (calls : List Call) (t : ℕ) (a : Actor) → slice_get (main_actor ∷ map worker_actor calls) t ≡ Some a → IsSettled a.head a.agenda

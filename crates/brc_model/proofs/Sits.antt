@@ -81,6 +81,7 @@ nothing_changes m t b = record {
   stopped = λ u was. was;
   words = λ u ne. refl;
   gates = λ u x ne dies. refl;
+  kinds = λ x was. was;
   lives = λ u x ne. refl;
 }
 
@@ -139,6 +140,7 @@ sits_rule p n m t a place agenda rest sits = record {
   closed_is = rest.rule.closed_is;
   closed_has = rest.rule.closed_has;
   once = rest.rule.once;
+  kinds = rest.rule.kinds;
   none_word = rest.rule.none_word;
 }
 

@@ -75,11 +75,11 @@ starts_sit p n m t a place d rest at placed (Takes row h by behind some) follows
       no_decides = λ x. omega (arith, sum_by-cons (decides x) (RetainLoad row h) rest, weigh (decides x) refl (λ y k. refl));
       no_looks = λ x. omega (arith, sum_by-cons (looks x) (RetainLoad row h) rest, weigh (looks x) refl (λ y k. refl));
     }
-starts_sit p n m t a place d rest at placed (Bears h w room few) follows =
+starts_sit p n m t a place d rest at placed (Bears h w room few said) follows =
     let row = next_row m.rows t a.used in
     record {
       placed = placed;
-      knows = (next_is p n m t a place (BirthKind row h w ∷ []) at room, refl);
+      knows = (next_is p n m t a place (BirthKind row h w ∷ []) at room, refl, said);
       fits = later_follows m.rows t a.used place [] follows;
       handed = tt;
       hands = λ x. refl;

@@ -17,6 +17,7 @@ use Rattle.brc_model.specs.declared.duty.Holding.TheVariants.{ByVariable, AsCall
 use Rattle.brc_model.specs.Plain.{root_row, Reference, same_holding, references_to, none_row, same, without}
 use Rattle.brc_model.specs.Threads.{row_of, entry_variables}
 use Rattle.brc_model.specs.declared.duty.Duty.TheVariants.{RetainLoad, ReleaseLoad, Settle, BirthKind, Leave}
+use Rattle.brc_model.specs.Kinds.{kind_numbered, kind_of_word, is_counted_kind}
 use Rattle.brc_model.specs.declared.actor.Place.{Place}
 use Rattle.brc_model.specs.declared.actor.Place.TheVariants.{Standing, Inside, Departing}
 use Rattle.brc_model.specs.Machine.{Work, begun_instruction, begun, Begun, Quiet, first_row, has_room, next_row, block_size, number_word, gain, pass_on}
@@ -51,6 +52,12 @@ number_cells value low =
     let kind : (kind_part (number_word value) == 3) ≡ false = ne_eqb (kind_part (number_word value)) 3 (λ e. absurd (omega (arith, low, e))) in
     let none : cells_of (number_word value) ≡ 0 = ap (λ (b : Bool). cond b (argument_part (number_word value)) 0) kind in
     omega (arith, none)
+
+-- and is an object that is counted
+number_counts : (value : ℕ) → value < 4294967296 → is_counted_kind (kind_of_word (number_word value)) ≡ true
+number_counts value low =
+    let number : kind_part (number_word value) ≡ 2 = omega (arith, low) in
+    ap (λ (k : ℕ). is_counted_kind (kind_numbered k)) number
 
 -- what lacked one reference has it
 gained_holds : (bag : List Reference) (t to row : ℕ) (says : Holding → ℕ → Bool)
@@ -157,7 +164,7 @@ num_born code bag rows t used left at variables s to value otherwise here room =
     record { each = newref_held bag t s variables to row slot in_slots in_rows free refl here.holds } in
     record {
       placed = (put s to slot, next, held_now);
-      starts = Bears (ByVariable to) (number_word value) (ltb-true used (block_size rows t) room) (number_cells value here.variables.1);
+      starts = Bears (ByVariable to) (number_word value) (ltb-true used (block_size rows t) room) (number_cells value here.variables.1) (number_counts value here.variables.1);
       follows = Nothing (inside_stays left (at + 1) (slice_set variables to (Some row)));
     }
 

@@ -13,6 +13,7 @@ use Rattle.brc_word.specs.Words.{is_immortal_word}
 use Rattle.brc_model.specs.declared.duty.Reason.TheVariants.{Own}
 use Rattle.brc_model.specs.declared.duty.Duty.{Duty}
 use Rattle.brc_model.specs.declared.duty.Duty.TheVariants.{RetainLoad, RetainStore, RetainAdd, ReleaseLoad, ReleaseStore, SharedExchange, SettleEnd, BirthLocal, SettleCell}
+use Rattle.brc_model.specs.declared.address.Address.{Address}
 use Rattle.brc_model.specs.Duties.{block_of, address_of}
 use Rattle.brc_model.specs.Machine.{Actor, Unborn, Live, Dying, Closed, Machine, first_row, used_by, hand_on, gain, lose, moves_by, born_row, actor_by, done_by, take_out}
 use Rattle.brc_model.proofs.Lists.{some_is, slice_get-set_same, slice_get-set_other}
@@ -134,20 +135,20 @@ no_block_after p n m t a d rest here x past =
 
 -- ---- the list of what was born
 
-abbrev BearsNone : Move → Type 0
-BearsNone (Born r) = ⊥
+abbrev pub BearsNone : Move → Type 0
+BearsNone (Born r kind) = ⊥
 BearsNone (Gain r) = Unit {0}
 BearsNone (Lose r) = Unit {0}
 BearsNone (HandOn r h) = Unit {0}
 BearsNone (Finalise x) = Unit {0}
 
-abbrev AllBearNone : List Move → Type 0
+abbrev pub AllBearNone : List Move → Type 0
 AllBearNone [] = Unit {0}
 AllBearNone (mv ∷ mvs) = BearsNone mv × AllBearNone mvs
 
 moved_born : (p : Plain) (mvs : List Move) → AllBearNone mvs → (moved p mvs).born ≡ p.born
 moved_born p [] none = refl
-moved_born p (Born r ∷ mvs) none = absurd none.0
+moved_born p (Born r kind ∷ mvs) none = absurd none.0
 moved_born p (Gain r ∷ mvs) none = moved_born (move p (Gain r)) mvs none.1
 moved_born p (Lose r ∷ mvs) none = moved_born (move p (Lose r)) mvs none.1
 moved_born p (HandOn r h ∷ mvs) none = moved_born (move p (HandOn r h)) mvs none.1
@@ -170,25 +171,25 @@ take_out_none : (t x i found : ℕ) → AllBearNone (take_out t x i found)
 take_out_none t x i zero = tt
 take_out_none t x i (suc y) = (tt, tt)
 
-moves_none : (t : ℕ) (d : Duty) (found : ℕ) → born_row d ≡ None → AllBearNone (moves_by t d found)
-moves_none t (RetainLoad x h) found e = either_none (is_immortal_word found) (gain t h x) [] (tt, tt) tt
-moves_none t (RetainStore x h w) found e = (tt, tt)
-moves_none t (RetainAdd x h) found e = (tt, tt)
-moves_none t (ReleaseLoad x h) found e = append_none (hand_on t h x) (cond (is_immortal_word found) (lose t x) []) (hand_on_none t h x) (either_none (is_immortal_word found) (lose t x) [] (tt, tt) tt)
-moves_none t (ReleaseStore x w) found e = (tt, tt)
-moves_none t (SharedExchange x Own w) found e = either_none (found == w) (lose t x) [] (tt, tt) tt
-moves_none t (SettleCell x i k) found e = take_out_none t x i found
-moves_none t (SettleEnd x) found e = (tt, tt)
-moves_none t (BirthLocal x h) found e = absurd (let wrong : Some x ≡ None = e in cc)
-moves_none t _ found e = tt
+pub moves_none : (memory : Address → ℕ) (t : ℕ) (d : Duty) (found : ℕ) → born_row d ≡ None → AllBearNone (moves_by memory t d found)
+moves_none memory t (RetainLoad x h) found e = either_none (is_immortal_word found) (gain t h x) [] (tt, tt) tt
+moves_none memory t (RetainStore x h w) found e = (tt, tt)
+moves_none memory t (RetainAdd x h) found e = (tt, tt)
+moves_none memory t (ReleaseLoad x h) found e = append_none (hand_on t h x) (cond (is_immortal_word found) (lose t x) []) (hand_on_none t h x) (either_none (is_immortal_word found) (lose t x) [] (tt, tt) tt)
+moves_none memory t (ReleaseStore x w) found e = (tt, tt)
+moves_none memory t (SharedExchange x Own w) found e = either_none (found == w) (lose t x) [] (tt, tt) tt
+moves_none memory t (SettleCell x i k) found e = take_out_none t x i found
+moves_none memory t (SettleEnd x) found e = (tt, tt)
+moves_none memory t (BirthLocal x h) found e = absurd (let wrong : Some x ≡ None = e in cc)
+moves_none memory t _ found e = tt
 
 data BornStep (m : Machine) (t : ℕ) (d : Duty) (found : ℕ) : Type 0 where
-  SameBorn : born_row d ≡ None → (moved m.plain (moves_by t d found)).born ≡ m.plain.born → BornStep m t d found
-  OneBorn : (y : ℕ) → born_row d ≡ Some y → (moved m.plain (moves_by t d found)).born ≡ m.plain.born ++ y ∷ [] → BornStep m t d found
+  SameBorn : born_row d ≡ None → (moved m.plain (moves_by m.memory t d found)).born ≡ m.plain.born → BornStep m t d found
+  OneBorn : (y : ℕ) → born_row d ≡ Some y → (moved m.plain (moves_by m.memory t d found)).born ≡ m.plain.born ++ y ∷ [] → BornStep m t d found
 
 born_step : (m : Machine) (t : ℕ) (d : Duty) (found : ℕ) → BornStep m t d found
 born_step m t (BirthLocal x h) found = OneBorn x refl refl
-born_step m t d found = SameBorn refl (moved_born m.plain (moves_by t d found) (moves_none t d found refl))
+born_step m t d found = SameBorn refl (moved_born m.plain (moves_by m.memory t d found) (moves_none m.memory t d found refl))
 
 pub born_is_after : (p : Module) (n : ℕ) (m : Machine) (t : ℕ) (a : Actor) (d : Duty) (rest : List Duty) → AtDuty p n m t a d rest → (x : ℕ) → is_among x (done_by m t a d rest).plain.born ≡ true
     → (0 < x) × ((done_by m t a d rest).life x ≢ Unborn)
@@ -209,7 +210,7 @@ born_is_after p n m t a d rest here x is =
     ]
 
 -- what is born stands in the list, now or before
-before_or_now : (p : Module) (n : ℕ) (m : Machine) (t : ℕ) (a : Actor) (d : Duty) (rest : List Duty) (x : ℕ) → AtDuty p n m t a d rest → (done_by m t a d rest).life x ≢ Unborn → (m.life x ≢ Unborn) ⊎ (born_row d ≡ Some x)
+pub before_or_now : (p : Module) (n : ℕ) (m : Machine) (t : ℕ) (a : Actor) (d : Duty) (rest : List Duty) (x : ℕ) → AtDuty p n m t a d rest → (done_by m t a d rest).life x ≢ Unborn → (m.life x ≢ Unborn) ⊎ (born_row d ≡ Some x)
 before_or_now p n m t a d rest x here born =
     elim (life_step p n m t a d rest x here) [
       | GoesOn now other ↦ inl (λ e. born (now ∙ e))

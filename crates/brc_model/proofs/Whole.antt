@@ -125,4 +125,4 @@ starts_settled bag rows t used head place d rest (Gives row h behind some) (Leav
 starts_settled bag rows t used head place d rest (Takes row h by behind some) (Nothing stays) = tt
 starts_settled bag rows t used head place d rest (Takes row h by behind some) (SettlesFirst stays) = tt
 starts_settled bag rows t used head place d rest (Takes row h by behind some) (Leaves leaves) = tt
-starts_settled bag rows t used head place d rest (Bears h w room few) follows = tt
+starts_settled bag rows t used head place d rest (Bears h w room few said) follows = tt

@@ -1,12 +1,14 @@
 -- What the counts of a row add up to, and what each phase implies. (PEP 703, Biased Reference Counting: an object's references
 -- are its local count and its shared count together; it is freed from default and merged alone.)
-use Rattle.std.specs.Prelude.{◌≡◌, ℕ, ◌+◌, ◌<◌, ◌≤◌, ◌==◌, if◌then◌else◌, sum_by}
+use Rattle.std.specs.Prelude.{◌≡◌, ◌⊎◌, ℕ, ◌+◌, ◌<◌, ◌≤◌, Bool, true, false, ◌||◌, ◌==◌, if◌then◌else◌, Some, slice_get, sum_by}
+use Rattle.std.specs.List.{list_any}
 use Rattle.brc_model.specs.Plain.{references_to}
-use Rattle.brc_word.specs.Words.{local_part, biased_part, phase_part, bias}
+use Rattle.brc_word.specs.Words.{owner_part, local_part, biased_part, phase_part, bias}
 use Rattle.brc_model.specs.declared.duty.Reason.TheVariants.{Handed}
 use Rattle.brc_model.specs.declared.duty.Duty.{Duty}
-use Rattle.brc_model.specs.declared.duty.Duty.TheVariants.{SharedLoad, SharedExchange, SetMark, MergeLoad, MergeExchange}
+use Rattle.brc_model.specs.declared.duty.Duty.TheVariants.{DecideAtZero, SharedLoad, SharedExchange, SetMark, MergeSwap, MergeLoad, MergeExchange}
 use Rattle.brc_model.specs.declared.address.Address.TheVariants.{Local, Shared, Mark}
+use Rattle.brc_model.specs.Duties.{block_of}
 use Rattle.brc_model.specs.Machine.{Live, Actor, Machine}
 
 -- ---- weights of a duty at a row
@@ -31,7 +33,50 @@ carries x _ = 0
 abbrev pub weighed : (Duty → ℕ) → Machine → ℕ
 weighed f m = sum_by (λ (a : Actor). sum_by f a.agenda) m.actors
 
+-- ---- who has a duty about a row
+
+-- to decide what becomes of the row, for its local count is zero
+abbrev pub is_deciding : ℕ → Duty → Bool
+is_deciding x (DecideAtZero y) = y == x
+is_deciding x _ = false
+
+-- to add the local count to the shared word: it is swapped out of the local word
+abbrev pub has_swapped : ℕ → Duty → Bool
+has_swapped x (MergeLoad y c) = y == x
+has_swapped x (MergeExchange y c w) = y == x
+has_swapped x _ = false
+
+-- to swap the local count out, or to add what was swapped out
+abbrev pub is_merging : ℕ → Duty → Bool
+is_merging x (MergeSwap y r) = y == x
+is_merging x d = has_swapped x d
+
+abbrev pub decides_or_merges : ℕ → Duty → Bool
+decides_or_merges x d = is_deciding x d || is_merging x d
+
+-- the thread has such a duty in its agenda
+pub record HasDuty (m : Machine) (t : ℕ) (is_such : Duty → Bool) : Type 0 where
+  pub actor : Actor
+  pub found : slice_get m.actors t ≡ Some actor
+  pub listed : list_any is_such actor.agenda ≡ true
+
+abbrev pub SomeThreadHas : Machine → (Duty → Bool) → Type 0
+SomeThreadHas m is_such = (t : ℕ) × HasDuty m t is_such
+
+-- the thread that the row's local word names as its owner has such a duty
+abbrev pub OwnerHas : Machine → ℕ → (Duty → Bool) → Type 0
+OwnerHas m x is_such = (t : ℕ) × (owner_part (m.memory (Local x)) ≡ t + 1) × HasDuty m t is_such
+
+-- the thread whose block the row is of owns it, and counts it at least once in the local word
+pub record IsCountedLocally (m : Machine) (x : ℕ) : Type 0 where
+  pub owner : owner_part (m.memory (Local x)) ≡ block_of m.rows x + 1
+  pub counted : 1 ≤ local_part (m.memory (Local x))
+
 -- ---- agreement
+
+-- default, queued and merged: there is no other phase
+abbrev pub IsPhase : ℕ → Type 0
+IsPhase phase = (phase ≡ 0) ⊎ (phase ≡ 2) ⊎ (phase ≡ 3)
 
 -- the counts of a row, and the bias of its shared word
 abbrev pub biased_total : Machine → ℕ → ℕ
@@ -48,6 +93,13 @@ pub record AgreesAt (m : Machine) (x : ℕ) : Type 0 where
   pub queued_one : m.life x ≡ Live → phase_part (m.memory (Shared x)) ≡ 2 → awaiting m x ≡ 1
   pub merged_free : m.life x ≡ Live → phase_part (m.memory (Shared x)) ≡ 3 → m.memory (Local x) ≡ 0
   pub merged_counts : m.life x ≡ Live → phase_part (m.memory (Shared x)) ≡ 3 → bias < biased_part (m.memory (Shared x))
+  pub phase : m.life x ≡ Live → IsPhase (phase_part (m.memory (Shared x)))
+  -- the owner counts the row, unless a thread has found its last local reference gone, or merges it
+  pub default_local : m.life x ≡ Live → phase_part (m.memory (Shared x)) ≡ 0
+      → IsCountedLocally m x ⊎ SomeThreadHas m (decides_or_merges x)
+  -- unless the owner has, or a thread has swapped the local count out and not yet added it
+  pub queued_local : m.life x ≡ Live → phase_part (m.memory (Shared x)) ≡ 2
+      → IsCountedLocally m x ⊎ OwnerHas m x (decides_or_merges x) ⊎ SomeThreadHas m (has_swapped x)
 
 -- a row that is dying or closed has no reference, and nothing awaits it
 pub record IsFreeOf (m : Machine) (x : ℕ) : Type 0 where

@@ -37,7 +37,7 @@ touches_freed m t (Some x) = is_freed_for t (m.life x)
 
 abbrev pub is_bad_duty : Machine → ℕ → Actor → Duty → Bool
 is_bad_duty m t a d =
-    touches_freed m t (touched_row (address_of m.rows t a.head d)) || not (are_allowed m.plain (moves_by t d (m.memory (address_of m.rows t a.head d))))
+    touches_freed m t (touched_row (address_of m.rows t a.head d)) || not (are_allowed m.plain (moves_by m.memory t d (m.memory (address_of m.rows t a.head d))))
 
 abbrev pub is_bad_begun : Machine → ℕ → Actor → Begun → Bool
 is_bad_begun m t a Stuck = true

@@ -1,6 +1,7 @@
 pub mod Slots
 pub mod Walks
 pub mod Tables
+pub mod Kinds
 pub mod Plain
 pub mod Threads
 pub mod Duties

@@ -14,6 +14,9 @@ use Rattle.brc_model.specs.declared.actor.Place.{Place}
 use Rattle.brc_model.specs.declared.actor.Place.TheVariants.{Standing, Inside, Departing}
 use Rattle.brc_model.specs.declared.duty.Holding.{Holding}
 use Rattle.brc_model.specs.declared.duty.Holding.TheVariants.{ByVariable, AsCaller, InHand}
+use Rattle.brc_lang.specs.declared.kind.Kind.{Kind}
+use Rattle.brc_lang.specs.declared.kind.Kind.TheVariants as kinds
+use Rattle.brc_model.specs.Kinds.{kind_of_word}
 use Rattle.brc_model.specs.Plain.{none_row, root_row, Reference, Plain, Move, Born, Gain, Lose, HandOn, Finalise, moved, ByThread, ByCell}
 use Rattle.brc_model.specs.Threads.{code_of, row_of, entry_variables}
 use Rattle.brc_word.specs.Words.{is_immortal_word, local_word, fresh_word}
@@ -31,8 +34,8 @@ hand_on t InHand x = []
 hand_on t (ByVariable v) x = HandOn (record { holder = ByThread t (ByVariable v); object = x }) (ByThread t InHand) ∷ []
 hand_on t AsCaller x = HandOn (record { holder = ByThread t AsCaller; object = x }) (ByThread t InHand) ∷ []
 
-abbrev pub birth : ℕ → Holding → ℕ → List Move
-birth t h x = Born (record { holder = ByThread t h; object = x }) ∷ []
+abbrev pub birth : ℕ → Holding → ℕ → Kind → List Move
+birth t h x kind = Born (record { holder = ByThread t h; object = x }) kind ∷ []
 
 -- from one of its holders to another
 abbrev pub pass_on : ℕ → Holding → Holding → ℕ → List Move
@@ -172,17 +175,18 @@ written memory a word b = if same_address a b then word else memory b
 
 -- ---- the plain moves of a step
 
-abbrev pub moves_by : ℕ → Duty → ℕ → List Move
-moves_by t (RetainLoad x h) found = if is_immortal_word found then gain t h x else []
-moves_by t (RetainStore x h w) found = gain t h x
-moves_by t (RetainAdd x h) found = gain t h x
-moves_by t (ReleaseLoad x h) found = hand_on t h x ++ (if is_immortal_word found then lose t x else [])
-moves_by t (ReleaseStore x w) found = lose t x
-moves_by t (SharedExchange x Own w) found = if found == w then lose t x else []
-moves_by t (SettleCell x i n) found = take_out t x i found
-moves_by t (SettleEnd x) found = Finalise x ∷ []
-moves_by t (BirthLocal x h) found = birth t h x
-moves_by t _ found = []
+-- with a memory in which the kind of what is born stands
+abbrev pub moves_by : (Address → ℕ) → ℕ → Duty → ℕ → List Move
+moves_by memory t (RetainLoad x h) found = if is_immortal_word found then gain t h x else []
+moves_by memory t (RetainStore x h w) found = gain t h x
+moves_by memory t (RetainAdd x h) found = gain t h x
+moves_by memory t (ReleaseLoad x h) found = hand_on t h x ++ (if is_immortal_word found then lose t x else [])
+moves_by memory t (ReleaseStore x w) found = lose t x
+moves_by memory t (SharedExchange x Own w) found = if found == w then lose t x else []
+moves_by memory t (SettleCell x i n) found = take_out t x i found
+moves_by memory t (SettleEnd x) found = Finalise x ∷ []
+moves_by memory t (BirthLocal x h) found = birth t h x (kind_of_word (memory (KindOf x)))
+moves_by memory t _ found = []
 
 -- ---- life
 
@@ -229,7 +233,7 @@ done_by m t a d rest =
       rows = m.rows;
       memory = written m.memory address (left_by t a.head d found);
       actors = slice_set m.actors t (actor_by t a d rest found);
-      plain = moved m.plain (moves_by t d found);
+      plain = moved m.plain (moves_by m.memory t d found);
       life = life_by m.life t d (next_by t (is_running a.status) a.head d found);
     }
 
@@ -311,6 +315,12 @@ first_life zero = Live
 first_life (suc zero) = Live
 first_life (suc (suc x)) = Unborn
 
+-- none is none, the root is a list, and what isn't born has no kind yet
+abbrev pub first_kinds : ℕ → Kind
+first_kinds zero = kinds.None
+first_kinds (suc zero) = kinds.List
+first_kinds (suc (suc x)) = kinds.Any
+
 abbrev pub caller_reference : ℕ → Reference
 caller_reference t = record { holder = ByThread t AsCaller; object = root_row }
 
@@ -325,6 +335,6 @@ first_machine m rows calls = record {
   rows = rows;
   memory = first_memory (length calls);
   actors = main_actor ∷ map worker_actor calls;
-  plain = record { references = callers_below (1 + length calls); born = root_row ∷ []; closed = [] };
+  plain = record { references = callers_below (1 + length calls); born = root_row ∷ []; closed = []; kinds = first_kinds };
   life = first_life;
 }

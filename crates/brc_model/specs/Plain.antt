@@ -1,10 +1,12 @@
 -- The plain world knows nothing of counts: it is the bag of all references, each with its holder and its object, and the
--- lists of the objects that were born and of those that were closed. (Python/C API manual, Reference Count Details: a
+-- lists of the objects that were born and of those that were closed, and what each object is. (Python/C API manual, Reference Count Details: a
 -- reference is owned by one holder.)
 use Rattle.std.specs.Prelude.{ℕ, Bool, true, false, ◌&&◌, ◌||◌, ◌==◌, not, nat_lt, if◌then◌else◌, List, [], ◌∷◌, ◌++◌, count_by}
 use Rattle.brc_model.specs.declared.duty.Holding.{Holding}
 use Rattle.brc_model.specs.declared.duty.Holding.TheVariants.{ByVariable, AsCaller, InHand}
 use Rattle.std.specs.List.{list_any}
+use Rattle.brc_lang.specs.declared.kind.Kind.{Kind}
+use Rattle.brc_model.specs.Kinds.{is_counted_kind}
 
 -- the object none, which is immortal: it isn't counted, and is never closed
 abbrev pub none_row : ℕ
@@ -31,6 +33,8 @@ pub record Plain : Type 0 where
   -- the counted objects, in the order of their births
   pub born : List ℕ
   pub closed : List ℕ
+  -- of each object, from its birth on
+  pub kinds : ℕ → Kind
 
 -- ---- the bag
 
@@ -65,34 +69,38 @@ is_cell_of x (ByCell y i) = y == x
 abbrev pub holds_by_cells : ℕ → List Reference → Bool
 holds_by_cells x bag = list_any (λ r. is_cell_of x r.holder) bag
 
+-- the kinds with one object's given
+abbrev pub with_kind : (ℕ → Kind) → ℕ → Kind → ℕ → Kind
+with_kind kinds object kind x = if object == x then kind else kinds x
+
 abbrev pub is_among : ℕ → List ℕ → Bool
 is_among object objects = list_any (λ x. x == object) objects
 
 -- ---- moves
 
 pub data Move : Type 0 where
-  Born : Reference → Move
+  Born : Reference → Kind → Move
   Gain : Reference → Move
   Lose : Reference → Move
   HandOn : Reference → Holder → Move
   Finalise : ℕ → Move
 
--- What is born is a counted object that wasn't born before; a reference is gained to none or to an object that is referenced
+-- What is born is a counted object that wasn't born before, of a kind that is counted; a reference is gained to none or to an object that is referenced
 -- already; one that is lost or handed on is there; and what is finalised is a counted object that nothing references, for the
 -- first time, and a list only when its cells hold no reference.
 abbrev pub is_allowed : Plain → Move → Bool
-is_allowed p (Born r) = is_counted r.object && not (is_among r.object p.born)
+is_allowed p (Born r kind) = is_counted r.object && is_counted_kind kind && not (is_among r.object p.born)
 is_allowed p (Gain r) = (r.object == none_row) || nat_lt 0 (references_to r.object p.references)
 is_allowed p (Lose r) = list_any (same r) p.references
 is_allowed p (HandOn r h) = list_any (same r) p.references
 is_allowed p (Finalise x) = is_counted x && (references_to x p.references == 0) && not (is_among x p.closed) && not (holds_by_cells x p.references)
 
 abbrev pub move : Plain → Move → Plain
-move p (Born r) = record { references = r ∷ p.references; born = p.born ++ r.object ∷ []; closed = p.closed }
-move p (Gain r) = record { references = r ∷ p.references; born = p.born; closed = p.closed }
-move p (Lose r) = record { references = without r p.references; born = p.born; closed = p.closed }
-move p (HandOn r h) = record { references = (record { holder = h; object = r.object }) ∷ without r p.references; born = p.born; closed = p.closed }
-move p (Finalise x) = record { references = p.references; born = p.born; closed = p.closed ++ x ∷ [] }
+move p (Born r kind) = record { references = r ∷ p.references; born = p.born ++ r.object ∷ []; closed = p.closed; kinds = with_kind p.kinds r.object kind }
+move p (Gain r) = record { references = r ∷ p.references; born = p.born; closed = p.closed; kinds = p.kinds }
+move p (Lose r) = record { references = without r p.references; born = p.born; closed = p.closed; kinds = p.kinds }
+move p (HandOn r h) = record { references = (record { holder = h; object = r.object }) ∷ without r p.references; born = p.born; closed = p.closed; kinds = p.kinds }
+move p (Finalise x) = record { references = p.references; born = p.born; closed = p.closed ++ x ∷ []; kinds = p.kinds }
 
 -- the moves of one event, in order
 abbrev pub moved : Plain → List Move → Plain

@@ -7,6 +7,7 @@ use Rattle.brc_lang.specs.Grammar.{IsModule}
 use Rattle.brc_model.specs.declared.address.Address.{Address}
 use Rattle.brc_model.specs.declared.thread.Call.{Call}
 use Rattle.brc_model.specs.declared.thread.Choice.{Choice}
+use Rattle.brc_lang.specs.declared.kind.Kind.TheVariants as kinds
 use Rattle.brc_model.specs.Walks.{IsAcceptable}
 use Rattle.brc_model.specs.Safety.{AreCalls}
 use Rattle.brc_model.specs.Machine.{Actor, Unborn, Machine, next_machine, first_machine, machine_after}
@@ -29,7 +30,7 @@ machine_of w = record {
   rows = w.rows;
   memory = w.memory;
   actors = w.actors;
-  plain = record { references = []; born = []; closed = [] };
+  plain = record { references = []; born = []; closed = []; kinds = λ x. kinds.Any };
   life = λ x. Unborn;
 }
 

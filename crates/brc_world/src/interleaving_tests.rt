@@ -16,7 +16,7 @@ const MOVES: u8 = 4;
 
 /// Two workers that call the function once.
 fn first(alloc: Global, checked: &Checked) -> Result<World<'_>, NoMemory>
-    requires { 0 < length checked.now.functions }
+    requires { 0 < length checked.now.module.functions }
 {
     let call = Call {
         function: 0,
@@ -27,7 +27,7 @@ fn first(alloc: Global, checked: &Checked) -> Result<World<'_>, NoMemory>
 
 /// The world after the moves, one after another.
 fn after<'a>(alloc: Global, checked: &'a Checked, moves: &[u8]) -> Result<World<'a>, NoMemory>
-    requires { 0 < length checked.now.functions }
+    requires { 0 < length checked.now.module.functions }
 {
     let mut world = first(alloc, checked)?;
     for turn in moves {
@@ -75,7 +75,7 @@ fn visit(
     seen: &mut BTreeSet<String>,
     paths: &mut Vec<Vec<u8>>,
 ) -> Result<bool, Fail>
-    requires { 0 < length checked.now.functions }
+    requires { 0 < length checked.now.module.functions }
 {
     let world = after(alloc, checked, &moves)?;
     if !seen.insert(format!(in alloc; "{world:?}")?)? {
@@ -89,7 +89,7 @@ fn visit(
 
 /// The states that the moves lead to, the first one before any, and how many of them are last ones.
 fn search(alloc: Global, checked: &Checked) -> Result<(usize, usize), Fail>
-    requires { 0 < length checked.now.functions }
+    requires { 0 < length checked.now.module.functions }
 {
     let mut seen = BTreeSet::new(alloc);
     let mut paths: Vec<Vec<u8>> = Vec::new(alloc);

@@ -13,7 +13,7 @@ const ROUNDS: u32 = 50_000;
 
 /// The accepted module of a function `f` of these lines.
 pub fn accepted(alloc: Global, lines: &[u8]) -> Result<Checked, Fail>
-    ensures { IfOk result (λ checked. 0 < length checked.functions) }
+    ensures { IfOk result (λ checked. 0 < length checked.module.functions) }
 {
     let mut text = Vec::from_slice(alloc, b"module 1\nfunc f\n")?;
     text.extend_from_slice(lines)?;
@@ -99,7 +99,7 @@ fn only(left: &[Left]) -> Option<Left> {
 
 /// A worker that calls the function once.
 fn one_worker(alloc: Global, checked: &Checked) -> Result<World<'_>, NoMemory>
-    requires { 0 < length checked.now.functions }
+    requires { 0 < length checked.now.module.functions }
 {
     let call = Call {
         function: 0,

@@ -61,8 +61,8 @@ impl<'a> World<'a> {
         requires one_each { length calls.now ≡ workers }
         requires some_rows { 0 < rows }
         requires most_rows { rows ≤ 1024 }
-        requires calls_fit { AreCalls checked.now calls.now }
-        ensures { IfOk result (λ w. seen w ≡ first_world checked.now rows calls.now) }
+        requires calls_fit { AreCalls checked.now.module calls.now }
+        ensures { IfOk result (λ w. seen w ≡ first_world checked.now.module rows calls.now) }
     {
         worlds_lead_on();
         Ok(World {

@@ -8,11 +8,11 @@ use Rattle.brc.proofs.accepted.write_accepted.Goals as goal
 
 pub instruction_count-requires : goal.instruction_count-requires
 instruction_count-requires g c =
-    rw (c.as_slice-functions.ensures, c.module.ensures.value) (most_instructions c.args.checked.now c.module.ensures.fits)
+    rw (c.as_slice-functions.ensures, c.module.ensures.value) (most_instructions c.args.checked.now.module c.module.ensures.fits)
 
 pub returns-in_err-write_entry-clause-begun : goal.returns-in_err-write_entry-clause-begun
 returns-in_err-write_entry-clause-begun g c =
-    let m = c.args.checked.now in
+    let m = c.args.checked.now.module in
     let fs = c.as_slice-functions.result.now in
     let same = c.as_slice-functions.ensures ∙ ap (λ (n : Module). n.functions) c.module.ensures.value in
     let n = instruction_count fs in
@@ -22,7 +22,7 @@ returns-in_err-write_entry-clause-begun g c =
 
 pub returns-in_err-write_entry-2-clause-begun : goal.returns-in_err-write_entry-2-clause-begun
 returns-in_err-write_entry-2-clause-begun g c =
-    let m = c.args.checked.now in
+    let m = c.args.checked.now.module in
     let fs = c.as_slice-functions.result.now in
     let same = c.as_slice-functions.ensures ∙ ap (λ (n : Module). n.functions) c.module.ensures.value in
     let n = c.instruction_count.result in
@@ -31,7 +31,7 @@ returns-in_err-write_entry-2-clause-begun g c =
 
 pub returns-clause-whole : goal.returns-clause-whole
 returns-clause-whole g c =
-    let m = c.args.checked.now in
+    let m = c.args.checked.now.module in
     let fs = c.as_slice-functions.result.now in
     let same = c.as_slice-functions.ensures ∙ ap (λ (n : Module). n.functions) c.module.ensures.value in
     let n = c.instruction_count.result in
@@ -40,7 +40,7 @@ returns-clause-whole g c =
 
 pub returns-clause-begun : goal.returns-clause-begun
 returns-clause-begun g c =
-    let m = c.args.checked.now in
+    let m = c.args.checked.now.module in
     let fs = c.as_slice-functions.result.now in
     let same = c.as_slice-functions.ensures ∙ ap (λ (n : Module). n.functions) c.module.ensures.value in
     let n = c.instruction_count.result in

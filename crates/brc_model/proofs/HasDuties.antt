@@ -1,0 +1,38 @@
+-- Where the agendas of all threads weigh something, some thread has a duty that does.
+use Rattle.std.proofs.Common.{◌≡◌, ℕ, zero, suc, ◌+◌, ◌<◌, Bool, true, false, List, [], ◌∷◌, Some, refl, ap, arith}
+use Rattle.std.specs.Prelude.{◌||◌, slice_get, sum_by}
+use Rattle.std.specs.List.{list_any}
+use Rattle.std.proofs.lemmas.List.Sums.{sum_by-cons}
+use Rattle.brc_model.specs.declared.duty.Duty.{Duty}
+use Rattle.brc_model.specs.Machine.{Actor}
+use Rattle.brc_model.proofs.Rows.{agenda_weight, weight}
+
+-- some agenda weighs, where all together do
+pub record Weighs (f : Duty → ℕ) (actors : List Actor) : Type 0 where
+  pub who : ℕ
+  pub which : Actor
+  pub found : slice_get actors who ≡ Some which
+  pub some : 0 < agenda_weight f which
+
+pub some_weighs : (f : Duty → ℕ) (actors : List Actor) → 0 < weight f actors → Weighs f actors
+some_weighs f [] some = absurd (omega (arith, some))
+some_weighs f (b ∷ rest) some =
+    elim (agenda_weight f b) as (λ k. agenda_weight f b ≡ k → Weighs f (b ∷ rest)) [
+      | zero ↦ λ e.
+          let later = some_weighs f rest (omega (arith, sum_by-cons (agenda_weight f) b rest, some, e)) in
+          record { who = suc later.who; which = later.which; found = later.found; some = later.some }
+      | suc k ↦ λ e. record { who = 0; which = b; found = refl; some = omega (arith, e) }
+    ] refl
+
+-- the agenda has such a duty, where only such duties weigh
+weighs_here : (f : Duty → ℕ) (is_such : Duty → Bool) (d : Duty) (rest : List Duty) (b : Bool)
+    → (b ≡ false → f d ≡ 0) → 0 < sum_by f (d ∷ rest) → (0 < sum_by f rest → list_any is_such rest ≡ true)
+    → (b || list_any is_such rest) ≡ true
+weighs_here f is_such d rest true none some behind = refl
+weighs_here f is_such d rest false none some behind = behind (omega (arith, some, sum_by-cons f d rest, none refl))
+
+pub is_listed : (f : Duty → ℕ) (is_such : Duty → Bool) → ((d : Duty) → is_such d ≡ false → f d ≡ 0)
+    → (agenda : List Duty) → 0 < sum_by f agenda → list_any is_such agenda ≡ true
+is_listed f is_such only [] some = absurd (omega (arith, some))
+is_listed f is_such only (d ∷ rest) some =
+    weighs_here f is_such d rest (is_such d) (only d) some (is_listed f is_such only rest)

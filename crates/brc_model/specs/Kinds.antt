@@ -1,0 +1,35 @@
+-- The kinds of objects, and the numbers that name them in kind words.
+use Rattle.std.specs.Prelude.{ℕ, Bool, true, false, ◌==◌, if◌then◌else◌}
+use Rattle.brc_word.specs.Words.{kind_part}
+use Rattle.brc_lang.specs.declared.kind.Kind.{Kind}
+use Rattle.brc_lang.specs.declared.kind.Kind.TheVariants as kinds
+
+-- 0 until a birth begins
+abbrev pub kind_number : Kind → ℕ
+kind_number kinds.Any = 0
+kind_number kinds.None = 1
+kind_number kinds.Num = 2
+kind_number kinds.List = 3
+kind_number kinds.File = 4
+kind_number kinds.Sock = 5
+
+abbrev pub kind_numbered : ℕ → Kind
+kind_numbered n =
+    if n == 2 then kinds.Num
+    else if n == 3 then kinds.List
+    else if n == 4 then kinds.File
+    else if n == 5 then kinds.Sock
+    else kinds.None
+
+-- what a kind word says that the object is
+abbrev pub kind_of_word : ℕ → Kind
+kind_of_word word = kind_numbered (kind_part word)
+
+-- a counted object is a number, a list, a file or a socket
+abbrev pub is_counted_kind : Kind → Bool
+is_counted_kind kinds.Any = false
+is_counted_kind kinds.None = false
+is_counted_kind kinds.Num = true
+is_counted_kind kinds.List = true
+is_counted_kind kinds.File = true
+is_counted_kind kinds.Sock = true
