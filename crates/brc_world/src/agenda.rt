@@ -9,6 +9,7 @@ use crate::effect::Next;
 use brc_model::{Duty, Holding};
 
 /// Puts the duties in front of the agenda.
+#[inline(always)]
 pub fn push(agenda: &mut Vec<Duty>, next: Next)
     requires room { vec_len agenda.old + 4 ≤ vec_capacity agenda.old }
     ensures { reverse agenda.new.items ≡ duties_of next ++ reverse agenda.old.items }
@@ -42,6 +43,7 @@ pub fn push(agenda: &mut Vec<Duty>, next: Next)
 }
 
 /// Passes over what needs no step: a chain that is empty, and marks of no rows.
+#[inline(always)]
 pub fn pass_over(agenda: &mut Vec<Duty>, head: u32)
     ensures { reverse agenda.new.items ≡ ready head (reverse agenda.old.items) }
 {

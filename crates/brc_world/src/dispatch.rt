@@ -31,6 +31,7 @@ const NONE_ROW: u32 = 0;
 const ROOT: u32 = 1;
 
 /// Takes the first duty of the agenda, or dispatches the next instruction or the exit.
+#[inline(always)]
 pub fn first_duty(functions: &[Function], rows: u16, number: u8, thread: &mut Thread) -> Start
     requires room { vec_len thread.old.agenda + 8 ≤ vec_capacity thread.old.agenda }
     ensures starts { result ≡ start_on (reverse thread.old.agenda.items) (begun rows number thread.old.used (code_of (slice_get functions.now thread.old.function)) (actor_of thread.old).place) }
@@ -45,6 +46,7 @@ pub fn first_duty(functions: &[Function], rows: u16, number: u8, thread: &mut Th
 
 /// What follows an empty agenda. The first step of a call begins it as well: the variables of a thread that is idle are no
 /// part of the world.
+#[inline(always)]
 fn dispatch(functions: &[Function], rows: u16, number: u8, thread: &mut Thread) -> Start
     requires empty { thread.old.agenda.items ≡ [] }
     requires room { 8 ≤ vec_capacity thread.old.agenda }
@@ -91,6 +93,7 @@ fn exit(rows: u16, number: u8, thread: &mut Thread) -> Start
 }
 
 /// The instruction that the thread is at, in a call with `left` calls behind it; past the last one the thread can't go on.
+#[inline(always)]
 fn next_instruction(
     functions: &[Function],
     rows: u16,
@@ -150,6 +153,7 @@ fn next_row(rows: u16, number: u8, used: u32) -> Option<u32>
     (used < size).then(|| first_row(rows, number) + used)
 }
 
+#[inline(always)]
 fn begin(instr: Instr, rows: u16, number: u8, thread: &mut Thread, left: u32) -> Start
     requires empty { thread.old.agenda.items ≡ [] }
     requires room { 8 ≤ vec_capacity thread.old.agenda }

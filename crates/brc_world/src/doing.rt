@@ -24,6 +24,7 @@ use brc_model::{Address, Duty, Status};
 const ROOM: usize = 8;
 
 /// The thread's duty, which has left its agenda, is done on its word.
+#[inline(always)]
 pub fn do_duty(memory: &mut Memory, rows: u16, number: u8, thread: &mut Thread, duty: &Duty)
     requires some_rows { 0 < rows }
     requires small { length memory.old.local ≤ 32770 }
@@ -40,11 +41,11 @@ pub fn do_duty(memory: &mut Memory, rows: u16, number: u8, thread: &mut Thread, 
     let found = memory.load(address);
     let by = doer(thread, number, all);
     let effect = by.effect(*duty, found);
-    memory.store(address, effect.word);
+    push(&mut thread.agenda, effect.next);
     thread.head = effect.head;
     thread.status = effect.status;
     thread.used = effect.used;
-    push(&mut thread.agenda, effect.next);
+    memory.store(address, effect.word);
     pass_over(&mut thread.agenda, effect.head);
 }
 
@@ -68,6 +69,7 @@ fn is_running(status: Status) -> bool
 }
 
 /// The thread goes on by one step. Where memory is refused, nothing changes.
+#[inline(always)]
 pub fn act(
     functions: &[Function],
     memory: &mut Memory,
@@ -103,6 +105,7 @@ pub fn act(
 }
 
 /// The thread looks whether the row's mark is set, where it may. Where memory is refused, nothing changes.
+#[inline(never)]
 pub fn claim(
     memory: &mut Memory,
     rows: u16,

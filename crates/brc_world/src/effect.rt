@@ -13,6 +13,8 @@ mod exit;
 mod merge;
 mod release;
 mod retain;
+#[cfg(test)]
+mod tests;
 
 /// The duties that take the place of one that is done, in their order.
 #[derive(Clone, Copy, Debug)]
@@ -21,10 +23,7 @@ pub enum Next {
     One(Duty),
     Two(Duty, Duty),
     /// The reference in the thread's hand is given up first.
-    Release {
-        row: u32,
-        then: Duty,
-    },
+    Release { row: u32, then: Duty },
     Three(Duty, Duty, Duty),
     Four(Duty, Duty, Duty, Duty),
 }
@@ -59,6 +58,7 @@ pub struct Doer {
 impl Doer {
     /// The effect of the duty, where its step found `found`. Each duty is one of the rules below: the word it found decides
     /// what follows, and no word is looked at again.
+    #[inline(always)]
     pub fn effect(self, duty: Duty, found: u64) -> Effect
         requires known { self.number ≤ 32 }
         requires suits { Suits self.number (is_running self.status) self.rows duty found }
@@ -103,6 +103,7 @@ impl Doer {
     }
 
     /// The effect of a step that leaves the thread's head, status and rows as they are.
+    #[inline(always)]
     fn leaves(self, word: u64, next: Next) -> Effect
         ensures { result ≡ record { word = word; next = next; head = self.head; status = self.status; used = self.used } }
     {
@@ -115,6 +116,7 @@ impl Doer {
         }
     }
 
+    #[inline(always)]
     fn is_running(self) -> bool
         ensures { result ≡ is_running self.status }
     {

@@ -177,6 +177,7 @@ impl<'a> World<'a> {
 
     /// One step of the thread: one event, on one word at most. Where memory is refused, nothing changes; a step that would
     /// change nothing takes none. No step is a host call yet, so `Ok` and `Fault` mean the same.
+    #[inline]
     pub fn step(&mut self, thread: usize, choice: Choice) -> Result<Did, NoMemory>
         requires { thread < length self.old.actors }
         ensures made { OnOk result (seen self.new ≡ step (seen self.old) thread choice) }
@@ -191,6 +192,7 @@ impl<'a> World<'a> {
         }
     }
 
+    #[inline(always)]
     fn go_on(&mut self, thread: usize) -> Result<Did, NoMemory>
         requires { thread < length self.old.actors }
         ensures made { OnOk result (seen self.new ≡ step (seen self.old) thread goes_on) }

@@ -13,6 +13,7 @@ use brc_word::{kind_number, local_word};
 impl Doer {
     /// The kind word says what the object is (`birth_kind_skipped`). A file or a socket then gets its resource, and the count
     /// comes last (`birth_stores_local_first`): from that step on the object is born, and has all its parts.
+    #[inline(always)]
     pub(super) fn birth_kind(self, row: u32, holding: Holding, word: u64) -> Effect
         ensures { (found : ℕ) → IsEffect self (duties.BirthKind row holding word) found result }
     {
@@ -25,6 +26,7 @@ impl Doer {
     }
 
     /// The resource is put into its slot.
+    #[inline(always)]
     pub(super) fn birth_slot(self, row: u32, holding: Holding) -> Effect
         ensures { (found : ℕ) → IsEffect self (duties.BirthSlot row holding) found result }
     {
@@ -32,6 +34,7 @@ impl Doer {
     }
 
     /// The thread owns the object, and counts its own reference. The row is used up (`birth_reuses_a_row`).
+    #[inline(always)]
     pub(super) fn birth_local(self) -> Effect
         requires known { self.number ≤ 32 }
         requires room { self.used + 1 < 2 ^ 32 }

@@ -13,6 +13,7 @@ use brc_word::{closed, dying, kind_argument, kind_number, next_of_dying};
 impl Doer {
     /// Nothing counts the object any more: its gate says which thread closes it, and links it into that thread's dying chain
     /// (`die_without_chain`), so that the destruction of nested objects needs no recursion.
+    #[inline(always)]
     pub(super) fn die(self, row: u32) -> Effect
         requires known { self.number ≤ 32 }
         requires numbered { row < self.rows }
@@ -25,6 +26,7 @@ impl Doer {
     }
 
     /// The first of the chain is taken from it: its gate names the next one (`settle_keeps_head`).
+    #[inline(always)]
     pub(super) fn settle(self, found: u64) -> Effect
         ensures { IsEffect self duties.Settle found result }
     {
@@ -36,6 +38,7 @@ impl Doer {
     }
 
     /// What the object is decides what it gives back: a file or a socket its resource, a list its cells.
+    #[inline(always)]
     pub(super) fn settle_kind(self, row: u32, found: u64) -> Effect
         ensures { IsEffect self (duties.SettleKind row) found result }
     {
@@ -50,6 +53,7 @@ impl Doer {
     }
 
     /// The cell's reference is taken out by a swap and given up, before the next cell.
+    #[inline(always)]
     pub(super) fn settle_cell(self, row: u32, cell: u32, cells: u32, found: u64) -> Effect
         requires cell { cell < 8 }
         requires row { found ≤ self.rows }
@@ -64,6 +68,7 @@ impl Doer {
     }
 
     /// The resource is taken out of its slot, so that nobody finds it there while the host closes it.
+    #[inline(always)]
     pub(super) fn take_slot(self, row: u32) -> Effect
         ensures { (found : ℕ) → IsEffect self (duties.TakeSlot row) found result }
     {
@@ -71,6 +76,7 @@ impl Doer {
     }
 
     /// The host closes the resource (`resource_left_open`).
+    #[inline(always)]
     pub(super) fn close_resource(self, row: u32) -> Effect
         ensures { (found : ℕ) → IsEffect self (duties.CloseResource row) found result }
     {
@@ -78,6 +84,7 @@ impl Doer {
     }
 
     /// The object is closed (`settle_end_left_dying`), once: nothing follows.
+    #[inline(always)]
     pub(super) fn settle_end(self) -> Effect
         ensures { (row found : ℕ) → IsEffect self (duties.SettleEnd row) found result }
     {
@@ -86,6 +93,7 @@ impl Doer {
 }
 
 /// The next cell of a dying list, or its end.
+#[inline(always)]
 fn cell_or_end(row: u32, cell: u32, cells: u32) -> Duty
     ensures { cells_from row cell cells ≡ result ∷ [] }
 {

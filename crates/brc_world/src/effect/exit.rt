@@ -12,6 +12,7 @@ use brc_model::{Duty, Status};
 impl Doer {
     /// The thread says that it leaves, and only then scans its marks (`exit_scans_first`): who sets a mark behind the scan
     /// finds a thread that runs no longer, and takes the mark back.
+    #[inline(always)]
     pub(super) fn leave(self, row: u32, rows: u32) -> Effect
         ensures { (found : ℕ) → IsEffect self (duties.Leave row rows) found result }
     {
@@ -24,6 +25,7 @@ impl Doer {
     /// Each row's mark is taken by a swap, since whoever set it may take it back meanwhile; none is passed over
     /// (`scan_skips_a_row`). A set mark is a reference to be merged and given up, and what dies by that settles before the
     /// next row.
+    #[inline(always)]
     pub(super) fn scan(self, row: u32, rows: u32, found: u64) -> Effect
         requires { row < self.rows }
         ensures { IsEffect self (duties.Scan row rows) found result }
@@ -44,6 +46,7 @@ impl Doer {
     }
 
     /// The thread is gone.
+    #[inline(always)]
     pub(super) fn finish(self) -> Effect
         ensures { (found : ℕ) → IsEffect self duties.Finish found result }
     {
@@ -54,6 +57,7 @@ impl Doer {
     }
 
     /// A running thread takes a mark between two calls, by the same swap as at its exit (`claimed_mark_left_set`).
+    #[inline(always)]
     pub(super) fn claim_mark(self, row: u32, found: u64) -> Effect
         ensures { IsEffect self (duties.ClaimMark row) found result }
     {

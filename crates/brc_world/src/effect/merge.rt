@@ -15,6 +15,7 @@ impl Doer {
     /// A merge swaps the local word for nobody's, and carries over the local count that it found. In one step, so that no
     /// reference is in both words or is counted after the merge (`merge_swap_keeps_local`). A word that is nobody's already
     /// has been merged. (PEP 703, Biased Reference Counting: `_Py_ExplicitMergeRefcount`.)
+    #[inline(always)]
     pub(super) fn merge_swap(self, row: u32, found: u64) -> Effect
         ensures { (reason : Reason) → IsEffect self (duties.MergeSwap row reason) found result }
     {
@@ -26,6 +27,7 @@ impl Doer {
     }
 
     /// The carried count is to be added to the shared one, which other threads still change: so it is looked at first ..
+    #[inline(always)]
     pub(super) fn merge_load(self, row: u32, carried: u32, found: u64) -> Effect
         ensures { IsEffect self (duties.MergeLoad row carried) found result }
     {
@@ -41,6 +43,7 @@ impl Doer {
 
     /// .. and exchanged if it is still the same; else the merge looks again. Count and state change in one step: from then on
     /// nobody owns the object, all references are in the shared count (`merge_drops_local`), and at zero it dies.
+    #[inline(always)]
     pub(super) fn merge_exchange(self, row: u32, carried: u32, word: u64, found: u64) -> Effect
         requires shared { found ≡ word → IsShared word }
         requires total { found ≡ word → biased_part word + carried < 2 * bias }

@@ -15,6 +15,7 @@ impl Doer {
     /// A new reference begins with a look at the local word, which says whether the object is immortal and whether the thread
     /// is its owner, who alone may count there. Without the look the reference would be counted nowhere
     /// (`retain_load_skipped`). (PEP 703, Biased Reference Counting: `Py_INCREF`.)
+    #[inline(always)]
     pub(super) fn retain_load(self, row: u32, holding: Holding, found: u64) -> Effect
         ensures { IsEffect self (duties.RetainLoad row holding) found result }
     {
@@ -36,6 +37,7 @@ impl Doer {
 
     /// The running owner counts in the local word by a plain store. Load and store needn't be one step, since nobody else
     /// writes the word meanwhile; but it is one more, no more (`retain_store_doubled`).
+    #[inline(always)]
     pub(super) fn retain_store(self, word: u64) -> Effect
         requires { local_part word < 4294967294 }
         ensures { (row : ℕ) (holding : Holding) (found : ℕ) → IsEffect self (duties.RetainStore row holding word) found result }
@@ -45,6 +47,7 @@ impl Doer {
 
     /// Everybody else counts in the shared word, by an atomic add: with a load and a store of its own, a count that another
     /// thread adds between the two would be lost.
+    #[inline(always)]
     pub(super) fn retain_add(self, found: u64) -> Effect
         requires shared { IsShared found }
         requires room { biased_part found + 1 < 2 * bias }
