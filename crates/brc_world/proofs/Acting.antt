@@ -9,8 +9,8 @@ use Rattle.brc_model.specs.declared.duty.Duty.TheVariants.{ClaimMark}
 use Rattle.brc_model.specs.Machine as model
 use Rattle.brc_model.specs.Machine.{Actor}
 use Rattle.brc_world.specs.declared.did.Did.TheVariants as answers
-use Rattle.brc_world.specs.declared.start.Start.{Start}
-use Rattle.brc_world.specs.declared.start.Start.TheVariants.{Doing}
+use Rattle.brc_world.specs.declared.dispatch.Start.{Start}
+use Rattle.brc_world.specs.declared.dispatch.Start.TheVariants.{Doing}
 use Rattle.brc_world.specs.Actors.{actor_on, begun_of, start_of, started, memory_done, actor_done, memory_from, actor_from, memory_by, actor_by, did_from, did_by, CanDo, CanStart, finds_mark, memory_claimed, actor_claimed, did_claim}
 
 -- ---- what a step begins with leaves the thread's head, status and rows

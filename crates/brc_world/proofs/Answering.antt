@@ -8,8 +8,8 @@ use Rattle.brc_model.specs.Safety.{has_gone}
 use Rattle.brc_model.specs.Machine.{Actor}
 use Rattle.brc_model.specs.World.{World, step}
 use Rattle.brc_world.specs.declared.did.Did.TheVariants as answers
-use Rattle.brc_world.specs.declared.start.Start.{Start}
-use Rattle.brc_world.specs.declared.start.Start.TheVariants.{Stuck, Moved, Doing}
+use Rattle.brc_world.specs.declared.dispatch.Start.{Start}
+use Rattle.brc_world.specs.declared.dispatch.Start.TheVariants.{Stuck, Moved, Doing}
 use Rattle.brc_world.specs.Actors.{begun_of, start_of, started, did_from, did_by, finds_mark, did_claim}
 use Rattle.brc_world.specs.Answers.{is_gone, is_gone_at, IsAnswer}
 use Rattle.brc_world.proofs.Stepping.{with_words, unchanged, going_on_by, stuck_stays}

@@ -18,7 +18,7 @@ use Rattle.brc_model.specs.Machine.{Actor, acts, begins, goes_on, begun_by, chos
 use Rattle.brc_lang.specs.declared.module.Module.{Module}
 use Rattle.brc_model.specs.World.{IsReachable, World, world_of, machine_of, step, row_count}
 use Rattle.brc_model.specs.Within.{IsWithin, StepsWithin}
-use Rattle.brc_world.specs.declared.start.Start.TheVariants.{Stuck, Doing}
+use Rattle.brc_world.specs.declared.dispatch.Start.TheVariants.{Stuck, Doing}
 use Rattle.brc_world.specs.Actors.{start_on, actor_on, start_begun, actor_begun, begun_of, memory_from, actor_from, memory_by, actor_by, finds_mark, memory_claimed, actor_claimed, CanDo, CanStart}
 
 -- the world with other words and another thread

@@ -1,49 +1,53 @@
 -- The threads as the model has them, and what each thread's step begins with: the first duty of its agenda, or what its next
 -- instruction or its exit asks for.
-use Rattle.std.specs.Prelude.{◌≡◌, ◌≢◌, ℕ, ◌<◌, ◌≤◌, Bool, true, false, ◌==◌, ◌&&◌, not, if◌then◌else◌, List, [], ◌∷◌, slice_get}
+use Rattle.std.specs.Prelude.{◌≡◌, ◌≢◌, ℕ, ◌≤◌, Bool, true, false, ◌==◌, ◌&&◌, not, if◌then◌else◌, List, [], ◌∷◌, reverse, Option, slice_get}
 use Rattle.brc_lang.specs.declared.module.Function.{Function}
 use Rattle.brc_model.specs.declared.actor.Status.{Status}
 use Rattle.brc_model.specs.declared.actor.Status.TheVariants.{Running, Leaving, Gone}
 use Rattle.brc_model.specs.declared.address.Address.{Address}
 use Rattle.brc_model.specs.declared.address.Address.TheVariants.{Mark}
 use Rattle.brc_model.specs.declared.duty.Duty.{Duty}
-use Rattle.brc_model.specs.declared.duty.Duty.TheVariants.{RetainLoad, ReleaseLoad, Die, Settle, SettleCell, Leave, Scan, ClaimMark, BirthKind}
+use Rattle.brc_model.specs.declared.duty.Duty.TheVariants.{ReleaseLoad, Settle, Leave, Scan, ClaimMark}
 use Rattle.brc_model.specs.declared.duty.Holding.TheVariants.{AsCaller}
-use Rattle.brc_model.specs.declared.actor.Place.TheVariants.{Departing}
+use Rattle.brc_model.specs.declared.actor.Place.{Place}
+use Rattle.brc_model.specs.declared.actor.Place.TheVariants.{Standing, Inside, Departing}
 use Rattle.brc_model.specs.Plain.{root_row}
 use Rattle.brc_model.specs.Threads.{code_of}
 use Rattle.brc_model.specs.Duties.{address_of, left_by}
 use Rattle.brc_model.specs.Within.{IsThere, Suits}
 use Rattle.brc_model.specs.Machine as model
 use Rattle.brc_model.specs.Machine.{Actor, at_place}
-use Rattle.brc_world.specs.declared.begun.Begun.{Begun}
-use Rattle.brc_world.specs.declared.begun.Begun.TheVariants.{Stuck, Quiet, Retain, Birth, Release, Exit}
 use Rattle.brc_world.specs.declared.did.Did.{Did}
 use Rattle.brc_world.specs.declared.did.Did.TheVariants as answers
-use Rattle.brc_world.specs.declared.start.Start.{Start}
-use Rattle.brc_world.specs.declared.start.Start.TheVariants as starts
+use Rattle.brc_world.specs.declared.dispatch.Start.{Start}
+use Rattle.brc_world.specs.declared.dispatch.Start.TheVariants as starts
+use Rattle.brc_world.specs.declared.thread.Stage.{Stage}
+use Rattle.brc_world.specs.declared.thread.Stage.TheVariants.{Idle, InCall, Exiting}
 use Rattle.brc_world.specs.declared.thread.Thread.{Thread}
 
+-- an idle thread's instruction and variables say nothing
+abbrev pub place_of : Stage → ℕ → ℕ → List (Option ℕ) → Place
+place_of Idle left at variables = Standing left
+place_of InCall left at variables = Inside left at variables
+place_of Exiting left at variables = Departing
+
+-- the first duty of an agenda is the last of the code's
 abbrev pub actor_of : Thread → Actor
-actor_of t = record { function = t.function; place = t.place; status = t.status; agenda = t.agenda.items; head = t.head; used = t.used }
+actor_of t = record {
+  function = t.function;
+  place = place_of t.stage t.left t.at t.variables;
+  status = t.status;
+  agenda = reverse t.agenda.items;
+  head = t.head;
+  used = t.used;
+}
 
 abbrev pub with_agenda : Actor → List Duty → Actor
 with_agenda a agenda = record { function = a.function; place = a.place; status = a.status; agenda = agenda; head = a.head; used = a.used }
 
--- what the code says of an instruction or an exit, as the model says it
-abbrev pub begun_as : Begun → model.Begun
-begun_as Stuck = model.Stuck
-begun_as (Quiet place) = model.Quiet [] place
-begun_as (Retain row holding place) = model.Work (RetainLoad row holding ∷ []) place
-begun_as (Birth row holding word place) = model.Work (BirthKind row holding word ∷ []) place
-begun_as (Release row holding place) = model.Work (ReleaseLoad row holding ∷ Settle ∷ []) place
-begun_as (Exit first rows) = model.Work (ReleaseLoad root_row AsCaller ∷ Settle ∷ Leave first rows ∷ []) Departing
-
--- what is taken up, without the plain moves of a quiet step
-abbrev pub unmoved : model.Begun → model.Begun
-unmoved model.Stuck = model.Stuck
-unmoved (model.Quiet moves place) = model.Quiet [] place
-unmoved (model.Work duties place) = model.Work duties place
+-- the exit: a thread with no call left gives up its reference to the root, settles, and leaves
+abbrev pub exit_begun : ℕ → ℕ → ℕ → model.Begun
+exit_begun rows t used = model.Work (ReleaseLoad root_row AsCaller ∷ Settle ∷ Leave (model.first_row rows t) used ∷ []) Departing
 
 abbrev pub start_begun : model.Begun → Start
 start_begun model.Stuck = starts.Stuck
@@ -71,13 +75,6 @@ abbrev pub is_idle : ℕ → Duty → Bool
 is_idle head Settle = head == 0
 is_idle head (Scan x n) = n == 0
 is_idle head _ = false
-
--- the row and the cell of a duty that goes on to the next one are there, among so many rows
-abbrev pub IsNumbered : ℕ → Duty → Type 0
-IsNumbered n (Die x) = x < n
-IsNumbered n (Scan x k) = x < n
-IsNumbered n (SettleCell x i k) = i < 8
-IsNumbered n _ = Unit {0}
 
 -- ---- a step of one thread, as it changes the words and the thread
 

@@ -1,7 +1,7 @@
 //! One step of one thread: the words that it changes, and the thread itself.
 
 ghost use Rattle.std.specs.Prelude.{◌≡◌, ◌≢◌, ◌+◌, ◌<◌, ◌≤◌, true, length, OnOk, OnErr, IfOk, IfErr};
-ghost use Rattle.std.specs.VecDeque.{deque_len, deque_capacity};
+ghost use Rattle.std.specs.Prelude.{vec_len, vec_capacity};
 ghost use Rattle.brc_model.specs.declared.actor.Status.TheVariants.{Gone};
 ghost use Rattle.brc_model.specs.Duties.{address_of, left_by};
 ghost use Rattle.brc_model.specs.Machine.{is_running, used_by, may_claim};
@@ -10,21 +10,21 @@ ghost use Rattle.brc_world.specs.Storage.{word_in, IsStored};
 ghost use Rattle.brc_world.specs.Actors.{actor_of, found_by, actor_done, memory_by, actor_by, did_by, CanStart, finds_mark, memory_claimed, actor_claimed, did_claim, CanClaim};
 
 use crate::address::address_of;
-use crate::begun::first_row;
+use crate::agenda::{pass_over, push};
 use crate::did::Did;
-use crate::follow::{Doer, follow, pass_over};
-use crate::left::{head_by, left_by, status_by, used_by};
+use crate::dispatch::{Start, first_duty, first_row};
+use crate::effect::Doer;
 use crate::memory::Memory;
 use crate::no_memory::NoMemory;
-use crate::start::{Start, first_duty};
-use crate::thread::Thread;
+use crate::thread::{Stage, Thread};
 use brc_lang::Function;
-use brc_model::{Address, Duty, Place, Status};
+use brc_model::{Address, Duty, Status};
 
 /// How many duties a step puts into an agenda at most.
 const ROOM: usize = 8;
 
 /// The thread's duty, which has left its agenda, is done on its word.
+#[inline(always)]
 pub fn do_duty(memory: &mut Memory, rows: u16, number: u8, thread: &mut Thread, duty: &Duty)
     requires some_rows { 0 < rows }
     requires small { length memory.old.local ≤ 32770 }
@@ -32,28 +32,34 @@ pub fn do_duty(memory: &mut Memory, rows: u16, number: u8, thread: &mut Thread, 
     requires there { IsThere (length memory.old.local) (length memory.old.thread) (address_of rows number thread.old.head duty.now) }
     requires suits { Suits number (is_running thread.old.status) (length memory.old.local) duty.now (found_by rows number (word_in memory.old) (actor_of thread.old) duty.now) }
     requires uses { used_by thread.old.used duty.now ≤ length memory.old.local }
-    requires room { deque_len thread.old.agenda + 4 ≤ deque_capacity thread.old.agenda }
+    requires room { vec_len thread.old.agenda + 4 ≤ vec_capacity thread.old.agenda }
     ensures word { IsStored memory.old (address_of rows number thread.old.head duty.now) (left_by number thread.old.head duty.now (found_by rows number (word_in memory.old) (actor_of thread.old) duty.now)) memory.new }
     ensures actor { actor_of thread.new ≡ actor_done rows number (word_in memory.old) (actor_of thread.old) duty.now }
 {
     let all = memory.rows() as u32;
-    let head = thread.head;
-    let running = is_running(thread.status);
-    let address = address_of(rows, number, head, *duty);
+    let address = address_of(rows, number, thread.head, *duty);
     let found = memory.load(address);
-    let left = left_by(number, running, all, head, *duty, found);
-    memory.store(address, left);
-    let by = Doer {
+    let by = doer(thread, number, all);
+    let effect = by.effect(*duty, found);
+    push(&mut thread.agenda, effect.next);
+    thread.head = effect.head;
+    thread.status = effect.status;
+    thread.used = effect.used;
+    memory.store(address, effect.word);
+    pass_over(&mut thread.agenda, effect.head);
+}
+
+/// The thread as its duty sees it, with `rows` rows of all threads together.
+fn doer(thread: &Thread, number: u8, rows: u32) -> Doer
+    ensures { result ≡ record { number = number; status = thread.now.status; head = thread.now.head; used = thread.now.used; rows = rows } }
+{
+    Doer {
         number,
-        running,
-        head,
-        rows: all,
-    };
-    follow(&mut thread.agenda, by, *duty, found);
-    thread.head = head_by(all, head, *duty, found);
-    thread.status = status_by(thread.status, *duty);
-    thread.used = used_by(thread.used, *duty);
-    pass_over(&mut thread.agenda, thread.head);
+        status: thread.status,
+        head: thread.head,
+        used: thread.used,
+        rows,
+    }
 }
 
 fn is_running(status: Status) -> bool
@@ -63,6 +69,7 @@ fn is_running(status: Status) -> bool
 }
 
 /// The thread goes on by one step. Where memory is refused, nothing changes.
+#[inline(always)]
 pub fn act(
     functions: &[Function],
     memory: &mut Memory,
@@ -98,6 +105,7 @@ pub fn act(
 }
 
 /// The thread looks whether the row's mark is set, where it may. Where memory is refused, nothing changes.
+#[inline(never)]
 pub fn claim(
     memory: &mut Memory,
     rows: u16,
@@ -140,14 +148,14 @@ fn finds_mark(memory: &Memory, rows: u16, number: u8, thread: &Thread, row: u32)
 fn may_claim(rows: u16, number: u8, thread: &Thread, row: u32) -> bool
     ensures { result ≡ may_claim rows number (actor_of thread.now) row }
 {
-    match thread.place {
-        Place::Standing { .. } => {
+    match thread.stage {
+        Stage::Idle => {
             let first = first_row(rows, number);
             is_running(thread.status)
                 && thread.agenda.is_empty()
                 && first <= row
                 && row - first < thread.used
         }
-        Place::Inside { .. } | Place::Departing => false,
+        Stage::InCall | Stage::Exiting => false,
     }
 }

@@ -3,10 +3,9 @@ ghost use Rattle.brc_model.specs.Machine.{main_actor, worker_actor};
 ghost use Rattle.brc_world.specs.Actors.{actor_of};
 
 use crate::no_memory::NoMemory;
-use crate::thread::Thread;
-use brc_model::{Call, Place, Status};
+use crate::thread::{Stage, Thread};
+use brc_model::{Call, Status};
 use std::alloc::Global;
-use std::collections::VecDeque;
 
 /// Main, and a worker for each of the calls. The rows that main uses are those of none and of the root.
 pub fn first_threads(alloc: Global, calls: &[Call]) -> Result<Vec<Thread>, NoMemory>
@@ -15,18 +14,24 @@ pub fn first_threads(alloc: Global, calls: &[Call]) -> Result<Vec<Thread>, NoMem
     let mut threads = Vec::with_capacity(alloc, 1 + calls.len())?;
     threads.push(Thread {
         function: 0,
-        place: Place::Standing { left: 0 },
+        stage: Stage::Idle,
+        left: 0,
+        at: 0,
+        variables: [None; 16],
         status: Status::Running,
-        agenda: VecDeque::new(alloc),
+        agenda: Vec::new(alloc),
         head: 0,
         used: 2,
     })?;
     for call in calls {
         threads.push(Thread {
             function: call.function,
-            place: Place::Standing { left: call.times },
+            stage: Stage::Idle,
+            left: call.times,
+            at: 0,
+            variables: [None; 16],
             status: Status::Running,
-            agenda: VecDeque::new(alloc),
+            agenda: Vec::new(alloc),
             head: 0,
             used: 0,
         })?;

@@ -3,17 +3,16 @@
 #![tactic(auto)]
 
 mod address;
-mod begun;
+mod agenda;
 mod did;
+mod dispatch;
 mod doing;
+mod effect;
 mod first;
-mod follow;
 mod laws;
-mod left;
 mod memory;
 mod no_memory;
 mod run;
-mod start;
 mod states;
 mod tally;
 mod thread;
@@ -26,8 +25,6 @@ pub use laws::{runs_follow_machines, tallies_follow_machines};
 pub use no_memory::NoMemory;
 pub use world::World;
 
-#[cfg(test)]
-mod birth_tests;
 #[cfg(test)]
 mod interleaving_tests;
 #[cfg(test)]

@@ -9,8 +9,8 @@ ghost use Rattle.brc_world.specs.MachineTallies.{IsMachineTally};
 ghost use Rattle.brc_world.specs.Answers.{is_gone_at, IsAnswer};
 
 use crate::address::block_of;
-use crate::begun::first_row;
 use crate::did::Did;
+use crate::dispatch::first_row;
 use crate::doing::{act, claim};
 use crate::first::first_threads;
 use crate::laws::tallies_follow_machines;
@@ -181,6 +181,7 @@ impl<'a> World<'a> {
 
     /// One step of the thread: one event, on one word at most. Where memory is refused, nothing changes; a step that would
     /// change nothing takes none. No step is a host call yet, so `Ok` and `Fault` mean the same.
+    #[inline]
     pub fn step(&mut self, thread: usize, choice: Choice) -> Result<Did, NoMemory>
         requires { thread < length self.old.actors }
         ensures made { OnOk result (seen self.new ≡ step (seen self.old) thread choice) }
@@ -195,6 +196,7 @@ impl<'a> World<'a> {
         }
     }
 
+    #[inline(always)]
     fn go_on(&mut self, thread: usize) -> Result<Did, NoMemory>
         requires { thread < length self.old.actors }
         ensures made { OnOk result (seen self.new ≡ step (seen self.old) thread goes_on) }

@@ -1,7 +1,7 @@
 -- What the step begins with is done, and it can be done.
 use Rattle.std.proofs.Common.{◌∙◌}
 use Rattle.brc_world.proofs.Acting.{Begins, did_is, words_are, actor_is, can_do}
-use Rattle.brc_world.specs.declared.start.Start.TheVariants.{Doing}
+use Rattle.brc_world.specs.declared.dispatch.Start.TheVariants.{Doing}
 use Rattle.brc_world.specs.Storage.{word_in}
 use Rattle.brc_world.specs.Actors.{actor_of}
 use Rattle.brc_world.proofs.doing.act.Goals as goal

@@ -1,10 +1,11 @@
--- The word is the one that the duty is about, and what the step finds in it decides the rest.
+-- The word is the one that the duty is about, and the effect of what the step finds in it is the rest.
 use Rattle.std.proofs.Common.{refl}
 use Rattle.brc_world.proofs.doing.do_duty.Goals as goal
 
 pub returns-clause-word : goal.returns-clause-word
-returns-clause-word c = rw (c.left_by-left.ensures, c.load-found.ensures, c.address_of-address.ensures) at c.store.ensures
+returns-clause-word c = rw (c.effect-effect.ensures.word, c.doer-by.ensures, c.load-found.ensures, c.address_of-address.ensures) at c.store.ensures
 
 pub returns-clause-actor : goal.returns-clause-actor
 returns-clause-actor c =
-    rw (c.pass_over.ensures, c.follow.ensures, c.status_by-thread.ensures, c.used_by-thread.ensures, c.head_by-thread.ensures, c.is_running-running.ensures, c.load-found.ensures, c.address_of-address.ensures) refl
+    let effect = c.effect-effect.ensures in
+    rw (c.pass_over.ensures, c.push.ensures, effect.next, effect.head, effect.status, effect.used, c.doer-by.ensures, c.load-found.ensures, c.address_of-address.ensures) refl

@@ -1,0 +1,35 @@
+-- An idle thread with calls left is at its next call's first instruction.
+use Rattle.std.proofs.Common.{◌≡◌, ◌-◌, ap, ◌∙◌, reverse}
+use Rattle.std.specs.Prelude.{slice_get}
+use Rattle.brc_model.specs.declared.actor.Place.TheVariants.{Standing}
+use Rattle.brc_model.specs.Threads.{code_of}
+use Rattle.brc_model.specs.Machine as model
+use Rattle.brc_model.specs.Machine.{Actor}
+use Rattle.brc_world.specs.Actors.{start_begun, actor_begun, place_of}
+use Rattle.brc_world.proofs.Calling.{standing_begins}
+use Rattle.brc_world.proofs.dispatch.dispatch.Goals as goal
+
+-- what the model's thread takes up there
+begins : (c : goal.After-next_instruction-in-Idle)
+    → model.begun_instruction c.args.rows c.args.number c.args.thread.now.used (c.args.thread.now.left - 1) 0 c.entry_variables-thread.result (slice_get (code_of (slice_get c.args.functions.now c.args.thread.now.function)) 0)
+    ≡ model.begun c.args.rows c.args.number c.args.thread.now.used (code_of (slice_get c.args.functions.now c.args.thread.now.function)) (place_of c.args.thread.now.stage c.args.thread.now.left c.args.thread.now.at c.args.thread.now.variables)
+begins c =
+    let code = code_of (slice_get c.args.functions.now c.args.thread.now.function) in
+    rw (c.entry_variables-thread.ensures, c.in-Idle.is) (standing_begins c.args.rows c.args.number c.args.thread.now.used c.args.thread.now.left code c.if-thread-eq0.false)
+
+pub returns-else-thread-eq0-clause-starts : goal.returns-else-thread-eq0-clause-starts
+returns-else-thread-eq0-clause-starts c = c.next_instruction-in-Idle.ensures.starts ∙ ap start_begun (begins c)
+
+-- the thread before its call
+abbrev idle : (c : goal.After-next_instruction-in-Idle) → Actor
+idle c = record {
+  function = c.args.thread.now.function;
+  place = Standing c.args.thread.now.left;
+  status = c.args.thread.now.status;
+  agenda = reverse c.args.thread.now.agenda.items;
+  head = c.args.thread.now.head;
+  used = c.args.thread.now.used;
+}
+
+pub returns-else-thread-eq0-clause-actor : goal.returns-else-thread-eq0-clause-actor
+returns-else-thread-eq0-clause-actor c = (rw c.in-Idle.is at c.next_instruction-in-Idle.ensures.actor) ∙ (rw c.in-Idle.is (ap (actor_begun (idle c)) (rw c.in-Idle.is at (begins c))))

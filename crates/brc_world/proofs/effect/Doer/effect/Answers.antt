@@ -1,0 +1,47 @@
+-- The rules that look at less than the duty and the word say it of each.
+use Rattle.brc_world.proofs.effect.Doer.effect.Goals as goal
+
+pub returns-in-RetainStore : goal.returns-in-RetainStore
+returns-in-RetainStore c = rw c.in-RetainStore.is (c.retain_store.ensures _ _ _)
+
+pub returns-in-RetainAdd : goal.returns-in-RetainAdd
+returns-in-RetainAdd c = rw c.in-RetainAdd.is (c.retain_add.ensures _ _)
+
+pub returns-in-ReleaseLoad : goal.returns-in-ReleaseLoad
+returns-in-ReleaseLoad c = rw c.in-ReleaseLoad.is (c.release_load.ensures _)
+
+pub returns-in-ReleaseStore : goal.returns-in-ReleaseStore
+returns-in-ReleaseStore c = rw c.in-ReleaseStore.is (c.release_store.ensures _)
+
+pub returns-in-SetMark : goal.returns-in-SetMark
+returns-in-SetMark c = rw c.in-SetMark.is (c.set_mark.ensures _)
+
+pub returns-in-MergeSwap : goal.returns-in-MergeSwap
+returns-in-MergeSwap c = rw c.in-MergeSwap.is (c.merge_swap.ensures _)
+
+pub returns-in-Die : goal.returns-in-Die
+returns-in-Die c = rw c.in-Die.is (c.die.ensures _)
+
+pub returns-in-TakeSlot : goal.returns-in-TakeSlot
+returns-in-TakeSlot c = rw c.in-TakeSlot.is (c.take_slot.ensures _)
+
+pub returns-in-CloseResource : goal.returns-in-CloseResource
+returns-in-CloseResource c = rw c.in-CloseResource.is (c.close_resource.ensures _)
+
+pub returns-in-SettleEnd : goal.returns-in-SettleEnd
+returns-in-SettleEnd c = rw c.in-SettleEnd.is (c.settle_end.ensures _ _)
+
+pub returns-in-Leave : goal.returns-in-Leave
+returns-in-Leave c = rw c.in-Leave.is (c.leave.ensures _)
+
+pub returns-in-Finish : goal.returns-in-Finish
+returns-in-Finish c = rw c.in-Finish.is (c.finish.ensures _)
+
+pub returns-in-BirthKind : goal.returns-in-BirthKind
+returns-in-BirthKind c = rw c.in-BirthKind.is (c.birth_kind.ensures _)
+
+pub returns-in-BirthSlot : goal.returns-in-BirthSlot
+returns-in-BirthSlot c = rw c.in-BirthSlot.is (c.birth_slot.ensures _)
+
+pub returns-in-BirthLocal : goal.returns-in-BirthLocal
+returns-in-BirthLocal c = rw c.in-BirthLocal.is (c.birth_local.ensures _ _ _)
