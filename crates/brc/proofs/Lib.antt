@@ -1,3 +1,0 @@
-mod Accepting
-mod Calling
-mod Turning

@@ -1,0 +1,4 @@
+mod Accepting
+mod Calling
+mod Telling
+mod Turning
