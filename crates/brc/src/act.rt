@@ -13,8 +13,8 @@ use std::sync::Wait;
 // The status of a faulty command line, and of a call for help.
 const USAGE: u8 = 2;
 
-/// Carries out a command line, of which the first word is the program's own name, and answers the status to exit with. What
-/// stands in the way is told on standard error; where that can't be written, nothing more is told.
+/// Carries out a command line, of which the first word is the program's own name, and answers the status to exit with.
+/// What stands in the way is told on standard error; where that can't be written, nothing more is told.
 pub fn act<R: Wait, S: AsStr, L: Load, W: Write, E: Write>(
     rt: &R,
     alloc: Global,
@@ -24,8 +24,10 @@ pub fn act<R: Wait, S: AsStr, L: Load, W: Write, E: Write>(
     err: &mut E,
 ) -> u8
     ensures known { result ≤ 3 }
-    ensures done { result ≡ 0 → Ends (L.may_give load.old) (W.contents out.old) (W.contents out.new) (E.contents err.old) (E.contents err.new) }
-    ensures stopped { result ≢ 0 → Stops (L.may_give load.old) (L.may_lack load.old) (W.contents out.old) (W.contents out.new) (E.contents err.old) (E.contents err.new) result }
+    ensures done { result ≡ 0 → Ends (L.may_give load.old) (W.contents out.old) (W.contents out.new)
+        (E.contents err.old) (E.contents err.new) }
+    ensures stopped { result ≢ 0 → Stops (L.may_give load.old) (L.may_lack load.old) (W.contents out.old)
+        (W.contents out.new) (E.contents err.old) (E.contents err.new) result }
 {
     match parse(alloc, words) {
         Ok(asked) => execute(rt, alloc, &asked, load, out, err),

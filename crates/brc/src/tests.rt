@@ -94,10 +94,7 @@ fn carries_out_command_lines(rt: HostRuntime) {
             &["brc", "run", "m.brc", "--call", "f", "--threads", "32"],
             MOST,
         ),
-        (
-            &["brc", "run", "m.brc", "--call", "f", "--rows", "1"],
-            ONE,
-        ),
+        (&["brc", "run", "m.brc", "--call", "f", "--rows", "1"], ONE),
         (
             &["brc", "run", "m.brc", "--call", "f", "--rows", "1024"],
             ONE,

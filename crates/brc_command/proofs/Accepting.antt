@@ -1,5 +1,6 @@
 -- How many instructions a module has at most, and the line about it in three parts.
-use Rattle.std.proofs.Common.{Option, Result, Ok, Err, OnOk, subst, ◌≡◌, ◌++◌, ◌∙◌, ap, append_assoc, codes, sym, ℕ, ◌*◌, ◌≤◌, List, [], ◌∷◌, length, arith}
+use Rattle.std.proofs.Common.{Option, Result, Ok, Err, OnOk, subst, ◌≡◌, ◌++◌, ◌∙◌, ap, append_assoc, codes, sym, ℕ}
+use Rattle.std.proofs.Common.{◌*◌, ◌≤◌, List, [], ◌∷◌, length, arith}
 use Rattle.std.specs.List.{AllByRecursion}
 use Rattle.std.specs.Io.KnownBytes.{Appends}
 use Rattle.std.proofs.KnownBytes.{Appends-trans}
@@ -32,13 +33,17 @@ abbrev pub ending : List ℕ
 ending = codes " instructions\n"
 
 -- the line, with the counts as the code has them
-pub parts : (m : Module) (fs : List Function) (n : ℕ) → fs ≡ m.functions → n ≡ instruction_count fs → accepted_text m ≡ counted (length fs) ++ counted_too n ++ ending
+pub parts : (m : Module) (fs : List Function) (n : ℕ) → fs ≡ m.functions → n ≡ instruction_count fs
+    → accepted_text m ≡ counted (length fs) ++ counted_too n ++ ending
 parts m fs n same total =
-    append_assoc (counted (length m.functions) ++ counted_too (instruction_count m.functions)) (codes " instructions") (10 ∷ [])
+    append_assoc (counted (length m.functions) ++ counted_too (instruction_count m.functions)) (codes " instructions")
+    (10 ∷ [])
     ∙ ap (λ gs. counted (length gs) ++ counted_too (instruction_count gs) ++ ending) (sym same)
     ∙ ap (λ k. counted (length fs) ++ counted_too k ++ ending) (sym total)
 
 -- the last part, where it is written whole, ends the line
-pub ends_whole : {T E : Type 0} (r : Result T E) (a b c : Option (List ℕ)) (whole front rest : List ℕ) → whole ≡ front ++ rest → Appends a b front → OnOk r (Appends b c rest) → OnOk r (Appends a c whole)
-ends_whole (Ok x) a b c whole front rest e before last = subst (Appends a c) (sym e) (Appends-trans a b c front rest before last)
+pub ends_whole : {T E : Type 0} (r : Result T E) (a b c : Option (List ℕ)) (whole front rest : List ℕ)
+    → whole ≡ front ++ rest → Appends a b front → OnOk r (Appends b c rest) → OnOk r (Appends a c whole)
+ends_whole (Ok x) a b c whole front rest e before last = subst (Appends a c) (sym e)
+    (Appends-trans a b c front rest before last)
 ends_whole (Err x) a b c whole front rest e before last = last

@@ -5,5 +5,6 @@ use Rattle.brc_lang.specs.Written.{AppendsBeginning}
 
 pub begun_anyway : {T E : Type 0} (r : Result T E) (old new : Option (List ℕ)) (bytes : List ℕ)
     → OnOk r (Appends old new bytes) → OnErr r (AppendsBeginning old new bytes) → AppendsBeginning old new bytes
-begun_anyway (Ok x) old new bytes whole begun = record { front = bytes; rest = []; parts = sym (append-nil bytes); appended = whole }
+begun_anyway (Ok x) old new bytes whole begun =
+    record { front = bytes; rest = []; parts = sym (append-nil bytes); appended = whole }
 begun_anyway (Err e) old new bytes whole begun = begun

@@ -10,4 +10,5 @@ abbrev pub instruction_count : List Function → ℕ
 instruction_count functions = sum_by (λ f. length f.code) functions
 
 abbrev pub accepted_text : Module → List ℕ
-accepted_text m = line (entry (codes "accepted") (length m.functions) ++ entry (codes " functions") (instruction_count m.functions) ++ codes " instructions")
+accepted_text m = line (entry (codes "accepted") (length m.functions) ++ entry (codes " functions")
+    (instruction_count m.functions) ++ codes " instructions")

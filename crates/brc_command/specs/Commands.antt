@@ -72,8 +72,8 @@ HasReport gives (ToCheck file) text = HasCheckReport gives file.now text
 HasReport gives (ToStep file schedule) text = HasStepReport gives file.now schedule.now text
 HasReport gives Version text = text ≡ version_text
 
--- ---- what stands in the way. `lacks path`: the loader may answer that the path can't be read. Want of memory and a writer
--- that takes no more may stand in the way of anything
+-- ---- what stands in the way. `lacks path`: the loader may answer that the path can't be read. Want of memory and a
+-- writer that takes no more may stand in the way of anything
 
 -- the text spells no accepted module
 abbrev pub IsModuleFault : List ℕ → StepFault → Type 0
@@ -99,7 +99,8 @@ pub record LacksFunction (gives : List ℕ → List ℕ → Type 0) (file name :
   pub unknown : has_function m name ≡ false
 
 abbrev pub StandsBeforeRun : (List ℕ → List ℕ → Type 0) → (List ℕ → Type 0) → Run → Stop → Type 0
-StandsBeforeRun gives lacks asked (NoFunction name) = (name ≡ asked.function) × LacksFunction gives asked.file.now asked.function.now
+StandsBeforeRun gives lacks asked (NoFunction name) = (name ≡ asked.function)
+    × LacksFunction gives asked.file.now asked.function.now
 StandsBeforeRun gives lacks asked stop = StandsBeforeModule gives lacks asked.file.now stop
 
 -- two texts that the files may have are at fault
@@ -111,7 +112,8 @@ pub record AreAtFault (gives : List ℕ → List ℕ → Type 0) (file schedule 
   pub fault : IsFaultOfTexts module_text schedule_text e
 
 abbrev pub StandsBeforeSteps : (List ℕ → List ℕ → Type 0) → (List ℕ → Type 0) → List ℕ → List ℕ → Stop → Type 0
-StandsBeforeSteps gives lacks file schedule UnreadableFile = lacks file ⊎ lacks schedule ⊎ (IsStandardInput file × IsStandardInput schedule)
+StandsBeforeSteps gives lacks file schedule UnreadableFile = lacks file ⊎ lacks schedule
+    ⊎ (IsStandardInput file × IsStandardInput schedule)
 StandsBeforeSteps gives lacks file schedule (NoFunction name) = ⊥
 StandsBeforeSteps gives lacks file schedule (Fault NoMemory) = Unit {0}
 StandsBeforeSteps gives lacks file schedule (Fault Output) = Unit {0}
@@ -138,9 +140,10 @@ pub record IsDone (is_report : List ℕ → Type 0) (old new err_old err_new : O
   pub reported : Reports is_report old new
   pub silent : err_new ≡ err_old
 
--- one thing that stands in the way gives the status and the line, of which at least a beginning is on standard error. Standard
--- output is as it was, or has a beginning of the report where it took no more
-pub record IsStopped (is_report : List ℕ → Type 0) (stands : Stop → Type 0) (old new err_old err_new : Option (List ℕ)) (status : ℕ) : Type 0 where
+-- one thing that stands in the way gives the status and the line, of which at least a beginning is on standard error.
+-- Standard output is as it was, or has a beginning of the report where it took no more
+pub record IsStopped (is_report : List ℕ → Type 0) (stands : Stop → Type 0)
+    (old new err_old err_new : Option (List ℕ)) (status : ℕ) : Type 0 where
   pub stop : Stop
   pub reason : stands stop
   pub same_status : status ≡ stop_status stop

@@ -10,7 +10,8 @@ use Rattle.brc_check.specs.declared.refused.Refused.{Refused as Refusal}
 use Rattle.brc_command.specs.declared.load.LoadError.{LoadError}
 use Rattle.brc_command.specs.declared.load.LoadError.TheVariants as loads
 use Rattle.brc_command.specs.declared.step_fault.StepFault.{StepFault}
-use Rattle.brc_command.specs.declared.step_fault.StepFault.TheVariants.{Text, Plan, Refused, NoFunction, NoMemory, Output}
+use Rattle.brc_command.specs.declared.step_fault.StepFault.TheVariants.{Text, Plan, Refused, NoFunction, NoMemory}
+use Rattle.brc_command.specs.declared.step_fault.StepFault.TheVariants.{Output}
 use Rattle.brc_command.specs.declared.stop.Stop.{Stop}
 use Rattle.brc_command.specs.declared.stop.Stop.TheVariants.{UnreadableFile, NoFunction as Unknown, Fault}
 

@@ -15,7 +15,8 @@ use Rattle.brc_schedule.specs.Fault as schedule_faults
 use Rattle.brc_world.specs.Runs.{world_after, events_of}
 use Rattle.brc_world.specs.Tallies.{tally_of}
 use Rattle.brc_command.specs.declared.step_fault.StepFault.{StepFault}
-use Rattle.brc_command.specs.declared.step_fault.StepFault.TheVariants.{Text, Plan, Refused, NoFunction, NoMemory, Output}
+use Rattle.brc_command.specs.declared.step_fault.StepFault.TheVariants.{Text, Plan, Refused, NoFunction, NoMemory}
+use Rattle.brc_command.specs.declared.step_fault.StepFault.TheVariants.{Output}
 use Rattle.brc_command.specs.Calls.{calls_of, AreKnown, IsFirstUnknown}
 use Rattle.brc_report.specs.Report.{tally_text}
 
@@ -90,8 +91,11 @@ pub record AreRead (module_text schedule_text : List ℕ) (m : Module) (s : Sche
 -- what is wrong with two texts, or memory ran out
 abbrev pub IsFaultOfTexts : List ℕ → List ℕ → StepFault → Type 0
 IsFaultOfTexts module_text schedule_text (Text e) = module_faults.HasFault module_text e.line e.code
-IsFaultOfTexts module_text schedule_text (Plan e) = (m : Module) × modules.Spells module_text m × schedule_faults.HasFault schedule_text e.line e.code
-IsFaultOfTexts module_text schedule_text (Refused r) = (m : Module) × (s : Schedule) × AreRead module_text schedule_text m s × IsRefusedFor m.functions r
-IsFaultOfTexts module_text schedule_text (NoFunction name) = (m : Module) × (s : Schedule) × AreRead module_text schedule_text m s × IsAcceptable m × IsFirstUnknown m s.calls name
+IsFaultOfTexts module_text schedule_text (Plan e) = (m : Module) × modules.Spells module_text m
+    × schedule_faults.HasFault schedule_text e.line e.code
+IsFaultOfTexts module_text schedule_text (Refused r) = (m : Module) × (s : Schedule)
+    × AreRead module_text schedule_text m s × IsRefusedFor m.functions r
+IsFaultOfTexts module_text schedule_text (NoFunction name) = (m : Module) × (s : Schedule)
+    × AreRead module_text schedule_text m s × IsAcceptable m × IsFirstUnknown m s.calls name
 IsFaultOfTexts module_text schedule_text NoMemory = Unit {0}
 IsFaultOfTexts module_text schedule_text Output = ⊥

@@ -26,12 +26,13 @@ steps_of_main n = replicate n (0, Ok)
 abbrev pub AreGone : World → Type 0
 AreGone w = list_all (λ (a : Actor). has_gone a.status) w.actors ≡ true
 
--- The tally of a world in which all threads are gone: from the first one of so many workers that each make the call, whole
--- rounds of the workers lead there, and then steps of main alone.
+-- The tally of a world in which all threads are gone: from the first one of so many workers that each make the call,
+-- whole rounds of the workers lead there, and then steps of main alone.
 pub record IsTallyOfRun (m : Module) (rows workers : ℕ) (call : Call) (tally : Tally) : Type 0 where
   pub rounds : ℕ
   pub more : ℕ
   pub last : World
-  pub led : last ≡ world_after (first_world m rows (replicate workers call)) (turns rounds workers ++ steps_of_main more)
+  pub led : last ≡ world_after (first_world m rows (replicate workers call))
+      (turns rounds workers ++ steps_of_main more)
   pub gone : AreGone last
   pub counted : tally ≡ tally_of last

@@ -14,7 +14,8 @@ use std::io::Write;
 /// Writes the line. A call of the writer that takes no byte or is interrupted is a fault too, and is not tried again.
 pub fn write_accepted<W: Write>(checked: &Checked, writer: &mut W) -> io::Result<()>
     ensures whole { OnOk result (Appends (W.contents writer.old) (W.contents writer.new) (accepted_text checked.now)) }
-    ensures begun { OnErr result (AppendsBeginning (W.contents writer.old) (W.contents writer.new) (accepted_text checked.now)) }
+    ensures begun { OnErr result (AppendsBeginning (W.contents writer.old) (W.contents writer.new)
+        (accepted_text checked.now)) }
 {
     let functions = checked.module().functions.as_slice();
     write_entry(b"accepted", functions.len() as u64, writer)?;

@@ -11,8 +11,8 @@ const MOVED: &[u8] = b"module 1\nfunc f\nnum v1 7 else @3\nmove v2 v1\nret v2\nf
 const LATEST: &[u8] =
     b"module 1\nfunc f\nnum v1 1 else @6\nnum v2 2 else @4\ndrop v1\ngoto @5\nmove v2 v1\nret v2\nnone v2\nret v2\nend\n";
 
-// With one row the second number isn't made. With three rows a worker's first call makes two numbers, its second one, and its
-// third none: two workers make six.
+// With one row the second number isn't made. With three rows a worker's first call makes two numbers, its second one,
+// and its third none: two workers make six.
 #[test]
 fn runs_out_of_rows(rt: HostRuntime) {
     let cases: [(Asked<'_>, &'static [u8], &[u8]); 3] = [
@@ -37,9 +37,9 @@ fn runs_out_of_rows(rt: HostRuntime) {
     }
 }
 
-// A birth is two steps, kind and local, and the number is there with the second. Its drop is a load and a store of the local
-// word, a load of the shared word, and its death: gate, gate read, kind, closed: 7 steps, 9 so far. `fail` makes 10. With one
-// row the second call's `num` is one step, which makes nothing, and its `fail` another: 12.
+// A birth is two steps, kind and local, and the number is there with the second. Its drop is a load and a store of the
+// local word, a load of the shared word, and its death: gate, gate read, kind, closed: 7 steps, 9 so far. `fail` makes
+// 10. With one row the second call's `num` is one step, which makes nothing, and its `fail` another: 12.
 #[test]
 fn counts_the_steps_of_a_number(rt: HostRuntime) {
     let root_alone: &[u8] =
@@ -75,8 +75,8 @@ fn counts_the_steps_of_a_number(rt: HostRuntime) {
     }
 }
 
-// `move` is one step and makes nothing: the number is in row 2 before and after it. The returned number dies in `ret`'s seventh
-// step, the tenth in all.
+// `move` is one step and makes nothing: the number is in row 2 before and after it. The returned number dies in `ret`'s
+// seventh step, the tenth in all.
 #[test]
 fn a_moved_number_is_the_same(rt: HostRuntime) {
     let number_too: &[u8] =

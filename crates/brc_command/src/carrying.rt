@@ -1,11 +1,14 @@
 //! What the commands do.
 
-ghost use Rattle.std.specs.Prelude.{◌≡◌, ◌≢◌, ◌≤◌, true, false, IsSome, IsNone, IfSome, IfErr, OnOk, IsErrOf, MatchResult};
+ghost use Rattle.std.specs.Prelude.{◌≡◌, ◌≢◌, ◌≤◌, true, false, IsSome, IsNone, IfSome, IfErr, OnOk, IsErrOf};
+ghost use Rattle.std.specs.Prelude.{MatchResult};
 ghost use Rattle.brc_model.specs.Safety.{IsCall};
 ghost use Rattle.brc_command.specs.declared.stop.Stop.TheVariants.{Fault};
 ghost use Rattle.brc_command.specs.declared.step_fault.StepFault.TheVariants.{Output};
 ghost use Rattle.brc_command.specs.Calls.{calls_named, has_function};
-ghost use Rattle.brc_command.specs.Commands.{Reports, BeginsReport, HasCheckReport, HasRunReport, HasStepReport, HasReport, StandsBeforeModule, StandsBeforeRun, StandsBeforeSteps, Stands, IsDone, IsStopped, IsAccepted, IsModuleFault};
+ghost use Rattle.brc_command.specs.Commands.{Reports, BeginsReport, HasCheckReport, HasRunReport, HasStepReport};
+ghost use Rattle.brc_command.specs.Commands.{HasReport, StandsBeforeModule, StandsBeforeRun, StandsBeforeSteps, Stands};
+ghost use Rattle.brc_command.specs.Commands.{IsDone, IsStopped, IsAccepted, IsModuleFault};
 
 use crate::accepted::write_accepted;
 use crate::asked::{Asked, Run};
@@ -25,8 +28,8 @@ use std::alloc::Global;
 use std::io::Write;
 use std::sync::Wait;
 
-/// Does what is asked and answers the status to exit with. What stands in the way is told on standard error; where that can't
-/// be written, nothing more is told.
+/// Does what is asked and answers the status to exit with. What stands in the way is told on standard error; where that
+/// can't be written, nothing more is told.
 pub fn execute<R: Wait, L: Load, W: Write, E: Write>(
     rt: &R,
     alloc: Global,
@@ -36,8 +39,11 @@ pub fn execute<R: Wait, L: Load, W: Write, E: Write>(
     err: &mut E,
 ) -> u8
     ensures known { result ≤ 3 }
-    ensures done { result ≡ 0 → IsDone (HasReport (L.may_give load.old) asked.now) (W.contents out.old) (W.contents out.new) (E.contents err.old) (E.contents err.new) }
-    ensures stopped { result ≢ 0 → IsStopped (HasReport (L.may_give load.old) asked.now) (Stands (L.may_give load.old) (L.may_lack load.old) asked.now) (W.contents out.old) (W.contents out.new) (E.contents err.old) (E.contents err.new) result }
+    ensures done { result ≡ 0 → IsDone (HasReport (L.may_give load.old) asked.now) (W.contents out.old)
+        (W.contents out.new) (E.contents err.old) (E.contents err.new) }
+    ensures stopped { result ≢ 0 → IsStopped (HasReport (L.may_give load.old) asked.now)
+        (Stands (L.may_give load.old) (L.may_lack load.old) asked.now) (W.contents out.old) (W.contents out.new)
+        (E.contents err.old) (E.contents err.new) result }
 {
     match carry_out(rt, alloc, asked, load, out) {
         Ok(()) => 0,
@@ -56,10 +62,12 @@ pub fn carry_out<'a, R: Wait, L: Load, W: Write>(
     load: &mut L,
     out: &mut W,
 ) -> Result<(), Stop<'a>>
-    ensures reported { OnOk result (Reports (HasReport (L.may_give load.old) asked.now) (W.contents out.old) (W.contents out.new)) }
+    ensures reported { OnOk result (Reports (HasReport (L.may_give load.old) asked.now) (W.contents out.old)
+        (W.contents out.new)) }
     ensures stopped { IfErr result (Stands (L.may_give load.old) (L.may_lack load.old) asked.now) }
     ensures unwritten { IfErr result (λ e. e ≢ Fault Output → W.contents out.new ≡ W.contents out.old) }
-    ensures begun { IsErrOf result (Fault Output) → BeginsReport (HasReport (L.may_give load.old) asked.now) (W.contents out.old) (W.contents out.new) }
+    ensures begun { IsErrOf result (Fault Output) → BeginsReport (HasReport (L.may_give load.old) asked.now)
+        (W.contents out.old) (W.contents out.new) }
 {
     match asked {
         Asked::Run(asked) => run_file(rt, alloc, asked, load, out),
@@ -79,10 +87,12 @@ fn run_file<'a, R: Wait, L: Load, W: Write>(
     load: &mut L,
     out: &mut W,
 ) -> Result<(), Stop<'a>>
-    ensures reported { OnOk result (Reports (HasRunReport (L.may_give load.old) asked.now) (W.contents out.old) (W.contents out.new)) }
+    ensures reported { OnOk result (Reports (HasRunReport (L.may_give load.old) asked.now) (W.contents out.old)
+        (W.contents out.new)) }
     ensures stopped { IfErr result (StandsBeforeRun (L.may_give load.old) (L.may_lack load.old) asked.now) }
     ensures unwritten { IfErr result (λ e. e ≢ Fault Output → W.contents out.new ≡ W.contents out.old) }
-    ensures begun { IsErrOf result (Fault Output) → BeginsReport (HasRunReport (L.may_give load.old) asked.now) (W.contents out.old) (W.contents out.new) }
+    ensures begun { IsErrOf result (Fault Output) → BeginsReport (HasRunReport (L.may_give load.old) asked.now)
+        (W.contents out.old) (W.contents out.new) }
 {
     let bytes = load.load(alloc, asked.file)?;
     let checked = checked(alloc, bytes.as_slice())?;
@@ -102,10 +112,12 @@ fn check_file<'a, L: Load, W: Write>(
     load: &mut L,
     out: &mut W,
 ) -> Result<(), Stop<'a>>
-    ensures reported { OnOk result (Reports (HasCheckReport (L.may_give load.old) file.now) (W.contents out.old) (W.contents out.new)) }
+    ensures reported { OnOk result (Reports (HasCheckReport (L.may_give load.old) file.now) (W.contents out.old)
+        (W.contents out.new)) }
     ensures stopped { IfErr result (StandsBeforeModule (L.may_give load.old) (L.may_lack load.old) file.now) }
     ensures unwritten { IfErr result (λ e. e ≢ Fault Output → W.contents out.new ≡ W.contents out.old) }
-    ensures begun { IsErrOf result (Fault Output) → BeginsReport (HasCheckReport (L.may_give load.old) file.now) (W.contents out.old) (W.contents out.new) }
+    ensures begun { IsErrOf result (Fault Output) → BeginsReport (HasCheckReport (L.may_give load.old) file.now)
+        (W.contents out.old) (W.contents out.new) }
 {
     let bytes = load.load(alloc, file)?;
     let checked = checked(alloc, bytes.as_slice())?;
@@ -123,10 +135,13 @@ fn step_files<'a, L: Load, W: Write>(
     load: &mut L,
     out: &mut W,
 ) -> Result<(), Stop<'a>>
-    ensures reported { OnOk result (Reports (HasStepReport (L.may_give load.old) file.now schedule.now) (W.contents out.old) (W.contents out.new)) }
-    ensures stopped { IfErr result (StandsBeforeSteps (L.may_give load.old) (L.may_lack load.old) file.now schedule.now) }
+    ensures reported { OnOk result (Reports (HasStepReport (L.may_give load.old) file.now schedule.now)
+        (W.contents out.old) (W.contents out.new)) }
+    ensures stopped { IfErr result (StandsBeforeSteps (L.may_give load.old)
+        (L.may_lack load.old) file.now schedule.now) }
     ensures unwritten { IfErr result (λ e. e ≢ Fault Output → W.contents out.new ≡ W.contents out.old) }
-    ensures begun { IsErrOf result (Fault Output) → BeginsReport (HasStepReport (L.may_give load.old) file.now schedule.now) (W.contents out.old) (W.contents out.new) }
+    ensures begun { IsErrOf result (Fault Output) → BeginsReport
+        (HasStepReport (L.may_give load.old) file.now schedule.now) (W.contents out.old) (W.contents out.new) }
 {
     if file == STANDARD_INPUT && schedule == STANDARD_INPUT {
         return Err(Stop::UnreadableFile);

@@ -26,6 +26,8 @@ pub use turns::run;
 #[cfg(test)]
 mod birth_tests;
 #[cfg(test)]
+mod limit_tests;
+#[cfg(test)]
 mod path_tests;
 #[cfg(test)]
 mod step_tests;

@@ -4,7 +4,8 @@ ghost use Rattle.std.specs.Prelude.{◌≡◌, OnOk, OnErr};
 ghost use Rattle.std.specs.List.{flat_map};
 ghost use Rattle.std.specs.Io.KnownBytes.{Appends};
 ghost use Rattle.brc_lang.specs.Written.{AppendsBeginning};
-ghost use Rattle.brc_command.specs.Lines.{fault_code, check_code, placed_text, unreadable_text, refused_text, unknown_text, fault_text, stop_text, version_text};
+ghost use Rattle.brc_command.specs.Lines.{fault_code, check_code, placed_text, unreadable_text, refused_text};
+ghost use Rattle.brc_command.specs.Lines.{unknown_text, fault_text, stop_text, version_text};
 
 use crate::step_fault::StepFault;
 use crate::stop::Stop;
@@ -28,7 +29,8 @@ pub fn write_version<W: Write>(writer: &mut W) -> io::Result<()>
 /// Writes the line. A call of the writer that takes no byte or is interrupted is a fault too, and is not tried again.
 pub fn write_stop<W: Write>(stop: &Stop<'_>, writer: &mut W) -> io::Result<()>
     ensures whole { OnOk result (Appends (W.contents writer.old) (W.contents writer.new) (stop_text stop.now)) }
-    ensures begun { OnErr result (AppendsBeginning (W.contents writer.old) (W.contents writer.new) (stop_text stop.now)) }
+    ensures begun { OnErr result (AppendsBeginning (W.contents writer.old) (W.contents writer.new)
+        (stop_text stop.now)) }
 {
     match stop {
         Stop::UnreadableFile => write_bytes(b"unreadable file\n", writer),
@@ -39,7 +41,8 @@ pub fn write_stop<W: Write>(stop: &Stop<'_>, writer: &mut W) -> io::Result<()>
 
 fn write_fault<W: Write>(fault: &StepFault, writer: &mut W) -> io::Result<()>
     ensures whole { OnOk result (Appends (W.contents writer.old) (W.contents writer.new) (fault_text fault.now)) }
-    ensures begun { OnErr result (AppendsBeginning (W.contents writer.old) (W.contents writer.new) (fault_text fault.now)) }
+    ensures begun { OnErr result (AppendsBeginning (W.contents writer.old) (W.contents writer.new)
+        (fault_text fault.now)) }
 {
     match fault {
         StepFault::Text(fault) => write_unreadable(b"", fault, writer),
@@ -52,8 +55,10 @@ fn write_fault<W: Write>(fault: &StepFault, writer: &mut W) -> io::Result<()>
 }
 
 fn write_unreadable<W: Write>(file: &[u8], fault: &ReadFault, writer: &mut W) -> io::Result<()>
-    ensures whole { OnOk result (Appends (W.contents writer.old) (W.contents writer.new) (unreadable_text file.now fault.now)) }
-    ensures begun { OnErr result (AppendsBeginning (W.contents writer.old) (W.contents writer.new) (unreadable_text file.now fault.now)) }
+    ensures whole { OnOk result (Appends (W.contents writer.old) (W.contents writer.new)
+        (unreadable_text file.now fault.now)) }
+    ensures begun { OnErr result (AppendsBeginning (W.contents writer.old) (W.contents writer.new)
+        (unreadable_text file.now fault.now)) }
 {
     let mut digits = Buffer::new();
     let number = digits.format(fault.line).as_bytes();
@@ -63,7 +68,8 @@ fn write_unreadable<W: Write>(file: &[u8], fault: &ReadFault, writer: &mut W) ->
 
 fn write_refused<W: Write>(refused: &Refused, writer: &mut W) -> io::Result<()>
     ensures whole { OnOk result (Appends (W.contents writer.old) (W.contents writer.new) (refused_text refused.now)) }
-    ensures begun { OnErr result (AppendsBeginning (W.contents writer.old) (W.contents writer.new) (refused_text refused.now)) }
+    ensures begun { OnErr result (AppendsBeginning (W.contents writer.old) (W.contents writer.new)
+        (refused_text refused.now)) }
 {
     let mut digits = Buffer::new();
     let name = refused.function.as_bytes();
@@ -81,22 +87,27 @@ fn write_placed<'p, W: Write>(
     code: &'p [u8],
     writer: &mut W,
 ) -> io::Result<()>
-    ensures whole { OnOk result (Appends (W.contents writer.old) (W.contents writer.new) (placed_text word.now whose.now mark.now number.now code.now)) }
-    ensures begun { OnErr result (AppendsBeginning (W.contents writer.old) (W.contents writer.new) (placed_text word.now whose.now mark.now number.now code.now)) }
+    ensures whole { OnOk result (Appends (W.contents writer.old) (W.contents writer.new)
+        (placed_text word.now whose.now mark.now number.now code.now)) }
+    ensures begun { OnErr result (AppendsBeginning (W.contents writer.old) (W.contents writer.new)
+        (placed_text word.now whose.now mark.now number.now code.now)) }
 {
     write_pieces(&[word, whose, mark, number, b" ", code, b"\n"], writer)
 }
 
 fn write_unknown<W: Write>(name: &[u8], writer: &mut W) -> io::Result<()>
     ensures whole { OnOk result (Appends (W.contents writer.old) (W.contents writer.new) (unknown_text name.now)) }
-    ensures begun { OnErr result (AppendsBeginning (W.contents writer.old) (W.contents writer.new) (unknown_text name.now)) }
+    ensures begun { OnErr result (AppendsBeginning (W.contents writer.old) (W.contents writer.new)
+        (unknown_text name.now)) }
 {
     write_pieces(&[b"no function ", name, b"\n"], writer)
 }
 
 fn write_pieces<W: Write>(pieces: &[&[u8]], writer: &mut W) -> io::Result<()>
-    ensures whole { OnOk result (Appends (W.contents writer.old) (W.contents writer.new) (flat_map (λ piece. piece.now) pieces.now)) }
-    ensures begun { OnErr result (AppendsBeginning (W.contents writer.old) (W.contents writer.new) (flat_map (λ piece. piece.now) pieces.now)) }
+    ensures whole { OnOk result (Appends (W.contents writer.old) (W.contents writer.new)
+        (flat_map (λ piece. piece.now) pieces.now)) }
+    ensures begun { OnErr result (AppendsBeginning (W.contents writer.old) (W.contents writer.new)
+        (flat_map (λ piece. piece.now) pieces.now)) }
 {
     for piece in pieces {
         write_bytes(piece, writer)?;

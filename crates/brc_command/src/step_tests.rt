@@ -65,13 +65,13 @@ fn checks_modules(rt: HostRuntime) {
 
 // Two workers that call `f` once, with main's exit first. The root's local count is 3, and main alone changes it.
 //
-// Main gives up its reference to the root and is gone: load, store, leaving, a look at each of its two marks, gone: 6 steps.
-// With `FIRST` a worker's reference to the root takes 2 steps (load, add), its drop 3 (load, shared load, exchange) and
-// `fail` 1. The exit of worker 1 is load, shared load, exchange, which queues the root, mark, look at main's word, which says
-// gone, and so: the mark taken, the merge (local swap, shared load, exchange: 2 are left), and the release that was handed
-// (shared load, exchange: 1 is left). Leaving and gone follow: 6 + 5 + 1 + 3 + 2 + 2 = 19 steps.
-// The exit of worker 2 is load, shared load, exchange, which leaves nothing: 9 steps so far. Then the root dies: gate, gate
-// read, kind, eight cells, closed: 12 steps, 21 so far. Leaving and gone make 23.
+// Main gives up its reference to the root and is gone: load, store, leaving, a look at each of its two marks, gone: 6
+// steps. With `FIRST` a worker's reference to the root takes 2 steps (load, add), its drop 3 (load, shared load,
+// exchange) and `fail` 1. The exit of worker 1 is load, shared load, exchange, which queues the root, mark, look at
+// main's word, which says gone, and so: the mark taken, the merge (local swap, shared load, exchange: 2 are left), and
+// the release that was handed (shared load, exchange: 1 is left). Leaving and gone follow: 6 + 5 + 1 + 3 + 2 + 2 = 19
+// steps. The exit of worker 2 is load, shared load, exchange, which leaves nothing: 9 steps so far. Then the root dies:
+// gate, gate read, kind, eight cells, closed: 12 steps, 21 so far. Leaving and gone make 23.
 #[test]
 fn counts_each_step(rt: HostRuntime) {
     let cases: [(&'static [u8], &[u8]); 6] = [
@@ -129,9 +129,9 @@ fn steps_schedules(rt: HostRuntime) {
     }
 }
 
-// With `SMALLEST`: worker 1's `fail` is a step, and with the fourth one, an exchange, it has queued the root. The fifth sets
-// the mark, which main finds: at its exit, or by a claim before it. Without the mark main finds nothing, and the worker sees
-// that main is gone. Each schedule is then closed by the rest of worker 1.
+// With `SMALLEST`: worker 1's `fail` is a step, and with the fourth one, an exchange, it has queued the root. The fifth
+// sets the mark, which main finds: at its exit, or by a claim before it. Without the mark main finds nothing, and the
+// worker sees that main is gone. Each schedule is then closed by the rest of worker 1.
 #[test]
 fn steps_the_queue(rt: HostRuntime) {
     let closed: &[u8] =
@@ -166,7 +166,7 @@ fn steps_the_queue(rt: HostRuntime) {
 fn tells_the_earlier_fault(rt: HostRuntime) {
     let unreadable = Err(LoadError::Unreadable);
     let no_memory = Err(LoadError::NoMemory);
-    let cases: [(Bytes, Bytes, &[u8], u8); 13] = [
+    let cases: [(Bytes<'static>, Bytes<'static>, &[u8], u8); 13] = [
         (unreadable, no_memory, b"unreadable file\n", 2),
         (no_memory, unreadable, b"no memory\n", 3),
         (Ok(b""), unreadable, b"unreadable file\n", 2),

@@ -29,7 +29,8 @@ pub fn step_text<W: Write>(
     ensures stepped { OnOk result (StepsTo module.now schedule.now (W.contents out.old) (W.contents out.new)) }
     ensures fault { IfErr result (λ e. (e ≡ Output) ⊎ IsFaultOfTexts module.now schedule.now e) }
     ensures unwritten { IfErr result (λ e. e ≢ Output → W.contents out.new ≡ W.contents out.old) }
-    ensures begun { IsErrOf result Output → StepsTowards module.now schedule.now (W.contents out.old) (W.contents out.new) }
+    ensures begun { IsErrOf result Output → StepsTowards module.now schedule.now (W.contents out.old)
+        (W.contents out.new) }
 {
     let tally = tally_of_texts(alloc, module, schedule)?;
     match write_tally(&tally, out) {
@@ -39,7 +40,8 @@ pub fn step_text<W: Write>(
 }
 
 fn tally_of_texts(alloc: Global, module: &[u8], schedule: &[u8]) -> Result<Tally, StepFault>
-    ensures { MatchResult result (λ tally. HasTally module.now schedule.now tally) (λ e. IsFaultOfTexts module.now schedule.now e) }
+    ensures { MatchResult result (λ tally. HasTally module.now schedule.now tally)
+        (λ e. IsFaultOfTexts module.now schedule.now e) }
 {
     let module = module_of(alloc, module)?;
     let schedule = schedule_of(alloc, schedule)?;

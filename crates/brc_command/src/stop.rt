@@ -19,7 +19,8 @@ pub enum Stop<'a> {
 }
 
 impl Stop<'_> {
-    /// The status that the program exits with: 1 for a module that is refused, 3 for want of memory, and 2 for anything else.
+    /// The status that the program exits with: 1 for a module that is refused, 3 for want of memory, and 2 for anything
+    /// else.
     pub fn status(&self) -> u8
         ensures faulty { 0 < result }
         ensures known { result ≤ 3 }

@@ -41,17 +41,18 @@ pub fn to_run<'a>(function: &'a str, threads: u32, rows: u16, times: u32) -> Ask
     })
 }
 
-pub type Bytes = Result<&'static [u8], LoadError>;
+pub type Bytes<'t> = Result<&'t [u8], LoadError>;
 
 // The files `m.brc` and `s.txt`, or what stands in the way of each.
 #[derive(Clone, Copy)]
-pub struct Shelf {
-    pub module: Bytes,
-    pub schedule: Bytes,
+pub struct Shelf<'t> {
+    pub module: Bytes<'t>,
+    pub schedule: Bytes<'t>,
 }
 
-impl Load for Shelf {
-    ghost may_give = { λ shelf path bytes. IfOk shelf.«module» (λ text. bytes ≡ text.now) ⊎ IfOk shelf.schedule (λ text. bytes ≡ text.now) };
+impl Load for Shelf<'_> {
+    ghost may_give = { λ shelf path bytes. IfOk shelf.«module» (λ text. bytes ≡ text.now)
+        ⊎ IfOk shelf.schedule (λ text. bytes ≡ text.now) };
 
     ghost may_lack = { λ _ _. ⊤ };
 
@@ -68,7 +69,7 @@ impl Load for Shelf {
     }
 }
 
-pub fn both(module: &'static [u8], schedule: &'static [u8]) -> Shelf {
+pub fn both<'t>(module: &'t [u8], schedule: &'t [u8]) -> Shelf<'t> {
     Shelf {
         module: Ok(module),
         schedule: Ok(schedule),
@@ -112,7 +113,7 @@ impl Write for Narrow {
 pub fn told<R: Wait + AllocGlobal>(
     rt: &R,
     asked: &Asked<'_>,
-    load: Shelf,
+    load: Shelf<'_>,
 ) -> (Vec<u8>, Vec<u8>, u8) {
     let mut out: Vec<u8> = Vec::new(rt.alloc());
     let mut err: Vec<u8> = Vec::new(rt.alloc());
@@ -125,7 +126,7 @@ pub fn told<R: Wait + AllocGlobal>(
 pub fn assert_told<R: Wait + Abort + AllocGlobal>(
     rt: &R,
     asked: &Asked<'_>,
-    load: Shelf,
+    load: Shelf<'_>,
     (report, line, want): (&[u8], &[u8], u8),
 ) {
     let (out, err, status) = told(rt, asked, load);
@@ -138,7 +139,7 @@ pub fn assert_told<R: Wait + Abort + AllocGlobal>(
 fn assert_stops<R: Wait + Abort + AllocGlobal>(
     rt: &R,
     asked: &Asked<'_>,
-    load: Shelf,
+    load: Shelf<'_>,
     report: &[u8],
     stopping: Stopping,
 ) {
@@ -198,7 +199,7 @@ fn runs_modules(rt: HostRuntime) {
 #[test]
 fn tells_what_is_in_the_way(rt: HostRuntime) {
     let asked = to_run("f", 1, 1024, 1);
-    let cases: [(Bytes, &[u8], u8); 9] = [
+    let cases: [(Bytes<'static>, &[u8], u8); 9] = [
         (
             Ok(b"module 1\nfunc f\nnewref v1 v0\nret v0\nend\n"),
             b"refused f @1 C3\n",

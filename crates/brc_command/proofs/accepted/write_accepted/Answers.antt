@@ -8,7 +8,8 @@ use Rattle.brc_command.proofs.accepted.write_accepted.Goals as goal
 
 pub instruction_count-requires : goal.instruction_count-requires
 instruction_count-requires g c =
-    rw (c.as_slice-functions.ensures, c.module.ensures.value) (most_instructions c.args.checked.now c.module.ensures.fits)
+    rw (c.as_slice-functions.ensures, c.module.ensures.value)
+    (most_instructions c.args.checked.now c.module.ensures.fits)
 
 pub returns-in_err-write_entry-clause-begun : goal.returns-in_err-write_entry-clause-begun
 returns-in_err-write_entry-clause-begun g c =
@@ -35,8 +36,10 @@ returns-clause-whole g c =
     let fs = c.as_slice-functions.result.now in
     let same = c.as_slice-functions.ensures ∙ ap (λ (n : Module). n.functions) c.module.ensures.value in
     let n = c.instruction_count.result in
-    let before = Appends-trans _ _ _ (counted (length fs)) (counted_too n) c.in_ok-write_entry.ensures.whole c.in_ok-write_entry-2.ensures.whole in
-    ends_whole _ _ _ _ _ (counted (length fs) ++ counted_too n) ending (parts m fs n same c.instruction_count.ensures) before c.write_bytes.ensures.whole
+    let before = Appends-trans _ _ _ (counted (length fs))
+    (counted_too n) c.in_ok-write_entry.ensures.whole c.in_ok-write_entry-2.ensures.whole in
+    ends_whole _ _ _ _ _ (counted (length fs) ++ counted_too n) ending
+    (parts m fs n same c.instruction_count.ensures) before c.write_bytes.ensures.whole
 
 pub returns-clause-begun : goal.returns-clause-begun
 returns-clause-begun g c =
@@ -44,5 +47,7 @@ returns-clause-begun g c =
     let fs = c.as_slice-functions.result.now in
     let same = c.as_slice-functions.ensures ∙ ap (λ (n : Module). n.functions) c.module.ensures.value in
     let n = c.instruction_count.result in
-    let before = Appends-trans _ _ _ (counted (length fs)) (counted_too n) c.in_ok-write_entry.ensures.whole c.in_ok-write_entry-2.ensures.whole in
-    stops_late _ _ _ _ _ (counted (length fs) ++ counted_too n) ending (parts m fs n same c.instruction_count.ensures) before c.write_bytes.ensures.begun
+    let before = Appends-trans _ _ _ (counted (length fs))
+    (counted_too n) c.in_ok-write_entry.ensures.whole c.in_ok-write_entry-2.ensures.whole in
+    stops_late _ _ _ _ _ (counted (length fs) ++ counted_too n) ending
+    (parts m fs n same c.instruction_count.ensures) before c.write_bytes.ensures.begun

@@ -12,7 +12,8 @@ returns-in_default-clause-fault c =
     let call = c.call-item.result in
     let found = looked_up m call.name _ _ _ c.as_slice.ensures c.as_bytes.ensures.value c.number_of.ensures in
     subst (λ (l : List PlannedCall). IsFirstUnknown m l call.name) c.as_slice-planned.ensures
-    (first_unknown m c.as_slice-planned.result.now c.loop-call.call-index call c.loop-call-test.true (sym c.call-item.is) c.loop-call.invariant.1 (sym found ∙ c.in_default.is))
+    (first_unknown m c.as_slice-planned.result.now c.loop-call.call-index call c.loop-call-test.true
+    (sym c.call-item.is) c.loop-call.invariant.1 (sym found ∙ c.in_default.is))
 
 pub loop-call-preserved : goal.loop-call-preserved
 loop-call-preserved c =
@@ -25,7 +26,8 @@ loop-call-preserved c =
     let before = c.loop-call.invariant in
     let pushed = c.in_ok-push.ensures.items ∙ made m call c.in-Some.function _ _ found before.0 in (
       pushed ∙ calls_next m planned i call c.loop-call-test.true (sym c.call-item.is),
-      known_next m planned i call c.loop-call-test.true (sym c.call-item.is) before.1 (known_there m call.name c.in-Some.function found),
+      known_next m planned i call c.loop-call-test.true (sym c.call-item.is) before.1
+          (known_there m call.name c.in-Some.function found),
     )
 
 pub returns-clause-calls_fit : goal.returns-clause-calls_fit

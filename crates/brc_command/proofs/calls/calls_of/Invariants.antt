@@ -4,4 +4,5 @@ use Rattle.brc_command.specs.Calls.{calls_of, AreKnown}
 use Rattle.brc_command.proofs.calls.calls_of.Given as goal
 
 abbrev pub invariant-loop-call : goal.invariant-loop-call
-invariant-loop-call l = (l.calls.items ≡ calls_of l.module (take l.call-index l.planned)) × AreKnown l.module (take l.call-index l.planned)
+invariant-loop-call l = (l.calls.items ≡ calls_of l.module (take l.call-index l.planned))
+    × AreKnown l.module (take l.call-index l.planned)

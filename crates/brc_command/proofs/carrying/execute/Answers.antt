@@ -9,7 +9,8 @@ returns-in-Err-clause-stopped g c = λ _. record {
   stop = c.in-Err.stop;
   reason = c.in-Err.ensures.stopped;
   same_status = c.status.ensures.exact;
-  told = begun_anyway c.write_stop.result _ _ (stop_text c.in-Err.stop) c.write_stop.ensures.whole c.write_stop.ensures.begun;
+  told = begun_anyway c.write_stop.result _ _ (stop_text c.in-Err.stop) c.write_stop.ensures.whole
+      c.write_stop.ensures.begun;
   unwritten = c.in-Err.ensures.unwritten;
   begun = λ e. c.in-Err.ensures.begun (ap Err e);
 }

@@ -6,4 +6,5 @@ use Rattle.brc_command.proofs.lines.write_pieces.Given as goal
 
 abbrev pub invariant-loop-piece : goal.invariant-loop-piece
 invariant-loop-piece g l =
-    Appends (g.W.Write.contents l.initial.writer) (g.W.Write.contents l.writer) (flat_map (λ piece. piece.now) (take l.piece-index l.pieces))
+    Appends (g.W.Write.contents l.initial.writer) (g.W.Write.contents l.writer)
+    (flat_map (λ piece. piece.now) (take l.piece-index l.pieces))

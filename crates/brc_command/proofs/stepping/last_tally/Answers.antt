@@ -8,5 +8,6 @@ pub returns : goal.returns
 returns c =
     let m = c.args.checked.now in
     let s = c.args.schedule.now in
-    tally_of_last m s.rows c.args.calls.now (calls_of m s.calls) (events_of s.steps) (seen c.in_ok-world.world) (seen c.run.new.self) c.tally.result
+    tally_of_last m s.rows c.args.calls.now (calls_of m s.calls) (events_of s.steps) (seen c.in_ok-world.world)
+    (seen c.run.new.self) c.tally.result
     c.requires.found c.in_ok-world.ensures c.in_ok-run.ensures.done c.tally.ensures

@@ -11,7 +11,8 @@ returns-in-Ok-clause-stepped g c =
       m = had.m;
       s = had.s;
       ready = had.ready;
-      reported = subst (Appends (g.W.Write.contents c.args.out.now) (g.W.Write.contents c.write_tally.new.writer)) (ap tally_text had.counted) c.in-Ok.ensures.whole;
+      reported = subst (Appends (g.W.Write.contents c.args.out.now) (g.W.Write.contents c.write_tally.new.writer))
+          (ap tally_text had.counted) c.in-Ok.ensures.whole;
     }
 
 pub returns-clause-begun : goal.returns-clause-begun
@@ -21,5 +22,6 @@ returns-clause-begun g c = λ _.
       m = had.m;
       s = had.s;
       ready = had.ready;
-      begun = subst (AppendsBeginning (g.W.Write.contents c.args.out.now) (g.W.Write.contents c.write_tally.new.writer)) (ap tally_text had.counted) c.in-Err.ensures.begun;
+      begun = subst (AppendsBeginning (g.W.Write.contents c.args.out.now)
+          (g.W.Write.contents c.write_tally.new.writer)) (ap tally_text had.counted) c.in-Err.ensures.begun;
     }

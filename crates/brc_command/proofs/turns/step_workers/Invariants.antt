@@ -6,4 +6,5 @@ use Rattle.brc_command.specs.Turns.{turn}
 use Rattle.brc_command.proofs.turns.step_workers.Given as goal
 
 abbrev pub invariant-loop-worker : goal.invariant-loop-worker
-invariant-loop-worker l = (seen l.world ≡ world_after (seen l.fn.world) (turn l.worker)) × (length l.world.actors ≡ length l.fn.world.actors)
+invariant-loop-worker l = (seen l.world ≡ world_after (seen l.fn.world) (turn l.worker))
+    × (length l.world.actors ≡ length l.fn.world.actors)
