@@ -1,4 +1,1 @@
-pub mod Accepted
-pub mod Calls
-pub mod Texts
-pub mod Turns
+pub mod Acts

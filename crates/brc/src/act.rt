@@ -1,129 +1,51 @@
-ghost use Rattle.std.specs.Prelude.{◌≤◌, IfOk};
-ghost use Rattle.brc_model.specs.Safety.{IsCall};
+ghost use Rattle.std.specs.Prelude.{◌≡◌, ◌≢◌, ◌≤◌};
+ghost use Rattle.brc.specs.Acts.{Ends, Stops, IsRefused};
 
-use crate::accepted::write_accepted;
-use crate::command::{Asked, Run, parse};
-use crate::load::{Load, LoadError};
-use crate::run::run;
-use crate::step_text::step_text;
-use crate::stop::Stop;
-use crate::texts::{accepted, module_of};
-use brc_check::Checked;
-use brc_lang::Module;
-use brc_model::Call;
-use brc_report::write_tally;
+use crate::command::parse;
+use brc_command::{Load, StepFault, Stop, execute, write_stop};
+use clap::Error;
 use clap::error::ErrorKind;
 use std::alloc::Global;
 use std::convert::AsStr;
 use std::io::Write;
+use std::sync::Wait;
 
-/// Carries out a command line, of which the first word is the program's own name, and answers the status to exit with. What
-/// stands in the way is told on standard error; where that can't be written, nothing is told.
-pub fn act<S: AsStr, L: Load, W: Write, E: Write>(
+// The status of a faulty command line, and of a call for help.
+const USAGE: u8 = 2;
+
+/// Carries out a command line, of which the first word is the program's own name, and answers the status to exit with.
+/// What stands in the way is told on standard error; where that can't be written, nothing more is told.
+pub fn act<R: Wait, S: AsStr, L: Load, W: Write, E: Write>(
+    rt: &R,
     alloc: Global,
     words: &[S],
     load: &mut L,
     out: &mut W,
     err: &mut E,
 ) -> u8
-    ensures { result ≤ 3 }
+    ensures known { result ≤ 3 }
+    ensures done { result ≡ 0 → Ends (L.may_give load.old) (W.contents out.old) (W.contents out.new)
+        (E.contents err.old) (E.contents err.new) }
+    ensures stopped { result ≢ 0 → Stops (L.may_give load.old) (L.may_lack load.old) (W.contents out.old)
+        (W.contents out.new) (E.contents err.old) (E.contents err.new) result }
 {
-    match carry_out(alloc, words, load, out) {
-        Ok(()) => 0,
-        Err(stop) => {
-            let status = stop.status();
-            let _ = write!(err, "{stop}");
-            status
-        }
+    match parse(alloc, words) {
+        Ok(asked) => execute(rt, alloc, &asked, load, out, err),
+        Err(error) => refuse(&error, err),
     }
 }
 
-fn carry_out<'a, S: AsStr, L: Load, W: Write>(
-    alloc: Global,
-    words: &'a [S],
-    load: &mut L,
-    out: &mut W,
-) -> Result<(), Stop<'a>> {
-    match parse(alloc, words).map_err(|error| usage(error))? {
-        Asked::Run(asked) => run_file(alloc, &asked, load, out),
-        Asked::Check { file } => check_file(alloc, file, load, out),
-        Asked::Step { file, schedule } => step_files(alloc, file, schedule, load, out),
-    }
-}
-
-fn run_file<'a, L: Load, W: Write>(
-    alloc: Global,
-    asked: &Run<'a>,
-    load: &mut L,
-    out: &mut W,
-) -> Result<(), Stop<'a>> {
-    let bytes = bytes_of(alloc, asked.file, load)?;
-    let checked = checked(alloc, bytes.as_slice())?;
-    let call = call_of(checked.module(), asked)?;
-    let tally = run(alloc, &checked, asked.threads, asked.rows, call).map_err(|_| Stop::NoMemory)?;
-    write_tally(&tally, out).map_err(|_| Stop::CannotWrite)
-}
-
-fn check_file<'a, L: Load, W: Write>(
-    alloc: Global,
-    file: &str,
-    load: &mut L,
-    out: &mut W,
-) -> Result<(), Stop<'a>> {
-    let bytes = bytes_of(alloc, file, load)?;
-    let checked = checked(alloc, bytes.as_slice())?;
-    write_accepted(&checked, out).map_err(|_| Stop::CannotWrite)
-}
-
-// Both files are loaded before either is read.
-fn step_files<'a, L: Load, W: Write>(
-    alloc: Global,
-    file: &str,
-    schedule: &str,
-    load: &mut L,
-    out: &mut W,
-) -> Result<(), Stop<'a>> {
-    let module = bytes_of(alloc, file, load)?;
-    let schedule = bytes_of(alloc, schedule, load)?;
-    step_text(alloc, module.as_slice(), schedule.as_slice(), out).map_err(|fault| Stop::Fault(
-        fault,
-    ))
-}
-
-fn bytes_of<'a, L: Load>(alloc: Global, file: &str, load: &mut L) -> Result<Vec<u8>, Stop<'a>> {
-    load.load(alloc, file).map_err(|error| unloaded(error))
-}
-
-// The module of the text, read and accepted.
-fn checked<'a>(alloc: Global, bytes: &[u8]) -> Result<Checked, Stop<'a>> {
-    let module = module_of(alloc, bytes).map_err(|fault| Stop::Fault(fault))?;
-    accepted(alloc, module).map_err(|fault| Stop::Fault(fault))
-}
-
-fn call_of<'a>(module: &Module, asked: &Run<'a>) -> Result<Call, Stop<'a>>
-    ensures { IfOk result (λ call. IsCall «module».now call) }
+// A fault of the command line, or a call for help.
+fn refuse<E: Write>(error: &Error, err: &mut E) -> u8
+    ensures { IsRefused (E.contents err.old) (E.contents err.new) result }
 {
-    for (number, function) in module.functions.as_slice().iter().enumerate() {
-        if function.name.as_bytes() == asked.function.as_bytes() {
-            return Ok(Call {
-                function: number,
-                times: asked.times,
-            });
-        }
-    }
-    Err(Stop::NoFunction(asked.function))
-}
-
-fn usage<'a>(error: clap::Error) -> Stop<'a> {
-    match error.kind() {
-        ErrorKind::OutOfMemory => Stop::NoMemory,
-        _ => Stop::Usage(error),
-    }
-}
-
-fn unloaded<'a>(error: LoadError) -> Stop<'a> {
-    match error {
-        LoadError::Unreadable => Stop::UnreadableFile,
-        LoadError::NoMemory => Stop::NoMemory,
+    if error.kind() == ErrorKind::OutOfMemory {
+        let stop = Stop::Fault(StepFault::NoMemory);
+        let _ = write_stop(&stop, err);
+        stop.status()
+    } else {
+        // This text has its own line feeds.
+        let _ = write!(err, "{error}");
+        USAGE
     }
 }

@@ -1,54 +1,20 @@
-ghost use Rattle.std.specs.Prelude.{◌<◌, ◌≤◌};
-
+use brc_command::{Asked, MOST_ROWS, MOST_THREADS, MOST_TIMES, Run, VERSION};
 use brc_lang::number;
 use clap::error::ErrorKind;
 use clap::{Arg, ArgMatches, Command, Error, value_parser};
 use std::alloc::{AllocError, Global};
 use std::convert::AsStr;
 
-const MOST_THREADS: u32 = 32;
-
-const MOST_ROWS: u16 = 1024;
-
-const MOST_TIMES: u32 = 1_000_000;
-
 const SIGNED: &str = "invalid value for a number: a sign or a leading zero";
-
-/// What a command line asks for.
-#[derive(Clone, Copy, Debug)]
-pub enum Asked<'a> {
-    Run(Run<'a>),
-    /// To check the module of the file.
-    Check { file: &'a str },
-    /// To step the second file's schedule over the first one's module.
-    Step { file: &'a str, schedule: &'a str },
-}
-
-/// A run that the command line asks for.
-#[derive(Clone, Copy, Debug)]
-pub struct Run<'a> {
-    /// The module's file.
-    pub file: &'a str,
-    /// The name of the function to call.
-    pub function: &'a str,
-    /// The workers: 1 to 32.
-    pub threads: u32,
-    /// The rows of each worker: 1 to 1024.
-    pub rows: u16,
-    /// The calls that each worker makes: 1 to 1,000,000.
-    pub times: u32,
-    ghost some_threads: { 0 < threads },
-    ghost most_threads: { threads ≤ 32 },
-    ghost some_rows: { 0 < rows },
-    ghost most_rows: { rows ≤ 1024 },
-    ghost some_times: { 0 < times },
-    ghost most_times: { times ≤ 1000000 },
-}
 
 /// Reads the words of a command line, of which the first is the program's own name. A call for help is an error too.
 pub fn parse<'a, S: AsStr>(alloc: Global, words: &'a [S]) -> Result<Asked<'a>, Error> {
     let mut command = program(alloc)?;
-    let matches = command.try_get_matches_from_mut(words)?;
+    let matches = match command.try_get_matches_from_mut(words) {
+        Ok(matches) => matches,
+        Err(error) if error.kind() == ErrorKind::DisplayVersion => return Ok(Asked::Version),
+        Err(error) => return Err(error),
+    };
     if !has_plain_numbers(&matches) {
         return Err(command.error(ErrorKind::ValueValidation, SIGNED)?);
     }
@@ -61,6 +27,8 @@ pub fn parse<'a, S: AsStr>(alloc: Global, words: &'a [S]) -> Result<Asked<'a>, E
 fn program<'a>(alloc: Global) -> Result<Command<'a>, AllocError> {
     Command::new(alloc, "brc")
         .about("Checks and runs native extension modules")
+        .version(VERSION)
+        .after_help("Example: brc check module.brc")
         .subcommand_required(true)
         .subcommand(check_command(alloc)?)?
         .subcommand(run_command(alloc)?)?
@@ -70,12 +38,14 @@ fn program<'a>(alloc: Global) -> Result<Command<'a>, AllocError> {
 fn check_command<'a>(alloc: Global) -> Result<Command<'a>, AllocError> {
     Command::new(alloc, "check")
         .about("Checks a module and counts what it has")
+        .after_help("Example: brc check module.brc")
         .arg(file_argument(alloc))
 }
 
 fn run_command<'a>(alloc: Global) -> Result<Command<'a>, AllocError> {
     Command::new(alloc, "run")
         .about("Checks a module and runs one of its functions")
+        .after_help("Example: brc run module.brc --call f --threads 4 --times 1000")
         .arg(file_argument(alloc))?
         .arg(
             Arg::new(alloc, "call")
@@ -113,18 +83,19 @@ fn run_command<'a>(alloc: Global) -> Result<Command<'a>, AllocError> {
 fn step_command<'a>(alloc: Global) -> Result<Command<'a>, AllocError> {
     Command::new(alloc, "step")
         .about("Checks a module and takes the steps of a schedule over it")
+        .after_help("Example: brc step module.brc steps.schedule")
         .arg(file_argument(alloc))?
         .arg(
             Arg::new(alloc, "SCHEDULE")
                 .required(true)
-                .help("The schedule's file"),
+                .help("The schedule's file, or - for standard input"),
         )
 }
 
 fn file_argument<'a>(alloc: Global) -> Arg<'a> {
     Arg::new(alloc, "FILE")
         .required(true)
-        .help("The module's file")
+        .help("The module's file, or - for standard input")
 }
 
 fn asked_in<'a>(matches: &ArgMatches<'a>) -> Option<Asked<'a>> {

@@ -1,28 +1,14 @@
 //! Checks and runs native extension modules.
 #![tactic(auto)]
 
-mod accepted;
 mod act;
-#[cfg(test)]
-mod birth_tests;
-mod calls;
 mod command;
-mod load;
-#[cfg(test)]
-mod path_tests;
-mod run;
-mod shown;
-mod step_fault;
-#[cfg(test)]
-mod step_tests;
-mod step_text;
-mod stop;
+mod disk;
 #[cfg(test)]
 mod tests;
-mod texts;
 
 use act::act;
-use load::Disk;
+use disk::Disk;
 use std::io;
 use std::io::ErrorKind;
 use std::process::ExitCode;
@@ -30,6 +16,7 @@ use std::process::ExitCode;
 fn main(rt: HostRuntime) -> ExitCode {
     let status = match words(&rt) {
         Ok(words) => act(
+            &rt,
             rt.alloc(),
             words.as_slice(),
             &mut Disk::new(&rt),

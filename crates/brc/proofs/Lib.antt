@@ -1,4 +1,0 @@
-mod Accepting
-mod Calling
-mod Machines
-mod Turning

@@ -1,7 +1,0 @@
--- The instructions of the functions so far are counted.
-use Rattle.std.specs.Prelude.{◌≡◌, take}
-use Rattle.brc.specs.Accepted.{instruction_count}
-use Rattle.brc.proofs.accepted.instruction_count.Given as goal
-
-abbrev pub invariant-loop-function : goal.invariant-loop-function
-invariant-loop-function l = l.count ≡ instruction_count (take l.function-index l.functions)

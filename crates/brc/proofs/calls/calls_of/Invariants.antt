@@ -1,7 +1,0 @@
--- The calls so far are found.
-use Rattle.std.specs.Prelude.{◌≡◌, take}
-use Rattle.brc.specs.Calls.{calls_of, AreKnown}
-use Rattle.brc.proofs.calls.calls_of.Given as goal
-
-abbrev pub invariant-loop-call : goal.invariant-loop-call
-invariant-loop-call l = (l.calls.items ≡ calls_of l.module (take l.call-index l.planned)) × AreKnown l.module (take l.call-index l.planned)

@@ -1,0 +1,28 @@
+-- What a command line comes to, whatever its words ask for.
+use Rattle.std.specs.Prelude.{◌≡◌, ◌⊎◌, ℕ, List, Option}
+use Rattle.brc_lang.specs.Written.{AppendsBeginning}
+use Rattle.brc_command.specs.declared.asked.Asked.{Asked}
+use Rattle.brc_command.specs.declared.step_fault.StepFault.TheVariants.{NoMemory}
+use Rattle.brc_command.specs.Commands.{HasReport, Stands, IsDone, IsStopped}
+use Rattle.brc_command.specs.Lines.{fault_text}
+
+-- the command line asks for something, and it is done
+pub record Ends (gives : List ℕ → List ℕ → Type 0) (old new err_old err_new : Option (List ℕ)) : Type 0 where
+  pub asked : Asked
+  pub done : IsDone (HasReport gives asked) old new err_old err_new
+
+-- the command line asks for something, and that is stopped
+pub record IsStoppedAsking (gives : List ℕ → List ℕ → Type 0) (lacks : List ℕ → Type 0)
+    (old new err_old err_new : Option (List ℕ)) (status : ℕ) : Type 0 where
+  pub asked : Asked
+  pub stopped : IsStopped (HasReport gives asked) (Stands gives lacks asked) old new err_old err_new status
+
+-- the command line is at fault or asks for help, which is 2 whatever is told; or memory ran out, which is 3
+abbrev pub IsRefused : Option (List ℕ) → Option (List ℕ) → ℕ → Type 0
+IsRefused err_old err_new status = (status ≡ 2) ⊎ ((status ≡ 3)
+    × AppendsBeginning err_old err_new (fault_text NoMemory))
+
+abbrev pub Stops : (List ℕ → List ℕ → Type 0) → (List ℕ → Type 0) → Option (List ℕ) → Option (List ℕ)
+    → Option (List ℕ) → Option (List ℕ) → ℕ → Type 0
+Stops gives lacks old new err_old err_new status =
+    IsStoppedAsking gives lacks old new err_old err_new status ⊎ ((new ≡ old) × IsRefused err_old err_new status)

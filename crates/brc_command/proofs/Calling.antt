@@ -1,0 +1,115 @@
+-- The calls that a look-up by name finds.
+use Rattle.std.proofs.Common.{◌≡◌, ℕ, ◌+◌, ◌<◌, ◌≤◌, List, [], ◌∷◌, ◌++◌, length, get_or, take, drop, refl, sym, ap}
+use Rattle.std.proofs.Common.{◌∙◌, subst, arith, Bool, true, false, Option, None, Some, take-append-drop}
+use Rattle.std.specs.Prelude.{IsTrue}
+use Rattle.std.specs.List.{AllByRecursion, list_any, position, position_or_len}
+use Rattle.std.proofs.lemmas.List.{take_more, drop_more, map_more, length-map}
+use Rattle.std.proofs.lemmas.List.Sums.{passes_at_first, fails_before_first}
+use Rattle.std.proofs.lemmas.List.Recursion.{or_at, or_from_places}
+use Rattle.brc_lang.specs.declared.module.Function.{Function}
+use Rattle.brc_lang.specs.declared.module.Module.{Module}
+use Rattle.brc_lang.proofs.Cuts.{found_place, found_none}
+use Rattle.brc_model.specs.Safety.{AreCalls, IsCall}
+use Rattle.brc_model.specs.declared.thread.Call.{Call}
+use Rattle.brc_schedule.specs.declared.schedule.PlannedCall.{PlannedCall}
+use Rattle.brc_schedule.specs.declared.schedule.Schedule.{Schedule}
+use Rattle.brc_schedule.specs.Text.{IsPlannedCall, IsSchedule}
+use Rattle.brc_command.specs.Calls.{has_name, has_function, is_known, call_of, calls_of, AreKnown, IsFirstUnknown}
+
+-- ---- one look-up
+
+passes_any : (p : Function → Bool) (fs : List Function) → position_or_len p fs < length fs → list_any p fs ≡ true
+passes_any p [] h = absurd (omega arith)
+passes_any p (f ∷ fs) h = or_at (list_any p) p refl (λ _ _. refl) (f ∷ fs) (position_or_len p (f ∷ fs)) f h
+    (passes_at_first p (f ∷ fs) f h)
+
+passes_none : (p : Function → Bool) (fs : List Function) → length fs ≤ position_or_len p fs → list_any p fs ≡ false
+passes_none p [] h = refl
+passes_none p (f ∷ fs) h = or_from_places (list_any p) p refl (λ _ _. refl) (f ∷ fs) f
+    (λ i inside. fails_before_first p (f ∷ fs) i f (omega arith))
+
+pub known_there : (m : Module) (name : List ℕ) (i : ℕ) → position (has_name name) m.functions ≡ Some i
+    → has_function m name ≡ true
+known_there m name i found = passes_any (has_name name) m.functions (found_place (has_name name) m.functions i found).0
+
+pub unknown_there : (m : Module) (name : List ℕ) → position (has_name name) m.functions ≡ None
+    → has_function m name ≡ false
+unknown_there m name none = passes_none (has_name name) m.functions (found_none (has_name name) m.functions none)
+
+-- the look-up as the code has it
+pub looked_up : (m : Module) (wanted : List ℕ) (fs : List Function) (name : List ℕ) (r : Option ℕ) → fs ≡ m.functions
+    → name ≡ wanted
+    → r ≡ position (has_name name) fs → r ≡ position (has_name wanted) m.functions
+looked_up m wanted fs name r same named found =
+    found ∙ ap (λ n. position (has_name n) fs) named ∙ ap (λ gs. position (has_name wanted) gs) same
+
+-- a function that the module has lies inside it
+inside : (m : Module) (call : PlannedCall) → IsTrue (is_known m call) → (call_of m call).function < length m.functions
+inside m call known =
+    let p = has_name call.name in
+    elim (position p m.functions) as (λ v. position p m.functions ≡ v
+    → position_or_len p m.functions < length m.functions) [
+      | Some i ↦ λ found. (found_place p m.functions i found).0
+      | None ↦ λ none. let unknown = unknown_there m call.name none in absurd (cc (unknown, known))
+    ] refl
+
+-- what the code makes of it
+call_there : (m : Module) (call : PlannedCall) (i : ℕ) → position (has_name call.name) m.functions ≡ Some i
+    → call_of m call ≡ record { function = i; times = call.times }
+call_there m call i found =
+    let made : ℕ → Call = λ n. record { function = n; times = call.times } in
+    ap made (found_place (has_name call.name) m.functions i found).1
+
+pub made : (m : Module) (call : PlannedCall) (i : ℕ) (calls before : List Call)
+    → position (has_name call.name) m.functions ≡ Some i → calls ≡ before
+    → calls ++ record { function = i; times = call.times } ∷ [] ≡ before ++ call_of m call ∷ []
+made m call i calls before found same = ap (λ l. l ++ record { function = i; times = call.times } ∷ []) same
+    ∙ ap (λ c. before ++ c ∷ []) (sym (call_there m call i found))
+
+-- ---- the calls, one after another
+
+pub known_push : (m : Module) (calls : List PlannedCall) (call : PlannedCall) → AreKnown m calls
+    → is_known m call ≡ true → AreKnown m (calls ++ call ∷ [])
+known_push m [] call known here = (here, tt)
+known_push m (c ∷ cs) call known here = (known.0, known_push m cs call known.1 here)
+
+each_fits : (m : Module) (calls : List PlannedCall) → AreKnown m calls → AllByRecursion IsPlannedCall calls
+    → AllByRecursion (IsCall m) (calls_of m calls)
+each_fits m [] known planned = tt
+each_fits m (c ∷ cs) known planned =
+    ((inside m c known.0, planned.0.some, planned.0.most), each_fits m cs known.1 planned.1)
+
+pub calls_fit : (m : Module) (s : Schedule) → IsSchedule s → AreKnown m s.calls → AreCalls m (calls_of m s.calls)
+calls_fit m s fits known = record {
+  some = rw (length-map, fits.one_each) fits.sizes.some_workers;
+  most = rw (length-map, fits.one_each) fits.sizes.most_workers;
+  each = each_fits m s.calls known fits.calls;
+}
+
+-- ---- the next call of a list
+
+pub known_next : (m : Module) (xs : List PlannedCall) (i : ℕ) (call : PlannedCall) → i < length xs
+    → get_or xs i call ≡ call → AreKnown m (take i xs) → is_known m call ≡ true → AreKnown m (take (i + 1) xs)
+known_next m xs i call h here known found =
+    subst (AreKnown m) (sym (take_more xs i call h ∙ ap (λ c. take i xs ++ c ∷ []) here))
+    (known_push m (take i xs) call known found)
+
+pub calls_next : (m : Module) (xs : List PlannedCall) (i : ℕ) (call : PlannedCall) → i < length xs
+    → get_or xs i call ≡ call
+    → calls_of m (take i xs) ++ call_of m call ∷ [] ≡ calls_of m (take (i + 1) xs)
+calls_next m xs i call h here = sym (map_more (call_of m) xs i call h
+    ∙ ap (λ c. calls_of m (take i xs) ++ call_of m c ∷ []) here)
+
+pub first_unknown : (m : Module) (xs : List PlannedCall) (i : ℕ) (call : PlannedCall) → i < length xs
+    → get_or xs i call ≡ call → AreKnown m (take i xs)
+    → position (has_name call.name) m.functions ≡ None → IsFirstUnknown m xs call.name
+first_unknown m xs i call h here known none = record {
+  above = take i xs;
+  call = call;
+  below = drop (i + 1) xs;
+  parts = sym (take-append-drop i xs) ∙ ap (λ l. take i xs ++ l)
+      (drop_more xs i call h ∙ ap (λ c. c ∷ drop (i + 1) xs) here);
+  known = known;
+  unknown = unknown_there m call.name none;
+  named = refl;
+}

@@ -1,0 +1,5 @@
+mod Accepting
+mod Calling
+mod Machines
+mod Telling
+mod Turning

@@ -1,0 +1,17 @@
+use Rattle.std.proofs.Common.{◌∙◌, sym}
+use Rattle.brc_command.proofs.Calling.{looked_up, known_there, unknown_there}
+use Rattle.brc_command.proofs.carrying.call_of.Goals as goal
+
+pub returns-in-Some-clause-known : goal.returns-in-Some-clause-known
+returns-in-Some-clause-known c = λ _.
+    let m = c.args.module.now in
+    let name = c.args.asked.now.function.now in
+    known_there m name c.in-Some.number (sym (looked_up m name _ _ _ c.as_slice.ensures c.as_bytes.ensures.value
+    c.number_of.ensures) ∙ c.in-Some.is)
+
+pub returns-in-None-clause-unknown : goal.returns-in-None-clause-unknown
+returns-in-None-clause-unknown c = λ _.
+    let m = c.args.module.now in
+    let name = c.args.asked.now.function.now in
+    unknown_there m name (sym (looked_up m name _ _ _ c.as_slice.ensures c.as_bytes.ensures.value c.number_of.ensures)
+    ∙ c.in-None.is)

@@ -1,0 +1,10 @@
+-- The pieces so far are written.
+use Rattle.std.specs.Prelude.{take}
+use Rattle.std.specs.List.{flat_map}
+use Rattle.std.specs.Io.KnownBytes.{Appends}
+use Rattle.brc_command.proofs.lines.write_pieces.Given as goal
+
+abbrev pub invariant-loop-piece : goal.invariant-loop-piece
+invariant-loop-piece g l =
+    Appends (g.W.Write.contents l.initial.writer) (g.W.Write.contents l.writer)
+    (flat_map (λ piece. piece.now) (take l.piece-index l.pieces))

@@ -1,0 +1,10 @@
+-- Some rounds have been made.
+use Rattle.std.specs.Prelude.{◌≡◌, ℕ, length}
+use Rattle.brc_world.specs.Runs.{world_after}
+use Rattle.brc_world.specs.Worlds.{seen}
+use Rattle.brc_command.specs.Turns.{turns}
+use Rattle.brc_command.proofs.turns.finish_workers.Given as goal
+
+abbrev pub invariant-loop : goal.invariant-loop
+invariant-loop g l = ((n : ℕ) × (seen l.world ≡ world_after (seen l.fn.world) (turns n l.workers)))
+    × (length l.world.actors ≡ length l.fn.world.actors)

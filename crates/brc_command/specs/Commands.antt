@@ -1,0 +1,152 @@
+-- What each command writes over the files that a loader may give, and what may stand in its way.
+use Rattle.std.specs.Prelude.{◌≡◌, ◌≢◌, ◌⊎◌, ℕ, true, false, List, Option, codes}
+use Rattle.std.specs.Io.KnownBytes.{Appends}
+use Rattle.brc_lang.specs.declared.module.Module.{Module}
+use Rattle.brc_lang.specs.Grammar.{Spells}
+use Rattle.brc_lang.specs.Fault.{HasFault}
+use Rattle.brc_lang.specs.Written.{AppendsBeginning}
+use Rattle.brc_model.specs.Walks.{IsAcceptable}
+use Rattle.brc_check.specs.Refusal.{IsRefusedFor}
+use Rattle.brc_report.specs.declared.tally.Tally.{Tally}
+use Rattle.brc_report.specs.Report.{tally_text}
+use Rattle.brc_schedule.specs.declared.schedule.Schedule.{Schedule}
+use Rattle.brc_command.specs.declared.asked.Asked.{Asked}
+use Rattle.brc_command.specs.declared.asked.Asked.TheVariants.{Run as ToRun, Check as ToCheck, Step as ToStep, Version}
+use Rattle.brc_command.specs.declared.asked.Run.{Run}
+use Rattle.brc_command.specs.declared.step_fault.StepFault.{StepFault}
+use Rattle.brc_command.specs.declared.step_fault.StepFault.TheVariants.{Text, Refused, NoMemory, Output}
+use Rattle.brc_command.specs.declared.stop.Stop.{Stop}
+use Rattle.brc_command.specs.declared.stop.Stop.TheVariants.{UnreadableFile, NoFunction, Fault}
+use Rattle.brc_command.specs.Accepted.{accepted_text}
+use Rattle.brc_command.specs.Calls.{has_function, calls_named}
+use Rattle.brc_command.specs.Lines.{stop_text, stop_status, version_text}
+use Rattle.brc_command.specs.Texts.{IsReady, IsFaultOfTexts, report}
+use Rattle.brc_command.specs.Turns.{IsTallyOfRun}
+
+-- ---- the reports. `gives path bytes`: the loader may give these bytes for the path
+
+-- the text spells an accepted module
+pub record IsAccepted (text : List ℕ) (m : Module) : Type 0 where
+  pub spelled : Spells text m
+  pub accepted : IsAcceptable m
+
+pub record HasCheckReport (gives : List ℕ → List ℕ → Type 0) (file text : List ℕ) : Type 0 where
+  pub module_text : List ℕ
+  pub m : Module
+  pub given : gives file module_text
+  pub accepted : IsAccepted module_text m
+  pub reported : text ≡ accepted_text m
+
+-- a path that means standard input, which is read once
+abbrev pub IsStandardInput : List ℕ → Type 0
+IsStandardInput path = path ≡ codes "-"
+
+pub record HasStepReport (gives : List ℕ → List ℕ → Type 0) (file schedule text : List ℕ) : Type 0 where
+  pub module_text : List ℕ
+  pub schedule_text : List ℕ
+  pub m : Module
+  pub s : Schedule
+  pub module_given : gives file module_text
+  pub schedule_given : gives schedule schedule_text
+  pub apart : IsStandardInput file → IsStandardInput schedule → ⊥
+  pub ready : IsReady module_text schedule_text m s
+  pub reported : text ≡ report m s
+
+-- the module has the function, and the run's tally is this one
+pub record RunsTo (m : Module) (asked : Run) (tally : Tally) : Type 0 where
+  pub known : has_function m asked.function.now ≡ true
+  pub ran : IsTallyOfRun m asked.rows asked.threads (calls_named m asked.function.now asked.times) tally
+
+pub record HasRunReport (gives : List ℕ → List ℕ → Type 0) (asked : Run) (text : List ℕ) : Type 0 where
+  pub module_text : List ℕ
+  pub m : Module
+  pub tally : Tally
+  pub given : gives asked.file.now module_text
+  pub accepted : IsAccepted module_text m
+  pub ran : RunsTo m asked tally
+  pub reported : text ≡ tally_text tally
+
+abbrev pub HasReport : (List ℕ → List ℕ → Type 0) → Asked → List ℕ → Type 0
+HasReport gives (ToRun asked) text = HasRunReport gives asked text
+HasReport gives (ToCheck file) text = HasCheckReport gives file.now text
+HasReport gives (ToStep file schedule) text = HasStepReport gives file.now schedule.now text
+HasReport gives Version text = text ≡ version_text
+
+-- ---- what stands in the way. `lacks path`: the loader may answer that the path can't be read. Want of memory and a
+-- writer that takes no more may stand in the way of anything
+
+-- the text spells no accepted module
+abbrev pub IsModuleFault : List ℕ → StepFault → Type 0
+IsModuleFault text (Text e) = HasFault text e.line e.code
+IsModuleFault text (Refused r) = (m : Module) × Spells text m × IsRefusedFor m.functions r
+IsModuleFault text NoMemory = Unit {0}
+IsModuleFault text _ = ⊥
+
+-- no accepted module comes from the file
+abbrev pub StandsBeforeModule : (List ℕ → List ℕ → Type 0) → (List ℕ → Type 0) → List ℕ → Stop → Type 0
+StandsBeforeModule gives lacks file UnreadableFile = lacks file
+StandsBeforeModule gives lacks file (NoFunction name) = ⊥
+StandsBeforeModule gives lacks file (Fault NoMemory) = Unit {0}
+StandsBeforeModule gives lacks file (Fault Output) = Unit {0}
+StandsBeforeModule gives lacks file (Fault e) = (text : List ℕ) × gives file text × IsModuleFault text e
+
+-- the accepted module has no function of the name
+pub record LacksFunction (gives : List ℕ → List ℕ → Type 0) (file name : List ℕ) : Type 0 where
+  pub module_text : List ℕ
+  pub m : Module
+  pub given : gives file module_text
+  pub accepted : IsAccepted module_text m
+  pub unknown : has_function m name ≡ false
+
+abbrev pub StandsBeforeRun : (List ℕ → List ℕ → Type 0) → (List ℕ → Type 0) → Run → Stop → Type 0
+StandsBeforeRun gives lacks asked (NoFunction name) = (name ≡ asked.function)
+    × LacksFunction gives asked.file.now asked.function.now
+StandsBeforeRun gives lacks asked stop = StandsBeforeModule gives lacks asked.file.now stop
+
+-- two texts that the files may have are at fault
+pub record AreAtFault (gives : List ℕ → List ℕ → Type 0) (file schedule : List ℕ) (e : StepFault) : Type 0 where
+  pub module_text : List ℕ
+  pub schedule_text : List ℕ
+  pub module_given : gives file module_text
+  pub schedule_given : gives schedule schedule_text
+  pub fault : IsFaultOfTexts module_text schedule_text e
+
+abbrev pub StandsBeforeSteps : (List ℕ → List ℕ → Type 0) → (List ℕ → Type 0) → List ℕ → List ℕ → Stop → Type 0
+StandsBeforeSteps gives lacks file schedule UnreadableFile = lacks file ⊎ lacks schedule
+    ⊎ (IsStandardInput file × IsStandardInput schedule)
+StandsBeforeSteps gives lacks file schedule (NoFunction name) = ⊥
+StandsBeforeSteps gives lacks file schedule (Fault NoMemory) = Unit {0}
+StandsBeforeSteps gives lacks file schedule (Fault Output) = Unit {0}
+StandsBeforeSteps gives lacks file schedule (Fault e) = AreAtFault gives file schedule e
+
+abbrev pub Stands : (List ℕ → List ℕ → Type 0) → (List ℕ → Type 0) → Asked → Stop → Type 0
+Stands gives lacks (ToRun asked) stop = StandsBeforeRun gives lacks asked stop
+Stands gives lacks (ToCheck file) stop = StandsBeforeModule gives lacks file.now stop
+Stands gives lacks (ToStep file schedule) stop = StandsBeforeSteps gives lacks file.now schedule.now stop
+Stands gives lacks Version stop = stop ≡ Fault Output
+
+-- ---- what is left on the outputs
+
+-- the report, whole
+abbrev pub Reports : (List ℕ → Type 0) → Option (List ℕ) → Option (List ℕ) → Type 0
+Reports is_report old new = (text : List ℕ) × is_report text × Appends old new text
+
+-- a beginning of the report
+abbrev pub BeginsReport : (List ℕ → Type 0) → Option (List ℕ) → Option (List ℕ) → Type 0
+BeginsReport is_report old new = (text : List ℕ) × is_report text × AppendsBeginning old new text
+
+-- the report is on standard output, and standard error is as it was
+pub record IsDone (is_report : List ℕ → Type 0) (old new err_old err_new : Option (List ℕ)) : Type 0 where
+  pub reported : Reports is_report old new
+  pub silent : err_new ≡ err_old
+
+-- one thing that stands in the way gives the status and the line, of which at least a beginning is on standard error.
+-- Standard output is as it was, or has a beginning of the report where it took no more
+pub record IsStopped (is_report : List ℕ → Type 0) (stands : Stop → Type 0)
+    (old new err_old err_new : Option (List ℕ)) (status : ℕ) : Type 0 where
+  pub stop : Stop
+  pub reason : stands stop
+  pub same_status : status ≡ stop_status stop
+  pub told : AppendsBeginning err_old err_new (stop_text stop)
+  pub unwritten : stop ≢ Fault Output → new ≡ old
+  pub begun : stop ≡ Fault Output → BeginsReport is_report old new

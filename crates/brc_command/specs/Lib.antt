@@ -1,0 +1,6 @@
+pub mod Accepted
+pub mod Calls
+pub mod Commands
+pub mod Lines
+pub mod Texts
+pub mod Turns

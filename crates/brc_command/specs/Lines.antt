@@ -1,0 +1,91 @@
+-- The line about what stands in the way of a command, and the status that goes with it.
+use Rattle.std.specs.Prelude.{ℕ, List, [], ◌++◌, codes, decimal}
+use Rattle.brc_lang.specs.Grammar.{line}
+use Rattle.brc_lang.specs.declared.fault.FaultCode.{FaultCode}
+use Rattle.brc_lang.specs.declared.fault.FaultCode.TheVariants as faults
+use Rattle.brc_lang.specs.declared.fault.ReadFault.{ReadFault}
+use Rattle.brc_model.specs.declared.code.CheckCode.{CheckCode}
+use Rattle.brc_model.specs.declared.code.CheckCode.TheVariants as checks
+use Rattle.brc_check.specs.declared.refused.Refused.{Refused as Refusal}
+use Rattle.brc_command.specs.declared.load.LoadError.{LoadError}
+use Rattle.brc_command.specs.declared.load.LoadError.TheVariants as loads
+use Rattle.brc_command.specs.declared.step_fault.StepFault.{StepFault}
+use Rattle.brc_command.specs.declared.step_fault.StepFault.TheVariants.{Text, Plan, Refused, NoFunction, NoMemory}
+use Rattle.brc_command.specs.declared.step_fault.StepFault.TheVariants.{Output}
+use Rattle.brc_command.specs.declared.stop.Stop.{Stop}
+use Rattle.brc_command.specs.declared.stop.Stop.TheVariants.{UnreadableFile, NoFunction as Unknown, Fault}
+
+-- ---- codes
+
+abbrev pub fault_code : FaultCode → List ℕ
+fault_code faults.FirstLine = codes "L1"
+fault_code faults.UnknownWord = codes "L2"
+fault_code faults.Number = codes "L3"
+fault_code faults.Target = codes "L4"
+fault_code faults.NameTwice = codes "L5"
+fault_code faults.OverLimit = codes "L6"
+fault_code faults.CutOff = codes "L7"
+fault_code faults.NoMemory = codes "L8"
+
+abbrev pub check_code : CheckCode → List ℕ
+check_code checks.EmptyUsed = codes "C1"
+check_code checks.WrongKind = codes "C2"
+check_code checks.NotOwned = codes "C3"
+check_code checks.StillOwns = codes "C4"
+check_code checks.LeftOwned = codes "C5"
+check_code checks.LeftLocked = codes "C6"
+check_code checks.SecondLock = codes "C7"
+check_code checks.NotLocked = codes "C8"
+check_code checks.LockedChanged = codes "C9"
+check_code checks.StatesDiffer = codes "C10"
+check_code checks.RunsOff = codes "C11"
+check_code checks.NoMemory = codes "C12"
+
+-- ---- lines
+
+-- a word, whose it is, a number with its mark, and a code
+abbrev pub placed_text : List ℕ → List ℕ → List ℕ → List ℕ → List ℕ → List ℕ
+placed_text word whose mark number code = line (word ++ whose ++ mark ++ number ++ codes " " ++ code)
+
+abbrev pub unreadable_text : List ℕ → ReadFault → List ℕ
+unreadable_text file e = placed_text (codes "unreadable ") file (codes "line ") (decimal e.line) (fault_code e.code)
+
+abbrev pub refused_text : Refusal → List ℕ
+refused_text r = placed_text (codes "refused ") r.function (codes " @") (decimal r.at) (check_code r.code)
+
+abbrev pub unknown_text : List ℕ → List ℕ
+unknown_text name = line (codes "no function " ++ name)
+
+abbrev pub fault_text : StepFault → List ℕ
+fault_text (Text e) = unreadable_text [] e
+fault_text (Plan e) = unreadable_text (codes "schedule ") e
+fault_text (Refused r) = refused_text r
+fault_text (NoFunction name) = unknown_text name
+fault_text NoMemory = line (codes "no memory")
+fault_text Output = line (codes "cannot write")
+
+abbrev pub stop_text : Stop → List ℕ
+stop_text UnreadableFile = line (codes "unreadable file")
+stop_text (Unknown name) = unknown_text name.now
+stop_text (Fault e) = fault_text e
+
+abbrev pub version_text : List ℕ
+version_text = line (codes "brc 0.1.0")
+
+-- ---- statuses
+
+-- a refused module is 1, want of memory is 3, everything else is 2
+abbrev pub fault_status : StepFault → ℕ
+fault_status (Refused r) = 1
+fault_status NoMemory = 3
+fault_status _ = 2
+
+abbrev pub stop_status : Stop → ℕ
+stop_status (Fault e) = fault_status e
+stop_status _ = 2
+
+-- ---- a file that isn't there
+
+abbrev pub stop_of : LoadError → Stop
+stop_of loads.Unreadable = UnreadableFile
+stop_of loads.NoMemory = Fault NoMemory

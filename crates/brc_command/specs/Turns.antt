@@ -1,0 +1,38 @@
+-- What workers come to that are stepped in turn.
+use Rattle.std.specs.Prelude.{◌≡◌, ℕ, List, ◌++◌, map, replicate, true}
+use Rattle.std.specs.List.{list_all, range_with_len, repeat}
+use Rattle.brc_lang.specs.declared.module.Module.{Module}
+use Rattle.brc_model.specs.declared.thread.Call.{Call}
+use Rattle.brc_model.specs.declared.thread.Choice.{Choice}
+use Rattle.brc_model.specs.declared.thread.Choice.TheVariants.{Ok}
+use Rattle.brc_model.specs.Machine.{Actor}
+use Rattle.brc_model.specs.Safety.{has_gone}
+use Rattle.brc_model.specs.World.{World, first_world}
+use Rattle.brc_report.specs.declared.tally.Tally.{Tally}
+use Rattle.brc_world.specs.Runs.{world_after}
+use Rattle.brc_world.specs.Tallies.{tally_of}
+
+-- one step of each worker: 1, 2, .. in turn
+abbrev pub turn : ℕ → List (ℕ × Choice)
+turn workers = map (λ t. (t, Ok)) (range_with_len 1 workers)
+
+abbrev pub turns : ℕ → ℕ → List (ℕ × Choice)
+turns rounds workers = repeat rounds (turn workers)
+
+abbrev pub steps_of_main : ℕ → List (ℕ × Choice)
+steps_of_main n = replicate n (0, Ok)
+
+-- every thread is gone
+abbrev pub AreGone : World → Type 0
+AreGone w = list_all (λ (a : Actor). has_gone a.status) w.actors ≡ true
+
+-- The tally of a world in which all threads are gone: from the first one of so many workers that each make the call,
+-- whole rounds of the workers lead there, and then steps of main alone.
+pub record IsTallyOfRun (m : Module) (rows workers : ℕ) (call : Call) (tally : Tally) : Type 0 where
+  pub rounds : ℕ
+  pub more : ℕ
+  pub last : World
+  pub led : last ≡ world_after (first_world m rows (replicate workers call))
+      (turns rounds workers ++ steps_of_main more)
+  pub gone : AreGone last
+  pub counted : tally ≡ tally_of last

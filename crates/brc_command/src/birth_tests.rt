@@ -1,0 +1,125 @@
+use crate::asked::Asked;
+use crate::tests::{STEP, assert_told, both, to_run};
+
+const TWO_NUMBERS: &[u8] =
+    b"module 1\nfunc f\nnum v1 1 else @4\nnum v2 2 else @3\ndrop v2\ndrop v1\nfail\nend\n";
+
+const ONE_NUMBER: &[u8] = b"module 1\nfunc f\nnum v1 7 else @2\ndrop v1\nfail\nend\n";
+
+const MOVED: &[u8] = b"module 1\nfunc f\nnum v1 7 else @3\nmove v2 v1\nret v2\nfail\nend\n";
+
+const LATEST: &[u8] =
+    b"module 1\nfunc f\nnum v1 1 else @6\nnum v2 2 else @4\ndrop v1\ngoto @5\nmove v2 v1\nret v2\nnone v2\nret v2\nend\n";
+
+// With one row the second number isn't made. With three rows a worker's first call makes two numbers, its second one,
+// and its third none: two workers make six.
+#[test]
+fn runs_out_of_rows(rt: HostRuntime) {
+    let cases: [(Asked<'_>, &'static [u8], &[u8]); 3] = [
+        (
+            to_run("f", 1, 1, 1),
+            TWO_NUMBERS,
+            b"threads 1\nrunning 0\ncreated 2\nclosed 2\nalive 0\nhost faults 0\nclose faults 0\n",
+        ),
+        (
+            to_run("f", 1, 1024, 1),
+            TWO_NUMBERS,
+            b"threads 1\nrunning 0\ncreated 3\nclosed 3\nalive 0\nhost faults 0\nclose faults 0\n",
+        ),
+        (
+            to_run("f", 2, 3, 3),
+            LATEST,
+            b"threads 2\nrunning 0\ncreated 7\nclosed 7\nalive 0\nhost faults 0\nclose faults 0\n",
+        ),
+    ];
+    for (asked, module, report) in cases {
+        assert_told(&rt, &asked, both(module, b""), (report, b"", 0));
+    }
+}
+
+// A birth is two steps, kind and local, and the number is there with the second. Its drop is a load and a store of the
+// local word, a load of the shared word, and its death: gate, gate read, kind, closed: 7 steps, 9 so far. `fail` makes
+// 10. With one row the second call's `num` is one step, which makes nothing, and its `fail` another: 12.
+#[test]
+fn counts_the_steps_of_a_number(rt: HostRuntime) {
+    let root_alone: &[u8] =
+        b"threads 1\nrunning 2\ncreated 1\nclosed 0\nalive 1\nhost faults 0\nclose faults 0\nleft 1 list\n";
+    let number_too: &[u8] =
+        b"threads 1\nrunning 2\ncreated 2\nclosed 0\nalive 2\nhost faults 0\nclose faults 0\nleft 1 list\nleft 2 num\n";
+    let number_closed: &[u8] =
+        b"threads 1\nrunning 2\ncreated 2\nclosed 1\nalive 1\nhost faults 0\nclose faults 0\nleft 1 list\n";
+    let cases: [(&'static [u8], &[u8]); 5] = [
+        (
+            b"schedule 1\nworkers 1\nrows 4\ncall 1 f 1\nstep 1 ok 1\n",
+            root_alone,
+        ),
+        (
+            b"schedule 1\nworkers 1\nrows 4\ncall 1 f 1\nstep 1 ok 2\n",
+            number_too,
+        ),
+        (
+            b"schedule 1\nworkers 1\nrows 4\ncall 1 f 1\nstep 1 fault 8\n",
+            number_too,
+        ),
+        (
+            b"schedule 1\nworkers 1\nrows 4\ncall 1 f 1\nstep 1 ok 9\n",
+            number_closed,
+        ),
+        (
+            b"schedule 1\nworkers 1\nrows 1\ncall 1 f 2\nstep 1 ok 12\n",
+            number_closed,
+        ),
+    ];
+    for (schedule, report) in cases {
+        assert_told(&rt, &STEP, both(ONE_NUMBER, schedule), (report, b"", 0));
+    }
+}
+
+// `move` is one step and makes nothing: the number is in row 2 before and after it. The returned number dies in `ret`'s
+// seventh step, the tenth in all.
+#[test]
+fn a_moved_number_is_the_same(rt: HostRuntime) {
+    let number_too: &[u8] =
+        b"threads 1\nrunning 2\ncreated 2\nclosed 0\nalive 2\nhost faults 0\nclose faults 0\nleft 1 list\nleft 2 num\n";
+    let number_closed: &[u8] =
+        b"threads 1\nrunning 2\ncreated 2\nclosed 1\nalive 1\nhost faults 0\nclose faults 0\nleft 1 list\n";
+    let cases: [(&'static [u8], &[u8]); 3] = [
+        (
+            b"schedule 1\nworkers 1\nrows 4\ncall 1 f 1\nstep 1 ok 3\n",
+            number_too,
+        ),
+        (
+            b"schedule 1\nworkers 1\nrows 4\ncall 1 f 1\nstep 1 ok 9\n",
+            number_too,
+        ),
+        (
+            b"schedule 1\nworkers 1\nrows 4\ncall 1 f 1\nstep 1 ok 10\n",
+            number_closed,
+        ),
+    ];
+    for (schedule, report) in cases {
+        assert_told(&rt, &STEP, both(MOVED, schedule), (report, b"", 0));
+    }
+}
+
+// Worker 2's block begins behind the four rows of worker 1's, which begins at row 2.
+#[test]
+fn workers_have_rows_of_their_own(rt: HostRuntime) {
+    let cases: [(&'static [u8], &[u8]); 3] = [
+        (
+            b"schedule 1\nworkers 2\nrows 4\ncall 1 f 1\ncall 2 f 1\nstep 1 ok 1\nstep 2 ok 2\n",
+            b"threads 2\nrunning 3\ncreated 2\nclosed 0\nalive 2\nhost faults 0\nclose faults 0\nleft 1 list\nleft 6 num\n",
+        ),
+        (
+            b"schedule 1\nworkers 2\nrows 4\ncall 1 f 1\ncall 2 f 1\nstep 1 ok 3\nstep 2 ok 4\n",
+            b"threads 2\nrunning 3\ncreated 4\nclosed 0\nalive 4\nhost faults 0\nclose faults 0\nleft 1 list\nleft 2 num\nleft 6 num\nleft 7 num\n",
+        ),
+        (
+            b"schedule 1\nworkers 2\nrows 4\ncall 1 f 1\ncall 2 f 1\nstep 0 ok 1000\nstep 2 ok 1000\nstep 1 ok 1000\n",
+            b"threads 2\nrunning 0\ncreated 5\nclosed 5\nalive 0\nhost faults 0\nclose faults 0\n",
+        ),
+    ];
+    for (schedule, report) in cases {
+        assert_told(&rt, &STEP, both(TWO_NUMBERS, schedule), (report, b"", 0));
+    }
+}

@@ -1,0 +1,179 @@
+//! What the commands do.
+
+ghost use Rattle.std.specs.Prelude.{◌≡◌, ◌≢◌, ◌≤◌, true, false, IsSome, IsNone, IfSome, IfErr, OnOk, IsErrOf};
+ghost use Rattle.std.specs.Prelude.{MatchResult};
+ghost use Rattle.brc_model.specs.Safety.{IsCall};
+ghost use Rattle.brc_command.specs.declared.stop.Stop.TheVariants.{Fault};
+ghost use Rattle.brc_command.specs.declared.step_fault.StepFault.TheVariants.{Output};
+ghost use Rattle.brc_command.specs.Calls.{calls_named, has_function};
+ghost use Rattle.brc_command.specs.Commands.{Reports, BeginsReport, HasCheckReport, HasRunReport, HasStepReport};
+ghost use Rattle.brc_command.specs.Commands.{HasReport, StandsBeforeModule, StandsBeforeRun, StandsBeforeSteps, Stands};
+ghost use Rattle.brc_command.specs.Commands.{IsDone, IsStopped, IsAccepted, IsModuleFault};
+
+use crate::accepted::write_accepted;
+use crate::asked::{Asked, Run};
+use crate::calls::number_of;
+use crate::lines::{write_stop, write_version};
+use crate::load::{Load, STANDARD_INPUT};
+use crate::step_fault::StepFault;
+use crate::stepping::step_text;
+use crate::stop::Stop;
+use crate::texts::{accepted, module_of};
+use crate::turns::run;
+use brc_check::Checked;
+use brc_lang::Module;
+use brc_model::Call;
+use brc_report::write_tally;
+use std::alloc::Global;
+use std::io::Write;
+use std::sync::Wait;
+
+/// Does what is asked and answers the status to exit with. What stands in the way is told on standard error; where that
+/// can't be written, nothing more is told.
+pub fn execute<R: Wait, L: Load, W: Write, E: Write>(
+    rt: &R,
+    alloc: Global,
+    asked: &Asked<'_>,
+    load: &mut L,
+    out: &mut W,
+    err: &mut E,
+) -> u8
+    ensures known { result ≤ 3 }
+    ensures done { result ≡ 0 → IsDone (HasReport (L.may_give load.old) asked.now) (W.contents out.old)
+        (W.contents out.new) (E.contents err.old) (E.contents err.new) }
+    ensures stopped { result ≢ 0 → IsStopped (HasReport (L.may_give load.old) asked.now)
+        (Stands (L.may_give load.old) (L.may_lack load.old) asked.now) (W.contents out.old) (W.contents out.new)
+        (E.contents err.old) (E.contents err.new) result }
+{
+    match carry_out(rt, alloc, asked, load, out) {
+        Ok(()) => 0,
+        Err(stop) => {
+            let _ = write_stop(&stop, err);
+            stop.status()
+        }
+    }
+}
+
+/// Does what is asked, and writes what comes of it.
+pub fn carry_out<'a, R: Wait, L: Load, W: Write>(
+    rt: &R,
+    alloc: Global,
+    asked: &Asked<'a>,
+    load: &mut L,
+    out: &mut W,
+) -> Result<(), Stop<'a>>
+    ensures reported { OnOk result (Reports (HasReport (L.may_give load.old) asked.now) (W.contents out.old)
+        (W.contents out.new)) }
+    ensures stopped { IfErr result (Stands (L.may_give load.old) (L.may_lack load.old) asked.now) }
+    ensures unwritten { IfErr result (λ e. e ≢ Fault Output → W.contents out.new ≡ W.contents out.old) }
+    ensures begun { IsErrOf result (Fault Output) → BeginsReport (HasReport (L.may_give load.old) asked.now)
+        (W.contents out.old) (W.contents out.new) }
+{
+    match asked {
+        Asked::Run(asked) => run_file(rt, alloc, asked, load, out),
+        Asked::Check { file } => check_file(alloc, file, load, out),
+        Asked::Step { file, schedule } => step_files(alloc, file, schedule, load, out),
+        Asked::Version => match write_version(out) {
+            Ok(()) => Ok(()),
+            Err(_) => Err(Stop::Fault(StepFault::Output)),
+        },
+    }
+}
+
+fn run_file<'a, R: Wait, L: Load, W: Write>(
+    rt: &R,
+    alloc: Global,
+    asked: &Run<'a>,
+    load: &mut L,
+    out: &mut W,
+) -> Result<(), Stop<'a>>
+    ensures reported { OnOk result (Reports (HasRunReport (L.may_give load.old) asked.now) (W.contents out.old)
+        (W.contents out.new)) }
+    ensures stopped { IfErr result (StandsBeforeRun (L.may_give load.old) (L.may_lack load.old) asked.now) }
+    ensures unwritten { IfErr result (λ e. e ≢ Fault Output → W.contents out.new ≡ W.contents out.old) }
+    ensures begun { IsErrOf result (Fault Output) → BeginsReport (HasRunReport (L.may_give load.old) asked.now)
+        (W.contents out.old) (W.contents out.new) }
+{
+    let bytes = load.load(alloc, asked.file)?;
+    let checked = checked(alloc, bytes.as_slice())?;
+    let Some(call) = call_of(checked.module(), asked) else {
+        return Err(Stop::NoFunction(asked.function));
+    };
+    let tally = run(rt, alloc, &checked, asked.threads, asked.rows, call)?;
+    match write_tally(&tally, out) {
+        Ok(()) => Ok(()),
+        Err(_) => Err(Stop::Fault(StepFault::Output)),
+    }
+}
+
+fn check_file<'a, L: Load, W: Write>(
+    alloc: Global,
+    file: &'a str,
+    load: &mut L,
+    out: &mut W,
+) -> Result<(), Stop<'a>>
+    ensures reported { OnOk result (Reports (HasCheckReport (L.may_give load.old) file.now) (W.contents out.old)
+        (W.contents out.new)) }
+    ensures stopped { IfErr result (StandsBeforeModule (L.may_give load.old) (L.may_lack load.old) file.now) }
+    ensures unwritten { IfErr result (λ e. e ≢ Fault Output → W.contents out.new ≡ W.contents out.old) }
+    ensures begun { IsErrOf result (Fault Output) → BeginsReport (HasCheckReport (L.may_give load.old) file.now)
+        (W.contents out.old) (W.contents out.new) }
+{
+    let bytes = load.load(alloc, file)?;
+    let checked = checked(alloc, bytes.as_slice())?;
+    match write_accepted(&checked, out) {
+        Ok(()) => Ok(()),
+        Err(_) => Err(Stop::Fault(StepFault::Output)),
+    }
+}
+
+// Both files are loaded before either is read, and standard input, which is there once, isn't loaded twice.
+fn step_files<'a, L: Load, W: Write>(
+    alloc: Global,
+    file: &'a str,
+    schedule: &'a str,
+    load: &mut L,
+    out: &mut W,
+) -> Result<(), Stop<'a>>
+    ensures reported { OnOk result (Reports (HasStepReport (L.may_give load.old) file.now schedule.now)
+        (W.contents out.old) (W.contents out.new)) }
+    ensures stopped { IfErr result (StandsBeforeSteps (L.may_give load.old)
+        (L.may_lack load.old) file.now schedule.now) }
+    ensures unwritten { IfErr result (λ e. e ≢ Fault Output → W.contents out.new ≡ W.contents out.old) }
+    ensures begun { IsErrOf result (Fault Output) → BeginsReport
+        (HasStepReport (L.may_give load.old) file.now schedule.now) (W.contents out.old) (W.contents out.new) }
+{
+    if file == STANDARD_INPUT && schedule == STANDARD_INPUT {
+        return Err(Stop::UnreadableFile);
+    }
+    let module = load.load(alloc, file)?;
+    let schedule = load.load(alloc, schedule)?;
+    match step_text(alloc, module.as_slice(), schedule.as_slice(), out) {
+        Ok(()) => Ok(()),
+        Err(fault) => Err(Stop::Fault(fault)),
+    }
+}
+
+// The module of the text, read and accepted.
+fn checked(alloc: Global, bytes: &[u8]) -> Result<Checked, StepFault>
+    ensures { MatchResult result (λ m. IsAccepted bytes.now m) (λ e. IsModuleFault bytes.now e) }
+{
+    let module = module_of(alloc, bytes)?;
+    accepted(alloc, module)
+}
+
+// The call that the command line asks for.
+fn call_of(module: &Module, asked: &Run) -> Option<Call>
+    ensures found { IfSome result (λ call. call ≡ calls_named «module».now asked.now.function.now asked.now.times) }
+    ensures known { IsSome result → has_function «module».now asked.now.function.now ≡ true }
+    ensures unknown { IsNone result → has_function «module».now asked.now.function.now ≡ false }
+    ensures fits { IfSome result (λ call. IsCall «module».now call) }
+{
+    match number_of(module.functions.as_slice(), asked.function.as_bytes()) {
+        Some(number) => Some(Call {
+            function: number,
+            times: asked.times,
+        }),
+        None => None,
+    }
+}

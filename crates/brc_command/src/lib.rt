@@ -1,0 +1,35 @@
+//! The commands over a module: what each writes, what each refuses, and with which status.
+#![tactic(auto)]
+
+mod accepted;
+mod asked;
+mod calls;
+mod carrying;
+mod lines;
+mod load;
+mod step_fault;
+mod stepping;
+mod stop;
+mod texts;
+mod turns;
+
+pub use accepted::write_accepted;
+pub use asked::{Asked, MOST_ROWS, MOST_THREADS, MOST_TIMES, Run};
+pub use carrying::{carry_out, execute};
+pub use lines::{VERSION, write_stop, write_version};
+pub use load::{Load, LoadError, STANDARD_INPUT};
+pub use step_fault::StepFault;
+pub use stepping::step_text;
+pub use stop::Stop;
+pub use turns::run;
+
+#[cfg(test)]
+mod birth_tests;
+#[cfg(test)]
+mod limit_tests;
+#[cfg(test)]
+mod path_tests;
+#[cfg(test)]
+mod step_tests;
+#[cfg(test)]
+mod tests;

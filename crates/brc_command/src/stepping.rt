@@ -1,0 +1,70 @@
+//! A schedule's steps over a module, both from their texts.
+
+ghost use Rattle.std.specs.Prelude.{◌≡◌, ◌≢◌, ◌⊎◌, IfOk, IfErr, OnOk, IsErrOf, MatchResult};
+ghost use Rattle.brc_model.specs.Safety.{AreCalls};
+ghost use Rattle.brc_schedule.specs.Text.{IsSchedule};
+ghost use Rattle.brc_world.specs.Tallies.{tally_of};
+ghost use Rattle.brc_command.specs.declared.step_fault.StepFault.TheVariants.{Output};
+ghost use Rattle.brc_command.specs.Calls.{calls_of};
+ghost use Rattle.brc_command.specs.Texts.{last_world, HasTally, StepsTo, StepsTowards, IsFaultOfTexts};
+
+use crate::calls::calls_of;
+use crate::step_fault::StepFault;
+use crate::texts::{accepted, module_of, schedule_of};
+use brc_check::Checked;
+use brc_model::Call;
+use brc_report::{Tally, write_tally};
+use brc_schedule::Schedule;
+use brc_world::{NoMemory, World, runs_follow_machines, tallies_follow_machines};
+use std::alloc::Global;
+use std::io::Write;
+
+/// Runs the schedule's steps over the module, and writes the report of what they come to.
+pub fn step_text<W: Write>(
+    alloc: Global,
+    module: &[u8],
+    schedule: &[u8],
+    out: &mut W,
+) -> Result<(), StepFault>
+    ensures stepped { OnOk result (StepsTo module.now schedule.now (W.contents out.old) (W.contents out.new)) }
+    ensures fault { IfErr result (λ e. (e ≡ Output) ⊎ IsFaultOfTexts module.now schedule.now e) }
+    ensures unwritten { IfErr result (λ e. e ≢ Output → W.contents out.new ≡ W.contents out.old) }
+    ensures begun { IsErrOf result Output → StepsTowards module.now schedule.now (W.contents out.old)
+        (W.contents out.new) }
+{
+    runs_follow_machines();
+    tallies_follow_machines();
+    let tally = tally_of_texts(alloc, module, schedule)?;
+    match write_tally(&tally, out) {
+        Ok(()) => Ok(()),
+        Err(_) => Err(StepFault::Output),
+    }
+}
+
+fn tally_of_texts(alloc: Global, module: &[u8], schedule: &[u8]) -> Result<Tally, StepFault>
+    ensures { MatchResult result (λ tally. HasTally module.now schedule.now tally)
+        (λ e. IsFaultOfTexts module.now schedule.now e) }
+{
+    let module = module_of(alloc, module)?;
+    let schedule = schedule_of(alloc, schedule)?;
+    let checked = accepted(alloc, module)?;
+    let calls = calls_of(alloc, checked.module(), &schedule)?;
+    Ok(last_tally(alloc, &checked, &schedule, calls.as_slice())?)
+}
+
+fn last_tally(
+    alloc: Global,
+    checked: &Checked,
+    schedule: &Schedule,
+    calls: &[Call],
+) -> Result<Tally, NoMemory>
+    requires fits { IsSchedule schedule.now }
+    requires found { calls.now ≡ calls_of checked.now.module schedule.now.calls }
+    requires calls_fit { AreCalls checked.now.module calls.now }
+    ensures { IfOk result (λ tally. tally ≡ tally_of (last_world checked.now.module schedule.now)) }
+{
+    let workers = usize::from(schedule.workers);
+    let mut world = World::new(alloc, checked, workers, schedule.rows, calls)?;
+    world.run(schedule)?;
+    world.tally(alloc)
+}

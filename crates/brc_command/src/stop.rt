@@ -1,0 +1,62 @@
+ghost use Rattle.std.specs.Prelude.{◌≡◌, ◌<◌, ◌≤◌};
+ghost use Rattle.brc_command.specs.declared.stop.Stop.TheVariants.{Fault};
+ghost use Rattle.brc_command.specs.declared.step_fault.StepFault.TheVariants.{NoMemory as MemoryRefused};
+ghost use Rattle.brc_command.specs.Lines.{stop_of, stop_status};
+
+use crate::load::LoadError;
+use crate::step_fault::StepFault;
+use brc_world::NoMemory;
+
+/// Why a command isn't carried out.
+#[derive(Debug, Drop)]
+pub enum Stop<'a> {
+    /// A file can't be read.
+    UnreadableFile,
+    /// The module has no function of this name, which the command line asks for.
+    NoFunction(&'a str),
+    /// What a file says is at fault, or what came after it was read.
+    Fault(StepFault),
+}
+
+impl Stop<'_> {
+    /// The status that the program exits with: 1 for a module that is refused, 3 for want of memory, and 2 for anything
+    /// else.
+    pub fn status(&self) -> u8
+        ensures faulty { 0 < result }
+        ensures known { result ≤ 3 }
+        ensures exact { result ≡ stop_status self.now }
+    {
+        match self {
+            Stop::Fault(StepFault::Refused(_)) => 1,
+            Stop::Fault(StepFault::NoMemory) => 3,
+            _ => 2,
+        }
+    }
+}
+
+impl From<StepFault> for Stop<'_> {
+    ghost from_gives = { λ fault e. e ≡ Fault fault };
+
+    fn from(fault: StepFault) -> Self {
+        Stop::Fault(fault)
+    }
+}
+
+impl From<LoadError> for Stop<'_> {
+    ghost from_gives = { λ error e. e ≡ stop_of error };
+
+    fn from(error: LoadError) -> Self {
+        match error {
+            LoadError::Unreadable => Stop::UnreadableFile,
+            LoadError::NoMemory => Stop::Fault(StepFault::NoMemory),
+        }
+    }
+}
+
+impl From<NoMemory> for Stop<'_> {
+    ghost from_gives = { λ _ e. e ≡ Fault MemoryRefused };
+
+    fn from(_error: NoMemory) -> Self {
+        Stop::Fault(StepFault::NoMemory)
+    }
+}

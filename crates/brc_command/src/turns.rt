@@ -1,0 +1,91 @@
+ghost use Rattle.std.specs.Prelude.{◌≡◌, ◌+◌, ◌<◌, ◌≤◌, ℕ, length, IfOk, OnOk};
+ghost use Rattle.std.specs.List.{list_all};
+ghost use Rattle.brc_model.specs.Safety.{IsCall, has_gone};
+ghost use Rattle.brc_world.specs.Runs.{world_after};
+ghost use Rattle.brc_world.specs.Worlds.{seen};
+ghost use Rattle.brc_command.specs.Turns.{turn, turns, steps_of_main, AreGone, IsTallyOfRun};
+
+use brc_check::Checked;
+use brc_model::{Call, Choice};
+use brc_report::Tally;
+use brc_world::{Did, NoMemory, World};
+use std::alloc::Global;
+use std::sync::Wait;
+
+/// Runs so many workers (1 to 32), each with so many rows (1 to 1024), that each make the call: one step of each in
+/// turn until all are gone, and then main until it is gone. It doesn't return where a thread is never gone.
+pub fn run<R: Wait>(
+    rt: &R,
+    alloc: Global,
+    checked: &Checked,
+    workers: u32,
+    rows: u16,
+    call: Call,
+) -> Result<Tally, NoMemory>
+    requires some { 0 < workers }
+    requires most { workers ≤ 32 }
+    requires some_rows { 0 < rows }
+    requires most_rows { rows ≤ 1024 }
+    requires call { IsCall checked.now.module call }
+    ensures { IfOk result (λ tally. IsTallyOfRun checked.now.module rows workers call tally) }
+{
+    let workers = workers as usize;
+    let calls = vec![in alloc; call; workers]?;
+    let mut world = World::new(alloc, checked, workers, rows, calls.as_slice())?;
+    finish_workers(rt, workers, &mut world)?;
+    finish_main(rt, &mut world)?;
+    world.tally(alloc)
+}
+
+// The workers in turn, until all of them were gone before a round.
+fn finish_workers<R: Wait>(rt: &R, workers: usize, world: &mut World) -> Result<(), NoMemory>
+    requires { length world.old.actors ≡ 1 + workers }
+    ensures stepped { OnOk result ((n : ℕ) × (seen world.new ≡ world_after (seen world.old) (turns n workers))) }
+    ensures as_many { length world.new.actors ≡ length world.old.actors }
+{
+    for _ in rt.forever() {
+        if step_workers(workers, world)? {
+            return Ok(());
+        }
+    }
+    unreachable!()
+}
+
+// One step of each worker, and whether all of them were gone.
+fn step_workers(workers: usize, world: &mut World) -> Result<bool, NoMemory>
+    requires { length world.old.actors ≡ 1 + workers }
+    ensures stepped { OnOk result (seen world.new ≡ world_after (seen world.old) (turn workers)) }
+    ensures as_many { length world.new.actors ≡ length world.old.actors }
+{
+    let mut all_gone = true;
+    for worker in 0..workers {
+        all_gone &= world.step(worker + 1, Choice::Ok)? == Did::Gone;
+    }
+    Ok(all_gone)
+}
+
+// Main, until every thread is gone.
+fn finish_main<R: Wait>(rt: &R, world: &mut World) -> Result<(), NoMemory>
+    requires { 0 < length world.old.actors }
+    ensures stepped { OnOk result ((n : ℕ) × (seen world.new ≡ world_after (seen world.old) (steps_of_main n))) }
+    ensures gone { OnOk result (AreGone (seen world.new)) }
+{
+    for _ in rt.forever() {
+        if are_gone(world) {
+            return Ok(());
+        }
+        world.step(0, Choice::Ok)?;
+    }
+    unreachable!()
+}
+
+fn are_gone(world: &World) -> bool
+    ensures { result ≡ list_all (λ a. has_gone a.status) (seen world.now).actors }
+{
+    for thread in 0..world.threads() {
+        if !world.is_gone(thread) {
+            return false;
+        }
+    }
+    true
+}
