@@ -13,8 +13,8 @@ use std::sync::Wait;
 // The status of a faulty command line, and of a call for help.
 const USAGE: u8 = 2;
 
-/// Carries out a command line, of which the first word is the program's own name, and answers the status to exit with.
-/// What stands in the way is told on standard error; where that can't be written, nothing more is told.
+/// Carries out a command line, whose first word is the program's own name, and returns the exit status. If it isn't 0,
+/// standard error says why; a fault of standard error changes nothing.
 pub fn act<R: Wait, S: AsStr, L: Load, W: Write, E: Write>(
     rt: &R,
     alloc: Global,

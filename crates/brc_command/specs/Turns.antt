@@ -26,7 +26,7 @@ steps_of_main n = replicate n (0, Ok)
 abbrev pub AreGone : World → Type 0
 AreGone w = list_all (λ (a : Actor). has_gone a.status) w.actors ≡ true
 
--- The tally of a world in which all threads are gone: from the first one of so many workers that each make the call,
+-- The tally of a world in which every thread is gone. From the first world, in which each worker is to make the call,
 -- whole rounds of the workers lead there, and then steps of main alone.
 pub record IsTallyOfRun (m : Module) (rows workers : ℕ) (call : Call) (tally : Tally) : Type 0 where
   pub rounds : ℕ

@@ -28,8 +28,8 @@ use std::alloc::Global;
 use std::io::Write;
 use std::sync::Wait;
 
-/// Does what is asked and answers the status to exit with. What stands in the way is told on standard error; where that
-/// can't be written, nothing more is told.
+/// Carries out what is asked and returns the exit status. If it isn't 0, a line on standard error says why; a fault of
+/// standard error changes nothing.
 pub fn execute<R: Wait, L: Load, W: Write, E: Write>(
     rt: &R,
     alloc: Global,
@@ -54,7 +54,7 @@ pub fn execute<R: Wait, L: Load, W: Write, E: Write>(
     }
 }
 
-/// Does what is asked, and writes what comes of it.
+/// Carries out what is asked, and writes its report.
 pub fn carry_out<'a, R: Wait, L: Load, W: Write>(
     rt: &R,
     alloc: Global,
@@ -156,7 +156,7 @@ fn step_files<'a, L: Load, W: Write>(
 
 // The module of the text, read and accepted.
 fn checked(alloc: Global, bytes: &[u8]) -> Result<Checked, StepFault>
-    ensures { MatchResult result (λ m. IsAccepted bytes.now m) (λ e. IsModuleFault bytes.now e) }
+    ensures { MatchResult result (λ c. IsAccepted bytes.now c.module) (λ e. IsModuleFault bytes.now e) }
 {
     let module = module_of(alloc, bytes)?;
     accepted(alloc, module)

@@ -1,4 +1,4 @@
-//! The lines about what stands in the way.
+//! The lines on standard error, each with the reason why a command isn't carried out.
 
 ghost use Rattle.std.specs.Prelude.{◌≡◌, OnOk, OnErr};
 ghost use Rattle.std.specs.List.{flat_map};
@@ -15,7 +15,7 @@ use itoa::Buffer;
 use std::io;
 use std::io::Write;
 
-/// The version that the program tells.
+/// The program's version.
 pub const VERSION: &str = "0.1.0";
 
 /// Writes the program's name and version, as `write_stop` does.
@@ -26,7 +26,7 @@ pub fn write_version<W: Write>(writer: &mut W) -> io::Result<()>
     write_pieces(&[b"brc ", VERSION.as_bytes(), b"\n"], writer)
 }
 
-/// Writes the line. A call of the writer that takes no byte or is interrupted is a fault too, and is not tried again.
+/// Writes the reason's line. A call of the writer that takes no byte or is interrupted is a fault too, and is not tried again.
 pub fn write_stop<W: Write>(stop: &Stop<'_>, writer: &mut W) -> io::Result<()>
     ensures whole { OnOk result (Appends (W.contents writer.old) (W.contents writer.new) (stop_text stop.now)) }
     ensures begun { OnErr result (AppendsBeginning (W.contents writer.old) (W.contents writer.new)

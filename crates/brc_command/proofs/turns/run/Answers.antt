@@ -9,4 +9,4 @@ returns g c =
     (seen c.finish_workers.new.world) (seen c.finish_main.new.world) c.as_slice.result.now c.tally.result
     (c.as_slice.ensures.value ∙ c.in_ok-calls.ensures.items_if_clones_equal (λ y e. e))
     c.in_ok-world.ensures c.in_ok-finish_workers.ensures.stepped c.in_ok-finish_main.ensures.stepped
-    c.in_ok-finish_main.ensures.gone c.tally.ensures
+    c.in_ok-finish_main.ensures.gone c.tally.ensures.counted
