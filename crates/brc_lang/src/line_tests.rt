@@ -1,13 +1,7 @@
-use crate::tests::first_other;
-use std::test::Fail;
-
-// Each line is the third of a text, above `fail`.
-const FRONT: &[u8] = b"module 1\nfunc f\n";
-
-const BACK: &[u8] = b"\nfail\nend\n";
+//! Cases of single lines: each is the third of a text, above `fail`.
 
 // Lines that are read.
-const READ: &str = "\
+pub const READ: &str = "\
 read: num v0 0 else @1
 read: num v15 4294967295 else @1
 read: num v10 4294967290 else @1
@@ -19,7 +13,7 @@ read: goto @1
 ";
 
 // Two spaces have an empty word between them, which is no number.
-const NUM_NUMBERS: &str = "\
+pub const NUM_NUMBERS: &str = "\
 line 3 L3: num v1 4294967296 else @1
 line 3 L3: num v1 18446744073709551616 else @1
 line 3 L3: num v1 1111111111222222222233333333334444444444 else @1
@@ -34,7 +28,7 @@ line 3 L3: num v01 1 else @1
 ";
 
 // Words of `num`.
-const NUM_WORDS: &str = "\
+pub const NUM_WORDS: &str = "\
 line 3 L2: num
 line 3 L2: num v1
 line 3 L2: num v1 1
@@ -51,7 +45,7 @@ line 3 L2: num v1 1 else 1
 ";
 
 // The number of words and `else` come first, and then the words from left to right.
-const IN_ORDER: &str = "\
+pub const IN_ORDER: &str = "\
 line 3 L2: num v16 01 else @256 x
 line 3 L2: num v16 01 or @256
 line 3 L3: num v16 01 else 1
@@ -68,7 +62,7 @@ line 3 L2: goto 256
 ";
 
 // Words of `none` and `move`.
-const NONE_AND_MOVE: &str = "\
+pub const NONE_AND_MOVE: &str = "\
 line 3 L2: none
 line 3 L2: none 
 line 3 L2: none 1
@@ -88,7 +82,7 @@ line 3 L3: move v1 v99
 ";
 
 // Targets of another form.
-const TARGETS: &str = "\
+pub const TARGETS: &str = "\
 line 3 L2: goto
 line 3 L2: goto 
 line 3 L2: goto 1
@@ -106,19 +100,3 @@ line 3 L3: num v1 1 else @256
 line 3 L3: num v1 1 else @01
 line 3 L3: num v1 1 else @1:
 ";
-
-#[test]
-fn answers_to_lines(rt: HostRuntime) -> Result<(), Fail> {
-    let tables = [
-        READ,
-        NUM_NUMBERS,
-        NUM_WORDS,
-        IN_ORDER,
-        NONE_AND_MOVE,
-        TARGETS,
-    ];
-    for cases in tables {
-        assert_eq!(rt; first_other(rt.alloc(), FRONT, cases, BACK)?, None);
-    }
-    Ok(())
-}

@@ -1,10 +1,7 @@
-use crate::tests::first_other;
-use std::test::Fail;
-
-const FRONT: &[u8] = b"module 1\nfunc f\n";
+//! Cases of targets, below the heading of a function.
 
 // Targets that lead ahead.
-const AHEAD: &str = "\
+pub const AHEAD: &str = "\
 read: goto @1|fail|end|
 read: num v1 1 else @1|fail|end|
 read: num v1 1 else @2|goto @2|fail|end|
@@ -13,7 +10,7 @@ read: fail|end|func g|goto @1|fail|end|
 ";
 
 // Targets that lead nowhere, or back.
-const NOT_AHEAD: &str = "\
+pub const NOT_AHEAD: &str = "\
 line 5 L4: goto @0|fail|end|
 line 4 L4: goto @0|end|
 line 4 L4: goto @1|end|
@@ -26,7 +23,7 @@ line 9 L4: goto @1|fail|end|func g|fail|goto @255|end|end|
 ";
 
 // Targets are looked at where a function ends, below every other line of it.
-const EARLIER: &str = "\
+pub const EARLIER: &str = "\
 line 4 L2: goto @0|drop|end|
 line 4 L3: goto @9|num v16 1 else @1|end|
 line 4 L2: goto @0|end |end|
@@ -34,11 +31,3 @@ line 4 L7: goto @0|end
 line 4 L7: goto @0|
 line 4 L4: goto @0|end|func f|end|
 ";
-
-#[test]
-fn answers_to_targets(rt: HostRuntime) -> Result<(), Fail> {
-    for cases in [AHEAD, NOT_AHEAD, EARLIER] {
-        assert_eq!(rt; first_other(rt.alloc(), FRONT, cases, b"")?, None);
-    }
-    Ok(())
-}

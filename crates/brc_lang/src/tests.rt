@@ -1,4 +1,6 @@
 use super::*;
+use crate::line_tests::{IN_ORDER, NONE_AND_MOVE, NUM_NUMBERS, NUM_WORDS, READ, TARGETS};
+use crate::target_tests::{AHEAD, EARLIER, NOT_AHEAD};
 use std::alloc::{AllocError, Global};
 use std::test::Fail;
 
@@ -12,9 +14,28 @@ fn answer(alloc: Global, text: &[u8]) -> Result<String, AllocError> {
     }
 }
 
-// The first case that is answered otherwise. A case is the answer, a colon and a part of a text, with a bar for each line
-// feed; the whole text has the front above it and the back below.
-pub fn first_other<'a>(
+const HEAD: &[u8] = b"module 1\nfunc f\n";
+
+// A line that stands above `fail`.
+const BELOW: &[u8] = b"\nfail\nend\n";
+
+// What stands above the cases, the cases, and what stands below them.
+const TABLES: [(&[u8], &str, &[u8]); 10] = [
+    (b"", MODULES, b""),
+    (HEAD, READ, BELOW),
+    (HEAD, NUM_NUMBERS, BELOW),
+    (HEAD, NUM_WORDS, BELOW),
+    (HEAD, IN_ORDER, BELOW),
+    (HEAD, NONE_AND_MOVE, BELOW),
+    (HEAD, TARGETS, BELOW),
+    (HEAD, AHEAD, b""),
+    (HEAD, NOT_AHEAD, b""),
+    (HEAD, EARLIER, b""),
+];
+
+// The first case that is answered otherwise. A case is the answer, a colon and a part of a text, with a bar for each
+// line feed; the whole text has the front above it and the back below.
+fn first_other<'a>(
     alloc: Global,
     front: &[u8],
     cases: &'a str,
@@ -74,13 +95,15 @@ line 5 L7: module 1|func f|fail|end|func f
 ";
 
 #[test]
-fn refuses_texts(rt: HostRuntime) -> Result<(), Fail> {
-    assert_eq!(rt; first_other(rt.alloc(), b"", MODULES, b"")?, None);
+fn answers_to_texts(rt: HostRuntime) -> Result<(), Fail> {
+    for (front, cases, back) in TABLES {
+        assert_eq!(rt; first_other(rt.alloc(), front, cases, back)?, None);
+    }
     Ok(())
 }
 
 // Whether the text is read as one function of this name and code.
-pub fn reads_as(alloc: Global, text: &[u8], name: &[u8], code: &[Instr]) -> bool {
+fn reads_as(alloc: Global, text: &[u8], name: &[u8], code: &[Instr]) -> bool {
     match read(alloc, text) {
         Ok(module) => match module.functions.as_slice() {
             [function] => function.name.as_bytes() == name && function.code.as_slice() == code,
@@ -151,12 +174,6 @@ fn first_other_front(alloc: Global) -> Result<Option<usize>, AllocError> {
     Ok(None)
 }
 
-#[test]
-fn refuses_each_front_of_a_module(rt: HostRuntime) -> Result<(), Fail> {
-    assert_eq!(rt; first_other_front(rt.alloc())?, None);
-    Ok(())
-}
-
 // Functions named `f00`, `f01` and so on, each of this first line and so many times `fail`, and what stands below them.
 fn many(
     alloc: Global,
@@ -189,24 +206,29 @@ fn many(
     Ok(text)
 }
 
-#[test]
-fn counts_functions_and_instructions(rt: HostRuntime) -> Result<(), Fail> {
-    let table: [(u8, &[u8], usize, &[u8], &str); 8] = [
-        (1, b"", 256, b"", "read"),
-        (1, b"", 257, b"", "line 259 L6"),
-        (64, b"", 1, b"", "read"),
-        (65, b"", 1, b"", "line 194 L6"),
-        (64, b"", 1, b"func f00\nfail\nend\n", "line 194 L6"),
-        (1, b"goto @255\n", 255, b"", "read"),
-        (1, b"goto @255\n", 254, b"", "line 258 L4"),
-        (1, b"goto @0\n", 256, b"", "line 259 L6"),
-    ];
-    for (functions, first, fails, below, wanted) in table {
-        let text = many(rt.alloc(), functions, first, fails, below)?;
-        let answer = answer(rt.alloc(), &text)?;
-        assert_eq!(rt; answer.as_str(), wanted, "{functions} of {fails}");
+// How many functions, the first line of each, how many times `fail`, what stands below them, and the answer.
+type Size = (u8, &'static [u8], usize, &'static [u8], &'static str);
+
+const SIZES: [Size; 8] = [
+    (1, b"", 256, b"", "read"),
+    (1, b"", 257, b"", "line 259 L6"),
+    (64, b"", 1, b"", "read"),
+    (65, b"", 1, b"", "line 194 L6"),
+    (64, b"", 1, b"func f00\nfail\nend\n", "line 194 L6"),
+    (1, b"goto @255\n", 255, b"", "read"),
+    (1, b"goto @255\n", 254, b"", "line 258 L4"),
+    (1, b"goto @0\n", 256, b"", "line 259 L6"),
+];
+
+// The first size that is answered otherwise.
+fn first_other_size(alloc: Global) -> Result<Option<(u8, usize)>, AllocError> {
+    for (functions, first, fails, below, wanted) in SIZES {
+        let text = many(alloc, functions, first, fails, below)?;
+        if answer(alloc, &text)?.as_str() != wanted {
+            return Ok(Some((functions, fails)));
+        }
     }
-    Ok(())
+    Ok(None)
 }
 
 // The text of the module that a text is read as.
@@ -236,32 +258,31 @@ fn pushed(alloc: Global, count: u32) -> Result<usize, AllocError> {
     Ok(items.len())
 }
 
-#[test]
-fn takes_much(rt: HostRuntime) -> Result<(), Fail> {
-    let text = vec![in rt.alloc(); b'x'; 2 * 1024 * 1024]?;
-    assert_eq!(rt; answer(rt.alloc(), &text)?.as_str(), "line 1 L1");
-    let mut out: Vec<u8> = Vec::new(rt.alloc());
+// Whether two mebibytes are refused in the first line, and are written as they are.
+fn takes_two_mebibytes(alloc: Global) -> Result<bool, Fail> {
+    let text = vec![in alloc; b'x'; 2 * 1024 * 1024]?;
+    let mut out: Vec<u8> = Vec::new(alloc);
     write_bytes(&text, &mut out)?;
-    assert!(rt; out.as_slice() == text.as_slice());
+    Ok(answer(alloc, &text)?.as_str() == "line 1 L1" && out.as_slice() == text.as_slice())
+}
+
+#[test]
+fn takes_each_size(rt: HostRuntime) -> Result<(), Fail> {
+    assert_eq!(rt; first_other_front(rt.alloc())?, None);
+    assert_eq!(rt; first_other_size(rt.alloc())?, None);
+    assert!(rt; takes_two_mebibytes(rt.alloc())?);
     assert_eq!(rt; pushed(rt.alloc(), 100_000)?, 100_000);
     Ok(())
 }
 
-// Each fault prints as a line and a code.
+// A fault prints as a line and a code.
 #[test]
-fn prints_faults(rt: HostRuntime) -> Result<(), Fail> {
-    let table = [
-        (12, FaultCode::NameTwice, "line 12 L5"),
-        (5, FaultCode::Target, "line 5 L4"),
-        (
-            u64::MAX,
-            FaultCode::NoMemory,
-            "line 18446744073709551615 L8",
-        ),
-    ];
-    for (line, code, wanted) in table {
-        let text = format!(in rt.alloc(); "{}", ReadFault { line, code })?;
-        assert_eq!(rt; text.as_str(), wanted);
-    }
+fn prints_a_fault(rt: HostRuntime) -> Result<(), Fail> {
+    let fault = ReadFault {
+        line: u64::MAX,
+        code: FaultCode::NoMemory,
+    };
+    let text = format!(in rt.alloc(); "{fault}")?;
+    assert_eq!(rt; text.as_str(), "line 18446744073709551615 L8");
     Ok(())
 }
