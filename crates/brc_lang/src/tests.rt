@@ -1,243 +1,288 @@
 use super::*;
-use std::alloc::Global;
+use crate::line_tests::{IN_ORDER, NONE_AND_MOVE, NUM_NUMBERS, NUM_WORDS, READ, TARGETS};
+use crate::target_tests::{AHEAD, EARLIER, NOT_AHEAD};
+use std::alloc::{AllocError, Global};
 use std::test::Fail;
 
 const SMALLEST: &[u8; 25] = b"module 1\nfunc f\nfail\nend\n";
 
-// The line and the fault that a text is refused for, or line 0 for a text that is read.
-pub fn answer(alloc: Global, text: &[u8]) -> (u64, Option<FaultCode>) {
+// What is answered to a text: that it is read, or its fault as it prints.
+fn answer(alloc: Global, text: &[u8]) -> Result<String, AllocError> {
     match read(alloc, text) {
-        Ok(_) => (0, None),
-        Err(fault) => (fault.line, Some(fault.code)),
+        Ok(_) => format!(in alloc; "read"),
+        Err(fault) => format!(in alloc; "{fault}"),
     }
 }
 
-#[test]
-fn reads_the_smallest_module(rt: HostRuntime) -> Result<(), Fail> {
-    let module = read(rt.alloc(), SMALLEST)
-        .ok()
-        .ok_or("the text is a module")?;
-    assert_eq!(rt; module.functions.len(), 1);
-    for function in module.functions.as_slice() {
-        assert_eq!(rt; function.name.as_bytes(), b"f".as_slice());
-        assert_eq!(rt; function.code.as_slice(), [Instr::Fail].as_slice());
-    }
-    Ok(())
-}
+const HEAD: &[u8] = b"module 1\nfunc f\n";
 
-#[test]
-fn reads_each_instruction(rt: HostRuntime) -> Result<(), Fail> {
-    let text = b"module 1\nfunc a23456789_bcdefg\nnewref v15 v10\ndrop v0\nret v9\nend\n";
-    let module = read(rt.alloc(), text).ok().ok_or("the text is a module")?;
-    assert_eq!(rt; module.functions.len(), 1);
-    for function in module.functions.as_slice() {
-        assert_eq!(rt; function.name.as_bytes(), b"a23456789_bcdefg".as_slice());
-        let code = [
-            Instr::Newref {
-                to: Variable::new(15),
-                from: Variable::new(10),
-            },
-            Instr::Drop {
-                from: Variable::new(0),
-            },
-            Instr::Ret {
-                from: Variable::new(9),
-            },
-        ];
-        assert_eq!(rt; function.code.as_slice(), code.as_slice());
-    }
-    Ok(())
-}
+// A line that stands above `fail`.
+const BELOW: &[u8] = b"\nfail\nend\n";
 
-#[test]
-fn refuses_each_front_of_a_module(rt: HostRuntime) {
-    for len in 0..SMALLEST.len() {
-        let (line, code) = match len {
-            0..=8 => (1, FaultCode::FirstLine),
-            9..=15 => (2, FaultCode::CutOff),
-            16..=20 => (3, FaultCode::CutOff),
-            _ => (4, FaultCode::CutOff),
+// What stands above the cases, the cases, and what stands below them.
+const TABLES: [(&[u8], &str, &[u8]); 10] = [
+    (b"", MODULES, b""),
+    (HEAD, READ, BELOW),
+    (HEAD, NUM_NUMBERS, BELOW),
+    (HEAD, NUM_WORDS, BELOW),
+    (HEAD, IN_ORDER, BELOW),
+    (HEAD, NONE_AND_MOVE, BELOW),
+    (HEAD, TARGETS, BELOW),
+    (HEAD, AHEAD, b""),
+    (HEAD, NOT_AHEAD, b""),
+    (HEAD, EARLIER, b""),
+];
+
+// The first case that is answered otherwise. A case is the answer, a colon and a part of a text, with a bar for each
+// line feed; the whole text has the front above it and the back below.
+fn first_other<'a>(
+    alloc: Global,
+    front: &[u8],
+    cases: &'a str,
+    back: &[u8],
+) -> Result<Option<&'a str>, AllocError> {
+    for case in cases.lines() {
+        let Some((wanted, part)) = case.split_once(": ") else {
+            return Ok(Some(case));
         };
-        assert_eq!(rt;
-            answer(rt.alloc(), &SMALLEST[..len]),
-            (line, Some(code)),
-            "{len} bytes"
-        );
+        let mut text = Vec::from_slice(alloc, front)?;
+        for byte in part.as_bytes() {
+            text.push(if *byte == b'|' { b'\n' } else { *byte })?;
+        }
+        text.extend_from_slice(back)?;
+        if answer(alloc, &text)?.as_str() != wanted {
+            return Ok(Some(case));
+        }
+    }
+    Ok(None)
+}
+
+// Texts that are no module.
+const MODULES: &str = "\
+line 5 L2: module 1|func f|fail|end||
+line 1 L1: module 1\r|func f|fail|end|
+line 1 L1: module 2|func f|fail|end|
+line 1 L1: module 1 |func f|fail|end|
+line 2 L2: module 1|func  f|fail|end|
+line 2 L2: module 1|func f |fail|end|
+line 2 L2: module 1|func F|fail|end|
+line 2 L2: module 1|func 0|fail|end|
+line 2 L2: module 1|func a-b|fail|end|
+line 2 L2: module 1|func a23456789_bcdefgh|fail|end|
+line 2 L2: module 1|end|
+line 2 L2: module 1|fail|
+line 3 L6: module 1|func f|end|
+line 3 L2: module 1|func f|func g|
+line 3 L2: module 1|func f||
+line 4 L2: module 1|func f|fail|end |
+line 3 L2: module 1|func f|fail |end|
+line 3 L3: module 1|func f|newref v16 v0|end|
+line 3 L3: module 1|func f|newref v01 v0|end|
+line 3 L3: module 1|func f|newref v1 v00|end|
+line 3 L3: module 1|func f|newref v1 v+2|end|
+line 3 L2: module 1|func f|newref x v16|end|
+line 3 L3: module 1|func f|newref v16 x|end|
+line 3 L2: module 1|func f|newref v1|end|
+line 3 L2: module 1|func f|newref v16 v1 v2|end|
+line 3 L2: module 1|func f|newref v1  v2|end|
+line 3 L3: module 1|func f|drop v|end|
+line 3 L2: module 1|func f|drop |end|
+line 3 L3: module 1|func f|ret v1111111111222222222233333333334444444444|end|
+line 3 L3: module 1|func f|ret v0000000000000000000000000000000000000000|end|
+line 3 L2: module 1|func f|number v1 1 else @2|end|
+line 5 L5: module 1|func f|fail|end|func f|fail|end|
+line 5 L7: module 1|func f|fail|end|func f
+";
+
+#[test]
+fn answers_to_texts(rt: HostRuntime) -> Result<(), Fail> {
+    for (front, cases, back) in TABLES {
+        assert_eq!(rt; first_other(rt.alloc(), front, cases, back)?, None);
+    }
+    Ok(())
+}
+
+// Whether the text is read as one function of this name and code.
+fn reads_as(alloc: Global, text: &[u8], name: &[u8], code: &[Instr]) -> bool {
+    match read(alloc, text) {
+        Ok(module) => match module.functions.as_slice() {
+            [function] => function.name.as_bytes() == name && function.code.as_slice() == code,
+            _ => false,
+        },
+        Err(_) => false,
     }
 }
 
 #[test]
-fn refuses_lines(rt: HostRuntime) {
-    let table: [(&[u8], u64, FaultCode); 33] = [
-        (
-            b"module 1\nfunc f\nfail\nend\n\n",
-            5,
-            FaultCode::UnknownWord,
-        ),
-        (b"module 1\r\nfunc f\nfail\nend\n", 1, FaultCode::FirstLine),
-        (b"module 2\nfunc f\nfail\nend\n", 1, FaultCode::FirstLine),
-        (b"module 1 \nfunc f\nfail\nend\n", 1, FaultCode::FirstLine),
-        (b"module 1\nfunc  f\nfail\nend\n", 2, FaultCode::UnknownWord),
-        (b"module 1\nfunc f \nfail\nend\n", 2, FaultCode::UnknownWord),
-        (b"module 1\nfunc F\nfail\nend\n", 2, FaultCode::UnknownWord),
-        (b"module 1\nfunc 0\nfail\nend\n", 2, FaultCode::UnknownWord),
-        (
-            b"module 1\nfunc a-b\nfail\nend\n",
-            2,
-            FaultCode::UnknownWord,
-        ),
-        (
-            b"module 1\nfunc a23456789_bcdefgh\nfail\nend\n",
-            2,
-            FaultCode::UnknownWord,
-        ),
-        (b"module 1\nend\n", 2, FaultCode::UnknownWord),
-        (b"module 1\nfail\n", 2, FaultCode::UnknownWord),
-        (b"module 1\nfunc f\nend\n", 3, FaultCode::OverLimit),
-        (b"module 1\nfunc f\nfunc g\n", 3, FaultCode::UnknownWord),
-        (b"module 1\nfunc f\n\n", 3, FaultCode::UnknownWord),
-        (b"module 1\nfunc f\nfail\nend \n", 4, FaultCode::UnknownWord),
-        (b"module 1\nfunc f\nfail \nend\n", 3, FaultCode::UnknownWord),
-        (
-            b"module 1\nfunc f\nnewref v16 v0\nend\n",
-            3,
-            FaultCode::Number,
-        ),
-        (
-            b"module 1\nfunc f\nnewref v01 v0\nend\n",
-            3,
-            FaultCode::Number,
-        ),
-        (
-            b"module 1\nfunc f\nnewref v1 v00\nend\n",
-            3,
-            FaultCode::Number,
-        ),
-        (
-            b"module 1\nfunc f\nnewref v1 v+2\nend\n",
-            3,
-            FaultCode::Number,
-        ),
-        (
-            b"module 1\nfunc f\nnewref x v16\nend\n",
-            3,
-            FaultCode::UnknownWord,
-        ),
-        (
-            b"module 1\nfunc f\nnewref v16 x\nend\n",
-            3,
-            FaultCode::Number,
-        ),
-        (
-            b"module 1\nfunc f\nnewref v1\nend\n",
-            3,
-            FaultCode::UnknownWord,
-        ),
-        (
-            b"module 1\nfunc f\nnewref v16 v1 v2\nend\n",
-            3,
-            FaultCode::UnknownWord,
-        ),
-        (
-            b"module 1\nfunc f\nnewref v1  v2\nend\n",
-            3,
-            FaultCode::UnknownWord,
-        ),
-        (b"module 1\nfunc f\ndrop v\nend\n", 3, FaultCode::Number),
-        (b"module 1\nfunc f\ndrop \nend\n", 3, FaultCode::UnknownWord),
-        (
-            b"module 1\nfunc f\nret v1111111111222222222233333333334444444444\nend\n",
-            3,
-            FaultCode::Number,
-        ),
-        (
-            b"module 1\nfunc f\nret v0000000000000000000000000000000000000000\nend\n",
-            3,
-            FaultCode::Number,
-        ),
-        (
-            b"module 1\nfunc f\nnumber v1 1 else @2\nend\n",
-            3,
-            FaultCode::UnknownWord,
-        ),
-        (
-            b"module 1\nfunc f\nfail\nend\nfunc f\nfail\nend\n",
-            5,
-            FaultCode::NameTwice,
-        ),
-        (b"module 1\nfunc f\nfail\nend\nfunc f", 5, FaultCode::CutOff),
+fn reads_each_instruction(rt: HostRuntime) {
+    let (low, high) = (Variable::new(0), Variable::new(15));
+    let counted = [
+        Instr::Newref {
+            to: high,
+            from: Variable::new(10),
+        },
+        Instr::Drop { from: low },
+        Instr::Ret {
+            from: Variable::new(9),
+        },
     ];
-    for (text, line, code) in table {
-        assert_eq!(rt; answer(rt.alloc(), text), (line, Some(code)), "{text:?}");
+    let others = [
+        Instr::Num {
+            to: Variable::new(1),
+            value: 4294967295,
+            otherwise: 4,
+        },
+        Instr::NoneObject { to: high },
+        Instr::Move {
+            to: Variable::new(2),
+            from: Variable::new(3),
+        },
+        Instr::Goto { target: 4 },
+        Instr::Fail,
+    ];
+    let table: [(&[u8], &[u8], &[Instr]); 3] = [
+        (SMALLEST, b"f", &[Instr::Fail]),
+        (
+            b"module 1\nfunc a23456789_bcdefg\nnewref v15 v10\ndrop v0\nret v9\nend\n",
+            b"a23456789_bcdefg",
+            &counted,
+        ),
+        (
+            b"module 1\nfunc f\nnum v1 4294967295 else @4\nnone v15\nmove v2 v3\ngoto @4\nfail\nend\n",
+            b"f",
+            &others,
+        ),
+    ];
+    for (text, name, code) in table {
+        assert!(rt; reads_as(rt.alloc(), text, name, code), "{text:?}");
     }
 }
 
-// A function of `lines` times `fail`.
-fn long_function(alloc: Global, lines: usize) -> Result<Vec<u8>, Fail> {
-    let mut text = Vec::from_slice(alloc, b"module 1\nfunc f\n")?;
-    for _ in 0..lines {
-        text.extend_from_slice(b"fail\n")?;
+// The first front of the smallest text that isn't refused where it is cut.
+fn first_other_front(alloc: Global) -> Result<Option<usize>, AllocError> {
+    for len in 0..SMALLEST.len() {
+        let wanted = match len {
+            0..=8 => "line 1 L1",
+            9..=15 => "line 2 L7",
+            16..=20 => "line 3 L7",
+            _ => "line 4 L7",
+        };
+        if answer(alloc, &SMALLEST[..len])?.as_str() != wanted {
+            return Ok(Some(len));
+        }
     }
-    text.extend_from_slice(b"end\n")?;
-    Ok(text)
+    Ok(None)
 }
 
-#[test]
-fn counts_instructions(rt: HostRuntime) -> Result<(), Fail> {
-    let most = long_function(rt.alloc(), 256)?;
-    assert_eq!(rt; answer(rt.alloc(), &most), (0, None));
-    let more = long_function(rt.alloc(), 257)?;
-    assert_eq!(rt;
-        answer(rt.alloc(), &more),
-        (259, Some(FaultCode::OverLimit))
-    );
-    Ok(())
-}
-
-// Functions named `f00`, `f01` and so on.
-fn many_functions(alloc: Global, count: u8) -> Result<Vec<u8>, Fail> {
+// Functions named `f00`, `f01` and so on, each of this first line and so many times `fail`, and what stands below them.
+fn many(
+    alloc: Global,
+    functions: u8,
+    first: &[u8],
+    fails: usize,
+    below: &[u8],
+) -> Result<Vec<u8>, AllocError> {
     let mut text = Vec::from_slice(alloc, b"module 1\n")?;
-    for i in 0..count {
-        let name = [b'f', b'0' + i / 10 % 10, b'0' + i % 10];
-        text.extend_from_slice(b"func ")?;
-        text.extend_from_slice(&name)?;
-        text.extend_from_slice(b"\nfail\nend\n")?;
+    for number in 0..functions {
+        let heading = [
+            b'f',
+            b'u',
+            b'n',
+            b'c',
+            b' ',
+            b'f',
+            b'0' + number / 10 % 10,
+            b'0' + number % 10,
+            b'\n',
+        ];
+        text.extend_from_slice(&heading)?;
+        text.extend_from_slice(first)?;
+        for _ in 0..fails {
+            text.extend_from_slice(b"fail\n")?;
+        }
+        text.extend_from_slice(b"end\n")?;
     }
+    text.extend_from_slice(below)?;
     Ok(text)
 }
 
+// How many functions, the first line of each, how many times `fail`, what stands below them, and the answer.
+type Size = (u8, &'static [u8], usize, &'static [u8], &'static str);
+
+const SIZES: [Size; 8] = [
+    (1, b"", 256, b"", "read"),
+    (1, b"", 257, b"", "line 259 L6"),
+    (64, b"", 1, b"", "read"),
+    (65, b"", 1, b"", "line 194 L6"),
+    (64, b"", 1, b"func f00\nfail\nend\n", "line 194 L6"),
+    (1, b"goto @255\n", 255, b"", "read"),
+    (1, b"goto @255\n", 254, b"", "line 258 L4"),
+    (1, b"goto @0\n", 256, b"", "line 259 L6"),
+];
+
+// The first size that is answered otherwise.
+fn first_other_size(alloc: Global) -> Result<Option<(u8, usize)>, AllocError> {
+    for (functions, first, fails, below, wanted) in SIZES {
+        let text = many(alloc, functions, first, fails, below)?;
+        if answer(alloc, &text)?.as_str() != wanted {
+            return Ok(Some((functions, fails)));
+        }
+    }
+    Ok(None)
+}
+
+// The text of the module that a text is read as.
+fn read_and_written(alloc: Global, text: &[u8]) -> Result<Vec<u8>, Fail> {
+    let module = read(alloc, text).ok().ok_or("the text is a module")?;
+    let mut out: Vec<u8> = Vec::new(alloc);
+    write(&module, &mut out)?;
+    Ok(out)
+}
+
+// With ample memory and a writer that takes all, the largest module is read and written.
 #[test]
-fn counts_functions(rt: HostRuntime) -> Result<(), Fail> {
-    let mut most = many_functions(rt.alloc(), 64)?;
-    assert_eq!(rt; answer(rt.alloc(), &most), (0, None));
-    let more = many_functions(rt.alloc(), 65)?;
-    assert_eq!(rt;
-        answer(rt.alloc(), &more),
-        (194, Some(FaultCode::OverLimit))
-    );
-    most.extend_from_slice(b"func f00\nfail\nend\n")?;
-    assert_eq!(rt;
-        answer(rt.alloc(), &most),
-        (194, Some(FaultCode::OverLimit))
-    );
+fn reads_and_writes_the_largest_module(rt: HostRuntime) -> Result<(), Fail> {
+    let first = b"num v15 4294967295 else @255\n";
+    let text = many(rt.alloc(), 64, first, 255, b"")?;
+    let again = read_and_written(rt.alloc(), &text)?;
+    assert!(rt; again.as_slice() == text.as_slice());
     Ok(())
 }
 
+// How many items a list has after so many were put at its end.
+fn pushed(alloc: Global, count: u32) -> Result<usize, AllocError> {
+    let mut items = Sequence::new(alloc);
+    for item in 0..count {
+        items.push(item)?;
+    }
+    Ok(items.len())
+}
+
+// Whether two mebibytes are refused in the first line, and are written as they are.
+fn takes_two_mebibytes(alloc: Global) -> Result<bool, Fail> {
+    let text = vec![in alloc; b'x'; 2 * 1024 * 1024]?;
+    let mut out: Vec<u8> = Vec::new(alloc);
+    write_bytes(&text, &mut out)?;
+    Ok(answer(alloc, &text)?.as_str() == "line 1 L1" && out.as_slice() == text.as_slice())
+}
+
 #[test]
-fn refuses_two_mebibytes_without_a_line(rt: HostRuntime) -> Result<(), Fail> {
-    let text = vec![in rt.alloc(); b'x'; 2 * 1024 * 1024]?;
-    assert_eq!(rt; answer(rt.alloc(), &text), (1, Some(FaultCode::FirstLine)));
+fn takes_each_size(rt: HostRuntime) -> Result<(), Fail> {
+    assert_eq!(rt; first_other_front(rt.alloc())?, None);
+    assert_eq!(rt; first_other_size(rt.alloc())?, None);
+    assert!(rt; takes_two_mebibytes(rt.alloc())?);
+    assert_eq!(rt; pushed(rt.alloc(), 100_000)?, 100_000);
     Ok(())
 }
 
-// Each fault prints as a line and a code.
+// A fault prints as a line and a code.
 #[test]
-fn prints_faults(rt: HostRuntime) -> Result<(), Fail> {
+fn prints_a_fault(rt: HostRuntime) -> Result<(), Fail> {
     let fault = ReadFault {
-        line: 12,
-        code: FaultCode::NameTwice,
+        line: u64::MAX,
+        code: FaultCode::NoMemory,
     };
     let text = format!(in rt.alloc(); "{fault}")?;
-    assert_eq!(rt; text.as_str(), "line 12 L5");
+    assert_eq!(rt; text.as_str(), "line 18446744073709551615 L8");
     Ok(())
 }

@@ -1,168 +1,177 @@
-use crate::{Schedule, read_schedule};
-use brc_lang::FaultCode;
+use crate::{PlannedCall, Steps, read_schedule};
+use brc_lang::write_number;
 use brc_model::Choice;
-use std::alloc::Global;
+use std::alloc::{AllocError, Global};
 use std::test::*;
 
 /// Two workers and their calls.
 const TWO_WORKERS: &[u8] = b"schedule 1\nworkers 2\nrows 4\ncall 1 f 1\ncall 2 f 1\n";
 
-fn schedule_of(alloc: Global, text: &[u8]) -> Result<Schedule, Fail> {
+// What is answered to a text: that it is read, or its fault as it prints.
+fn answer(alloc: Global, text: &[u8]) -> Result<String, AllocError> {
     match read_schedule(alloc, text) {
-        Ok(schedule) => Ok(schedule),
-        Err(_) => Err("the text is a schedule")?,
+        Ok(_) => format!(in alloc; "read"),
+        Err(fault) => format!(in alloc; "{fault}"),
     }
 }
 
-// The line and the fault that a text is refused for, or line 0 for a text that is read.
-fn answer(alloc: Global, text: &[u8]) -> (u64, Option<FaultCode>) {
-    match read_schedule(alloc, text) {
-        Ok(_) => (0, None),
-        Err(fault) => (fault.line, Some(fault.code)),
+// The first case that is answered otherwise. A case is the answer, a colon and what stands below the front, with a bar
+// for each line feed.
+fn first_other<'a>(
+    alloc: Global,
+    front: &[u8],
+    cases: &'a str,
+) -> Result<Option<&'a str>, AllocError> {
+    for case in cases.lines() {
+        let Some((wanted, part)) = case.split_once(": ") else {
+            return Ok(Some(case));
+        };
+        let mut text = Vec::from_slice(alloc, front)?;
+        for byte in part.as_bytes() {
+            text.push(if *byte == b'|' { b'\n' } else { *byte })?;
+        }
+        if answer(alloc, &text)?.as_str() != wanted {
+            return Ok(Some(case));
+        }
     }
+    Ok(None)
 }
+
+// Sizes and calls. No claim stands above the last call.
+const TOP: &str = "\
+line 1 L1: schedule 1
+line 1 L1: schedule 2|
+line 1 L1: schedule 1\r|workers 1|
+line 2 L3: schedule 1|workers 0|
+line 2 L3: schedule 1|workers 33|
+line 2 L3: schedule 1|workers 01|
+line 2 L2: schedule 1|workers|
+line 2 L2: schedule 1|workers 1 2|
+line 2 L2: schedule 1|rows 4|
+line 3 L3: schedule 1|workers 1|rows 0|
+line 3 L3: schedule 1|workers 1|rows 1025|
+line 4 L3: schedule 1|workers 1|rows 4|call 2 f 1|
+line 4 L2: schedule 1|workers 1|rows 4|call 1 F 1|
+line 4 L3: schedule 1|workers 1|rows 4|call 1 f 0|
+line 4 L3: schedule 1|workers 1|rows 4|call 1 f 1000001|
+line 4 L7: schedule 1|workers 1|rows 4|
+line 5 L7: schedule 1|workers 2|rows 4|call 1 f 1|
+line 5 L2: schedule 1|workers 2|rows 4|call 1 f 1|claim 0 1|
+";
+
+// Lines below the calls of two workers.
+const BELOW: &str = "\
+line 6 L3: step 3 ok 1|
+line 6 L2: step 1 maybe 1|
+line 6 L3: step x maybe 1|
+line 6 L3: step 1 ok 0|
+line 6 L3: step 1 ok 1000001|
+line 6 L2: step 1 ok|
+line 6 L7: step 1 ok 1
+line 6 L2: |
+line 7 L2: step 1 ok 1|call 1 f 1|
+line 6 L3: step  ok 1|
+line 6 L2: step 1  1|
+line 7 L2: step 1 ok 1||step 3 ok 1|
+";
+
+// Claims below them.
+const CLAIMS: &str = "\
+line 6 L3: claim 0 32770|
+line 6 L3: claim 3 1|
+line 6 L3: claim x 1|
+line 6 L3: claim 0 01|
+line 6 L3: claim 0 |
+line 6 L2: claim 0|
+line 6 L2: claim 0 1 1|
+line 6 L2: claim 0 ok 1|
+line 6 L2: step 0 1|
+line 6 L7: claim 0 1
+";
 
 #[test]
-fn reads_calls(rt: HostRuntime) -> Result<(), Fail> {
-    let text = b"schedule 1\nworkers 1\nrows 1024\ncall 1 a23456789_bcdefg 1000000\n";
-    let schedule = schedule_of(rt.alloc(), text)?;
-    assert_eq!(rt; (schedule.workers, schedule.rows), (1, 1024));
-    assert_eq!(rt; schedule.calls.len(), 1);
-    for call in schedule.calls.as_slice() {
-        assert_eq!(rt; call.name.as_bytes(), b"a23456789_bcdefg".as_slice());
-        assert_eq!(rt; call.times, 1_000_000);
+fn refuses_lines(rt: HostRuntime) -> Result<(), Fail> {
+    let tables: [(&[u8], &str); 3] = [(b"", TOP), (TWO_WORKERS, BELOW), (TWO_WORKERS, CLAIMS)];
+    for (front, cases) in tables {
+        assert_eq!(rt; first_other(rt.alloc(), front, cases)?, None);
     }
-    assert_eq!(rt; schedule.steps.len(), 0);
+    // A text that is cut off before the first line is ended.
+    assert_eq!(rt; answer(rt.alloc(), b"")?.as_str(), "line 1 L1");
     Ok(())
 }
 
-#[test]
-fn reads_steps(rt: HostRuntime) -> Result<(), Fail> {
-    let mut text = Vec::from_slice(rt.alloc(), TWO_WORKERS)?;
-    text.extend_from_slice(b"step 0 fault 1000000\nstep 2 ok 1\n")?;
-    let schedule = schedule_of(rt.alloc(), &text)?;
-    assert_eq!(rt; (schedule.workers, schedule.rows), (2, 4));
-    assert_eq!(rt; schedule.calls.len(), 2);
-    assert_eq!(rt; schedule.steps.len(), 2);
-    let expected = [(0, Choice::Fault, 1_000_000), (2, Choice::Ok, 1)];
-    for (steps, expected) in schedule.steps.as_slice().iter().zip(expected) {
-        assert_eq!(rt; (steps.thread, steps.choice, steps.times), expected);
+fn are_calls(found: &[PlannedCall], wanted: &[(&[u8], u32)]) -> bool {
+    found.len() == wanted.len()
+        && found.iter().zip(wanted).all(|(call, wanted)| call.name.as_bytes() == wanted.0
+            && call.times == wanted.1)
+}
+
+fn are_steps(found: &[Steps], wanted: &[(u8, Choice, u32)]) -> bool {
+    found.len() == wanted.len()
+        && found.iter().zip(wanted).all(|(steps, wanted)| (steps.thread, steps.choice, steps.times)
+            == *wanted)
+}
+
+// Whether the text is read as a schedule of these workers and rows, calls and steps.
+fn reads_as(
+    alloc: Global,
+    text: &[u8],
+    sizes: (u8, u16),
+    calls: &[(&[u8], u32)],
+    steps: &[(u8, Choice, u32)],
+) -> bool {
+    match read_schedule(alloc, text) {
+        Ok(schedule) => {
+            (schedule.workers, schedule.rows) == sizes
+                && are_calls(schedule.calls.as_slice(), calls)
+                && are_steps(schedule.steps.as_slice(), steps)
+        }
+        Err(_) => false,
     }
-    Ok(())
 }
 
 #[test]
-fn reads_claims(rt: HostRuntime) -> Result<(), Fail> {
-    let mut text = Vec::from_slice(rt.alloc(), TWO_WORKERS)?;
-    text.extend_from_slice(b"claim 0 32769\nstep 1 ok 3\nclaim 2 0\n")?;
-    let schedule = schedule_of(rt.alloc(), &text)?;
-    assert_eq!(rt; schedule.steps.len(), 3);
-    let expected = [
+fn reads_each_line(rt: HostRuntime) {
+    let one = b"schedule 1\nworkers 1\nrows 1024\ncall 1 a23456789_bcdefg 1000000\n";
+    let call: [(&[u8], u32); 1] = [(b"a23456789_bcdefg", 1_000_000)];
+    assert!(rt; reads_as(rt.alloc(), one, (1, 1024), &call, &[]));
+    let two = b"schedule 1\nworkers 2\nrows 4\ncall 1 f 1\ncall 2 f 1\n\
+        step 0 fault 1000000\nstep 2 ok 1\nclaim 0 32769\nstep 1 ok 3\nclaim 2 0\n";
+    let calls: [(&[u8], u32); 2] = [(b"f", 1), (b"f", 1)];
+    let steps = [
+        (0, Choice::Fault, 1_000_000),
+        (2, Choice::Ok, 1),
         (0, Choice::Claim { row: 32_769 }, 1),
         (1, Choice::Ok, 3),
         (2, Choice::Claim { row: 0 }, 1),
     ];
-    for (steps, expected) in schedule.steps.as_slice().iter().zip(expected) {
-        assert_eq!(rt; (steps.thread, steps.choice, steps.times), expected);
-    }
-    Ok(())
+    assert!(rt; reads_as(rt.alloc(), two, (2, 4), &calls, &steps));
 }
 
-#[test]
-fn refuses_sizes_and_calls(rt: HostRuntime) {
-    let table: [(&[u8], u64, FaultCode); 18] = [
-        (b"", 1, FaultCode::FirstLine),
-        (b"schedule 1", 1, FaultCode::FirstLine),
-        (b"schedule 2\n", 1, FaultCode::FirstLine),
-        (b"schedule 1\r\nworkers 1\n", 1, FaultCode::FirstLine),
-        (b"schedule 1\nworkers 0\n", 2, FaultCode::Number),
-        (b"schedule 1\nworkers 33\n", 2, FaultCode::Number),
-        (b"schedule 1\nworkers 01\n", 2, FaultCode::Number),
-        (b"schedule 1\nworkers\n", 2, FaultCode::UnknownWord),
-        (b"schedule 1\nworkers 1 2\n", 2, FaultCode::UnknownWord),
-        (b"schedule 1\nrows 4\n", 2, FaultCode::UnknownWord),
-        (b"schedule 1\nworkers 1\nrows 0\n", 3, FaultCode::Number),
-        (b"schedule 1\nworkers 1\nrows 1025\n", 3, FaultCode::Number),
-        (
-            b"schedule 1\nworkers 1\nrows 4\ncall 2 f 1\n",
-            4,
-            FaultCode::Number,
-        ),
-        (
-            b"schedule 1\nworkers 1\nrows 4\ncall 1 F 1\n",
-            4,
-            FaultCode::UnknownWord,
-        ),
-        (
-            b"schedule 1\nworkers 1\nrows 4\ncall 1 f 0\n",
-            4,
-            FaultCode::Number,
-        ),
-        (
-            b"schedule 1\nworkers 1\nrows 4\ncall 1 f 1000001\n",
-            4,
-            FaultCode::Number,
-        ),
-        (b"schedule 1\nworkers 1\nrows 4\n", 4, FaultCode::CutOff),
-        (
-            b"schedule 1\nworkers 2\nrows 4\ncall 1 f 1\n",
-            5,
-            FaultCode::CutOff,
-        ),
-    ];
-    for (text, line, code) in table {
-        assert_eq!(rt; answer(rt.alloc(), text), (line, Some(code)), "{text:?}");
+// The most workers and rows, and so many times two lines below the calls.
+fn largest(alloc: Global, times: usize) -> Result<Vec<u8>, Fail> {
+    let mut text = Vec::from_slice(alloc, b"schedule 1\nworkers 32\nrows 1024\n")?;
+    for worker in 1..=32 {
+        text.extend_from_slice(b"call ")?;
+        write_number(worker, &mut text)?;
+        text.extend_from_slice(b" f 1000000\n")?;
     }
+    for _ in 0..times {
+        text.extend_from_slice(b"step 32 fault 1000000\nclaim 32 32769\n")?;
+    }
+    Ok(text)
 }
 
-#[test]
-fn refuses_lines_below_the_calls(rt: HostRuntime) -> Result<(), Fail> {
-    let table: [(&[u8], u64, FaultCode); 12] = [
-        (b"step 3 ok 1\n", 6, FaultCode::Number),
-        (b"step 1 maybe 1\n", 6, FaultCode::UnknownWord),
-        (b"step x maybe 1\n", 6, FaultCode::Number),
-        (b"step 1 ok 0\n", 6, FaultCode::Number),
-        (b"step 1 ok 1000001\n", 6, FaultCode::Number),
-        (b"step 1 ok\n", 6, FaultCode::UnknownWord),
-        (b"step 1 ok 1", 6, FaultCode::CutOff),
-        (b"\n", 6, FaultCode::UnknownWord),
-        (b"step 1 ok 1\ncall 1 f 1\n", 7, FaultCode::UnknownWord),
-        (b"step  ok 1\n", 6, FaultCode::Number),
-        (b"step 1  1\n", 6, FaultCode::UnknownWord),
-        (b"step 1 ok 1\n\nstep 3 ok 1\n", 7, FaultCode::UnknownWord),
-    ];
-    for (below, line, code) in table {
-        let mut text = Vec::from_slice(rt.alloc(), TWO_WORKERS)?;
-        text.extend_from_slice(below)?;
-        assert_eq!(rt; answer(rt.alloc(), &text), (line, Some(code)), "{below:?}");
-    }
-    Ok(())
+// How many calls and lines of steps a text is read as.
+fn lengths(alloc: Global, text: &[u8]) -> Option<(usize, usize)> {
+    let schedule = read_schedule(alloc, text).ok()?;
+    Some((schedule.calls.len(), schedule.steps.len()))
 }
 
+// With ample memory, the largest world and a long list of steps are read.
 #[test]
-fn refuses_claims(rt: HostRuntime) -> Result<(), Fail> {
-    let table: [(&[u8], u64, FaultCode); 10] = [
-        (b"claim 0 32770\n", 6, FaultCode::Number),
-        (b"claim 3 1\n", 6, FaultCode::Number),
-        (b"claim x 1\n", 6, FaultCode::Number),
-        (b"claim 0 01\n", 6, FaultCode::Number),
-        (b"claim 0 \n", 6, FaultCode::Number),
-        (b"claim 0\n", 6, FaultCode::UnknownWord),
-        (b"claim 0 1 1\n", 6, FaultCode::UnknownWord),
-        (b"claim 0 ok 1\n", 6, FaultCode::UnknownWord),
-        (b"step 0 1\n", 6, FaultCode::UnknownWord),
-        (b"claim 0 1", 6, FaultCode::CutOff),
-    ];
-    for (below, line, code) in table {
-        let mut text = Vec::from_slice(rt.alloc(), TWO_WORKERS)?;
-        text.extend_from_slice(below)?;
-        assert_eq!(rt; answer(rt.alloc(), &text), (line, Some(code)), "{below:?}");
-    }
-    // No claim stands above the last call.
-    let early = b"schedule 1\nworkers 2\nrows 4\ncall 1 f 1\nclaim 0 1\n";
-    assert_eq!(rt;
-        answer(rt.alloc(), early),
-        (5, Some(FaultCode::UnknownWord))
-    );
+fn reads_a_large_schedule(rt: HostRuntime) -> Result<(), Fail> {
+    let text = largest(rt.alloc(), 10_000)?;
+    assert_eq!(rt; lengths(rt.alloc(), &text), Some((32, 20_000)));
     Ok(())
 }

@@ -16,7 +16,7 @@ pub enum LocalChoice {
 }
 
 /// The largest local count that the owner reaches by counting.
-const MOST_COUNTED: u64 = 4294967294;
+const MOST_COUNTED: u64 = LOCAL_COUNTS - 2;
 
 /// Whether the thread may change the local count.
 fn may_count(word: u64, thread: u8, running: bool) -> bool

@@ -4,9 +4,9 @@ ghost use Rattle.std.specs.Prelude.{◌≡◌, ◌≢◌, ◌==◌};
 ghost use Rattle.brc_word.specs.Words.{dying_word, next_part, closed_word};
 
 /// The thread of a dying object stands above the next object of its chain.
-const CHAINED: u64 = 4294967296;
+const CHAINED: u64 = 1 << 32;
 /// The gate of an object that is closed.
-const CLOSED: u64 = 9223372036854775808;
+const CLOSED: u64 = 1 << 63;
 
 /// The gate of an object that dies, in the chain of the thread that closes it: `next` is the row of the next object of the chain
 /// and 1, or 0 at its end.

@@ -4,7 +4,7 @@ ghost use Rattle.std.specs.Prelude.{◌≡◌, ◌+◌, ◌*◌};
 ghost use Rattle.brc_word.specs.Words.{kind_part, argument_part};
 
 /// The kind of an object stands above its argument.
-const ARGUMENTS: u64 = 4294967296;
+const ARGUMENTS: u64 = 1 << 32;
 
 /// The word of a kind and its argument.
 pub fn kind_word(kind: u32, argument: u32) -> u64

@@ -3,9 +3,9 @@ ghost use Rattle.brc_word.specs.Header.{IsLocalWord, IsHeaderWord, OfHeader, IsI
 ghost use Rattle.brc_word.specs.Words.{local_part, is_immortal_word, local_word};
 
 /// One more than the largest local count: the owner stands above the count in the word.
-pub(crate) const LOCAL_COUNTS: u64 = 4294967296;
+pub(crate) const LOCAL_COUNTS: u64 = 1 << 32;
 /// The local count of an object that is never counted.
-const IMMORTAL: u64 = 4294967295;
+const IMMORTAL: u64 = LOCAL_COUNTS - 1;
 
 /// The local word.
 pub fn local_word(owner: Option<u8>, local: u32) -> u64
@@ -42,7 +42,7 @@ pub fn is_immortal(word: u64) -> bool
     word % LOCAL_COUNTS == IMMORTAL
 }
 
-/// The local count of a word, from 0 to 4294967295.
+/// The local count of a word, below 2^32.
 pub fn local_count(word: u64) -> u32
     ensures header { OfHeader word (λ owner local. result ≡ local) }
     ensures word { result ≡ local_part word }

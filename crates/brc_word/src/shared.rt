@@ -30,9 +30,9 @@ pub enum SharedChoice {
 }
 
 /// What is added to a count, so that none is below zero.
-const RAISED: i64 = 1099511627776;
+const RAISED: i64 = 1 << 40;
 /// One more than the largest word.
-const WORDS: u64 = 8796093022208;
+const WORDS: u64 = 1 << 43;
 
 /// The word of the shared field.
 pub fn pack(shared: Shared) -> u64

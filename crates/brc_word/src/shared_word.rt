@@ -10,9 +10,9 @@ use crate::shared::{Phase, Shared, SharedChoice, merge_word, pack, release_choic
 /// What a count of one adds to the word: the state has the two bits below.
 const ONE_COUNT: u64 = 4;
 /// The word of count 0 and the default phase.
-const FRESH: u64 = 4398046511104;
+const FRESH: u64 = 1 << 42;
 /// The word of count 0 and the merged phase.
-const DEAD: u64 = 4398046511107;
+const DEAD: u64 = FRESH + 3;
 
 /// The shared word after a reference more, as an atomic add leaves it: the phase stays.
 /// (PEP 703, Biased Reference Counting.)

@@ -48,24 +48,21 @@ fn function(alloc: Global, name: &[u8], code: &[Instr]) -> Result<Function, Allo
     Ok(made)
 }
 
-fn smallest(alloc: Global) -> Result<Module, AllocError> {
+// The text of a module of these functions, each a name and its code.
+fn written(alloc: Global, table: &[(&[u8], &[Instr])]) -> Result<Vec<u8>, Fail> {
     let mut functions = Sequence::new(alloc);
-    functions.push(function(alloc, b"f", [Instr::Fail].as_slice())?)?;
-    Ok(Module { functions })
-}
-
-#[test]
-fn gives_the_smallest_text(rt: HostRuntime) -> Result<(), Fail> {
-    let mut out: Vec<u8> = Vec::new(rt.alloc());
-    write(&smallest(rt.alloc())?, &mut out)?;
-    assert_eq!(rt; out.as_slice(), b"module 1\nfunc f\nfail\nend\n".as_slice());
-    Ok(())
+    for (name, code) in table {
+        functions.push(function(alloc, name, code)?)?;
+    }
+    let mut out: Vec<u8> = Vec::new(alloc);
+    write(&Module { functions }, &mut out)?;
+    Ok(out)
 }
 
 #[test]
 fn gives_each_instruction(rt: HostRuntime) -> Result<(), Fail> {
     let (low, high) = (Variable::new(0), Variable::new(15));
-    let code = [
+    let counted = [
         Instr::Newref {
             to: high,
             from: low,
@@ -73,20 +70,7 @@ fn gives_each_instruction(rt: HostRuntime) -> Result<(), Fail> {
         Instr::Drop { from: high },
         Instr::Ret { from: low },
     ];
-    let mut functions = Sequence::new(rt.alloc());
-    functions.push(function(rt.alloc(), b"f", code.as_slice())?)?;
-    functions.push(function(rt.alloc(), b"g_2", [Instr::Fail].as_slice())?)?;
-    let mut out: Vec<u8> = Vec::new(rt.alloc());
-    write(&Module { functions }, &mut out)?;
-    let text = b"module 1\nfunc f\nnewref v15 v0\ndrop v15\nret v0\nend\nfunc g_2\nfail\nend\n";
-    assert_eq!(rt; out.as_slice(), text.as_slice());
-    Ok(())
-}
-
-#[test]
-fn gives_num_none_move_and_goto(rt: HostRuntime) -> Result<(), Fail> {
-    let (low, high) = (Variable::new(0), Variable::new(15));
-    let code = [
+    let others = [
         Instr::Num {
             to: high,
             value: 4294967295,
@@ -104,32 +88,40 @@ fn gives_num_none_move_and_goto(rt: HostRuntime) -> Result<(), Fail> {
         },
         Instr::Goto { target: 10 },
     ];
-    let mut functions = Sequence::new(rt.alloc());
-    functions.push(function(rt.alloc(), b"f", code.as_slice())?)?;
-    let mut out: Vec<u8> = Vec::new(rt.alloc());
-    write(&Module { functions }, &mut out)?;
+    let table: [(&[u8], &[Instr]); 3] = [
+        (b"f", &counted),
+        (b"g_2", &[Instr::Fail]),
+        (b"h", &others),
+    ];
     let text =
-        b"module 1\nfunc f\nnum v15 4294967295 else @4\nnum v0 0 else @255\nnone v15\nmove v0 v15\ngoto @10\nend\n";
-    assert_eq!(rt; out.as_slice(), text.as_slice());
+        b"module 1\nfunc f\nnewref v15 v0\ndrop v15\nret v0\nend\nfunc g_2\nfail\nend\nfunc h\n\
+        num v15 4294967295 else @4\nnum v0 0 else @255\nnone v15\nmove v0 v15\ngoto @10\nend\n";
+    assert_eq!(rt; written(rt.alloc(), &table)?.as_slice(), text.as_slice());
     Ok(())
+}
+
+// Whether the smallest module is written over a writer that takes so many bytes, and what it takes.
+fn over_narrow(alloc: Global, stop: Stop, left: usize) -> Result<(bool, Vec<u8>), AllocError> {
+    let mut functions = Sequence::new(alloc);
+    functions.push(function(alloc, b"f", &[Instr::Fail])?)?;
+    let mut writer = Narrow {
+        taken: Vec::new(alloc),
+        left,
+        stop,
+    };
+    let answer = write(&Module { functions }, &mut writer);
+    Ok((answer.is_ok(), writer.taken))
 }
 
 #[test]
 fn stops_at_the_first_fault(rt: HostRuntime) -> Result<(), Fail> {
     let text = b"module 1\nfunc f\nfail\nend\n";
-    let module = smallest(rt.alloc())?;
     for stop in [Stop::TakesNone, Stop::Interrupts] {
         for most in 0..=text.len() {
-            let mut writer = Narrow {
-                taken: Vec::new(rt.alloc()),
-                left: most,
-                stop,
-            };
-            let answer = write(&module, &mut writer);
-            assert_eq!(rt; answer.is_ok(), most == text.len(), "{stop:?} after {most}");
+            let (whole, taken) = over_narrow(rt.alloc(), stop, most)?;
             assert_eq!(rt;
-                writer.taken.as_slice(),
-                &text[..most],
+                (whole, taken.as_slice()),
+                (most == text.len(), &text[..most]),
                 "{stop:?} after {most}"
             );
         }
