@@ -78,3 +78,4 @@ pub mod ClosedOnce
 pub mod RowLaws
 pub mod MarksWatched
 pub mod Trail
+pub mod Rules
