@@ -79,3 +79,4 @@ pub mod RowLaws
 pub mod Births
 pub mod MarksWatched
 pub mod Trail
+pub mod Rules

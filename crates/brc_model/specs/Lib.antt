@@ -6,6 +6,7 @@ pub mod Plain
 pub mod Threads
 pub mod Duties
 pub mod Machine
+pub mod Rules
 pub mod Agreement
 pub mod Events
 pub mod Safety

@@ -10,6 +10,7 @@ mod code;
 mod duty;
 mod laws;
 mod row_laws;
+mod rule_laws;
 mod slot;
 mod thread;
 mod world_laws;
@@ -25,6 +26,7 @@ pub use row_laws::{
     closed_rows_were_born, gates_tell_what_is_closed, immortal_words_stay, marks_are_watched,
     nobody_takes_a_row_over, only_a_running_owner_counts, states_only_rise, used_rows_are_born,
 };
+pub use rule_laws::steps_go_by_rules;
 pub use slot::{Exit, Slot, State};
 pub use thread::{Call, Choice};
 pub use world_laws::{

@@ -1,0 +1,314 @@
+-- The rules are the steps: what a step computes is what some rule says, and a rule says nothing else.
+use Rattle.std.proofs.Common.{◌≡◌, ◌≢◌, ℕ, suc, ◌-◌, ◌<◌, ◌≤◌, Bool, true, false, List, [], ◌⊎◌, inl, inr, refl, sym, subst, arith}
+use Rattle.std.specs.Prelude.{◌==◌, nat_lt}
+use Rattle.std.proofs.lemmas.Bool.Decides.{eqb_tells, leb_tells}
+use Rattle.std.proofs.lemmas.List.{append-nil}
+use Rattle.brc_word.specs.Words.{local_part, is_immortal_word, fresh_word, dead_word, merged_word}
+use Rattle.brc_model.specs.declared.duty.Holding.{Holding}
+use Rattle.brc_model.specs.declared.duty.Reason.{Reason}
+use Rattle.brc_model.specs.declared.duty.Reason.TheVariants.{Own, Handed}
+use Rattle.brc_model.specs.declared.duty.Duty.{Duty}
+use Rattle.brc_model.specs.declared.duty.Duty.TheVariants.{RetainLoad, RetainStore, RetainAdd, ReleaseLoad, ReleaseStore, DecideAtZero, SharedLoad, SharedExchange, SetMark, Look, TakeMark, MergeSwap, MergeLoad, MergeExchange, Die, Settle, SettleKind, SettleCell, TakeSlot, CloseResource, SettleEnd, Leave, Scan, Finish, ClaimMark, BirthKind, BirthSlot, BirthLocal}
+use Rattle.brc_model.specs.declared.address.Address.{Address}
+use Rattle.brc_model.specs.Rules.{Goes, IsComputed, given_up, most_local, one_shared}
+use Rattle.brc_model.specs.Rules as rules
+use Rattle.brc_model.specs.Duties.{left_by, next_by, counts_locally, has_resource}
+use Rattle.brc_model.specs.Machine.{moves_by, hand_on}
+use Rattle.brc_model.specs.Plain.{Move}
+
+-- a test on two numbers, by its two answers
+by_test : (a b : ℕ) (P : Bool → Type 0) → (a ≡ b → P true) → (a ≢ b → P false) → P (a == b)
+by_test a b P if_same if_other =
+    elim (eqb_tells a b) [
+      | inl same ↦ subst P (sym same.0) (if_same same.1)
+      | inr other ↦ subst P (sym other.0) (if_other other.1)
+    ]
+
+same_test : (a b : ℕ) → a ≡ b → (a == b) ≡ true
+same_test a b e = by_test a b (λ t. t ≡ true) (λ _. refl) (λ other. absurd (other e))
+
+other_test : (a b : ℕ) → a ≢ b → (a == b) ≡ false
+other_test a b ne = by_test a b (λ t. t ≡ false) (λ e. absurd (ne e)) (λ _. refl)
+
+itself : (a : ℕ) → (a == a) ≡ true
+itself a = same_test a a refl
+
+less_test : (a b : ℕ) → a < b → nat_lt a b ≡ true
+less_test a b lt = elim (leb_tells (suc a) b) [
+  | inl low ↦ low.0
+  | inr high ↦ let wrong = high.1 in absurd (omega arith)
+]
+
+not_less_test : (a b : ℕ) → b ≤ a → nat_lt a b ≡ false
+not_less_test a b le = elim (leb_tells (suc a) b) [
+  | inl low ↦ let wrong = low.1 in absurd (omega arith)
+  | inr high ↦ high.0
+]
+
+module _ (memory : Address → ℕ) (t : ℕ) (running : Bool) (head : ℕ) where
+  abbrev Computed : Duty → ℕ → ℕ → List Duty → List Move → Type 0
+  Computed = IsComputed memory t running head
+
+  abbrev By : Duty → ℕ → ℕ → List Duty → List Move → Type 0
+  By = Goes memory t running head
+
+  -- ---- a rule concludes what the step computes
+
+  exchanged_moves : (x : ℕ) (reason : Reason) (word : ℕ)
+      → given_up t reason x ≡ moves_by memory t (SharedExchange x reason word) word
+  exchanged_moves x Own word = rw (itself word) refl
+  exchanged_moves x Handed word = refl
+
+  lost_moves : (x : ℕ) (reason : Reason) (word f : ℕ) → f ≢ word
+      → [] ≡ moves_by memory t (SharedExchange x reason word) f
+  lost_moves x Own word f lost = rw (other_test f word lost) refl
+  lost_moves x Handed word f lost = refl
+
+  pub computed : (d : Duty) (found left : ℕ) (next : List Duty) (moves : List Move) → By d found left next moves
+      → Computed d found left next moves
+  computed d found left next moves (rules.KindOfResource x h word f is) =
+      record { left_is = refl; next_is = rw is refl; moves_are = refl }
+  computed d found left next moves (rules.KindOfOther x h word f is) =
+      record { left_is = refl; next_is = rw is refl; moves_are = refl }
+  computed d found left next moves (rules.SlotFilled x h f) =
+      record { left_is = refl; next_is = refl; moves_are = refl }
+  computed d found left next moves (rules.Born x h f) = record { left_is = refl; next_is = refl; moves_are = refl }
+  computed d found left next moves (rules.RetainsImmortal x h f is) =
+      record { left_is = refl; next_is = rw is refl; moves_are = rw is refl }
+  computed d found left next moves (rules.OwnerRetains x h f mortal counts low) =
+      let less = less_test (local_part f) most_local low in
+      record { left_is = refl; next_is = rw (mortal, counts, less) refl; moves_are = rw mortal refl }
+  computed d found left next moves (rules.FullOwnerRetains x h f mortal counts full) =
+      let more = not_less_test (local_part f) most_local full in
+      record { left_is = refl; next_is = rw (mortal, counts, more) refl; moves_are = rw mortal refl }
+  computed d found left next moves (rules.OtherRetains x h f mortal counts) =
+      record { left_is = refl; next_is = rw (mortal, counts) refl; moves_are = rw mortal refl }
+  computed d found left next moves (rules.LocalRaised x h word f) =
+      record { left_is = refl; next_is = refl; moves_are = refl }
+  computed d found left next moves (rules.SharedRaised x h f) =
+      record { left_is = refl; next_is = refl; moves_are = refl }
+  computed d found left next moves (rules.ReleasesImmortal x h f is) =
+      record { left_is = refl; next_is = rw is refl; moves_are = rw is refl }
+  computed d found left next moves (rules.OwnerReleases x h f mortal counts) =
+      let none_lost = sym (append-nil (hand_on t h x)) in
+      record { left_is = refl; next_is = rw (mortal, counts) refl; moves_are = rw mortal none_lost }
+  computed d found left next moves (rules.OtherReleases x h f mortal counts) =
+      let none_lost = sym (append-nil (hand_on t h x)) in
+      record { left_is = refl; next_is = rw (mortal, counts) refl; moves_are = rw mortal none_lost }
+  computed d found left next moves (rules.LocalLowered x word f more) =
+      record { left_is = refl; next_is = rw (other_test (local_part word) 1 more) refl; moves_are = refl }
+  computed d found left next moves (rules.LocalReachesZero x word f last) =
+      record { left_is = refl; next_is = rw (same_test (local_part word) 1 last) refl; moves_are = refl }
+  computed d found left next moves (rules.NeverShared x f fresh) =
+      record { left_is = refl; next_is = rw (same_test f fresh_word fresh) refl; moves_are = refl }
+  computed d found left next moves (rules.WasShared x f other) =
+      record { left_is = refl; next_is = rw (other_test f fresh_word other) refl; moves_are = refl }
+  computed d found left next moves (rules.SharedRead x reason f) =
+      record { left_is = refl; next_is = refl; moves_are = refl }
+  computed d found left next moves (rules.Queues x reason word fresh) =
+      let won = itself word in let first = same_test word fresh_word fresh in
+      let moves_are = exchanged_moves x reason word in
+      record { left_is = rw (won, first) refl; next_is = rw (won, first) refl; moves_are = moves_are }
+  computed d found left next moves (rules.Decrements x reason word other more) =
+      let won = itself word in
+      let later = other_test word fresh_word other in
+      let lives = other_test (word - one_shared) dead_word more in
+      let moves_are = exchanged_moves x reason word in
+      record { left_is = rw (won, later) refl; next_is = rw (won, later, lives) refl; moves_are = moves_are }
+  computed d found left next moves (rules.DecrementsToZero x reason word other last) =
+      let won = itself word in
+      let later = other_test word fresh_word other in
+      let dies = same_test (word - one_shared) dead_word last in
+      let moves_are = exchanged_moves x reason word in
+      record { left_is = rw (won, later) refl; next_is = rw (won, later, dies) refl; moves_are = moves_are }
+  computed d found left next moves (rules.ExchangeLost x reason word f lost) =
+      let missed = other_test f word lost in
+      record { left_is = rw missed refl; next_is = rw missed refl; moves_are = lost_moves x reason word f lost }
+  computed d found left next moves (rules.Marked x f) = record { left_is = refl; next_is = refl; moves_are = refl }
+  computed d found left next moves (rules.OwnerRuns x f runs) =
+      record { left_is = refl; next_is = rw (same_test f 1 runs) refl; moves_are = refl }
+  computed d found left next moves (rules.OwnerExits x f exits) =
+      record { left_is = refl; next_is = rw (other_test f 1 exits) refl; moves_are = refl }
+  computed d found left next moves (rules.MarkTakenBack x f set) =
+      record { left_is = refl; next_is = rw (same_test f 1 set) refl; moves_are = refl }
+  computed d found left next moves (rules.MarkGone x f gone) =
+      record { left_is = refl; next_is = rw (other_test f 1 gone) refl; moves_are = refl }
+  computed d found left next moves (rules.MarkClaimed x f set) =
+      record { left_is = refl; next_is = rw (same_test f 1 set) refl; moves_are = refl }
+  computed d found left next moves (rules.NothingToClaim x f none) =
+      record { left_is = refl; next_is = rw (other_test f 1 none) refl; moves_are = refl }
+  computed d found left next moves (rules.NobodysCount x reason f nobody) =
+      record { left_is = refl; next_is = rw (same_test f 0 nobody) refl; moves_are = refl }
+  computed d found left next moves (rules.LocalTakenOut x reason f owned) =
+      record { left_is = refl; next_is = rw (other_test f 0 owned) refl; moves_are = refl }
+  computed d found left next moves (rules.MergeRead x carried f) =
+      record { left_is = refl; next_is = refl; moves_are = refl }
+  computed d found left next moves (rules.Merges x carried word alive) =
+      let won = itself word in let lives = other_test (merged_word word carried) dead_word alive in
+      record { left_is = rw won refl; next_is = rw (won, lives) refl; moves_are = refl }
+  computed d found left next moves (rules.MergesToZero x carried word dead) =
+      let won = itself word in let dies = same_test (merged_word word carried) dead_word dead in
+      record { left_is = rw won refl; next_is = rw (won, dies) refl; moves_are = refl }
+  computed d found left next moves (rules.MergeLost x carried word f lost) =
+      let missed = other_test f word lost in
+      record { left_is = rw missed refl; next_is = rw missed refl; moves_are = refl }
+  computed d found left next moves (rules.Chained x f) = record { left_is = refl; next_is = refl; moves_are = refl }
+  computed d found left next moves (rules.ChainRead f) = record { left_is = refl; next_is = refl; moves_are = refl }
+  computed d found left next moves (rules.DyingResource x f is) =
+      record { left_is = refl; next_is = rw is refl; moves_are = refl }
+  computed d found left next moves (rules.DyingCells x f is) =
+      record { left_is = refl; next_is = rw is refl; moves_are = refl }
+  computed d found left next moves (rules.CellEmptied x cell cells f) =
+      record { left_is = refl; next_is = refl; moves_are = refl }
+  computed d found left next moves (rules.SlotEmptied x f) =
+      record { left_is = refl; next_is = refl; moves_are = refl }
+  computed d found left next moves (rules.ResourceClosed x f) =
+      record { left_is = refl; next_is = refl; moves_are = refl }
+  computed d found left next moves (rules.Closes x f) = record { left_is = refl; next_is = refl; moves_are = refl }
+  computed d found left next moves (rules.SaysLeaving first rows f) =
+      record { left_is = refl; next_is = refl; moves_are = refl }
+  computed d found left next moves (rules.ScanFindsMark x rows f set) =
+      record { left_is = refl; next_is = rw (same_test f 1 set) refl; moves_are = refl }
+  computed d found left next moves (rules.ScanFindsNone x rows f none) =
+      record { left_is = refl; next_is = rw (other_test f 1 none) refl; moves_are = refl }
+  computed d found left next moves (rules.SaysGone f) = record { left_is = refl; next_is = refl; moves_are = refl }
+
+  -- ---- and each step goes by a rule: the one whose premises the found value meets
+
+  -- a rule that applies is the step's, since it concludes what the step computes
+  abbrev pub GoesByRule : Duty → ℕ → Type 0
+  GoesByRule d found = By d found (left_by t head d found) (next_by t running head d found) (moves_by memory t d found)
+
+  applies : (d : Duty) (found left : ℕ) (next : List Duty) (moves : List Move) → By d found left next moves
+      → GoesByRule d found
+  applies d found left next moves rule =
+      let c = computed d found left next moves rule in
+      let word = subst (λ w. By d found w next moves) c.left_is rule in
+      let duties = subst (λ ds. By d found (left_by t head d found) ds moves) c.next_is word in
+      subst (By d found (left_by t head d found) (next_by t running head d found)) c.moves_are duties
+
+  -- a Boolean test, with its answer
+  told : (b : Bool) → (b ≡ true) ⊎ (b ≡ false)
+  told true = inl refl
+  told false = inr refl
+
+  owner_by : (x : ℕ) (h : Holding) (found : ℕ) → is_immortal_word found ≡ false → counts_locally t running found ≡ true
+      → GoesByRule (RetainLoad x h) found
+  owner_by x h found mortal counts =
+      elim (leb_tells (suc (local_part found)) most_local) [
+        | inl low ↦ applies _ _ _ _ _ (rules.OwnerRetains x h found mortal counts (omega (arith, low.1)))
+        | inr full ↦ applies _ _ _ _ _ (rules.FullOwnerRetains x h found mortal counts (omega (arith, full.1)))
+      ]
+
+  counted_by : (x : ℕ) (h : Holding) (found : ℕ) → is_immortal_word found ≡ false → GoesByRule (RetainLoad x h) found
+  counted_by x h found mortal =
+      elim (told (counts_locally t running found)) [
+        | inl counts ↦ owner_by x h found mortal counts
+        | inr other ↦ applies _ _ _ _ _ (rules.OtherRetains x h found mortal other)
+      ]
+
+  released_by : (x : ℕ) (h : Holding) (found : ℕ) → is_immortal_word found ≡ false → GoesByRule (ReleaseLoad x h) found
+  released_by x h found mortal =
+      elim (told (counts_locally t running found)) [
+        | inl counts ↦ applies _ _ _ _ _ (rules.OwnerReleases x h found mortal counts)
+        | inr other ↦ applies _ _ _ _ _ (rules.OtherReleases x h found mortal other)
+      ]
+
+  exchanged_by : (x : ℕ) (reason : Reason) (word : ℕ) → GoesByRule (SharedExchange x reason word) word
+  exchanged_by x reason word =
+      elim (eqb_tells word fresh_word) [
+        | inl fresh ↦ applies _ _ _ _ _ (rules.Queues x reason word fresh.1)
+        | inr other ↦ elim (eqb_tells (word - one_shared) dead_word) [
+          | inl last ↦ applies _ _ _ _ _ (rules.DecrementsToZero x reason word other.1 last.1)
+          | inr more ↦ applies _ _ _ _ _ (rules.Decrements x reason word other.1 more.1)
+        ]
+      ]
+
+  merged_by : (x carried word : ℕ) → GoesByRule (MergeExchange x carried word) word
+  merged_by x carried word =
+      elim (eqb_tells (merged_word word carried) dead_word) [
+        | inl dead ↦ applies _ _ _ _ _ (rules.MergesToZero x carried word dead.1)
+        | inr alive ↦ applies _ _ _ _ _ (rules.Merges x carried word alive.1)
+      ]
+
+  pub by_rule : (d : Duty) (found : ℕ) → GoesByRule d found
+  by_rule (BirthKind x h word) found =
+      elim (told (has_resource word)) [
+        | inl has ↦ applies _ _ _ _ _ (rules.KindOfResource x h word found has)
+        | inr none ↦ applies _ _ _ _ _ (rules.KindOfOther x h word found none)
+      ]
+  by_rule (BirthSlot x h) found = rules.SlotFilled x h found
+  by_rule (BirthLocal x h) found = rules.Born x h found
+  by_rule (RetainLoad x h) found =
+      elim (told (is_immortal_word found)) [
+        | inl immortal ↦ applies _ _ _ _ _ (rules.RetainsImmortal x h found immortal)
+        | inr mortal ↦ counted_by x h found mortal
+      ]
+  by_rule (RetainStore x h word) found = rules.LocalRaised x h word found
+  by_rule (RetainAdd x h) found = rules.SharedRaised x h found
+  by_rule (ReleaseLoad x h) found =
+      elim (told (is_immortal_word found)) [
+        | inl immortal ↦ applies _ _ _ _ _ (rules.ReleasesImmortal x h found immortal)
+        | inr mortal ↦ released_by x h found mortal
+      ]
+  by_rule (ReleaseStore x word) found =
+      elim (eqb_tells (local_part word) 1) [
+        | inl last ↦ applies _ _ _ _ _ (rules.LocalReachesZero x word found last.1)
+        | inr more ↦ applies _ _ _ _ _ (rules.LocalLowered x word found more.1)
+      ]
+  by_rule (DecideAtZero x) found =
+      elim (eqb_tells found fresh_word) [
+        | inl fresh ↦ applies _ _ _ _ _ (rules.NeverShared x found fresh.1)
+        | inr other ↦ applies _ _ _ _ _ (rules.WasShared x found other.1)
+      ]
+  by_rule (SharedLoad x reason) found = rules.SharedRead x reason found
+  by_rule (SharedExchange x reason word) found =
+      elim (eqb_tells found word) [
+        | inl won ↦ subst (GoesByRule (SharedExchange x reason word)) (sym won.1) (exchanged_by x reason word)
+        | inr lost ↦ applies _ _ _ _ _ (rules.ExchangeLost x reason word found lost.1)
+      ]
+  by_rule (SetMark x) found = rules.Marked x found
+  by_rule (Look x) found =
+      elim (eqb_tells found 1) [
+        | inl runs ↦ applies _ _ _ _ _ (rules.OwnerRuns x found runs.1)
+        | inr exits ↦ applies _ _ _ _ _ (rules.OwnerExits x found exits.1)
+      ]
+  by_rule (TakeMark x) found =
+      elim (eqb_tells found 1) [
+        | inl set ↦ applies _ _ _ _ _ (rules.MarkTakenBack x found set.1)
+        | inr gone ↦ applies _ _ _ _ _ (rules.MarkGone x found gone.1)
+      ]
+  by_rule (ClaimMark x) found =
+      elim (eqb_tells found 1) [
+        | inl set ↦ applies _ _ _ _ _ (rules.MarkClaimed x found set.1)
+        | inr none ↦ applies _ _ _ _ _ (rules.NothingToClaim x found none.1)
+      ]
+  by_rule (MergeSwap x reason) found =
+      elim (eqb_tells found 0) [
+        | inl nobody ↦ applies _ _ _ _ _ (rules.NobodysCount x reason found nobody.1)
+        | inr owned ↦ applies _ _ _ _ _ (rules.LocalTakenOut x reason found owned.1)
+      ]
+  by_rule (MergeLoad x carried) found = rules.MergeRead x carried found
+  by_rule (MergeExchange x carried word) found =
+      elim (eqb_tells found word) [
+        | inl won ↦ subst (GoesByRule (MergeExchange x carried word)) (sym won.1) (merged_by x carried word)
+        | inr lost ↦ applies _ _ _ _ _ (rules.MergeLost x carried word found lost.1)
+      ]
+  by_rule (Die x) found = rules.Chained x found
+  by_rule Settle found = rules.ChainRead found
+  by_rule (SettleKind x) found =
+      elim (told (has_resource found)) [
+        | inl has ↦ applies _ _ _ _ _ (rules.DyingResource x found has)
+        | inr none ↦ applies _ _ _ _ _ (rules.DyingCells x found none)
+      ]
+  by_rule (SettleCell x cell cells) found = rules.CellEmptied x cell cells found
+  by_rule (TakeSlot x) found = rules.SlotEmptied x found
+  by_rule (CloseResource x) found = rules.ResourceClosed x found
+  by_rule (SettleEnd x) found = rules.Closes x found
+  by_rule (Leave first rows) found = rules.SaysLeaving first rows found
+  by_rule (Scan x rows) found =
+      elim (eqb_tells found 1) [
+        | inl set ↦ applies _ _ _ _ _ (rules.ScanFindsMark x rows found set.1)
+        | inr none ↦ applies _ _ _ _ _ (rules.ScanFindsNone x rows found none.1)
+      ]
+  by_rule Finish found = rules.SaysGone found

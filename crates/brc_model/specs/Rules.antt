@@ -1,0 +1,182 @@
+-- The step relation: each way in which a step on a word can go is a rule with a name. A rule names the duty, the value
+-- that the step found, the value that it leaves, the duties that follow, and the references that move. The rules are in
+-- the order of an object's life. (PEP 703, Biased Reference Counting and Immortalization.)
+use Rattle.std.specs.Prelude.{◌≡◌, ◌≢◌, ℕ, ◌+◌, ◌-◌, ◌<◌, ◌≤◌, Bool, true, false, List, [], ◌∷◌, ◌++◌}
+use Rattle.brc_model.specs.declared.duty.Holding.{Holding}
+use Rattle.brc_model.specs.declared.duty.Reason.{Reason}
+use Rattle.brc_model.specs.declared.duty.Reason.TheVariants.{Own, Handed}
+use Rattle.brc_model.specs.declared.duty.Duty.{Duty}
+use Rattle.brc_model.specs.declared.duty.Duty.TheVariants.{RetainLoad, RetainStore, RetainAdd, ReleaseLoad, ReleaseStore, DecideAtZero, SharedLoad, SharedExchange, SetMark, Look, TakeMark, MergeSwap, MergeLoad, MergeExchange, Die, Settle, SettleKind, SettleCell, TakeSlot, CloseResource, SettleEnd, Leave, Scan, Finish, ClaimMark, BirthKind, BirthSlot, BirthLocal}
+use Rattle.brc_model.specs.declared.address.Address.{Address}
+use Rattle.brc_model.specs.declared.address.Address.TheVariants.{KindOf}
+use Rattle.brc_word.specs.Words.{local_word, local_part, is_immortal_word, fresh_word, dead_word, merged_word, dying_word, closed_word}
+use Rattle.brc_model.specs.Kinds.{kind_of_word}
+use Rattle.brc_model.specs.Plain.{Move, Finalise}
+use Rattle.brc_model.specs.Duties.{left_by, next_by, counts_locally, has_resource, cells_of, cells_from, release_found}
+use Rattle.brc_model.specs.Machine.{moves_by, gain, lose, hand_on, take_out, birth}
+
+-- the shared word counts one reference in its third bit
+abbrev pub one_shared : ℕ
+one_shared = 4
+
+-- from queued's two bits: (0, default) becomes (0, queued)
+abbrev pub queued_bits : ℕ
+queued_bits = 2
+
+-- the owner counts no further than to this local count: one more would make the object immortal
+abbrev pub most_local : ℕ
+most_local = 4294967294
+
+-- a thread's own reference is lost; one that was handed to the queue was lost when its object was queued
+abbrev pub given_up : ℕ → Reason → ℕ → List Move
+given_up t Own x = lose t x
+given_up t Handed x = []
+
+-- Thread t takes a step, running or not, with the head of its dying chain. A birth reads the object's kind from memory.
+module _ (memory : Address → ℕ) (t : ℕ) (running : Bool) (head : ℕ) where
+  pub data Goes : (duty : Duty) → (found left : ℕ) → (next : List Duty) → (moves : List Move) → Type 0 where
+    -- ---- an object is born: its kind first, and last its owner with one reference
+
+    -- a file or a socket: its resource comes next
+    KindOfResource : (x : ℕ) (h : Holding) (word found : ℕ) → has_resource word ≡ true
+        → Goes (BirthKind x h word) found word (BirthSlot x h ∷ []) []
+    KindOfOther : (x : ℕ) (h : Holding) (word found : ℕ) → has_resource word ≡ false
+        → Goes (BirthKind x h word) found word (BirthLocal x h ∷ []) []
+    SlotFilled : (x : ℕ) (h : Holding) (found : ℕ)
+        → Goes (BirthSlot x h) found 1 (BirthLocal x h ∷ []) []
+    -- the thread that makes the object owns it, with one local reference
+    Born : (x : ℕ) (h : Holding) (found : ℕ)
+        → Goes (BirthLocal x h) found (local_word t 1) [] (birth t h x (kind_of_word (memory (KindOf x))))
+    -- ---- a new reference
+
+    -- an immortal object is never counted
+    RetainsImmortal : (x : ℕ) (h : Holding) (found : ℕ) → is_immortal_word found ≡ true
+        → Goes (RetainLoad x h) found found [] (gain t h x)
+    -- the owner will count it by itself
+    OwnerRetains : (x : ℕ) (h : Holding) (found : ℕ)
+        → is_immortal_word found ≡ false → counts_locally t running found ≡ true → local_part found < most_local
+        → Goes (RetainLoad x h) found found (RetainStore x h found ∷ []) []
+    -- the owner at its greatest count takes the shared path, so that nothing becomes immortal by counting
+    FullOwnerRetains : (x : ℕ) (h : Holding) (found : ℕ)
+        → is_immortal_word found ≡ false → counts_locally t running found ≡ true → most_local ≤ local_part found
+        → Goes (RetainLoad x h) found found (RetainAdd x h ∷ []) []
+    -- any other thread, or an owner that leaves, will add to the shared count
+    OtherRetains : (x : ℕ) (h : Holding) (found : ℕ)
+        → is_immortal_word found ≡ false → counts_locally t running found ≡ false
+        → Goes (RetainLoad x h) found found (RetainAdd x h ∷ []) []
+    LocalRaised : (x : ℕ) (h : Holding) (word found : ℕ)
+        → Goes (RetainStore x h word) found (word + 1) [] (gain t h x)
+    SharedRaised : (x : ℕ) (h : Holding) (found : ℕ)
+        → Goes (RetainAdd x h) found (found + one_shared) [] (gain t h x)
+    -- ---- a reference is given up: from here on it is in flight
+
+    ReleasesImmortal : (x : ℕ) (h : Holding) (found : ℕ) → is_immortal_word found ≡ true
+        → Goes (ReleaseLoad x h) found found [] (hand_on t h x ++ lose t x)
+    OwnerReleases : (x : ℕ) (h : Holding) (found : ℕ)
+        → is_immortal_word found ≡ false → counts_locally t running found ≡ true
+        → Goes (ReleaseLoad x h) found found (ReleaseStore x found ∷ []) (hand_on t h x)
+    OtherReleases : (x : ℕ) (h : Holding) (found : ℕ)
+        → is_immortal_word found ≡ false → counts_locally t running found ≡ false
+        → Goes (ReleaseLoad x h) found found (SharedLoad x Own ∷ []) (hand_on t h x)
+    -- ---- the owner's release
+
+    LocalLowered : (x word found : ℕ) → local_part word ≢ 1
+        → Goes (ReleaseStore x word) found (word - 1) [] (lose t x)
+    -- the last local reference: the shared word decides what becomes of the object
+    LocalReachesZero : (x word found : ℕ) → local_part word ≡ 1
+        → Goes (ReleaseStore x word) found (word - 1) (DecideAtZero x ∷ []) (lose t x)
+    -- count 0 and default: nobody else holds a reference, and the owner deallocates at once
+    NeverShared : (x found : ℕ) → found ≡ fresh_word
+        → Goes (DecideAtZero x) found found (Die x ∷ []) []
+    -- other threads counted the object: the counts are merged
+    WasShared : (x found : ℕ) → found ≢ fresh_word
+        → Goes (DecideAtZero x) found found (MergeSwap x Own ∷ []) []
+    -- ---- another thread's release
+
+    SharedRead : (x : ℕ) (reason : Reason) (found : ℕ)
+        → Goes (SharedLoad x reason) found found (SharedExchange x reason found ∷ []) []
+    -- (0, default): the thread asks the owner to merge, and hands its own reference over to the queue
+    Queues : (x : ℕ) (reason : Reason) (word : ℕ) → word ≡ fresh_word
+        → Goes (SharedExchange x reason word) word (word + queued_bits) (SetMark x ∷ []) (given_up t reason x)
+    Decrements : (x : ℕ) (reason : Reason) (word : ℕ) → word ≢ fresh_word → word - one_shared ≢ dead_word
+        → Goes (SharedExchange x reason word) word (word - one_shared) [] (given_up t reason x)
+    -- merged, and the last reference of all: this thread deallocates the object
+    DecrementsToZero : (x : ℕ) (reason : Reason) (word : ℕ) → word ≢ fresh_word → word - one_shared ≡ dead_word
+        → Goes (SharedExchange x reason word) word (word - one_shared) (Die x ∷ []) (given_up t reason x)
+    -- another thread changed the word in between: the compare-exchange fails, and the thread reads again
+    ExchangeLost : (x : ℕ) (reason : Reason) (word found : ℕ) → found ≢ word
+        → Goes (SharedExchange x reason word) found found (SharedLoad x reason ∷ []) []
+    -- ---- the queue of objects to be merged
+
+    Marked : (x found : ℕ)
+        → Goes (SetMark x) found 1 (Look x ∷ []) []
+    -- the owner runs: it will find the mark
+    OwnerRuns : (x found : ℕ) → found ≡ 1
+        → Goes (Look x) found found [] []
+    -- the owner is exiting or has exited: the thread that queued the object takes the mark back
+    OwnerExits : (x found : ℕ) → found ≢ 1
+        → Goes (Look x) found found (TakeMark x ∷ []) []
+    MarkTakenBack : (x found : ℕ) → found ≡ 1
+        → Goes (TakeMark x) found 0 (MergeSwap x Handed ∷ SharedLoad x Handed ∷ []) []
+    -- the owner's exit was faster
+    MarkGone : (x found : ℕ) → found ≢ 1
+        → Goes (TakeMark x) found 0 [] []
+    MarkClaimed : (x found : ℕ) → found ≡ 1
+        → Goes (ClaimMark x) found 0 (MergeSwap x Handed ∷ SharedLoad x Handed ∷ Settle ∷ []) []
+    NothingToClaim : (x found : ℕ) → found ≢ 1
+        → Goes (ClaimMark x) found 0 (Settle ∷ []) []
+    -- ---- a merge: the local count goes over into the shared word, and nobody owns the object any more
+
+    -- it is merged already
+    NobodysCount : (x : ℕ) (reason : Reason) (found : ℕ) → found ≡ 0
+        → Goes (MergeSwap x reason) found 0 [] []
+    LocalTakenOut : (x : ℕ) (reason : Reason) (found : ℕ) → found ≢ 0
+        → Goes (MergeSwap x reason) found 0 (MergeLoad x (local_part found) ∷ []) []
+    MergeRead : (x carried found : ℕ)
+        → Goes (MergeLoad x carried) found found (MergeExchange x carried found ∷ []) []
+    Merges : (x carried word : ℕ) → merged_word word carried ≢ dead_word
+        → Goes (MergeExchange x carried word) word (merged_word word carried) [] []
+    MergesToZero : (x carried word : ℕ) → merged_word word carried ≡ dead_word
+        → Goes (MergeExchange x carried word) word (merged_word word carried) (Die x ∷ []) []
+    MergeLost : (x carried word found : ℕ) → found ≢ word
+        → Goes (MergeExchange x carried word) found found (MergeLoad x carried ∷ []) []
+    -- ---- deallocation
+
+    -- the dying object becomes the head of its thread's chain
+    Chained : (x found : ℕ)
+        → Goes (Die x) found (dying_word t head) [] []
+    ChainRead : (found : ℕ)
+        → Goes Settle found found (SettleKind (head - 1) ∷ Settle ∷ []) []
+    -- a file or a socket has a resource to close
+    DyingResource : (x found : ℕ) → has_resource found ≡ true
+        → Goes (SettleKind x) found found (TakeSlot x ∷ []) []
+    -- a list's cells are emptied first; what has none is closed next
+    DyingCells : (x found : ℕ) → has_resource found ≡ false
+        → Goes (SettleKind x) found found (cells_from x 0 (cells_of found)) []
+    -- the cell's reference is released before the next cell is emptied
+    CellEmptied : (x cell cells found : ℕ)
+        → Goes (SettleCell x cell cells) found 0 (release_found found ++ cells_from x (cell + 1) cells)
+        (take_out t x cell found)
+    SlotEmptied : (x found : ℕ)
+        → Goes (TakeSlot x) found 0 (CloseResource x ∷ []) []
+    ResourceClosed : (x found : ℕ)
+        → Goes (CloseResource x) found 0 (SettleEnd x ∷ []) []
+    Closes : (x found : ℕ)
+        → Goes (SettleEnd x) found closed_word [] (Finalise x ∷ [])
+    -- ---- a thread's exit: it says that it leaves, and only then looks through its marks
+
+    SaysLeaving : (first rows found : ℕ)
+        → Goes (Leave first rows) found 2 (Scan first rows ∷ Finish ∷ []) []
+    ScanFindsMark : (x rows found : ℕ) → found ≡ 1
+        → Goes (Scan x rows) found 0
+        (MergeSwap x Handed ∷ SharedLoad x Handed ∷ Settle ∷ Scan (x + 1) (rows - 1) ∷ []) []
+    ScanFindsNone : (x rows found : ℕ) → found ≢ 1
+        → Goes (Scan x rows) found 0 (Settle ∷ Scan (x + 1) (rows - 1) ∷ []) []
+    SaysGone : (found : ℕ)
+        → Goes Finish found 3 [] []
+
+  -- what a rule concludes is what the step of the duty computes
+  pub record IsComputed (d : Duty) (found left : ℕ) (next : List Duty) (moves : List Move) : Type 0 where
+    pub left_is : left ≡ left_by t head d found
+    pub next_is : next ≡ next_by t running head d found
+    pub moves_are : moves ≡ moves_by memory t d found
