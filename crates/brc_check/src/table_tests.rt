@@ -287,7 +287,7 @@ fn accepted_functions(alloc: Global, text: &[u8]) -> Result<(usize, usize), Fail
     }
 }
 
-/// The text of 64 functions of 256 instructions each: 127 references that are taken and dropped, and one that is returned.
+/// The text of 64 functions of 256 instructions each, in pairs that take a reference and drop it or return it.
 fn largest_module(alloc: Global) -> Result<Vec<u8>, Fail> {
     let mut text = Vec::from_slice(alloc, b"module 1\n")?;
     for number in 0..64u8 {

@@ -158,7 +158,7 @@ fn paths_differ(rt: HostRuntime) -> Result<(), Fail> {
     Ok(())
 }
 
-/// Whether the text is refused in the function of this name, with the point and the code, or `None` where it is accepted.
+/// Whether the text is refused in the function of this name, and where and for what; `None` where it is accepted.
 fn refusal_in(alloc: Global, text: &[u8], name: &[u8]) -> Result<Option<(bool, Met)>, Fail> {
     let Some(refused) = check(alloc, module_of(alloc, text)?).err() else {
         return Ok(None);
