@@ -24,6 +24,6 @@ pub use table::Table;
 pub use verifying::verify;
 
 #[cfg(test)]
-mod joins_tests;
+mod table_tests;
 #[cfg(test)]
 mod tests;

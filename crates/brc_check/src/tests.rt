@@ -2,12 +2,105 @@ ghost use Rattle.std.specs.Prelude.{IfOk};
 ghost use Rattle.brc_lang.specs.Grammar.{IsModule};
 
 use super::*;
-use brc_lang::{Kind, Module, read};
+use brc_lang::{Module, read};
 use std::alloc::Global;
 use std::test::*;
 
+/// A point, and the code that is met there.
+type Met = (usize, CheckCode);
+
+/// A function's lines, and where it is refused and for what, or `None` where it is accepted.
+type Case<'a> = (&'a [u8], Option<Met>);
+
+/// A number by one path and none by the other.
+const TWO_KINDS: &[u8] = b"num v1 1 else @2\ngoto @3\nnone v1\nret v1\n";
+
+/// Functions in which all paths agree.
+const ACCEPTED: &[Case] = &[
+    (b"fail\n", None),
+    (b"newref v1 v0\ndrop v1\nfail\n", None),
+    (b"newref v1 v0\nret v1\n", None),
+    (b"newref v0 v0\nret v0\n", None),
+    (
+        b"num v1 1 else @4\nnum v2 2 else @3\ndrop v2\ndrop v1\nfail\n",
+        None,
+    ),
+    (b"num v1 1 else @2\nret v1\nfail\n", None),
+    (b"num v1 1 else @2\ndrop v1\nfail\n", None),
+    (b"num v0 1 else @2\ndrop v0\nfail\n", None),
+    (b"num v1 1 else @2\ngoto @3\nfail\nret v1\n", None),
+    (b"none v0\nret v0\n", None),
+    (b"none v1\nmove v0 v1\nret v0\n", None),
+    (
+        b"num v1 1 else @4\nmove v2 v1\nmove v1 v2\ndrop v1\nfail\n",
+        None,
+    ),
+    (b"goto @1\nfail\n", None),
+];
+
+/// Each code by its smallest functions.
+const REFUSED: &[Case] = &[
+    (b"drop v1\nfail\n", Some((0, CheckCode::EmptyUsed))),
+    (b"drop v1\n", Some((0, CheckCode::EmptyUsed))),
+    (b"newref v2 v1\nfail\n", Some((0, CheckCode::EmptyUsed))),
+    (b"move v1 v2\n", Some((0, CheckCode::EmptyUsed))),
+    (b"drop v0\nfail\n", Some((0, CheckCode::NotOwned))),
+    (b"drop v0\n", Some((0, CheckCode::NotOwned))),
+    (b"newref v1 v0\nret v0\n", Some((1, CheckCode::NotOwned))),
+    (b"move v1 v0\n", Some((0, CheckCode::NotOwned))),
+    (
+        b"newref v1 v0\nnewref v1 v0\ndrop v1\nfail\n",
+        Some((1, CheckCode::StillOwns)),
+    ),
+    (b"none v1\nnone v1\n", Some((1, CheckCode::StillOwns))),
+    (b"none v1\nmove v1 v1\n", Some((1, CheckCode::StillOwns))),
+    (b"newref v1 v0\nfail\n", Some((1, CheckCode::LeftOwned))),
+    (b"none v1\nfail\n", Some((1, CheckCode::LeftOwned))),
+    (TWO_KINDS, Some((3, CheckCode::StatesDiffer))),
+    (b"newref v1 v0\n", Some((0, CheckCode::RunsOff))),
+    (b"none v1\n", Some((0, CheckCode::RunsOff))),
+    (b"goto @1\nnone v1\n", Some((1, CheckCode::RunsOff))),
+];
+
+/// By the success exit of a `num` its number is there, and by the fault exit nothing is, whatever was there before. A
+/// reference that was handed on is with its new variable alone, and nothing is put over one that is owned.
+const LEFT_BEHIND: &[Case] = &[
+    (
+        b"num v1 1 else @2\nfail\nfail\n",
+        Some((1, CheckCode::LeftOwned)),
+    ),
+    (
+        b"num v1 1 else @2\nnone v1\nfail\n",
+        Some((1, CheckCode::StillOwns)),
+    ),
+    (
+        b"num v1 1 else @2\nret v1\nret v1\n",
+        Some((2, CheckCode::EmptyUsed)),
+    ),
+    (
+        b"num v0 1 else @2\nret v0\nnewref v1 v0\n",
+        Some((2, CheckCode::EmptyUsed)),
+    ),
+    (
+        b"none v1\nmove v2 v1\ndrop v1\nfail\n",
+        Some((2, CheckCode::EmptyUsed)),
+    ),
+    (
+        b"none v1\nmove v2 v1\nfail\n",
+        Some((2, CheckCode::LeftOwned)),
+    ),
+    (
+        b"none v1\nnone v2\nmove v1 v2\nfail\n",
+        Some((2, CheckCode::StillOwns)),
+    ),
+    (
+        b"none v1\nnum v1 1 else @2\nfail\n",
+        Some((1, CheckCode::StillOwns)),
+    ),
+];
+
 /// The module of a text.
-fn module_of(alloc: Global, text: &[u8]) -> Result<Module, Fail>
+pub fn module_of(alloc: Global, text: &[u8]) -> Result<Module, Fail>
     ensures { IfOk result (λ m. IsModule m) }
 {
     match read(alloc, text) {
@@ -26,140 +119,58 @@ pub fn function_of(alloc: Global, lines: &[u8]) -> Result<Module, Fail>
     module_of(alloc, &text)
 }
 
-/// The point and the code that a function of these lines is refused with, or none where it is accepted.
-pub fn refusal_of(alloc: Global, lines: &[u8]) -> Result<Option<(usize, CheckCode)>, Fail> {
-    Ok(
-        check(alloc, function_of(alloc, lines)?)
-            .err()
-            .map(|refused| (refused.at, refused.code)),
-    )
+/// Where a function of these lines is refused and for what, or `None` where it is accepted.
+fn refusal_of(alloc: Global, lines: &[u8]) -> Result<Option<Met>, Fail> {
+    let Some(refused) = check(alloc, function_of(alloc, lines)?).err() else {
+        return Ok(None);
+    };
+    Ok(Some((refused.at, refused.code)))
+}
+
+/// The number of the first case that is answered otherwise.
+fn first_other(alloc: Global, cases: &[Case]) -> Result<Option<usize>, Fail> {
+    for (number, (lines, answer)) in cases.iter().enumerate() {
+        if refusal_of(alloc, lines)? != *answer {
+            return Ok(Some(number));
+        }
+    }
+    Ok(None)
 }
 
 #[test]
 fn one_function(rt: HostRuntime) -> Result<(), Fail> {
-    let cases: [(&[u8], Option<(usize, CheckCode)>); 11] = [
-        (b"fail\n", None),
-        (b"newref v1 v0\ndrop v1\nfail\n", None),
-        (b"newref v1 v0\nret v1\n", None),
-        (b"newref v0 v0\nret v0\n", None),
-        (b"drop v1\nfail\n", Some((0, CheckCode::EmptyUsed))),
-        (b"newref v2 v1\nfail\n", Some((0, CheckCode::EmptyUsed))),
-        (b"drop v0\nfail\n", Some((0, CheckCode::NotOwned))),
-        (b"newref v1 v0\nret v0\n", Some((1, CheckCode::NotOwned))),
-        (
-            b"newref v1 v0\nnewref v1 v0\ndrop v1\nfail\n",
-            Some((1, CheckCode::StillOwns)),
-        ),
-        (b"newref v1 v0\nfail\n", Some((1, CheckCode::LeftOwned))),
-        (b"newref v1 v0\n", Some((0, CheckCode::RunsOff))),
-    ];
-    for (lines, want) in cases {
-        assert_eq!(rt; refusal_of(rt.alloc(), lines)?, want, "{lines:?}");
+    for cases in [ACCEPTED, REFUSED, LEFT_BEHIND] {
+        assert_eq!(rt; first_other(rt.alloc(), cases)?, None);
     }
     Ok(())
+}
+
+// Where the number is made it is left, and where it isn't the states differ: either may be named.
+#[test]
+fn paths_differ(rt: HostRuntime) -> Result<(), Fail> {
+    let refusal = refusal_of(rt.alloc(), b"num v1 1 else @1\nfail\n")?;
+    assert!(rt;
+        matches!(
+            refusal,
+            Some((1, CheckCode::LeftOwned | CheckCode::StatesDiffer))
+        )
+    );
+    Ok(())
+}
+
+/// Whether the text is refused in the function of this name, and where and for what; `None` where it is accepted.
+fn refusal_in(alloc: Global, text: &[u8], name: &[u8]) -> Result<Option<(bool, Met)>, Fail> {
+    let Some(refused) = check(alloc, module_of(alloc, text)?).err() else {
+        return Ok(None);
+    };
+    let is_named = refused.function.as_bytes() == name;
+    Ok(Some((is_named, (refused.at, refused.code))))
 }
 
 #[test]
 fn second_function(rt: HostRuntime) -> Result<(), Fail> {
     let text = b"module 1\nfunc first\nfail\nend\nfunc second\ndrop v0\nfail\nend\n";
-    let refused = check(rt.alloc(), module_of(rt.alloc(), text)?)
-        .err()
-        .ok_or("the second function gives up what it borrows")?;
-    assert_eq!(rt; refused.function.as_bytes(), b"second".as_slice());
-    assert_eq!(rt; refused.at, 0);
-    assert_eq!(rt; refused.code, CheckCode::NotOwned);
-    Ok(())
-}
-
-#[test]
-fn accepted_module(rt: HostRuntime) -> Result<(), Fail> {
-    let checked = check(rt.alloc(), function_of(rt.alloc(), b"fail\n")?)
-        .ok()
-        .ok_or("nothing is owned at the end")?;
-    assert_eq!(rt; checked.module().functions.len(), 1);
-    Ok(())
-}
-
-fn taken_and_dropped(alloc: Global) -> Result<Module, Fail>
-    ensures { IfOk result (λ m. IsModule m) }
-{
-    function_of(alloc, b"newref v1 v0\ndrop v1\nfail\n")
-}
-
-/// The state with v1 as given: v0 is the caller's list, and the others are empty.
-pub fn with_v1(slot: Slot) -> State {
-    let mut slots = [Slot::Empty; 16];
-    slots[0] = Slot::Caller(Kind::List);
-    slots[1] = slot;
-    State {
-        slots,
-        locked: None,
-    }
-}
-
-#[test]
-fn true_table(rt: HostRuntime) -> Result<(), Fail> {
-    let module = taken_and_dropped(rt.alloc())?;
-    let table = infer(rt.alloc(), &module)
-        .ok()
-        .ok_or("nothing is owned at the end, and memory is ample")?;
-    let want = [
-        Some(with_v1(Slot::Empty)),
-        Some(with_v1(Slot::Owned(Kind::List))),
-        Some(with_v1(Slot::Empty)),
-        None,
-    ];
-    for (at, entry) in want.iter().enumerate() {
-        assert_eq!(rt; table.entry(0, at), *entry, "at point {at}");
-    }
-    assert_eq!(rt; table.entry(1, 0), None);
-    let checked = verify(module, table)
-        .ok()
-        .ok_or("the table is the true one")?;
-    assert_eq!(rt; checked.table().entry(0, 1), want[1]);
-    Ok(())
-}
-
-#[test]
-fn changed_entries(rt: HostRuntime) -> Result<(), Fail> {
-    for at in 0..3usize {
-        for wrong in [None, Some(with_v1(Slot::Owned(Kind::Num)))] {
-            let module = taken_and_dropped(rt.alloc())?;
-            let mut table = infer(rt.alloc(), &module).ok().ok_or("a true table")?;
-            assert!(rt; table.change(0, at, wrong));
-            let met = verify(module, table)
-                .err()
-                .map(|refused| (refused.at, refused.code));
-            assert_eq!(rt; met, Some((at, CheckCode::StatesDiffer)), "at point {at}");
-        }
-    }
-    Ok(())
-}
-
-#[test]
-fn changed_outside(rt: HostRuntime) -> Result<(), Fail> {
-    let module = taken_and_dropped(rt.alloc())?;
-    let mut table = infer(rt.alloc(), &module).ok().ok_or("a true table")?;
-    assert!(rt; !table.change(0, 3, None));
-    assert!(rt; !table.change(1, 0, None));
-    assert!(rt; verify(module, table).is_ok());
-    Ok(())
-}
-
-#[test]
-fn other_shapes(rt: HostRuntime) -> Result<(), Fail> {
-    let text = b"module 1\nfunc f\nfail\nend\nfunc g\nfail\nend\n";
-    let two = module_of(rt.alloc(), text)?;
-    let one = function_of(rt.alloc(), b"fail\n")?;
-    let three_points = taken_and_dropped(rt.alloc())?;
-    let two_rows = infer(rt.alloc(), &two).ok().ok_or("a true table")?;
-    let one_point = infer(rt.alloc(), &one).ok().ok_or("a true table")?;
-    let cases = [verify(one, two_rows), verify(three_points, one_point)];
-    for case in cases {
-        let refused = case.err().ok_or("a table of another shape")?;
-        assert_eq!(rt; refused.function.as_bytes(), b"f".as_slice());
-        assert_eq!(rt; refused.at, 0);
-        assert_eq!(rt; refused.code, CheckCode::StatesDiffer);
-    }
+    let refusal = refusal_in(rt.alloc(), text, b"second")?;
+    assert_eq!(rt; refusal, Some((true, (0, CheckCode::NotOwned))));
     Ok(())
 }

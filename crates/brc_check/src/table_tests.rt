@@ -1,0 +1,311 @@
+//! The tables that the checker shows, and tables that it is given.
+
+ghost use Rattle.brc_lang.specs.Grammar.{IsModule};
+
+use super::*;
+use crate::tests::{function_of, module_of};
+use brc_lang::{Kind, Module, Variable};
+use std::alloc::Global;
+use std::test::*;
+
+/// What v1 and v2 are at a point; v0 is the caller's list, and the others are empty.
+type Slots = (Slot, Slot);
+
+const NUMBER: Slot = Slot::Owned(Kind::Num);
+
+const NONE: Slot = Slot::Owned(Kind::None);
+
+const LIST: Slot = Slot::Owned(Kind::List);
+
+const TAKE_AND_DROP: &[u8] = b"newref v1 v0\ndrop v1\nfail\n";
+
+/// Where no row is left for a number, the function goes on behind the line that drops it.
+const TWO_NUMBERS: &[u8] = b"num v1 1 else @4\nnum v2 2 else @3\ndrop v2\ndrop v1\nfail\n";
+
+/// Lines, and what v1 and v2 are at each of their points, and past the last.
+const TABLES: &[(&[u8], &[Option<Slots>])] = &[
+    (
+        TAKE_AND_DROP,
+        &[
+            Some((Slot::Empty, Slot::Empty)),
+            Some((LIST, Slot::Empty)),
+            Some((Slot::Empty, Slot::Empty)),
+            None,
+        ],
+    ),
+    (
+        TWO_NUMBERS,
+        &[
+            Some((Slot::Empty, Slot::Empty)),
+            Some((NUMBER, Slot::Empty)),
+            Some((NUMBER, NUMBER)),
+            Some((NUMBER, Slot::Empty)),
+            Some((Slot::Empty, Slot::Empty)),
+        ],
+    ),
+    // A point that no walk reaches asks nothing, and has no entry.
+    (
+        b"goto @2\ndrop v5\nfail\n",
+        &[
+            Some((Slot::Empty, Slot::Empty)),
+            None,
+            Some((Slot::Empty, Slot::Empty)),
+        ],
+    ),
+    // A reference to none is handed on, doubled and given back.
+    (
+        b"none v1\nmove v2 v1\nnewref v1 v2\ndrop v2\nret v1\n",
+        &[
+            Some((Slot::Empty, Slot::Empty)),
+            Some((NONE, Slot::Empty)),
+            Some((Slot::Empty, NONE)),
+            Some((NONE, NONE)),
+            Some((NONE, Slot::Empty)),
+        ],
+    ),
+];
+
+/// What entries are overwritten with.
+const OVERWRITTEN: &[Slots] = &[
+    (Slot::Empty, Slot::Empty),
+    (Slot::Empty, NUMBER),
+    (Slot::Empty, Slot::Caller(Kind::Num)),
+    (NUMBER, Slot::Empty),
+    (NUMBER, NUMBER),
+    (NUMBER, Slot::Caller(Kind::Num)),
+    (Slot::Owned(Kind::Any), Slot::Empty),
+    (Slot::Owned(Kind::Any), NUMBER),
+    (Slot::Owned(Kind::Any), Slot::Caller(Kind::Num)),
+];
+
+fn state(slots: Slots) -> State {
+    let mut all = [Slot::Empty; 16];
+    all[0] = Slot::Caller(Kind::List);
+    all[1] = slots.0;
+    all[2] = slots.1;
+    State {
+        slots: all,
+        locked: None,
+    }
+}
+
+/// The table of an acceptable module.
+fn table_of(alloc: Global, module: &Module) -> Result<Table, Fail>
+    requires { IsModule «module».now }
+{
+    match infer(alloc, module) {
+        Ok(table) => Ok(table),
+        Err(_) => Err("the module is acceptable, and memory is ample")?,
+    }
+}
+
+/// The first point whose entry is another one, in the table of one function; a second function has no entries.
+fn other_entry(table: &Table, entries: &[Option<Slots>]) -> Option<usize> {
+    if table.entry(1, 0).is_some() {
+        return Some(0);
+    }
+    for (at, slots) in entries.iter().enumerate() {
+        let entry = match slots {
+            Some(slots) => Some(state(*slots)),
+            None => None,
+        };
+        if table.entry(0, at) != entry {
+            return Some(at);
+        }
+    }
+    None
+}
+
+/// The first point whose entry is another one, in the table that `infer` gives or in the one that `verify` hands on.
+fn first_other(
+    alloc: Global,
+    lines: &[u8],
+    entries: &[Option<Slots>],
+) -> Result<Option<usize>, Fail> {
+    let module = function_of(alloc, lines)?;
+    let table = table_of(alloc, &module)?;
+    if let Some(at) = other_entry(&table, entries) {
+        return Ok(Some(at));
+    }
+    match verify(module, table) {
+        Ok(checked) => Ok(other_entry(checked.table(), entries)),
+        Err(_) => Err("the table is the true one")?,
+    }
+}
+
+/// The number of the first table that is another one, and the point at which it is.
+fn first_other_table(alloc: Global) -> Result<Option<(usize, usize)>, Fail> {
+    for (number, (lines, entries)) in TABLES.iter().enumerate() {
+        if let Some(at) = first_other(alloc, lines, entries)? {
+            return Ok(Some((number, at)));
+        }
+    }
+    Ok(None)
+}
+
+#[test]
+fn true_tables(rt: HostRuntime) -> Result<(), Fail> {
+    assert_eq!(rt; first_other_table(rt.alloc())?, None);
+    Ok(())
+}
+
+/// Whether there is such an entry to overwrite, and the point at which the states then differ, if any.
+fn answer_to_change(
+    alloc: Global,
+    lines: &[u8],
+    place: (usize, usize),
+    entry: Option<State>,
+) -> Result<(bool, Option<usize>), Fail> {
+    let module = function_of(alloc, lines)?;
+    let mut table = table_of(alloc, &module)?;
+    let is_there = table.change(place.0, place.1, entry);
+    let Some(refused) = verify(module, table).err() else {
+        return Ok((is_there, None));
+    };
+    if refused.code != CheckCode::StatesDiffer {
+        return Err("a table is refused for its states alone")?;
+    }
+    Ok((is_there, Some(refused.at)))
+}
+
+fn same_slots(one: Slots, other: Slots) -> bool {
+    one == other
+}
+
+/// Whether a table whose entry is overwritten by these slots is refused there, just where they are others.
+fn is_seen(
+    alloc: Global,
+    lines: &[u8],
+    at: usize,
+    slots: Slots,
+    other: Slots,
+) -> Result<bool, Fail> {
+    let (is_there, refused) = answer_to_change(alloc, lines, (0, at), Some(state(other)))?;
+    let wanted = if same_slots(other, slots) {
+        None
+    } else {
+        Some(at)
+    };
+    Ok(is_there && refused == wanted)
+}
+
+/// Whether a table whose entry is overwritten is refused there.
+fn is_refused_at(
+    alloc: Global,
+    lines: &[u8],
+    at: usize,
+    entry: Option<State>,
+) -> Result<bool, Fail> {
+    let (is_there, refused) = answer_to_change(alloc, lines, (0, at), entry)?;
+    Ok(is_there && refused == Some(at))
+}
+
+/// Whether each change of the entry is refused at its point: no state, an open critical section, or another slot.
+fn is_guarded(alloc: Global, lines: &[u8], at: usize, slots: Slots) -> Result<bool, Fail> {
+    let mut locked = state(slots);
+    locked.locked = Some(Variable::new(0));
+    if !is_refused_at(alloc, lines, at, None)? || !is_refused_at(alloc, lines, at, Some(locked))? {
+        return Ok(false);
+    }
+    for other in OVERWRITTEN {
+        if !is_seen(alloc, lines, at, slots, *other)? {
+            return Ok(false);
+        }
+    }
+    Ok(true)
+}
+
+/// The first point that a walk reaches of which some change isn't refused, or whose true entry is.
+fn first_unguarded(
+    alloc: Global,
+    lines: &[u8],
+    entries: &[Option<Slots>],
+) -> Result<Option<usize>, Fail> {
+    for (at, slots) in entries.iter().enumerate() {
+        if let Some(slots) = slots {
+            if !is_guarded(alloc, lines, at, *slots)? {
+                return Ok(Some(at));
+            }
+        }
+    }
+    Ok(None)
+}
+
+/// The number of the first table with a point of which some change isn't refused, and the point.
+fn first_unguarded_table(alloc: Global) -> Result<Option<(usize, usize)>, Fail> {
+    for (number, (lines, entries)) in TABLES.iter().enumerate() {
+        if let Some(at) = first_unguarded(alloc, lines, entries)? {
+            return Ok(Some((number, at)));
+        }
+    }
+    Ok(None)
+}
+
+#[test]
+fn changed_entries(rt: HostRuntime) -> Result<(), Fail> {
+    assert_eq!(rt; first_unguarded_table(rt.alloc())?, None);
+    for place in [(0, 3), (1, 0)] {
+        let answer = answer_to_change(rt.alloc(), TAKE_AND_DROP, place, None)?;
+        assert_eq!(rt; answer, (false, None));
+    }
+    Ok(())
+}
+
+/// Whether the module of one text is refused, with the table of another's, at the first point of its function `f`.
+fn is_refused_at_top(alloc: Global, text: &[u8], other: &[u8]) -> Result<bool, Fail> {
+    let table = table_of(alloc, &module_of(alloc, other)?)?;
+    let Some(refused) = verify(module_of(alloc, text)?, table).err() else {
+        return Ok(false);
+    };
+    let is_named = refused.function.as_bytes() == b"f".as_slice();
+    Ok(is_named && refused.at == 0 && refused.code == CheckCode::StatesDiffer)
+}
+
+#[test]
+fn other_shapes(rt: HostRuntime) -> Result<(), Fail> {
+    let one = b"module 1\nfunc f\nfail\nend\n";
+    let two = b"module 1\nfunc f\nfail\nend\nfunc g\nfail\nend\n";
+    let three_points = b"module 1\nfunc f\nnewref v1 v0\ndrop v1\nfail\nend\n";
+    assert!(rt; is_refused_at_top(rt.alloc(), one, two)?);
+    assert!(rt; is_refused_at_top(rt.alloc(), three_points, one)?);
+    Ok(())
+}
+
+/// How many functions the module has, as `check` accepts it and as `verify` does with the table of `infer`.
+fn accepted_functions(alloc: Global, text: &[u8]) -> Result<(usize, usize), Fail> {
+    let Ok(checked) = check(alloc, module_of(alloc, text)?) else {
+        return Err("the module is acceptable, and memory is ample")?;
+    };
+    let module = module_of(alloc, text)?;
+    let table = table_of(alloc, &module)?;
+    match verify(module, table) {
+        Ok(verified) => Ok((
+            checked.module().functions.len(),
+            verified.module().functions.len(),
+        )),
+        Err(_) => Err("the table is the true one")?,
+    }
+}
+
+/// The text of 64 functions of 256 instructions each, in pairs that take a reference and drop it or return it.
+fn largest_module(alloc: Global) -> Result<Vec<u8>, Fail> {
+    let mut text = Vec::from_slice(alloc, b"module 1\n")?;
+    for number in 0..64u8 {
+        text.extend_from_slice(b"func f")?;
+        text.extend_from_slice(&[b'0' + number / 10, b'0' + number % 10, b'\n'])?;
+        for _pair in 0..127 {
+            text.extend_from_slice(b"newref v1 v0\ndrop v1\n")?;
+        }
+        text.extend_from_slice(b"newref v1 v0\nret v1\nend\n")?;
+    }
+    Ok(text)
+}
+
+#[test]
+fn accepted_modules(rt: HostRuntime) -> Result<(), Fail> {
+    let smallest = accepted_functions(rt.alloc(), b"module 1\nfunc f\nfail\nend\n")?;
+    assert_eq!(rt; smallest, (1, 1));
+    let largest = accepted_functions(rt.alloc(), &largest_module(rt.alloc())?)?;
+    assert_eq!(rt; largest, (64, 64));
+    Ok(())
+}
