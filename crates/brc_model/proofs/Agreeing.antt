@@ -82,10 +82,25 @@ record RowSays (owner : ℕ) (l : Life) (n : Numbers) : Type 0 where
   live : l ≡ Live → LiveSays owner n
 
 row_says : (owner : ℕ) (l : Life) (n : Numbers) → RowRule owner l n → RowSays owner l n
-row_says owner Unborn n row = record { total = omega (arith, row.local, row.shared, row.mark, row.references, row.waiting, row.carried); live = λ e. absurd cc }
+row_says owner Unborn n row =
+    record {
+      total = omega (arith, row.local, row.shared, row.mark, row.references, row.waiting, row.carried);
+      live =
+          λ e. absurd cc;
+    }
 row_says owner Live n row = let says = mode_says owner n row row.mode in record { total = row.sum; live = λ e. says }
-row_says owner (Dying t) n row = record { total = omega (arith, row.local, row.shared, row.mark, row.references, row.waiting, row.carried); live = λ e. absurd cc }
-row_says owner Closed n row = record { total = omega (arith, row.local, row.shared, row.mark, row.references, row.waiting, row.carried); live = λ e. absurd cc }
+row_says owner (Dying t) n row =
+    record {
+      total = omega (arith, row.local, row.shared, row.mark, row.references, row.waiting, row.carried);
+      live =
+          λ e. absurd cc;
+    }
+row_says owner Closed n row =
+    record {
+      total = omega (arith, row.local, row.shared, row.mark, row.references, row.waiting, row.carried);
+      live =
+          λ e. absurd cc;
+    }
 
 -- ---- whose duties they are
 
@@ -164,7 +179,8 @@ free_row owner (Dying t) n row alive born = row
 free_row owner Closed n row alive born = row
 
 -- what is dying or closed is free of references
-pub is_free_of : (p : Module) (n : ℕ) (m : Machine) (x : ℕ) → Rule p n m → 0 < x → (m.life x ≡ Live → ⊥) → (m.life x ≡ Unborn → ⊥) → IsFreeOf m x
+pub is_free_of : (p : Module) (n : ℕ) (m : Machine) (x : ℕ) → Rule p n m → 0 < x → (m.life x ≡ Live → ⊥)
+    → (m.life x ≡ Unborn → ⊥) → IsFreeOf m x
 is_free_of p n m x rule pos alive born =
     let dead = free_row (block_of m.rows x) (m.life x) (numbers_of m x) (rule.rows x pos) alive born in
     record { references = dead.references; awaiting_none = omega (arith, dead.mark, dead.waiting) }

@@ -19,7 +19,8 @@ use Rattle.brc_model.proofs.Rule.{numbers_of, extra_of, lacks_of, HoldsAt, Place
 
 -- ---- weights
 
-pub agenda_in : (f : Duty → ℕ) (actors : List Actor) (t : ℕ) (a : Actor) → slice_get actors t ≡ Some a → agenda_weight f a ≤ weight f actors
+pub agenda_in : (f : Duty → ℕ) (actors : List Actor) (t : ℕ) (a : Actor) → slice_get actors t ≡ Some a
+    → agenda_weight f a ≤ weight f actors
 agenda_in f [] t a found = absurd cc
 agenda_in f (b ∷ rest) zero a found =
     let P : Actor → Type 0 = λ x. agenda_weight f x ≤ weight f (b ∷ rest) in
@@ -28,7 +29,8 @@ agenda_in f (b ∷ rest) zero a found =
 agenda_in f (b ∷ rest) (suc t) a found = omega (arith, sum_by-cons (agenda_weight f) b rest, agenda_in f rest t a found)
 
 -- the first duty's weight, and that of the others, is among all
-pub first_weighs : (f : Duty → ℕ) (actors : List Actor) (t : ℕ) (a : Actor) (d : Duty) (rest : List Duty) → slice_get actors t ≡ Some a → a.agenda ≡ d ∷ rest → f d + sum_by f rest ≤ weight f actors
+pub first_weighs : (f : Duty → ℕ) (actors : List Actor) (t : ℕ) (a : Actor) (d : Duty) (rest : List Duty)
+    → slice_get actors t ≡ Some a → a.agenda ≡ d ∷ rest → f d + sum_by f rest ≤ weight f actors
 first_weighs f actors t a d rest found is =
     let here : agenda_weight f a ≡ f d + sum_by f rest = ap (sum_by f) is ∙ sum_by-cons f d rest in
     omega (arith, here, agenda_in f actors t a found)
@@ -40,33 +42,49 @@ pub record IsAlive (owner : ℕ) (l : Life) (n : Numbers) : Type 0 where
   pub life : l ≡ Live
   pub live : IsLive owner n
 
-alive_by : (owner : ℕ) (l : Life) (n : Numbers) → RowRule owner l n → 0 < n.references + n.mark + n.waiting + n.deciding + n.merging → IsAlive owner l n
-alive_by owner Unborn n row some = absurd (omega (arith, row.mark, row.references, row.waiting, row.merging, row.deciding, some))
+alive_by : (owner : ℕ) (l : Life) (n : Numbers) → RowRule owner l n
+    → 0 < n.references + n.mark + n.waiting + n.deciding + n.merging → IsAlive owner l n
+alive_by owner Unborn n row some =
+    absurd (omega (arith, row.mark, row.references, row.waiting, row.merging, row.deciding, some))
 alive_by owner Live n row some = record { life = refl; live = row }
-alive_by owner (Dying t) n row some = absurd (omega (arith, row.mark, row.references, row.waiting, row.merging, row.deciding, some))
-alive_by owner Closed n row some = absurd (omega (arith, row.mark, row.references, row.waiting, row.merging, row.deciding, some))
+alive_by owner (Dying t) n row some =
+    absurd (omega (arith, row.mark, row.references, row.waiting, row.merging, row.deciding, some))
+alive_by owner Closed n row some =
+    absurd (omega (arith, row.mark, row.references, row.waiting, row.merging, row.deciding, some))
 
 abbrev pub Alive : Machine → ℕ → Type 0
 Alive m x = IsAlive (block_of m.rows x) (m.life x) (numbers_of m x)
 
-pub alive_referenced : (p : Module) (n : ℕ) (m : Machine) (x : ℕ) → Rule p n m → 0 < x → 0 < references_to x m.plain.references → Alive m x
-alive_referenced p n m x rule pos some = alive_by (block_of m.rows x) (m.life x) (numbers_of m x) (rule.rows x pos) (omega (arith, some))
+pub alive_referenced : (p : Module) (n : ℕ) (m : Machine) (x : ℕ) → Rule p n m → 0 < x
+    → 0 < references_to x m.plain.references → Alive m x
+alive_referenced p n m x rule pos some =
+    alive_by (block_of m.rows x) (m.life x) (numbers_of m x) (rule.rows x pos) (omega (arith, some))
 
-pub alive_waiting : (p : Module) (n : ℕ) (m : Machine) (x : ℕ) → Rule p n m → 0 < x → 0 < weight (waits x) m.actors → Alive m x
-alive_waiting p n m x rule pos some = alive_by (block_of m.rows x) (m.life x) (numbers_of m x) (rule.rows x pos) (omega (arith, some))
+pub alive_waiting : (p : Module) (n : ℕ) (m : Machine) (x : ℕ) → Rule p n m → 0 < x → 0 < weight (waits x) m.actors
+    → Alive m x
+alive_waiting p n m x rule pos some =
+    alive_by (block_of m.rows x) (m.life x) (numbers_of m x) (rule.rows x pos) (omega (arith, some))
 
-pub alive_deciding : (p : Module) (n : ℕ) (m : Machine) (x : ℕ) → Rule p n m → 0 < x → 0 < weight (decides x) m.actors → Alive m x
-alive_deciding p n m x rule pos some = alive_by (block_of m.rows x) (m.life x) (numbers_of m x) (rule.rows x pos) (omega (arith, some))
+pub alive_deciding : (p : Module) (n : ℕ) (m : Machine) (x : ℕ) → Rule p n m → 0 < x → 0 < weight (decides x) m.actors
+    → Alive m x
+alive_deciding p n m x rule pos some =
+    alive_by (block_of m.rows x) (m.life x) (numbers_of m x) (rule.rows x pos) (omega (arith, some))
 
-pub alive_merging : (p : Module) (n : ℕ) (m : Machine) (x : ℕ) → Rule p n m → 0 < x → 0 < weight (merges x) m.actors → Alive m x
-alive_merging p n m x rule pos some = alive_by (block_of m.rows x) (m.life x) (numbers_of m x) (rule.rows x pos) (omega (arith, some))
+pub alive_merging : (p : Module) (n : ℕ) (m : Machine) (x : ℕ) → Rule p n m → 0 < x → 0 < weight (merges x) m.actors
+    → Alive m x
+alive_merging p n m x rule pos some =
+    alive_by (block_of m.rows x) (m.life x) (numbers_of m x) (rule.rows x pos) (omega (arith, some))
 
 pub alive_backed : (p : Module) (n : ℕ) (m : Machine) (t x : ℕ) → Rule p n m → 0 < x → IsBacked m t x → Alive m x
-alive_backed p n m t x rule pos backed = alive_referenced p n m x rule pos (omega (arith, backed.held_so, held-le-references_to (reference_of t backed.by x) m.plain.references))
+alive_backed p n m t x rule pos backed =
+    alive_referenced p n m x rule pos
+    (omega (arith, backed.held_so, held-le-references_to (reference_of t backed.by x) m.plain.references))
 
 -- ---- the hand
 
-hand_by : (bag : List Reference) (t : ℕ) (says : Holding → ℕ → Bool) (agenda : List Duty) (x : ℕ) → HoldsAt bag t says agenda → says InHand x ≡ false → extra_of agenda InHand x ≡ true → lacks_of agenda InHand x ≡ false
+hand_by : (bag : List Reference) (t : ℕ) (says : Holding → ℕ → Bool) (agenda : List Duty) (x : ℕ)
+    → HoldsAt bag t says agenda → says InHand x ≡ false → extra_of agenda InHand x ≡ true
+    → lacks_of agenda InHand x ≡ false
     → held (reference_of t InHand x) bag ≡ 1
 hand_by bag t says agenda x holds none more less =
     let a : one_if (says InHand x) ≡ 0 = ap one_if none in
@@ -75,8 +93,10 @@ hand_by bag t says agenda x holds none more less =
     omega (arith, holds.each InHand x, a, b, c)
 
 -- the reference that is being given up is in the hand
-pub hand_holds : (code : List Instr) (bag : List Reference) (t : ℕ) (agenda : List Duty) (place : Place) (x : ℕ) → PlaceFits code bag t agenda place
+pub hand_holds : (code : List Instr) (bag : List Reference) (t : ℕ) (agenda : List Duty) (place : Place) (x : ℕ)
+    → PlaceFits code bag t agenda place
     → extra_of agenda InHand x ≡ true → lacks_of agenda InHand x ≡ false → held (reference_of t InHand x) bag ≡ 1
 hand_holds code bag t agenda (Standing left) x fits more less = hand_by bag t the_root agenda x fits refl more less
-hand_holds code bag t agenda (Inside left at variables) x fits more less = hand_by bag t (of_variables fits.0 variables) agenda x fits.2 refl more less
+hand_holds code bag t agenda (Inside left at variables) x fits more less =
+    hand_by bag t (of_variables fits.0 variables) agenda x fits.2 refl more less
 hand_holds code bag t agenda Departing x fits more less = hand_by bag t nothing agenda x fits refl more less

@@ -54,8 +54,10 @@ other_thread t u h k ne = ap (λ (b : Bool). b && same_holding h k) (ne_eqb t u 
 
 pub same-true : (r q : Reference) → same r q ≡ true → r ≡ q
 same-true r q e =
-    let holders : r.holder ≡ q.holder = same_holder-true _ _ (and_first (same_holder r.holder q.holder) (r.object == q.object) e) in
-    let objects : r.object ≡ q.object = eqb-true _ _ (and_second (same_holder r.holder q.holder) (r.object == q.object) e) in
+    let holders : r.holder ≡ q.holder =
+    same_holder-true _ _ (and_first (same_holder r.holder q.holder) (r.object == q.object) e) in
+    let objects : r.object ≡ q.object =
+    eqb-true _ _ (and_second (same_holder r.holder q.holder) (r.object == q.object) e) in
     λ i. record { holder = holders i; object = objects i }
 
 pub same-refl : (r : Reference) → same r r ≡ true
@@ -67,13 +69,15 @@ same-other_holder r q other = ap (λ (b : Bool). b && (r.object == q.object)) ot
 
 -- ---- a reference is there, or isn't
 
-count_by-cons : (p : Reference → Bool) (q : Reference) (bag : List Reference) → count_by p (q ∷ bag) ≡ one_if (p q) + count_by p bag
+count_by-cons : (p : Reference → Bool) (q : Reference) (bag : List Reference)
+    → count_by p (q ∷ bag) ≡ one_if (p q) + count_by p bag
 count_by-cons p q bag = sum_by-cons (λ (x : Reference). cond (p x) 1 0) q bag
 
 pub held-cons : (r q : Reference) (bag : List Reference) → held r (q ∷ bag) ≡ one_if (same r q) + held r bag
 held-cons r q bag = count_by-cons (same r) q bag
 
-pub references_to-cons : (object : ℕ) (q : Reference) (bag : List Reference) → references_to object (q ∷ bag) ≡ one_if (q.object == object) + references_to object bag
+pub references_to-cons : (object : ℕ) (q : Reference) (bag : List Reference)
+    → references_to object (q ∷ bag) ≡ one_if (q.object == object) + references_to object bag
 references_to-cons object q bag = count_by-cons (λ (r : Reference). r.object == object) q bag
 
 pub held_has : (r : Reference) (bag : List Reference) → 0 < held r bag → list_any (same r) bag ≡ true
@@ -91,9 +95,11 @@ held-le-references_to r [] = omega arith
 held-le-references_to r (q ∷ qs) =
     elim (same r q) as (λ b. same r q ≡ b → held r (q ∷ qs) ≤ references_to r.object (q ∷ qs)) [
       | true ↦ λ e.
-          let object : (q.object == r.object) ≡ true = eq-eqb _ _ (sym (ap (λ (x : Reference). x.object) (same-true r q e))) in
+          let object : (q.object == r.object) ≡ true =
+          eq-eqb _ _ (sym (ap (λ (x : Reference). x.object) (same-true r q e))) in
           let left : held r (q ∷ qs) ≡ 1 + held r qs = held-cons r q qs ∙ ap (λ (b : Bool). one_if b + held r qs) e in
-          let right : references_to r.object (q ∷ qs) ≡ 1 + references_to r.object qs = references_to-cons r.object q qs ∙ ap (λ (b : Bool). one_if b + references_to r.object qs) object in
+          let right : references_to r.object (q ∷ qs) ≡ 1 + references_to r.object qs =
+          references_to-cons r.object q qs ∙ ap (λ (b : Bool). one_if b + references_to r.object qs) object in
           omega (arith, left, right, held-le-references_to r qs)
       | false ↦ λ e.
           let left : held r (q ∷ qs) ≡ 0 + held r qs = held-cons r q qs ∙ ap (λ (b : Bool). one_if b + held r qs) e in
@@ -103,7 +109,8 @@ held-le-references_to r (q ∷ qs) =
 -- ---- a reference is lost
 
 -- by a test that can't tell equal references apart
-count-without : (p : Reference → Bool) (q : Reference) (bag : List Reference) → list_any (same q) bag ≡ true → count_by p (without q bag) + one_if (p q) ≡ count_by p bag
+count-without : (p : Reference → Bool) (q : Reference) (bag : List Reference) → list_any (same q) bag ≡ true
+    → count_by p (without q bag) + one_if (p q) ≡ count_by p bag
 count-without p q [] has = absurd cc
 count-without p q (x ∷ xs) has =
     elim (same q x) as (λ b. same q x ≡ b → count_by p (without q (x ∷ xs)) + one_if (p q) ≡ count_by p (x ∷ xs)) [
@@ -117,12 +124,14 @@ count-without p q (x ∷ xs) has =
       | false ↦ λ e.
           let kept : without q (x ∷ xs) ≡ x ∷ without q xs = ap (λ (b : Bool). cond b xs (x ∷ without q xs)) e in
           let rest : list_any (same q) xs ≡ true = rw e at has in
-          let left : count_by p (without q (x ∷ xs)) ≡ one_if (p x) + count_by p (without q xs) = ap (count_by p) kept ∙ count_by-cons p x (without q xs) in
+          let left : count_by p (without q (x ∷ xs)) ≡ one_if (p x) + count_by p (without q xs) =
+          ap (count_by p) kept ∙ count_by-cons p x (without q xs) in
           let right : count_by p (x ∷ xs) ≡ one_if (p x) + count_by p xs = count_by-cons p x xs in
           omega (arith, left, right, count-without p q xs rest)
     ] refl
 
-pub held-without : (r q : Reference) (bag : List Reference) → list_any (same q) bag ≡ true → held r (without q bag) + one_if (same r q) ≡ held r bag
+pub held-without : (r q : Reference) (bag : List Reference) → list_any (same q) bag ≡ true
+    → held r (without q bag) + one_if (same r q) ≡ held r bag
 held-without r q bag has = count-without (same r) q bag has
 
 pub references_to-without : (object : ℕ) (q : Reference) (bag : List Reference) → list_any (same q) bag ≡ true
@@ -143,15 +152,21 @@ empty_bag (q ∷ qs) none = absurd (omega (arith, held_itself q qs, none q))
 abbrev pub cell_reference : ℕ → ℕ → ℕ → Reference
 cell_reference x i object = record { holder = ByCell x i; object = object }
 
-not_by_cell : (x : ℕ) (h : Holder) (object : ℕ) (bag : List Reference) → ((i y : ℕ) → held (cell_reference x i y) bag ≡ 0) → 0 < held (record { holder = h; object = object }) bag → is_cell_of x h ≡ false
+not_by_cell : (x : ℕ) (h : Holder) (object : ℕ) (bag : List Reference)
+    → ((i y : ℕ) → held (cell_reference x i y) bag ≡ 0) → 0 < held (record { holder = h; object = object }) bag
+    → is_cell_of x h ≡ false
 not_by_cell x (ByThread t h) object bag none some = refl
 not_by_cell x (ByCell y i) object bag none some =
     ne_eqb y x (λ (e : y ≡ x).
-    let there : 0 < held (cell_reference x i object) bag = subst (λ (z : ℕ). 0 < held (cell_reference z i object) bag) e some in
+    let there : 0 < held (cell_reference x i object) bag =
+    subst (λ (z : ℕ). 0 < held (cell_reference z i object) bag) e some in
     omega (arith, there, none i object))
 
-pub no_cell_holds : (x : ℕ) (bag : List Reference) → ((i object : ℕ) → held (cell_reference x i object) bag ≡ 0) → holds_by_cells x bag ≡ false
+pub no_cell_holds : (x : ℕ) (bag : List Reference) → ((i object : ℕ) → held (cell_reference x i object) bag ≡ 0)
+    → holds_by_cells x bag ≡ false
 no_cell_holds x [] none = refl
 no_cell_holds x (q ∷ qs) none =
-    let first : is_cell_of x q.holder ≡ false = not_by_cell x q.holder q.object (q ∷ qs) none (omega (arith, held_itself q qs)) in
-    ap (λ (b : Bool). b || holds_by_cells x qs) first ∙ no_cell_holds x qs (λ i object. omega (arith, none i object, held-cons (cell_reference x i object) q qs))
+    let first : is_cell_of x q.holder ≡ false =
+    not_by_cell x q.holder q.object (q ∷ qs) none (omega (arith, held_itself q qs)) in
+    ap (λ (b : Bool). b || holds_by_cells x qs) first
+    ∙ no_cell_holds x qs (λ i object. omega (arith, none i object, held-cons (cell_reference x i object) q qs))

@@ -56,12 +56,15 @@ block_within rows n (suc (suc y)) some threads low =
 -- ---- used rows
 
 -- a used row is of its thread's block
-pub used_block : (p : Module) (n : ℕ) (m : Machine) (t : ℕ) (a : Actor) (x : ℕ) → Rule p n m → slice_get m.actors t ≡ Some a → first_row m.rows t ≤ x → x < first_row m.rows t + a.used → block_of m.rows x ≡ t
-used_block p n m zero a x rule found low high = main_block m.rows x (omega (arith, high, (rule.uses 0 a found).main refl))
+pub used_block : (p : Module) (n : ℕ) (m : Machine) (t : ℕ) (a : Actor) (x : ℕ) → Rule p n m
+    → slice_get m.actors t ≡ Some a → first_row m.rows t ≤ x → x < first_row m.rows t + a.used → block_of m.rows x ≡ t
+used_block p n m zero a x rule found low high =
+    main_block m.rows x (omega (arith, high, (rule.uses 0 a found).main refl))
 used_block p n m (suc t) a x rule found low high =
     let few = (rule.uses (suc t) a found).few (omega arith) in
     let shifted : first_row m.rows (suc t) + (x - first_row m.rows (suc t)) ≡ x = omega (arith, low) in
-    ap (block_of m.rows) (sym shifted) ∙ block_at m.rows t (x - first_row m.rows (suc t)) (omega (arith, low, high, few))
+    ap (block_of m.rows) (sym shifted)
+    ∙ block_at m.rows t (x - first_row m.rows (suc t)) (omega (arith, low, high, few))
 
 -- a row that is born is used by its block's thread
 pub record IsUsed (m : Machine) (x : ℕ) : Type 0 where
@@ -76,21 +79,25 @@ born_used p n m x rule born =
       | inl within ↦
           let some = some_within m.actors (block_of m.rows x) (omega (arith, within, rule.threads)) in
           elim (cases_lt x (first_row m.rows (block_of m.rows x) + some.0.used)) [
-            | inl high ↦ record { by = some.0; found = some.1; low = block_low m.rows (block_of m.rows x) x refl; high = high }
-            | inr past ↦ absurd (born ((rule.uses (block_of m.rows x) some.0 some.1).unborn x refl (omega (arith, past))))
+            | inl high ↦
+                record { by = some.0; found = some.1; low = block_low m.rows (block_of m.rows x) x refl; high = high }
+            | inr past ↦
+                absurd (born ((rule.uses (block_of m.rows x) some.0 some.1).unborn x refl (omega (arith, past))))
           ]
       | inr past ↦ absurd (born (rule.no_block x (omega (arith, past))))
     ]
 
 -- how many rows there are, at most
-pub used_low : (p : Module) (n : ℕ) (m : Machine) (t : ℕ) (a : Actor) (x : ℕ) → Rule p n m → slice_get m.actors t ≡ Some a → t < n → x < first_row m.rows t + a.used → x < 2 + (n - 1) * m.rows
+pub used_low : (p : Module) (n : ℕ) (m : Machine) (t : ℕ) (a : Actor) (x : ℕ) → Rule p n m
+    → slice_get m.actors t ≡ Some a → t < n → x < first_row m.rows t + a.used → x < 2 + (n - 1) * m.rows
 used_low p n m zero a x rule found within high = omega (arith, high, (rule.uses 0 a found).main refl)
 used_low p n m (suc t) a x rule found within high =
     let few = (rule.uses (suc t) a found).few (omega arith) in
     let more : suc t * m.rows ≤ (n - 1) * m.rows = mul-le-mul_right m.rows (omega (arith, within)) in
     omega (arith, few, high, more)
 
-pub born_within : (p : Module) (n : ℕ) (m : Machine) (x : ℕ) → Rule p n m → (m.life x ≢ Unborn) → x < 2 + (n - 1) * m.rows
+pub born_within : (p : Module) (n : ℕ) (m : Machine) (x : ℕ) → Rule p n m → (m.life x ≢ Unborn)
+    → x < 2 + (n - 1) * m.rows
 born_within p n m x rule born =
     let used = born_used p n m x rule born in
     let within = slice_get_within m.actors (block_of m.rows x) used.by used.found in
@@ -99,7 +106,8 @@ born_within p n m x rule born =
 pub born_low : (p : Module) (n : ℕ) (m : Machine) (x : ℕ) → Rule p n m → (m.life x ≢ Unborn) → x < 32770
 born_low p n m x rule born =
     let low = born_within p n m x rule born in
-    let most : (n - 1) * m.rows ≤ 32 * 1024 = mul-le-mul {n₂ = 32} {m₂ = 1024} (omega (arith, rule.few_threads)) rule.few_rows in
+    let most : (n - 1) * m.rows ≤ 32 * 1024 =
+    mul-le-mul {n₂ = 32} {m₂ = 1024} (omega (arith, rule.few_threads)) rule.few_rows in
     omega (arith, low, most)
 
 -- ---- the row that is born next
@@ -112,10 +120,13 @@ pub next_block : (m : Machine) (t : ℕ) (a : Actor) (x : ℕ) → IsNext m t a 
 next_block m zero a x next = absurd (omega (arith, next.worker))
 next_block m (suc t) a x next = ap (block_of m.rows) next.row ∙ block_at m.rows t a.used next.room
 
-pub next_unborn : (p : Module) (n : ℕ) (m : Machine) (t : ℕ) (a : Actor) (x : ℕ) → Rule p n m → slice_get m.actors t ≡ Some a → IsNext m t a x → m.life x ≡ Unborn
-next_unborn p n m t a x rule found next = (rule.uses t a found).unborn x (next_block m t a x next) (omega (arith, next.row))
+pub next_unborn : (p : Module) (n : ℕ) (m : Machine) (t : ℕ) (a : Actor) (x : ℕ) → Rule p n m
+    → slice_get m.actors t ≡ Some a → IsNext m t a x → m.life x ≡ Unborn
+next_unborn p n m t a x rule found next =
+    (rule.uses t a found).unborn x (next_block m t a x next) (omega (arith, next.row))
 
-pub next_within : (p : Module) (n : ℕ) (m : Machine) (t : ℕ) (a : Actor) → Rule p n m → slice_get m.actors t ≡ Some a → a.used < block_size m.rows t → next_row m.rows t a.used < 2 + (n - 1) * m.rows
+pub next_within : (p : Module) (n : ℕ) (m : Machine) (t : ℕ) (a : Actor) → Rule p n m → slice_get m.actors t ≡ Some a
+    → a.used < block_size m.rows t → next_row m.rows t a.used < 2 + (n - 1) * m.rows
 next_within p n m zero a rule found room = absurd (omega (arith, room, (rule.uses 0 a found).main refl))
 next_within p n m (suc t) a rule found room =
     let within : suc t < n = omega (arith, slice_get_within m.actors (suc t) a found, rule.threads) in

@@ -1,4 +1,5 @@
--- The words that a duty finds at a row: a shared word has few counts more than its bias, and suits what is done with it.
+-- The words that a duty finds at a row: a shared word has few counts more than its bias, and suits what is done with
+-- it.
 use Rattle.std.proofs.Common.{◌≡◌, ◌≢◌, ℕ, ◌+◌, ◌≤◌, Bool, true, List, refl, ap, ◌∙◌, arith, zero, suc}
 use Rattle.std.specs.Prelude.{◌==◌, ◌&&◌}
 use Rattle.std.proofs.lemmas.Bool.{eq-eqb}
@@ -53,19 +54,24 @@ near_bias p n m x rule few alive =
 
 -- ---- what a duty finds
 
-release_suits : (p : Module) (n : ℕ) (m : Machine) (t : ℕ) (a : Actor) (x : ℕ) (h : Holding) (rest : List Duty) → AtDuty p n m t a (ReleaseLoad x h) rest → (a.status ≡ Gone → ⊥)
+release_suits : (p : Module) (n : ℕ) (m : Machine) (t : ℕ) (a : Actor) (x : ℕ) (h : Holding) (rest : List Duty)
+    → AtDuty p n m t a (ReleaseLoad x h) rest → (a.status ≡ Gone → ⊥)
     → is_running a.status ≡ true → owner_part (m.memory (Local x)) ≡ t + 1 → 1 ≤ local_part (m.memory (Local x))
 release_suits p n m t a zero h rest here alive runs owner = omega (arith, here.rule.none_word)
 release_suits p n m t a (suc y) h rest here alive runs owner =
     let x = suc y in
     let living = release_alive p n m t a x h rest (omega arith) here in
     let counts : counts_locally t (is_running a.status) (m.memory (Local x)) ≡ true =
-    ap (λ (b : Bool). b && (owner_part (m.memory (Local x)) == t + 1)) runs ∙ eq-eqb (owner_part (m.memory (Local x))) (t + 1) owner in
-    count_above p n m t x a here.rule here.found (counts_owner m t a x counts living) (weight_here p n m t x a (ReleaseLoad x h) rest here alive refl) living
+    ap (λ (b : Bool). b && (owner_part (m.memory (Local x)) == t + 1)) runs
+    ∙ eq-eqb (owner_part (m.memory (Local x))) (t + 1) owner in
+    count_above p n m t x a here.rule here.found (counts_owner m t a x counts living)
+    (weight_here p n m t x a (ReleaseLoad x h) rest here alive refl) living
 
-pub duty_suits : (p : Module) (n : ℕ) (m : Machine) (t : ℕ) (a : Actor) (d : Duty) (rest : List Duty) (count : ℕ) → AtDuty p n m t a d rest → (a.status ≡ Gone → ⊥) → n ≤ 33
+pub duty_suits : (p : Module) (n : ℕ) (m : Machine) (t : ℕ) (a : Actor) (d : Duty) (rest : List Duty) (count : ℕ)
+    → AtDuty p n m t a d rest → (a.status ≡ Gone → ⊥) → n ≤ 33
     → Suits t (is_running a.status) count d (m.memory (address_of m.rows t a.head d))
-duty_suits p n m t a (RetainStore x h w) rest count here alive few = let (pos, backed, owns, same, some, low) = head_of p n m t a (RetainStore x h w) rest here in low
+duty_suits p n m t a (RetainStore x h w) rest count here alive few =
+    let (pos, backed, owns, same, some, low) = head_of p n m t a (RetainStore x h w) rest here in low
 duty_suits p n m t a (RetainAdd x h) rest count here alive few =
     let fits = head_of p n m t a (RetainAdd x h) rest here in
     let near = near_bias p n m x here.rule few (alive_backed p n m t x here.rule fits.0 fits.1) in
@@ -74,14 +80,18 @@ duty_suits p n m t a (ReleaseLoad x h) rest count here alive few = release_suits
 duty_suits p n m t a (ReleaseStore x w) rest count here alive few = (head_of p n m t a (ReleaseStore x w) rest here).3
 duty_suits p n m t a (SharedExchange x r w) rest count here alive few = λ same.
     let near = near_bias p n m x here.rule few (exchange_alive p n m t a x w r rest here) in
-    let word : biased_part (m.memory (Shared x)) ≡ biased_part w = ap biased_part same in
-    (record { low = omega (arith, near.high, word); state = λ e. near.state (ap phase_part same ∙ e) }, omega (arith, near.some, word))
+    let word : biased_part (m.memory (Shared x)) ≡ biased_part w = ap biased_part same in (
+      record { low = omega (arith, near.high, word); state = λ e. near.state (ap phase_part same ∙ e) },
+      omega (arith, near.some, word),
+    )
 duty_suits p n m t a (MergeExchange x c w) rest count here alive few = (
   (head_of p n m t a (MergeExchange x c w) rest here).1,
   λ same.
       let near = near_bias p n m x here.rule few (merge_alive p n m t a x c w rest here) in
-      let word : biased_part (m.memory (Shared x)) ≡ biased_part w = ap biased_part same in
-      (record { low = omega (arith, near.high, word); state = λ e. near.state (ap phase_part same ∙ e) }, omega (arith, near.high, word, carried_is p n m t a x c w rest here)),
+      let word : biased_part (m.memory (Shared x)) ≡ biased_part w = ap biased_part same in (
+        record { low = omega (arith, near.high, word); state = λ e. near.state (ap phase_part same ∙ e) },
+        omega (arith, near.high, word, carried_is p n m t a x c w rest here),
+      ),
 )
 duty_suits p n m t a (SettleCell x i k) rest count here alive few = omega (arith, here.rule.cells x i)
 duty_suits p n m t a _ rest count here alive few = tt

@@ -48,9 +48,12 @@ ne_true true wrong = absurd (wrong refl)
 ne_true false wrong = refl
 
 abbrev ClosesSo : Machine → Machine → Type 0
-ClosesSo m new = (new.plain.closed ≡ m.plain.closed) ⊎ ((row : ℕ) × (is_among row m.plain.closed ≡ false) × (new.plain.closed ≡ m.plain.closed ++ row ∷ []))
+ClosesSo m new =
+    (new.plain.closed ≡ m.plain.closed)
+    ⊎ ((row : ℕ) × (is_among row m.plain.closed ≡ false) × (new.plain.closed ≡ m.plain.closed ++ row ∷ []))
 
-ends_open : (p : Module) (n : ℕ) (m : Machine) (t : ℕ) (a : Actor) (d : Duty) (rest : List Duty) (row : ℕ) → AtDuty p n m t a d rest → ended_row d ≡ Some row → is_among row m.plain.closed ≡ true → ⊥
+ends_open : (p : Module) (n : ℕ) (m : Machine) (t : ℕ) (a : Actor) (d : Duty) (rest : List Duty) (row : ℕ)
+    → AtDuty p n m t a d rest → ended_row d ≡ Some row → is_among row m.plain.closed ≡ true → ⊥
 ends_open p n m t a d rest row here ended was =
     elim (life_step p n m t a d rest row here) [
       | GoesOn now other ↦ other ended
@@ -59,7 +62,8 @@ ends_open p n m t a d rest row here ended was =
       | IsBorn now unborn above born none ↦ unborn_not_closed (sym unborn ∙ here.rule.closed_is row was)
     ]
 
-closes_at_duty : (p : Module) (n : ℕ) (m : Machine) (t : ℕ) (a : Actor) (d : Duty) (rest : List Duty) → AtDuty p n m t a d rest → ClosesSo m (done_by m t a d rest)
+closes_at_duty : (p : Module) (n : ℕ) (m : Machine) (t : ℕ) (a : Actor) (d : Duty) (rest : List Duty)
+    → AtDuty p n m t a d rest → ClosesSo m (done_by m t a d rest)
 closes_at_duty p n m t a d rest here =
     elim (closed_step m t d (m.memory (address_of m.rows t a.head d))) [
       | SameClosed none same ↦ inl same
@@ -92,7 +96,12 @@ not_counted x (y ∷ ys) apart =
       | inl same ↦ absurd (apart 0 0 (omega arith) (sym same.1))
       | inr other ↦
           let none : one_if (y == x) ≡ 0 = ap one_if other.0 in
-          omega (arith, counted-cons x y ys, none, not_counted x ys (λ j d within. apart (suc j) d (omega (arith, within))))
+          omega (
+            arith,
+            counted-cons x y ys,
+            none,
+            not_counted x ys (λ j d within. apart (suc j) d (omega (arith, within))),
+          )
     ]
 
 once_counted : (x : ℕ) (ys : List ℕ) → AllPairs (λ z w. z ≢ w) ys → counted x ys ≤ 1
@@ -101,11 +110,18 @@ once_counted x (y ∷ ys) once =
     elim (eqb_tells y x) [
       | inl same ↦
           let one : one_if (y == x) ≡ 1 = ap one_if same.0 in
-          let apart : (j d : ℕ) → j < length ys → x ≢ get_or ys j d = λ j d within e. once 0 (suc j) d (omega arith) (omega (arith, within)) (same.1 ∙ e) in
+          let apart : (j d : ℕ) → j < length ys
+          → x ≢ get_or ys j d = λ j d within e. once 0 (suc j) d (omega arith) (omega (arith, within)) (same.1 ∙ e)
+          in
           omega (arith, counted-cons x y ys, one, not_counted x ys apart)
       | inr other ↦
           let none : one_if (y == x) ≡ 0 = ap one_if other.0 in
-          omega (arith, counted-cons x y ys, none, once_counted x ys (λ i j d lt within. once (suc i) (suc j) d (omega (arith, lt)) (omega (arith, within))))
+          omega (
+            arith,
+            counted-cons x y ys,
+            none,
+            once_counted x ys (λ i j d lt within. once (suc i) (suc j) d (omega (arith, lt)) (omega (arith, within))),
+          )
     ]
 
 pub closed_once : (p : Module) (n : ℕ) (m : Machine) → Whole p n m → ClosedOnce m

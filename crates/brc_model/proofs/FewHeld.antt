@@ -38,7 +38,9 @@ or_first true b e = refl
 or_first false b e = absurd cc
 
 -- one reference more, and each key counts it if it is the same
-sum_more : (keys bag : List Reference) (q : Reference) → sum_by (λ (k : Reference). held k (q ∷ bag)) keys ≡ sum_by (λ (k : Reference). one_if (same k q)) keys + sum_by (λ (k : Reference). held k bag) keys
+sum_more : (keys bag : List Reference) (q : Reference)
+    → sum_by (λ (k : Reference). held k (q ∷ bag)) keys ≡ sum_by (λ (k : Reference). one_if (same k q)) keys
+    + sum_by (λ (k : Reference). held k bag) keys
 sum_more [] bag q = refl
 sum_more (k ∷ keys) bag q =
     let all = sum_by-cons (λ (k : Reference). held k (q ∷ bag)) k keys in
@@ -46,7 +48,8 @@ sum_more (k ∷ keys) bag q =
     let old = sum_by-cons (λ (k : Reference). held k bag) k keys in
     omega (arith, all, one, old, held-cons k q bag, sum_more keys bag q)
 
-some_same : (keys : List Reference) (q : Reference) → list_any (same q) keys ≡ true → 1 ≤ sum_by (λ (k : Reference). one_if (same k q)) keys
+some_same : (keys : List Reference) (q : Reference) → list_any (same q) keys ≡ true
+    → 1 ≤ sum_by (λ (k : Reference). one_if (same k q)) keys
 some_same [] q e = absurd cc
 some_same (k ∷ keys) q e =
     let all = sum_by-cons (λ (k : Reference). one_if (same k q)) k keys in
@@ -55,17 +58,23 @@ some_same (k ∷ keys) q e =
           let back : same k q ≡ true = subst (λ (r : Reference). same r q ≡ true) (same-true q k is) (same-refl q) in
           let one : one_if (same k q) ≡ 1 = ap one_if back in
           omega (arith, all, one)
-      | false ↦ λ is. let later = some_same keys q (sym (ap (λ (b : Bool). b || list_any (same q) keys) is) ∙ e) in omega (arith, all, later)
+      | false ↦
+          λ is. let later =
+          some_same keys q (sym (ap (λ (b : Bool). b || list_any (same q) keys) is) ∙ e) in omega
+          (arith, all, later)
     ] refl
 
-covered : (keys bag : List Reference) (x : ℕ) → Covers keys bag x → references_to x bag ≤ sum_by (λ (k : Reference). held k bag) keys
+covered : (keys bag : List Reference) (x : ℕ) → Covers keys bag x
+    → references_to x bag ≤ sum_by (λ (k : Reference). held k bag) keys
 covered keys [] x covers = omega arith
 covered keys (q ∷ bag) x covers =
-    let smaller : Covers keys bag x = record { each = λ r is some. covers.each r is (omega (arith, held-cons r q bag, some)) } in
+    let smaller : Covers keys bag x =
+    record { each = λ r is some. covers.each r is (omega (arith, held-cons r q bag, some)) } in
     let rest = covered keys bag x smaller in
     elim (eqb_tells q.object x) [
       | inl this ↦
-          let is_held : held q (q ∷ bag) ≡ 1 + held q bag = held-cons q q bag ∙ ap (λ (b : Bool). one_if b + held q bag) (same-refl q) in
+          let is_held : held q (q ∷ bag) ≡ 1 + held q bag =
+          held-cons q q bag ∙ ap (λ (b : Bool). one_if b + held q bag) (same-refl q) in
           let one = some_same keys q (covers.each q this.1 (omega (arith, is_held))) in
           let is_one : one_if (q.object == x) ≡ 1 = ap one_if this.0 in
           omega (arith, references_to-cons x q bag, sum_more keys bag q, rest, one, is_one)
@@ -74,9 +83,11 @@ covered keys (q ∷ bag) x covers =
           omega (arith, references_to-cons x q bag, sum_more keys bag q, rest, none)
     ]
 
-twice_each : (keys bag : List Reference) → ((k : Reference) → held k bag ≤ 2) → sum_by (λ (k : Reference). held k bag) keys ≤ 2 * length keys
+twice_each : (keys bag : List Reference) → ((k : Reference) → held k bag ≤ 2)
+    → sum_by (λ (k : Reference). held k bag) keys ≤ 2 * length keys
 twice_each [] bag twice = omega arith
-twice_each (k ∷ keys) bag twice = omega (arith, sum_by-cons (λ (k : Reference). held k bag) k keys, twice k, twice_each keys bag twice)
+twice_each (k ∷ keys) bag twice =
+    omega (arith, sum_by-cons (λ (k : Reference). held k bag) k keys, twice k, twice_each keys bag twice)
 
 -- ---- the ways to hold an object
 
@@ -88,7 +99,8 @@ variables_of t x (suc v) tail = reference_of t (ByVariable v) x ∷ variables_of
 -- for each thread: one way of its own, in the hand, as the caller, and by the sixteen variables
 abbrev ways : (ℕ → Holding) → ℕ → ℕ → List Reference
 ways own x zero = []
-ways own x (suc t) = reference_of t (own t) x ∷ reference_of t InHand x ∷ reference_of t AsCaller x ∷ variables_of t x 16 (ways own x t)
+ways own x (suc t) =
+    reference_of t (own t) x ∷ reference_of t InHand x ∷ reference_of t AsCaller x ∷ variables_of t x 16 (ways own x t)
 
 variables_long : (t x v : ℕ) (tail : List Reference) → length (variables_of t x v tail) ≡ v + length tail
 variables_long t x zero tail = omega arith
@@ -100,56 +112,74 @@ ways_long own x (suc t) =
     let rest = ways own x t in
     omega (arith, variables_long t x 16 rest, ways_long own x t)
 
-among_tail : (r : Reference) (t x v : ℕ) (tail : List Reference) → list_any (same r) tail ≡ true → list_any (same r) (variables_of t x v tail) ≡ true
+among_tail : (r : Reference) (t x v : ℕ) (tail : List Reference) → list_any (same r) tail ≡ true
+    → list_any (same r) (variables_of t x v tail) ≡ true
 among_tail r t x zero tail e = e
 among_tail r t x (suc v) tail e = or_second (same r (reference_of t (ByVariable v) x)) _ (among_tail r t x v tail e)
 
-among_variables : (t x k v : ℕ) (tail : List Reference) → v < k → list_any (same (reference_of t (ByVariable v) x)) (variables_of t x k tail) ≡ true
+among_variables : (t x k v : ℕ) (tail : List Reference) → v < k
+    → list_any (same (reference_of t (ByVariable v) x)) (variables_of t x k tail) ≡ true
 among_variables t x zero v tail low = absurd (omega (arith, low))
 among_variables t x (suc k) v tail low =
     let r = reference_of t (ByVariable v) x in
     elim (eqb_tells v k) [
       | inl this ↦
-          let is : same r (reference_of t (ByVariable k) x) ≡ true = subst (λ (w : ℕ). same r (reference_of t (ByVariable w) x) ≡ true) this.1 (same-refl r) in
+          let is : same r (reference_of t (ByVariable k) x) ≡ true =
+          subst (λ (w : ℕ). same r (reference_of t (ByVariable w) x) ≡ true) this.1 (same-refl r) in
           or_first (same r (reference_of t (ByVariable k) x)) _ is
       | inr other ↦
-          let below : v < k = elim (cases_lt v k) [ inl lt ↦ lt | inr past ↦ absurd (other.1 (omega (arith, past, low))) ] in
+          let below : v < k = elim (cases_lt v k) [
+            | inl lt ↦ lt
+            | inr past ↦ absurd (other.1 (omega (arith, past, low)))
+          ] in
           or_second (same r (reference_of t (ByVariable k) x)) _ (among_variables t x k v tail below)
     ]
 
-among_later : (own : ℕ → Holding) (r : Reference) (x t : ℕ) → list_any (same r) (ways own x t) ≡ true → list_any (same r) (ways own x (suc t)) ≡ true
+among_later : (own : ℕ → Holding) (r : Reference) (x t : ℕ) → list_any (same r) (ways own x t) ≡ true
+    → list_any (same r) (ways own x (suc t)) ≡ true
 among_later own r x t e =
     let rest = among_tail r t x 16 (ways own x t) e in
-    or_second (same r (reference_of t (own t) x)) _ (or_second (same r (reference_of t InHand x)) _ (or_second (same r (reference_of t AsCaller x)) _ rest))
+    or_second (same r (reference_of t (own t) x)) _
+    (or_second (same r (reference_of t InHand x)) _ (or_second (same r (reference_of t AsCaller x)) _ rest))
 
-among_own : (own : ℕ → Holding) (x t : ℕ) (h : Holding) → h ≡ own t → list_any (same (reference_of t h x)) (ways own x (suc t)) ≡ true
+among_own : (own : ℕ → Holding) (x t : ℕ) (h : Holding) → h ≡ own t
+    → list_any (same (reference_of t h x)) (ways own x (suc t)) ≡ true
 among_own own x t h e =
     let r = reference_of t h x in
-    or_first (same r (reference_of t (own t) x)) _ (subst (λ (k : Holding). same r (reference_of t k x) ≡ true) e (same-refl r))
+    or_first (same r (reference_of t (own t) x)) _
+    (subst (λ (k : Holding). same r (reference_of t k x) ≡ true) e (same-refl r))
 
 abbrev is_low : Holding → Type 0
 is_low (ByVariable v) = v < 16
 is_low AsCaller = Unit {0}
 is_low InHand = Unit {0}
 
-among_low : (own : ℕ → Holding) (x t : ℕ) (h : Holding) → is_low h → list_any (same (reference_of t h x)) (ways own x (suc t)) ≡ true
+among_low : (own : ℕ → Holding) (x t : ℕ) (h : Holding) → is_low h
+    → list_any (same (reference_of t h x)) (ways own x (suc t)) ≡ true
 among_low own x t (ByVariable v) low =
     let r = reference_of t (ByVariable v) x in
-    or_second (same r (reference_of t (own t) x)) _ (or_second (same r (reference_of t InHand x)) _ (or_second (same r (reference_of t AsCaller x)) _ (among_variables t x 16 v (ways own x t) low)))
+    or_second (same r (reference_of t (own t) x)) _
+    (or_second (same r (reference_of t InHand x)) _
+    (or_second (same r (reference_of t AsCaller x)) _ (among_variables t x 16 v (ways own x t) low)))
 among_low own x t AsCaller low =
     let r = reference_of t AsCaller x in
-    or_second (same r (reference_of t (own t) x)) _ (or_second (same r (reference_of t InHand x)) _ (or_first (same r (reference_of t AsCaller x)) _ (same-refl r)))
+    or_second (same r (reference_of t (own t) x)) _
+    (or_second (same r (reference_of t InHand x)) _ (or_first (same r (reference_of t AsCaller x)) _ (same-refl r)))
 among_low own x t InHand low =
     let r = reference_of t InHand x in
     or_second (same r (reference_of t (own t) x)) _ (or_first (same r (reference_of t InHand x)) _ (same-refl r))
 
-among_all : (own : ℕ → Holding) (r : Reference) (x t n : ℕ) → t < n → list_any (same r) (ways own x (suc t)) ≡ true → list_any (same r) (ways own x n) ≡ true
+among_all : (own : ℕ → Holding) (r : Reference) (x t n : ℕ) → t < n → list_any (same r) (ways own x (suc t)) ≡ true
+    → list_any (same r) (ways own x n) ≡ true
 among_all own r x t zero low e = absurd (omega (arith, low))
 among_all own r x t (suc n) low e =
     elim (eqb_tells t n) [
       | inl this ↦ subst (λ (u : ℕ). list_any (same r) (ways own x (suc u)) ≡ true) this.1 e
       | inr other ↦
-          let below : t < n = elim (cases_lt t n) [ inl lt ↦ lt | inr past ↦ absurd (other.1 (omega (arith, past, low))) ] in
+          let below : t < n = elim (cases_lt t n) [
+            | inl lt ↦ lt
+            | inr past ↦ absurd (other.1 (omega (arith, past, low)))
+          ] in
           among_later own r x n (among_all own r x t n below e)
     ]
 
@@ -173,7 +203,8 @@ root_low (ByVariable v) object e = absurd cc
 root_low AsCaller object e = tt
 root_low InHand object e = tt
 
-place_says : (code : List Instr) (bag : List Reference) (t : ℕ) (agenda : List Duty) (place : Place) → PlaceFits code bag t agenda place → SaysAt bag t agenda
+place_says : (code : List Instr) (bag : List Reference) (t : ℕ) (agenda : List Duty) (place : Place)
+    → PlaceFits code bag t agenda place → SaysAt bag t agenda
 place_says code bag t agenda (Standing left) fits = record { what = the_root; holds = fits; low = root_low }
 place_says code bag t agenda (Inside left at variables) fits = record {
   what = of_variables fits.0 variables;
@@ -191,7 +222,8 @@ abbrev given_up : List Duty → Holding
 given_up (ReleaseLoad x h ∷ rest) = h
 given_up _ = InHand
 
-extra_given : (d : Duty) (rest : List Duty) (k : Holding) (object : ℕ) → extra d k object ≡ true → k ≡ given_up (d ∷ rest)
+extra_given : (d : Duty) (rest : List Duty) (k : Holding) (object : ℕ) → extra d k object ≡ true
+    → k ≡ given_up (d ∷ rest)
 extra_given (ReleaseLoad x h) rest k object e = sym (same_holding-true h k (and_first _ _ e))
 extra_given (ReleaseStore x w) rest k object e = sym (same_holding-true InHand k (and_first _ _ e))
 extra_given (SharedLoad x Own) rest k object e = sym (same_holding-true InHand k (and_first _ _ e))
@@ -209,21 +241,31 @@ agenda_at _ = []
 abbrev own_way : Machine → ℕ → Holding
 own_way m t = given_up (agenda_at (slice_get m.actors t))
 
-says_at : (p : Module) (n : ℕ) (m : Machine) (t : ℕ) (a : Actor) → Rule p n m → slice_get m.actors t ≡ Some a → SaysAt m.plain.references t a.agenda
-says_at p n m t a rule found = place_says (code_of (slice_get p.functions a.function)) m.plain.references t a.agenda a.place (rule.each t a found).0.placed
+says_at : (p : Module) (n : ℕ) (m : Machine) (t : ℕ) (a : Actor) → Rule p n m → slice_get m.actors t ≡ Some a
+    → SaysAt m.plain.references t a.agenda
+says_at p n m t a rule found =
+    place_says (code_of (slice_get p.functions a.function)) m.plain.references t a.agenda a.place
+    (rule.each t a found).0.placed
 
-held_twice : (p : Module) (n : ℕ) (m : Machine) (h : Holder) (object : ℕ) → Rule p n m → held (record { holder = h; object = object }) m.plain.references ≤ 2
+held_twice : (p : Module) (n : ℕ) (m : Machine) (h : Holder) (object : ℕ) → Rule p n m
+    → held (record { holder = h; object = object }) m.plain.references ≤ 2
 held_twice p n m (ByCell x i) object rule = omega (arith, rule.cells_hold x i object)
 held_twice p n m (ByThread t k) object rule =
     elim (slice_get_cases m.actors t).1 [
       | inl found ↦
           let a = found.0 in
           let says = says_at p n m t a rule found.2 in
-          omega (arith, says.holds.each k object, one_if_low (says.what k object), one_if_low (extra_of a.agenda k object))
+          omega (
+            arith,
+            says.holds.each k object,
+            one_if_low (says.what k object),
+            one_if_low (extra_of a.agenda k object),
+          )
       | inr past ↦ omega (arith, rule.beyond t (omega (arith, past.0, rule.threads)) k object)
     ]
 
-held_way : (p : Module) (n : ℕ) (m : Machine) (h : Holder) (object : ℕ) → Rule p n m → 0 < held (record { holder = h; object = object }) m.plain.references
+held_way : (p : Module) (n : ℕ) (m : Machine) (h : Holder) (object : ℕ) → Rule p n m
+    → 0 < held (record { holder = h; object = object }) m.plain.references
     → list_any (same (record { holder = h; object = object })) (ways (own_way m) object n) ≡ true
 held_way p n m (ByCell x i) object rule some = absurd (omega (arith, rule.cells_hold x i object, some))
 held_way p n m (ByThread t k) object rule some =
@@ -234,12 +276,14 @@ held_way p n m (ByThread t k) object rule some =
           let says = says_at p n m t a rule found.2 in
           let within : t < n = omega (arith, found.1, rule.threads) in
           let at_thread : list_any (same r) (ways (own_way m) object (suc t)) ≡ true =
-          elim (extra_of a.agenda k object) as (λ b. extra_of a.agenda k object ≡ b → list_any (same r) (ways (own_way m) object (suc t)) ≡ true) [
+          elim (extra_of a.agenda k object) as
+          (λ b. extra_of a.agenda k object ≡ b → list_any (same r) (ways (own_way m) object (suc t)) ≡ true) [
             | true ↦ λ e.
                 let own : own_way m t ≡ given_up a.agenda = ap (λ (o : Option Actor). given_up (agenda_at o)) found.2 in
                 among_own (own_way m) object t k (extra_given_of a.agenda k object e ∙ sym own)
             | false ↦ λ e.
-                let said : says.what k object ≡ true = one_if_some _ (extra_of a.agenda k object) (omega (arith, says.holds.each k object, some)) e in
+                let said : says.what k object ≡ true =
+                one_if_some _ (extra_of a.agenda k object) (omega (arith, says.holds.each k object, some)) e in
                 among_low (own_way m) object t k (says.low k object said)
           ] refl in
           among_all (own_way m) r object t n within at_thread
@@ -248,8 +292,18 @@ held_way p n m (ByThread t k) object rule some =
 
 -- ---- all references to an object
 
-pub references_few : (p : Module) (n : ℕ) (m : Machine) (x : ℕ) → Rule p n m → references_to x m.plain.references ≤ 38 * n
+pub references_few : (p : Module) (n : ℕ) (m : Machine) (x : ℕ) → Rule p n m
+    → references_to x m.plain.references ≤ 38 * n
 references_few p n m x rule =
     let keys = ways (own_way m) x n in
-    let covers : Covers keys m.plain.references x = record { each = λ r is some. subst (λ (y : ℕ). list_any (same r) (ways (own_way m) y n) ≡ true) is (held_way p n m r.holder r.object rule some) } in
-    omega (arith, covered keys m.plain.references x covers, twice_each keys m.plain.references (λ r. held_twice p n m r.holder r.object rule), ways_long (own_way m) x n)
+    let covers : Covers keys m.plain.references x =
+    record {
+      each = λ r is some. subst (λ (y : ℕ). list_any (same r) (ways (own_way m) y n) ≡ true) is
+          (held_way p n m r.holder r.object rule some);
+    } in
+    omega (
+      arith,
+      covered keys m.plain.references x covers,
+      twice_each keys m.plain.references (λ r. held_twice p n m r.holder r.object rule),
+      ways_long (own_way m) x n,
+    )

@@ -32,24 +32,35 @@ use Rattle.brc_model.specs.Plain.{root_row, is_among}
 
 -- ---- the code of each function
 
-function_fits : (m : Module) (i : ℕ) → IsModule m → IsAcceptable m → i < length m.functions → IsAcceptableCode (code_of (slice_get m.functions i)) × AreInstructions (code_of (slice_get m.functions i))
+function_fits : (m : Module) (i : ℕ) → IsModule m → IsAcceptable m → i < length m.functions
+    → IsAcceptableCode (code_of (slice_get m.functions i)) × AreInstructions (code_of (slice_get m.functions i))
 function_fits m i fits accepted within =
     let good = all_at (λ (f : Function). IsAcceptableCode f.code) m.functions i accepted within in
     let form = all_of_found IsFunction m.functions i good.found fits.functions good.is_there in
     let P : Option Function → Type 0 = λ o. IsAcceptableCode (code_of o) × AreInstructions (code_of o) in
-    subst P (sym good.is_there) (good.holds, record { forward = form.targets; each = λ at instr found. all_of_found IsInstruction good.found.code at instr form.code found })
+    subst P (sym good.is_there) (
+      good.holds,
+      record {
+        forward = form.targets;
+        each =
+            λ at instr found. all_of_found IsInstruction good.found.code at instr form.code found;
+      },
+    )
 
 -- ---- the rows
 
 -- nobody has anything to do
 no_weight : (f : Duty → ℕ) (calls : List Call) → weight f (map worker_actor calls) ≡ 0
 no_weight f [] = refl
-no_weight f (c ∷ calls) = omega (arith, sum_by-cons (agenda_weight f) (worker_actor c) (map worker_actor calls), no_weight f calls)
+no_weight f (c ∷ calls) =
+    omega (arith, sum_by-cons (agenda_weight f) (worker_actor c) (map worker_actor calls), no_weight f calls)
 
 first_weight : (f : Duty → ℕ) (calls : List Call) → weight f (main_actor ∷ map worker_actor calls) ≡ 0
-first_weight f calls = omega (arith, sum_by-cons (agenda_weight f) main_actor (map worker_actor calls), no_weight f calls)
+first_weight f calls =
+    omega (arith, sum_by-cons (agenda_weight f) main_actor (map worker_actor calls), no_weight f calls)
 
-first_row_rule : (m : Module) (rows : ℕ) (calls : List Call) → AreCalls m calls → (x : ℕ) → 0 < x → RowRule (block_of rows x) (first_life x) (numbers_of (first_machine m rows calls) x)
+first_row_rule : (m : Module) (rows : ℕ) (calls : List Call) → AreCalls m calls → (x : ℕ) → 0 < x
+    → RowRule (block_of rows x) (first_life x) (numbers_of (first_machine m rows calls) x)
 first_row_rule m rows calls are_calls zero pos = absurd (omega arith)
 first_row_rule m rows calls are_calls (suc zero) pos =
     let w = 1 + length calls in
@@ -84,8 +95,10 @@ none_dies (suc (suc x)) t = refl
 first_chain : (m : Module) (rows : ℕ) (calls : List Call) (t : ℕ) → ChainFits (first_machine m rows calls) t 0 []
 first_chain m rows calls t = record { chained = []; linked = refl; once = λ x. sym (ap one_if (none_dies x t)) }
 
-caller_holds : (calls : List Call) (t : ℕ) → t < 1 + length calls → HoldsAt (callers_below (1 + length calls)) t the_root []
-caller_holds calls t below = record { each = λ k object. omega (arith, callers_hold (1 + length calls) t k object below) }
+caller_holds : (calls : List Call) (t : ℕ) → t < 1 + length calls
+    → HoldsAt (callers_below (1 + length calls)) t the_root []
+caller_holds calls t below =
+    record { each = λ k object. omega (arith, callers_hold (1 + length calls) t k object below) }
 
 thread_word : (workers t : ℕ) → t ≤ workers → first_memory workers (ThreadWord t) ≡ 1
 thread_word workers t le = ap (λ (b : Bool). cond b 1 0) (Rattle.std.proofs.lemmas.Bool.le-leb t workers le)
@@ -93,11 +106,14 @@ thread_word workers t le = ap (λ (b : Bool). cond b 1 0) (Rattle.std.proofs.lem
 standing_stays : (left : ℕ) → Standing left ≢ Departing
 standing_stays left e = cc
 
-first_actor : (m : Module) (rows : ℕ) (calls : List Call) (t : ℕ) (a : Actor) → IsModule m → IsAcceptable m → AreCalls m calls → slice_get (main_actor ∷ map worker_actor calls) t ≡ Some a
+first_actor : (m : Module) (rows : ℕ) (calls : List Call) (t : ℕ) (a : Actor) → IsModule m → IsAcceptable m
+    → AreCalls m calls → slice_get (main_actor ∷ map worker_actor calls) t ≡ Some a
     → ActorFits m (first_machine m rows calls) t a × AgendaFits rows t a a.status × HandedOnce a.agenda
 first_actor m rows calls zero a fits accepted are_calls is =
     let function = function_fits m 0 fits accepted fits.some in
-    let P : Actor → Type 0 = λ x. ActorFits m (first_machine m rows calls) 0 x × AgendaFits rows 0 x x.status × HandedOnce x.agenda in
+    let P : Actor
+    → Type 0 = λ x. ActorFits m (first_machine m rows calls) 0 x × AgendaFits rows 0 x x.status
+    × HandedOnce x.agenda in
     subst P (some_is main_actor a is) (
       record {
         accepted = function.0;
@@ -115,7 +131,9 @@ first_actor m rows calls (suc t) a fits accepted are_calls is =
     let good = all_of_found (IsCall m) calls t call.source are_calls.each call.is_there in
     let function = function_fits m call.source.function fits accepted good.0 in
     let within : t < length calls = slice_get_within calls t call.source call.is_there in
-    let P : Actor → Type 0 = λ x. ActorFits m (first_machine m rows calls) (suc t) x × AgendaFits rows (suc t) x x.status × HandedOnce x.agenda in
+    let P : Actor
+    → Type 0 = λ x. ActorFits m (first_machine m rows calls) (suc t) x × AgendaFits rows (suc t) x x.status
+    × HandedOnce x.agenda in
     subst P call.is_image (
       record {
         accepted = function.0;
@@ -162,9 +180,13 @@ worker_uses rows t = record {
   unborn = λ x block past. rest_unborn x (omega (arith, past));
 }
 
-first_uses : (rows : ℕ) (calls : List Call) (t : ℕ) (a : Actor) → slice_get (main_actor ∷ map worker_actor calls) t ≡ Some a → UsesFit rows first_life t a.used
-first_uses rows calls zero a is = subst (λ (b : Actor). UsesFit rows first_life 0 b.used) (some_is main_actor a is) (main_uses rows)
-first_uses rows calls (suc t) a is = let call = slice_get-map worker_actor calls t a is in subst (λ (b : Actor). UsesFit rows first_life (suc t) b.used) call.is_image (worker_uses rows t)
+first_uses : (rows : ℕ) (calls : List Call) (t : ℕ) (a : Actor)
+    → slice_get (main_actor ∷ map worker_actor calls) t ≡ Some a → UsesFit rows first_life t a.used
+first_uses rows calls zero a is =
+    subst (λ (b : Actor). UsesFit rows first_life 0 b.used) (some_is main_actor a is) (main_uses rows)
+first_uses rows calls (suc t) a is =
+    let call = slice_get-map worker_actor calls t a is in
+    subst (λ (b : Actor). UsesFit rows first_life (suc t) b.used) call.is_image (worker_uses rows t)
 
 -- a block that isn't main's has none of the first rows
 far_unborn : (rows n x : ℕ) → 0 < n → n ≤ block_of rows x → first_life x ≡ Unborn
@@ -195,7 +217,8 @@ first_kinds_said workers (suc (suc x)) born = absurd (born refl)
 one_root : (x : ℕ) → count_by (λ y. y == x) (root_row ∷ []) ≤ 1
 one_root x = omega (arith, sum_by-cons (λ (y : ℕ). cond (y == x) 1 0) root_row [], one_at_most (root_row == x))
 
-pub first_rule : (m : Module) (rows : ℕ) (calls : List Call) → IsModule m → IsAcceptable m → AreCalls m calls → 0 < rows → rows ≤ 1024 → Rule m (1 + length calls) (first_machine m rows calls)
+pub first_rule : (m : Module) (rows : ℕ) (calls : List Call) → IsModule m → IsAcceptable m → AreCalls m calls → 0 < rows
+    → rows ≤ 1024 → Rule m (1 + length calls) (first_machine m rows calls)
 first_rule m rows calls fits accepted are_calls some_rows few_rows = record {
   functions = refl;
   threads = omega (arith, length-map calls worker_actor);

@@ -42,21 +42,30 @@ no_end x e = cc
 chained_low : (t head : ℕ) → t < 33 → head < 4294967296 → dying_word t head ≢ closed_word
 chained_low t head few low e = absurd (omega (arith, few, low, e))
 
-gate_step : (p : Module) (n : ℕ) (m : Machine) (t : ℕ) (a : Actor) (d : Duty) (rest : List Duty) (x : ℕ) → AtDuty p n m t a d rest → n ≤ 33 → GateStep m t d x (memory_by m t a d (Gate x))
+gate_step : (p : Module) (n : ℕ) (m : Machine) (t : ℕ) (a : Actor) (d : Duty) (rest : List Duty) (x : ℕ)
+    → AtDuty p n m t a d rest → n ≤ 33 → GateStep m t d x (memory_by m t a d (Gate x))
 gate_step p n m t a (Die y) rest x here few =
     elim (eqb_tells y x) [
       | inl same ↦
           let within : t < 33 = omega (arith, slice_get_within m.actors t a here.found, here.rule.threads, few) in
           let chain = chain_here p n m t a (Die y) rest here in
           let low = head_low p n m t a.head (Die y ∷ rest) chain.chained here.rule chain.linked chain.once in
-          let word : memory_by m t a (Die y) (Gate x) ≡ dying_word t a.head = subst (λ (z : ℕ). memory_by m t a (Die y) (Gate z) ≡ dying_word t a.head) same.1 (written_here m.memory (Gate y) (dying_word t a.head)) in
-          IsChained (λ e. chained_low t a.head within low (sym word ∙ e)) (ap m.life (sym same.1) ∙ (head_of p n m t a (Die y) rest here).1) (no_end x)
-      | inr apart ↦ Stays (written_apart m.memory (Gate y) (Gate x) (dying_word t a.head) (apart_gate y x apart.1)) (no_end x)
+          let word : memory_by m t a (Die y) (Gate x) ≡ dying_word t a.head =
+          subst (λ (z : ℕ). memory_by m t a (Die y) (Gate z) ≡ dying_word t a.head) same.1
+          (written_here m.memory (Gate y) (dying_word t a.head)) in
+          IsChained (λ e. chained_low t a.head within low (sym word ∙ e))
+          (ap m.life (sym same.1) ∙ (head_of p n m t a (Die y) rest here).1) (no_end x)
+      | inr apart ↦
+          Stays (written_apart m.memory (Gate y) (Gate x) (dying_word t a.head) (apart_gate y x apart.1)) (no_end x)
     ]
 gate_step p n m t a (SettleEnd y) rest x here few =
     elim (eqb_tells y x) [
-      | inl same ↦ Ends (subst (λ (z : ℕ). memory_by m t a (SettleEnd y) (Gate z) ≡ closed_word) same.1 (written_here m.memory (Gate y) closed_word)) (ap Some same.1)
-      | inr apart ↦ Stays (written_apart m.memory (Gate y) (Gate x) closed_word (apart_gate y x apart.1)) (λ e. apart.1 (some_is y x e))
+      | inl same ↦
+          Ends (subst (λ (z : ℕ). memory_by m t a (SettleEnd y) (Gate z) ≡ closed_word) same.1
+          (written_here m.memory (Gate y) closed_word)) (ap Some same.1)
+      | inr apart ↦
+          Stays (written_apart m.memory (Gate y) (Gate x) closed_word (apart_gate y x apart.1))
+          (λ e. apart.1 (some_is y x e))
     ]
 gate_step p n m t a Settle rest x here few = Stays (written_load m.memory (Gate (a.head - 1)) (Gate x)) (no_end x)
 gate_step p n m t a _ rest x here few = Stays refl (no_end x)
@@ -67,14 +76,26 @@ record GateFits (m : Machine) (x : ℕ) : Type 0 where
   is : m.memory (Gate x) ≡ closed_word → m.life x ≡ Closed
   has : m.life x ≡ Closed → m.memory (Gate x) ≡ closed_word
 
-gate_after : (p : Module) (n : ℕ) (m : Machine) (t : ℕ) (a : Actor) (d : Duty) (rest : List Duty) (x : ℕ) → AtDuty p n m t a d rest → n ≤ 33 → GateFits m x → GateFits (done_by m t a d rest) x
+gate_after : (p : Module) (n : ℕ) (m : Machine) (t : ℕ) (a : Actor) (d : Duty) (rest : List Duty) (x : ℕ)
+    → AtDuty p n m t a d rest → n ≤ 33 → GateFits m x → GateFits (done_by m t a d rest) x
 gate_after p n m t a d rest x here few before =
     elim (gate_step p n m t a d rest x here few) [
       | Stays same other ↦ elim (life_step p n m t a d rest x here) [
-        | GoesOn now going ↦ record { is = λ e. now ∙ before.is (sym same ∙ e); has = λ c. same ∙ before.has (sym now ∙ c) }
-        | BeginsToDie now alive positive none ↦ record { is = λ e. absurd (live_not_closed (sym alive ∙ before.is (sym same ∙ e))); has = λ c. absurd (dying_not_closed t (sym now ∙ c)) }
+        | GoesOn now going ↦
+            record { is = λ e. now ∙ before.is (sym same ∙ e); has = λ c. same ∙ before.has (sym now ∙ c) }
+        | BeginsToDie now alive positive none ↦
+            record {
+              is = λ e. absurd (live_not_closed (sym alive ∙ before.is (sym same ∙ e)));
+              has =
+                  λ c. absurd (dying_not_closed t (sym now ∙ c));
+            }
         | IsClosed now dying positive ended ↦ absurd (other ended)
-        | IsBorn now unborn above born none ↦ record { is = λ e. absurd (unborn_not_closed (sym unborn ∙ before.is (sym same ∙ e))); has = λ c. absurd (live_not_closed (sym now ∙ c)) }
+        | IsBorn now unborn above born none ↦
+            record {
+              is = λ e. absurd (unborn_not_closed (sym unborn ∙ before.is (sym same ∙ e)));
+              has =
+                  λ c. absurd (live_not_closed (sym now ∙ c));
+            }
       ]
       | IsChained apart was other ↦ record {
         is = λ e. absurd (apart e);
@@ -96,7 +117,8 @@ gate_after p n m t a d rest x here few before =
       }
     ]
 
-gates_kept : (p : Module) (n : ℕ) → n ≤ 33 → ShowsSteps (λ t m new. ((x : ℕ) → GateFits m x) → (x : ℕ) → GateFits new x) p n
+gates_kept : (p : Module) (n : ℕ) → n ≤ 33
+    → ShowsSteps (λ t m new. ((x : ℕ) → GateFits m x) → (x : ℕ) → GateFits new x) p n
 gates_kept p n few = record {
   stays = λ t m whole gates. gates;
   sits = λ t m new a place agenda found q. λ gates. q (λ x. record { is = (gates x).is; has = (gates x).has });
@@ -104,9 +126,12 @@ gates_kept p n few = record {
   does = λ t m a d rest doing gates x. gate_after p n m t a d rest x (at_duty doing) few (gates x);
 }
 
-gates_after : (p : Module) (n : ℕ) (m : Machine) (events : List (ℕ × Choice)) → n ≤ 33 → Whole p n m → ((x : ℕ) → GateFits m x) → (x : ℕ) → GateFits (machine_after m events) x
+gates_after : (p : Module) (n : ℕ) (m : Machine) (events : List (ℕ × Choice)) → n ≤ 33 → Whole p n m
+    → ((x : ℕ) → GateFits m x) → (x : ℕ) → GateFits (machine_after m events) x
 gates_after p n m [] few whole gates = gates
-gates_after p n m (e ∷ events) few whole gates = gates_after p n (next_machine m e) events few (event_keeps p n m e whole).1 (event_shows (gates_kept p n few) m e whole gates)
+gates_after p n m (e ∷ events) few whole gates =
+    gates_after p n (next_machine m e) events few (event_keeps p n m e whole).1
+    (event_shows (gates_kept p n few) m e whole gates)
 
 -- ---- in each machine that events lead to
 
@@ -136,4 +161,5 @@ each_used p n m rule x born = let used = born_used p n m x rule born in (used.by
 pub born_are_used : (p : Module) → IsModule p → IsAcceptable p → Always BornAreUsed p
 born_are_used p fits accepted = λ rows calls events some most are_calls.
     let n = 1 + length calls in
-    each_used p n _ (whole_after p n (first_machine p rows calls) events (first_whole p rows calls fits accepted are_calls some most)).rule
+    each_used p n _ (whole_after p n (first_machine p rows calls) events
+    (first_whole p rows calls fits accepted are_calls some most)).rule

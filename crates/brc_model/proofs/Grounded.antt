@@ -1,5 +1,5 @@
--- Where a thread stands in a call: some walk comes to the point in a state, and what the state says of each variable is true of
--- the row in it.
+-- Where a thread stands in a call: some walk comes to the point in a state, and what the state says of each variable is
+-- true of the row in it.
 use Rattle.std.proofs.Common.{◌≡◌, ◌≢◌, ℕ, zero, suc, ◌<◌, true, false, List, [], ◌∷◌, ◌++◌, length, Option, None, Some, refl, sym, ap, ◌∙◌, subst, arith, inl, inr, get_or-set_same, get_or-set_other}
 use Rattle.std.specs.Prelude.{slice_get, slice_set}
 use Rattle.std.proofs.lemmas.Bool.{cases_lt}
@@ -48,23 +48,31 @@ slot_of-put_same s x slot h = get_or-set_same s.slots x slot Empty h
 pub slot_of-put_other : (s : State) (x v : ℕ) (slot : Slot) → v ≢ x → slot_of (put s x slot) v ≡ slot_of s v
 slot_of-put_other s x v slot ne = get_or-set_other s.slots x v slot Empty ne
 
-pub row_of-set_same : (rows : List (Option ℕ)) (x : ℕ) (row : Option ℕ) → x < length rows → row_of (slice_set rows x row) x ≡ row
+pub row_of-set_same : (rows : List (Option ℕ)) (x : ℕ) (row : Option ℕ) → x < length rows
+    → row_of (slice_set rows x row) x ≡ row
 row_of-set_same rows x row h = get_or-set_same rows x row None h
 
-pub row_of-set_other : (rows : List (Option ℕ)) (x v : ℕ) (row : Option ℕ) → v ≢ x → row_of (slice_set rows x row) v ≡ row_of rows v
+pub row_of-set_other : (rows : List (Option ℕ)) (x v : ℕ) (row : Option ℕ) → v ≢ x
+    → row_of (slice_set rows x row) v ≡ row_of rows v
 row_of-set_other rows x v row ne = get_or-set_other rows x v row None ne
 
-pub grounded-put : (s : State) (rows : List (Option ℕ)) (x : ℕ) (slot : Slot) (row : Option ℕ) → x < length s.slots → x < length rows → IsGrounded slot row
-    → ((v : ℕ) → IsGrounded (slot_of s v) (row_of rows v)) → (v : ℕ) → IsGrounded (slot_of (put s x slot) v) (row_of (slice_set rows x row) v)
+pub grounded-put : (s : State) (rows : List (Option ℕ)) (x : ℕ) (slot : Slot) (row : Option ℕ) → x < length s.slots
+    → x < length rows → IsGrounded slot row
+    → ((v : ℕ) → IsGrounded (slot_of s v) (row_of rows v)) → (v : ℕ)
+    → IsGrounded (slot_of (put s x slot) v) (row_of (slice_set rows x row) v)
 grounded-put s rows x slot row in_slots in_rows new old v =
     elim (eqb_tells v x) [
       | inl this ↦
           let P : ℕ → Type 0 = λ w. IsGrounded (slot_of (put s x slot) w) (row_of (slice_set rows x row) w) in
-          let there : IsGrounded (slot_of (put s x slot) x) row = subst (λ (w : Slot). IsGrounded w row) (sym (slot_of-put_same s x slot in_slots)) new in
-          subst P (sym this.1) (subst (λ (w : Option ℕ). IsGrounded (slot_of (put s x slot) x) w) (sym (row_of-set_same rows x row in_rows)) there)
+          let there : IsGrounded (slot_of (put s x slot) x) row =
+          subst (λ (w : Slot). IsGrounded w row) (sym (slot_of-put_same s x slot in_slots)) new in
+          subst P (sym this.1) (subst (λ (w : Option ℕ). IsGrounded (slot_of (put s x slot) x) w)
+          (sym (row_of-set_same rows x row in_rows)) there)
       | inr other ↦
-          let there : IsGrounded (slot_of (put s x slot) v) (row_of rows v) = subst (λ (w : Slot). IsGrounded w (row_of rows v)) (sym (slot_of-put_other s x v slot other.1)) (old v) in
-          subst (λ (w : Option ℕ). IsGrounded (slot_of (put s x slot) v) w) (sym (row_of-set_other rows x v row other.1)) there
+          let there : IsGrounded (slot_of (put s x slot) v) (row_of rows v) =
+          subst (λ (w : Slot). IsGrounded w (row_of rows v)) (sym (slot_of-put_other s x v slot other.1)) (old v) in
+          subst (λ (w : Option ℕ). IsGrounded (slot_of (put s x slot) v) w)
+          (sym (row_of-set_other rows x v row other.1)) there
     ]
 
 -- ---- what a slot says
@@ -86,7 +94,8 @@ pub record NamesLive (bag : List Reference) (row : Option ℕ) : Type 0 where
   pub is_row : row ≡ Some object
   pub live : 0 < references_to object bag
 
-pub live_slot : (bag : List Reference) (t : ℕ) (s : State) (rows : List (Option ℕ)) (v : ℕ) (slot : Slot) → slot_of s v ≡ slot → is_empty slot ≡ false → IsGrounded slot (row_of rows v)
+pub live_slot : (bag : List Reference) (t : ℕ) (s : State) (rows : List (Option ℕ)) (v : ℕ) (slot : Slot)
+    → slot_of s v ≡ slot → is_empty slot ≡ false → IsGrounded slot (row_of rows v)
     → Holds bag t (of_variables s rows) → NamesLive bag (row_of rows v)
 live_slot bag t s rows v Empty is some grounded holds = absurd cc
 live_slot bag t s rows v (Owned k) is some grounded holds =
@@ -115,17 +124,20 @@ owned_row (Locked k) row owned grounded = absurd grounded
 -- ---- where a thread stands
 
 -- what is known where an instruction stands whose conditions are met
-pub record StandsAt (code : List Instr) (bag : List Reference) (t at : ℕ) (rows : List (Option ℕ)) (s : State) (i : Instr) : Type 0 where
+pub record StandsAt (code : List Instr) (bag : List Reference) (t at : ℕ) (rows : List (Option ℕ)) (s : State)
+    (i : Instr) : Type 0 where
   pub inside : IsInside code at rows s
   pub holds : Holds bag t (of_variables s rows)
   pub variables : IsInstruction i
   pub met : AreMet i s
-  pub leads : (exit : Exit) (next : ℕ) → target i exit at ≡ Some next → walk code (inside.exits ++ exit ∷ []) ≡ At next (after i exit s)
+  pub leads : (exit : Exit) (next : ℕ) → target i exit at ≡ Some next
+      → walk code (inside.exits ++ exit ∷ []) ≡ At next (after i exit s)
 
 entry_grounded : (v : ℕ) → IsGrounded (slot_of entry v) (row_of entry_variables v)
 entry_grounded zero = refl
 entry_grounded (suc v) =
-    subst (λ (slot : Slot). IsGrounded slot (row_of entry_variables (suc v))) (sym (get_or-replicate_default 15 v Empty)) tt
+    subst (λ (slot : Slot). IsGrounded slot (row_of entry_variables (suc v)))
+    (sym (get_or-replicate_default 15 v Empty)) tt
 
 pub entry_inside : (code : List Instr) → IsInside code 0 entry_variables entry
 entry_inside code = record { exits = []; walked = refl; slots = refl; rows = refl; grounded = entry_grounded }

@@ -34,12 +34,15 @@ low_by_life owner Live n row =
 low_by_life owner (Dying t) n row = omega (arith, row.local)
 low_by_life owner Closed n row = omega (arith, row.local)
 
-pub counted_low : (p : Module) (n : ℕ) (m : Machine) (x : ℕ) → Rule p n m → 0 < x → local_part (m.memory (Local x)) < 4294967295
+pub counted_low : (p : Module) (n : ℕ) (m : Machine) (x : ℕ) → Rule p n m → 0 < x
+    → local_part (m.memory (Local x)) < 4294967295
 counted_low p n m x rule pos = low_by_life (block_of m.rows x) (m.life x) (numbers_of m x) (rule.rows x pos)
 
-immortal_is_none : (p : Module) (n : ℕ) (m : Machine) (x : ℕ) → Rule p n m → is_immortal_word (m.memory (Local x)) ≡ true → x ≡ 0
+immortal_is_none : (p : Module) (n : ℕ) (m : Machine) (x : ℕ) → Rule p n m
+    → is_immortal_word (m.memory (Local x)) ≡ true → x ≡ 0
 immortal_is_none p n m zero rule is = refl
-immortal_is_none p n m (suc x) rule is = absurd (omega (arith, counted_low p n m (suc x) rule (omega arith), eqb-true _ _ is))
+immortal_is_none p n m (suc x) rule is =
+    absurd (omega (arith, counted_low p n m (suc x) rule (omega arith), eqb-true _ _ is))
 
 -- ---- none's words after a duty
 
@@ -52,35 +55,50 @@ shared_apart m y v pos = written_apart m.memory (Shared y) (Shared 0) v (apart_s
 gate_apart : (m : Machine) (y v : ℕ) → 0 < y → written m.memory (Gate y) v (Gate 0) ≡ m.memory (Gate 0)
 gate_apart m y v pos = written_apart m.memory (Gate y) (Gate 0) v (apart_gate y 0 (above y pos))
 
-none_shared : (p : Module) (n : ℕ) (m : Machine) (t : ℕ) (a : Actor) (d : Duty) (rest : List Duty) → AtDuty p n m t a d rest → memory_by m t a d (Shared 0) ≡ m.memory (Shared 0)
-none_shared p n m t a (RetainAdd y h) rest here = shared_apart m y (m.memory (Shared y) + 4) (head_of p n m t a (RetainAdd y h) rest here).0
+none_shared : (p : Module) (n : ℕ) (m : Machine) (t : ℕ) (a : Actor) (d : Duty) (rest : List Duty)
+    → AtDuty p n m t a d rest → memory_by m t a d (Shared 0) ≡ m.memory (Shared 0)
+none_shared p n m t a (RetainAdd y h) rest here =
+    shared_apart m y (m.memory (Shared y) + 4) (head_of p n m t a (RetainAdd y h) rest here).0
 none_shared p n m t a (DecideAtZero y) rest here = written_load m.memory (Shared y) (Shared 0)
 none_shared p n m t a (SharedLoad y r) rest here = written_load m.memory (Shared y) (Shared 0)
-none_shared p n m t a (SharedExchange y Own w) rest here = shared_apart m y _ (head_of p n m t a (SharedExchange y Own w) rest here)
-none_shared p n m t a (SharedExchange y Handed w) rest here = shared_apart m y _ (head_of p n m t a (SharedExchange y Handed w) rest here).0
+none_shared p n m t a (SharedExchange y Own w) rest here =
+    shared_apart m y _ (head_of p n m t a (SharedExchange y Own w) rest here)
+none_shared p n m t a (SharedExchange y Handed w) rest here =
+    shared_apart m y _ (head_of p n m t a (SharedExchange y Handed w) rest here).0
 none_shared p n m t a (MergeLoad y c) rest here = written_load m.memory (Shared y) (Shared 0)
-none_shared p n m t a (MergeExchange y c w) rest here = shared_apart m y _ (head_of p n m t a (MergeExchange y c w) rest here).0
+none_shared p n m t a (MergeExchange y c w) rest here =
+    shared_apart m y _ (head_of p n m t a (MergeExchange y c w) rest here).0
 none_shared p n m t a _ rest here = refl
 
-none_gate : (p : Module) (n : ℕ) (m : Machine) (t : ℕ) (a : Actor) (d : Duty) (rest : List Duty) → AtDuty p n m t a d rest → memory_by m t a d (Gate 0) ≡ m.memory (Gate 0)
+none_gate : (p : Module) (n : ℕ) (m : Machine) (t : ℕ) (a : Actor) (d : Duty) (rest : List Duty)
+    → AtDuty p n m t a d rest → memory_by m t a d (Gate 0) ≡ m.memory (Gate 0)
 none_gate p n m t a (Die y) rest here = gate_apart m y (dying_word t a.head) (head_of p n m t a (Die y) rest here).0
 none_gate p n m t a Settle rest here = written_load m.memory (Gate (a.head - 1)) (Gate 0)
 none_gate p n m t a (SettleEnd y) rest here = gate_apart m y closed_word (head_of p n m t a (SettleEnd y) rest here).0
 none_gate p n m t a _ rest here = refl
 
-none_kind : (p : Module) (n : ℕ) (m : Machine) (t : ℕ) (a : Actor) (d : Duty) (rest : List Duty) → AtDuty p n m t a d rest → memory_by m t a d (KindOf 0) ≡ m.memory (KindOf 0)
+none_kind : (p : Module) (n : ℕ) (m : Machine) (t : ℕ) (a : Actor) (d : Duty) (rest : List Duty)
+    → AtDuty p n m t a d rest → memory_by m t a d (KindOf 0) ≡ m.memory (KindOf 0)
 none_kind p n m t a (SettleKind y) rest here = written_load m.memory (KindOf y) (KindOf 0)
 none_kind p n m t a (BirthKind y h w) rest here =
-    written_apart m.memory (KindOf y) (KindOf 0) w (ne_eqb y 0 (above y (next_counted m t a y (head_of p n m t a (BirthKind y h w) rest here).0)))
+    written_apart m.memory (KindOf y) (KindOf 0) w
+    (ne_eqb y 0 (above y (next_counted m t a y (head_of p n m t a (BirthKind y h w) rest here).0)))
 none_kind p n m t a _ rest here = refl
 
-none_slot : (p : Module) (n : ℕ) (m : Machine) (t : ℕ) (a : Actor) (d : Duty) (rest : List Duty) → AtDuty p n m t a d rest → memory_by m t a d (Slot 0) ≡ m.memory (Slot 0)
-none_slot p n m t a (TakeSlot y) rest here = written_apart m.memory (Slot y) (Slot 0) 0 (ne_eqb y 0 (above y (head_of p n m t a (TakeSlot y) rest here).0))
-none_slot p n m t a (BirthSlot y h) rest here = written_apart m.memory (Slot y) (Slot 0) 1 (ne_eqb y 0 (above y (next_counted m t a y (head_of p n m t a (BirthSlot y h) rest here).0)))
+none_slot : (p : Module) (n : ℕ) (m : Machine) (t : ℕ) (a : Actor) (d : Duty) (rest : List Duty)
+    → AtDuty p n m t a d rest → memory_by m t a d (Slot 0) ≡ m.memory (Slot 0)
+none_slot p n m t a (TakeSlot y) rest here =
+    written_apart m.memory (Slot y) (Slot 0) 0 (ne_eqb y 0 (above y (head_of p n m t a (TakeSlot y) rest here).0))
+none_slot p n m t a (BirthSlot y h) rest here =
+    written_apart m.memory (Slot y) (Slot 0) 1
+    (ne_eqb y 0 (above y (next_counted m t a y (head_of p n m t a (BirthSlot y h) rest here).0)))
 none_slot p n m t a _ rest here = refl
 
-none_resource : (p : Module) (n : ℕ) (m : Machine) (t : ℕ) (a : Actor) (d : Duty) (rest : List Duty) → AtDuty p n m t a d rest → memory_by m t a d (Resource 0) ≡ m.memory (Resource 0)
-none_resource p n m t a (CloseResource y) rest here = written_apart m.memory (Resource y) (Resource 0) 0 (ne_eqb y 0 (above y (head_of p n m t a (CloseResource y) rest here).0))
+none_resource : (p : Module) (n : ℕ) (m : Machine) (t : ℕ) (a : Actor) (d : Duty) (rest : List Duty)
+    → AtDuty p n m t a d rest → memory_by m t a d (Resource 0) ≡ m.memory (Resource 0)
+none_resource p n m t a (CloseResource y) rest here =
+    written_apart m.memory (Resource y) (Resource 0) 0
+    (ne_eqb y 0 (above y (head_of p n m t a (CloseResource y) rest here).0))
 none_resource p n m t a _ rest here = refl
 
 -- ---- each event
@@ -96,8 +114,18 @@ record NoneStays (m new : Machine) : Type 0 where
 none_shown : (p : Module) (n : ℕ) → ShowsSteps (λ t m new. NoneStays m new) p n
 none_shown p n = record {
   stays = λ t m whole. record { local = refl; shared = refl; gate = refl; kind = refl; slot = refl; resource = refl };
-  sits = λ t m new a place agenda found shown. record { local = shown.local; shared = shown.shared; gate = shown.gate; kind = shown.kind; slot = shown.slot; resource = shown.resource };
-  moves = λ t m a moves place whole found quiet. record { local = refl; shared = refl; gate = refl; kind = refl; slot = refl; resource = refl };
+  sits =
+      λ t m new a place agenda found shown. record {
+        local = shown.local;
+        shared = shown.shared;
+        gate = shown.gate;
+        kind = shown.kind;
+        slot = shown.slot;
+        resource = shown.resource;
+      };
+  moves =
+      λ t m a moves place whole found quiet. record
+      { local = refl; shared = refl; gate = refl; kind = refl; slot = refl; resource = refl };
   does = λ t m a d rest doing. record {
     local = none_local p n m t a d rest (at_duty doing);
     shared = none_shared p n m t a d rest (at_duty doing);
@@ -128,4 +156,6 @@ none_stays p n m event whole =
     }
 
 pub immortals_stay : (p : Module) (n : ℕ) (m : Machine) (event : ℕ × Choice) → Whole p n m → ImmortalsStay m event
-immortals_stay p n m event whole = λ x is. subst (λ (z : ℕ). StaysAt m (next_machine m event) z) (sym (immortal_is_none p n m x whole.rule is)) (none_stays p n m event whole)
+immortals_stay p n m event whole =
+    λ x is. subst (λ (z : ℕ). StaysAt m (next_machine m event) z) (sym (immortal_is_none p n m x whole.rule is))
+    (none_stays p n m event whole)

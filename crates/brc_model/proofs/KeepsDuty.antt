@@ -30,34 +30,48 @@ zero_written : (b : Bool) (v : ℕ) → v ≡ 0 → cond b 0 v ≡ 0
 zero_written true v e = refl
 zero_written false v e = e
 
-cells_left : (m : Machine) (t : ℕ) (a : Actor) (d : Duty) (x i : ℕ) → m.memory (Cell x i) ≡ 0 → memory_by m t a d (Cell x i) ≡ 0
-cells_left m t a (SettleCell y j k) x i empty = zero_written (same_address (Cell y j) (Cell x i)) (m.memory (Cell x i)) empty
+cells_left : (m : Machine) (t : ℕ) (a : Actor) (d : Duty) (x i : ℕ) → m.memory (Cell x i) ≡ 0
+    → memory_by m t a d (Cell x i) ≡ 0
+cells_left m t a (SettleCell y j k) x i empty =
+    zero_written (same_address (Cell y j) (Cell x i)) (m.memory (Cell x i)) empty
 cells_left m t a _ x i empty = empty
 
 -- ---- all threads
 
-others_and_own : (p : Module) (n : ℕ) (m : Machine) (t : ℕ) (a : Actor) (d : Duty) (rest : List Duty) → AtDuty p n m t a d rest → OwnFits p (done_by m t a d rest) t (actor_by t a d rest (found_by m t a d))
+others_and_own : (p : Module) (n : ℕ) (m : Machine) (t : ℕ) (a : Actor) (d : Duty) (rest : List Duty)
+    → AtDuty p n m t a d rest → OwnFits p (done_by m t a d rest) t (actor_by t a d rest (found_by m t a d))
     → (u : ℕ) (b : Actor) → slice_get (slice_set m.actors t (actor_by t a d rest (found_by m t a d))) u ≡ Some b
     → ActorFits p (done_by m t a d rest) u b × AgendaFits m.rows u b b.status × HandedOnce b.agenda
 others_and_own p n m t a d rest here own u b is =
     let after = actor_by t a d rest (found_by m t a d) in
     elim (eqb_tells u t) [
       | inl same ↦
-          let written_is : Some after ≡ Some b = sym (ap (slice_get (slice_set m.actors t after)) same.1 ∙ slice_get-set_same m.actors t after (slice_get_within m.actors t a here.found)) ∙ is in
-          let P : Actor → Type 0 = λ x. ActorFits p (done_by m t a d rest) u x × AgendaFits m.rows u x x.status × HandedOnce x.agenda in
-          let Q : ℕ → Type 0 = λ w. ActorFits p (done_by m t a d rest) w after × AgendaFits m.rows w after after.status × HandedOnce after.agenda in
+          let written_is : Some after ≡ Some b =
+          sym (ap (slice_get (slice_set m.actors t after)) same.1
+          ∙ slice_get-set_same m.actors t after (slice_get_within m.actors t a here.found)) ∙ is in
+          let P : Actor
+          → Type 0 = λ x. ActorFits p (done_by m t a d rest) u x × AgendaFits m.rows u x x.status
+          × HandedOnce x.agenda in
+          let Q : ℕ
+          → Type 0 = λ w. ActorFits p (done_by m t a d rest) w after × AgendaFits m.rows w after after.status
+          × HandedOnce after.agenda in
           subst P (some_is after b written_is) (subst Q (sym same.1) (own.actor, own.agenda, own.handed))
       | inr apart ↦
           let found : slice_get m.actors u ≡ Some b = sym (slice_get-set_other m.actors t u after apart.1) ∙ is in
-          let old = here.rule.each u b found in
-          (others_fit p m (done_by m t a d rest) t u b (leaves_others p n m t a d rest here) apart.1 found old.0, old.1, old.2)
+          let old = here.rule.each u b found in (
+            others_fit p m (done_by m t a d rest) t u b (leaves_others p n m t a d rest here) apart.1 found old.0,
+            old.1,
+            old.2,
+          )
     ]
 
 -- ---- the whole rule
 
-pub keeps_by : (p : Module) (n : ℕ) (m : Machine) (t : ℕ) (a : Actor) (d : Duty) (rest : List Duty) → AtDuty p n m t a d rest → (a.status ≡ Gone → ⊥)
+pub keeps_by : (p : Module) (n : ℕ) (m : Machine) (t : ℕ) (a : Actor) (d : Duty) (rest : List Duty)
+    → AtDuty p n m t a d rest → (a.status ≡ Gone → ⊥)
     → OwnFits p (done_by m t a d rest) t (actor_by t a d rest (found_by m t a d))
-    → ((x : ℕ) → ((done_by m t a d rest).memory (Mark x) ≡ 0) ⊎ (((done_by m t a d rest).memory (Mark x) ≡ 1) × (0 < x) × IsWatched (done_by m t a d rest) x))
+    → ((x : ℕ) → ((done_by m t a d rest).memory (Mark x) ≡ 0)
+    ⊎ (((done_by m t a d rest).memory (Mark x) ≡ 1) × (0 < x) × IsWatched (done_by m t a d rest) x))
     → Rule p n (done_by m t a d rest)
 keeps_by p n m t a d rest here alive own marks =
     let within : t < n = omega (arith, slice_get_within m.actors t a here.found, here.rule.threads) in
@@ -70,7 +84,9 @@ keeps_by p n m t a d rest here alive own marks =
       rows = λ x pos. rows_after p n m t a d rest here.rule here.found here.agenda alive x pos;
       marks = marks;
       each = λ u b is. others_and_own p n m t a d rest here own u b is;
-      beyond = λ u past k object. moves_apart m.memory m.plain u t k object d (found_by m t a d) (λ e. absurd (omega (arith, within, past, e))) ∙ here.rule.beyond u past k object;
+      beyond =
+          λ u past k object. moves_apart m.memory m.plain u t k object d (found_by m t a d)
+          (λ e. absurd (omega (arith, within, past, e))) ∙ here.rule.beyond u past k object;
       dying = λ x u past. dying_after p n m t a d rest x u here past;
       cells = λ x i. cells_left m t a d x i (here.rule.cells x i);
       uses = λ u b is. uses_after p n m t a d rest here u b is;
@@ -78,7 +94,9 @@ keeps_by p n m t a d rest here alive own marks =
       born_is = λ x is. born_is_after p n m t a d rest here x is;
       born_has = λ x above is. born_has_after p n m t a d rest here x above is;
       born_once = λ x. born_once_after p n m t a d rest here x;
-      cells_hold = λ x i object. moves_off_cells m.memory m.plain x i object t d (found_by m t a d) (cell_found p n m t a d here.rule) ∙ here.rule.cells_hold x i object;
+      cells_hold =
+          λ x i object. moves_off_cells m.memory m.plain x i object t d (found_by m t a d)
+          (cell_found p n m t a d here.rule) ∙ here.rule.cells_hold x i object;
       none_lives = none_lives_after p n m t a d rest here;
       closed_is = λ x is. closed_is_after p n m t a d rest x here is;
       closed_has = λ x is. closed_has_after p n m t a d rest x here is;

@@ -15,6 +15,7 @@ pub mod Worked
 pub mod Rows
 pub mod HasDuties
 pub mod RowSteps
+pub mod RowMerges
 pub mod Rule
 pub mod Others
 pub mod Alive
@@ -33,6 +34,7 @@ pub mod ClosedAfter
 pub mod NotBad
 pub mod Begins
 pub mod Taking
+pub mod TakingQuiet
 pub mod FirstMachine
 pub mod KeepsDuty
 pub mod Sits
@@ -48,6 +50,7 @@ pub mod RowsAfterMerge
 pub mod RowsAfter
 pub mod OwnSteps
 pub mod OwnReleases
+pub mod OwnShared
 pub mod MergesOnce
 pub mod OwnMerges
 pub mod TakenSits

@@ -27,7 +27,8 @@ slice_get-set_same [] i x h = absurd (omega arith)
 slice_get-set_same (y ∷ ys) zero x h = refl
 slice_get-set_same (y ∷ ys) (suc i) x h = slice_get-set_same ys i x (omega arith)
 
-pub slice_get-set_other : {A : Type 0} (xs : List A) (i j : ℕ) (x : A) → j ≢ i → slice_get (set xs i x) j ≡ slice_get xs j
+pub slice_get-set_other : {A : Type 0} (xs : List A) (i j : ℕ) (x : A) → j ≢ i
+    → slice_get (set xs i x) j ≡ slice_get xs j
 slice_get-set_other [] i j x ne = refl
 slice_get-set_other (y ∷ ys) zero zero x ne = absurd (ne refl)
 slice_get-set_other (y ∷ ys) zero (suc j) x ne = refl
@@ -49,7 +50,8 @@ second_false true b e = absurd cc
 second_false false b e = e
 
 -- where no element passes, none at a place does
-pub none_at : {A : Type 0} (p : A → Bool) (xs : List A) (k : ℕ) (d : A) → list_any p xs ≡ false → p d ≡ false → p (get_or xs k d) ≡ false
+pub none_at : {A : Type 0} (p : A → Bool) (xs : List A) (k : ℕ) (d : A) → list_any p xs ≡ false → p d ≡ false
+    → p (get_or xs k d) ≡ false
 none_at p [] k d none default = default
 none_at p (x ∷ xs) zero d none default = first_false (p x) (list_any p xs) none
 none_at p (x ∷ xs) (suc k) d none default = none_at p xs k d (second_false (p x) (list_any p xs) none) default
@@ -69,14 +71,18 @@ pub record FoundAt {A : Type 0} (P : A → Type 0) (xs : List A) (i : ℕ) : Typ
 pub all_at : {A : Type 0} (P : A → Type 0) (xs : List A) (i : ℕ) → AllByRecursion P xs → i < length xs → FoundAt P xs i
 all_at P [] i all h = absurd (omega arith)
 all_at P (x ∷ xs) zero all h = record { found = x; is_there = refl; holds = all.0 }
-all_at P (x ∷ xs) (suc i) all h = let rest = all_at P xs i all.1 (omega arith) in record { found = rest.found; is_there = rest.is_there; holds = rest.holds }
+all_at P (x ∷ xs) (suc i) all h =
+    let rest = all_at P xs i all.1 (omega arith) in
+    record { found = rest.found; is_there = rest.is_there; holds = rest.holds }
 
-pub all_of_found : {A : Type 0} (P : A → Type 0) (xs : List A) (i : ℕ) (x : A) → AllByRecursion P xs → slice_get xs i ≡ Some x → P x
+pub all_of_found : {A : Type 0} (P : A → Type 0) (xs : List A) (i : ℕ) (x : A) → AllByRecursion P xs
+    → slice_get xs i ≡ Some x → P x
 all_of_found P [] i x all is = absurd cc
 all_of_found P (y ∷ ys) zero x all is = subst P (some_is y x is) all.0
 all_of_found P (y ∷ ys) (suc i) x all is = all_of_found P ys i x all.1 is
 
-pub list_all_found : {A : Type 0} (p : A → Bool) (xs : List A) (i : ℕ) (x : A) → list_all p xs ≡ true → slice_get xs i ≡ Some x → p x ≡ true
+pub list_all_found : {A : Type 0} (p : A → Bool) (xs : List A) (i : ℕ) (x : A) → list_all p xs ≡ true
+    → slice_get xs i ≡ Some x → p x ≡ true
 list_all_found p [] i x all is = absurd cc
 list_all_found p (y ∷ ys) zero x all is = sym (ap p (some_is y x is)) ∙ and_first (p y) (list_all p ys) all
 list_all_found p (y ∷ ys) (suc i) x all is = list_all_found p ys i x (and_second (p y) (list_all p ys) all) is
@@ -87,18 +93,24 @@ pub record MappedAt {A B : Type 0} (f : A → B) (xs : List A) (i : ℕ) (y : B)
   pub is_there : slice_get xs i ≡ Some source
   pub is_image : f source ≡ y
 
-pub slice_get-map : {A B : Type 0} (f : A → B) (xs : List A) (i : ℕ) (y : B) → slice_get (map f xs) i ≡ Some y → MappedAt f xs i y
+pub slice_get-map : {A B : Type 0} (f : A → B) (xs : List A) (i : ℕ) (y : B) → slice_get (map f xs) i ≡ Some y
+    → MappedAt f xs i y
 slice_get-map f [] i y is = absurd cc
 slice_get-map f (x ∷ xs) zero y is = record { source = x; is_there = refl; is_image = some_is (f x) y is }
-slice_get-map f (x ∷ xs) (suc i) y is = let rest = slice_get-map f xs i y is in record { source = rest.source; is_there = rest.is_there; is_image = rest.is_image }
+slice_get-map f (x ∷ xs) (suc i) y is =
+    let rest = slice_get-map f xs i y is in
+    record { source = rest.source; is_there = rest.is_there; is_image = rest.is_image }
 
 -- what holds at the other places still does
-pub written_actor : {A : Type 0} (P : ℕ → A → Type 0) (actors : List A) (t : ℕ) (a after : A) → slice_get actors t ≡ Some a → P t after → ((u : ℕ) (b : A) → slice_get actors u ≡ Some b → P u b)
+pub written_actor : {A : Type 0} (P : ℕ → A → Type 0) (actors : List A) (t : ℕ) (a after : A)
+    → slice_get actors t ≡ Some a → P t after → ((u : ℕ) (b : A) → slice_get actors u ≡ Some b → P u b)
     → (u : ℕ) (b : A) → slice_get (slice_set actors t after) u ≡ Some b → P u b
 written_actor P actors t a after found own others u b is =
     elim (eqb_tells u t) [
       | inl same ↦
-          let now : Some after ≡ Some b = sym (ap (slice_get (slice_set actors t after)) same.1 ∙ slice_get-set_same actors t after (slice_get_within actors t a found)) ∙ is in
+          let now : Some after ≡ Some b =
+          sym (ap (slice_get (slice_set actors t after)) same.1
+          ∙ slice_get-set_same actors t after (slice_get_within actors t a found)) ∙ is in
           subst (P u) (some_is after b now) (subst (λ (w : ℕ). P w after) (sym same.1) own)
       | inr apart ↦ others u b (sym (slice_get-set_other actors t u after apart.1) ∙ is)
     ]

@@ -41,20 +41,24 @@ result_dies true c x y e = absurd (none_some y e)
 result_dies false true x y e = some_is x y e
 result_dies false false x y e = absurd (none_some y e)
 
-exchange_dies : (a : Bool) (x y w : ℕ) (r : Reason) → dies_next (cond a (shared_result x w) (SharedLoad x r ∷ [])) ≡ Some y → x ≡ y
+exchange_dies : (a : Bool) (x y w : ℕ) (r : Reason)
+    → dies_next (cond a (shared_result x w) (SharedLoad x r ∷ [])) ≡ Some y → x ≡ y
 exchange_dies true x y w r e = result_dies (w == fresh_word) (released_word w == dead_word) x y e
 exchange_dies false x y w r e = absurd (none_some y e)
 
-merge_dies : (a b : Bool) (x y c : ℕ) → dies_next (cond a (cond b (Die x ∷ []) []) (MergeLoad x c ∷ [])) ≡ Some y → x ≡ y
+merge_dies : (a b : Bool) (x y c : ℕ) → dies_next (cond a (cond b (Die x ∷ []) []) (MergeLoad x c ∷ [])) ≡ Some y
+    → x ≡ y
 merge_dies true true x y c e = some_is x y e
 merge_dies true false x y c e = absurd (none_some y e)
 merge_dies false b x y c e = absurd (none_some y e)
 
-either_none : (b : Bool) (x z : List Duty) (y : ℕ) → (dies_next x ≡ Some y → ⊥) → (dies_next z ≡ Some y → ⊥) → dies_next (cond b x z) ≡ Some y → ⊥
+either_none : (b : Bool) (x z : List Duty) (y : ℕ) → (dies_next x ≡ Some y → ⊥) → (dies_next z ≡ Some y → ⊥)
+    → dies_next (cond b x z) ≡ Some y → ⊥
 either_none true x z y f g = f
 either_none false x z y f g = g
 
-claimed_none : (b : Bool) (x y : ℕ) (rest : List Duty) → (dies_next rest ≡ Some y → ⊥) → dies_next (cond b (MergeSwap x Handed ∷ SharedLoad x Handed ∷ []) [] ++ rest) ≡ Some y → ⊥
+claimed_none : (b : Bool) (x y : ℕ) (rest : List Duty) → (dies_next rest ≡ Some y → ⊥)
+    → dies_next (cond b (MergeSwap x Handed ∷ SharedLoad x Handed ∷ []) [] ++ rest) ≡ Some y → ⊥
 claimed_none true x y rest none e = none_some y e
 claimed_none false x y rest none e = none e
 
@@ -62,30 +66,43 @@ cells_none : (b : Bool) (x i n y : ℕ) → dies_next (cond b (SettleCell x i n 
 cells_none true x i n y e = none_some y e
 cells_none false x i n y e = none_some y e
 
-pub next_dies : (t : ℕ) (running : Bool) (head : ℕ) (d : Duty) (found y : ℕ) → ((x i n : ℕ) → d ≡ SettleCell x i n → found ≡ 0) → dies_next (next_by t running head d found) ≡ Some y → MayDie d y
+pub next_dies : (t : ℕ) (running : Bool) (head : ℕ) (d : Duty) (found y : ℕ)
+    → ((x i n : ℕ) → d ≡ SettleCell x i n → found ≡ 0) → dies_next (next_by t running head d found) ≡ Some y
+    → MayDie d y
 next_dies t running head (RetainLoad x h) found y cells e =
-    either_none (is_immortal_word found) [] _ y (none_some y) (either_none (counts_locally t running found && nat_lt (local_part found) 4294967294) (RetainStore x h found ∷ []) (RetainAdd x h ∷ []) y (none_some y) (none_some y)) e
+    either_none (is_immortal_word found) [] _ y (none_some y)
+    (either_none (counts_locally t running found && nat_lt (local_part found) 4294967294)
+    (RetainStore x h found ∷ []) (RetainAdd x h ∷ []) y (none_some y) (none_some y)) e
 next_dies t running head (RetainStore x h w) found y cells e = none_some y e
 next_dies t running head (RetainAdd x h) found y cells e = none_some y e
 next_dies t running head (ReleaseLoad x h) found y cells e =
-    either_none (is_immortal_word found) [] _ y (none_some y) (either_none (counts_locally t running found) (ReleaseStore x found ∷ []) (SharedLoad x Own ∷ []) y (none_some y) (none_some y)) e
-next_dies t running head (ReleaseStore x w) found y cells e = either_none (local_part w == 1) (DecideAtZero x ∷ []) [] y (none_some y) (none_some y) e
+    either_none (is_immortal_word found) [] _ y (none_some y)
+    (either_none (counts_locally t running found) (ReleaseStore x found ∷ []) (SharedLoad x Own ∷ []) y
+    (none_some y) (none_some y)) e
+next_dies t running head (ReleaseStore x w) found y cells e =
+    either_none (local_part w == 1) (DecideAtZero x ∷ []) [] y (none_some y) (none_some y) e
 next_dies t running head (DecideAtZero x) found y cells e = decide_dies (found == fresh_word) x y e
 next_dies t running head (SharedLoad x r) found y cells e = none_some y e
 next_dies t running head (SharedExchange x r w) found y cells e = exchange_dies (found == w) x y w r e
 next_dies t running head (SetMark x) found y cells e = none_some y e
-next_dies t running head (Look x) found y cells e = either_none (found == 1) [] (TakeMark x ∷ []) y (none_some y) (none_some y) e
-next_dies t running head (TakeMark x) found y cells e = either_none (found == 1) (MergeSwap x Handed ∷ SharedLoad x Handed ∷ []) [] y (none_some y) (none_some y) e
-next_dies t running head (MergeSwap x r) found y cells e = either_none (found == 0) [] (MergeLoad x (local_part found) ∷ []) y (none_some y) (none_some y) e
+next_dies t running head (Look x) found y cells e =
+    either_none (found == 1) [] (TakeMark x ∷ []) y (none_some y) (none_some y) e
+next_dies t running head (TakeMark x) found y cells e =
+    either_none (found == 1) (MergeSwap x Handed ∷ SharedLoad x Handed ∷ []) [] y (none_some y) (none_some y) e
+next_dies t running head (MergeSwap x r) found y cells e =
+    either_none (found == 0) [] (MergeLoad x (local_part found) ∷ []) y (none_some y) (none_some y) e
 next_dies t running head (MergeLoad x c) found y cells e = none_some y e
-next_dies t running head (MergeExchange x c w) found y cells e = merge_dies (found == w) (merged_word w c == dead_word) x y c e
+next_dies t running head (MergeExchange x c w) found y cells e =
+    merge_dies (found == w) (merged_word w c == dead_word) x y c e
 next_dies t running head (Die x) found y cells e = none_some y e
 next_dies t running head Settle found y cells e = none_some y e
 next_dies t running head (SettleKind x) found y cells e =
-    absurd (either_none (has_resource found) (TakeSlot x ∷ []) (cells_from x 0 (cells_of found)) y (none_some y) (cells_none (nat_lt 0 (cells_of found)) x 0 (cells_of found) y) e)
+    absurd (either_none (has_resource found) (TakeSlot x ∷ []) (cells_from x 0 (cells_of found)) y (none_some y)
+    (cells_none (nat_lt 0 (cells_of found)) x 0 (cells_of found) y) e)
 next_dies t running head (SettleCell x i n) found y cells e =
     let empty : release_found found ≡ [] = ap release_found (cells x i n refl) in
-    cells_none (nat_lt (i + 1) n) x (i + 1) n y (sym (ap (λ (l : List Duty). dies_next (l ++ cells_from x (i + 1) n)) empty) ∙ e)
+    cells_none (nat_lt (i + 1) n) x (i + 1) n y
+    (sym (ap (λ (l : List Duty). dies_next (l ++ cells_from x (i + 1) n)) empty) ∙ e)
 next_dies t running head (TakeSlot x) found y cells e = none_some y e
 next_dies t running head (CloseResource x) found y cells e = none_some y e
 next_dies t running head (SettleEnd x) found y cells e = none_some y e
@@ -93,76 +110,103 @@ next_dies t running head (Leave x k) found y cells e = none_some y e
 next_dies t running head (Scan x k) found y cells e = claimed_none (found == 1) x y _ (none_some y) e
 next_dies t running head Finish found y cells e = none_some y e
 next_dies t running head (ClaimMark x) found y cells e = claimed_none (found == 1) x y _ (none_some y) e
-next_dies t running head (BirthKind x h w) found y cells e = either_none (has_resource w) (BirthSlot x h ∷ []) (BirthLocal x h ∷ []) y (none_some y) (none_some y) e
+next_dies t running head (BirthKind x h w) found y cells e =
+    either_none (has_resource w) (BirthSlot x h ∷ []) (BirthLocal x h ∷ []) y (none_some y) (none_some y) e
 next_dies t running head (BirthSlot x h) found y cells e = none_some y e
 next_dies t running head (BirthLocal x h) found y cells e = none_some y e
 
 -- ---- the rows that die are alive
 
-may_die_alive : (p : Module) (n : ℕ) (m : Machine) (t : ℕ) (a : Actor) (d : Duty) (rest : List Duty) (y : ℕ) → AtDuty p n m t a d rest → MayDie d y → Alive m y
+may_die_alive : (p : Module) (n : ℕ) (m : Machine) (t : ℕ) (a : Actor) (d : Duty) (rest : List Duty) (y : ℕ)
+    → AtDuty p n m t a d rest → MayDie d y → Alive m y
 may_die_alive p n m t a (DecideAtZero x) rest y here is = subst (Alive m) is (decide_alive p n m t a x rest here)
-may_die_alive p n m t a (SharedExchange x r w) rest y here is = subst (Alive m) is (exchange_alive p n m t a x w r rest here)
-may_die_alive p n m t a (MergeExchange x c w) rest y here is = subst (Alive m) is (merge_alive p n m t a x c w rest here)
+may_die_alive p n m t a (SharedExchange x r w) rest y here is =
+    subst (Alive m) is (exchange_alive p n m t a x w r rest here)
+may_die_alive p n m t a (MergeExchange x c w) rest y here is =
+    subst (Alive m) is (merge_alive p n m t a x c w rest here)
 may_die_alive p n m t a _ rest y here is = absurd is
 
 abbrev pub next_of : Machine → ℕ → Actor → Duty → List Duty
 next_of m t a d = next_by t (is_running a.status) a.head d (m.memory (address_of m.rows t a.head d))
 
-pub cell_found : (p : Module) (n : ℕ) (m : Machine) (t : ℕ) (a : Actor) (d : Duty) → Rule p n m → (x i k : ℕ) → d ≡ SettleCell x i k → m.memory (address_of m.rows t a.head d) ≡ 0
+pub cell_found : (p : Module) (n : ℕ) (m : Machine) (t : ℕ) (a : Actor) (d : Duty) → Rule p n m → (x i k : ℕ)
+    → d ≡ SettleCell x i k → m.memory (address_of m.rows t a.head d) ≡ 0
 cell_found p n m t a d rule x i k is = ap (λ (e : Duty). m.memory (address_of m.rows t a.head e)) is ∙ rule.cells x i
 
 -- what a step lets die was alive
-pub dying_was_alive : (p : Module) (n : ℕ) (m : Machine) (t : ℕ) (a : Actor) (d : Duty) (rest : List Duty) (y : ℕ) → AtDuty p n m t a d rest → dies_next (next_of m t a d) ≡ Some y → Alive m y
+pub dying_was_alive : (p : Module) (n : ℕ) (m : Machine) (t : ℕ) (a : Actor) (d : Duty) (rest : List Duty) (y : ℕ)
+    → AtDuty p n m t a d rest → dies_next (next_of m t a d) ≡ Some y → Alive m y
 dying_was_alive p n m t a d rest y here e =
-    may_die_alive p n m t a d rest y here (next_dies t (is_running a.status) a.head d (m.memory (address_of m.rows t a.head d)) y (cell_found p n m t a d here.rule) e)
+    may_die_alive p n m t a d rest y here
+    (next_dies t (is_running a.status) a.head d (m.memory (address_of m.rows t a.head d)) y
+    (cell_found p n m t a d here.rule) e)
 
 -- ---- life after a step
 
 -- a row lives on, begins to die, or is closed
-dies_with : (life : ℕ → Life) (o : Option ℕ) (t u x : ℕ) → u ≢ t → ((y : ℕ) → o ≡ Some y → life y ≡ Live) → dies_by (with_life life o (Dying t) x) u ≡ dies_by (life x) u
+dies_with : (life : ℕ → Life) (o : Option ℕ) (t u x : ℕ) → u ≢ t → ((y : ℕ) → o ≡ Some y → life y ≡ Live)
+    → dies_by (with_life life o (Dying t) x) u ≡ dies_by (life x) u
 dies_with life None t u x ne was = refl
 dies_with life (Some y) t u x ne was =
     elim (eqb_tells y x) [
       | inl same ↦
-          let now : dies_by (with_life life (Some y) (Dying t) x) u ≡ (t == u) = ap (λ (b : Bool). dies_by (cond b (Dying t) (life x)) u) same.0 in
-          let before : dies_by (life x) u ≡ false = ap (λ (l : Life). dies_by l u) (ap life (sym same.1) ∙ was y refl) in
+          let now : dies_by (with_life life (Some y) (Dying t) x) u ≡ (t == u) =
+          ap (λ (b : Bool). dies_by (cond b (Dying t) (life x)) u) same.0 in
+          let before : dies_by (life x) u ≡ false =
+          ap (λ (l : Life). dies_by l u) (ap life (sym same.1) ∙ was y refl) in
           now ∙ ne_eqb t u (λ e. ne (sym e)) ∙ sym before
       | inr other ↦ ap (λ (b : Bool). dies_by (cond b (Dying t) (life x)) u) other.0
     ]
 
-closes_with : (life : ℕ → Life) (o : Option ℕ) (u x : ℕ) → ((y : ℕ) → o ≡ Some y → dies_by (life y) u ≡ false) → dies_by (with_life life o Closed x) u ≡ dies_by (life x) u
+closes_with : (life : ℕ → Life) (o : Option ℕ) (u x : ℕ) → ((y : ℕ) → o ≡ Some y → dies_by (life y) u ≡ false)
+    → dies_by (with_life life o Closed x) u ≡ dies_by (life x) u
 closes_with life None u x was = refl
 closes_with life (Some y) u x was =
     elim (eqb_tells y x) [
-      | inl same ↦ ap (λ (b : Bool). dies_by (cond b Closed (life x)) u) same.0 ∙ sym (ap (λ (z : ℕ). dies_by (life z) u) (sym same.1) ∙ was y refl)
+      | inl same ↦
+          ap (λ (b : Bool). dies_by (cond b Closed (life x)) u) same.0
+          ∙ sym (ap (λ (z : ℕ). dies_by (life z) u) (sym same.1) ∙ was y refl)
       | inr other ↦ ap (λ (b : Bool). dies_by (cond b Closed (life x)) u) other.0
     ]
 
-ended_mine : (p : Module) (n : ℕ) (m : Machine) (t : ℕ) (a : Actor) (d : Duty) (rest : List Duty) (u y : ℕ) → AtDuty p n m t a d rest → u ≢ t → ended_row d ≡ Some y → dies_by (m.life y) u ≡ false
+ended_mine : (p : Module) (n : ℕ) (m : Machine) (t : ℕ) (a : Actor) (d : Duty) (rest : List Duty) (u y : ℕ)
+    → AtDuty p n m t a d rest → u ≢ t → ended_row d ≡ Some y → dies_by (m.life y) u ≡ false
 ended_mine p n m t a (SettleEnd x) rest u y here ne e =
     let mine : m.life y ≡ Dying t = ap m.life (sym (some_is x y e)) ∙ (head_of p n m t a (SettleEnd x) rest here).1 in
     ap (λ (l : Life). dies_by l u) mine ∙ ne_eqb t u (λ q. ne (sym q))
 ended_mine p n m t a _ rest u y here ne e = absurd (none_some y e)
 
 -- a row is born that nobody lets die
-born_with : (life : ℕ → Life) (o : Option ℕ) (u x : ℕ) → ((y : ℕ) → o ≡ Some y → dies_by (life y) u ≡ false) → dies_by (with_life life o Live x) u ≡ dies_by (life x) u
+born_with : (life : ℕ → Life) (o : Option ℕ) (u x : ℕ) → ((y : ℕ) → o ≡ Some y → dies_by (life y) u ≡ false)
+    → dies_by (with_life life o Live x) u ≡ dies_by (life x) u
 born_with life None u x was = refl
 born_with life (Some y) u x was =
     elim (eqb_tells y x) [
-      | inl same ↦ ap (λ (b : Bool). dies_by (cond b Live (life x)) u) same.0 ∙ sym (ap (λ (z : ℕ). dies_by (life z) u) (sym same.1) ∙ was y refl)
+      | inl same ↦
+          ap (λ (b : Bool). dies_by (cond b Live (life x)) u) same.0
+          ∙ sym (ap (λ (z : ℕ). dies_by (life z) u) (sym same.1) ∙ was y refl)
       | inr other ↦ ap (λ (b : Bool). dies_by (cond b Live (life x)) u) other.0
     ]
 
-born_was : (p : Module) (n : ℕ) (m : Machine) (t : ℕ) (a : Actor) (d : Duty) (rest : List Duty) (y : ℕ) → AtDuty p n m t a d rest → born_row d ≡ Some y → m.life y ≡ Unborn
-born_was p n m t a (BirthLocal x h) rest y here e = ap m.life (sym (some_is x y e)) ∙ next_unborn p n m t a x here.rule here.found (head_of p n m t a (BirthLocal x h) rest here).0
+born_was : (p : Module) (n : ℕ) (m : Machine) (t : ℕ) (a : Actor) (d : Duty) (rest : List Duty) (y : ℕ)
+    → AtDuty p n m t a d rest → born_row d ≡ Some y → m.life y ≡ Unborn
+born_was p n m t a (BirthLocal x h) rest y here e =
+    ap m.life (sym (some_is x y e))
+    ∙ next_unborn p n m t a x here.rule here.found (head_of p n m t a (BirthLocal x h) rest here).0
 born_was p n m t a _ rest y here e = absurd (none_some y e)
 
-lives_left : (p : Module) (n : ℕ) (m : Machine) (t : ℕ) (a : Actor) (d : Duty) (rest : List Duty) → AtDuty p n m t a d rest → (u x : ℕ) → u ≢ t
+lives_left : (p : Module) (n : ℕ) (m : Machine) (t : ℕ) (a : Actor) (d : Duty) (rest : List Duty)
+    → AtDuty p n m t a d rest → (u x : ℕ) → u ≢ t
     → dies_by (life_by m.life t d (next_of m t a d) x) u ≡ dies_by (m.life x) u
 lives_left p n m t a d rest here u x ne =
-    let first = λ (z : ℕ). dies_with m.life (dies_next (next_of m t a d)) t u z ne (λ y e. (dying_was_alive p n m t a d rest y here e).life) in
-    let second = λ (z : ℕ). closes_with (with_life m.life (dies_next (next_of m t a d)) (Dying t)) (ended_row d) u z (λ y e. first y ∙ ended_mine p n m t a d rest u y here ne e) ∙ first z in
-    born_with (with_life (with_life m.life (dies_next (next_of m t a d)) (Dying t)) (ended_row d) Closed) (born_row d) u x
+    let first =
+    λ (z : ℕ). dies_with m.life (dies_next (next_of m t a d)) t u z ne
+    (λ y e. (dying_was_alive p n m t a d rest y here e).life) in
+    let second =
+    λ (z : ℕ). closes_with (with_life m.life (dies_next (next_of m t a d)) (Dying t)) (ended_row d) u z
+    (λ y e. first y ∙ ended_mine p n m t a d rest u y here ne e) ∙ first z in
+    born_with (with_life (with_life m.life (dies_next (next_of m t a d)) (Dying t)) (ended_row d) Closed) (born_row d)
+    u x
     (λ y e. second y ∙ ap (λ (l : Life). dies_by l u) (born_was p n m t a d rest y here e)) ∙ second x
 
 -- ---- kinds
@@ -182,7 +226,8 @@ kinds_left p n m t a _ rest here x was = was
 
 -- ---- all that others rely on
 
-pub leaves_others : (p : Module) (n : ℕ) (m : Machine) (t : ℕ) (a : Actor) (d : Duty) (rest : List Duty) → AtDuty p n m t a d rest → LeavesOthers m (done_by m t a d rest) t
+pub leaves_others : (p : Module) (n : ℕ) (m : Machine) (t : ℕ) (a : Actor) (d : Duty) (rest : List Duty)
+    → AtDuty p n m t a d rest → LeavesOthers m (done_by m t a d rest) t
 leaves_others p n m t a d rest here = record {
   rows = refl;
   bag = λ u k object ne. moves_apart m.memory m.plain u t k object d (m.memory (address_of m.rows t a.head d)) ne;

@@ -37,7 +37,8 @@ status_runs Leaving e = absurd (omega (arith, e))
 status_runs Gone e = absurd (omega (arith, e))
 
 -- the marked row was born, so its block's thread is there
-by_running : (p : Module) (n : ℕ) (m : Machine) (x : ℕ) → Whole p n m → m.memory (Mark x) ≡ 1 → m.memory (ThreadWord (block_of m.rows x)) ≡ 1 → IsWatched m x
+by_running : (p : Module) (n : ℕ) (m : Machine) (x : ℕ) → Whole p n m → m.memory (Mark x) ≡ 1
+    → m.memory (ThreadWord (block_of m.rows x)) ≡ 1 → IsWatched m x
 by_running p n m x whole marked word =
     let used = born_used p n m x whole.rule (marked_born p n m x whole.rule marked) in
     let fits = (whole.rule.each (block_of m.rows x) used.by used.found).0 in
@@ -51,32 +52,46 @@ both_true true false c ea eb = absurd cc
 both_true false b c ea eb = absurd cc
 
 -- a scan goes on to the end of the used rows, and is an exit's
-later_scans : (rows t used : ℕ) (status : Status) (place : Place) (x : ℕ) (l : List Duty) → Later rows t used status place l → x < first_row rows t + used → scans x l ≡ true
+later_scans : (rows t used : ℕ) (status : Status) (place : Place) (x : ℕ) (l : List Duty)
+    → Later rows t used status place l → x < first_row rows t + used → scans x l ≡ true
     → (status ≡ Leaving) × (list_any (scans_over x) l ≡ true)
 later_scans rows t used status place x [] later low e = absurd cc
-later_scans rows t used status place x (Settle ∷ rest) later low e = later_scans rows t used status place x rest later low e
-later_scans rows t used status place x (SharedLoad y Handed ∷ rest) later low e = later_scans rows t used status place x rest later.1 low e
+later_scans rows t used status place x (Settle ∷ rest) later low e =
+    later_scans rows t used status place x rest later low e
+later_scans rows t used status place x (SharedLoad y Handed ∷ rest) later low e =
+    later_scans rows t used status place x rest later.1 low e
 later_scans rows t used status place x (Leave y k ∷ []) later low e = absurd cc
-later_scans rows t used status place x (Scan y k ∷ rest) later low e =
-    (later.0, both_true (nat_le y x) (nat_lt x (y + k)) (list_any (scans_over x) rest) e (lt-ltb x (y + k) (omega (arith, low, later.2))))
+later_scans rows t used status place x (Scan y k ∷ rest) later low e = (
+  later.0,
+  both_true (nat_le y x) (nat_lt x (y + k)) (list_any (scans_over x) rest) e
+      (lt-ltb x (y + k) (omega (arith, low, later.2))),
+)
 later_scans rows t used status place x (Finish ∷ []) later low e = absurd cc
 later_scans rows t used status place x _ later low e = absurd later
 
-agenda_scans : (rows t used : ℕ) (status : Status) (place : Place) (x : ℕ) (l : List Duty) → Agenda rows t used status place l → x < first_row rows t + used → scans x l ≡ true
+agenda_scans : (rows t used : ℕ) (status : Status) (place : Place) (x : ℕ) (l : List Duty)
+    → Agenda rows t used status place l → x < first_row rows t + used → scans x l ≡ true
     → (status ≡ Leaving) × (list_any (scans_over x) l ≡ true)
 agenda_scans rows t used status place x [] fits low e = absurd cc
-agenda_scans rows t used status place x (Settle ∷ rest) fits low e = later_scans rows t used status place x (Settle ∷ rest) fits low e
-agenda_scans rows t used status place x (Leave y k ∷ rest) fits low e = later_scans rows t used status place x (Leave y k ∷ rest) fits low e
-agenda_scans rows t used status place x (Scan y k ∷ rest) fits low e = later_scans rows t used status place x (Scan y k ∷ rest) fits low e
-agenda_scans rows t used status place x (Finish ∷ rest) fits low e = later_scans rows t used status place x (Finish ∷ rest) fits low e
+agenda_scans rows t used status place x (Settle ∷ rest) fits low e =
+    later_scans rows t used status place x (Settle ∷ rest) fits low e
+agenda_scans rows t used status place x (Leave y k ∷ rest) fits low e =
+    later_scans rows t used status place x (Leave y k ∷ rest) fits low e
+agenda_scans rows t used status place x (Scan y k ∷ rest) fits low e =
+    later_scans rows t used status place x (Scan y k ∷ rest) fits low e
+agenda_scans rows t used status place x (Finish ∷ rest) fits low e =
+    later_scans rows t used status place x (Finish ∷ rest) fits low e
 agenda_scans rows t used status place x (_ ∷ rest) fits low e = later_scans rows t used status place x rest fits low e
 
-exit_scans : (rows t : ℕ) (a : Actor) (status : Status) (x : ℕ) → AgendaFits rows t a status → x < first_row rows t + a.used → scans x a.agenda ≡ true → (status ≡ Leaving) × (list_any (scans_over x) a.agenda ≡ true)
+exit_scans : (rows t : ℕ) (a : Actor) (status : Status) (x : ℕ) → AgendaFits rows t a status
+    → x < first_row rows t + a.used → scans x a.agenda ≡ true
+    → (status ≡ Leaving) × (list_any (scans_over x) a.agenda ≡ true)
 exit_scans rows t a Gone x fits low e = let none : false ≡ true = ap (scans x) (sym fits.0) ∙ e in absurd cc
 exit_scans rows t a Running x fits low e = agenda_scans rows t a.used Running a.place x a.agenda fits low e
 exit_scans rows t a Leaving x fits low e = agenda_scans rows t a.used Leaving a.place x a.agenda fits low e
 
-by_exit : (p : Module) (n : ℕ) (m : Machine) (x : ℕ) (a : Actor) → Whole p n m → m.memory (Mark x) ≡ 1 → slice_get m.actors (block_of m.rows x) ≡ Some a → scans x a.agenda ≡ true → IsWatched m x
+by_exit : (p : Module) (n : ℕ) (m : Machine) (x : ℕ) (a : Actor) → Whole p n m → m.memory (Mark x) ≡ 1
+    → slice_get m.actors (block_of m.rows x) ≡ Some a → scans x a.agenda ≡ true → IsWatched m x
 by_exit p n m x a whole marked found e =
     let t = block_of m.rows x in
     let within = marked_within p n m t a x whole.rule found marked refl in
@@ -97,7 +112,8 @@ by_look m x weighs =
 
 -- ---- all marks
 
-watched_so : (p : Module) (n : ℕ) (m : Machine) (x : ℕ) → Whole p n m → m.memory (Mark x) ≡ 1 → rule.IsWatched m x → IsWatched m x
+watched_so : (p : Module) (n : ℕ) (m : Machine) (x : ℕ) → Whole p n m → m.memory (Mark x) ≡ 1 → rule.IsWatched m x
+    → IsWatched m x
 watched_so p n m x whole marked (rule.ByRunning word) = by_running p n m x whole marked word
 watched_so p n m x whole marked (rule.ByExit a found e) = by_exit p n m x a whole marked found e
 watched_so p n m x whole marked (rule.ByLook weighs) = by_look m x weighs
@@ -112,4 +128,5 @@ all_watched p n m whole = λ x set.
 pub marks_watched : (p : Module) → IsModule p → IsAcceptable p → Always MarksWatched p
 marks_watched p fits accepted = λ rows calls events some most are_calls.
     let n = 1 + length calls in
-    all_watched p n _ (whole_after p n (first_machine p rows calls) events (first_whole p rows calls fits accepted are_calls some most))
+    all_watched p n _ (whole_after p n (first_machine p rows calls) events
+    (first_whole p rows calls fits accepted are_calls some most))

@@ -27,7 +27,8 @@ use Rattle.brc_model.proofs.Neutral.{agenda_here}
 -- ---- weights of agendas
 
 -- two threads' agendas weigh no more than all
-two_weigh : (f : Duty → ℕ) (actors : List Actor) (t u : ℕ) (a b : Actor) → u ≢ t → slice_get actors t ≡ Some a → slice_get actors u ≡ Some b → agenda_weight f a + agenda_weight f b ≤ weight f actors
+two_weigh : (f : Duty → ℕ) (actors : List Actor) (t u : ℕ) (a b : Actor) → u ≢ t → slice_get actors t ≡ Some a
+    → slice_get actors u ≡ Some b → agenda_weight f a + agenda_weight f b ≤ weight f actors
 two_weigh f [] t u a b ne one two = absurd cc
 two_weigh f (c ∷ rest) zero zero a b ne one two = absurd (ne refl)
 two_weigh f (c ∷ rest) zero (suc u) a b ne one two =
@@ -36,20 +37,30 @@ two_weigh f (c ∷ rest) zero (suc u) a b ne one two =
 two_weigh f (c ∷ rest) (suc t) zero a b ne one two =
     let this : agenda_weight f c ≡ agenda_weight f b = ap (agenda_weight f) (some_is c b two) in
     omega (arith, sum_by-cons (agenda_weight f) c rest, agenda_in f rest t a one, this)
-two_weigh f (c ∷ rest) (suc t) (suc u) a b ne one two = omega (arith, sum_by-cons (agenda_weight f) c rest, two_weigh f rest t u a b (λ e. ne (ap suc e)) one two)
+two_weigh f (c ∷ rest) (suc t) (suc u) a b ne one two =
+    omega (arith, sum_by-cons (agenda_weight f) c rest, two_weigh f rest t u a b (λ e. ne (ap suc e)) one two)
 
 -- ---- who merges
 
-later_merges : (rows t used : ℕ) (status : Status) (place : Place) (x : ℕ) (rest : List Duty) → Later rows t used status place rest → sum_by (merges x) rest ≡ 0
+later_merges : (rows t used : ℕ) (status : Status) (place : Place) (x : ℕ) (rest : List Duty)
+    → Later rows t used status place rest → sum_by (merges x) rest ≡ 0
 later_merges rows t used status place x [] later = refl
-later_merges rows t used status place x (Settle ∷ rest) later = omega (arith, sum_by-cons (merges x) Settle rest, later_merges rows t used status place x rest later)
-later_merges rows t used status place x (SharedLoad y Handed ∷ rest) later = omega (arith, sum_by-cons (merges x) (SharedLoad y Handed) rest, later_merges rows t used status place x rest later.1)
+later_merges rows t used status place x (Settle ∷ rest) later =
+    omega (arith, sum_by-cons (merges x) Settle rest, later_merges rows t used status place x rest later)
+later_merges rows t used status place x (SharedLoad y Handed ∷ rest) later =
+    omega (
+      arith,
+      sum_by-cons (merges x) (SharedLoad y Handed) rest,
+      later_merges rows t used status place x rest later.1,
+    )
 later_merges rows t used status place x (Leave y k ∷ []) later = refl
-later_merges rows t used status place x (Scan y k ∷ rest) later = omega (arith, sum_by-cons (merges x) (Scan y k) rest, later_merges rows t used status place x rest later.3)
+later_merges rows t used status place x (Scan y k ∷ rest) later =
+    omega (arith, sum_by-cons (merges x) (Scan y k) rest, later_merges rows t used status place x rest later.3)
 later_merges rows t used status place x (Finish ∷ []) later = refl
 later_merges rows t used status place x _ later = absurd later
 
-rest_merges : (rows t used : ℕ) (status : Status) (place : Place) (x : ℕ) (d : Duty) (rest : List Duty) → Agenda rows t used status place (d ∷ rest) → sum_by (merges x) rest ≡ 0
+rest_merges : (rows t used : ℕ) (status : Status) (place : Place) (x : ℕ) (d : Duty) (rest : List Duty)
+    → Agenda rows t used status place (d ∷ rest) → sum_by (merges x) rest ≡ 0
 rest_merges rows t used status place x Settle rest fits = later_merges rows t used status place x rest fits
 rest_merges rows t used status place x (Leave y k) [] fits = refl
 rest_merges rows t used status place x (Leave y k) (e ∷ rest) fits = absurd fits
@@ -65,7 +76,8 @@ record Merger (m : Machine) (u : ℕ) (b : Actor) (x : ℕ) : Type 0 where
   pub agenda : b.agenda ≡ first ∷ rest
   pub merge : IsMergeOf m u b x rest
 
-merger_knows : (m : Machine) (u x : ℕ) (b : Actor) (d : Duty) (rest : List Duty) → HeadFits m u b d rest → 0 < merges x d → IsMergeOf m u b x rest
+merger_knows : (m : Machine) (u x : ℕ) (b : Actor) (d : Duty) (rest : List Duty) → HeadFits m u b d rest
+    → 0 < merges x d → IsMergeOf m u b x rest
 merger_knows m u x b (MergeLoad y c) rest fits some =
     elim (eqb_tells y x) [
       | inl same ↦ subst (λ (z : ℕ). IsMergeOf m u b z rest) same.1 fits.2
@@ -78,32 +90,54 @@ merger_knows m u x b (MergeExchange y c w) rest fits some =
     ]
 merger_knows m u x b _ rest fits some = absurd (omega (arith, some))
 
-first_merges : (m : Machine) (u x : ℕ) (b : Actor) (d : Duty) (rest : List Duty) → b.agenda ≡ d ∷ rest → sum_by (merges x) rest ≡ 0 → HeadFits m u b d rest → 0 < agenda_weight (merges x) b → Merger m u b x
+first_merges : (m : Machine) (u x : ℕ) (b : Actor) (d : Duty) (rest : List Duty) → b.agenda ≡ d ∷ rest
+    → sum_by (merges x) rest ≡ 0 → HeadFits m u b d rest → 0 < agenda_weight (merges x) b → Merger m u b x
 first_merges m u x b d rest is none head some =
-    let whole : agenda_weight (merges x) b ≡ merges x d + sum_by (merges x) rest = ap (sum_by (merges x)) is ∙ sum_by-cons (merges x) d rest in
-    record { first = d; rest = rest; agenda = is; merge = merger_knows m u x b d rest head (omega (arith, whole, none, some)) }
+    let whole : agenda_weight (merges x) b ≡ merges x d + sum_by (merges x) rest =
+    ap (sum_by (merges x)) is ∙ sum_by-cons (merges x) d rest in
+    record {
+      first = d;
+      rest = rest;
+      agenda = is;
+      merge =
+          merger_knows m u x b d rest head (omega (arith, whole, none, some));
+    }
 
-merger_of : (m : Machine) (u x : ℕ) (b : Actor) (agenda : List Duty) → b.agenda ≡ agenda → (status : Status) → AgendaFits m.rows u b status → HeadOf m u b agenda → 0 < agenda_weight (merges x) b → Merger m u b x
-merger_of m u x b [] is status fits head some = let none : agenda_weight (merges x) b ≡ 0 = ap (sum_by (merges x)) is in absurd (omega (arith, some, none))
+merger_of : (m : Machine) (u x : ℕ) (b : Actor) (agenda : List Duty) → b.agenda ≡ agenda → (status : Status)
+    → AgendaFits m.rows u b status → HeadOf m u b agenda → 0 < agenda_weight (merges x) b → Merger m u b x
+merger_of m u x b [] is status fits head some =
+    let none : agenda_weight (merges x) b ≡ 0 = ap (sum_by (merges x)) is in absurd (omega (arith, some, none))
 merger_of m u x b (d ∷ rest) is Gone fits head some = absurd (let wrong : [] ≡ d ∷ rest = sym fits.0 ∙ is in cc)
-merger_of m u x b (d ∷ rest) is Running fits head some = first_merges m u x b d rest is (rest_merges m.rows u b.used Running b.place x d rest (subst (λ (l : List Duty). Agenda m.rows u b.used Running b.place l) is fits)) head some
-merger_of m u x b (d ∷ rest) is Leaving fits head some = first_merges m u x b d rest is (rest_merges m.rows u b.used Leaving b.place x d rest (subst (λ (l : List Duty). Agenda m.rows u b.used Leaving b.place l) is fits)) head some
+merger_of m u x b (d ∷ rest) is Running fits head some =
+    first_merges m u x b d rest is
+    (rest_merges m.rows u b.used Running b.place x d rest
+    (subst (λ (l : List Duty). Agenda m.rows u b.used Running b.place l) is fits)) head some
+merger_of m u x b (d ∷ rest) is Leaving fits head some =
+    first_merges m u x b d rest is
+    (rest_merges m.rows u b.used Leaving b.place x d rest
+    (subst (λ (l : List Duty). Agenda m.rows u b.used Leaving b.place l) is fits)) head some
 
 -- ---- a claimant
 
-handed_waits : (x u : ℕ) (b : Actor) (d : Duty) (rest : List Duty) → b.agenda ≡ d ∷ rest → FollowsHanded x rest → 1 ≤ agenda_weight (waits x) b
+handed_waits : (x u : ℕ) (b : Actor) (d : Duty) (rest : List Duty) → b.agenda ≡ d ∷ rest → FollowsHanded x rest
+    → 1 ≤ agenda_weight (waits x) b
 handed_waits x u b d rest is follows =
-    let whole : agenda_weight (waits x) b ≡ waits x d + sum_by (waits x) rest = ap (sum_by (waits x)) is ∙ sum_by-cons (waits x) d rest in
+    let whole : agenda_weight (waits x) b ≡ waits x d + sum_by (waits x) rest =
+    ap (sum_by (waits x)) is ∙ sum_by-cons (waits x) d rest in
     omega (arith, whole, handed_weighs x rest follows)
 
 -- a claimant and another merger: the owner runs and is the other, or two decrements await
-claimants_clash : (p : Module) (n : ℕ) (m : Machine) (t u x : ℕ) (a b : Actor) (rest : List Duty) → AtDuty p n m t a (MergeSwap x Handed) rest → u ≢ t → slice_get m.actors u ≡ Some b → Merger m u b x → Phased (numbers_of m x) → ⊥
+claimants_clash : (p : Module) (n : ℕ) (m : Machine) (t u x : ℕ) (a b : Actor) (rest : List Duty)
+    → AtDuty p n m t a (MergeSwap x Handed) rest → u ≢ t → slice_get m.actors u ≡ Some b → Merger m u b x
+    → Phased (numbers_of m x) → ⊥
 claimants_clash p n m t u x a b rest here ne found merger phased =
     let fits = head_of p n m t a (MergeSwap x Handed) rest here in
     elim merger.merge [
       | inl own ↦ elim fits.1 [
         | inl mine ↦ ne (sym own.1 ∙ mine)
-        | inr stopped ↦ stopped (ap (λ (z : ℕ). m.memory (ThreadWord z)) own.1 ∙ (here.rule.each u b found).0.word ∙ ap status_word own.0)
+        | inr stopped ↦
+            stopped (ap (λ (z : ℕ). m.memory (ThreadWord z)) own.1 ∙ (here.rule.each u b found).0.word
+            ∙ ap status_word own.0)
       ]
       | inr follows ↦
           let mine = handed_waits x t a (MergeSwap x Handed) rest here.agenda fits.2 in
@@ -116,19 +150,34 @@ claimants_clash p n m t u x a b rest here ne found merger phased =
     ]
 
 -- while a thread claims a row, no other is at a merge of it
-claimed_alone : (p : Module) (n : ℕ) (m : Machine) (t : ℕ) (a : Actor) (x : ℕ) (rest : List Duty) → AtDuty p n m t a (MergeSwap x Handed) rest → (a.status ≡ Gone → ⊥) → 0 < weight (merges x) m.actors → Phased (numbers_of m x) → ⊥
+claimed_alone : (p : Module) (n : ℕ) (m : Machine) (t : ℕ) (a : Actor) (x : ℕ) (rest : List Duty)
+    → AtDuty p n m t a (MergeSwap x Handed) rest → (a.status ≡ Gone → ⊥) → 0 < weight (merges x) m.actors
+    → Phased (numbers_of m x) → ⊥
 claimed_alone p n m t a x rest here alive some phased =
     let other = some_weighs (merges x) m.actors some in
-    let whole : agenda_weight (merges x) a ≡ merges x (MergeSwap x Handed) + sum_by (merges x) rest = ap (sum_by (merges x)) here.agenda ∙ sum_by-cons (merges x) (MergeSwap x Handed) rest in
-    let none : agenda_weight (merges x) a ≡ 0 = omega (arith, whole, rest_merges m.rows t a.used a.status a.place x (MergeSwap x Handed) rest (agenda_here p n m t a (MergeSwap x Handed) rest here alive)) in
+    let whole : agenda_weight (merges x) a ≡ merges x (MergeSwap x Handed) + sum_by (merges x) rest =
+    ap (sum_by (merges x)) here.agenda ∙ sum_by-cons (merges x) (MergeSwap x Handed) rest in
+    let none : agenda_weight (merges x) a ≡ 0 =
+    omega (
+      arith,
+      whole,
+      rest_merges m.rows t a.used a.status a.place x (MergeSwap x Handed) rest
+          (agenda_here p n m t a (MergeSwap x Handed) rest here alive),
+    ) in
     let ne : other.who ≢ t = λ same.
-    let which : agenda_weight (merges x) other.which ≡ agenda_weight (merges x) a = ap (agenda_weight (merges x)) (some_is other.which a (sym other.found ∙ ap (slice_get m.actors) same ∙ here.found)) in
+    let which : agenda_weight (merges x) other.which ≡ agenda_weight (merges x) a =
+    ap (agenda_weight (merges x)) (some_is other.which a
+    (sym other.found ∙ ap (slice_get m.actors) same ∙ here.found)) in
     absurd (omega (arith, other.some, which, none)) in
     let fits = here.rule.each other.who other.which other.found in
-    claimants_clash p n m t other.who x a other.which rest here ne other.found (merger_of m other.who x other.which other.which.agenda refl other.which.status fits.1 fits.0.head_fits other.some) phased
+    claimants_clash p n m t other.who x a other.which rest here ne other.found
+    (merger_of m other.who x other.which other.which.agenda refl other.which.status fits.1 fits.0.head_fits
+    other.some) phased
 
 -- a claimant that finds no owner finds the row merged
-pub swapped_apart : (p : Module) (n : ℕ) (m : Machine) (t : ℕ) (a : Actor) (x : ℕ) (rest : List Duty) → AtDuty p n m t a (MergeSwap x Handed) rest → (a.status ≡ Gone → ⊥) → m.memory (Local x) ≡ 0 → phase_part (m.memory (Shared x)) ≡ 3
+pub swapped_apart : (p : Module) (n : ℕ) (m : Machine) (t : ℕ) (a : Actor) (x : ℕ) (rest : List Duty)
+    → AtDuty p n m t a (MergeSwap x Handed) rest → (a.status ≡ Gone → ⊥) → m.memory (Local x) ≡ 0
+    → phase_part (m.memory (Shared x)) ≡ 3
 swapped_apart p n m t a x rest here alive none =
     elim (claim_alive p n m t a x rest here).live.mode [
       | InOwned o ↦ absurd (omega (arith, o.owned, none))
@@ -151,28 +200,54 @@ agenda_carries : (x : ℕ) (agenda : List Duty) → sum_by (merges x) agenda ≡
 agenda_carries x [] none = refl
 agenda_carries x (d ∷ rest) none =
     let first : carries x d ≡ 0 = unmerged_carries x d (omega (arith, sum_by-cons (merges x) d rest, none)) in
-    omega (arith, sum_by-cons (carries x) d rest, first, agenda_carries x rest (omega (arith, sum_by-cons (merges x) d rest, none)))
+    omega (
+      arith,
+      sum_by-cons (carries x) d rest,
+      first,
+      agenda_carries x rest (omega (arith, sum_by-cons (merges x) d rest, none)),
+    )
 
 all_carry : (x : ℕ) (actors : List Actor) → weight (merges x) actors ≡ 0 → weight (carries x) actors ≡ 0
 all_carry x [] none = refl
 all_carry x (b ∷ rest) none =
-    let first : agenda_weight (carries x) b ≡ 0 = agenda_carries x b.agenda (omega (arith, sum_by-cons (agenda_weight (merges x)) b rest, none)) in
-    omega (arith, sum_by-cons (agenda_weight (carries x)) b rest, first, all_carry x rest (omega (arith, sum_by-cons (agenda_weight (merges x)) b rest, none)))
+    let first : agenda_weight (carries x) b ≡ 0 =
+    agenda_carries x b.agenda (omega (arith, sum_by-cons (agenda_weight (merges x)) b rest, none)) in
+    omega (
+      arith,
+      sum_by-cons (agenda_weight (carries x)) b rest,
+      first,
+      all_carry x rest (omega (arith, sum_by-cons (agenda_weight (merges x)) b rest, none)),
+    )
 
 -- where one thread alone merges, it alone carries
-one_carries : (x : ℕ) (actors : List Actor) (t : ℕ) (a : Actor) → slice_get actors t ≡ Some a → weight (merges x) actors ≡ agenda_weight (merges x) a → weight (carries x) actors ≡ agenda_weight (carries x) a
+one_carries : (x : ℕ) (actors : List Actor) (t : ℕ) (a : Actor) → slice_get actors t ≡ Some a
+    → weight (merges x) actors ≡ agenda_weight (merges x) a → weight (carries x) actors ≡ agenda_weight (carries x) a
 one_carries x [] t a found one = absurd cc
 one_carries x (b ∷ rest) zero a found one =
-    let same : agenda_weight (merges x) b ≡ agenda_weight (merges x) a = ap (agenda_weight (merges x)) (some_is b a found) in
-    let also : agenda_weight (carries x) b ≡ agenda_weight (carries x) a = ap (agenda_weight (carries x)) (some_is b a found) in
-    omega (arith, sum_by-cons (agenda_weight (carries x)) b rest, also, all_carry x rest (omega (arith, sum_by-cons (agenda_weight (merges x)) b rest, same, one)))
+    let same : agenda_weight (merges x) b ≡ agenda_weight (merges x) a =
+    ap (agenda_weight (merges x)) (some_is b a found) in
+    let also : agenda_weight (carries x) b ≡ agenda_weight (carries x) a =
+    ap (agenda_weight (carries x)) (some_is b a found) in
+    omega (
+      arith,
+      sum_by-cons (agenda_weight (carries x)) b rest,
+      also,
+      all_carry x rest (omega (arith, sum_by-cons (agenda_weight (merges x)) b rest, same, one)),
+    )
 one_carries x (b ∷ rest) (suc t) a found one =
     let others = agenda_in (merges x) rest t a found in
-    let first : agenda_weight (carries x) b ≡ 0 = agenda_carries x b.agenda (omega (arith, sum_by-cons (agenda_weight (merges x)) b rest, others, one)) in
-    omega (arith, sum_by-cons (agenda_weight (carries x)) b rest, first, one_carries x rest t a found (omega (arith, sum_by-cons (agenda_weight (merges x)) b rest, others, one)))
+    let first : agenda_weight (carries x) b ≡ 0 =
+    agenda_carries x b.agenda (omega (arith, sum_by-cons (agenda_weight (merges x)) b rest, others, one)) in
+    omega (
+      arith,
+      sum_by-cons (agenda_weight (carries x)) b rest,
+      first,
+      one_carries x rest t a found (omega (arith, sum_by-cons (agenda_weight (merges x)) b rest, others, one)),
+    )
 
 -- all that is carried of a row is what its merger carries
-pub carried_is : (p : Module) (n : ℕ) (m : Machine) (t : ℕ) (a : Actor) (x c w : ℕ) (rest : List Duty) → AtDuty p n m t a (MergeExchange x c w) rest → weight (carries x) m.actors ≡ c
+pub carried_is : (p : Module) (n : ℕ) (m : Machine) (t : ℕ) (a : Actor) (x c w : ℕ) (rest : List Duty)
+    → AtDuty p n m t a (MergeExchange x c w) rest → weight (carries x) m.actors ≡ c
 carried_is p n m t a x c w rest here =
     let d : Duty = MergeExchange x c w in
     let one : one_if (x == x) ≡ 1 = ap one_if (eq-eqb x x refl) in
@@ -183,18 +258,27 @@ carried_is p n m t a x c w rest here =
       | InSwapped s ↦ s.merging
       | InMerged s ↦ absurd (omega (arith, first, one, s.merging))
     ] in
-    let whole : agenda_weight (merges x) a ≡ merges x d + sum_by (merges x) rest = ap (sum_by (merges x)) here.agenda ∙ sum_by-cons (merges x) d rest in
-    let carry : agenda_weight (carries x) a ≡ carries x d + sum_by (carries x) rest = ap (sum_by (carries x)) here.agenda ∙ sum_by-cons (carries x) d rest in
+    let whole : agenda_weight (merges x) a ≡ merges x d + sum_by (merges x) rest =
+    ap (sum_by (merges x)) here.agenda ∙ sum_by-cons (merges x) d rest in
+    let carry : agenda_weight (carries x) a ≡ carries x d + sum_by (carries x) rest =
+    ap (sum_by (carries x)) here.agenda ∙ sum_by-cons (carries x) d rest in
     let others : sum_by (carries x) rest ≡ 0 = agenda_carries x rest (omega (arith, first, all, one)) in
     omega (arith, one_carries x m.actors t a here.found (omega (arith, all, whole, first, one)), carry, others, mine)
 
 -- a handed reference that awaits keeps the merged object alive
-pub awaited_lives : (p : Module) (n : ℕ) (m : Machine) (t : ℕ) (a : Actor) (x c w : ℕ) (rest : List Duty) → AtDuty p n m t a (MergeExchange x c w) rest → FollowsHanded x rest → m.memory (Shared x) ≡ w → merged_word w c ≡ dead_word → ⊥
+pub awaited_lives : (p : Module) (n : ℕ) (m : Machine) (t : ℕ) (a : Actor) (x c w : ℕ) (rest : List Duty)
+    → AtDuty p n m t a (MergeExchange x c w) rest → FollowsHanded x rest → m.memory (Shared x) ≡ w
+    → merged_word w c ≡ dead_word → ⊥
 awaited_lives p n m t a x c w rest here follows same dead =
     let alive = merge_alive p n m t a x c w rest here in
     let first = first_weighs (merges x) m.actors t a (MergeExchange x c w) rest here.found here.agenda in
     let one : one_if (x == x) ≡ 1 = ap one_if (eq-eqb x x refl) in
-    let waiting : 1 ≤ weight (waits x) m.actors = omega (arith, first_weighs (waits x) m.actors t a (MergeExchange x c w) rest here.found here.agenda, handed_weighs x rest follows) in
+    let waiting : 1 ≤ weight (waits x) m.actors =
+    omega (
+      arith,
+      first_weighs (waits x) m.actors t a (MergeExchange x c w) rest here.found here.agenda,
+      handed_weighs x rest follows,
+    ) in
     let local : m.memory (Local x) ≡ 0 = elim alive.live.mode [
       | InOwned o ↦ absurd (omega (arith, first, one, o.merging))
       | InSwapped s ↦ s.local

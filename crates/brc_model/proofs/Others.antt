@@ -23,8 +23,10 @@ use Rattle.brc_model.proofs.Rule.{HoldsAt, PlaceFits, OwnsLocally, IsBacked, May
 -- what the others rely on
 pub record LeavesOthers (m new : Machine) (t : ℕ) : Type 0 where
   pub rows : new.rows ≡ m.rows
-  pub bag : (u : ℕ) (k : Holding) (object : ℕ) → u ≢ t → held (reference_of u k object) new.plain.references ≡ held (reference_of u k object) m.plain.references
-  pub locals : (u x : ℕ) (b : Actor) → u ≢ t → slice_get m.actors u ≡ Some b → OwnsLocally m u b x → new.memory (Local x) ≡ m.memory (Local x)
+  pub bag : (u : ℕ) (k : Holding) (object : ℕ) → u ≢ t
+      → held (reference_of u k object) new.plain.references ≡ held (reference_of u k object) m.plain.references
+  pub locals : (u x : ℕ) (b : Actor) → u ≢ t → slice_get m.actors u ≡ Some b → OwnsLocally m u b x
+      → new.memory (Local x) ≡ m.memory (Local x)
   pub merged : (x : ℕ) → phase_part (m.memory (Shared x)) ≡ 3 → phase_part (new.memory (Shared x)) ≡ 3
   pub stopped : (u : ℕ) → m.memory (ThreadWord u) ≢ 1 → new.memory (ThreadWord u) ≢ 1
   pub words : (u : ℕ) → u ≢ t → new.memory (ThreadWord u) ≡ m.memory (ThreadWord u)
@@ -33,27 +35,41 @@ pub record LeavesOthers (m new : Machine) (t : ℕ) : Type 0 where
   pub kinds : (x : ℕ) → HasCountedKind m.memory x → HasCountedKind new.memory x
   pub lives : (u x : ℕ) → u ≢ t → dies_by (new.life x) u ≡ dies_by (m.life x) u
 
-holds_kept : (m new : Machine) (t u : ℕ) (says : Holding → ℕ → Bool) (agenda : List Duty) → LeavesOthers m new t → u ≢ t → HoldsAt m.plain.references u says agenda → HoldsAt new.plain.references u says agenda
-holds_kept m new t u says agenda leaves ne holds = record { each = λ k object. omega (arith, leaves.bag u k object ne, holds.each k object) }
+holds_kept : (m new : Machine) (t u : ℕ) (says : Holding → ℕ → Bool) (agenda : List Duty) → LeavesOthers m new t → u ≢ t
+    → HoldsAt m.plain.references u says agenda → HoldsAt new.plain.references u says agenda
+holds_kept m new t u says agenda leaves ne holds =
+    record { each = λ k object. omega (arith, leaves.bag u k object ne, holds.each k object) }
 
-place_kept : (code : List Instr) (m new : Machine) (t u : ℕ) (agenda : List Duty) (place : Place) → LeavesOthers m new t → u ≢ t → PlaceFits code m.plain.references u agenda place → PlaceFits code new.plain.references u agenda place
+place_kept : (code : List Instr) (m new : Machine) (t u : ℕ) (agenda : List Duty) (place : Place) → LeavesOthers m new t
+    → u ≢ t → PlaceFits code m.plain.references u agenda place → PlaceFits code new.plain.references u agenda place
 place_kept code m new t u agenda (Standing left) leaves ne fits = holds_kept m new t u the_root agenda leaves ne fits
-place_kept code m new t u agenda (Inside left at variables) leaves ne fits = (fits.0, fits.1, holds_kept m new t u (of_variables fits.0 variables) agenda leaves ne fits.2)
+place_kept code m new t u agenda (Inside left at variables) leaves ne fits =
+    (fits.0, fits.1, holds_kept m new t u (of_variables fits.0 variables) agenda leaves ne fits.2)
 place_kept code m new t u agenda Departing leaves ne fits = holds_kept m new t u nothing agenda leaves ne fits
 
 backed_kept : (m new : Machine) (t u x : ℕ) → LeavesOthers m new t → u ≢ t → IsBacked m u x → IsBacked new u x
-backed_kept m new t u x leaves ne backed = record { by = backed.by; held_so = omega (arith, leaves.bag u backed.by x ne, backed.held_so) }
+backed_kept m new t u x leaves ne backed =
+    record { by = backed.by; held_so = omega (arith, leaves.bag u backed.by x ne, backed.held_so) }
 
-owns_kept : (m new : Machine) (t u x : ℕ) (b : Actor) → LeavesOthers m new t → u ≢ t → slice_get m.actors u ≡ Some b → OwnsLocally m u b x → OwnsLocally new u b x
+owns_kept : (m new : Machine) (t u x : ℕ) (b : Actor) → LeavesOthers m new t → u ≢ t → slice_get m.actors u ≡ Some b
+    → OwnsLocally m u b x → OwnsLocally new u b x
 owns_kept m new t u x b leaves ne found owns =
     let same = leaves.locals u x b ne found owns in
-    record { running = owns.running; owner = ap owner_part same ∙ owns.owner; low = subst (λ (w : ℕ). local_part w < 4294967295) (sym same) owns.low }
+    record {
+      running = owns.running;
+      owner = ap owner_part same ∙ owns.owner;
+      low =
+          subst (λ (w : ℕ). local_part w < 4294967295) (sym same) owns.low;
+    }
 
 may_merge_kept : (m new : Machine) (t u x : ℕ) → LeavesOthers m new t → MayMerge m u x → MayMerge new u x
 may_merge_kept m new t u x leaves (inl mine) = inl (ap (λ (r : ℕ). block_of r x) leaves.rows ∙ mine)
-may_merge_kept m new t u x leaves (inr stopped) = inr (subst (λ (r : ℕ). new.memory (ThreadWord (block_of r x)) ≢ 1) (sym leaves.rows) (leaves.stopped (block_of m.rows x) stopped))
+may_merge_kept m new t u x leaves (inr stopped) =
+    inr (subst (λ (r : ℕ). new.memory (ThreadWord (block_of r x)) ≢ 1) (sym leaves.rows)
+    (leaves.stopped (block_of m.rows x) stopped))
 
-merge_of_kept : (m new : Machine) (t u x : ℕ) (b : Actor) (rest : List Duty) → LeavesOthers m new t → IsMergeOf m u b x rest → IsMergeOf new u b x rest
+merge_of_kept : (m new : Machine) (t u x : ℕ) (b : Actor) (rest : List Duty) → LeavesOthers m new t
+    → IsMergeOf m u b x rest → IsMergeOf new u b x rest
 merge_of_kept m new t u x b rest leaves (inl own) = inl (own.0, ap (λ (r : ℕ). block_of r x) leaves.rows ∙ own.1)
 merge_of_kept m new t u x b rest leaves (inr handed) = inr handed
 
@@ -77,32 +93,53 @@ next_kept m new t u x b leaves next = record {
   room = omega (arith, next.room, leaves.rows);
 }
 
-head_kept : (m new : Machine) (t u : ℕ) (b : Actor) (d : Duty) (rest : List Duty) → LeavesOthers m new t → u ≢ t → slice_get m.actors u ≡ Some b → HeadFits m u b d rest → HeadFits new u b d rest
+head_kept : (m new : Machine) (t u : ℕ) (b : Actor) (d : Duty) (rest : List Duty) → LeavesOthers m new t → u ≢ t
+    → slice_get m.actors u ≡ Some b → HeadFits m u b d rest → HeadFits new u b d rest
 head_kept m new t u b (RetainLoad x h) rest leaves ne found fits = backed_kept m new t u x leaves ne fits
-head_kept m new t u b (RetainStore x h w) rest leaves ne found fits =
-    (fits.0, backed_kept m new t u x leaves ne fits.1, owns_kept m new t u x b leaves ne found fits.2, leaves.locals u x b ne found fits.2 ∙ fits.3, fits.4, fits.5)
+head_kept m new t u b (RetainStore x h w) rest leaves ne found fits = (
+  fits.0,
+  backed_kept m new t u x leaves ne fits.1,
+  owns_kept m new t u x b leaves ne found fits.2,
+  leaves.locals u x b ne found fits.2 ∙ fits.3,
+  fits.4,
+  fits.5,
+)
 head_kept m new t u b (RetainAdd x h) rest leaves ne found fits = (fits.0, backed_kept m new t u x leaves ne fits.1)
 head_kept m new t u b (ReleaseLoad x h) rest leaves ne found fits = fits
-head_kept m new t u b (ReleaseStore x w) rest leaves ne found fits = (fits.0, owns_kept m new t u x b leaves ne found fits.1, leaves.locals u x b ne found fits.1 ∙ fits.2, fits.3)
-head_kept m new t u b (DecideAtZero x) rest leaves ne found fits =
-    (fits.0, owns_kept m new t u x b leaves ne found fits.1, ap local_part (leaves.locals u x b ne found fits.1) ∙ fits.2)
+head_kept m new t u b (ReleaseStore x w) rest leaves ne found fits =
+    (fits.0, owns_kept m new t u x b leaves ne found fits.1, leaves.locals u x b ne found fits.1 ∙ fits.2, fits.3)
+head_kept m new t u b (DecideAtZero x) rest leaves ne found fits = (
+  fits.0,
+  owns_kept m new t u x b leaves ne found fits.1,
+  ap local_part (leaves.locals u x b ne found fits.1) ∙ fits.2,
+)
 head_kept m new t u b (SharedLoad x Own) rest leaves ne found fits = fits
 head_kept m new t u b (SharedLoad x Handed) rest leaves ne found fits = (fits.0, leaves.merged x fits.1)
 head_kept m new t u b (SharedExchange x Own w) rest leaves ne found fits = fits
 head_kept m new t u b (SharedExchange x Handed w) rest leaves ne found fits = (fits.0, leaves.merged x fits.1)
 head_kept m new t u b (SetMark x) rest leaves ne found fits = fits
 head_kept m new t u b (Look x) rest leaves ne found fits = fits
-head_kept m new t u b (TakeMark x) rest leaves ne found fits =
-    (fits.0, subst (λ (r : ℕ). new.memory (ThreadWord (block_of r x)) ≢ 1) (sym leaves.rows) (leaves.stopped (block_of m.rows x) fits.1))
-head_kept m new t u b (MergeSwap x Own) rest leaves ne found fits =
-    (fits.0, owns_kept m new t u x b leaves ne found fits.1, ap local_part (leaves.locals u x b ne found fits.1) ∙ fits.2)
-head_kept m new t u b (MergeSwap x Handed) rest leaves ne found fits = (fits.0, may_merge_kept m new t u x leaves fits.1, fits.2)
-head_kept m new t u b (MergeLoad x c) rest leaves ne found fits = (fits.0, fits.1, merge_of_kept m new t u x b rest leaves fits.2)
-head_kept m new t u b (MergeExchange x c w) rest leaves ne found fits = (fits.0, fits.1, merge_of_kept m new t u x b rest leaves fits.2)
+head_kept m new t u b (TakeMark x) rest leaves ne found fits = (
+  fits.0,
+  subst (λ (r : ℕ). new.memory (ThreadWord (block_of r x)) ≢ 1) (sym leaves.rows)
+      (leaves.stopped (block_of m.rows x) fits.1),
+)
+head_kept m new t u b (MergeSwap x Own) rest leaves ne found fits = (
+  fits.0,
+  owns_kept m new t u x b leaves ne found fits.1,
+  ap local_part (leaves.locals u x b ne found fits.1) ∙ fits.2,
+)
+head_kept m new t u b (MergeSwap x Handed) rest leaves ne found fits =
+    (fits.0, may_merge_kept m new t u x leaves fits.1, fits.2)
+head_kept m new t u b (MergeLoad x c) rest leaves ne found fits =
+    (fits.0, fits.1, merge_of_kept m new t u x b rest leaves fits.2)
+head_kept m new t u b (MergeExchange x c w) rest leaves ne found fits =
+    (fits.0, fits.1, merge_of_kept m new t u x b rest leaves fits.2)
 head_kept m new t u b (Die x) rest leaves ne found fits = (fits.0, life_kept m new t u x leaves ne fits.1)
 head_kept m new t u b Settle rest leaves ne found fits = fits
 head_kept m new t u b (SettleKind x) rest leaves ne found fits = (fits.0, life_kept m new t u x leaves ne fits.1)
-head_kept m new t u b (SettleCell x i n) rest leaves ne found fits = (fits.0, life_kept m new t u x leaves ne fits.1, fits.2)
+head_kept m new t u b (SettleCell x i n) rest leaves ne found fits =
+    (fits.0, life_kept m new t u x leaves ne fits.1, fits.2)
 head_kept m new t u b (TakeSlot x) rest leaves ne found fits = (fits.0, life_kept m new t u x leaves ne fits.1)
 head_kept m new t u b (CloseResource x) rest leaves ne found fits = (fits.0, life_kept m new t u x leaves ne fits.1)
 head_kept m new t u b (SettleEnd x) rest leaves ne found fits = (fits.0, life_kept m new t u x leaves ne fits.1)
@@ -110,34 +147,53 @@ head_kept m new t u b (Leave x k) rest leaves ne found fits = fits
 head_kept m new t u b (Scan x k) rest leaves ne found fits = fits
 head_kept m new t u b Finish rest leaves ne found fits = fits
 head_kept m new t u b (ClaimMark x) rest leaves ne found fits = ap (λ (r : ℕ). block_of r x) leaves.rows ∙ fits
-head_kept m new t u b (BirthKind x h w) rest leaves ne found fits = (next_kept m new t u x b leaves fits.0, fits.1, fits.2)
-head_kept m new t u b (BirthSlot x h) rest leaves ne found fits = (next_kept m new t u x b leaves fits.0, fits.1, leaves.kinds x fits.2)
-head_kept m new t u b (BirthLocal x h) rest leaves ne found fits = (next_kept m new t u x b leaves fits.0, fits.1, leaves.kinds x fits.2)
+head_kept m new t u b (BirthKind x h w) rest leaves ne found fits =
+    (next_kept m new t u x b leaves fits.0, fits.1, fits.2)
+head_kept m new t u b (BirthSlot x h) rest leaves ne found fits =
+    (next_kept m new t u x b leaves fits.0, fits.1, leaves.kinds x fits.2)
+head_kept m new t u b (BirthLocal x h) rest leaves ne found fits =
+    (next_kept m new t u x b leaves fits.0, fits.1, leaves.kinds x fits.2)
 
-head_of_kept : (m new : Machine) (t u : ℕ) (b : Actor) (agenda : List Duty) → LeavesOthers m new t → u ≢ t → slice_get m.actors u ≡ Some b → HeadOf m u b agenda → HeadOf new u b agenda
+head_of_kept : (m new : Machine) (t u : ℕ) (b : Actor) (agenda : List Duty) → LeavesOthers m new t → u ≢ t
+    → slice_get m.actors u ≡ Some b → HeadOf m u b agenda → HeadOf new u b agenda
 head_of_kept m new t u b [] leaves ne found fits = tt
 head_of_kept m new t u b (d ∷ rest) leaves ne found fits = head_kept m new t u b d rest leaves ne found fits
 
 -- a chain stands where the gates of its rows do
-pub linked_kept : (memory new : Address → ℕ) (t head : ℕ) (chained : List ℕ) → ((x : ℕ) → 0 < count_by (λ y. y == x) chained → new (Gate x) ≡ memory (Gate x)) → Linked memory t head chained → Linked new t head chained
+pub linked_kept : (memory new : Address → ℕ) (t head : ℕ) (chained : List ℕ)
+    → ((x : ℕ) → 0 < count_by (λ y. y == x) chained → new (Gate x) ≡ memory (Gate x)) → Linked memory t head chained
+    → Linked new t head chained
 linked_kept memory new t head [] same linked = linked
 linked_kept memory new t head (x ∷ xs) same linked =
     let here : one_if (x == x) ≡ 1 = ap one_if (eq-eqb x x refl) in
-    let first : 0 < count_by (λ y. y == x) (x ∷ xs) = omega (arith, sum_by-cons (λ y. cond (y == x) 1 0) x xs, here) in
-    (linked.0, (linked.1.0, same x first ∙ linked.1.1, linked.1.2, linked_kept memory new t linked.1.0 xs (λ z some. same z (omega (arith, sum_by-cons (λ y. cond (y == z) 1 0) x xs, some))) linked.1.3))
+    let first : 0 < count_by (λ y. y == x) (x ∷ xs) =
+    omega (arith, sum_by-cons (λ y. cond (y == x) 1 0) x xs, here) in (
+      linked.0,
+      (
+        linked.1.0,
+        same x first ∙ linked.1.1,
+        linked.1.2,
+        linked_kept memory new t linked.1.0 xs
+            (λ z some. same z (omega (arith, sum_by-cons (λ y. cond (y == z) 1 0) x xs, some))) linked.1.3,
+      ),
+    )
 
 one_if_true : (b : Bool) → 0 < one_if b → b ≡ true
 one_if_true true h = refl
 one_if_true false h = absurd (omega arith)
 
-chain_kept : (m new : Machine) (t u head : ℕ) (agenda : List Duty) → LeavesOthers m new t → u ≢ t → ChainFits m u head agenda → ChainFits new u head agenda
+chain_kept : (m new : Machine) (t u head : ℕ) (agenda : List Duty) → LeavesOthers m new t → u ≢ t
+    → ChainFits m u head agenda → ChainFits new u head agenda
 chain_kept m new t u head agenda leaves ne fits = record {
   chained = fits.chained;
-  linked = linked_kept m.memory new.memory u head fits.chained (λ x some. leaves.gates u x ne (one_if_true _ (omega (arith, fits.once x, some)))) fits.linked;
+  linked =
+      linked_kept m.memory new.memory u head fits.chained
+      (λ x some. leaves.gates u x ne (one_if_true _ (omega (arith, fits.once x, some)))) fits.linked;
   once = λ x. fits.once x ∙ ap one_if (sym (leaves.lives u x ne));
 }
 
-pub others_fit : (p : Module) (m new : Machine) (t u : ℕ) (b : Actor) → LeavesOthers m new t → u ≢ t → slice_get m.actors u ≡ Some b → ActorFits p m u b → ActorFits p new u b
+pub others_fit : (p : Module) (m new : Machine) (t u : ℕ) (b : Actor) → LeavesOthers m new t → u ≢ t
+    → slice_get m.actors u ≡ Some b → ActorFits p m u b → ActorFits p new u b
 others_fit p m new t u b leaves ne found fits = record {
   accepted = fits.accepted;
   instructions = fits.instructions;

@@ -21,15 +21,20 @@ use Rattle.brc_model.proofs.Others.{linked_kept}
 
 -- the bag's change goes with the change of what the duty at hand has more or less
 pub record HeldStep (bag new : List Reference) (t : ℕ) (agenda later : List Duty) : Type 0 where
-  pub each : (k : Holding) (object : ℕ) → held (reference_of t k object) new + one_if (lacks_of later k object) + one_if (extra_of agenda k object)
+  pub each : (k : Holding) (object : ℕ)
+      → held (reference_of t k object) new + one_if (lacks_of later k object) + one_if (extra_of agenda k object)
       ≡ held (reference_of t k object) bag + one_if (lacks_of agenda k object) + one_if (extra_of later k object)
 
-holds_step : (bag new : List Reference) (t : ℕ) (says : Holding → ℕ → Bool) (agenda later : List Duty) → HeldStep bag new t agenda later → HoldsAt bag t says agenda → HoldsAt new t says later
-holds_step bag new t says agenda later step holds = record { each = λ k object. omega (arith, step.each k object, holds.each k object) }
+holds_step : (bag new : List Reference) (t : ℕ) (says : Holding → ℕ → Bool) (agenda later : List Duty)
+    → HeldStep bag new t agenda later → HoldsAt bag t says agenda → HoldsAt new t says later
+holds_step bag new t says agenda later step holds =
+    record { each = λ k object. omega (arith, step.each k object, holds.each k object) }
 
-pub place_step : (code : List Instr) (bag new : List Reference) (t : ℕ) (agenda later : List Duty) (place : Place) → HeldStep bag new t agenda later → PlaceFits code bag t agenda place → PlaceFits code new t later place
+pub place_step : (code : List Instr) (bag new : List Reference) (t : ℕ) (agenda later : List Duty) (place : Place)
+    → HeldStep bag new t agenda later → PlaceFits code bag t agenda place → PlaceFits code new t later place
 place_step code bag new t agenda later (Standing left) step fits = holds_step bag new t the_root agenda later step fits
-place_step code bag new t agenda later (Inside left at variables) step fits = (fits.0, fits.1, holds_step bag new t (of_variables fits.0 variables) agenda later step fits.2)
+place_step code bag new t agenda later (Inside left at variables) step fits =
+    (fits.0, fits.1, holds_step bag new t (of_variables fits.0 variables) agenda later step fits.2)
 place_step code bag new t agenda later Departing step fits = holds_step bag new t nothing agenda later step fits
 
 -- ---- agendas
@@ -43,27 +48,105 @@ pub record IsReady (rows t used : ℕ) (status : Status) (place : Place) (head :
   pub at_hand : (x : ℕ) → hand_of agenda x ≡ false
   pub knows : (m : Machine) (a : Actor) → a.head ≡ head → HeadOf m t a agenda
 
-pub ready_is : (rows t used : ℕ) (status : Status) (place : Place) (head : ℕ) (rest : List Duty) → Later rows t used status place rest → NoneHanded rest → IsReady rows t used status place head (ready head rest)
-ready_is rows t used status place zero [] later none = record { fits = later; handed = tt; more = λ k o. refl; less = λ k o. refl; at_hand = λ x. refl; knows = λ m a h. tt }
-ready_is rows t used status place (suc head) [] later none = record { fits = later; handed = tt; more = λ k o. refl; less = λ k o. refl; at_hand = λ x. refl; knows = λ m a h. tt }
-ready_is rows t used status place zero (Settle ∷ rest) later none = ready_is rows t used status place zero rest later none
+pub ready_is : (rows t used : ℕ) (status : Status) (place : Place) (head : ℕ) (rest : List Duty)
+    → Later rows t used status place rest → NoneHanded rest → IsReady rows t used status place head (ready head rest)
+ready_is rows t used status place zero [] later none =
+    record {
+      fits = later;
+      handed = tt;
+      more = λ k o. refl;
+      less = λ k o. refl;
+      at_hand = λ x. refl;
+      knows =
+          λ m a h. tt;
+    }
+ready_is rows t used status place (suc head) [] later none =
+    record {
+      fits = later;
+      handed = tt;
+      more = λ k o. refl;
+      less = λ k o. refl;
+      at_hand = λ x. refl;
+      knows =
+          λ m a h. tt;
+    }
+ready_is rows t used status place zero (Settle ∷ rest) later none =
+    ready_is rows t used status place zero rest later none
 ready_is rows t used status place (suc head) (Settle ∷ rest) later none =
-    record { fits = later; handed = none; more = λ k o. refl; less = λ k o. refl; at_hand = λ x. refl; knows = λ m a h. omega (arith, h) }
+    record {
+      fits = later;
+      handed = none;
+      more = λ k o. refl;
+      less = λ k o. refl;
+      at_hand = λ x. refl;
+      knows =
+          λ m a h. omega (arith, h);
+    }
 ready_is rows t used status place head (SharedLoad x Handed ∷ rest) later none = absurd none
 ready_is rows t used status place zero (Leave x k ∷ []) later none =
-    record { fits = later; handed = none; more = λ k o. refl; less = λ k o. refl; at_hand = λ x. refl; knows = λ m a h. tt }
+    record {
+      fits = later;
+      handed = none;
+      more = λ k o. refl;
+      less = λ k o. refl;
+      at_hand = λ x. refl;
+      knows =
+          λ m a h. tt;
+    }
 ready_is rows t used status place (suc head) (Leave x k ∷ []) later none =
-    record { fits = later; handed = none; more = λ k o. refl; less = λ k o. refl; at_hand = λ x. refl; knows = λ m a h. tt }
-ready_is rows t used status place zero (Scan x zero ∷ rest) later none = ready_is rows t used status place zero rest later.3 none
-ready_is rows t used status place (suc head) (Scan x zero ∷ rest) later none = ready_is rows t used status place (suc head) rest later.3 none
+    record {
+      fits = later;
+      handed = none;
+      more = λ k o. refl;
+      less = λ k o. refl;
+      at_hand = λ x. refl;
+      knows =
+          λ m a h. tt;
+    }
+ready_is rows t used status place zero (Scan x zero ∷ rest) later none =
+    ready_is rows t used status place zero rest later.3 none
+ready_is rows t used status place (suc head) (Scan x zero ∷ rest) later none =
+    ready_is rows t used status place (suc head) rest later.3 none
 ready_is rows t used status place zero (Scan x (suc k) ∷ rest) later none =
-    record { fits = later; handed = none; more = λ k o. refl; less = λ k o. refl; at_hand = λ x. refl; knows = λ m a h. omega arith }
+    record {
+      fits = later;
+      handed = none;
+      more = λ k o. refl;
+      less = λ k o. refl;
+      at_hand = λ x. refl;
+      knows =
+          λ m a h. omega arith;
+    }
 ready_is rows t used status place (suc head) (Scan x (suc k) ∷ rest) later none =
-    record { fits = later; handed = none; more = λ k o. refl; less = λ k o. refl; at_hand = λ x. refl; knows = λ m a h. omega arith }
+    record {
+      fits = later;
+      handed = none;
+      more = λ k o. refl;
+      less = λ k o. refl;
+      at_hand = λ x. refl;
+      knows =
+          λ m a h. omega arith;
+    }
 ready_is rows t used status place zero (Finish ∷ []) later none =
-    record { fits = later; handed = none; more = λ k o. refl; less = λ k o. refl; at_hand = λ x. refl; knows = λ m a h. tt }
+    record {
+      fits = later;
+      handed = none;
+      more = λ k o. refl;
+      less = λ k o. refl;
+      at_hand = λ x. refl;
+      knows =
+          λ m a h. tt;
+    }
 ready_is rows t used status place (suc head) (Finish ∷ []) later none =
-    record { fits = later; handed = none; more = λ k o. refl; less = λ k o. refl; at_hand = λ x. refl; knows = λ m a h. tt }
+    record {
+      fits = later;
+      handed = none;
+      more = λ k o. refl;
+      less = λ k o. refl;
+      at_hand = λ x. refl;
+      knows =
+          λ m a h. tt;
+    }
 ready_is rows t used status place head _ later none = absurd later
 
 -- ---- chains
@@ -71,9 +154,12 @@ ready_is rows t used status place head _ later none = absurd later
 -- nothing about dying rows changes but what is at hand
 pub record ChainSame (m new : Machine) (t : ℕ) (agenda later : List Duty) : Type 0 where
   pub gates : (x : ℕ) → new.memory (Gate x) ≡ m.memory (Gate x)
-  pub hands : (x : ℕ) → one_if (hand_of later x) + one_if (dies_by (m.life x) t) ≡ one_if (hand_of agenda x) + one_if (dies_by (new.life x) t)
+  pub hands : (x : ℕ)
+      → one_if (hand_of later x) + one_if (dies_by (m.life x) t) ≡ one_if (hand_of agenda x)
+      + one_if (dies_by (new.life x) t)
 
-pub chain_same : (m new : Machine) (t head : ℕ) (agenda later : List Duty) → ChainSame m new t agenda later → ChainFits m t head agenda → ChainFits new t head later
+pub chain_same : (m new : Machine) (t head : ℕ) (agenda later : List Duty) → ChainSame m new t agenda later
+    → ChainFits m t head agenda → ChainFits new t head later
 chain_same m new t head agenda later same fits = record {
   chained = fits.chained;
   linked = linked_kept m.memory new.memory t head fits.chained (λ x some. same.gates x) fits.linked;

@@ -26,16 +26,21 @@ use Rattle.brc_model.proofs.OwnChains.{chain_here}
 use Rattle.brc_model.proofs.Settled.{ready_none}
 
 -- the row is still the next one
-still_next : (m new : Machine) (t : ℕ) (a b : Actor) (x : ℕ) → new.rows ≡ m.rows → b.status ≡ a.status → b.used ≡ a.used → IsNext m t a x → IsNext new t b x
+still_next : (m new : Machine) (t : ℕ) (a b : Actor) (x : ℕ) → new.rows ≡ m.rows → b.status ≡ a.status → b.used ≡ a.used
+    → IsNext m t a x → IsNext new t b x
 still_next m new t a b x rows status used next = record {
   running = status ∙ next.running;
   worker = next.worker;
-  row = next.row ∙ ap (λ (u : ℕ). first_row m.rows t + u) (sym used) ∙ ap (λ (r : ℕ). first_row r t + b.used) (sym rows);
+  row =
+      next.row ∙ ap (λ (u : ℕ). first_row m.rows t + u) (sym used) ∙ ap (λ (r : ℕ). first_row r t + b.used) (sym rows);
   room = omega (arith, next.room, rows, used);
 }
 
-pub own_birth_kind : (p : Module) (n : ℕ) (m : Machine) (t : ℕ) (a : Actor) (x : ℕ) (h : Holding) (w : ℕ) (rest : List Duty) → AtDuty p n m t a (BirthKind x h w) rest → (a.status ≡ Gone → ⊥)
-    → OwnFits p (done_by m t a (BirthKind x h w) rest) t (actor_by t a (BirthKind x h w) rest (found_by m t a (BirthKind x h w)))
+pub own_birth_kind : (p : Module) (n : ℕ) (m : Machine) (t : ℕ) (a : Actor) (x : ℕ) (h : Holding) (w : ℕ)
+    (rest : List Duty)
+    → AtDuty p n m t a (BirthKind x h w) rest → (a.status ≡ Gone → ⊥)
+    → OwnFits p (done_by m t a (BirthKind x h w) rest) t
+    (actor_by t a (BirthKind x h w) rest (found_by m t a (BirthKind x h w)))
 own_birth_kind p n m t a x h w rest here alive =
     let d : Duty = BirthKind x h w in
     let fits = head_of p n m t a d rest here in
@@ -67,8 +72,10 @@ own_birth_kind p n m t a x h w rest here alive =
           })
     ] refl
 
-pub own_birth_slot : (p : Module) (n : ℕ) (m : Machine) (t : ℕ) (a : Actor) (x : ℕ) (h : Holding) (rest : List Duty) → AtDuty p n m t a (BirthSlot x h) rest → (a.status ≡ Gone → ⊥)
-    → OwnFits p (done_by m t a (BirthSlot x h) rest) t (actor_by t a (BirthSlot x h) rest (found_by m t a (BirthSlot x h)))
+pub own_birth_slot : (p : Module) (n : ℕ) (m : Machine) (t : ℕ) (a : Actor) (x : ℕ) (h : Holding) (rest : List Duty)
+    → AtDuty p n m t a (BirthSlot x h) rest → (a.status ≡ Gone → ⊥)
+    → OwnFits p (done_by m t a (BirthSlot x h) rest) t
+    (actor_by t a (BirthSlot x h) rest (found_by m t a (BirthSlot x h)))
 own_birth_slot p n m t a x h rest here alive =
     let d : Duty = BirthSlot x h in
     let fits = head_of p n m t a d rest here in
@@ -85,16 +92,21 @@ own_birth_slot p n m t a x h rest here alive =
     })
 
 -- no row that dies changes
-born_dies : (life : ℕ → Life) (t x y : ℕ) → life x ≡ Unborn → dies_by (cond (x == y) Live (life y)) t ≡ dies_by (life y) t
+born_dies : (life : ℕ → Life) (t x y : ℕ) → life x ≡ Unborn
+    → dies_by (cond (x == y) Live (life y)) t ≡ dies_by (life y) t
 born_dies life t x y unborn =
     elim (eqb_tells x y) [
-      | inl same ↦ ap (λ (b : Bool). dies_by (cond b Live (life y)) t) same.0 ∙ sym (ap (λ (l : Life). dies_by l t) (ap life (sym same.1) ∙ unborn))
+      | inl same ↦
+          ap (λ (b : Bool). dies_by (cond b Live (life y)) t) same.0
+          ∙ sym (ap (λ (l : Life). dies_by l t) (ap life (sym same.1) ∙ unborn))
       | inr other ↦ ap (λ (b : Bool). dies_by (cond b Live (life y)) t) other.0
     ]
 
 -- the object is born, and nothing is left to do
-pub own_birth_local : (p : Module) (n : ℕ) (m : Machine) (t : ℕ) (a : Actor) (x : ℕ) (h : Holding) (rest : List Duty) → AtDuty p n m t a (BirthLocal x h) rest → (a.status ≡ Gone → ⊥)
-    → OwnFits p (done_by m t a (BirthLocal x h) rest) t (actor_by t a (BirthLocal x h) rest (found_by m t a (BirthLocal x h)))
+pub own_birth_local : (p : Module) (n : ℕ) (m : Machine) (t : ℕ) (a : Actor) (x : ℕ) (h : Holding) (rest : List Duty)
+    → AtDuty p n m t a (BirthLocal x h) rest → (a.status ≡ Gone → ⊥)
+    → OwnFits p (done_by m t a (BirthLocal x h) rest) t
+    (actor_by t a (BirthLocal x h) rest (found_by m t a (BirthLocal x h)))
 own_birth_local p n m t a x h [] here alive =
     let d : Duty = BirthLocal x h in
     let fits = head_of p n m t a d [] here in
@@ -109,10 +121,17 @@ own_birth_local p n m t a x h [] here alive =
       held = held_gained m.plain.references t x h (d ∷ []) [] (λ k o. refl) (λ k o. refl) (λ k o. refl) (λ k o. refl);
       chain = chain_same m new t a.head (d ∷ []) [] (record {
         gates = λ y. refl;
-        hands = λ y. let life : one_if (dies_by (new.life y) t) ≡ one_if (dies_by (m.life y) t) = ap one_if (born_dies m.life t x y (next_unborn p n m t a x here.rule here.found fits.0)) in omega (arith, life);
+        hands =
+            λ y. let life : one_if (dies_by (new.life y) t) ≡ one_if (dies_by (m.life y) t) =
+            ap one_if (born_dies m.life t x y (next_unborn p n m t a x here.rule here.found fits.0)) in omega
+            (arith, life);
       }) (chain_here p n m t a d [] here);
-      fits = agenda_out m.rows t after a.status alive (subst (λ (l : List Duty). Agenda m.rows t after.used a.status a.place l) (sym (ready_none a.head)) later);
+      fits =
+          agenda_out m.rows t after a.status alive
+          (subst (λ (l : List Duty). Agenda m.rows t after.used a.status a.place l) (sym (ready_none a.head))
+          later);
       handed = tt;
       knows = λ b status head used. tt;
     })
-own_birth_local p n m t a x h (e ∷ rest) here alive = absurd (let wrong : (e ∷ rest) ≡ [] = (head_of p n m t a (BirthLocal x h) (e ∷ rest) here).1 in cc)
+own_birth_local p n m t a x h (e ∷ rest) here alive =
+    absurd (let wrong : (e ∷ rest) ≡ [] = (head_of p n m t a (BirthLocal x h) (e ∷ rest) here).1 in cc)

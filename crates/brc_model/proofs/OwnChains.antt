@@ -27,8 +27,10 @@ use Rattle.brc_model.proofs.OwnShown.{ShownStep, own_shown, agenda_shown}
 -- ---- which rows die
 
 -- the chain at a thread's first duty
-pub chain_here : (p : Module) (n : ℕ) (m : Machine) (t : ℕ) (a : Actor) (d : Duty) (rest : List Duty) → AtDuty p n m t a d rest → ChainFits m t a.head (d ∷ rest)
-chain_here p n m t a d rest here = subst (λ (l : List Duty). ChainFits m t a.head l) here.agenda (here.rule.each t a here.found).0.chain
+pub chain_here : (p : Module) (n : ℕ) (m : Machine) (t : ℕ) (a : Actor) (d : Duty) (rest : List Duty)
+    → AtDuty p n m t a d rest → ChainFits m t a.head (d ∷ rest)
+chain_here p n m t a d rest here =
+    subst (λ (l : List Duty). ChainFits m t a.head l) here.agenda (here.rule.each t a here.found).0.chain
 
 one_if_low : (b : Bool) → one_if b ≤ 1
 one_if_low true = omega arith
@@ -50,21 +52,30 @@ dying_above p n m t zero rule dies = absurd (let wrong : Live ≡ Dying t = sym 
 dying_above p n m t (suc x) rule dies = omega arith
 
 -- the row at hand isn't chained
-hand_not_chained : (m : Machine) (t head x : ℕ) (agenda : List Duty) (chain : ChainFits m t head agenda) → hand_of agenda x ≡ true → count_by (λ y. y == x) chain.chained ≡ 0
-hand_not_chained m t head x agenda chain at = let one : one_if (hand_of agenda x) ≡ 1 = ap one_if at in omega (arith, one, chain.once x, one_if_low (dies_by (m.life x) t))
+hand_not_chained : (m : Machine) (t head x : ℕ) (agenda : List Duty) (chain : ChainFits m t head agenda)
+    → hand_of agenda x ≡ true → count_by (λ y. y == x) chain.chained ≡ 0
+hand_not_chained m t head x agenda chain at =
+    let one : one_if (hand_of agenda x) ≡ 1 = ap one_if at in
+    omega (arith, one, chain.once x, one_if_low (dies_by (m.life x) t))
 
 -- the head is a dying row's
-pub head_low : (p : Module) (n : ℕ) (m : Machine) (t head : ℕ) (agenda : List Duty) (chained : List ℕ) → Rule p n m → Linked m.memory t head chained
-    → ((x : ℕ) → one_if (hand_of agenda x) + count_by (λ y. y == x) chained ≡ one_if (dies_by (m.life x) t)) → head < 4294967296
+pub head_low : (p : Module) (n : ℕ) (m : Machine) (t head : ℕ) (agenda : List Duty) (chained : List ℕ) → Rule p n m
+    → Linked m.memory t head chained
+    → ((x : ℕ) → one_if (hand_of agenda x) + count_by (λ y. y == x) chained ≡ one_if (dies_by (m.life x) t))
+    → head < 4294967296
 head_low p n m t head agenda [] rule linked once = omega (arith, linked)
 head_low p n m t head agenda (x ∷ xs) rule linked once =
     let here : one_if (x == x) ≡ 1 = ap one_if (eq-eqb x x refl) in
-    let dies : m.life x ≡ Dying t = is_dying (m.life x) t (one_if_some _ (omega (arith, once x, sum_by-cons (λ y. cond (y == x) 1 0) x xs, here))) in
+    let dies : m.life x ≡ Dying t =
+    is_dying (m.life x) t (one_if_some _ (omega (arith, once x, sum_by-cons (λ y. cond (y == x) 1 0) x xs, here)))
+    in
     omega (arith, linked.0, dying_low p n m t x rule dies)
 
 -- ---- a row is chained
 
-die_chain : (p : Module) (n : ℕ) (m : Machine) (t : ℕ) (a : Actor) (x : ℕ) (rest agenda : List Duty) → AtDuty p n m t a (Die x) rest → ((y : ℕ) → hand_of agenda y ≡ false) → ChainFits (done_by m t a (Die x) rest) t (x + 1) agenda
+die_chain : (p : Module) (n : ℕ) (m : Machine) (t : ℕ) (a : Actor) (x : ℕ) (rest agenda : List Duty)
+    → AtDuty p n m t a (Die x) rest → ((y : ℕ) → hand_of agenda y ≡ false)
+    → ChainFits (done_by m t a (Die x) rest) t (x + 1) agenda
 die_chain p n m t a x rest agenda here none =
     let old = chain_here p n m t a (Die x) rest here in
     let absent = hand_not_chained m t a.head x (Die x ∷ rest) old (eq-eqb x x refl) in
@@ -78,16 +89,24 @@ die_chain p n m t a x rest agenda here none =
           written_here m.memory (Gate x) (dying_word t a.head),
           head_low p n m t a.head (Die x ∷ rest) old.chained here.rule old.linked old.once,
           linked_kept m.memory new t a.head old.chained
-              (λ y some. written_apart m.memory (Gate x) (Gate y) (dying_word t a.head) (apart_gate x y (λ e. absurd (omega (arith, subst (λ (z : ℕ). 0 < count_by (λ w. w == z) old.chained) (sym e) some, absent))))) old.linked,
+              (λ y some. written_apart m.memory (Gate x) (Gate y) (dying_word t a.head)
+              (apart_gate x y (λ e. absurd (omega
+              (arith, subst (λ (z : ℕ). 0 < count_by (λ w. w == z) old.chained) (sym e) some, absent)))))
+              old.linked,
         ),
       );
-      once = λ y. let hand : one_if (hand_of agenda y) ≡ 0 = ap one_if (none y) in omega (arith, hand, old.once y, sum_by-cons (λ z. cond (z == y) 1 0) x old.chained);
+      once =
+          λ y. let hand : one_if (hand_of agenda y) ≡ 0 =
+          ap one_if (none y) in omega (arith, hand, old.once y, sum_by-cons (λ z. cond (z == y) 1 0) x old.chained);
     }
 
-pub own_die : (p : Module) (n : ℕ) (m : Machine) (t : ℕ) (a : Actor) (x : ℕ) (rest : List Duty) → AtDuty p n m t a (Die x) rest → (a.status ≡ Gone → ⊥)
+pub own_die : (p : Module) (n : ℕ) (m : Machine) (t : ℕ) (a : Actor) (x : ℕ) (rest : List Duty)
+    → AtDuty p n m t a (Die x) rest → (a.status ≡ Gone → ⊥)
     → OwnFits p (done_by m t a (Die x) rest) t (actor_by t a (Die x) rest (found_by m t a (Die x)))
 own_die p n m t a x rest here alive =
-    let ready_so = ready_is m.rows t a.used a.status a.place (x + 1) rest (agenda_here p n m t a (Die x) rest here alive) (handed_here p n m t a (Die x) rest here) in
+    let ready_so =
+    ready_is m.rows t a.used a.status a.place (x + 1) rest (agenda_here p n m t a (Die x) rest here alive)
+    (handed_here p n m t a (Die x) rest here) in
     own_shown p n m t a (Die x) rest (ready (x + 1) rest) a.status (x + 1) here (record {
       head_is = refl;
       status_is = refl;
@@ -116,11 +135,15 @@ record FirstChained (m : Machine) (t : ℕ) (a : Actor) (rest : List Duty) : Typ
   once : (x : ℕ) → one_if (row == x) + count_by (λ y. y == x) others ≡ one_if (dies_by (m.life x) t)
   dies : m.life row ≡ Dying t
 
-first_by : (m : Machine) (t : ℕ) (a : Actor) (rest : List Duty) (chained : List ℕ) → 0 < a.head → Linked m.memory t a.head chained
-    → ((x : ℕ) → one_if (hand_of (Settle ∷ rest) x) + count_by (λ y. y == x) chained ≡ one_if (dies_by (m.life x) t)) → FirstChained m t a rest
+first_by : (m : Machine) (t : ℕ) (a : Actor) (rest : List Duty) (chained : List ℕ) → 0 < a.head
+    → Linked m.memory t a.head chained
+    → ((x : ℕ) → one_if (hand_of (Settle ∷ rest) x) + count_by (λ y. y == x) chained ≡ one_if (dies_by (m.life x) t))
+    → FirstChained m t a rest
 first_by m t a rest [] some linked once = absurd (omega (arith, some, linked))
 first_by m t a rest (x ∷ xs) some linked once =
-    let each : (z : ℕ) → one_if (x == z) + count_by (λ y. y == z) xs ≡ one_if (dies_by (m.life z) t) = λ z. omega (arith, once z, sum_by-cons (λ y. cond (y == z) 1 0) x xs) in
+    let each : (z : ℕ)
+    → one_if (x == z) + count_by (λ y. y == z) xs ≡ one_if (dies_by (m.life z) t) =
+    λ z. omega (arith, once z, sum_by-cons (λ y. cond (y == z) 1 0) x xs) in
     let here : one_if (x == x) ≡ 1 = ap one_if (eq-eqb x x refl) in
     record {
       row = x;
@@ -133,16 +156,24 @@ first_by m t a rest (x ∷ xs) some linked once =
       dies = is_dying (m.life x) t (one_if_some _ (omega (arith, each x, here)));
     }
 
-first_chained : (p : Module) (n : ℕ) (m : Machine) (t : ℕ) (a : Actor) (rest : List Duty) → AtDuty p n m t a Settle rest → FirstChained m t a rest
+first_chained : (p : Module) (n : ℕ) (m : Machine) (t : ℕ) (a : Actor) (rest : List Duty) → AtDuty p n m t a Settle rest
+    → FirstChained m t a rest
 first_chained p n m t a rest here =
-    let old = chain_here p n m t a Settle rest here in first_by m t a rest old.chained (head_of p n m t a Settle rest here) old.linked old.once
+    let old = chain_here p n m t a Settle rest here in
+    first_by m t a rest old.chained (head_of p n m t a Settle rest here) old.linked old.once
 
-settle_shown : (p : Module) (n : ℕ) (m : Machine) (t : ℕ) (a : Actor) (rest : List Duty) (first : FirstChained m t a rest) → AtDuty p n m t a Settle rest → (a.status ≡ Gone → ⊥) → a.head - 1 ≡ first.row
+settle_shown : (p : Module) (n : ℕ) (m : Machine) (t : ℕ) (a : Actor) (rest : List Duty)
+    (first : FirstChained m t a rest)
+    → AtDuty p n m t a Settle rest → (a.status ≡ Gone → ⊥) → a.head - 1 ≡ first.row
     → ShownStep m t a Settle rest (SettleKind first.row ∷ Settle ∷ rest) a.status first.next
 settle_shown p n m t a rest first here alive row_is =
     let later = SettleKind first.row ∷ Settle ∷ rest in
-    let head : next_part (m.memory (Gate (a.head - 1))) ≡ first.next = ap (λ (x : ℕ). next_part (m.memory (Gate x))) row_is ∙ first.next_is in
-    let front : (h : ℕ) → ready h (SettleKind (a.head - 1) ∷ Settle ∷ rest) ≡ later = λ h. ready_first h (SettleKind (a.head - 1)) (Settle ∷ rest) refl ∙ ap (λ (x : ℕ). SettleKind x ∷ Settle ∷ rest) row_is in
+    let head : next_part (m.memory (Gate (a.head - 1))) ≡ first.next =
+    ap (λ (x : ℕ). next_part (m.memory (Gate x))) row_is ∙ first.next_is in
+    let front : (h : ℕ)
+    → ready h (SettleKind (a.head - 1) ∷ Settle ∷ rest) ≡ later =
+    λ h. ready_first h (SettleKind (a.head - 1)) (Settle ∷ rest) refl
+    ∙ ap (λ (x : ℕ). SettleKind x ∷ Settle ∷ rest) row_is in
     let new = done_by m t a Settle rest in
     record {
       head_is = head;
@@ -152,23 +183,30 @@ settle_shown p n m t a rest first here alive row_is =
       held = held_same m.plain.references t (Settle ∷ rest) later (λ k o. refl) (λ k o. refl);
       chain = record {
         chained = first.others;
-        linked = linked_kept m.memory new.memory t first.next first.others (λ x some. written_load m.memory (Gate (a.head - 1)) (Gate x)) first.linked;
+        linked =
+            linked_kept m.memory new.memory t first.next first.others
+            (λ x some. written_load m.memory (Gate (a.head - 1)) (Gate x)) first.linked;
         once = first.once;
       };
-      fits = agenda_shown m t a Settle rest later a.status alive refl (front (next_part (m.memory (Gate (a.head - 1))))) (agenda_here p n m t a Settle rest here alive);
+      fits =
+          agenda_shown m t a Settle rest later a.status alive refl (front (next_part (m.memory (Gate (a.head - 1)))))
+          (agenda_here p n m t a Settle rest here alive);
       handed = handed_here p n m t a Settle rest here;
       knows = λ b status h used. (dying_above p n m t first.row here.rule first.dies, first.dies);
     }
 
-pub own_settle : (p : Module) (n : ℕ) (m : Machine) (t : ℕ) (a : Actor) (rest : List Duty) → AtDuty p n m t a Settle rest → (a.status ≡ Gone → ⊥)
+pub own_settle : (p : Module) (n : ℕ) (m : Machine) (t : ℕ) (a : Actor) (rest : List Duty)
+    → AtDuty p n m t a Settle rest → (a.status ≡ Gone → ⊥)
     → OwnFits p (done_by m t a Settle rest) t (actor_by t a Settle rest (found_by m t a Settle))
 own_settle p n m t a rest here alive =
     let first = first_chained p n m t a rest here in
-    own_shown p n m t a Settle rest (SettleKind first.row ∷ Settle ∷ rest) a.status first.next here (settle_shown p n m t a rest first here alive (omega (arith, first.head_is)))
+    own_shown p n m t a Settle rest (SettleKind first.row ∷ Settle ∷ rest) a.status first.next here
+    (settle_shown p n m t a rest first here alive (omega (arith, first.head_is)))
 
 -- ---- the row is closed
 
-end_chain : (p : Module) (n : ℕ) (m : Machine) (t : ℕ) (a : Actor) (x : ℕ) (rest agenda : List Duty) → AtDuty p n m t a (SettleEnd x) rest → ((y : ℕ) → hand_of agenda y ≡ false)
+end_chain : (p : Module) (n : ℕ) (m : Machine) (t : ℕ) (a : Actor) (x : ℕ) (rest agenda : List Duty)
+    → AtDuty p n m t a (SettleEnd x) rest → ((y : ℕ) → hand_of agenda y ≡ false)
     → ChainFits (done_by m t a (SettleEnd x) rest) t a.head agenda
 end_chain p n m t a x rest agenda here none =
     let old = chain_here p n m t a (SettleEnd x) rest here in
@@ -177,24 +215,31 @@ end_chain p n m t a x rest agenda here none =
     record {
       chained = old.chained;
       linked = linked_kept m.memory new t a.head old.chained
-          (λ y some. written_apart m.memory (Gate x) (Gate y) closed_word (apart_gate x y (λ e. absurd (omega (arith, subst (λ (z : ℕ). 0 < count_by (λ w. w == z) old.chained) (sym e) some, absent))))) old.linked;
+          (λ y some. written_apart m.memory (Gate x) (Gate y) closed_word
+          (apart_gate x y (λ e. absurd (omega
+          (arith, subst (λ (z : ℕ). 0 < count_by (λ w. w == z) old.chained) (sym e) some, absent))))) old.linked;
       once = λ y.
           let hand : one_if (hand_of agenda y) ≡ 0 = ap one_if (none y) in
           elim (eqb_tells x y) [
             | inl same ↦
-                let gone : one_if (dies_by (with_life m.life (Some x) Closed y) t) ≡ 0 = ap (λ (b : Bool). one_if (dies_by (cond b Closed (m.life y)) t)) same.0 in
+                let gone : one_if (dies_by (with_life m.life (Some x) Closed y) t) ≡ 0 =
+                ap (λ (b : Bool). one_if (dies_by (cond b Closed (m.life y)) t)) same.0 in
                 omega (arith, hand, gone, subst (λ (z : ℕ). count_by (λ w. w == z) old.chained ≡ 0) same.1 absent)
             | inr other ↦
-                let kept : one_if (dies_by (with_life m.life (Some x) Closed y) t) ≡ one_if (dies_by (m.life y) t) = ap (λ (b : Bool). one_if (dies_by (cond b Closed (m.life y)) t)) other.0 in
+                let kept : one_if (dies_by (with_life m.life (Some x) Closed y) t) ≡ one_if (dies_by (m.life y) t) =
+                ap (λ (b : Bool). one_if (dies_by (cond b Closed (m.life y)) t)) other.0 in
                 let apart : one_if (x == y) ≡ 0 = ap one_if other.0 in
                 omega (arith, hand, kept, apart, old.once y)
           ];
     }
 
-pub own_settle_end : (p : Module) (n : ℕ) (m : Machine) (t : ℕ) (a : Actor) (x : ℕ) (rest : List Duty) → AtDuty p n m t a (SettleEnd x) rest → (a.status ≡ Gone → ⊥)
+pub own_settle_end : (p : Module) (n : ℕ) (m : Machine) (t : ℕ) (a : Actor) (x : ℕ) (rest : List Duty)
+    → AtDuty p n m t a (SettleEnd x) rest → (a.status ≡ Gone → ⊥)
     → OwnFits p (done_by m t a (SettleEnd x) rest) t (actor_by t a (SettleEnd x) rest (found_by m t a (SettleEnd x)))
 own_settle_end p n m t a x rest here alive =
-    let ready_so = ready_is m.rows t a.used a.status a.place a.head rest (agenda_here p n m t a (SettleEnd x) rest here alive) (handed_here p n m t a (SettleEnd x) rest here) in
+    let ready_so =
+    ready_is m.rows t a.used a.status a.place a.head rest (agenda_here p n m t a (SettleEnd x) rest here alive)
+    (handed_here p n m t a (SettleEnd x) rest here) in
     own_shown p n m t a (SettleEnd x) rest (ready a.head rest) a.status a.head here (record {
       head_is = refl;
       status_is = refl;

@@ -40,32 +40,44 @@ flip_holding InHand AsCaller = refl
 flip_holding InHand InHand = refl
 
 both_ways : (k h : Holding) (object x : ℕ) → (same_holding k h && (object == x)) ≡ (same_holding h k && (x == object))
-both_ways k h object x = ap (λ (b : Bool). b && (object == x)) (flip_holding h k) ∙ ap (λ (b : Bool). same_holding h k && b) (flip_eqb object x)
+both_ways k h object x =
+    ap (λ (b : Bool). b && (object == x)) (flip_holding h k)
+    ∙ ap (λ (b : Bool). same_holding h k && b) (flip_eqb object x)
 
 -- one reference by one holder, as a test
-pub same_is : (t x : ℕ) (h k : Holding) (object : ℕ) → same (reference_of t k object) (reference_of t h x) ≡ (same_holding h k && (x == object))
+pub same_is : (t x : ℕ) (h k : Holding) (object : ℕ)
+    → same (reference_of t k object) (reference_of t h x) ≡ (same_holding h k && (x == object))
 same_is t x h k object =
     let threads : (t == t) ≡ true = eq-eqb t t refl in
-    let front : same (reference_of t k object) (reference_of t h x) ≡ (same_holding k h && (object == x)) = ap (λ (b : Bool). b && same_holding k h && (object == x)) threads in
+    let front : same (reference_of t k object) (reference_of t h x) ≡ (same_holding k h && (object == x)) =
+    ap (λ (b : Bool). b && same_holding k h && (object == x)) threads in
     front ∙ both_ways k h object x
 
 -- nothing moves, and the duty at hand has the same
-pub held_same : (bag : List Reference) (t : ℕ) (agenda later : List Duty) → ((k : Holding) (object : ℕ) → extra_of later k object ≡ extra_of agenda k object)
+pub held_same : (bag : List Reference) (t : ℕ) (agenda later : List Duty)
+    → ((k : Holding) (object : ℕ) → extra_of later k object ≡ extra_of agenda k object)
     → ((k : Holding) (object : ℕ) → lacks_of later k object ≡ lacks_of agenda k object)
     → HeldStep bag bag t agenda later
 held_same bag t agenda later more less = record {
-  each = λ k object. let a : one_if (extra_of later k object) ≡ one_if (extra_of agenda k object) = ap one_if (more k object) in
-      let b : one_if (lacks_of later k object) ≡ one_if (lacks_of agenda k object) = ap one_if (less k object) in omega (arith, a, b);
+  each =
+      λ k object. let a : one_if (extra_of later k object) ≡ one_if (extra_of agenda k object) =
+      ap one_if (more k object) in
+      let b : one_if (lacks_of later k object) ≡ one_if (lacks_of agenda k object) = ap one_if (less k object) in
+      omega (arith, a, b);
 }
 
 -- what was lacking is gained
-pub held_gained : (bag : List Reference) (t x : ℕ) (h : Holding) (agenda later : List Duty) → ((k : Holding) (object : ℕ) → lacks_of agenda k object ≡ (same_holding h k && (x == object)))
+pub held_gained : (bag : List Reference) (t x : ℕ) (h : Holding) (agenda later : List Duty)
+    → ((k : Holding) (object : ℕ) → lacks_of agenda k object ≡ (same_holding h k && (x == object)))
     → ((k : Holding) (object : ℕ) → extra_of agenda k object ≡ false)
-    → ((k : Holding) (object : ℕ) → extra_of later k object ≡ false) → ((k : Holding) (object : ℕ) → lacks_of later k object ≡ false) → HeldStep bag (reference_of t h x ∷ bag) t agenda later
+    → ((k : Holding) (object : ℕ) → extra_of later k object ≡ false)
+    → ((k : Holding) (object : ℕ) → lacks_of later k object ≡ false)
+    → HeldStep bag (reference_of t h x ∷ bag) t agenda later
 held_gained bag t x h agenda later lacked no_more more less = record {
   each = λ k object.
       let r = reference_of t k object in
-      let one : one_if (same r (reference_of t h x)) ≡ one_if (lacks_of agenda k object) = ap one_if (same_is t x h k object ∙ sym (lacked k object)) in
+      let one : one_if (same r (reference_of t h x)) ≡ one_if (lacks_of agenda k object) =
+      ap one_if (same_is t x h k object ∙ sym (lacked k object)) in
       let a : one_if (extra_of agenda k object) ≡ 0 = ap one_if (no_more k object) in
       let b : one_if (extra_of later k object) ≡ 0 = ap one_if (more k object) in
       let c : one_if (lacks_of later k object) ≡ 0 = ap one_if (less k object) in
@@ -73,14 +85,18 @@ held_gained bag t x h agenda later lacked no_more more less = record {
 }
 
 -- what was extra is lost
-pub held_lost : (bag : List Reference) (t x : ℕ) (h : Holding) (agenda later : List Duty) → list_any (same (reference_of t h x)) bag ≡ true
+pub held_lost : (bag : List Reference) (t x : ℕ) (h : Holding) (agenda later : List Duty)
+    → list_any (same (reference_of t h x)) bag ≡ true
     → ((k : Holding) (object : ℕ) → extra_of agenda k object ≡ (same_holding h k && (x == object)))
-    → ((k : Holding) (object : ℕ) → lacks_of agenda k object ≡ false) → ((k : Holding) (object : ℕ) → extra_of later k object ≡ false) → ((k : Holding) (object : ℕ) → lacks_of later k object ≡ false)
+    → ((k : Holding) (object : ℕ) → lacks_of agenda k object ≡ false)
+    → ((k : Holding) (object : ℕ) → extra_of later k object ≡ false)
+    → ((k : Holding) (object : ℕ) → lacks_of later k object ≡ false)
     → HeldStep bag (without (reference_of t h x) bag) t agenda later
 held_lost bag t x h agenda later has extra no_less more less = record {
   each = λ k object.
       let r = reference_of t k object in
-      let one : one_if (same r (reference_of t h x)) ≡ one_if (extra_of agenda k object) = ap one_if (same_is t x h k object ∙ sym (extra k object)) in
+      let one : one_if (same r (reference_of t h x)) ≡ one_if (extra_of agenda k object) =
+      ap one_if (same_is t x h k object ∙ sym (extra k object)) in
       let a : one_if (lacks_of agenda k object) ≡ 0 = ap one_if (no_less k object) in
       let b : one_if (extra_of later k object) ≡ 0 = ap one_if (more k object) in
       let c : one_if (lacks_of later k object) ≡ 0 = ap one_if (less k object) in
@@ -89,7 +105,9 @@ held_lost bag t x h agenda later has extra no_less more less = record {
 
 -- ---- retains
 
-pub backed_not_immortal : (p : Module) (n : ℕ) (m : Machine) (t : ℕ) (a : Actor) (x : ℕ) (h : Holding) (rest : List Duty) → 0 < x → AtDuty p n m t a (RetainLoad x h) rest → is_immortal_word (m.memory (Local x)) ≡ false
+pub backed_not_immortal : (p : Module) (n : ℕ) (m : Machine) (t : ℕ) (a : Actor) (x : ℕ) (h : Holding)
+    (rest : List Duty)
+    → 0 < x → AtDuty p n m t a (RetainLoad x h) rest → is_immortal_word (m.memory (Local x)) ≡ false
 backed_not_immortal p n m t a x h rest pos here =
     let fits = head_of p n m t a (RetainLoad x h) rest here in
     let alive = alive_backed p n m t x here.rule pos fits in

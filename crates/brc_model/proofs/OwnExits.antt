@@ -29,12 +29,17 @@ use Rattle.brc_model.proofs.Settled.{ready_none}
 -- ---- marked rows
 
 pub mark_above : (p : Module) (n : ℕ) (m : Machine) (x : ℕ) → Rule p n m → m.memory (Mark x) ≡ 1 → 0 < x
-mark_above p n m x rule marked = elim (rule.marks x) [ inl none ↦ absurd (omega (arith, none, marked)) | inr some ↦ some.1 ]
+mark_above p n m x rule marked = elim (rule.marks x) [
+  | inl none ↦ absurd (omega (arith, none, marked))
+  | inr some ↦ some.1
+]
 
 -- what is marked was born
 pub marked_born : (p : Module) (n : ℕ) (m : Machine) (x : ℕ) → Rule p n m → m.memory (Mark x) ≡ 1 → m.life x ≢ Unborn
 marked_born p n m x rule marked = λ unborn.
-    let row = subst (λ (l : Life). RowRule (block_of m.rows x) l (numbers_of m x)) unborn (rule.rows x (mark_above p n m x rule marked)) in
+    let row =
+    subst (λ (l : Life). RowRule (block_of m.rows x) l (numbers_of m x)) unborn
+    (rule.rows x (mark_above p n m x rule marked)) in
     absurd (omega (arith, row.mark, marked))
 
 -- ---- a mark is claimed
@@ -50,21 +55,26 @@ record ClaimStep (m : Machine) (t : ℕ) (a : Actor) (d : Duty) (x : ℕ) (rest 
   gates : (y : ℕ) → memory_by m t a d (Gate y) ≡ m.memory (Gate y)
   word : memory_by m t a d (ThreadWord t) ≡ m.memory (ThreadWord t)
   hands : (y : ℕ) → hand_of (d ∷ rest) y ≡ false
-  held : (agenda : List Duty) → ((h : Holding) (object : ℕ) → extra_of agenda h object ≡ false) → ((h : Holding) (object : ℕ) → lacks_of agenda h object ≡ false)
+  held : (agenda : List Duty) → ((h : Holding) (object : ℕ) → extra_of agenda h object ≡ false)
+      → ((h : Holding) (object : ℕ) → lacks_of agenda h object ≡ false)
       → HeldStep m.plain.references (bag_by m t a d) t (d ∷ rest) agenda
   block : m.memory (Mark x) ≡ 1 → block_of m.rows x ≡ t
   later : Later m.rows t a.used a.status a.place (behind ++ rest)
   none : NoneHanded (behind ++ rest)
 
-claim_step : (p : Module) (n : ℕ) (m : Machine) (t : ℕ) (a : Actor) (d : Duty) (x : ℕ) (rest behind : List Duty) → AtDuty p n m t a d rest → (a.status ≡ Gone → ⊥) → ClaimStep m t a d x rest behind
+claim_step : (p : Module) (n : ℕ) (m : Machine) (t : ℕ) (a : Actor) (d : Duty) (x : ℕ) (rest behind : List Duty)
+    → AtDuty p n m t a d rest → (a.status ≡ Gone → ⊥) → ClaimStep m t a d x rest behind
     → OwnFits p (done_by m t a d rest) t (actor_by t a d rest (found_by m t a d))
 claim_step p n m t a d x rest behind here alive step =
     let both = MergeSwap x Handed ∷ SharedLoad x Handed ∷ [] in
-    elim (m.memory (Mark x) == 1) as (λ b. (m.memory (Mark x) == 1) ≡ b → OwnFits p (done_by m t a d rest) t (actor_by t a d rest (found_by m t a d))) [
+    elim (m.memory (Mark x) == 1) as
+    (λ b. (m.memory (Mark x) == 1) ≡ b
+    → OwnFits p (done_by m t a d rest) t (actor_by t a d rest (found_by m t a d))) [
       | true ↦ λ e.
           let marked : m.memory (Mark x) ≡ 1 = eqb-true (m.memory (Mark x)) 1 e in
           let above = mark_above p n m x here.rule marked in
-          own_neutral p n m t a d rest (MergeSwap x Handed ∷ SharedLoad x Handed ∷ behind) (MergeSwap x Handed ∷ SharedLoad x Handed ∷ (behind ++ rest)) here alive (record {
+          own_neutral p n m t a d rest (MergeSwap x Handed ∷ SharedLoad x Handed ∷ behind)
+          (MergeSwap x Handed ∷ SharedLoad x Handed ∷ (behind ++ rest)) here alive (record {
             next_is = step.next_is ∙ ap (λ (b : Bool). cond b both [] ++ behind) e;
             none_dies = refl;
             none_ends = step.none_ends;
@@ -100,7 +110,8 @@ claim_step p n m t a d x rest behind here alive step =
           })
     ] refl
 
-pub own_scan : (p : Module) (n : ℕ) (m : Machine) (t : ℕ) (a : Actor) (x k : ℕ) (rest : List Duty) → AtDuty p n m t a (Scan x k) rest → (a.status ≡ Gone → ⊥)
+pub own_scan : (p : Module) (n : ℕ) (m : Machine) (t : ℕ) (a : Actor) (x k : ℕ) (rest : List Duty)
+    → AtDuty p n m t a (Scan x k) rest → (a.status ≡ Gone → ⊥)
     → OwnFits p (done_by m t a (Scan x k) rest) t (actor_by t a (Scan x k) rest (found_by m t a (Scan x k)))
 own_scan p n m t a x k rest here alive =
     let some = head_of p n m t a (Scan x k) rest here in
@@ -122,7 +133,8 @@ own_scan p n m t a x k rest here alive =
     })
 
 -- a running thread looks into its queue
-pub own_claim_mark : (p : Module) (n : ℕ) (m : Machine) (t : ℕ) (a : Actor) (x : ℕ) (rest : List Duty) → AtDuty p n m t a (ClaimMark x) rest → (a.status ≡ Gone → ⊥)
+pub own_claim_mark : (p : Module) (n : ℕ) (m : Machine) (t : ℕ) (a : Actor) (x : ℕ) (rest : List Duty)
+    → AtDuty p n m t a (ClaimMark x) rest → (a.status ≡ Gone → ⊥)
     → OwnFits p (done_by m t a (ClaimMark x) rest) t (actor_by t a (ClaimMark x) rest (found_by m t a (ClaimMark x)))
 own_claim_mark p n m t a x rest here alive =
     claim_step p n m t a (ClaimMark x) x rest (Settle ∷ []) here alive (record {
@@ -144,32 +156,40 @@ own_claim_mark p n m t a x rest here alive =
 -- ---- the thread says that it leaves
 
 -- no row is at hand before the step, nor after it
-exit_chain : (p : Module) (n : ℕ) (m : Machine) (t : ℕ) (a : Actor) (d : Duty) (rest agenda : List Duty) → AtDuty p n m t a d rest → ((y : ℕ) → memory_by m t a d (Gate y) ≡ m.memory (Gate y))
+exit_chain : (p : Module) (n : ℕ) (m : Machine) (t : ℕ) (a : Actor) (d : Duty) (rest agenda : List Duty)
+    → AtDuty p n m t a d rest → ((y : ℕ) → memory_by m t a d (Gate y) ≡ m.memory (Gate y))
     → ((y : ℕ) → (done_by m t a d rest).life y ≡ m.life y)
-    → ((y : ℕ) → hand_of (d ∷ rest) y ≡ false) → ((y : ℕ) → hand_of agenda y ≡ false) → ChainFits (done_by m t a d rest) t a.head agenda
+    → ((y : ℕ) → hand_of (d ∷ rest) y ≡ false) → ((y : ℕ) → hand_of agenda y ≡ false)
+    → ChainFits (done_by m t a d rest) t a.head agenda
 exit_chain p n m t a d rest agenda here gates lives before after =
     chain_same m (done_by m t a d rest) t a.head (d ∷ rest) agenda (record {
       gates = gates;
       hands = λ y.
           let was : one_if (hand_of (d ∷ rest) y) ≡ 0 = ap one_if (before y) in
           let now : one_if (hand_of agenda y) ≡ 0 = ap one_if (after y) in
-          let life : one_if (dies_by ((done_by m t a d rest).life y) t) ≡ one_if (dies_by (m.life y) t) = ap (λ (l : Life). one_if (dies_by l t)) (lives y) in
+          let life : one_if (dies_by ((done_by m t a d rest).life y) t) ≡ one_if (dies_by (m.life y) t) =
+          ap (λ (l : Life). one_if (dies_by l t)) (lives y) in
           omega (arith, was, now, life);
     }) (chain_here p n m t a d rest here)
 
-pub own_leave : (p : Module) (n : ℕ) (m : Machine) (t : ℕ) (a : Actor) (x k : ℕ) (rest : List Duty) → AtDuty p n m t a (Leave x k) rest → (a.status ≡ Gone → ⊥)
+pub own_leave : (p : Module) (n : ℕ) (m : Machine) (t : ℕ) (a : Actor) (x k : ℕ) (rest : List Duty)
+    → AtDuty p n m t a (Leave x k) rest → (a.status ≡ Gone → ⊥)
     → OwnFits p (done_by m t a (Leave x k) rest) t (actor_by t a (Leave x k) rest (found_by m t a (Leave x k)))
 own_leave p n m t a x k [] here alive =
     let fits = agenda_here p n m t a (Leave x k) [] here alive in
     let looks : List Duty = Scan x k ∷ Finish ∷ [] in
-    let ready_so = ready_is m.rows t a.used Leaving a.place a.head looks (refl, omega (arith, fits.2), omega (arith, fits.2, fits.3), (refl, fits.1)) tt in
+    let ready_so =
+    ready_is m.rows t a.used Leaving a.place a.head looks
+    (refl, omega (arith, fits.2), omega (arith, fits.2, fits.3), (refl, fits.1)) tt in
     own_shown p n m t a (Leave x k) [] (ready a.head looks) Leaving a.head here (record {
       head_is = refl;
       status_is = refl;
       agenda_is = refl;
       word = written_here m.memory (ThreadWord t) 2;
       held = held_same m.plain.references t (Leave x k ∷ []) (ready a.head looks) ready_so.more ready_so.less;
-      chain = exit_chain p n m t a (Leave x k) [] (ready a.head looks) here (λ y. refl) (λ y. refl) (λ y. refl) ready_so.at_hand;
+      chain =
+          exit_chain p n m t a (Leave x k) [] (ready a.head looks) here (λ y. refl) (λ y. refl) (λ y. refl)
+          ready_so.at_hand;
       fits = agenda_shown m t a (Leave x k) [] (ready a.head looks) Leaving (λ e. cc) refl refl ready_so.fits;
       handed = ready_so.handed;
       knows = λ b status head used. ready_so.knows (done_by m t a (Leave x k) []) b head;
@@ -179,7 +199,8 @@ own_leave p n m t a x k (e ∷ rest) here alive = absurd (agenda_here p n m t a 
 -- ---- the thread is gone
 
 -- its chain is empty by `IsSettled`: a thread settles before it leaves, and after each mark
-pub own_finish : (p : Module) (n : ℕ) (m : Machine) (t : ℕ) (a : Actor) (rest : List Duty) → AtDuty p n m t a Finish rest → (a.status ≡ Gone → ⊥) → (empty : a.head ≡ 0)
+pub own_finish : (p : Module) (n : ℕ) (m : Machine) (t : ℕ) (a : Actor) (rest : List Duty)
+    → AtDuty p n m t a Finish rest → (a.status ≡ Gone → ⊥) → (empty : a.head ≡ 0)
     → OwnFits p (done_by m t a Finish rest) t (actor_by t a Finish rest (found_by m t a Finish))
 own_finish p n m t a [] here alive empty =
     let fits = agenda_here p n m t a Finish [] here alive in

@@ -1,4 +1,5 @@
--- A thread after its own steps that make a reference, and after those that give one up by the local word or by the shared one.
+-- A thread after its own steps that make a reference, and after those that give one up by the local word or by the
+-- shared one.
 use Rattle.std.proofs.Common.{◌≡◌, ℕ, ◌+◌, ◌-◌, ◌<◌, Bool, true, false, cond, List, [], ◌∷◌, ◌++◌, refl, sym, ap, ◌∙◌, subst, arith}
 use Rattle.std.specs.Prelude.{◌==◌, ◌&&◌}
 use Rattle.std.specs.List.{list_any}
@@ -8,13 +9,13 @@ use Rattle.brc_lang.specs.declared.module.Module.{Module}
 use Rattle.brc_model.specs.declared.duty.Holding.{Holding}
 use Rattle.brc_model.specs.declared.duty.Holding.TheVariants.{ByVariable, AsCaller, InHand}
 use Rattle.brc_model.specs.Plain.{Reference, same_holding, same, without, moved}
-use Rattle.brc_word.specs.Words.{owner_part, local_part, phase_part, is_immortal_word, fresh_word, dead_word, released_word}
+use Rattle.brc_word.specs.Words.{owner_part, local_part, is_immortal_word, fresh_word}
 use Rattle.brc_model.specs.declared.duty.Reason.{Reason}
 use Rattle.brc_model.specs.declared.duty.Reason.TheVariants.{Own, Handed}
 use Rattle.brc_model.specs.declared.duty.Duty.{Duty}
-use Rattle.brc_model.specs.declared.duty.Duty.TheVariants.{RetainStore, RetainAdd, ReleaseLoad, ReleaseStore, DecideAtZero, SharedLoad, SharedExchange, SetMark, MergeSwap, Die}
+use Rattle.brc_model.specs.declared.duty.Duty.TheVariants.{RetainStore, RetainAdd, ReleaseLoad, ReleaseStore, DecideAtZero, SharedLoad, MergeSwap, Die}
 use Rattle.brc_model.specs.declared.address.Address.TheVariants.{Local, Shared}
-use Rattle.brc_model.specs.Duties.{counts_locally, shared_result}
+use Rattle.brc_model.specs.Duties.{counts_locally}
 use Rattle.brc_model.specs.declared.actor.Status.TheVariants.{Gone}
 use Rattle.brc_model.specs.declared.actor.Place.{Place}
 use Rattle.brc_model.specs.declared.actor.Place.TheVariants.{Standing, Inside, Departing}
@@ -25,9 +26,9 @@ use Rattle.brc_model.proofs.Rows.{InOwned, InSwapped, InMerged}
 use Rattle.brc_model.proofs.RowSteps.{owner_down}
 use Rattle.brc_model.proofs.Rule.{extra_of, lacks_of, HoldsAt, PlaceFits, NoneHanded, HandedOnce}
 use Rattle.brc_model.proofs.Alive.{Alive, alive_referenced}
-use Rattle.brc_model.proofs.Written.{written_here, written_load}
-use Rattle.brc_model.proofs.Leaves.{AtDuty, head_of, exchange_alive, decide_alive}
-use Rattle.brc_model.proofs.Lives.{next_of, leaves_others}
+use Rattle.brc_model.proofs.Written.{written_here}
+use Rattle.brc_model.proofs.Leaves.{AtDuty, head_of, decide_alive}
+use Rattle.brc_model.proofs.Lives.{next_of}
 use Rattle.brc_model.proofs.Own.{HeldStep}
 use Rattle.brc_model.proofs.Neutral.{OwnFits, found_by, bag_by, agenda_here, handed_here}
 use Rattle.brc_model.proofs.OwnCounts.{same_is, held_same, held_gained, held_lost}
@@ -36,21 +37,32 @@ use Rattle.brc_model.proofs.OwnSteps.{own_done, own_next, own_dying}
 
 -- ---- a reference is made
 
-pub own_retain_store : (p : Module) (n : ℕ) (m : Machine) (t : ℕ) (a : Actor) (x : ℕ) (h : Holding) (w : ℕ) (rest : List Duty) → AtDuty p n m t a (RetainStore x h w) rest → (a.status ≡ Gone → ⊥)
-    → OwnFits p (done_by m t a (RetainStore x h w) rest) t (actor_by t a (RetainStore x h w) rest (found_by m t a (RetainStore x h w)))
+pub own_retain_store : (p : Module) (n : ℕ) (m : Machine) (t : ℕ) (a : Actor) (x : ℕ) (h : Holding) (w : ℕ)
+    (rest : List Duty)
+    → AtDuty p n m t a (RetainStore x h w) rest → (a.status ≡ Gone → ⊥)
+    → OwnFits p (done_by m t a (RetainStore x h w) rest) t
+    (actor_by t a (RetainStore x h w) rest (found_by m t a (RetainStore x h w)))
 own_retain_store p n m t a x h w rest here alive =
-    own_done p n m t a (RetainStore x h w) rest here alive refl refl (agenda_here p n m t a (RetainStore x h w) rest here alive) (handed_here p n m t a (RetainStore x h w) rest here)
-    (held_gained m.plain.references t x h (RetainStore x h w ∷ rest) [] (λ k o. refl) (λ k o. refl) (λ k o. refl) (λ k o. refl))
+    own_done p n m t a (RetainStore x h w) rest here alive refl refl
+    (agenda_here p n m t a (RetainStore x h w) rest here alive)
+    (handed_here p n m t a (RetainStore x h w) rest here)
+    (held_gained m.plain.references t x h (RetainStore x h w ∷ rest) [] (λ k o. refl) (λ k o. refl) (λ k o. refl)
+    (λ k o. refl))
 
-pub own_retain_add : (p : Module) (n : ℕ) (m : Machine) (t : ℕ) (a : Actor) (x : ℕ) (h : Holding) (rest : List Duty) → AtDuty p n m t a (RetainAdd x h) rest → (a.status ≡ Gone → ⊥)
-    → OwnFits p (done_by m t a (RetainAdd x h) rest) t (actor_by t a (RetainAdd x h) rest (found_by m t a (RetainAdd x h)))
+pub own_retain_add : (p : Module) (n : ℕ) (m : Machine) (t : ℕ) (a : Actor) (x : ℕ) (h : Holding) (rest : List Duty)
+    → AtDuty p n m t a (RetainAdd x h) rest → (a.status ≡ Gone → ⊥)
+    → OwnFits p (done_by m t a (RetainAdd x h) rest) t
+    (actor_by t a (RetainAdd x h) rest (found_by m t a (RetainAdd x h)))
 own_retain_add p n m t a x h rest here alive =
-    own_done p n m t a (RetainAdd x h) rest here alive refl refl (agenda_here p n m t a (RetainAdd x h) rest here alive) (handed_here p n m t a (RetainAdd x h) rest here)
-    (held_gained m.plain.references t x h (RetainAdd x h ∷ rest) [] (λ k o. refl) (λ k o. refl) (λ k o. refl) (λ k o. refl))
+    own_done p n m t a (RetainAdd x h) rest here alive refl refl
+    (agenda_here p n m t a (RetainAdd x h) rest here alive) (handed_here p n m t a (RetainAdd x h) rest here)
+    (held_gained m.plain.references t x h (RetainAdd x h ∷ rest) [] (λ k o. refl) (λ k o. refl) (λ k o. refl)
+    (λ k o. refl))
 
 -- ---- a reference is taken to the hand
 
-extra_by : (bag : List Reference) (t : ℕ) (says : Holding → ℕ → Bool) (agenda : List Duty) (h : Holding) (x : ℕ) → HoldsAt bag t says agenda → extra_of agenda h x ≡ true → lacks_of agenda h x ≡ false
+extra_by : (bag : List Reference) (t : ℕ) (says : Holding → ℕ → Bool) (agenda : List Duty) (h : Holding) (x : ℕ)
+    → HoldsAt bag t says agenda → extra_of agenda h x ≡ true → lacks_of agenda h x ≡ false
     → 0 < held (reference_of t h x) bag
 extra_by bag t says agenda h x holds more less =
     let a : one_if (extra_of agenda h x) ≡ 1 = ap one_if more in
@@ -58,24 +70,38 @@ extra_by bag t says agenda h x holds more less =
     omega (arith, holds.each h x, a, b)
 
 -- what is given up is held
-extra_held : (code : List Instr) (bag : List Reference) (t : ℕ) (agenda : List Duty) (place : Place) (h : Holding) (x : ℕ) → PlaceFits code bag t agenda place
+extra_held : (code : List Instr) (bag : List Reference) (t : ℕ) (agenda : List Duty) (place : Place) (h : Holding)
+    (x : ℕ)
+    → PlaceFits code bag t agenda place
     → extra_of agenda h x ≡ true → lacks_of agenda h x ≡ false → 0 < held (reference_of t h x) bag
 extra_held code bag t agenda (Standing left) h x fits more less = extra_by bag t the_root agenda h x fits more less
-extra_held code bag t agenda (Inside left at variables) h x fits more less = extra_by bag t (of_variables fits.0 variables) agenda h x fits.2 more less
+extra_held code bag t agenda (Inside left at variables) h x fits more less =
+    extra_by bag t (of_variables fits.0 variables) agenda h x fits.2 more less
 extra_held code bag t agenda Departing h x fits more less = extra_by bag t nothing agenda h x fits more less
 
-extra_here : (p : Module) (n : ℕ) (m : Machine) (t : ℕ) (a : Actor) (d : Duty) (rest : List Duty) (h : Holding) (x : ℕ) → AtDuty p n m t a d rest → extra_of (d ∷ rest) h x ≡ true → lacks_of (d ∷ rest) h x ≡ false
+extra_here : (p : Module) (n : ℕ) (m : Machine) (t : ℕ) (a : Actor) (d : Duty) (rest : List Duty) (h : Holding) (x : ℕ)
+    → AtDuty p n m t a d rest → extra_of (d ∷ rest) h x ≡ true → lacks_of (d ∷ rest) h x ≡ false
     → 0 < held (reference_of t h x) m.plain.references
 extra_here p n m t a d rest h x here more less =
-    extra_held _ m.plain.references t a.agenda a.place h x (here.rule.each t a here.found).0.placed (ap (λ (l : List Duty). extra_of l h x) here.agenda ∙ more) (ap (λ (l : List Duty). lacks_of l h x) here.agenda ∙ less)
+    extra_held _ m.plain.references t a.agenda a.place h x (here.rule.each t a here.found).0.placed
+    (ap (λ (l : List Duty). extra_of l h x) here.agenda ∙ more)
+    (ap (λ (l : List Duty). lacks_of l h x) here.agenda ∙ less)
 
-pub release_held : (p : Module) (n : ℕ) (m : Machine) (t : ℕ) (a : Actor) (x : ℕ) (h : Holding) (rest : List Duty) → AtDuty p n m t a (ReleaseLoad x h) rest → 0 < held (reference_of t h x) m.plain.references
+pub release_held : (p : Module) (n : ℕ) (m : Machine) (t : ℕ) (a : Actor) (x : ℕ) (h : Holding) (rest : List Duty)
+    → AtDuty p n m t a (ReleaseLoad x h) rest → 0 < held (reference_of t h x) m.plain.references
 release_held p n m t a x h rest here =
-    extra_here p n m t a (ReleaseLoad x h) rest h x here (ap (λ (b : Bool). b && (x == x)) (same_holding-refl h) ∙ eq-eqb x x refl) refl
+    extra_here p n m t a (ReleaseLoad x h) rest h x here
+    (ap (λ (b : Bool). b && (x == x)) (same_holding-refl h) ∙ eq-eqb x x refl) refl
 
-pub release_alive : (p : Module) (n : ℕ) (m : Machine) (t : ℕ) (a : Actor) (x : ℕ) (h : Holding) (rest : List Duty) → 0 < x → AtDuty p n m t a (ReleaseLoad x h) rest → Alive m x
+pub release_alive : (p : Module) (n : ℕ) (m : Machine) (t : ℕ) (a : Actor) (x : ℕ) (h : Holding) (rest : List Duty)
+    → 0 < x → AtDuty p n m t a (ReleaseLoad x h) rest → Alive m x
 release_alive p n m t a x h rest pos here =
-    alive_referenced p n m x here.rule pos (omega (arith, release_held p n m t a x h rest here, held-le-references_to (reference_of t h x) m.plain.references))
+    alive_referenced p n m x here.rule pos
+    (omega (
+      arith,
+      release_held p n m t a x h rest here,
+      held-le-references_to (reference_of t h x) m.plain.references,
+    ))
 
 alive_mortal : (m : Machine) (x : ℕ) → Alive m x → is_immortal_word (m.memory (Local x)) ≡ false
 alive_mortal m x alive =
@@ -86,76 +112,127 @@ alive_mortal m x alive =
     ])
 
 -- the holder's reference becomes the hand's
-held_taken : (bag : List Reference) (t x : ℕ) (h : Holding) (rest later : List Duty) → list_any (same (reference_of t h x)) bag ≡ true → ((k : Holding) (object : ℕ) → extra_of later k object ≡ (same_holding InHand k && (x == object)))
-    → ((k : Holding) (object : ℕ) → lacks_of later k object ≡ false) → HeldStep bag (reference_of t InHand x ∷ without (reference_of t h x) bag) t (ReleaseLoad x h ∷ rest) later
+held_taken : (bag : List Reference) (t x : ℕ) (h : Holding) (rest later : List Duty)
+    → list_any (same (reference_of t h x)) bag ≡ true
+    → ((k : Holding) (object : ℕ) → extra_of later k object ≡ (same_holding InHand k && (x == object)))
+    → ((k : Holding) (object : ℕ) → lacks_of later k object ≡ false)
+    → HeldStep bag (reference_of t InHand x ∷ without (reference_of t h x) bag) t (ReleaseLoad x h ∷ rest) later
 held_taken bag t x h rest later has more less = record {
   each = λ k object.
       let r = reference_of t k object in
-      let lost : one_if (same r (reference_of t h x)) ≡ one_if (extra_of (ReleaseLoad x h ∷ rest) k object) = ap one_if (same_is t x h k object) in
-      let gained : one_if (same r (reference_of t InHand x)) ≡ one_if (extra_of later k object) = ap one_if (same_is t x InHand k object ∙ sym (more k object)) in
+      let lost : one_if (same r (reference_of t h x)) ≡ one_if (extra_of (ReleaseLoad x h ∷ rest) k object) =
+      ap one_if (same_is t x h k object) in
+      let gained : one_if (same r (reference_of t InHand x)) ≡ one_if (extra_of later k object) =
+      ap one_if (same_is t x InHand k object ∙ sym (more k object)) in
       let c : one_if (lacks_of later k object) ≡ 0 = ap one_if (less k object) in
-      omega (arith, held-cons r (reference_of t InHand x) (without (reference_of t h x) bag), held-without r (reference_of t h x) bag has, lost, gained, c);
+      omega (
+        arith,
+        held-cons r (reference_of t InHand x) (without (reference_of t h x) bag),
+        held-without r (reference_of t h x) bag has,
+        lost,
+        gained,
+        c,
+      );
 }
 
-held_handed_on : (m : Machine) (t x : ℕ) (h : Holding) (rest later : List Duty) → list_any (same (reference_of t h x)) m.plain.references ≡ true
+held_handed_on : (m : Machine) (t x : ℕ) (h : Holding) (rest later : List Duty)
+    → list_any (same (reference_of t h x)) m.plain.references ≡ true
     → ((k : Holding) (object : ℕ) → extra_of later k object ≡ (same_holding InHand k && (x == object)))
-    → ((k : Holding) (object : ℕ) → lacks_of later k object ≡ false) → HeldStep m.plain.references (moved m.plain (hand_on t h x ++ [])).references t (ReleaseLoad x h ∷ rest) later
-held_handed_on m t x (ByVariable v) rest later has more less = held_taken m.plain.references t x (ByVariable v) rest later has more less
-held_handed_on m t x AsCaller rest later has more less = held_taken m.plain.references t x AsCaller rest later has more less
-held_handed_on m t x InHand rest later has more less = held_same m.plain.references t (ReleaseLoad x InHand ∷ rest) later more less
+    → ((k : Holding) (object : ℕ) → lacks_of later k object ≡ false)
+    → HeldStep m.plain.references (moved m.plain (hand_on t h x ++ [])).references t (ReleaseLoad x h ∷ rest) later
+held_handed_on m t x (ByVariable v) rest later has more less =
+    held_taken m.plain.references t x (ByVariable v) rest later has more less
+held_handed_on m t x AsCaller rest later has more less =
+    held_taken m.plain.references t x AsCaller rest later has more less
+held_handed_on m t x InHand rest later has more less =
+    held_same m.plain.references t (ReleaseLoad x InHand ∷ rest) later more less
 
 -- of a counted object
-pub own_release_counted : (p : Module) (n : ℕ) (m : Machine) (t : ℕ) (a : Actor) (x : ℕ) (h : Holding) (rest : List Duty) → 0 < x → AtDuty p n m t a (ReleaseLoad x h) rest → (a.status ≡ Gone → ⊥)
-    → OwnFits p (done_by m t a (ReleaseLoad x h) rest) t (actor_by t a (ReleaseLoad x h) rest (found_by m t a (ReleaseLoad x h)))
+pub own_release_counted : (p : Module) (n : ℕ) (m : Machine) (t : ℕ) (a : Actor) (x : ℕ) (h : Holding)
+    (rest : List Duty)
+    → 0 < x → AtDuty p n m t a (ReleaseLoad x h) rest → (a.status ≡ Gone → ⊥)
+    → OwnFits p (done_by m t a (ReleaseLoad x h) rest) t
+    (actor_by t a (ReleaseLoad x h) rest (found_by m t a (ReleaseLoad x h)))
 own_release_counted p n m t a x h rest pos here alive =
     let word = m.memory (Local x) in
     let d : Duty = ReleaseLoad x h in
     let living = release_alive p n m t a x h rest pos here in
     let mortal = alive_mortal m x living in
     let has = held_has (reference_of t h x) m.plain.references (release_held p n m t a x h rest here) in
-    let bag : bag_by m t a d ≡ (moved m.plain (hand_on t h x ++ [])).references = ap (λ (b : Bool). (moved m.plain (hand_on t h x ++ cond b (lose t x) [])).references) mortal in
-    let first : next_of m t a d ≡ cond (counts_locally t (is_running a.status) word) (ReleaseStore x word ∷ []) (SharedLoad x Own ∷ []) =
-    ap (λ (b : Bool). cond b [] (cond (counts_locally t (is_running a.status) word) (ReleaseStore x word ∷ []) (SharedLoad x Own ∷ []))) mortal in
-    let keeps : (e : Duty) → ((k : Holding) (object : ℕ) → extra_of (e ∷ rest) k object ≡ (same_holding InHand k && (x == object))) → ((k : Holding) (object : ℕ) → lacks_of (e ∷ rest) k object ≡ false)
+    let bag : bag_by m t a d ≡ (moved m.plain (hand_on t h x ++ [])).references =
+    ap (λ (b : Bool). (moved m.plain (hand_on t h x ++ cond b (lose t x) [])).references) mortal in
+    let first : next_of m t a d ≡ cond (counts_locally t (is_running a.status) word) (ReleaseStore x word ∷ [])
+    (SharedLoad x Own ∷ []) =
+    ap (λ (b : Bool). cond b [] (cond (counts_locally t (is_running a.status) word) (ReleaseStore x word ∷ [])
+    (SharedLoad x Own ∷ []))) mortal in
+    let keeps : (e : Duty)
+    → ((k : Holding) (object : ℕ) → extra_of (e ∷ rest) k object ≡ (same_holding InHand k && (x == object)))
+    → ((k : Holding) (object : ℕ) → lacks_of (e ∷ rest) k object ≡ false)
     → HeldStep m.plain.references (bag_by m t a d) t (d ∷ rest) (e ∷ rest) =
-    λ e more less. subst (λ (l : List Reference). HeldStep m.plain.references l t (d ∷ rest) (e ∷ rest)) (sym bag) (held_handed_on m t x h rest (e ∷ rest) has more less) in
+    λ e more less. subst (λ (l : List Reference). HeldStep m.plain.references l t (d ∷ rest) (e ∷ rest)) (sym bag)
+    (held_handed_on m t x h rest (e ∷ rest) has more less) in
     let later = agenda_here p n m t a d rest here alive in
     let handed = handed_here p n m t a d rest here in
-    elim (counts_locally t (is_running a.status) word) as (λ b. counts_locally t (is_running a.status) word ≡ b → OwnFits p (done_by m t a d rest) t (actor_by t a d rest word)) [
+    elim (counts_locally t (is_running a.status) word) as
+    (λ b. counts_locally t (is_running a.status) word ≡ b
+    → OwnFits p (done_by m t a d rest) t (actor_by t a d rest word)) [
       | true ↦ λ e.
           let owns = counts_owner m t a x e living in
-          let some = count_above p n m t x a here.rule here.found owns (weight_here p n m t x a d rest here alive refl) living in
+          let some =
+          count_above p n m t x a here.rule here.found owns (weight_here p n m t x a d rest here alive refl) living
+          in
           let same_word : (done_by m t a d rest).memory (Local x) ≡ word = written_here m.memory (Local x) word in
           own_next p n m t a d (ReleaseStore x word) rest here alive refl refl refl
-          (first ∙ ap (λ (b : Bool). cond b (ReleaseStore x word ∷ []) (SharedLoad x Own ∷ [])) e) (keeps (ReleaseStore x word) (λ k o. refl) (λ k o. refl)) later handed
-          (λ b status head used. (pos, record { running = status ∙ owns.running; owner = ap owner_part same_word ∙ owns.owner; low = subst (λ (w : ℕ). local_part w < 4294967295) (sym same_word) owns.low }, same_word, some))
+          (first ∙ ap (λ (b : Bool). cond b (ReleaseStore x word ∷ []) (SharedLoad x Own ∷ [])) e)
+          (keeps (ReleaseStore x word) (λ k o. refl) (λ k o. refl)) later handed
+          (λ b status head used. (
+            pos,
+            record {
+              running = status ∙ owns.running;
+              owner = ap owner_part same_word ∙ owns.owner;
+              low =
+                  subst (λ (w : ℕ). local_part w < 4294967295) (sym same_word) owns.low;
+            },
+            same_word,
+            some,
+          ))
       | false ↦ λ e.
           own_next p n m t a d (SharedLoad x Own) rest here alive refl refl refl
-          (first ∙ ap (λ (b : Bool). cond b (ReleaseStore x word ∷ []) (SharedLoad x Own ∷ [])) e) (keeps (SharedLoad x Own) (λ k o. refl) (λ k o. refl)) later handed
+          (first ∙ ap (λ (b : Bool). cond b (ReleaseStore x word ∷ []) (SharedLoad x Own ∷ [])) e)
+          (keeps (SharedLoad x Own) (λ k o. refl) (λ k o. refl)) later handed
           (λ b status head used. pos)
     ] refl
 
 -- ---- the reference in the hand is lost
 
 -- its duty has the hand's reference more, and what comes next has nothing
-held_let_go : (p : Module) (n : ℕ) (m : Machine) (t : ℕ) (a : Actor) (d : Duty) (rest later : List Duty) (x : ℕ) → AtDuty p n m t a d rest
+pub held_let_go : (p : Module) (n : ℕ) (m : Machine) (t : ℕ) (a : Actor) (d : Duty) (rest later : List Duty) (x : ℕ)
+    → AtDuty p n m t a d rest
     → ((k : Holding) (object : ℕ) → extra_of (d ∷ rest) k object ≡ (same_holding InHand k && (x == object)))
-    → ((k : Holding) (object : ℕ) → lacks_of (d ∷ rest) k object ≡ false) → ((k : Holding) (object : ℕ) → extra_of later k object ≡ false) → ((k : Holding) (object : ℕ) → lacks_of later k object ≡ false)
+    → ((k : Holding) (object : ℕ) → lacks_of (d ∷ rest) k object ≡ false)
+    → ((k : Holding) (object : ℕ) → extra_of later k object ≡ false)
+    → ((k : Holding) (object : ℕ) → lacks_of later k object ≡ false)
     → HeldStep m.plain.references (without (reference_of t InHand x) m.plain.references) t (d ∷ rest) later
 held_let_go p n m t a d rest later x here extra none more less =
     let some = extra_here p n m t a d rest InHand x here (extra InHand x ∙ eq-eqb x x refl) (none InHand x) in
-    held_lost m.plain.references t x InHand (d ∷ rest) later (held_has (reference_of t InHand x) m.plain.references some) extra none more less
+    held_lost m.plain.references t x InHand (d ∷ rest) later
+    (held_has (reference_of t InHand x) m.plain.references some) extra none more less
 
-pub own_release_store : (p : Module) (n : ℕ) (m : Machine) (t : ℕ) (a : Actor) (x w : ℕ) (rest : List Duty) → AtDuty p n m t a (ReleaseStore x w) rest → (a.status ≡ Gone → ⊥)
-    → OwnFits p (done_by m t a (ReleaseStore x w) rest) t (actor_by t a (ReleaseStore x w) rest (found_by m t a (ReleaseStore x w)))
+pub own_release_store : (p : Module) (n : ℕ) (m : Machine) (t : ℕ) (a : Actor) (x w : ℕ) (rest : List Duty)
+    → AtDuty p n m t a (ReleaseStore x w) rest → (a.status ≡ Gone → ⊥)
+    → OwnFits p (done_by m t a (ReleaseStore x w) rest) t
+    (actor_by t a (ReleaseStore x w) rest (found_by m t a (ReleaseStore x w)))
 own_release_store p n m t a x w rest here alive =
     let d : Duty = ReleaseStore x w in
     let fits = head_of p n m t a d rest here in
-    let lost : (later : List Duty) → ((k : Holding) (object : ℕ) → extra_of later k object ≡ false) → ((k : Holding) (object : ℕ) → lacks_of later k object ≡ false) → HeldStep m.plain.references (bag_by m t a d) t (d ∷ rest) later =
+    let lost : (later : List Duty) → ((k : Holding) (object : ℕ) → extra_of later k object ≡ false)
+    → ((k : Holding) (object : ℕ) → lacks_of later k object ≡ false)
+    → HeldStep m.plain.references (bag_by m t a d) t (d ∷ rest) later =
     λ later more less. held_let_go p n m t a d rest later x here (λ k o. refl) (λ k o. refl) more less in
     let later = agenda_here p n m t a d rest here alive in
     let handed = handed_here p n m t a d rest here in
-    elim (local_part w == 1) as (λ b. (local_part w == 1) ≡ b → OwnFits p (done_by m t a d rest) t (actor_by t a d rest (m.memory (Local x)))) [
+    elim (local_part w == 1) as (λ b. (local_part w == 1) ≡ b
+    → OwnFits p (done_by m t a d rest) t (actor_by t a d rest (m.memory (Local x)))) [
       | true ↦ λ e.
           let one : local_part w ≡ 1 = eqb-true _ _ e in
           let down = owner_down w fits.3 in
@@ -163,14 +240,21 @@ own_release_store p n m t a x w rest here alive =
           let zero_left : local_part (w - 1) ≡ 0 = omega (arith, down.1, one) in
           let owner : owner_part (w - 1) ≡ t + 1 = down.0 ∙ ap owner_part (sym fits.2) ∙ fits.1.owner in
           own_next p n m t a d (DecideAtZero x) rest here alive refl refl refl
-          (ap (λ (b : Bool). cond b (DecideAtZero x ∷ []) []) e) (lost (DecideAtZero x ∷ rest) (λ k o. refl) (λ k o. refl)) later handed
+          (ap (λ (b : Bool). cond b (DecideAtZero x ∷ []) []) e)
+          (lost (DecideAtZero x ∷ rest) (λ k o. refl) (λ k o. refl)) later handed
           (λ b status head used. (
             fits.0,
-            record { running = status ∙ fits.1.running; owner = ap owner_part now ∙ owner; low = subst (λ (v : ℕ). local_part v < 4294967295) (sym now) (omega (arith, zero_left)) },
+            record {
+              running = status ∙ fits.1.running;
+              owner = ap owner_part now ∙ owner;
+              low =
+                  subst (λ (v : ℕ). local_part v < 4294967295) (sym now) (omega (arith, zero_left));
+            },
             ap local_part now ∙ zero_left,
           ))
       | false ↦ λ e.
-          own_done p n m t a d rest here alive refl (ap (λ (b : Bool). cond b (DecideAtZero x ∷ []) []) e) later handed (lost [] (λ k o. refl) (λ k o. refl))
+          own_done p n m t a d rest here alive refl (ap (λ (b : Bool). cond b (DecideAtZero x ∷ []) []) e) later handed
+          (lost [] (λ k o. refl) (λ k o. refl))
     ] refl
 
 -- ---- the owner decides
@@ -180,15 +264,18 @@ swap_handed x r [] none = none
 swap_handed x r (SharedLoad y Handed ∷ rest) none = absurd none
 swap_handed x r _ none = none
 
-pub own_decide : (p : Module) (n : ℕ) (m : Machine) (t : ℕ) (a : Actor) (x : ℕ) (rest : List Duty) → AtDuty p n m t a (DecideAtZero x) rest → (a.status ≡ Gone → ⊥)
-    → OwnFits p (done_by m t a (DecideAtZero x) rest) t (actor_by t a (DecideAtZero x) rest (found_by m t a (DecideAtZero x)))
+pub own_decide : (p : Module) (n : ℕ) (m : Machine) (t : ℕ) (a : Actor) (x : ℕ) (rest : List Duty)
+    → AtDuty p n m t a (DecideAtZero x) rest → (a.status ≡ Gone → ⊥)
+    → OwnFits p (done_by m t a (DecideAtZero x) rest) t
+    (actor_by t a (DecideAtZero x) rest (found_by m t a (DecideAtZero x)))
 own_decide p n m t a x rest here alive =
     let word = m.memory (Shared x) in
     let d : Duty = DecideAtZero x in
     let fits = head_of p n m t a d rest here in
     let later = agenda_here p n m t a d rest here alive in
     let handed = handed_here p n m t a d rest here in
-    elim (word == fresh_word) as (λ b. (word == fresh_word) ≡ b → OwnFits p (done_by m t a d rest) t (actor_by t a d rest word)) [
+    elim (word == fresh_word) as (λ b. (word == fresh_word) ≡ b
+    → OwnFits p (done_by m t a d rest) t (actor_by t a d rest word)) [
       | true ↦ λ e.
           own_dying p n m t a d rest x here alive refl (record {
             next_is = ap (λ (b : Bool). cond b (Die x ∷ []) (MergeSwap x Own ∷ [])) e;
@@ -200,88 +287,12 @@ own_decide p n m t a x rest here alive =
           })
       | false ↦ λ e.
           own_next p n m t a d (MergeSwap x Own) rest here alive refl refl refl
-          (ap (λ (b : Bool). cond b (Die x ∷ []) (MergeSwap x Own ∷ [])) e) (held_same m.plain.references t (d ∷ rest) (MergeSwap x Own ∷ rest) (λ k o. refl) (λ k o. refl)) later (swap_handed x Own rest handed)
-          (λ b status head used. (fits.0, record { running = status ∙ fits.1.running; owner = fits.1.owner; low = fits.1.low }, fits.2))
-    ] refl
-
--- ---- the shared word
-
-pub own_shared_load : (p : Module) (n : ℕ) (m : Machine) (t : ℕ) (a : Actor) (x : ℕ) (r : Reason) (rest : List Duty) → AtDuty p n m t a (SharedLoad x r) rest → (a.status ≡ Gone → ⊥)
-    → OwnFits p (done_by m t a (SharedLoad x r) rest) t (actor_by t a (SharedLoad x r) rest (found_by m t a (SharedLoad x r)))
-own_shared_load p n m t a x Own rest here alive =
-    let d : Duty = SharedLoad x Own in
-    own_next p n m t a d (SharedExchange x Own (m.memory (Shared x))) rest here alive refl refl refl refl
-    (held_same m.plain.references t (d ∷ rest) (SharedExchange x Own (m.memory (Shared x)) ∷ rest) (λ k o. refl) (λ k o. refl))
-    (agenda_here p n m t a d rest here alive) (handed_here p n m t a d rest here) (λ b status head used. head_of p n m t a d rest here)
-own_shared_load p n m t a x Handed rest here alive =
-    let d : Duty = SharedLoad x Handed in
-    let fits = head_of p n m t a d rest here in
-    own_next p n m t a d (SharedExchange x Handed (m.memory (Shared x))) rest here alive refl refl refl refl
-    (held_same m.plain.references t (d ∷ rest) (SharedExchange x Handed (m.memory (Shared x)) ∷ rest) (λ k o. refl) (λ k o. refl))
-    (agenda_here p n m t a d rest here alive) (handed_here p n m t a d rest here) (λ b status head used. (fits.0, ap phase_part (written_load m.memory (Shared x) (Shared x)) ∙ fits.1))
-
-exchange_next : (x w found : ℕ) (r : Reason) (fresh dead : Bool) → (found == w) ≡ true → (w == fresh_word) ≡ fresh → (released_word w == dead_word) ≡ dead
-    → cond (found == w) (shared_result x w) (SharedLoad x r ∷ []) ≡ cond fresh (SetMark x ∷ []) (cond dead (Die x ∷ []) [])
-exchange_next x w found r fresh dead won is_fresh is_dead =
-    ap (λ (b : Bool). cond b (shared_result x w) (SharedLoad x r ∷ [])) won
-    ∙ (ap (λ (b : Bool). cond b (SetMark x ∷ []) (cond (released_word w == dead_word) (Die x ∷ []) [])) is_fresh ∙ ap (λ (b : Bool). cond fresh (SetMark x ∷ []) (cond b (Die x ∷ []) [])) is_dead)
-
--- the exchange was made: what the word was says what follows
-exchange_won : (p : Module) (n : ℕ) (m : Machine) (t : ℕ) (a : Actor) (x w : ℕ) (r : Reason) (rest : List Duty) → AtDuty p n m t a (SharedExchange x r w) rest → (a.status ≡ Gone → ⊥) → 0 < x → (m.memory (Shared x) == w) ≡ true
-    → ((later : List Duty) → ((k : Holding) (object : ℕ) → extra_of later k object ≡ false) → ((k : Holding) (object : ℕ) → lacks_of later k object ≡ false)
-    → HeldStep m.plain.references (bag_by m t a (SharedExchange x r w)) t (SharedExchange x r w ∷ rest) later)
-    → OwnFits p (done_by m t a (SharedExchange x r w) rest) t (actor_by t a (SharedExchange x r w) rest (m.memory (Shared x)))
-exchange_won p n m t a x w r rest here alive pos won moves =
-    let d : Duty = SharedExchange x r w in
-    let later = agenda_here p n m t a d rest here alive in
-    let handed = handed_here p n m t a d rest here in
-    elim (w == fresh_word) as (λ b. (w == fresh_word) ≡ b → OwnFits p (done_by m t a d rest) t (actor_by t a d rest (m.memory (Shared x)))) [
-      | true ↦ λ fresh.
-          own_next p n m t a d (SetMark x) rest here alive refl refl refl (exchange_next x w (m.memory (Shared x)) r true (released_word w == dead_word) won fresh refl)
-          (moves (SetMark x ∷ rest) (λ k o. refl) (λ k o. refl)) later handed (λ b status head used. pos)
-      | false ↦ λ other.
-          elim (released_word w == dead_word) as (λ b. (released_word w == dead_word) ≡ b → OwnFits p (done_by m t a d rest) t (actor_by t a d rest (m.memory (Shared x)))) [
-            | true ↦ λ dead.
-                own_dying p n m t a d rest x here alive refl (record {
-                  next_is = exchange_next x w (m.memory (Shared x)) r false true won other dead;
-                  counted = pos;
-                  lived = (exchange_alive p n m t a x w r rest here).life;
-                  held = moves (Die x ∷ rest) (λ k o. refl) (λ k o. refl);
-                  later = later;
-                  handed = handed;
-                })
-            | false ↦ λ some.
-                own_done p n m t a d rest here alive refl (exchange_next x w (m.memory (Shared x)) r false false won other some) later handed (moves [] (λ k o. refl) (λ k o. refl))
-          ] refl
-    ] refl
-
-pub own_shared_exchange : (p : Module) (n : ℕ) (m : Machine) (t : ℕ) (a : Actor) (x : ℕ) (r : Reason) (w : ℕ) (rest : List Duty) → AtDuty p n m t a (SharedExchange x r w) rest → (a.status ≡ Gone → ⊥)
-    → OwnFits p (done_by m t a (SharedExchange x r w) rest) t (actor_by t a (SharedExchange x r w) rest (found_by m t a (SharedExchange x r w)))
-own_shared_exchange p n m t a x Own w rest here alive =
-    let found = m.memory (Shared x) in
-    let d : Duty = SharedExchange x Own w in
-    let pos = head_of p n m t a d rest here in
-    elim (found == w) as (λ b. (found == w) ≡ b → OwnFits p (done_by m t a d rest) t (actor_by t a d rest found)) [
-      | true ↦ λ won.
-          let bag : bag_by m t a d ≡ without (reference_of t InHand x) m.plain.references = ap (λ (b : Bool). (moved m.plain (cond b (lose t x) [])).references) won in
-          exchange_won p n m t a x w Own rest here alive pos won
-          (λ later more less. subst (λ (l : List Reference). HeldStep m.plain.references l t (d ∷ rest) later) (sym bag) (held_let_go p n m t a d rest later x here (λ k o. refl) (λ k o. refl) more less))
-      | false ↦ λ lost.
-          let bag : bag_by m t a d ≡ m.plain.references = ap (λ (b : Bool). (moved m.plain (cond b (lose t x) [])).references) lost in
-          own_next p n m t a d (SharedLoad x Own) rest here alive refl refl refl (ap (λ (b : Bool). cond b (shared_result x w) (SharedLoad x Own ∷ [])) lost)
-          (subst (λ (l : List Reference). HeldStep m.plain.references l t (d ∷ rest) (SharedLoad x Own ∷ rest)) (sym bag) (held_same m.plain.references t (d ∷ rest) (SharedLoad x Own ∷ rest) (λ k o. refl) (λ k o. refl)))
-          (agenda_here p n m t a d rest here alive) (handed_here p n m t a d rest here) (λ b status head used. pos)
-    ] refl
-own_shared_exchange p n m t a x Handed w rest here alive =
-    let found = m.memory (Shared x) in
-    let d : Duty = SharedExchange x Handed w in
-    let fits = head_of p n m t a d rest here in
-    elim (found == w) as (λ b. (found == w) ≡ b → OwnFits p (done_by m t a d rest) t (actor_by t a d rest found)) [
-      | true ↦ λ won.
-          exchange_won p n m t a x w Handed rest here alive fits.0 won
-          (λ later more less. held_same m.plain.references t (d ∷ rest) later more less)
-      | false ↦ λ lost.
-          own_next p n m t a d (SharedLoad x Handed) rest here alive refl refl refl (ap (λ (b : Bool). cond b (shared_result x w) (SharedLoad x Handed ∷ [])) lost)
-          (held_same m.plain.references t (d ∷ rest) (SharedLoad x Handed ∷ rest) (λ k o. refl) (λ k o. refl))
-          (agenda_here p n m t a d rest here alive) (handed_here p n m t a d rest here) (λ b status head used. (fits.0, (leaves_others p n m t a d rest here).merged x fits.1))
+          (ap (λ (b : Bool). cond b (Die x ∷ []) (MergeSwap x Own ∷ [])) e)
+          (held_same m.plain.references t (d ∷ rest) (MergeSwap x Own ∷ rest) (λ k o. refl) (λ k o. refl)) later
+          (swap_handed x Own rest handed)
+          (λ b status head used. (
+            fits.0,
+            record { running = status ∙ fits.1.running; owner = fits.1.owner; low = fits.1.low },
+            fits.2,
+          ))
     ] refl

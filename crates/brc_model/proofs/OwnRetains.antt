@@ -47,9 +47,11 @@ running_is Running e = refl
 running_is Leaving e = absurd cc
 running_is Gone e = absurd cc
 
-pub counts_owner : (m : Machine) (t : ℕ) (a : Actor) (x : ℕ) → counts_locally t (is_running a.status) (m.memory (Local x)) ≡ true → Alive m x → OwnsLocally m t a x
+pub counts_owner : (m : Machine) (t : ℕ) (a : Actor) (x : ℕ)
+    → counts_locally t (is_running a.status) (m.memory (Local x)) ≡ true → Alive m x → OwnsLocally m t a x
 counts_owner m t a x counts alive =
-    let owner : owner_part (m.memory (Local x)) ≡ t + 1 = eqb-true _ _ (and_second (is_running a.status) (owner_part (m.memory (Local x)) == t + 1) counts) in
+    let owner : owner_part (m.memory (Local x)) ≡ t + 1 =
+    eqb-true _ _ (and_second (is_running a.status) (owner_part (m.memory (Local x)) == t + 1) counts) in
     record {
       running = running_is a.status (and_first (is_running a.status) (owner_part (m.memory (Local x)) == t + 1) counts);
       owner = owner;
@@ -61,7 +63,8 @@ counts_owner m t a x counts alive =
     }
 
 -- where nobody decides, the running owner's count is above 0
-pub count_above : (p : Module) (n : ℕ) (m : Machine) (t x : ℕ) (a : Actor) → Rule p n m → slice_get m.actors t ≡ Some a → OwnsLocally m t a x → agenda_weight (decides x) a ≡ 0 → Alive m x → 1 ≤ local_part (m.memory (Local x))
+pub count_above : (p : Module) (n : ℕ) (m : Machine) (t x : ℕ) (a : Actor) → Rule p n m → slice_get m.actors t ≡ Some a
+    → OwnsLocally m t a x → agenda_weight (decides x) a ≡ 0 → Alive m x → 1 ≤ local_part (m.memory (Local x))
 count_above p n m t x a rule found owns mine alive =
     let none : weight (decides x) m.actors ≡ 0 = nobody_decides p n m t x a rule found owns mine in
     elim alive.live.mode [
@@ -70,18 +73,22 @@ count_above p n m t x a rule found owns mine alive =
       | InMerged s ↦ absurd (omega (arith, s.local, owns.owner))
     ]
 
-pub weight_here : (p : Module) (n : ℕ) (m : Machine) (t x : ℕ) (a : Actor) (d : Duty) (rest : List Duty) → AtDuty p n m t a d rest → (a.status ≡ Gone → ⊥) → decides x d ≡ 0 → agenda_weight (decides x) a ≡ 0
+pub weight_here : (p : Module) (n : ℕ) (m : Machine) (t x : ℕ) (a : Actor) (d : Duty) (rest : List Duty)
+    → AtDuty p n m t a d rest → (a.status ≡ Gone → ⊥) → decides x d ≡ 0 → agenda_weight (decides x) a ≡ 0
 weight_here p n m t x a d rest here alive none =
     let whole = sum_by-cons (decides x) d rest in
     let others = rest_decides m.rows t a.used a.status a.place x d rest (agenda_here p n m t a d rest here alive) in
     ap (sum_by (decides x)) here.agenda ∙ omega (arith, whole, none, others)
 
-retain_bag : (m : Machine) (t : ℕ) (a : Actor) (x : ℕ) (h : Holding) → is_immortal_word (m.memory (Local x)) ≡ false → bag_by m t a (RetainLoad x h) ≡ m.plain.references
+retain_bag : (m : Machine) (t : ℕ) (a : Actor) (x : ℕ) (h : Holding) → is_immortal_word (m.memory (Local x)) ≡ false
+    → bag_by m t a (RetainLoad x h) ≡ m.plain.references
 retain_bag m t a x h mortal = ap (λ (b : Bool). (moved m.plain (cond b (gain t h x) [])).references) mortal
 
 -- of a counted object
-pub own_retain_counted : (p : Module) (n : ℕ) (m : Machine) (t : ℕ) (a : Actor) (x : ℕ) (h : Holding) (rest : List Duty) → 0 < x → AtDuty p n m t a (RetainLoad x h) rest → (a.status ≡ Gone → ⊥)
-    → OwnFits p (done_by m t a (RetainLoad x h) rest) t (actor_by t a (RetainLoad x h) rest (found_by m t a (RetainLoad x h)))
+pub own_retain_counted : (p : Module) (n : ℕ) (m : Machine) (t : ℕ) (a : Actor) (x : ℕ) (h : Holding) (rest : List Duty)
+    → 0 < x → AtDuty p n m t a (RetainLoad x h) rest → (a.status ≡ Gone → ⊥)
+    → OwnFits p (done_by m t a (RetainLoad x h) rest) t
+    (actor_by t a (RetainLoad x h) rest (found_by m t a (RetainLoad x h)))
 own_retain_counted p n m t a x h rest pos here alive =
     let word = m.memory (Local x) in
     let fits = head_of p n m t a (RetainLoad x h) rest here in
@@ -89,21 +96,38 @@ own_retain_counted p n m t a x h rest pos here alive =
     let living = alive_backed p n m t x here.rule pos fits in
     let bag = retain_bag m t a x h mortal in
     let new = done_by m t a (RetainLoad x h) rest in
-    let backed : IsBacked new t x = record { by = fits.by; held_so = subst (λ (l : List Reference). 0 < held (reference_of t fits.by x) l) (sym bag) fits.held_so } in
-    let first : next_by t (is_running a.status) a.head (RetainLoad x h) word ≡ cond (counts_locally t (is_running a.status) word && nat_lt (local_part word) 4294967294) (RetainStore x h word ∷ []) (RetainAdd x h ∷ []) =
-    ap (λ (b : Bool). cond b [] (cond (counts_locally t (is_running a.status) word && nat_lt (local_part word) 4294967294) (RetainStore x h word ∷ []) (RetainAdd x h ∷ []))) mortal in
-    let keeps : (e : Duty) → ((k : Holding) (object : ℕ) → extra_of (e ∷ rest) k object ≡ false) → ((k : Holding) (object : ℕ) → lacks_of (e ∷ rest) k object ≡ (same_holding h k && (x == object)))
+    let backed : IsBacked new t x =
+    record {
+      by = fits.by;
+      held_so =
+          subst (λ (l : List Reference). 0 < held (reference_of t fits.by x) l) (sym bag) fits.held_so;
+    } in
+    let first : next_by t (is_running a.status) a.head (RetainLoad x h) word
+    ≡ cond (counts_locally t (is_running a.status) word && nat_lt (local_part word) 4294967294)
+    (RetainStore x h word ∷ []) (RetainAdd x h ∷ []) =
+    ap (λ (b : Bool). cond b [] (cond
+    (counts_locally t (is_running a.status) word && nat_lt (local_part word) 4294967294)
+    (RetainStore x h word ∷ []) (RetainAdd x h ∷ []))) mortal in
+    let keeps : (e : Duty) → ((k : Holding) (object : ℕ) → extra_of (e ∷ rest) k object ≡ false)
+    → ((k : Holding) (object : ℕ) → lacks_of (e ∷ rest) k object ≡ (same_holding h k && (x == object)))
     → HeldStep m.plain.references (bag_by m t a (RetainLoad x h)) t (RetainLoad x h ∷ rest) (e ∷ rest) =
-    λ e more less. subst (λ (l : List Reference). HeldStep m.plain.references l t (RetainLoad x h ∷ rest) (e ∷ rest)) (sym bag) (held_same m.plain.references t (RetainLoad x h ∷ rest) (e ∷ rest) more less) in
+    λ e more less. subst (λ (l : List Reference). HeldStep m.plain.references l t (RetainLoad x h ∷ rest) (e ∷ rest))
+    (sym bag) (held_same m.plain.references t (RetainLoad x h ∷ rest) (e ∷ rest) more less) in
     let is_local = counts_locally t (is_running a.status) word && nat_lt (local_part word) 4294967294 in
     elim is_local as (λ b. is_local ≡ b → OwnFits p new t (actor_by t a (RetainLoad x h) rest word)) [
       | true ↦ λ e.
-          let counts = and_first (counts_locally t (is_running a.status) word) (nat_lt (local_part word) 4294967294) e in
-          let low : local_part word < 4294967294 = ltb-true _ _ (and_second (counts_locally t (is_running a.status) word) (nat_lt (local_part word) 4294967294) e) in
+          let counts =
+          and_first (counts_locally t (is_running a.status) word) (nat_lt (local_part word) 4294967294) e in
+          let low : local_part word < 4294967294 =
+          ltb-true _ _ (and_second (counts_locally t (is_running a.status) word)
+          (nat_lt (local_part word) 4294967294) e) in
           let owns = counts_owner m t a x counts living in
-          let some = count_above p n m t x a here.rule here.found owns (weight_here p n m t x a (RetainLoad x h) rest here alive refl) living in
+          let some =
+          count_above p n m t x a here.rule here.found owns
+          (weight_here p n m t x a (RetainLoad x h) rest here alive refl) living in
           let same : new.memory (Local x) ≡ word = written_here m.memory (Local x) word in
-          own_neutral p n m t a (RetainLoad x h) rest (RetainStore x h word ∷ []) (RetainStore x h word ∷ rest) here alive (record {
+          own_neutral p n m t a (RetainLoad x h) rest (RetainStore x h word ∷ []) (RetainStore x h word ∷ rest) here
+          alive (record {
             next_is = first ∙ ap (λ (b : Bool). cond b (RetainStore x h word ∷ []) (RetainAdd x h ∷ [])) e;
             none_dies = refl;
             none_ends = refl;
@@ -117,7 +141,20 @@ own_retain_counted p n m t a x h rest pos here alive =
             held = keeps (RetainStore x h word) (λ k o. refl) (λ k o. refl);
             fits = agenda_here p n m t a (RetainLoad x h) rest here alive;
             handed = handed_here p n m t a (RetainLoad x h) rest here;
-            knows = λ b status head used. (pos, backed, record { running = status ∙ owns.running; owner = ap owner_part same ∙ owns.owner; low = subst (λ (w : ℕ). local_part w < 4294967295) (sym same) owns.low }, same, some, low);
+            knows =
+                λ b status head used. (
+                  pos,
+                  backed,
+                  record {
+                    running = status ∙ owns.running;
+                    owner = ap owner_part same ∙ owns.owner;
+                    low =
+                        subst (λ (w : ℕ). local_part w < 4294967295) (sym same) owns.low;
+                  },
+                  same,
+                  some,
+                  low,
+                );
           })
       | false ↦ λ e.
           own_neutral p n m t a (RetainLoad x h) rest (RetainAdd x h ∷ []) (RetainAdd x h ∷ rest) here alive (record {

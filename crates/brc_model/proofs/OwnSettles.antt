@@ -1,4 +1,5 @@
--- A thread after its own steps at the dying row at hand: it looks what the row is, and takes out its cells or its resource.
+-- A thread after its own steps at the dying row at hand: it looks what the row is, and takes out its cells or its
+-- resource.
 use Rattle.std.proofs.Common.{◌≡◌, ℕ, ◌+◌, ◌<◌, Bool, true, false, cond, List, [], ◌∷◌, ◌++◌, None, refl, sym, ap, ◌∙◌, subst}
 use Rattle.std.specs.Prelude.{◌==◌, nat_lt}
 use Rattle.std.proofs.lemmas.Bool.{ltb-true}
@@ -34,7 +35,8 @@ record SettlingStep (m : Machine) (t : ℕ) (a : Actor) (d : Duty) (x : ℕ) (re
   gates : (y : ℕ) → memory_by m t a d (Gate y) ≡ m.memory (Gate y)
   word : memory_by m t a d (ThreadWord t) ≡ m.memory (ThreadWord t)
   hands : (y : ℕ) → (x == y) ≡ hand_of (d ∷ rest) y
-  held : (e : Duty) → ((h : Holding) (object : ℕ) → extra_of (e ∷ rest) h object ≡ false) → ((h : Holding) (object : ℕ) → lacks_of (e ∷ rest) h object ≡ false)
+  held : (e : Duty) → ((h : Holding) (object : ℕ) → extra_of (e ∷ rest) h object ≡ false)
+      → ((h : Holding) (object : ℕ) → lacks_of (e ∷ rest) h object ≡ false)
       → HeldStep m.plain.references (bag_by m t a d) t (d ∷ rest) (e ∷ rest)
   later : Later m.rows t a.used a.status a.place rest
   none : NoneHanded rest
@@ -46,11 +48,14 @@ record KeepsHand (e : Duty) (x : ℕ) : Type 0 where
   stays : is_passed e ≡ false
   extra_none : (h : Holding) (object : ℕ) → extra e h object ≡ false
   lacks_none : (h : Holding) (object : ℕ) → lacks e h object ≡ false
-  later : (rows t used : ℕ) (status : Status) (place : Place) (rest : List Duty) → Later rows t used status place rest → Agenda rows t used status place (e ∷ rest)
+  later : (rows t used : ℕ) (status : Status) (place : Place) (rest : List Duty) → Later rows t used status place rest
+      → Agenda rows t used status place (e ∷ rest)
   handed : (rest : List Duty) → NoneHanded rest → HandedOnce (e ∷ rest)
 
-settles_on : (p : Module) (n : ℕ) (m : Machine) (t : ℕ) (a : Actor) (d e : Duty) (x : ℕ) (rest : List Duty) → AtDuty p n m t a d rest → (a.status ≡ Gone → ⊥) → SettlingStep m t a d x rest
-    → KeepsHand e x → next_of m t a d ≡ e ∷ [] → ((done_by m t a d rest).life x ≡ Dying t → (b : Actor) → HeadFits (done_by m t a d rest) t b e rest)
+settles_on : (p : Module) (n : ℕ) (m : Machine) (t : ℕ) (a : Actor) (d e : Duty) (x : ℕ) (rest : List Duty)
+    → AtDuty p n m t a d rest → (a.status ≡ Gone → ⊥) → SettlingStep m t a d x rest
+    → KeepsHand e x → next_of m t a d ≡ e ∷ []
+    → ((done_by m t a d rest).life x ≡ Dying t → (b : Actor) → HeadFits (done_by m t a d rest) t b e rest)
     → OwnFits p (done_by m t a d rest) t (actor_by t a d rest (found_by m t a d))
 settles_on p n m t a d e x rest here alive step keeps next knows =
     own_neutral p n m t a d rest (e ∷ []) (e ∷ rest) here alive (record {
@@ -67,40 +72,86 @@ settles_on p n m t a d e x rest here alive step keeps next knows =
       held = step.held e keeps.extra_none keeps.lacks_none;
       fits = keeps.later m.rows t a.used a.status a.place rest step.later;
       handed = keeps.handed rest step.none;
-      knows = λ b status head used. knows (life_same m t a d (e ∷ []) x next keeps.lives step.none_ends step.none_born ∙ step.dies) b;
+      knows =
+          λ b status head used. knows (life_same m t a d (e ∷ []) x next keeps.lives step.none_ends step.none_born
+          ∙ step.dies) b;
     })
 
 keeps_cell : (x i k : ℕ) → KeepsHand (SettleCell x i k) x
 keeps_cell x i k =
-    record { hand = λ y. refl; lives = refl; stays = refl; extra_none = λ h o. refl; lacks_none = λ h o. refl; later = λ rows t used status place rest later. later; handed = λ rest none. none }
+    record {
+      hand = λ y. refl;
+      lives = refl;
+      stays = refl;
+      extra_none = λ h o. refl;
+      lacks_none = λ h o. refl;
+      later =
+          λ rows t used status place rest later. later;
+      handed = λ rest none. none;
+    }
 
 keeps_end : (x : ℕ) → KeepsHand (SettleEnd x) x
-keeps_end x = record { hand = λ y. refl; lives = refl; stays = refl; extra_none = λ h o. refl; lacks_none = λ h o. refl; later = λ rows t used status place rest later. later; handed = λ rest none. none }
+keeps_end x =
+    record {
+      hand = λ y. refl;
+      lives = refl;
+      stays = refl;
+      extra_none = λ h o. refl;
+      lacks_none = λ h o. refl;
+      later =
+          λ rows t used status place rest later. later;
+      handed = λ rest none. none;
+    }
 
 keeps_slot : (x : ℕ) → KeepsHand (TakeSlot x) x
-keeps_slot x = record { hand = λ y. refl; lives = refl; stays = refl; extra_none = λ h o. refl; lacks_none = λ h o. refl; later = λ rows t used status place rest later. later; handed = λ rest none. none }
+keeps_slot x =
+    record {
+      hand = λ y. refl;
+      lives = refl;
+      stays = refl;
+      extra_none = λ h o. refl;
+      lacks_none = λ h o. refl;
+      later =
+          λ rows t used status place rest later. later;
+      handed = λ rest none. none;
+    }
 
 keeps_close : (x : ℕ) → KeepsHand (CloseResource x) x
 keeps_close x =
-    record { hand = λ y. refl; lives = refl; stays = refl; extra_none = λ h o. refl; lacks_none = λ h o. refl; later = λ rows t used status place rest later. later; handed = λ rest none. none }
+    record {
+      hand = λ y. refl;
+      lives = refl;
+      stays = refl;
+      extra_none = λ h o. refl;
+      lacks_none = λ h o. refl;
+      later =
+          λ rows t used status place rest later. later;
+      handed = λ rest none. none;
+    }
 
 -- a cell or the end follows
-cells_step : (p : Module) (n : ℕ) (m : Machine) (t : ℕ) (a : Actor) (d : Duty) (x i k : ℕ) (rest : List Duty) → AtDuty p n m t a d rest → (a.status ≡ Gone → ⊥) → SettlingStep m t a d x rest → next_of m t a d ≡ cells_from x i k
+cells_step : (p : Module) (n : ℕ) (m : Machine) (t : ℕ) (a : Actor) (d : Duty) (x i k : ℕ) (rest : List Duty)
+    → AtDuty p n m t a d rest → (a.status ≡ Gone → ⊥) → SettlingStep m t a d x rest → next_of m t a d ≡ cells_from x i k
     → OwnFits p (done_by m t a d rest) t (actor_by t a d rest (found_by m t a d))
 cells_step p n m t a d x i k rest here alive step next_is =
-    elim (nat_lt i k) as (λ b. nat_lt i k ≡ b → OwnFits p (done_by m t a d rest) t (actor_by t a d rest (found_by m t a d))) [
+    elim (nat_lt i k) as (λ b. nat_lt i k ≡ b
+    → OwnFits p (done_by m t a d rest) t (actor_by t a d rest (found_by m t a d))) [
       | true ↦ λ e.
-          let next : next_of m t a d ≡ SettleCell x i k ∷ [] = next_is ∙ ap (λ (b : Bool). cond b (SettleCell x i k ∷ []) (SettleEnd x ∷ [])) e in
-          settles_on p n m t a d (SettleCell x i k) x rest here alive step (keeps_cell x i k) next (λ dies b. (step.above, dies, ltb-true i k e))
+          let next : next_of m t a d ≡ SettleCell x i k ∷ [] =
+          next_is ∙ ap (λ (b : Bool). cond b (SettleCell x i k ∷ []) (SettleEnd x ∷ [])) e in
+          settles_on p n m t a d (SettleCell x i k) x rest here alive step (keeps_cell x i k) next
+          (λ dies b. (step.above, dies, ltb-true i k e))
       | false ↦ λ e.
-          let next : next_of m t a d ≡ SettleEnd x ∷ [] = next_is ∙ ap (λ (b : Bool). cond b (SettleCell x i k ∷ []) (SettleEnd x ∷ [])) e in
+          let next : next_of m t a d ≡ SettleEnd x ∷ [] =
+          next_is ∙ ap (λ (b : Bool). cond b (SettleCell x i k ∷ []) (SettleEnd x ∷ [])) e in
           settles_on p n m t a d (SettleEnd x) x rest here alive step (keeps_end x) next (λ dies b. (step.above, dies))
     ] refl
 
 -- ---- what the row is
 
 -- files and sockets give their resource back, and lists their cells
-pub own_settle_kind : (p : Module) (n : ℕ) (m : Machine) (t : ℕ) (a : Actor) (x : ℕ) (rest : List Duty) → AtDuty p n m t a (SettleKind x) rest → (a.status ≡ Gone → ⊥)
+pub own_settle_kind : (p : Module) (n : ℕ) (m : Machine) (t : ℕ) (a : Actor) (x : ℕ) (rest : List Duty)
+    → AtDuty p n m t a (SettleKind x) rest → (a.status ≡ Gone → ⊥)
     → OwnFits p (done_by m t a (SettleKind x) rest) t (actor_by t a (SettleKind x) rest (found_by m t a (SettleKind x)))
 own_settle_kind p n m t a x rest here alive =
     let fits = head_of p n m t a (SettleKind x) rest here in
@@ -119,16 +170,24 @@ own_settle_kind p n m t a x rest here alive =
       later = agenda_here p n m t a (SettleKind x) rest here alive;
       none = handed_here p n m t a (SettleKind x) rest here;
     } in
-    elim (has_resource word) as (λ b. has_resource word ≡ b → OwnFits p (done_by m t a (SettleKind x) rest) t (actor_by t a (SettleKind x) rest word)) [
-      | true ↦ λ e. settles_on p n m t a (SettleKind x) (TakeSlot x) x rest here alive step (keeps_slot x) (ap (λ (b : Bool). cond b (TakeSlot x ∷ []) (cells_from x 0 (cells_of word))) e) (λ dies b. (fits.0, dies))
-      | false ↦ λ e. cells_step p n m t a (SettleKind x) x 0 (cells_of word) rest here alive step (ap (λ (b : Bool). cond b (TakeSlot x ∷ []) (cells_from x 0 (cells_of word))) e)
+    elim (has_resource word) as (λ b. has_resource word ≡ b
+    → OwnFits p (done_by m t a (SettleKind x) rest) t (actor_by t a (SettleKind x) rest word)) [
+      | true ↦
+          λ e. settles_on p n m t a (SettleKind x) (TakeSlot x) x rest here alive step (keeps_slot x)
+          (ap (λ (b : Bool). cond b (TakeSlot x ∷ []) (cells_from x 0 (cells_of word))) e)
+          (λ dies b. (fits.0, dies))
+      | false ↦
+          λ e. cells_step p n m t a (SettleKind x) x 0 (cells_of word) rest here alive step
+          (ap (λ (b : Bool). cond b (TakeSlot x ∷ []) (cells_from x 0 (cells_of word))) e)
     ] refl
 
 -- ---- the row's cells
 
 -- they are empty
-pub own_settle_cell : (p : Module) (n : ℕ) (m : Machine) (t : ℕ) (a : Actor) (x i k : ℕ) (rest : List Duty) → AtDuty p n m t a (SettleCell x i k) rest → (a.status ≡ Gone → ⊥)
-    → OwnFits p (done_by m t a (SettleCell x i k) rest) t (actor_by t a (SettleCell x i k) rest (found_by m t a (SettleCell x i k)))
+pub own_settle_cell : (p : Module) (n : ℕ) (m : Machine) (t : ℕ) (a : Actor) (x i k : ℕ) (rest : List Duty)
+    → AtDuty p n m t a (SettleCell x i k) rest → (a.status ≡ Gone → ⊥)
+    → OwnFits p (done_by m t a (SettleCell x i k) rest) t
+    (actor_by t a (SettleCell x i k) rest (found_by m t a (SettleCell x i k)))
 own_settle_cell p n m t a x i k rest here alive =
     let fits = head_of p n m t a (SettleCell x i k) rest here in
     let empty : release_found (m.memory (Cell x i)) ≡ [] = ap release_found (here.rule.cells x i) in
@@ -142,7 +201,9 @@ own_settle_cell p n m t a x i k rest here alive =
       gates = λ y. refl;
       word = refl;
       hands = λ y. refl;
-      held = λ e more less. subst (λ (w : ℕ). HeldStep m.plain.references (moved m.plain (take_out t x i w)).references t (SettleCell x i k ∷ rest) (e ∷ rest)) (sym (here.rule.cells x i))
+      held =
+          λ e more less. subst (λ (w : ℕ). HeldStep m.plain.references (moved m.plain (take_out t x i w)).references t
+          (SettleCell x i k ∷ rest) (e ∷ rest)) (sym (here.rule.cells x i))
           (held_same m.plain.references t (SettleCell x i k ∷ rest) (e ∷ rest) more less);
       later = agenda_here p n m t a (SettleCell x i k) rest here alive;
       none = handed_here p n m t a (SettleCell x i k) rest here;
@@ -150,7 +211,8 @@ own_settle_cell p n m t a x i k rest here alive =
 
 -- ---- the row's resource
 
-pub own_take_slot : (p : Module) (n : ℕ) (m : Machine) (t : ℕ) (a : Actor) (x : ℕ) (rest : List Duty) → AtDuty p n m t a (TakeSlot x) rest → (a.status ≡ Gone → ⊥)
+pub own_take_slot : (p : Module) (n : ℕ) (m : Machine) (t : ℕ) (a : Actor) (x : ℕ) (rest : List Duty)
+    → AtDuty p n m t a (TakeSlot x) rest → (a.status ≡ Gone → ⊥)
     → OwnFits p (done_by m t a (TakeSlot x) rest) t (actor_by t a (TakeSlot x) rest (found_by m t a (TakeSlot x)))
 own_take_slot p n m t a x rest here alive =
     let fits = head_of p n m t a (TakeSlot x) rest here in
@@ -169,8 +231,10 @@ own_take_slot p n m t a x rest here alive =
       none = handed_here p n m t a (TakeSlot x) rest here;
     }) (keeps_close x) refl (λ dies b. (fits.0, dies))
 
-pub own_close_resource : (p : Module) (n : ℕ) (m : Machine) (t : ℕ) (a : Actor) (x : ℕ) (rest : List Duty) → AtDuty p n m t a (CloseResource x) rest → (a.status ≡ Gone → ⊥)
-    → OwnFits p (done_by m t a (CloseResource x) rest) t (actor_by t a (CloseResource x) rest (found_by m t a (CloseResource x)))
+pub own_close_resource : (p : Module) (n : ℕ) (m : Machine) (t : ℕ) (a : Actor) (x : ℕ) (rest : List Duty)
+    → AtDuty p n m t a (CloseResource x) rest → (a.status ≡ Gone → ⊥)
+    → OwnFits p (done_by m t a (CloseResource x) rest) t
+    (actor_by t a (CloseResource x) rest (found_by m t a (CloseResource x)))
 own_close_resource p n m t a x rest here alive =
     let fits = head_of p n m t a (CloseResource x) rest here in
     settles_on p n m t a (CloseResource x) (SettleEnd x) x rest here alive (record {

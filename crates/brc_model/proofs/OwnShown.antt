@@ -15,7 +15,8 @@ use Rattle.brc_model.proofs.Own.{HeldStep, place_step}
 use Rattle.brc_model.proofs.Neutral.{OwnFits, found_by, bag_by, memory_by, agenda_out, uses_same}
 
 -- what a step has to show that changes the head of the chain, a row's life or the thread's status
-pub record ShownStep (m : Machine) (t : ℕ) (a : Actor) (d : Duty) (rest agenda : List Duty) (status : Status) (head : ℕ) : Type 0 where
+pub record ShownStep (m : Machine) (t : ℕ) (a : Actor) (d : Duty) (rest agenda : List Duty) (status : Status)
+    (head : ℕ) : Type 0 where
   pub head_is : head_by a.head d (found_by m t a d) ≡ head
   pub status_is : status_by a.status d ≡ status
   pub agenda_is : (actor_by t a d rest (found_by m t a d)).agenda ≡ agenda
@@ -24,9 +25,12 @@ pub record ShownStep (m : Machine) (t : ℕ) (a : Actor) (d : Duty) (rest agenda
   pub chain : ChainFits (done_by m t a d rest) t head agenda
   pub fits : AgendaFits m.rows t (actor_by t a d rest (found_by m t a d)) status
   pub handed : HandedOnce agenda
-  pub knows : (b : Actor) → b.status ≡ status → b.head ≡ head → b.used ≡ used_by a.used d → HeadOf (done_by m t a d rest) t b agenda
+  pub knows : (b : Actor) → b.status ≡ status → b.head ≡ head → b.used ≡ used_by a.used d
+      → HeadOf (done_by m t a d rest) t b agenda
 
-pub own_shown : (p : Module) (n : ℕ) (m : Machine) (t : ℕ) (a : Actor) (d : Duty) (rest agenda : List Duty) (status : Status) (head : ℕ) → AtDuty p n m t a d rest → ShownStep m t a d rest agenda status head
+pub own_shown : (p : Module) (n : ℕ) (m : Machine) (t : ℕ) (a : Actor) (d : Duty) (rest agenda : List Duty)
+    (status : Status) (head : ℕ)
+    → AtDuty p n m t a d rest → ShownStep m t a d rest agenda status head
     → OwnFits p (done_by m t a d rest) t (actor_by t a d rest (found_by m t a d))
 own_shown p n m t a d rest agenda status head here step =
     let old = (here.rule.each t a here.found).0 in
@@ -34,23 +38,31 @@ own_shown p n m t a d rest agenda status head here step =
     let after = actor_by t a d rest (found_by m t a d) in
     let code = code_of (slice_get p.functions a.function) in
     let placed : PlaceFits code new.plain.references t agenda a.place =
-    place_step code m.plain.references new.plain.references t (d ∷ rest) agenda a.place step.held (subst (λ (l : List Duty). PlaceFits code m.plain.references t l a.place) here.agenda old.placed) in
+    place_step code m.plain.references new.plain.references t (d ∷ rest) agenda a.place step.held
+    (subst (λ (l : List Duty). PlaceFits code m.plain.references t l a.place) here.agenda old.placed) in
     record {
       actor = record {
         accepted = old.accepted;
         instructions = old.instructions;
         word = step.word ∙ ap status_word (sym step.status_is);
         placed = subst (λ (l : List Duty). PlaceFits code new.plain.references t l a.place) (sym step.agenda_is) placed;
-        head_fits = subst (λ (l : List Duty). HeadOf new t after l) (sym step.agenda_is) (step.knows after step.status_is step.head_is refl);
-        chain = subst (λ (l : List Duty). ChainFits new t after.head l) (sym step.agenda_is) (subst (λ (h : ℕ). ChainFits new t h agenda) (sym step.head_is) step.chain);
+        head_fits =
+            subst (λ (l : List Duty). HeadOf new t after l) (sym step.agenda_is)
+            (step.knows after step.status_is step.head_is refl);
+        chain =
+            subst (λ (l : List Duty). ChainFits new t after.head l) (sym step.agenda_is)
+            (subst (λ (h : ℕ). ChainFits new t h agenda) (sym step.head_is) step.chain);
       };
       agenda = subst (λ (s : Status). AgendaFits m.rows t after s) (sym step.status_is) step.fits;
       handed = subst HandedOnce (sym step.agenda_is) step.handed;
     }
 
 -- the agenda of a thread that isn't gone
-pub agenda_shown : (m : Machine) (t : ℕ) (a : Actor) (d : Duty) (rest agenda : List Duty) (status : Status) → (status ≡ Gone → ⊥) → born_row d ≡ None → (actor_by t a d rest (found_by m t a d)).agenda ≡ agenda
+pub agenda_shown : (m : Machine) (t : ℕ) (a : Actor) (d : Duty) (rest agenda : List Duty) (status : Status)
+    → (status ≡ Gone → ⊥) → born_row d ≡ None → (actor_by t a d rest (found_by m t a d)).agenda ≡ agenda
     → Agenda m.rows t a.used status a.place agenda → AgendaFits m.rows t (actor_by t a d rest (found_by m t a d)) status
 agenda_shown m t a d rest agenda status alive born is fits =
     agenda_out m.rows t (actor_by t a d rest (found_by m t a d)) status alive
-    (subst (λ (u : ℕ). Agenda m.rows t u status a.place (actor_by t a d rest (found_by m t a d)).agenda) (sym (uses_same a.used d born)) (subst (λ (l : List Duty). Agenda m.rows t a.used status a.place l) (sym is) fits))
+    (subst (λ (u : ℕ). Agenda m.rows t u status a.place (actor_by t a d rest (found_by m t a d)).agenda)
+    (sym (uses_same a.used d born))
+    (subst (λ (l : List Duty). Agenda m.rows t a.used status a.place l) (sym is) fits))

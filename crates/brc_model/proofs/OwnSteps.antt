@@ -1,5 +1,5 @@
--- A thread after the step of a duty that keeps lives: one that leaves its status, the head of its chain and all gates. Either no row dies
--- by it, or its own row begins to die, and is at hand from then on.
+-- A thread after the step of a duty that keeps lives: one that leaves its status, the head of its chain and all gates.
+-- Either no row dies by it, or its own row begins to die, and is at hand from then on.
 use Rattle.std.proofs.Common.{◌≡◌, ℕ, ◌+◌, ◌<◌, Bool, true, false, cond, List, [], ◌∷◌, ◌++◌, inl, inr, Option, None, Some, refl, sym, ap, ◌∙◌, subst, arith}
 use Rattle.std.specs.Prelude.{◌==◌, slice_get}
 use Rattle.std.proofs.lemmas.Bool.{eq-eqb}
@@ -55,13 +55,15 @@ keeping_status status (Leave x n) kept = absurd cc
 keeping_status status Finish kept = absurd cc
 keeping_status status _ kept = refl
 
-keeping_gates : (m : Machine) (t : ℕ) (a : Actor) (d : Duty) (x : ℕ) → keeps_lives d ≡ true → memory_by m t a d (Gate x) ≡ m.memory (Gate x)
+keeping_gates : (m : Machine) (t : ℕ) (a : Actor) (d : Duty) (x : ℕ) → keeps_lives d ≡ true
+    → memory_by m t a d (Gate x) ≡ m.memory (Gate x)
 keeping_gates m t a (Die y) x kept = absurd cc
 keeping_gates m t a Settle x kept = absurd cc
 keeping_gates m t a (SettleEnd y) x kept = absurd cc
 keeping_gates m t a _ x kept = refl
 
-keeping_word : (m : Machine) (t : ℕ) (a : Actor) (d : Duty) → keeps_lives d ≡ true → memory_by m t a d (ThreadWord t) ≡ m.memory (ThreadWord t)
+keeping_word : (m : Machine) (t : ℕ) (a : Actor) (d : Duty) → keeps_lives d ≡ true
+    → memory_by m t a d (ThreadWord t) ≡ m.memory (ThreadWord t)
 keeping_word m t a (Look y) kept = written_load m.memory (ThreadWord (block_of m.rows y)) (ThreadWord t)
 keeping_word m t a (Leave y n) kept = absurd cc
 keeping_word m t a Finish kept = absurd cc
@@ -91,9 +93,11 @@ pub record KeepingStep (m : Machine) (t : ℕ) (a : Actor) (d : Duty) (rest next
   pub held : HeldStep m.plain.references (bag_by m t a d) t (d ∷ rest) agenda
   pub fits : Agenda m.rows t a.used a.status a.place agenda
   pub handed : HandedOnce agenda
-  pub knows : (b : Actor) → b.status ≡ a.status → b.head ≡ a.head → b.used ≡ a.used → HeadOf (done_by m t a d rest) t b agenda
+  pub knows : (b : Actor) → b.status ≡ a.status → b.head ≡ a.head → b.used ≡ a.used
+      → HeadOf (done_by m t a d rest) t b agenda
 
-pub own_keeps : (p : Module) (n : ℕ) (m : Machine) (t : ℕ) (a : Actor) (d : Duty) (rest next agenda : List Duty) → AtDuty p n m t a d rest → (a.status ≡ Gone → ⊥) → keeps_lives d ≡ true → KeepingStep m t a d rest next agenda
+pub own_keeps : (p : Module) (n : ℕ) (m : Machine) (t : ℕ) (a : Actor) (d : Duty) (rest next agenda : List Duty)
+    → AtDuty p n m t a d rest → (a.status ≡ Gone → ⊥) → keeps_lives d ≡ true → KeepingStep m t a d rest next agenda
     → OwnFits p (done_by m t a d rest) t (actor_by t a d rest (found_by m t a d))
 own_keeps p n m t a d rest next agenda here alive kept step =
     own_neutral p n m t a d rest next agenda here alive (record {
@@ -114,8 +118,10 @@ own_keeps p n m t a d rest next agenda here alive kept step =
     })
 
 -- the agenda goes on with what was for later
-pub own_done : (p : Module) (n : ℕ) (m : Machine) (t : ℕ) (a : Actor) (d : Duty) (rest : List Duty) → AtDuty p n m t a d rest → (a.status ≡ Gone → ⊥) → keeps_lives d ≡ true → next_of m t a d ≡ []
-    → Later m.rows t a.used a.status a.place rest → NoneHanded rest → HeldStep m.plain.references (bag_by m t a d) t (d ∷ rest) []
+pub own_done : (p : Module) (n : ℕ) (m : Machine) (t : ℕ) (a : Actor) (d : Duty) (rest : List Duty)
+    → AtDuty p n m t a d rest → (a.status ≡ Gone → ⊥) → keeps_lives d ≡ true → next_of m t a d ≡ []
+    → Later m.rows t a.used a.status a.place rest → NoneHanded rest
+    → HeldStep m.plain.references (bag_by m t a d) t (d ∷ rest) []
     → OwnFits p (done_by m t a d rest) t (actor_by t a d rest (found_by m t a d))
 own_done p n m t a d rest here alive kept next later none moves =
     let then = ready_is m.rows t a.used a.status a.place a.head rest later none in
@@ -136,9 +142,13 @@ own_done p n m t a d rest here alive kept next later none moves =
     })
 
 -- the agenda goes on with a new first duty
-pub own_next : (p : Module) (n : ℕ) (m : Machine) (t : ℕ) (a : Actor) (d e : Duty) (rest : List Duty) → AtDuty p n m t a d rest → (a.status ≡ Gone → ⊥) → keeps_lives d ≡ true → keeps_lives e ≡ true → is_passed e ≡ false
-    → next_of m t a d ≡ e ∷ [] → HeldStep m.plain.references (bag_by m t a d) t (d ∷ rest) (e ∷ rest) → Agenda m.rows t a.used a.status a.place (e ∷ rest) → HandedOnce (e ∷ rest)
-    → ((b : Actor) → b.status ≡ a.status → b.head ≡ a.head → b.used ≡ a.used → HeadFits (done_by m t a d rest) t b e rest)
+pub own_next : (p : Module) (n : ℕ) (m : Machine) (t : ℕ) (a : Actor) (d e : Duty) (rest : List Duty)
+    → AtDuty p n m t a d rest → (a.status ≡ Gone → ⊥) → keeps_lives d ≡ true → keeps_lives e ≡ true
+    → is_passed e ≡ false
+    → next_of m t a d ≡ e ∷ [] → HeldStep m.plain.references (bag_by m t a d) t (d ∷ rest) (e ∷ rest)
+    → Agenda m.rows t a.used a.status a.place (e ∷ rest) → HandedOnce (e ∷ rest)
+    → ((b : Actor) → b.status ≡ a.status → b.head ≡ a.head → b.used ≡ a.used
+    → HeadFits (done_by m t a d rest) t b e rest)
     → OwnFits p (done_by m t a d rest) t (actor_by t a d rest (found_by m t a d))
 own_next p n m t a d e rest here alive kept other stays next moves fits handed knows =
     own_keeps p n m t a d rest (e ∷ []) (e ∷ rest) here alive kept (record {
@@ -163,27 +173,35 @@ pub record DyingStep (m : Machine) (t : ℕ) (a : Actor) (d : Duty) (rest : List
   pub later : Later m.rows t a.used a.status a.place rest
   pub handed : NoneHanded rest
 
-dying_life : (m : Machine) (t : ℕ) (a : Actor) (d : Duty) (x y : ℕ) → next_of m t a d ≡ Die x ∷ [] → ended_row d ≡ None → born_row d ≡ None → life_by m.life t d (next_of m t a d) y ≡ cond (x == y) (Dying t) (m.life y)
+dying_life : (m : Machine) (t : ℕ) (a : Actor) (d : Duty) (x y : ℕ) → next_of m t a d ≡ Die x ∷ [] → ended_row d ≡ None
+    → born_row d ≡ None → life_by m.life t d (next_of m t a d) y ≡ cond (x == y) (Dying t) (m.life y)
 dying_life m t a d x y is ends born =
-    ap (λ (l : List Duty). with_life (with_life (with_life m.life (dies_next l) (Dying t)) (ended_row d) Closed) (born_row d) Live y) is
-    ∙ ap (λ (o : Option ℕ). with_life (with_life (with_life m.life (Some x) (Dying t)) o Closed) (born_row d) Live y) ends ∙ ap (λ (o : Option ℕ). with_life (with_life m.life (Some x) (Dying t)) o Live y) born
+    ap (λ (l : List Duty). with_life (with_life (with_life m.life (dies_next l) (Dying t)) (ended_row d) Closed)
+    (born_row d) Live y) is
+    ∙ ap (λ (o : Option ℕ). with_life (with_life (with_life m.life (Some x) (Dying t)) o Closed) (born_row d) Live y)
+    ends ∙ ap (λ (o : Option ℕ). with_life (with_life m.life (Some x) (Dying t)) o Live y) born
 
 -- the row that begins to die is at hand, and was neither at hand nor dying
-dying_hands : (life : ℕ → Life) (t x y : ℕ) → life x ≡ Live → one_if (x == y) + one_if (dies_by (life y) t) ≡ one_if (dies_by (cond (x == y) (Dying t) (life y)) t)
+dying_hands : (life : ℕ → Life) (t x y : ℕ) → life x ≡ Live
+    → one_if (x == y) + one_if (dies_by (life y) t) ≡ one_if (dies_by (cond (x == y) (Dying t) (life y)) t)
 dying_hands life t x y lived =
     elim (eqb_tells x y) [
       | inl same ↦
           let hand : one_if (x == y) ≡ 1 = ap one_if same.0 in
-          let before : one_if (dies_by (life y) t) ≡ 0 = ap (λ (l : Life). one_if (dies_by l t)) (ap life (sym same.1) ∙ lived) in
-          let after : one_if (dies_by (cond (x == y) (Dying t) (life y)) t) ≡ 1 = ap (λ (b : Bool). one_if (dies_by (cond b (Dying t) (life y)) t)) same.0 ∙ ap one_if (eq-eqb t t refl) in
+          let before : one_if (dies_by (life y) t) ≡ 0 =
+          ap (λ (l : Life). one_if (dies_by l t)) (ap life (sym same.1) ∙ lived) in
+          let after : one_if (dies_by (cond (x == y) (Dying t) (life y)) t) ≡ 1 =
+          ap (λ (b : Bool). one_if (dies_by (cond b (Dying t) (life y)) t)) same.0 ∙ ap one_if (eq-eqb t t refl) in
           omega (arith, hand, before, after)
       | inr other ↦
           let hand : one_if (x == y) ≡ 0 = ap one_if other.0 in
-          let after : one_if (dies_by (cond (x == y) (Dying t) (life y)) t) ≡ one_if (dies_by (life y) t) = ap (λ (b : Bool). one_if (dies_by (cond b (Dying t) (life y)) t)) other.0 in
+          let after : one_if (dies_by (cond (x == y) (Dying t) (life y)) t) ≡ one_if (dies_by (life y) t) =
+          ap (λ (b : Bool). one_if (dies_by (cond b (Dying t) (life y)) t)) other.0 in
           omega (arith, hand, after)
     ]
 
-pub own_dying : (p : Module) (n : ℕ) (m : Machine) (t : ℕ) (a : Actor) (d : Duty) (rest : List Duty) (x : ℕ) → AtDuty p n m t a d rest → (a.status ≡ Gone → ⊥) → keeps_lives d ≡ true → DyingStep m t a d rest x
+pub own_dying : (p : Module) (n : ℕ) (m : Machine) (t : ℕ) (a : Actor) (d : Duty) (rest : List Duty) (x : ℕ)
+    → AtDuty p n m t a d rest → (a.status ≡ Gone → ⊥) → keeps_lives d ≡ true → DyingStep m t a d rest x
     → OwnFits p (done_by m t a d rest) t (actor_by t a d rest (found_by m t a d))
 own_dying p n m t a d rest x here alive kept step =
     let old = (here.rule.each t a here.found).0 in
@@ -192,16 +210,21 @@ own_dying p n m t a d rest x here alive kept step =
     let agenda : List Duty = Die x ∷ rest in
     let same_head : head_by a.head d (found_by m t a d) ≡ a.head = keeping_head a.head (found_by m t a d) d kept in
     let same_status : status_by a.status d ≡ a.status = keeping_status a.status d kept in
-    let whole : after.agenda ≡ agenda = ap (λ (h : ℕ). ready h (next_of m t a d ++ rest)) same_head ∙ ap (λ (l : List Duty). ready a.head (l ++ rest)) step.next_is ∙ ready_first a.head (Die x) rest refl in
+    let whole : after.agenda ≡ agenda =
+    ap (λ (h : ℕ). ready h (next_of m t a d ++ rest)) same_head
+    ∙ ap (λ (l : List Duty). ready a.head (l ++ rest)) step.next_is ∙ ready_first a.head (Die x) rest refl in
     let code = code_of (slice_get p.functions a.function) in
     let life = λ (y : ℕ). dying_life m t a d x y step.next_is (keeping_ends d kept) (keeping_born d kept) in
     let placed : PlaceFits code new.plain.references t agenda a.place =
-    place_step code m.plain.references new.plain.references t (d ∷ rest) agenda a.place step.held (subst (λ (l : List Duty). PlaceFits code m.plain.references t l a.place) here.agenda old.placed) in
+    place_step code m.plain.references new.plain.references t (d ∷ rest) agenda a.place step.held
+    (subst (λ (l : List Duty). PlaceFits code m.plain.references t l a.place) here.agenda old.placed) in
     let same : ChainSame m new t a.agenda agenda = record {
       gates = λ y. keeping_gates m t a d y kept;
       hands = λ y.
-          let before : one_if (hand_of a.agenda y) ≡ 0 = ap one_if (ap (λ (l : List Duty). hand_of l y) here.agenda ∙ keeping_hand d rest y kept) in
-          let now : one_if (dies_by (new.life y) t) ≡ one_if (dies_by (cond (x == y) (Dying t) (m.life y)) t) = ap (λ (l : Life). one_if (dies_by l t)) (life y) in
+          let before : one_if (hand_of a.agenda y) ≡ 0 =
+          ap one_if (ap (λ (l : List Duty). hand_of l y) here.agenda ∙ keeping_hand d rest y kept) in
+          let now : one_if (dies_by (new.life y) t) ≡ one_if (dies_by (cond (x == y) (Dying t) (m.life y)) t) =
+          ap (λ (l : Life). one_if (dies_by l t)) (life y) in
           omega (arith, before, now, dying_hands m.life t x y step.lived);
     } in
     let chain : ChainFits new t a.head agenda = chain_same m new t a.head a.agenda agenda same old.chain in
@@ -213,10 +236,14 @@ own_dying p n m t a d rest x here alive kept step =
         word = keeping_word m t a d kept ∙ old.word ∙ ap status_word (sym same_status);
         placed = subst (λ (l : List Duty). PlaceFits code new.plain.references t l a.place) (sym whole) placed;
         head_fits = subst (λ (l : List Duty). HeadOf new t after l) (sym whole) (step.counted, dies);
-        chain = subst (λ (l : List Duty). ChainFits new t after.head l) (sym whole) (subst (λ (h : ℕ). ChainFits new t h agenda) (sym same_head) chain);
+        chain =
+            subst (λ (l : List Duty). ChainFits new t after.head l) (sym whole)
+            (subst (λ (h : ℕ). ChainFits new t h agenda) (sym same_head) chain);
       };
       agenda = agenda_out m.rows t after after.status (λ e. alive (sym same_status ∙ e))
           (subst (λ (l : List Duty). Agenda m.rows t after.used after.status a.place l) (sym whole)
-          (subst (λ (u : ℕ). Later m.rows t u after.status a.place rest) (sym (uses_same a.used d (keeping_born d kept))) (subst (λ (s : Status). Later m.rows t a.used s a.place rest) (sym same_status) step.later)));
+          (subst (λ (u : ℕ). Later m.rows t u after.status a.place rest)
+          (sym (uses_same a.used d (keeping_born d kept)))
+          (subst (λ (s : Status). Later m.rows t a.used s a.place rest) (sym same_status) step.later)));
       handed = subst HandedOnce (sym whole) step.handed;
     }

@@ -19,10 +19,12 @@ pub record AreMet (i : Instr) (s : State) : Type 0 where
   pub none_left : stands i s LeftOwned ≡ false
   pub unlocked : stands i s LockedChanged ≡ false
 
-find_none : {A : Type 0} (test : A → Bool) (x : A) (xs : List A) → find test (x ∷ xs) ≡ None → (test x ≡ false) × (find test xs ≡ None)
+find_none : {A : Type 0} (test : A → Bool) (x : A) (xs : List A) → find test (x ∷ xs) ≡ None
+    → (test x ≡ false) × (find test xs ≡ None)
 find_none test x xs e =
     elim (test x) as (λ b. test x ≡ b → (b ≡ false) × (find test xs ≡ None)) [
-      | true ↦ λ t. absurd (let found : Some x ≡ None = sym (ap (λ (b : Bool). cond b (Some x) (find test xs)) t) ∙ e in cc)
+      | true ↦
+          λ t. absurd (let found : Some x ≡ None = sym (ap (λ (b : Bool). cond b (Some x) (find test xs)) t) ∙ e in cc)
       | false ↦ λ t. (refl, sym (ap (λ (b : Bool). cond b (Some x) (find test xs)) t) ∙ e)
     ] refl
 
@@ -43,38 +45,61 @@ pub record PassesOn (code : List Instr) (exits : List Exit) (at : ℕ) (s : Stat
   pub here : Instr
   pub found : slice_get code at ≡ Some here
   pub met : AreMet here s
-  pub leads : (exit : Exit) (next : ℕ) → target here exit at ≡ Some next → walk code (exits ++ exit ∷ []) ≡ At next (after here exit s)
+  pub leads : (exit : Exit) (next : ℕ) → target here exit at ≡ Some next
+      → walk code (exits ++ exit ∷ []) ≡ At next (after here exit s)
 
-walk-append : (code : List Instr) (exits : List Exit) (e : Exit) → walk code (exits ++ e ∷ []) ≡ follow code (walk code exits) e
+walk-append : (code : List Instr) (exits : List Exit) (e : Exit)
+    → walk code (exits ++ e ∷ []) ≡ follow code (walk code exits) e
 walk-append code exits e = fold-append (follow code) (At 0 entry) exits (e ∷ [])
 
-arrives_at : (code : List Instr) (at next : ℕ) (s : State) → ((met : CheckCode) → arrives code at (Some next) s ≡ Meets at met → ⊥) → arrives code at (Some next) s ≡ At next s
+arrives_at : (code : List Instr) (at next : ℕ) (s : State)
+    → ((met : CheckCode) → arrives code at (Some next) s ≡ Meets at met → ⊥) → arrives code at (Some next) s ≡ At next s
 arrives_at code at next s never =
-    elim (nat_lt next (length code)) as (λ b. nat_lt next (length code) ≡ b → cond b (At next s) (Meets at RunsOff) ≡ At next s) [
+    elim (nat_lt next (length code)) as
+    (λ b. nat_lt next (length code) ≡ b → cond b (At next s) (Meets at RunsOff) ≡ At next s) [
       | true ↦ λ e. refl
       | false ↦ λ e. absurd (never RunsOff (ap (λ (b : Bool). cond b (At next s) (Meets at RunsOff)) e))
     ] refl
 
 -- by either exit
-leads_by : (code : List Instr) (exits : List Exit) (at : ℕ) (s : State) (i : Instr) (exit : Exit) → IsAcceptableCode code → walk code exits ≡ At at s → slice_get code at ≡ Some i → lowest i s ≡ None
+leads_by : (code : List Instr) (exits : List Exit) (at : ℕ) (s : State) (i : Instr) (exit : Exit)
+    → IsAcceptableCode code → walk code exits ≡ At at s → slice_get code at ≡ Some i → lowest i s ≡ None
     → (next : ℕ) → target i exit at ≡ Some next → walk code (exits ++ exit ∷ []) ≡ At next (after i exit s)
 leads_by code exits at s i exit accepted walked found none next t =
-    let one_more : walk code (exits ++ exit ∷ []) ≡ passes code at (slice_get code at) exit s = walk-append code exits exit ∙ ap (λ (p : Place). follow code p exit) walked in
+    let one_more : walk code (exits ++ exit ∷ []) ≡ passes code at (slice_get code at) exit s =
+    walk-append code exits exit ∙ ap (λ (p : Place). follow code p exit) walked in
     let on : passes code at (slice_get code at) exit s ≡ arrives code at (target i exit at) (after i exit s) =
-    ap (λ (o : Option Instr). passes code at o exit s) found ∙ ap (λ (o : Option CheckCode). unless_met at o (arrives code at (target i exit at) (after i exit s))) none in
+    ap (λ (o : Option Instr). passes code at o exit s) found
+    ∙ ap (λ (o : Option CheckCode). unless_met at o (arrives code at (target i exit at) (after i exit s))) none in
     let to = one_more ∙ on ∙ ap (λ (o : Option ℕ). arrives code at o (after i exit s)) t in
-    to ∙ arrives_at code at next (after i exit s) (λ met m. accepted.meets_none at met (record { exits = exits ++ exit ∷ []; meets = to ∙ m }))
+    to ∙ arrives_at code at next (after i exit s)
+    (λ met m. accepted.meets_none at met (record { exits = exits ++ exit ∷ []; meets = to ∙ m }))
 
-pub passes_on : (code : List Instr) (exits : List Exit) (at : ℕ) (s : State) → IsAcceptableCode code → walk code exits ≡ At at s → PassesOn code exits at s
+pub passes_on : (code : List Instr) (exits : List Exit) (at : ℕ) (s : State) → IsAcceptableCode code
+    → walk code exits ≡ At at s → PassesOn code exits at s
 passes_on code exits at s accepted walked =
-    let one_more : walk code (exits ++ Success ∷ []) ≡ passes code at (slice_get code at) Success s = walk-append code exits Success ∙ ap (λ (p : Place). follow code p Success) walked in
-    let never : (met : CheckCode) → passes code at (slice_get code at) Success s ≡ Meets at met → ⊥ = λ met e. accepted.meets_none at met (record { exits = exits ++ Success ∷ []; meets = one_more ∙ e }) in
+    let one_more : walk code (exits ++ Success ∷ []) ≡ passes code at (slice_get code at) Success s =
+    walk-append code exits Success ∙ ap (λ (p : Place). follow code p Success) walked in
+    let never : (met : CheckCode) → passes code at (slice_get code at) Success s ≡ Meets at met
+    → ⊥ = λ met e. accepted.meets_none at met (record { exits = exits ++ Success ∷ []; meets = one_more ∙ e }) in
     elim (slice_get code at) as (λ o. slice_get code at ≡ o → PassesOn code exits at s) [
       | None ↦ λ e. absurd (never RunsOff (ap (λ (o : Option Instr). passes code at o Success s) e))
       | Some i ↦ λ e.
-          let there : passes code at (slice_get code at) Success s ≡ unless_met at (lowest i s) (arrives code at (target i Success at) (after i Success s)) = ap (λ (o : Option Instr). passes code at o Success s) e in
+          let there : passes code at (slice_get code at) Success s
+          ≡ unless_met at (lowest i s) (arrives code at (target i Success at) (after i Success s)) =
+          ap (λ (o : Option Instr). passes code at o Success s) e in
           elim (lowest i s) as (λ o. lowest i s ≡ o → PassesOn code exits at s) [
-            | Some met ↦ λ l. absurd (never met (there ∙ ap (λ (o : Option CheckCode). unless_met at o (arrives code at (target i Success at) (after i Success s))) l))
-            | None ↦ λ l. record { here = i; found = e; met = are_met i s l; leads = λ exit. leads_by code exits at s i exit accepted walked e l }
+            | Some met ↦
+                λ l. absurd (never met (there ∙ ap
+                (λ (o : Option CheckCode). unless_met at o
+                (arrives code at (target i Success at) (after i Success s))) l))
+            | None ↦
+                λ l. record {
+                  here = i;
+                  found = e;
+                  met = are_met i s l;
+                  leads =
+                      λ exit. leads_by code exits at s i exit accepted walked e l;
+                }
           ] refl
     ] refl

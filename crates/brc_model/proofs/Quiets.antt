@@ -1,4 +1,5 @@
--- A thread at rest stands elsewhere, and some of its references move: the moves are allowed, and the rule holds afterwards.
+-- A thread at rest stands elsewhere, and some of its references move: the moves are allowed, and the rule holds
+-- afterwards.
 use Rattle.std.proofs.Common.{◌≡◌, ◌≢◌, ℕ, ◌<◌, Bool, true, false, List, [], inl, inr, Some, refl, sym, ap, ◌∙◌, subst, arith, ◌≤◌}
 use Rattle.std.specs.Prelude.{count_by, ◌==◌, ◌&&◌, slice_get, slice_set, AllPairs}
 use Rattle.std.proofs.lemmas.Bool.{ne_eqb, false≢true}
@@ -27,12 +28,14 @@ use Rattle.brc_model.proofs.Sits.{sitting, AtRest, same_weight}
 
 -- ---- the moves
 
-pub quiet_bag : (p : Plain) (t : ℕ) (moves : List Move) → QuietMoves p.references t moves → (moved p moves).references ≡ bag_after p.references moves
+pub quiet_bag : (p : Plain) (t : ℕ) (moves : List Move) → QuietMoves p.references t moves
+    → (moved p moves).references ≡ bag_after p.references moves
 quiet_bag p t [] Stays = refl
 quiet_bag p t _ (GainsNone h) = refl
 quiet_bag p t _ (HandsOn from to x has) = refl
 
-pub quiet_closed : (p : Plain) (t : ℕ) (moves : List Move) → QuietMoves p.references t moves → (moved p moves).closed ≡ p.closed
+pub quiet_closed : (p : Plain) (t : ℕ) (moves : List Move) → QuietMoves p.references t moves
+    → (moved p moves).closed ≡ p.closed
 quiet_closed p t [] Stays = refl
 quiet_closed p t _ (GainsNone h) = refl
 quiet_closed p t _ (HandsOn from to x has) = refl
@@ -48,22 +51,29 @@ quiet_kinds p t [] Stays = refl
 quiet_kinds p t _ (GainsNone h) = refl
 quiet_kinds p t _ (HandsOn from to x has) = refl
 
-pub quiet_allowed : (p : Plain) (t : ℕ) (moves : List Move) → QuietMoves p.references t moves → are_allowed p moves ≡ true
+pub quiet_allowed : (p : Plain) (t : ℕ) (moves : List Move) → QuietMoves p.references t moves
+    → are_allowed p moves ≡ true
 quiet_allowed p t [] Stays = refl
 quiet_allowed p t _ (GainsNone h) = refl
 quiet_allowed p t _ (HandsOn from to x has) = ap (λ (b : Bool). b && true) has
 
 -- a counted object has as many references as before
-quiet_references : (p : Plain) (t x : ℕ) (moves : List Move) → QuietMoves p.references t moves → 0 < x → references_to x p.references ≡ references_to x (moved p moves).references
+quiet_references : (p : Plain) (t x : ℕ) (moves : List Move) → QuietMoves p.references t moves → 0 < x
+    → references_to x p.references ≡ references_to x (moved p moves).references
 quiet_references p t x [] Stays pos = refl
 quiet_references p t x _ (GainsNone h) pos =
     let none : one_if (none_row == x) ≡ 0 = ap one_if (ne_eqb none_row x (λ e. absurd (omega (arith, pos, e)))) in
     omega (arith, references_to-cons x (reference_of t h none_row) p.references, none)
 quiet_references p t x _ (HandsOn from to y has) pos =
-    omega (arith, references_to-cons x (reference_of t to y) (without (reference_of t from y) p.references), references_to-without x (reference_of t from y) p.references has)
+    omega (
+      arith,
+      references_to-cons x (reference_of t to y) (without (reference_of t from y) p.references),
+      references_to-without x (reference_of t from y) p.references has,
+    )
 
 -- and no other holder has a part in them
-quiet_aside : (bag : List Reference) (h : Holder) (t : ℕ) (moves : List Move) → QuietMoves bag t moves → IsNoWayOf t h → AreAside h moves
+quiet_aside : (bag : List Reference) (h : Holder) (t : ℕ) (moves : List Move) → QuietMoves bag t moves → IsNoWayOf t h
+    → AreAside h moves
 quiet_aside bag h t [] Stays other = tt
 quiet_aside bag h t _ (GainsNone k) other = (other k, tt)
 quiet_aside bag h t _ (HandsOn from to x has) other = ((other from, other to), tt)
@@ -73,17 +83,32 @@ quiet_aside bag h t _ (HandsOn from to x has) other = ((other from, other to), t
 abbrev pub quieted : Machine → ℕ → Actor → List Move → Place → Machine
 quieted m t a moves place = with_moves (with_actor m t (sitting a place [])) moves
 
-same_numbers : (p : Module) (n : ℕ) (m : Machine) (t : ℕ) (a : Actor) (moves : List Move) (place : Place) (x : ℕ) → AtRest p n m t a → QuietMoves m.plain.references t moves → 0 < x
+same_numbers : (p : Module) (n : ℕ) (m : Machine) (t : ℕ) (a : Actor) (moves : List Move) (place : Place) (x : ℕ)
+    → AtRest p n m t a → QuietMoves m.plain.references t moves → 0 < x
     → numbers_of m x ≡ numbers_of (quieted m t a moves place) x
 same_numbers p n m t a moves place x rest quiet pos =
     let r = quiet_references m.plain t x moves quiet pos in
-    let w : weight (waits x) m.actors ≡ weight (waits x) (slice_set m.actors t (sitting a place [])) = sym (same_weight (waits x) m.actors t a place [] rest.found rest.agenda refl) in
-    let c : weight (carries x) m.actors ≡ weight (carries x) (slice_set m.actors t (sitting a place [])) = sym (same_weight (carries x) m.actors t a place [] rest.found rest.agenda refl) in
-    let g : weight (merges x) m.actors ≡ weight (merges x) (slice_set m.actors t (sitting a place [])) = sym (same_weight (merges x) m.actors t a place [] rest.found rest.agenda refl) in
-    let d : weight (decides x) m.actors ≡ weight (decides x) (slice_set m.actors t (sitting a place [])) = sym (same_weight (decides x) m.actors t a place [] rest.found rest.agenda refl) in
-    λ i. record { local = (numbers_of m x).local; shared = (numbers_of m x).shared; mark = (numbers_of m x).mark; references = r i; waiting = w i; carried = c i; merging = g i; deciding = d i }
+    let w : weight (waits x) m.actors ≡ weight (waits x) (slice_set m.actors t (sitting a place [])) =
+    sym (same_weight (waits x) m.actors t a place [] rest.found rest.agenda refl) in
+    let c : weight (carries x) m.actors ≡ weight (carries x) (slice_set m.actors t (sitting a place [])) =
+    sym (same_weight (carries x) m.actors t a place [] rest.found rest.agenda refl) in
+    let g : weight (merges x) m.actors ≡ weight (merges x) (slice_set m.actors t (sitting a place [])) =
+    sym (same_weight (merges x) m.actors t a place [] rest.found rest.agenda refl) in
+    let d : weight (decides x) m.actors ≡ weight (decides x) (slice_set m.actors t (sitting a place [])) =
+    sym (same_weight (decides x) m.actors t a place [] rest.found rest.agenda refl) in
+    λ i. record {
+      local = (numbers_of m x).local;
+      shared = (numbers_of m x).shared;
+      mark = (numbers_of m x).mark;
+      references = r i;
+      waiting = w i;
+      carried = c i;
+      merging = g i;
+      deciding = d i;
+    }
 
-still_watched : (p : Module) (n : ℕ) (m : Machine) (t : ℕ) (a : Actor) (moves : List Move) (place : Place) (x : ℕ) → AtRest p n m t a → IsWatched m x → IsWatched (quieted m t a moves place) x
+still_watched : (p : Module) (n : ℕ) (m : Machine) (t : ℕ) (a : Actor) (moves : List Move) (place : Place) (x : ℕ)
+    → AtRest p n m t a → IsWatched m x → IsWatched (quieted m t a moves place) x
 still_watched p n m t a moves place x rest (ByRunning one) = ByRunning one
 still_watched p n m t a moves place x rest (ByExit b found scanned) =
     elim (eqb_tells (block_of m.rows x) t) [
@@ -91,14 +116,19 @@ still_watched p n m t a moves place x rest (ByExit b found scanned) =
           let this : b ≡ a = some_is b a (sym found ∙ ap (slice_get m.actors) same.1 ∙ rest.found) in
           let none : scans x b.agenda ≡ false = ap (λ (c : Actor). scans x c.agenda) this ∙ ap (scans x) rest.agenda in
           absurd (false≢true (sym none ∙ scanned))
-      | inr apart ↦ ByExit b (slice_get-set_other m.actors t (block_of m.rows x) (sitting a place []) apart.1 ∙ found) scanned
+      | inr apart ↦
+          ByExit b (slice_get-set_other m.actors t (block_of m.rows x) (sitting a place []) apart.1 ∙ found) scanned
     ]
-still_watched p n m t a moves place x rest (ByLook some) = ByLook (omega (arith, some, same_weight (looks x) m.actors t a place [] rest.found rest.agenda refl))
+still_watched p n m t a moves place x rest (ByLook some) =
+    ByLook (omega (arith, some, same_weight (looks x) m.actors t a place [] rest.found rest.agenda refl))
 
-leaves : (m : Machine) (t : ℕ) (a : Actor) (moves : List Move) (place : Place) → QuietMoves m.plain.references t moves → LeavesOthers m (quieted m t a moves place) t
+leaves : (m : Machine) (t : ℕ) (a : Actor) (moves : List Move) (place : Place) → QuietMoves m.plain.references t moves
+    → LeavesOthers m (quieted m t a moves place) t
 leaves m t a moves place quiet = record {
   rows = refl;
-  bag = λ u k object ne. moved_aside m.plain (reference_of u k object) moves (quiet_aside m.plain.references (ByThread u k) t moves quiet (λ h. other_thread u t k h ne));
+  bag =
+      λ u k object ne. moved_aside m.plain (reference_of u k object) moves
+      (quiet_aside m.plain.references (ByThread u k) t moves quiet (λ h. other_thread u t k h ne));
   locals = λ u x c ne found owns. refl;
   merged = λ x was. was;
   stopped = λ u was. was;
@@ -108,8 +138,10 @@ leaves m t a moves place quiet = record {
   lives = λ u x ne. refl;
 }
 
-own_fits : (p : Module) (n : ℕ) (m : Machine) (t : ℕ) (a : Actor) (moves : List Move) (place : Place) → AtRest p n m t a → QuietTaken (code_of (slice_get p.functions a.function)) m.plain.references t moves place
-    → ActorFits p (quieted m t a moves place) t (sitting a place []) × AgendaFits m.rows t (sitting a place []) a.status × HandedOnce []
+own_fits : (p : Module) (n : ℕ) (m : Machine) (t : ℕ) (a : Actor) (moves : List Move) (place : Place) → AtRest p n m t a
+    → QuietTaken (code_of (slice_get p.functions a.function)) m.plain.references t moves place
+    → ActorFits p (quieted m t a moves place) t (sitting a place [])
+    × AgendaFits m.rows t (sitting a place []) a.status × HandedOnce []
 own_fits p n m t a moves place rest taken =
     let old = (rest.rule.each t a rest.found).0 in
     let code = code_of (slice_get p.functions a.function) in
@@ -118,7 +150,9 @@ own_fits p n m t a moves place rest taken =
         accepted = old.accepted;
         instructions = old.instructions;
         word = old.word;
-        placed = subst (λ (l : List Reference). PlaceFits code l t [] place) (sym (quiet_bag m.plain t moves taken.moves_fit)) taken.placed;
+        placed =
+            subst (λ (l : List Reference). PlaceFits code l t [] place)
+            (sym (quiet_bag m.plain t moves taken.moves_fit)) taken.placed;
         head_fits = tt;
         chain = record { chained = chain.chained; linked = chain.linked; once = chain.once };
       },
@@ -126,23 +160,36 @@ own_fits p n m t a moves place rest taken =
       tt,
     )
 
-each_fits : (p : Module) (n : ℕ) (m : Machine) (t : ℕ) (a : Actor) (moves : List Move) (place : Place) → AtRest p n m t a → QuietTaken (code_of (slice_get p.functions a.function)) m.plain.references t moves place
-    → (u : ℕ) (b : Actor) → slice_get (slice_set m.actors t (sitting a place [])) u ≡ Some b → ActorFits p (quieted m t a moves place) u b × AgendaFits m.rows u b b.status × HandedOnce b.agenda
+each_fits : (p : Module) (n : ℕ) (m : Machine) (t : ℕ) (a : Actor) (moves : List Move) (place : Place)
+    → AtRest p n m t a → QuietTaken (code_of (slice_get p.functions a.function)) m.plain.references t moves place
+    → (u : ℕ) (b : Actor) → slice_get (slice_set m.actors t (sitting a place [])) u ≡ Some b
+    → ActorFits p (quieted m t a moves place) u b × AgendaFits m.rows u b b.status × HandedOnce b.agenda
 each_fits p n m t a moves place rest taken u b is =
     let now = sitting a place [] in
     elim (eqb_tells u t) [
       | inl same ↦
-          let written_is : Some now ≡ Some b = sym (ap (slice_get (slice_set m.actors t now)) same.1 ∙ slice_get-set_same m.actors t now (slice_get_within m.actors t a rest.found)) ∙ is in
-          let P : Actor → Type 0 = λ x. ActorFits p (quieted m t a moves place) u x × AgendaFits m.rows u x x.status × HandedOnce x.agenda in
-          let Q : ℕ → Type 0 = λ w. ActorFits p (quieted m t a moves place) w now × AgendaFits m.rows w now now.status × HandedOnce now.agenda in
+          let written_is : Some now ≡ Some b =
+          sym (ap (slice_get (slice_set m.actors t now)) same.1
+          ∙ slice_get-set_same m.actors t now (slice_get_within m.actors t a rest.found)) ∙ is in
+          let P : Actor
+          → Type 0 = λ x. ActorFits p (quieted m t a moves place) u x × AgendaFits m.rows u x x.status
+          × HandedOnce x.agenda in
+          let Q : ℕ
+          → Type 0 = λ w. ActorFits p (quieted m t a moves place) w now × AgendaFits m.rows w now now.status
+          × HandedOnce now.agenda in
           subst P (some_is now b written_is) (subst Q (sym same.1) (own_fits p n m t a moves place rest taken))
       | inr apart ↦
           let found : slice_get m.actors u ≡ Some b = sym (slice_get-set_other m.actors t u now apart.1) ∙ is in
-          let old = rest.rule.each u b found in
-          (others_fit p m (quieted m t a moves place) t u b (leaves m t a moves place taken.moves_fit) apart.1 found old.0, old.1, old.2)
+          let old = rest.rule.each u b found in (
+            others_fit p m (quieted m t a moves place) t u b (leaves m t a moves place taken.moves_fit) apart.1 found
+                old.0,
+            old.1,
+            old.2,
+          )
     ]
 
-pub quiet_rule : (p : Module) (n : ℕ) (m : Machine) (t : ℕ) (a : Actor) (moves : List Move) (place : Place) → AtRest p n m t a → QuietTaken (code_of (slice_get p.functions a.function)) m.plain.references t moves place
+pub quiet_rule : (p : Module) (n : ℕ) (m : Machine) (t : ℕ) (a : Actor) (moves : List Move) (place : Place)
+    → AtRest p n m t a → QuietTaken (code_of (slice_get p.functions a.function)) m.plain.references t moves place
     → Rule p n (quieted m t a moves place)
 quiet_rule p n m t a moves place rest taken =
     let quiet = taken.moves_fit in
@@ -155,16 +202,28 @@ quiet_rule p n m t a moves place rest taken =
       some_rows = rest.rule.some_rows;
       few_threads = rest.rule.few_threads;
       few_rows = rest.rule.few_rows;
-      rows = λ x pos. subst (λ (k : Numbers). RowRule (block_of m.rows x) (m.life x) k) (same_numbers p n m t a moves place x rest quiet pos) (rest.rule.rows x pos);
-      marks = λ x. elim (rest.rule.marks x) [ inl none ↦ inl none | inr set ↦ inr (set.0, set.1, still_watched p n m t a moves place x rest set.2) ];
+      rows =
+          λ x pos. subst (λ (k : Numbers). RowRule (block_of m.rows x) (m.life x) k)
+          (same_numbers p n m t a moves place x rest quiet pos) (rest.rule.rows x pos);
+      marks = λ x. elim (rest.rule.marks x) [
+        | inl none ↦ inl none
+        | inr set ↦ inr (set.0, set.1, still_watched p n m t a moves place x rest set.2)
+      ];
       each = λ u b is. each_fits p n m t a moves place rest taken u b is;
       beyond = λ u past k object.
-          moved_aside m.plain (reference_of u k object) moves (quiet_aside m.plain.references (ByThread u k) t moves quiet (λ h. other_thread u t k h (λ e. absurd (omega (arith, within, past, e)))))
+          moved_aside m.plain (reference_of u k object) moves
+          (quiet_aside m.plain.references (ByThread u k) t moves quiet
+          (λ h. other_thread u t k h (λ e. absurd (omega (arith, within, past, e)))))
           ∙ rest.rule.beyond u past k object;
       dying = rest.rule.dying;
       cells = rest.rule.cells;
-      cells_hold = λ x i object. moved_aside m.plain (cell_reference x i object) moves (quiet_aside m.plain.references (cell_reference x i object).holder t moves quiet (λ h. refl)) ∙ rest.rule.cells_hold x i object;
-      uses = λ u b is. written_actor (λ w c. UsesFit m.rows m.life w c.used) m.actors t a (sitting a place []) rest.found (rest.rule.uses t a rest.found) rest.rule.uses u b is;
+      cells_hold =
+          λ x i object. moved_aside m.plain (cell_reference x i object) moves
+          (quiet_aside m.plain.references (cell_reference x i object).holder t moves quiet (λ h. refl))
+          ∙ rest.rule.cells_hold x i object;
+      uses =
+          λ u b is. written_actor (λ w c. UsesFit m.rows m.life w c.used) m.actors t a (sitting a place []) rest.found
+          (rest.rule.uses t a rest.found) rest.rule.uses u b is;
       no_block = rest.rule.no_block;
       none_lives = rest.rule.none_lives;
       born_is = λ x is. rest.rule.born_is x (sym (ap (is_among x) born) ∙ is);

@@ -14,12 +14,17 @@ use Rattle.brc_model.proofs.Owners as owners
 use Rattle.brc_model.proofs.ClosedOnce as closed
 use Rattle.brc_model.proofs.Immortals as immortals
 
-pub always : (P : Machine → Type 0) → ((p : Module) (n : ℕ) (m : Machine) → Whole p n m → P m) → (p : Module) → IsModule p → IsAcceptable p → Always P p
+pub always : (P : Machine → Type 0) → ((p : Module) (n : ℕ) (m : Machine) → Whole p n m → P m) → (p : Module)
+    → IsModule p → IsAcceptable p → Always P p
 always P holds p fits accepted = λ rows calls events some most are_calls.
-    holds p (1 + length calls) _ (whole_after p (1 + length calls) (first_machine p rows calls) events (first_whole p rows calls fits accepted are_calls some most))
+    holds p (1 + length calls) _ (whole_after p (1 + length calls) (first_machine p rows calls) events
+    (first_whole p rows calls fits accepted are_calls some most))
 
-pub at_each_event : (P : Machine → ℕ × Choice → Type 0) → ((p : Module) (n : ℕ) (m : Machine) (event : ℕ × Choice) → Whole p n m → P m event) → (p : Module) → IsModule p → IsAcceptable p → AtEachEvent P p
-at_each_event P holds p fits accepted = λ event. always (λ m. P m event) (λ q n m whole. holds q n m event whole) p fits accepted
+pub at_each_event : (P : Machine → ℕ × Choice → Type 0)
+    → ((p : Module) (n : ℕ) (m : Machine) (event : ℕ × Choice) → Whole p n m → P m event) → (p : Module) → IsModule p
+    → IsAcceptable p → AtEachEvent P p
+at_each_event P holds p fits accepted =
+    λ event. always (λ m. P m event) (λ q n m whole. holds q n m event whole) p fits accepted
 
 pub states_rise : (p : Module) → IsModule p → IsAcceptable p → AtEachEvent StatesRise p
 states_rise = at_each_event StatesRise states.states_rise

@@ -1,5 +1,5 @@
--- What holds of one row's counts, whatever thread comes next: the numbers that the row's words, the references to it and the
--- duties about it come to, and the rule that ties them together.
+-- What holds of one row's counts, whatever thread comes next: the numbers that the row's words, the references to it
+-- and the duties about it come to, and the rule that ties them together.
 use Rattle.std.proofs.Common.{◌≡◌, ℕ, ◌+◌, ◌<◌, ◌≤◌, cond, List}
 use Rattle.std.specs.Prelude.{◌==◌, sum_by}
 use Rattle.brc_word.specs.Words.{owner_part, local_part, biased_part, phase_part, bias, fresh_word}

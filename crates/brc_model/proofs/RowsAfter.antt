@@ -20,7 +20,8 @@ use Rattle.brc_model.proofs.RowsAfterBirths.{row_after_birth_kind, row_after_bir
 use Rattle.brc_model.proofs.RowsAfterMerge.{row_after_own_swap, row_after_handed_swap, row_after_merge_load, row_after_merge_exchange}
 
 -- the row that the duty is about
-own_row : (p : Module) (n : ℕ) (m : Machine) (t : ℕ) (a : Actor) (d : Duty) (rest : List Duty) → Doing p n m t a d rest → 0 < subject d → KeepsRow m t a d rest (subject d)
+own_row : (p : Module) (n : ℕ) (m : Machine) (t : ℕ) (a : Actor) (d : Duty) (rest : List Duty) → Doing p n m t a d rest
+    → 0 < subject d → KeepsRow m t a d rest (subject d)
 own_row p n m t a (RetainLoad y h) rest s some = row_after_retain_load some s
 own_row p n m t a (RetainStore y h w) rest s some = row_after_retain_store s
 own_row p n m t a (RetainAdd y h) rest s some = row_after_retain_add s
@@ -52,11 +53,14 @@ own_row p n m t a (BirthKind y h w) rest s some = row_after_birth_kind some s
 own_row p n m t a (BirthSlot y h) rest s some = row_after_birth_slot some s
 own_row p n m t a (BirthLocal y h) rest s some = row_after_birth_local s
 
-pub rows_after : (p : Module) (n : ℕ) (m : Machine) (t : ℕ) (a : Actor) (d : Duty) (rest : List Duty) → Rule p n m → slice_get m.actors t ≡ Some a → a.agenda ≡ d ∷ rest → (a.status ≡ Gone → ⊥)
-    → (x : ℕ) → 0 < x → RowRule (block_of m.rows x) ((done_by m t a d rest).life x) (numbers_of (done_by m t a d rest) x)
+pub rows_after : (p : Module) (n : ℕ) (m : Machine) (t : ℕ) (a : Actor) (d : Duty) (rest : List Duty) → Rule p n m
+    → slice_get m.actors t ≡ Some a → a.agenda ≡ d ∷ rest → (a.status ≡ Gone → ⊥)
+    → (x : ℕ) → 0 < x
+    → RowRule (block_of m.rows x) ((done_by m t a d rest).life x) (numbers_of (done_by m t a d rest) x)
 rows_after p n m t a d rest rule actor agenda runs x some =
     let s : Doing p n m t a d rest = record { rule = rule; actor = actor; agenda = agenda } in
     elim (eqb_tells (subject d) x) [
-      | inl same ↦ subst (λ (z : ℕ). KeepsRow m t a d rest z) same.1 (own_row p n m t a d rest s (omega (arith, some, same.1)))
+      | inl same ↦
+          subst (λ (z : ℕ). KeepsRow m t a d rest z) same.1 (own_row p n m t a d rest s (omega (arith, some, same.1)))
       | inr other ↦ row_elsewhere s x some other.0
     ]

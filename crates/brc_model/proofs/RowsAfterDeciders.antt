@@ -22,34 +22,49 @@ use Rattle.brc_model.proofs.RowsAfterStep.{Doing}
 
 -- ---- what is for later doesn't decide
 
-later_undecided : (x rows t used : ℕ) (status : Status) (place : Place) (ds : List Duty) → Later rows t used status place ds → sum_by (decides x) ds ≡ 0
+later_undecided : (x rows t used : ℕ) (status : Status) (place : Place) (ds : List Duty)
+    → Later rows t used status place ds → sum_by (decides x) ds ≡ 0
 later_undecided x rows t used status place [] later = refl
-later_undecided x rows t used status place (Settle ∷ rest) later = omega (arith, sum_by-cons (decides x) Settle rest, later_undecided x rows t used status place rest later)
+later_undecided x rows t used status place (Settle ∷ rest) later =
+    omega (arith, sum_by-cons (decides x) Settle rest, later_undecided x rows t used status place rest later)
 later_undecided x rows t used status place (SharedLoad y Handed ∷ rest) later =
-    omega (arith, sum_by-cons (decides x) (SharedLoad y Handed) rest, later_undecided x rows t used status place rest later.1)
+    omega (
+      arith,
+      sum_by-cons (decides x) (SharedLoad y Handed) rest,
+      later_undecided x rows t used status place rest later.1,
+    )
 later_undecided x rows t used status place (Leave y n ∷ []) later = refl
-later_undecided x rows t used status place (Scan y n ∷ rest) later = omega (arith, sum_by-cons (decides x) (Scan y n) rest, later_undecided x rows t used status place rest later.3)
+later_undecided x rows t used status place (Scan y n ∷ rest) later =
+    omega (arith, sum_by-cons (decides x) (Scan y n) rest, later_undecided x rows t used status place rest later.3)
 later_undecided x rows t used status place (Finish ∷ []) later = refl
 later_undecided x rows t used status place (d ∷ ds) later = absurd later
 
-behind_undecided : (x rows t used : ℕ) (status : Status) (place : Place) (d : Duty) (ds : List Duty) → Agenda rows t used status place (d ∷ ds) → sum_by (decides x) ds ≡ 0
+behind_undecided : (x rows t used : ℕ) (status : Status) (place : Place) (d : Duty) (ds : List Duty)
+    → Agenda rows t used status place (d ∷ ds) → sum_by (decides x) ds ≡ 0
 behind_undecided x rows t used status place Settle ds agenda = later_undecided x rows t used status place ds agenda
 behind_undecided x rows t used status place (Leave y n) [] agenda = refl
 behind_undecided x rows t used status place (Leave y n) (d ∷ ds) agenda = absurd agenda
-behind_undecided x rows t used status place (Scan y n) ds agenda = later_undecided x rows t used status place ds agenda.3
+behind_undecided x rows t used status place (Scan y n) ds agenda =
+    later_undecided x rows t used status place ds agenda.3
 behind_undecided x rows t used status place Finish [] agenda = refl
 behind_undecided x rows t used status place Finish (d ∷ ds) agenda = absurd agenda
 behind_undecided x rows t used status place d ds agenda = later_undecided x rows t used status place ds agenda
 
 -- the agenda of a thread that isn't gone
-pub agenda_undecided : (x rows t : ℕ) (a : Actor) (status : Status) (d : Duty) (rest : List Duty) → AgendaFits rows t a status → a.agenda ≡ d ∷ rest → sum_by (decides x) rest ≡ 0
-agenda_undecided x rows t a Running d rest fits is = behind_undecided x rows t a.used Running a.place d rest (subst (λ (ds : List Duty). Agenda rows t a.used Running a.place ds) is fits)
-agenda_undecided x rows t a Leaving d rest fits is = behind_undecided x rows t a.used Leaving a.place d rest (subst (λ (ds : List Duty). Agenda rows t a.used Leaving a.place ds) is fits)
+pub agenda_undecided : (x rows t : ℕ) (a : Actor) (status : Status) (d : Duty) (rest : List Duty)
+    → AgendaFits rows t a status → a.agenda ≡ d ∷ rest → sum_by (decides x) rest ≡ 0
+agenda_undecided x rows t a Running d rest fits is =
+    behind_undecided x rows t a.used Running a.place d rest
+    (subst (λ (ds : List Duty). Agenda rows t a.used Running a.place ds) is fits)
+agenda_undecided x rows t a Leaving d rest fits is =
+    behind_undecided x rows t a.used Leaving a.place d rest
+    (subst (λ (ds : List Duty). Agenda rows t a.used Leaving a.place ds) is fits)
 agenda_undecided x rows t a Gone d rest fits is = let e : [] ≡ d ∷ rest = sym fits.0 ∙ is in absurd cc
 
 -- ---- the first duty decides
 
-head_owns : (m : Machine) (u : ℕ) (b : Actor) (x : ℕ) (d : Duty) (ds : List Duty) → 0 < decides x d → HeadFits m u b d ds → OwnsLocally m u b x
+head_owns : (m : Machine) (u : ℕ) (b : Actor) (x : ℕ) (d : Duty) (ds : List Duty) → 0 < decides x d
+    → HeadFits m u b d ds → OwnsLocally m u b x
 head_owns m u b x (DecideAtZero y) ds some fits =
     elim (eqb_tells y x) [
       | inl same ↦ subst (λ (z : ℕ). OwnsLocally m u b z) same.1 fits.1
@@ -62,7 +77,8 @@ head_owns m u b x (MergeSwap y Own) ds some fits =
     ]
 head_owns m u b x d ds some fits = absurd (omega (arith, some))
 
-decider_owns : (m : Machine) (u : ℕ) (b : Actor) (x : ℕ) (status : Status) (ds : List Duty) → AgendaFits m.rows u b status → b.agenda ≡ ds → HeadOf m u b ds → 0 < sum_by (decides x) ds → OwnsLocally m u b x
+decider_owns : (m : Machine) (u : ℕ) (b : Actor) (x : ℕ) (status : Status) (ds : List Duty)
+    → AgendaFits m.rows u b status → b.agenda ≡ ds → HeadOf m u b ds → 0 < sum_by (decides x) ds → OwnsLocally m u b x
 decider_owns m u b x status [] fits is heads some = absurd (omega (arith, some))
 decider_owns m u b x status (d ∷ ds) fits is heads some =
     let behind = agenda_undecided x m.rows u b status d ds fits is in
@@ -71,7 +87,8 @@ decider_owns m u b x status (d ∷ ds) fits is heads some =
 -- ---- nobody decides
 
 -- a decider is the thread of the row's block
-decider_is_owner : (m : Machine) (u : ℕ) (b : Actor) (x : ℕ) → OwnsLocally m u b x → IsLive (block_of m.rows x) (numbers_of m x) → 0 < weight (decides x) m.actors → u ≡ block_of m.rows x
+decider_is_owner : (m : Machine) (u : ℕ) (b : Actor) (x : ℕ) → OwnsLocally m u b x
+    → IsLive (block_of m.rows x) (numbers_of m x) → 0 < weight (decides x) m.actors → u ≡ block_of m.rows x
 decider_is_owner m u b x owns live some =
     elim live.mode [
       | InOwned o ↦ omega (arith, o.owned, owns.owner)
@@ -80,13 +97,17 @@ decider_is_owner m u b x owns live some =
     ]
 
 -- the claimant's own agenda decides nothing
-claimant_undecided : {p : Module} {n : ℕ} {m : Machine} {t : ℕ} {a : Actor} {y : ℕ} {rest : List Duty} → Doing p n m t a (MergeSwap y Handed) rest → sum_by (decides y) a.agenda ≡ 0
+claimant_undecided : {p : Module} {n : ℕ} {m : Machine} {t : ℕ} {a : Actor} {y : ℕ} {rest : List Duty}
+    → Doing p n m t a (MergeSwap y Handed) rest → sum_by (decides y) a.agenda ≡ 0
 claimant_undecided {m = m} {t = t} {a = a} {y = y} {rest = rest} s =
-    let behind = agenda_undecided y m.rows t a a.status (MergeSwap y Handed) rest (s.rule.each t a s.actor).1 s.agenda in
-    let whole : sum_by (decides y) a.agenda ≡ sum_by (decides y) (MergeSwap y Handed ∷ rest) = ap (sum_by (decides y)) s.agenda in
+    let behind =
+    agenda_undecided y m.rows t a a.status (MergeSwap y Handed) rest (s.rule.each t a s.actor).1 s.agenda in
+    let whole : sum_by (decides y) a.agenda ≡ sum_by (decides y) (MergeSwap y Handed ∷ rest) =
+    ap (sum_by (decides y)) s.agenda in
     omega (arith, whole, sum_by-cons (decides y) (MergeSwap y Handed) rest, behind)
 
-pub none_decides : {p : Module} {n : ℕ} {m : Machine} {t : ℕ} {a : Actor} {y : ℕ} {rest : List Duty} → Doing p n m t a (MergeSwap y Handed) rest → MayMerge m t y
+pub none_decides : {p : Module} {n : ℕ} {m : Machine} {t : ℕ} {a : Actor} {y : ℕ} {rest : List Duty}
+    → Doing p n m t a (MergeSwap y Handed) rest → MayMerge m t y
     → IsLive (block_of m.rows y) (numbers_of m y) → weight (decides y) m.actors ≡ 0
 none_decides {m = m} {t = t} {a = a} {y = y} s may live =
     elim (eqb_tells (weight (decides y) m.actors) 0) [
@@ -95,14 +116,18 @@ none_decides {m = m} {t = t} {a = a} {y = y} s may live =
           let some : 0 < weight (decides y) m.actors = omega (arith, more.1) in
           let it = heavy_somewhere (agenda_weight (decides y)) m.actors some in
           let fits = s.rule.each it.at it.found it.is_there in
-          let owns = decider_owns m it.at it.found y it.found.status it.found.agenda fits.1 refl fits.0.head_fits it.weighs in
+          let owns =
+          decider_owns m it.at it.found y it.found.status it.found.agenda fits.1 refl fits.0.head_fits it.weighs in
           let owner = decider_is_owner m it.at it.found y owns live some in
           elim may [
             | inl mine ↦
                 let at : it.at ≡ t = owner ∙ mine in
                 let there : Some it.found ≡ Some a = sym it.is_there ∙ ap (slice_get m.actors) at ∙ s.actor in
-                let weight_of : agenda_weight (decides y) it.found ≡ agenda_weight (decides y) a = ap (agenda_weight (decides y)) (some_is it.found a there) in
+                let weight_of : agenda_weight (decides y) it.found ≡ agenda_weight (decides y) a =
+                ap (agenda_weight (decides y)) (some_is it.found a there) in
                 absurd (omega (arith, it.weighs, weight_of, claimant_undecided s))
-            | inr stopped ↦ absurd (stopped (ap (λ (u : ℕ). m.memory (ThreadWord u)) (sym owner) ∙ fits.0.word ∙ ap status_word owns.running))
+            | inr stopped ↦
+                absurd (stopped (ap (λ (u : ℕ). m.memory (ThreadWord u)) (sym owner) ∙ fits.0.word
+                ∙ ap status_word owns.running))
           ]
     ]

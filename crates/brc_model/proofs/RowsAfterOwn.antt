@@ -29,7 +29,8 @@ pub one_own : (y : ℕ) → one_if (y == y) ≡ 1
 one_own y = ap one_if (own y)
 
 -- the word that was written
-pub written_here : (memory : Address → ℕ) (at : Address) (word : ℕ) → same_address at at ≡ true → written memory at word at ≡ word
+pub written_here : (memory : Address → ℕ) (at : Address) (word : ℕ) → same_address at at ≡ true
+    → written memory at word at ≡ word
 written_here memory at word this = ap (λ (same : Bool). cond same word (memory at)) this
 
 -- ---- references of the thread
@@ -39,19 +40,24 @@ record Says (bag : List Reference) (t : ℕ) (agenda : List Duty) : Type 0 where
   pub says : Holding → ℕ → Bool
   pub holds : HoldsAt bag t says agenda
 
-says_of : (code : List Instr) (bag : List Reference) (t : ℕ) (agenda : List Duty) (place : Place) → PlaceFits code bag t agenda place → Says bag t agenda
+says_of : (code : List Instr) (bag : List Reference) (t : ℕ) (agenda : List Duty) (place : Place)
+    → PlaceFits code bag t agenda place → Says bag t agenda
 says_of code bag t agenda (Standing left) placed = record { says = the_root; holds = placed }
-says_of code bag t agenda (Inside left at variables) placed = record { says = of_variables placed.0 variables; holds = placed.2 }
+says_of code bag t agenda (Inside left at variables) placed =
+    record { says = of_variables placed.0 variables; holds = placed.2 }
 says_of code bag t agenda Departing placed = record { says = nothing; holds = placed }
 
 -- what a duty gives up is there
-pub gives_up : {p : Module} {n : ℕ} {m : Machine} {t : ℕ} {a : Actor} {d : Duty} {rest : List Duty} → Doing p n m t a d rest → (k : Holding) (object : ℕ) → extra d k object ≡ true → lacks d k object ≡ false
+pub gives_up : {p : Module} {n : ℕ} {m : Machine} {t : ℕ} {a : Actor} {d : Duty} {rest : List Duty}
+    → Doing p n m t a d rest → (k : Holding) (object : ℕ) → extra d k object ≡ true → lacks d k object ≡ false
     → 0 < held (reference_of t k object) m.plain.references
 gives_up {m = m} {t = t} {a = a} {d = d} s k object more less =
     let bag = m.plain.references in
     let says = says_of _ bag t a.agenda a.place (s.rule.each t a s.actor).0.placed in
-    let each : held (reference_of t k object) bag + one_if (lacks d k object) ≡ one_if (says.says k object) + one_if (extra d k object) =
-    subst (λ (ds : List Duty). held (reference_of t k object) bag + one_if (lacks_of ds k object) ≡ one_if (says.says k object) + one_if (extra_of ds k object)) s.agenda (says.holds.each k object) in
+    let each : held (reference_of t k object) bag + one_if (lacks d k object) ≡ one_if (says.says k object)
+    + one_if (extra d k object) =
+    subst (λ (ds : List Duty). held (reference_of t k object) bag + one_if (lacks_of ds k object)
+    ≡ one_if (says.says k object) + one_if (extra_of ds k object)) s.agenda (says.holds.each k object) in
     let given : one_if (extra d k object) ≡ 1 = ap one_if more in
     let made : one_if (lacks d k object) ≡ 0 = ap one_if less in
     omega (arith, each, given, made)
@@ -66,17 +72,32 @@ pub is_lost : (bag : List Reference) (r : Reference) → 0 < held r bag → IsLo
 is_lost bag r some =
     let has = held_has r bag some in
     let this = one_own r.object in
-    record { has = has; before = omega (arith, held-le-references_to r bag, some); less = omega (arith, references_to-without r.object r bag has, this) }
+    record {
+      has = has;
+      before = omega (arith, held-le-references_to r bag, some);
+      less =
+          omega (arith, references_to-without r.object r bag has, this);
+    }
 
 -- ---- the row lives
 
-pub lives_so : {p : Module} {n : ℕ} {m : Machine} {t : ℕ} {a : Actor} {d : Duty} {rest : List Duty} → Doing p n m t a d rest → (y : ℕ) → 0 < y
-    → 1 ≤ (numbers_of m y).references + (numbers_of m y).mark + (numbers_of m y).waiting + (numbers_of m y).merging + (numbers_of m y).deciding → Lives (block_of m.rows y) (m.life y) (numbers_of m y)
-lives_so {m = m} s y some counted = row_lives (block_of m.rows y) (m.life y) (numbers_of m y) (s.rule.rows y some) counted
-
-pub lives_backed : {p : Module} {n : ℕ} {m : Machine} {t : ℕ} {a : Actor} {d : Duty} {rest : List Duty} → Doing p n m t a d rest → (y : ℕ) → 0 < y → IsBacked m t y
+pub lives_so : {p : Module} {n : ℕ} {m : Machine} {t : ℕ} {a : Actor} {d : Duty} {rest : List Duty}
+    → Doing p n m t a d rest → (y : ℕ) → 0 < y
+    → 1 ≤ (numbers_of m y).references + (numbers_of m y).mark + (numbers_of m y).waiting + (numbers_of m y).merging
+    + (numbers_of m y).deciding
     → Lives (block_of m.rows y) (m.life y) (numbers_of m y)
-lives_backed {m = m} {t = t} s y some backed = lives_so s y some (omega (arith, held-le-references_to (reference_of t backed.by y) m.plain.references, backed.held_so))
+lives_so {m = m} s y some counted =
+    row_lives (block_of m.rows y) (m.life y) (numbers_of m y) (s.rule.rows y some) counted
+
+pub lives_backed : {p : Module} {n : ℕ} {m : Machine} {t : ℕ} {a : Actor} {d : Duty} {rest : List Duty}
+    → Doing p n m t a d rest → (y : ℕ) → 0 < y → IsBacked m t y
+    → Lives (block_of m.rows y) (m.life y) (numbers_of m y)
+lives_backed {m = m} {t = t} s y some backed =
+    lives_so s y some (omega (
+      arith,
+      held-le-references_to (reference_of t backed.by y) m.plain.references,
+      backed.held_so,
+    ))
 
 -- a row above 0 isn't immortal
 pub counted_word : (owner : ℕ) (n : Numbers) → IsLive owner n → is_immortal_word n.local ≡ false
@@ -96,8 +117,10 @@ pub record KeepsWords (m after : Machine) (x : ℕ) : Type 0 where
   pub mark : m.memory (Mark x) ≡ after.memory (Mark x)
   pub references : references_to x m.plain.references ≡ references_to x after.plain.references
 
-pub row_apart : {p : Module} {n : ℕ} {m : Machine} {t : ℕ} {a : Actor} {d : Duty} {rest : List Duty} → Doing p n m t a d rest → (x : ℕ) → 0 < x → IsApart x d → AreApart x (following m t a d)
-    → ((life : ℕ → Life) (state : Life) → with_life (with_life life (ended_row d) state) (born_row d) Live x ≡ life x) → KeepsWords m (done_by m t a d rest) x → KeepsRow m t a d rest x
+pub row_apart : {p : Module} {n : ℕ} {m : Machine} {t : ℕ} {a : Actor} {d : Duty} {rest : List Duty}
+    → Doing p n m t a d rest → (x : ℕ) → 0 < x → IsApart x d → AreApart x (following m t a d)
+    → ((life : ℕ → Life) (state : Life) → with_life (with_life life (ended_row d) state) (born_row d) Live x ≡ life x)
+    → KeepsWords m (done_by m t a d rest) x → KeepsRow m t a d rest x
 row_apart {m = m} {t = t} {a = a} {d = d} {rest = rest} s x some this next ends words =
     let q : RowStays m t a d rest x (following m t a d) = record {
       follows = refl;

@@ -16,7 +16,8 @@ use Rattle.brc_model.specs.Duties.{block_of}
 use Rattle.brc_model.specs.Machine.{Live, Dying, Actor, Machine, written, lose, moves_by}
 use Rattle.brc_model.proofs.Holds.{reference_of}
 use Rattle.brc_model.proofs.Rows.{waits}
-use Rattle.brc_model.proofs.RowSteps.{shared_queued, shared_lost, shared_dies, handed_lost, handed_dies}
+use Rattle.brc_model.proofs.RowSteps.{shared_queued, shared_lost, shared_dies}
+use Rattle.brc_model.proofs.RowMerges.{handed_lost, handed_dies}
 use Rattle.brc_model.proofs.Rule.{numbers_of}
 use Rattle.brc_model.proofs.RowsAfterStep.{Doing, head_fits_of, KeepsRow, weighed, row_becomes, row_stays}
 use Rattle.brc_model.proofs.RowsAfterOwn.{own, one_own, written_here, gives_up, is_lost, lives_so}
@@ -26,7 +27,9 @@ same_waits : (x y : ℕ) (r : Reason) (w : ℕ) → waits x (SharedLoad y r) ≡
 same_waits x y Own w = refl
 same_waits x y Handed w = refl
 
-pub row_after_shared_load : {p : Module} {n : ℕ} {m : Machine} {t : ℕ} {a : Actor} {y : ℕ} {r : Reason} {rest : List Duty} → 0 < y → Doing p n m t a (SharedLoad y r) rest → KeepsRow m t a (SharedLoad y r) rest y
+pub row_after_shared_load : {p : Module} {n : ℕ} {m : Machine} {t : ℕ} {a : Actor} {y : ℕ} {r : Reason}
+    {rest : List Duty}
+    → 0 < y → Doing p n m t a (SharedLoad y r) rest → KeepsRow m t a (SharedLoad y r) rest y
 row_after_shared_load {m = m} {y = y} {r = r} some s =
     let found = m.memory (Shared y) in
     row_stays {next = SharedExchange y r found ∷ []} {x = y} s some (record {
@@ -46,16 +49,23 @@ row_after_shared_load {m = m} {y = y} {r = r} some s =
 
 -- what it leaves
 exchanged : (memory : Address → ℕ) (y w : ℕ) (b : Bool) → (memory (Shared y) == w) ≡ b
-    → written memory (Shared y) (cond (memory (Shared y) == w) (released_word w) (memory (Shared y))) (Shared y) ≡ cond b (released_word w) (memory (Shared y))
-exchanged memory y w b e = written_here memory (Shared y) _ (own y) ∙ ap (λ (c : Bool). cond c (released_word w) (memory (Shared y))) e
+    → written memory (Shared y) (cond (memory (Shared y) == w) (released_word w) (memory (Shared y))) (Shared y)
+    ≡ cond b (released_word w) (memory (Shared y))
+exchanged memory y w b e =
+    written_here memory (Shared y) _ (own y) ∙ ap (λ (c : Bool). cond c (released_word w) (memory (Shared y))) e
 
 -- the references, by its test
-exchange_moves : (memory : Address → ℕ) (t y : ℕ) (r : Reason) (w found : ℕ) (p : Plain) → (found == w) ≡ false → references_to y p.references ≡ references_to y (moved p (moves_by memory t (SharedExchange y r w) found)).references
-exchange_moves memory t y Own w found p e = sym (ap (λ (b : Bool). references_to y (moved p (cond b (lose t y) [])).references) e)
+exchange_moves : (memory : Address → ℕ) (t y : ℕ) (r : Reason) (w found : ℕ) (p : Plain) → (found == w) ≡ false
+    → references_to y p.references
+    ≡ references_to y (moved p (moves_by memory t (SharedExchange y r w) found)).references
+exchange_moves memory t y Own w found p e =
+    sym (ap (λ (b : Bool). references_to y (moved p (cond b (lose t y) [])).references) e)
 exchange_moves memory t y Handed w found p e = refl
 
 -- another thread was faster: it loads anew
-row_after_lost_exchange : {p : Module} {n : ℕ} {m : Machine} {t : ℕ} {a : Actor} {y : ℕ} {r : Reason} {w : ℕ} {rest : List Duty} → 0 < y → Doing p n m t a (SharedExchange y r w) rest
+row_after_lost_exchange : {p : Module} {n : ℕ} {m : Machine} {t : ℕ} {a : Actor} {y : ℕ} {r : Reason} {w : ℕ}
+    {rest : List Duty}
+    → 0 < y → Doing p n m t a (SharedExchange y r w) rest
     → (m.memory (Shared y) == w) ≡ false → KeepsRow m t a (SharedExchange y r w) rest y
 row_after_lost_exchange {m = m} {t = t} {y = y} {r = r} {w = w} some s other =
     row_stays {next = SharedLoad y r ∷ []} {x = y} s some (record {
@@ -74,11 +84,15 @@ row_after_lost_exchange {m = m} {t = t} {y = y} {r = r} {w = w} some s other =
 -- ---- a reference of the thread's own
 
 -- the references are one fewer
-own_moves : (memory : Address → ℕ) (t y w found : ℕ) (p : Plain) → (found == w) ≡ true → references_to y (moved p (moves_by memory t (SharedExchange y Own w) found)).references ≡ references_to y (moved p (lose t y)).references
+own_moves : (memory : Address → ℕ) (t y w found : ℕ) (p : Plain) → (found == w) ≡ true
+    → references_to y (moved p (moves_by memory t (SharedExchange y Own w) found)).references
+    ≡ references_to y (moved p (lose t y)).references
 own_moves memory t y w found p e = ap (λ (b : Bool). references_to y (moved p (cond b (lose t y) [])).references) e
 
-own_queues : {p : Module} {n : ℕ} {m : Machine} {t : ℕ} {a : Actor} {y w : ℕ} {rest : List Duty} → Doing p n m t a (SharedExchange y Own w) rest
-    → (m.memory (Shared y) == w) ≡ true → m.memory (Shared y) ≡ w → (w == fresh_word) ≡ true → w ≡ fresh_word → KeepsRow m t a (SharedExchange y Own w) rest y
+own_queues : {p : Module} {n : ℕ} {m : Machine} {t : ℕ} {a : Actor} {y w : ℕ} {rest : List Duty}
+    → Doing p n m t a (SharedExchange y Own w) rest
+    → (m.memory (Shared y) == w) ≡ true → m.memory (Shared y) ≡ w → (w == fresh_word) ≡ true → w ≡ fresh_word
+    → KeepsRow m t a (SharedExchange y Own w) rest y
 own_queues {m = m} {t = t} {a = a} {y = y} {w = w} {rest = rest} s test same is_fresh fresh =
     let some : 0 < y = head_fits_of s in
     let k = numbers_of m y in
@@ -99,8 +113,10 @@ own_queues {m = m} {t = t} {a = a} {y = y} {w = w} {rest = rest} s test same is_
       deciding = omega (arith, weights.deciding);
     }) (shared_queued (block_of m.rows y) k lives.rule (same ∙ fresh) lost.before)
 
-own_dies : {p : Module} {n : ℕ} {m : Machine} {t : ℕ} {a : Actor} {y w : ℕ} {rest : List Duty} → Doing p n m t a (SharedExchange y Own w) rest
-    → (m.memory (Shared y) == w) ≡ true → m.memory (Shared y) ≡ w → (w == fresh_word) ≡ false → (w - 4 == dead_word) ≡ true → w - 4 ≡ dead_word → KeepsRow m t a (SharedExchange y Own w) rest y
+own_dies : {p : Module} {n : ℕ} {m : Machine} {t : ℕ} {a : Actor} {y w : ℕ} {rest : List Duty}
+    → Doing p n m t a (SharedExchange y Own w) rest
+    → (m.memory (Shared y) == w) ≡ true → m.memory (Shared y) ≡ w → (w == fresh_word) ≡ false
+    → (w - 4 == dead_word) ≡ true → w - 4 ≡ dead_word → KeepsRow m t a (SharedExchange y Own w) rest y
 own_dies {m = m} {t = t} {a = a} {y = y} {w = w} {rest = rest} s test same other is_dead dead =
     let some : 0 < y = head_fits_of s in
     let k = numbers_of m y in
@@ -108,7 +124,8 @@ own_dies {m = m} {t = t} {a = a} {y = y} {w = w} {rest = rest} s test same other
     let lives = lives_so s y some (omega (arith, lost.before)) in
     let weights = weighed s (Die y ∷ []) (rw (test, other, is_dead) refl) y in
     let left : released_word w ≡ w - 4 = ap (λ (b : Bool). cond b (w + 2) (w - 4)) other in
-    row_becomes m t a (SharedExchange y Own w) rest y (Die y ∷ []) (rw (test, other, is_dead) refl) (Dying t) (ap (λ (b : Bool). cond b (Dying t) (m.life y)) (own y))
+    row_becomes m t a (SharedExchange y Own w) rest y (Die y ∷ []) (rw (test, other, is_dead) refl) (Dying t)
+    (ap (λ (b : Bool). cond b (Dying t) (m.life y)) (own y))
     (record k { shared = k.shared - 4; references = k.references - 1 }) (record {
       local = refl;
       shared = omega (arith, exchanged m.memory y w true test, left, same);
@@ -120,8 +137,10 @@ own_dies {m = m} {t = t} {a = a} {y = y} {w = w} {rest = rest} s test same other
       deciding = omega (arith, weights.deciding);
     }) (shared_dies (block_of m.rows y) k lives.rule (omega (arith, same, dead)) lost.before)
 
-own_loses : {p : Module} {n : ℕ} {m : Machine} {t : ℕ} {a : Actor} {y w : ℕ} {rest : List Duty} → Doing p n m t a (SharedExchange y Own w) rest
-    → (m.memory (Shared y) == w) ≡ true → m.memory (Shared y) ≡ w → (w == fresh_word) ≡ false → w ≢ fresh_word → (w - 4 == dead_word) ≡ false → w - 4 ≢ dead_word
+own_loses : {p : Module} {n : ℕ} {m : Machine} {t : ℕ} {a : Actor} {y w : ℕ} {rest : List Duty}
+    → Doing p n m t a (SharedExchange y Own w) rest
+    → (m.memory (Shared y) == w) ≡ true → m.memory (Shared y) ≡ w → (w == fresh_word) ≡ false → w ≢ fresh_word
+    → (w - 4 == dead_word) ≡ false → w - 4 ≢ dead_word
     → KeepsRow m t a (SharedExchange y Own w) rest y
 own_loses {m = m} {t = t} {a = a} {y = y} {w = w} {rest = rest} s test same other isnt_fresh alive isnt_dead =
     let some : 0 < y = head_fits_of s in
@@ -130,7 +149,8 @@ own_loses {m = m} {t = t} {a = a} {y = y} {w = w} {rest = rest} s test same othe
     let lives = lives_so s y some (omega (arith, lost.before)) in
     let weights = weighed s [] (rw (test, other, alive) refl) y in
     let left : released_word w ≡ w - 4 = ap (λ (b : Bool). cond b (w + 2) (w - 4)) other in
-    row_becomes m t a (SharedExchange y Own w) rest y [] (rw (test, other, alive) refl) Live lives.is_live (record k { shared = k.shared - 4; references = k.references - 1 }) (record {
+    row_becomes m t a (SharedExchange y Own w) rest y [] (rw (test, other, alive) refl) Live lives.is_live
+    (record k { shared = k.shared - 4; references = k.references - 1 }) (record {
       local = refl;
       shared = omega (arith, exchanged m.memory y w true test, left, same);
       mark = refl;
@@ -139,9 +159,11 @@ own_loses {m = m} {t = t} {a = a} {y = y} {w = w} {rest = rest} s test same othe
       carried = omega (arith, weights.carried);
       merging = omega (arith, weights.merging);
       deciding = omega (arith, weights.deciding);
-    }) (shared_lost (block_of m.rows y) k lives.rule (λ e. isnt_fresh (sym same ∙ e)) (λ e. isnt_dead (ap (λ (v : ℕ). v - 4) (sym same) ∙ e)) lost.before)
+    }) (shared_lost (block_of m.rows y) k lives.rule (λ e. isnt_fresh (sym same ∙ e))
+    (λ e. isnt_dead (ap (λ (v : ℕ). v - 4) (sym same) ∙ e)) lost.before)
 
-pub row_after_own_exchange : {p : Module} {n : ℕ} {m : Machine} {t : ℕ} {a : Actor} {y w : ℕ} {rest : List Duty} → Doing p n m t a (SharedExchange y Own w) rest → KeepsRow m t a (SharedExchange y Own w) rest y
+pub row_after_own_exchange : {p : Module} {n : ℕ} {m : Machine} {t : ℕ} {a : Actor} {y w : ℕ} {rest : List Duty}
+    → Doing p n m t a (SharedExchange y Own w) rest → KeepsRow m t a (SharedExchange y Own w) rest y
 row_after_own_exchange {m = m} {y = y} {w = w} s =
     elim (eqb_tells (m.memory (Shared y)) w) [
       | inr other ↦ row_after_lost_exchange (head_fits_of s) s other.0
@@ -156,8 +178,10 @@ row_after_own_exchange {m = m} {y = y} {w = w} s =
 
 -- ---- the handed reference of a claimed mark
 
-handed_ends : {p : Module} {n : ℕ} {m : Machine} {t : ℕ} {a : Actor} {y w : ℕ} {rest : List Duty} → Doing p n m t a (SharedExchange y Handed w) rest
-    → (m.memory (Shared y) == w) ≡ true → m.memory (Shared y) ≡ w → (w == fresh_word) ≡ false → (w - 4 == dead_word) ≡ true → w - 4 ≡ dead_word → KeepsRow m t a (SharedExchange y Handed w) rest y
+handed_ends : {p : Module} {n : ℕ} {m : Machine} {t : ℕ} {a : Actor} {y w : ℕ} {rest : List Duty}
+    → Doing p n m t a (SharedExchange y Handed w) rest
+    → (m.memory (Shared y) == w) ≡ true → m.memory (Shared y) ≡ w → (w == fresh_word) ≡ false
+    → (w - 4 == dead_word) ≡ true → w - 4 ≡ dead_word → KeepsRow m t a (SharedExchange y Handed w) rest y
 handed_ends {m = m} {t = t} {a = a} {y = y} {w = w} {rest = rest} s test same other is_dead dead =
     let fits = head_fits_of s in
     let k = numbers_of m y in
@@ -166,7 +190,8 @@ handed_ends {m = m} {t = t} {a = a} {y = y} {w = w} {rest = rest} s test same ot
     let awaits : 1 ≤ k.waiting = omega (arith, weights.waiting, one) in
     let lives = lives_so s y fits.0 (omega (arith, awaits)) in
     let left : released_word w ≡ w - 4 = ap (λ (b : Bool). cond b (w + 2) (w - 4)) other in
-    row_becomes m t a (SharedExchange y Handed w) rest y (Die y ∷ []) (rw (test, other, is_dead) refl) (Dying t) (ap (λ (b : Bool). cond b (Dying t) (m.life y)) (own y))
+    row_becomes m t a (SharedExchange y Handed w) rest y (Die y ∷ []) (rw (test, other, is_dead) refl) (Dying t)
+    (ap (λ (b : Bool). cond b (Dying t) (m.life y)) (own y))
     (record k { shared = k.shared - 4; waiting = k.waiting - 1 }) (record {
       local = refl;
       shared = omega (arith, exchanged m.memory y w true test, left, same);
@@ -178,8 +203,10 @@ handed_ends {m = m} {t = t} {a = a} {y = y} {w = w} {rest = rest} s test same ot
       deciding = omega (arith, weights.deciding);
     }) (handed_dies (block_of m.rows y) k lives.rule (omega (arith, same, dead)) awaits)
 
-handed_stays : {p : Module} {n : ℕ} {m : Machine} {t : ℕ} {a : Actor} {y w : ℕ} {rest : List Duty} → Doing p n m t a (SharedExchange y Handed w) rest
-    → (m.memory (Shared y) == w) ≡ true → m.memory (Shared y) ≡ w → (w == fresh_word) ≡ false → (w - 4 == dead_word) ≡ false → w - 4 ≢ dead_word → KeepsRow m t a (SharedExchange y Handed w) rest y
+handed_stays : {p : Module} {n : ℕ} {m : Machine} {t : ℕ} {a : Actor} {y w : ℕ} {rest : List Duty}
+    → Doing p n m t a (SharedExchange y Handed w) rest
+    → (m.memory (Shared y) == w) ≡ true → m.memory (Shared y) ≡ w → (w == fresh_word) ≡ false
+    → (w - 4 == dead_word) ≡ false → w - 4 ≢ dead_word → KeepsRow m t a (SharedExchange y Handed w) rest y
 handed_stays {m = m} {t = t} {a = a} {y = y} {w = w} {rest = rest} s test same other alive isnt_dead =
     let fits = head_fits_of s in
     let k = numbers_of m y in
@@ -188,7 +215,8 @@ handed_stays {m = m} {t = t} {a = a} {y = y} {w = w} {rest = rest} s test same o
     let awaits : 1 ≤ k.waiting = omega (arith, weights.waiting, one) in
     let lives = lives_so s y fits.0 (omega (arith, awaits)) in
     let left : released_word w ≡ w - 4 = ap (λ (b : Bool). cond b (w + 2) (w - 4)) other in
-    row_becomes m t a (SharedExchange y Handed w) rest y [] (rw (test, other, alive) refl) Live lives.is_live (record k { shared = k.shared - 4; waiting = k.waiting - 1 }) (record {
+    row_becomes m t a (SharedExchange y Handed w) rest y [] (rw (test, other, alive) refl) Live lives.is_live
+    (record k { shared = k.shared - 4; waiting = k.waiting - 1 }) (record {
       local = refl;
       shared = omega (arith, exchanged m.memory y w true test, left, same);
       mark = refl;
@@ -197,9 +225,11 @@ handed_stays {m = m} {t = t} {a = a} {y = y} {w = w} {rest = rest} s test same o
       carried = omega (arith, weights.carried);
       merging = omega (arith, weights.merging);
       deciding = omega (arith, weights.deciding);
-    }) (handed_lost (block_of m.rows y) k lives.rule fits.1 (λ e. isnt_dead (ap (λ (v : ℕ). v - 4) (sym same) ∙ e)) awaits)
+    }) (handed_lost (block_of m.rows y) k lives.rule fits.1 (λ e. isnt_dead (ap (λ (v : ℕ). v - 4) (sym same) ∙ e))
+    awaits)
 
-pub row_after_handed_exchange : {p : Module} {n : ℕ} {m : Machine} {t : ℕ} {a : Actor} {y w : ℕ} {rest : List Duty} → Doing p n m t a (SharedExchange y Handed w) rest → KeepsRow m t a (SharedExchange y Handed w) rest y
+pub row_after_handed_exchange : {p : Module} {n : ℕ} {m : Machine} {t : ℕ} {a : Actor} {y w : ℕ} {rest : List Duty}
+    → Doing p n m t a (SharedExchange y Handed w) rest → KeepsRow m t a (SharedExchange y Handed w) rest y
 row_after_handed_exchange {m = m} {y = y} {w = w} s =
     let fits = head_fits_of s in
     elim (eqb_tells (m.memory (Shared y)) w) [

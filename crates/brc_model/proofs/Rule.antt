@@ -72,12 +72,15 @@ lacks_of (d ∷ rest) k object = lacks d k object
 
 -- the bag has just what the place says, with what the duty at hand has more or less
 pub record HoldsAt (bag : List Reference) (t : ℕ) (says : Holding → ℕ → Bool) (agenda : List Duty) : Type 0 where
-  pub each : (k : Holding) (object : ℕ) → held (reference_of t k object) bag + one_if (lacks_of agenda k object) ≡ one_if (says k object) + one_if (extra_of agenda k object)
+  pub each : (k : Holding) (object : ℕ)
+      → held (reference_of t k object) bag + one_if (lacks_of agenda k object) ≡ one_if (says k object)
+      + one_if (extra_of agenda k object)
 
 -- where the thread stands when its agenda is done, and what it then holds
 abbrev pub PlaceFits : List Instr → List Reference → ℕ → List Duty → Place → Type 0
 PlaceFits code bag t agenda (Standing left) = HoldsAt bag t the_root agenda
-PlaceFits code bag t agenda (Inside left at variables) = (s : State) × IsInside code at variables s × HoldsAt bag t (of_variables s variables) agenda
+PlaceFits code bag t agenda (Inside left at variables) =
+    (s : State) × IsInside code at variables s × HoldsAt bag t (of_variables s variables) agenda
 PlaceFits code bag t agenda Departing = HoldsAt bag t nothing agenda
 
 -- ---- what the duty at hand knows
@@ -123,7 +126,9 @@ HasCountedKind memory x = is_counted_kind (kind_of_word (memory (KindOf x))) ≡
 
 abbrev pub HeadFits : Machine → ℕ → Actor → Duty → List Duty → Type 0
 HeadFits m t a (RetainLoad x h) rest = IsBacked m t x
-HeadFits m t a (RetainStore x h w) rest = (0 < x) × IsBacked m t x × OwnsLocally m t a x × (m.memory (Local x) ≡ w) × (1 ≤ local_part w) × (local_part w < 4294967294)
+HeadFits m t a (RetainStore x h w) rest =
+    (0 < x) × IsBacked m t x × OwnsLocally m t a x × (m.memory (Local x) ≡ w) × (1 ≤ local_part w)
+    × (local_part w < 4294967294)
 HeadFits m t a (RetainAdd x h) rest = (0 < x) × IsBacked m t x
 HeadFits m t a (ReleaseLoad x h) rest = Unit {0}
 HeadFits m t a (ReleaseStore x w) rest = (0 < x) × OwnsLocally m t a x × (m.memory (Local x) ≡ w) × (1 ≤ local_part w)
@@ -160,14 +165,18 @@ HeadOf m t a (d ∷ rest) = HeadFits m t a d rest
 
 -- ---- what is for later
 
--- The agenda behind its first duty: it settles, gives up handed references, and ends the thread's exit where that is taken up.
+-- The agenda behind its first duty: it settles, gives up handed references, and ends the thread's exit where that is
+-- taken up.
 -- A leaving thread has still to look through the marks of its used rows from one on.
 abbrev pub Later : ℕ → ℕ → ℕ → Status → Place → List Duty → Type 0
 Later rows t used status place [] = (place ≢ Departing) × (status ≡ Running)
 Later rows t used status place (Settle ∷ rest) = Later rows t used status place rest
 Later rows t used status place (SharedLoad x Handed ∷ rest) = (0 < x) × Later rows t used status place rest
-Later rows t used status place (Leave x n ∷ []) = (status ≡ Running) × (place ≡ Departing) × (x ≡ first_row rows t) × (n ≡ used)
-Later rows t used status place (Scan x n ∷ rest) = (status ≡ Leaving) × (first_row rows t ≤ x) × (x + n ≡ first_row rows t + used) × Later rows t used status place rest
+Later rows t used status place (Leave x n ∷ []) =
+    (status ≡ Running) × (place ≡ Departing) × (x ≡ first_row rows t) × (n ≡ used)
+Later rows t used status place (Scan x n ∷ rest) =
+    (status ≡ Leaving) × (first_row rows t ≤ x) × (x + n ≡ first_row rows t + used)
+    × Later rows t used status place rest
 Later rows t used status place (Finish ∷ []) = (status ≡ Leaving) × (place ≡ Departing)
 Later rows t used status place _ = ⊥
 
@@ -205,7 +214,9 @@ scans x (d ∷ rest) = scans x rest
 -- the rows that are chained from the head on, each by the gate word of the one before
 abbrev pub Linked : (Address → ℕ) → ℕ → ℕ → List ℕ → Type 0
 Linked memory t head [] = head ≡ 0
-Linked memory t head (x ∷ xs) = (head ≡ x + 1) × ((next : ℕ) × (memory (Gate x) ≡ dying_word t next) × (next < 4294967296) × Linked memory t next xs)
+Linked memory t head (x ∷ xs) =
+    (head ≡ x + 1) × ((next : ℕ) × (memory (Gate x) ≡ dying_word t next) × (next < 4294967296)
+    × Linked memory t next xs)
 
 -- the row that is at hand between two steps of its finalising, or before its gate is stored
 abbrev pub at_hand : Duty → ℕ → Bool
@@ -279,7 +290,8 @@ pub record Rule (p : Module) (n : ℕ) (m : Machine) : Type 0 where
   pub few_rows : m.rows ≤ 1024
   pub rows : (x : ℕ) → 0 < x → RowRule (block_of m.rows x) (m.life x) (numbers_of m x)
   pub marks : (x : ℕ) → m.memory (Mark x) ≡ 0 ⊎ ((m.memory (Mark x) ≡ 1) × (0 < x) × IsWatched m x)
-  pub each : (t : ℕ) (a : Actor) → slice_get m.actors t ≡ Some a → ActorFits p m t a × AgendaFits m.rows t a a.status × HandedOnce a.agenda
+  pub each : (t : ℕ) (a : Actor) → slice_get m.actors t ≡ Some a
+      → ActorFits p m t a × AgendaFits m.rows t a a.status × HandedOnce a.agenda
   pub beyond : (t : ℕ) → n ≤ t → (k : Holding) (object : ℕ) → held (reference_of t k object) m.plain.references ≡ 0
   pub dying : (x t : ℕ) → n ≤ t → dies_by (m.life x) t ≡ false
   pub cells : (x i : ℕ) → m.memory (Cell x i) ≡ 0

@@ -46,13 +46,17 @@ pub record IsGoneAt (m : Machine) (t : ℕ) (a : Actor) : Type 0 where
   pub place : a.place ≡ Departing
   pub head : a.head ≡ 0
 
-gone_at : (p : Module) (n : ℕ) (m : Machine) (t : ℕ) (a : Actor) → Rule p n m → AllGone m → slice_get m.actors t ≡ Some a → IsGoneAt m t a
+gone_at : (p : Module) (n : ℕ) (m : Machine) (t : ℕ) (a : Actor) → Rule p n m → AllGone m
+    → slice_get m.actors t ≡ Some a → IsGoneAt m t a
 gone_at p n m t a rule done found =
-    let status : a.status ≡ Gone = gone_is a.status (list_all_found (λ (b : Actor). has_gone b.status) m.actors t a done found) in
-    let fits : AgendaFits m.rows t a Gone = subst (λ (s : Status). AgendaFits m.rows t a s) status (rule.each t a found).1 in
+    let status : a.status ≡ Gone =
+    gone_is a.status (list_all_found (λ (b : Actor). has_gone b.status) m.actors t a done found) in
+    let fits : AgendaFits m.rows t a Gone =
+    subst (λ (s : Status). AgendaFits m.rows t a s) status (rule.each t a found).1 in
     record { status = status; agenda = fits.0; place = fits.1; head = fits.2 }
 
-gone_holds : (p : Module) (n : ℕ) (m : Machine) (t : ℕ) (k : Holding) (object : ℕ) → Rule p n m → AllGone m → held (reference_of t k object) m.plain.references ≡ 0
+gone_holds : (p : Module) (n : ℕ) (m : Machine) (t : ℕ) (k : Holding) (object : ℕ) → Rule p n m → AllGone m
+    → held (reference_of t k object) m.plain.references ≡ 0
 gone_holds p n m t k object rule done =
     elim (slice_get_cases m.actors t).1 [
       | inl found ↦
@@ -61,12 +65,14 @@ gone_holds p n m t k object rule done =
           let old = (rule.each t a found.2).0 in
           let code = code_of (slice_get p.functions a.function) in
           let placed : HoldsAt m.plain.references t nothing [] =
-          subst (λ (q : Place). PlaceFits code m.plain.references t [] q) gone.place (subst (λ (l : List Duty). PlaceFits code m.plain.references t l a.place) gone.agenda old.placed) in
+          subst (λ (q : Place). PlaceFits code m.plain.references t [] q) gone.place
+          (subst (λ (l : List Duty). PlaceFits code m.plain.references t l a.place) gone.agenda old.placed) in
           omega (arith, placed.each k object)
       | inr past ↦ rule.beyond t (omega (arith, past.0, rule.threads)) k object
     ]
 
-none_holds : (p : Module) (n : ℕ) (m : Machine) (h : Holder) (object : ℕ) → Rule p n m → AllGone m → held (record { holder = h; object = object }) m.plain.references ≡ 0
+none_holds : (p : Module) (n : ℕ) (m : Machine) (h : Holder) (object : ℕ) → Rule p n m → AllGone m
+    → held (record { holder = h; object = object }) m.plain.references ≡ 0
 none_holds p n m (ByThread t k) object rule done = gone_holds p n m t k object rule done
 none_holds p n m (ByCell x i) object rule done = rule.cells_hold x i object
 
@@ -74,10 +80,12 @@ pub none_left : (p : Module) (n : ℕ) (m : Machine) → Rule p n m → AllGone 
 none_left p n m rule done = empty_bag m.plain.references (λ r. none_holds p n m r.holder r.object rule done)
 
 no_weights : (p : Module) (n : ℕ) (m : Machine) (f : Duty → ℕ) → Rule p n m → AllGone m → weight f m.actors ≡ 0
-no_weights p n m f rule done = sum_zero (agenda_weight f) m.actors (λ t a found. ap (sum_by f) (gone_at p n m t a rule done found).agenda)
+no_weights p n m f rule done =
+    sum_zero (agenda_weight f) m.actors (λ t a found. ap (sum_by f) (gone_at p n m t a rule done found).agenda)
 
 -- no mark is left: nobody watches
-no_mark : (p : Module) (n : ℕ) (m : Machine) (x : ℕ) → Rule p n m → AllGone m → block_of m.rows x < n → m.memory (Mark x) ≡ 0
+no_mark : (p : Module) (n : ℕ) (m : Machine) (x : ℕ) → Rule p n m → AllGone m → block_of m.rows x < n
+    → m.memory (Mark x) ≡ 0
 no_mark p n m x rule done within =
     elim (rule.marks x) [
       | inl none ↦ none
@@ -87,17 +95,21 @@ no_mark p n m x rule done within =
                 elim (slice_get_cases m.actors (block_of m.rows x)).1 [
                   | inl found ↦
                       let gone = gone_at p n m (block_of m.rows x) found.0 rule done found.2 in
-                      let word : m.memory (ThreadWord (block_of m.rows x)) ≡ 3 = (rule.each (block_of m.rows x) found.0 found.2).0.word ∙ ap status_word gone.status in
+                      let word : m.memory (ThreadWord (block_of m.rows x)) ≡ 3 =
+                      (rule.each (block_of m.rows x) found.0 found.2).0.word ∙ ap status_word gone.status in
                       absurd (omega (arith, one, word))
                   | inr past ↦ absurd (omega (arith, past.0, rule.threads, within))
                 ]
-            | ByExit b found scanned ↦ absurd (false≢true (sym (ap (scans x) (gone_at p n m (block_of m.rows x) b rule done found).agenda) ∙ scanned))
+            | ByExit b found scanned ↦
+                absurd (false≢true (sym (ap (scans x) (gone_at p n m (block_of m.rows x) b rule done found).agenda)
+                ∙ scanned))
             | ByLook some ↦ absurd (omega (arith, some, no_weights p n m (looks x) rule done))
           ]
     ]
 
 -- a live row has a reference
-live_referenced : (p : Module) (n : ℕ) (m : Machine) (x : ℕ) → Rule p n m → AllGone m → block_of m.rows x < n → IsLive (block_of m.rows x) (numbers_of m x) → 0 < references_to x m.plain.references
+live_referenced : (p : Module) (n : ℕ) (m : Machine) (x : ℕ) → Rule p n m → AllGone m → block_of m.rows x < n
+    → IsLive (block_of m.rows x) (numbers_of m x) → 0 < references_to x m.plain.references
 live_referenced p n m x rule done within live =
     let mark = no_mark p n m x rule done within in
     let waiting = no_weights p n m (waits x) rule done in
@@ -137,18 +149,22 @@ none_dying p n m x t rule done dying =
     ]
 
 -- what was born and has no reference is closed
-born_closed : (p : Module) (n : ℕ) (m : Machine) (x : ℕ) (l : Life) → Rule p n m → AllGone m → 0 < x → references_to x m.plain.references ≡ 0 → (m.life x ≢ Unborn) → m.life x ≡ l → m.life x ≡ Closed
+born_closed : (p : Module) (n : ℕ) (m : Machine) (x : ℕ) (l : Life) → Rule p n m → AllGone m → 0 < x
+    → references_to x m.plain.references ≡ 0 → (m.life x ≢ Unborn) → m.life x ≡ l → m.life x ≡ Closed
 born_closed p n m x Unborn rule done pos none born is = absurd (born is)
 born_closed p n m x Live rule done pos none born is =
-    let live : IsLive (block_of m.rows x) (numbers_of m x) = subst (λ (l : Life). RowRule (block_of m.rows x) l (numbers_of m x)) is (rule.rows x pos) in
+    let live : IsLive (block_of m.rows x) (numbers_of m x) =
+    subst (λ (l : Life). RowRule (block_of m.rows x) l (numbers_of m x)) is (rule.rows x pos) in
     let used = born_used p n m x rule born in
-    let within : block_of m.rows x < n = omega (arith, slice_get_within m.actors (block_of m.rows x) used.by used.found, rule.threads) in
+    let within : block_of m.rows x < n =
+    omega (arith, slice_get_within m.actors (block_of m.rows x) used.by used.found, rule.threads) in
     absurd (omega (arith, live_referenced p n m x rule done within live, none))
 born_closed p n m x (Dying t) rule done pos none born is = absurd (none_dying p n m x t rule done is)
 born_closed p n m x Closed rule done pos none born is = is
 
 -- what is closed was born, and is counted
-pub closed_born : (p : Module) (n : ℕ) (m : Machine) (x : ℕ) → Rule p n m → m.life x ≡ Closed → (0 < x) × (m.life x ≢ Unborn)
+pub closed_born : (p : Module) (n : ℕ) (m : Machine) (x : ℕ) → Rule p n m → m.life x ≡ Closed
+    → (0 < x) × (m.life x ≢ Unborn)
 closed_born p n m zero rule closed = absurd (let wrong : Live ≡ Closed = sym rule.none_lives ∙ closed in cc)
 closed_born p n m (suc x) rule closed = (omega arith, λ e. let wrong : Closed ≡ Unborn = sym closed ∙ e in cc)
 
@@ -171,16 +187,19 @@ safe_now p n m whole some = record {
   );
   none_left = λ done. none_left p n m whole.rule done;
   left_in_lists = λ done.
-      subst (All (IsHeldByOpenList m.plain)) (sym (none_left p n m whole.rule done)) (λ i d within. absurd (omega (arith, within)));
+      subst (All (IsHeldByOpenList m.plain)) (sym (none_left p n m whole.rule done))
+      (λ i d within. absurd (omega (arith, within)));
 }
 
-first_settled : (calls : List Call) (t : ℕ) (a : Actor) → slice_get (main_actor ∷ map worker_actor calls) t ≡ Some a → IsSettled a.head a.agenda
+first_settled : (calls : List Call) (t : ℕ) (a : Actor) → slice_get (main_actor ∷ map worker_actor calls) t ≡ Some a
+    → IsSettled a.head a.agenda
 first_settled calls zero a is = subst (λ (b : Actor). IsSettled b.head b.agenda) (some_is main_actor a is) tt
 first_settled calls (suc t) a is =
     let call = slice_get-map worker_actor calls t a is in
     subst (λ (b : Actor). IsSettled b.head b.agenda) call.is_image tt
 
-pub first_whole : (m : Module) (rows : ℕ) (calls : List Call) → IsModule m → IsAcceptable m → AreCalls m calls → 0 < rows → rows ≤ 1024 → Whole m (1 + length calls) (first_machine m rows calls)
+pub first_whole : (m : Module) (rows : ℕ) (calls : List Call) → IsModule m → IsAcceptable m → AreCalls m calls
+    → 0 < rows → rows ≤ 1024 → Whole m (1 + length calls) (first_machine m rows calls)
 first_whole m rows calls fits accepted are_calls some few = record {
   rule = first_rule m rows calls fits accepted are_calls some few;
   settled = first_settled calls;
@@ -188,4 +207,6 @@ first_whole m rows calls fits accepted are_calls some few = record {
 
 pub accepted_is_safe : (m : Module) → IsModule m → IsAcceptable m → Safe m
 accepted_is_safe m fits accepted = λ rows calls events some most are_calls.
-    safe_now m (1 + length calls) _ (whole_after m (1 + length calls) (first_machine m rows calls) events (first_whole m rows calls fits accepted are_calls some most)) (omega arith)
+    safe_now m (1 + length calls) _
+    (whole_after m (1 + length calls) (first_machine m rows calls) events
+    (first_whole m rows calls fits accepted are_calls some most)) (omega arith)

@@ -79,7 +79,8 @@ settles_behind (Scan x k ∷ l) rest inner settles = absurd inner.0
 settles_behind (Finish ∷ l) rest inner settles = absurd inner.0
 settles_behind (_ ∷ l) rest inner settles = settles_behind l rest inner.1 settles
 
-settled_inner : (head : ℕ) (d : Duty) (rest : List Duty) → IsInner d → Settles (d ∷ rest) → IsSettled head (ready head (d ∷ rest))
+settled_inner : (head : ℕ) (d : Duty) (rest : List Duty) → IsInner d → Settles (d ∷ rest)
+    → IsSettled head (ready head (d ∷ rest))
 settled_inner head Settle rest inner settles = absurd inner
 settled_inner head (Leave x k) rest inner settles = absurd inner
 settled_inner head (Scan x k) rest inner settles = absurd inner
@@ -88,21 +89,27 @@ settled_inner zero _ rest inner settles = settles
 settled_inner (suc head) _ rest inner settles = settles
 
 -- with an empty chain any exit may come first
-settled_zero : (rows t used : ℕ) (status : Status) (place : Place) (rest : List Duty) → Later rows t used status place rest → NoneHanded rest → IsSettled 0 (ready 0 rest)
+settled_zero : (rows t used : ℕ) (status : Status) (place : Place) (rest : List Duty)
+    → Later rows t used status place rest → NoneHanded rest → IsSettled 0 (ready 0 rest)
 settled_zero rows t used status place [] later none = tt
 settled_zero rows t used status place (Settle ∷ rest) later none = settled_zero rows t used status place rest later none
 settled_zero rows t used status place (SharedLoad x Handed ∷ rest) later none = absurd none
 settled_zero rows t used status place (Leave x k ∷ []) later none = refl
-settled_zero rows t used status place (Scan x zero ∷ rest) later none = settled_zero rows t used status place rest later.3 none
+settled_zero rows t used status place (Scan x zero ∷ rest) later none =
+    settled_zero rows t used status place rest later.3 none
 settled_zero rows t used status place (Scan x (suc k) ∷ rest) later none = refl
 settled_zero rows t used status place (Finish ∷ []) later none = refl
 settled_zero rows t used status place _ later none = absurd later
 
-settled_empty : (rows t used head : ℕ) (status : Status) (place : Place) (rest : List Duty) → head ≡ 0 → Later rows t used status place rest → NoneHanded rest → IsSettled head (ready head rest)
-settled_empty rows t used head status place rest is later none = subst (λ (h : ℕ). IsSettled h (ready h rest)) (sym is) (settled_zero rows t used status place rest later none)
+settled_empty : (rows t used head : ℕ) (status : Status) (place : Place) (rest : List Duty) → head ≡ 0
+    → Later rows t used status place rest → NoneHanded rest → IsSettled head (ready head rest)
+settled_empty rows t used head status place rest is later none =
+    subst (λ (h : ℕ). IsSettled h (ready h rest)) (sym is) (settled_zero rows t used status place rest later none)
 
-settled_later : (rows t used head : ℕ) (status : Status) (place : Place) (rest : List Duty) → Later rows t used status place rest → NoneHanded rest → Settles rest → IsSettled head (ready head rest)
-settled_later rows t used zero status place rest later none settles = settled_zero rows t used status place rest later none
+settled_later : (rows t used head : ℕ) (status : Status) (place : Place) (rest : List Duty)
+    → Later rows t used status place rest → NoneHanded rest → Settles rest → IsSettled head (ready head rest)
+settled_later rows t used zero status place rest later none settles =
+    settled_zero rows t used status place rest later none
 settled_later rows t used (suc head) status place [] later none settles = tt
 settled_later rows t used (suc head) status place (Settle ∷ rest) later none settles = tt
 settled_later rows t used (suc head) status place (SharedLoad x Handed ∷ rest) later none settles = absurd none
@@ -140,25 +147,42 @@ release_inner : (found : ℕ) → AreInner (release_found found)
 release_inner zero = tt
 release_inner (suc y) = (tt, tt)
 
-next_inner : (t : ℕ) (running : Bool) (head : ℕ) (d : Duty) (found : ℕ) → IsPlain d → AreInner (next_by t running head d found)
+next_inner : (t : ℕ) (running : Bool) (head : ℕ) (d : Duty) (found : ℕ) → IsPlain d
+    → AreInner (next_by t running head d found)
 next_inner t running head (RetainLoad x h) found plain =
-    either_inner (is_immortal_word found) [] _ tt (either_inner (counts_locally t running found && nat_lt (local_part found) 4294967294) (RetainStore x h found ∷ []) (RetainAdd x h ∷ []) (tt, tt) (tt, tt))
-next_inner t running head (ReleaseLoad x h) found plain = either_inner (is_immortal_word found) [] _ tt (either_inner (counts_locally t running found) (ReleaseStore x found ∷ []) (SharedLoad x Own ∷ []) (tt, tt) (tt, tt))
-next_inner t running head (ReleaseStore x w) found plain = either_inner (local_part w == 1) (DecideAtZero x ∷ []) [] (tt, tt) tt
-next_inner t running head (DecideAtZero x) found plain = either_inner (found == fresh_word) (Die x ∷ []) (MergeSwap x Own ∷ []) (tt, tt) (tt, tt)
+    either_inner (is_immortal_word found) [] _ tt
+    (either_inner (counts_locally t running found && nat_lt (local_part found) 4294967294)
+    (RetainStore x h found ∷ []) (RetainAdd x h ∷ []) (tt, tt) (tt, tt))
+next_inner t running head (ReleaseLoad x h) found plain =
+    either_inner (is_immortal_word found) [] _ tt
+    (either_inner (counts_locally t running found) (ReleaseStore x found ∷ []) (SharedLoad x Own ∷ []) (tt, tt)
+    (tt, tt))
+next_inner t running head (ReleaseStore x w) found plain =
+    either_inner (local_part w == 1) (DecideAtZero x ∷ []) [] (tt, tt) tt
+next_inner t running head (DecideAtZero x) found plain =
+    either_inner (found == fresh_word) (Die x ∷ []) (MergeSwap x Own ∷ []) (tt, tt) (tt, tt)
 next_inner t running head (SharedLoad x r) found plain = (tt, tt)
 next_inner t running head (SharedExchange x r w) found plain =
-    either_inner (found == w) (shared_result x w) (SharedLoad x r ∷ []) (either_inner (w == fresh_word) (SetMark x ∷ []) _ (tt, tt) (either_inner (released_word w == dead_word) (Die x ∷ []) [] (tt, tt) tt)) (tt, tt)
+    either_inner (found == w) (shared_result x w) (SharedLoad x r ∷ [])
+    (either_inner (w == fresh_word) (SetMark x ∷ []) _ (tt, tt)
+    (either_inner (released_word w == dead_word) (Die x ∷ []) [] (tt, tt) tt)) (tt, tt)
 next_inner t running head (SetMark x) found plain = (tt, tt)
 next_inner t running head (Look x) found plain = either_inner (found == 1) [] (TakeMark x ∷ []) tt (tt, tt)
-next_inner t running head (TakeMark x) found plain = either_inner (found == 1) (MergeSwap x Handed ∷ SharedLoad x Handed ∷ []) [] (tt, (tt, tt)) tt
-next_inner t running head (MergeSwap x r) found plain = either_inner (found == 0) [] (MergeLoad x (local_part found) ∷ []) tt (tt, tt)
+next_inner t running head (TakeMark x) found plain =
+    either_inner (found == 1) (MergeSwap x Handed ∷ SharedLoad x Handed ∷ []) [] (tt, (tt, tt)) tt
+next_inner t running head (MergeSwap x r) found plain =
+    either_inner (found == 0) [] (MergeLoad x (local_part found) ∷ []) tt (tt, tt)
 next_inner t running head (MergeLoad x c) found plain = (tt, tt)
-next_inner t running head (MergeExchange x c w) found plain = either_inner (found == w) _ (MergeLoad x c ∷ []) (either_inner (merged_word w c == dead_word) (Die x ∷ []) [] (tt, tt) tt) (tt, tt)
+next_inner t running head (MergeExchange x c w) found plain =
+    either_inner (found == w) _ (MergeLoad x c ∷ [])
+    (either_inner (merged_word w c == dead_word) (Die x ∷ []) [] (tt, tt) tt) (tt, tt)
 next_inner t running head (SettleKind x) found plain =
-    either_inner (has_resource found) (TakeSlot x ∷ []) (cells_from x 0 (cells_of found)) (tt, tt) (either_inner (nat_lt 0 (cells_of found)) (SettleCell x 0 (cells_of found) ∷ []) (SettleEnd x ∷ []) (tt, tt) (tt, tt))
+    either_inner (has_resource found) (TakeSlot x ∷ []) (cells_from x 0 (cells_of found)) (tt, tt)
+    (either_inner (nat_lt 0 (cells_of found)) (SettleCell x 0 (cells_of found) ∷ []) (SettleEnd x ∷ []) (tt, tt)
+    (tt, tt))
 next_inner t running head (SettleCell x i n) found plain =
-    append_inner (release_found found) (cells_from x (i + 1) n) (release_inner found) (either_inner (nat_lt (i + 1) n) (SettleCell x (i + 1) n ∷ []) (SettleEnd x ∷ []) (tt, tt) (tt, tt))
+    append_inner (release_found found) (cells_from x (i + 1) n) (release_inner found)
+    (either_inner (nat_lt (i + 1) n) (SettleCell x (i + 1) n ∷ []) (SettleEnd x ∷ []) (tt, tt) (tt, tt))
 next_inner t running head Settle found plain = absurd plain
 next_inner t running head (Leave x k) found plain = absurd plain
 next_inner t running head (Scan x k) found plain = absurd plain
@@ -166,7 +190,8 @@ next_inner t running head Finish found plain = absurd plain
 next_inner t running head (ClaimMark x) found plain = absurd plain
 next_inner t running head (TakeSlot x) found plain = (tt, tt)
 next_inner t running head (CloseResource x) found plain = (tt, tt)
-next_inner t running head (BirthKind x h w) found plain = either_inner (has_resource w) (BirthSlot x h ∷ []) (BirthLocal x h ∷ []) (tt, tt) (tt, tt)
+next_inner t running head (BirthKind x h w) found plain =
+    either_inner (has_resource w) (BirthSlot x h ∷ []) (BirthLocal x h ∷ []) (tt, tt) (tt, tt)
 next_inner t running head (BirthSlot x h) found plain = (tt, tt)
 next_inner t running head _ found plain = tt
 
@@ -184,47 +209,66 @@ plain_settles head (Scan x k) rest plain settled = absurd plain
 plain_settles head Finish rest plain settled = absurd plain
 plain_settles head _ rest plain settled = settled
 
-plain_later : (rows t used : ℕ) (status : Status) (place : Place) (d : Duty) (rest : List Duty) → IsPlain d → Agenda rows t used status place (d ∷ rest) → Later rows t used status place rest
+plain_later : (rows t used : ℕ) (status : Status) (place : Place) (d : Duty) (rest : List Duty) → IsPlain d
+    → Agenda rows t used status place (d ∷ rest) → Later rows t used status place rest
 plain_later rows t used status place Settle rest plain fits = absurd plain
 plain_later rows t used status place (Leave x k) rest plain fits = absurd plain
 plain_later rows t used status place (Scan x k) rest plain fits = absurd plain
 plain_later rows t used status place Finish rest plain fits = absurd plain
 plain_later rows t used status place _ rest plain fits = fits
 
-settled_next : (rows t used head : ℕ) (status : Status) (place : Place) (next rest : List Duty) → AreInner next → Later rows t used status place rest → NoneHanded rest ⊎ HandedFirst rest → Settles rest
+settled_next : (rows t used head : ℕ) (status : Status) (place : Place) (next rest : List Duty) → AreInner next
+    → Later rows t used status place rest → NoneHanded rest ⊎ HandedFirst rest → Settles rest
     → IsSettled head (ready head (next ++ rest))
-settled_next rows t used head status place [] rest inner later (inl none) settles = settled_later rows t used head status place rest later none settles
-settled_next rows t used head status place [] rest inner later (inr first) settles = settled_handed head rest first settles
-settled_next rows t used head status place (d ∷ next) rest inner later handed settles = settled_inner head d (next ++ rest) inner.0 (settles_behind (d ∷ next) rest inner settles)
+settled_next rows t used head status place [] rest inner later (inl none) settles =
+    settled_later rows t used head status place rest later none settles
+settled_next rows t used head status place [] rest inner later (inr first) settles =
+    settled_handed head rest first settles
+settled_next rows t used head status place (d ∷ next) rest inner later handed settles =
+    settled_inner head d (next ++ rest) inner.0 (settles_behind (d ∷ next) rest inner settles)
 
-settled_claim : (rows t used head : ℕ) (status : Status) (place : Place) (b : Bool) (x : ℕ) (behind rest : List Duty) → Later rows t used status place (behind ++ rest) → NoneHanded (behind ++ rest)
-    → IsSettled head (ready head ((cond b (MergeSwap x Handed ∷ SharedLoad x Handed ∷ []) [] ++ (Settle ∷ behind)) ++ rest))
-settled_claim rows t used head status place true x behind rest later none = settled_inner head (MergeSwap x Handed) (SharedLoad x Handed ∷ Settle ∷ (behind ++ rest)) tt tt
-settled_claim rows t used head status place false x behind rest later none = settled_later rows t used head status place (Settle ∷ (behind ++ rest)) later none tt
+settled_claim : (rows t used head : ℕ) (status : Status) (place : Place) (b : Bool) (x : ℕ) (behind rest : List Duty)
+    → Later rows t used status place (behind ++ rest) → NoneHanded (behind ++ rest)
+    → IsSettled head (ready head ((cond b (MergeSwap x Handed ∷ SharedLoad x Handed ∷ []) [] ++ (Settle ∷ behind))
+    ++ rest))
+settled_claim rows t used head status place true x behind rest later none =
+    settled_inner head (MergeSwap x Handed) (SharedLoad x Handed ∷ Settle ∷ (behind ++ rest)) tt tt
+settled_claim rows t used head status place false x behind rest later none =
+    settled_later rows t used head status place (Settle ∷ (behind ++ rest)) later none tt
 
 -- ---- after a step
 
-settled_plain : (p : Module) (n : ℕ) (m : Machine) (t : ℕ) (a : Actor) (d : Duty) (rest : List Duty) → AtDuty p n m t a d rest → (a.status ≡ Gone → ⊥) → IsPlain d → IsSettled a.head (d ∷ rest)
+settled_plain : (p : Module) (n : ℕ) (m : Machine) (t : ℕ) (a : Actor) (d : Duty) (rest : List Duty)
+    → AtDuty p n m t a d rest → (a.status ≡ Gone → ⊥) → IsPlain d → IsSettled a.head (d ∷ rest)
     → IsSettled (head_by a.head d (found_by m t a d)) (actor_by t a d rest (found_by m t a d)).agenda
 settled_plain p n m t a d rest here alive plain settled =
-    settled_next m.rows t a.used (head_by a.head d (found_by m t a d)) a.status a.place (next_of m t a d) rest (next_inner t (is_running a.status) a.head d (found_by m t a d) plain)
+    settled_next m.rows t a.used (head_by a.head d (found_by m t a d)) a.status a.place (next_of m t a d) rest
+    (next_inner t (is_running a.status) a.head d (found_by m t a d) plain)
     (plain_later m.rows t a.used a.status a.place d rest plain (agenda_here p n m t a d rest here alive))
-    (handed_or d rest (handed_here p n m t a d rest here) (plain_inner d plain)) (plain_settles a.head d rest plain settled)
+    (handed_or d rest (handed_here p n m t a d rest here) (plain_inner d plain))
+    (plain_settles a.head d rest plain settled)
 
 -- a thread's step keeps it so
-pub settled_after : (p : Module) (n : ℕ) (m : Machine) (t : ℕ) (a : Actor) (d : Duty) (rest : List Duty) → AtDuty p n m t a d rest → (a.status ≡ Gone → ⊥) → IsSettled a.head (d ∷ rest)
+pub settled_after : (p : Module) (n : ℕ) (m : Machine) (t : ℕ) (a : Actor) (d : Duty) (rest : List Duty)
+    → AtDuty p n m t a d rest → (a.status ≡ Gone → ⊥) → IsSettled a.head (d ∷ rest)
     → IsSettled (head_by a.head d (found_by m t a d)) (actor_by t a d rest (found_by m t a d)).agenda
 settled_after p n m t a Settle rest here alive settled = settled_inner _ (SettleKind (a.head - 1)) (Settle ∷ rest) tt tt
 settled_after p n m t a (Leave x k) [] here alive settled =
     let fits = agenda_here p n m t a (Leave x k) [] here alive in
-    settled_empty m.rows t a.used a.head Leaving a.place (Scan x k ∷ Finish ∷ []) settled (refl, omega (arith, fits.2), omega (arith, fits.2, fits.3), (refl, fits.1)) tt
-settled_after p n m t a (Leave x k) (e ∷ rest) here alive settled = absurd (agenda_here p n m t a (Leave x k) (e ∷ rest) here alive)
+    settled_empty m.rows t a.used a.head Leaving a.place (Scan x k ∷ Finish ∷ []) settled
+    (refl, omega (arith, fits.2), omega (arith, fits.2, fits.3), (refl, fits.1)) tt
+settled_after p n m t a (Leave x k) (e ∷ rest) here alive settled =
+    absurd (agenda_here p n m t a (Leave x k) (e ∷ rest) here alive)
 settled_after p n m t a (Scan x k) rest here alive settled =
     let some = head_of p n m t a (Scan x k) rest here in
     let fits = agenda_here p n m t a (Scan x k) rest here alive in
-    settled_claim m.rows t a.used a.head a.status a.place (m.memory (Mark x) == 1) x (Scan (x + 1) (k - 1) ∷ []) rest (fits.0, omega (arith, fits.1), omega (arith, fits.2, some), fits.3) (handed_here p n m t a (Scan x k) rest here)
+    settled_claim m.rows t a.used a.head a.status a.place (m.memory (Mark x) == 1) x (Scan (x + 1) (k - 1) ∷ []) rest
+    (fits.0, omega (arith, fits.1), omega (arith, fits.2, some), fits.3)
+    (handed_here p n m t a (Scan x k) rest here)
 settled_after p n m t a Finish [] here alive settled = subst (IsSettled a.head) (sym (ready_none a.head)) tt
-settled_after p n m t a Finish (e ∷ rest) here alive settled = absurd (agenda_here p n m t a Finish (e ∷ rest) here alive)
+settled_after p n m t a Finish (e ∷ rest) here alive settled =
+    absurd (agenda_here p n m t a Finish (e ∷ rest) here alive)
 settled_after p n m t a (ClaimMark x) rest here alive settled =
-    settled_claim m.rows t a.used a.head a.status a.place (m.memory (Mark x) == 1) x [] rest (agenda_here p n m t a (ClaimMark x) rest here alive) (handed_here p n m t a (ClaimMark x) rest here)
+    settled_claim m.rows t a.used a.head a.status a.place (m.memory (Mark x) == 1) x [] rest
+    (agenda_here p n m t a (ClaimMark x) rest here alive) (handed_here p n m t a (ClaimMark x) rest here)
 settled_after p n m t a d rest here alive settled = settled_plain p n m t a d rest here alive tt settled

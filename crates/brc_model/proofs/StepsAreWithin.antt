@@ -31,7 +31,8 @@ use Rattle.std.proofs.Math.Nat.{mul-le-mul_right}
 
 -- ---- the word is there
 
-duty_there : (p : Module) (n : ℕ) (m : Machine) (t : ℕ) (a : Actor) (d : Duty) (rest : List Duty) → Whole p n m → AtDuty p n m t a d rest → (a.status ≡ Gone → ⊥) → IsSmall (limit n m) d
+duty_there : (p : Module) (n : ℕ) (m : Machine) (t : ℕ) (a : Actor) (d : Duty) (rest : List Duty) → Whole p n m
+    → AtDuty p n m t a d rest → (a.status ≡ Gone → ⊥) → IsSmall (limit n m) d
     → IsThere (limit n m) (length m.actors) (address_of m.rows t a.head d)
 duty_there p n m t a (RetainLoad x h) rest whole here alive small = small
 duty_there p n m t a (RetainStore x h w) rest whole here alive small = small
@@ -62,7 +63,8 @@ duty_there p n m t a (Leave x c) rest whole here alive small = slice_get_within 
 duty_there p n m t a (Scan x c) rest whole here alive small =
     let fits = agenda_here p n m t a (Scan x c) rest here alive in
     let some = head_of p n m t a (Scan x c) rest here in
-    used_low p n m t a x here.rule here.found (omega (arith, slice_get_within m.actors t a here.found, here.rule.threads)) (omega (arith, fits.2, some))
+    used_low p n m t a x here.rule here.found
+    (omega (arith, slice_get_within m.actors t a here.found, here.rule.threads)) (omega (arith, fits.2, some))
 duty_there p n m t a Finish rest whole here alive small = slice_get_within m.actors t a here.found
 duty_there p n m t a (ClaimMark x) rest whole here alive small = small
 duty_there p n m t a (BirthKind x h w) rest whole here alive small = small.0
@@ -71,83 +73,115 @@ duty_there p n m t a (BirthLocal x h) rest whole here alive small = small
 
 -- ---- the thread has no more rows than there are
 
-used_within : (p : Module) (n : ℕ) (m : Machine) (t : ℕ) (a : Actor) (used : ℕ) → Rule p n m → slice_get m.actors t ≡ Some a → (0 < t → used ≤ m.rows) → (t ≡ 0 → used ≡ 2) → used ≤ limit n m
+used_within : (p : Module) (n : ℕ) (m : Machine) (t : ℕ) (a : Actor) (used : ℕ) → Rule p n m
+    → slice_get m.actors t ≡ Some a → (0 < t → used ≤ m.rows) → (t ≡ 0 → used ≡ 2) → used ≤ limit n m
 used_within p n m zero a used rule found few main = omega (arith, main refl)
 used_within p n m (suc t) a used rule found few main =
     let within : suc t < n = omega (arith, slice_get_within m.actors (suc t) a found, rule.threads) in
     let more : 1 * m.rows ≤ (n - 1) * m.rows = mul-le-mul_right m.rows (omega (arith, within)) in
     omega (arith, few (omega arith), more)
 
-duty_used : (p : Module) (n : ℕ) (m : Machine) (t : ℕ) (a : Actor) (d : Duty) (rest : List Duty) → AtDuty p n m t a d rest → used_by a.used d ≤ limit n m
-duty_used p n m t a d rest here = let after = own_uses p n m t a d rest here in used_within p n m t a (used_by a.used d) here.rule here.found after.few after.main
+duty_used : (p : Module) (n : ℕ) (m : Machine) (t : ℕ) (a : Actor) (d : Duty) (rest : List Duty)
+    → AtDuty p n m t a d rest → used_by a.used d ≤ limit n m
+duty_used p n m t a d rest here =
+    let after = own_uses p n m t a d rest here in
+    used_within p n m t a (used_by a.used d) here.rule here.found after.few after.main
 
 -- ---- a duty
 
-duty_within : (p : Module) (n : ℕ) (m : Machine) (t : ℕ) (a : Actor) (d : Duty) (rest : List Duty) → Whole p n m → slice_get m.actors t ≡ Some a → a.agenda ≡ d ∷ rest → (a.status ≡ Gone → ⊥) → IsSmall (limit n m) d → n ≤ 33
+duty_within : (p : Module) (n : ℕ) (m : Machine) (t : ℕ) (a : Actor) (d : Duty) (rest : List Duty) → Whole p n m
+    → slice_get m.actors t ≡ Some a → a.agenda ≡ d ∷ rest → (a.status ≡ Gone → ⊥) → IsSmall (limit n m) d → n ≤ 33
     → IsWithin (world_of m) t a d
 duty_within p n m t a d rest whole found is alive small few =
     let here : AtDuty p n m t a d rest = record { rule = whole.rule; found = found; agenda = is } in
     record {
-      there = subst (λ (l : ℕ). IsThere (2 + (l - 1) * m.rows) (length m.actors) (address_of m.rows t a.head d)) (sym whole.rule.threads) (duty_there p n m t a d rest whole here alive small);
-      head = subst (λ (l : ℕ). a.head ≤ 2 + (l - 1) * m.rows) (sym whole.rule.threads) (head_small p n m t a whole.rule found);
-      used = subst (λ (l : ℕ). used_by a.used d ≤ 2 + (l - 1) * m.rows) (sym whole.rule.threads) (duty_used p n m t a d rest here);
+      there =
+          subst (λ (l : ℕ). IsThere (2 + (l - 1) * m.rows) (length m.actors) (address_of m.rows t a.head d))
+          (sym whole.rule.threads) (duty_there p n m t a d rest whole here alive small);
+      head =
+          subst (λ (l : ℕ). a.head ≤ 2 + (l - 1) * m.rows) (sym whole.rule.threads)
+          (head_small p n m t a whole.rule found);
+      used =
+          subst (λ (l : ℕ). used_by a.used d ≤ 2 + (l - 1) * m.rows) (sym whole.rule.threads)
+          (duty_used p n m t a d rest here);
       suits = duty_suits p n m t a d rest (row_count (world_of m)) here alive few;
     }
 
 -- what is taken up, by the thread that already has it
-taken_within : (p : Module) (n : ℕ) (m : Machine) (t : ℕ) (a : Actor) (d : Duty) (rest : List Duty) (place : Place) → Whole p n m → AtRest p n m t a → n ≤ 33
-    → Taken (code_of (slice_get p.functions a.function)) m.plain.references m.rows t a.used place d rest → IsWithin (world_of m) t a d
+taken_within : (p : Module) (n : ℕ) (m : Machine) (t : ℕ) (a : Actor) (d : Duty) (rest : List Duty) (place : Place)
+    → Whole p n m → AtRest p n m t a → n ≤ 33
+    → Taken (code_of (slice_get p.functions a.function)) m.plain.references m.rows t a.used place d rest
+    → IsWithin (world_of m) t a d
 taken_within p n m t a d rest place whole at few taken =
     let now = sitting a place (d ∷ rest) in
     let settled = starts_settled m.plain.references m.rows t a.used a.head place d rest taken.starts taken.follows in
-    let middle : Whole p n (with_actor m t now) = whole_sits p n m t a place (d ∷ rest) whole at (taken_sits p n m t a place d rest at taken) settled in
+    let middle : Whole p n (with_actor m t now) =
+    whole_sits p n m t a place (d ∷ rest) whole at (taken_sits p n m t a place d rest at taken) settled in
     let alive : a.status ≡ Gone → ⊥ = λ e. (let wrong : Running ≡ Gone = sym at.running ∙ e in absurd cc) in
     let within : IsWithin (world_of (with_actor m t now)) t now d =
-    duty_within p n (with_actor m t now) t now d rest middle (slice_get-set_same m.actors t now (slice_get_within m.actors t a at.found)) refl alive (starts_small p n m t a d rest at.rule at.found taken.starts) few in
+    duty_within p n (with_actor m t now) t now d rest middle
+    (slice_get-set_same m.actors t now (slice_get_within m.actors t a at.found)) refl alive
+    (starts_small p n m t a d rest at.rule at.found taken.starts) few in
     let long = length-set m.actors t now in
     record {
       there = subst (λ (l : ℕ). IsThere (2 + (l - 1) * m.rows) l (address_of m.rows t a.head d)) long within.there;
       head = subst (λ (l : ℕ). a.head ≤ 2 + (l - 1) * m.rows) long within.head;
       used = subst (λ (l : ℕ). used_by a.used d ≤ 2 + (l - 1) * m.rows) long within.used;
-      suits = subst (λ (l : ℕ). Suits t (is_running a.status) (2 + (l - 1) * m.rows) d (m.memory (address_of m.rows t a.head d))) long within.suits;
+      suits =
+          subst (λ (l : ℕ). Suits t (is_running a.status) (2 + (l - 1) * m.rows) d
+          (m.memory (address_of m.rows t a.head d))) long within.suits;
     }
 
-begun_within : (p : Module) (n : ℕ) (m : Machine) (t : ℕ) (a : Actor) (d : Duty) (rest : List Duty) (place : Place) → Whole p n m → slice_get m.actors t ≡ Some a → n ≤ 33
+begun_within : (p : Module) (n : ℕ) (m : Machine) (t : ℕ) (a : Actor) (d : Duty) (rest : List Duty) (place : Place)
+    → Whole p n m → slice_get m.actors t ≡ Some a → n ≤ 33
     → (a.status ≡ Gone → ⊥) → a.agenda ≡ [] → begun_by m t a ≡ Work (d ∷ rest) place → IsWithin (world_of m) t a d
 begun_within p n m t a d rest place whole found few alive is work =
     let at_rest = rests p n m t a whole.rule found alive is in
     let at : AtRest p n m t a = record { rule = whole.rule; found = found; agenda = is; running = at_rest.1 } in
     taken_within p n m t a d rest place whole at few
-    (subst (λ (b : Begun). IsTaken (code_of (slice_get p.functions a.function)) m.plain.references m.rows t a.used b) work (begun_fits p n m t a at at_rest.0))
+    (subst (λ (b : Begun). IsTaken (code_of (slice_get p.functions a.function)) m.plain.references m.rows t a.used b)
+    work (begun_fits p n m t a at at_rest.0))
 
-claim_within : (p : Module) (n : ℕ) (m : Machine) (t : ℕ) (a : Actor) (row : ℕ) → Whole p n m → slice_get m.actors t ≡ Some a → row < limit n m → IsWithin (world_of m) t a (ClaimMark row)
+claim_within : (p : Module) (n : ℕ) (m : Machine) (t : ℕ) (a : Actor) (row : ℕ) → Whole p n m
+    → slice_get m.actors t ≡ Some a → row < limit n m → IsWithin (world_of m) t a (ClaimMark row)
 claim_within p n m t a row whole found small = record {
   there = subst (λ (l : ℕ). row < 2 + (l - 1) * m.rows) (sym whole.rule.threads) small;
-  head = subst (λ (l : ℕ). a.head ≤ 2 + (l - 1) * m.rows) (sym whole.rule.threads) (head_small p n m t a whole.rule found);
-  used = subst (λ (l : ℕ). a.used ≤ 2 + (l - 1) * m.rows) (sym whole.rule.threads) (let uses = whole.rule.uses t a found in used_within p n m t a a.used whole.rule found uses.few uses.main);
+  head =
+      subst (λ (l : ℕ). a.head ≤ 2 + (l - 1) * m.rows) (sym whole.rule.threads) (head_small p n m t a whole.rule found);
+  used =
+      subst (λ (l : ℕ). a.used ≤ 2 + (l - 1) * m.rows) (sym whole.rule.threads)
+      (let uses = whole.rule.uses t a found in used_within p n m t a a.used whole.rule found uses.few uses.main);
   suits = tt;
 }
 
-machine_within : (p : Module) (n : ℕ) (m : Machine) (t : ℕ) (a : Actor) → Bounded p n m → n ≤ 33 → slice_get m.actors t ≡ Some a → StepsWithin (world_of m) t a
+machine_within : (p : Module) (n : ℕ) (m : Machine) (t : ℕ) (a : Actor) → Bounded p n m → n ≤ 33
+    → slice_get m.actors t ≡ Some a → StepsWithin (world_of m) t a
 machine_within p n m t a bounded few found = record {
-  goes_on = λ d rest alive is. duty_within p n m t a d rest bounded.whole found is alive (subst (AreSmall (limit n m)) is (bounded.ranges.each t a found)).0 few;
+  goes_on =
+      λ d rest alive is. duty_within p n m t a d rest bounded.whole found is alive
+      (subst (AreSmall (limit n m)) is (bounded.ranges.each t a found)).0 few;
   takes_up = λ d rest place alive is work. begun_within p n m t a d rest place bounded.whole found few alive is work;
-  claims = λ row may. claim_within p n m t a row bounded.whole found (claim_small p n m t a row a.place bounded.whole found may);
+  claims =
+      λ row may. claim_within p n m t a row bounded.whole found
+      (claim_small p n m t a row a.place bounded.whole found may);
 }
 
 -- ---- the worlds that steps lead to
 
-reached_bounded : (p : Module) (w : World) (r : IsReachable p w) → Bounded p (1 + length r.calls) (machine_after (first_machine p r.rows r.calls) r.events)
+reached_bounded : (p : Module) (w : World) (r : IsReachable p w)
+    → Bounded p (1 + length r.calls) (machine_after (first_machine p r.rows r.calls) r.events)
 reached_bounded p w r = bounded_after p (1 + length r.calls) (first_machine p r.rows r.calls) r.events (record {
   whole = first_whole p r.rows r.calls r.fits r.accepted r.calls_fit r.some_rows r.most_rows;
   ranges = first_ranges p r.rows r.calls;
 })
 
-pub steps_within : (p : Module) (w : World) (t : ℕ) (a : Actor) → IsReachable p w → slice_get w.actors t ≡ Some a → StepsWithin w t a
+pub steps_within : (p : Module) (w : World) (t : ℕ) (a : Actor) → IsReachable p w → slice_get w.actors t ≡ Some a
+    → StepsWithin w t a
 steps_within p w t a r found =
     let m = machine_after (first_machine p r.rows r.calls) r.events in
     let there : slice_get m.actors t ≡ Some a = sym (ap (λ (v : World). slice_get v.actors t) r.reached) ∙ found in
-    subst (λ (v : World). StepsWithin v t a) (sym r.reached) (machine_within p (1 + length r.calls) m t a (reached_bounded p w r) (omega (arith, r.calls_fit.most)) there)
+    subst (λ (v : World). StepsWithin v t a) (sym r.reached)
+    (machine_within p (1 + length r.calls) m t a (reached_bounded p w r) (omega (arith, r.calls_fit.most)) there)
 
 -- ---- how large a world is
 
@@ -165,10 +199,12 @@ few_threads p w r = omega (arith, threads_are p w r, r.calls_fit.most)
 
 pub some_rows : (p : Module) (w : World) → IsReachable p w → 0 < w.rows
 some_rows p w r =
-    let same : w.rows ≡ (machine_after (first_machine p r.rows r.calls) r.events).rows = ap (λ (v : World). v.rows) r.reached in
+    let same : w.rows ≡ (machine_after (first_machine p r.rows r.calls) r.events).rows =
+    ap (λ (v : World). v.rows) r.reached in
     omega (arith, same, (reached_bounded p w r).whole.rule.some_rows)
 
 pub few_rows : (p : Module) (w : World) → IsReachable p w → w.rows ≤ 1024
 few_rows p w r =
-    let same : w.rows ≡ (machine_after (first_machine p r.rows r.calls) r.events).rows = ap (λ (v : World). v.rows) r.reached in
+    let same : w.rows ≡ (machine_after (first_machine p r.rows r.calls) r.events).rows =
+    ap (λ (v : World). v.rows) r.reached in
     omega (arith, same, (reached_bounded p w r).whole.rule.few_rows)

@@ -1,5 +1,5 @@
 -- In accepted code each instruction that a thread takes up is fit to be begun.
-use Rattle.std.proofs.Common.{◌≡◌, ◌≢◌, ℕ, zero, suc, ◌+◌, ◌<◌, true, false, List, [], ◌∷◌, ◌++◌, length, Option, None, Some, refl, sym, ap, ◌∙◌, subst, arith, ◌≤◌, Bool, cond, inl, inr}
+use Rattle.std.proofs.Common.{◌≡◌, ◌≢◌, ℕ, zero, suc, ◌+◌, ◌<◌, true, false, List, [], ◌∷◌, ◌++◌, length, Option, None, Some, refl, sym, ap, ◌∙◌, subst, arith, ◌≤◌, Bool, cond}
 use Rattle.std.specs.Prelude.{◌==◌, ◌&&◌, slice_get, slice_set}
 use Rattle.std.specs.List.{list_any}
 use Rattle.std.proofs.lemmas.List.{length-set}
@@ -14,32 +14,35 @@ use Rattle.brc_model.specs.Slots.{slot_of, is_empty, is_owned, kind_of, put, ent
 use Rattle.brc_model.specs.Walks.{IsAcceptableCode}
 use Rattle.brc_model.specs.declared.duty.Holding.{Holding}
 use Rattle.brc_model.specs.declared.duty.Holding.TheVariants.{ByVariable, AsCaller, InHand}
-use Rattle.brc_model.specs.Plain.{root_row, Reference, same_holding, references_to, none_row, same, without}
+use Rattle.brc_model.specs.Plain.{root_row, Reference, same_holding, references_to}
 use Rattle.brc_model.specs.Threads.{row_of, entry_variables}
 use Rattle.brc_model.specs.declared.duty.Duty.TheVariants.{RetainLoad, ReleaseLoad, Settle, BirthKind, Leave}
 use Rattle.brc_model.specs.Kinds.{kind_numbered, kind_of_word, is_counted_kind}
 use Rattle.brc_model.specs.declared.actor.Place.{Place}
 use Rattle.brc_model.specs.declared.actor.Place.TheVariants.{Standing, Inside, Departing}
-use Rattle.brc_model.specs.Machine.{Work, begun_instruction, begun, Begun, Quiet, first_row, has_room, next_row, block_size, number_word, gain, pass_on}
-use Rattle.brc_model.proofs.Bag.{held, one_if, held-le-references_to, held_has, held-without, held-cons}
+use Rattle.brc_model.specs.Machine.{Work, begun_instruction, begun, Begun, first_row, has_room, next_row, block_size, number_word}
+use Rattle.brc_model.proofs.Bag.{held, one_if, held-le-references_to}
 use Rattle.brc_model.proofs.Lists.{first_false}
 use Rattle.brc_model.proofs.Holds.{the_root, of_variables, reference_of, Holds, owned_has, caller_has, holds-ended, holds-entered}
-use Rattle.brc_model.proofs.Grounded.{IsGrounded, IsInside, AreInstructions, live_slot, owned_slot, owned_row, grounded-put, StandsAt, entry_inside, slot_of-put_same, slot_of-put_other}
+use Rattle.brc_model.proofs.Grounded.{IsGrounded, IsInside, AreInstructions, live_slot, owned_slot, owned_row, grounded-put, StandsAt, entry_inside}
 use Rattle.brc_model.proofs.Passing.{passes_on}
-use Rattle.brc_model.proofs.OwnCounts.{flip_eqb, same_is}
+use Rattle.brc_model.proofs.OwnCounts.{flip_eqb}
 use Rattle.brc_model.proofs.Rule.{HoldsAt, PlaceFits}
-use Rattle.brc_model.proofs.Begins.{holds_plain, holds_at_none, Gives, Takes, Nothing, Settles, Leaves, Taken, IsTaken, taken_with_row, standing_stays, inside_stays, newref_held, emptied_held, ended_says, Bears, Stays, GainsNone, HandsOn, QuietTaken, cleared_held}
+use Rattle.brc_model.proofs.Begins.{holds_plain, holds_at_none, Gives, Takes, Nothing, Settles, Leaves, Taken, IsTaken, taken_with_row, standing_stays, inside_stays, newref_held, emptied_held, ended_says, Bears, Stays, QuietTaken, cleared_held}
 use Rattle.brc_model.specs.Duties.{cells_of}
 use Rattle.brc_word.specs.Words.{kind_part, argument_part}
 use Rattle.std.proofs.lemmas.Bool.{ltb-true, ne_eqb}
-use Rattle.std.proofs.lemmas.Bool.Decides.{eqb_tells}
+use Rattle.brc_model.proofs.TakingQuiet.{none_taken, move_taken, goto_taken}
 
 -- by which of its references a thread holds what a variable names
-backed_slot : (bag : List Reference) (t : ℕ) (s : State) (rows : List (Option ℕ)) (v row : ℕ) (slot : Slot) → slot_of s v ≡ slot → row_of rows v ≡ Some row → is_empty slot ≡ false → IsGrounded slot (row_of rows v)
+backed_slot : (bag : List Reference) (t : ℕ) (s : State) (rows : List (Option ℕ)) (v row : ℕ) (slot : Slot)
+    → slot_of s v ≡ slot → row_of rows v ≡ Some row → is_empty slot ≡ false → IsGrounded slot (row_of rows v)
     → Holds bag t (of_variables s rows) → (by : Holding) × (0 < held (reference_of t by row) bag)
 backed_slot bag t s rows v row Empty is named some grounded holds = absurd cc
 backed_slot bag t s rows v row (Owned k) is named some grounded holds =
-    let one : held (reference_of t (ByVariable v) row) bag ≡ 1 = owned_has bag t s rows v row (ap is_owned is) named holds in (ByVariable v, omega (arith, one))
+    let one : held (reference_of t (ByVariable v) row) bag ≡ 1 =
+    owned_has bag t s rows v row (ap is_owned is) named holds in
+    (ByVariable v, omega (arith, one))
 backed_slot bag t s rows v row (Caller k) is named some grounded holds =
     let this : row ≡ root_row = (let e : Some row ≡ Some root_row = sym named ∙ grounded in cc) in
     let one : held (reference_of t AsCaller root_row) bag ≡ 1 = caller_has bag t s rows holds in
@@ -49,8 +52,10 @@ backed_slot bag t s rows v row (Locked k) is named some grounded holds = absurd 
 -- a number has no cells
 number_cells : (value : ℕ) → value < 4294967296 → cells_of (number_word value) ≤ 8
 number_cells value low =
-    let kind : (kind_part (number_word value) == 3) ≡ false = ne_eqb (kind_part (number_word value)) 3 (λ e. absurd (omega (arith, low, e))) in
-    let none : cells_of (number_word value) ≡ 0 = ap (λ (b : Bool). cond b (argument_part (number_word value)) 0) kind in
+    let kind : (kind_part (number_word value) == 3) ≡ false =
+    ne_eqb (kind_part (number_word value)) 3 (λ e. absurd (omega (arith, low, e))) in
+    let none : cells_of (number_word value) ≡ 0 =
+    ap (λ (b : Bool). cond b (argument_part (number_word value)) 0) kind in
     omega (arith, none)
 
 -- and is an object that is counted
@@ -59,22 +64,17 @@ number_counts value low =
     let number : kind_part (number_word value) ≡ 2 = omega (arith, low) in
     ap (λ (k : ℕ). is_counted_kind (kind_numbered k)) number
 
--- what lacked one reference has it
-gained_holds : (bag : List Reference) (t to row : ℕ) (says : Holding → ℕ → Bool)
-    → ((k : Holding) (object : ℕ) → held (reference_of t k object) bag + one_if (same_holding (ByVariable to) k && (row == object)) ≡ one_if (says k object) + 0)
-    → (k : Holding) (object : ℕ) → held (reference_of t k object) (reference_of t (ByVariable to) row ∷ bag) ≡ one_if (says k object)
-gained_holds bag t to row says lacks k object =
-    let r = reference_of t k object in
-    let one : one_if (same r (reference_of t (ByVariable to) row)) ≡ one_if (same_holding (ByVariable to) k && (row == object)) = ap one_if (same_is t row (ByVariable to) k object) in
-    omega (arith, lacks k object, held-cons r (reference_of t (ByVariable to) row) bag, one)
-
-newref_taken : (code : List Instr) (bag : List Reference) (rows t used left at : ℕ) (variables : List (Option ℕ)) (s : State) (to from : ℕ) → StandsAt code bag t at variables s (Newref to from)
+newref_taken : (code : List Instr) (bag : List Reference) (rows t used left at : ℕ) (variables : List (Option ℕ))
+    (s : State) (to from : ℕ)
+    → StandsAt code bag t at variables s (Newref to from)
     → IsTaken code bag rows t used (begun_instruction rows t used left at variables (Some (Newref to from)))
 newref_taken code bag rows t used left at variables s to from here =
     let some : is_empty (slot_of s from) ≡ false = first_false _ _ here.met.not_empty in
     let free : is_owned (slot_of s to) ≡ false = first_false _ _ here.met.free in
     let live = live_slot bag t s variables from (slot_of s from) refl some (here.inside.grounded from) here.holds in
-    let backed = backed_slot bag t s variables from live.object (slot_of s from) refl live.is_row some (here.inside.grounded from) here.holds in
+    let backed =
+    backed_slot bag t s variables from live.object (slot_of s from) refl live.is_row some
+    (here.inside.grounded from) here.holds in
     let in_slots : to < length s.slots = omega (arith, here.variables.0, here.inside.slots) in
     let in_rows : to < length variables = omega (arith, here.variables.0, here.inside.rows) in
     let slot = Owned (kind_of (slot_of s from)) in
@@ -83,24 +83,33 @@ newref_taken code bag rows t used left at variables s to from here =
       walked = here.leads Success (at + 1) refl;
       slots = length-set s.slots to slot ∙ here.inside.slots;
       rows = length-set variables to (Some live.object) ∙ here.inside.rows;
-      grounded = grounded-put s variables to slot (Some live.object) in_slots in_rows (live.object, refl) here.inside.grounded;
+      grounded =
+          grounded-put s variables to slot (Some live.object) in_slots in_rows (live.object, refl) here.inside.grounded;
     } in
-    let held_now : HoldsAt bag t (of_variables (put s to slot) (slice_set variables to (Some live.object))) (RetainLoad live.object (ByVariable to) ∷ []) =
+    let held_now : HoldsAt bag t (of_variables (put s to slot) (slice_set variables to (Some live.object)))
+    (RetainLoad live.object (ByVariable to) ∷ []) =
     record { each = newref_held bag t s variables to live.object slot in_slots in_rows free refl here.holds } in
-    let taken : Taken code bag rows t used (Inside left (at + 1) (slice_set variables to (Some live.object))) (RetainLoad live.object (ByVariable to)) [] = record {
+    let taken : Taken code bag rows t used (Inside left (at + 1) (slice_set variables to (Some live.object)))
+    (RetainLoad live.object (ByVariable to)) [] = record {
       placed = (put s to slot, next, held_now);
       starts = Takes live.object (ByVariable to) backed.0 [] backed.1;
       follows = Nothing (inside_stays left (at + 1) (slice_set variables to (Some live.object)));
     } in
-    taken_with_row code bag rows t used live.object (row_of variables from) (λ row. Work (RetainLoad row (ByVariable to) ∷ []) (Inside left (at + 1) (slice_set variables to (Some row)))) live.is_row taken
+    taken_with_row code bag rows t used live.object (row_of variables from)
+    (λ row. Work (RetainLoad row (ByVariable to) ∷ []) (Inside left (at + 1) (slice_set variables to (Some row))))
+    live.is_row taken
 
-given_referenced : (bag : List Reference) (t : ℕ) (s : State) (variables : List (Option ℕ)) (from row : ℕ) → is_owned (slot_of s from) ≡ true → row_of variables from ≡ Some row
+given_referenced : (bag : List Reference) (t : ℕ) (s : State) (variables : List (Option ℕ)) (from row : ℕ)
+    → is_owned (slot_of s from) ≡ true → row_of variables from ≡ Some row
     → Holds bag t (of_variables s variables) → 0 < references_to row bag
 given_referenced bag t s variables from row owned is holds =
-    let one : held (reference_of t (ByVariable from) row) bag ≡ 1 = owned_has bag t s variables from row owned is holds in
+    let one : held (reference_of t (ByVariable from) row) bag ≡ 1 =
+    owned_has bag t s variables from row owned is holds in
     omega (arith, one, held-le-references_to (reference_of t (ByVariable from) row) bag)
 
-drop_taken : (code : List Instr) (bag : List Reference) (rows t used left at : ℕ) (variables : List (Option ℕ)) (s : State) (from : ℕ) → StandsAt code bag t at variables s (Drop from)
+drop_taken : (code : List Instr) (bag : List Reference) (rows t used left at : ℕ) (variables : List (Option ℕ))
+    (s : State) (from : ℕ)
+    → StandsAt code bag t at variables s (Drop from)
     → IsTaken code bag rows t used (begun_instruction rows t used left at variables (Some (Drop from)))
 drop_taken code bag rows t used left at variables s from here =
     let owned = owned_slot (slot_of s from) (first_false _ _ here.met.not_empty) (first_false _ _ here.met.owned) in
@@ -114,16 +123,24 @@ drop_taken code bag rows t used left at variables s from here =
       rows = length-set variables from None ∙ here.inside.rows;
       grounded = grounded-put s variables from Empty None in_slots in_rows tt here.inside.grounded;
     } in
-    let held_now : HoldsAt bag t (of_variables (put s from Empty) (slice_set variables from None)) (ReleaseLoad row.0 (ByVariable from) ∷ Settle ∷ []) =
+    let held_now : HoldsAt bag t (of_variables (put s from Empty) (slice_set variables from None))
+    (ReleaseLoad row.0 (ByVariable from) ∷ Settle ∷ []) =
     record { each = emptied_held bag t s variables from row.0 in_slots owned row.1 here.holds } in
-    let taken : Taken code bag rows t used (Inside left (at + 1) (slice_set variables from None)) (ReleaseLoad row.0 (ByVariable from)) (Settle ∷ []) = record {
+    let taken : Taken code bag rows t used (Inside left (at + 1) (slice_set variables from None))
+    (ReleaseLoad row.0 (ByVariable from)) (Settle ∷ []) = record {
       placed = (put s from Empty, next, held_now);
-      starts = Gives row.0 (ByVariable from) (Settle ∷ []) (given_referenced bag t s variables from row.0 owned row.1 here.holds);
+      starts =
+          Gives row.0 (ByVariable from) (Settle ∷ [])
+          (given_referenced bag t s variables from row.0 owned row.1 here.holds);
       follows = Settles (inside_stays left (at + 1) (slice_set variables from None));
     } in
-    taken_with_row code bag rows t used row.0 (row_of variables from) (λ r. Work (ReleaseLoad r (ByVariable from) ∷ Settle ∷ []) (Inside left (at + 1) (slice_set variables from None))) row.1 taken
+    taken_with_row code bag rows t used row.0 (row_of variables from)
+    (λ r. Work (ReleaseLoad r (ByVariable from) ∷ Settle ∷ [])
+    (Inside left (at + 1) (slice_set variables from None))) row.1 taken
 
-ret_taken : (code : List Instr) (bag : List Reference) (rows t used left at : ℕ) (variables : List (Option ℕ)) (s : State) (from : ℕ) → StandsAt code bag t at variables s (Ret from)
+ret_taken : (code : List Instr) (bag : List Reference) (rows t used left at : ℕ) (variables : List (Option ℕ))
+    (s : State) (from : ℕ)
+    → StandsAt code bag t at variables s (Ret from)
     → IsTaken code bag rows t used (begun_instruction rows t used left at variables (Some (Ret from)))
 ret_taken code bag rows t used left at variables s from here =
     let owned = owned_slot (slot_of s from) (first_false _ _ here.met.not_empty) (first_false _ _ here.met.owned) in
@@ -132,21 +149,29 @@ ret_taken code bag rows t used left at variables s from here =
     let none : list_any is_owned (put s from Empty).slots ≡ false = first_false _ _ here.met.none_left in
     let held_now : HoldsAt bag t the_root (ReleaseLoad row.0 (ByVariable from) ∷ Settle ∷ []) = record {
       each = λ k object.
-          let said : one_if (of_variables (put s from Empty) (slice_set variables from None) k object) ≡ one_if (the_root k object) = ap one_if (ended_says (put s from Empty) (slice_set variables from None) k object none) in
+          let said : one_if (of_variables (put s from Empty) (slice_set variables from None) k object)
+          ≡ one_if (the_root k object) =
+          ap one_if (ended_says (put s from Empty) (slice_set variables from None) k object none) in
           omega (arith, emptied_held bag t s variables from row.0 in_slots owned row.1 here.holds k object, said);
     } in
-    let taken : Taken code bag rows t used (Standing left) (ReleaseLoad row.0 (ByVariable from)) (Settle ∷ []) = record {
+    let taken : Taken code bag rows t used (Standing left) (ReleaseLoad row.0 (ByVariable from)) (Settle ∷ []) =
+    record {
       placed = held_now;
-      starts = Gives row.0 (ByVariable from) (Settle ∷ []) (given_referenced bag t s variables from row.0 owned row.1 here.holds);
+      starts =
+          Gives row.0 (ByVariable from) (Settle ∷ [])
+          (given_referenced bag t s variables from row.0 owned row.1 here.holds);
       follows = Settles (standing_stays left);
     } in
-    taken_with_row code bag rows t used row.0 (row_of variables from) (λ r. Work (ReleaseLoad r (ByVariable from) ∷ Settle ∷ []) (Standing left)) row.1 taken
+    taken_with_row code bag rows t used row.0 (row_of variables from)
+    (λ r. Work (ReleaseLoad r (ByVariable from) ∷ Settle ∷ []) (Standing left)) row.1 taken
 
 -- ---- a new number
 
-num_born : (code : List Instr) (bag : List Reference) (rows t used left at : ℕ) (variables : List (Option ℕ)) (s : State) (to value otherwise : ℕ)
+num_born : (code : List Instr) (bag : List Reference) (rows t used left at : ℕ) (variables : List (Option ℕ))
+    (s : State) (to value otherwise : ℕ)
     → StandsAt code bag t at variables s (Num to value otherwise) → has_room rows t used ≡ true
-    → Taken code bag rows t used (Inside left (at + 1) (slice_set variables to (Some (next_row rows t used)))) (BirthKind (next_row rows t used) (ByVariable to) (number_word value)) []
+    → Taken code bag rows t used (Inside left (at + 1) (slice_set variables to (Some (next_row rows t used))))
+    (BirthKind (next_row rows t used) (ByVariable to) (number_word value)) []
 num_born code bag rows t used left at variables s to value otherwise here room =
     let row = next_row rows t used in
     let slot : Slot = Owned kinds.Num in
@@ -160,7 +185,8 @@ num_born code bag rows t used left at variables s to value otherwise here room =
       rows = length-set variables to (Some row) ∙ here.inside.rows;
       grounded = grounded-put s variables to slot (Some row) in_slots in_rows (row, refl) here.inside.grounded;
     } in
-    let held_now : HoldsAt bag t (of_variables (put s to slot) (slice_set variables to (Some row))) (BirthKind row (ByVariable to) (number_word value) ∷ []) =
+    let held_now : HoldsAt bag t (of_variables (put s to slot) (slice_set variables to (Some row)))
+    (BirthKind row (ByVariable to) (number_word value) ∷ []) =
     record { each = newref_held bag t s variables to row slot in_slots in_rows free refl here.holds } in
     record {
       placed = (put s to slot, next, held_now);
@@ -170,7 +196,9 @@ num_born code bag rows t used left at variables s to value otherwise here room =
     }
 
 -- without room the variable is emptied, and the fault exit taken
-num_fails : (code : List Instr) (bag : List Reference) (t left at : ℕ) (variables : List (Option ℕ)) (s : State) (to value otherwise : ℕ) → StandsAt code bag t at variables s (Num to value otherwise)
+num_fails : (code : List Instr) (bag : List Reference) (t left at : ℕ) (variables : List (Option ℕ)) (s : State)
+    (to value otherwise : ℕ)
+    → StandsAt code bag t at variables s (Num to value otherwise)
     → QuietTaken code bag t [] (Inside left otherwise (slice_set variables to None))
 num_fails code bag t left at variables s to value otherwise here =
     let free : is_owned (slot_of s to) ≡ false = first_false _ _ here.met.free in
@@ -183,142 +211,89 @@ num_fails code bag t left at variables s to value otherwise here =
       rows = length-set variables to None ∙ here.inside.rows;
       grounded = grounded-put s variables to Empty None in_slots in_rows tt here.inside.grounded;
     } in
-    let holds : Holds bag t (of_variables (put s to Empty) (slice_set variables to None)) = record { each = cleared_held bag t s variables to in_slots free here.holds } in
-    record { moves_fit = Stays; placed = (put s to Empty, next, holds_at_none bag t _ holds); stays = inside_stays left otherwise (slice_set variables to None) }
+    let holds : Holds bag t (of_variables (put s to Empty) (slice_set variables to None)) =
+    record { each = cleared_held bag t s variables to in_slots free here.holds } in
+    record {
+      moves_fit = Stays;
+      placed = (put s to Empty, next, holds_at_none bag t _ holds);
+      stays =
+          inside_stays left otherwise (slice_set variables to None);
+    }
 
-either_taken : (code : List Instr) (bag : List Reference) (rows t used : ℕ) (b : Bool) (one two : Begun) → (b ≡ true → IsTaken code bag rows t used one) → IsTaken code bag rows t used two
+either_taken : (code : List Instr) (bag : List Reference) (rows t used : ℕ) (b : Bool) (one two : Begun)
+    → (b ≡ true → IsTaken code bag rows t used one) → IsTaken code bag rows t used two
     → IsTaken code bag rows t used (cond b one two)
 either_taken code bag rows t used true one two first second = first refl
 either_taken code bag rows t used false one two first second = second
 
-num_taken : (code : List Instr) (bag : List Reference) (rows t used left at : ℕ) (variables : List (Option ℕ)) (s : State) (to value otherwise : ℕ) → StandsAt code bag t at variables s (Num to value otherwise)
+num_taken : (code : List Instr) (bag : List Reference) (rows t used left at : ℕ) (variables : List (Option ℕ))
+    (s : State) (to value otherwise : ℕ)
+    → StandsAt code bag t at variables s (Num to value otherwise)
     → IsTaken code bag rows t used (begun_instruction rows t used left at variables (Some (Num to value otherwise)))
 num_taken code bag rows t used left at variables s to value otherwise here =
-    either_taken code bag rows t used (has_room rows t used) _ _ (λ room. num_born code bag rows t used left at variables s to value otherwise here room) (num_fails code bag t left at variables s to value otherwise here)
-
--- ---- none
-
-none_taken : (code : List Instr) (bag : List Reference) (rows t used left at : ℕ) (variables : List (Option ℕ)) (s : State) (to : ℕ) → StandsAt code bag t at variables s (NoneObject to)
-    → IsTaken code bag rows t used (begun_instruction rows t used left at variables (Some (NoneObject to)))
-none_taken code bag rows t used left at variables s to here =
-    let slot : Slot = Owned kinds.None in
-    let free : is_owned (slot_of s to) ≡ false = first_false _ _ here.met.free in
-    let in_slots : to < length s.slots = omega (arith, here.variables, here.inside.slots) in
-    let in_rows : to < length variables = omega (arith, here.variables, here.inside.rows) in
-    let next : IsInside code (at + 1) (slice_set variables to (Some none_row)) (put s to slot) = record {
-      exits = here.inside.exits ++ Success ∷ [];
-      walked = here.leads Success (at + 1) refl;
-      slots = length-set s.slots to slot ∙ here.inside.slots;
-      rows = length-set variables to (Some none_row) ∙ here.inside.rows;
-      grounded = grounded-put s variables to slot (Some none_row) in_slots in_rows (none_row, refl) here.inside.grounded;
-    } in
-    let holds : Holds (reference_of t (ByVariable to) none_row ∷ bag) t (of_variables (put s to slot) (slice_set variables to (Some none_row))) =
-    record { each = gained_holds bag t to none_row _ (newref_held bag t s variables to none_row slot in_slots in_rows free refl here.holds) } in
-    let taken : QuietTaken code bag t (gain t (ByVariable to) none_row) (Inside left (at + 1) (slice_set variables to (Some none_row))) =
-    record { moves_fit = GainsNone (ByVariable to); placed = (put s to slot, next, holds_at_none _ t _ holds); stays = inside_stays left (at + 1) (slice_set variables to (Some none_row)) } in
-    taken
-
--- ---- a reference is handed on
-
--- the reference that a variable owns is lost, and the variable emptied
-lost_holds : (bag : List Reference) (t : ℕ) (s : State) (variables : List (Option ℕ)) (from row : ℕ) → from < length s.slots → is_owned (slot_of s from) ≡ true → row_of variables from ≡ Some row
-    → Holds bag t (of_variables s variables)
-    → list_any (same (reference_of t (ByVariable from) row)) bag ≡ true
-    → Holds (without (reference_of t (ByVariable from) row) bag) t (of_variables (put s from Empty) (slice_set variables from None))
-lost_holds bag t s variables from row in_slots owned is holds has = record {
-  each = λ k object.
-      let r = reference_of t k object in
-      let one : one_if (same r (reference_of t (ByVariable from) row)) ≡ one_if (same_holding (ByVariable from) k && (row == object)) = ap one_if (same_is t row (ByVariable from) k object) in
-      omega (arith, emptied_held bag t s variables from row in_slots owned is holds k object, held-without r (reference_of t (ByVariable from) row) bag has, one);
-}
-
-still_free : (s : State) (from to : ℕ) → from < length s.slots → is_owned (slot_of s to) ≡ false → is_owned (slot_of (put s from Empty) to) ≡ false
-still_free s from to in_slots free =
-    elim (eqb_tells to from) [
-      | inl this ↦ ap (λ (x : ℕ). is_owned (slot_of (put s from Empty) x)) this.1 ∙ ap is_owned (slot_of-put_same s from Empty in_slots)
-      | inr other ↦ ap is_owned (slot_of-put_other s from to Empty other.1) ∙ free
-    ]
-
-move_taken : (code : List Instr) (bag : List Reference) (rows t used left at : ℕ) (variables : List (Option ℕ)) (s : State) (to from : ℕ) → StandsAt code bag t at variables s (MoveReference to from)
-    → IsTaken code bag rows t used (begun_instruction rows t used left at variables (Some (MoveReference to from)))
-move_taken code bag rows t used left at variables s to from here =
-    let owned = owned_slot (slot_of s from) (first_false _ _ here.met.not_empty) (first_false _ _ here.met.owned) in
-    let free : is_owned (slot_of s to) ≡ false = first_false _ _ here.met.free in
-    let row = owned_row (slot_of s from) (row_of variables from) owned (here.inside.grounded from) in
-    let slot : Slot = Owned (kind_of (slot_of s from)) in
-    let s1 = put s from Empty in
-    let v1 = slice_set variables from None in
-    let r = reference_of t (ByVariable from) row.0 in
-    let in_slots : from < length s.slots = omega (arith, here.variables.1, here.inside.slots) in
-    let in_rows : from < length variables = omega (arith, here.variables.1, here.inside.rows) in
-    let to_slots : to < length s1.slots = omega (arith, here.variables.0, here.inside.slots, length-set s.slots from Empty) in
-    let to_rows : to < length v1 = omega (arith, here.variables.0, here.inside.rows, length-set variables from None) in
-    let grounded = grounded-put s variables from Empty None in_slots in_rows tt here.inside.grounded in
-    let next : IsInside code (at + 1) (slice_set v1 to (Some row.0)) (put s1 to slot) = record {
-      exits = here.inside.exits ++ Success ∷ [];
-      walked = here.leads Success (at + 1) refl;
-      slots = length-set s1.slots to slot ∙ length-set s.slots from Empty ∙ here.inside.slots;
-      rows = length-set v1 to (Some row.0) ∙ length-set variables from None ∙ here.inside.rows;
-      grounded = grounded-put s1 v1 to slot (Some row.0) to_slots to_rows (row.0, refl) grounded;
-    } in
-    let one : held r bag ≡ 1 = owned_has bag t s variables from row.0 owned row.1 here.holds in
-    let has = held_has r bag (omega (arith, one)) in
-    let fewer = lost_holds bag t s variables from row.0 in_slots owned row.1 here.holds has in
-    let holds : Holds (reference_of t (ByVariable to) row.0 ∷ without r bag) t (of_variables (put s1 to slot) (slice_set v1 to (Some row.0))) =
-    record { each = gained_holds (without r bag) t to row.0 _ (newref_held (without r bag) t s1 v1 to row.0 slot to_slots to_rows (still_free s from to in_slots free) refl fewer) } in
-    let taken : QuietTaken code bag t (pass_on t (ByVariable from) (ByVariable to) row.0) (Inside left (at + 1) (slice_set v1 to (Some row.0))) =
-    record { moves_fit = HandsOn (ByVariable from) (ByVariable to) row.0 has; placed = (put s1 to slot, next, holds_at_none _ t _ holds); stays = inside_stays left (at + 1) (slice_set v1 to (Some row.0)) } in
-    taken_with_row code bag rows t used row.0 (row_of variables from) (λ x. Quiet (pass_on t (ByVariable from) (ByVariable to) x) (Inside left (at + 1) (slice_set v1 to (Some x)))) row.1 taken
-
--- ---- a jump
-
-goto_taken : (code : List Instr) (bag : List Reference) (rows t used left at : ℕ) (variables : List (Option ℕ)) (s : State) (to : ℕ) → StandsAt code bag t at variables s (Goto to)
-    → IsTaken code bag rows t used (begun_instruction rows t used left at variables (Some (Goto to)))
-goto_taken code bag rows t used left at variables s to here =
-    let next : IsInside code to variables s = record {
-      exits = here.inside.exits ++ Success ∷ [];
-      walked = here.leads Success to refl;
-      slots = here.inside.slots;
-      rows = here.inside.rows;
-      grounded = here.inside.grounded;
-    } in
-    let taken : QuietTaken code bag t [] (Inside left to variables) = record { moves_fit = Stays; placed = (s, next, holds_at_none bag t _ here.holds); stays = inside_stays left to variables } in
-    taken
+    either_taken code bag rows t used (has_room rows t used) _ _
+    (λ room. num_born code bag rows t used left at variables s to value otherwise here room)
+    (num_fails code bag t left at variables s to value otherwise here)
 
 -- ---- each instruction
 
-instruction_taken : (code : List Instr) (bag : List Reference) (rows t used left at : ℕ) (variables : List (Option ℕ)) (s : State) (i : Instr) → StandsAt code bag t at variables s i
+instruction_taken : (code : List Instr) (bag : List Reference) (rows t used left at : ℕ) (variables : List (Option ℕ))
+    (s : State) (i : Instr)
+    → StandsAt code bag t at variables s i
     → IsTaken code bag rows t used (begun_instruction rows t used left at variables (Some i))
-instruction_taken code bag rows t used left at variables s (Num to value otherwise) here = num_taken code bag rows t used left at variables s to value otherwise here
-instruction_taken code bag rows t used left at variables s (NoneObject to) here = none_taken code bag rows t used left at variables s to here
-instruction_taken code bag rows t used left at variables s (MoveReference to from) here = move_taken code bag rows t used left at variables s to from here
-instruction_taken code bag rows t used left at variables s (Newref to from) here = newref_taken code bag rows t used left at variables s to from here
-instruction_taken code bag rows t used left at variables s (Drop from) here = drop_taken code bag rows t used left at variables s from here
-instruction_taken code bag rows t used left at variables s (Ret from) here = ret_taken code bag rows t used left at variables s from here
-instruction_taken code bag rows t used left at variables s (Goto to) here = goto_taken code bag rows t used left at variables s to here
+instruction_taken code bag rows t used left at variables s (Num to value otherwise) here =
+    num_taken code bag rows t used left at variables s to value otherwise here
+instruction_taken code bag rows t used left at variables s (NoneObject to) here =
+    none_taken code bag rows t used left at variables s to here
+instruction_taken code bag rows t used left at variables s (MoveReference to from) here =
+    move_taken code bag rows t used left at variables s to from here
+instruction_taken code bag rows t used left at variables s (Newref to from) here =
+    newref_taken code bag rows t used left at variables s to from here
+instruction_taken code bag rows t used left at variables s (Drop from) here =
+    drop_taken code bag rows t used left at variables s from here
+instruction_taken code bag rows t used left at variables s (Ret from) here =
+    ret_taken code bag rows t used left at variables s from here
+instruction_taken code bag rows t used left at variables s (Goto to) here =
+    goto_taken code bag rows t used left at variables s to here
 instruction_taken code bag rows t used left at variables s Fail here =
     let taken : QuietTaken code bag t [] (Standing left) = record {
       moves_fit = Stays;
-      placed = holds_at_none bag t the_root (holds-ended bag t s variables (first_false _ _ here.met.none_left) here.holds);
+      placed =
+          holds_at_none bag t the_root (holds-ended bag t s variables (first_false _ _ here.met.none_left) here.holds);
       stays = standing_stays left;
     } in
     taken
 
-inside_taken : (code : List Instr) (bag : List Reference) (rows t used left at : ℕ) (variables : List (Option ℕ)) (s : State) → IsAcceptableCode code → AreInstructions code → IsInside code at variables s
-    → Holds bag t (of_variables s variables) → IsTaken code bag rows t used (begun_instruction rows t used left at variables (slice_get code at))
+inside_taken : (code : List Instr) (bag : List Reference) (rows t used left at : ℕ) (variables : List (Option ℕ))
+    (s : State)
+    → IsAcceptableCode code → AreInstructions code → IsInside code at variables s
+    → Holds bag t (of_variables s variables)
+    → IsTaken code bag rows t used (begun_instruction rows t used left at variables (slice_get code at))
 inside_taken code bag rows t used left at variables s accepted instructions inside holds =
     let on = passes_on code inside.exits at s accepted inside.walked in
-    let here : StandsAt code bag t at variables s on.here = record { inside = inside; holds = holds; variables = instructions.each at on.here on.found; met = on.met; leads = on.leads } in
-    subst (λ (o : Option Instr). IsTaken code bag rows t used (begun_instruction rows t used left at variables o)) (sym on.found) (instruction_taken code bag rows t used left at variables s on.here here)
+    let here : StandsAt code bag t at variables s on.here =
+    record {
+      inside = inside;
+      holds = holds;
+      variables = instructions.each at on.here on.found;
+      met = on.met;
+      leads = on.leads;
+    } in
+    subst (λ (o : Option Instr). IsTaken code bag rows t used (begun_instruction rows t used left at variables o))
+    (sym on.found) (instruction_taken code bag rows t used left at variables s on.here here)
 
 -- the exit gives up the caller's reference
-exit_held : (bag : List Reference) (t : ℕ) → Holds bag t the_root → (k : Holding) (object : ℕ) → held (reference_of t k object) bag + 0 ≡ 0 + one_if (same_holding AsCaller k && (root_row == object))
-exit_held bag t holds AsCaller object = let flipped : one_if (object == root_row) ≡ one_if (root_row == object) = ap one_if (flip_eqb object root_row) in omega (arith, holds.each AsCaller object, flipped)
+exit_held : (bag : List Reference) (t : ℕ) → Holds bag t the_root → (k : Holding) (object : ℕ)
+    → held (reference_of t k object) bag + 0 ≡ 0 + one_if (same_holding AsCaller k && (root_row == object))
+exit_held bag t holds AsCaller object =
+    let flipped : one_if (object == root_row) ≡ one_if (root_row == object) = ap one_if (flip_eqb object root_row) in
+    omega (arith, holds.each AsCaller object, flipped)
 exit_held bag t holds InHand object = omega (arith, holds.each InHand object)
 exit_held bag t holds (ByVariable v) object = omega (arith, holds.each (ByVariable v) object)
 
 -- whatever a thread at rest takes up is fit
-pub begun_taken : (code : List Instr) (bag : List Reference) (rows t used : ℕ) (place : Place) → IsAcceptableCode code → AreInstructions code → (place ≢ Departing) → PlaceFits code bag t [] place
+pub begun_taken : (code : List Instr) (bag : List Reference) (rows t used : ℕ) (place : Place) → IsAcceptableCode code
+    → AreInstructions code → (place ≢ Departing) → PlaceFits code bag t [] place
     → IsTaken code bag rows t used (begun rows t used code place)
 begun_taken code bag rows t used Departing accepted instructions stays fits = absurd (stays refl)
 begun_taken code bag rows t used (Standing zero) accepted instructions stays fits =
@@ -326,10 +301,14 @@ begun_taken code bag rows t used (Standing zero) accepted instructions stays fit
     let one : held (reference_of t AsCaller root_row) bag ≡ 1 = holds.each AsCaller root_row in
     record {
       placed = record { each = exit_held bag t holds };
-      starts = Gives root_row AsCaller (Settle ∷ Leave (first_row rows t) used ∷ []) (omega (arith, one, held-le-references_to (reference_of t AsCaller root_row) bag));
+      starts =
+          Gives root_row AsCaller (Settle ∷ Leave (first_row rows t) used ∷ [])
+          (omega (arith, one, held-le-references_to (reference_of t AsCaller root_row) bag));
       follows = Leaves refl;
     }
 begun_taken code bag rows t used (Standing (suc left)) accepted instructions stays fits =
-    inside_taken code bag rows t used left 0 entry_variables entry accepted instructions (entry_inside code) (holds-entered bag t (holds_plain bag t the_root fits))
+    inside_taken code bag rows t used left 0 entry_variables entry accepted instructions (entry_inside code)
+    (holds-entered bag t (holds_plain bag t the_root fits))
 begun_taken code bag rows t used (Inside left at variables) accepted instructions stays fits =
-    inside_taken code bag rows t used left at variables fits.0 accepted instructions fits.1 (holds_plain bag t (of_variables fits.0 variables) fits.2)
+    inside_taken code bag rows t used left at variables fits.0 accepted instructions fits.1
+    (holds_plain bag t (of_variables fits.0 variables) fits.2)

@@ -38,7 +38,8 @@ closed_not_unborn : Closed ≡ Unborn → ⊥
 closed_not_unborn e = cc
 
 -- what was born is never unborn again
-pub stays_born : (p : Module) (n : ℕ) (m : Machine) (t : ℕ) (a : Actor) (d : Duty) (rest : List Duty) (x : ℕ) → AtDuty p n m t a d rest → m.life x ≢ Unborn → (done_by m t a d rest).life x ≢ Unborn
+pub stays_born : (p : Module) (n : ℕ) (m : Machine) (t : ℕ) (a : Actor) (d : Duty) (rest : List Duty) (x : ℕ)
+    → AtDuty p n m t a d rest → m.life x ≢ Unborn → (done_by m t a d rest).life x ≢ Unborn
 stays_born p n m t a d rest x here born =
     elim (life_step p n m t a d rest x here) [
       | GoesOn now other ↦ λ e. born (sym now ∙ e)
@@ -48,7 +49,8 @@ stays_born p n m t a d rest x here born =
     ]
 
 -- only the step of its birth bears a row
-pub stays_unborn : (p : Module) (n : ℕ) (m : Machine) (t : ℕ) (a : Actor) (d : Duty) (rest : List Duty) (x : ℕ) → AtDuty p n m t a d rest → m.life x ≡ Unborn → (born_row d ≡ Some x → ⊥) → (done_by m t a d rest).life x ≡ Unborn
+pub stays_unborn : (p : Module) (n : ℕ) (m : Machine) (t : ℕ) (a : Actor) (d : Duty) (rest : List Duty) (x : ℕ)
+    → AtDuty p n m t a d rest → m.life x ≡ Unborn → (born_row d ≡ Some x → ⊥) → (done_by m t a d rest).life x ≡ Unborn
 stays_unborn p n m t a d rest x here unborn other =
     elim (life_step p n m t a d rest x here) [
       | GoesOn now ends ↦ now ∙ unborn
@@ -60,13 +62,17 @@ stays_unborn p n m t a d rest x here unborn other =
 none_is_not : (x : ℕ) → None ≡ Some x → ⊥
 none_is_not x e = cc
 
-born_next : (p : Module) (n : ℕ) (m : Machine) (t : ℕ) (a : Actor) (d : Duty) (rest : List Duty) (x : ℕ) → AtDuty p n m t a d rest → born_row d ≡ Some x → IsNext m t a x × (used_by a.used d ≡ a.used + 1)
-born_next p n m t a (BirthLocal y h) rest x here e = (subst (λ (z : ℕ). IsNext m t a z) (some_is y x e) (head_of p n m t a (BirthLocal y h) rest here).0, refl)
+born_next : (p : Module) (n : ℕ) (m : Machine) (t : ℕ) (a : Actor) (d : Duty) (rest : List Duty) (x : ℕ)
+    → AtDuty p n m t a d rest → born_row d ≡ Some x → IsNext m t a x × (used_by a.used d ≡ a.used + 1)
+born_next p n m t a (BirthLocal y h) rest x here e =
+    (subst (λ (z : ℕ). IsNext m t a z) (some_is y x e) (head_of p n m t a (BirthLocal y h) rest here).0, refl)
 born_next p n m t a _ rest x here e = absurd (none_is_not x e)
 
 -- the row that a birth bears lives
-born_lives : (p : Module) (n : ℕ) (m : Machine) (t : ℕ) (a : Actor) (d : Duty) (rest : List Duty) (x : ℕ) → AtDuty p n m t a d rest → born_row d ≡ Some x → (done_by m t a d rest).life x ≡ Live
-born_lives p n m t a (BirthLocal y h) rest x here e = ap (λ (b : Bool). cond b Live (m.life x)) (eq-eqb y x (some_is y x e))
+born_lives : (p : Module) (n : ℕ) (m : Machine) (t : ℕ) (a : Actor) (d : Duty) (rest : List Duty) (x : ℕ)
+    → AtDuty p n m t a d rest → born_row d ≡ Some x → (done_by m t a d rest).life x ≡ Live
+born_lives p n m t a (BirthLocal y h) rest x here e =
+    ap (λ (b : Bool). cond b Live (m.life x)) (eq-eqb y x (some_is y x e))
 born_lives p n m t a _ rest x here e = absurd (none_is_not x e)
 
 -- ---- uses
@@ -76,7 +82,8 @@ either_born : (d : Duty) → (born_row d ≡ None) ⊎ ((x : ℕ) × (born_row d
 either_born (BirthLocal x h) = inr (x, refl)
 either_born _ = inl refl
 
-pub own_uses : (p : Module) (n : ℕ) (m : Machine) (t : ℕ) (a : Actor) (d : Duty) (rest : List Duty) → AtDuty p n m t a d rest → UsesFit m.rows (done_by m t a d rest).life t (used_by a.used d)
+pub own_uses : (p : Module) (n : ℕ) (m : Machine) (t : ℕ) (a : Actor) (d : Duty) (rest : List Duty)
+    → AtDuty p n m t a d rest → UsesFit m.rows (done_by m t a d rest).life t (used_by a.used d)
 own_uses p n m t a d rest here =
     let old = here.rule.uses t a here.found in
     elim (either_born d) [
@@ -86,7 +93,9 @@ own_uses p n m t a d rest here =
             main = old.main;
             few = old.few;
             born = λ x low high. stays_born p n m t a d rest x here (old.born x low high);
-            unborn = λ x block past. stays_unborn p n m t a d rest x here (old.unborn x block past) (λ e. none_is_not x (sym none ∙ e));
+            unborn =
+                λ x block past. stays_unborn p n m t a d rest x here (old.unborn x block past)
+                (λ e. none_is_not x (sym none ∙ e));
           } in
           subst (λ (u : ℕ). UsesFit m.rows (done_by m t a d rest).life t u) (sym same) now
       | inr this ↦
@@ -99,15 +108,18 @@ own_uses p n m t a d rest here =
                   | inl before ↦ stays_born p n m t a d rest x here (old.born x low before)
                   | inr past ↦
                       let same : x ≡ this.0 = (let row = next.0.row in omega (arith, row, past, high)) in
-                      λ e. live_not_unborn (sym (born_lives p n m t a d rest this.0 here this.1) ∙ sym (ap (done_by m t a d rest).life same) ∙ e)
+                      λ e. live_not_unborn (sym (born_lives p n m t a d rest this.0 here this.1)
+                      ∙ sym (ap (done_by m t a d rest).life same) ∙ e)
                 ];
             unborn = λ x block past. stays_unborn p n m t a d rest x here (old.unborn x block (omega (arith, past)))
-                (λ e. let same : this.0 ≡ x = some_is this.0 x (sym this.1 ∙ e) in let row = next.0.row in absurd (omega (arith, row, past, same)));
+                (λ e. let same : this.0 ≡ x = some_is this.0 x (sym this.1 ∙ e) in let row =
+                next.0.row in absurd (omega (arith, row, past, same)));
           } in
           subst (λ (u : ℕ). UsesFit m.rows (done_by m t a d rest).life t u) (sym next.1) now
     ]
 
-others_uses : (p : Module) (n : ℕ) (m : Machine) (t : ℕ) (a : Actor) (d : Duty) (rest : List Duty) (u : ℕ) (b : Actor) → AtDuty p n m t a d rest → u ≢ t → slice_get m.actors u ≡ Some b
+others_uses : (p : Module) (n : ℕ) (m : Machine) (t : ℕ) (a : Actor) (d : Duty) (rest : List Duty) (u : ℕ) (b : Actor)
+    → AtDuty p n m t a d rest → u ≢ t → slice_get m.actors u ≡ Some b
     → UsesFit m.rows (done_by m t a d rest).life u b.used
 others_uses p n m t a d rest u b here ne found =
     let old = here.rule.uses u b found in
@@ -115,25 +127,36 @@ others_uses p n m t a d rest u b here ne found =
       main = old.main;
       few = old.few;
       born = λ x low high. stays_born p n m t a d rest x here (old.born x low high);
-      unborn = λ x block past. stays_unborn p n m t a d rest x here (old.unborn x block past) (λ e. ne (sym block ∙ next_block m t a x (born_next p n m t a d rest x here e).0));
+      unborn =
+          λ x block past. stays_unborn p n m t a d rest x here (old.unborn x block past)
+          (λ e. ne (sym block ∙ next_block m t a x (born_next p n m t a d rest x here e).0));
     }
 
-pub uses_after : (p : Module) (n : ℕ) (m : Machine) (t : ℕ) (a : Actor) (d : Duty) (rest : List Duty) → AtDuty p n m t a d rest → (u : ℕ) (b : Actor) → slice_get (done_by m t a d rest).actors u ≡ Some b
+pub uses_after : (p : Module) (n : ℕ) (m : Machine) (t : ℕ) (a : Actor) (d : Duty) (rest : List Duty)
+    → AtDuty p n m t a d rest → (u : ℕ) (b : Actor) → slice_get (done_by m t a d rest).actors u ≡ Some b
     → UsesFit m.rows (done_by m t a d rest).life u b.used
 uses_after p n m t a d rest here u b is =
     let after = actor_by t a d rest (found_by m t a d) in
     elim (eqb_tells u t) [
       | inl same ↦
-          let written_is : Some after ≡ Some b = sym (ap (slice_get (slice_set m.actors t after)) same.1 ∙ slice_get-set_same m.actors t after (slice_get_within m.actors t a here.found)) ∙ is in
-          let own : UsesFit m.rows (done_by m t a d rest).life u after.used = subst (λ (w : ℕ). UsesFit m.rows (done_by m t a d rest).life w after.used) (sym same.1) (own_uses p n m t a d rest here) in
+          let written_is : Some after ≡ Some b =
+          sym (ap (slice_get (slice_set m.actors t after)) same.1
+          ∙ slice_get-set_same m.actors t after (slice_get_within m.actors t a here.found)) ∙ is in
+          let own : UsesFit m.rows (done_by m t a d rest).life u after.used =
+          subst (λ (w : ℕ). UsesFit m.rows (done_by m t a d rest).life w after.used) (sym same.1)
+          (own_uses p n m t a d rest here) in
           subst (λ (c : Actor). UsesFit m.rows (done_by m t a d rest).life u c.used) (some_is after b written_is) own
-      | inr apart ↦ others_uses p n m t a d rest u b here apart.1 (sym (slice_get-set_other m.actors t u after apart.1) ∙ is)
+      | inr apart ↦
+          others_uses p n m t a d rest u b here apart.1 (sym (slice_get-set_other m.actors t u after apart.1) ∙ is)
     ]
 
-pub no_block_after : (p : Module) (n : ℕ) (m : Machine) (t : ℕ) (a : Actor) (d : Duty) (rest : List Duty) → AtDuty p n m t a d rest → (x : ℕ) → n ≤ block_of m.rows x → (done_by m t a d rest).life x ≡ Unborn
+pub no_block_after : (p : Module) (n : ℕ) (m : Machine) (t : ℕ) (a : Actor) (d : Duty) (rest : List Duty)
+    → AtDuty p n m t a d rest → (x : ℕ) → n ≤ block_of m.rows x → (done_by m t a d rest).life x ≡ Unborn
 no_block_after p n m t a d rest here x past =
     let within : t < n = omega (arith, slice_get_within m.actors t a here.found, here.rule.threads) in
-    stays_unborn p n m t a d rest x here (here.rule.no_block x past) (λ e. let block = next_block m t a x (born_next p n m t a d rest x here e).0 in absurd (omega (arith, block, within, past)))
+    stays_unborn p n m t a d rest x here (here.rule.no_block x past)
+    (λ e. let block = next_block m t a x (born_next p n m t a d rest x here e).0 in absurd
+    (omega (arith, block, within, past)))
 
 -- ---- the list of what was born
 
@@ -156,7 +179,8 @@ moved_born p (Lose r ∷ mvs) none = moved_born (move p (Lose r)) mvs none.1
 moved_born p (HandOn r h ∷ mvs) none = moved_born (move p (HandOn r h)) mvs none.1
 moved_born p (Finalise x ∷ mvs) none = moved_born (move p (Finalise x)) mvs none.1
 
-either_none : (b : Bool) (mvs others : List Move) → AllBearNone mvs → AllBearNone others → AllBearNone (cond b mvs others)
+either_none : (b : Bool) (mvs others : List Move) → AllBearNone mvs → AllBearNone others
+    → AllBearNone (cond b mvs others)
 either_none true mvs others f g = f
 either_none false mvs others f g = g
 
@@ -173,11 +197,14 @@ take_out_none : (t x i found : ℕ) → AllBearNone (take_out t x i found)
 take_out_none t x i zero = tt
 take_out_none t x i (suc y) = (tt, tt)
 
-pub moves_none : (memory : Address → ℕ) (t : ℕ) (d : Duty) (found : ℕ) → born_row d ≡ None → AllBearNone (moves_by memory t d found)
+pub moves_none : (memory : Address → ℕ) (t : ℕ) (d : Duty) (found : ℕ) → born_row d ≡ None
+    → AllBearNone (moves_by memory t d found)
 moves_none memory t (RetainLoad x h) found e = either_none (is_immortal_word found) (gain t h x) [] (tt, tt) tt
 moves_none memory t (RetainStore x h w) found e = (tt, tt)
 moves_none memory t (RetainAdd x h) found e = (tt, tt)
-moves_none memory t (ReleaseLoad x h) found e = append_none (hand_on t h x) (cond (is_immortal_word found) (lose t x) []) (hand_on_none t h x) (either_none (is_immortal_word found) (lose t x) [] (tt, tt) tt)
+moves_none memory t (ReleaseLoad x h) found e =
+    append_none (hand_on t h x) (cond (is_immortal_word found) (lose t x) []) (hand_on_none t h x)
+    (either_none (is_immortal_word found) (lose t x) [] (tt, tt) tt)
 moves_none memory t (ReleaseStore x w) found e = (tt, tt)
 moves_none memory t (SharedExchange x Own w) found e = either_none (found == w) (lose t x) [] (tt, tt) tt
 moves_none memory t (SettleCell x i k) found e = take_out_none t x i found
@@ -186,14 +213,18 @@ moves_none memory t (BirthLocal x h) found e = absurd (let wrong : Some x ≡ No
 moves_none memory t _ found e = tt
 
 data BornStep (m : Machine) (t : ℕ) (d : Duty) (found : ℕ) : Type 0 where
-  SameBorn : born_row d ≡ None → (moved m.plain (moves_by m.memory t d found)).born ≡ m.plain.born → BornStep m t d found
-  OneBorn : (y : ℕ) → born_row d ≡ Some y → (moved m.plain (moves_by m.memory t d found)).born ≡ m.plain.born ++ y ∷ [] → BornStep m t d found
+  SameBorn : born_row d ≡ None → (moved m.plain (moves_by m.memory t d found)).born ≡ m.plain.born
+      → BornStep m t d found
+  OneBorn : (y : ℕ) → born_row d ≡ Some y → (moved m.plain (moves_by m.memory t d found)).born ≡ m.plain.born ++ y ∷ []
+      → BornStep m t d found
 
 born_step : (m : Machine) (t : ℕ) (d : Duty) (found : ℕ) → BornStep m t d found
 born_step m t (BirthLocal x h) found = OneBorn x refl refl
-born_step m t d found = SameBorn refl (moved_born m.plain (moves_by m.memory t d found) (moves_none m.memory t d found refl))
+born_step m t d found =
+    SameBorn refl (moved_born m.plain (moves_by m.memory t d found) (moves_none m.memory t d found refl))
 
-pub born_is_after : (p : Module) (n : ℕ) (m : Machine) (t : ℕ) (a : Actor) (d : Duty) (rest : List Duty) → AtDuty p n m t a d rest → (x : ℕ) → is_among x (done_by m t a d rest).plain.born ≡ true
+pub born_is_after : (p : Module) (n : ℕ) (m : Machine) (t : ℕ) (a : Actor) (d : Duty) (rest : List Duty)
+    → AtDuty p n m t a d rest → (x : ℕ) → is_among x (done_by m t a d rest).plain.born ≡ true
     → (0 < x) × ((done_by m t a d rest).life x ≢ Unborn)
 born_is_after p n m t a d rest here x is =
     elim (born_step m t d (m.memory (address_of m.rows t a.head d))) [
@@ -201,7 +232,8 @@ born_is_after p n m t a d rest here x is =
           let old = here.rule.born_is x (sym (ap (is_among x) same) ∙ is) in
           (old.0, stays_born p n m t a d rest x here old.1)
       | OneBorn y born more ↦
-          elim (either_true (is_among x m.plain.born) (is_among x (y ∷ [])) (sym (ap (is_among x) more ∙ list_any-append (λ z. z == x) m.plain.born (y ∷ [])) ∙ is)) [
+          elim (either_true (is_among x m.plain.born) (is_among x (y ∷ []))
+          (sym (ap (is_among x) more ∙ list_any-append (λ z. z == x) m.plain.born (y ∷ [])) ∙ is)) [
             | inl was ↦ let old = here.rule.born_is x was in (old.0, stays_born p n m t a d rest x here old.1)
             | inr new ↦
                 let this : y ≡ x = one_is x y new in
@@ -212,7 +244,8 @@ born_is_after p n m t a d rest here x is =
     ]
 
 -- what is born stands in the list, now or before
-pub before_or_now : (p : Module) (n : ℕ) (m : Machine) (t : ℕ) (a : Actor) (d : Duty) (rest : List Duty) (x : ℕ) → AtDuty p n m t a d rest → (done_by m t a d rest).life x ≢ Unborn → (m.life x ≢ Unborn) ⊎ (born_row d ≡ Some x)
+pub before_or_now : (p : Module) (n : ℕ) (m : Machine) (t : ℕ) (a : Actor) (d : Duty) (rest : List Duty) (x : ℕ)
+    → AtDuty p n m t a d rest → (done_by m t a d rest).life x ≢ Unborn → (m.life x ≢ Unborn) ⊎ (born_row d ≡ Some x)
 before_or_now p n m t a d rest x here born =
     elim (life_step p n m t a d rest x here) [
       | GoesOn now other ↦ inl (λ e. born (now ∙ e))
@@ -221,17 +254,23 @@ before_or_now p n m t a d rest x here born =
       | IsBorn now unborn above this none ↦ inr this
     ]
 
-pub born_has_after : (p : Module) (n : ℕ) (m : Machine) (t : ℕ) (a : Actor) (d : Duty) (rest : List Duty) → AtDuty p n m t a d rest → (x : ℕ) → 0 < x → (done_by m t a d rest).life x ≢ Unborn
+pub born_has_after : (p : Module) (n : ℕ) (m : Machine) (t : ℕ) (a : Actor) (d : Duty) (rest : List Duty)
+    → AtDuty p n m t a d rest → (x : ℕ) → 0 < x → (done_by m t a d rest).life x ≢ Unborn
     → is_among x (done_by m t a d rest).plain.born ≡ true
 born_has_after p n m t a d rest here x above born =
     let Q : List ℕ → Type 0 = λ l. is_among x l ≡ true in
     elim (born_step m t d (m.memory (address_of m.rows t a.head d))) [
       | SameBorn none same ↦
-          subst Q (sym same) (elim (before_or_now p n m t a d rest x here born) [ inl was ↦ here.rule.born_has x above was | inr this ↦ absurd (none_is_not x (sym none ∙ this)) ])
+          subst Q (sym same) (elim (before_or_now p n m t a d rest x here born) [
+            | inl was ↦ here.rule.born_has x above was
+            | inr this ↦ absurd (none_is_not x (sym none ∙ this))
+          ])
       | OneBorn y bears more ↦
           subst Q (sym more) (elim (before_or_now p n m t a d rest x here born) [
             | inl was ↦ among_more x m.plain.born (y ∷ []) (here.rule.born_has x above was)
-            | inr this ↦ subst (λ (z : ℕ). is_among x (m.plain.born ++ z ∷ []) ≡ true) (some_is x y (sym this ∙ bears)) (among_last x m.plain.born)
+            | inr this ↦
+                subst (λ (z : ℕ). is_among x (m.plain.born ++ z ∷ []) ≡ true) (some_is x y (sym this ∙ bears))
+                (among_last x m.plain.born)
           ])
     ]
 

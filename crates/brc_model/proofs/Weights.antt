@@ -25,7 +25,8 @@ pub sum_by-ready : (f : Duty → ℕ) → IsLight f → (head : ℕ) (ds : List 
 sum_by-ready f light head [] = refl
 sum_by-ready f light zero (Settle ∷ rest) = sum_by-ready f light zero rest ∙ without_weight f Settle rest light.settle
 sum_by-ready f light (suc head) (Settle ∷ rest) = refl
-sum_by-ready f light head (Scan x zero ∷ rest) = sum_by-ready f light head rest ∙ without_weight f (Scan x zero) rest (light.scan x zero)
+sum_by-ready f light head (Scan x zero ∷ rest) =
+    sum_by-ready f light head rest ∙ without_weight f (Scan x zero) rest (light.scan x zero)
 sum_by-ready f light head (Scan x (suc n) ∷ rest) = refl
 sum_by-ready f light head (d ∷ rest) = refl
 
@@ -34,49 +35,68 @@ sum_by-ready f light head (d ∷ rest) = refl
 pub weight-set : (f : Duty → ℕ) (actors : List Actor) (t : ℕ) (a b : Actor) → slice_get actors t ≡ Some a
     → weight f (slice_set actors t b) + agenda_weight f a ≡ weight f actors + agenda_weight f b
 weight-set f actors t a b is =
-    let this : agenda_weight f (get_or actors t a) ≡ agenda_weight f a = ap (agenda_weight f) (get_or_from_slice_get actors t a a is) in
+    let this : agenda_weight f (get_or actors t a) ≡ agenda_weight f a =
+    ap (agenda_weight f) (get_or_from_slice_get actors t a a is) in
     omega (arith, sum_by-set (agenda_weight f) actors t b a (slice_get_within actors t a is), this)
 
-pub agenda_weight-le : (f : Duty → ℕ) (actors : List Actor) (t : ℕ) (a : Actor) → slice_get actors t ≡ Some a → agenda_weight f a ≤ weight f actors
+pub agenda_weight-le : (f : Duty → ℕ) (actors : List Actor) (t : ℕ) (a : Actor) → slice_get actors t ≡ Some a
+    → agenda_weight f a ≤ weight f actors
 agenda_weight-le f actors t a is =
-    let this : agenda_weight f (get_or actors t a) ≡ agenda_weight f a = ap (agenda_weight f) (get_or_from_slice_get actors t a a is) in
+    let this : agenda_weight f (get_or actors t a) ≡ agenda_weight f a =
+    ap (agenda_weight f) (get_or_from_slice_get actors t a a is) in
     omega (arith, get_or-le-sum_by (agenda_weight f) actors t a (slice_get_within actors t a is), this)
 
 -- the first duty is replaced by those that follow it
-pub weight-stepped : (f : Duty → ℕ) → IsLight f → (actors : List Actor) (t : ℕ) (a b : Actor) (d : Duty) (next rest : List Duty) (head : ℕ) → slice_get actors t ≡ Some a
-    → a.agenda ≡ d ∷ rest → b.agenda ≡ ready head (next ++ rest) → weight f (slice_set actors t b) + f d ≡ weight f actors + sum_by f next
+pub weight-stepped : (f : Duty → ℕ) → IsLight f
+    → (actors : List Actor) (t : ℕ) (a b : Actor) (d : Duty) (next rest : List Duty) (head : ℕ)
+    → slice_get actors t ≡ Some a
+    → a.agenda ≡ d ∷ rest → b.agenda ≡ ready head (next ++ rest)
+    → weight f (slice_set actors t b) + f d ≡ weight f actors + sum_by f next
 weight-stepped f light actors t a b d next rest head is before after =
     let old : agenda_weight f a ≡ f d + sum_by f rest = ap (sum_by f) before ∙ sum_by-cons f d rest in
-    let new : agenda_weight f b ≡ sum_by f next + sum_by f rest = ap (sum_by f) after ∙ sum_by-ready f light head (next ++ rest) ∙ sum_by-append f next rest in
+    let new : agenda_weight f b ≡ sum_by f next + sum_by f rest =
+    ap (sum_by f) after ∙ sum_by-ready f light head (next ++ rest) ∙ sum_by-append f next rest in
     omega (arith, weight-set f actors t a b is, old, new)
 
 -- ---- the four weights after a step
 
 pub record Weighed (before after : Machine) (x : ℕ) (d : Duty) (next : List Duty) : Type 0 where
   pub waiting : weight (waits x) after.actors + waits x d ≡ weight (waits x) before.actors + sum_by (waits x) next
-  pub carried : weight (carries x) after.actors + carries x d ≡ weight (carries x) before.actors + sum_by (carries x) next
+  pub carried : weight (carries x) after.actors + carries x d ≡ weight (carries x) before.actors
+      + sum_by (carries x) next
   pub merging : weight (merges x) after.actors + merges x d ≡ weight (merges x) before.actors + sum_by (merges x) next
-  pub deciding : weight (decides x) after.actors + decides x d ≡ weight (decides x) before.actors + sum_by (decides x) next
+  pub deciding : weight (decides x) after.actors + decides x d ≡ weight (decides x) before.actors
+      + sum_by (decides x) next
 
 light : (f : Duty → ℕ) → f Settle ≡ 0 → ((x n : ℕ) → f (Scan x n) ≡ 0) → IsLight f
 light f settle scan = record { settle = settle; scan = scan }
 
-pub weighed_after : (m : Machine) (t : ℕ) (a : Actor) (d : Duty) (rest next : List Duty) → slice_get m.actors t ≡ Some a → a.agenda ≡ d ∷ rest
-    → next_by t (is_running a.status) a.head d (m.memory (address_of m.rows t a.head d)) ≡ next → (x : ℕ) → Weighed m (done_by m t a d rest) x d next
+pub weighed_after : (m : Machine) (t : ℕ) (a : Actor) (d : Duty) (rest next : List Duty) → slice_get m.actors t ≡ Some a
+    → a.agenda ≡ d ∷ rest
+    → next_by t (is_running a.status) a.head d (m.memory (address_of m.rows t a.head d)) ≡ next → (x : ℕ)
+    → Weighed m (done_by m t a d rest) x d next
 weighed_after m t a d rest next is agenda follows x =
     let found = m.memory (address_of m.rows t a.head d) in
     let head = head_by a.head d found in
-    let now : ready head (next_by t (is_running a.status) a.head d found ++ rest) ≡ ready head (next ++ rest) = ap (λ (ds : List Duty). ready head (ds ++ rest)) follows in
+    let now : ready head (next_by t (is_running a.status) a.head d found ++ rest) ≡ ready head (next ++ rest) =
+    ap (λ (ds : List Duty). ready head (ds ++ rest)) follows in
     record {
-      waiting = weight-stepped (waits x) (light (waits x) refl (λ y n. refl)) m.actors t a _ d next rest head is agenda now;
-      carried = weight-stepped (carries x) (light (carries x) refl (λ y n. refl)) m.actors t a _ d next rest head is agenda now;
-      merging = weight-stepped (merges x) (light (merges x) refl (λ y n. refl)) m.actors t a _ d next rest head is agenda now;
-      deciding = weight-stepped (decides x) (light (decides x) refl (λ y n. refl)) m.actors t a _ d next rest head is agenda now;
+      waiting =
+          weight-stepped (waits x) (light (waits x) refl (λ y n. refl)) m.actors t a _ d next rest head is agenda now;
+      carried =
+          weight-stepped (carries x) (light (carries x) refl (λ y n. refl)) m.actors t a _ d next rest head is agenda
+          now;
+      merging =
+          weight-stepped (merges x) (light (merges x) refl (λ y n. refl)) m.actors t a _ d next rest head is agenda now;
+      deciding =
+          weight-stepped (decides x) (light (decides x) refl (λ y n. refl)) m.actors t a _ d next rest head is agenda
+          now;
     }
 
 -- ---- where nothing merges, nothing is carried
 
-sum_none : {X : Type 0} (f g : X → ℕ) → ((x : X) → f x ≡ 0 → g x ≡ 0) → (xs : List X) → sum_by f xs ≡ 0 → sum_by g xs ≡ 0
+sum_none : {X : Type 0} (f g : X → ℕ) → ((x : X) → f x ≡ 0 → g x ≡ 0) → (xs : List X) → sum_by f xs ≡ 0
+    → sum_by g xs ≡ 0
 sum_none f g each [] none = refl
 sum_none f g each (x ∷ xs) none =
     let sum = sum_by-cons f x xs in
@@ -85,7 +105,10 @@ sum_none f g each (x ∷ xs) none =
     omega (arith, sum_by-cons g x xs, this, others)
 
 carried_if : (y x c : ℕ) → one_if (y == x) ≡ 0 → cond (y == x) c 0 ≡ 0
-carried_if y x c none = elim (y == x) as (λ b. one_if b ≡ 0 → cond b c 0 ≡ 0) [ true ↦ λ e. absurd (omega (arith, e)) | false ↦ λ e. refl ] none
+carried_if y x c none = elim (y == x) as (λ b. one_if b ≡ 0 → cond b c 0 ≡ 0) [
+  | true ↦ λ e. absurd (omega (arith, e))
+  | false ↦ λ e. refl
+] none
 
 carries_none : (x : ℕ) (d : Duty) → merges x d ≡ 0 → carries x d ≡ 0
 carries_none x (MergeLoad y c) none = carried_if y x c none
@@ -94,7 +117,8 @@ carries_none x d none = refl
 
 pub none_carried : (x : ℕ) (actors : List Actor) → weight (merges x) actors ≡ 0 → weight (carries x) actors ≡ 0
 none_carried x actors none =
-    sum_none (agenda_weight (merges x)) (agenda_weight (carries x)) (λ (a : Actor). sum_none (merges x) (carries x) (carries_none x) a.agenda) actors none
+    sum_none (agenda_weight (merges x)) (agenda_weight (carries x))
+    (λ (a : Actor). sum_none (merges x) (carries x) (carries_none x) a.agenda) actors none
 
 -- ---- what weighs something is somewhere
 

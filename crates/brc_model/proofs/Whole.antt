@@ -16,7 +16,8 @@ use Rattle.brc_model.proofs.Rule.{Rule}
 use Rattle.brc_model.proofs.Leaves.{AtDuty}
 use Rattle.brc_model.proofs.Neutral.{OwnFits, found_by}
 use Rattle.brc_model.proofs.OwnRetains.{own_retain_counted}
-use Rattle.brc_model.proofs.OwnReleases.{own_retain_store, own_retain_add, own_release_counted, release_held, own_release_store, own_decide, own_shared_load, own_shared_exchange}
+use Rattle.brc_model.proofs.OwnReleases.{own_retain_store, own_retain_add, own_release_counted, release_held, own_release_store, own_decide}
+use Rattle.brc_model.proofs.OwnShared.{own_shared_load, own_shared_exchange}
 use Rattle.brc_model.proofs.OwnMerges.{own_set_mark, own_look, own_take_mark, own_merge_swap_own, own_merge_swap_handed, own_merge_load, own_merge_exchange}
 use Rattle.brc_model.proofs.OwnChains.{own_die, own_settle, own_settle_end}
 use Rattle.brc_model.proofs.OwnSettles.{own_settle_kind, own_settle_cell, own_take_slot, own_close_resource}
@@ -36,14 +37,18 @@ pub record Whole (p : Module) (n : ℕ) (m : Machine) : Type 0 where
 
 -- ---- a duty
 
-own_fits : (p : Module) (n : ℕ) (m : Machine) (t : ℕ) (a : Actor) (d : Duty) (rest : List Duty) → AtDuty p n m t a d rest → (a.status ≡ Gone → ⊥) → IsSettled a.head (d ∷ rest)
+own_fits : (p : Module) (n : ℕ) (m : Machine) (t : ℕ) (a : Actor) (d : Duty) (rest : List Duty)
+    → AtDuty p n m t a d rest → (a.status ≡ Gone → ⊥) → IsSettled a.head (d ∷ rest)
     → OwnFits p (done_by m t a d rest) t (actor_by t a d rest (found_by m t a d))
 own_fits p n m t a (RetainLoad zero h) rest here alive settled = own_retain_none p n m t a h rest here alive
-own_fits p n m t a (RetainLoad (suc x) h) rest here alive settled = own_retain_counted p n m t a (suc x) h rest (omega arith) here alive
+own_fits p n m t a (RetainLoad (suc x) h) rest here alive settled =
+    own_retain_counted p n m t a (suc x) h rest (omega arith) here alive
 own_fits p n m t a (RetainStore x h w) rest here alive settled = own_retain_store p n m t a x h w rest here alive
 own_fits p n m t a (RetainAdd x h) rest here alive settled = own_retain_add p n m t a x h rest here alive
-own_fits p n m t a (ReleaseLoad zero h) rest here alive settled = own_release_none p n m t a h rest here alive (release_held p n m t a 0 h rest here)
-own_fits p n m t a (ReleaseLoad (suc x) h) rest here alive settled = own_release_counted p n m t a (suc x) h rest (omega arith) here alive
+own_fits p n m t a (ReleaseLoad zero h) rest here alive settled =
+    own_release_none p n m t a h rest here alive (release_held p n m t a 0 h rest here)
+own_fits p n m t a (ReleaseLoad (suc x) h) rest here alive settled =
+    own_release_counted p n m t a (suc x) h rest (omega arith) here alive
 own_fits p n m t a (ReleaseStore x w) rest here alive settled = own_release_store p n m t a x w rest here alive
 own_fits p n m t a (DecideAtZero x) rest here alive settled = own_decide p n m t a x rest here alive
 own_fits p n m t a (SharedLoad x r) rest here alive settled = own_shared_load p n m t a x r rest here alive
@@ -80,28 +85,40 @@ pub record Doing (p : Module) (n : ℕ) (m : Machine) (t : ℕ) (a : Actor) (d :
 abbrev pub KeepsOn : Module → ℕ → Bool → Machine → Type 0
 KeepsOn p n bad m = (bad ≡ false) × Whole p n m
 
-pub keeps_duty : (p : Module) (n : ℕ) (m : Machine) (t : ℕ) (a : Actor) (d : Duty) (rest : List Duty) → Doing p n m t a d rest → KeepsOn p n (is_bad_duty m t a d) (done_by m t a d rest)
+pub keeps_duty : (p : Module) (n : ℕ) (m : Machine) (t : ℕ) (a : Actor) (d : Duty) (rest : List Duty)
+    → Doing p n m t a d rest → KeepsOn p n (is_bad_duty m t a d) (done_by m t a d rest)
 keeps_duty p n m t a d rest doing =
-    let here : AtDuty p n m t a d rest = record { rule = doing.whole.rule; found = doing.found; agenda = doing.agenda } in
-    let settled : IsSettled a.head (d ∷ rest) = subst (IsSettled a.head) doing.agenda (doing.whole.settled t a doing.found) in (
+    let here : AtDuty p n m t a d rest =
+    record { rule = doing.whole.rule; found = doing.found; agenda = doing.agenda } in
+    let settled : IsSettled a.head (d ∷ rest) =
+    subst (IsSettled a.head) doing.agenda (doing.whole.settled t a doing.found) in (
       duty_not_bad p n m t a d rest here,
       record {
-        rule = keeps_by p n m t a d rest here doing.alive (own_fits p n m t a d rest here doing.alive settled) (λ x. marks_after p n m t a d rest here doing.alive x);
-        settled = λ u b is. written_actor (λ w c. IsSettled c.head c.agenda) m.actors t a (actor_by t a d rest (found_by m t a d)) doing.found (settled_after p n m t a d rest here doing.alive settled) doing.whole.settled u b is;
+        rule =
+            keeps_by p n m t a d rest here doing.alive (own_fits p n m t a d rest here doing.alive settled)
+            (λ x. marks_after p n m t a d rest here doing.alive x);
+        settled =
+            λ u b is. written_actor (λ w c. IsSettled c.head c.agenda) m.actors t a
+            (actor_by t a d rest (found_by m t a d)) doing.found
+            (settled_after p n m t a d rest here doing.alive settled) doing.whole.settled u b is;
       },
     )
 
 -- ---- what is taken up
 
-pub whole_sits : (p : Module) (n : ℕ) (m : Machine) (t : ℕ) (a : Actor) (place : Place) (agenda : List Duty) → Whole p n m → AtRest p n m t a → Sits p m t a place agenda → IsSettled a.head agenda
+pub whole_sits : (p : Module) (n : ℕ) (m : Machine) (t : ℕ) (a : Actor) (place : Place) (agenda : List Duty)
+    → Whole p n m → AtRest p n m t a → Sits p m t a place agenda → IsSettled a.head agenda
     → Whole p n (with_actor m t (sitting a place agenda))
 whole_sits p n m t a place agenda whole rest sits settled = record {
   rule = sits_rule p n m t a place agenda rest sits;
-  settled = λ u b is. written_actor (λ w c. IsSettled c.head c.agenda) m.actors t a (sitting a place agenda) rest.found settled whole.settled u b is;
+  settled =
+      λ u b is. written_actor (λ w c. IsSettled c.head c.agenda) m.actors t a (sitting a place agenda) rest.found
+      settled whole.settled u b is;
 }
 
 -- the thread that has taken duties up stands at the first of them
-pub sits_down : (p : Module) (n : ℕ) (m : Machine) (t : ℕ) (a : Actor) (place : Place) (d : Duty) (rest : List Duty) → Whole p n m → AtRest p n m t a → Sits p m t a place (d ∷ rest) → IsSettled a.head (d ∷ rest)
+pub sits_down : (p : Module) (n : ℕ) (m : Machine) (t : ℕ) (a : Actor) (place : Place) (d : Duty) (rest : List Duty)
+    → Whole p n m → AtRest p n m t a → Sits p m t a place (d ∷ rest) → IsSettled a.head (d ∷ rest)
     → Doing p n (with_actor m t (sitting a place (d ∷ rest))) t (sitting a place (d ∷ rest)) d rest
 sits_down p n m t a place d rest whole at sits settled = record {
   whole = whole_sits p n m t a place (d ∷ rest) whole at sits settled;
@@ -111,14 +128,17 @@ sits_down p n m t a place d rest whole at sits settled = record {
 }
 
 -- a duty that is taken up and done at once
-pub taken_up : (p : Module) (n : ℕ) (m : Machine) (t : ℕ) (a : Actor) (place : Place) (d : Duty) (rest : List Duty) → Whole p n m → AtRest p n m t a → Sits p m t a place (d ∷ rest) → IsSettled a.head (d ∷ rest)
+pub taken_up : (p : Module) (n : ℕ) (m : Machine) (t : ℕ) (a : Actor) (place : Place) (d : Duty) (rest : List Duty)
+    → Whole p n m → AtRest p n m t a → Sits p m t a place (d ∷ rest) → IsSettled a.head (d ∷ rest)
     → KeepsOn p n (is_bad_duty m t a d) (done_by m t (at_place a place) d rest)
 taken_up p n m t a place d rest whole at sits settled =
     let now = sitting a place (d ∷ rest) in
-    let done = keeps_duty p n (with_actor m t now) t now d rest (sits_down p n m t a place d rest whole at sits settled) in
+    let done =
+    keeps_duty p n (with_actor m t now) t now d rest (sits_down p n m t a place d rest whole at sits settled) in
     (done.0, subst (Whole p n) (taken_up_step m t a place d rest) done.1)
 
-pub starts_settled : (bag : List Reference) (rows t used head : ℕ) (place : Place) (d : Duty) (rest : List Duty) → Starts bag rows t used d rest → Follows rows t used place rest → IsSettled head (d ∷ rest)
+pub starts_settled : (bag : List Reference) (rows t used head : ℕ) (place : Place) (d : Duty) (rest : List Duty)
+    → Starts bag rows t used d rest → Follows rows t used place rest → IsSettled head (d ∷ rest)
 starts_settled bag rows t used head place d rest (Gives row h behind some) (Nothing stays) = tt
 starts_settled bag rows t used head place d rest (Gives row h behind some) (SettlesFirst stays) = tt
 starts_settled bag rows t used head place d rest (Gives row h behind some) (Leaves leaves) = tt

@@ -13,7 +13,8 @@ same_address-true (Shared x) (Shared y) e = ap Shared (eqb-true x y e)
 same_address-true (Gate x) (Gate y) e = ap Gate (eqb-true x y e)
 same_address-true (KindOf x) (KindOf y) e = ap KindOf (eqb-true x y e)
 same_address-true (Mark x) (Mark y) e = ap Mark (eqb-true x y e)
-same_address-true (Cell x i) (Cell y j) e = λ k. Cell (eqb-true x y (and_first (x == y) (i == j) e) k) (eqb-true i j (and_second (x == y) (i == j) e) k)
+same_address-true (Cell x i) (Cell y j) e =
+    λ k. Cell (eqb-true x y (and_first (x == y) (i == j) e) k) (eqb-true i j (and_second (x == y) (i == j) e) k)
 same_address-true (Slot x) (Slot y) e = ap Slot (eqb-true x y e)
 same_address-true (Resource x) (Resource y) e = ap Resource (eqb-true x y e)
 same_address-true (ThreadWord x) (ThreadWord y) e = ap ThreadWord (eqb-true x y e)
@@ -33,7 +34,8 @@ same_address-refl (ThreadWord x) = eq-eqb x x refl
 pub written_here : (memory : Address → ℕ) (a : Address) (v : ℕ) → written memory a v a ≡ v
 written_here memory a v = ap (λ (b : Bool). cond b v (memory a)) (same_address-refl a)
 
-pub written_apart : (memory : Address → ℕ) (a b : Address) (v : ℕ) → same_address a b ≡ false → written memory a v b ≡ memory b
+pub written_apart : (memory : Address → ℕ) (a b : Address) (v : ℕ) → same_address a b ≡ false
+    → written memory a v b ≡ memory b
 written_apart memory a b v apart = ap (λ (t : Bool). cond t v (memory b)) apart
 
 -- a load writes what it found

@@ -1,5 +1,5 @@
--- What the counts of a row add up to, and what each phase implies. (PEP 703, Biased Reference Counting: an object's references
--- are its local count and its shared count together; it is freed from default and merged alone.)
+-- What the counts of a row add up to, and what each phase implies. (PEP 703, Biased Reference Counting: an object's
+-- references are its local count and its shared count together; it is freed from default and merged alone.)
 use Rattle.std.specs.Prelude.{◌≡◌, ◌⊎◌, ℕ, ◌+◌, ◌<◌, ◌≤◌, Bool, true, false, ◌||◌, ◌==◌, if◌then◌else◌, Some, slice_get, sum_by}
 use Rattle.std.specs.List.{list_any}
 use Rattle.brc_model.specs.Plain.{references_to}

@@ -1,5 +1,5 @@
--- What a thread has still to do inside an instruction or its exit: an agenda of duties, each of which is one step on one
--- word, and names the duties that follow it by what the step found.
+-- What a thread has still to do inside an instruction or its exit: an agenda of duties, each of which is one step on
+-- one word, and names the duties that follow it by what the step found.
 use Rattle.std.specs.Prelude.{ℕ, zero, suc, ◌+◌, ◌-◌, ◌/◌, Bool, ◌&&◌, ◌||◌, ◌==◌, nat_lt, if◌then◌else◌, List, [], ◌∷◌, ◌++◌}
 use Rattle.brc_model.specs.declared.duty.Holding.TheVariants.{InHand}
 use Rattle.brc_model.specs.declared.duty.Reason.TheVariants.{Own, Handed}
@@ -108,7 +108,8 @@ abbrev pub release_found : ℕ → List Duty
 release_found zero = []
 release_found (suc y) = ReleaseLoad y InHand ∷ []
 
--- the duties that take the place of one whose step found so; a release under way leaves the rest of the agenda for later
+-- the duties that take the place of one whose step found so; a release under way leaves the rest of the agenda for
+-- later
 abbrev pub next_by : ℕ → Bool → ℕ → Duty → ℕ → List Duty
 next_by t running head (RetainLoad x h) found =
     if is_immortal_word found then []
@@ -133,7 +134,8 @@ next_by t running head (MergeExchange x c w) found =
     if found == w then (if merged_word w c == dead_word then Die x ∷ [] else []) else MergeLoad x c ∷ []
 next_by t running head (Die x) found = []
 next_by t running head Settle found = SettleKind (head - 1) ∷ Settle ∷ []
-next_by t running head (SettleKind x) found = if has_resource found then TakeSlot x ∷ [] else cells_from x 0 (cells_of found)
+next_by t running head (SettleKind x) found =
+    if has_resource found then TakeSlot x ∷ [] else cells_from x 0 (cells_of found)
 next_by t running head (SettleCell x i n) found = release_found found ++ cells_from x (i + 1) n
 next_by t running head (TakeSlot x) found = CloseResource x ∷ []
 next_by t running head (CloseResource x) found = SettleEnd x ∷ []

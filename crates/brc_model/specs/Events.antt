@@ -1,4 +1,5 @@
--- Which events are bad: one that touches a freed row, one that makes a move that isn't allowed, and one that can't go on.
+-- Which events are bad: one that touches a freed row, one that makes a move that isn't allowed, and one that can't go
+-- on.
 use Rattle.std.specs.Prelude.{ℕ, Bool, true, false, ◌||◌, ◌==◌, not, if◌then◌else◌, List, [], ◌∷◌, Option, None, Some, slice_get}
 use Rattle.brc_model.specs.Plain.{are_allowed}
 use Rattle.brc_model.specs.declared.duty.Duty.{Duty}
@@ -37,7 +38,8 @@ touches_freed m t (Some x) = is_freed_for t (m.life x)
 
 abbrev pub is_bad_duty : Machine → ℕ → Actor → Duty → Bool
 is_bad_duty m t a d =
-    touches_freed m t (touched_row (address_of m.rows t a.head d)) || not (are_allowed m.plain (moves_by m.memory t d (m.memory (address_of m.rows t a.head d))))
+    touches_freed m t (touched_row (address_of m.rows t a.head d))
+    || not (are_allowed m.plain (moves_by m.memory t d (m.memory (address_of m.rows t a.head d))))
 
 abbrev pub is_bad_begun : Machine → ℕ → Actor → Begun → Bool
 is_bad_begun m t a Stuck = true

@@ -1,5 +1,5 @@
--- The step world: memory, a word at each address; threads, each with an agenda; and beside them the plain world
--- and the life of each row. A step does the first duty of one thread's agenda, or takes up its next instruction with it.
+-- The step world: memory, a word at each address; threads, each with an agenda; and beside them the plain world and the
+-- life of each row. A step does the first duty of one thread's agenda, or takes up its next instruction with it.
 use Rattle.std.specs.Prelude.{ℕ, zero, suc, ◌+◌, ◌*◌, Bool, true, false, ◌&&◌, ◌==◌, nat_lt, nat_le, if◌then◌else◌, List, [], ◌∷◌, ◌++◌, length, map, Option, None, Some, fold, slice_get, slice_set}
 use Rattle.brc_lang.specs.declared.module.Instr.{Instr}
 use Rattle.brc_lang.specs.declared.module.Instr.TheVariants.{Num, NoneObject, Newref, Move as MoveReference, Drop, Goto, Ret, Fail}
@@ -118,16 +118,22 @@ abbrev pub begun_instruction : ℕ → ℕ → ℕ → ℕ → ℕ → List (Opt
 begun_instruction rows t used left at variables None = Stuck
 begun_instruction rows t used left at variables (Some (Num to value otherwise)) =
     if has_room rows t used
-    then Work (BirthKind (next_row rows t used) (ByVariable to) (number_word value) ∷ []) (Inside left (at + 1) (slice_set variables to (Some (next_row rows t used))))
+    then Work (BirthKind (next_row rows t used) (ByVariable to) (number_word value) ∷ [])
+    (Inside left (at + 1) (slice_set variables to (Some (next_row rows t used))))
     else Quiet [] (Inside left otherwise (slice_set variables to None))
 begun_instruction rows t used left at variables (Some (NoneObject to)) =
     Quiet (gain t (ByVariable to) none_row) (Inside left (at + 1) (slice_set variables to (Some none_row)))
 begun_instruction rows t used left at variables (Some (Newref to from)) =
-    with_row (row_of variables from) (λ row. Work (RetainLoad row (ByVariable to) ∷ []) (Inside left (at + 1) (slice_set variables to (Some row))))
+    with_row (row_of variables from)
+    (λ row. Work (RetainLoad row (ByVariable to) ∷ []) (Inside left (at + 1) (slice_set variables to (Some row))))
 begun_instruction rows t used left at variables (Some (MoveReference to from)) =
-    with_row (row_of variables from) (λ row. Quiet (pass_on t (ByVariable from) (ByVariable to) row) (Inside left (at + 1) (slice_set (slice_set variables from None) to (Some row))))
+    with_row (row_of variables from)
+    (λ row. Quiet (pass_on t (ByVariable from) (ByVariable to) row)
+    (Inside left (at + 1) (slice_set (slice_set variables from None) to (Some row))))
 begun_instruction rows t used left at variables (Some (Drop from)) =
-    with_row (row_of variables from) (λ row. Work (ReleaseLoad row (ByVariable from) ∷ Settle ∷ []) (Inside left (at + 1) (slice_set variables from None)))
+    with_row (row_of variables from)
+    (λ row. Work (ReleaseLoad row (ByVariable from) ∷ Settle ∷ [])
+    (Inside left (at + 1) (slice_set variables from None)))
 begun_instruction rows t used left at variables (Some (Goto to)) = Quiet [] (Inside left to variables)
 begun_instruction rows t used left at variables (Some (Ret from)) =
     with_row (row_of variables from) (λ row. Work (ReleaseLoad row (ByVariable from) ∷ Settle ∷ []) (Standing left))
@@ -136,7 +142,8 @@ begun_instruction rows t used left at variables (Some Fail) = Quiet [] (Standing
 -- with no call left a thread gives up its reference to the root, settles, and leaves
 abbrev pub begun : ℕ → ℕ → ℕ → List Instr → Place → Begun
 begun rows t used code Departing = Stuck
-begun rows t used code (Standing zero) = Work (ReleaseLoad root_row AsCaller ∷ Settle ∷ Leave (first_row rows t) used ∷ []) Departing
+begun rows t used code (Standing zero) =
+    Work (ReleaseLoad root_row AsCaller ∷ Settle ∷ Leave (first_row rows t) used ∷ []) Departing
 begun rows t used code (Standing (suc left)) = begun_instruction rows t used left 0 entry_variables (slice_get code 0)
 begun rows t used code (Inside left at variables) = begun_instruction rows t used left at variables (slice_get code at)
 
@@ -208,7 +215,8 @@ born_row (BirthLocal x h) = Some x
 born_row _ = None
 
 abbrev pub life_by : (ℕ → Life) → ℕ → Duty → List Duty → ℕ → Life
-life_by life t d next = with_life (with_life (with_life life (dies_next next) (Dying t)) (ended_row d) Closed) (born_row d) Live
+life_by life t d next =
+    with_life (with_life (with_life life (dies_next next) (Dying t)) (ended_row d) Closed) (born_row d) Live
 
 -- ---- one step
 
@@ -238,14 +246,31 @@ done_by m t a d rest =
     }
 
 abbrev pub at_place : Actor → Place → Actor
-at_place a place = record { function = a.function; place = place; status = a.status; agenda = a.agenda; head = a.head; used = a.used }
+at_place a place =
+    record { function = a.function; place = place; status = a.status; agenda = a.agenda; head = a.head; used = a.used }
 
 abbrev pub with_actor : Machine → ℕ → Actor → Machine
-with_actor m t a = record { functions = m.functions; rows = m.rows; memory = m.memory; actors = slice_set m.actors t a; plain = m.plain; life = m.life }
+with_actor m t a =
+    record {
+      functions = m.functions;
+      rows = m.rows;
+      memory = m.memory;
+      actors = slice_set m.actors t a;
+      plain = m.plain;
+      life = m.life;
+    }
 
 -- the machine after so many moves of the plain world
 abbrev pub with_moves : Machine → List Move → Machine
-with_moves m moves = record { functions = m.functions; rows = m.rows; memory = m.memory; actors = m.actors; plain = moved m.plain moves; life = m.life }
+with_moves m moves =
+    record {
+      functions = m.functions;
+      rows = m.rows;
+      memory = m.memory;
+      actors = m.actors;
+      plain = moved m.plain moves;
+      life = m.life;
+    }
 
 abbrev pub begins : Machine → ℕ → Actor → Begun → Machine
 begins m t a Stuck = m
@@ -269,7 +294,9 @@ acts m t a Leaving = goes_on m t a a.agenda
 -- a queue is looked into by a running thread that stands outside its calls, for a used row of its own block
 abbrev pub may_claim : ℕ → ℕ → Actor → ℕ → Bool
 may_claim rows t a row = elim a.place [
-  | Standing left ↦ is_running a.status && (length a.agenda == 0) && nat_le (first_row rows t) row && nat_lt row (first_row rows t + a.used)
+  | Standing left ↦
+      is_running a.status && (length a.agenda == 0) && nat_le (first_row rows t) row
+      && nat_lt row (first_row rows t + a.used)
   | Inside left at variables ↦ false
   | Departing ↦ false
 ]
@@ -292,7 +319,8 @@ abbrev pub main_actor : Actor
 main_actor = record { function = 0; place = Standing 0; status = Running; agenda = []; head = 0; used = 2 }
 
 abbrev pub worker_actor : Call → Actor
-worker_actor c = record { function = c.function; place = Standing c.times; status = Running; agenda = []; head = 0; used = 0 }
+worker_actor c =
+    record { function = c.function; place = Standing c.times; status = Running; agenda = []; head = 0; used = 0 }
 
 -- none is immortal, the root is a list of eight cells that main owns, with a count for main and each worker
 abbrev pub first_memory : ℕ → Address → ℕ

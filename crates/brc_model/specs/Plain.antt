@@ -1,6 +1,6 @@
--- The plain world knows nothing of counts: it is the bag of all references, each with its holder and its object, the lists
--- of the objects that were born and of those that were closed, and what each object is. (Python/C API manual, Reference
--- Count Details: a reference is owned by one holder.)
+-- The plain world knows nothing of counts: it is the bag of all references, each with its holder and its object, the
+-- lists of the objects that were born and of those that were closed, and what each object is. (Python/C API manual,
+-- Reference Count Details: a reference is owned by one holder.)
 use Rattle.std.specs.Prelude.{ℕ, Bool, true, false, ◌&&◌, ◌||◌, ◌==◌, not, nat_lt, if◌then◌else◌, List, [], ◌∷◌, ◌++◌, count_by}
 use Rattle.brc_model.specs.declared.duty.Holding.{Holding}
 use Rattle.brc_model.specs.declared.duty.Holding.TheVariants.{ByVariable, AsCaller, InHand}
@@ -81,15 +81,17 @@ pub data Move : Type 0 where
   HandOn : Reference → Holder → Move
   Finalise : ℕ → Move
 
--- What is born is a counted object that wasn't born before, of a kind that is counted; a reference is gained to none or to an
--- object that is referenced already; one that is lost or handed on is there; and what is finalised is a counted object that
--- nothing references, for the first time, and a list only when its cells hold no reference.
+-- What is born is a counted object that wasn't born before, of a kind that is counted; a reference is gained to none or
+-- to an object that is referenced already; one that is lost or handed on is there; and what is finalised is a counted
+-- object that nothing references, for the first time, and a list only when its cells hold no reference.
 abbrev pub is_allowed : Plain → Move → Bool
 is_allowed p (Born r kind) = is_counted r.object && is_counted_kind kind && not (is_among r.object p.born)
 is_allowed p (Gain r) = (r.object == none_row) || nat_lt 0 (references_to r.object p.references)
 is_allowed p (Lose r) = list_any (same r) p.references
 is_allowed p (HandOn r h) = list_any (same r) p.references
-is_allowed p (Finalise x) = is_counted x && (references_to x p.references == 0) && not (is_among x p.closed) && not (holds_by_cells x p.references)
+is_allowed p (Finalise x) =
+    is_counted x && (references_to x p.references == 0) && not (is_among x p.closed)
+    && not (holds_by_cells x p.references)
 
 -- the kinds with one object's given
 abbrev pub with_kind : (ℕ → Kind) → ℕ → Kind → ℕ → Kind

@@ -1,6 +1,6 @@
--- What one event may change in the words of a row, and what it never changes. (PEP 703, Biased Reference Counting: an object's
--- state goes from default by queued to merged, only the owning thread changes the local count, and immortal objects stay as
--- they are.)
+-- What one event may change in the words of a row, and what it never changes. (PEP 703, Biased Reference Counting: an
+-- object's state goes from default by queued to merged, only the owning thread changes the local count, and immortal
+-- objects stay as they are.)
 use Rattle.std.specs.Prelude.{◌≡◌, ◌≢◌, ◌⊎◌, ℕ, ◌+◌, ◌<◌, ◌≤◌, ◌==◌, true, false, List, [], ◌∷◌, ◌++◌, count_by, slice_get, Some, ◌↔◌}
 use Rattle.brc_lang.specs.declared.module.Module.{Module}
 use Rattle.brc_model.specs.declared.thread.Call.{Call}
@@ -18,7 +18,9 @@ use Rattle.brc_model.specs.World.{world_of, row_count}
 
 -- in each machine that the module's events lead to
 abbrev pub Always : (Machine → Type 0) → Module → Type 0
-Always P p = (rows : ℕ) (calls : List Call) (events : List (ℕ × Choice)) → 0 < rows → rows ≤ 1024 → AreCalls p calls → P (machine_after (first_machine p rows calls) events)
+Always P p =
+    (rows : ℕ) (calls : List Call) (events : List (ℕ × Choice)) → 0 < rows → rows ≤ 1024 → AreCalls p calls
+    → P (machine_after (first_machine p rows calls) events)
 
 -- at each event, by any thread, in each such machine
 abbrev pub AtEachEvent : (Machine → ℕ × Choice → Type 0) → Module → Type 0
@@ -35,11 +37,16 @@ Runs m t = (a : Actor) × (slice_get m.actors t ≡ Some a) × (a.status ≡ Run
 
 -- while its owner runs, a row's local word is changed by the owner's events alone
 abbrev pub OnlyOwnersCount : Machine → ℕ × Choice → Type 0
-OnlyOwnersCount m event = (x owner : ℕ) → owner_part (m.memory (Local x)) ≡ owner + 1 → Runs m owner → (next_machine m event).memory (Local x) ≢ m.memory (Local x) → event.0 ≡ owner
+OnlyOwnersCount m event =
+    (x owner : ℕ) → owner_part (m.memory (Local x)) ≡ owner + 1 → Runs m owner
+    → (next_machine m event).memory (Local x) ≢ m.memory (Local x) → event.0 ≡ owner
 
 -- a row that was born keeps its owner, or nobody owns it any more
 abbrev pub OwnersStay : Machine → ℕ × Choice → Type 0
-OwnersStay m event = (x : ℕ) → m.life x ≢ Unborn → (owner_part ((next_machine m event).memory (Local x)) ≡ owner_part (m.memory (Local x))) ⊎ (owner_part ((next_machine m event).memory (Local x)) ≡ 0)
+OwnersStay m event =
+    (x : ℕ) → m.life x ≢ Unborn
+    → (owner_part ((next_machine m event).memory (Local x)) ≡ owner_part (m.memory (Local x)))
+    ⊎ (owner_part ((next_machine m event).memory (Local x)) ≡ 0)
 
 -- what is closed stays closed
 abbrev pub ClosedStays : Machine → ℕ × Choice → Type 0
@@ -47,7 +54,10 @@ ClosedStays m event = (x : ℕ) → is_among x m.plain.closed ≡ true → is_am
 
 -- an event finalises nothing, or one row that wasn't finalised before
 abbrev pub ClosesAnew : Machine → ℕ × Choice → Type 0
-ClosesAnew m event = ((next_machine m event).plain.closed ≡ m.plain.closed) ⊎ ((row : ℕ) × (is_among row m.plain.closed ≡ false) × ((next_machine m event).plain.closed ≡ m.plain.closed ++ row ∷ []))
+ClosesAnew m event =
+    ((next_machine m event).plain.closed ≡ m.plain.closed)
+    ⊎ ((row : ℕ) × (is_among row m.plain.closed ≡ false)
+    × ((next_machine m event).plain.closed ≡ m.plain.closed ++ row ∷ []))
 
 -- an immortal row's words stay as they are
 pub record StaysAt (m next : Machine) (x : ℕ) : Type 0 where
@@ -98,4 +108,6 @@ GatesTell m = (x : ℕ) → (m.memory (Gate x) ≡ closed_word) ↔ (is_among x 
 
 -- each row that is born is among the used rows of its thread's block
 abbrev pub BornAreUsed : Machine → Type 0
-BornAreUsed m = (x : ℕ) → m.life x ≢ Unborn → (a : Actor) × (slice_get m.actors (block_of m.rows x) ≡ Some a) × (first_row m.rows (block_of m.rows x) ≤ x) × (x < first_row m.rows (block_of m.rows x) + a.used)
+BornAreUsed m =
+    (x : ℕ) → m.life x ≢ Unborn → (a : Actor) × (slice_get m.actors (block_of m.rows x) ≡ Some a)
+    × (first_row m.rows (block_of m.rows x) ≤ x) × (x < first_row m.rows (block_of m.rows x) + a.used)

@@ -42,21 +42,27 @@ pub record IsHeldByOpenList (p : Plain) (r : Reference) : Type 0 where
 pub record IsSafeNow (m : Machine) : Type 0 where
   -- no event that can come next is bad
   pub none_bad : (event : ℕ × Choice) → is_bad_event m event ≡ false
-  -- the counts of each row add up to the references held and the decrements that await, and each phase says what it says
+  -- the counts of each row add up to the references held and the decrements that await, and each phase says what it
+  -- says
   pub agrees : (x : ℕ) → 0 < x → AgreesAt m x
   -- the kind word of what was born says its kind
   pub kinds : (x : ℕ) → m.life x ≢ Unborn → kind_part (m.memory (KindOf x)) ≡ kind_number (m.plain.kinds x)
   -- what is dying or closed is free
   pub free : (x : ℕ) → 0 < x → m.life x ≢ Live → m.life x ≢ Unborn → IsFreeOf m x
   pub closed_once : AllPairs (λ x y. x ≢ y) m.plain.closed
-  -- once all threads are gone, exactly what is born, counted and without a reference is closed, and no reference is left
-  pub closed_at_end : AllGone m → (x : ℕ) → (is_among x m.plain.closed ≡ true) ↔ ((is_among x m.plain.born ≡ true) × (references_to x m.plain.references ≡ 0))
+  -- once all threads are gone, exactly what is born, counted and without a reference is closed, and no reference is
+  -- left
+  pub closed_at_end : AllGone m → (x : ℕ)
+      → (is_among x m.plain.closed ≡ true)
+      ↔ ((is_among x m.plain.born ≡ true) × (references_to x m.plain.references ≡ 0))
   pub none_left : AllGone m → m.plain.references ≡ []
   -- and each reference that is left is held by a list that is
   pub left_in_lists : AllGone m → All (IsHeldByOpenList m.plain) m.plain.references
 
--- For every number of workers and rows, every list of calls and every list of steps and choices, stopped anywhere: no event
--- is bad, the counts of each row add up to the references held and the decrements that await, and nothing is closed twice.
--- Once all threads are gone, exactly what has no reference has been closed.
+-- For every number of workers and rows, every list of calls and every list of steps and choices, stopped anywhere: no
+-- event is bad, the counts of each row add up to the references held and the decrements that await, and nothing is
+-- closed twice. Once all threads are gone, exactly what has no reference has been closed.
 abbrev pub Safe : Module → Type 0
-Safe m = (rows : ℕ) (calls : List Call) (events : List (ℕ × Choice)) → 0 < rows → rows ≤ 1024 → AreCalls m calls → IsSafeNow (machine_after (first_machine m rows calls) events)
+Safe m =
+    (rows : ℕ) (calls : List Call) (events : List (ℕ × Choice)) → 0 < rows → rows ≤ 1024 → AreCalls m calls
+    → IsSafeNow (machine_after (first_machine m rows calls) events)

@@ -86,7 +86,8 @@ stands i s code = list_any (breaks s code) (conditions_of i)
 
 -- what conditions can break by, lowest first
 abbrev pub rising : List CheckCode
-rising = EmptyUsed ∷ WrongKind ∷ NotOwned ∷ StillOwns ∷ LeftOwned ∷ LeftLocked ∷ SecondLock ∷ NotLocked ∷ LockedChanged ∷ []
+rising =
+    EmptyUsed ∷ WrongKind ∷ NotOwned ∷ StillOwns ∷ LeftOwned ∷ LeftLocked ∷ SecondLock ∷ NotLocked ∷ LockedChanged ∷ []
 
 -- the lowest code that stands
 abbrev pub lowest : Instr → State → Option CheckCode

@@ -39,13 +39,16 @@ entry_at row at = slice_index_or row at None
 -- a row for each function, an entry for each of its points
 pub record HasShape (functions : List Function) (table : List (List (Option State))) : Type 0 where
   pub rows : length table ≡ length functions
-  pub points : (number : ℕ) (f : Function) → slice_get functions number ≡ Some f → length (row_of table number) ≡ length f.code
+  pub points : (number : ℕ) (f : Function) → slice_get functions number ≡ Some f
+      → length (row_of table number) ≡ length f.code
 
 pub record IsTrueTable (m : Module) (table : List (List (Option State))) : Type 0 where
   pub shape : HasShape m.functions table
-  pub entries : (number at : ℕ) (f : Function) → slice_get m.functions number ≡ Some f → IsTrueEntry f.code at (entry_at (row_of table number) at)
+  pub entries : (number at : ℕ) (f : Function) → slice_get m.functions number ≡ Some f
+      → IsTrueEntry f.code at (entry_at (row_of table number) at)
 
 -- each point that a walk reaches has the walk's state; of the others nothing is said
 pub record IsTrueWhereReached (m : Module) (table : List (List (Option State))) : Type 0 where
   pub shape : HasShape m.functions table
-  pub entries : (number at : ℕ) (f : Function) (s : State) → slice_get m.functions number ≡ Some f → Reaches f.code at s → entry_at (row_of table number) at ≡ Some s
+  pub entries : (number at : ℕ) (f : Function) (s : State) → slice_get m.functions number ≡ Some f → Reaches f.code at s
+      → entry_at (row_of table number) at ≡ Some s

@@ -1,5 +1,5 @@
--- What one thread does with words, one event after another: a thread is an automaton whose steps depend on what it finds,
--- and on nothing else that others do.
+-- What one thread does with words, one event after another: a thread is an automaton whose steps depend on what it
+-- finds, and on nothing else that others do.
 use Rattle.std.specs.Prelude.{◌≡◌, ◌≢◌, ℕ, ◌==◌, true, if◌then◌else◌, List, [], ◌∷◌, ◌++◌, Option, None, Some, slice_get}
 use Rattle.brc_lang.specs.declared.module.Function.{Function}
 use Rattle.brc_model.specs.declared.thread.Choice.{Choice}
@@ -25,7 +25,8 @@ pub record WordEvent : Type 0 where
 
 -- a duty on its word, whatever is found there
 abbrev pub event_of : ℕ → ℕ → Actor → Duty → ℕ → WordEvent
-event_of rows t a d found = record { address = address_of rows t a.head d; found = found; left = left_by t a.head d found }
+event_of rows t a d found =
+    record { address = address_of rows t a.head d; found = found; left = left_by t a.head d found }
 
 -- what the thread's next step takes up
 abbrev pub begun_in : List Function → ℕ → ℕ → Actor → Begun
@@ -34,22 +35,27 @@ begun_in functions rows t a = begun rows t a.used (code_of (slice_get functions 
 -- one step of a thread, with the word events that it makes, and the thread afterwards
 pub data MakesStep (functions : List Function) (rows t : ℕ) (a : Actor) : List WordEvent → Actor → Type 0 where
   -- with nothing to do, it stands elsewhere
-  Quietly : (moves : List Move) (place : Place) → a.status ≢ Gone → a.agenda ≡ [] → begun_in functions rows t a ≡ Quiet moves place
+  Quietly : (moves : List Move) (place : Place) → a.status ≢ Gone → a.agenda ≡ []
+      → begun_in functions rows t a ≡ Quiet moves place
       → MakesStep functions rows t a [] (at_place a place)
   -- it does the first duty of its agenda
   DoesDuty : (d : Duty) (rest : List Duty) (found : ℕ) → a.status ≢ Gone → a.agenda ≡ d ∷ rest
       → MakesStep functions rows t a (event_of rows t a d found ∷ []) (actor_by t a d rest found)
   -- with nothing to do, it takes duties up, and does the first of them
-  TakesUp : (place : Place) (d : Duty) (rest : List Duty) (found : ℕ) → a.status ≢ Gone → a.agenda ≡ [] → begun_in functions rows t a ≡ Work (d ∷ rest) place
-      → MakesStep functions rows t a (event_of rows t (at_place a place) d found ∷ []) (actor_by t (at_place a place) d rest found)
+  TakesUp : (place : Place) (d : Duty) (rest : List Duty) (found : ℕ) → a.status ≢ Gone → a.agenda ≡ []
+      → begun_in functions rows t a ≡ Work (d ∷ rest) place
+      → MakesStep functions rows t a (event_of rows t (at_place a place) d found ∷ [])
+      (actor_by t (at_place a place) d rest found)
   -- it looks at the mark of a row of its own
   Claims : (row found : ℕ) → may_claim rows t a row ≡ true
-      → MakesStep functions rows t a (event_of rows t a (ClaimMark row) found ∷ []) (actor_by t a (ClaimMark row) [] found)
+      → MakesStep functions rows t a (event_of rows t a (ClaimMark row) found ∷ [])
+      (actor_by t a (ClaimMark row) [] found)
 
 -- one step after another
 pub data CanMake (functions : List Function) (rows t : ℕ) : Actor → List WordEvent → Actor → Type 0 where
   Nothing : (a : Actor) → CanMake functions rows t a [] a
-  Then : (a b c : Actor) (made rest : List WordEvent) → MakesStep functions rows t a made b → CanMake functions rows t b rest c
+  Then : (a b c : Actor) (made rest : List WordEvent) → MakesStep functions rows t a made b
+      → CanMake functions rows t b rest c
       → CanMake functions rows t a (made ++ rest) c
 
 -- ---- what a thread does

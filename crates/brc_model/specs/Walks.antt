@@ -1,5 +1,5 @@
--- Walks through a function, and what the checker accepts: a function through which no walk meets a code, and where any two
--- walks to one point reach it in equal states.
+-- Walks through a function, and what the checker accepts: a function through which no walk meets a code, and where any
+-- two walks to one point reach it in equal states.
 use Rattle.std.specs.Prelude.{◌≡◌, ℕ, nat_lt, if◌then◌else◌, List, length, Option, None, Some, slice_get, fold}
 use Rattle.std.specs.List.{AllByRecursion}
 use Rattle.brc_lang.specs.declared.module.Instr.{Instr}
@@ -47,7 +47,8 @@ pub record MeetsCode (code : List Instr) (at : ℕ) (met : CheckCode) : Type 0 w
 
 pub record IsAcceptableCode (code : List Instr) : Type 0 where
   pub meets_none : (at : ℕ) (met : CheckCode) → MeetsCode code at met → ⊥
-  pub states_agree : (exits others : List Exit) (at : ℕ) (s t : State) → walk code exits ≡ At at s → walk code others ≡ At at t → s ≡ t
+  pub states_agree : (exits others : List Exit) (at : ℕ) (s t : State) → walk code exits ≡ At at s
+      → walk code others ≡ At at t → s ≡ t
 
 abbrev pub IsAcceptable : Module → Type 0
 IsAcceptable m = AllByRecursion (λ (f : Function). IsAcceptableCode f.code) m.functions

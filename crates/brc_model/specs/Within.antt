@@ -1,5 +1,5 @@
--- What a step can rely on: the word that it asks for is there, and the words that it finds and leaves have the forms of a
--- header's, below all bounds.
+-- What a step can rely on: the word that it asks for is there, and the words that it finds and leaves have the forms of
+-- a header's, below all bounds.
 use Rattle.std.specs.Prelude.{◌≡◌, ◌≢◌, ℕ, ◌+◌, ◌*◌, ◌<◌, ◌≤◌, Bool, true, List, ◌∷◌, [], length}
 use Rattle.brc_word.specs.Words.{owner_part, local_part, biased_part, phase_part, bias}
 use Rattle.brc_model.specs.declared.actor.Status.TheVariants.{Gone}
@@ -36,7 +36,8 @@ Suits t running n (RetainAdd x h) found = IsShared found × (biased_part found +
 Suits t running n (ReleaseLoad x h) found = running ≡ true → owner_part found ≡ t + 1 → 1 ≤ local_part found
 Suits t running n (ReleaseStore x w) found = 1 ≤ local_part w
 Suits t running n (SharedExchange x r w) found = found ≡ w → IsShared w × (1 ≤ biased_part w)
-Suits t running n (MergeExchange x c w) found = (c < 4294967296) × (found ≡ w → IsShared w × (biased_part w + c < 2 * bias))
+Suits t running n (MergeExchange x c w) found =
+    (c < 4294967296) × (found ≡ w → IsShared w × (biased_part w + c < 2 * bias))
 Suits t running n (SettleCell x i k) found = found ≤ n
 Suits t running n _ found = Unit {0}
 
@@ -49,5 +50,6 @@ pub record IsWithin (w : World) (t : ℕ) (a : Actor) (d : Duty) : Type 0 where
 -- whatever duty comes next: the first of the agenda, the first that is taken up, or a claim
 pub record StepsWithin (w : World) (t : ℕ) (a : Actor) : Type 0 where
   pub goes_on : (d : Duty) (rest : List Duty) → a.status ≢ Gone → a.agenda ≡ d ∷ rest → IsWithin w t a d
-  pub takes_up : (d : Duty) (rest : List Duty) (place : Place) → a.status ≢ Gone → a.agenda ≡ [] → begun_by (machine_of w) t a ≡ Work (d ∷ rest) place → IsWithin w t a d
+  pub takes_up : (d : Duty) (rest : List Duty) (place : Place) → a.status ≢ Gone → a.agenda ≡ []
+      → begun_by (machine_of w) t a ≡ Work (d ∷ rest) place → IsWithin w t a d
   pub claims : (row : ℕ) → may_claim w.rows t a row ≡ true → IsWithin w t a (ClaimMark row)

@@ -1,5 +1,5 @@
--- What the threads of a machine see and change: the words, and the threads themselves. A step looks at nothing else: the
--- plain world and the lives of the rows stand beside it, for what is promised.
+-- What the threads of a machine see and change: the words, and the threads themselves. A step looks at nothing else:
+-- the plain world and the lives of the rows stand beside it, for what is promised.
 use Rattle.std.specs.Prelude.{◌≡◌, ℕ, ◌+◌, ◌*◌, ◌-◌, ◌<◌, ◌≤◌, List, [], length}
 use Rattle.brc_lang.specs.declared.module.Function.{Function}
 use Rattle.brc_lang.specs.declared.module.Module.{Module}
