@@ -1,11 +1,13 @@
 //! What a thread's step begins with: the first duty of its agenda, or what its next instruction or its exit asks for.
 
-ghost use Rattle.std.specs.Prelude.{◌≡◌, ◌+◌, ◌<◌, ◌≤◌, ◌^◌, if◌then◌else◌, slice_get, None, Some, vec_len, vec_capacity, reverse, [], ◌∷◌};
+ghost use Rattle.std.specs.Prelude.{◌≡◌, ◌+◌, ◌<◌, ◌≤◌, ◌^◌, if◌then◌else◌, slice_get, None, Some};
+ghost use Rattle.std.specs.Prelude.{[], ◌∷◌, reverse, vec_len, vec_capacity};
 ghost use Rattle.brc_model.specs.declared.duty.Duty.TheVariants.{ReleaseLoad, Settle};
 ghost use Rattle.brc_model.specs.declared.duty.Holding.TheVariants.{ByVariable};
 ghost use Rattle.brc_model.specs.Threads.{code_of, entry_variables};
 ghost use Rattle.brc_model.specs.Machine.{begun, begun_instruction, first_row, has_room, next_row};
-ghost use Rattle.brc_world.specs.Actors.{actor_of, with_agenda, exit_begun, start_on, actor_on, start_begun, actor_begun};
+ghost use Rattle.brc_world.specs.Actors.{actor_of, with_agenda, begun_of, start_on, actor_on};
+ghost use Rattle.brc_world.specs.Actors.{exit_begun, start_begun, actor_begun};
 
 use crate::states::NUM;
 use crate::thread::{Stage, Thread, Variables};
@@ -34,8 +36,11 @@ const ROOT: u32 = 1;
 #[inline(always)]
 pub fn first_duty(functions: &[Function], rows: u16, number: u8, thread: &mut Thread) -> Start
     requires room { vec_len thread.old.agenda + 8 ≤ vec_capacity thread.old.agenda }
-    ensures starts { result ≡ start_on (reverse thread.old.agenda.items) (begun rows number thread.old.used (code_of (slice_get functions.now thread.old.function)) (actor_of thread.old).place) }
-    ensures actor { actor_of thread.new ≡ actor_on (actor_of thread.old) (reverse thread.old.agenda.items) (begun rows number thread.old.used (code_of (slice_get functions.now thread.old.function)) (actor_of thread.old).place) }
+    ensures starts { result ≡ start_on (reverse thread.old.agenda.items) (begun rows number thread.old.used
+        (code_of (slice_get functions.now thread.old.function)) (actor_of thread.old).place) }
+    ensures actor { actor_of thread.new ≡ actor_on (actor_of thread.old) (reverse thread.old.agenda.items)
+        (begun rows number thread.old.used (code_of (slice_get functions.now thread.old.function))
+        (actor_of thread.old).place) }
     ensures room { vec_len thread.new.agenda + 4 ≤ vec_capacity thread.new.agenda }
 {
     match thread.agenda.pop() {
@@ -44,14 +49,15 @@ pub fn first_duty(functions: &[Function], rows: u16, number: u8, thread: &mut Th
     }
 }
 
-/// What follows an empty agenda. The first step of a call begins it as well: the variables of a thread that is idle are no
-/// part of the world.
+/// What follows an empty agenda. The first step of a call begins it as well: the variables of a thread that is idle
+/// are no part of the world.
 #[inline(always)]
 fn dispatch(functions: &[Function], rows: u16, number: u8, thread: &mut Thread) -> Start
     requires empty { thread.old.agenda.items ≡ [] }
     requires room { 8 ≤ vec_capacity thread.old.agenda }
-    ensures starts { result ≡ start_begun (begun rows number thread.old.used (code_of (slice_get functions.now thread.old.function)) (actor_of thread.old).place) }
-    ensures actor { actor_of thread.new ≡ actor_begun (actor_of thread.old) (begun rows number thread.old.used (code_of (slice_get functions.now thread.old.function)) (actor_of thread.old).place) }
+    ensures starts { result ≡ start_begun (begun_of functions.now rows number (actor_of thread.old)) }
+    ensures actor { actor_of thread.new ≡ actor_begun (actor_of thread.old)
+        (begun_of functions.now rows number (actor_of thread.old)) }
     ensures room { vec_len thread.new.agenda + 4 ≤ vec_capacity thread.new.agenda }
 {
     match thread.stage {
@@ -92,7 +98,8 @@ fn exit(rows: u16, number: u8, thread: &mut Thread) -> Start
     })
 }
 
-/// The instruction that the thread is at, in a call with `left` calls behind it; past the last one the thread can't go on.
+/// The instruction that the thread is at, in a call with `left` calls behind it; past the last one the thread can't
+/// go on.
 #[inline(always)]
 fn next_instruction(
     functions: &[Function],
@@ -103,8 +110,11 @@ fn next_instruction(
 ) -> Start
     requires empty { thread.old.agenda.items ≡ [] }
     requires room { 8 ≤ vec_capacity thread.old.agenda }
-    ensures starts { result ≡ start_begun (begun_instruction rows number thread.old.used left thread.old.at thread.old.variables (slice_get (code_of (slice_get functions.now thread.old.function)) thread.old.at)) }
-    ensures actor { actor_of thread.new ≡ actor_begun (actor_of thread.old) (begun_instruction rows number thread.old.used left thread.old.at thread.old.variables (slice_get (code_of (slice_get functions.now thread.old.function)) thread.old.at)) }
+    ensures starts { result ≡ start_begun (begun_instruction rows number thread.old.used left thread.old.at
+        thread.old.variables (slice_get (code_of (slice_get functions.now thread.old.function)) thread.old.at)) }
+    ensures actor { actor_of thread.new ≡ actor_begun (actor_of thread.old) (begun_instruction rows number
+        thread.old.used left thread.old.at thread.old.variables
+        (slice_get (code_of (slice_get functions.now thread.old.function)) thread.old.at)) }
     ensures room { vec_len thread.new.agenda + 4 ≤ vec_capacity thread.new.agenda }
 {
     match code_of(functions, thread.function).get(thread.at) {
@@ -158,8 +168,10 @@ fn begin(instr: Instr, rows: u16, number: u8, thread: &mut Thread, left: u32) ->
     requires empty { thread.old.agenda.items ≡ [] }
     requires room { 8 ≤ vec_capacity thread.old.agenda }
     requires next { thread.old.at + 1 < 2 ^ 64 }
-    ensures starts { result ≡ start_begun (begun_instruction rows number thread.old.used left thread.old.at thread.old.variables (Some instr)) }
-    ensures actor { actor_of thread.new ≡ actor_begun (actor_of thread.old) (begun_instruction rows number thread.old.used left thread.old.at thread.old.variables (Some instr)) }
+    ensures starts { result ≡ start_begun (begun_instruction rows number thread.old.used left thread.old.at
+        thread.old.variables (Some instr)) }
+    ensures actor { actor_of thread.new ≡ actor_begun (actor_of thread.old) (begun_instruction rows number
+        thread.old.used left thread.old.at thread.old.variables (Some instr)) }
     ensures room { vec_len thread.new.agenda + 4 ≤ vec_capacity thread.new.agenda }
 {
     let next = thread.at + 1;

@@ -56,8 +56,8 @@ pub struct Doer {
 }
 
 impl Doer {
-    /// The effect of the duty, where its step found `found`. Each duty is one of the rules below: the word it found decides
-    /// what follows, and no word is looked at again.
+    /// The effect of the duty, where its step found `found`. Each duty is one of the rules below: the word it found
+    /// decides what follows, and no word is looked at again.
     #[inline(always)]
     pub fn effect(self, duty: Duty, found: u64) -> Effect
         requires known { self.number ≤ 32 }
@@ -105,7 +105,13 @@ impl Doer {
     /// The effect of a step that leaves the thread's head, status and rows as they are.
     #[inline(always)]
     fn leaves(self, word: u64, next: Next) -> Effect
-        ensures { result ≡ record { word = word; next = next; head = self.head; status = self.status; used = self.used } }
+        ensures { result ≡ record {
+          word = word;
+          next = next;
+          head = self.head;
+          status = self.status;
+          used = self.used;
+        } }
     {
         Effect {
             word,

@@ -28,6 +28,8 @@ pub use world::World;
 #[cfg(test)]
 mod interleaving_tests;
 #[cfg(test)]
+mod limit_tests;
+#[cfg(test)]
 mod run_tests;
 #[cfg(test)]
 mod tests;

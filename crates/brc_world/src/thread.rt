@@ -5,6 +5,7 @@ ghost use Rattle.brc_model.specs.Threads.{row_of};
 
 use brc_lang::Variable;
 use brc_model::{Duty, Status};
+use std::fmt;
 
 /// What each variable names: a row, or nothing.
 pub type Variables = [Option<u32>; Variable::COUNT];
@@ -21,7 +22,7 @@ pub enum Stage {
 }
 
 /// Where a thread is, and what it has still to do.
-#[derive(Debug, Drop)]
+#[derive(Drop)]
 pub struct Thread {
     /// The function that it calls, by number.
     pub function: usize,
@@ -71,5 +72,29 @@ impl Thread {
     {
         self.stage = Stage::Idle;
         self.left = left;
+    }
+}
+
+/// Writes what is part of the world: of a thread that is in no call no instruction and no variables.
+impl fmt::Debug for Thread {
+    fn fmt<W: fmt::Write>(&self, f: &mut fmt::Formatter<W>) -> fmt::Result {
+        let Thread {
+            function,
+            stage,
+            left,
+            status,
+            agenda,
+            head,
+            used,
+            ..
+        } = self;
+        write!(
+            f,
+            "{function} {stage:?} {left} {status:?} {agenda:?} {head} {used}"
+        )?;
+        match stage {
+            Stage::InCall => write!(f, " {} {:?}", self.at, self.variables),
+            Stage::Idle | Stage::Exiting => Ok(()),
+        }
     }
 }

@@ -11,8 +11,8 @@ use brc_model::{Duty, Holding};
 use brc_word::{kind_number, local_word};
 
 impl Doer {
-    /// The kind word says what the object is (`birth_kind_skipped`). A file or a socket then gets its resource, and the count
-    /// comes last (`birth_stores_local_first`): from that step on the object is born, and has all its parts.
+    /// The kind word says what the object is (`birth_kind_skipped`). A file or a socket then gets its resource, and
+    /// the count comes last: from that step on the object is born, and has all its parts.
     #[inline(always)]
     pub(super) fn birth_kind(self, row: u32, holding: Holding, word: u64) -> Effect
         ensures { (found : ℕ) → IsEffect self (duties.BirthKind row holding word) found result }
@@ -38,7 +38,8 @@ impl Doer {
     pub(super) fn birth_local(self) -> Effect
         requires known { self.number ≤ 32 }
         requires room { self.used + 1 < 2 ^ 32 }
-        ensures { (row : ℕ) (holding : Holding) (found : ℕ) → IsEffect self (duties.BirthLocal row holding) found result }
+        ensures { (row : ℕ) (holding : Holding) (found : ℕ)
+            → IsEffect self (duties.BirthLocal row holding) found result }
     {
         Effect {
             used: self.used + 1,

@@ -11,8 +11,8 @@ use brc_model::Duty;
 use brc_word::{closed, dying, kind_argument, kind_number, next_of_dying};
 
 impl Doer {
-    /// Nothing counts the object any more: its gate says which thread closes it, and links it into that thread's dying chain
-    /// (`die_without_chain`), so that the destruction of nested objects needs no recursion.
+    /// Nothing counts the object any more: its gate says which thread closes it, and links it into that thread's
+    /// dying chain (`die_without_chain`), so that the destruction of nested objects needs no recursion.
     #[inline(always)]
     pub(super) fn die(self, row: u32) -> Effect
         requires known { self.number ≤ 32 }
@@ -67,7 +67,8 @@ impl Doer {
         self.leaves(0, Next::Release { row, then })
     }
 
-    /// The resource is taken out of its slot, so that nobody finds it there while the host closes it.
+    /// The resource is taken out of its slot, so that nobody finds it there while the host closes
+    /// it, which comes next (`resource_left_open`).
     #[inline(always)]
     pub(super) fn take_slot(self, row: u32) -> Effect
         ensures { (found : ℕ) → IsEffect self (duties.TakeSlot row) found result }
@@ -75,7 +76,7 @@ impl Doer {
         self.leaves(0, Next::One(Duty::CloseResource { row }))
     }
 
-    /// The host closes the resource (`resource_left_open`).
+    /// The host closes the resource.
     #[inline(always)]
     pub(super) fn close_resource(self, row: u32) -> Effect
         ensures { (found : ℕ) → IsEffect self (duties.CloseResource row) found result }

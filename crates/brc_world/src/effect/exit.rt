@@ -10,8 +10,8 @@ use crate::states::{GONE, LEAVING, SET};
 use brc_model::{Duty, Status};
 
 impl Doer {
-    /// The thread says that it leaves, and only then scans its marks (`exit_scans_first`): who sets a mark behind the scan
-    /// finds a thread that runs no longer, and takes the mark back.
+    /// The thread says that it leaves, and only then scans its marks (`exit_scans_first`): who sets a mark behind the
+    /// scan finds a thread that runs no longer, and takes the mark back.
     #[inline(always)]
     pub(super) fn leave(self, row: u32, rows: u32) -> Effect
         ensures { (found : ℕ) → IsEffect self (duties.Leave row rows) found result }
@@ -23,8 +23,8 @@ impl Doer {
     }
 
     /// Each row's mark is taken by a swap, since whoever set it may take it back meanwhile; none is passed over
-    /// (`scan_skips_a_row`). A set mark is a reference to be merged and given up, and what dies by that settles before the
-    /// next row.
+    /// (`scan_skips_a_row`). A set mark is a reference to be merged and given up, and what dies by that settles
+    /// before the next row.
     #[inline(always)]
     pub(super) fn scan(self, row: u32, rows: u32, found: u64) -> Effect
         requires { row < self.rows }

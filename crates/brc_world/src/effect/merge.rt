@@ -12,9 +12,9 @@ use brc_model::Duty;
 use brc_word::{is_dead, local_count, merged};
 
 impl Doer {
-    /// A merge swaps the local word for nobody's, and carries over the local count that it found. In one step, so that no
-    /// reference is in both words or is counted after the merge (`merge_swap_keeps_local`). A word that is nobody's already
-    /// has been merged. (PEP 703, Biased Reference Counting: `_Py_ExplicitMergeRefcount`.)
+    /// A merge swaps the local word for nobody's, and carries over the local count that it found. In one step, so
+    /// that no reference is in both words or is counted after the merge (`merge_swap_keeps_local`). A word that is
+    /// nobody's already has been merged. (PEP 703, Biased Reference Counting: `_Py_ExplicitMergeRefcount`.)
     #[inline(always)]
     pub(super) fn merge_swap(self, row: u32, found: u64) -> Effect
         ensures { (reason : Reason) → IsEffect self (duties.MergeSwap row reason) found result }
@@ -26,7 +26,8 @@ impl Doer {
         self.leaves(0, Next::One(Duty::MergeLoad { row, carried }))
     }
 
-    /// The carried count is to be added to the shared one, which other threads still change: so it is looked at first ..
+    /// The carried count is to be added to the shared one, which other threads still change: so it is looked at first
+    /// ..
     #[inline(always)]
     pub(super) fn merge_load(self, row: u32, carried: u32, found: u64) -> Effect
         ensures { IsEffect self (duties.MergeLoad row carried) found result }
@@ -41,8 +42,9 @@ impl Doer {
         )
     }
 
-    /// .. and exchanged if it is still the same; else the merge looks again. Count and state change in one step: from then on
-    /// nobody owns the object, all references are in the shared count (`merge_drops_local`), and at zero it dies.
+    /// .. and exchanged if it is still the same; else the merge looks again. Count and state change in one step: from
+    /// then on nobody owns the object, all references are in the shared count (`merge_drops_local`), and at zero it
+    /// dies.
     #[inline(always)]
     pub(super) fn merge_exchange(self, row: u32, carried: u32, word: u64, found: u64) -> Effect
         requires shared { found ≡ word → IsShared word }

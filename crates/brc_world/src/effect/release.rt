@@ -18,8 +18,8 @@ use brc_word::{
 };
 
 impl Doer {
-    /// A release begins with a look at the local word, as a retain does: the running owner counts down there, and everybody
-    /// else in the shared word. (PEP 703, Biased Reference Counting: `Py_DECREF`.)
+    /// A release begins with a look at the local word, as a retain does: the running owner counts down there, and
+    /// everybody else in the shared word. (PEP 703, Biased Reference Counting: `Py_DECREF`.)
     #[inline(always)]
     pub(super) fn release_load(self, row: u32, found: u64) -> Effect
         requires { is_running self.status ≡ true → owner_part found ≡ self.number + 1 → 1 ≤ local_part found }
@@ -40,8 +40,8 @@ impl Doer {
         }
     }
 
-    /// The running owner counts down by a plain store (`release_store_skipped`). At zero the shared word decides what follows,
-    /// since other threads may still count references there.
+    /// The running owner counts down by a plain store (`release_store_skipped`). At zero the shared word decides what
+    /// follows, since other threads may still count references there.
     #[inline(always)]
     pub(super) fn release_store(self, row: u32, word: u64) -> Effect
         requires { 1 ≤ local_part word }
@@ -55,8 +55,8 @@ impl Doer {
         }
     }
 
-    /// No local reference is left. Where the shared word says that nobody ever counted there, the object dies; any other object
-    /// is merged first, since its count may be above or below zero (`free_without_shared`).
+    /// No local reference is left. Where the shared word says that nobody ever counted there, the object dies; any
+    /// other object is merged first, since its count may be above or below zero (`free_without_shared`).
     #[inline(always)]
     pub(super) fn decide_at_zero(self, row: u32, found: u64) -> Effect
         ensures { IsEffect self (duties.DecideAtZero row) found result }
@@ -89,9 +89,9 @@ impl Doer {
         )
     }
 
-    /// The compare-exchange of the release. Where another thread was first, the release looks again. From count 0, default, the
-    /// object is queued for its owner and keeps the reference (`release_below_zero`); from any other state the count goes down
-    /// by one (`shared_exchange_doubled`), and a merged object that nobody counts any more dies.
+    /// The compare-exchange of the release. Where another thread was first, the release looks again. From count 0,
+    /// default, the object is queued for its owner and keeps the reference (`release_below_zero`); from any other
+    /// state the count goes down by one, and a merged object that nobody counts any more dies.
     #[inline(always)]
     pub(super) fn shared_exchange(self, row: u32, reason: Reason, word: u64, found: u64) -> Effect
         requires shared { found ≡ word → IsShared word }
@@ -111,8 +111,9 @@ impl Doer {
         }
     }
 
-    /// A queued object is put into its owner's queue: its mark is set. The owner may have looked through its queue for the last
-    /// time already, so whoever sets a mark looks afterwards whether the owner still runs (`post_without_look`).
+    /// A queued object is put into its owner's queue: its mark is set. The owner may have looked through its queue
+    /// for the last time already, so whoever sets a mark looks afterwards whether the owner still runs
+    /// (`post_without_look`).
     #[inline(always)]
     pub(super) fn set_mark(self, row: u32) -> Effect
         ensures { (found : ℕ) → IsEffect self (duties.SetMark row) found result }
@@ -120,9 +121,9 @@ impl Doer {
         self.leaves(SET, Next::One(Duty::Look { row }))
     }
 
-    /// The look at the owner's thread word. A running owner will find the mark; of one that leaves or is gone, the thread takes
-    /// it back. The mark is set before the look, and the owner says that it leaves before it scans: so one of the two always
-    /// finds the mark.
+    /// The look at the owner's thread word. A running owner will find the mark; of one that leaves or is gone, the
+    /// thread takes it back. The mark is set before the look, and the owner says that it leaves before it scans: so
+    /// one of the two always finds the mark (`look_at_own_word`).
     #[inline(always)]
     pub(super) fn look(self, row: u32, found: u64) -> Effect
         ensures { IsEffect self (duties.Look row) found result }

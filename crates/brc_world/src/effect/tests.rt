@@ -59,13 +59,12 @@ fn steps_of_births() -> [Told; 6] {
         used: 4,
         rows: 16,
     };
-    let holding = Holding::InHand;
     [
-        told(by.birth_kind(7, holding, NUMBER)),
-        told(by.birth_kind(7, holding, LIST)),
-        told(by.birth_kind(7, holding, FILE)),
-        told(by.birth_kind(7, holding, SOCK)),
-        told(by.birth_slot(7, holding)),
+        told(by.birth_kind(7, Holding::InHand, NUMBER)),
+        told(by.birth_kind(7, Holding::InHand, LIST)),
+        told(by.birth_kind(7, Holding::InHand, FILE)),
+        told(by.birth_kind(7, Holding::InHand, SOCK)),
+        told(by.birth_slot(7, Holding::InHand)),
         told(by.birth_local()),
     ]
 }
