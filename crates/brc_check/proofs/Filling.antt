@@ -35,7 +35,8 @@ pub record Settles (old new : List (Option State)) (at : ℕ) (s : State) : Type
   pub kept : (k : ℕ) (t : State) → entry_at old k ≡ Some t → entry_at new k ≡ Some t
   pub fresh : (k : ℕ) (t : State) → entry_at new k ≡ Some t → (entry_at old k ≡ Some t) ⊎ ((k ≡ at) × (t ≡ s))
 
-settles-none : (row : List (Option State)) (at : ℕ) (s : State) → at < length row → entry_at row at ≡ None → Settles row (slice_set row at (Some s)) at s
+settles-none : (row : List (Option State)) (at : ℕ) (s : State) → at < length row → entry_at row at ≡ None
+    → Settles row (slice_set row at (Some s)) at s
 settles-none row at s lt none = record {
   same_length = length-set row at (Some s);
   kept = λ k t e. elim (cases_eq k at) [
@@ -43,23 +44,32 @@ settles-none row at s lt none = record {
     | inr other ↦ get_or-set_other row at k (Some s) None other ∙ e
   ];
   fresh = λ k t e. elim (cases_eq k at) [
-    | inl same ↦ inr (same, same_Some t s (sym e ∙ ap (entry_at (slice_set row at (Some s))) same ∙ get_or-set_same row at (Some s) None lt))
+    | inl same ↦
+        inr (
+          same,
+          same_Some t s (sym e ∙ ap (entry_at (slice_set row at (Some s))) same
+              ∙ get_or-set_same row at (Some s) None lt),
+        )
     | inr other ↦ inl (sym (get_or-set_other row at k (Some s) None other) ∙ e)
   ];
 }
 
 settles : (row : List (Option State)) (at : ℕ) (s : State) → at < length row → Settles row (settled row at s) at s
 settles row at s lt =
-    elim (entry_at row at) as (λ o. entry_at row at ≡ o → Settles row (cond (is_none o) (slice_set row at (Some s)) row) at s) [
+    elim (entry_at row at) as (λ o. entry_at row at ≡ o
+    → Settles row (cond (is_none o) (slice_set row at (Some s)) row) at s) [
       | None ↦ λ e. settles-none row at s lt e
       | Some t ↦ λ e. record { same_length = refl; kept = λ k u h. h; fresh = λ k u h. inl h }
     ] refl
 
 -- the state is the entry afterwards, or another one was, and nothing has changed
 settled-cases : (row : List (Option State)) (at : ℕ) (s : State) → at < length row
-    → (entry_at (settled row at s) at ≡ Some s) ⊎ ((u : State) × ((entry_at row at ≡ Some u) × (settled row at s ≡ row)))
+    → (entry_at (settled row at s) at ≡ Some s)
+    ⊎ ((u : State) × ((entry_at row at ≡ Some u) × (settled row at s ≡ row)))
 settled-cases row at s lt =
-    elim (entry_at row at) as (λ o. entry_at row at ≡ o → (entry_at (cond (is_none o) (slice_set row at (Some s)) row) at ≡ Some s) ⊎ ((u : State) × ((o ≡ Some u) × (cond (is_none o) (slice_set row at (Some s)) row ≡ row)))) [
+    elim (entry_at row at) as (λ o. entry_at row at ≡ o
+    → (entry_at (cond (is_none o) (slice_set row at (Some s)) row) at ≡ Some s)
+    ⊎ ((u : State) × ((o ≡ Some u) × (cond (is_none o) (slice_set row at (Some s)) row ≡ row)))) [
       | None ↦ λ e. inl (get_or-set_same row at (Some s) None lt)
       | Some t ↦ λ e. inr (t, (refl, refl))
     ] refl
@@ -75,7 +85,8 @@ pub record Leads (old new : List (Option State)) (p : Place) : Type 0 where
   pub kept : (k : ℕ) (t : State) → entry_at old k ≡ Some t → entry_at new k ≡ Some t
   pub fresh : (k : ℕ) (t : State) → entry_at new k ≡ Some t → (entry_at old k ≡ Some t) ⊎ (p ≡ At k t)
 
-leads-place : (row : List (Option State)) (p : Place) → ((k : ℕ) (t : State) → p ≡ At k t → k < length row) → Leads row (settled_at row p) p
+leads-place : (row : List (Option State)) (p : Place) → ((k : ℕ) (t : State) → p ≡ At k t → k < length row)
+    → Leads row (settled_at row p) p
 leads-place row (At at s) within =
     let there = settles row at s (within at s refl) in
     record {
@@ -91,9 +102,12 @@ leads-place row (Meets at c) within = record { same_length = refl; kept = λ k t
 
 leads : (code : List Instr) (row : List (Option State)) (at : ℕ) (s : State) (exit : Exit) → length row ≡ length code
     → Leads row (settled_at row (follow code (At at s) exit)) (follow code (At at s) exit)
-leads code row at s exit same = leads-place row (follow code (At at s) exit) (λ k t e. let within = (arrives-At code at k s t exit e).within in omega (arith, within, same))
+leads code row at s exit same =
+    leads-place row (follow code (At at s) exit)
+    (λ k t e. let within = (arrives-At code at k s t exit e).within in omega (arith, within, same))
 
-stays-kept : (old new : List (Option State)) (p : Place) → ((k : ℕ) (t : State) → entry_at old k ≡ Some t → entry_at new k ≡ Some t) → StaysOn old p → StaysOn new p
+stays-kept : (old new : List (Option State)) (p : Place)
+    → ((k : ℕ) (t : State) → entry_at old k ≡ Some t → entry_at new k ≡ Some t) → StaysOn old p → StaysOn new p
 stays-kept old new (At at s) kept on = kept at s on
 stays-kept old new Ended kept on = tt
 stays-kept old new (Meets at c) kept on = on
@@ -101,7 +115,8 @@ stays-kept old new (Meets at c) kept on = on
 abbrev pub AllReached : List Instr → List (Option State) → Type 0
 AllReached code row = (k : ℕ) (s : State) → entry_at row k ≡ Some s → Reaches code k s
 
-reached-led : (code : List Instr) (row : List (Option State)) (at : ℕ) (s : State) (exit : Exit) → length row ≡ length code → AllReached code row → entry_at row at ≡ Some s
+reached-led : (code : List Instr) (row : List (Option State)) (at : ℕ) (s : State) (exit : Exit)
+    → length row ≡ length code → AllReached code row → entry_at row at ≡ Some s
     → AllReached code (settled_at row (follow code (At at s) exit))
 reached-led code row at s exit same reached here k t e =
     elim ((leads code row at s exit same).fresh k t e) [
@@ -109,11 +124,13 @@ reached-led code row at s exit same reached here k t e =
       | inr new ↦ reaches-more code at k s t exit (reached at s here) new
     ]
 
-blocked-at : (code : List Instr) (row : List (Option State)) (at : ℕ) (s : State) (exit : Exit) (k : ℕ) (c : CheckCode) (p : Place)
+blocked-at : (code : List Instr) (row : List (Option State)) (at : ℕ) (s : State) (exit : Exit) (k : ℕ) (c : CheckCode)
+    (p : Place)
     → length row ≡ length code → AllReached code row → entry_at row at ≡ Some s → follow code (At at s) exit ≡ p
     → IsBlocked (settled_at row p) p k c → IsMet code k c
 blocked-at code row at s exit k c (At next t) same reached here leads_to blocked =
-    let within : next < length row = (let w = (arrives-At code at next s t exit leads_to).within in omega (arith, w, same)) in
+    let within : next < length row =
+    (let w = (arrives-At code at next s t exit leads_to).within in omega (arith, w, same)) in
     elim (settled-cases row next t within) [
       | inl now ↦ absurd (blocked.2 now)
       | inr found ↦ inr (
@@ -134,18 +151,26 @@ blocked-at code row at s exit k c (Meets point d) same reached here leads_to blo
 
 -- ---- both exits
 
-pub first_blocked : (code : List Instr) (row : List (Option State)) (at : ℕ) (s : State) (k : ℕ) (c : CheckCode) → IsFilledTo code row at → entry_at row at ≡ Some s
+pub first_blocked : (code : List Instr) (row : List (Option State)) (at : ℕ) (s : State) (k : ℕ) (c : CheckCode)
+    → IsFilledTo code row at → entry_at row at ≡ Some s
     → IsBlocked (settled_at row (follow code (At at s) Success)) (follow code (At at s) Success) k c → IsMet code k c
-first_blocked code row at s k c filled here blocked = blocked-at code row at s Success k c (follow code (At at s) Success) filled.same_length filled.reached here refl blocked
+first_blocked code row at s k c filled here blocked =
+    blocked-at code row at s Success k c (follow code (At at s) Success) filled.same_length filled.reached here refl
+    blocked
 
-pub second_blocked : (code : List Instr) (row : List (Option State)) (at : ℕ) (s : State) (k : ℕ) (c : CheckCode) → IsFilledTo code row at → entry_at row at ≡ Some s
-    → (let once = settled_at row (follow code (At at s) Success) in IsBlocked (settled_at once (follow code (At at s) Fault)) (follow code (At at s) Fault) k c) → IsMet code k c
+pub second_blocked : (code : List Instr) (row : List (Option State)) (at : ℕ) (s : State) (k : ℕ) (c : CheckCode)
+    → IsFilledTo code row at → entry_at row at ≡ Some s
+    → (let once = settled_at row (follow code (At at s) Success) in IsBlocked
+    (settled_at once (follow code (At at s) Fault)) (follow code (At at s) Fault) k c)
+    → IsMet code k c
 second_blocked code row at s k c filled here blocked =
     let first = leads code row at s Success filled.same_length in
     blocked-at code (settled_at row (follow code (At at s) Success)) at s Fault k c (follow code (At at s) Fault)
-    (first.same_length ∙ filled.same_length) (reached-led code row at s Success filled.same_length filled.reached here) (first.kept at s here) refl blocked
+    (first.same_length ∙ filled.same_length) (reached-led code row at s Success filled.same_length filled.reached here)
+    (first.kept at s here) refl blocked
 
-pub filled_none : (code : List Instr) (row : List (Option State)) (at : ℕ) → IsFilledTo code row at → entry_at row at ≡ None → IsFilledTo code row (at + 1)
+pub filled_none : (code : List Instr) (row : List (Option State)) (at : ℕ) → IsFilledTo code row at
+    → entry_at row at ≡ None → IsFilledTo code row (at + 1)
 filled_none code row at filled none = record {
   same_length = filled.same_length;
   begins = filled.begins;
@@ -156,10 +181,12 @@ filled_none code row at filled none = record {
   ];
 }
 
-pub filled_both : (code : List Instr) (row : List (Option State)) (at : ℕ) (s : State) → LeadsForward code → IsFilledTo code row at → entry_at row at ≡ Some s
+pub filled_both : (code : List Instr) (row : List (Option State)) (at : ℕ) (s : State) → LeadsForward code
+    → IsFilledTo code row at → entry_at row at ≡ Some s
     → (let once = settled_at row (follow code (At at s) Success) in
     let twice = settled_at once (follow code (At at s) Fault) in
-    StaysOn once (follow code (At at s) Success) → StaysOn twice (follow code (At at s) Fault) → IsFilledTo code twice (at + 1))
+    StaysOn once (follow code (At at s) Success) → StaysOn twice (follow code (At at s) Fault)
+    → IsFilledTo code twice (at + 1))
 filled_both code row at s forwards filled here on_success on_fault =
     let once = settled_at row (follow code (At at s) Success) in
     let twice = settled_at once (follow code (At at s) Fault) in
@@ -167,15 +194,19 @@ filled_both code row at s forwards filled here on_success on_fault =
     let same_once : length once ≡ length code = first.same_length ∙ filled.same_length in
     let second = leads code once at s Fault same_once in
     let reached_once = reached-led code row at s Success filled.same_length filled.reached here in
-    let before_once : (k : ℕ) (t : State) → k ≤ at → entry_at once k ≡ Some t → entry_at row k ≡ Some t = λ k t le e. elim (first.fresh k t e) [
+    let before_once : (k : ℕ) (t : State) → k ≤ at → entry_at once k ≡ Some t
+    → entry_at row k ≡ Some t = λ k t le e. elim (first.fresh k t e) [
       | inl old ↦ old
       | inr new ↦ absurd (let far = ahead-At code at k s t Success forwards new in omega (arith, far, le))
     ] in
-    let before_twice : (k : ℕ) (t : State) → k ≤ at → entry_at twice k ≡ Some t → entry_at row k ≡ Some t = λ k t le e. elim (second.fresh k t e) [
+    let before_twice : (k : ℕ) (t : State) → k ≤ at → entry_at twice k ≡ Some t
+    → entry_at row k ≡ Some t = λ k t le e. elim (second.fresh k t e) [
       | inl old ↦ before_once k t le old
       | inr new ↦ absurd (let far = ahead-At code at k s t Fault forwards new in omega (arith, far, le))
     ] in
-    let here_on : (exit : Exit) → StaysOn twice (follow code (At at s) exit) = λ exit. elim exit as (λ e. StaysOn twice (follow code (At at s) e)) [
+    let here_on : (exit : Exit)
+    → StaysOn twice (follow code (At at s) exit) =
+    λ exit. elim exit as (λ e. StaysOn twice (follow code (At at s) e)) [
       | Success ↦ stays-kept once twice (follow code (At at s) Success) second.kept on_success
       | Fault ↦ on_fault
     ] in
@@ -185,12 +216,16 @@ filled_both code row at s forwards filled here on_success on_fault =
       reached = reached-led code once at s Fault same_once reached_once (first.kept at s here);
       closed = λ k lt t exit e. elim (cases_lt k at) [
         | inl before ↦
-            let on : StaysOn row (follow code (At k t) exit) = filled.closed k before t exit (before_twice k t (omega arith) e) in
-            stays-kept once twice (follow code (At k t) exit) second.kept (stays-kept row once (follow code (At k t) exit) first.kept on)
+            let on : StaysOn row (follow code (At k t) exit) =
+            filled.closed k before t exit (before_twice k t (omega arith) e) in
+            stays-kept once twice (follow code (At k t) exit) second.kept
+            (stays-kept row once (follow code (At k t) exit) first.kept on)
         | inr from ↦
             let same : k ≡ at = omega arith in
-            let state : t ≡ s = same_Some t s (sym (before_twice k t (omega arith) e) ∙ ap (entry_at row) same ∙ here) in
-            subst (λ (p : Place). StaysOn twice (follow code p exit)) (sym (same_place k at t s same state)) (here_on exit)
+            let state : t ≡ s =
+            same_Some t s (sym (before_twice k t (omega arith) e) ∙ ap (entry_at row) same ∙ here) in
+            subst (λ (p : Place). StaysOn twice (follow code p exit)) (sym (same_place k at t s same state))
+            (here_on exit)
       ];
     }
 
@@ -201,23 +236,31 @@ none-replicate zero k = refl
 none-replicate (suc n) zero = refl
 none-replicate (suc n) (suc k) = none-replicate n k
 
-begun-reached : (code : List Instr) (n k : ℕ) (s : State) → entry_at (Some entry ∷ replicate n None) k ≡ Some s → Reaches code k s
+begun-reached : (code : List Instr) (n k : ℕ) (s : State) → entry_at (Some entry ∷ replicate n None) k ≡ Some s
+    → Reaches code k s
 begun-reached code n zero s e = subst (Reaches code 0) (same_Some entry s e) (begins code)
 begun-reached code n (suc k) s e = absurd (none-some s (sym (none-replicate n k) ∙ e))
 
-pub filled_first : (code : List Instr) (row : List (Option State)) → 0 < length code → row ≡ Some entry ∷ replicate (length code - 1) None → IsFilledTo code row 0
+pub filled_first : (code : List Instr) (row : List (Option State)) → 0 < length code
+    → row ≡ Some entry ∷ replicate (length code - 1) None → IsFilledTo code row 0
 filled_first code row some begun = rw begun (record {
-  same_length = let n : length (replicate {A = Option State} (length code - 1) None) ≡ length code - 1 = length-replicate (length code - 1) None in omega (arith, n, some);
+  same_length =
+      let n : length (replicate {A = Option State} (length code - 1) None) ≡ length code - 1 =
+      length-replicate (length code - 1) None in
+      omega (arith, n, some);
   begins = refl;
   reached = begun-reached code (length code - 1);
   closed = λ k lt. absurd (omega (arith, lt));
 })
 
-pub filled_last : (code : List Instr) (row : List (Option State)) → IsFilledTo code row (length code) → IsInferred code row
+pub filled_last : (code : List Instr) (row : List (Option State)) → IsFilledTo code row (length code)
+    → IsInferred code row
 filled_last code row filled =
     let closed : IsClosed code row = record {
       begins = filled.begins;
-      goes_on = λ at s exit e. filled.closed at (let within = entry-within row at s e in omega (arith, within, filled.same_length)) s exit e;
+      goes_on =
+          λ at s exit e. filled.closed at
+          (let within = entry-within row at s e in omega (arith, within, filled.same_length)) s exit e;
     } in
     record {
       same_length = filled.same_length;

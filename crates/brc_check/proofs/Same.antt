@@ -13,7 +13,8 @@ use Rattle.brc_model.specs.declared.slot.Slot.TheVariants.{Empty, Owned, Caller,
 
 -- ---- case by case
 
-pub each_kind : (P : Kind → Type 0) → P kinds.None → P kinds.Num → P kinds.List → P kinds.File → P kinds.Sock → P kinds.Any → (k : Kind) → P k
+pub each_kind : (P : Kind → Type 0) → P kinds.None → P kinds.Num → P kinds.List → P kinds.File → P kinds.Sock
+    → P kinds.Any → (k : Kind) → P k
 each_kind P none num list file sock any kinds.None = none
 each_kind P none num list file sock any kinds.Num = num
 each_kind P none num list file sock any kinds.List = list
@@ -21,7 +22,8 @@ each_kind P none num list file sock any kinds.File = file
 each_kind P none num list file sock any kinds.Sock = sock
 each_kind P none num list file sock any kinds.Any = any
 
-pub each_slot : (P : Slot → Type 0) → P Empty → ((k : Kind) → P (Owned k)) → ((k : Kind) → P (Caller k)) → ((k : Kind) → P (Locked k)) → (s : Slot) → P s
+pub each_slot : (P : Slot → Type 0) → P Empty → ((k : Kind) → P (Owned k)) → ((k : Kind) → P (Caller k))
+    → ((k : Kind) → P (Locked k)) → (s : Slot) → P s
 each_slot P empty owned caller locked Empty = empty
 each_slot P empty owned caller locked (Owned k) = owned k
 each_slot P empty owned caller locked (Caller k) = caller k
@@ -51,11 +53,15 @@ abbrev pub all_slots : List Slot
 all_slots = replicate 6 Empty ++ map Owned all_kinds ++ map Caller all_kinds ++ map Locked all_kinds
 
 numbered : (s : Slot) → slice_index_or all_slots (slot_number s) Empty ≡ s
-numbered = each_slot _ refl (each_kind _ refl refl refl refl refl refl) (each_kind _ refl refl refl refl refl refl) (each_kind _ refl refl refl refl refl refl)
+numbered =
+    each_slot _ refl (each_kind _ refl refl refl refl refl refl) (each_kind _ refl refl refl refl refl refl)
+    (each_kind _ refl refl refl refl refl refl)
 
-slot_decides : (E : Slot → Slot → Bool) → ((x y : Slot) → E x y ≡ (slot_number x == slot_number y)) → (x y : Slot) → Decides (E x y) (x ≡ y)
+slot_decides : (E : Slot → Slot → Bool) → ((x y : Slot) → E x y ≡ (slot_number x == slot_number y)) → (x y : Slot)
+    → Decides (E x y) (x ≡ y)
 slot_decides E is x y = (
-  λ e. sym (numbered x) ∙ ap (λ (n : ℕ). slice_index_or all_slots n Empty) ((Decides-eqb (slot_number x) (slot_number y)).0 (sym (is x y) ∙ e)) ∙ numbered y,
+  λ e. sym (numbered x) ∙ ap (λ (n : ℕ). slice_index_or all_slots n Empty)
+      ((Decides-eqb (slot_number x) (slot_number y)).0 (sym (is x y) ∙ e)) ∙ numbered y,
   λ e. is x y ∙ (Decides-eqb (slot_number x) (slot_number y)).1 (ap slot_number e),
 )
 

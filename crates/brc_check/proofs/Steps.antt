@@ -14,7 +14,8 @@ use Rattle.brc_model.specs.Slots.{lowest, after, target}
 use Rattle.brc_model.specs.Walks.{Place, At, Ended, Meets, arrives, unless_met, passes, follow}
 
 -- an instruction leads to the next point, or to the target that it names
-forward : (i : Instr) (exit : Exit) (at next : ℕ) → ((to : ℕ) → jump i ≡ Some to → at < to) → target i exit at ≡ Some next → at < next
+forward : (i : Instr) (exit : Exit) (at next : ℕ) → ((to : ℕ) → jump i ≡ Some to → at < to)
+    → target i exit at ≡ Some next → at < next
 forward (Num to value otherwise) Success at next jumps e = let same : at + 1 ≡ next = cc in omega arith
 forward (Num to value otherwise) Fault at next jumps e = jumps next e
 forward (NoneObject to) exit at next jumps e = let same : at + 1 ≡ next = cc in omega arith
@@ -38,29 +39,39 @@ IsArrival code n exit (At at s) = Arrives code n exit at
 IsArrival code n exit Ended = Unit {0}
 IsArrival code n exit (Meets at c) = Unit {0}
 
-arrival-unless_met : (code : List Instr) (n at : ℕ) (exit : Exit) (o : Option CheckCode) (p : Place) → IsArrival code n exit p → IsArrival code n exit (unless_met at o p)
+arrival-unless_met : (code : List Instr) (n at : ℕ) (exit : Exit) (o : Option CheckCode) (p : Place)
+    → IsArrival code n exit p → IsArrival code n exit (unless_met at o p)
 arrival-unless_met code n at exit None p h = h
 arrival-unless_met code n at exit (Some c) p h = tt
 
-arrival-cond : (code : List Instr) (n next : ℕ) (exit : Exit) (i : Instr) (s : State) (b : Bool) → slice_get code n ≡ Some i → target i exit n ≡ Some next → nat_lt next (length code) ≡ b
+arrival-cond : (code : List Instr) (n next : ℕ) (exit : Exit) (i : Instr) (s : State) (b : Bool)
+    → slice_get code n ≡ Some i → target i exit n ≡ Some next → nat_lt next (length code) ≡ b
     → IsArrival code n exit (cond b (At next s) (Meets n RunsOff))
-arrival-cond code n next exit i s true found leads e = record { here = i; found = found; leads = leads; within = ltb-true next (length code) e }
+arrival-cond code n next exit i s true found leads e =
+    record { here = i; found = found; leads = leads; within = ltb-true next (length code) e }
 arrival-cond code n next exit i s false found leads e = tt
 
-arrival-arrives : (code : List Instr) (n : ℕ) (exit : Exit) (i : Instr) (o : Option ℕ) (s : State) → slice_get code n ≡ Some i → target i exit n ≡ o → IsArrival code n exit (arrives code n o s)
+arrival-arrives : (code : List Instr) (n : ℕ) (exit : Exit) (i : Instr) (o : Option ℕ) (s : State)
+    → slice_get code n ≡ Some i → target i exit n ≡ o → IsArrival code n exit (arrives code n o s)
 arrival-arrives code n exit i None s found leads = tt
-arrival-arrives code n exit i (Some next) s found leads = arrival-cond code n next exit i s (nat_lt next (length code)) found leads refl
+arrival-arrives code n exit i (Some next) s found leads =
+    arrival-cond code n next exit i s (nat_lt next (length code)) found leads refl
 
-arrival-passes : (code : List Instr) (at : ℕ) (o : Option Instr) (exit : Exit) (s : State) → slice_get code at ≡ o → IsArrival code at exit (passes code at o exit s)
+arrival-passes : (code : List Instr) (at : ℕ) (o : Option Instr) (exit : Exit) (s : State) → slice_get code at ≡ o
+    → IsArrival code at exit (passes code at o exit s)
 arrival-passes code at None exit s found = tt
 arrival-passes code at (Some i) exit s found =
-    arrival-unless_met code at at exit (lowest i s) (arrives code at (target i exit at) (after i exit s)) (arrival-arrives code at exit i (target i exit at) (after i exit s) found refl)
+    arrival-unless_met code at at exit (lowest i s) (arrives code at (target i exit at) (after i exit s))
+    (arrival-arrives code at exit i (target i exit at) (after i exit s) found refl)
 
-pub arrives-At : (code : List Instr) (at next : ℕ) (s t : State) (exit : Exit) → follow code (At at s) exit ≡ At next t → Arrives code at exit next
-arrives-At code at next s t exit e = subst (IsArrival code at exit) e (arrival-passes code at (slice_get code at) exit s refl)
+pub arrives-At : (code : List Instr) (at next : ℕ) (s t : State) (exit : Exit) → follow code (At at s) exit ≡ At next t
+    → Arrives code at exit next
+arrives-At code at next s t exit e =
+    subst (IsArrival code at exit) e (arrival-passes code at (slice_get code at) exit s refl)
 
 -- where each target leads forward, each exit comes to a later point
-pub ahead-At : (code : List Instr) (at next : ℕ) (s t : State) (exit : Exit) → LeadsForward code → follow code (At at s) exit ≡ At next t → at < next
+pub ahead-At : (code : List Instr) (at next : ℕ) (s t : State) (exit : Exit) → LeadsForward code
+    → follow code (At at s) exit ≡ At next t → at < next
 ahead-At code at next s t exit forwards e =
     let there = arrives-At code at next s t exit e in
     forward there.here exit at next (λ to jumps. (forwards at there.here to there.found jumps).0) there.leads

@@ -14,54 +14,73 @@ use Rattle.brc_check.specs.Rows.{StaysOn, IsClosed, IsFaultAt}
 
 -- ---- one step more
 
-walk-more : (code : List Instr) (exits : List Exit) (e : Exit) → walk code (exits ++ e ∷ []) ≡ follow code (walk code exits) e
+walk-more : (code : List Instr) (exits : List Exit) (e : Exit)
+    → walk code (exits ++ e ∷ []) ≡ follow code (walk code exits) e
 walk-more code exits e = fold-append (follow code) (At 0 entry) exits (e ∷ [])
 
-walk-from : (code : List Instr) (at : ℕ) (s : State) (e : Exit) (p : Place) (r : Reaches code at s) → follow code (At at s) e ≡ p → walk code (r.exits ++ e ∷ []) ≡ p
+walk-from : (code : List Instr) (at : ℕ) (s : State) (e : Exit) (p : Place) (r : Reaches code at s)
+    → follow code (At at s) e ≡ p → walk code (r.exits ++ e ∷ []) ≡ p
 walk-from code at s e p r h = walk-more code r.exits e ∙ ap (λ (q : Place). follow code q e) r.reaches ∙ h
 
 pub begins : (code : List Instr) → Reaches code 0 entry
 begins code = record { exits = []; reaches = refl }
 
-pub reaches-more : (code : List Instr) (at next : ℕ) (s t : State) (e : Exit) → Reaches code at s → follow code (At at s) e ≡ At next t → Reaches code next t
-reaches-more code at next s t e r h = record { exits = r.exits ++ e ∷ []; reaches = walk-from code at s e (At next t) r h }
+pub reaches-more : (code : List Instr) (at next : ℕ) (s t : State) (e : Exit) → Reaches code at s
+    → follow code (At at s) e ≡ At next t → Reaches code next t
+reaches-more code at next s t e r h =
+    record { exits = r.exits ++ e ∷ []; reaches = walk-from code at s e (At next t) r h }
 
-pub meets-more : (code : List Instr) (at point : ℕ) (s : State) (met : CheckCode) (e : Exit) → Reaches code at s → follow code (At at s) e ≡ Meets point met → MeetsCode code point met
-meets-more code at point s met e r h = record { exits = r.exits ++ e ∷ []; meets = walk-from code at s e (Meets point met) r h }
+pub meets-more : (code : List Instr) (at point : ℕ) (s : State) (met : CheckCode) (e : Exit) → Reaches code at s
+    → follow code (At at s) e ≡ Meets point met → MeetsCode code point met
+meets-more code at point s met e r h =
+    record { exits = r.exits ++ e ∷ []; meets = walk-from code at s e (Meets point met) r h }
 
 -- ---- closed rows
 
-stays-follow : (code : List Instr) (row : List (Option State)) → IsClosed code row → (p : Place) (e : Exit) → StaysOn row p → StaysOn row (follow code p e)
+stays-follow : (code : List Instr) (row : List (Option State)) → IsClosed code row → (p : Place) (e : Exit)
+    → StaysOn row p → StaysOn row (follow code p e)
 stays-follow code row closed (At at s) e on = closed.goes_on at s e on
 stays-follow code row closed Ended e on = tt
 stays-follow code row closed (Meets at c) e on = on
 
-stays-fold : (code : List Instr) (row : List (Option State)) → IsClosed code row → (exits : List Exit) (p : Place) → StaysOn row p → StaysOn row (fold (follow code) p exits)
+stays-fold : (code : List Instr) (row : List (Option State)) → IsClosed code row → (exits : List Exit) (p : Place)
+    → StaysOn row p → StaysOn row (fold (follow code) p exits)
 stays-fold code row closed [] p on = on
-stays-fold code row closed (e ∷ es) p on = stays-fold code row closed es (follow code p e) (stays-follow code row closed p e on)
+stays-fold code row closed (e ∷ es) p on =
+    stays-fold code row closed es (follow code p e) (stays-follow code row closed p e on)
 
-stays : (code : List Instr) (row : List (Option State)) → IsClosed code row → (exits : List Exit) (p : Place) → walk code exits ≡ p → StaysOn row p
+stays : (code : List Instr) (row : List (Option State)) → IsClosed code row → (exits : List Exit) (p : Place)
+    → walk code exits ≡ p → StaysOn row p
 stays code row closed exits p e = subst (StaysOn row) e (stays-fold code row closed exits (At 0 entry) closed.begins)
 
 -- a closed row has the state of each walk
-pub closed-reached : (code : List Instr) (row : List (Option State)) → IsClosed code row → (at : ℕ) (s : State) → Reaches code at s → entry_at row at ≡ Some s
+pub closed-reached : (code : List Instr) (row : List (Option State)) → IsClosed code row → (at : ℕ) (s : State)
+    → Reaches code at s → entry_at row at ≡ Some s
 closed-reached code row closed at s r = stays code row closed r.exits (At at s) r.reaches
 
 pub closed-acceptable : (code : List Instr) (row : List (Option State)) → IsClosed code row → IsAcceptableCode code
 closed-acceptable code row closed = record {
   meets_none = λ at met m. stays code row closed m.exits (Meets at met) m.meets;
-  states_agree = λ exits others at s t g h. same_Some s t (sym (stays code row closed exits (At at s) g) ∙ stays code row closed others (At at t) h);
+  states_agree =
+      λ exits others at s t g h. same_Some s t
+      (sym (stays code row closed exits (At at s) g) ∙ stays code row closed others (At at t) h);
 }
 
 -- ---- true rows
 
 -- the true row of acceptable code has no fault
-pub no_fault : (code : List Instr) (row : List (Option State)) (at : ℕ) (met : CheckCode) → IsAcceptableCode code → ((k : ℕ) → IsTrueEntry code k (entry_at row k)) → IsFaultAt code row at met → ⊥
+pub no_fault : (code : List Instr) (row : List (Option State)) (at : ℕ) (met : CheckCode) → IsAcceptableCode code
+    → ((k : ℕ) → IsTrueEntry code k (entry_at row k)) → IsFaultAt code row at met → ⊥
 no_fault code row at met accepted true_row fault =
     elim fault [
-      | inl m ↦ accepted.meets_none at met (meets-more code at at m.state met m.exit ((true_row at m.state).0 m.is_given) m.meets)
+      | inl m ↦
+          accepted.meets_none at met (meets-more code at at m.state met m.exit ((true_row at m.state).0 m.is_given)
+          m.meets)
       | inr other ↦ elim other.1 [
-        | inl d ↦ d.apart ((true_row at d.arriving).1 (reaches-more code d.before at d.state d.arriving d.exit ((true_row d.before d.state).0 d.is_given) d.leads))
+        | inl d ↦
+            d.apart ((true_row at d.arriving).1
+            (reaches-more code d.before at d.state d.arriving d.exit ((true_row d.before d.state).0 d.is_given)
+            d.leads))
         | inr d ↦ d.1 ((true_row 0 entry).1 (begins code))
       ]
     ]

@@ -57,7 +57,8 @@ DiffersAtEntry row at = (at ≡ 0) × (entry_at row 0 ≢ Some entry)
 
 -- the code that a row is refused with at a point
 abbrev pub IsFaultAt : List Instr → List (Option State) → ℕ → CheckCode → Type 0
-IsFaultAt code row at met = MeetsFrom code row at met ⊎ ((met ≡ StatesDiffer) × (DiffersFrom code row at ⊎ DiffersAtEntry row at))
+IsFaultAt code row at met =
+    MeetsFrom code row at met ⊎ ((met ≡ StatesDiffer) × (DiffersFrom code row at ⊎ DiffersAtEntry row at))
 
 -- ---- one place
 

@@ -29,12 +29,15 @@ passes_both a b p q r g h = record {
   count = omega (arith, g.count, h.count, line_count-append a b);
 }
 
-pub passes_line : (text : List ℕ) (p : Place) (rest : Bor (List ℕ)) → IsFirstLineOf p.rest.now text rest.now → Passes (line text) p (at_place rest (p.line + 1))
-passes_line text p rest h = record { parts = h.parts; count = ap (λ (n : ℕ). p.line + n) (sym (line_count_one text h.plain)) }
+pub passes_line : (text : List ℕ) (p : Place) (rest : Bor (List ℕ)) → IsFirstLineOf p.rest.now text rest.now
+    → Passes (line text) p (at_place rest (p.line + 1))
+passes_line text p rest h =
+    record { parts = h.parts; count = ap (λ (n : ℕ). p.line + n) (sym (line_count_one text h.plain)) }
 
 -- ---- the fault of a line
 
-pub fault_at : (b : Beginning) (rest text below : List ℕ) → IsFirstLineOf rest text below → fault_of b rest ≡ line_fault_of b.done b.open_function text
+pub fault_at : (b : Beginning) (rest text below : List ℕ) → IsFirstLineOf rest text below
+    → fault_of b rest ≡ line_fault_of b.done b.open_function text
 fault_at b rest text below h = ap (fault_of b) h.parts ∙ rw (line_any text below, line_before text below h.plain) refl
 
 -- ---- a loop over the lines of a function
@@ -43,20 +46,27 @@ pub record IsInside (name : List ℕ) (from : Place) (code : List Instr) (to : P
   pub open_fits : IsOpen (opened name code)
   pub passed : Passes (instructions code) from to
 
-pub all_push : (code : List Instr) (i : Instr) → AllByRecursion IsInstruction code → IsInstruction i → AllByRecursion IsInstruction (code ++ i ∷ [])
+pub all_push : (code : List Instr) (i : Instr) → AllByRecursion IsInstruction code → IsInstruction i
+    → AllByRecursion IsInstruction (code ++ i ∷ [])
 all_push [] i all here = (here, tt)
 all_push (j ∷ code) i all here = (all.0, all_push code i all.1 here)
 
-pub instructions_push : (code : List Instr) (i : Instr) → instructions (code ++ i ∷ []) ≡ instructions code ++ line (instruction i)
-instructions_push code i = flat_map-append _ code (i ∷ []) ∙ ap (λ (x : List ℕ). instructions code ++ x) (append-nil (line (instruction i)))
+pub instructions_push : (code : List Instr) (i : Instr)
+    → instructions (code ++ i ∷ []) ≡ instructions code ++ line (instruction i)
+instructions_push code i =
+    flat_map-append _ code (i ∷ []) ∙ ap (λ (x : List ℕ). instructions code ++ x) (append-nil (line (instruction i)))
 
-pub goes_on : (name : List ℕ) (from at : Place) (code new : List Instr) (text : List ℕ) (rest : Bor (List ℕ)) → IsInside name from code at → IsFirstLineOf at.rest.now text rest.now → Appends code new text
+pub goes_on : (name : List ℕ) (from at : Place) (code new : List Instr) (text : List ℕ) (rest : Bor (List ℕ))
+    → IsInside name from code at → IsFirstLineOf at.rest.now text rest.now → Appends code new text
     → IsInside name from new (at_place rest (at.line + 1))
 goes_on name from at code new text rest so_far first next =
     let spelled = instruction_spelled text next.instr next.read in
-    let both = passes_both (instructions code) (line text) from at (at_place rest (at.line + 1)) so_far.passed (passes_line text at rest first) in
+    let both =
+    passes_both (instructions code) (line text) from at (at_place rest (at.line + 1)) so_far.passed
+    (passes_line text at rest first) in
     let lines : instructions code ++ line text ≡ instructions new =
-    ap (λ (x : List ℕ). instructions code ++ line x) spelled.0 ∙ sym (instructions_push code next.instr) ∙ ap instructions (sym next.appended) in
+    ap (λ (x : List ℕ). instructions code ++ line x) spelled.0 ∙ sym (instructions_push code next.instr)
+    ∙ ap instructions (sym next.appended) in
     let more : IsOpen (opened name (code ++ next.instr ∷ [])) = record {
       name = so_far.open_fits.name;
       most = omega (arith, length-append code (next.instr ∷ []), next.room);
@@ -78,36 +88,66 @@ ends_well code fine =
       ]
     ]
 
-pub ends : (name : List ℕ) (from at : Place) (code : List Instr) (text : List ℕ) (rest : Bor (List ℕ)) → IsInside name from code at → IsFirstLineOf at.rest.now text rest.now → bytes_eq text (codes "end") ≡ true → end_fault_of code ≡ None
+pub ends : (name : List ℕ) (from at : Place) (code : List Instr) (text : List ℕ) (rest : Bor (List ℕ))
+    → IsInside name from code at → IsFirstLineOf at.rest.now text rest.now → bytes_eq text (codes "end") ≡ true
+    → end_fault_of code ≡ None
     → Ends name from (opened name code) (at_place rest (at.line + 1))
 ends name from at code text rest so_far first last fine =
     let same : text ≡ codes "end" = (bytes_eq-Decides text (codes "end")).0 last in
-    let both = passes_both (instructions code) (line text) from at (at_place rest (at.line + 1)) so_far.passed (passes_line text at rest first) in
+    let both =
+    passes_both (instructions code) (line text) from at (at_place rest (at.line + 1)) so_far.passed
+    (passes_line text at rest first) in
     let well = ends_well code fine in
     record {
       named = refl;
-      whole = record { name = so_far.open_fits.name; some = well.0; most = so_far.open_fits.most; code = so_far.open_fits.code; targets = well.1 };
-      passed = subst (λ (x : List ℕ). Passes (instructions code ++ line x) from (at_place rest (at.line + 1))) same both;
+      whole =
+          record {
+            name = so_far.open_fits.name;
+            some = well.0;
+            most = so_far.open_fits.most;
+            code =
+                so_far.open_fits.code;
+            targets = well.1;
+          };
+      passed =
+          subst (λ (x : List ℕ). Passes (instructions code ++ line x) from (at_place rest (at.line + 1))) same both;
     }
 
 -- ---- its faults
 
-fault_inside : (name : List ℕ) (from at : Place) (code : List Instr) (e : FaultCode) → IsInside name from code at → fault_of (record { done = []; open_function = Some (opened name code) }) at.rest.now ≡ Some e
+fault_inside : (name : List ℕ) (from at : Place) (code : List Instr) (e : FaultCode) → IsInside name from code at
+    → fault_of (record { done = []; open_function = Some (opened name code) }) at.rest.now ≡ Some e
     → HasFaultInside name from (record { line = at.line; code = e })
-fault_inside name from at code e so_far h = record { code = code; rest = at.rest.now; open_fits = so_far.open_fits; parts = so_far.passed.parts; place = so_far.passed.count; fault = h }
+fault_inside name from at code e so_far h =
+    record {
+      code = code;
+      rest = at.rest.now;
+      open_fits = so_far.open_fits;
+      parts = so_far.passed.parts;
+      place =
+          so_far.passed.count;
+      fault = h;
+    }
 
-pub end_fault : (name : List ℕ) (from at : Place) (code : List Instr) (text rest : List ℕ) (e : FaultCode) → IsInside name from code at → IsFirstLineOf at.rest.now text rest → bytes_eq text (codes "end") ≡ true
+pub end_fault : (name : List ℕ) (from at : Place) (code : List Instr) (text rest : List ℕ) (e : FaultCode)
+    → IsInside name from code at → IsFirstLineOf at.rest.now text rest → bytes_eq text (codes "end") ≡ true
     → end_fault_of code ≡ Some e → IsFaultInside name from (record { line = at.line; code = e })
 end_fault name from at code text rest e so_far first last h =
-    inr (fault_inside name from at code e so_far (fault_at (record { done = []; open_function = Some (opened name code) }) at.rest.now text rest first ∙ rw last h))
+    inr (fault_inside name from at code e so_far
+    (fault_at (record { done = []; open_function = Some (opened name code) }) at.rest.now text rest first
+    ∙ rw last h))
 
-same_code : (name : List ℕ) (code : List Instr) (r : Result Instr FaultCode) → next_instruction_fault_of (opened name code) r ≡ next_instruction_fault_of (opened [] code) r
+same_code : (name : List ℕ) (code : List Instr) (r : Result Instr FaultCode)
+    → next_instruction_fault_of (opened name code) r ≡ next_instruction_fault_of (opened [] code) r
 same_code name code (Ok i) = refl
 same_code name code (Err e) = refl
 
-pub other_fault : (name : List ℕ) (from at : Place) (code : List Instr) (text rest : List ℕ) (e : FaultCode) → IsInside name from code at → IsFirstLineOf at.rest.now text rest → bytes_eq text (codes "end") ≡ false
-    → IsLineFault (next_instruction_fault_of (opened [] code) (instruction_in (words text))) e → IsFaultInside name from (record { line = at.line; code = e })
+pub other_fault : (name : List ℕ) (from at : Place) (code : List Instr) (text rest : List ℕ) (e : FaultCode)
+    → IsInside name from code at → IsFirstLineOf at.rest.now text rest → bytes_eq text (codes "end") ≡ false
+    → IsLineFault (next_instruction_fault_of (opened [] code) (instruction_in (words text))) e
+    → IsFaultInside name from (record { line = at.line; code = e })
 other_fault name from at code text rest e so_far first other (inl memory) = inl memory
 other_fault name from at code text rest e so_far first other (inr h) =
     inr (fault_inside name from at code e so_far
-    (fault_at (record { done = []; open_function = Some (opened name code) }) at.rest.now text rest first ∙ rw other (same_code name code (instruction_in (words text)) ∙ h)))
+    (fault_at (record { done = []; open_function = Some (opened name code) }) at.rest.now text rest first
+    ∙ rw other (same_code name code (instruction_in (words text)) ∙ h)))

@@ -13,7 +13,8 @@ fits_means at count target e =
     let h = and_parts (ltb at target) (ltb target count) e in
     (ltb-true at target h.0, ltb-true target count h.1)
 
-fits_from : (at count : ℕ) (o : Option ℕ) → ((target : ℕ) → o ≡ Some target → (at < target) × (target < count)) → target_fits at count o ≡ true
+fits_from : (at count : ℕ) (o : Option ℕ) → ((target : ℕ) → o ≡ Some target → (at < target) × (target < count))
+    → target_fits at count o ≡ true
 fits_from at count None h = refl
 fits_from at count (Some target) h =
     let q = h target refl in
@@ -22,7 +23,8 @@ fits_from at count (Some target) h =
 -- ---- those from one number on
 
 means_from : (at count : ℕ) (code : List Instr) → lead_forward_from at count code ≡ true
-    → (k : ℕ) (i : Instr) (target : ℕ) → slice_get code k ≡ Some i → jump i ≡ Some target → (at + k < target) × (target < count)
+    → (k : ℕ) (i : Instr) (target : ℕ) → slice_get code k ≡ Some i → jump i ≡ Some target
+    → (at + k < target) × (target < count)
 means_from at count [] e k i target here leads = absurd cc
 means_from at count (j ∷ code) e zero i target here leads =
     let h = and_parts (target_fits at count (jump j)) (lead_forward_from (at + 1) count code) e in
@@ -34,13 +36,16 @@ means_from at count (j ∷ code) e (suc k) i target here leads =
     let q = means_from (at + 1) count code h.1 k i target here leads in
     (omega (arith, q.0), q.1)
 
-from_means : (at count : ℕ) (code : List Instr) → ((k : ℕ) (i : Instr) (target : ℕ) → slice_get code k ≡ Some i → jump i ≡ Some target → (at + k < target) × (target < count))
+from_means : (at count : ℕ) (code : List Instr)
+    → ((k : ℕ) (i : Instr) (target : ℕ) → slice_get code k ≡ Some i → jump i ≡ Some target → (at + k < target)
+    × (target < count))
     → lead_forward_from at count code ≡ true
 from_means at count [] h = refl
 from_means at count (j ∷ code) h =
     and_from (target_fits at count (jump j)) (lead_forward_from (at + 1) count code)
     (fits_from at count (jump j) (λ target leads. let q = h 0 j target refl leads in (omega (arith, q.0), q.1)))
-    (from_means (at + 1) count code (λ k i target here leads. let q = h (suc k) i target here leads in (omega (arith, q.0), q.1)))
+    (from_means (at + 1) count code
+    (λ k i target here leads. let q = h (suc k) i target here leads in (omega (arith, q.0), q.1)))
 
 -- ---- all of them
 
@@ -50,4 +55,6 @@ leads_means code e at i target here leads =
     (omega (arith, q.0), q.1)
 
 pub means_leads : (code : List Instr) → LeadsForward code → leads_forward code ≡ true
-means_leads code h = from_means 0 (length code) code (λ k i target here leads. let q = h k i target here leads in (omega (arith, q.0), q.1))
+means_leads code h =
+    from_means 0 (length code) code
+    (λ k i target here leads. let q = h k i target here leads in (omega (arith, q.0), q.1))

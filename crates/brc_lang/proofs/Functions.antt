@@ -18,19 +18,32 @@ use Rattle.brc_lang.proofs.Bodies.{at_place, passes_both, passes_line, fault_at}
 
 -- ---- the faults of one function
 
-nothing_open : (done : List Function) (p : Place) (code : FaultCode) → IsBeginning (closed done) → fault_of (closed done) p.rest.now ≡ Some code → IsFaultBelow done p (record { line = p.line; code = code })
-nothing_open done p code fits h = inr (record { open_function = None; rest = p.rest.now; fits = fits; parts = refl; place = sym (add-zero p.line); fault = h })
+nothing_open : (done : List Function) (p : Place) (code : FaultCode) → IsBeginning (closed done)
+    → fault_of (closed done) p.rest.now ≡ Some code → IsFaultBelow done p (record { line = p.line; code = code })
+nothing_open done p code fits h =
+    inr (record {
+      open_function = None;
+      rest = p.rest.now;
+      fits = fits;
+      parts = refl;
+      place = sym (add-zero p.line);
+      fault = h;
+    })
 
-pub cut_off_below : (done : List Function) (p : Place) → IsBeginning (closed done) → 0 < length p.rest.now → list_any is_line_feed p.rest.now ≡ false → IsFaultBelow done p (record { line = p.line; code = CutOff })
+pub cut_off_below : (done : List Function) (p : Place) → IsBeginning (closed done) → 0 < length p.rest.now
+    → list_any is_line_feed p.rest.now ≡ false → IsFaultBelow done p (record { line = p.line; code = CutOff })
 cut_off_below done p fits some e =
     let here : eqb (length p.rest.now) 0 ≡ false = ne_eqb (length p.rest.now) 0 (λ none. omega arith) in
     nothing_open done p CutOff fits (rw (e, here) refl)
 
-pub heading_below : (done : List Function) (p : Place) (text rest : List ℕ) (code : FaultCode) → IsBeginning (closed done) → IsFirstLineOf p.rest.now text rest → heading_fault_of done (words text) ≡ Some code
+pub heading_below : (done : List Function) (p : Place) (text rest : List ℕ) (code : FaultCode)
+    → IsBeginning (closed done) → IsFirstLineOf p.rest.now text rest → heading_fault_of done (words text) ≡ Some code
     → IsFaultBelow done p (record { line = p.line; code = code })
-heading_below done p text rest code fits first h = nothing_open done p code fits (fault_at (closed done) p.rest.now text rest first ∙ h)
+heading_below done p text rest code fits first h =
+    nothing_open done p code fits (fault_at (closed done) p.rest.now text rest first ∙ h)
 
-pub body_below : (done : List Function) (p : Place) (text name : List ℕ) (rest : Bor (List ℕ)) (e : ReadFault) → IsBeginning (closed done) → IsFirstLineOf p.rest.now text rest.now → Opens done text name
+pub body_below : (done : List Function) (p : Place) (text name : List ℕ) (rest : Bor (List ℕ)) (e : ReadFault)
+    → IsBeginning (closed done) → IsFirstLineOf p.rest.now text rest.now → Opens done text name
     → IsFaultInside name (at_place rest (p.line + 1)) e → IsFaultBelow done p e
 body_below done p text name rest e fits first opening (inl memory) = inl memory
 body_below done p text name rest e fits first opening (inr h) =
@@ -39,25 +52,47 @@ body_below done p text name rest e fits first opening (inr h) =
     inr (record {
       open_function = Some f;
       rest = h.rest;
-      fits = record { most = omega (arith, length-append done (f ∷ []), opening.room); done = fits.done; names = apart_push done f fits.names opening.new_name; open_fits = h.open_fits };
-      parts = first.parts ∙ ap (λ (x : List ℕ). x ++ rest.now) opening.spelled ∙ ap (λ (x : List ℕ). heading name ++ x) h.parts ∙ sym (append_assoc (heading name) (instructions h.code) h.rest);
-      place = omega (arith, h.place, above.count, ap line_count opening.spelled, line_count-append (heading name) (instructions h.code));
+      fits =
+          record {
+            most = omega (arith, length-append done (f ∷ []), opening.room);
+            done = fits.done;
+            names =
+                apart_push done f fits.names opening.new_name;
+            open_fits = h.open_fits;
+          };
+      parts =
+          first.parts ∙ ap (λ (x : List ℕ). x ++ rest.now) opening.spelled
+          ∙ ap (λ (x : List ℕ). heading name ++ x) h.parts
+          ∙ sym (append_assoc (heading name) (instructions h.code) h.rest);
+      place =
+          omega (
+            arith,
+            h.place,
+            above.count,
+            ap line_count opening.spelled,
+            line_count-append (heading name) (instructions h.code),
+          );
       fault = h.fault;
     })
 
 -- ---- one more function
 
-pub functions_all_push : (done : List Function) (f : Function) → AllByRecursion IsFunction done → IsFunction f → AllByRecursion IsFunction (done ++ f ∷ [])
+pub functions_all_push : (done : List Function) (f : Function) → AllByRecursion IsFunction done → IsFunction f
+    → AllByRecursion IsFunction (done ++ f ∷ [])
 functions_all_push [] f all here = (here, tt)
 functions_all_push (g ∷ done) f all here = (all.0, functions_all_push done f all.1 here)
 
-pub reads_function : (done new : List Function) (p after : Place) (text name : List ℕ) (rest : Bor (List ℕ)) (f : Function) → IsBeginning (closed done) → IsFirstLineOf p.rest.now text rest.now → Opens done text name
+pub reads_function : (done new : List Function) (p after : Place) (text name : List ℕ) (rest : Bor (List ℕ))
+    (f : Function)
+    → IsBeginning (closed done) → IsFirstLineOf p.rest.now text rest.now → Opens done text name
     → Ends name (at_place rest (p.line + 1)) f after → new ≡ done ++ f ∷ [] → ReadsFunction done new p after
 reads_function done new p after text name rest f fits first opening end appended =
     let last = instructions f.code ++ line (codes "end") in
-    let both = passes_both (line text) last p (at_place rest (p.line + 1)) after (passes_line text p rest first) end.passed in
+    let both =
+    passes_both (line text) last p (at_place rest (p.line + 1)) after (passes_line text p rest first) end.passed in
     let lines : line text ++ last ≡ function f =
-    ap (λ (x : List ℕ). x ++ last) (opening.spelled ∙ ap heading (sym end.named)) ∙ sym (append_assoc (heading f.name) (instructions f.code) (line (codes "end"))) in
+    ap (λ (x : List ℕ). x ++ last) (opening.spelled ∙ ap heading (sym end.named))
+    ∙ sym (append_assoc (heading f.name) (instructions f.code) (line (codes "end"))) in
     let more : IsBeginning (closed (done ++ f ∷ [])) = record {
       most = omega (arith, length-append done (f ∷ []), opening.room);
       done = functions_all_push done f fits.done end.whole;
@@ -81,7 +116,8 @@ pub record IsReadTo (bytes : List ℕ) (done : List Function) (p : Place) : Type
 pub above_closed : (done : List Function) → beginning (closed done) ≡ first_line ++ functions done
 above_closed done = append-nil (first_line ++ functions done)
 
-pub fault_below : (bytes : List ℕ) (done : List Function) (p : Place) (e : ReadFault) → IsReadTo bytes done p → IsFaultBelow done p e → IsFaultOf bytes e
+pub fault_below : (bytes : List ℕ) (done : List Function) (p : Place) (e : ReadFault) → IsReadTo bytes done p
+    → IsFaultBelow done p e → IsFaultOf bytes e
 fault_below bytes done p e so_far (inl memory) = inl memory
 fault_below bytes done p e so_far (inr h) =
     let top = first_line ++ functions done in
@@ -89,7 +125,16 @@ fault_below bytes done p e so_far (inr h) =
       above = record { done = done; open_function = h.open_function };
       rest = h.rest;
       above_fits = h.fits;
-      parts = so_far.parts ∙ ap (λ (x : List ℕ). x ++ p.rest.now) (above_closed done) ∙ ap (λ (x : List ℕ). top ++ x) h.parts ∙ sym (append_assoc top (open_text h.open_function) h.rest);
-      place = omega (arith, h.place, so_far.place, ap line_count (above_closed done), line_count-append top (open_text h.open_function));
+      parts =
+          so_far.parts ∙ ap (λ (x : List ℕ). x ++ p.rest.now) (above_closed done)
+          ∙ ap (λ (x : List ℕ). top ++ x) h.parts ∙ sym (append_assoc top (open_text h.open_function) h.rest);
+      place =
+          omega (
+            arith,
+            h.place,
+            so_far.place,
+            ap line_count (above_closed done),
+            line_count-append top (open_text h.open_function),
+          );
       fault = h.fault;
     }))

@@ -15,7 +15,8 @@ use Rattle.brc_lang.proofs.Words.{joined, some_word, ArePlain, spaced_words, spa
 use Rattle.brc_lang.proofs.Spelling.{number_spelled, number_again, number_plain, variable_spelled, variable_again, variable_plain, target_spelled, target_again, target_plain}
 
 -- the value of a step that did not fail
-pub bind_ok : {A B : Type 0} (r : Result A FaultCode) (f : A → Result B FaultCode) (y : B) → (r >>= f) ≡ Ok y → (x : A) × (r ≡ Ok x) × (f x ≡ Ok y)
+pub bind_ok : {A B : Type 0} (r : Result A FaultCode) (f : A → Result B FaultCode) (y : B) → (r >>= f) ≡ Ok y
+    → (x : A) × (r ≡ Ok x) × (f x ≡ Ok y)
 bind_ok (Ok x) f y e = (x, refl, e)
 bind_ok (Err d) f y e = absurd cc
 
@@ -62,7 +63,8 @@ two_variables_spelled (a ∷ b ∷ []) v e =
     let from = bind_ok (variable_in b) _ v to.2 in
     let p = variable_spelled a to.0 to.1 in
     let q = variable_spelled b from.0 from.1 in
-    let same : (a ∷ b ∷ []) ≡ variable to.0 ∷ variable from.0 ∷ [] = both_same a (variable to.0) (b ∷ []) (variable from.0 ∷ []) p.0 (ap (λ (x : List ℕ). x ∷ []) q.0) in
+    let same : (a ∷ b ∷ []) ≡ variable to.0 ∷ variable from.0 ∷ [] =
+    both_same a (variable to.0) (b ∷ []) (variable from.0 ∷ []) p.0 (ap (λ (x : List ℕ). x ∷ []) q.0) in
     subst (AreVariables (a ∷ b ∷ [])) (ok_is (to.0, from.0) v from.2) (same, p.1, q.1)
 two_variables_spelled (a ∷ b ∷ c ∷ ws) v e = absurd cc
 
@@ -92,29 +94,43 @@ num_spelled w (a ∷ b ∷ c ∷ d ∷ []) i named e =
     let p = variable_spelled a to.0 to.1 in
     let q = number_spelled 4294967295 b value.0 (omega arith) value.1 in
     let r = target_spelled d otherwise.0 otherwise.1 in
-    let last : (c ∷ d ∷ []) ≡ codes "else" ∷ target otherwise.0 ∷ [] = both_same c (codes "else") (d ∷ []) (target otherwise.0 ∷ []) (same_text c (codes "else") same) (ap (λ (x : List ℕ). x ∷ []) r.0) in
-    let more : (b ∷ c ∷ d ∷ []) ≡ decimal value.0 ∷ codes "else" ∷ target otherwise.0 ∷ [] = both_same b (decimal value.0) (c ∷ d ∷ []) _ q.0 last in
-    let most : (a ∷ b ∷ c ∷ d ∷ []) ≡ variable to.0 ∷ decimal value.0 ∷ codes "else" ∷ target otherwise.0 ∷ [] = both_same a (variable to.0) (b ∷ c ∷ d ∷ []) _ p.0 more in
+    let last : (c ∷ d ∷ []) ≡ codes "else" ∷ target otherwise.0 ∷ [] =
+    both_same c (codes "else") (d ∷ []) (target otherwise.0 ∷ []) (same_text c (codes "else") same)
+    (ap (λ (x : List ℕ). x ∷ []) r.0) in
+    let more : (b ∷ c ∷ d ∷ []) ≡ decimal value.0 ∷ codes "else" ∷ target otherwise.0 ∷ [] =
+    both_same b (decimal value.0) (c ∷ d ∷ []) _ q.0 last in
+    let most : (a ∷ b ∷ c ∷ d ∷ []) ≡ variable to.0 ∷ decimal value.0 ∷ codes "else" ∷ target otherwise.0 ∷ [] =
+    both_same a (variable to.0) (b ∷ c ∷ d ∷ []) _ p.0 more in
     let fits : IsInstruction (Num to.0 value.0 otherwise.0) = (p.1, omega (arith, q.1), r.1) in
-    subst (Spelled (w ∷ a ∷ b ∷ c ∷ d ∷ [])) (ok_is (Num to.0 value.0 otherwise.0) i otherwise.2) (both_same w (codes "num") (a ∷ b ∷ c ∷ d ∷ []) _ named most, fits))
+    subst (Spelled (w ∷ a ∷ b ∷ c ∷ d ∷ [])) (ok_is (Num to.0 value.0 otherwise.0) i otherwise.2)
+    (both_same w (codes "num") (a ∷ b ∷ c ∷ d ∷ []) _ named most, fits))
     (λ never. absurd cc)
 num_spelled w (a ∷ b ∷ c ∷ d ∷ f ∷ ws) i named e = absurd cc
 
-unary : (name : List ℕ) (make : ℕ → Instr) (w : List ℕ) (ws : List (List ℕ)) (i : Instr) → ((n : ℕ) → instruction_words (make n) ≡ name ∷ variable n ∷ []) → ((n : ℕ) → n < 16 → IsInstruction (make n)) → w ≡ name
+unary : (name : List ℕ) (make : ℕ → Instr) (w : List ℕ) (ws : List (List ℕ)) (i : Instr)
+    → ((n : ℕ) → instruction_words (make n) ≡ name ∷ variable n ∷ []) → ((n : ℕ) → n < 16 → IsInstruction (make n))
+    → w ≡ name
     → (one_variable_in ws >>= λ n. Ok (make n)) ≡ Ok i → Spelled (w ∷ ws) i
 unary name make w ws i spelling fits named e =
     let b = bind_ok (one_variable_in ws) (λ n. Ok (make n)) i e in
     let v = one_variable_spelled ws b.0 b.1 in
-    subst (Spelled (w ∷ ws)) (ok_is (make b.0) i b.2) (both_same w name ws (variable b.0 ∷ []) named v.0 ∙ sym (spelling b.0), fits b.0 v.1)
+    subst (Spelled (w ∷ ws)) (ok_is (make b.0) i b.2)
+    (both_same w name ws (variable b.0 ∷ []) named v.0 ∙ sym (spelling b.0), fits b.0 v.1)
 
-binary : (name : List ℕ) (make : ℕ → ℕ → Instr) (w : List ℕ) (ws : List (List ℕ)) (i : Instr) → ((m n : ℕ) → instruction_words (make m n) ≡ name ∷ variable m ∷ variable n ∷ []) → ((m n : ℕ) → m < 16 → n < 16 → IsInstruction (make m n)) → w ≡ name
+binary : (name : List ℕ) (make : ℕ → ℕ → Instr) (w : List ℕ) (ws : List (List ℕ)) (i : Instr)
+    → ((m n : ℕ) → instruction_words (make m n) ≡ name ∷ variable m ∷ variable n ∷ [])
+    → ((m n : ℕ) → m < 16 → n < 16 → IsInstruction (make m n)) → w ≡ name
     → (two_variables_in ws >>= λ v. Ok (make v.0 v.1)) ≡ Ok i → Spelled (w ∷ ws) i
 binary name make w ws i spelling fits named e =
     let b = bind_ok (two_variables_in ws) (λ v. Ok (make v.0 v.1)) i e in
     let v = two_variables_spelled ws b.0 b.1 in
-    subst (Spelled (w ∷ ws)) (ok_is (make b.0.0 b.0.1) i b.2) (both_same w name ws (variable b.0.0 ∷ variable b.0.1 ∷ []) named v.0 ∙ sym (spelling b.0.0 b.0.1), fits b.0.0 b.0.1 v.1 v.2)
+    subst (Spelled (w ∷ ws)) (ok_is (make b.0.0 b.0.1) i b.2) (
+      both_same w name ws (variable b.0.0 ∷ variable b.0.1 ∷ []) named v.0 ∙ sym (spelling b.0.0 b.0.1),
+      fits b.0.0 b.0.1 v.1 v.2,
+    )
 
-goto_spelled : (w : List ℕ) (ws : List (List ℕ)) (i : Instr) → w ≡ codes "goto" → (one_target_in ws >>= λ n. Ok (Goto n)) ≡ Ok i → Spelled (w ∷ ws) i
+goto_spelled : (w : List ℕ) (ws : List (List ℕ)) (i : Instr) → w ≡ codes "goto"
+    → (one_target_in ws >>= λ n. Ok (Goto n)) ≡ Ok i → Spelled (w ∷ ws) i
 goto_spelled w ws i named e =
     let b = bind_ok (one_target_in ws) (λ n. Ok (Goto n)) i e in
     let t = one_target_spelled ws b.0 b.1 in
@@ -127,24 +143,37 @@ fail_spelled w (a ∷ ws) i named e = absurd cc
 words_spelled : (ws : List (List ℕ)) (i : Instr) → instruction_in ws ≡ Ok i → Spelled ws i
 words_spelled [] i read = absurd cc
 words_spelled (w ∷ ws) i read =
-    either_way (bytes_eq w (codes "num")) _ _ (Ok i) read (λ same e. num_spelled w ws i (same_text w (codes "num") same) e)
+    either_way (bytes_eq w (codes "num")) _ _ (Ok i) read
+    (λ same e. num_spelled w ws i (same_text w (codes "num") same) e)
     (λ read1.
-    either_way (bytes_eq w (codes "none")) _ _ (Ok i) read1 (λ same e. unary (codes "none") (λ n. NoneObject n) w ws i (λ n. refl) (λ n lt. lt) (same_text w (codes "none") same) e)
+    either_way (bytes_eq w (codes "none")) _ _ (Ok i) read1
+    (λ same e. unary (codes "none") (λ n. NoneObject n) w ws i (λ n. refl) (λ n lt. lt)
+    (same_text w (codes "none") same) e)
     (λ read2.
-    either_way (bytes_eq w (codes "newref")) _ _ (Ok i) read2 (λ same e. binary (codes "newref") (λ m n. Newref m n) w ws i (λ m n. refl) (λ m n lt ltn. (lt, ltn)) (same_text w (codes "newref") same) e)
+    either_way (bytes_eq w (codes "newref")) _ _ (Ok i) read2
+    (λ same e. binary (codes "newref") (λ m n. Newref m n) w ws i (λ m n. refl) (λ m n lt ltn. (lt, ltn))
+    (same_text w (codes "newref") same) e)
     (λ read3.
-    either_way (bytes_eq w (codes "move")) _ _ (Ok i) read3 (λ same e. binary (codes "move") (λ m n. Move m n) w ws i (λ m n. refl) (λ m n lt ltn. (lt, ltn)) (same_text w (codes "move") same) e)
+    either_way (bytes_eq w (codes "move")) _ _ (Ok i) read3
+    (λ same e. binary (codes "move") (λ m n. Move m n) w ws i (λ m n. refl) (λ m n lt ltn. (lt, ltn))
+    (same_text w (codes "move") same) e)
     (λ read4.
-    either_way (bytes_eq w (codes "drop")) _ _ (Ok i) read4 (λ same e. unary (codes "drop") (λ n. Drop n) w ws i (λ n. refl) (λ n lt. lt) (same_text w (codes "drop") same) e)
+    either_way (bytes_eq w (codes "drop")) _ _ (Ok i) read4
+    (λ same e. unary (codes "drop") (λ n. Drop n) w ws i (λ n. refl) (λ n lt. lt) (same_text w (codes "drop") same)
+    e)
     (λ read5.
-    either_way (bytes_eq w (codes "goto")) _ _ (Ok i) read5 (λ same e. goto_spelled w ws i (same_text w (codes "goto") same) e)
+    either_way (bytes_eq w (codes "goto")) _ _ (Ok i) read5
+    (λ same e. goto_spelled w ws i (same_text w (codes "goto") same) e)
     (λ read6.
-    either_way (bytes_eq w (codes "ret")) _ _ (Ok i) read6 (λ same e. unary (codes "ret") (λ n. Ret n) w ws i (λ n. refl) (λ n lt. lt) (same_text w (codes "ret") same) e)
+    either_way (bytes_eq w (codes "ret")) _ _ (Ok i) read6
+    (λ same e. unary (codes "ret") (λ n. Ret n) w ws i (λ n. refl) (λ n lt. lt) (same_text w (codes "ret") same) e)
     (λ read7.
-    either_way (bytes_eq w (codes "fail")) _ (Err UnknownWord) (Ok i) read7 (λ same e. fail_spelled w ws i (same_text w (codes "fail") same) e)
+    either_way (bytes_eq w (codes "fail")) _ (Err UnknownWord) (Ok i) read7
+    (λ same e. fail_spelled w ws i (same_text w (codes "fail") same) e)
     (λ never. absurd cc))))))))
 
-pub instruction_spelled : (text : List ℕ) (i : Instr) → instruction_in (words text) ≡ Ok i → (text ≡ instruction i) × IsInstruction i
+pub instruction_spelled : (text : List ℕ) (i : Instr) → instruction_in (words text) ≡ Ok i
+    → (text ≡ instruction i) × IsInstruction i
 instruction_spelled text i read =
     let s = words_spelled (words text) i read in
     (joined text (instruction_words i) s.0, s.1)
@@ -152,7 +181,12 @@ instruction_spelled text i read =
 -- ---- from the instruction to a line
 
 words_again : (i : Instr) → IsInstruction i → instruction_in (instruction_words i) ≡ Ok i
-words_again (Num to value otherwise) fits = rw (variable_again to fits.0, number_again 4294967295 value (omega (arith, fits.1)) (omega (arith, fits.1)), target_again otherwise fits.2) refl
+words_again (Num to value otherwise) fits =
+    rw (
+      variable_again to fits.0,
+      number_again 4294967295 value (omega (arith, fits.1)) (omega (arith, fits.1)),
+      target_again otherwise fits.2,
+    ) refl
 words_again (NoneObject to) fits = rw (variable_again to fits) refl
 words_again (Newref to from) fits = rw (variable_again to fits.0, variable_again from fits.1) refl
 words_again (Move to from) fits = rw (variable_again to fits.0, variable_again from fits.1) refl
@@ -162,7 +196,13 @@ words_again (Ret from) fits = rw (variable_again from fits) refl
 words_again Fail fits = refl
 
 words_plain : (i : Instr) → IsInstruction i → ArePlain (instruction_words i)
-words_plain (Num to value otherwise) fits = ((refl, refl), (variable_plain to fits.0, (number_plain value (omega (arith, fits.1)), ((refl, refl), (target_plain otherwise fits.2, tt)))))
+words_plain (Num to value otherwise) fits = (
+  (refl, refl),
+  (
+    variable_plain to fits.0,
+    (number_plain value (omega (arith, fits.1)), ((refl, refl), (target_plain otherwise fits.2, tt))),
+  ),
+)
 words_plain (NoneObject to) fits = ((refl, refl), (variable_plain to fits, tt))
 words_plain (Newref to from) fits = ((refl, refl), (variable_plain to fits.0, (variable_plain from fits.1, tt)))
 words_plain (Move to from) fits = ((refl, refl), (variable_plain to fits.0, (variable_plain from fits.1, tt)))
@@ -172,7 +212,8 @@ words_plain (Ret from) fits = ((refl, refl), (variable_plain from fits, tt))
 words_plain Fail fits = ((refl, refl), tt)
 
 pub instruction_again : (i : Instr) → IsInstruction i → instruction_in (words (instruction i)) ≡ Ok i
-instruction_again i fits = ap instruction_in (spaced_words (instruction_words i) (words_plain i fits)) ∙ words_again i fits
+instruction_again i fits =
+    ap instruction_in (spaced_words (instruction_words i) (words_plain i fits)) ∙ words_again i fits
 
 -- an instruction is one line, and isn't `end`
 pub instruction_plain : (i : Instr) → IsInstruction i → list_any is_line_feed (instruction i) ≡ false

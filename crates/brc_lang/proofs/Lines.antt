@@ -12,20 +12,30 @@ use Rattle.brc_lang.specs.Progress.{IsFirstLineOf}
 use Rattle.brc_lang.proofs.Cuts.{found_place, found_none, lacks_all, lacks_before, one_part, has_behind, cut_before}
 
 -- what stands before the byte, the byte, and what stands behind it
-cut_parts : (p : ℕ → Bool) (xs : List ℕ) (i : ℕ) → position p xs ≡ Some i → (y : ℕ) × (p y ≡ true) × (xs ≡ take i xs ++ (y ∷ take (length xs - (i + 1)) (drop (i + 1) xs))) × (take i xs ≡ before_first p xs) × (take (length xs - (i + 1)) (drop (i + 1) xs) ≡ after_first p xs)
+cut_parts : (p : ℕ → Bool) (xs : List ℕ) (i : ℕ) → position p xs ≡ Some i
+    → (y : ℕ) × (p y ≡ true) × (xs ≡ take i xs ++ (y ∷ take (length xs - (i + 1)) (drop (i + 1) xs)))
+    × (take i xs ≡ before_first p xs) × (take (length xs - (i + 1)) (drop (i + 1) xs) ≡ after_first p xs)
 cut_parts p xs i e =
     let h = found_place p xs i e in
     let front : take i xs ≡ before_first p xs = ap (λ (n : ℕ). take n xs) (sym h.1) in
-    let rest : take (length xs - (i + 1)) (drop (i + 1) xs) ≡ after_first p xs = take_rest xs (i + 1) ∙ ap (λ (n : ℕ). drop (n + 1) xs) (sym h.1) in
-    (get_or xs (position_or_len p xs) 0, passes_at_first p xs 0 h.0, split_at_first p xs 0 h.0 ∙ sym (rw (front, rest) refl), front, rest)
+    let rest : take (length xs - (i + 1)) (drop (i + 1) xs) ≡ after_first p xs =
+    take_rest xs (i + 1) ∙ ap (λ (n : ℕ). drop (n + 1) xs) (sym h.1) in (
+      get_or xs (position_or_len p xs) 0,
+      passes_at_first p xs 0 h.0,
+      split_at_first p xs 0 h.0 ∙ sym (rw (front, rest) refl),
+      front,
+      rest,
+    )
 
-pub line_found : (text : List ℕ) (i : ℕ) → position is_line_feed text ≡ Some i → IsFirstLineOf text (take i text) (take (length text - (i + 1)) (drop (i + 1) text))
+pub line_found : (text : List ℕ) (i : ℕ) → position is_line_feed text ≡ Some i
+    → IsFirstLineOf text (take i text) (take (length text - (i + 1)) (drop (i + 1) text))
 line_found text i e =
     let q = cut_parts is_line_feed text i e in
     let feed : q.0 ≡ 10 = eqb-true q.0 10 q.1 in
     let behind = take (length text - (i + 1)) (drop (i + 1) text) in
     record {
-      parts = q.2 ∙ ap (λ (y : ℕ). take i text ++ (y ∷ behind)) feed ∙ sym (append_assoc (take i text) (10 ∷ []) behind);
+      parts =
+          q.2 ∙ ap (λ (y : ℕ). take i text ++ (y ∷ behind)) feed ∙ sym (append_assoc (take i text) (10 ∷ []) behind);
       plain = rw q.3 (lacks_before is_line_feed text);
     }
 
@@ -35,7 +45,8 @@ line_missing text e = lacks_all is_line_feed text (found_none is_line_feed text 
 abbrev is_space : ℕ → Bool
 is_space c = eqb c 32
 
-pub word_found : (text : List ℕ) (i : ℕ) → position (λ c. eqb c 32) text ≡ Some i → words text ≡ take i text ∷ words (take (length text - (i + 1)) (drop (i + 1) text))
+pub word_found : (text : List ℕ) (i : ℕ) → position (λ c. eqb c 32) text ≡ Some i
+    → words text ≡ take i text ∷ words (take (length text - (i + 1)) (drop (i + 1) text))
 word_found text i e =
     let q = cut_parts is_space text i e in
     slice_split_first is_space text 0 (found_place is_space text i e).0 ∙ rw (q.3, q.4) refl
@@ -51,7 +62,8 @@ line_at first rest = append_assoc first (10 ∷ []) rest
 pub line_any : (first rest : List ℕ) → list_any is_line_feed (line first ++ rest) ≡ true
 line_any first rest = rw (line_at first rest) (has_behind is_line_feed first 10 rest refl)
 
-pub line_before : (first rest : List ℕ) → list_any is_line_feed first ≡ false → before_first is_line_feed (line first ++ rest) ≡ first
+pub line_before : (first rest : List ℕ) → list_any is_line_feed first ≡ false
+    → before_first is_line_feed (line first ++ rest) ≡ first
 line_before first rest plain = rw (line_at first rest) (cut_before is_line_feed first 10 rest plain refl)
 
 pub line_count-append : (a b : List ℕ) → line_count (a ++ b) ≡ line_count a + line_count b

@@ -22,8 +22,13 @@ AreDigits ds = list_all is_ascii_digit ds ≡ true
 tells_digits : IsDigitsTest AreDigits
 tells_digits = record {
   empty = refl;
-  parts = λ c cs h. let q = and_parts (is_ascii_digit c) (list_all is_ascii_digit cs) h in let r = and_parts (leb 48 c) (leb c 57) q.0 in ((leb-true 48 c r.0, leb-true c 57 r.1), q.1);
-  more = λ c cs range h. and_from (is_ascii_digit c) (list_all is_ascii_digit cs) (and_from (leb 48 c) (leb c 57) (le-leb 48 c range.0) (le-leb c 57 range.1)) h;
+  parts =
+      λ c cs h. let q =
+      and_parts (is_ascii_digit c) (list_all is_ascii_digit cs) h in let r =
+      and_parts (leb 48 c) (leb c 57) q.0 in ((leb-true 48 c r.0, leb-true c 57 r.1), q.1);
+  more =
+      λ c cs range h. and_from (is_ascii_digit c) (list_all is_ascii_digit cs)
+      (and_from (leb 48 c) (leb c 57) (le-leb 48 c range.0) (le-leb c 57 range.1)) h;
 }
 
 own : IsNumeralModel AreDigits (digits_value 10)
@@ -35,7 +40,8 @@ guarded true d x y e = (refl, cc)
 guarded false d x y e = absurd cc
 
 -- no leading zero but in `0`
-numeral_parts : (ds : List ℕ) → is_numeral ds ≡ true → AreDigits ds × (0 < length ds) × (get_or ds 0 0 ≡ 48 → length ds ≡ 1)
+numeral_parts : (ds : List ℕ) → is_numeral ds ≡ true
+    → AreDigits ds × (0 < length ds) × (get_or ds 0 0 ≡ 48 → length ds ≡ 1)
 numeral_parts [] e = absurd cc
 numeral_parts (c ∷ cs) e =
     let h = and_parts (list_all is_ascii_digit (c ∷ cs)) (not (eqb c 48) || eqb (length cs) 0) e in (
@@ -48,7 +54,8 @@ numeral_parts (c ∷ cs) e =
           ],
     )
 
-pub number_spelled : (high : ℕ) (word : List ℕ) (n : ℕ) → high < 2 ^ 64 → number_in high word ≡ Ok n → (word ≡ decimal n) × (n ≤ high)
+pub number_spelled : (high : ℕ) (word : List ℕ) (n : ℕ) → high < 2 ^ 64 → number_in high word ≡ Ok n
+    → (word ≡ decimal n) × (n ≤ high)
 number_spelled high word n small e =
     let g = guarded (is_numeral word && leb (digits_value 10 word) high) Number (digits_value 10 word) n e in
     let h = and_parts (is_numeral word) (leb (digits_value 10 word) high) g.0 in
@@ -56,7 +63,8 @@ number_spelled high word n small e =
     let le : digits_value 10 word ≤ high = leb-true _ _ h.1 in
     (sym (decimal-digits_value own word parts.0 parts.1 parts.2 (omega arith)) ∙ ap decimal g.1, omega (arith, g.1))
 
-numeral_from : (ds : List ℕ) → AreDigits ds → 0 < length ds → (get_or ds 0 0 ≡ 48 → length ds ≡ 1) → is_numeral ds ≡ true
+numeral_from : (ds : List ℕ) → AreDigits ds → 0 < length ds → (get_or ds 0 0 ≡ 48 → length ds ≡ 1)
+    → is_numeral ds ≡ true
 numeral_from [] digits some alone = absurd (omega arith)
 numeral_from (c ∷ cs) digits some alone =
     elim (cases_eq c 48) [
@@ -73,12 +81,14 @@ decimal_digits n small = digits_decimal own n small
 
 pub number_again : (high n : ℕ) → n ≤ high → n < 2 ^ 64 → number_in high (decimal n) ≡ Ok n
 number_again high n le small =
-    let numeral = numeral_from (decimal n) (decimal_digits n small) (decimal_nonempty n small) (decimal_first n small) in
+    let numeral =
+    numeral_from (decimal n) (decimal_digits n small) (decimal_nonempty n small) (decimal_first n small) in
     rw (numeral, digits_value-decimal own n small, le-leb n high le) refl
 
 -- ---- variables and targets: a mark, and a number
 
-marked_spelled : (mark high c : ℕ) (cs : List ℕ) (n : ℕ) → high < 2 ^ 64 → cond (eqb c mark) (number_in high cs) (Err UnknownWord) ≡ Ok n → ((c ∷ cs) ≡ mark ∷ decimal n) × (n ≤ high)
+marked_spelled : (mark high c : ℕ) (cs : List ℕ) (n : ℕ) → high < 2 ^ 64
+    → cond (eqb c mark) (number_in high cs) (Err UnknownWord) ≡ Ok n → ((c ∷ cs) ≡ mark ∷ decimal n) × (n ≤ high)
 marked_spelled mark high c cs n small e =
     elim (cases_Bool (eqb c mark)) [
       | inl same ↦
@@ -107,7 +117,8 @@ target_again n lt = number_again 255 n (omega arith) (omega arith)
 
 -- ---- what these lack
 
-digit_lacks : (q : ℕ → Bool) → ((c : ℕ) → is_ascii_digit c ≡ true → q c ≡ false) → (n : ℕ) → n < 2 ^ 64 → list_any q (decimal n) ≡ false
+digit_lacks : (q : ℕ → Bool) → ((c : ℕ) → is_ascii_digit c ≡ true → q c ≡ false) → (n : ℕ) → n < 2 ^ 64
+    → list_any q (decimal n) ≡ false
 digit_lacks q apart n small = lacks_from_all is_ascii_digit q apart (decimal n) (decimal_digits n small)
 
 other_than : (d c : ℕ) → d < 48 → is_ascii_digit c ≡ true → eqb c d ≡ false
@@ -146,7 +157,9 @@ name_lacks d lt [] e = refl
 name_lacks d lt (c ∷ cs) e =
     let h = and_parts (is_letter c && list_all is_name_byte cs) (leb (length cs) 15) e in
     let k = and_parts (is_letter c) (list_all is_name_byte cs) h.0 in
-    rw (ne_eqb c d (λ same. omega (arith, letter_from c k.0))) (lacks_from_all is_name_byte (λ c. eqb c d) (λ b byte. ne_eqb b d (λ same. omega (arith, name_byte_from b byte))) cs k.1)
+    rw (ne_eqb c d (λ same. omega (arith, letter_from c k.0)))
+    (lacks_from_all is_name_byte (λ c. eqb c d)
+    (λ b byte. ne_eqb b d (λ same. omega (arith, name_byte_from b byte))) cs k.1)
 
 pub name_no_space : (name : List ℕ) → is_name name ≡ true → list_any is_space name ≡ false
 name_no_space name e = name_lacks 32 (omega arith) name e

@@ -16,14 +16,17 @@ whole_beginning m fits = record { most = fits.most; done = fits.functions; names
 
 reads_spelled : (bytes : List ℕ) (m : Module) → Spells bytes m → reading bytes ≡ Ok m
 reads_spelled bytes m h =
-    let whole : bytes ≡ beginning (closed m.functions) ++ [] = h.spelled ∙ sym (append-nil (text m)) ∙ sym (append-nil (text m ++ [])) in
+    let whole : bytes ≡ beginning (closed m.functions) ++ [] =
+    h.spelled ∙ sym (append-nil (text m)) ∙ sym (append-nil (text m ++ [])) in
     let some : 0 < length m.functions = (let fits = h.module_fits in fits.some) in
-    ap reading whole ∙ beginning_passes (closed m.functions) [] (whole_beginning m h.module_fits) ∙ rw (lt-ltb 0 (length m.functions) some) refl
+    ap reading whole ∙ beginning_passes (closed m.functions) [] (whole_beginning m h.module_fits)
+    ∙ rw (lt-ltb 0 (length m.functions) some) refl
 
 reads_fault : (bytes : List ℕ) (n : ℕ) (code : FaultCode) → HasFault bytes n code → reading bytes ≡ Err (n, code)
 reads_fault bytes n code (inl h) = rw (h.other, h.place, h.fault) refl
 reads_fault bytes n code (inr h) =
-    ap reading h.parts ∙ beginning_passes h.above h.rest h.above_fits ∙ stops (line_count (beginning h.above) + 1) h.above h.rest code h.fault ∙ rw h.place refl
+    ap reading h.parts ∙ beginning_passes h.above h.rest h.above_fits
+    ∙ stops (line_count (beginning h.above) + 1) h.above h.rest code h.fault ∙ rw h.place refl
 
 -- ---- the laws
 
@@ -39,7 +42,8 @@ ok_no_err m x e = cc
 pub one_module : (bytes : List ℕ) (m n : Module) → Spells bytes m → Spells bytes n → m ≡ n
 one_module bytes m n g h = same_ok m n (sym (reads_spelled bytes m g) ∙ reads_spelled bytes n h)
 
-pub one_fault : (bytes : List ℕ) (k l : ℕ) (c d : FaultCode) → HasFault bytes k c → HasFault bytes l d → (k ≡ l) × (c ≡ d)
+pub one_fault : (bytes : List ℕ) (k l : ℕ) (c d : FaultCode) → HasFault bytes k c → HasFault bytes l d
+    → (k ≡ l) × (c ≡ d)
 one_fault bytes k l c d g h =
     let same = same_err (k, c) (l, d) (sym (reads_fault bytes k c g) ∙ reads_fault bytes l d h) in
     (ap (λ (x : ℕ × FaultCode). x.0) same, ap (λ (x : ℕ × FaultCode). x.1) same)
@@ -48,7 +52,8 @@ pub apart : (bytes : List ℕ) (m : Module) (n : ℕ) (code : FaultCode) → Spe
 apart bytes m n code g h = ok_no_err m (n, code) (sym (reads_spelled bytes m g) ∙ reads_fault bytes n code h)
 
 pub one_text : (m n : Module) → IsModule m → IsModule n → text m ≡ text n → m ≡ n
-one_text m n g h e = one_module (text m) m n (record { module_fits = g; spelled = refl }) (record { module_fits = h; spelled = e })
+one_text m n g h e =
+    one_module (text m) m n (record { module_fits = g; spelled = refl }) (record { module_fits = h; spelled = e })
 
 -- ---- what a reader answers
 
@@ -63,12 +68,14 @@ pub fault : (bytes : List ℕ) (r : Result Module ReadFault) → Answers bytes r
 fault bytes (Ok m) h = tt
 fault bytes (Err e) h = h
 
-pub only : (bytes : List ℕ) (r : Result Module ReadFault) → Answers bytes r → (m : Module) → Spells bytes m → ReadsAs r m
+pub only : (bytes : List ℕ) (r : Result Module ReadFault) → Answers bytes r → (m : Module) → Spells bytes m
+    → ReadsAs r m
 only bytes (Ok n) h m spells = one_module bytes n m h spells
 only bytes (Err e) (inl memory) m spells = memory
 only bytes (Err e) (inr has) m spells = absurd (apart bytes m e.line e.code spells has)
 
-pub refused : (bytes : List ℕ) (r : Result Module ReadFault) → Answers bytes r → (n : ℕ) (code : FaultCode) → HasFault bytes n code → Refuses r n code
+pub refused : (bytes : List ℕ) (r : Result Module ReadFault) → Answers bytes r → (n : ℕ) (code : FaultCode)
+    → HasFault bytes n code → Refuses r n code
 refused bytes (Ok m) h n code has = apart bytes m n code h has
 refused bytes (Err e) (inl memory) n code has = inr memory
 refused bytes (Err e) (inr other) n code has = inl (one_fault bytes e.line n e.code code other has)

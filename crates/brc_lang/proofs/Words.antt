@@ -38,7 +38,8 @@ more_than_one line rest first e one =
 -- ---- plain words
 
 -- where each element passes one test, none passes another that excludes it
-pub lacks_from_all : (p q : ℕ → Bool) → ((c : ℕ) → p c ≡ true → q c ≡ false) → (xs : List ℕ) → list_all p xs ≡ true → list_any q xs ≡ false
+pub lacks_from_all : (p q : ℕ → Bool) → ((c : ℕ) → p c ≡ true → q c ≡ false) → (xs : List ℕ) → list_all p xs ≡ true
+    → list_any q xs ≡ false
 lacks_from_all p q apart [] e = refl
 lacks_from_all p q apart (x ∷ xs) e =
     let h = and_parts (p x) (list_all p xs) e in
@@ -56,9 +57,11 @@ ArePlain (w ∷ ws) = AllByRecursion IsPlain (w ∷ ws)
 pub spaced_words : (ws : List (List ℕ)) → ArePlain ws → words (spaced ws) ≡ ws
 spaced_words [] plain = absurd plain
 spaced_words (w ∷ []) plain = one_word w plain.0.0
-spaced_words (w ∷ x ∷ ws) plain = first_word w (spaced (x ∷ ws)) plain.0.0 ∙ ap (λ (v : List (List ℕ)). w ∷ v) (spaced_words (x ∷ ws) plain.1)
+spaced_words (w ∷ x ∷ ws) plain =
+    first_word w (spaced (x ∷ ws)) plain.0.0 ∙ ap (λ (v : List (List ℕ)). w ∷ v) (spaced_words (x ∷ ws) plain.1)
 
 pub spaced_plain : (ws : List (List ℕ)) → ArePlain ws → list_any is_line_feed (spaced ws) ≡ false
 spaced_plain [] plain = absurd plain
 spaced_plain (w ∷ []) plain = plain.0.1
-spaced_plain (w ∷ x ∷ ws) plain = lacks_append is_line_feed w (32 ∷ spaced (x ∷ ws)) plain.0.1 (spaced_plain (x ∷ ws) plain.1)
+spaced_plain (w ∷ x ∷ ws) plain =
+    lacks_append is_line_feed w (32 ∷ spaced (x ∷ ws)) plain.0.1 (spaced_plain (x ∷ ws) plain.1)

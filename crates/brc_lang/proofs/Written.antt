@@ -13,15 +13,22 @@ use Rattle.brc_lang.specs.Written.{AppendsBeginning}
 abbrev pub LeavesRest : Option (List ℕ) → Option (List ℕ) → List ℕ → List ℕ → Type 0
 LeavesRest old new bytes rest = (front : List ℕ) × (bytes ≡ front ++ rest) × Appends old new front
 
-moves : (bytes front rest : List ℕ) (taken : ℕ) → bytes ≡ front ++ rest → bytes ≡ (front ++ take taken rest) ++ take (length rest - taken) (drop taken rest)
+moves : (bytes front rest : List ℕ) (taken : ℕ) → bytes ≡ front ++ rest
+    → bytes ≡ (front ++ take taken rest) ++ take (length rest - taken) (drop taken rest)
 moves bytes front rest taken parts =
-    parts ∙ ap (λ r. front ++ r) (sym (take-append-drop taken rest)) ∙ sym (append_assoc front (take taken rest) (drop taken rest)) ∙ ap (λ r. (front ++ take taken rest) ++ r) (sym (take_rest rest taken))
+    parts ∙ ap (λ r. front ++ r) (sym (take-append-drop taken rest))
+    ∙ sym (append_assoc front (take taken rest) (drop taken rest))
+    ∙ ap (λ r. (front ++ take taken rest) ++ r) (sym (take_rest rest taken))
 
 -- the rest is spelled as the code has it after `&rest[taken..]`
-pub leaves_less : (a b c : Option (List ℕ)) (bytes rest : List ℕ) (taken : ℕ) → LeavesRest a b bytes rest → Appends b c (take taken rest)
+pub leaves_less : (a b c : Option (List ℕ)) (bytes rest : List ℕ) (taken : ℕ) → LeavesRest a b bytes rest
+    → Appends b c (take taken rest)
     → LeavesRest a c bytes (take (length rest - taken) (drop taken rest))
-leaves_less a b c bytes rest taken before now =
-    (before.0 ++ take taken rest, moves bytes before.0 rest taken before.1, Appends-trans a b c before.0 (take taken rest) before.2 now)
+leaves_less a b c bytes rest taken before now = (
+  before.0 ++ take taken rest,
+  moves bytes before.0 rest taken before.1,
+  Appends-trans a b c before.0 (take taken rest) before.2 now,
+)
 
 -- ---- one write after another
 
@@ -33,7 +40,8 @@ begins_early a b xs ys begun = record {
   appended = begun.appended;
 }
 
-begins_late : (a b c : Option (List ℕ)) (xs ys : List ℕ) → Appends a b xs → AppendsBeginning b c ys → AppendsBeginning a c (xs ++ ys)
+begins_late : (a b c : Option (List ℕ)) (xs ys : List ℕ) → Appends a b xs → AppendsBeginning b c ys
+    → AppendsBeginning a c (xs ++ ys)
 begins_late a b c xs ys first begun = record {
   front = xs ++ begun.front;
   rest = begun.rest;
@@ -42,22 +50,29 @@ begins_late a b c xs ys first begun = record {
 }
 
 -- the first of two writes stopped at a fault, which is returned as r
-pub stops_early : {X E : Type 0} (r : Result X E) (a b : Option (List ℕ)) (bytes xs ys : List ℕ) → bytes ≡ xs ++ ys → AppendsBeginning a b xs → OnErr r (AppendsBeginning a b bytes)
+pub stops_early : {X E : Type 0} (r : Result X E) (a b : Option (List ℕ)) (bytes xs ys : List ℕ) → bytes ≡ xs ++ ys
+    → AppendsBeginning a b xs → OnErr r (AppendsBeginning a b bytes)
 stops_early (Ok x) a b bytes xs ys parts begun = tt
-stops_early (Err e) a b bytes xs ys parts begun = subst (AppendsBeginning a b) (sym parts) (begins_early a b xs ys begun)
+stops_early (Err e) a b bytes xs ys parts begun =
+    subst (AppendsBeginning a b) (sym parts) (begins_early a b xs ys begun)
 
 -- the second did, and its result is returned
-pub stops_late : {X E : Type 0} (r : Result X E) (a b c : Option (List ℕ)) (bytes xs ys : List ℕ) → bytes ≡ xs ++ ys → Appends a b xs → OnErr r (AppendsBeginning b c ys) → OnErr r (AppendsBeginning a c bytes)
+pub stops_late : {X E : Type 0} (r : Result X E) (a b c : Option (List ℕ)) (bytes xs ys : List ℕ) → bytes ≡ xs ++ ys
+    → Appends a b xs → OnErr r (AppendsBeginning b c ys) → OnErr r (AppendsBeginning a c bytes)
 stops_late (Ok x) a b c bytes xs ys parts first begun = tt
-stops_late (Err e) a b c bytes xs ys parts first begun = subst (AppendsBeginning a c) (sym parts) (begins_late a b c xs ys first begun)
+stops_late (Err e) a b c bytes xs ys parts first begun =
+    subst (AppendsBeginning a c) (sym parts) (begins_late a b c xs ys first begun)
 
 -- the second of three did
-pub stops_between : {X E : Type 0} (r : Result X E) (a b c : Option (List ℕ)) (bytes xs ys zs : List ℕ) → bytes ≡ xs ++ ys ++ zs → Appends a b xs → AppendsBeginning b c ys → OnErr r (AppendsBeginning a c bytes)
-stops_between r a b c bytes xs ys zs parts first begun = stops_early r a c bytes (xs ++ ys) zs parts (begins_late a b c xs ys first begun)
+pub stops_between : {X E : Type 0} (r : Result X E) (a b c : Option (List ℕ)) (bytes xs ys zs : List ℕ)
+    → bytes ≡ xs ++ ys ++ zs → Appends a b xs → AppendsBeginning b c ys → OnErr r (AppendsBeginning a c bytes)
+stops_between r a b c bytes xs ys zs parts first begun =
+    stops_early r a c bytes (xs ++ ys) zs parts (begins_late a b c xs ys first begun)
 
 -- ---- the items of a list, written one after another
 
-pub flat_map_around : {X : Type 0} (f : X → List ℕ) (xs : List X) (i : ℕ) (d x : X) → i < length xs → x ≡ get_or xs i d → flat_map f xs ≡ flat_map f (take i xs) ++ f x ++ flat_map f (drop (suc i) xs)
+pub flat_map_around : {X : Type 0} (f : X → List ℕ) (xs : List X) (i : ℕ) (d x : X) → i < length xs → x ≡ get_or xs i d
+    → flat_map f xs ≡ flat_map f (take i xs) ++ f x ++ flat_map f (drop (suc i) xs)
 flat_map_around f xs i d x inside item =
     let front = flat_map f (take i xs) in
     let back = flat_map f (drop (suc i) xs) in

@@ -26,7 +26,8 @@ is_numeral (c ∷ cs) = list_all is_ascii_digit (c ∷ cs) && (not (c == 48) || 
 
 -- a number from 0 to high
 abbrev pub number_in : ℕ → List ℕ → Result ℕ FaultCode
-number_in high word = if is_numeral word && nat_le (digits_value 10 word) high then Ok (digits_value 10 word) else Err Number
+number_in high word =
+    if is_numeral word && nat_le (digits_value 10 word) high then Ok (digits_value 10 word) else Err Number
 
 -- `v`, and a number below 16
 abbrev pub variable_in : List ℕ → Result ℕ FaultCode
@@ -69,7 +70,8 @@ abbrev pub fail_in : List (List ℕ) → Result Instr FaultCode
 fail_in [] = Ok Fail
 fail_in _ = Err UnknownWord
 
--- the instruction of a line, or its fault: the first word, the number of words and `else` first, then the words from left to right
+-- the instruction of a line, or its fault: the first word, the number of words and `else` first, then the words from
+-- left to right
 abbrev pub instruction_in : List (List ℕ) → Result Instr FaultCode
 instruction_in [] = Err UnknownWord
 instruction_in (w ∷ ws) =
@@ -152,10 +154,13 @@ abbrev pub next_instruction_fault_of : Function → Result Instr FaultCode → O
 next_instruction_fault_of f (Err code) = Some code
 next_instruction_fault_of f (Ok i) = if nat_le 256 (length f.code) then Some OverLimit else None
 
--- the fault of a line, where one stands: outside a function only its heading may stand, inside only instructions and `end`
+-- the fault of a line, where one stands: outside a function only its heading may stand, inside only instructions and
+-- `end`
 abbrev pub line_fault_of : List Function → Option Function → List ℕ → Option FaultCode
 line_fault_of done None line = heading_fault_of done (words line)
-line_fault_of done (Some f) line = if bytes_eq line (codes "end") then end_fault_of f.code else next_instruction_fault_of f (instruction_in (words line))
+line_fault_of done (Some f) line =
+    if bytes_eq line (codes "end") then end_fault_of f.code
+    else next_instruction_fault_of f (instruction_in (words line))
 
 -- no function is open, and there is one
 abbrev pub is_whole : List Function → Option Function → Bool

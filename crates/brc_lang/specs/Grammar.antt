@@ -26,7 +26,8 @@ abbrev pub target : ℕ → List ℕ
 target number = codes "@" ++ decimal number
 
 abbrev pub instruction_words : Instr → List (List ℕ)
-instruction_words (Num to value otherwise) = codes "num" ∷ variable to ∷ decimal value ∷ codes "else" ∷ target otherwise ∷ []
+instruction_words (Num to value otherwise) =
+    codes "num" ∷ variable to ∷ decimal value ∷ codes "else" ∷ target otherwise ∷ []
 instruction_words (NoneObject to) = codes "none" ∷ variable to ∷ []
 instruction_words (Newref to from) = codes "newref" ∷ variable to ∷ variable from ∷ []
 instruction_words (Move to from) = codes "move" ∷ variable to ∷ variable from ∷ []
@@ -94,7 +95,9 @@ jump Fail = None
 
 -- each target is the number of a later instruction of the code
 abbrev pub LeadsForward : List Instr → Type 0
-LeadsForward code = (at : ℕ) (i : Instr) (target : ℕ) → slice_get code at ≡ Some i → jump i ≡ Some target → (at < target) × (target < length code)
+LeadsForward code =
+    (at : ℕ) (i : Instr) (target : ℕ) → slice_get code at ≡ Some i → jump i ≡ Some target
+    → (at < target) × (target < length code)
 
 -- 1 to 256 instructions
 pub record IsFunction (f : Function) : Type 0 where

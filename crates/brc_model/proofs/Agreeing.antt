@@ -85,21 +85,18 @@ row_says : (owner : ℕ) (l : Life) (n : Numbers) → RowRule owner l n → RowS
 row_says owner Unborn n row =
     record {
       total = omega (arith, row.local, row.shared, row.mark, row.references, row.waiting, row.carried);
-      live =
-          λ e. absurd cc;
+      live = λ e. absurd cc;
     }
 row_says owner Live n row = let says = mode_says owner n row row.mode in record { total = row.sum; live = λ e. says }
 row_says owner (Dying t) n row =
     record {
       total = omega (arith, row.local, row.shared, row.mark, row.references, row.waiting, row.carried);
-      live =
-          λ e. absurd cc;
+      live = λ e. absurd cc;
     }
 row_says owner Closed n row =
     record {
       total = omega (arith, row.local, row.shared, row.mark, row.references, row.waiting, row.carried);
-      live =
-          λ e. absurd cc;
+      live = λ e. absurd cc;
     }
 
 -- ---- whose duties they are

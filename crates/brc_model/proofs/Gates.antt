@@ -86,15 +86,13 @@ gate_after p n m t a d rest x here few before =
         | BeginsToDie now alive positive none ↦
             record {
               is = λ e. absurd (live_not_closed (sym alive ∙ before.is (sym same ∙ e)));
-              has =
-                  λ c. absurd (dying_not_closed t (sym now ∙ c));
+              has = λ c. absurd (dying_not_closed t (sym now ∙ c));
             }
         | IsClosed now dying positive ended ↦ absurd (other ended)
         | IsBorn now unborn above born none ↦
             record {
               is = λ e. absurd (unborn_not_closed (sym unborn ∙ before.is (sym same ∙ e)));
-              has =
-                  λ c. absurd (live_not_closed (sym now ∙ c));
+              has = λ c. absurd (live_not_closed (sym now ∙ c));
             }
       ]
       | IsChained apart was other ↦ record {

@@ -99,8 +99,7 @@ first_merges m u x b d rest is none head some =
       first = d;
       rest = rest;
       agenda = is;
-      merge =
-          merger_knows m u x b d rest head (omega (arith, whole, none, some));
+      merge = merger_knows m u x b d rest head (omega (arith, whole, none, some));
     }
 
 merger_of : (m : Machine) (u x : ℕ) (b : Actor) (agenda : List Duty) → b.agenda ≡ agenda → (status : Status)

@@ -58,8 +58,7 @@ owns_kept m new t u x b leaves ne found owns =
     record {
       running = owns.running;
       owner = ap owner_part same ∙ owns.owner;
-      low =
-          subst (λ (w : ℕ). local_part w < 4294967295) (sym same) owns.low;
+      low = subst (λ (w : ℕ). local_part w < 4294967295) (sym same) owns.low;
     }
 
 may_merge_kept : (m new : Machine) (t u x : ℕ) → LeavesOthers m new t → MayMerge m u x → MayMerge new u x

@@ -57,8 +57,7 @@ ready_is rows t used status place zero [] later none =
       more = λ k o. refl;
       less = λ k o. refl;
       at_hand = λ x. refl;
-      knows =
-          λ m a h. tt;
+      knows = λ m a h. tt;
     }
 ready_is rows t used status place (suc head) [] later none =
     record {
@@ -67,8 +66,7 @@ ready_is rows t used status place (suc head) [] later none =
       more = λ k o. refl;
       less = λ k o. refl;
       at_hand = λ x. refl;
-      knows =
-          λ m a h. tt;
+      knows = λ m a h. tt;
     }
 ready_is rows t used status place zero (Settle ∷ rest) later none =
     ready_is rows t used status place zero rest later none
@@ -79,8 +77,7 @@ ready_is rows t used status place (suc head) (Settle ∷ rest) later none =
       more = λ k o. refl;
       less = λ k o. refl;
       at_hand = λ x. refl;
-      knows =
-          λ m a h. omega (arith, h);
+      knows = λ m a h. omega (arith, h);
     }
 ready_is rows t used status place head (SharedLoad x Handed ∷ rest) later none = absurd none
 ready_is rows t used status place zero (Leave x k ∷ []) later none =
@@ -90,8 +87,7 @@ ready_is rows t used status place zero (Leave x k ∷ []) later none =
       more = λ k o. refl;
       less = λ k o. refl;
       at_hand = λ x. refl;
-      knows =
-          λ m a h. tt;
+      knows = λ m a h. tt;
     }
 ready_is rows t used status place (suc head) (Leave x k ∷ []) later none =
     record {
@@ -100,8 +96,7 @@ ready_is rows t used status place (suc head) (Leave x k ∷ []) later none =
       more = λ k o. refl;
       less = λ k o. refl;
       at_hand = λ x. refl;
-      knows =
-          λ m a h. tt;
+      knows = λ m a h. tt;
     }
 ready_is rows t used status place zero (Scan x zero ∷ rest) later none =
     ready_is rows t used status place zero rest later.3 none
@@ -114,8 +109,7 @@ ready_is rows t used status place zero (Scan x (suc k) ∷ rest) later none =
       more = λ k o. refl;
       less = λ k o. refl;
       at_hand = λ x. refl;
-      knows =
-          λ m a h. omega arith;
+      knows = λ m a h. omega arith;
     }
 ready_is rows t used status place (suc head) (Scan x (suc k) ∷ rest) later none =
     record {
@@ -124,8 +118,7 @@ ready_is rows t used status place (suc head) (Scan x (suc k) ∷ rest) later non
       more = λ k o. refl;
       less = λ k o. refl;
       at_hand = λ x. refl;
-      knows =
-          λ m a h. omega arith;
+      knows = λ m a h. omega arith;
     }
 ready_is rows t used status place zero (Finish ∷ []) later none =
     record {
@@ -134,8 +127,7 @@ ready_is rows t used status place zero (Finish ∷ []) later none =
       more = λ k o. refl;
       less = λ k o. refl;
       at_hand = λ x. refl;
-      knows =
-          λ m a h. tt;
+      knows = λ m a h. tt;
     }
 ready_is rows t used status place (suc head) (Finish ∷ []) later none =
     record {
@@ -144,8 +136,7 @@ ready_is rows t used status place (suc head) (Finish ∷ []) later none =
       more = λ k o. refl;
       less = λ k o. refl;
       at_hand = λ x. refl;
-      knows =
-          λ m a h. tt;
+      knows = λ m a h. tt;
     }
 ready_is rows t used status place head _ later none = absurd later
 

@@ -190,8 +190,7 @@ own_release_counted p n m t a x h rest pos here alive =
             record {
               running = status ∙ owns.running;
               owner = ap owner_part same_word ∙ owns.owner;
-              low =
-                  subst (λ (w : ℕ). local_part w < 4294967295) (sym same_word) owns.low;
+              low = subst (λ (w : ℕ). local_part w < 4294967295) (sym same_word) owns.low;
             },
             same_word,
             some,

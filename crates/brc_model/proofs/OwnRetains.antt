@@ -148,8 +148,7 @@ own_retain_counted p n m t a x h rest pos here alive =
                   record {
                     running = status ∙ owns.running;
                     owner = ap owner_part same ∙ owns.owner;
-                    low =
-                        subst (λ (w : ℕ). local_part w < 4294967295) (sym same) owns.low;
+                    low = subst (λ (w : ℕ). local_part w < 4294967295) (sym same) owns.low;
                   },
                   same,
                   some,

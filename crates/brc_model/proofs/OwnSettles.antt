@@ -85,8 +85,7 @@ keeps_cell x i k =
       stays = refl;
       extra_none = λ h o. refl;
       lacks_none = λ h o. refl;
-      later =
-          λ rows t used status place rest later. later;
+      later = λ rows t used status place rest later. later;
       handed = λ rest none. none;
     }
 
@@ -98,8 +97,7 @@ keeps_end x =
       stays = refl;
       extra_none = λ h o. refl;
       lacks_none = λ h o. refl;
-      later =
-          λ rows t used status place rest later. later;
+      later = λ rows t used status place rest later. later;
       handed = λ rest none. none;
     }
 
@@ -111,8 +109,7 @@ keeps_slot x =
       stays = refl;
       extra_none = λ h o. refl;
       lacks_none = λ h o. refl;
-      later =
-          λ rows t used status place rest later. later;
+      later = λ rows t used status place rest later. later;
       handed = λ rest none. none;
     }
 
@@ -124,8 +121,7 @@ keeps_close x =
       stays = refl;
       extra_none = λ h o. refl;
       lacks_none = λ h o. refl;
-      later =
-          λ rows t used status place rest later. later;
+      later = λ rows t used status place rest later. later;
       handed = λ rest none. none;
     }
 

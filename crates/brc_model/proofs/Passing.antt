@@ -98,8 +98,7 @@ passes_on code exits at s accepted walked =
                   here = i;
                   found = e;
                   met = are_met i s l;
-                  leads =
-                      λ exit. leads_by code exits at s i exit accepted walked e l;
+                  leads = λ exit. leads_by code exits at s i exit accepted walked e l;
                 }
           ] refl
     ] refl

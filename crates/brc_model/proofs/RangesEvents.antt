@@ -153,6 +153,5 @@ pub first_ranges : (m : Module) (rows : ℕ) (calls : List Call) → Ranges (1 +
 first_ranges m rows calls =
     record {
       kinds = first_kinds (length calls);
-      each =
-          first_small (limit (1 + length calls) (first_machine m rows calls)) calls;
+      each = first_small (limit (1 + length calls) (first_machine m rows calls)) calls;
     }

@@ -45,8 +45,7 @@ row_after_birth_slot {y = y} {h = h} some s =
       shared = refl;
       mark = refl;
       references = refl;
-      waiting =
-          refl;
+      waiting = refl;
       carried = refl;
       merging = refl;
       deciding = refl;

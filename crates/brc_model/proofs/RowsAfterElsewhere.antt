@@ -233,8 +233,7 @@ other_apart x d e =
       waiting = waits_other x d e;
       carried = carries_other x d e;
       merging = merges_other x d e;
-      deciding =
-          decides_other x d e;
+      deciding = decides_other x d e;
       lives = lives_other x d e;
     }
 
@@ -276,8 +275,7 @@ cells_apart x y i n =
       carried = refl;
       merging = refl;
       deciding = refl;
-      lives =
-          λ life state. refl;
+      lives = λ life state. refl;
     })
     (record { waiting = refl; carried = refl; merging = refl; deciding = refl; lives = λ life state. refl })
 

@@ -207,8 +207,7 @@ row_after_die {y = y} some s =
       shared = refl;
       mark = refl;
       references = refl;
-      waiting =
-          refl;
+      waiting = refl;
       carried = refl;
       merging = refl;
       deciding = refl;
@@ -250,8 +249,7 @@ row_after_take_slot {y = y} some s =
       shared = refl;
       mark = refl;
       references = refl;
-      waiting =
-          refl;
+      waiting = refl;
       carried = refl;
       merging = refl;
       deciding = refl;
@@ -268,8 +266,7 @@ row_after_close {y = y} some s =
       shared = refl;
       mark = refl;
       references = refl;
-      waiting =
-          refl;
+      waiting = refl;
       carried = refl;
       merging = refl;
       deciding = refl;

@@ -75,8 +75,7 @@ is_lost bag r some =
     record {
       has = has;
       before = omega (arith, held-le-references_to r bag, some);
-      less =
-          omega (arith, references_to-without r.object r bag has, this);
+      less = omega (arith, references_to-without r.object r bag has, this);
     }
 
 -- ---- the row lives

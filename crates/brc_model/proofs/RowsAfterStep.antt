@@ -59,8 +59,7 @@ same_numbers n k s =
       shared = s.shared i;
       mark = s.mark i;
       references = s.references i;
-      waiting =
-          s.waiting i;
+      waiting = s.waiting i;
       carried = s.carried i;
       merging = s.merging i;
       deciding = s.deciding i;

@@ -128,8 +128,7 @@ sitting_fits p n m t a place agenda rest sits =
             record {
               chained = old.chain.chained;
               linked = old.chain.linked;
-              once =
-                  λ x. omega (arith, old.chain.once x, none x);
+              once = λ x. omega (arith, old.chain.once x, none x);
             };
       },
       subst (λ (s : Status). AgendaFits m.rows t (sitting a place agenda) s) (sym rest.running) sits.fits,
@@ -207,8 +206,7 @@ taken_up_step m t a place d rest =
       functions = new.functions;
       rows = new.rows;
       memory = new.memory;
-      actors =
-          set-set m.actors t (sitting a place (d ∷ rest)) after i;
+      actors = set-set m.actors t (sitting a place (d ∷ rest)) after i;
       plain = new.plain;
       life = new.life;
     }

@@ -216,8 +216,7 @@ num_fails code bag t left at variables s to value otherwise here =
     record {
       moves_fit = Stays;
       placed = (put s to Empty, next, holds_at_none bag t _ holds);
-      stays =
-          inside_stays left otherwise (slice_set variables to None);
+      stays = inside_stays left otherwise (slice_set variables to None);
     }
 
 either_taken : (code : List Instr) (bag : List Reference) (rows t used : ℕ) (b : Bool) (one two : Begun)

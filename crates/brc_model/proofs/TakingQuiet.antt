@@ -68,8 +68,7 @@ none_taken code bag rows t used left at variables s to here =
     record {
       moves_fit = GainsNone (ByVariable to);
       placed = (put s to slot, next, holds_at_none _ t _ holds);
-      stays =
-          inside_stays left (at + 1) (slice_set variables to (Some none_row));
+      stays = inside_stays left (at + 1) (slice_set variables to (Some none_row));
     } in
     taken
 
@@ -145,10 +144,8 @@ move_taken code bag rows t used left at variables s to from here =
     (Inside left (at + 1) (slice_set v1 to (Some row.0))) =
     record {
       moves_fit = HandsOn (ByVariable from) (ByVariable to) row.0 has;
-      placed =
-          (put s1 to slot, next, holds_at_none _ t _ holds);
-      stays =
-          inside_stays left (at + 1) (slice_set v1 to (Some row.0));
+      placed = (put s1 to slot, next, holds_at_none _ t _ holds);
+      stays = inside_stays left (at + 1) (slice_set v1 to (Some row.0));
     } in
     taken_with_row code bag rows t used row.0 (row_of variables from)
     (λ x. Quiet (pass_on t (ByVariable from) (ByVariable to) x) (Inside left (at + 1) (slice_set v1 to (Some x))))
@@ -172,7 +169,6 @@ goto_taken code bag rows t used left at variables s to here =
     record {
       moves_fit = Stays;
       placed = (s, next, holds_at_none bag t _ here.holds);
-      stays =
-          inside_stays left to variables;
+      stays = inside_stays left to variables;
     } in
     taken

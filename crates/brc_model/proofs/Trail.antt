@@ -129,8 +129,7 @@ goes_on_leaves m u t a (d ∷ rest) ne =
     record {
       functions = refl;
       rows = refl;
-      actor =
-          slice_get-set_other m.actors u t (actor_by u a d rest (found_by m u a d)) ne;
+      actor = slice_get-set_other m.actors u t (actor_by u a d rest (found_by m u a d)) ne;
     }
 
 acts_leaves : (m : Machine) (u t : ℕ) (a : Actor) (status : Status) → t ≢ u → LeavesAt m (acts m u a status) t
@@ -165,8 +164,7 @@ other_goes m event t a found ne =
       rows = leaves.rows;
       after = a;
       is_there = leaves.actor ∙ found;
-      went =
-          Stays refl refl;
+      went = Stays refl refl;
     }
 
 own_goes : (m : Machine) (event : ℕ × Choice) (t : ℕ) (a : Actor) → slice_get m.actors t ≡ Some a → event.0 ≡ t

@@ -31,7 +31,8 @@ name_in word = if is_name word then Ok word else Err UnknownWord
 abbrev pub call_in : ℕ → List (List ℕ) → Result PlannedCall FaultCode
 call_in worker (w ∷ turn ∷ name ∷ times ∷ []) =
     if bytes_eq w (codes "call")
-    then (number_between worker worker turn >>= λ t. name_in name >>= λ n. number_between 1 1000000 times >>= λ k. Ok (record { name = n; times = k }))
+    then (number_between worker worker turn >>= λ t. name_in name >>= λ n. number_between 1 1000000 times
+    >>= λ k. Ok (record { name = n; times = k }))
     else Err UnknownWord
 call_in worker _ = Err UnknownWord
 
@@ -44,11 +45,13 @@ choice_in word =
 abbrev pub steps_in : ℕ → List (List ℕ) → Result Steps FaultCode
 steps_in workers (w ∷ thread ∷ choice ∷ times ∷ []) =
     if bytes_eq w (codes "step")
-    then (number_between 0 workers thread >>= λ t. choice_in choice >>= λ c. number_between 1 1000000 times >>= λ k. Ok (record { thread = t; choice = c; times = k }))
+    then (number_between 0 workers thread >>= λ t. choice_in choice >>= λ c. number_between 1 1000000 times
+    >>= λ k. Ok (record { thread = t; choice = c; times = k }))
     else Err UnknownWord
 steps_in workers (w ∷ thread ∷ row ∷ []) =
     if bytes_eq w (codes "claim")
-    then (number_between 0 workers thread >>= λ t. number_between 0 32769 row >>= λ r. Ok (record { thread = t; choice = choices.Claim r; times = 1 }))
+    then (number_between 0 workers thread >>= λ t. number_between 0 32769 row
+    >>= λ r. Ok (record { thread = t; choice = choices.Claim r; times = 1 }))
     else Err UnknownWord
 steps_in workers _ = Err UnknownWord
 
@@ -88,7 +91,9 @@ planned_in s ws =
 -- what stands above the next line, or the fault of this one
 abbrev pub next_of : Beginning → List (List ℕ) → Result Beginning FaultCode
 next_of Opened ws = size_in (codes "workers") 32 ws >>= λ workers. Ok (Staffed workers)
-next_of (Staffed workers) ws = size_in (codes "rows") 1024 ws >>= λ rows. Ok (Planned (record { workers = workers; rows = rows; calls = []; steps = [] }))
+next_of (Staffed workers) ws =
+    size_in (codes "rows") 1024 ws
+    >>= λ rows. Ok (Planned (record { workers = workers; rows = rows; calls = []; steps = [] }))
 next_of (Planned s) ws = planned_in s ws >>= λ t. Ok (Planned t)
 
 -- no call is missing

@@ -57,7 +57,8 @@ pub record IsPlannedCall (call : PlannedCall) : Type 0 where
   pub some : 0 < call.times
   pub most : call.times ≤ 1000000
 
--- a claim is one step, since its line says no number of times, of a row of the largest world: two rows, and 1024 for each of 32 workers
+-- a claim is one step, since its line says no number of times, of a row of the largest world: two rows, and 1024 for
+-- each of 32 workers
 abbrev pub IsChoiceOf : ℕ → Choice → Type 0
 IsChoiceOf times choices.Ok = Unit {0}
 IsChoiceOf times choices.Fault = Unit {0}

@@ -11,8 +11,11 @@ use Rattle.brc_word.specs.Header.{IsLocalWord, IsHeaderWord, IsCount, IsSharedWo
 
 pub spelled : (word : ℕ) → IsHeaderWord word → (owner : Option ℕ) × (local : ℕ) × IsLocalWord word owner local
 spelled word (inl nobody) = (None, 0, (refl, nobody))
-spelled word (inr thread) =
-    (Some (word / 2 ^ 32 - 1), word % 2 ^ 32, ((omega (arith, thread.0, thread.1), omega arith), omega (arith, thread.0)))
+spelled word (inr thread) = (
+  Some (word / 2 ^ 32 - 1),
+  word % 2 ^ 32,
+  ((omega (arith, thread.0, thread.1), omega arith), omega (arith, thread.0)),
+)
 
 -- ---- the shared field
 
@@ -63,7 +66,8 @@ parts : (count other : ℤ) (state state' word : ℕ) → state < 4 → state' <
     → (count ≡ other) × (state ≡ state')
 parts count other state state' word below below' e e' = (omega (arith, ints), omega (arith, ints))
 
-pub one_shared : (word : ℕ) (shared other : Shared) → IsSharedWord word shared → IsSharedWord word other → shared ≡ other
+pub one_shared : (word : ℕ) (shared other : Shared) → IsSharedWord word shared → IsSharedWord word other
+    → shared ≡ other
 one_shared word shared other e e' =
     let same = parts shared.count other.count (state_of shared.phase) (state_of other.phase) word
     (state_below shared.phase) (state_below other.phase) e e' in

@@ -1,5 +1,5 @@
--- The words of a header. (PEP 703, Biased Reference Counting: an owning thread, a local count that only the owner changes,
--- and a shared field of a count and a state in its two lowest bits.)
+-- The words of a header. (PEP 703, Biased Reference Counting: an owning thread, a local count that only the owner
+-- changes, and a shared field of a count and a state in its two lowest bits.)
 use Rattle.std.specs.Prelude.{ℕ, ◌+◌, ◌-◌, ◌*◌, ◌/◌, ◌%◌, Bool, ◌==◌, if◌then◌else◌}
 
 -- 0 where nobody owns the object, else the owner's number and 1

@@ -6,7 +6,9 @@ use Rattle.brc_model.specs.declared.actor.Place.TheVariants.{Standing}
 use Rattle.brc_model.specs.Threads.{entry_variables}
 use Rattle.brc_model.specs.Machine.{begun, begun_instruction}
 
-pub standing_begins : (rows t used left : ℕ) (code : List Instr) → (left ≡ 0 → ⊥) → begun_instruction rows t used (left - 1) 0 entry_variables (slice_get code 0) ≡ begun rows t used code (Standing left)
+pub standing_begins : (rows t used left : ℕ) (code : List Instr) → (left ≡ 0 → ⊥)
+    → begun_instruction rows t used (left - 1) 0 entry_variables (slice_get code 0)
+    ≡ begun rows t used code (Standing left)
 standing_begins rows t used zero code some = absurd (some refl)
 standing_begins rows t used (suc left) code some =
     let less : suc left - 1 ≡ left = omega arith in

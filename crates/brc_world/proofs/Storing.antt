@@ -15,19 +15,37 @@ use Rattle.brc_world.specs.Storage.{Columns, word_in, AreColumns, IsStored}
 -- ---- a cell
 
 abbrev pub with_cells : Columns → List ℕ → Columns
-with_cells c cells = record { local = c.local; shared = c.shared; gate = c.gate; kind = c.kind; mark = c.mark; cell = cells; slot = c.slot; resource = c.resource; thread = c.thread }
+with_cells c cells =
+    record {
+      local = c.local;
+      shared = c.shared;
+      gate = c.gate;
+      kind = c.kind;
+      mark = c.mark;
+      cell = cells;
+      slot =
+          c.slot;
+      resource = c.resource;
+      thread = c.thread;
+    }
 
 cell_word : (c : Columns) (x i y j word : ℕ) → length c.cell ≡ 8 * length c.local → x < length c.local → i < 8
-    → word_in (with_cells c (slice_set c.cell (8 * x + i) word)) (Cell y j) ≡ written (word_in c) (Cell x i) word (Cell y j)
+    → word_in (with_cells c (slice_set c.cell (8 * x + i) word)) (Cell y j)
+    ≡ written (word_in c) (Cell x i) word (Cell y j)
 cell_word c x i y j word lengths there low =
     elim (leb_tells (suc j) 8) [
       | inl inside ↦ elim (eqb_tells x y) [
         | inl same ↦ elim (eqb_tells i j) [
           | inl here ↦
-              rw (inside.0, same.0, here.0, sym same.1, sym here.1) (get_or-set_same c.cell (8 * x + i) word 0 (omega (arith, lengths, there, low)))
-          | inr other ↦ rw (inside.0, same.0, other.0) (get_or-set_other c.cell (8 * x + i) (8 * y + j) word 0 (λ e. other.1 (omega (arith, e, same.1))))
+              rw (inside.0, same.0, here.0, sym same.1, sym here.1)
+              (get_or-set_same c.cell (8 * x + i) word 0 (omega (arith, lengths, there, low)))
+          | inr other ↦
+              rw (inside.0, same.0, other.0)
+              (get_or-set_other c.cell (8 * x + i) (8 * y + j) word 0 (λ e. other.1 (omega (arith, e, same.1))))
         ]
-        | inr apart ↦ rw (inside.0, apart.0) (get_or-set_other c.cell (8 * x + i) (8 * y + j) word 0 (λ e. apart.1 (omega (arith, e, inside.1, low))))
+        | inr apart ↦
+            rw (inside.0, apart.0) (get_or-set_other c.cell (8 * x + i) (8 * y + j) word 0
+            (λ e. apart.1 (omega (arith, e, inside.1, low))))
       ]
       | inr outside ↦ elim (eqb_tells i j) [
         | inl here ↦ absurd (omega (arith, here.1, low, outside.1))
@@ -38,21 +56,24 @@ cell_word c x i y j word lengths there low =
       ]
     ]
 
-pub stored_cell : (c : Columns) (x i word : ℕ) → AreColumns c → x < length c.local → i < 8 → IsStored c (Cell x i) word (with_cells c (slice_set c.cell (8 * x + i) word))
+pub stored_cell : (c : Columns) (x i word : ℕ) → AreColumns c → x < length c.local → i < 8
+    → IsStored c (Cell x i) word (with_cells c (slice_set c.cell (8 * x + i) word))
 stored_cell c x i word columns there low = record {
   rows = refl;
   threads = refl;
-  words = fun_ext (λ a. elim a as (λ b. word_in (with_cells c (slice_set c.cell (8 * x + i) word)) b ≡ written (word_in c) (Cell x i) word b) [
-    | Local y ↦ refl
-    | Shared y ↦ refl
-    | Gate y ↦ refl
-    | KindOf y ↦ refl
-    | Mark y ↦ refl
-    | Cell y j ↦ cell_word c x i y j word columns.cell there low
-    | Slot y ↦ refl
-    | Resource y ↦ refl
-    | ThreadWord t ↦ refl
-  ]);
+  words =
+      fun_ext (λ a. elim a as (λ b. word_in (with_cells c (slice_set c.cell (8 * x + i) word)) b
+      ≡ written (word_in c) (Cell x i) word b) [
+        | Local y ↦ refl
+        | Shared y ↦ refl
+        | Gate y ↦ refl
+        | KindOf y ↦ refl
+        | Mark y ↦ refl
+        | Cell y j ↦ cell_word c x i y j word columns.cell there low
+        | Slot y ↦ refl
+        | Resource y ↦ refl
+        | ThreadWord t ↦ refl
+      ]);
 }
 
 -- ---- the first words
@@ -62,12 +83,15 @@ all_alike zero x v = refl
 all_alike (suc n) zero v = refl
 all_alike (suc n) (suc x) v = all_alike n x v
 
-running_word : (workers t : ℕ) → ◌≡◌ {A = ℕ} (get_or (replicate (1 + workers) 1) t 0) (if nat_le t workers then 1 else 0)
+running_word : (workers t : ℕ)
+    → ◌≡◌ {A = ℕ} (get_or (replicate (1 + workers) 1) t 0) (if nat_le t workers then 1 else 0)
 running_word workers t =
     let one : ℕ = 1 in
     elim (leb_tells t workers) [
       | inl within ↦ rw within.0 (get_or-replicate (1 + workers) t 1 0 (omega (arith, within.1)))
-      | inr past ↦ rw past.0 (get_or_past (replicate (1 + workers) 1) t 0 (omega (arith, length-replicate (1 + workers) one, past.1)))
+      | inr past ↦
+          rw past.0 (get_or_past (replicate (1 + workers) 1) t 0
+          (omega (arith, length-replicate (1 + workers) one, past.1)))
     ]
 
 abbrev first_columns : ℕ → ℕ → ℕ → Columns
@@ -88,32 +112,66 @@ no_cell n i true = all_alike n i 0
 no_cell n i false = refl
 
 first_words : (workers n more : ℕ) → word_in (first_columns workers n more) ≡ first_memory workers
-first_words workers n more = fun_ext (λ a. elim a as (λ b. word_in (first_columns workers n more) b ≡ first_memory workers b) [
-  | Local zero ↦ refl
-  | Local (suc zero) ↦ refl
-  | Local (suc (suc x)) ↦ all_alike more x 0
-  | Shared x ↦ all_alike n x fresh_word
-  | Gate x ↦ all_alike n x 1
-  | KindOf zero ↦ refl
-  | KindOf (suc zero) ↦ refl
-  | KindOf (suc (suc x)) ↦ all_alike more x 0
-  | Mark x ↦ all_alike n x 0
-  | Cell x i ↦ no_cell (8 * n) (8 * x + i) (nat_lt i 8)
-  | Slot x ↦ all_alike n x 0
-  | Resource x ↦ all_alike n x 0
-  | ThreadWord t ↦ running_word workers t
-])
+first_words workers n more =
+    fun_ext (λ a. elim a as (λ b. word_in (first_columns workers n more) b ≡ first_memory workers b) [
+      | Local zero ↦ refl
+      | Local (suc zero) ↦ refl
+      | Local (suc (suc x)) ↦ all_alike more x 0
+      | Shared x ↦ all_alike n x fresh_word
+      | Gate x ↦ all_alike n x 1
+      | KindOf zero ↦ refl
+      | KindOf (suc zero) ↦ refl
+      | KindOf (suc (suc x)) ↦ all_alike more x 0
+      | Mark x ↦ all_alike n x 0
+      | Cell x i ↦ no_cell (8 * n) (8 * x + i) (nat_lt i 8)
+      | Slot x ↦ all_alike n x 0
+      | Resource x ↦ all_alike n x 0
+      | ThreadWord t ↦ running_word workers t
+    ])
 
 -- a column of one value, with two set
-two_set : (n more v a b : ℕ) → n ≡ suc (suc more) → slice_set (slice_set (replicate n v) 0 a) 1 b ≡ a ∷ b ∷ replicate more v
+two_set : (n more v a b : ℕ) → n ≡ suc (suc more)
+    → slice_set (slice_set (replicate n v) 0 a) 1 b ≡ a ∷ b ∷ replicate more v
 two_set n more v a b e = rw e refl
 
-pub words_as : (workers n more : ℕ) (local kind shared gate mark cell slot resource thread : List ℕ) (none root none_kind root_kind : ℕ) → n ≡ suc (suc more)
-    → local ≡ replicate n 0 → none ≡ 8589934591 → root ≡ local_word 0 (1 + workers) → kind ≡ replicate n 0 → none_kind ≡ 4294967296 → root_kind ≡ 3 * 4294967296 + 8
-    → shared ≡ replicate n fresh_word → gate ≡ replicate n 1 → mark ≡ replicate n 0 → cell ≡ replicate (8 * n) 0 → slot ≡ replicate n 0 → resource ≡ replicate n 0 → thread ≡ replicate (1 + workers) 1
-    → word_in (record { local = slice_set (slice_set local 0 none) 1 root; shared = shared; gate = gate; kind = slice_set (slice_set kind 0 none_kind) 1 root_kind; mark = mark; cell = cell; slot = slot; resource = resource; thread = thread }) ≡ first_memory workers
-words_as workers n more local kind shared gate mark cell slot resource thread none root none_kind root_kind e l v r k nk rk s g m c o p t =
-    rw (l, v, r, k, nk, rk, s, g, m, c, o, p, t, two_set n more 0 8589934591 (local_word 0 (1 + workers)) e, two_set n more 0 4294967296 (3 * 4294967296 + 8) e) (first_words workers n more)
+pub words_as : (workers n more : ℕ) (local kind shared gate mark cell slot resource thread : List ℕ)
+    (none root none_kind root_kind : ℕ)
+    → n ≡ suc (suc more)
+    → local ≡ replicate n 0 → none ≡ 8589934591 → root ≡ local_word 0 (1 + workers) → kind ≡ replicate n 0
+    → none_kind ≡ 4294967296 → root_kind ≡ 3 * 4294967296 + 8
+    → shared ≡ replicate n fresh_word → gate ≡ replicate n 1 → mark ≡ replicate n 0 → cell ≡ replicate (8 * n) 0
+    → slot ≡ replicate n 0 → resource ≡ replicate n 0 → thread ≡ replicate (1 + workers) 1
+    → word_in (record {
+      local = slice_set (slice_set local 0 none) 1 root;
+      shared = shared;
+      gate = gate;
+      kind =
+          slice_set (slice_set kind 0 none_kind) 1 root_kind;
+      mark = mark;
+      cell = cell;
+      slot = slot;
+      resource = resource;
+      thread = thread;
+    }) ≡ first_memory workers
+words_as workers n more local kind shared gate mark cell slot resource thread none root none_kind root_kind e l v r k
+    nk rk s g m c o p t =
+    rw (
+      l,
+      v,
+      r,
+      k,
+      nk,
+      rk,
+      s,
+      g,
+      m,
+      c,
+      o,
+      p,
+      t,
+      two_set n more 0 8589934591 (local_word 0 (1 + workers)) e,
+      two_set n more 0 4294967296 (3 * 4294967296 + 8) e,
+    ) (first_words workers n more)
 
 -- the packed word of no count
 pub fresh_is : (word : ℕ) → IsSharedWord word (record { count = pos 0; phase = Default }) → word ≡ fresh_word

@@ -17,20 +17,27 @@ use Rattle.brc_world.specs.Tallies.{still_runs, is_born, is_closed_row, born_bel
 more_rows : (a n : ℕ) → range_with_len a (n + 1) ≡ range_with_len a n ++ (a + n) ∷ []
 more_rows a n =
     let each : ℕ → ℕ = λ x. x in
-    sym (map-id (range_with_len a (n + 1))) ∙ map-range_with_len_more each a n (a + n) refl ∙ ap (λ (l : List ℕ). l ++ (a + n) ∷ []) (map-id (range_with_len a n))
+    sym (map-id (range_with_len a (n + 1))) ∙ map-range_with_len_more each a n (a + n) refl
+    ∙ ap (λ (l : List ℕ). l ++ (a + n) ∷ []) (map-id (range_with_len a n))
 
-born_more : (w : World) (row : ℕ) → 1 ≤ row → born_below w (row + 1 - 1) ≡ born_below w (row - 1) ++ filter (is_born w) (row ∷ [])
+born_more : (w : World) (row : ℕ) → 1 ≤ row
+    → born_below w (row + 1 - 1) ≡ born_below w (row - 1) ++ filter (is_born w) (row ∷ [])
 born_more w row low =
     let next : row + 1 - 1 ≡ (row - 1) + 1 = omega (arith, low) in
     let here : 1 + (row - 1) ≡ row = omega (arith, low) in
-    ap (born_below w) next ∙ ap (filter (is_born w)) (more_rows 1 (row - 1)) ∙ filter-append (is_born w) (range_with_len 1 (row - 1)) ((1 + (row - 1)) ∷ [])
+    ap (born_below w) next ∙ ap (filter (is_born w)) (more_rows 1 (row - 1))
+    ∙ filter-append (is_born w) (range_with_len 1 (row - 1)) ((1 + (row - 1)) ∷ [])
     ∙ ap (λ (n : ℕ). born_below w (row - 1) ++ filter (is_born w) (n ∷ [])) here
 
-pub born_here : (w : World) (row : ℕ) → 1 ≤ row → is_born w row ≡ true → born_below w (row + 1 - 1) ≡ born_below w (row - 1) ++ row ∷ []
+pub born_here : (w : World) (row : ℕ) → 1 ≤ row → is_born w row ≡ true
+    → born_below w (row + 1 - 1) ≡ born_below w (row - 1) ++ row ∷ []
 born_here w row low born = born_more w row low ∙ ap (λ (b : Bool). born_below w (row - 1) ++ cond b (row ∷ []) []) born
 
-pub unborn_here : (w : World) (row : ℕ) → 1 ≤ row → is_born w row ≡ false → born_below w (row + 1 - 1) ≡ born_below w (row - 1)
-unborn_here w row low unborn = born_more w row low ∙ ap (λ (b : Bool). born_below w (row - 1) ++ cond b (row ∷ []) []) unborn ∙ append-nil (born_below w (row - 1))
+pub unborn_here : (w : World) (row : ℕ) → 1 ≤ row → is_born w row ≡ false
+    → born_below w (row + 1 - 1) ≡ born_below w (row - 1)
+unborn_here w row low unborn =
+    born_more w row low ∙ ap (λ (b : Bool). born_below w (row - 1) ++ cond b (row ∷ []) []) unborn
+    ∙ append-nil (born_below w (row - 1))
 
 -- what passes a test and what doesn't are all
 pub parts : (p : ℕ → Bool) (xs : List ℕ) → length (filter p xs) + length (filter (λ x. not (p x)) xs) ≡ length xs
@@ -53,7 +60,9 @@ rows_there a n k d lt =
 pub born_there : (w : World) → 1 ≤ row_count w → All (λ row. row < row_count w) (rows_born w)
 born_there w some =
     let all : 1 + (row_count w - 1) ≡ row_count w = omega (arith, some) in
-    All-filter (is_born w) (λ row. row < row_count w) (range_with_len 1 (row_count w - 1)) (subst (λ (m : ℕ). All (λ row. row < m) (range_with_len 1 (row_count w - 1))) all (rows_there 1 (row_count w - 1)))
+    All-filter (is_born w) (λ row. row < row_count w) (range_with_len 1 (row_count w - 1))
+    (subst (λ (m : ℕ). All (λ row. row < m) (range_with_len 1 (row_count w - 1))) all
+    (rows_there 1 (row_count w - 1)))
 
 -- ---- blocks
 
@@ -70,20 +79,37 @@ block_there rows workers (suc (suc x)) some there =
 
 sum_over : {X Y : Type 0} (f : Y → ℕ) (g : X → Y) (xs : List X) → sum_by f (map g xs) ≡ sum_by (λ x. f (g x)) xs
 sum_over f g [] = refl
-sum_over f g (x ∷ xs) = sum_by-cons f (g x) (map g xs) ∙ ap (λ (n : ℕ). f (g x) + n) (sum_over f g xs) ∙ sym (sum_by-cons (λ y. f (g y)) x xs)
+sum_over f g (x ∷ xs) =
+    sum_by-cons f (g x) (map g xs) ∙ ap (λ (n : ℕ). f (g x) + n) (sum_over f g xs)
+    ∙ sym (sum_by-cons (λ y. f (g y)) x xs)
 
-pub count_over : {X Y : Type 0} (p : Y → Bool) (g : X → Y) (xs : List X) → count_by (λ x. p (g x)) xs ≡ count_by p (map g xs)
+pub count_over : {X Y : Type 0} (p : Y → Bool) (g : X → Y) (xs : List X)
+    → count_by (λ x. p (g x)) xs ≡ count_by p (map g xs)
 count_over p g xs = sym (sum_over (λ y. cond (p y) 1 0) g xs)
 
 -- ---- the report
 
-pub tally_as : (w : World) (all running created closed alive : ℕ) (left : List Left) (born : List ℕ) → all ≡ length w.actors → running ≡ count_by still_runs w.actors → born ≡ rows_born w → created ≡ length born
-    → left ≡ map (left_in w) (filter (λ row. not (is_closed_row w row)) born) → closed ≡ created - length left → alive ≡ length left
-    → ◌≡◌ {A = Tally} (record { threads = all - 1; running = running; created = created; closed = closed; alive = alive; host_faults = 0; close_faults = 0; left = left }) (tally_of w)
+pub tally_as : (w : World) (all running created closed alive : ℕ) (left : List Left) (born : List ℕ)
+    → all ≡ length w.actors → running ≡ count_by still_runs w.actors → born ≡ rows_born w → created ≡ length born
+    → left ≡ map (left_in w) (filter (λ row. not (is_closed_row w row)) born) → closed ≡ created - length left
+    → alive ≡ length left
+    → ◌≡◌ {A = Tally} (record {
+      threads = all - 1;
+      running = running;
+      created = created;
+      closed = closed;
+      alive =
+          alive;
+      host_faults = 0;
+      close_faults = 0;
+      left = left;
+    }) (tally_of w)
 tally_as w all running created closed alive left born all_is running_is born_is created_is left_is closed_is alive_is =
     let left_now : left ≡ map (left_in w) (rows_left w) = rw born_is at left_is in
-    let alive_now : alive ≡ length (rows_left w) = alive_is ∙ ap (λ (l : List Left). length l) left_now ∙ length-map (rows_left w) (left_in w) in
+    let alive_now : alive ≡ length (rows_left w) =
+    alive_is ∙ ap (λ (l : List Left). length l) left_now ∙ length-map (rows_left w) (left_in w) in
     let created_now : created ≡ length (rows_born w) = rw born_is at created_is in
     let left_many : length left ≡ length (rows_left w) = sym alive_is ∙ alive_now in
-    let closed_now : closed ≡ length (rows_closed w) = closed_is ∙ (rw (created_now, left_many) (passed (is_closed_row w) (rows_born w))) in
+    let closed_now : closed ≡ length (rows_closed w) =
+    closed_is ∙ (rw (created_now, left_many) (passed (is_closed_row w) (rows_born w))) in
     rw (all_is, running_is, created_now, closed_now, alive_now, left_now) refl

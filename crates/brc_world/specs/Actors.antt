@@ -1,5 +1,5 @@
--- The threads as the model has them, and what each thread's step begins with: the first duty of its agenda, or what its next
--- instruction or its exit asks for.
+-- The threads as the model has them, and what each thread's step begins with: the first duty of its agenda, or what its
+-- next instruction or its exit asks for.
 use Rattle.std.specs.Prelude.{◌≡◌, ◌≢◌, ℕ, ◌≤◌, Bool, true, false, ◌==◌, ◌&&◌, not, if◌then◌else◌, List, [], ◌∷◌, reverse, Option, slice_get}
 use Rattle.brc_lang.specs.declared.module.Function.{Function}
 use Rattle.brc_model.specs.declared.actor.Status.{Status}
@@ -43,11 +43,13 @@ actor_of t = record {
 }
 
 abbrev pub with_agenda : Actor → List Duty → Actor
-with_agenda a agenda = record { function = a.function; place = a.place; status = a.status; agenda = agenda; head = a.head; used = a.used }
+with_agenda a agenda =
+    record { function = a.function; place = a.place; status = a.status; agenda = agenda; head = a.head; used = a.used }
 
 -- the exit: a thread with no call left gives up its reference to the root, settles, and leaves
 abbrev pub exit_begun : ℕ → ℕ → ℕ → model.Begun
-exit_begun rows t used = model.Work (ReleaseLoad root_row AsCaller ∷ Settle ∷ Leave (model.first_row rows t) used ∷ []) Departing
+exit_begun rows t used =
+    model.Work (ReleaseLoad root_row AsCaller ∷ Settle ∷ Leave (model.first_row rows t) used ∷ []) Departing
 
 abbrev pub start_begun : model.Begun → Start
 start_begun model.Stuck = starts.Stuck
@@ -92,7 +94,8 @@ found_by rows t memory a d = memory (address_of rows t a.head d)
 
 -- a duty that isn't in the agenda any more
 abbrev pub memory_done : ℕ → ℕ → (Address → ℕ) → Actor → Duty → Address → ℕ
-memory_done rows t memory a d = model.written memory (address_of rows t a.head d) (left_by t a.head d (found_by rows t memory a d))
+memory_done rows t memory a d =
+    model.written memory (address_of rows t a.head d) (left_by t a.head d (found_by rows t memory a d))
 
 abbrev pub actor_done : ℕ → ℕ → (Address → ℕ) → Actor → Duty → Actor
 actor_done rows t memory a d = model.actor_by t a d a.agenda (found_by rows t memory a d)
@@ -109,13 +112,17 @@ actor_from rows t memory a (starts.Doing d) = actor_done rows t memory a d
 
 abbrev pub memory_by : List Function → ℕ → ℕ → (Address → ℕ) → Actor → Status → Address → ℕ
 memory_by functions rows t memory a Gone = memory
-memory_by functions rows t memory a Running = memory_from rows t memory (started functions rows t a) (start_of functions rows t a)
-memory_by functions rows t memory a Leaving = memory_from rows t memory (started functions rows t a) (start_of functions rows t a)
+memory_by functions rows t memory a Running =
+    memory_from rows t memory (started functions rows t a) (start_of functions rows t a)
+memory_by functions rows t memory a Leaving =
+    memory_from rows t memory (started functions rows t a) (start_of functions rows t a)
 
 abbrev pub actor_by : List Function → ℕ → ℕ → (Address → ℕ) → Actor → Status → Actor
 actor_by functions rows t memory a Gone = a
-actor_by functions rows t memory a Running = actor_from rows t memory (started functions rows t a) (start_of functions rows t a)
-actor_by functions rows t memory a Leaving = actor_from rows t memory (started functions rows t a) (start_of functions rows t a)
+actor_by functions rows t memory a Running =
+    actor_from rows t memory (started functions rows t a) (start_of functions rows t a)
+actor_by functions rows t memory a Leaving =
+    actor_from rows t memory (started functions rows t a) (start_of functions rows t a)
 
 -- the step's answer
 abbrev pub did_from : Start → Did
@@ -128,7 +135,8 @@ did_by functions rows t a Gone = answers.Gone
 did_by functions rows t a Running = did_from (start_of functions rows t a)
 did_by functions rows t a Leaving = did_from (start_of functions rows t a)
 
--- the duty can be done: its word is there, among so many rows and threads, and suits it; and the thread uses no more rows
+-- the duty can be done: its word is there, among so many rows and threads, and suits it; and the thread uses no more
+-- rows
 pub record CanDo (rows t n threads : ℕ) (memory : Address → ℕ) (a : Actor) (d : Duty) : Type 0 where
   pub there : IsThere n threads (address_of rows t a.head d)
   pub suits : Suits t (model.is_running a.status) n d (found_by rows t memory a d)
@@ -136,7 +144,8 @@ pub record CanDo (rows t n threads : ℕ) (memory : Address → ℕ) (a : Actor)
 
 -- the duty that the step begins with can be done
 abbrev pub CanStart : List Function → ℕ → ℕ → ℕ → ℕ → (Address → ℕ) → Actor → Type 0
-CanStart functions rows t n threads memory a = (d : Duty) → a.status ≢ Gone → start_of functions rows t a ≡ starts.Doing d → CanDo rows t n threads memory a d
+CanStart functions rows t n threads memory a =
+    (d : Duty) → a.status ≢ Gone → start_of functions rows t a ≡ starts.Doing d → CanDo rows t n threads memory a d
 
 -- ---- a claim
 
@@ -145,10 +154,12 @@ abbrev pub finds_mark : ℕ → ℕ → (Address → ℕ) → Actor → ℕ → 
 finds_mark rows t memory a row = model.may_claim rows t a row && not (memory (Mark row) == 0)
 
 abbrev pub memory_claimed : ℕ → ℕ → (Address → ℕ) → Actor → ℕ → Address → ℕ
-memory_claimed rows t memory a row = if finds_mark rows t memory a row then memory_done rows t memory a (ClaimMark row) else memory
+memory_claimed rows t memory a row =
+    if finds_mark rows t memory a row then memory_done rows t memory a (ClaimMark row) else memory
 
 abbrev pub actor_claimed : ℕ → ℕ → (Address → ℕ) → Actor → ℕ → Actor
-actor_claimed rows t memory a row = if finds_mark rows t memory a row then actor_done rows t memory a (ClaimMark row) else a
+actor_claimed rows t memory a row =
+    if finds_mark rows t memory a row then actor_done rows t memory a (ClaimMark row) else a
 
 abbrev pub did_claim : ℕ → ℕ → (Address → ℕ) → Actor → ℕ → Status → Did
 did_claim rows t memory a row Gone = answers.Gone
@@ -157,4 +168,5 @@ did_claim rows t memory a row Leaving = if finds_mark rows t memory a row then a
 
 -- where it may look, it can
 abbrev pub CanClaim : ℕ → ℕ → ℕ → ℕ → (Address → ℕ) → Actor → ℕ → Type 0
-CanClaim rows t n threads memory a row = model.may_claim rows t a row ≡ true → CanDo rows t n threads memory a (ClaimMark row)
+CanClaim rows t n threads memory a row =
+    model.may_claim rows t a row ≡ true → CanDo rows t n threads memory a (ClaimMark row)

@@ -10,22 +10,30 @@ use Rattle.brc_check.proofs.verifying.first_row_fault.Goals as goal
 pub row_fault-requires : goal.row_fault-requires
 row_fault-requires c =
     ap length c.as_slice-in-loop-number.ensures
-    ∙ same_points c.args.functions.now c.args.rows.now c.loop-number.number c.index-functions-number.result c.index-rows-number.result c.requires c.loop-number-test.true c.index-functions-number.is c.index-rows-number.is
+    ∙ same_points c.args.functions.now c.args.rows.now c.loop-number.number c.index-functions-number.result
+    c.index-rows-number.result c.requires c.loop-number-test.true c.index-functions-number.is c.index-rows-number.is
     ∙ sym (ap length c.as_slice.ensures)
 
 pub returns-in-Some : goal.returns-in-Some
 returns-in-Some c =
-    let fault = subst (λ (code : List Instr). IsFaultAt code c.index-rows-number.result c.in-Some.met.at c.in-Some.met.code) c.as_slice.ensures
-    (subst (λ (row : List (Option State)). IsFaultAt c.as_slice.result.now row c.in-Some.met.at c.in-Some.met.code) c.as_slice-in-loop-number.ensures c.in-Some.ensures) in
-    row_fault c.args.functions.now c.args.rows.now c.loop-number.number c.index-functions-number.result c.index-rows-number.result c.in_function.result c.in-Some.met.at c.in-Some.met.code
+    let fault =
+    subst (λ (code : List Instr). IsFaultAt code c.index-rows-number.result c.in-Some.met.at c.in-Some.met.code)
+    c.as_slice.ensures
+    (subst (λ (row : List (Option State)). IsFaultAt c.as_slice.result.now row c.in-Some.met.at c.in-Some.met.code)
+    c.as_slice-in-loop-number.ensures c.in-Some.ensures) in
+    row_fault c.args.functions.now c.args.rows.now c.loop-number.number c.index-functions-number.result
+    c.index-rows-number.result c.in_function.result c.in-Some.met.at c.in-Some.met.code
     c.requires c.loop-number-test.true c.index-functions-number.is c.index-rows-number.is c.in_function.ensures fault
 
 pub loop-number-preserved : goal.loop-number-preserved
 loop-number-preserved c =
     let closed = subst (λ (code : List Instr). IsClosed code c.index-rows-number.result) c.as_slice.ensures
     (subst (IsClosed c.as_slice.result.now) c.as_slice-in-loop-number.ensures c.in_default.ensures) in
-    closed_more c.args.functions.now c.args.rows.now c.loop-number.number c.index-functions-number.result c.index-rows-number.result
+    closed_more c.args.functions.now c.args.rows.now c.loop-number.number c.index-functions-number.result
+    c.index-rows-number.result
     c.requires c.loop-number-test.true c.index-functions-number.is c.index-rows-number.is c.loop-number.invariant closed
 
 pub returns : goal.returns
-returns c = λ k f e. c.loop-number.invariant k f (let within = slice_get_within c.args.functions.now k f e in omega (arith, within)) e
+returns c =
+    λ k f e. c.loop-number.invariant k f
+    (let within = slice_get_within c.args.functions.now k f e in omega (arith, within)) e

@@ -6,4 +6,5 @@ use Rattle.brc_check.specs.Rows.{IsClosed}
 use Rattle.brc_check.proofs.verifying.first_row_fault.Given as goal
 
 abbrev pub invariant-loop-number : goal.invariant-loop-number
-invariant-loop-number l = (k : ℕ) (f : Function) → k < l.number → slice_get l.functions k ≡ Some f → IsClosed f.code (row_of l.rows k)
+invariant-loop-number l =
+    (k : ℕ) (f : Function) → k < l.number → slice_get l.functions k ≡ Some f → IsClosed f.code (row_of l.rows k)

@@ -6,4 +6,5 @@ use Rattle.brc_check.specs.Rows.{IsClosedAt}
 use Rattle.brc_check.proofs.verifying.row_fault.Given as goal
 
 abbrev pub invariant-loop-at : goal.invariant-loop-at
-invariant-loop-at l = record { begins : entry_at l.row 0 ≡ Some entry; closed : (k : ℕ) → k < l.at → IsClosedAt l.code l.row k }
+invariant-loop-at l =
+    record { begins : entry_at l.row 0 ≡ Some entry; closed : (k : ℕ) → k < l.at → IsClosedAt l.code l.row k }

@@ -12,5 +12,6 @@ returns-then-are_name_bytes c =
           let first = w.if-is_ascii_lowercase.ensures.value in
           let others = sym w.are_name_bytes.ensures ∙ sym w.value-is ∙ c.if-are_name_bytes.true in
           rw (sym first, others) at parts
-      | else-is_ascii_lowercase w ↦ absurd (both_ways _ (w.value-is ∙ w.if-is_ascii_lowercase.false) c.if-are_name_bytes.true)
+      | else-is_ascii_lowercase w ↦
+          absurd (both_ways _ (w.value-is ∙ w.if-is_ascii_lowercase.false) c.if-are_name_bytes.true)
     ]

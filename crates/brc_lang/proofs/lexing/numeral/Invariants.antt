@@ -5,4 +5,6 @@ use Rattle.std.specs.Str.Parse.{digits_value}
 use Rattle.brc_lang.proofs.lexing.numeral.Given as goal
 
 abbrev pub invariant-loop-digit : goal.invariant-loop-digit
-invariant-loop-digit l = (l.value ≡ digits_value 10 (take l.digit-index l.digits)) × (l.value ≤ l.high) × (list_all is_ascii_digit (take l.digit-index l.digits) ≡ true)
+invariant-loop-digit l =
+    (l.value ≡ digits_value 10 (take l.digit-index l.digits)) × (l.value ≤ l.high)
+    × (list_all is_ascii_digit (take l.digit-index l.digits) ≡ true)

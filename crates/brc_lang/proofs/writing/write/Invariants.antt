@@ -5,4 +5,6 @@ use Rattle.brc_lang.specs.Grammar.{first_line, functions}
 use Rattle.brc_lang.proofs.writing.write.Given as goal
 
 abbrev pub invariant-loop-function : goal.invariant-loop-function
-invariant-loop-function g l = Appends (g.W.Write.contents l.fn.writer) (g.W.Write.contents l.writer) (first_line ++ functions (take l.function-index l.fn.module.functions))
+invariant-loop-function g l =
+    Appends (g.W.Write.contents l.fn.writer) (g.W.Write.contents l.writer)
+    (first_line ++ functions (take l.function-index l.fn.module.functions))

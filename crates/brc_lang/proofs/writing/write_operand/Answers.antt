@@ -4,7 +4,8 @@ use Rattle.brc_lang.proofs.Written.{stops_early, stops_late}
 use Rattle.brc_lang.proofs.writing.write_operand.Goals as goal
 
 pub returns-in_err-write_bytes-clause-begun : goal.returns-in_err-write_bytes-clause-begun
-returns-in_err-write_bytes-clause-begun g c = stops_early _ _ _ _ c.args.before.now (variable c.args.variable) refl c.in_err-write_bytes.ensures.begun
+returns-in_err-write_bytes-clause-begun g c =
+    stops_early _ _ _ _ c.args.before.now (variable c.args.variable) refl c.in_err-write_bytes.ensures.begun
 
 pub returns-clause-begun : goal.returns-clause-begun
 returns-clause-begun g c =

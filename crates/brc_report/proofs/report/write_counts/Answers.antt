@@ -17,5 +17,6 @@ returns-in_err-write_count-clause-begun g c =
     let front = flat_map count_line (take i counts) in
     let back = flat_map count_line (drop (suc i) counts) in
     stops_between _ _ _ _ _ front (line (entry c.as_bytes.result.now count.1)) back
-    (flat_map_around count_line counts i none count c.loop-label-test.true refl ∙ ap (λ l. front ++ line (entry l count.1) ++ back) (sym c.as_bytes.ensures.value))
+    (flat_map_around count_line counts i none count c.loop-label-test.true refl
+    ∙ ap (λ l. front ++ line (entry l count.1) ++ back) (sym c.as_bytes.ensures.value))
     c.loop-label.invariant c.in_err-write_count.ensures.begun

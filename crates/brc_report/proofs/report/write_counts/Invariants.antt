@@ -8,4 +8,5 @@ use Rattle.brc_report.proofs.report.write_counts.Given as goal
 
 abbrev pub invariant-loop-label : goal.invariant-loop-label
 invariant-loop-label g l =
-    Appends (g.W.Write.contents l.initial.writer) (g.W.Write.contents l.writer) (flat_map (λ c. line (entry c.0.now c.1)) (take l.label-index l.counts))
+    Appends (g.W.Write.contents l.initial.writer) (g.W.Write.contents l.writer)
+    (flat_map (λ c. line (entry c.0.now c.1)) (take l.label-index l.counts))

@@ -12,6 +12,7 @@ returns-in_err-write_left-clause-begun g c =
     let i = c.loop-left.left-index in
     let none : Left = record { row = 0; kind = None } in
     let left = get_or lefts i none in
-    stops_between _ _ _ _ _ (flat_map left_text (take i lefts)) (left_text left) (flat_map left_text (drop (suc i) lefts))
+    stops_between _ _ _ _ _ (flat_map left_text (take i lefts)) (left_text left)
+    (flat_map left_text (drop (suc i) lefts))
     (flat_map_around left_text lefts i none left c.loop-left-test.true refl)
     c.loop-left.invariant c.in_err-write_left.ensures.begun

@@ -6,7 +6,8 @@ use Rattle.brc_report.proofs.report.write_tally.Goals as goal
 
 pub returns-in_err-write_counts-clause-begun : goal.returns-in_err-write_counts-clause-begun
 returns-in_err-write_counts-clause-begun g c =
-    stops_early _ _ _ _ (counts_text c.args.tally.now) (flat_map left_text c.args.tally.now.left) refl c.in_err-write_counts.ensures.begun
+    stops_early _ _ _ _ (counts_text c.args.tally.now) (flat_map left_text c.args.tally.now.left) refl
+    c.in_err-write_counts.ensures.begun
 
 pub returns-clause-begun : goal.returns-clause-begun
 returns-clause-begun g c =

@@ -11,11 +11,17 @@ use Rattle.brc_world.proofs.dispatch.dispatch.Goals as goal
 
 -- what the model's thread takes up there
 begins : (c : goal.After-next_instruction-in-Idle)
-    → model.begun_instruction c.args.rows c.args.number c.args.thread.now.used (c.args.thread.now.left - 1) 0 c.entry_variables-thread.result (slice_get (code_of (slice_get c.args.functions.now c.args.thread.now.function)) 0)
-    ≡ model.begun c.args.rows c.args.number c.args.thread.now.used (code_of (slice_get c.args.functions.now c.args.thread.now.function)) (place_of c.args.thread.now.stage c.args.thread.now.left c.args.thread.now.at c.args.thread.now.variables)
+    → model.begun_instruction c.args.rows c.args.number c.args.thread.now.used (c.args.thread.now.left - 1) 0
+    c.entry_variables-thread.result
+    (slice_get (code_of (slice_get c.args.functions.now c.args.thread.now.function)) 0)
+    ≡ model.begun c.args.rows c.args.number c.args.thread.now.used
+    (code_of (slice_get c.args.functions.now c.args.thread.now.function))
+    (place_of c.args.thread.now.stage c.args.thread.now.left c.args.thread.now.at c.args.thread.now.variables)
 begins c =
     let code = code_of (slice_get c.args.functions.now c.args.thread.now.function) in
-    rw (c.entry_variables-thread.ensures, c.in-Idle.is) (standing_begins c.args.rows c.args.number c.args.thread.now.used c.args.thread.now.left code c.if-thread-eq0.false)
+    rw (c.entry_variables-thread.ensures, c.in-Idle.is)
+    (standing_begins c.args.rows c.args.number c.args.thread.now.used c.args.thread.now.left code
+    c.if-thread-eq0.false)
 
 pub returns-else-thread-eq0-clause-starts : goal.returns-else-thread-eq0-clause-starts
 returns-else-thread-eq0-clause-starts c = c.next_instruction-in-Idle.ensures.starts ∙ ap start_begun (begins c)
@@ -32,4 +38,6 @@ idle c = record {
 }
 
 pub returns-else-thread-eq0-clause-actor : goal.returns-else-thread-eq0-clause-actor
-returns-else-thread-eq0-clause-actor c = (rw c.in-Idle.is at c.next_instruction-in-Idle.ensures.actor) ∙ (rw c.in-Idle.is (ap (actor_begun (idle c)) (rw c.in-Idle.is at (begins c))))
+returns-else-thread-eq0-clause-actor c =
+    (rw c.in-Idle.is at c.next_instruction-in-Idle.ensures.actor)
+    ∙ (rw c.in-Idle.is (ap (actor_begun (idle c)) (rw c.in-Idle.is at (begins c))))

@@ -9,5 +9,7 @@ returns-clause-words c =
     (c.in_ok-local.ensures.items_if_clones_equal (λ _ e. e)) c.local_word.ensures.word c.local_word-2.ensures.word
     (c.in_ok-kind.ensures.items_if_clones_equal (λ _ e. e)) c.kind_word.ensures.word c.kind_word-2.ensures.word
     ((c.in_ok-vec.ensures.items_if_clones_equal (λ _ e. e)) ∙ ap (replicate n) (fresh_is _ c.pack-fresh.ensures.word))
-    (c.in_ok-vec-2.ensures.items_if_clones_equal (λ _ e. e)) (c.in_ok-vec-3.ensures.items_if_clones_equal (λ _ e. e)) (c.in_ok-vec-4.ensures.items_if_clones_equal (λ _ e. e)) (c.in_ok-vec-5.ensures.items_if_clones_equal (λ _ e. e))
+    (c.in_ok-vec-2.ensures.items_if_clones_equal (λ _ e. e)) (c.in_ok-vec-3.ensures.items_if_clones_equal (λ _ e. e))
+    (c.in_ok-vec-4.ensures.items_if_clones_equal (λ _ e. e))
+    (c.in_ok-vec-5.ensures.items_if_clones_equal (λ _ e. e))
     (c.in_ok-vec-6.ensures.items_if_clones_equal (λ _ e. e)) (c.in_ok-vec-7.ensures.items_if_clones_equal (λ _ e. e))

@@ -5,4 +5,5 @@ use Rattle.brc_world.proofs.memory.Memory.store.Goals as goal
 pub returns-in-Cell : goal.returns-in-Cell
 returns-in-Cell c =
     let there = rw (c.in-Cell.is, sym c.self.view_is) at c.requires in
-    rw (c.in-Cell.is, sym c.self.view_is) (stored_cell _ c.in-Cell.row c.in-Cell.cell c.args.word c.self.invariant there.0 there.1)
+    rw (c.in-Cell.is, sym c.self.view_is)
+    (stored_cell _ c.in-Cell.row c.in-Cell.cell c.args.word c.self.invariant there.0 there.1)

@@ -21,7 +21,9 @@ pub act-requires-clause-small : goal.act-requires-clause-small
 act-requires-clause-small c =
     let few = c.worlds_are_small.ensures.few_threads _ _ c.self.invariant.reachable in
     let few_rows = c.worlds_are_small.ensures.few_rows _ _ c.self.invariant.reachable in
-    rw c.self.invariant.rows (rows_small (seen (contents c.self.inside.accepted.now.functions c.self.inside.rows c.self.inside.memory c.self.inside.threads.items)) few few_rows)
+    rw c.self.invariant.rows (rows_small
+    (seen (contents c.self.inside.accepted.now.functions c.self.inside.rows c.self.inside.memory
+    c.self.inside.threads.items)) few few_rows)
 
 pub act-requires-clause-known : goal.act-requires-clause-known
 act-requires-clause-known c =
@@ -32,12 +34,16 @@ act-requires-clause-known c =
 pub act-requires-clause-can : goal.act-requires-clause-can
 act-requires-clause-can c =
     let within = rw (sym c.self.view_is) at c.requires in
-    let here = thread_at c.self.inside.accepted.now.functions c.self.inside.rows c.self.inside.memory c.self.inside.threads.items c.args.thread c.index_mut.result.now c.index_mut.ensures.value within in
+    let here =
+    thread_at c.self.inside.accepted.now.functions c.self.inside.rows c.self.inside.memory
+    c.self.inside.threads.items c.args.thread c.index_mut.result.now c.index_mut.ensures.value within in
     let steps = c.steps_are_within.ensures _ _ c.args.thread _ c.self.invariant.reachable here in
     rw (c.as_slice.ensures, c.self.invariant.rows, c.self.invariant.threads) (can_start _ _ _ steps)
 
 -- the world after the step, and where the step's thread stood
-outcome_of : (c : goal.After-self-1) → Outcome c.self.inside.accepted.now c.self.inside.rows c.self.inside.memory c.act.new.memory c.self.inside.threads.items c.args.thread Ok c.act.new.thread c.act.result
+outcome_of : (c : goal.After-self-1)
+    → Outcome c.self.inside.accepted.now c.self.inside.rows c.self.inside.memory c.act.new.memory
+    c.self.inside.threads.items c.args.thread Ok c.act.new.thread c.act.result
 outcome_of c =
     let p = c.self.inside.accepted.now in
     let rows = c.self.inside.rows in
@@ -60,7 +66,9 @@ outcome_of c =
     let within = rw (sym c.self.view_is) at c.requires in
     let here = thread_at p.functions rows words threads t before c.index_mut.ensures.value within in
     let is = going_on w t (actor_of before) here in
-    outcome p rows words c.act.new.memory threads t Ok before after c.act.result memory next turned c.index_mut.ensures.value is c.self.invariant (c.worlds_lead_on.ensures.step p w t Ok c.self.invariant.reachable)
+    outcome p rows words c.act.new.memory threads t Ok before after c.act.result memory next turned
+    c.index_mut.ensures.value is c.self.invariant
+    (c.worlds_lead_on.ensures.step p w t Ok c.self.invariant.reachable)
 
 pub invariant_of-self : goal.invariant_of-self
 invariant_of-self c = (outcome_of c).world
@@ -79,8 +87,13 @@ returns-clause-answer c =
     let before = c.index_mut.result.now in
     let w = seen (contents p.functions c.self.inside.rows c.self.inside.memory threads) in
     let within = rw (sym c.self.view_is) at c.requires in
-    let here = thread_at p.functions c.self.inside.rows c.self.inside.memory threads t before c.index_mut.ensures.value within in
-    rw (sym c.self.view_is) (answered w _ _ t c.act.result _ (outcome_of c).made (rw c.as_slice.ensures at c.act.ensures.did) (going_answers w t (actor_of before) before.status here refl (λ alive. (c.steps_move.ensures.goes_on p w t (actor_of before) c.self.invariant.reachable here alive).0)))
+    let here =
+    thread_at p.functions c.self.inside.rows c.self.inside.memory threads t before c.index_mut.ensures.value within
+    in
+    rw (sym c.self.view_is) (answered w _ _ t c.act.result _ (outcome_of c).made
+    (rw c.as_slice.ensures at c.act.ensures.did)
+    (going_answers w t (actor_of before) before.status here refl
+    (λ alive. (c.steps_move.ensures.goes_on p w t (actor_of before) c.self.invariant.reachable here alive).0)))
 
 pub returns-clause-refused : goal.returns-clause-refused
 returns-clause-refused c =
@@ -90,5 +103,9 @@ returns-clause-refused c =
     let before = c.index_mut.result.now in
     let w = seen (contents p.functions c.self.inside.rows c.self.inside.memory threads) in
     let within = rw (sym c.self.view_is) at c.requires in
-    let here = thread_at p.functions c.self.inside.rows c.self.inside.memory threads t before c.index_mut.ensures.value within in
-    rw (sym c.self.view_is) (refusal c.act.result (λ alive. (c.steps_move.ensures.goes_on p w t (actor_of before) c.self.invariant.reachable here alive).0) c.act.ensures.refused)
+    let here =
+    thread_at p.functions c.self.inside.rows c.self.inside.memory threads t before c.index_mut.ensures.value within
+    in
+    rw (sym c.self.view_is) (refusal c.act.result
+    (λ alive. (c.steps_move.ensures.goes_on p w t (actor_of before) c.self.invariant.reachable here alive).0)
+    c.act.ensures.refused)

@@ -9,7 +9,9 @@ block_of-block-requires c = c.worlds_are_small.ensures.some_rows _ _ c.self.inva
 
 pub overflow_cast-block : goal.overflow_cast-block
 overflow_cast-block c =
-    let w = seen (contents c.self.inside.accepted.now.functions c.self.inside.rows c.self.inside.memory c.self.inside.threads.items) in
+    let w =
+    seen (contents c.self.inside.accepted.now.functions c.self.inside.rows c.self.inside.memory
+    c.self.inside.threads.items) in
     let few = c.worlds_are_small.ensures.few_threads _ w c.self.invariant.reachable in
     let some = c.worlds_are_small.ensures.some_rows _ w c.self.invariant.reachable in
     let within = rw (sym c.self.view_is) at c.requires in

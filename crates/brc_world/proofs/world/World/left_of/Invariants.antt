@@ -6,4 +6,6 @@ use Rattle.brc_world.proofs.world.World.left_of.Given as goal
 
 -- what is left of the rows so far
 abbrev pub invariant-loop-row : goal.invariant-loop-row
-invariant-loop-row l = l.left ≡ map (left_in (seen l.fn.self)) (filter (λ row. not (is_closed_row (seen l.fn.self) row)) (take l.row-index l.born))
+invariant-loop-row l =
+    l.left ≡ map (left_in (seen l.fn.self))
+    (filter (λ row. not (is_closed_row (seen l.fn.self) row)) (take l.row-index l.born))

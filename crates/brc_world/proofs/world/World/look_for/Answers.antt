@@ -21,7 +21,9 @@ pub claim-requires-clause-small : goal.claim-requires-clause-small
 claim-requires-clause-small c =
     let few = c.worlds_are_small.ensures.few_threads _ _ c.self.invariant.reachable in
     let few_rows = c.worlds_are_small.ensures.few_rows _ _ c.self.invariant.reachable in
-    rw c.self.invariant.rows (rows_small (seen (contents c.self.inside.accepted.now.functions c.self.inside.rows c.self.inside.memory c.self.inside.threads.items)) few few_rows)
+    rw c.self.invariant.rows (rows_small
+    (seen (contents c.self.inside.accepted.now.functions c.self.inside.rows c.self.inside.memory
+    c.self.inside.threads.items)) few few_rows)
 
 pub claim-requires-clause-known : goal.claim-requires-clause-known
 claim-requires-clause-known c =
@@ -32,12 +34,16 @@ claim-requires-clause-known c =
 pub claim-requires-clause-can : goal.claim-requires-clause-can
 claim-requires-clause-can c =
     let within = rw (sym c.self.view_is) at c.requires in
-    let here = thread_at c.self.inside.accepted.now.functions c.self.inside.rows c.self.inside.memory c.self.inside.threads.items c.args.thread c.index_mut.result.now c.index_mut.ensures.value within in
+    let here =
+    thread_at c.self.inside.accepted.now.functions c.self.inside.rows c.self.inside.memory
+    c.self.inside.threads.items c.args.thread c.index_mut.result.now c.index_mut.ensures.value within in
     let steps = c.steps_are_within.ensures _ _ c.args.thread _ c.self.invariant.reachable here in
     rw (c.self.invariant.rows, c.self.invariant.threads) (λ may. able _ _ _ _ (steps.claims c.args.row may))
 
 -- the world after the step, and where the step's thread stood
-outcome_of : (c : goal.After-self-1) → Outcome c.self.inside.accepted.now c.self.inside.rows c.self.inside.memory c.claim.new.memory c.self.inside.threads.items c.args.thread (Claim c.args.row) c.claim.new.thread c.claim.result
+outcome_of : (c : goal.After-self-1)
+    → Outcome c.self.inside.accepted.now c.self.inside.rows c.self.inside.memory c.claim.new.memory
+    c.self.inside.threads.items c.args.thread (Claim c.args.row) c.claim.new.thread c.claim.result
 outcome_of c =
     let p = c.self.inside.accepted.now in
     let rows = c.self.inside.rows in
@@ -49,7 +55,8 @@ outcome_of c =
     let w = seen (contents p.functions rows words threads) in
     let memory = memory_claimed rows t (word_in words) (actor_of before) c.args.row in
     let next = actor_claimed rows t (word_in words) (actor_of before) c.args.row in
-    let turned : Turned words c.claim.new.memory (actor_of before) (actor_of after) c.claim.result memory next = record {
+    let turned : Turned words c.claim.new.memory (actor_of before) (actor_of after) c.claim.result memory next =
+    record {
       words = c.claim.ensures.words;
       actor = c.claim.ensures.actor;
       same_words = c.claim.ensures.same_words;
@@ -59,8 +66,13 @@ outcome_of c =
     } in
     let within = rw (sym c.self.view_is) at c.requires in
     let here = thread_at p.functions rows words threads t before c.index_mut.ensures.value within in
-    let is = claim_is p w t (actor_of before) c.args.row c.self.invariant.reachable here (c.steps_move.ensures.misses p w t (actor_of before) c.args.row c.self.invariant.reachable here) (c.steps_move.ensures.stays w t (actor_of before) c.args.row here) in
-    outcome p rows words c.claim.new.memory threads t (Claim c.args.row) before after c.claim.result memory next turned c.index_mut.ensures.value is c.self.invariant (c.worlds_lead_on.ensures.step p w t (Claim c.args.row) c.self.invariant.reachable)
+    let is =
+    claim_is p w t (actor_of before) c.args.row c.self.invariant.reachable here
+    (c.steps_move.ensures.misses p w t (actor_of before) c.args.row c.self.invariant.reachable here)
+    (c.steps_move.ensures.stays w t (actor_of before) c.args.row here) in
+    outcome p rows words c.claim.new.memory threads t (Claim c.args.row) before after c.claim.result memory next turned
+    c.index_mut.ensures.value is c.self.invariant
+    (c.worlds_lead_on.ensures.step p w t (Claim c.args.row) c.self.invariant.reachable)
 
 pub invariant_of-self : goal.invariant_of-self
 invariant_of-self c = (outcome_of c).world
@@ -79,10 +91,16 @@ returns-clause-answer c =
     let before = c.index_mut.result.now in
     let w = seen (contents p.functions c.self.inside.rows c.self.inside.memory threads) in
     let within = rw (sym c.self.view_is) at c.requires in
-    let here = thread_at p.functions c.self.inside.rows c.self.inside.memory threads t before c.index_mut.ensures.value within in
-    rw (sym c.self.view_is) (answered w _ _ t c.claim.result _ (outcome_of c).made c.claim.ensures.did (claim_answers w t (actor_of before) c.args.row before.status here refl
-    (λ found. claim_moves w t (actor_of before) c.args.row found (λ may marked. c.steps_move.ensures.claims w t (actor_of before) c.args.row here may marked))
-    (λ missed. claim_stays w t (actor_of before) c.args.row missed (c.steps_move.ensures.misses p w t (actor_of before) c.args.row c.self.invariant.reachable here) (c.steps_move.ensures.stays w t (actor_of before) c.args.row here))))
+    let here =
+    thread_at p.functions c.self.inside.rows c.self.inside.memory threads t before c.index_mut.ensures.value within
+    in
+    rw (sym c.self.view_is) (answered w _ _ t c.claim.result _ (outcome_of c).made c.claim.ensures.did
+    (claim_answers w t (actor_of before) c.args.row before.status here refl
+    (λ found. claim_moves w t (actor_of before) c.args.row found
+    (λ may marked. c.steps_move.ensures.claims w t (actor_of before) c.args.row here may marked))
+    (λ missed. claim_stays w t (actor_of before) c.args.row missed
+    (c.steps_move.ensures.misses p w t (actor_of before) c.args.row c.self.invariant.reachable here)
+    (c.steps_move.ensures.stays w t (actor_of before) c.args.row here))))
 
 pub returns-clause-refused : goal.returns-clause-refused
 returns-clause-refused c =
@@ -92,5 +110,10 @@ returns-clause-refused c =
     let before = c.index_mut.result.now in
     let w = seen (contents p.functions c.self.inside.rows c.self.inside.memory threads) in
     let within = rw (sym c.self.view_is) at c.requires in
-    let here = thread_at p.functions c.self.inside.rows c.self.inside.memory threads t before c.index_mut.ensures.value within in
-    rw (sym c.self.view_is) (refusal c.claim.result (λ found. claim_moves w t (actor_of before) c.args.row found (λ may marked. c.steps_move.ensures.claims w t (actor_of before) c.args.row here may marked)) c.claim.ensures.refused)
+    let here =
+    thread_at p.functions c.self.inside.rows c.self.inside.memory threads t before c.index_mut.ensures.value within
+    in
+    rw (sym c.self.view_is) (refusal c.claim.result
+    (λ found. claim_moves w t (actor_of before) c.args.row found
+    (λ may marked. c.steps_move.ensures.claims w t (actor_of before) c.args.row here may marked))
+    c.claim.ensures.refused)

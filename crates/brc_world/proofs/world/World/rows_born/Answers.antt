@@ -9,7 +9,9 @@ pub overflow_cast-row-end : goal.overflow_cast-row-end
 overflow_cast-row-end c =
     let few = c.worlds_are_small.ensures.few_threads _ _ c.self.invariant.reachable in
     let few_rows = c.worlds_are_small.ensures.few_rows _ _ c.self.invariant.reachable in
-    let small = rows_small (seen (contents c.self.inside.accepted.now.functions c.self.inside.rows c.self.inside.memory c.self.inside.threads.items)) few few_rows in
+    let small =
+    rows_small (seen (contents c.self.inside.accepted.now.functions c.self.inside.rows c.self.inside.memory
+    c.self.inside.threads.items)) few few_rows in
     omega (arith, c.rows-row-end.ensures, c.self.invariant.rows, small)
 
 pub loop-row-preserved : goal.loop-row-preserved
@@ -17,10 +19,13 @@ loop-row-preserved c = record {
   first = omega arith;
   born = elim c.if-is_born.branch [
     | then-is_born+in_ok-push w ↦
-        ap (λ (v : Vec ℕ Global). v.items) w.born-is ∙ w.in_ok-push.ensures.items ∙ ap (λ (l : List ℕ). l ++ c.loop-row.row ∷ []) c.loop-row.invariant.born
-        ∙ sym (born_here (seen c.args.self.now) c.loop-row.row c.loop-row.invariant.first (sym c.is_born.ensures ∙ w.if-is_born.true))
+        ap (λ (v : Vec ℕ Global). v.items) w.born-is ∙ w.in_ok-push.ensures.items
+        ∙ ap (λ (l : List ℕ). l ++ c.loop-row.row ∷ []) c.loop-row.invariant.born
+        ∙ sym (born_here (seen c.args.self.now) c.loop-row.row c.loop-row.invariant.first
+        (sym c.is_born.ensures ∙ w.if-is_born.true))
     | else-is_born w ↦
         ap (λ (v : Vec ℕ Global). v.items) w.born-is ∙ c.loop-row.invariant.born
-        ∙ sym (unborn_here (seen c.args.self.now) c.loop-row.row c.loop-row.invariant.first (sym c.is_born.ensures ∙ w.if-is_born.false))
+        ∙ sym (unborn_here (seen c.args.self.now) c.loop-row.row c.loop-row.invariant.first
+        (sym c.is_born.ensures ∙ w.if-is_born.false))
   ];
 }

@@ -4,7 +4,10 @@ use Rattle.brc_world.proofs.Stepping.{fault_goes_on}
 use Rattle.brc_world.proofs.world.World.step.Goals as goal
 
 pub returns-in-Ok : goal.returns-in-Ok
-returns-in-Ok c = elim c.in-Ok.is [ inl ok ↦ rw ok c.go_on.ensures | inr fault ↦ rw (fault, fault_goes_on (seen c.args.self.now) c.args.thread) c.go_on.ensures ]
+returns-in-Ok c = elim c.in-Ok.is [
+  | inl ok ↦ rw ok c.go_on.ensures
+  | inr fault ↦ rw (fault, fault_goes_on (seen c.args.self.now) c.args.thread) c.go_on.ensures
+]
 
 pub returns-in-Claim-clause-made : goal.returns-in-Claim-clause-made
 returns-in-Claim-clause-made c = rw c.in-Claim.is c.look_for.ensures.made

@@ -16,9 +16,11 @@ overflow_sub-result c =
 
 pub returns-clause-counted : goal.returns-clause-counted
 returns-clause-counted c =
-    tally_as (seen c.args.self.now) c.len.result c.running_in.result c.len-2.result c.saturating_sub.result c.len-5.result c.in_ok-left.left c.in_ok-born.born.items
+    tally_as (seen c.args.self.now) c.len.result c.running_in.result c.len-2.result c.saturating_sub.result
+    c.len-5.result c.in_ok-left.left c.in_ok-born.born.items
     (rw (sym c.self.view_is) (grind (arith, common_steps)))
-    (rw (sym c.self.view_is) (c.running_in.ensures ∙ (rw c.deref-2.ensures.value (count_over still_runs actor_of c.self.inside.threads.items))))
+    (rw (sym c.self.view_is) (c.running_in.ensures
+    ∙ (rw c.deref-2.ensures.value (count_over still_runs actor_of c.self.inside.threads.items))))
     c.in_ok-born.ensures
     (grind (arith, common_steps))
     (rw c.deref.ensures.value at c.in_ok-left.ensures)
