@@ -1,5 +1,5 @@
-//! A table from a module: one pass over the points of each function, by rising number. Every exit leads to a later point,
-//! so a point's entry is known once the pass comes to it.
+//! A table from a module: one pass over the points of each function, by rising number. Every exit leads to a later
+//! point, so a point's entry is known once the pass comes to it.
 
 ghost use Rattle.std.specs.Prelude.{◌≡◌, ◌⊎◌, ◌<◌, ◌+◌, ◌-◌, ◌∷◌, length, replicate, IfOk, OnOk, IfErr, MatchOption, MatchResult};
 ghost use Rattle.brc_lang.specs.Grammar.{IsModule, IsFunction, LeadsForward};
@@ -53,7 +53,8 @@ fn lead(
     requires within { at < length code.now }
     requires same_length { length row.old ≡ length code.now }
     ensures row { row.new ≡ settled_at row.old (follow code.now (At at state.now) exit) }
-    ensures met { MatchOption result (StaysOn row.new (follow code.now (At at state.now) exit)) (λ m. IsBlocked row.new (follow code.now (At at state.now) exit) m.at m.code) }
+    ensures met { MatchOption result (StaysOn row.new (follow code.now (At at state.now) exit))
+        (λ m. IsBlocked row.new (follow code.now (At at state.now) exit) m.at m.code) }
 {
     let led = follow(code, at, state, exit);
     if let Step::To(next, arriving) = &led {

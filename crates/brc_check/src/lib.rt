@@ -1,7 +1,7 @@
 //! The ownership checker: it accepts a module where every way through every function obeys the ownership rules.
 //!
-//! It shows its work as a table of what it knows at each point. One function fills the table in, and a second one, which
-//! trusts no table, looks at each entry beside its neighbours.
+//! It shows its work as a table of what it knows at each point. One function fills the table in, and a second one,
+//! which trusts no table, looks at each entry beside its neighbours.
 #![tactic(auto)]
 
 mod checked;

@@ -23,7 +23,8 @@ fn is_entry(row: &[Option<State>], at: usize, state: &State) -> bool
 
 /// What keeps the step from ending on the entries.
 pub fn blocked(row: &[Option<State>], at: usize, step: &Step) -> Option<Met>
-    ensures { MatchOption result (StaysOn row.now (place_of at step.now)) (λ m. IsBlocked row.now (place_of at step.now) m.at m.code) }
+    ensures { MatchOption result (StaysOn row.now (place_of at step.now))
+        (λ m. IsBlocked row.now (place_of at step.now) m.at m.code) }
 {
     match *step {
         Step::Ends => None,

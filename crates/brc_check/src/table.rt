@@ -52,7 +52,8 @@ impl Table {
     /// Overwrites one entry. Where there is no such point it answers `false`, and nothing changes.
     pub fn change(&mut self, function: usize, at: usize, entry: Option<State>) -> bool
         ensures answer { result ≡ nat_lt at (length (row_of self.old function)) }
-        ensures changed { self.new ≡ (if result then slice_set self.old function (slice_set (row_of self.old function) at entry) else self.old) }
+        ensures changed { self.new ≡ (if result then slice_set self.old function
+            (slice_set (row_of self.old function) at entry) else self.old) }
     {
         if function >= self.rows.len() || at >= self.rows[function].len() {
             return false;

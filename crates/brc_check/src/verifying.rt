@@ -66,7 +66,8 @@ fn has_shape(functions: &[Function], rows: &[Sequence<Option<State>>]) -> bool
 fn first_row_fault(functions: &[Function], rows: &[Sequence<Option<State>>]) -> Option<Refused>
     requires { HasShape functions.now rows.now }
     ensures { MatchOption result
-        ((number : ℕ) (f : Function) → slice_get functions.now number ≡ Some f → IsClosed f.code (row_of rows.now number))
+        ((number : ℕ) (f : Function) → slice_get functions.now number ≡ Some f
+        → IsClosed f.code (row_of rows.now number))
         (λ r. IsRowFault functions.now rows.now r) }
 {
     for (number, function) in functions.iter().enumerate() {
@@ -80,7 +81,8 @@ fn first_row_fault(functions: &[Function], rows: &[Sequence<Option<State>>]) -> 
 fn table_fault(functions: &[Function], rows: &[Sequence<Option<State>>]) -> Option<Refused>
     requires { 0 < length functions.now }
     ensures { MatchOption result
-        (HasShape functions.now rows.now × ((number : ℕ) (f : Function) → slice_get functions.now number ≡ Some f → IsClosed f.code (row_of rows.now number)))
+        (HasShape functions.now rows.now × ((number : ℕ) (f : Function) → slice_get functions.now number ≡ Some f
+        → IsClosed f.code (row_of rows.now number)))
         (λ r. IsTableFault functions.now rows.now r) }
 {
     if !has_shape(functions, rows) {
@@ -93,8 +95,8 @@ fn table_fault(functions: &[Function], rows: &[Sequence<Option<State>>]) -> Opti
     first_row_fault(functions, rows)
 }
 
-/// Accepts the module where the table's entries follow from one another by its instructions. The table isn't trusted: it may
-/// come from anywhere. A refusal drops both.
+/// Accepts the module where the table's entries follow from one another by its instructions. The table isn't trusted:
+/// it may come from anywhere. A refusal drops both.
 pub fn verify(module: Module, table: Table) -> Result<Checked, Refused>
     requires { IsModule «module» }
     ensures accepted { IfOk result (λ c. c.module ≡ «module») }
@@ -103,7 +105,8 @@ pub fn verify(module: Module, table: Table) -> Result<Checked, Refused>
     ensures safe { OnOk result (Safe «module») }
     ensures truth { OnOk result (IsTrueWhereReached «module» table) }
     // A table of another shape is refused at the first point of the first function.
-    ensures shape { (HasShape «module».functions table → ⊥) → IsErrAnd result (λ r. IsShapeFault «module».functions table r) }
+    ensures shape { (HasShape «module».functions table → ⊥) → IsErrAnd result
+        (λ r. IsShapeFault «module».functions table r) }
     ensures complete { IsAcceptable «module» → IsTrueTable «module» table → IsOk result }
     ensures refused { IfErr result (λ r. IsTableFault «module».functions table r) }
 {

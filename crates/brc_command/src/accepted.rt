@@ -13,7 +13,8 @@ use std::io::Write;
 
 /// Writes the line. A call of the writer that takes no byte or is interrupted is a fault too, and is not tried again.
 pub fn write_accepted<W: Write>(checked: &Checked, writer: &mut W) -> io::Result<()>
-    ensures whole { OnOk result (Appends (W.contents writer.old) (W.contents writer.new) (accepted_text checked.now.module)) }
+    ensures whole { OnOk result (Appends (W.contents writer.old) (W.contents writer.new)
+        (accepted_text checked.now.module)) }
     ensures begun { OnErr result (AppendsBeginning (W.contents writer.old) (W.contents writer.new)
         (accepted_text checked.now.module)) }
 {

@@ -26,7 +26,8 @@ pub fn write_version<W: Write>(writer: &mut W) -> io::Result<()>
     write_pieces(&[b"brc ", VERSION.as_bytes(), b"\n"], writer)
 }
 
-/// Writes the reason's line. A call of the writer that takes no byte or is interrupted is a fault too, and is not tried again.
+/// Writes the reason's line. A call of the writer that takes no byte or is interrupted is a fault too, and is not tried
+/// again.
 pub fn write_stop<W: Write>(stop: &Stop<'_>, writer: &mut W) -> io::Result<()>
     ensures whole { OnOk result (Appends (W.contents writer.old) (W.contents writer.new) (stop_text stop.now)) }
     ensures begun { OnErr result (AppendsBeginning (W.contents writer.old) (W.contents writer.new)

@@ -12,8 +12,8 @@ use brc_world::{Did, NoMemory, World};
 use std::alloc::Global;
 use std::sync::Wait;
 
-/// Runs 1 to 32 workers, each with 1 to 1024 rows, that each make the call: one step of each in turn until all are gone,
-/// and then steps of main. It returns only when every thread is gone.
+/// Runs 1 to 32 workers, each with 1 to 1024 rows, that each make the call: one step of each in turn until all are
+/// gone, and then steps of main. It returns only when every thread is gone.
 pub fn run<R: Wait>(
     rt: &R,
     alloc: Global,

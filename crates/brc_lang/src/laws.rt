@@ -11,8 +11,10 @@ ghost use Rattle.brc_lang.specs.EachText.{SpellsAModule, HasAFault};
 /// A text spells one module at most, or has one fault at most, and not both.
 pub fn one_reading()
     ensures one_module { (bytes : List ℕ) (m n : Module) → Spells bytes m → Spells bytes n → m ≡ n }
-    ensures one_fault { (bytes : List ℕ) (k l : ℕ) (c d : FaultCode) → HasFault bytes k c → HasFault bytes l d → (k ≡ l) × (c ≡ d) }
-    ensures apart { (bytes : List ℕ) (m : Module) (line : ℕ) (code : FaultCode) → Spells bytes m → HasFault bytes line code → ⊥ }
+    ensures one_fault { (bytes : List ℕ) (k l : ℕ) (c d : FaultCode) → HasFault bytes k c → HasFault bytes l d
+        → (k ≡ l) × (c ≡ d) }
+    ensures apart { (bytes : List ℕ) (m : Module) (line : ℕ) (code : FaultCode) → Spells bytes m
+        → HasFault bytes line code → ⊥ }
 {}
 
 /// Each text spells a module or has a fault. No fault of a text is want of memory.

@@ -15,7 +15,8 @@ use crate::variable::Variable;
 
 /// The first line without its line feed, and what stands below it; nothing where no line is ended.
 pub fn split_line(text: &[u8]) -> Option<(&[u8], &[u8])>
-    ensures { MatchOption result (list_any is_line_feed text.now ≡ false) (λ parts. IsFirstLineOf text.now parts.0.now parts.1.now) }
+    ensures { MatchOption result (list_any is_line_feed text.now ≡ false)
+        (λ parts. IsFirstLineOf text.now parts.0.now parts.1.now) }
 {
     let end = place_of(b'\n', text)?;
     Some((&text[..end], &text[end + 1..]))
@@ -23,7 +24,8 @@ pub fn split_line(text: &[u8]) -> Option<(&[u8], &[u8])>
 
 /// The first word of a line, and what stands behind the space after it.
 pub fn split_word(line: &[u8]) -> (&[u8], Option<&[u8]>)
-    ensures { MatchOption result.1 (words line.now ≡ result.0.now ∷ []) (λ rest. words line.now ≡ result.0.now ∷ words rest.now) }
+    ensures { MatchOption result.1 (words line.now ≡ result.0.now ∷ [])
+        (λ rest. words line.now ≡ result.0.now ∷ words rest.now) }
 {
     match place_of(b' ', line) {
         Some(end) => (&line[..end], Some(&line[end + 1..])),
@@ -53,7 +55,8 @@ pub fn two_words(line: &[u8]) -> Option<(&[u8], &[u8])>
 
 /// The words of a line of three.
 pub fn three_words(line: &[u8]) -> Option<(&[u8], &[u8], &[u8])>
-    ensures { MatchOption result (length (words line.now) ≢ 3) (λ w. words line.now ≡ w.0.now ∷ w.1.now ∷ w.2.now ∷ []) }
+    ensures { MatchOption result (length (words line.now) ≢ 3)
+        (λ w. words line.now ≡ w.0.now ∷ w.1.now ∷ w.2.now ∷ []) }
 {
     let (first, rest) = split_word(line);
     let (second, third) = two_words(rest?)?;
@@ -64,7 +67,8 @@ type FourWords<'a> = (&'a [u8], &'a [u8], &'a [u8], &'a [u8]);
 
 /// The words of a line of four.
 pub fn four_words(line: &[u8]) -> Option<FourWords<'_>>
-    ensures { MatchOption result (length (words line.now) ≢ 4) (λ w. words line.now ≡ w.0.now ∷ w.1.now ∷ w.2.now ∷ w.3.now ∷ []) }
+    ensures { MatchOption result (length (words line.now) ≢ 4)
+        (λ w. words line.now ≡ w.0.now ∷ w.1.now ∷ w.2.now ∷ w.3.now ∷ []) }
 {
     let (first, rest) = split_word(line);
     let (second, third, fourth) = three_words(rest?)?;
@@ -119,7 +123,8 @@ pub fn number(high: u32, word: &[u8]) -> Result<u32, FaultCode>
 }
 
 fn numeral(high: u32, digits: &[u8]) -> Result<u32, FaultCode>
-    ensures { result ≡ (if list_all is_ascii_digit digits.now && nat_le (digits_value 10 digits.now) high then Ok (digits_value 10 digits.now) else Err Number) }
+    ensures { result ≡ (if list_all is_ascii_digit digits.now
+        && nat_le (digits_value 10 digits.now) high then Ok (digits_value 10 digits.now) else Err Number) }
 {
     let mut value: u64 = 0;
     for digit in digits {

@@ -18,7 +18,8 @@ pub struct Function {
     pub code: Sequence<Instr>,
 }
 
-/// An instruction, with its operands in the text's order. A target is the number of a later instruction of the function.
+/// An instruction, with its operands in the text's order. A target is the number of a later instruction of the
+/// function.
 #[derive(Clone, Copy, Debug, PartialEq, Eq)]
 pub enum Instr {
     /// `num vD K else @L`: a new number, whose value is K; goes on at L where no row is left.

@@ -16,7 +16,8 @@ impl Model for Name {
 
     ghost view = { λ n. take n.len n.bytes };
 
-    ghost invariant = { λ n. (n.len ≤ 16) × (length n.bytes ≡ 16) × (n.bytes ≡ take n.len n.bytes ++ replicate (16 - n.len) 0) };
+    ghost invariant = { λ n. (n.len ≤ 16) × (length n.bytes ≡ 16)
+        × (n.bytes ≡ take n.len n.bytes ++ replicate (16 - n.len) 0) };
 
     ghost inverse = { λ text. record { bytes = text ++ replicate (16 - length text) 0; len = length text } };
 

@@ -182,7 +182,8 @@ fn end_fault(code: &[Instr]) -> Option<FaultCode>
 /// Puts the instruction of a line behind the others of its function.
 fn read_instruction(code: &mut Sequence<Instr>, text: &[u8]) -> Result<(), FaultCode>
     ensures ok { OnOk result (Appends code.old code.new text.now) }
-    ensures err { IfErr result (λ fault. IsLineFault (next_instruction_fault_of (opened [] code.old) (instruction_in (words text.now))) fault) }
+    ensures err { IfErr result (λ fault. IsLineFault
+        (next_instruction_fault_of (opened [] code.old) (instruction_in (words text.now))) fault) }
 {
     let instr = instruction(text)?;
     if code.len() >= MOST_INSTRUCTIONS {

@@ -13,7 +13,8 @@ use std::io::Write;
 /// Writes the module's one text, as `write_bytes` does. It takes no memory.
 pub fn write<W: Write>(module: &Module, writer: &mut W) -> io::Result<()>
     ensures whole { OnOk result (Appends (W.contents writer.old) (W.contents writer.new) (module_text «module».now)) }
-    ensures begun { OnErr result (AppendsBeginning (W.contents writer.old) (W.contents writer.new) (module_text «module».now)) }
+    ensures begun { OnErr result (AppendsBeginning (W.contents writer.old) (W.contents writer.new)
+        (module_text «module».now)) }
 {
     write_bytes(b"module 1\n", writer)?;
     for function in module.functions.as_slice() {
@@ -24,7 +25,8 @@ pub fn write<W: Write>(module: &Module, writer: &mut W) -> io::Result<()>
 
 fn write_function<W: Write>(function: &Function, writer: &mut W) -> io::Result<()>
     ensures whole { OnOk result (Appends (W.contents writer.old) (W.contents writer.new) (function_text function.now)) }
-    ensures begun { OnErr result (AppendsBeginning (W.contents writer.old) (W.contents writer.new) (function_text function.now)) }
+    ensures begun { OnErr result (AppendsBeginning (W.contents writer.old) (W.contents writer.new)
+        (function_text function.now)) }
 {
     write_heading(function.name.as_bytes(), writer)?;
     write_instructions(function.code.as_slice(), writer)?;
@@ -33,7 +35,8 @@ fn write_function<W: Write>(function: &Function, writer: &mut W) -> io::Result<(
 
 fn write_heading<W: Write>(name: &[u8], writer: &mut W) -> io::Result<()>
     ensures whole { OnOk result (Appends (W.contents writer.old) (W.contents writer.new) (heading_text name.now)) }
-    ensures begun { OnErr result (AppendsBeginning (W.contents writer.old) (W.contents writer.new) (heading_text name.now)) }
+    ensures begun { OnErr result (AppendsBeginning (W.contents writer.old) (W.contents writer.new)
+        (heading_text name.now)) }
 {
     write_bytes(b"func ", writer)?;
     write_bytes(name, writer)?;
@@ -42,7 +45,8 @@ fn write_heading<W: Write>(name: &[u8], writer: &mut W) -> io::Result<()>
 
 fn write_instructions<W: Write>(code: &[Instr], writer: &mut W) -> io::Result<()>
     ensures whole { OnOk result (Appends (W.contents writer.old) (W.contents writer.new) (instructions_text code.now)) }
-    ensures begun { OnErr result (AppendsBeginning (W.contents writer.old) (W.contents writer.new) (instructions_text code.now)) }
+    ensures begun { OnErr result (AppendsBeginning (W.contents writer.old) (W.contents writer.new)
+        (instructions_text code.now)) }
 {
     for instr in code {
         write_line(*instr, writer)?;
@@ -51,8 +55,10 @@ fn write_instructions<W: Write>(code: &[Instr], writer: &mut W) -> io::Result<()
 }
 
 fn write_line<W: Write>(instr: Instr, writer: &mut W) -> io::Result<()>
-    ensures whole { OnOk result (Appends (W.contents writer.old) (W.contents writer.new) (line_text (instruction_text instr))) }
-    ensures begun { OnErr result (AppendsBeginning (W.contents writer.old) (W.contents writer.new) (line_text (instruction_text instr))) }
+    ensures whole { OnOk result (Appends (W.contents writer.old) (W.contents writer.new)
+        (line_text (instruction_text instr))) }
+    ensures begun { OnErr result (AppendsBeginning (W.contents writer.old) (W.contents writer.new)
+        (line_text (instruction_text instr))) }
 {
     write_instruction(instr, writer)?;
     write_bytes(b"\n", writer)
@@ -60,7 +66,8 @@ fn write_line<W: Write>(instr: Instr, writer: &mut W) -> io::Result<()>
 
 fn write_instruction<W: Write>(instr: Instr, writer: &mut W) -> io::Result<()>
     ensures whole { OnOk result (Appends (W.contents writer.old) (W.contents writer.new) (instruction_text instr)) }
-    ensures begun { OnErr result (AppendsBeginning (W.contents writer.old) (W.contents writer.new) (instruction_text instr)) }
+    ensures begun { OnErr result (AppendsBeginning (W.contents writer.old) (W.contents writer.new)
+        (instruction_text instr)) }
 {
     match instr {
         Instr::Num {
@@ -79,8 +86,10 @@ fn write_instruction<W: Write>(instr: Instr, writer: &mut W) -> io::Result<()>
 }
 
 fn write_num<W: Write>(to: Variable, value: u32, otherwise: u8, writer: &mut W) -> io::Result<()>
-    ensures whole { OnOk result (Appends (W.contents writer.old) (W.contents writer.new) (instruction_text (Num to value otherwise))) }
-    ensures begun { OnErr result (AppendsBeginning (W.contents writer.old) (W.contents writer.new) (instruction_text (Num to value otherwise))) }
+    ensures whole { OnOk result (Appends (W.contents writer.old) (W.contents writer.new)
+        (instruction_text (Num to value otherwise))) }
+    ensures begun { OnErr result (AppendsBeginning (W.contents writer.old) (W.contents writer.new)
+        (instruction_text (Num to value otherwise))) }
 {
     write_operand(b"num ", to, writer)?;
     write_numeral(b" ", u64::from(value), writer)?;
@@ -94,8 +103,10 @@ fn write_operands<W: Write>(
     from: Variable,
     writer: &mut W,
 ) -> io::Result<()>
-    ensures whole { OnOk result (Appends (W.contents writer.old) (W.contents writer.new) (before.now ++ spaced (variable_text to ∷ variable_text from ∷ []))) }
-    ensures begun { OnErr result (AppendsBeginning (W.contents writer.old) (W.contents writer.new) (before.now ++ spaced (variable_text to ∷ variable_text from ∷ []))) }
+    ensures whole { OnOk result (Appends (W.contents writer.old) (W.contents writer.new)
+        (before.now ++ spaced (variable_text to ∷ variable_text from ∷ []))) }
+    ensures begun { OnErr result (AppendsBeginning (W.contents writer.old) (W.contents writer.new)
+        (before.now ++ spaced (variable_text to ∷ variable_text from ∷ []))) }
 {
     write_operand(before, to, writer)?;
     write_operand(b" ", from, writer)
@@ -103,8 +114,10 @@ fn write_operands<W: Write>(
 
 // What stands before the variable, and the variable.
 fn write_operand<W: Write>(before: &[u8], variable: Variable, writer: &mut W) -> io::Result<()>
-    ensures whole { OnOk result (Appends (W.contents writer.old) (W.contents writer.new) (before.now ++ variable_text variable)) }
-    ensures begun { OnErr result (AppendsBeginning (W.contents writer.old) (W.contents writer.new) (before.now ++ variable_text variable)) }
+    ensures whole { OnOk result (Appends (W.contents writer.old) (W.contents writer.new)
+        (before.now ++ variable_text variable)) }
+    ensures begun { OnErr result (AppendsBeginning (W.contents writer.old) (W.contents writer.new)
+        (before.now ++ variable_text variable)) }
 {
     write_bytes(before, writer)?;
     write_numeral(b"v", u64::from(variable.number()), writer)
@@ -112,8 +125,10 @@ fn write_operand<W: Write>(before: &[u8], variable: Variable, writer: &mut W) ->
 
 // What stands before the number, and its digits.
 fn write_numeral<W: Write>(before: &[u8], number: u64, writer: &mut W) -> io::Result<()>
-    ensures whole { OnOk result (Appends (W.contents writer.old) (W.contents writer.new) (before.now ++ decimal number)) }
-    ensures begun { OnErr result (AppendsBeginning (W.contents writer.old) (W.contents writer.new) (before.now ++ decimal number)) }
+    ensures whole { OnOk result (Appends (W.contents writer.old) (W.contents writer.new)
+        (before.now ++ decimal number)) }
+    ensures begun { OnErr result (AppendsBeginning (W.contents writer.old) (W.contents writer.new)
+        (before.now ++ decimal number)) }
 {
     write_bytes(before, writer)?;
     write_number(number, writer)

@@ -16,7 +16,8 @@ pub enum Place {
     Standing {
         left: u32,
     },
-    /// Before the instruction `at` of a call, with so many calls to make after this one; a variable names a row or none.
+    /// Before the instruction `at` of a call, with so many calls to make after this one; a variable names a row or
+    /// none.
     Inside {
         left: u32,
         at: usize,

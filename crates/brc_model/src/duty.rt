@@ -20,8 +20,8 @@ pub enum Reason {
     Handed,
 }
 
-/// What a thread has to do next: each is one step on one word. A `row` is the object's; a `word` is what an earlier step
-/// found, which a later one relies on.
+/// What a thread has to do next: each is one step on one word. A `row` is the object's; a `word` is what an earlier
+/// step found, which a later one relies on.
 #[derive(Clone, Copy, Debug)]
 pub enum Duty {
     /// A new reference for the holder: the local word is looked at.

@@ -76,7 +76,8 @@ pub fn closed_rows_were_born()
     ensures { (m : Module) → IsModule m → IsAcceptable m → Always ClosedWereBorn m }
 {}
 
-/// Each mark that is set is watched: by its block's running thread, by that thread's exit, or by a thread that will look.
+/// Each mark that is set is watched: by its block's running thread, by that thread's exit, or by a thread that will
+/// look.
 pub fn marks_are_watched()
     ensures { (m : Module) → IsModule m → IsAcceptable m → Always MarksWatched m }
 {}

@@ -15,7 +15,8 @@ use std::io::Write;
 /// Writes the report. A call of the writer that takes no byte or is interrupted is a fault too, and is not tried again.
 pub fn write_tally<W: Write>(tally: &Tally, writer: &mut W) -> io::Result<()>
     ensures whole { OnOk result (Appends (W.contents writer.old) (W.contents writer.new) (tally_text tally.now)) }
-    ensures begun { OnErr result (AppendsBeginning (W.contents writer.old) (W.contents writer.new) (tally_text tally.now)) }
+    ensures begun { OnErr result (AppendsBeginning (W.contents writer.old) (W.contents writer.new)
+        (tally_text tally.now)) }
 {
     let counts = [
         ("threads", tally.threads),
@@ -31,8 +32,10 @@ pub fn write_tally<W: Write>(tally: &Tally, writer: &mut W) -> io::Result<()>
 }
 
 fn write_counts<W: Write>(counts: &[(&str, u64)], writer: &mut W) -> io::Result<()>
-    ensures whole { OnOk result (Appends (W.contents writer.old) (W.contents writer.new) (flat_map (λ c. line (entry c.0.now c.1)) counts.now)) }
-    ensures begun { OnErr result (AppendsBeginning (W.contents writer.old) (W.contents writer.new) (flat_map (λ c. line (entry c.0.now c.1)) counts.now)) }
+    ensures whole { OnOk result (Appends (W.contents writer.old) (W.contents writer.new)
+        (flat_map (λ c. line (entry c.0.now c.1)) counts.now)) }
+    ensures begun { OnErr result (AppendsBeginning (W.contents writer.old) (W.contents writer.new)
+        (flat_map (λ c. line (entry c.0.now c.1)) counts.now)) }
 {
     for (label, count) in counts {
         write_count(label.as_bytes(), *count, writer)?;
@@ -41,8 +44,10 @@ fn write_counts<W: Write>(counts: &[(&str, u64)], writer: &mut W) -> io::Result<
 }
 
 fn write_lefts<W: Write>(lefts: &[Left], writer: &mut W) -> io::Result<()>
-    ensures whole { OnOk result (Appends (W.contents writer.old) (W.contents writer.new) (flat_map left_text lefts.now)) }
-    ensures begun { OnErr result (AppendsBeginning (W.contents writer.old) (W.contents writer.new) (flat_map left_text lefts.now)) }
+    ensures whole { OnOk result (Appends (W.contents writer.old) (W.contents writer.new)
+        (flat_map left_text lefts.now)) }
+    ensures begun { OnErr result (AppendsBeginning (W.contents writer.old) (W.contents writer.new)
+        (flat_map left_text lefts.now)) }
 {
     for left in lefts {
         write_left(left, writer)?;
@@ -51,8 +56,10 @@ fn write_lefts<W: Write>(lefts: &[Left], writer: &mut W) -> io::Result<()>
 }
 
 fn write_count<W: Write>(label: &[u8], count: u64, writer: &mut W) -> io::Result<()>
-    ensures whole { OnOk result (Appends (W.contents writer.old) (W.contents writer.new) (line (entry label.now count))) }
-    ensures begun { OnErr result (AppendsBeginning (W.contents writer.old) (W.contents writer.new) (line (entry label.now count))) }
+    ensures whole { OnOk result (Appends (W.contents writer.old) (W.contents writer.new)
+        (line (entry label.now count))) }
+    ensures begun { OnErr result (AppendsBeginning (W.contents writer.old) (W.contents writer.new)
+        (line (entry label.now count))) }
 {
     write_entry(label, count, writer)?;
     write_bytes(b"\n", writer)
@@ -60,7 +67,8 @@ fn write_count<W: Write>(label: &[u8], count: u64, writer: &mut W) -> io::Result
 
 fn write_left<W: Write>(left: &Left, writer: &mut W) -> io::Result<()>
     ensures whole { OnOk result (Appends (W.contents writer.old) (W.contents writer.new) (left_text left.now)) }
-    ensures begun { OnErr result (AppendsBeginning (W.contents writer.old) (W.contents writer.new) (left_text left.now)) }
+    ensures begun { OnErr result (AppendsBeginning (W.contents writer.old) (W.contents writer.new)
+        (left_text left.now)) }
 {
     write_entry(b"left", u64::from(left.row), writer)?;
     write_bytes(b" ", writer)?;
@@ -71,7 +79,8 @@ fn write_left<W: Write>(left: &Left, writer: &mut W) -> io::Result<()>
 /// Writes the label, a space and the number, as `write_tally` does.
 pub fn write_entry<W: Write>(label: &[u8], number: u64, writer: &mut W) -> io::Result<()>
     ensures whole { OnOk result (Appends (W.contents writer.old) (W.contents writer.new) (entry label.now number)) }
-    ensures begun { OnErr result (AppendsBeginning (W.contents writer.old) (W.contents writer.new) (entry label.now number)) }
+    ensures begun { OnErr result (AppendsBeginning (W.contents writer.old) (W.contents writer.new)
+        (entry label.now number)) }
 {
     write_bytes(label, writer)?;
     write_bytes(b" ", writer)?;

@@ -11,8 +11,10 @@ ghost use Rattle.brc_schedule.specs.EachText.{SpellsASchedule, HasAFault};
 /// A text spells one schedule at most, or has one fault at most, and not both.
 pub fn one_schedule()
     ensures one_schedule { (bytes : List ℕ) (s t : Schedule) → Spells bytes s → Spells bytes t → s ≡ t }
-    ensures one_fault { (bytes : List ℕ) (k l : ℕ) (c d : FaultCode) → HasFault bytes k c → HasFault bytes l d → (k ≡ l) × (c ≡ d) }
-    ensures apart { (bytes : List ℕ) (s : Schedule) (line : ℕ) (code : FaultCode) → Spells bytes s → HasFault bytes line code → ⊥ }
+    ensures one_fault { (bytes : List ℕ) (k l : ℕ) (c d : FaultCode) → HasFault bytes k c → HasFault bytes l d
+        → (k ≡ l) × (c ≡ d) }
+    ensures apart { (bytes : List ℕ) (s : Schedule) (line : ℕ) (code : FaultCode) → Spells bytes s
+        → HasFault bytes line code → ⊥ }
 {}
 
 /// Each text spells a schedule or has a fault. No fault of a text is want of memory.

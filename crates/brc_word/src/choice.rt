@@ -56,7 +56,8 @@ pub fn retain_choice(word: u64, thread: u8, running: bool) -> LocalChoice
     LocalChoice::Share
 }
 
-/// What giving up a reference does, where `thread` asks for it. The owner gives up no local reference where none is left.
+/// What giving up a reference does, where `thread` asks for it. The owner gives up no local reference where none is
+/// left.
 pub fn release_choice_local(word: u64, thread: u8, running: bool) -> LocalChoice
     requires { IsTrue running → thread ≤ 32 → owner_part word ≡ thread + 1 → 1 ≤ local_part word }
     ensures skip { OfHeader word (λ owner local. (result ≡ LocalChoice.Skip) ↔ IsImmortal local) }

@@ -8,8 +8,8 @@ const CHAINED: u64 = 1 << 32;
 /// The gate of an object that is closed.
 const CLOSED: u64 = 1 << 63;
 
-/// The gate of an object that dies, in the chain of the thread that closes it: `next` is the row of the next object of the chain
-/// and 1, or 0 at its end.
+/// The gate of an object that dies, in the chain of the thread that closes it: `next` is the row of the next object of
+/// the chain and 1, or 0 at its end.
 pub fn dying(thread: u8, next: u32) -> u64
     ensures word { result ≡ dying_word thread next }
     ensures chain { next_part result ≡ next }

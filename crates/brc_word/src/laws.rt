@@ -18,8 +18,8 @@ pub fn header_words()
         → (owner ≡ owner') × (local ≡ local') }
 {}
 
-/// Packing and unpacking undo each other: a word below 2^43 whose state is not the unused one is the word of one shared field,
-/// each shared field has such a word, and no other word is that of a shared field.
+/// Packing and unpacking undo each other: a word below 2^43 whose state is not the unused one is the word of one shared
+/// field, each shared field has such a word, and no other word is that of a shared field.
 pub fn pack_and_unpack()
     ensures packed { (shared : Shared) → IsCount shared.count
         → (word : ℕ) × IsSharedWord word shared }
@@ -47,7 +47,8 @@ pub fn local_words_are_headers()
         IsTrue (nat_lt (local_part word) 4294967294) ↔ HasRoom local) }
 {}
 
-/// The parts of a shared word, and what a release and a merge make of it, are those of the shared field that the word is of.
+/// The parts of a shared word, and what a release and a merge make of it, are those of the shared field that the word
+/// is of.
 pub fn shared_words_are_headers()
     ensures count { (word : ℕ) (shared : Shared) → IsCount shared.count → IsSharedWord word shared
         → pos (biased_part word) ≡ shared.count +ℤ pos (2 ^ 40) }
@@ -61,5 +62,6 @@ pub fn shared_words_are_headers()
         → shared ≢ at_zero → 1 ≤ biased_part word
         → IsSharedWord (released_word word) (after_choice SharedChoice.Subtract shared) }
     ensures merged { (word carried : ℕ) (shared : Shared) → IsCount shared.count → IsSharedWord word shared
-        → IsSharedWord (merged_word word carried) (record { count = total carried shared.count; phase = Phase.Merged }) }
+        → IsSharedWord (merged_word word carried)
+        (record { count = total carried shared.count; phase = Phase.Merged }) }
 {}

@@ -25,9 +25,9 @@ pub fn shared_with_one_more(word: u64) -> u64
     word + ONE_COUNT
 }
 
-/// The shared word after a release that is not counted by the running owner: an object that its owner still counts, with
-/// nothing to give back, is queued for the owner to merge, and any other count goes down by one.
-/// (PEP 703, Biased Reference Counting.)
+/// The shared word after a release that is not counted by the running owner: an object that its owner still counts,
+/// with nothing to give back, is queued for the owner to merge, and any other count goes down by one. (PEP 703, Biased
+/// Reference Counting.)
 pub fn released(word: u64) -> u64
     requires fits { biased_part word < 2 * bias }
     requires used { phase_part word ≢ 1 }

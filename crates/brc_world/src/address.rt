@@ -5,7 +5,8 @@ ghost use Rattle.brc_model.specs.Duties.{address_of, block_of};
 
 use brc_model::{Address, Duty};
 
-/// The word that the thread's duty is about: each worker has so many rows, and the head is that of the thread's dying chain.
+/// The word that the thread's duty is about: each worker has so many rows, and the head is that of the thread's dying
+/// chain.
 pub fn address_of(rows: u16, thread: u8, head: u32, duty: Duty) -> Address
     requires { 0 < rows }
     ensures { result ≡ address_of rows thread head duty }

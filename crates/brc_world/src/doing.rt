@@ -29,11 +29,15 @@ pub fn do_duty(memory: &mut Memory, rows: u16, number: u8, thread: &mut Thread, 
     requires some_rows { 0 < rows }
     requires small { length memory.old.local ≤ 32770 }
     requires known { number ≤ 32 }
-    requires there { IsThere (length memory.old.local) (length memory.old.thread) (address_of rows number thread.old.head duty.now) }
-    requires suits { Suits number (is_running thread.old.status) (length memory.old.local) duty.now (found_by rows number (word_in memory.old) (actor_of thread.old) duty.now) }
+    requires there { IsThere (length memory.old.local) (length memory.old.thread)
+        (address_of rows number thread.old.head duty.now) }
+    requires suits { Suits number (is_running thread.old.status) (length memory.old.local) duty.now
+        (found_by rows number (word_in memory.old) (actor_of thread.old) duty.now) }
     requires uses { used_by thread.old.used duty.now ≤ length memory.old.local }
     requires room { vec_len thread.old.agenda + 4 ≤ vec_capacity thread.old.agenda }
-    ensures word { IsStored memory.old (address_of rows number thread.old.head duty.now) (left_by number thread.old.head duty.now (found_by rows number (word_in memory.old) (actor_of thread.old) duty.now)) memory.new }
+    ensures word { IsStored memory.old (address_of rows number thread.old.head duty.now)
+        (left_by number thread.old.head duty.now
+        (found_by rows number (word_in memory.old) (actor_of thread.old) duty.now)) memory.new }
     ensures actor { actor_of thread.new ≡ actor_done rows number (word_in memory.old) (actor_of thread.old) duty.now }
 {
     let all = memory.rows() as u32;
@@ -51,7 +55,13 @@ pub fn do_duty(memory: &mut Memory, rows: u16, number: u8, thread: &mut Thread, 
 
 /// The thread as its duty sees it, with `rows` rows of all threads together.
 fn doer(thread: &Thread, number: u8, rows: u32) -> Doer
-    ensures { result ≡ record { number = number; status = thread.now.status; head = thread.now.head; used = thread.now.used; rows = rows } }
+    ensures { result ≡ record {
+      number = number;
+      status = thread.now.status;
+      head = thread.now.head;
+      used = thread.now.used;
+      rows = rows;
+    } }
 {
     Doer {
         number,
@@ -80,10 +90,13 @@ pub fn act(
     requires some_rows { 0 < rows }
     requires small { length memory.old.local ≤ 32770 }
     requires known { number ≤ 32 }
-    requires can { CanStart functions.now rows number (length memory.old.local) (length memory.old.thread) (word_in memory.old) (actor_of thread.old) }
+    requires can { CanStart functions.now rows number (length memory.old.local) (length memory.old.thread)
+        (word_in memory.old) (actor_of thread.old) }
     ensures did { IfOk result (λ did. did ≡ did_by functions.now rows number (actor_of thread.old) thread.old.status) }
-    ensures words { OnOk result (word_in memory.new ≡ memory_by functions.now rows number (word_in memory.old) (actor_of thread.old) thread.old.status) }
-    ensures actor { OnOk result (actor_of thread.new ≡ actor_by functions.now rows number (word_in memory.old) (actor_of thread.old) thread.old.status) }
+    ensures words { OnOk result (word_in memory.new
+        ≡ memory_by functions.now rows number (word_in memory.old) (actor_of thread.old) thread.old.status) }
+    ensures actor { OnOk result (actor_of thread.new
+        ≡ actor_by functions.now rows number (word_in memory.old) (actor_of thread.old) thread.old.status) }
     ensures refused { IfErr result (λ _. thread.old.status ≢ Gone) }
     ensures same_words { OnErr result (memory.new ≡ memory.old) }
     ensures same_actor { OnErr result (actor_of thread.new ≡ actor_of thread.old) }
@@ -116,10 +129,14 @@ pub fn claim(
     requires some_rows { 0 < rows }
     requires small { length memory.old.local ≤ 32770 }
     requires known { number ≤ 32 }
-    requires can { CanClaim rows number (length memory.old.local) (length memory.old.thread) (word_in memory.old) (actor_of thread.old) row }
-    ensures did { IfOk result (λ did. did ≡ did_claim rows number (word_in memory.old) (actor_of thread.old) row thread.old.status) }
-    ensures words { OnOk result (word_in memory.new ≡ memory_claimed rows number (word_in memory.old) (actor_of thread.old) row) }
-    ensures actor { OnOk result (actor_of thread.new ≡ actor_claimed rows number (word_in memory.old) (actor_of thread.old) row) }
+    requires can { CanClaim rows number (length memory.old.local) (length memory.old.thread) (word_in memory.old)
+        (actor_of thread.old) row }
+    ensures did { IfOk result (λ did. did ≡ did_claim rows number (word_in memory.old) (actor_of thread.old) row
+        thread.old.status) }
+    ensures words { OnOk result (word_in memory.new
+        ≡ memory_claimed rows number (word_in memory.old) (actor_of thread.old) row) }
+    ensures actor { OnOk result (actor_of thread.new
+        ≡ actor_claimed rows number (word_in memory.old) (actor_of thread.old) row) }
     ensures refused { IfErr result (λ _. finds_mark rows number (word_in memory.old) (actor_of thread.old) row ≡ true) }
     ensures same_words { OnErr result (memory.new ≡ memory.old) }
     ensures same_actor { OnErr result (actor_of thread.new ≡ actor_of thread.old) }
@@ -138,7 +155,8 @@ pub fn claim(
 }
 
 fn finds_mark(memory: &Memory, rows: u16, number: u8, thread: &Thread, row: u32) -> bool
-    requires { CanClaim rows number (length memory.now.local) (length memory.now.thread) (word_in memory.now) (actor_of thread.now) row }
+    requires { CanClaim rows number (length memory.now.local) (length memory.now.thread) (word_in memory.now)
+        (actor_of thread.now) row }
     ensures { result ≡ finds_mark rows number (word_in memory.now) (actor_of thread.now) row }
 {
     may_claim(rows, number, thread, row) && memory.load(Address::Mark { row }) != 0

@@ -109,8 +109,8 @@ fn search(alloc: Global, checked: &Checked) -> Result<(usize, usize), Fail>
     Ok((paths.len(), last))
 }
 
-/// Every interleaving of two workers and main, where each worker takes a reference, drops it and fails, and main looks for the
-/// root's mark at any time.
+/// Every interleaving of two workers and main, where each worker takes a reference, drops it and fails, and main looks
+/// for the root's mark at any time.
 #[test]
 fn every_interleaving(rt: HostRuntime) -> Result<(), Fail> {
     let checked = accepted(rt.alloc(), TAKE_AND_DROP)?;

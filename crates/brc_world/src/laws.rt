@@ -17,13 +17,14 @@ use brc_model::{
 
 /// A run goes through the worlds of the machines that a module's safety speaks of.
 pub fn runs_follow_machines()
-    ensures { (m : Machine) (events : List (ℕ × Choice)) → world_of (machine_after m events) ≡ world_after (world_of m) events }
+    ensures { (m : Machine) (events : List (ℕ × Choice)) → world_of (machine_after m events)
+        ≡ world_after (world_of m) events }
 {
     worlds_follow_machines();
 }
 
-/// The tally of a world is that of its machine: it counts what was born and closed in the abstract state, and lists what is
-/// left there with its kind.
+/// The tally of a world is that of its machine: it counts what was born and closed in the abstract state, and lists
+/// what is left there with its kind.
 pub fn tallies_follow_machines()
     ensures { (p : Module) (m : Machine) → IsMachineOf p m → tally_of (world_of m) ≡ machine_tally m }
 {

@@ -1,5 +1,5 @@
-//! The step world over biased headers: threads that take one step at a time over an accepted module, each step one event on
-//! one word at most.
+//! The step world over biased headers: threads that take one step at a time over an accepted module, each step one
+//! event on one word at most.
 #![tactic(auto)]
 
 mod address;
@@ -28,10 +28,4 @@ pub use world::World;
 #[cfg(test)]
 mod interleaving_tests;
 #[cfg(test)]
-mod limit_tests;
-#[cfg(test)]
-mod run_tests;
-#[cfg(test)]
 mod tests;
-#[cfg(test)]
-mod worked_tests;

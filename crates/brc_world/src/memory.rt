@@ -31,9 +31,29 @@ impl Model for Memory {
 
     ghost Value = { Columns };
 
-    ghost view = { λ m. (record { local = m.local.items; shared = m.shared.items; gate = m.gate.items; kind = m.kind.items; mark = m.mark.items; cell = m.cell.items; slot = m.slot.items; resource = m.resource.items; thread = m.thread.items }) };
+    ghost view = { λ m. (record {
+      local = m.local.items;
+      shared = m.shared.items;
+      gate = m.gate.items;
+      kind = m.kind.items;
+      mark = m.mark.items;
+      cell = m.cell.items;
+      slot = m.slot.items;
+      resource = m.resource.items;
+      thread = m.thread.items;
+    }) };
 
-    ghost invariant = { λ m. AreColumns (record { local = m.local.items; shared = m.shared.items; gate = m.gate.items; kind = m.kind.items; mark = m.mark.items; cell = m.cell.items; slot = m.slot.items; resource = m.resource.items; thread = m.thread.items }) };
+    ghost invariant = { λ m. AreColumns (record {
+      local = m.local.items;
+      shared = m.shared.items;
+      gate = m.gate.items;
+      kind = m.kind.items;
+      mark = m.mark.items;
+      cell = m.cell.items;
+      slot = m.slot.items;
+      resource = m.resource.items;
+      thread = m.thread.items;
+    }) };
 }
 
 /// The cells of a row.
@@ -84,8 +104,8 @@ impl Memory {
     }
 }
 
-/// The words before any step: none is immortal, and the root is a list of eight cells that main owns, with a reference of
-/// main's and one of each worker's. Each worker has so many rows.
+/// The words before any step: none is immortal, and the root is a list of eight cells that main owns, with a reference
+/// of main's and one of each worker's. Each worker has so many rows.
 pub fn first_memory(alloc: Global, workers: usize, rows: u16) -> Result<Memory, NoMemory>
     requires { workers ≤ 32 }
     ensures words { IfOk result (λ memory. word_in memory ≡ first_memory workers) }

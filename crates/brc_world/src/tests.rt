@@ -108,30 +108,6 @@ fn one_worker(alloc: Global, checked: &Checked) -> Result<World<'_>, NoMemory>
     World::new(alloc, checked, 1, 4, &[call])
 }
 
-/// What there is before the first step.
-fn smallest_before(alloc: Global) -> Result<Told, Fail> {
-    let checked = accepted(alloc, b"fail\n")?;
-    let world = one_worker(alloc, &checked)?;
-    Ok(told(alloc, &world)?)
-}
-
-/// What there is after the last step.
-fn smallest_after(alloc: Global) -> Result<Told, Fail> {
-    let checked = accepted(alloc, b"fail\n")?;
-    let mut world = one_worker(alloc, &checked)?;
-    finish(&mut world)?;
-    Ok(told(alloc, &world)?)
-}
-
-#[test]
-fn smallest_module(rt: HostRuntime) -> Result<(), Fail> {
-    let before = smallest_before(rt.alloc())?;
-    assert_eq!(rt; before, ([1, 2, 1, 0, 1, 0, 0], Some(ROOT)));
-    let after = smallest_after(rt.alloc())?;
-    assert_eq!(rt; after, ([1, 0, 1, 1, 0, 0, 0], None));
-    Ok(())
-}
-
 /// What a step of a worker that is gone answers, and the report then.
 fn step_of_the_gone(alloc: Global) -> Result<(bool, Option<Did>, Told), Fail> {
     let checked = accepted(alloc, b"fail\n")?;
@@ -153,25 +129,6 @@ fn gone_for_good(rt: HostRuntime) -> Result<(), Fail> {
 
 /// A reference to the root is made and given up.
 pub const TAKE_AND_DROP: &[u8] = b"newref v1 v0\ndrop v1\nfail\n";
-
-/// What there is after four workers have called the function a thousand times each.
-fn four_finished(alloc: Global) -> Result<Told, Fail> {
-    let checked = accepted(alloc, TAKE_AND_DROP)?;
-    let call = Call {
-        function: 0,
-        times: 1000,
-    };
-    let mut world = World::new(alloc, &checked, 4, 1, &[call, call, call, call])?;
-    finish(&mut world)?;
-    Ok(told(alloc, &world)?)
-}
-
-#[test]
-fn four_workers(rt: HostRuntime) -> Result<(), Fail> {
-    let after = four_finished(rt.alloc())?;
-    assert_eq!(rt; after, ([4, 0, 1, 1, 0, 0, 0], None));
-    Ok(())
-}
 
 /// How many threads there are with two workers, what the first step answers, and what there is then.
 fn first_step(alloc: Global) -> Result<(usize, Option<Did>, Told), Fail> {

@@ -46,9 +46,20 @@ impl<'a> Model for World<'a> {
 
     ghost Value = { Contents };
 
-    ghost view = { λ w. record { functions = w.accepted.now.functions; rows = w.rows; words = w.memory; actors = map actor_of w.threads.items } };
+    ghost view = { λ w. record {
+      functions = w.accepted.now.functions;
+      rows = w.rows;
+      words = w.memory;
+      actors = map actor_of w.threads.items;
+    } };
 
-    ghost invariant = { λ w. IsWorld w.accepted.now (record { functions = w.accepted.now.functions; rows = w.rows; words = w.memory; actors = map actor_of w.threads.items }) };
+    ghost invariant = { λ w. IsWorld w.accepted.now
+        (record {
+          functions = w.accepted.now.functions;
+          rows = w.rows;
+          words = w.memory;
+          actors = map actor_of w.threads.items;
+        }) };
 }
 
 impl<'a> World<'a> {
@@ -130,7 +141,8 @@ impl<'a> World<'a> {
     /// Those of the rows that aren't closed, with their kinds.
     fn left_of(&self, alloc: Global, born: &[u32]) -> Result<Sequence<Left>, NoMemory>
         requires { All (λ row. row < row_count (seen self.now)) born.now }
-        ensures { IfOk result (λ left. left ≡ map (left_in (seen self.now)) (filter (λ row. not (is_closed_row (seen self.now) row)) born.now)) }
+        ensures { IfOk result (λ left. left ≡ map (left_in (seen self.now))
+            (filter (λ row. not (is_closed_row (seen self.now) row)) born.now)) }
     {
         let mut left = Sequence::new(alloc);
         for row in born {
@@ -179,8 +191,8 @@ impl<'a> World<'a> {
         }
     }
 
-    /// One step of the thread: one event, on one word at most. Where memory is refused, nothing changes; a step that would
-    /// change nothing takes none. No step is a host call yet, so `Ok` and `Fault` mean the same.
+    /// One step of the thread: one event, on one word at most. Where memory is refused, nothing changes; a step that
+    /// would change nothing takes none. No step is a host call yet, so `Ok` and `Fault` mean the same.
     #[inline]
     pub fn step(&mut self, thread: usize, choice: Choice) -> Result<Did, NoMemory>
         requires { thread < length self.old.actors }
