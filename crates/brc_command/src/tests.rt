@@ -1,4 +1,4 @@
-ghost use Rattle.std.specs.Prelude.{◌≡◌, ◌⊎◌, ◌<◌, ◌≤◌, ⊤, IfOk};
+ghost use Rattle.std.specs.Prelude.{◌≡◌, ◌⊎◌, ◌<◌, ◌≤◌, ⊤, IfOk, codes};
 
 use crate::asked::{Asked, Run};
 use crate::carrying::execute;
@@ -51,8 +51,8 @@ pub struct Shelf<'t> {
 }
 
 impl Load for Shelf<'_> {
-    ghost may_give = { λ shelf path bytes. IfOk shelf.«module» (λ text. bytes ≡ text.now)
-        ⊎ IfOk shelf.schedule (λ text. bytes ≡ text.now) };
+    ghost may_give = { λ shelf path bytes. ((path ≡ codes "m.brc") × IfOk shelf.«module» (λ text. bytes ≡ text.now))
+        ⊎ ((path ≡ codes "s.txt") × IfOk shelf.schedule (λ text. bytes ≡ text.now)) };
 
     ghost may_lack = { λ _ _. ⊤ };
 
