@@ -1,4 +1,4 @@
--- What a command line comes to, whatever its words ask for.
+-- What `act` leaves on its outputs and returns, whatever the words of the command line ask for.
 use Rattle.std.specs.Prelude.{◌≡◌, ◌⊎◌, ℕ, List, Option}
 use Rattle.brc_lang.specs.Written.{AppendsBeginning}
 use Rattle.brc_command.specs.declared.asked.Asked.{Asked}
@@ -17,7 +17,7 @@ pub record IsStoppedAsking (gives : List ℕ → List ℕ → Type 0) (lacks : L
   pub asked : Asked
   pub stopped : IsStopped (HasReport gives asked) (Stands gives lacks asked) old new err_old err_new status
 
--- the command line is at fault or asks for help, which is 2 whatever is told; or memory ran out, which is 3
+-- the command line is wrong or asks for help, and the status is 2; or memory ran out, and the status is 3
 abbrev pub IsRefused : Option (List ℕ) → Option (List ℕ) → ℕ → Type 0
 IsRefused err_old err_new status = (status ≡ 2) ⊎ ((status ≡ 3)
     × AppendsBeginning err_old err_new (fault_text NoMemory))

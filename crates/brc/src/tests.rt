@@ -58,7 +58,7 @@ fn assert_writes<R: Wait + Abort + AllocGlobal>(rt: &R, words: &[&str], report: 
     assert_eq!(rt; status, 0, "{words:?}");
 }
 
-// A fault of the command line, or a call for help, is told on standard error.
+// A wrong command line, or a call for help, writes clap's text to standard error.
 fn assert_usage<R: Wait + Abort + AllocGlobal>(rt: &R, words: &[&str], start: &[u8]) {
     let (out, err, status) = told(rt, words);
     assert!(rt; out.is_empty(), "{words:?}");

@@ -28,8 +28,8 @@ fn largest_module(alloc: Global) -> Result<Vec<u8>, AllocError> {
     Ok(text)
 }
 
-// 32 workers with 1024 rows each, that call the last function once and are stepped until they are gone. The first one has
-// queued the root by then, so main's claim finds its mark; main takes its last steps after them.
+// 32 workers with 1024 rows each, that call the last function once and are stepped until they are gone. The first one
+// has queued the root by then, so main's claim finds its mark; main takes its last steps after them.
 fn largest_schedule(alloc: Global) -> Result<Vec<u8>, AllocError> {
     let mut text = Vec::from_slice(alloc, b"schedule 1\nworkers 32\nrows 1024\n")?;
     for worker in 1..=WORKERS {
