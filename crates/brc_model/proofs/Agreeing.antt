@@ -7,13 +7,12 @@ use Rattle.brc_model.specs.declared.duty.Duty.{Duty}
 use Rattle.brc_model.specs.declared.duty.Duty.TheVariants.{DecideAtZero, MergeSwap, MergeLoad, MergeExchange}
 use Rattle.brc_model.specs.Duties.{block_of}
 use Rattle.brc_model.specs.Machine.{Life, Unborn, Live, Dying, Closed, Machine}
-use Rattle.brc_lang.specs.declared.module.Module.{Module}
 use Rattle.brc_model.specs.Agreement.{has_swapped, is_merging, decides_or_merges, HasDuty, SomeThreadHas, OwnerHas, IsCountedLocally, IsPhase, AgreesAt, IsFreeOf}
 use Rattle.brc_model.proofs.Bag.{one_if}
 use Rattle.brc_model.proofs.Rows.{decides, merges, weight, Numbers, Phased, IsDefault, IsQueued, Decided, AtZero, AboveZero, Mode, InOwned, InSwapped, InMerged, IsLive, IsDead, RowRule}
 use Rattle.brc_model.proofs.HasDuties.{Weighs, some_weighs, is_listed}
 use Rattle.brc_model.proofs.Deciders.{agenda_decides}
-use Rattle.brc_model.proofs.Rule.{numbers_of, Rule}
+use Rattle.brc_model.proofs.Rule.{Accounts, numbers_of, Rule}
 
 or_first : (a b : Bool) → (a || b) ≡ false → a ≡ false
 or_first true b e = absurd cc
@@ -123,7 +122,7 @@ has_duty m f is_such only it =
     record { actor = it.which; found = it.found; listed = is_listed f is_such only it.which.agenda it.some }
 
 -- who decides about a row is its owner
-owner_decides : (p : Module) (n : ℕ) (m : Machine) (x : ℕ) → Rule p n m → weight (decides x) m.actors ≡ 1
+owner_decides : (p : Accounts) (n : ℕ) (m : Machine) (x : ℕ) → Rule p n m → weight (decides x) m.actors ≡ 1
     → OwnerHas m x (decides_or_merges x)
 owner_decides p n m x rule one =
     let it = some_weighs (decides x) m.actors (omega (arith, one)) in
@@ -133,7 +132,7 @@ owner_decides p n m x rule one =
       | inr owns ↦ (it.who, owns.owner, has_duty m (decides x) (decides_or_merges x) (decides_only x) it)
     ]
 
-default_local : (p : Module) (n : ℕ) (m : Machine) (x : ℕ) → Rule p n m
+default_local : (p : Accounts) (n : ℕ) (m : Machine) (x : ℕ) → Rule p n m
     → LocalSays (block_of m.rows x) (numbers_of m x) → IsCountedLocally m x ⊎ SomeThreadHas m (decides_or_merges x)
 default_local p n m x rule (IsCounted owned some) = inl (record { owner = owned; counted = some })
 default_local p n m x rule (IsDecided one) = let owner = owner_decides p n m x rule one in inr (owner.0, owner.2)
@@ -141,7 +140,7 @@ default_local p n m x rule (IsCarried one) =
     let it = some_weighs (merges x) m.actors (omega (arith, one)) in
     inr (it.who, has_duty m (merges x) (decides_or_merges x) (merges_only x) it)
 
-queued_local : (p : Module) (n : ℕ) (m : Machine) (x : ℕ) → Rule p n m
+queued_local : (p : Accounts) (n : ℕ) (m : Machine) (x : ℕ) → Rule p n m
     → LocalSays (block_of m.rows x) (numbers_of m x)
     → IsCountedLocally m x ⊎ OwnerHas m x (decides_or_merges x) ⊎ SomeThreadHas m (has_swapped x)
 queued_local p n m x rule (IsCounted owned some) = inl (record { owner = owned; counted = some })
@@ -152,7 +151,7 @@ queued_local p n m x rule (IsCarried one) =
 
 -- ---- every row
 
-pub agrees_at : (p : Module) (n : ℕ) (m : Machine) (x : ℕ) → Rule p n m → 0 < x → AgreesAt m x
+pub agrees_at : (p : Accounts) (n : ℕ) (m : Machine) (x : ℕ) → Rule p n m → 0 < x → AgreesAt m x
 agrees_at p n m x rule pos =
     let says = row_says (block_of m.rows x) (m.life x) (numbers_of m x) (rule.rows x pos) in
     record {
@@ -176,7 +175,7 @@ free_row owner (Dying t) n row alive born = row
 free_row owner Closed n row alive born = row
 
 -- what is dying or closed is free of references
-pub is_free_of : (p : Module) (n : ℕ) (m : Machine) (x : ℕ) → Rule p n m → 0 < x → (m.life x ≡ Live → ⊥)
+pub is_free_of : (p : Accounts) (n : ℕ) (m : Machine) (x : ℕ) → Rule p n m → 0 < x → (m.life x ≡ Live → ⊥)
     → (m.life x ≡ Unborn → ⊥) → IsFreeOf m x
 is_free_of p n m x rule pos alive born =
     let dead = free_row (block_of m.rows x) (m.life x) (numbers_of m x) (rule.rows x pos) alive born in

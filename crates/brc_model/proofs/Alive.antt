@@ -3,7 +3,6 @@ use Rattle.std.proofs.Common.{◌≡◌, ℕ, zero, suc, ◌+◌, ◌<◌, ◌�
 use Rattle.std.specs.Prelude.{slice_get, sum_by}
 use Rattle.std.proofs.lemmas.List.Sums.{sum_by-cons}
 use Rattle.brc_lang.specs.declared.module.Instr.{Instr}
-use Rattle.brc_lang.specs.declared.module.Module.{Module}
 use Rattle.brc_model.specs.declared.duty.Holding.{Holding}
 use Rattle.brc_model.specs.declared.duty.Holding.TheVariants.{InHand}
 use Rattle.brc_model.specs.Plain.{Reference, references_to}
@@ -15,7 +14,7 @@ use Rattle.brc_model.specs.Machine.{Life, Unborn, Live, Dying, Closed, Actor, Ma
 use Rattle.brc_model.proofs.Bag.{held, one_if, held-le-references_to}
 use Rattle.brc_model.proofs.Holds.{nothing, the_root, of_variables, reference_of}
 use Rattle.brc_model.proofs.Rows.{waits, merges, decides, agenda_weight, weight, Numbers, IsLive, RowRule}
-use Rattle.brc_model.proofs.Rule.{numbers_of, extra_of, lacks_of, HoldsAt, PlaceFits, IsBacked, Rule}
+use Rattle.brc_model.proofs.Rule.{Accounts, numbers_of, extra_of, lacks_of, Account, HoldsAt, IsBacked, Rule}
 
 -- ---- weights
 
@@ -55,48 +54,38 @@ alive_by owner Closed n row some =
 abbrev pub Alive : Machine → ℕ → Type 0
 Alive m x = IsAlive (block_of m.rows x) (m.life x) (numbers_of m x)
 
-pub alive_referenced : (p : Module) (n : ℕ) (m : Machine) (x : ℕ) → Rule p n m → 0 < x
+pub alive_referenced : (p : Accounts) (n : ℕ) (m : Machine) (x : ℕ) → Rule p n m → 0 < x
     → 0 < references_to x m.plain.references → Alive m x
 alive_referenced p n m x rule pos some =
     alive_by (block_of m.rows x) (m.life x) (numbers_of m x) (rule.rows x pos) (omega (arith, some))
 
-pub alive_waiting : (p : Module) (n : ℕ) (m : Machine) (x : ℕ) → Rule p n m → 0 < x → 0 < weight (waits x) m.actors
+pub alive_waiting : (p : Accounts) (n : ℕ) (m : Machine) (x : ℕ) → Rule p n m → 0 < x → 0 < weight (waits x) m.actors
     → Alive m x
 alive_waiting p n m x rule pos some =
     alive_by (block_of m.rows x) (m.life x) (numbers_of m x) (rule.rows x pos) (omega (arith, some))
 
-pub alive_deciding : (p : Module) (n : ℕ) (m : Machine) (x : ℕ) → Rule p n m → 0 < x → 0 < weight (decides x) m.actors
+pub alive_deciding : (p : Accounts) (n : ℕ) (m : Machine) (x : ℕ) → Rule p n m → 0 < x → 0 < weight (decides x) m.actors
     → Alive m x
 alive_deciding p n m x rule pos some =
     alive_by (block_of m.rows x) (m.life x) (numbers_of m x) (rule.rows x pos) (omega (arith, some))
 
-pub alive_merging : (p : Module) (n : ℕ) (m : Machine) (x : ℕ) → Rule p n m → 0 < x → 0 < weight (merges x) m.actors
+pub alive_merging : (p : Accounts) (n : ℕ) (m : Machine) (x : ℕ) → Rule p n m → 0 < x → 0 < weight (merges x) m.actors
     → Alive m x
 alive_merging p n m x rule pos some =
     alive_by (block_of m.rows x) (m.life x) (numbers_of m x) (rule.rows x pos) (omega (arith, some))
 
-pub alive_backed : (p : Module) (n : ℕ) (m : Machine) (t x : ℕ) → Rule p n m → 0 < x → IsBacked m t x → Alive m x
+pub alive_backed : (p : Accounts) (n : ℕ) (m : Machine) (t x : ℕ) → Rule p n m → 0 < x → IsBacked m t x → Alive m x
 alive_backed p n m t x rule pos backed =
     alive_referenced p n m x rule pos
     (omega (arith, backed.held_so, held-le-references_to (reference_of t backed.by x) m.plain.references))
 
--- ---- the hand
+-- ---- what is given up
 
-hand_by : (bag : List Reference) (t : ℕ) (says : Holding → ℕ → Bool) (agenda : List Duty) (x : ℕ)
-    → HoldsAt bag t says agenda → says InHand x ≡ false → extra_of agenda InHand x ≡ true
-    → lacks_of agenda InHand x ≡ false
-    → held (reference_of t InHand x) bag ≡ 1
-hand_by bag t says agenda x holds none more less =
-    let a : one_if (says InHand x) ≡ 0 = ap one_if none in
-    let b : one_if (extra_of agenda InHand x) ≡ 1 = ap one_if more in
-    let c : one_if (lacks_of agenda InHand x) ≡ 0 = ap one_if less in
-    omega (arith, holds.each InHand x, a, b, c)
-
--- the reference that is being given up is in the hand
-pub hand_holds : (code : List Instr) (bag : List Reference) (t : ℕ) (agenda : List Duty) (place : Place) (x : ℕ)
-    → PlaceFits code bag t agenda place
-    → extra_of agenda InHand x ≡ true → lacks_of agenda InHand x ≡ false → held (reference_of t InHand x) bag ≡ 1
-hand_holds code bag t agenda (Standing left) x fits more less = hand_by bag t the_root agenda x fits refl more less
-hand_holds code bag t agenda (Inside left at variables) x fits more less =
-    hand_by bag t (of_variables fits.0 variables) agenda x fits.2 refl more less
-hand_holds code bag t agenda Departing x fits more less = hand_by bag t nothing agenda x fits refl more less
+-- the reference that is being given up is held
+pub extra_held : (bag : List Reference) (t : ℕ) (account : Account) (agenda : List Duty) (k : Holding) (x : ℕ)
+    → HoldsAt bag t account agenda → extra_of agenda k x ≡ true → lacks_of agenda k x ≡ false
+    → 0 < held (reference_of t k x) bag
+extra_held bag t account agenda k x holds more less =
+    let a : one_if (extra_of agenda k x) ≡ 1 = ap one_if more in
+    let b : one_if (lacks_of agenda k x) ≡ 0 = ap one_if less in
+    omega (arith, holds.each k x, a, b)

@@ -6,7 +6,7 @@ use Rattle.brc_model.specs.Walks.{IsAcceptable}
 use Rattle.brc_model.specs.Duties.{block_of}
 use Rattle.brc_model.specs.Machine.{Machine}
 use Rattle.brc_model.specs.Progress.{Always, BornOnce, BornListed, BornAreThere, UsedAreBorn, ClosedWereBorn}
-use Rattle.brc_model.proofs.Whole.{Whole}
+use Rattle.brc_model.proofs.WholeEvents.{Whole}
 use Rattle.brc_model.proofs.Blocks.{block_low, born_within}
 use Rattle.brc_model.proofs.Safe.{closed_born}
 use Rattle.brc_model.proofs.RowLaws.{always}

@@ -4,11 +4,10 @@ use Rattle.std.specs.Prelude.{◌/◌, slice_get}
 use Rattle.std.proofs.Math.Nat.{div-mul-le_self, lt-div-mul-add, div-lt_iff_lt-mul, mul-le-mul, mul-le-mul_right}
 use Rattle.std.proofs.lemmas.Nat.{div-mul-add}
 use Rattle.std.proofs.lemmas.Bool.{cases_lt}
-use Rattle.brc_lang.specs.declared.module.Module.{Module}
 use Rattle.brc_model.specs.Duties.{block_of}
 use Rattle.brc_model.specs.Machine.{Actor, Unborn, Machine, first_row, block_size, next_row}
 use Rattle.brc_model.proofs.Lists.{some_within}
-use Rattle.brc_model.proofs.Rule.{IsNext, Rule}
+use Rattle.brc_model.proofs.Rule.{Accounts, IsNext, Rule}
 use Rattle.std.proofs.lemmas.Option.{slice_get_within}
 
 -- ---- arithmetic
@@ -56,7 +55,7 @@ block_within rows n (suc (suc y)) some threads low =
 -- ---- used rows
 
 -- a used row is of its thread's block
-pub used_block : (p : Module) (n : ℕ) (m : Machine) (t : ℕ) (a : Actor) (x : ℕ) → Rule p n m
+pub used_block : (p : Accounts) (n : ℕ) (m : Machine) (t : ℕ) (a : Actor) (x : ℕ) → Rule p n m
     → slice_get m.actors t ≡ Some a → first_row m.rows t ≤ x → x < first_row m.rows t + a.used → block_of m.rows x ≡ t
 used_block p n m zero a x rule found low high =
     main_block m.rows x (omega (arith, high, (rule.uses 0 a found).main refl))
@@ -73,7 +72,7 @@ pub record IsUsed (m : Machine) (x : ℕ) : Type 0 where
   pub low : first_row m.rows (block_of m.rows x) ≤ x
   pub high : x < first_row m.rows (block_of m.rows x) + by.used
 
-pub born_used : (p : Module) (n : ℕ) (m : Machine) (x : ℕ) → Rule p n m → (m.life x ≢ Unborn) → IsUsed m x
+pub born_used : (p : Accounts) (n : ℕ) (m : Machine) (x : ℕ) → Rule p n m → (m.life x ≢ Unborn) → IsUsed m x
 born_used p n m x rule born =
     elim (cases_lt (block_of m.rows x) n) [
       | inl within ↦
@@ -88,7 +87,7 @@ born_used p n m x rule born =
     ]
 
 -- how many rows there are, at most
-pub used_low : (p : Module) (n : ℕ) (m : Machine) (t : ℕ) (a : Actor) (x : ℕ) → Rule p n m
+pub used_low : (p : Accounts) (n : ℕ) (m : Machine) (t : ℕ) (a : Actor) (x : ℕ) → Rule p n m
     → slice_get m.actors t ≡ Some a → t < n → x < first_row m.rows t + a.used → x < 2 + (n - 1) * m.rows
 used_low p n m zero a x rule found within high = omega (arith, high, (rule.uses 0 a found).main refl)
 used_low p n m (suc t) a x rule found within high =
@@ -96,14 +95,14 @@ used_low p n m (suc t) a x rule found within high =
     let more : suc t * m.rows ≤ (n - 1) * m.rows = mul-le-mul_right m.rows (omega (arith, within)) in
     omega (arith, few, high, more)
 
-pub born_within : (p : Module) (n : ℕ) (m : Machine) (x : ℕ) → Rule p n m → (m.life x ≢ Unborn)
+pub born_within : (p : Accounts) (n : ℕ) (m : Machine) (x : ℕ) → Rule p n m → (m.life x ≢ Unborn)
     → x < 2 + (n - 1) * m.rows
 born_within p n m x rule born =
     let used = born_used p n m x rule born in
     let within = slice_get_within m.actors (block_of m.rows x) used.by used.found in
     used_low p n m (block_of m.rows x) used.by x rule used.found (omega (arith, within, rule.threads)) used.high
 
-pub born_low : (p : Module) (n : ℕ) (m : Machine) (x : ℕ) → Rule p n m → (m.life x ≢ Unborn) → x < 32770
+pub born_low : (p : Accounts) (n : ℕ) (m : Machine) (x : ℕ) → Rule p n m → (m.life x ≢ Unborn) → x < 32770
 born_low p n m x rule born =
     let low = born_within p n m x rule born in
     let most : (n - 1) * m.rows ≤ 32 * 1024 =
@@ -120,12 +119,12 @@ pub next_block : (m : Machine) (t : ℕ) (a : Actor) (x : ℕ) → IsNext m t a 
 next_block m zero a x next = absurd (omega (arith, next.worker))
 next_block m (suc t) a x next = ap (block_of m.rows) next.row ∙ block_at m.rows t a.used next.room
 
-pub next_unborn : (p : Module) (n : ℕ) (m : Machine) (t : ℕ) (a : Actor) (x : ℕ) → Rule p n m
+pub next_unborn : (p : Accounts) (n : ℕ) (m : Machine) (t : ℕ) (a : Actor) (x : ℕ) → Rule p n m
     → slice_get m.actors t ≡ Some a → IsNext m t a x → m.life x ≡ Unborn
 next_unborn p n m t a x rule found next =
     (rule.uses t a found).unborn x (next_block m t a x next) (omega (arith, next.row))
 
-pub next_within : (p : Module) (n : ℕ) (m : Machine) (t : ℕ) (a : Actor) → Rule p n m → slice_get m.actors t ≡ Some a
+pub next_within : (p : Accounts) (n : ℕ) (m : Machine) (t : ℕ) (a : Actor) → Rule p n m → slice_get m.actors t ≡ Some a
     → a.used < block_size m.rows t → next_row m.rows t a.used < 2 + (n - 1) * m.rows
 next_within p n m zero a rule found room = absurd (omega (arith, room, (rule.uses 0 a found).main refl))
 next_within p n m (suc t) a rule found room =

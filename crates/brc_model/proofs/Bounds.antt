@@ -3,7 +3,6 @@
 use Rattle.std.proofs.Common.{◌≡◌, ◌≢◌, ℕ, ◌+◌, ◌≤◌, Bool, true, List, refl, ap, ◌∙◌, arith, zero, suc}
 use Rattle.std.specs.Prelude.{◌==◌, ◌&&◌}
 use Rattle.std.proofs.lemmas.Bool.{eq-eqb}
-use Rattle.brc_lang.specs.declared.module.Module.{Module}
 use Rattle.brc_word.specs.Words.{owner_part, local_part, biased_part, phase_part, bias}
 use Rattle.brc_model.specs.declared.duty.Holding.{Holding}
 use Rattle.brc_model.specs.declared.duty.Duty.{Duty}
@@ -15,7 +14,7 @@ use Rattle.brc_model.specs.Machine.{Actor, Machine, is_running}
 use Rattle.brc_model.specs.Within.{Suits}
 use Rattle.brc_model.proofs.Rows.{carries, weight, Numbers, Phased, IsDefault, IsQueued, InOwned, InSwapped, InMerged, IsLive}
 use Rattle.brc_model.proofs.RowSteps.{shared_range}
-use Rattle.brc_model.proofs.Rule.{numbers_of, Rule}
+use Rattle.brc_model.proofs.Rule.{Accounts, numbers_of, Rule}
 use Rattle.brc_model.proofs.Alive.{Alive, alive_backed}
 use Rattle.brc_model.proofs.Leaves.{AtDuty, head_of, exchange_alive, merge_alive}
 use Rattle.brc_model.proofs.OwnRetains.{counts_owner, count_above, weight_here}
@@ -43,7 +42,7 @@ record NearBias (m : Machine) (x : ℕ) : Type 0 where
   some : 1 ≤ biased_part (m.memory (Shared x))
   state : phase_part (m.memory (Shared x)) ≢ 1
 
-near_bias : (p : Module) (n : ℕ) (m : Machine) (x : ℕ) → Rule p n m → n ≤ 33 → Alive m x → NearBias m x
+near_bias : (p : Accounts) (n : ℕ) (m : Machine) (x : ℕ) → Rule p n m → n ≤ 33 → Alive m x → NearBias m x
 near_bias p n m x rule few alive =
     let says = live_few (block_of m.rows x) (numbers_of m x) alive.live in
     record {
@@ -54,7 +53,7 @@ near_bias p n m x rule few alive =
 
 -- ---- what a duty finds
 
-release_suits : (p : Module) (n : ℕ) (m : Machine) (t : ℕ) (a : Actor) (x : ℕ) (h : Holding) (rest : List Duty)
+release_suits : (p : Accounts) (n : ℕ) (m : Machine) (t : ℕ) (a : Actor) (x : ℕ) (h : Holding) (rest : List Duty)
     → AtDuty p n m t a (ReleaseLoad x h) rest → (a.status ≡ Gone → ⊥)
     → is_running a.status ≡ true → owner_part (m.memory (Local x)) ≡ t + 1 → 1 ≤ local_part (m.memory (Local x))
 release_suits p n m t a zero h rest here alive runs owner = omega (arith, here.rule.none_word)
@@ -67,7 +66,7 @@ release_suits p n m t a (suc y) h rest here alive runs owner =
     count_above p n m t x a here.rule here.found (counts_owner m t a x counts living)
     (weight_here p n m t x a (ReleaseLoad x h) rest here alive refl) living
 
-pub duty_suits : (p : Module) (n : ℕ) (m : Machine) (t : ℕ) (a : Actor) (d : Duty) (rest : List Duty) (count : ℕ)
+pub duty_suits : (p : Accounts) (n : ℕ) (m : Machine) (t : ℕ) (a : Actor) (d : Duty) (rest : List Duty) (count : ℕ)
     → AtDuty p n m t a d rest → (a.status ≡ Gone → ⊥) → n ≤ 33
     → Suits t (is_running a.status) count d (m.memory (address_of m.rows t a.head d))
 duty_suits p n m t a (RetainStore x h w) rest count here alive few =

@@ -6,13 +6,12 @@ use Rattle.std.proofs.lemmas.List.{get_or_default}
 use Rattle.std.proofs.lemmas.List.Folds.{list_any-append, list_any-from_Any}
 use Rattle.std.proofs.lemmas.List.Quantifiers.{all_pairs_push}
 use Rattle.std.proofs.lemmas.Option.{slice_get_within}
-use Rattle.brc_lang.specs.declared.module.Module.{Module}
 use Rattle.brc_model.specs.Plain.{is_among}
 use Rattle.brc_model.specs.declared.duty.Duty.{Duty}
 use Rattle.brc_model.specs.Duties.{address_of}
 use Rattle.brc_model.specs.Machine.{Actor, Life, Unborn, Live, Dying, Closed, Machine, done_by}
 use Rattle.brc_model.proofs.Lists.{some_is}
-use Rattle.brc_model.proofs.Rule.{dies_by}
+use Rattle.brc_model.proofs.Rule.{Accounts, dies_by}
 use Rattle.brc_model.proofs.Leaves.{AtDuty}
 use Rattle.brc_model.proofs.Closing.{GoesOn, BeginsToDie, IsClosed, IsBorn, life_step, SameClosed, OneMore, closed_step}
 
@@ -33,7 +32,7 @@ pub one_is : (x y : ℕ) → is_among x (y ∷ []) ≡ true → y ≡ x
 one_is x y e = elim (either_true (y == x) false e) [ inl same ↦ eqb-true y x same | inr wrong ↦ absurd cc ]
 
 -- a row that was closed is closed still, and one that is closed now was, or ended
-pub closed_stays : (p : Module) (n : ℕ) (m : Machine) (t : ℕ) (a : Actor) (d : Duty) (rest : List Duty) (x : ℕ)
+pub closed_stays : (p : Accounts) (n : ℕ) (m : Machine) (t : ℕ) (a : Actor) (d : Duty) (rest : List Duty) (x : ℕ)
     → AtDuty p n m t a d rest → m.life x ≡ Closed → (done_by m t a d rest).life x ≡ Closed
 closed_stays p n m t a d rest x here was =
     elim (life_step p n m t a d rest x here) [
@@ -43,7 +42,7 @@ closed_stays p n m t a d rest x here was =
       | IsBorn now unborn above born none ↦ absurd (unborn_not_closed (sym unborn ∙ was))
     ]
 
-pub closed_is_after : (p : Module) (n : ℕ) (m : Machine) (t : ℕ) (a : Actor) (d : Duty) (rest : List Duty) (x : ℕ)
+pub closed_is_after : (p : Accounts) (n : ℕ) (m : Machine) (t : ℕ) (a : Actor) (d : Duty) (rest : List Duty) (x : ℕ)
     → AtDuty p n m t a d rest → is_among x (done_by m t a d rest).plain.closed ≡ true
     → (done_by m t a d rest).life x ≡ Closed
 closed_is_after p n m t a d rest x here is =
@@ -74,7 +73,7 @@ among_last x xs =
       | false ↦ ap (λ (b : Bool). b || false) (eq-eqb x x refl)
     ]
 
-pub closed_has_after : (p : Module) (n : ℕ) (m : Machine) (t : ℕ) (a : Actor) (d : Duty) (rest : List Duty) (x : ℕ)
+pub closed_has_after : (p : Accounts) (n : ℕ) (m : Machine) (t : ℕ) (a : Actor) (d : Duty) (rest : List Duty) (x : ℕ)
     → AtDuty p n m t a d rest → (done_by m t a d rest).life x ≡ Closed
     → is_among x (done_by m t a d rest).plain.closed ≡ true
 closed_has_after p n m t a d rest x here is =
@@ -98,7 +97,7 @@ closed_has_after p n m t a d rest x here is =
           ])
     ]
 
-pub closed_once_after : (p : Module) (n : ℕ) (m : Machine) (t : ℕ) (a : Actor) (d : Duty) (rest : List Duty)
+pub closed_once_after : (p : Accounts) (n : ℕ) (m : Machine) (t : ℕ) (a : Actor) (d : Duty) (rest : List Duty)
     → AtDuty p n m t a d rest → AllPairs (λ x y. x ≢ y) (done_by m t a d rest).plain.closed
 closed_once_after p n m t a d rest here =
     let Q : List ℕ → Type 0 = λ l. AllPairs (λ x y. x ≢ y) l in
@@ -119,7 +118,7 @@ closed_once_after p n m t a d rest here =
 
 -- ---- who dies
 
-pub none_lives_after : (p : Module) (n : ℕ) (m : Machine) (t : ℕ) (a : Actor) (d : Duty) (rest : List Duty)
+pub none_lives_after : (p : Accounts) (n : ℕ) (m : Machine) (t : ℕ) (a : Actor) (d : Duty) (rest : List Duty)
     → AtDuty p n m t a d rest → (done_by m t a d rest).life 0 ≡ Live
 none_lives_after p n m t a d rest here =
     elim (life_step p n m t a d rest 0 here) [
@@ -129,7 +128,7 @@ none_lives_after p n m t a d rest here =
       | IsBorn now unborn above born none ↦ absurd (omega (arith, above))
     ]
 
-pub dying_after : (p : Module) (n : ℕ) (m : Machine) (t : ℕ) (a : Actor) (d : Duty) (rest : List Duty) (x u : ℕ)
+pub dying_after : (p : Accounts) (n : ℕ) (m : Machine) (t : ℕ) (a : Actor) (d : Duty) (rest : List Duty) (x u : ℕ)
     → AtDuty p n m t a d rest → n ≤ u → dies_by ((done_by m t a d rest).life x) u ≡ false
 dying_after p n m t a d rest x u here past =
     let within : t < n = omega (arith, slice_get_within m.actors t a here.found, here.rule.threads) in

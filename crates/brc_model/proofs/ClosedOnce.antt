@@ -14,9 +14,10 @@ use Rattle.brc_model.proofs.Bag.{one_if}
 use Rattle.brc_model.proofs.Closing.{GoesOn, BeginsToDie, IsClosed, life_step, SameClosed, OneMore, closed_step, IsBorn}
 use Rattle.brc_model.proofs.ClosedAfter.{live_not_closed, dying_not_closed, among_more, unborn_not_closed}
 use Rattle.brc_model.proofs.Leaves.{AtDuty}
-use Rattle.brc_model.proofs.Whole.{Whole}
+use Rattle.brc_model.proofs.WholeEvents.{Whole}
 use Rattle.brc_model.proofs.StepCases.{ShowsSteps, at_duty, event_shows}
 use Rattle.brc_model.proofs.Quiets.{quiet_closed}
+use Rattle.brc_model.proofs.Rule.{Accounts}
 
 -- ---- what is closed stays closed
 
@@ -52,7 +53,7 @@ ClosesSo m new =
     (new.plain.closed ≡ m.plain.closed)
     ⊎ ((row : ℕ) × (is_among row m.plain.closed ≡ false) × (new.plain.closed ≡ m.plain.closed ++ row ∷ []))
 
-ends_open : (p : Module) (n : ℕ) (m : Machine) (t : ℕ) (a : Actor) (d : Duty) (rest : List Duty) (row : ℕ)
+ends_open : (p : Accounts) (n : ℕ) (m : Machine) (t : ℕ) (a : Actor) (d : Duty) (rest : List Duty) (row : ℕ)
     → AtDuty p n m t a d rest → ended_row d ≡ Some row → is_among row m.plain.closed ≡ true → ⊥
 ends_open p n m t a d rest row here ended was =
     elim (life_step p n m t a d rest row here) [
@@ -62,7 +63,7 @@ ends_open p n m t a d rest row here ended was =
       | IsBorn now unborn above born none ↦ unborn_not_closed (sym unborn ∙ here.rule.closed_is row was)
     ]
 
-closes_at_duty : (p : Module) (n : ℕ) (m : Machine) (t : ℕ) (a : Actor) (d : Duty) (rest : List Duty)
+closes_at_duty : (p : Accounts) (n : ℕ) (m : Machine) (t : ℕ) (a : Actor) (d : Duty) (rest : List Duty)
     → AtDuty p n m t a d rest → ClosesSo m (done_by m t a d rest)
 closes_at_duty p n m t a d rest here =
     elim (closed_step m t d (m.memory (address_of m.rows t a.head d))) [

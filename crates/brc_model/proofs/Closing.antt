@@ -2,7 +2,6 @@
 use Rattle.std.proofs.Common.{◌≡◌, ℕ, zero, suc, ◌<◌, Bool, true, false, cond, List, [], ◌∷◌, ◌++◌, inl, inr, Option, None, Some, refl, sym, ap, ◌∙◌, subst}
 use Rattle.std.specs.Prelude.{◌==◌}
 use Rattle.std.proofs.lemmas.Bool.Decides.{eqb_tells}
-use Rattle.brc_lang.specs.declared.module.Module.{Module}
 use Rattle.brc_model.specs.declared.duty.Holding.{Holding}
 use Rattle.brc_model.specs.declared.duty.Holding.TheVariants.{ByVariable, AsCaller, InHand}
 use Rattle.brc_model.specs.Plain.{Plain, Move, Born, Gain, Lose, HandOn, Finalise, move, moved}
@@ -14,7 +13,7 @@ use Rattle.brc_model.specs.declared.address.Address.{Address}
 use Rattle.brc_model.specs.Duties.{address_of}
 use Rattle.brc_model.specs.Machine.{Actor, Life, Unborn, Live, Dying, Closed, Machine, hand_on, gain, lose, moves_by, dies_next, ended_row, born_row, with_life, done_by, take_out}
 use Rattle.brc_model.proofs.Lists.{some_is}
-use Rattle.brc_model.proofs.Rule.{IsNext}
+use Rattle.brc_model.proofs.Rule.{Accounts, IsNext}
 use Rattle.brc_model.proofs.Blocks.{next_above, next_unborn}
 use Rattle.brc_model.proofs.Leaves.{AtDuty, head_of}
 use Rattle.brc_model.proofs.Lives.{MayDie, next_of, next_dies, cell_found, dying_was_alive}
@@ -76,7 +75,7 @@ moves_keep memory t _ found e = tt
 
 -- ---- the rows that change
 
-may_die_positive : (p : Module) (n : ℕ) (m : Machine) (t : ℕ) (a : Actor) (d : Duty) (rest : List Duty) (y : ℕ)
+may_die_positive : (p : Accounts) (n : ℕ) (m : Machine) (t : ℕ) (a : Actor) (d : Duty) (rest : List Duty) (y : ℕ)
     → AtDuty p n m t a d rest → MayDie d y → 0 < y
 may_die_positive p n m t a (DecideAtZero x) rest y here is =
     subst (λ (z : ℕ). 0 < z) is (head_of p n m t a (DecideAtZero x) rest here).0
@@ -105,7 +104,7 @@ ended_kills_none : (m : Machine) (t : ℕ) (a : Actor) (d : Duty) (y : ℕ) → 
 ended_kills_none m t a (SettleEnd x) y e = refl
 ended_kills_none m t a _ y e = absurd (none_is_not y e)
 
-ended_dying : (p : Module) (n : ℕ) (m : Machine) (t : ℕ) (a : Actor) (d : Duty) (rest : List Duty) (y : ℕ)
+ended_dying : (p : Accounts) (n : ℕ) (m : Machine) (t : ℕ) (a : Actor) (d : Duty) (rest : List Duty) (y : ℕ)
     → AtDuty p n m t a d rest → ended_row d ≡ Some y → (0 < y) × (m.life y ≡ Dying t)
 ended_dying p n m t a (SettleEnd x) rest y here e =
     let fits = head_of p n m t a (SettleEnd x) rest here in
@@ -113,7 +112,7 @@ ended_dying p n m t a (SettleEnd x) rest y here e =
     (subst (λ (z : ℕ). 0 < z) this fits.0, ap m.life (sym this) ∙ fits.1)
 ended_dying p n m t a _ rest y here e = absurd (none_is_not y e)
 
-life_with : (p : Module) (n : ℕ) (m : Machine) (t : ℕ) (a : Actor) (d : Duty) (rest : List Duty) (x : ℕ)
+life_with : (p : Accounts) (n : ℕ) (m : Machine) (t : ℕ) (a : Actor) (d : Duty) (rest : List Duty) (x : ℕ)
     (dies ended : Option ℕ)
     → AtDuty p n m t a d rest → dies_next (next_of m t a d) ≡ dies → ended_row d ≡ ended
     → LifeStep m t d x (with_life (with_life m.life dies (Dying t)) ended Closed x)
@@ -142,7 +141,7 @@ life_with p n m t a d rest x (Some y) None here dies ended =
 life_with p n m t a d rest x (Some y) (Some z) here dies ended =
     absurd (none_is_not y (sym (ended_kills_none m t a d z ended) ∙ dies))
 
-pub life_step : (p : Module) (n : ℕ) (m : Machine) (t : ℕ) (a : Actor) (d : Duty) (rest : List Duty) (x : ℕ)
+pub life_step : (p : Accounts) (n : ℕ) (m : Machine) (t : ℕ) (a : Actor) (d : Duty) (rest : List Duty) (x : ℕ)
     → AtDuty p n m t a d rest → LifeStep m t d x ((done_by m t a d rest).life x)
 life_step p n m t a (BirthLocal y h) rest x here =
     let next : IsNext m t a y = (head_of p n m t a (BirthLocal y h) rest here).0 in

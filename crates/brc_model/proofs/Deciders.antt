@@ -3,7 +3,6 @@ use Rattle.std.proofs.Common.{◌≡◌, ℕ, zero, suc, ◌+◌, ◌<◌, List,
 use Rattle.std.specs.Prelude.{◌==◌, slice_get, sum_by}
 use Rattle.std.proofs.lemmas.Bool.Decides.{eqb_tells}
 use Rattle.std.proofs.lemmas.List.Sums.{sum_by-cons}
-use Rattle.brc_lang.specs.declared.module.Module.{Module}
 use Rattle.brc_model.specs.declared.duty.Reason.TheVariants.{Own, Handed}
 use Rattle.brc_model.specs.declared.duty.Duty.{Duty}
 use Rattle.brc_model.specs.declared.duty.Duty.TheVariants.{DecideAtZero, SharedLoad, MergeSwap, Settle, Leave, Scan, Finish}
@@ -14,7 +13,7 @@ use Rattle.brc_model.specs.Machine.{Actor, Machine}
 use Rattle.brc_model.proofs.Lists.{some_is}
 use Rattle.brc_model.proofs.Bag.{one_if}
 use Rattle.brc_model.proofs.Rows.{decides, agenda_weight, weight}
-use Rattle.brc_model.proofs.Rule.{OwnsLocally, HeadFits, HeadOf, Later, Agenda, AgendaFits, Rule}
+use Rattle.brc_model.proofs.Rule.{Accounts, OwnsLocally, HeadFits, HeadOf, Later, Agenda, AgendaFits, Rule}
 
 -- what stands behind the first duty decides about nothing
 later_decides : (rows t used : ℕ) (status : Status) (place : Place) (x : ℕ) (rest : List Duty)
@@ -76,7 +75,7 @@ first_decides m u x b d rest is none head =
     ] refl
 
 -- a thread that is gone, or has nothing to do, decides about nothing
-pub agenda_decides : (p : Module) (n : ℕ) (m : Machine) (u x : ℕ) (b : Actor) (agenda : List Duty) → b.agenda ≡ agenda
+pub agenda_decides : (p : Accounts) (n : ℕ) (m : Machine) (u x : ℕ) (b : Actor) (agenda : List Duty) → b.agenda ≡ agenda
     → (status : Status) → b.status ≡ status → AgendaFits m.rows u b status → HeadOf m u b agenda
     → (agenda_weight (decides x) b ≡ 0) ⊎ OwnsLocally m u b x
 agenda_decides p n m u x b [] is status was fits head = inl (ap (sum_by (decides x)) is)
@@ -91,7 +90,7 @@ agenda_decides p n m u x b (d ∷ rest) is Leaving was fits head =
     (subst (λ (l : List Duty). Agenda m.rows u b.used Leaving b.place l) is fits)) head
 
 -- where the running owner is at a duty that decides about nothing, nobody decides
-pub nobody_decides : (p : Module) (n : ℕ) (m : Machine) (t x : ℕ) (a : Actor) → Rule p n m
+pub nobody_decides : (p : Accounts) (n : ℕ) (m : Machine) (t x : ℕ) (a : Actor) → Rule p n m
     → slice_get m.actors t ≡ Some a → OwnsLocally m t a x → agenda_weight (decides x) a ≡ 0
     → weight (decides x) m.actors ≡ 0
 nobody_decides p n m t x a rule found owns mine =

@@ -7,7 +7,6 @@ use Rattle.std.proofs.lemmas.Bool.Decides.{eqb_tells}
 use Rattle.std.proofs.lemmas.Option.{slice_get_cases}
 use Rattle.std.proofs.lemmas.List.Sums.{sum_by-cons}
 use Rattle.brc_lang.specs.declared.module.Instr.{Instr}
-use Rattle.brc_lang.specs.declared.module.Module.{Module}
 use Rattle.brc_model.specs.declared.duty.Holding.{Holding}
 use Rattle.brc_model.specs.declared.duty.Holding.TheVariants.{ByVariable, AsCaller, InHand}
 use Rattle.brc_model.specs.declared.duty.Reason.TheVariants.{Own}
@@ -22,7 +21,7 @@ use Rattle.brc_model.proofs.Bag.{held, one_if, same_holding-true, same-true, sam
 use Rattle.brc_model.proofs.Lists.{and_first}
 use Rattle.brc_model.proofs.Holds.{nothing, the_root, of_variables, reference_of}
 use Rattle.brc_model.proofs.Grounded.{owned_low}
-use Rattle.brc_model.proofs.Rule.{extra, extra_of, HoldsAt, PlaceFits, Rule}
+use Rattle.brc_model.proofs.Rule.{Accounts, extra, extra_of, HoldsAt, PlaceFits, Rule}
 
 -- ---- a list that all references to an object are among
 
@@ -241,13 +240,13 @@ agenda_at _ = []
 abbrev own_way : Machine → ℕ → Holding
 own_way m t = given_up (agenda_at (slice_get m.actors t))
 
-says_at : (p : Module) (n : ℕ) (m : Machine) (t : ℕ) (a : Actor) → Rule p n m → slice_get m.actors t ≡ Some a
+says_at : (p : Accounts) (n : ℕ) (m : Machine) (t : ℕ) (a : Actor) → Rule p n m → slice_get m.actors t ≡ Some a
     → SaysAt m.plain.references t a.agenda
 says_at p n m t a rule found =
     place_says (code_of (slice_get p.functions a.function)) m.plain.references t a.agenda a.place
     (rule.each t a found).0.placed
 
-held_twice : (p : Module) (n : ℕ) (m : Machine) (h : Holder) (object : ℕ) → Rule p n m
+held_twice : (p : Accounts) (n : ℕ) (m : Machine) (h : Holder) (object : ℕ) → Rule p n m
     → held (record { holder = h; object = object }) m.plain.references ≤ 2
 held_twice p n m (ByCell x i) object rule = omega (arith, rule.cells_hold x i object)
 held_twice p n m (ByThread t k) object rule =
@@ -264,7 +263,7 @@ held_twice p n m (ByThread t k) object rule =
       | inr past ↦ omega (arith, rule.beyond t (omega (arith, past.0, rule.threads)) k object)
     ]
 
-held_way : (p : Module) (n : ℕ) (m : Machine) (h : Holder) (object : ℕ) → Rule p n m
+held_way : (p : Accounts) (n : ℕ) (m : Machine) (h : Holder) (object : ℕ) → Rule p n m
     → 0 < held (record { holder = h; object = object }) m.plain.references
     → list_any (same (record { holder = h; object = object })) (ways (own_way m) object n) ≡ true
 held_way p n m (ByCell x i) object rule some = absurd (omega (arith, rule.cells_hold x i object, some))
@@ -292,7 +291,7 @@ held_way p n m (ByThread t k) object rule some =
 
 -- ---- all references to an object
 
-pub references_few : (p : Module) (n : ℕ) (m : Machine) (x : ℕ) → Rule p n m
+pub references_few : (p : Accounts) (n : ℕ) (m : Machine) (x : ℕ) → Rule p n m
     → references_to x m.plain.references ≤ 38 * n
 references_few p n m x rule =
     let keys = ways (own_way m) x n in

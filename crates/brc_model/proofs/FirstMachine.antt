@@ -23,7 +23,8 @@ use Rattle.brc_model.proofs.Callers.{callers_beyond, callers_off_cells, callers_
 use Rattle.brc_model.proofs.Grounded.{AreInstructions}
 use Rattle.brc_model.proofs.Holds.{the_root}
 use Rattle.brc_model.proofs.Rows.{waits, carries, merges, decides, agenda_weight, weight, IsDefault, AboveZero, InOwned, RowRule}
-use Rattle.brc_model.proofs.Rule.{numbers_of, HoldsAt, ChainFits, ActorFits, AgendaFits, HandedOnce, dies_by, Rule, UsesFit}
+use Rattle.brc_model.proofs.Rule.{Accounts, numbers_of, HoldsAt, ChainFits, Fits, dies_by, Rule, UsesFit}
+use Rattle.brc_model.proofs.Coded.{once_each, InCode}
 use Rattle.brc_model.proofs.Blocks.{block_main}
 use Rattle.brc_model.proofs.UsesAfter.{one_at_most}
 use Rattle.brc_word.specs.Words.{kind_part}
@@ -95,8 +96,12 @@ none_dies (suc (suc x)) t = refl
 first_chain : (m : Module) (rows : ℕ) (calls : List Call) (t : ℕ) → ChainFits (first_machine m rows calls) t 0 []
 first_chain m rows calls t = record { chained = []; linked = refl; once = λ x. sym (ap one_if (none_dies x t)) }
 
+-- each thread's caller has lent it the root
+abbrev pub first_accounts : Accounts
+first_accounts t = once_each the_root
+
 caller_holds : (calls : List Call) (t : ℕ) → t < 1 + length calls
-    → HoldsAt (callers_below (1 + length calls)) t the_root []
+    → HoldsAt (callers_below (1 + length calls)) t (first_accounts t) []
 caller_holds calls t below =
     record { each = λ k object. omega (arith, callers_hold (1 + length calls) t k object below) }
 
@@ -106,46 +111,48 @@ thread_word workers t le = ap (λ (b : Bool). cond b 1 0) (Rattle.std.proofs.lem
 standing_stays : (left : ℕ) → Standing left ≢ Departing
 standing_stays left e = cc
 
-first_actor : (m : Module) (rows : ℕ) (calls : List Call) (t : ℕ) (a : Actor) → IsModule m → IsAcceptable m
-    → AreCalls m calls → slice_get (main_actor ∷ map worker_actor calls) t ≡ Some a
-    → ActorFits m (first_machine m rows calls) t a × AgendaFits rows t a a.status × HandedOnce a.agenda
-first_actor m rows calls zero a fits accepted are_calls is =
-    let function = function_fits m 0 fits accepted fits.some in
-    let P : Actor
-    → Type 0 = λ x. ActorFits m (first_machine m rows calls) 0 x × AgendaFits rows 0 x x.status
-    × HandedOnce x.agenda in
-    subst P (some_is main_actor a is) (
+first_fits : (m : Module) (rows : ℕ) (calls : List Call) (t : ℕ) (a : Actor)
+    → slice_get (main_actor ∷ map worker_actor calls) t ≡ Some a
+    → Fits (first_accounts t) (first_machine m rows calls) t a
+first_fits m rows calls zero a is =
+    subst (λ (x : Actor). Fits (first_accounts 0) (first_machine m rows calls) 0 x) (some_is main_actor a is) (
       record {
-        accepted = function.0;
-        instructions = function.1;
         word = thread_word (length calls) 0 (omega arith);
-        placed = caller_holds calls 0 (omega arith);
+        holds = caller_holds calls 0 (omega arith);
+        departed = λ e. absurd (standing_stays 0 e);
         head_fits = tt;
         chain = first_chain m rows calls 0;
       },
       (standing_stays 0, refl),
       tt,
     )
-first_actor m rows calls (suc t) a fits accepted are_calls is =
+first_fits m rows calls (suc t) a is =
     let call = slice_get-map worker_actor calls t a is in
-    let good = all_of_found (IsCall m) calls t call.source are_calls.each call.is_there in
-    let function = function_fits m call.source.function fits accepted good.0 in
     let within : t < length calls = slice_get_within calls t call.source call.is_there in
-    let P : Actor
-    → Type 0 = λ x. ActorFits m (first_machine m rows calls) (suc t) x × AgendaFits rows (suc t) x x.status
-    × HandedOnce x.agenda in
-    subst P call.is_image (
+    subst (λ (x : Actor). Fits (first_accounts (suc t)) (first_machine m rows calls) (suc t) x) call.is_image (
       record {
-        accepted = function.0;
-        instructions = function.1;
         word = thread_word (length calls) (suc t) (omega (arith, within));
-        placed = caller_holds calls (suc t) (omega (arith, within));
+        holds = caller_holds calls (suc t) (omega (arith, within));
+        departed = λ e. absurd (standing_stays call.source.times e);
         head_fits = tt;
         chain = first_chain m rows calls (suc t);
       },
       (standing_stays call.source.times, refl),
       tt,
     )
+
+pub first_coded : (m : Module) (calls : List Call) (t : ℕ) (a : Actor) → IsModule m → IsAcceptable m → AreCalls m calls
+    → slice_get (main_actor ∷ map worker_actor calls) t ≡ Some a → InCode m a (first_accounts t)
+first_coded m calls zero a fits accepted are_calls is =
+    let function = function_fits m 0 fits accepted fits.some in
+    subst (λ (x : Actor). InCode m x (first_accounts 0)) (some_is main_actor a is)
+    (record { accepted = function.0; instructions = function.1; says = refl })
+first_coded m calls (suc t) a fits accepted are_calls is =
+    let call = slice_get-map worker_actor calls t a is in
+    let good = all_of_found (IsCall m) calls t call.source are_calls.each call.is_there in
+    let function = function_fits m call.source.function fits accepted good.0 in
+    subst (λ (x : Actor). InCode m x (first_accounts (suc t))) call.is_image
+    (record { accepted = function.0; instructions = function.1; says = refl })
 
 life_not_closed : (x : ℕ) → first_life x ≡ Closed → ⊥
 life_not_closed zero e = cc
@@ -217,17 +224,16 @@ first_kinds_said workers (suc (suc x)) born = absurd (born refl)
 one_root : (x : ℕ) → count_by (λ y. y == x) (root_row ∷ []) ≤ 1
 one_root x = omega (arith, sum_by-cons (λ (y : ℕ). cond (y == x) 1 0) root_row [], one_at_most (root_row == x))
 
-pub first_rule : (m : Module) (rows : ℕ) (calls : List Call) → IsModule m → IsAcceptable m → AreCalls m calls → 0 < rows
-    → rows ≤ 1024 → Rule m (1 + length calls) (first_machine m rows calls)
-first_rule m rows calls fits accepted are_calls some_rows few_rows = record {
-  functions = refl;
+pub first_rule : (m : Module) (rows : ℕ) (calls : List Call) → AreCalls m calls → 0 < rows → rows ≤ 1024
+    → Rule first_accounts (1 + length calls) (first_machine m rows calls)
+first_rule m rows calls are_calls some_rows few_rows = record {
   threads = omega (arith, length-map calls worker_actor);
   some_rows = some_rows;
   few_threads = omega (arith, are_calls.most);
   few_rows = few_rows;
   rows = first_row_rule m rows calls are_calls;
   marks = λ x. inl refl;
-  each = λ t a is. first_actor m rows calls t a fits accepted are_calls is;
+  each = first_fits m rows calls;
   beyond = λ t past k object. callers_beyond (1 + length calls) t k object past;
   dying = λ x t past. none_dies x t;
   cells = λ x i. refl;

@@ -20,12 +20,12 @@ use Rattle.brc_model.proofs.Neutral.{memory_by}
 use Rattle.brc_model.proofs.OwnChains.{chain_here, head_low}
 use Rattle.brc_model.proofs.Closing.{GoesOn, BeginsToDie, IsClosed, life_step, IsBorn}
 use Rattle.brc_model.proofs.ClosedAfter.{live_not_closed, dying_not_closed, unborn_not_closed}
-use Rattle.brc_model.proofs.Whole.{Whole}
+use Rattle.brc_model.proofs.WholeEvents.{Whole}
 use Rattle.brc_model.proofs.WholeEvents.{event_keeps, whole_after}
 use Rattle.brc_model.proofs.Safe.{first_whole}
 use Rattle.brc_model.proofs.StepCases.{ShowsSteps, at_duty, event_shows}
 use Rattle.brc_model.proofs.Blocks.{born_used}
-use Rattle.brc_model.proofs.Rule.{Rule}
+use Rattle.brc_model.proofs.Rule.{Accounts, Rule}
 
 -- ---- what a step does to a gate
 
@@ -42,7 +42,7 @@ no_end x e = cc
 chained_low : (t head : ℕ) → t < 33 → head < 4294967296 → dying_word t head ≢ closed_word
 chained_low t head few low e = absurd (omega (arith, few, low, e))
 
-gate_step : (p : Module) (n : ℕ) (m : Machine) (t : ℕ) (a : Actor) (d : Duty) (rest : List Duty) (x : ℕ)
+gate_step : (p : Accounts) (n : ℕ) (m : Machine) (t : ℕ) (a : Actor) (d : Duty) (rest : List Duty) (x : ℕ)
     → AtDuty p n m t a d rest → n ≤ 33 → GateStep m t d x (memory_by m t a d (Gate x))
 gate_step p n m t a (Die y) rest x here few =
     elim (eqb_tells y x) [
@@ -76,7 +76,7 @@ record GateFits (m : Machine) (x : ℕ) : Type 0 where
   is : m.memory (Gate x) ≡ closed_word → m.life x ≡ Closed
   has : m.life x ≡ Closed → m.memory (Gate x) ≡ closed_word
 
-gate_after : (p : Module) (n : ℕ) (m : Machine) (t : ℕ) (a : Actor) (d : Duty) (rest : List Duty) (x : ℕ)
+gate_after : (p : Accounts) (n : ℕ) (m : Machine) (t : ℕ) (a : Actor) (d : Duty) (rest : List Duty) (x : ℕ)
     → AtDuty p n m t a d rest → n ≤ 33 → GateFits m x → GateFits (done_by m t a d rest) x
 gate_after p n m t a d rest x here few before =
     elim (gate_step p n m t a d rest x here few) [
@@ -153,7 +153,7 @@ gates_tell p fits accepted = λ rows calls events some most are_calls.
 
 -- ---- what is born
 
-each_used : (p : Module) (n : ℕ) (m : Machine) → Rule p n m → BornAreUsed m
+each_used : (p : Accounts) (n : ℕ) (m : Machine) → Rule p n m → BornAreUsed m
 each_used p n m rule x born = let used = born_used p n m x rule born in (used.by, used.found, used.low, used.high)
 
 pub born_are_used : (p : Module) → IsModule p → IsAcceptable p → Always BornAreUsed p

@@ -12,11 +12,11 @@ use Rattle.brc_model.specs.Duties.{block_of}
 use Rattle.brc_model.specs.Machine.{Actor, Life, Unborn, Live, Dying, Closed, Machine, written, next_machine}
 use Rattle.brc_model.specs.Progress.{StaysAt, ImmortalsStay}
 use Rattle.brc_model.proofs.Rows.{Numbers, InOwned, InSwapped, InMerged, RowRule}
-use Rattle.brc_model.proofs.Rule.{numbers_of, Rule}
+use Rattle.brc_model.proofs.Rule.{Accounts, numbers_of, Rule}
 use Rattle.brc_model.proofs.Written.{written_apart, written_load, apart_shared, apart_gate}
 use Rattle.brc_model.proofs.Leaves.{AtDuty, head_of}
 use Rattle.brc_model.proofs.Neutral.{memory_by}
-use Rattle.brc_model.proofs.Whole.{Whole}
+use Rattle.brc_model.proofs.WholeEvents.{Whole}
 use Rattle.brc_model.proofs.WholeEvents.{event_keeps}
 use Rattle.brc_model.proofs.StepCases.{ShowsSteps, at_duty, event_shows}
 use Rattle.brc_model.proofs.Nones.{next_counted, none_local}
@@ -34,11 +34,11 @@ low_by_life owner Live n row =
 low_by_life owner (Dying t) n row = omega (arith, row.local)
 low_by_life owner Closed n row = omega (arith, row.local)
 
-pub counted_low : (p : Module) (n : ℕ) (m : Machine) (x : ℕ) → Rule p n m → 0 < x
+pub counted_low : (p : Accounts) (n : ℕ) (m : Machine) (x : ℕ) → Rule p n m → 0 < x
     → local_part (m.memory (Local x)) < 4294967295
 counted_low p n m x rule pos = low_by_life (block_of m.rows x) (m.life x) (numbers_of m x) (rule.rows x pos)
 
-immortal_is_none : (p : Module) (n : ℕ) (m : Machine) (x : ℕ) → Rule p n m
+immortal_is_none : (p : Accounts) (n : ℕ) (m : Machine) (x : ℕ) → Rule p n m
     → is_immortal_word (m.memory (Local x)) ≡ true → x ≡ 0
 immortal_is_none p n m zero rule is = refl
 immortal_is_none p n m (suc x) rule is =
@@ -55,7 +55,7 @@ shared_apart m y v pos = written_apart m.memory (Shared y) (Shared 0) v (apart_s
 gate_apart : (m : Machine) (y v : ℕ) → 0 < y → written m.memory (Gate y) v (Gate 0) ≡ m.memory (Gate 0)
 gate_apart m y v pos = written_apart m.memory (Gate y) (Gate 0) v (apart_gate y 0 (above y pos))
 
-none_shared : (p : Module) (n : ℕ) (m : Machine) (t : ℕ) (a : Actor) (d : Duty) (rest : List Duty)
+none_shared : (p : Accounts) (n : ℕ) (m : Machine) (t : ℕ) (a : Actor) (d : Duty) (rest : List Duty)
     → AtDuty p n m t a d rest → memory_by m t a d (Shared 0) ≡ m.memory (Shared 0)
 none_shared p n m t a (RetainAdd y h) rest here =
     shared_apart m y (m.memory (Shared y) + 4) (head_of p n m t a (RetainAdd y h) rest here).0
@@ -70,14 +70,14 @@ none_shared p n m t a (MergeExchange y c w) rest here =
     shared_apart m y _ (head_of p n m t a (MergeExchange y c w) rest here).0
 none_shared p n m t a _ rest here = refl
 
-none_gate : (p : Module) (n : ℕ) (m : Machine) (t : ℕ) (a : Actor) (d : Duty) (rest : List Duty)
+none_gate : (p : Accounts) (n : ℕ) (m : Machine) (t : ℕ) (a : Actor) (d : Duty) (rest : List Duty)
     → AtDuty p n m t a d rest → memory_by m t a d (Gate 0) ≡ m.memory (Gate 0)
 none_gate p n m t a (Die y) rest here = gate_apart m y (dying_word t a.head) (head_of p n m t a (Die y) rest here).0
 none_gate p n m t a Settle rest here = written_load m.memory (Gate (a.head - 1)) (Gate 0)
 none_gate p n m t a (SettleEnd y) rest here = gate_apart m y closed_word (head_of p n m t a (SettleEnd y) rest here).0
 none_gate p n m t a _ rest here = refl
 
-none_kind : (p : Module) (n : ℕ) (m : Machine) (t : ℕ) (a : Actor) (d : Duty) (rest : List Duty)
+none_kind : (p : Accounts) (n : ℕ) (m : Machine) (t : ℕ) (a : Actor) (d : Duty) (rest : List Duty)
     → AtDuty p n m t a d rest → memory_by m t a d (KindOf 0) ≡ m.memory (KindOf 0)
 none_kind p n m t a (SettleKind y) rest here = written_load m.memory (KindOf y) (KindOf 0)
 none_kind p n m t a (BirthKind y h w) rest here =
@@ -85,7 +85,7 @@ none_kind p n m t a (BirthKind y h w) rest here =
     (ne_eqb y 0 (above y (next_counted m t a y (head_of p n m t a (BirthKind y h w) rest here).0)))
 none_kind p n m t a _ rest here = refl
 
-none_slot : (p : Module) (n : ℕ) (m : Machine) (t : ℕ) (a : Actor) (d : Duty) (rest : List Duty)
+none_slot : (p : Accounts) (n : ℕ) (m : Machine) (t : ℕ) (a : Actor) (d : Duty) (rest : List Duty)
     → AtDuty p n m t a d rest → memory_by m t a d (Slot 0) ≡ m.memory (Slot 0)
 none_slot p n m t a (TakeSlot y) rest here =
     written_apart m.memory (Slot y) (Slot 0) 0 (ne_eqb y 0 (above y (head_of p n m t a (TakeSlot y) rest here).0))
@@ -94,7 +94,7 @@ none_slot p n m t a (BirthSlot y h) rest here =
     (ne_eqb y 0 (above y (next_counted m t a y (head_of p n m t a (BirthSlot y h) rest here).0)))
 none_slot p n m t a _ rest here = refl
 
-none_resource : (p : Module) (n : ℕ) (m : Machine) (t : ℕ) (a : Actor) (d : Duty) (rest : List Duty)
+none_resource : (p : Accounts) (n : ℕ) (m : Machine) (t : ℕ) (a : Actor) (d : Duty) (rest : List Duty)
     → AtDuty p n m t a d rest → memory_by m t a d (Resource 0) ≡ m.memory (Resource 0)
 none_resource p n m t a (CloseResource y) rest here =
     written_apart m.memory (Resource y) (Resource 0) 0
@@ -137,7 +137,7 @@ none_shown p n = record {
 }
 
 -- none has no mark
-none_mark : (p : Module) (n : ℕ) (m : Machine) → Rule p n m → m.memory (Mark 0) ≡ 0
+none_mark : (p : Accounts) (n : ℕ) (m : Machine) → Rule p n m → m.memory (Mark 0) ≡ 0
 none_mark p n m rule = elim (rule.marks 0) [ inl none ↦ none | inr set ↦ absurd (omega (arith, set.1)) ]
 
 none_stays : (p : Module) (n : ℕ) (m : Machine) (event : ℕ × Choice) → Whole p n m → StaysAt m (next_machine m event) 0

@@ -4,7 +4,6 @@ use Rattle.std.specs.Prelude.{slice_get, slice_set}
 use Rattle.std.proofs.lemmas.Bool.Decides.{eqb_tells}
 use Rattle.std.proofs.lemmas.List.{length-set}
 use Rattle.std.proofs.lemmas.Option.{slice_get_within}
-use Rattle.brc_lang.specs.declared.module.Module.{Module}
 use Rattle.brc_model.specs.Plain.{same}
 use Rattle.brc_model.specs.declared.duty.Duty.{Duty}
 use Rattle.brc_model.specs.declared.duty.Duty.TheVariants.{SettleCell}
@@ -12,8 +11,8 @@ use Rattle.brc_model.specs.declared.address.Address.TheVariants.{Cell, Mark}
 use Rattle.brc_model.specs.declared.actor.Status.TheVariants.{Gone}
 use Rattle.brc_model.specs.Machine.{Actor, Machine, actor_by, done_by, same_address}
 use Rattle.brc_model.proofs.Lists.{some_is, slice_get-set_same, slice_get-set_other}
-use Rattle.brc_model.proofs.Rule.{HandedOnce, AgendaFits, ActorFits, IsWatched, Rule}
-use Rattle.brc_model.proofs.Others.{others_fit}
+use Rattle.brc_model.proofs.Rule.{Accounts, Fits, IsWatched, Rule}
+use Rattle.brc_model.proofs.Others.{each_fits}
 use Rattle.brc_model.proofs.MovesApart.{moves_apart, moves_off_cells}
 use Rattle.brc_model.proofs.Leaves.{AtDuty}
 use Rattle.brc_model.proofs.Lives.{cell_found, leaves_others}
@@ -38,36 +37,17 @@ cells_left m t a _ x i empty = empty
 
 -- ---- all threads
 
-others_and_own : (p : Module) (n : ℕ) (m : Machine) (t : ℕ) (a : Actor) (d : Duty) (rest : List Duty)
+others_and_own : (p : Accounts) (n : ℕ) (m : Machine) (t : ℕ) (a : Actor) (d : Duty) (rest : List Duty)
     → AtDuty p n m t a d rest → OwnFits p (done_by m t a d rest) t (actor_by t a d rest (found_by m t a d))
     → (u : ℕ) (b : Actor) → slice_get (slice_set m.actors t (actor_by t a d rest (found_by m t a d))) u ≡ Some b
-    → ActorFits p (done_by m t a d rest) u b × AgendaFits m.rows u b b.status × HandedOnce b.agenda
-others_and_own p n m t a d rest here own u b is =
-    let after = actor_by t a d rest (found_by m t a d) in
-    elim (eqb_tells u t) [
-      | inl same ↦
-          let written_is : Some after ≡ Some b =
-          sym (ap (slice_get (slice_set m.actors t after)) same.1
-          ∙ slice_get-set_same m.actors t after (slice_get_within m.actors t a here.found)) ∙ is in
-          let P : Actor
-          → Type 0 = λ x. ActorFits p (done_by m t a d rest) u x × AgendaFits m.rows u x x.status
-          × HandedOnce x.agenda in
-          let Q : ℕ
-          → Type 0 = λ w. ActorFits p (done_by m t a d rest) w after × AgendaFits m.rows w after after.status
-          × HandedOnce after.agenda in
-          subst P (some_is after b written_is) (subst Q (sym same.1) (own.actor, own.agenda, own.handed))
-      | inr apart ↦
-          let found : slice_get m.actors u ≡ Some b = sym (slice_get-set_other m.actors t u after apart.1) ∙ is in
-          let old = here.rule.each u b found in (
-            others_fit p m (done_by m t a d rest) t u b (leaves_others p n m t a d rest here) apart.1 found old.0,
-            old.1,
-            old.2,
-          )
-    ]
+    → Fits (p u) (done_by m t a d rest) u b
+others_and_own p n m t a d rest here own =
+    each_fits p p m (done_by m t a d rest) t a (actor_by t a d rest (found_by m t a d)) here.found
+    (leaves_others p n m t a d rest here) (λ u ne. refl) (own.actor, own.agenda, own.handed) here.rule.each
 
 -- ---- the whole rule
 
-pub keeps_by : (p : Module) (n : ℕ) (m : Machine) (t : ℕ) (a : Actor) (d : Duty) (rest : List Duty)
+pub keeps_by : (p : Accounts) (n : ℕ) (m : Machine) (t : ℕ) (a : Actor) (d : Duty) (rest : List Duty)
     → AtDuty p n m t a d rest → (a.status ≡ Gone → ⊥)
     → OwnFits p (done_by m t a d rest) t (actor_by t a d rest (found_by m t a d))
     → ((x : ℕ) → ((done_by m t a d rest).memory (Mark x) ≡ 0)
@@ -76,7 +56,6 @@ pub keeps_by : (p : Module) (n : ℕ) (m : Machine) (t : ℕ) (a : Actor) (d : D
 keeps_by p n m t a d rest here alive own marks =
     let within : t < n = omega (arith, slice_get_within m.actors t a here.found, here.rule.threads) in
     record {
-      functions = here.rule.functions;
       threads = length-set m.actors t (actor_by t a d rest (found_by m t a d)) ∙ here.rule.threads;
       some_rows = here.rule.some_rows;
       few_threads = here.rule.few_threads;

@@ -3,7 +3,6 @@ use Rattle.std.proofs.Common.{◌≡◌, ◌≢◌, ℕ, Bool, true, false, cond
 use Rattle.std.proofs.Common.{◌∙◌}
 use Rattle.std.proofs.lemmas.Bool.{ne_eqb, eq-eqb}
 use Rattle.std.proofs.lemmas.Bool.Decides.{eqb_tells}
-use Rattle.brc_lang.specs.declared.module.Module.{Module}
 use Rattle.brc_lang.specs.declared.kind.Kind.{Kind}
 use Rattle.brc_lang.specs.declared.kind.Kind.TheVariants as kinds
 use Rattle.brc_word.specs.Words.{kind_part}
@@ -19,6 +18,7 @@ use Rattle.brc_model.proofs.Leaves.{AtDuty, head_of}
 use Rattle.brc_model.proofs.Neutral.{found_by, memory_by}
 use Rattle.brc_model.proofs.UsesAfter.{AllBearNone, moves_none, before_or_now}
 use Rattle.brc_model.proofs.Lists.{some_is}
+use Rattle.brc_model.proofs.Rule.{Accounts}
 
 -- ---- numbers and kinds
 
@@ -60,7 +60,7 @@ same_kinds : (m : Machine) (t : ℕ) (d : Duty) (found : ℕ) → born_row d ≡
 same_kinds m t d found none = moved_kinds m.plain (moves_by m.memory t d found) (moves_none m.memory t d found none)
 
 -- the kind word of what was born is left as it is
-word_stays : (p : Module) (n : ℕ) (m : Machine) (t : ℕ) (a : Actor) (d : Duty) (rest : List Duty) (x : ℕ)
+word_stays : (p : Accounts) (n : ℕ) (m : Machine) (t : ℕ) (a : Actor) (d : Duty) (rest : List Duty) (x : ℕ)
     → AtDuty p n m t a d rest → m.life x ≢ Unborn → memory_by m t a d (KindOf x) ≡ m.memory (KindOf x)
 word_stays p n m t a (SettleKind y) rest x here born = written_load m.memory (KindOf y) (KindOf x)
 word_stays p n m t a (BirthKind y h w) rest x here born =
@@ -70,7 +70,7 @@ word_stays p n m t a (BirthKind y h w) rest x here born =
 word_stays p n m t a _ rest x here born = refl
 
 -- and so is its kind
-kind_stays : (p : Module) (n : ℕ) (m : Machine) (t : ℕ) (a : Actor) (d : Duty) (rest : List Duty) (x : ℕ)
+kind_stays : (p : Accounts) (n : ℕ) (m : Machine) (t : ℕ) (a : Actor) (d : Duty) (rest : List Duty) (x : ℕ)
     → AtDuty p n m t a d rest → m.life x ≢ Unborn → (done_by m t a d rest).plain.kinds x ≡ m.plain.kinds x
 kind_stays p n m t a (BirthLocal y h) rest x here born =
     let next = (head_of p n m t a (BirthLocal y h) rest here).0 in
@@ -79,7 +79,7 @@ kind_stays p n m t a (BirthLocal y h) rest x here born =
 kind_stays p n m t a d rest x here born = ap (λ (k : ℕ → Kind). k x) (same_kinds m t d (found_by m t a d) refl)
 
 -- what is born now is of the kind that its word says
-kind_is_said : (p : Module) (n : ℕ) (m : Machine) (t : ℕ) (a : Actor) (d : Duty) (rest : List Duty) (x : ℕ)
+kind_is_said : (p : Accounts) (n : ℕ) (m : Machine) (t : ℕ) (a : Actor) (d : Duty) (rest : List Duty) (x : ℕ)
     → AtDuty p n m t a d rest → born_row d ≡ Some x
     → kind_part (memory_by m t a d (KindOf x)) ≡ kind_number ((done_by m t a d rest).plain.kinds x)
 kind_is_said p n m t a (BirthLocal y h) rest x here is =
@@ -93,7 +93,7 @@ kind_is_said p n m t a (BirthLocal y h) rest x here is =
     ∙ ap kind_number (sym kind)
 kind_is_said p n m t a _ rest x here is = absurd (let wrong : None ≡ Some x = is in cc)
 
-pub kinds_after : (p : Module) (n : ℕ) (m : Machine) (t : ℕ) (a : Actor) (d : Duty) (rest : List Duty)
+pub kinds_after : (p : Accounts) (n : ℕ) (m : Machine) (t : ℕ) (a : Actor) (d : Duty) (rest : List Duty)
     → AtDuty p n m t a d rest → (x : ℕ) → (done_by m t a d rest).life x ≢ Unborn
     → kind_part ((done_by m t a d rest).memory (KindOf x)) ≡ kind_number ((done_by m t a d rest).plain.kinds x)
 kinds_after p n m t a d rest here x born =

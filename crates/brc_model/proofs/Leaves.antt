@@ -4,7 +4,6 @@ use Rattle.std.specs.Prelude.{◌==◌, slice_get, sum_by}
 use Rattle.std.proofs.lemmas.Bool.{eqb-true, eq-eqb, ne_eqb}
 use Rattle.std.proofs.lemmas.Bool.Decides.{eqb_tells}
 use Rattle.std.proofs.lemmas.List.Sums.{sum_by-cons}
-use Rattle.brc_lang.specs.declared.module.Module.{Module}
 use Rattle.brc_model.specs.declared.duty.Holding.TheVariants.{InHand}
 use Rattle.brc_word.specs.Words.{owner_part, biased_part, phase_part, fresh_word, released_word, merged_word, local_word}
 use Rattle.brc_model.specs.declared.duty.Reason.{Reason}
@@ -18,38 +17,38 @@ use Rattle.brc_model.proofs.Bag.{held, one_if, held-le-references_to}
 use Rattle.brc_model.proofs.Holds.{reference_of}
 use Rattle.brc_model.proofs.Rows.{waits, decides, merges, InOwned, InSwapped, InMerged, RowRule}
 use Rattle.brc_model.proofs.RowSteps.{shared_range, shared_up, shared_down, shared_merged}
-use Rattle.brc_model.proofs.Rule.{extra_of, lacks_of, OwnsLocally, FollowsHanded, HeadFits, HeadOf, dies_by, Rule, status_word, numbers_of}
-use Rattle.brc_model.proofs.Alive.{first_weighs, Alive, alive_referenced, alive_waiting, alive_deciding, alive_merging, hand_holds}
+use Rattle.brc_model.proofs.Rule.{Accounts, extra_of, lacks_of, OwnsLocally, FollowsHanded, HeadFits, HeadOf, dies_by, Rule, status_word, numbers_of}
+use Rattle.brc_model.proofs.Alive.{first_weighs, Alive, alive_referenced, alive_waiting, alive_deciding, alive_merging, extra_held}
 use Rattle.brc_model.proofs.Written.{written_here, written_apart, written_load, apart_local, apart_shared, apart_gate, apart_thread}
 use Rattle.brc_model.proofs.Others.{is_dying}
 use Rattle.brc_model.proofs.Blocks.{next_above, next_unborn}
 
 -- a thread at its first duty
-pub record AtDuty (p : Module) (n : ℕ) (m : Machine) (t : ℕ) (a : Actor) (d : Duty) (rest : List Duty) : Type 0 where
+pub record AtDuty (p : Accounts) (n : ℕ) (m : Machine) (t : ℕ) (a : Actor) (d : Duty) (rest : List Duty) : Type 0 where
   pub rule : Rule p n m
   pub found : slice_get m.actors t ≡ Some a
   pub agenda : a.agenda ≡ d ∷ rest
 
-pub head_of : (p : Module) (n : ℕ) (m : Machine) (t : ℕ) (a : Actor) (d : Duty) (rest : List Duty)
+pub head_of : (p : Accounts) (n : ℕ) (m : Machine) (t : ℕ) (a : Actor) (d : Duty) (rest : List Duty)
     → AtDuty p n m t a d rest → HeadFits m t a d rest
 head_of p n m t a d rest here =
     subst (λ (l : List Duty). HeadOf m t a l) here.agenda (here.rule.each t a here.found).0.head_fits
 
 -- ---- which rows are alive at a duty
 
-own_alive : (p : Module) (n : ℕ) (m : Machine) (t : ℕ) (a : Actor) (d : Duty) (rest : List Duty) (x : ℕ)
+own_alive : (p : Accounts) (n : ℕ) (m : Machine) (t : ℕ) (a : Actor) (d : Duty) (rest : List Duty) (x : ℕ)
     → AtDuty p n m t a d rest → 0 < x → extra_of (d ∷ rest) InHand x ≡ true
     → lacks_of (d ∷ rest) InHand x ≡ false → Alive m x
 own_alive p n m t a d rest x here pos more less =
     let fits = (here.rule.each t a here.found).0 in
-    let one : held (reference_of t InHand x) m.plain.references ≡ 1 =
-    hand_holds _ m.plain.references t a.agenda a.place x fits.placed
+    let some : 0 < held (reference_of t InHand x) m.plain.references =
+    extra_held m.plain.references t (p t) a.agenda InHand x fits.holds
     (ap (λ (l : List Duty). extra_of l InHand x) here.agenda ∙ more)
     (ap (λ (l : List Duty). lacks_of l InHand x) here.agenda ∙ less) in
     alive_referenced p n m x here.rule pos
-    (omega (arith, one, held-le-references_to (reference_of t InHand x) m.plain.references))
+    (omega (arith, some, held-le-references_to (reference_of t InHand x) m.plain.references))
 
-pub exchange_alive : (p : Module) (n : ℕ) (m : Machine) (t : ℕ) (a : Actor) (x w : ℕ) (r : Reason) (rest : List Duty)
+pub exchange_alive : (p : Accounts) (n : ℕ) (m : Machine) (t : ℕ) (a : Actor) (x w : ℕ) (r : Reason) (rest : List Duty)
     → AtDuty p n m t a (SharedExchange x r w) rest → Alive m x
 exchange_alive p n m t a x w Own rest here =
     own_alive p n m t a (SharedExchange x Own w) rest x here (head_of p n m t a (SharedExchange x Own w) rest here)
@@ -63,14 +62,14 @@ exchange_alive p n m t a x w Handed rest here =
       one,
     ))
 
-pub decide_alive : (p : Module) (n : ℕ) (m : Machine) (t : ℕ) (a : Actor) (x : ℕ) (rest : List Duty)
+pub decide_alive : (p : Accounts) (n : ℕ) (m : Machine) (t : ℕ) (a : Actor) (x : ℕ) (rest : List Duty)
     → AtDuty p n m t a (DecideAtZero x) rest → Alive m x
 decide_alive p n m t a x rest here =
     let one : one_if (x == x) ≡ 1 = ap one_if (eq-eqb x x refl) in
     alive_deciding p n m x here.rule (head_of p n m t a (DecideAtZero x) rest here).0
     (omega (arith, first_weighs (decides x) m.actors t a (DecideAtZero x) rest here.found here.agenda, one))
 
-pub merge_alive : (p : Module) (n : ℕ) (m : Machine) (t : ℕ) (a : Actor) (x c w : ℕ) (rest : List Duty)
+pub merge_alive : (p : Accounts) (n : ℕ) (m : Machine) (t : ℕ) (a : Actor) (x c w : ℕ) (rest : List Duty)
     → AtDuty p n m t a (MergeExchange x c w) rest → Alive m x
 merge_alive p n m t a x c w rest here =
     let one : one_if (x == x) ≡ 1 = ap one_if (eq-eqb x x refl) in
@@ -84,7 +83,7 @@ handed_weighs x (SharedLoad y Handed ∷ rest) follows =
     omega (arith, sum_by-cons (waits x) (SharedLoad y Handed) rest, one)
 handed_weighs x _ follows = absurd follows
 
-pub claim_alive : (p : Module) (n : ℕ) (m : Machine) (t : ℕ) (a : Actor) (x : ℕ) (rest : List Duty)
+pub claim_alive : (p : Accounts) (n : ℕ) (m : Machine) (t : ℕ) (a : Actor) (x : ℕ) (rest : List Duty)
     → AtDuty p n m t a (MergeSwap x Handed) rest → Alive m x
 claim_alive p n m t a x rest here =
     let fits = head_of p n m t a (MergeSwap x Handed) rest here in
@@ -103,7 +102,7 @@ owners_clash m t u x y a b ne mine other same =
     ap (λ (z : ℕ). owner_part (m.memory (Local z))) same ∙ other.owner in
     ne (omega (arith, theirs, mine.owner))
 
-claim_clash : (p : Module) (n : ℕ) (m : Machine) (t u x y : ℕ) (a b : Actor) (rest : List Duty)
+claim_clash : (p : Accounts) (n : ℕ) (m : Machine) (t u x y : ℕ) (a b : Actor) (rest : List Duty)
     → AtDuty p n m t a (MergeSwap y Handed) rest → u ≢ t → slice_get m.actors u ≡ Some b → OwnsLocally m u b x → y ≡ x
     → ⊥
 claim_clash p n m t u x y a b rest here ne found other same =
@@ -123,7 +122,7 @@ claim_clash p n m t u x y a b rest here ne found other same =
     ]
 
 -- nobody owns what isn't born
-unowned_clash : (p : Module) (n : ℕ) (m : Machine) (u x y : ℕ) (b : Actor) → Rule p n m → 1 < y → m.life y ≡ Unborn
+unowned_clash : (p : Accounts) (n : ℕ) (m : Machine) (u x y : ℕ) (b : Actor) → Rule p n m → 1 < y → m.life y ≡ Unborn
     → OwnsLocally m u b x → y ≡ x → ⊥
 unowned_clash p n m u x y b rule above unborn other same =
     let theirs : owner_part (m.memory (Local y)) ≡ u + 1 =
@@ -136,7 +135,7 @@ unowned_clash p n m u x y b rule above unborn other same =
 local_kept : (m : Machine) (y x v : ℕ) → (y ≡ x → ⊥) → written m.memory (Local y) v (Local x) ≡ m.memory (Local x)
 local_kept m y x v ne = written_apart m.memory (Local y) (Local x) v (apart_local y x ne)
 
-pub locals_left : (p : Module) (n : ℕ) (m : Machine) (t : ℕ) (a : Actor) (d : Duty) (rest : List Duty)
+pub locals_left : (p : Accounts) (n : ℕ) (m : Machine) (t : ℕ) (a : Actor) (d : Duty) (rest : List Duty)
     → AtDuty p n m t a d rest → (u x : ℕ) (b : Actor) → u ≢ t → slice_get m.actors u ≡ Some b → OwnsLocally m u b x
     → written m.memory (address_of m.rows t a.head d) (left_by t a.head d (m.memory (address_of m.rows t a.head d)))
     (Local x) ≡ m.memory (Local x)
@@ -181,7 +180,7 @@ exchanged : (b : Bool) (x y z : ℕ) → (P : ℕ → Type 0) → (b ≡ true �
 exchanged true x y z P win lose = win refl
 exchanged false x y z P win lose = lose
 
-pub merged_left : (p : Module) (n : ℕ) (m : Machine) (t : ℕ) (a : Actor) (d : Duty) (rest : List Duty)
+pub merged_left : (p : Accounts) (n : ℕ) (m : Machine) (t : ℕ) (a : Actor) (d : Duty) (rest : List Duty)
     → AtDuty p n m t a d rest → (x : ℕ) → phase_part (m.memory (Shared x)) ≡ 3
     → phase_part (written m.memory (address_of m.rows t a.head d)
     (left_by t a.head d (m.memory (address_of m.rows t a.head d))) (Shared x)) ≡ 3
@@ -246,7 +245,7 @@ gate_clash m t u x y ne mine other same =
     let both : Dying t ≡ Dying u = sym mine ∙ ap m.life same ∙ is_dying (m.life x) u other in
     ne (let e : t ≡ u = cc in sym e)
 
-pub gates_left : (p : Module) (n : ℕ) (m : Machine) (t : ℕ) (a : Actor) (d : Duty) (rest : List Duty)
+pub gates_left : (p : Accounts) (n : ℕ) (m : Machine) (t : ℕ) (a : Actor) (d : Duty) (rest : List Duty)
     → AtDuty p n m t a d rest → (u x : ℕ) → u ≢ t → dies_by (m.life x) u ≡ true
     → written m.memory (address_of m.rows t a.head d) (left_by t a.head d (m.memory (address_of m.rows t a.head d)))
     (Gate x) ≡ m.memory (Gate x)

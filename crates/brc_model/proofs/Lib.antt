@@ -17,6 +17,7 @@ pub mod HasDuties
 pub mod RowSteps
 pub mod RowMerges
 pub mod Rule
+pub mod Coded
 pub mod Others
 pub mod Alive
 pub mod Written

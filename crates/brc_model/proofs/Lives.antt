@@ -3,7 +3,6 @@ use Rattle.std.proofs.Common.{◌≡◌, ◌≢◌, ℕ, ◌+◌, Bool, true, fa
 use Rattle.std.specs.Prelude.{◌==◌, ◌&&◌, nat_lt}
 use Rattle.std.proofs.lemmas.Bool.{ne_eqb}
 use Rattle.std.proofs.lemmas.Bool.Decides.{eqb_tells}
-use Rattle.brc_lang.specs.declared.module.Module.{Module}
 use Rattle.brc_word.specs.Words.{local_part, is_immortal_word, fresh_word, dead_word, released_word, merged_word}
 use Rattle.brc_model.specs.declared.duty.Reason.{Reason}
 use Rattle.brc_model.specs.declared.duty.Reason.TheVariants.{Own, Handed}
@@ -12,7 +11,7 @@ use Rattle.brc_model.specs.declared.duty.Duty.TheVariants.{RetainLoad, RetainSto
 use Rattle.brc_model.specs.Duties.{address_of, next_by, counts_locally, shared_result, has_resource, cells_of, cells_from, release_found}
 use Rattle.brc_model.specs.Machine.{Actor, Life, Unborn, Live, Dying, Closed, Machine, is_running, dies_next, ended_row, born_row, with_life, life_by, done_by}
 use Rattle.brc_model.proofs.Lists.{some_is}
-use Rattle.brc_model.proofs.Rule.{dies_by, HasCountedKind, Rule}
+use Rattle.brc_model.proofs.Rule.{Accounts, dies_by, HasCountedKind, Rule}
 use Rattle.brc_model.proofs.Written.{written_load}
 use Rattle.brc_model.specs.declared.address.Address.TheVariants.{KindOf}
 use Rattle.brc_model.specs.Kinds.{kind_of_word, is_counted_kind}
@@ -117,7 +116,7 @@ next_dies t running head (BirthLocal x h) found y cells e = none_some y e
 
 -- ---- the rows that die are alive
 
-may_die_alive : (p : Module) (n : ℕ) (m : Machine) (t : ℕ) (a : Actor) (d : Duty) (rest : List Duty) (y : ℕ)
+may_die_alive : (p : Accounts) (n : ℕ) (m : Machine) (t : ℕ) (a : Actor) (d : Duty) (rest : List Duty) (y : ℕ)
     → AtDuty p n m t a d rest → MayDie d y → Alive m y
 may_die_alive p n m t a (DecideAtZero x) rest y here is = subst (Alive m) is (decide_alive p n m t a x rest here)
 may_die_alive p n m t a (SharedExchange x r w) rest y here is =
@@ -129,12 +128,12 @@ may_die_alive p n m t a _ rest y here is = absurd is
 abbrev pub next_of : Machine → ℕ → Actor → Duty → List Duty
 next_of m t a d = next_by t (is_running a.status) a.head d (m.memory (address_of m.rows t a.head d))
 
-pub cell_found : (p : Module) (n : ℕ) (m : Machine) (t : ℕ) (a : Actor) (d : Duty) → Rule p n m → (x i k : ℕ)
+pub cell_found : (p : Accounts) (n : ℕ) (m : Machine) (t : ℕ) (a : Actor) (d : Duty) → Rule p n m → (x i k : ℕ)
     → d ≡ SettleCell x i k → m.memory (address_of m.rows t a.head d) ≡ 0
 cell_found p n m t a d rule x i k is = ap (λ (e : Duty). m.memory (address_of m.rows t a.head e)) is ∙ rule.cells x i
 
 -- what a step lets die was alive
-pub dying_was_alive : (p : Module) (n : ℕ) (m : Machine) (t : ℕ) (a : Actor) (d : Duty) (rest : List Duty) (y : ℕ)
+pub dying_was_alive : (p : Accounts) (n : ℕ) (m : Machine) (t : ℕ) (a : Actor) (d : Duty) (rest : List Duty) (y : ℕ)
     → AtDuty p n m t a d rest → dies_next (next_of m t a d) ≡ Some y → Alive m y
 dying_was_alive p n m t a d rest y here e =
     may_die_alive p n m t a d rest y here
@@ -169,7 +168,7 @@ closes_with life (Some y) u x was =
       | inr other ↦ ap (λ (b : Bool). dies_by (cond b Closed (life x)) u) other.0
     ]
 
-ended_mine : (p : Module) (n : ℕ) (m : Machine) (t : ℕ) (a : Actor) (d : Duty) (rest : List Duty) (u y : ℕ)
+ended_mine : (p : Accounts) (n : ℕ) (m : Machine) (t : ℕ) (a : Actor) (d : Duty) (rest : List Duty) (u y : ℕ)
     → AtDuty p n m t a d rest → u ≢ t → ended_row d ≡ Some y → dies_by (m.life y) u ≡ false
 ended_mine p n m t a (SettleEnd x) rest u y here ne e =
     let mine : m.life y ≡ Dying t = ap m.life (sym (some_is x y e)) ∙ (head_of p n m t a (SettleEnd x) rest here).1 in
@@ -188,14 +187,14 @@ born_with life (Some y) u x was =
       | inr other ↦ ap (λ (b : Bool). dies_by (cond b Live (life x)) u) other.0
     ]
 
-born_was : (p : Module) (n : ℕ) (m : Machine) (t : ℕ) (a : Actor) (d : Duty) (rest : List Duty) (y : ℕ)
+born_was : (p : Accounts) (n : ℕ) (m : Machine) (t : ℕ) (a : Actor) (d : Duty) (rest : List Duty) (y : ℕ)
     → AtDuty p n m t a d rest → born_row d ≡ Some y → m.life y ≡ Unborn
 born_was p n m t a (BirthLocal x h) rest y here e =
     ap m.life (sym (some_is x y e))
     ∙ next_unborn p n m t a x here.rule here.found (head_of p n m t a (BirthLocal x h) rest here).0
 born_was p n m t a _ rest y here e = absurd (none_some y e)
 
-lives_left : (p : Module) (n : ℕ) (m : Machine) (t : ℕ) (a : Actor) (d : Duty) (rest : List Duty)
+lives_left : (p : Accounts) (n : ℕ) (m : Machine) (t : ℕ) (a : Actor) (d : Duty) (rest : List Duty)
     → AtDuty p n m t a d rest → (u x : ℕ) → u ≢ t
     → dies_by (life_by m.life t d (next_of m t a d) x) u ≡ dies_by (m.life x) u
 lives_left p n m t a d rest here u x ne =
@@ -212,7 +211,7 @@ lives_left p n m t a d rest here u x ne =
 -- ---- kinds
 
 -- a birth says a kind that is counted
-kinds_left : (p : Module) (n : ℕ) (m : Machine) (t : ℕ) (a : Actor) (d : Duty) (rest : List Duty)
+kinds_left : (p : Accounts) (n : ℕ) (m : Machine) (t : ℕ) (a : Actor) (d : Duty) (rest : List Duty)
     → AtDuty p n m t a d rest → (x : ℕ) → HasCountedKind m.memory x → HasCountedKind (done_by m t a d rest).memory x
 kinds_left p n m t a (SettleKind y) rest here x was =
     ap (λ (w : ℕ). is_counted_kind (kind_of_word w)) (written_load m.memory (KindOf y) (KindOf x)) ∙ was
@@ -226,7 +225,7 @@ kinds_left p n m t a _ rest here x was = was
 
 -- ---- all that others rely on
 
-pub leaves_others : (p : Module) (n : ℕ) (m : Machine) (t : ℕ) (a : Actor) (d : Duty) (rest : List Duty)
+pub leaves_others : (p : Accounts) (n : ℕ) (m : Machine) (t : ℕ) (a : Actor) (d : Duty) (rest : List Duty)
     → AtDuty p n m t a d rest → LeavesOthers m (done_by m t a d rest) t
 leaves_others p n m t a d rest here = record {
   rows = refl;

@@ -24,7 +24,7 @@ use Rattle.brc_model.proofs.Rule.{Later, Agenda, AgendaFits, scans, looks, statu
 use Rattle.brc_model.proofs.Rule as rule
 use Rattle.brc_model.proofs.OwnExits.{marked_born}
 use Rattle.brc_model.proofs.Watches.{marked_within}
-use Rattle.brc_model.proofs.Whole.{Whole}
+use Rattle.brc_model.proofs.WholeEvents.{Whole}
 use Rattle.brc_model.proofs.WholeEvents.{whole_after}
 use Rattle.brc_model.proofs.Safe.{first_whole}
 use Rattle.brc_model.proofs.Blocks.{born_used}

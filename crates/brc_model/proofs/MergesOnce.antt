@@ -4,7 +4,6 @@ use Rattle.std.specs.Prelude.{◌==◌, slice_get, sum_by}
 use Rattle.std.proofs.lemmas.Bool.{eq-eqb}
 use Rattle.std.proofs.lemmas.Bool.Decides.{eqb_tells}
 use Rattle.std.proofs.lemmas.List.Sums.{sum_by-cons}
-use Rattle.brc_lang.specs.declared.module.Module.{Module}
 use Rattle.brc_word.specs.Words.{biased_part, phase_part, bias, dead_word, merged_word}
 use Rattle.brc_model.specs.declared.duty.Reason.TheVariants.{Handed}
 use Rattle.brc_model.specs.declared.duty.Duty.{Duty}
@@ -19,7 +18,7 @@ use Rattle.brc_model.proofs.Bag.{one_if}
 use Rattle.brc_model.proofs.Rows.{waits, carries, merges, agenda_weight, weight, Phased, IsDefault, IsQueued, InOwned, InSwapped, InMerged}
 use Rattle.brc_model.proofs.HasDuties.{some_weighs}
 use Rattle.brc_model.proofs.RowSteps.{shared_merged}
-use Rattle.brc_model.proofs.Rule.{numbers_of, FollowsHanded, IsMergeOf, HeadFits, HeadOf, Later, Agenda, AgendaFits, status_word}
+use Rattle.brc_model.proofs.Rule.{Accounts, numbers_of, FollowsHanded, IsMergeOf, HeadFits, HeadOf, Later, Agenda, AgendaFits, status_word}
 use Rattle.brc_model.proofs.Alive.{agenda_in, first_weighs}
 use Rattle.brc_model.proofs.Leaves.{AtDuty, head_of, handed_weighs, claim_alive, merge_alive}
 use Rattle.brc_model.proofs.Neutral.{agenda_here}
@@ -126,7 +125,7 @@ handed_waits x u b d rest is follows =
     omega (arith, whole, handed_weighs x rest follows)
 
 -- a claimant and another merger: the owner runs and is the other, or two decrements await
-claimants_clash : (p : Module) (n : ℕ) (m : Machine) (t u x : ℕ) (a b : Actor) (rest : List Duty)
+claimants_clash : (p : Accounts) (n : ℕ) (m : Machine) (t u x : ℕ) (a b : Actor) (rest : List Duty)
     → AtDuty p n m t a (MergeSwap x Handed) rest → u ≢ t → slice_get m.actors u ≡ Some b → Merger m u b x
     → Phased (numbers_of m x) → ⊥
 claimants_clash p n m t u x a b rest here ne found merger phased =
@@ -149,7 +148,7 @@ claimants_clash p n m t u x a b rest here ne found merger phased =
     ]
 
 -- while a thread claims a row, no other is at a merge of it
-claimed_alone : (p : Module) (n : ℕ) (m : Machine) (t : ℕ) (a : Actor) (x : ℕ) (rest : List Duty)
+claimed_alone : (p : Accounts) (n : ℕ) (m : Machine) (t : ℕ) (a : Actor) (x : ℕ) (rest : List Duty)
     → AtDuty p n m t a (MergeSwap x Handed) rest → (a.status ≡ Gone → ⊥) → 0 < weight (merges x) m.actors
     → Phased (numbers_of m x) → ⊥
 claimed_alone p n m t a x rest here alive some phased =
@@ -174,7 +173,7 @@ claimed_alone p n m t a x rest here alive some phased =
     other.some) phased
 
 -- a claimant that finds no owner finds the row merged
-pub swapped_apart : (p : Module) (n : ℕ) (m : Machine) (t : ℕ) (a : Actor) (x : ℕ) (rest : List Duty)
+pub swapped_apart : (p : Accounts) (n : ℕ) (m : Machine) (t : ℕ) (a : Actor) (x : ℕ) (rest : List Duty)
     → AtDuty p n m t a (MergeSwap x Handed) rest → (a.status ≡ Gone → ⊥) → m.memory (Local x) ≡ 0
     → phase_part (m.memory (Shared x)) ≡ 3
 swapped_apart p n m t a x rest here alive none =
@@ -245,7 +244,7 @@ one_carries x (b ∷ rest) (suc t) a found one =
     )
 
 -- all that is carried of a row is what its merger carries
-pub carried_is : (p : Module) (n : ℕ) (m : Machine) (t : ℕ) (a : Actor) (x c w : ℕ) (rest : List Duty)
+pub carried_is : (p : Accounts) (n : ℕ) (m : Machine) (t : ℕ) (a : Actor) (x c w : ℕ) (rest : List Duty)
     → AtDuty p n m t a (MergeExchange x c w) rest → weight (carries x) m.actors ≡ c
 carried_is p n m t a x c w rest here =
     let d : Duty = MergeExchange x c w in
@@ -265,7 +264,7 @@ carried_is p n m t a x c w rest here =
     omega (arith, one_carries x m.actors t a here.found (omega (arith, all, whole, first, one)), carry, others, mine)
 
 -- a handed reference that awaits keeps the merged object alive
-pub awaited_lives : (p : Module) (n : ℕ) (m : Machine) (t : ℕ) (a : Actor) (x c w : ℕ) (rest : List Duty)
+pub awaited_lives : (p : Accounts) (n : ℕ) (m : Machine) (t : ℕ) (a : Actor) (x c w : ℕ) (rest : List Duty)
     → AtDuty p n m t a (MergeExchange x c w) rest → FollowsHanded x rest → m.memory (Shared x) ≡ w
     → merged_word w c ≡ dead_word → ⊥
 awaited_lives p n m t a x c w rest here follows same dead =

@@ -1,9 +1,7 @@
 -- A thread after a step that lets no row die and finalises none.
 use Rattle.std.proofs.Common.{◌≡◌, ℕ, List, ◌∷◌, ◌++◌, Option, None, refl, sym, ap, ◌∙◌, subst, arith, Some}
 use Rattle.std.specs.Prelude.{slice_get}
-use Rattle.brc_lang.specs.declared.module.Module.{Module}
 use Rattle.brc_model.specs.Plain.{Reference, moved}
-use Rattle.brc_model.specs.Threads.{code_of}
 use Rattle.brc_model.specs.declared.duty.Duty.{Duty}
 use Rattle.brc_model.specs.declared.address.Address.{Address}
 use Rattle.brc_model.specs.declared.address.Address.TheVariants.{Gate, ThreadWord}
@@ -12,15 +10,15 @@ use Rattle.brc_model.specs.declared.actor.Status.{Status}
 use Rattle.brc_model.specs.declared.actor.Status.TheVariants.{Running, Leaving, Gone}
 use Rattle.brc_model.specs.Machine.{Actor, Life, Dying, Closed, Machine, status_by, moves_by, dies_next, ended_row, with_life, life_by, actor_by, done_by, written, born_row, used_by, Live}
 use Rattle.brc_model.proofs.Bag.{one_if}
-use Rattle.brc_model.proofs.Rule.{PlaceFits, HeadOf, Agenda, HandedOnce, hand_of, dies_by, ChainFits, ActorFits, AgendaFits, status_word}
+use Rattle.brc_model.proofs.Rule.{Accounts, HoldsAt, HeadOf, Agenda, HandedOnce, hand_of, dies_by, ChainFits, ActorFits, AgendaFits, status_word}
 use Rattle.brc_model.proofs.Leaves.{AtDuty}
 use Rattle.brc_model.proofs.Lives.{next_of}
-use Rattle.brc_model.proofs.Own.{HeldStep, place_step, ChainSame, chain_same}
+use Rattle.brc_model.proofs.Own.{HeldStep, holds_step, ChainSame, chain_same}
 use Rattle.brc_model.specs.declared.duty.Duty.TheVariants.{BirthLocal}
 
 -- all that the rule says of one thread
-pub record OwnFits (p : Module) (m : Machine) (t : ℕ) (a : Actor) : Type 0 where
-  pub actor : ActorFits p m t a
+pub record OwnFits (p : Accounts) (m : Machine) (t : ℕ) (a : Actor) : Type 0 where
+  pub actor : ActorFits (p t) m t a
   pub agenda : AgendaFits m.rows t a a.status
   pub handed : HandedOnce a.agenda
 
@@ -48,13 +46,13 @@ agenda_out rows t a Running alive fits = fits
 agenda_out rows t a Leaving alive fits = fits
 
 -- the agenda's shape at the first duty
-pub agenda_here : (p : Module) (n : ℕ) (m : Machine) (t : ℕ) (a : Actor) (d : Duty) (rest : List Duty)
+pub agenda_here : (p : Accounts) (n : ℕ) (m : Machine) (t : ℕ) (a : Actor) (d : Duty) (rest : List Duty)
     → AtDuty p n m t a d rest → (a.status ≡ Gone → ⊥) → Agenda m.rows t a.used a.status a.place (d ∷ rest)
 agenda_here p n m t a d rest here alive =
     subst (λ (l : List Duty). Agenda m.rows t a.used a.status a.place l) here.agenda
     (agenda_in m.rows t a a.status alive (here.rule.each t a here.found).1)
 
-pub handed_here : (p : Module) (n : ℕ) (m : Machine) (t : ℕ) (a : Actor) (d : Duty) (rest : List Duty)
+pub handed_here : (p : Accounts) (n : ℕ) (m : Machine) (t : ℕ) (a : Actor) (d : Duty) (rest : List Duty)
     → AtDuty p n m t a d rest → HandedOnce (d ∷ rest)
 handed_here p n m t a d rest here = subst HandedOnce here.agenda (here.rule.each t a here.found).2
 
@@ -91,7 +89,7 @@ life_same m t a d next x is dies ends born =
     ends
     ∙ ap (λ (o : Option ℕ). with_life m.life o Live x) born
 
-pub own_neutral : (p : Module) (n : ℕ) (m : Machine) (t : ℕ) (a : Actor) (d : Duty) (rest next agenda : List Duty)
+pub own_neutral : (p : Accounts) (n : ℕ) (m : Machine) (t : ℕ) (a : Actor) (d : Duty) (rest next agenda : List Duty)
     → AtDuty p n m t a d rest → (a.status ≡ Gone → ⊥) → NeutralStep m t a d rest next agenda
     → OwnFits p (done_by m t a d rest) t (actor_by t a d rest (found_by m t a d))
 own_neutral p n m t a d rest next agenda here alive step =
@@ -101,10 +99,9 @@ own_neutral p n m t a d rest next agenda here alive step =
     let whole : after.agenda ≡ agenda =
     ap (λ (h : ℕ). ready h (next_of m t a d ++ rest)) step.same_head
     ∙ ap (λ (l : List Duty). ready a.head (l ++ rest)) step.next_is ∙ step.agenda_is in
-    let code = code_of (slice_get p.functions a.function) in
-    let placed : PlaceFits code new.plain.references t agenda a.place =
-    place_step code m.plain.references new.plain.references t (d ∷ rest) agenda a.place step.held
-    (subst (λ (l : List Duty). PlaceFits code m.plain.references t l a.place) here.agenda old.placed) in
+    let holds : HoldsAt new.plain.references t (p t) agenda =
+    holds_step m.plain.references new.plain.references t (p t) (d ∷ rest) agenda step.held
+    (subst (HoldsAt m.plain.references t (p t)) here.agenda old.holds) in
     let same : ChainSame m new t a.agenda agenda = record {
       gates = step.gates;
       hands = λ x.
@@ -118,10 +115,9 @@ own_neutral p n m t a d rest next agenda here alive step =
     let chain : ChainFits new t a.head agenda = chain_same m new t a.head a.agenda agenda same old.chain in
     record {
       actor = record {
-        accepted = old.accepted;
-        instructions = old.instructions;
         word = step.word ∙ old.word ∙ ap status_word (sym step.same_status);
-        placed = subst (λ (l : List Duty). PlaceFits code new.plain.references t l a.place) (sym whole) placed;
+        holds = subst (HoldsAt new.plain.references t (p t)) (sym whole) holds;
+        departed = old.departed;
         head_fits =
             subst (λ (l : List Duty). HeadOf new t after l) (sym whole)
             (step.knows after step.same_status step.same_head (uses_same a.used d step.none_born));

@@ -1,7 +1,6 @@
 -- None is immortal: its word stays, its references aren't counted, and a thread gets and gives them up with one step.
 use Rattle.std.proofs.Common.{◌≡◌, ℕ, ◌<◌, Bool, true, cond, List, [], ◌∷◌, ◌++◌, refl, sym, ap, ◌∙◌, subst, arith, ◌+◌, ◌-◌}
 use Rattle.std.specs.Prelude.{◌&&◌, nat_lt}
-use Rattle.brc_lang.specs.declared.module.Module.{Module}
 use Rattle.brc_model.specs.declared.duty.Holding.{Holding}
 use Rattle.brc_model.specs.declared.duty.Holding.TheVariants.{ByVariable, AsCaller, InHand}
 use Rattle.brc_model.specs.Plain.{Reference, Plain, without, moved}
@@ -14,7 +13,7 @@ use Rattle.brc_model.specs.declared.actor.Status.TheVariants.{Gone}
 use Rattle.brc_model.specs.Machine.{Actor, Machine, gain, lose, hand_on, written, done_by, actor_by, is_running}
 use Rattle.brc_model.proofs.Bag.{held_has, same-refl, held}
 use Rattle.brc_model.proofs.Holds.{reference_of}
-use Rattle.brc_model.proofs.Rule.{IsNext, Rule}
+use Rattle.brc_model.proofs.Rule.{Accounts, IsNext, Rule}
 use Rattle.brc_model.proofs.Written.{written_apart, written_load, apart_local}
 use Rattle.brc_model.proofs.Blocks.{next_above}
 use Rattle.brc_model.proofs.Leaves.{AtDuty, head_of}
@@ -36,7 +35,7 @@ local_apart m y v pos = written_apart m.memory (Local y) (Local 0) v (apart_loca
 pub next_counted : (m : Machine) (t : ℕ) (a : Actor) (y : ℕ) → IsNext m t a y → 0 < y
 next_counted m t a y next = let row = next_above m t a y next in omega (arith, row)
 
-pub none_local : (p : Module) (n : ℕ) (m : Machine) (t : ℕ) (a : Actor) (d : Duty) (rest : List Duty)
+pub none_local : (p : Accounts) (n : ℕ) (m : Machine) (t : ℕ) (a : Actor) (d : Duty) (rest : List Duty)
     → AtDuty p n m t a d rest → memory_by m t a d (Local 0) ≡ m.memory (Local 0)
 none_local p n m t a (RetainLoad y h) rest here = written_load m.memory (Local y) (Local 0)
 none_local p n m t a (ReleaseLoad y h) rest here = written_load m.memory (Local y) (Local 0)
@@ -51,12 +50,12 @@ none_local p n m t a (MergeSwap y Handed) rest here =
     local_apart m y 0 (head_of p n m t a (MergeSwap y Handed) rest here).0
 none_local p n m t a _ rest here = refl
 
-pub none_immortal : (p : Module) (n : ℕ) (m : Machine) → Rule p n m → is_immortal_word (m.memory (Local 0)) ≡ true
+pub none_immortal : (p : Accounts) (n : ℕ) (m : Machine) → Rule p n m → is_immortal_word (m.memory (Local 0)) ≡ true
 none_immortal p n m rule = ap is_immortal_word rule.none_word
 
 -- ---- a reference to it is made
 
-pub own_retain_none : (p : Module) (n : ℕ) (m : Machine) (t : ℕ) (a : Actor) (h : Holding) (rest : List Duty)
+pub own_retain_none : (p : Accounts) (n : ℕ) (m : Machine) (t : ℕ) (a : Actor) (h : Holding) (rest : List Duty)
     → AtDuty p n m t a (RetainLoad 0 h) rest → (a.status ≡ Gone → ⊥)
     → OwnFits p (done_by m t a (RetainLoad 0 h) rest) t
     (actor_by t a (RetainLoad 0 h) rest (found_by m t a (RetainLoad 0 h)))
@@ -90,7 +89,7 @@ lost_from t (ByVariable v) p =
     let rest = without (reference_of t (ByVariable v) 0) p.references in
     ap (λ (b : Bool). cond b rest (r ∷ without r rest)) (same-refl r)
 
-pub own_release_none : (p : Module) (n : ℕ) (m : Machine) (t : ℕ) (a : Actor) (h : Holding) (rest : List Duty)
+pub own_release_none : (p : Accounts) (n : ℕ) (m : Machine) (t : ℕ) (a : Actor) (h : Holding) (rest : List Duty)
     → AtDuty p n m t a (ReleaseLoad 0 h) rest → (a.status ≡ Gone → ⊥) → 0 < held (reference_of t h 0) m.plain.references
     → OwnFits p (done_by m t a (ReleaseLoad 0 h) rest) t
     (actor_by t a (ReleaseLoad 0 h) rest (found_by m t a (ReleaseLoad 0 h)))

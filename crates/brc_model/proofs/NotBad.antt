@@ -5,7 +5,6 @@ use Rattle.std.specs.List.{list_any}
 use Rattle.std.proofs.lemmas.Bool.{eq-eqb, ne_eqb, lt-ltb}
 use Rattle.std.proofs.lemmas.List.Sums.{sum_by-cons}
 use Rattle.brc_lang.specs.declared.module.Instr.{Instr}
-use Rattle.brc_lang.specs.declared.module.Module.{Module}
 use Rattle.brc_model.specs.declared.duty.Holding.{Holding}
 use Rattle.brc_model.specs.declared.duty.Holding.TheVariants.{ByVariable, AsCaller, InHand}
 use Rattle.brc_model.specs.Plain.{none_row, is_counted, is_among, Reference, Plain, same_holding, same, references_to, Move, Gain, Lose, HandOn, Finalise, is_allowed, are_allowed, Born, ByThread, holds_by_cells, move, without}
@@ -24,9 +23,9 @@ use Rattle.brc_model.specs.Events.{touched_row, is_freed_for, touches_freed, is_
 use Rattle.brc_model.proofs.Bag.{held, one_if, same_holding-refl, held_has, held-le-references_to, no_cell_holds, same-refl}
 use Rattle.brc_model.proofs.Holds.{nothing, the_root, of_variables, reference_of}
 use Rattle.brc_model.proofs.Rows.{waits, decides, merges, InOwned, InSwapped, InMerged}
-use Rattle.brc_model.proofs.Rule.{extra_of, lacks_of, HoldsAt, PlaceFits, IsBacked, Linked, dies_by, Rule, IsNext}
+use Rattle.brc_model.proofs.Rule.{Accounts, extra_of, lacks_of, IsBacked, Linked, dies_by, Rule, IsNext}
 use Rattle.brc_model.proofs.Agreeing.{is_free_of}
-use Rattle.brc_model.proofs.Alive.{Alive, first_weighs, alive_referenced, alive_waiting, alive_deciding, alive_merging, alive_backed}
+use Rattle.brc_model.proofs.Alive.{extra_held, Alive, first_weighs, alive_referenced, alive_waiting, alive_deciding, alive_merging, alive_backed}
 use Rattle.brc_model.proofs.Others.{is_dying}
 use Rattle.brc_model.proofs.Leaves.{AtDuty, head_of, exchange_alive, decide_alive, merge_alive, claim_alive}
 use Rattle.brc_model.proofs.Blocks.{next_above, next_unborn}
@@ -34,37 +33,20 @@ use Rattle.brc_model.proofs.Nones.{none_immortal}
 
 -- ---- what is given up is held
 
-extra_at : (bag : List Reference) (t : ℕ) (says : Holding → ℕ → Bool) (agenda : List Duty) (k : Holding) (x : ℕ)
-    → HoldsAt bag t says agenda → extra_of agenda k x ≡ true → lacks_of agenda k x ≡ false
-    → 0 < held (reference_of t k x) bag
-extra_at bag t says agenda k x holds more less =
-    let a : one_if (extra_of agenda k x) ≡ 1 = ap one_if more in
-    let b : one_if (lacks_of agenda k x) ≡ 0 = ap one_if less in
-    omega (arith, holds.each k x, a, b)
-
-extra_held : (code : List Instr) (bag : List Reference) (t : ℕ) (agenda : List Duty) (place : Place) (k : Holding)
-    (x : ℕ)
-    → PlaceFits code bag t agenda place → extra_of agenda k x ≡ true → lacks_of agenda k x ≡ false
-    → 0 < held (reference_of t k x) bag
-extra_held code bag t agenda (Standing left) k x fits more less = extra_at bag t the_root agenda k x fits more less
-extra_held code bag t agenda (Inside left at variables) k x fits more less =
-    extra_at bag t (of_variables fits.0 variables) agenda k x fits.2 more less
-extra_held code bag t agenda Departing k x fits more less = extra_at bag t nothing agenda k x fits more less
-
 -- the reference that the first duty gives up is in the bag
-pub gives_held : (p : Module) (n : ℕ) (m : Machine) (t : ℕ) (a : Actor) (d : Duty) (rest : List Duty) (k : Holding)
+pub gives_held : (p : Accounts) (n : ℕ) (m : Machine) (t : ℕ) (a : Actor) (d : Duty) (rest : List Duty) (k : Holding)
     (x : ℕ)
     → AtDuty p n m t a d rest → extra_of (d ∷ rest) k x ≡ true → lacks_of (d ∷ rest) k x ≡ false
     → 0 < held (reference_of t k x) m.plain.references
 gives_held p n m t a d rest k x here more less =
-    extra_held _ m.plain.references t a.agenda a.place k x (here.rule.each t a here.found).0.placed
+    extra_held m.plain.references t (p t) a.agenda k x (here.rule.each t a here.found).0.holds
     (ap (λ (l : List Duty). extra_of l k x) here.agenda ∙ more)
     (ap (λ (l : List Duty). lacks_of l k x) here.agenda ∙ less)
 
 holder_same : (h : Holding) (x : ℕ) → (same_holding h h && (x == x)) ≡ true
 holder_same h x = ap (λ (b : Bool). b && (x == x)) (same_holding-refl h) ∙ eq-eqb x x refl
 
-given_alive : (p : Module) (n : ℕ) (m : Machine) (t : ℕ) (a : Actor) (d : Duty) (rest : List Duty) (k : Holding) (x : ℕ)
+given_alive : (p : Accounts) (n : ℕ) (m : Machine) (t : ℕ) (a : Actor) (d : Duty) (rest : List Duty) (k : Holding) (x : ℕ)
     → AtDuty p n m t a d rest → 0 < x → extra_of (d ∷ rest) k x ≡ true → lacks_of (d ∷ rest) k x ≡ false → Alive m x
 given_alive p n m t a d rest k x here pos more less =
     let some = gives_held p n m t a d rest k x here more less in
@@ -87,7 +69,7 @@ one_if_true true h = refl
 one_if_true false h = absurd (omega arith)
 
 -- the head of the chain is dying
-pub chain_head_dies : (p : Module) (n : ℕ) (m : Machine) (t : ℕ) (a : Actor) (rest : List Duty)
+pub chain_head_dies : (p : Accounts) (n : ℕ) (m : Machine) (t : ℕ) (a : Actor) (rest : List Duty)
     → AtDuty p n m t a Settle rest → m.life (a.head - 1) ≡ Dying t
 chain_head_dies p n m t a rest here =
     let chain = (here.rule.each t a here.found).0.chain in
@@ -105,11 +87,11 @@ chain_head_dies p n m t a rest here =
     ] refl chain.linked
 
 -- nor is what isn't born yet
-next_free : (p : Module) (n : ℕ) (m : Machine) (t : ℕ) (a : Actor) (x : ℕ) → Rule p n m → slice_get m.actors t ≡ Some a
+next_free : (p : Accounts) (n : ℕ) (m : Machine) (t : ℕ) (a : Actor) (x : ℕ) → Rule p n m → slice_get m.actors t ≡ Some a
     → IsNext m t a x → touches_freed m t (Some x) ≡ false
 next_free p n m t a x rule found next = ap (is_freed_for t) (next_unborn p n m t a x rule found next)
 
-touches_none : (p : Module) (n : ℕ) (m : Machine) (t : ℕ) (a : Actor) (d : Duty) (rest : List Duty)
+touches_none : (p : Accounts) (n : ℕ) (m : Machine) (t : ℕ) (a : Actor) (d : Duty) (rest : List Duty)
     → AtDuty p n m t a d rest → touches_freed m t (touched_row (address_of m.rows t a.head d)) ≡ false
 touches_none p n m t a (RetainLoad zero h) rest here = ap (is_freed_for t) here.rule.none_lives
 touches_none p n m t a (RetainLoad (suc x) h) rest here =
@@ -185,7 +167,7 @@ backed_gain m t x h backed =
     one_allowed m.plain (Gain (reference_of t h x))
     (ap (λ (b : Bool). (x == none_row) || b) (lt-ltb 0 _ some) ∙ or_true (x == none_row))
 
-given_in_bag : (p : Module) (n : ℕ) (m : Machine) (t : ℕ) (a : Actor) (d : Duty) (rest : List Duty) (k : Holding)
+given_in_bag : (p : Accounts) (n : ℕ) (m : Machine) (t : ℕ) (a : Actor) (d : Duty) (rest : List Duty) (k : Holding)
     (x : ℕ)
     → AtDuty p n m t a d rest → extra_of (d ∷ rest) k x ≡ true → lacks_of (d ∷ rest) k x ≡ false
     → list_any (same (reference_of t k x)) m.plain.references ≡ true
@@ -229,7 +211,7 @@ dying_is_not_unborn : (m : Machine) (t x : ℕ) → m.life x ≡ Dying t → (m.
 dying_is_not_unborn m t x dying e = let wrong : Dying t ≡ Unborn = sym dying ∙ e in cc
 
 -- a dying row has no reference, its cells hold none, and it wasn't closed
-finalise_allowed : (p : Module) (n : ℕ) (m : Machine) (t x : ℕ) → Rule p n m → 0 < x → m.life x ≡ Dying t
+finalise_allowed : (p : Accounts) (n : ℕ) (m : Machine) (t x : ℕ) → Rule p n m → 0 < x → m.life x ≡ Dying t
     → are_allowed m.plain (Finalise x ∷ []) ≡ true
 finalise_allowed p n m t x rule pos dying =
     let free = is_free_of p n m x rule pos (dying_is_not_live m t x dying) (dying_is_not_unborn m t x dying) in
@@ -244,7 +226,7 @@ finalise_allowed p n m t x rule pos dying =
     one_allowed m.plain (Finalise x) (rw (counted, none, open_still, empty) refl)
 
 -- what is born now wasn't born before
-birth_allowed : (p : Module) (n : ℕ) (m : Machine) (t : ℕ) (a : Actor) (x : ℕ) (h : Holding) (kind : Kind)
+birth_allowed : (p : Accounts) (n : ℕ) (m : Machine) (t : ℕ) (a : Actor) (x : ℕ) (h : Holding) (kind : Kind)
     → Rule p n m → slice_get m.actors t ≡ Some a → IsNext m t a x
     → is_counted_kind kind ≡ true → are_allowed m.plain (birth t h x kind) ≡ true
 birth_allowed p n m t a x h kind rule found next counts =
@@ -257,7 +239,7 @@ birth_allowed p n m t a x h kind rule found next counts =
     ] refl in
     one_allowed m.plain (Born (reference_of t h x) kind) (rw (counted, counts, new) refl)
 
-moves_allowed : (p : Module) (n : ℕ) (m : Machine) (t : ℕ) (a : Actor) (d : Duty) (rest : List Duty)
+moves_allowed : (p : Accounts) (n : ℕ) (m : Machine) (t : ℕ) (a : Actor) (d : Duty) (rest : List Duty)
     → AtDuty p n m t a d rest
     → are_allowed m.plain (moves_by m.memory t d (m.memory (address_of m.rows t a.head d))) ≡ true
 moves_allowed p n m t a (RetainLoad x h) rest here =
@@ -292,7 +274,7 @@ moves_allowed p n m t a (BirthLocal x h) rest here =
     birth_allowed p n m t a x h (kind_of_word (m.memory (KindOf x))) here.rule here.found fits.0 fits.2
 moves_allowed p n m t a _ rest here = refl
 
-pub duty_not_bad : (p : Module) (n : ℕ) (m : Machine) (t : ℕ) (a : Actor) (d : Duty) (rest : List Duty)
+pub duty_not_bad : (p : Accounts) (n : ℕ) (m : Machine) (t : ℕ) (a : Actor) (d : Duty) (rest : List Duty)
     → AtDuty p n m t a d rest → is_bad_duty m t a d ≡ false
 duty_not_bad p n m t a d rest here =
     ap (λ (b : Bool). b || not (are_allowed m.plain (moves_by m.memory t d (m.memory (address_of m.rows t a.head d)))))

@@ -1,10 +1,10 @@
 -- What a thread holds and knows stands through the steps of other threads.
 use Rattle.std.proofs.Common.{◌≡◌, ◌≢◌, ℕ, ◌+◌, ◌<◌, Bool, true, false, cond, List, [], ◌∷◌, inl, inr, Some, refl, sym, ap, ◌∙◌, subst, arith}
-use Rattle.std.specs.Prelude.{◌==◌, slice_get, count_by}
+use Rattle.std.specs.Prelude.{◌==◌, slice_get, slice_set, count_by}
 use Rattle.std.proofs.lemmas.Bool.{eq-eqb, eqb-true}
+use Rattle.std.proofs.lemmas.Bool.Decides.{eqb_tells}
 use Rattle.std.proofs.lemmas.List.Sums.{sum_by-cons}
-use Rattle.brc_lang.specs.declared.module.Instr.{Instr}
-use Rattle.brc_lang.specs.declared.module.Module.{Module}
+use Rattle.std.proofs.lemmas.Option.{slice_get_within}
 use Rattle.brc_model.specs.declared.duty.Holding.{Holding}
 use Rattle.brc_word.specs.Words.{phase_part, local_part, owner_part}
 use Rattle.brc_model.specs.declared.duty.Reason.TheVariants.{Own, Handed}
@@ -17,8 +17,9 @@ use Rattle.brc_model.specs.declared.actor.Place.{Place}
 use Rattle.brc_model.specs.declared.actor.Place.TheVariants.{Standing, Inside, Departing}
 use Rattle.brc_model.specs.Machine.{Actor, Life, Unborn, Live, Dying, Closed, Machine, first_row}
 use Rattle.brc_model.proofs.Bag.{held, one_if}
-use Rattle.brc_model.proofs.Holds.{the_root, nothing, of_variables, reference_of}
-use Rattle.brc_model.proofs.Rule.{HoldsAt, PlaceFits, OwnsLocally, IsBacked, MayMerge, IsMergeOf, IsNext, HasCountedKind, HeadFits, HeadOf, Linked, dies_by, ChainFits, ActorFits}
+use Rattle.brc_model.proofs.Holds.{reference_of}
+use Rattle.brc_model.proofs.Lists.{some_is, slice_get-set_same, slice_get-set_other}
+use Rattle.brc_model.proofs.Rule.{Fits, AgendaFits, Accounts, HoldsAt, Account, OwnsLocally, IsBacked, MayMerge, IsMergeOf, IsNext, HasCountedKind, HeadFits, HeadOf, Linked, dies_by, ChainFits, ActorFits}
 
 -- what the others rely on
 pub record LeavesOthers (m new : Machine) (t : ℕ) : Type 0 where
@@ -35,17 +36,10 @@ pub record LeavesOthers (m new : Machine) (t : ℕ) : Type 0 where
   pub kinds : (x : ℕ) → HasCountedKind m.memory x → HasCountedKind new.memory x
   pub lives : (u x : ℕ) → u ≢ t → dies_by (new.life x) u ≡ dies_by (m.life x) u
 
-holds_kept : (m new : Machine) (t u : ℕ) (says : Holding → ℕ → Bool) (agenda : List Duty) → LeavesOthers m new t → u ≢ t
-    → HoldsAt m.plain.references u says agenda → HoldsAt new.plain.references u says agenda
-holds_kept m new t u says agenda leaves ne holds =
+holds_kept : (m new : Machine) (t u : ℕ) (account : Account) (agenda : List Duty) → LeavesOthers m new t → u ≢ t
+    → HoldsAt m.plain.references u account agenda → HoldsAt new.plain.references u account agenda
+holds_kept m new t u account agenda leaves ne holds =
     record { each = λ k object. omega (arith, leaves.bag u k object ne, holds.each k object) }
-
-place_kept : (code : List Instr) (m new : Machine) (t u : ℕ) (agenda : List Duty) (place : Place) → LeavesOthers m new t
-    → u ≢ t → PlaceFits code m.plain.references u agenda place → PlaceFits code new.plain.references u agenda place
-place_kept code m new t u agenda (Standing left) leaves ne fits = holds_kept m new t u the_root agenda leaves ne fits
-place_kept code m new t u agenda (Inside left at variables) leaves ne fits =
-    (fits.0, fits.1, holds_kept m new t u (of_variables fits.0 variables) agenda leaves ne fits.2)
-place_kept code m new t u agenda Departing leaves ne fits = holds_kept m new t u nothing agenda leaves ne fits
 
 backed_kept : (m new : Machine) (t u x : ℕ) → LeavesOthers m new t → u ≢ t → IsBacked m u x → IsBacked new u x
 backed_kept m new t u x leaves ne backed =
@@ -191,13 +185,37 @@ chain_kept m new t u head agenda leaves ne fits = record {
   once = λ x. fits.once x ∙ ap one_if (sym (leaves.lives u x ne));
 }
 
-pub others_fit : (p : Module) (m new : Machine) (t u : ℕ) (b : Actor) → LeavesOthers m new t → u ≢ t
-    → slice_get m.actors u ≡ Some b → ActorFits p m u b → ActorFits p new u b
-others_fit p m new t u b leaves ne found fits = record {
-  accepted = fits.accepted;
-  instructions = fits.instructions;
+others_fit : (account : Account) (m new : Machine) (t u : ℕ) (b : Actor) → LeavesOthers m new t → u ≢ t
+    → slice_get m.actors u ≡ Some b → ActorFits account m u b → ActorFits account new u b
+others_fit account m new t u b leaves ne found fits = record {
   word = leaves.words u ne ∙ fits.word;
-  placed = place_kept _ m new t u b.agenda b.place leaves ne fits.placed;
+  holds = holds_kept m new t u account b.agenda leaves ne fits.holds;
+  departed = fits.departed;
   head_fits = head_of_kept m new t u b b.agenda leaves ne found fits.head_fits;
   chain = chain_kept m new t u b.head b.agenda leaves ne fits.chain;
 }
+
+-- ---- all threads
+
+-- After a thread's step all threads fit, where it fits and leaves what the others rely on.
+pub each_fits : (p q : Accounts) (m new : Machine) (t : ℕ) (a after : Actor) → slice_get m.actors t ≡ Some a
+    → LeavesOthers m new t → ((u : ℕ) → u ≢ t → p u ≡ q u) → Fits (q t) new t after
+    → ((u : ℕ) (b : Actor) → slice_get m.actors u ≡ Some b → Fits (p u) m u b)
+    → (u : ℕ) (b : Actor) → slice_get (slice_set m.actors t after) u ≡ Some b → Fits (q u) new u b
+each_fits p q m new t a after at leaves same own each u b is =
+    elim (eqb_tells u t) [
+      | inl this ↦
+          let written_is : Some after ≡ Some b =
+          sym (ap (slice_get (slice_set m.actors t after)) this.1
+          ∙ slice_get-set_same m.actors t after (slice_get_within m.actors t a at)) ∙ is in
+          subst (λ (c : Actor). Fits (q u) new u c) (some_is after b written_is)
+          (subst (λ (w : ℕ). Fits (q w) new w after) (sym this.1) own)
+      | inr apart ↦
+          let found : slice_get m.actors u ≡ Some b = sym (slice_get-set_other m.actors t u after apart.1) ∙ is in
+          let old = each u b found in
+          let fits = others_fit (p u) m new t u b leaves apart.1 found old.0 in (
+            subst (λ (account : Account). ActorFits account new u b) (same u apart.1) fits,
+            subst (λ (rows : ℕ). AgendaFits rows u b b.status) (sym leaves.rows) old.1,
+            old.2,
+          )
+    ]

@@ -1,6 +1,5 @@
 -- A thread after its own step: what it holds, its chain and its agenda, put together from what the step changed.
 use Rattle.std.proofs.Common.{◌≡◌, ℕ, zero, suc, ◌+◌, Bool, false, List, [], ◌∷◌, refl, arith}
-use Rattle.brc_lang.specs.declared.module.Instr.{Instr}
 use Rattle.brc_model.specs.declared.duty.Holding.{Holding}
 use Rattle.brc_model.specs.Plain.{Reference}
 use Rattle.brc_model.specs.declared.duty.Reason.TheVariants.{Handed}
@@ -13,8 +12,8 @@ use Rattle.brc_model.specs.declared.actor.Place.{Place}
 use Rattle.brc_model.specs.declared.actor.Place.TheVariants.{Standing, Inside, Departing}
 use Rattle.brc_model.specs.Machine.{Actor, Machine}
 use Rattle.brc_model.proofs.Bag.{held, one_if}
-use Rattle.brc_model.proofs.Holds.{the_root, nothing, of_variables, reference_of}
-use Rattle.brc_model.proofs.Rule.{extra_of, lacks_of, HoldsAt, PlaceFits, HeadOf, Later, Agenda, NoneHanded, HandedOnce, hand_of, dies_by, ChainFits}
+use Rattle.brc_model.proofs.Holds.{reference_of}
+use Rattle.brc_model.proofs.Rule.{extra_of, lacks_of, HoldsAt, Account, HeadOf, Later, Agenda, NoneHanded, HandedOnce, hand_of, dies_by, ChainFits}
 use Rattle.brc_model.proofs.Others.{linked_kept}
 
 -- ---- what is held
@@ -25,17 +24,10 @@ pub record HeldStep (bag new : List Reference) (t : ℕ) (agenda later : List Du
       → held (reference_of t k object) new + one_if (lacks_of later k object) + one_if (extra_of agenda k object)
       ≡ held (reference_of t k object) bag + one_if (lacks_of agenda k object) + one_if (extra_of later k object)
 
-holds_step : (bag new : List Reference) (t : ℕ) (says : Holding → ℕ → Bool) (agenda later : List Duty)
-    → HeldStep bag new t agenda later → HoldsAt bag t says agenda → HoldsAt new t says later
-holds_step bag new t says agenda later step holds =
+pub holds_step : (bag new : List Reference) (t : ℕ) (account : Account) (agenda later : List Duty)
+    → HeldStep bag new t agenda later → HoldsAt bag t account agenda → HoldsAt new t account later
+holds_step bag new t account agenda later step holds =
     record { each = λ k object. omega (arith, step.each k object, holds.each k object) }
-
-pub place_step : (code : List Instr) (bag new : List Reference) (t : ℕ) (agenda later : List Duty) (place : Place)
-    → HeldStep bag new t agenda later → PlaceFits code bag t agenda place → PlaceFits code new t later place
-place_step code bag new t agenda later (Standing left) step fits = holds_step bag new t the_root agenda later step fits
-place_step code bag new t agenda later (Inside left at variables) step fits =
-    (fits.0, fits.1, holds_step bag new t (of_variables fits.0 variables) agenda later step fits.2)
-place_step code bag new t agenda later Departing step fits = holds_step bag new t nothing agenda later step fits
 
 -- ---- agendas
 

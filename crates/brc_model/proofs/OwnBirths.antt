@@ -2,7 +2,6 @@
 use Rattle.std.proofs.Common.{◌≡◌, ℕ, ◌+◌, Bool, true, false, cond, List, [], ◌∷◌, inl, inr, refl, sym, ap, ◌∙◌, subst, arith}
 use Rattle.std.specs.Prelude.{◌==◌}
 use Rattle.std.proofs.lemmas.Bool.Decides.{eqb_tells}
-use Rattle.brc_lang.specs.declared.module.Module.{Module}
 use Rattle.brc_model.specs.declared.duty.Holding.{Holding}
 use Rattle.brc_model.specs.declared.duty.Duty.{Duty}
 use Rattle.brc_model.specs.declared.duty.Duty.TheVariants.{BirthKind, BirthSlot, BirthLocal}
@@ -10,7 +9,7 @@ use Rattle.brc_model.specs.Duties.{has_resource}
 use Rattle.brc_model.specs.declared.actor.Status.TheVariants.{Gone}
 use Rattle.brc_model.specs.Machine.{Actor, Life, Unborn, Live, Machine, done_by, actor_by, first_row}
 use Rattle.brc_model.proofs.Bag.{one_if}
-use Rattle.brc_model.proofs.Rule.{IsNext, HasCountedKind, Agenda, dies_by}
+use Rattle.brc_model.proofs.Rule.{Accounts, IsNext, HasCountedKind, Agenda, dies_by}
 use Rattle.brc_model.proofs.Written.{written_here}
 use Rattle.brc_model.specs.declared.address.Address.TheVariants.{KindOf}
 use Rattle.brc_model.specs.Kinds.{kind_of_word, is_counted_kind}
@@ -36,7 +35,7 @@ still_next m new t a b x rows status used next = record {
   room = omega (arith, next.room, rows, used);
 }
 
-pub own_birth_kind : (p : Module) (n : ℕ) (m : Machine) (t : ℕ) (a : Actor) (x : ℕ) (h : Holding) (w : ℕ)
+pub own_birth_kind : (p : Accounts) (n : ℕ) (m : Machine) (t : ℕ) (a : Actor) (x : ℕ) (h : Holding) (w : ℕ)
     (rest : List Duty)
     → AtDuty p n m t a (BirthKind x h w) rest → (a.status ≡ Gone → ⊥)
     → OwnFits p (done_by m t a (BirthKind x h w) rest) t
@@ -72,7 +71,7 @@ own_birth_kind p n m t a x h w rest here alive =
           })
     ] refl
 
-pub own_birth_slot : (p : Module) (n : ℕ) (m : Machine) (t : ℕ) (a : Actor) (x : ℕ) (h : Holding) (rest : List Duty)
+pub own_birth_slot : (p : Accounts) (n : ℕ) (m : Machine) (t : ℕ) (a : Actor) (x : ℕ) (h : Holding) (rest : List Duty)
     → AtDuty p n m t a (BirthSlot x h) rest → (a.status ≡ Gone → ⊥)
     → OwnFits p (done_by m t a (BirthSlot x h) rest) t
     (actor_by t a (BirthSlot x h) rest (found_by m t a (BirthSlot x h)))
@@ -103,7 +102,7 @@ born_dies life t x y unborn =
     ]
 
 -- the object is born, and nothing is left to do
-pub own_birth_local : (p : Module) (n : ℕ) (m : Machine) (t : ℕ) (a : Actor) (x : ℕ) (h : Holding) (rest : List Duty)
+pub own_birth_local : (p : Accounts) (n : ℕ) (m : Machine) (t : ℕ) (a : Actor) (x : ℕ) (h : Holding) (rest : List Duty)
     → AtDuty p n m t a (BirthLocal x h) rest → (a.status ≡ Gone → ⊥)
     → OwnFits p (done_by m t a (BirthLocal x h) rest) t
     (actor_by t a (BirthLocal x h) rest (found_by m t a (BirthLocal x h)))

@@ -4,7 +4,6 @@ use Rattle.std.specs.Prelude.{◌==◌, count_by}
 use Rattle.std.proofs.lemmas.Bool.{eq-eqb}
 use Rattle.std.proofs.lemmas.Bool.Decides.{eqb_tells}
 use Rattle.std.proofs.lemmas.List.Sums.{sum_by-cons}
-use Rattle.brc_lang.specs.declared.module.Module.{Module}
 use Rattle.brc_word.specs.Words.{dying_word, next_part, closed_word}
 use Rattle.brc_model.specs.declared.duty.Duty.{Duty}
 use Rattle.brc_model.specs.declared.duty.Duty.TheVariants.{Die, Settle, SettleKind, SettleEnd}
@@ -13,7 +12,7 @@ use Rattle.brc_model.specs.Duties.{ready}
 use Rattle.brc_model.specs.declared.actor.Status.TheVariants.{Gone}
 use Rattle.brc_model.specs.Machine.{Actor, Unborn, Live, Dying, Closed, Machine, with_life, actor_by, done_by, written}
 use Rattle.brc_model.proofs.Bag.{one_if}
-use Rattle.brc_model.proofs.Rule.{Linked, hand_of, dies_by, ChainFits, Rule}
+use Rattle.brc_model.proofs.Rule.{Accounts, Linked, hand_of, dies_by, ChainFits, Rule}
 use Rattle.brc_model.proofs.Written.{written_here, written_apart, written_load, apart_gate}
 use Rattle.brc_model.proofs.Others.{is_dying, linked_kept}
 use Rattle.brc_model.proofs.Leaves.{AtDuty, head_of}
@@ -27,7 +26,7 @@ use Rattle.brc_model.proofs.OwnShown.{ShownStep, own_shown, agenda_shown}
 -- ---- which rows die
 
 -- the chain at a thread's first duty
-pub chain_here : (p : Module) (n : ℕ) (m : Machine) (t : ℕ) (a : Actor) (d : Duty) (rest : List Duty)
+pub chain_here : (p : Accounts) (n : ℕ) (m : Machine) (t : ℕ) (a : Actor) (d : Duty) (rest : List Duty)
     → AtDuty p n m t a d rest → ChainFits m t a.head (d ∷ rest)
 chain_here p n m t a d rest here =
     subst (λ (l : List Duty). ChainFits m t a.head l) here.agenda (here.rule.each t a here.found).0.chain
@@ -44,10 +43,10 @@ one_if_some false some = absurd (omega arith)
 pub dying_born : (m : Machine) (t x : ℕ) → m.life x ≡ Dying t → m.life x ≢ Unborn
 dying_born m t x dies unborn = let wrong : Unborn ≡ Dying t = sym unborn ∙ dies in cc
 
-pub dying_low : (p : Module) (n : ℕ) (m : Machine) (t x : ℕ) → Rule p n m → m.life x ≡ Dying t → x < 32770
+pub dying_low : (p : Accounts) (n : ℕ) (m : Machine) (t x : ℕ) → Rule p n m → m.life x ≡ Dying t → x < 32770
 dying_low p n m t x rule dies = born_low p n m x rule (dying_born m t x dies)
 
-pub dying_above : (p : Module) (n : ℕ) (m : Machine) (t x : ℕ) → Rule p n m → m.life x ≡ Dying t → 0 < x
+pub dying_above : (p : Accounts) (n : ℕ) (m : Machine) (t x : ℕ) → Rule p n m → m.life x ≡ Dying t → 0 < x
 dying_above p n m t zero rule dies = absurd (let wrong : Live ≡ Dying t = sym rule.none_lives ∙ dies in cc)
 dying_above p n m t (suc x) rule dies = omega arith
 
@@ -59,7 +58,7 @@ hand_not_chained m t head x agenda chain at =
     omega (arith, one, chain.once x, one_if_low (dies_by (m.life x) t))
 
 -- the head is a dying row's
-pub head_low : (p : Module) (n : ℕ) (m : Machine) (t head : ℕ) (agenda : List Duty) (chained : List ℕ) → Rule p n m
+pub head_low : (p : Accounts) (n : ℕ) (m : Machine) (t head : ℕ) (agenda : List Duty) (chained : List ℕ) → Rule p n m
     → Linked m.memory t head chained
     → ((x : ℕ) → one_if (hand_of agenda x) + count_by (λ y. y == x) chained ≡ one_if (dies_by (m.life x) t))
     → head < 4294967296
@@ -73,7 +72,7 @@ head_low p n m t head agenda (x ∷ xs) rule linked once =
 
 -- ---- a row is chained
 
-die_chain : (p : Module) (n : ℕ) (m : Machine) (t : ℕ) (a : Actor) (x : ℕ) (rest agenda : List Duty)
+die_chain : (p : Accounts) (n : ℕ) (m : Machine) (t : ℕ) (a : Actor) (x : ℕ) (rest agenda : List Duty)
     → AtDuty p n m t a (Die x) rest → ((y : ℕ) → hand_of agenda y ≡ false)
     → ChainFits (done_by m t a (Die x) rest) t (x + 1) agenda
 die_chain p n m t a x rest agenda here none =
@@ -100,7 +99,7 @@ die_chain p n m t a x rest agenda here none =
           ap one_if (none y) in omega (arith, hand, old.once y, sum_by-cons (λ z. cond (z == y) 1 0) x old.chained);
     }
 
-pub own_die : (p : Module) (n : ℕ) (m : Machine) (t : ℕ) (a : Actor) (x : ℕ) (rest : List Duty)
+pub own_die : (p : Accounts) (n : ℕ) (m : Machine) (t : ℕ) (a : Actor) (x : ℕ) (rest : List Duty)
     → AtDuty p n m t a (Die x) rest → (a.status ≡ Gone → ⊥)
     → OwnFits p (done_by m t a (Die x) rest) t (actor_by t a (Die x) rest (found_by m t a (Die x)))
 own_die p n m t a x rest here alive =
@@ -156,13 +155,13 @@ first_by m t a rest (x ∷ xs) some linked once =
       dies = is_dying (m.life x) t (one_if_some _ (omega (arith, each x, here)));
     }
 
-first_chained : (p : Module) (n : ℕ) (m : Machine) (t : ℕ) (a : Actor) (rest : List Duty) → AtDuty p n m t a Settle rest
+first_chained : (p : Accounts) (n : ℕ) (m : Machine) (t : ℕ) (a : Actor) (rest : List Duty) → AtDuty p n m t a Settle rest
     → FirstChained m t a rest
 first_chained p n m t a rest here =
     let old = chain_here p n m t a Settle rest here in
     first_by m t a rest old.chained (head_of p n m t a Settle rest here) old.linked old.once
 
-settle_shown : (p : Module) (n : ℕ) (m : Machine) (t : ℕ) (a : Actor) (rest : List Duty)
+settle_shown : (p : Accounts) (n : ℕ) (m : Machine) (t : ℕ) (a : Actor) (rest : List Duty)
     (first : FirstChained m t a rest)
     → AtDuty p n m t a Settle rest → (a.status ≡ Gone → ⊥) → a.head - 1 ≡ first.row
     → ShownStep m t a Settle rest (SettleKind first.row ∷ Settle ∷ rest) a.status first.next
@@ -195,7 +194,7 @@ settle_shown p n m t a rest first here alive row_is =
       knows = λ b status h used. (dying_above p n m t first.row here.rule first.dies, first.dies);
     }
 
-pub own_settle : (p : Module) (n : ℕ) (m : Machine) (t : ℕ) (a : Actor) (rest : List Duty)
+pub own_settle : (p : Accounts) (n : ℕ) (m : Machine) (t : ℕ) (a : Actor) (rest : List Duty)
     → AtDuty p n m t a Settle rest → (a.status ≡ Gone → ⊥)
     → OwnFits p (done_by m t a Settle rest) t (actor_by t a Settle rest (found_by m t a Settle))
 own_settle p n m t a rest here alive =
@@ -205,7 +204,7 @@ own_settle p n m t a rest here alive =
 
 -- ---- the row is closed
 
-end_chain : (p : Module) (n : ℕ) (m : Machine) (t : ℕ) (a : Actor) (x : ℕ) (rest agenda : List Duty)
+end_chain : (p : Accounts) (n : ℕ) (m : Machine) (t : ℕ) (a : Actor) (x : ℕ) (rest agenda : List Duty)
     → AtDuty p n m t a (SettleEnd x) rest → ((y : ℕ) → hand_of agenda y ≡ false)
     → ChainFits (done_by m t a (SettleEnd x) rest) t a.head agenda
 end_chain p n m t a x rest agenda here none =
@@ -233,7 +232,7 @@ end_chain p n m t a x rest agenda here none =
           ];
     }
 
-pub own_settle_end : (p : Module) (n : ℕ) (m : Machine) (t : ℕ) (a : Actor) (x : ℕ) (rest : List Duty)
+pub own_settle_end : (p : Accounts) (n : ℕ) (m : Machine) (t : ℕ) (a : Actor) (x : ℕ) (rest : List Duty)
     → AtDuty p n m t a (SettleEnd x) rest → (a.status ≡ Gone → ⊥)
     → OwnFits p (done_by m t a (SettleEnd x) rest) t (actor_by t a (SettleEnd x) rest (found_by m t a (SettleEnd x)))
 own_settle_end p n m t a x rest here alive =

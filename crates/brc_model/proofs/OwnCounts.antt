@@ -3,7 +3,6 @@ use Rattle.std.proofs.Common.{◌≡◌, ℕ, Bool, true, false, List, ◌∷◌
 use Rattle.std.specs.Prelude.{◌==◌, ◌&&◌}
 use Rattle.std.specs.List.{list_any}
 use Rattle.std.proofs.lemmas.Bool.{eqb-true, eqb-false, eq-eqb, ne_eqb}
-use Rattle.brc_lang.specs.declared.module.Module.{Module}
 use Rattle.brc_model.specs.declared.duty.Holding.{Holding}
 use Rattle.brc_model.specs.declared.duty.Holding.TheVariants.{ByVariable, AsCaller, InHand}
 use Rattle.brc_model.specs.Plain.{Reference, same_holding, same, without}
@@ -15,7 +14,7 @@ use Rattle.brc_model.specs.Machine.{Actor, Machine}
 use Rattle.brc_model.proofs.Bag.{one_if, held-cons, held-without}
 use Rattle.brc_model.proofs.Holds.{reference_of}
 use Rattle.brc_model.proofs.Rows.{InOwned, InSwapped, InMerged}
-use Rattle.brc_model.proofs.Rule.{extra_of, lacks_of}
+use Rattle.brc_model.proofs.Rule.{Accounts, extra_of, lacks_of}
 use Rattle.brc_model.proofs.Alive.{alive_backed}
 use Rattle.brc_model.proofs.Leaves.{AtDuty, head_of}
 use Rattle.brc_model.proofs.Own.{HeldStep}
@@ -105,7 +104,7 @@ held_lost bag t x h agenda later has extra no_less more less = record {
 
 -- ---- retains
 
-pub backed_not_immortal : (p : Module) (n : ℕ) (m : Machine) (t : ℕ) (a : Actor) (x : ℕ) (h : Holding)
+pub backed_not_immortal : (p : Accounts) (n : ℕ) (m : Machine) (t : ℕ) (a : Actor) (x : ℕ) (h : Holding)
     (rest : List Duty)
     → 0 < x → AtDuty p n m t a (RetainLoad x h) rest → is_immortal_word (m.memory (Local x)) ≡ false
 backed_not_immortal p n m t a x h rest pos here =

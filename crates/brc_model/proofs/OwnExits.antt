@@ -2,7 +2,6 @@
 use Rattle.std.proofs.Common.{◌≡◌, ℕ, ◌+◌, ◌-◌, ◌<◌, Bool, true, false, cond, List, [], ◌∷◌, ◌++◌, inl, inr, None, refl, sym, ap, ◌∙◌, subst, arith, ◌≢◌}
 use Rattle.std.specs.Prelude.{◌==◌}
 use Rattle.std.proofs.lemmas.Bool.{eqb-true}
-use Rattle.brc_lang.specs.declared.module.Module.{Module}
 use Rattle.brc_model.specs.declared.duty.Holding.{Holding}
 use Rattle.brc_model.specs.declared.duty.Reason.TheVariants.{Handed}
 use Rattle.brc_model.specs.declared.duty.Duty.{Duty}
@@ -12,7 +11,7 @@ use Rattle.brc_model.specs.Duties.{block_of, claimed, head_by, ready}
 use Rattle.brc_model.specs.declared.actor.Status.TheVariants.{Leaving, Gone}
 use Rattle.brc_model.specs.Machine.{Actor, Life, Machine, status_by, dies_next, ended_row, actor_by, done_by, born_row, Unborn}
 use Rattle.brc_model.proofs.Bag.{one_if}
-use Rattle.brc_model.proofs.Rule.{extra_of, lacks_of, Later, NoneHanded, numbers_of, hand_of, dies_by, ChainFits, Rule}
+use Rattle.brc_model.proofs.Rule.{Accounts, extra_of, lacks_of, Later, NoneHanded, numbers_of, hand_of, dies_by, ChainFits, Rule}
 use Rattle.brc_model.proofs.Rows.{RowRule}
 use Rattle.brc_model.proofs.Written.{written_here}
 use Rattle.brc_model.proofs.Leaves.{AtDuty, head_of}
@@ -28,14 +27,14 @@ use Rattle.brc_model.proofs.Settled.{ready_none}
 
 -- ---- marked rows
 
-pub mark_above : (p : Module) (n : ℕ) (m : Machine) (x : ℕ) → Rule p n m → m.memory (Mark x) ≡ 1 → 0 < x
+pub mark_above : (p : Accounts) (n : ℕ) (m : Machine) (x : ℕ) → Rule p n m → m.memory (Mark x) ≡ 1 → 0 < x
 mark_above p n m x rule marked = elim (rule.marks x) [
   | inl none ↦ absurd (omega (arith, none, marked))
   | inr some ↦ some.1
 ]
 
 -- what is marked was born
-pub marked_born : (p : Module) (n : ℕ) (m : Machine) (x : ℕ) → Rule p n m → m.memory (Mark x) ≡ 1 → m.life x ≢ Unborn
+pub marked_born : (p : Accounts) (n : ℕ) (m : Machine) (x : ℕ) → Rule p n m → m.memory (Mark x) ≡ 1 → m.life x ≢ Unborn
 marked_born p n m x rule marked = λ unborn.
     let row =
     subst (λ (l : Life). RowRule (block_of m.rows x) l (numbers_of m x)) unborn
@@ -62,7 +61,7 @@ record ClaimStep (m : Machine) (t : ℕ) (a : Actor) (d : Duty) (x : ℕ) (rest 
   later : Later m.rows t a.used a.status a.place (behind ++ rest)
   none : NoneHanded (behind ++ rest)
 
-claim_step : (p : Module) (n : ℕ) (m : Machine) (t : ℕ) (a : Actor) (d : Duty) (x : ℕ) (rest behind : List Duty)
+claim_step : (p : Accounts) (n : ℕ) (m : Machine) (t : ℕ) (a : Actor) (d : Duty) (x : ℕ) (rest behind : List Duty)
     → AtDuty p n m t a d rest → (a.status ≡ Gone → ⊥) → ClaimStep m t a d x rest behind
     → OwnFits p (done_by m t a d rest) t (actor_by t a d rest (found_by m t a d))
 claim_step p n m t a d x rest behind here alive step =
@@ -110,7 +109,7 @@ claim_step p n m t a d x rest behind here alive step =
           })
     ] refl
 
-pub own_scan : (p : Module) (n : ℕ) (m : Machine) (t : ℕ) (a : Actor) (x k : ℕ) (rest : List Duty)
+pub own_scan : (p : Accounts) (n : ℕ) (m : Machine) (t : ℕ) (a : Actor) (x k : ℕ) (rest : List Duty)
     → AtDuty p n m t a (Scan x k) rest → (a.status ≡ Gone → ⊥)
     → OwnFits p (done_by m t a (Scan x k) rest) t (actor_by t a (Scan x k) rest (found_by m t a (Scan x k)))
 own_scan p n m t a x k rest here alive =
@@ -133,7 +132,7 @@ own_scan p n m t a x k rest here alive =
     })
 
 -- a running thread looks into its queue
-pub own_claim_mark : (p : Module) (n : ℕ) (m : Machine) (t : ℕ) (a : Actor) (x : ℕ) (rest : List Duty)
+pub own_claim_mark : (p : Accounts) (n : ℕ) (m : Machine) (t : ℕ) (a : Actor) (x : ℕ) (rest : List Duty)
     → AtDuty p n m t a (ClaimMark x) rest → (a.status ≡ Gone → ⊥)
     → OwnFits p (done_by m t a (ClaimMark x) rest) t (actor_by t a (ClaimMark x) rest (found_by m t a (ClaimMark x)))
 own_claim_mark p n m t a x rest here alive =
@@ -156,7 +155,7 @@ own_claim_mark p n m t a x rest here alive =
 -- ---- the thread says that it leaves
 
 -- no row is at hand before the step, nor after it
-exit_chain : (p : Module) (n : ℕ) (m : Machine) (t : ℕ) (a : Actor) (d : Duty) (rest agenda : List Duty)
+exit_chain : (p : Accounts) (n : ℕ) (m : Machine) (t : ℕ) (a : Actor) (d : Duty) (rest agenda : List Duty)
     → AtDuty p n m t a d rest → ((y : ℕ) → memory_by m t a d (Gate y) ≡ m.memory (Gate y))
     → ((y : ℕ) → (done_by m t a d rest).life y ≡ m.life y)
     → ((y : ℕ) → hand_of (d ∷ rest) y ≡ false) → ((y : ℕ) → hand_of agenda y ≡ false)
@@ -172,7 +171,7 @@ exit_chain p n m t a d rest agenda here gates lives before after =
           omega (arith, was, now, life);
     }) (chain_here p n m t a d rest here)
 
-pub own_leave : (p : Module) (n : ℕ) (m : Machine) (t : ℕ) (a : Actor) (x k : ℕ) (rest : List Duty)
+pub own_leave : (p : Accounts) (n : ℕ) (m : Machine) (t : ℕ) (a : Actor) (x k : ℕ) (rest : List Duty)
     → AtDuty p n m t a (Leave x k) rest → (a.status ≡ Gone → ⊥)
     → OwnFits p (done_by m t a (Leave x k) rest) t (actor_by t a (Leave x k) rest (found_by m t a (Leave x k)))
 own_leave p n m t a x k [] here alive =
@@ -199,7 +198,7 @@ own_leave p n m t a x k (e ∷ rest) here alive = absurd (agenda_here p n m t a 
 -- ---- the thread is gone
 
 -- its chain is empty by `IsSettled`: a thread settles before it leaves, and after each mark
-pub own_finish : (p : Module) (n : ℕ) (m : Machine) (t : ℕ) (a : Actor) (rest : List Duty)
+pub own_finish : (p : Accounts) (n : ℕ) (m : Machine) (t : ℕ) (a : Actor) (rest : List Duty)
     → AtDuty p n m t a Finish rest → (a.status ≡ Gone → ⊥) → (empty : a.head ≡ 0)
     → OwnFits p (done_by m t a Finish rest) t (actor_by t a Finish rest (found_by m t a Finish))
 own_finish p n m t a [] here alive empty =

@@ -2,7 +2,6 @@
 use Rattle.std.proofs.Common.{◌≡◌, ℕ, Bool, true, false, cond, List, [], ◌∷◌, ◌⊎◌, inl, inr, refl, sym, ap, ◌∙◌, subst, arith}
 use Rattle.std.specs.Prelude.{◌==◌}
 use Rattle.std.proofs.lemmas.Bool.{eqb-true, eqb-false, eq-eqb, ne_eqb}
-use Rattle.brc_lang.specs.declared.module.Module.{Module}
 use Rattle.brc_model.specs.declared.duty.Holding.{Holding}
 use Rattle.brc_word.specs.Words.{local_part, phase_part, dead_word, merged_word}
 use Rattle.brc_model.specs.declared.duty.Reason.{Reason}
@@ -16,7 +15,7 @@ use Rattle.brc_model.specs.Machine.{Actor, Machine, done_by, actor_by}
 use Rattle.brc_model.proofs.Bag.{one_if}
 use Rattle.brc_model.proofs.Rows.{decides, InOwned, InSwapped, InMerged}
 use Rattle.brc_model.proofs.RowSteps.{shared_merged}
-use Rattle.brc_model.proofs.Rule.{extra_of, lacks_of, FollowsHanded, IsMergeOf, Later, NoneHanded, HandedOnce}
+use Rattle.brc_model.proofs.Rule.{Accounts, extra_of, lacks_of, FollowsHanded, IsMergeOf, Later, NoneHanded, HandedOnce}
 use Rattle.brc_model.proofs.Alive.{first_weighs, Alive, alive_deciding}
 use Rattle.brc_model.proofs.Written.{written_here}
 use Rattle.brc_model.proofs.Leaves.{AtDuty, head_of, merge_alive}
@@ -30,7 +29,7 @@ use Rattle.brc_model.proofs.MergesOnce.{swapped_apart, awaited_lives}
 
 -- ---- a mark is set, and looked after
 
-pub own_set_mark : (p : Module) (n : ℕ) (m : Machine) (t : ℕ) (a : Actor) (x : ℕ) (rest : List Duty)
+pub own_set_mark : (p : Accounts) (n : ℕ) (m : Machine) (t : ℕ) (a : Actor) (x : ℕ) (rest : List Duty)
     → AtDuty p n m t a (SetMark x) rest → (a.status ≡ Gone → ⊥)
     → OwnFits p (done_by m t a (SetMark x) rest) t (actor_by t a (SetMark x) rest (found_by m t a (SetMark x)))
 own_set_mark p n m t a x rest here alive =
@@ -40,7 +39,7 @@ own_set_mark p n m t a x rest here alive =
     (agenda_here p n m t a d rest here alive) (handed_here p n m t a d rest here)
     (λ b status head used. head_of p n m t a d rest here)
 
-pub own_look : (p : Module) (n : ℕ) (m : Machine) (t : ℕ) (a : Actor) (x : ℕ) (rest : List Duty)
+pub own_look : (p : Accounts) (n : ℕ) (m : Machine) (t : ℕ) (a : Actor) (x : ℕ) (rest : List Duty)
     → AtDuty p n m t a (Look x) rest → (a.status ≡ Gone → ⊥)
     → OwnFits p (done_by m t a (Look x) rest) t (actor_by t a (Look x) rest (found_by m t a (Look x)))
 own_look p n m t a x rest here alive =
@@ -62,7 +61,7 @@ own_look p n m t a x rest here alive =
           ))
     ] refl
 
-pub own_take_mark : (p : Module) (n : ℕ) (m : Machine) (t : ℕ) (a : Actor) (x : ℕ) (rest : List Duty)
+pub own_take_mark : (p : Accounts) (n : ℕ) (m : Machine) (t : ℕ) (a : Actor) (x : ℕ) (rest : List Duty)
     → AtDuty p n m t a (TakeMark x) rest → (a.status ≡ Gone → ⊥)
     → OwnFits p (done_by m t a (TakeMark x) rest) t (actor_by t a (TakeMark x) rest (found_by m t a (TakeMark x)))
 own_take_mark p n m t a x rest here alive =
@@ -130,7 +129,7 @@ merge_of_stays m new t x a b rest rows status (inr follows) = inr follows
 
 -- ---- the local count is swapped out
 
-swap_alive : (p : Module) (n : ℕ) (m : Machine) (t : ℕ) (a : Actor) (x : ℕ) (rest : List Duty)
+swap_alive : (p : Accounts) (n : ℕ) (m : Machine) (t : ℕ) (a : Actor) (x : ℕ) (rest : List Duty)
     → AtDuty p n m t a (MergeSwap x Own) rest → Alive m x
 swap_alive p n m t a x rest here =
     let one : one_if (x == x) ≡ 1 = ap one_if (eq-eqb x x refl) in
@@ -138,7 +137,7 @@ swap_alive p n m t a x rest here =
     (omega (arith, first_weighs (decides x) m.actors t a (MergeSwap x Own) rest here.found here.agenda, one))
 
 -- the local word that the owner swaps isn't 0, and the row is of its block
-swap_own : (p : Module) (n : ℕ) (m : Machine) (t : ℕ) (a : Actor) (x : ℕ) (rest : List Duty)
+swap_own : (p : Accounts) (n : ℕ) (m : Machine) (t : ℕ) (a : Actor) (x : ℕ) (rest : List Duty)
     → AtDuty p n m t a (MergeSwap x Own) rest → block_of m.rows x ≡ t
 swap_own p n m t a x rest here =
     let owns = (head_of p n m t a (MergeSwap x Own) rest here).1 in
@@ -148,7 +147,7 @@ swap_own p n m t a x rest here =
       | InMerged s ↦ absurd (omega (arith, s.local, owns.owner))
     ]
 
-pub own_merge_swap_own : (p : Module) (n : ℕ) (m : Machine) (t : ℕ) (a : Actor) (x : ℕ) (rest : List Duty)
+pub own_merge_swap_own : (p : Accounts) (n : ℕ) (m : Machine) (t : ℕ) (a : Actor) (x : ℕ) (rest : List Duty)
     → AtDuty p n m t a (MergeSwap x Own) rest → (a.status ≡ Gone → ⊥)
     → OwnFits p (done_by m t a (MergeSwap x Own) rest) t
     (actor_by t a (MergeSwap x Own) rest (found_by m t a (MergeSwap x Own)))
@@ -169,7 +168,7 @@ own_merge_swap_own p n m t a x rest here alive =
     ))
 
 -- what was handed is given up next, where the object is merged
-handed_next : (p : Module) (n : ℕ) (m : Machine) (t : ℕ) (a : Actor) (d : Duty) (x : ℕ) (rest : List Duty)
+handed_next : (p : Accounts) (n : ℕ) (m : Machine) (t : ℕ) (a : Actor) (d : Duty) (x : ℕ) (rest : List Duty)
     → AtDuty p n m t a d rest → (a.status ≡ Gone → ⊥) → keeps_lives d ≡ true → next_of m t a d ≡ []
     → FollowsHanded x rest → FollowsMerge x rest
     → Later m.rows t a.used a.status a.place rest → HeldStep m.plain.references (bag_by m t a d) t (d ∷ rest) []
@@ -194,7 +193,7 @@ handed_next p n m t a d x (SharedLoad y Handed ∷ rest) here alive kept next fo
     })
 handed_next p n m t a d x _ here alive kept next follows clean later moves merged = absurd follows
 
-pub own_merge_swap_handed : (p : Module) (n : ℕ) (m : Machine) (t : ℕ) (a : Actor) (x : ℕ) (rest : List Duty)
+pub own_merge_swap_handed : (p : Accounts) (n : ℕ) (m : Machine) (t : ℕ) (a : Actor) (x : ℕ) (rest : List Duty)
     → AtDuty p n m t a (MergeSwap x Handed) rest → (a.status ≡ Gone → ⊥)
     → OwnFits p (done_by m t a (MergeSwap x Handed) rest) t
     (actor_by t a (MergeSwap x Handed) rest (found_by m t a (MergeSwap x Handed)))
@@ -220,7 +219,7 @@ own_merge_swap_handed p n m t a x rest here alive =
 
 -- ---- the local count is added to the shared one
 
-pub own_merge_load : (p : Module) (n : ℕ) (m : Machine) (t : ℕ) (a : Actor) (x c : ℕ) (rest : List Duty)
+pub own_merge_load : (p : Accounts) (n : ℕ) (m : Machine) (t : ℕ) (a : Actor) (x c : ℕ) (rest : List Duty)
     → AtDuty p n m t a (MergeLoad x c) rest → (a.status ≡ Gone → ⊥)
     → OwnFits p (done_by m t a (MergeLoad x c) rest) t
     (actor_by t a (MergeLoad x c) rest (found_by m t a (MergeLoad x c)))
@@ -248,7 +247,7 @@ either_follows x (SharedLoad y Handed ∷ rest) follows = inl follows.0
 either_follows x _ follows = inr follows
 
 -- the merge was made
-merge_won : (p : Module) (n : ℕ) (m : Machine) (t : ℕ) (a : Actor) (x c w : ℕ) (rest : List Duty)
+merge_won : (p : Accounts) (n : ℕ) (m : Machine) (t : ℕ) (a : Actor) (x c w : ℕ) (rest : List Duty)
     → AtDuty p n m t a (MergeExchange x c w) rest → (a.status ≡ Gone → ⊥) → FollowsMerge x rest
     → (m.memory (Shared x) == w) ≡ true
     → OwnFits p (done_by m t a (MergeExchange x c w) rest) t
@@ -295,7 +294,7 @@ exchange_follows x c w [] handed = handed
 exchange_follows x c w (SharedLoad y Handed ∷ rest) handed = handed
 exchange_follows x c w _ handed = handed
 
-pub own_merge_exchange : (p : Module) (n : ℕ) (m : Machine) (t : ℕ) (a : Actor) (x c w : ℕ) (rest : List Duty)
+pub own_merge_exchange : (p : Accounts) (n : ℕ) (m : Machine) (t : ℕ) (a : Actor) (x c w : ℕ) (rest : List Duty)
     → AtDuty p n m t a (MergeExchange x c w) rest → (a.status ≡ Gone → ⊥)
     → OwnFits p (done_by m t a (MergeExchange x c w) rest) t
     (actor_by t a (MergeExchange x c w) rest (found_by m t a (MergeExchange x c w)))

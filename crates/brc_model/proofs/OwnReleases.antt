@@ -5,7 +5,6 @@ use Rattle.std.specs.Prelude.{◌==◌, ◌&&◌}
 use Rattle.std.specs.List.{list_any}
 use Rattle.std.proofs.lemmas.Bool.{eqb-true, eq-eqb, ne_eqb}
 use Rattle.brc_lang.specs.declared.module.Instr.{Instr}
-use Rattle.brc_lang.specs.declared.module.Module.{Module}
 use Rattle.brc_model.specs.declared.duty.Holding.{Holding}
 use Rattle.brc_model.specs.declared.duty.Holding.TheVariants.{ByVariable, AsCaller, InHand}
 use Rattle.brc_model.specs.Plain.{Reference, same_holding, same, without, moved}
@@ -24,8 +23,8 @@ use Rattle.brc_model.proofs.Bag.{held, one_if, same_holding-refl, held-cons, hel
 use Rattle.brc_model.proofs.Holds.{nothing, the_root, of_variables, reference_of}
 use Rattle.brc_model.proofs.Rows.{InOwned, InSwapped, InMerged}
 use Rattle.brc_model.proofs.RowSteps.{owner_down}
-use Rattle.brc_model.proofs.Rule.{extra_of, lacks_of, HoldsAt, PlaceFits, NoneHanded, HandedOnce}
-use Rattle.brc_model.proofs.Alive.{Alive, alive_referenced}
+use Rattle.brc_model.proofs.Rule.{Accounts, extra_of, lacks_of, NoneHanded, HandedOnce}
+use Rattle.brc_model.proofs.Alive.{extra_held, Alive, alive_referenced}
 use Rattle.brc_model.proofs.Written.{written_here}
 use Rattle.brc_model.proofs.Leaves.{AtDuty, head_of, decide_alive}
 use Rattle.brc_model.proofs.Lives.{next_of}
@@ -37,7 +36,7 @@ use Rattle.brc_model.proofs.OwnSteps.{own_done, own_next, own_dying}
 
 -- ---- a reference is made
 
-pub own_retain_store : (p : Module) (n : ℕ) (m : Machine) (t : ℕ) (a : Actor) (x : ℕ) (h : Holding) (w : ℕ)
+pub own_retain_store : (p : Accounts) (n : ℕ) (m : Machine) (t : ℕ) (a : Actor) (x : ℕ) (h : Holding) (w : ℕ)
     (rest : List Duty)
     → AtDuty p n m t a (RetainStore x h w) rest → (a.status ≡ Gone → ⊥)
     → OwnFits p (done_by m t a (RetainStore x h w) rest) t
@@ -49,7 +48,7 @@ own_retain_store p n m t a x h w rest here alive =
     (held_gained m.plain.references t x h (RetainStore x h w ∷ rest) [] (λ k o. refl) (λ k o. refl) (λ k o. refl)
     (λ k o. refl))
 
-pub own_retain_add : (p : Module) (n : ℕ) (m : Machine) (t : ℕ) (a : Actor) (x : ℕ) (h : Holding) (rest : List Duty)
+pub own_retain_add : (p : Accounts) (n : ℕ) (m : Machine) (t : ℕ) (a : Actor) (x : ℕ) (h : Holding) (rest : List Duty)
     → AtDuty p n m t a (RetainAdd x h) rest → (a.status ≡ Gone → ⊥)
     → OwnFits p (done_by m t a (RetainAdd x h) rest) t
     (actor_by t a (RetainAdd x h) rest (found_by m t a (RetainAdd x h)))
@@ -61,39 +60,21 @@ own_retain_add p n m t a x h rest here alive =
 
 -- ---- a reference is taken to the hand
 
-extra_by : (bag : List Reference) (t : ℕ) (says : Holding → ℕ → Bool) (agenda : List Duty) (h : Holding) (x : ℕ)
-    → HoldsAt bag t says agenda → extra_of agenda h x ≡ true → lacks_of agenda h x ≡ false
-    → 0 < held (reference_of t h x) bag
-extra_by bag t says agenda h x holds more less =
-    let a : one_if (extra_of agenda h x) ≡ 1 = ap one_if more in
-    let b : one_if (lacks_of agenda h x) ≡ 0 = ap one_if less in
-    omega (arith, holds.each h x, a, b)
-
--- what is given up is held
-extra_held : (code : List Instr) (bag : List Reference) (t : ℕ) (agenda : List Duty) (place : Place) (h : Holding)
-    (x : ℕ)
-    → PlaceFits code bag t agenda place
-    → extra_of agenda h x ≡ true → lacks_of agenda h x ≡ false → 0 < held (reference_of t h x) bag
-extra_held code bag t agenda (Standing left) h x fits more less = extra_by bag t the_root agenda h x fits more less
-extra_held code bag t agenda (Inside left at variables) h x fits more less =
-    extra_by bag t (of_variables fits.0 variables) agenda h x fits.2 more less
-extra_held code bag t agenda Departing h x fits more less = extra_by bag t nothing agenda h x fits more less
-
-extra_here : (p : Module) (n : ℕ) (m : Machine) (t : ℕ) (a : Actor) (d : Duty) (rest : List Duty) (h : Holding) (x : ℕ)
+extra_here : (p : Accounts) (n : ℕ) (m : Machine) (t : ℕ) (a : Actor) (d : Duty) (rest : List Duty) (h : Holding) (x : ℕ)
     → AtDuty p n m t a d rest → extra_of (d ∷ rest) h x ≡ true → lacks_of (d ∷ rest) h x ≡ false
     → 0 < held (reference_of t h x) m.plain.references
 extra_here p n m t a d rest h x here more less =
-    extra_held _ m.plain.references t a.agenda a.place h x (here.rule.each t a here.found).0.placed
+    extra_held m.plain.references t (p t) a.agenda h x (here.rule.each t a here.found).0.holds
     (ap (λ (l : List Duty). extra_of l h x) here.agenda ∙ more)
     (ap (λ (l : List Duty). lacks_of l h x) here.agenda ∙ less)
 
-pub release_held : (p : Module) (n : ℕ) (m : Machine) (t : ℕ) (a : Actor) (x : ℕ) (h : Holding) (rest : List Duty)
+pub release_held : (p : Accounts) (n : ℕ) (m : Machine) (t : ℕ) (a : Actor) (x : ℕ) (h : Holding) (rest : List Duty)
     → AtDuty p n m t a (ReleaseLoad x h) rest → 0 < held (reference_of t h x) m.plain.references
 release_held p n m t a x h rest here =
     extra_here p n m t a (ReleaseLoad x h) rest h x here
     (ap (λ (b : Bool). b && (x == x)) (same_holding-refl h) ∙ eq-eqb x x refl) refl
 
-pub release_alive : (p : Module) (n : ℕ) (m : Machine) (t : ℕ) (a : Actor) (x : ℕ) (h : Holding) (rest : List Duty)
+pub release_alive : (p : Accounts) (n : ℕ) (m : Machine) (t : ℕ) (a : Actor) (x : ℕ) (h : Holding) (rest : List Duty)
     → 0 < x → AtDuty p n m t a (ReleaseLoad x h) rest → Alive m x
 release_alive p n m t a x h rest pos here =
     alive_referenced p n m x here.rule pos
@@ -148,7 +129,7 @@ held_handed_on m t x InHand rest later has more less =
     held_same m.plain.references t (ReleaseLoad x InHand ∷ rest) later more less
 
 -- of a counted object
-pub own_release_counted : (p : Module) (n : ℕ) (m : Machine) (t : ℕ) (a : Actor) (x : ℕ) (h : Holding)
+pub own_release_counted : (p : Accounts) (n : ℕ) (m : Machine) (t : ℕ) (a : Actor) (x : ℕ) (h : Holding)
     (rest : List Duty)
     → 0 < x → AtDuty p n m t a (ReleaseLoad x h) rest → (a.status ≡ Gone → ⊥)
     → OwnFits p (done_by m t a (ReleaseLoad x h) rest) t
@@ -205,7 +186,7 @@ own_release_counted p n m t a x h rest pos here alive =
 -- ---- the reference in the hand is lost
 
 -- its duty has the hand's reference more, and what comes next has nothing
-pub held_let_go : (p : Module) (n : ℕ) (m : Machine) (t : ℕ) (a : Actor) (d : Duty) (rest later : List Duty) (x : ℕ)
+pub held_let_go : (p : Accounts) (n : ℕ) (m : Machine) (t : ℕ) (a : Actor) (d : Duty) (rest later : List Duty) (x : ℕ)
     → AtDuty p n m t a d rest
     → ((k : Holding) (object : ℕ) → extra_of (d ∷ rest) k object ≡ (same_holding InHand k && (x == object)))
     → ((k : Holding) (object : ℕ) → lacks_of (d ∷ rest) k object ≡ false)
@@ -217,7 +198,7 @@ held_let_go p n m t a d rest later x here extra none more less =
     held_lost m.plain.references t x InHand (d ∷ rest) later
     (held_has (reference_of t InHand x) m.plain.references some) extra none more less
 
-pub own_release_store : (p : Module) (n : ℕ) (m : Machine) (t : ℕ) (a : Actor) (x w : ℕ) (rest : List Duty)
+pub own_release_store : (p : Accounts) (n : ℕ) (m : Machine) (t : ℕ) (a : Actor) (x w : ℕ) (rest : List Duty)
     → AtDuty p n m t a (ReleaseStore x w) rest → (a.status ≡ Gone → ⊥)
     → OwnFits p (done_by m t a (ReleaseStore x w) rest) t
     (actor_by t a (ReleaseStore x w) rest (found_by m t a (ReleaseStore x w)))
@@ -263,7 +244,7 @@ swap_handed x r [] none = none
 swap_handed x r (SharedLoad y Handed ∷ rest) none = absurd none
 swap_handed x r _ none = none
 
-pub own_decide : (p : Module) (n : ℕ) (m : Machine) (t : ℕ) (a : Actor) (x : ℕ) (rest : List Duty)
+pub own_decide : (p : Accounts) (n : ℕ) (m : Machine) (t : ℕ) (a : Actor) (x : ℕ) (rest : List Duty)
     → AtDuty p n m t a (DecideAtZero x) rest → (a.status ≡ Gone → ⊥)
     → OwnFits p (done_by m t a (DecideAtZero x) rest) t
     (actor_by t a (DecideAtZero x) rest (found_by m t a (DecideAtZero x)))

@@ -3,7 +3,6 @@ use Rattle.std.proofs.Common.{◌≡◌, ℕ, zero, suc, ◌+◌, ◌<◌, ◌�
 use Rattle.std.specs.Prelude.{◌==◌, ◌&&◌, nat_lt, slice_get, sum_by}
 use Rattle.std.proofs.lemmas.Bool.{eqb-true, ltb-true}
 use Rattle.std.proofs.lemmas.List.Sums.{sum_by-cons}
-use Rattle.brc_lang.specs.declared.module.Module.{Module}
 use Rattle.brc_model.specs.declared.duty.Holding.{Holding}
 use Rattle.brc_model.specs.Plain.{Reference, same_holding, moved}
 use Rattle.brc_word.specs.Words.{owner_part, local_part, is_immortal_word}
@@ -18,7 +17,7 @@ use Rattle.brc_model.proofs.Lists.{and_first, and_second}
 use Rattle.brc_model.proofs.Bag.{held}
 use Rattle.brc_model.proofs.Holds.{reference_of}
 use Rattle.brc_model.proofs.Rows.{decides, agenda_weight, weight, InOwned, InSwapped, InMerged, AtZero, AboveZero}
-use Rattle.brc_model.proofs.Rule.{extra_of, lacks_of, OwnsLocally, IsBacked, Rule}
+use Rattle.brc_model.proofs.Rule.{Accounts, extra_of, lacks_of, OwnsLocally, IsBacked, Rule}
 use Rattle.brc_model.proofs.Alive.{Alive, alive_backed}
 use Rattle.brc_model.proofs.Written.{written_here}
 use Rattle.brc_model.proofs.Leaves.{AtDuty, head_of}
@@ -63,7 +62,7 @@ counts_owner m t a x counts alive =
     }
 
 -- where nobody decides, the running owner's count is above 0
-pub count_above : (p : Module) (n : ℕ) (m : Machine) (t x : ℕ) (a : Actor) → Rule p n m → slice_get m.actors t ≡ Some a
+pub count_above : (p : Accounts) (n : ℕ) (m : Machine) (t x : ℕ) (a : Actor) → Rule p n m → slice_get m.actors t ≡ Some a
     → OwnsLocally m t a x → agenda_weight (decides x) a ≡ 0 → Alive m x → 1 ≤ local_part (m.memory (Local x))
 count_above p n m t x a rule found owns mine alive =
     let none : weight (decides x) m.actors ≡ 0 = nobody_decides p n m t x a rule found owns mine in
@@ -73,7 +72,7 @@ count_above p n m t x a rule found owns mine alive =
       | InMerged s ↦ absurd (omega (arith, s.local, owns.owner))
     ]
 
-pub weight_here : (p : Module) (n : ℕ) (m : Machine) (t x : ℕ) (a : Actor) (d : Duty) (rest : List Duty)
+pub weight_here : (p : Accounts) (n : ℕ) (m : Machine) (t x : ℕ) (a : Actor) (d : Duty) (rest : List Duty)
     → AtDuty p n m t a d rest → (a.status ≡ Gone → ⊥) → decides x d ≡ 0 → agenda_weight (decides x) a ≡ 0
 weight_here p n m t x a d rest here alive none =
     let whole = sum_by-cons (decides x) d rest in
@@ -85,7 +84,7 @@ retain_bag : (m : Machine) (t : ℕ) (a : Actor) (x : ℕ) (h : Holding) → is_
 retain_bag m t a x h mortal = ap (λ (b : Bool). (moved m.plain (cond b (gain t h x) [])).references) mortal
 
 -- of a counted object
-pub own_retain_counted : (p : Module) (n : ℕ) (m : Machine) (t : ℕ) (a : Actor) (x : ℕ) (h : Holding) (rest : List Duty)
+pub own_retain_counted : (p : Accounts) (n : ℕ) (m : Machine) (t : ℕ) (a : Actor) (x : ℕ) (h : Holding) (rest : List Duty)
     → 0 < x → AtDuty p n m t a (RetainLoad x h) rest → (a.status ≡ Gone → ⊥)
     → OwnFits p (done_by m t a (RetainLoad x h) rest) t
     (actor_by t a (RetainLoad x h) rest (found_by m t a (RetainLoad x h)))

@@ -3,7 +3,6 @@
 use Rattle.std.proofs.Common.{◌≡◌, ℕ, ◌+◌, ◌<◌, Bool, true, false, cond, List, [], ◌∷◌, ◌++◌, None, refl, sym, ap, ◌∙◌, subst}
 use Rattle.std.specs.Prelude.{◌==◌, nat_lt}
 use Rattle.std.proofs.lemmas.Bool.{ltb-true}
-use Rattle.brc_lang.specs.declared.module.Module.{Module}
 use Rattle.brc_model.specs.declared.duty.Holding.{Holding}
 use Rattle.brc_model.specs.declared.duty.Duty.{Duty}
 use Rattle.brc_model.specs.declared.duty.Duty.TheVariants.{SettleKind, SettleCell, SettleEnd, TakeSlot, CloseResource}
@@ -13,7 +12,7 @@ use Rattle.brc_model.specs.declared.actor.Status.{Status}
 use Rattle.brc_model.specs.declared.actor.Status.TheVariants.{Gone}
 use Rattle.brc_model.specs.Machine.{Actor, Dying, Machine, status_by, ended_row, actor_by, done_by, born_row, dies_next, take_out}
 use Rattle.brc_model.specs.Plain.{moved}
-use Rattle.brc_model.proofs.Rule.{extra_of, lacks_of, Later, Agenda, NoneHanded, HandedOnce, hand_of, extra, lacks, HeadFits, at_hand}
+use Rattle.brc_model.proofs.Rule.{Accounts, extra_of, lacks_of, Later, Agenda, NoneHanded, HandedOnce, hand_of, extra, lacks, HeadFits, at_hand}
 use Rattle.brc_model.proofs.Leaves.{AtDuty, head_of}
 use Rattle.brc_model.proofs.Lives.{next_of}
 use Rattle.brc_model.proofs.Own.{HeldStep}
@@ -52,7 +51,7 @@ record KeepsHand (e : Duty) (x : ℕ) : Type 0 where
       → Agenda rows t used status place (e ∷ rest)
   handed : (rest : List Duty) → NoneHanded rest → HandedOnce (e ∷ rest)
 
-settles_on : (p : Module) (n : ℕ) (m : Machine) (t : ℕ) (a : Actor) (d e : Duty) (x : ℕ) (rest : List Duty)
+settles_on : (p : Accounts) (n : ℕ) (m : Machine) (t : ℕ) (a : Actor) (d e : Duty) (x : ℕ) (rest : List Duty)
     → AtDuty p n m t a d rest → (a.status ≡ Gone → ⊥) → SettlingStep m t a d x rest
     → KeepsHand e x → next_of m t a d ≡ e ∷ []
     → ((done_by m t a d rest).life x ≡ Dying t → (b : Actor) → HeadFits (done_by m t a d rest) t b e rest)
@@ -126,7 +125,7 @@ keeps_close x =
     }
 
 -- a cell or the end follows
-cells_step : (p : Module) (n : ℕ) (m : Machine) (t : ℕ) (a : Actor) (d : Duty) (x i k : ℕ) (rest : List Duty)
+cells_step : (p : Accounts) (n : ℕ) (m : Machine) (t : ℕ) (a : Actor) (d : Duty) (x i k : ℕ) (rest : List Duty)
     → AtDuty p n m t a d rest → (a.status ≡ Gone → ⊥) → SettlingStep m t a d x rest → next_of m t a d ≡ cells_from x i k
     → OwnFits p (done_by m t a d rest) t (actor_by t a d rest (found_by m t a d))
 cells_step p n m t a d x i k rest here alive step next_is =
@@ -146,7 +145,7 @@ cells_step p n m t a d x i k rest here alive step next_is =
 -- ---- what the row is
 
 -- files and sockets give their resource back, and lists their cells
-pub own_settle_kind : (p : Module) (n : ℕ) (m : Machine) (t : ℕ) (a : Actor) (x : ℕ) (rest : List Duty)
+pub own_settle_kind : (p : Accounts) (n : ℕ) (m : Machine) (t : ℕ) (a : Actor) (x : ℕ) (rest : List Duty)
     → AtDuty p n m t a (SettleKind x) rest → (a.status ≡ Gone → ⊥)
     → OwnFits p (done_by m t a (SettleKind x) rest) t (actor_by t a (SettleKind x) rest (found_by m t a (SettleKind x)))
 own_settle_kind p n m t a x rest here alive =
@@ -180,7 +179,7 @@ own_settle_kind p n m t a x rest here alive =
 -- ---- the row's cells
 
 -- they are empty
-pub own_settle_cell : (p : Module) (n : ℕ) (m : Machine) (t : ℕ) (a : Actor) (x i k : ℕ) (rest : List Duty)
+pub own_settle_cell : (p : Accounts) (n : ℕ) (m : Machine) (t : ℕ) (a : Actor) (x i k : ℕ) (rest : List Duty)
     → AtDuty p n m t a (SettleCell x i k) rest → (a.status ≡ Gone → ⊥)
     → OwnFits p (done_by m t a (SettleCell x i k) rest) t
     (actor_by t a (SettleCell x i k) rest (found_by m t a (SettleCell x i k)))
@@ -207,7 +206,7 @@ own_settle_cell p n m t a x i k rest here alive =
 
 -- ---- the row's resource
 
-pub own_take_slot : (p : Module) (n : ℕ) (m : Machine) (t : ℕ) (a : Actor) (x : ℕ) (rest : List Duty)
+pub own_take_slot : (p : Accounts) (n : ℕ) (m : Machine) (t : ℕ) (a : Actor) (x : ℕ) (rest : List Duty)
     → AtDuty p n m t a (TakeSlot x) rest → (a.status ≡ Gone → ⊥)
     → OwnFits p (done_by m t a (TakeSlot x) rest) t (actor_by t a (TakeSlot x) rest (found_by m t a (TakeSlot x)))
 own_take_slot p n m t a x rest here alive =
@@ -227,7 +226,7 @@ own_take_slot p n m t a x rest here alive =
       none = handed_here p n m t a (TakeSlot x) rest here;
     }) (keeps_close x) refl (λ dies b. (fits.0, dies))
 
-pub own_close_resource : (p : Module) (n : ℕ) (m : Machine) (t : ℕ) (a : Actor) (x : ℕ) (rest : List Duty)
+pub own_close_resource : (p : Accounts) (n : ℕ) (m : Machine) (t : ℕ) (a : Actor) (x : ℕ) (rest : List Duty)
     → AtDuty p n m t a (CloseResource x) rest → (a.status ≡ Gone → ⊥)
     → OwnFits p (done_by m t a (CloseResource x) rest) t
     (actor_by t a (CloseResource x) rest (found_by m t a (CloseResource x)))

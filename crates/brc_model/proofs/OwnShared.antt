@@ -1,7 +1,6 @@
 -- What the thread that steps has after a release by the shared word.
 use Rattle.std.proofs.Common.{◌≡◌, ℕ, ◌<◌, Bool, true, false, cond, List, [], ◌∷◌, refl, sym, ap, ◌∙◌, subst}
 use Rattle.std.specs.Prelude.{◌==◌}
-use Rattle.brc_lang.specs.declared.module.Module.{Module}
 use Rattle.brc_model.specs.declared.duty.Holding.{Holding}
 use Rattle.brc_model.specs.declared.duty.Holding.TheVariants.{InHand}
 use Rattle.brc_model.specs.Plain.{Reference, without, moved}
@@ -15,7 +14,7 @@ use Rattle.brc_model.specs.Duties.{shared_result}
 use Rattle.brc_model.specs.declared.actor.Status.TheVariants.{Gone}
 use Rattle.brc_model.specs.Machine.{Actor, Machine, lose, done_by, actor_by}
 use Rattle.brc_model.proofs.Holds.{reference_of}
-use Rattle.brc_model.proofs.Rule.{extra_of, lacks_of}
+use Rattle.brc_model.proofs.Rule.{Accounts, extra_of, lacks_of}
 use Rattle.brc_model.proofs.Written.{written_load}
 use Rattle.brc_model.proofs.Leaves.{AtDuty, head_of, exchange_alive}
 use Rattle.brc_model.proofs.Lives.{leaves_others}
@@ -27,7 +26,7 @@ use Rattle.brc_model.proofs.OwnReleases.{held_let_go}
 
 -- ---- the shared word
 
-pub own_shared_load : (p : Module) (n : ℕ) (m : Machine) (t : ℕ) (a : Actor) (x : ℕ) (r : Reason) (rest : List Duty)
+pub own_shared_load : (p : Accounts) (n : ℕ) (m : Machine) (t : ℕ) (a : Actor) (x : ℕ) (r : Reason) (rest : List Duty)
     → AtDuty p n m t a (SharedLoad x r) rest → (a.status ≡ Gone → ⊥)
     → OwnFits p (done_by m t a (SharedLoad x r) rest) t
     (actor_by t a (SharedLoad x r) rest (found_by m t a (SharedLoad x r)))
@@ -57,7 +56,7 @@ exchange_next x w found r fresh dead won is_fresh is_dead =
     ∙ ap (λ (b : Bool). cond fresh (SetMark x ∷ []) (cond b (Die x ∷ []) [])) is_dead)
 
 -- the exchange was made: what the word was says what follows
-exchange_won : (p : Module) (n : ℕ) (m : Machine) (t : ℕ) (a : Actor) (x w : ℕ) (r : Reason) (rest : List Duty)
+exchange_won : (p : Accounts) (n : ℕ) (m : Machine) (t : ℕ) (a : Actor) (x w : ℕ) (r : Reason) (rest : List Duty)
     → AtDuty p n m t a (SharedExchange x r w) rest → (a.status ≡ Gone → ⊥) → 0 < x → (m.memory (Shared x) == w) ≡ true
     → ((later : List Duty) → ((k : Holding) (object : ℕ) → extra_of later k object ≡ false)
     → ((k : Holding) (object : ℕ) → lacks_of later k object ≡ false)
@@ -94,7 +93,7 @@ exchange_won p n m t a x w r rest here alive pos won moves =
           ] refl
     ] refl
 
-pub own_shared_exchange : (p : Module) (n : ℕ) (m : Machine) (t : ℕ) (a : Actor) (x : ℕ) (r : Reason) (w : ℕ)
+pub own_shared_exchange : (p : Accounts) (n : ℕ) (m : Machine) (t : ℕ) (a : Actor) (x : ℕ) (r : Reason) (w : ℕ)
     (rest : List Duty)
     → AtDuty p n m t a (SharedExchange x r w) rest → (a.status ≡ Gone → ⊥)
     → OwnFits p (done_by m t a (SharedExchange x r w) rest) t

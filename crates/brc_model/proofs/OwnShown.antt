@@ -1,17 +1,15 @@
 -- A thread after its own step, where the step changes the head of its chain, a row's life or the thread's status.
 use Rattle.std.proofs.Common.{◌≡◌, ℕ, List, ◌∷◌, None, refl, sym, ap, ◌∙◌, subst}
 use Rattle.std.specs.Prelude.{slice_get}
-use Rattle.brc_lang.specs.declared.module.Module.{Module}
-use Rattle.brc_model.specs.Threads.{code_of}
 use Rattle.brc_model.specs.declared.duty.Duty.{Duty}
 use Rattle.brc_model.specs.declared.address.Address.TheVariants.{ThreadWord}
 use Rattle.brc_model.specs.Duties.{head_by}
 use Rattle.brc_model.specs.declared.actor.Status.{Status}
 use Rattle.brc_model.specs.declared.actor.Status.TheVariants.{Gone}
 use Rattle.brc_model.specs.Machine.{Actor, Machine, status_by, actor_by, done_by, born_row, used_by}
-use Rattle.brc_model.proofs.Rule.{PlaceFits, HeadOf, Agenda, HandedOnce, ChainFits, AgendaFits, status_word}
+use Rattle.brc_model.proofs.Rule.{Accounts, HoldsAt, HeadOf, Agenda, HandedOnce, ChainFits, AgendaFits, status_word}
 use Rattle.brc_model.proofs.Leaves.{AtDuty}
-use Rattle.brc_model.proofs.Own.{HeldStep, place_step}
+use Rattle.brc_model.proofs.Own.{HeldStep, holds_step}
 use Rattle.brc_model.proofs.Neutral.{OwnFits, found_by, bag_by, memory_by, agenda_out, uses_same}
 
 -- what a step has to show that changes the head of the chain, a row's life or the thread's status
@@ -28,7 +26,7 @@ pub record ShownStep (m : Machine) (t : ℕ) (a : Actor) (d : Duty) (rest agenda
   pub knows : (b : Actor) → b.status ≡ status → b.head ≡ head → b.used ≡ used_by a.used d
       → HeadOf (done_by m t a d rest) t b agenda
 
-pub own_shown : (p : Module) (n : ℕ) (m : Machine) (t : ℕ) (a : Actor) (d : Duty) (rest agenda : List Duty)
+pub own_shown : (p : Accounts) (n : ℕ) (m : Machine) (t : ℕ) (a : Actor) (d : Duty) (rest agenda : List Duty)
     (status : Status) (head : ℕ)
     → AtDuty p n m t a d rest → ShownStep m t a d rest agenda status head
     → OwnFits p (done_by m t a d rest) t (actor_by t a d rest (found_by m t a d))
@@ -36,16 +34,14 @@ own_shown p n m t a d rest agenda status head here step =
     let old = (here.rule.each t a here.found).0 in
     let new = done_by m t a d rest in
     let after = actor_by t a d rest (found_by m t a d) in
-    let code = code_of (slice_get p.functions a.function) in
-    let placed : PlaceFits code new.plain.references t agenda a.place =
-    place_step code m.plain.references new.plain.references t (d ∷ rest) agenda a.place step.held
-    (subst (λ (l : List Duty). PlaceFits code m.plain.references t l a.place) here.agenda old.placed) in
+    let holds : HoldsAt new.plain.references t (p t) agenda =
+    holds_step m.plain.references new.plain.references t (p t) (d ∷ rest) agenda step.held
+    (subst (HoldsAt m.plain.references t (p t)) here.agenda old.holds) in
     record {
       actor = record {
-        accepted = old.accepted;
-        instructions = old.instructions;
         word = step.word ∙ ap status_word (sym step.status_is);
-        placed = subst (λ (l : List Duty). PlaceFits code new.plain.references t l a.place) (sym step.agenda_is) placed;
+        holds = subst (HoldsAt new.plain.references t (p t)) (sym step.agenda_is) holds;
+        departed = old.departed;
         head_fits =
             subst (λ (l : List Duty). HeadOf new t after l) (sym step.agenda_is)
             (step.knows after step.status_is step.head_is refl);

@@ -4,8 +4,6 @@ use Rattle.std.proofs.Common.{◌≡◌, ℕ, ◌+◌, ◌<◌, Bool, true, fals
 use Rattle.std.specs.Prelude.{◌==◌, slice_get}
 use Rattle.std.proofs.lemmas.Bool.{eq-eqb}
 use Rattle.std.proofs.lemmas.Bool.Decides.{eqb_tells}
-use Rattle.brc_lang.specs.declared.module.Module.{Module}
-use Rattle.brc_model.specs.Threads.{code_of}
 use Rattle.brc_model.specs.declared.duty.Duty.{Duty}
 use Rattle.brc_model.specs.declared.duty.Duty.TheVariants.{Look, Die, Settle, SettleKind, SettleCell, SettleEnd, Leave, Finish, TakeSlot, CloseResource, BirthLocal}
 use Rattle.brc_model.specs.declared.address.Address.TheVariants.{Gate, ThreadWord}
@@ -14,11 +12,11 @@ use Rattle.brc_model.specs.declared.actor.Status.{Status}
 use Rattle.brc_model.specs.declared.actor.Status.TheVariants.{Gone}
 use Rattle.brc_model.specs.Machine.{Actor, Life, Live, Dying, Closed, Machine, status_by, dies_next, ended_row, with_life, life_by, actor_by, done_by, born_row}
 use Rattle.brc_model.proofs.Bag.{one_if}
-use Rattle.brc_model.proofs.Rule.{extra_of, lacks_of, PlaceFits, HeadFits, HeadOf, Later, Agenda, NoneHanded, HandedOnce, hand_of, dies_by, ChainFits, status_word}
+use Rattle.brc_model.proofs.Rule.{Accounts, extra_of, lacks_of, HoldsAt, HeadFits, HeadOf, Later, Agenda, NoneHanded, HandedOnce, hand_of, dies_by, ChainFits, status_word}
 use Rattle.brc_model.proofs.Written.{written_load}
 use Rattle.brc_model.proofs.Leaves.{AtDuty}
 use Rattle.brc_model.proofs.Lives.{next_of}
-use Rattle.brc_model.proofs.Own.{HeldStep, place_step, ready_is, ChainSame, chain_same}
+use Rattle.brc_model.proofs.Own.{HeldStep, holds_step, ready_is, ChainSame, chain_same}
 use Rattle.brc_model.proofs.Neutral.{OwnFits, found_by, bag_by, memory_by, agenda_out, own_neutral, uses_same}
 use Rattle.brc_model.proofs.OwnRetains.{is_passed, ready_first}
 
@@ -96,7 +94,7 @@ pub record KeepingStep (m : Machine) (t : ℕ) (a : Actor) (d : Duty) (rest next
   pub knows : (b : Actor) → b.status ≡ a.status → b.head ≡ a.head → b.used ≡ a.used
       → HeadOf (done_by m t a d rest) t b agenda
 
-pub own_keeps : (p : Module) (n : ℕ) (m : Machine) (t : ℕ) (a : Actor) (d : Duty) (rest next agenda : List Duty)
+pub own_keeps : (p : Accounts) (n : ℕ) (m : Machine) (t : ℕ) (a : Actor) (d : Duty) (rest next agenda : List Duty)
     → AtDuty p n m t a d rest → (a.status ≡ Gone → ⊥) → keeps_lives d ≡ true → KeepingStep m t a d rest next agenda
     → OwnFits p (done_by m t a d rest) t (actor_by t a d rest (found_by m t a d))
 own_keeps p n m t a d rest next agenda here alive kept step =
@@ -118,7 +116,7 @@ own_keeps p n m t a d rest next agenda here alive kept step =
     })
 
 -- the agenda goes on with what was for later
-pub own_done : (p : Module) (n : ℕ) (m : Machine) (t : ℕ) (a : Actor) (d : Duty) (rest : List Duty)
+pub own_done : (p : Accounts) (n : ℕ) (m : Machine) (t : ℕ) (a : Actor) (d : Duty) (rest : List Duty)
     → AtDuty p n m t a d rest → (a.status ≡ Gone → ⊥) → keeps_lives d ≡ true → next_of m t a d ≡ []
     → Later m.rows t a.used a.status a.place rest → NoneHanded rest
     → HeldStep m.plain.references (bag_by m t a d) t (d ∷ rest) []
@@ -142,7 +140,7 @@ own_done p n m t a d rest here alive kept next later none moves =
     })
 
 -- the agenda goes on with a new first duty
-pub own_next : (p : Module) (n : ℕ) (m : Machine) (t : ℕ) (a : Actor) (d e : Duty) (rest : List Duty)
+pub own_next : (p : Accounts) (n : ℕ) (m : Machine) (t : ℕ) (a : Actor) (d e : Duty) (rest : List Duty)
     → AtDuty p n m t a d rest → (a.status ≡ Gone → ⊥) → keeps_lives d ≡ true → keeps_lives e ≡ true
     → is_passed e ≡ false
     → next_of m t a d ≡ e ∷ [] → HeldStep m.plain.references (bag_by m t a d) t (d ∷ rest) (e ∷ rest)
@@ -200,7 +198,7 @@ dying_hands life t x y lived =
           omega (arith, hand, after)
     ]
 
-pub own_dying : (p : Module) (n : ℕ) (m : Machine) (t : ℕ) (a : Actor) (d : Duty) (rest : List Duty) (x : ℕ)
+pub own_dying : (p : Accounts) (n : ℕ) (m : Machine) (t : ℕ) (a : Actor) (d : Duty) (rest : List Duty) (x : ℕ)
     → AtDuty p n m t a d rest → (a.status ≡ Gone → ⊥) → keeps_lives d ≡ true → DyingStep m t a d rest x
     → OwnFits p (done_by m t a d rest) t (actor_by t a d rest (found_by m t a d))
 own_dying p n m t a d rest x here alive kept step =
@@ -213,11 +211,10 @@ own_dying p n m t a d rest x here alive kept step =
     let whole : after.agenda ≡ agenda =
     ap (λ (h : ℕ). ready h (next_of m t a d ++ rest)) same_head
     ∙ ap (λ (l : List Duty). ready a.head (l ++ rest)) step.next_is ∙ ready_first a.head (Die x) rest refl in
-    let code = code_of (slice_get p.functions a.function) in
     let life = λ (y : ℕ). dying_life m t a d x y step.next_is (keeping_ends d kept) (keeping_born d kept) in
-    let placed : PlaceFits code new.plain.references t agenda a.place =
-    place_step code m.plain.references new.plain.references t (d ∷ rest) agenda a.place step.held
-    (subst (λ (l : List Duty). PlaceFits code m.plain.references t l a.place) here.agenda old.placed) in
+    let holds : HoldsAt new.plain.references t (p t) agenda =
+    holds_step m.plain.references new.plain.references t (p t) (d ∷ rest) agenda step.held
+    (subst (HoldsAt m.plain.references t (p t)) here.agenda old.holds) in
     let same : ChainSame m new t a.agenda agenda = record {
       gates = λ y. keeping_gates m t a d y kept;
       hands = λ y.
@@ -231,10 +228,9 @@ own_dying p n m t a d rest x here alive kept step =
     let dies : new.life x ≡ Dying t = life x ∙ ap (λ (b : Bool). cond b (Dying t) (m.life x)) (eq-eqb x x refl) in
     record {
       actor = record {
-        accepted = old.accepted;
-        instructions = old.instructions;
         word = keeping_word m t a d kept ∙ old.word ∙ ap status_word (sym same_status);
-        placed = subst (λ (l : List Duty). PlaceFits code new.plain.references t l a.place) (sym whole) placed;
+        holds = subst (HoldsAt new.plain.references t (p t)) (sym whole) holds;
+        departed = old.departed;
         head_fits = subst (λ (l : List Duty). HeadOf new t after l) (sym whole) (step.counted, dies);
         chain =
             subst (λ (l : List Duty). ChainFits new t after.head l) (sym whole)

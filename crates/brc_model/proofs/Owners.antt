@@ -17,11 +17,12 @@ use Rattle.brc_model.proofs.Written.{written_here, written_apart, written_load, 
 use Rattle.brc_model.proofs.Leaves.{AtDuty, head_of, locals_left}
 use Rattle.brc_model.proofs.Neutral.{memory_by}
 use Rattle.brc_model.proofs.Sits.{sitting}
-use Rattle.brc_model.proofs.Whole.{Whole}
+use Rattle.brc_model.proofs.WholeEvents.{Whole}
 use Rattle.brc_model.proofs.StepCases.{ShowsSteps, at_duty, event_shows}
 use Rattle.brc_model.proofs.Immortals.{counted_low}
 use Rattle.brc_model.proofs.Blocks.{next_unborn}
 use Rattle.brc_model.proofs.Nones.{none_local}
+use Rattle.brc_model.proofs.Rule.{Accounts}
 
 -- ---- others leave a running owner's count
 
@@ -41,7 +42,7 @@ runs_still m t u a place agenda found runs =
       | inr apart ↦ (runs.0, slice_get-set_other m.actors t u now apart.1 ∙ runs.1, runs.2)
     ]
 
-local_left : (p : Module) (n : ℕ) (m : Machine) (t : ℕ) (a : Actor) (d : Duty) (rest : List Duty) (x owner : ℕ)
+local_left : (p : Accounts) (n : ℕ) (m : Machine) (t : ℕ) (a : Actor) (d : Duty) (rest : List Duty) (x owner : ℕ)
     → AtDuty p n m t a d rest → owner ≢ t
     → owner_part (m.memory (Local x)) ≡ owner + 1 → Runs m owner → memory_by m t a d (Local x) ≡ m.memory (Local x)
 local_left p n m t a d rest zero owner here ne owns runs = none_local p n m t a d rest here
@@ -54,7 +55,7 @@ CountsSo t m new =
     (x owner : ℕ) → owner_part (m.memory (Local x)) ≡ owner + 1 → Runs m owner → new.memory (Local x)
     ≢ m.memory (Local x) → t ≡ owner
 
-counts_at_duty : (p : Module) (n : ℕ) (m : Machine) (t : ℕ) (a : Actor) (d : Duty) (rest : List Duty)
+counts_at_duty : (p : Accounts) (n : ℕ) (m : Machine) (t : ℕ) (a : Actor) (d : Duty) (rest : List Duty)
     → AtDuty p n m t a d rest → CountsSo t m (done_by m t a d rest)
 counts_at_duty p n m t a d rest here = λ x owner owns runs changed.
     elim (eqb_tells t owner) [
@@ -91,7 +92,7 @@ owned_at m y v x here =
       | inr other ↦ inl (ap owner_part (written_apart m.memory (Local y) (Local x) v (apart_local y x other.1)))
     ]
 
-owned_after : (p : Module) (n : ℕ) (m : Machine) (t : ℕ) (a : Actor) (d : Duty) (rest : List Duty) (x : ℕ)
+owned_after : (p : Accounts) (n : ℕ) (m : Machine) (t : ℕ) (a : Actor) (d : Duty) (rest : List Duty) (x : ℕ)
     → AtDuty p n m t a d rest → m.life x ≢ Unborn → OwnedSo (memory_by m t a d (Local x)) (m.memory (Local x))
 owned_after p n m t a (RetainLoad y h) rest x here born =
     inl (ap owner_part (written_load m.memory (Local y) (Local x)))

@@ -6,25 +6,24 @@ use Rattle.std.proofs.lemmas.Bool.{ne_eqb, false≢true}
 use Rattle.std.proofs.lemmas.Bool.Decides.{eqb_tells}
 use Rattle.std.proofs.lemmas.List.{length-set}
 use Rattle.std.proofs.lemmas.Option.{slice_get_within}
-use Rattle.brc_lang.specs.declared.module.Module.{Module}
 use Rattle.brc_model.specs.Plain.{none_row, Holder, ByThread, Reference, Plain, same, without, references_to, Move, are_allowed, moved, is_among}
-use Rattle.brc_model.specs.Threads.{code_of}
 use Rattle.brc_model.specs.declared.duty.Duty.{Duty}
 use Rattle.brc_model.specs.Duties.{block_of}
 use Rattle.brc_model.specs.declared.actor.Status.{Status}
 use Rattle.brc_model.specs.declared.actor.Place.{Place}
+use Rattle.brc_model.specs.declared.actor.Place.TheVariants.{Departing}
 use Rattle.brc_model.specs.Machine.{Actor, Machine, with_actor, with_moves}
 use Rattle.brc_model.proofs.Lists.{some_is, written_actor, slice_get-set_same, slice_get-set_other}
 use Rattle.brc_model.proofs.Bag.{one_if, references_to-cons, references_to-without, other_thread, cell_reference}
 use Rattle.brc_model.proofs.Holds.{reference_of}
 use Rattle.brc_model.proofs.MovesApart.{AreAside, IsNoWayOf, moved_aside}
 use Rattle.brc_model.proofs.Rows.{waits, carries, merges, decides, weight, Numbers, RowRule}
-use Rattle.brc_model.proofs.Rule.{numbers_of, PlaceFits, HandedOnce, scans, ActorFits, AgendaFits, UsesFit, looks, IsWatched, ByRunning, ByExit, ByLook, Rule, ChainFits}
+use Rattle.brc_model.proofs.Rule.{Account, Accounts, HoldsAt, Fits, numbers_of, scans, ActorFits, AgendaFits, UsesFit, looks, IsWatched, ByRunning, ByExit, ByLook, Rule, ChainFits}
 use Rattle.brc_lang.specs.declared.kind.Kind.{Kind}
 use Rattle.brc_model.specs.Kinds.{kind_number}
-use Rattle.brc_model.proofs.Others.{LeavesOthers, others_fit}
-use Rattle.brc_model.proofs.Begins.{QuietMoves, Stays, GainsNone, HandsOn, bag_after, QuietTaken}
-use Rattle.brc_model.proofs.Sits.{sitting, AtRest, same_weight}
+use Rattle.brc_model.proofs.Others.{LeavesOthers, each_fits}
+use Rattle.brc_model.proofs.Begins.{QuietMoves, Stays, GainsNone, HandsOn, bag_after}
+use Rattle.brc_model.proofs.Sits.{sitting, AtRest, same_weight, with_account, with_account_same, with_account_other}
 
 -- ---- the moves
 
@@ -83,7 +82,7 @@ quiet_aside bag h t _ (HandsOn from to x has) other = ((other from, other to), t
 abbrev pub quieted : Machine → ℕ → Actor → List Move → Place → Machine
 quieted m t a moves place = with_moves (with_actor m t (sitting a place [])) moves
 
-same_numbers : (p : Module) (n : ℕ) (m : Machine) (t : ℕ) (a : Actor) (moves : List Move) (place : Place) (x : ℕ)
+same_numbers : (p : Accounts) (n : ℕ) (m : Machine) (t : ℕ) (a : Actor) (moves : List Move) (place : Place) (x : ℕ)
     → AtRest p n m t a → QuietMoves m.plain.references t moves → 0 < x
     → numbers_of m x ≡ numbers_of (quieted m t a moves place) x
 same_numbers p n m t a moves place x rest quiet pos =
@@ -107,7 +106,7 @@ same_numbers p n m t a moves place x rest quiet pos =
       deciding = d i;
     }
 
-still_watched : (p : Module) (n : ℕ) (m : Machine) (t : ℕ) (a : Actor) (moves : List Move) (place : Place) (x : ℕ)
+still_watched : (p : Accounts) (n : ℕ) (m : Machine) (t : ℕ) (a : Actor) (moves : List Move) (place : Place) (x : ℕ)
     → AtRest p n m t a → IsWatched m x → IsWatched (quieted m t a moves place) x
 still_watched p n m t a moves place x rest (ByRunning one) = ByRunning one
 still_watched p n m t a moves place x rest (ByExit b found scanned) =
@@ -138,21 +137,25 @@ leaves m t a moves place quiet = record {
   lives = λ u x ne. refl;
 }
 
-own_fits : (p : Module) (n : ℕ) (m : Machine) (t : ℕ) (a : Actor) (moves : List Move) (place : Place) → AtRest p n m t a
-    → QuietTaken (code_of (slice_get p.functions a.function)) m.plain.references t moves place
-    → ActorFits p (quieted m t a moves place) t (sitting a place [])
-    × AgendaFits m.rows t (sitting a place []) a.status × HandedOnce []
-own_fits p n m t a moves place rest taken =
+-- what a thread has to show to take a quiet step
+pub record QuietSits (m : Machine) (t : ℕ) (moves : List Move) (place : Place) (account : Account) : Type 0 where
+  pub moves_fit : QuietMoves m.plain.references t moves
+  pub holds : HoldsAt (bag_after m.plain.references moves) t account []
+  pub stays : place ≢ Departing
+
+own_fits : (p : Accounts) (n : ℕ) (m : Machine) (t : ℕ) (a : Actor) (moves : List Move) (place : Place)
+    (account : Account)
+    → AtRest p n m t a → QuietSits m t moves place account
+    → Fits account (quieted m t a moves place) t (sitting a place [])
+own_fits p n m t a moves place account rest taken =
     let old = (rest.rule.each t a rest.found).0 in
-    let code = code_of (slice_get p.functions a.function) in
     let chain = subst (λ (l : List Duty). ChainFits m t a.head l) rest.agenda old.chain in (
       record {
-        accepted = old.accepted;
-        instructions = old.instructions;
         word = old.word;
-        placed =
-            subst (λ (l : List Reference). PlaceFits code l t [] place)
-            (sym (quiet_bag m.plain t moves taken.moves_fit)) taken.placed;
+        holds =
+            subst (λ (l : List Reference). HoldsAt l t account []) (sym (quiet_bag m.plain t moves taken.moves_fit))
+            taken.holds;
+        departed = λ e. absurd (taken.stays e);
         head_fits = tt;
         chain = record { chained = chain.chained; linked = chain.linked; once = chain.once };
       },
@@ -160,44 +163,17 @@ own_fits p n m t a moves place rest taken =
       tt,
     )
 
-each_fits : (p : Module) (n : ℕ) (m : Machine) (t : ℕ) (a : Actor) (moves : List Move) (place : Place)
-    → AtRest p n m t a → QuietTaken (code_of (slice_get p.functions a.function)) m.plain.references t moves place
-    → (u : ℕ) (b : Actor) → slice_get (slice_set m.actors t (sitting a place [])) u ≡ Some b
-    → ActorFits p (quieted m t a moves place) u b × AgendaFits m.rows u b b.status × HandedOnce b.agenda
-each_fits p n m t a moves place rest taken u b is =
-    let now = sitting a place [] in
-    elim (eqb_tells u t) [
-      | inl same ↦
-          let written_is : Some now ≡ Some b =
-          sym (ap (slice_get (slice_set m.actors t now)) same.1
-          ∙ slice_get-set_same m.actors t now (slice_get_within m.actors t a rest.found)) ∙ is in
-          let P : Actor
-          → Type 0 = λ x. ActorFits p (quieted m t a moves place) u x × AgendaFits m.rows u x x.status
-          × HandedOnce x.agenda in
-          let Q : ℕ
-          → Type 0 = λ w. ActorFits p (quieted m t a moves place) w now × AgendaFits m.rows w now now.status
-          × HandedOnce now.agenda in
-          subst P (some_is now b written_is) (subst Q (sym same.1) (own_fits p n m t a moves place rest taken))
-      | inr apart ↦
-          let found : slice_get m.actors u ≡ Some b = sym (slice_get-set_other m.actors t u now apart.1) ∙ is in
-          let old = rest.rule.each u b found in (
-            others_fit p m (quieted m t a moves place) t u b (leaves m t a moves place taken.moves_fit) apart.1 found
-                old.0,
-            old.1,
-            old.2,
-          )
-    ]
-
-pub quiet_rule : (p : Module) (n : ℕ) (m : Machine) (t : ℕ) (a : Actor) (moves : List Move) (place : Place)
-    → AtRest p n m t a → QuietTaken (code_of (slice_get p.functions a.function)) m.plain.references t moves place
-    → Rule p n (quieted m t a moves place)
-quiet_rule p n m t a moves place rest taken =
+-- A quiet step under its condition keeps the rule.
+pub quiet_rule : (p : Accounts) (n : ℕ) (m : Machine) (t : ℕ) (a : Actor) (moves : List Move) (place : Place)
+    (account : Account)
+    → AtRest p n m t a → QuietSits m t moves place account
+    → Rule (with_account p t account) n (quieted m t a moves place)
+quiet_rule p n m t a moves place account rest taken =
     let quiet = taken.moves_fit in
     let within : t < n = omega (arith, slice_get_within m.actors t a rest.found, rest.rule.threads) in
     let born = quiet_born m.plain t moves quiet in
     let closed = quiet_closed m.plain t moves quiet in
     record {
-      functions = rest.rule.functions;
       threads = length-set m.actors t (sitting a place []) ∙ rest.rule.threads;
       some_rows = rest.rule.some_rows;
       few_threads = rest.rule.few_threads;
@@ -209,7 +185,13 @@ quiet_rule p n m t a moves place rest taken =
         | inl none ↦ inl none
         | inr set ↦ inr (set.0, set.1, still_watched p n m t a moves place x rest set.2)
       ];
-      each = λ u b is. each_fits p n m t a moves place rest taken u b is;
+      each =
+          let now = sitting a place [] in
+          let own = own_fits p n m t a moves place account rest taken in
+          each_fits p (with_account p t account) m (quieted m t a moves place) t a now rest.found
+          (leaves m t a moves place quiet) (with_account_other p t account)
+          (subst (λ (c : Account). Fits c (quieted m t a moves place) t now) (with_account_same p t account) own)
+          rest.rule.each;
       beyond = λ u past k object.
           moved_aside m.plain (reference_of u k object) moves
           (quiet_aside m.plain.references (ByThread u k) t moves quiet

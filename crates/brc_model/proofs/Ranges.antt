@@ -3,7 +3,6 @@ use Rattle.std.proofs.Common.{◌≡◌, ℕ, zero, suc, ◌+◌, ◌<◌, ◌�
 use Rattle.std.specs.Prelude.{◌==◌, ◌&&◌, nat_lt, slice_get, count_by}
 use Rattle.std.proofs.lemmas.Bool.{eq-eqb, eqb-true}
 use Rattle.std.proofs.lemmas.List.Sums.{sum_by-cons}
-use Rattle.brc_lang.specs.declared.module.Module.{Module}
 use Rattle.brc_word.specs.Words.{local_part, is_immortal_word, fresh_word, dead_word, released_word, merged_word}
 use Rattle.brc_model.specs.Plain.{references_to}
 use Rattle.brc_model.specs.declared.duty.Duty.{Duty}
@@ -13,7 +12,7 @@ use Rattle.brc_model.specs.Duties.{address_of, left_by, next_by, ready, counts_l
 use Rattle.brc_model.specs.Machine.{Actor, Life, Unborn, Machine, written, is_running, actor_by, done_by}
 use Rattle.brc_model.proofs.Bag.{one_if}
 use Rattle.brc_model.proofs.Rows.{RowRule}
-use Rattle.brc_model.proofs.Rule.{numbers_of, Linked, dies_by, Rule}
+use Rattle.brc_model.proofs.Rule.{Accounts, numbers_of, Linked, dies_by, Rule}
 use Rattle.brc_model.proofs.Written.{written_load}
 use Rattle.brc_model.proofs.Lists.{written_actor}
 use Rattle.brc_model.proofs.Blocks.{born_within}
@@ -157,7 +156,7 @@ ready_small k head (d ∷ rest) small = ready_step k head d rest small (ready_sm
 abbrev pub limit : ℕ → Machine → ℕ
 limit n m = 2 + (n - 1) * m.rows
 
-pub referenced_small : (p : Module) (n : ℕ) (m : Machine) (x : ℕ) → Rule p n m → 0 < references_to x m.plain.references
+pub referenced_small : (p : Accounts) (n : ℕ) (m : Machine) (x : ℕ) → Rule p n m → 0 < references_to x m.plain.references
     → x < limit n m
 referenced_small p n m zero rule some = omega arith
 referenced_small p n m (suc x) rule some = born_within p n m (suc x) rule (λ unborn.
@@ -166,11 +165,11 @@ referenced_small p n m (suc x) rule some = born_within p n m (suc x) rule (λ un
     (rule.rows (suc x) (omega arith)) in
     absurd (omega (arith, row.references, some)))
 
-pub marked_small : (p : Module) (n : ℕ) (m : Machine) (x : ℕ) → Rule p n m → m.memory (Mark x) ≡ 1 → x < limit n m
+pub marked_small : (p : Accounts) (n : ℕ) (m : Machine) (x : ℕ) → Rule p n m → m.memory (Mark x) ≡ 1 → x < limit n m
 marked_small p n m x rule set = born_within p n m x rule (marked_born p n m x rule set)
 
 -- the head of a chain is of a row that dies
-pub head_small : (p : Module) (n : ℕ) (m : Machine) (t : ℕ) (a : Actor) → Rule p n m → slice_get m.actors t ≡ Some a
+pub head_small : (p : Accounts) (n : ℕ) (m : Machine) (t : ℕ) (a : Actor) → Rule p n m → slice_get m.actors t ≡ Some a
     → a.head ≤ limit n m
 head_small p n m t a rule found =
     let chain = (rule.each t a found).0.chain in
@@ -192,7 +191,7 @@ pub record Ranges (n : ℕ) (m : Machine) : Type 0 where
   pub kinds : (x : ℕ) → cells_of (m.memory (KindOf x)) ≤ 8
   pub each : (t : ℕ) (a : Actor) → slice_get m.actors t ≡ Some a → AreSmall (limit n m) a.agenda
 
-finds_small : (p : Module) (n : ℕ) (m : Machine) (t : ℕ) (a : Actor) (d : Duty) → Rule p n m → Ranges n m
+finds_small : (p : Accounts) (n : ℕ) (m : Machine) (t : ℕ) (a : Actor) (d : Duty) → Rule p n m → Ranges n m
     → a.head ≤ limit n m → FindsSmall (limit n m) a.head d (m.memory (address_of m.rows t a.head d))
 finds_small p n m t a Settle rule ranges head = omega (arith, head)
 finds_small p n m t a (SettleKind x) rule ranges head = ranges.kinds x
@@ -215,7 +214,7 @@ kinds_left m t a (BirthKind y h w) k x small was =
 kinds_left m t a _ k x small was = was
 
 -- a duty that is small, done by a thread in whose place another stood
-pub duty_ranges : (p : Module) (n : ℕ) (m : Machine) (t : ℕ) (b a : Actor) (d : Duty) (rest : List Duty) → Rule p n m
+pub duty_ranges : (p : Accounts) (n : ℕ) (m : Machine) (t : ℕ) (b a : Actor) (d : Duty) (rest : List Duty) → Rule p n m
     → Ranges n m → slice_get m.actors t ≡ Some b → a.head ≤ limit n m
     → AreSmall (limit n m) (d ∷ rest) → Ranges n (done_by m t a d rest)
 duty_ranges p n m t b a d rest rule ranges found head small =

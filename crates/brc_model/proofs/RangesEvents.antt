@@ -19,11 +19,11 @@ use Rattle.brc_model.specs.Machine.{Actor, Machine, Begun, Stuck, Quiet, Work, b
 use Rattle.brc_model.proofs.Bag.{held-le-references_to}
 use Rattle.brc_model.proofs.Lists.{some_is, slice_get-map, and_second, written_actor}
 use Rattle.brc_model.proofs.Holds.{reference_of}
-use Rattle.brc_model.proofs.Rule.{Rule}
+use Rattle.brc_model.proofs.Rule.{Accounts, Rule}
 use Rattle.brc_model.proofs.Begins.{Starts, Gives, Takes, Follows, Nothing, Settles, Leaves, IsTaken, Bears}
 use Rattle.brc_model.proofs.Sits.{AtRest}
 use Rattle.brc_model.proofs.TakenSits.{rests, begun_fits}
-use Rattle.brc_model.proofs.Whole.{Whole}
+use Rattle.brc_model.proofs.WholeEvents.{Whole}
 use Rattle.brc_model.proofs.WholeEvents.{event_keeps}
 use Rattle.brc_model.proofs.Ranges.{limit, IsSmall, AreSmall, referenced_small, head_small, Ranges, duty_ranges}
 use Rattle.brc_model.proofs.Blocks.{used_low, next_within}
@@ -31,7 +31,7 @@ use Rattle.std.proofs.lemmas.Option.{slice_get_within}
 
 -- ---- what is taken up
 
-pub starts_small : (p : Module) (n : ℕ) (m : Machine) (t : ℕ) (a : Actor) (d : Duty) (rest : List Duty) → Rule p n m
+pub starts_small : (p : Accounts) (n : ℕ) (m : Machine) (t : ℕ) (a : Actor) (d : Duty) (rest : List Duty) → Rule p n m
     → slice_get m.actors t ≡ Some a → Starts m.plain.references m.rows t a.used d rest → IsSmall (limit n m) d
 starts_small p n m t a d rest rule found (Gives row h behind some) = referenced_small p n m row rule some
 starts_small p n m t a d rest rule found (Takes row h by behind some) =
@@ -45,7 +45,7 @@ follows_small k rows t used place rest (Nothing stays) = tt
 follows_small k rows t used place rest (Settles stays) = (tt, tt)
 follows_small k rows t used place rest (Leaves leaves) = (tt, (tt, tt))
 
-begun_ranges : (p : Module) (n : ℕ) (m : Machine) (t : ℕ) (a : Actor) (b : Begun) → Ranges n m → AtRest p n m t a
+begun_ranges : (p : Accounts) (n : ℕ) (m : Machine) (t : ℕ) (a : Actor) (b : Begun) → Ranges n m → AtRest p n m t a
     → IsTaken (code_of (slice_get p.functions a.function)) m.plain.references m.rows t a.used b
     → Ranges n (begins m t a b)
 begun_ranges p n m t a Stuck ranges at taken = ranges
@@ -64,7 +64,7 @@ begun_ranges p n m t a (Work (d ∷ rest) place) ranges at taken =
 
 -- ---- a thread that isn't gone
 
-agenda_ranges : (p : Module) (n : ℕ) (m : Machine) (t : ℕ) (a : Actor) (agenda : List Duty) → Rule p n m → Ranges n m
+agenda_ranges : (p : Accounts) (n : ℕ) (m : Machine) (t : ℕ) (a : Actor) (agenda : List Duty) → Rule p n m → Ranges n m
     → slice_get m.actors t ≡ Some a → (a.status ≡ Gone → ⊥) → a.agenda ≡ agenda → Ranges n (goes_on m t a agenda)
 agenda_ranges p n m t a [] rule ranges found alive is =
     let at_rest = rests p n m t a rule found alive is in
@@ -74,7 +74,7 @@ agenda_ranges p n m t a (d ∷ rest) rule ranges found alive is =
     duty_ranges p n m t a a d rest rule ranges found (head_small p n m t a rule found)
     (subst (AreSmall (limit n m)) is (ranges.each t a found))
 
-status_ranges : (p : Module) (n : ℕ) (m : Machine) (t : ℕ) (a : Actor) (status : Status) → Rule p n m → Ranges n m
+status_ranges : (p : Accounts) (n : ℕ) (m : Machine) (t : ℕ) (a : Actor) (status : Status) → Rule p n m → Ranges n m
     → slice_get m.actors t ≡ Some a → a.status ≡ status → Ranges n (acts m t a status)
 status_ranges p n m t a Gone rule ranges found is = ranges
 status_ranges p n m t a Running rule ranges found is =

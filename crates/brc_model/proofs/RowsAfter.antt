@@ -2,7 +2,6 @@
 use Rattle.std.proofs.Common.{◌≡◌, ℕ, ◌<◌, List, ◌∷◌, Some, arith, subst, inl, inr}
 use Rattle.std.specs.Prelude.{slice_get}
 use Rattle.std.proofs.lemmas.Bool.Decides.{eqb_tells}
-use Rattle.brc_lang.specs.declared.module.Module.{Module}
 use Rattle.brc_model.specs.declared.duty.Reason.TheVariants.{Own, Handed}
 use Rattle.brc_model.specs.declared.duty.Duty.{Duty}
 use Rattle.brc_model.specs.declared.duty.Duty.TheVariants.{RetainLoad, RetainStore, RetainAdd, ReleaseLoad, ReleaseStore, DecideAtZero, SharedLoad, SharedExchange, SetMark, Look, TakeMark, MergeSwap, MergeLoad, MergeExchange, Die, Settle, SettleKind, SettleCell, TakeSlot, CloseResource, SettleEnd, Leave, Scan, Finish, ClaimMark, BirthKind, BirthSlot, BirthLocal}
@@ -10,7 +9,7 @@ use Rattle.brc_model.specs.Duties.{block_of}
 use Rattle.brc_model.specs.declared.actor.Status.TheVariants.{Gone}
 use Rattle.brc_model.specs.Machine.{Actor, Machine, done_by}
 use Rattle.brc_model.proofs.Rows.{RowRule}
-use Rattle.brc_model.proofs.Rule.{Rule, numbers_of}
+use Rattle.brc_model.proofs.Rule.{Accounts, Rule, numbers_of}
 use Rattle.brc_model.proofs.RowsAfterStep.{Doing, KeepsRow}
 use Rattle.brc_model.proofs.RowsAfterElsewhere.{subject, row_elsewhere}
 use Rattle.brc_model.proofs.RowsAfterLocal.{row_after_retain_load, row_after_retain_store, row_after_retain_add, row_after_release_load, row_after_release_store, row_after_decide}
@@ -20,7 +19,7 @@ use Rattle.brc_model.proofs.RowsAfterBirths.{row_after_birth_kind, row_after_bir
 use Rattle.brc_model.proofs.RowsAfterMerge.{row_after_own_swap, row_after_handed_swap, row_after_merge_load, row_after_merge_exchange}
 
 -- the row that the duty is about
-own_row : (p : Module) (n : ℕ) (m : Machine) (t : ℕ) (a : Actor) (d : Duty) (rest : List Duty) → Doing p n m t a d rest
+own_row : (p : Accounts) (n : ℕ) (m : Machine) (t : ℕ) (a : Actor) (d : Duty) (rest : List Duty) → Doing p n m t a d rest
     → 0 < subject d → KeepsRow m t a d rest (subject d)
 own_row p n m t a (RetainLoad y h) rest s some = row_after_retain_load some s
 own_row p n m t a (RetainStore y h w) rest s some = row_after_retain_store s
@@ -53,7 +52,7 @@ own_row p n m t a (BirthKind y h w) rest s some = row_after_birth_kind some s
 own_row p n m t a (BirthSlot y h) rest s some = row_after_birth_slot some s
 own_row p n m t a (BirthLocal y h) rest s some = row_after_birth_local s
 
-pub rows_after : (p : Module) (n : ℕ) (m : Machine) (t : ℕ) (a : Actor) (d : Duty) (rest : List Duty) → Rule p n m
+pub rows_after : (p : Accounts) (n : ℕ) (m : Machine) (t : ℕ) (a : Actor) (d : Duty) (rest : List Duty) → Rule p n m
     → slice_get m.actors t ≡ Some a → a.agenda ≡ d ∷ rest → (a.status ≡ Gone → ⊥)
     → (x : ℕ) → 0 < x
     → RowRule (block_of m.rows x) ((done_by m t a d rest).life x) (numbers_of (done_by m t a d rest) x)

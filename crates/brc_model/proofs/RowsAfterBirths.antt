@@ -1,7 +1,6 @@
 -- A birth keeps the rule of the row that is born.
 use Rattle.std.proofs.Common.{ℕ, ◌+◌, ◌<◌, Bool, cond, List, [], ◌∷◌, refl, sym, ap, subst, arith}
 use Rattle.std.proofs.lemmas.Option.{slice_get_within}
-use Rattle.brc_lang.specs.declared.module.Module.{Module}
 use Rattle.brc_model.specs.declared.duty.Holding.{Holding}
 use Rattle.brc_word.specs.Words.{local_word}
 use Rattle.brc_model.specs.declared.duty.Duty.{Duty}
@@ -12,7 +11,7 @@ use Rattle.brc_model.specs.Machine.{Actor, Life, Live, Machine}
 use Rattle.brc_model.proofs.Bag.{references_to-cons}
 use Rattle.brc_model.proofs.Holds.{reference_of}
 use Rattle.brc_model.proofs.Rows.{Numbers, IsDefault, AboveZero, InOwned, IsLive, IsUnborn, RowRule}
-use Rattle.brc_model.proofs.Rule.{IsNext, numbers_of}
+use Rattle.brc_model.proofs.Rule.{Accounts, IsNext, numbers_of}
 use Rattle.brc_model.proofs.RowsAfterOwn.{own, one_own, written_here, row_apart}
 use Rattle.brc_model.proofs.RowsAfterStep.{Doing, KeepsRow, head_fits_of, weighed, row_becomes, row_stays}
 use Rattle.brc_model.proofs.RowsAfterElsewhere.{IsApart, apart_if, one_apart}
@@ -20,7 +19,7 @@ use Rattle.brc_model.proofs.Blocks.{next_above, next_unborn, next_block}
 
 -- ---- what the object is, and its resource
 
-pub row_after_birth_kind : {p : Module} {n : ℕ} {m : Machine} {t : ℕ} {a : Actor} {y : ℕ} {h : Holding} {w : ℕ}
+pub row_after_birth_kind : {p : Accounts} {n : ℕ} {m : Machine} {t : ℕ} {a : Actor} {y : ℕ} {h : Holding} {w : ℕ}
     {rest : List Duty}
     → 0 < y → Doing p n m t a (BirthKind y h w) rest → KeepsRow m t a (BirthKind y h w) rest y
 row_after_birth_kind {y = y} {h = h} {w = w} some s =
@@ -33,7 +32,7 @@ row_after_birth_kind {y = y} {h = h} {w = w} some s =
     row_apart s y some this (apart_if (has_resource w) (one_apart y _ slot) (one_apart y _ local)) (λ life state. refl)
     (record { local = refl; shared = refl; mark = refl; references = refl })
 
-pub row_after_birth_slot : {p : Module} {n : ℕ} {m : Machine} {t : ℕ} {a : Actor} {y : ℕ} {h : Holding}
+pub row_after_birth_slot : {p : Accounts} {n : ℕ} {m : Machine} {t : ℕ} {a : Actor} {y : ℕ} {h : Holding}
     {rest : List Duty}
     → 0 < y → Doing p n m t a (BirthSlot y h) rest → KeepsRow m t a (BirthSlot y h) rest y
 row_after_birth_slot {y = y} {h = h} some s =
@@ -70,7 +69,7 @@ born_live owner k low unborn = record {
   });
 }
 
-pub row_after_birth_local : {p : Module} {n : ℕ} {m : Machine} {t : ℕ} {a : Actor} {y : ℕ} {h : Holding}
+pub row_after_birth_local : {p : Accounts} {n : ℕ} {m : Machine} {t : ℕ} {a : Actor} {y : ℕ} {h : Holding}
     {rest : List Duty}
     → Doing p n m t a (BirthLocal y h) rest → KeepsRow m t a (BirthLocal y h) rest y
 row_after_birth_local {p = p} {n = n} {m = m} {t = t} {a = a} {y = y} {h = h} {rest = rest} s =

@@ -3,7 +3,6 @@ use Rattle.std.proofs.Common.{◌≡◌, ℕ, ◌<◌, List, [], ◌∷◌, Some
 use Rattle.std.specs.Prelude.{◌==◌, sum_by, slice_get}
 use Rattle.std.proofs.lemmas.Bool.Decides.{eqb_tells}
 use Rattle.std.proofs.lemmas.List.Sums.{sum_by-cons}
-use Rattle.brc_lang.specs.declared.module.Module.{Module}
 use Rattle.brc_model.specs.declared.duty.Reason.TheVariants.{Own, Handed}
 use Rattle.brc_model.specs.declared.duty.Duty.{Duty}
 use Rattle.brc_model.specs.declared.duty.Duty.TheVariants.{DecideAtZero, SharedLoad, MergeSwap, Settle, Leave, Scan, Finish}
@@ -16,7 +15,7 @@ use Rattle.brc_model.specs.Machine.{Actor, Machine}
 use Rattle.brc_model.proofs.Bag.{one_if}
 use Rattle.brc_model.proofs.Lists.{some_is}
 use Rattle.brc_model.proofs.Rows.{decides, agenda_weight, weight, IsLive, InOwned, InSwapped, InMerged}
-use Rattle.brc_model.proofs.Rule.{numbers_of, OwnsLocally, MayMerge, HeadFits, HeadOf, Later, Agenda, AgendaFits, status_word}
+use Rattle.brc_model.proofs.Rule.{Accounts, numbers_of, OwnsLocally, MayMerge, HeadFits, HeadOf, Later, Agenda, AgendaFits, status_word}
 use Rattle.brc_model.proofs.Weights.{heavy_somewhere}
 use Rattle.brc_model.proofs.RowsAfterStep.{Doing}
 
@@ -97,7 +96,7 @@ decider_is_owner m u b x owns live some =
     ]
 
 -- the claimant's own agenda decides nothing
-claimant_undecided : {p : Module} {n : ℕ} {m : Machine} {t : ℕ} {a : Actor} {y : ℕ} {rest : List Duty}
+claimant_undecided : {p : Accounts} {n : ℕ} {m : Machine} {t : ℕ} {a : Actor} {y : ℕ} {rest : List Duty}
     → Doing p n m t a (MergeSwap y Handed) rest → sum_by (decides y) a.agenda ≡ 0
 claimant_undecided {m = m} {t = t} {a = a} {y = y} {rest = rest} s =
     let behind =
@@ -106,7 +105,7 @@ claimant_undecided {m = m} {t = t} {a = a} {y = y} {rest = rest} s =
     ap (sum_by (decides y)) s.agenda in
     omega (arith, whole, sum_by-cons (decides y) (MergeSwap y Handed) rest, behind)
 
-pub none_decides : {p : Module} {n : ℕ} {m : Machine} {t : ℕ} {a : Actor} {y : ℕ} {rest : List Duty}
+pub none_decides : {p : Accounts} {n : ℕ} {m : Machine} {t : ℕ} {a : Actor} {y : ℕ} {rest : List Duty}
     → Doing p n m t a (MergeSwap y Handed) rest → MayMerge m t y
     → IsLive (block_of m.rows y) (numbers_of m y) → weight (decides y) m.actors ≡ 0
 none_decides {m = m} {t = t} {a = a} {y = y} s may live =

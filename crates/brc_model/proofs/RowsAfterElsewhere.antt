@@ -2,7 +2,6 @@
 use Rattle.std.proofs.Common.{◌≡◌, ℕ, zero, suc, ◌+◌, ◌-◌, ◌<◌, Bool, true, false, cond, List, [], ◌∷◌, ◌++◌, refl, sym, ap, ◌∙◌, subst, arith}
 use Rattle.std.specs.Prelude.{◌==◌, ◌&&◌, nat_lt, if◌then◌else◌, sum_by}
 use Rattle.std.proofs.lemmas.List.Sums.{sum_by-cons}
-use Rattle.brc_lang.specs.declared.module.Module.{Module}
 use Rattle.brc_model.specs.declared.duty.Holding.TheVariants.{ByVariable, AsCaller, InHand}
 use Rattle.brc_model.specs.Plain.{Reference, same, without, references_to, Plain, Move, Born, Gain, Lose, HandOn, Finalise, move, moved}
 use Rattle.brc_word.specs.Words.{is_immortal_word, local_part, fresh_word, dead_word, released_word, merged_word}
@@ -17,6 +16,7 @@ use Rattle.brc_model.proofs.Bag.{one_if, references_to-cons, same-true}
 use Rattle.brc_model.proofs.Rows.{waits, carries, merges, decides}
 use Rattle.brc_model.proofs.Lives.{cell_found}
 use Rattle.brc_model.proofs.RowsAfterStep.{Doing, found_by, following, KeepsRow, RowStays, row_stays}
+use Rattle.brc_model.proofs.Rule.{Accounts}
 
 -- the row that a duty is about, or none
 abbrev pub subject : Duty → ℕ
@@ -348,7 +348,7 @@ not_born : (x : ℕ) (d : Duty) → (subject d == x) ≡ false → (life : ℕ �
 not_born x (BirthLocal y h) e life state = ap (λ (b : Bool). cond b state (life x)) e
 not_born x d e life state = refl
 
-pub row_elsewhere : {p : Module} {n : ℕ} {m : Machine} {t : ℕ} {a : Actor} {d : Duty} {rest : List Duty}
+pub row_elsewhere : {p : Accounts} {n : ℕ} {m : Machine} {t : ℕ} {a : Actor} {d : Duty} {rest : List Duty}
     → Doing p n m t a d rest → (x : ℕ) → 0 < x → (subject d == x) ≡ false → KeepsRow m t a d rest x
 row_elsewhere {p = p} {n = n} {m = m} {t = t} {a = a} {d = d} {rest = rest} s x some e =
     let found = found_by m t a d in

@@ -2,7 +2,6 @@
 use Rattle.std.proofs.Common.{◌≡◌, ℕ, ◌+◌, ◌-◌, ◌<◌, ◌≤◌, Bool, false, cond, List, [], ◌∷◌, ◌++◌, refl, sym, ap, ◌∙◌, arith, inl, inr}
 use Rattle.std.specs.Prelude.{◌&&◌, nat_lt}
 use Rattle.std.proofs.lemmas.Bool.Decides.{eqb_tells}
-use Rattle.brc_lang.specs.declared.module.Module.{Module}
 use Rattle.brc_model.specs.declared.duty.Holding.{Holding}
 use Rattle.brc_model.specs.declared.duty.Holding.TheVariants.{ByVariable, AsCaller, InHand}
 use Rattle.brc_model.specs.Plain.{without, references_to, Plain, moved}
@@ -16,7 +15,7 @@ use Rattle.brc_model.specs.Machine.{Live, Dying, Actor, Machine, gain, lose, han
 use Rattle.brc_model.proofs.Bag.{references_to-cons, same_holding-refl}
 use Rattle.brc_model.proofs.Holds.{reference_of}
 use Rattle.brc_model.proofs.RowSteps.{local_up, local_down, local_to_zero, zero_dies, shared_gained}
-use Rattle.brc_model.proofs.Rule.{numbers_of}
+use Rattle.brc_model.proofs.Rule.{Accounts, numbers_of}
 use Rattle.brc_model.proofs.RowsAfterStep.{Doing, head_fits_of, KeepsRow, weighed, row_becomes, row_stays}
 use Rattle.brc_model.proofs.RowsAfterElsewhere.{IsApart, none_apart, one_apart, apart_if}
 use Rattle.brc_model.proofs.RowsAfterOwn.{own, one_own, written_here, gives_up, IsLost, is_lost, lives_so, lives_backed, counted_word, row_apart}
@@ -31,7 +30,7 @@ retain_apart x y h w = (
   record { waiting = refl; carried = refl; merging = refl; deciding = refl; lives = λ life state. refl },
 )
 
-pub row_after_retain_load : {p : Module} {n : ℕ} {m : Machine} {t : ℕ} {a : Actor} {y : ℕ} {h : Holding}
+pub row_after_retain_load : {p : Accounts} {n : ℕ} {m : Machine} {t : ℕ} {a : Actor} {y : ℕ} {h : Holding}
     {rest : List Duty}
     → 0 < y → Doing p n m t a (RetainLoad y h) rest → KeepsRow m t a (RetainLoad y h) rest y
 row_after_retain_load {m = m} {t = t} {y = y} {h = h} some s =
@@ -51,7 +50,7 @@ row_after_retain_load {m = m} {t = t} {y = y} {h = h} some s =
       references = sym (ap (λ (b : Bool). references_to y (moved m.plain (cond b (gain t h y) [])).references) counted);
     })
 
-pub row_after_retain_store : {p : Module} {n : ℕ} {m : Machine} {t : ℕ} {a : Actor} {y : ℕ} {h : Holding} {w : ℕ}
+pub row_after_retain_store : {p : Accounts} {n : ℕ} {m : Machine} {t : ℕ} {a : Actor} {y : ℕ} {h : Holding} {w : ℕ}
     {rest : List Duty}
     → Doing p n m t a (RetainStore y h w) rest → KeepsRow m t a (RetainStore y h w) rest y
 row_after_retain_store {m = m} {t = t} {a = a} {y = y} {h = h} {w = w} {rest = rest} s =
@@ -73,7 +72,7 @@ row_after_retain_store {m = m} {t = t} {a = a} {y = y} {h = h} {w = w} {rest = r
       deciding = omega (arith, weights.deciding);
     }) (local_up (block_of m.rows y) k lives.rule (omega (arith, low, fits.4)) (omega (arith, low, fits.5)))
 
-pub row_after_retain_add : {p : Module} {n : ℕ} {m : Machine} {t : ℕ} {a : Actor} {y : ℕ} {h : Holding}
+pub row_after_retain_add : {p : Accounts} {n : ℕ} {m : Machine} {t : ℕ} {a : Actor} {y : ℕ} {h : Holding}
     {rest : List Duty}
     → Doing p n m t a (RetainAdd y h) rest → KeepsRow m t a (RetainAdd y h) rest y
 row_after_retain_add {m = m} {t = t} {a = a} {y = y} {h = h} {rest = rest} s =
@@ -118,7 +117,7 @@ handed_on t y (ByVariable v) p lost =
       one,
     )
 
-pub row_after_release_load : {p : Module} {n : ℕ} {m : Machine} {t : ℕ} {a : Actor} {y : ℕ} {h : Holding}
+pub row_after_release_load : {p : Accounts} {n : ℕ} {m : Machine} {t : ℕ} {a : Actor} {y : ℕ} {h : Holding}
     {rest : List Duty}
     → 0 < y → Doing p n m t a (ReleaseLoad y h) rest → KeepsRow m t a (ReleaseLoad y h) rest y
 row_after_release_load {m = m} {t = t} {y = y} {h = h} some s =
@@ -146,7 +145,7 @@ row_after_release_load {m = m} {t = t} {y = y} {h = h} some s =
           counted);
     })
 
-pub row_after_release_store : {p : Module} {n : ℕ} {m : Machine} {t : ℕ} {a : Actor} {y w : ℕ} {rest : List Duty}
+pub row_after_release_store : {p : Accounts} {n : ℕ} {m : Machine} {t : ℕ} {a : Actor} {y w : ℕ} {rest : List Duty}
     → Doing p n m t a (ReleaseStore y w) rest → KeepsRow m t a (ReleaseStore y w) rest y
 row_after_release_store {m = m} {t = t} {a = a} {y = y} {w = w} {rest = rest} s =
     let fits = head_fits_of s in
@@ -187,7 +186,7 @@ row_after_release_store {m = m} {t = t} {a = a} {y = y} {w = w} {rest = rest} s 
 
 -- ---- the owner at zero
 
-pub row_after_decide : {p : Module} {n : ℕ} {m : Machine} {t : ℕ} {a : Actor} {y : ℕ} {rest : List Duty}
+pub row_after_decide : {p : Accounts} {n : ℕ} {m : Machine} {t : ℕ} {a : Actor} {y : ℕ} {rest : List Duty}
     → Doing p n m t a (DecideAtZero y) rest → KeepsRow m t a (DecideAtZero y) rest y
 row_after_decide {m = m} {t = t} {a = a} {y = y} {rest = rest} s =
     let fits = head_fits_of s in

@@ -2,7 +2,6 @@
 use Rattle.std.proofs.Common.{◌≡◌, ℕ, ◌+◌, ◌-◌, ◌<◌, ◌≤◌, Bool, true, false, cond, List, [], ◌∷◌, ◌++◌, refl, sym, ap, ◌∙◌, subst, arith, inl, inr}
 use Rattle.std.specs.Prelude.{◌==◌}
 use Rattle.std.proofs.lemmas.List.Sums.{sum_by-append}
-use Rattle.brc_lang.specs.declared.module.Module.{Module}
 use Rattle.brc_model.specs.Plain.{references_to, moved}
 use Rattle.brc_model.specs.declared.duty.Reason.TheVariants.{Handed}
 use Rattle.brc_model.specs.declared.duty.Duty.{Duty}
@@ -12,14 +11,14 @@ use Rattle.brc_model.specs.Duties.{block_of, claimed, has_resource, cells_of, ce
 use Rattle.brc_model.specs.Machine.{Life, Live, Dying, Closed, Actor, Machine, with_life, dies_next, life_by, done_by, take_out}
 use Rattle.brc_model.proofs.Rows.{waits, carries, merges, decides, RowRule}
 use Rattle.brc_model.proofs.RowMerges.{mark_set, mark_taken}
-use Rattle.brc_model.proofs.Rule.{numbers_of}
+use Rattle.brc_model.proofs.Rule.{Accounts, numbers_of}
 use Rattle.brc_model.proofs.RowsAfterStep.{Doing, head_fits_of, following, KeepsRow, weighed, row_becomes, row_stays}
 use Rattle.brc_model.proofs.RowsAfterElsewhere.{IsApart, AreApart, none_apart, one_apart, more_apart, apart_if, settle_apart, scan_apart, kind_apart, cells_apart, released_apart}
 use Rattle.brc_model.proofs.RowsAfterOwn.{own, one_own, written_here, lives_so, row_apart}
 
 -- ---- a mark is set
 
-pub row_after_set_mark : {p : Module} {n : ℕ} {m : Machine} {t : ℕ} {a : Actor} {y : ℕ} {rest : List Duty}
+pub row_after_set_mark : {p : Accounts} {n : ℕ} {m : Machine} {t : ℕ} {a : Actor} {y : ℕ} {rest : List Duty}
     → Doing p n m t a (SetMark y) rest → KeepsRow m t a (SetMark y) rest y
 row_after_set_mark {m = m} {t = t} {a = a} {y = y} {rest = rest} s =
     let some : 0 < y = head_fits_of s in
@@ -40,7 +39,7 @@ row_after_set_mark {m = m} {t = t} {a = a} {y = y} {rest = rest} s =
       deciding = omega (arith, weights.deciding);
     }) (mark_set (block_of m.rows y) k lives.rule awaits)
 
-pub row_after_look : {p : Module} {n : ℕ} {m : Machine} {t : ℕ} {a : Actor} {y : ℕ} {rest : List Duty}
+pub row_after_look : {p : Accounts} {n : ℕ} {m : Machine} {t : ℕ} {a : Actor} {y : ℕ} {rest : List Duty}
     → Doing p n m t a (Look y) rest → KeepsRow m t a (Look y) rest y
 row_after_look {m = m} {y = y} s =
     let some : 0 < y = head_fits_of s in
@@ -66,7 +65,7 @@ pub record Takes (m : Machine) (t : ℕ) (a : Actor) (d : Duty) (rest : List Dut
     pub references : references_to y m.plain.references ≡ references_to y (done_by m t a d rest).plain.references
 
 -- none was set
-takes_none : {p : Module} {n : ℕ} {m : Machine} {t : ℕ} {a : Actor} {d : Duty} {rest tail : List Duty} {y : ℕ}
+takes_none : {p : Accounts} {n : ℕ} {m : Machine} {t : ℕ} {a : Actor} {d : Duty} {rest tail : List Duty} {y : ℕ}
     → Doing p n m t a d rest → 0 < y → Takes m t a d rest y tail → m.memory (Mark y) ≡ 0
     → KeepsRow m t a d rest y
 takes_none {m = m} {t = t} {a = a} {d = d} {rest = rest} {tail = tail} {y = y} s some takes unset =
@@ -88,7 +87,7 @@ abbrev hands : ℕ → List Duty
 hands y = MergeSwap y Handed ∷ SharedLoad y Handed ∷ []
 
 -- one was set, and its decrement awaits by the handed reference
-takes_one : {p : Module} {n : ℕ} {m : Machine} {t : ℕ} {a : Actor} {d : Duty} {rest tail : List Duty} {y : ℕ}
+takes_one : {p : Accounts} {n : ℕ} {m : Machine} {t : ℕ} {a : Actor} {d : Duty} {rest tail : List Duty} {y : ℕ}
     → Doing p n m t a d rest → 0 < y → Takes m t a d rest y tail → m.memory (Mark y) ≡ 1
     → KeepsRow m t a d rest y
 takes_one {m = m} {t = t} {a = a} {d = d} {rest = rest} {tail = tail} {y = y} s some takes set =
@@ -138,7 +137,7 @@ takes_one {m = m} {t = t} {a = a} {d = d} {rest = rest} {tail = tail} {y = y} s 
           );
     }) (mark_taken (block_of m.rows y) k lives.rule set)
 
-row_after_taking : {p : Module} {n : ℕ} {m : Machine} {t : ℕ} {a : Actor} {d : Duty} {rest tail : List Duty} {y : ℕ}
+row_after_taking : {p : Accounts} {n : ℕ} {m : Machine} {t : ℕ} {a : Actor} {d : Duty} {rest tail : List Duty} {y : ℕ}
     → Doing p n m t a d rest → 0 < y → Takes m t a d rest y tail → KeepsRow m t a d rest y
 row_after_taking {y = y} s some takes =
     elim (s.rule.marks y) [
@@ -146,7 +145,7 @@ row_after_taking {y = y} s some takes =
       | inr set ↦ takes_one s some takes set.0
     ]
 
-pub row_after_take_mark : {p : Module} {n : ℕ} {m : Machine} {t : ℕ} {a : Actor} {y : ℕ} {rest : List Duty}
+pub row_after_take_mark : {p : Accounts} {n : ℕ} {m : Machine} {t : ℕ} {a : Actor} {y : ℕ} {rest : List Duty}
     → Doing p n m t a (TakeMark y) rest → KeepsRow m t a (TakeMark y) rest y
 row_after_take_mark {m = m} {t = t} {a = a} {y = y} {rest = rest} s =
     let takes : Takes m t a (TakeMark y) rest y [] = record {
@@ -164,7 +163,7 @@ row_after_take_mark {m = m} {t = t} {a = a} {y = y} {rest = rest} s =
     } in
     row_after_taking s (head_fits_of s).0 takes
 
-pub row_after_scan : {p : Module} {n : ℕ} {m : Machine} {t : ℕ} {a : Actor} {y left : ℕ} {rest : List Duty} → 0 < y
+pub row_after_scan : {p : Accounts} {n : ℕ} {m : Machine} {t : ℕ} {a : Actor} {y left : ℕ} {rest : List Duty} → 0 < y
     → Doing p n m t a (Scan y left) rest → KeepsRow m t a (Scan y left) rest y
 row_after_scan {m = m} {t = t} {a = a} {y = y} {left = left} {rest = rest} some s =
     let takes : Takes m t a (Scan y left) rest y (Settle ∷ Scan (y + 1) (left - 1) ∷ []) = record {
@@ -179,7 +178,7 @@ row_after_scan {m = m} {t = t} {a = a} {y = y} {left = left} {rest = rest} some 
     } in
     row_after_taking s some takes
 
-pub row_after_claim : {p : Module} {n : ℕ} {m : Machine} {t : ℕ} {a : Actor} {y : ℕ} {rest : List Duty} → 0 < y
+pub row_after_claim : {p : Accounts} {n : ℕ} {m : Machine} {t : ℕ} {a : Actor} {y : ℕ} {rest : List Duty} → 0 < y
     → Doing p n m t a (ClaimMark y) rest → KeepsRow m t a (ClaimMark y) rest y
 row_after_claim {m = m} {t = t} {a = a} {y = y} {rest = rest} some s =
     let takes : Takes m t a (ClaimMark y) rest y (Settle ∷ []) = record {
@@ -196,7 +195,7 @@ row_after_claim {m = m} {t = t} {a = a} {y = y} {rest = rest} some s =
 
 -- ---- an object dies, and is finalised
 
-pub row_after_die : {p : Module} {n : ℕ} {m : Machine} {t : ℕ} {a : Actor} {y : ℕ} {rest : List Duty} → 0 < y
+pub row_after_die : {p : Accounts} {n : ℕ} {m : Machine} {t : ℕ} {a : Actor} {y : ℕ} {rest : List Duty} → 0 < y
     → Doing p n m t a (Die y) rest → KeepsRow m t a (Die y) rest y
 row_after_die {y = y} some s =
     row_stays {next = []} {x = y} s some
@@ -213,7 +212,7 @@ row_after_die {y = y} some s =
       deciding = refl;
     })
 
-pub row_after_kind : {p : Module} {n : ℕ} {m : Machine} {t : ℕ} {a : Actor} {y : ℕ} {rest : List Duty} → 0 < y
+pub row_after_kind : {p : Accounts} {n : ℕ} {m : Machine} {t : ℕ} {a : Actor} {y : ℕ} {rest : List Duty} → 0 < y
     → Doing p n m t a (SettleKind y) rest → KeepsRow m t a (SettleKind y) rest y
 row_after_kind {m = m} {y = y} some s =
     let word = m.memory (KindOf y) in
@@ -223,7 +222,7 @@ row_after_kind {m = m} {y = y} some s =
     row_apart s y some (kind_apart y y) next (λ life state. refl)
     (record { local = refl; shared = refl; mark = refl; references = refl })
 
-pub row_after_cell : {p : Module} {n : ℕ} {m : Machine} {t : ℕ} {a : Actor} {y i cells : ℕ} {rest : List Duty} → 0 < y
+pub row_after_cell : {p : Accounts} {n : ℕ} {m : Machine} {t : ℕ} {a : Actor} {y i cells : ℕ} {rest : List Duty} → 0 < y
     → Doing p n m t a (SettleCell y i cells) rest → KeepsRow m t a (SettleCell y i cells) rest y
 row_after_cell {m = m} {t = t} {y = y} {i = i} {cells = cells} some s =
     let this : IsApart y (SettleCell y i cells) =
@@ -238,7 +237,7 @@ row_after_cell {m = m} {t = t} {y = y} {i = i} {cells = cells} some s =
           ap (λ (w : ℕ). references_to y (moved m.plain (take_out t y i w)).references) (sym (s.rule.cells y i));
     })
 
-pub row_after_take_slot : {p : Module} {n : ℕ} {m : Machine} {t : ℕ} {a : Actor} {y : ℕ} {rest : List Duty} → 0 < y
+pub row_after_take_slot : {p : Accounts} {n : ℕ} {m : Machine} {t : ℕ} {a : Actor} {y : ℕ} {rest : List Duty} → 0 < y
     → Doing p n m t a (TakeSlot y) rest → KeepsRow m t a (TakeSlot y) rest y
 row_after_take_slot {y = y} some s =
     row_stays {next = CloseResource y ∷ []} {x = y} s some
@@ -255,7 +254,7 @@ row_after_take_slot {y = y} some s =
       deciding = refl;
     })
 
-pub row_after_close : {p : Module} {n : ℕ} {m : Machine} {t : ℕ} {a : Actor} {y : ℕ} {rest : List Duty} → 0 < y
+pub row_after_close : {p : Accounts} {n : ℕ} {m : Machine} {t : ℕ} {a : Actor} {y : ℕ} {rest : List Duty} → 0 < y
     → Doing p n m t a (CloseResource y) rest → KeepsRow m t a (CloseResource y) rest y
 row_after_close {y = y} some s =
     row_stays {next = SettleEnd y ∷ []} {x = y} s some
@@ -273,7 +272,7 @@ row_after_close {y = y} some s =
     })
 
 -- a row that was dying is closed
-pub row_after_end : {p : Module} {n : ℕ} {m : Machine} {t : ℕ} {a : Actor} {y : ℕ} {rest : List Duty}
+pub row_after_end : {p : Accounts} {n : ℕ} {m : Machine} {t : ℕ} {a : Actor} {y : ℕ} {rest : List Duty}
     → Doing p n m t a (SettleEnd y) rest → KeepsRow m t a (SettleEnd y) rest y
 row_after_end {m = m} {t = t} {a = a} {y = y} {rest = rest} s =
     let fits = head_fits_of s in

@@ -4,7 +4,6 @@ use Rattle.std.specs.Prelude.{◌==◌, sum_by}
 use Rattle.std.proofs.lemmas.Bool.{ne_eqb}
 use Rattle.std.proofs.lemmas.Bool.Decides.{eqb_tells}
 use Rattle.std.proofs.lemmas.List.Sums.{sum_by-cons}
-use Rattle.brc_lang.specs.declared.module.Module.{Module}
 use Rattle.brc_word.specs.Words.{local_part, dead_word, merged_word}
 use Rattle.brc_model.specs.declared.duty.Reason.TheVariants.{Own, Handed}
 use Rattle.brc_model.specs.declared.duty.Duty.{Duty}
@@ -16,7 +15,7 @@ use Rattle.brc_model.specs.Machine.{Live, Dying, Actor, Machine, written, done_b
 use Rattle.brc_model.proofs.Bag.{one_if}
 use Rattle.brc_model.proofs.Rows.{waits, carries, merges, agenda_weight, weight, IsLive, InOwned, InSwapped, InMerged}
 use Rattle.brc_model.proofs.RowMerges.{swapped_own, swapped_claimed, merged_live, merged_dies}
-use Rattle.brc_model.proofs.Rule.{numbers_of, FollowsHanded}
+use Rattle.brc_model.proofs.Rule.{Accounts, numbers_of, FollowsHanded}
 use Rattle.brc_model.proofs.Weights.{agenda_weight-le, none_carried}
 use Rattle.brc_model.proofs.RowsAfterStep.{Doing, head_fits_of, KeepsRow, weighed, row_becomes, row_stays}
 use Rattle.brc_model.proofs.RowsAfterOwn.{own, one_own, written_here, lives_so}
@@ -27,7 +26,7 @@ carried_own y c = ap (λ (b : Bool). cond b c 0) (own y)
 
 -- ---- the local word is swapped out
 
-pub row_after_own_swap : {p : Module} {n : ℕ} {m : Machine} {t : ℕ} {a : Actor} {y : ℕ} {rest : List Duty}
+pub row_after_own_swap : {p : Accounts} {n : ℕ} {m : Machine} {t : ℕ} {a : Actor} {y : ℕ} {rest : List Duty}
     → Doing p n m t a (MergeSwap y Own) rest → KeepsRow m t a (MergeSwap y Own) rest y
 row_after_own_swap {m = m} {t = t} {a = a} {y = y} {rest = rest} s =
     let fits = head_fits_of s in
@@ -58,7 +57,7 @@ handed_weighs y (SharedLoad z Handed ∷ rest) follows =
     omega (arith, sum_by-cons (waits y) (SharedLoad z Handed) rest, one)
 handed_weighs y ds follows = absurd follows
 
-handed_awaits : {p : Module} {n : ℕ} {m : Machine} {t : ℕ} {a : Actor} {y : ℕ} {rest : List Duty}
+handed_awaits : {p : Accounts} {n : ℕ} {m : Machine} {t : ℕ} {a : Actor} {y : ℕ} {rest : List Duty}
     → Doing p n m t a (MergeSwap y Handed) rest → FollowsHanded y rest → 1 ≤ weight (waits y) m.actors
 handed_awaits {m = m} {t = t} {a = a} {y = y} {rest = rest} s follows =
     let whole : agenda_weight (waits y) a ≡ sum_by (waits y) (MergeSwap y Handed ∷ rest) =
@@ -72,7 +71,7 @@ handed_awaits {m = m} {t = t} {a = a} {y = y} {rest = rest} s follows =
     )
 
 -- the local word that a claimant finds
-claims_some : {p : Module} {n : ℕ} {m : Machine} {t : ℕ} {a : Actor} {y : ℕ} {rest : List Duty}
+claims_some : {p : Accounts} {n : ℕ} {m : Machine} {t : ℕ} {a : Actor} {y : ℕ} {rest : List Duty}
     → Doing p n m t a (MergeSwap y Handed) rest
     → (m.memory (Local y) == 0) ≡ false → m.memory (Local y) ≢ 0 → KeepsRow m t a (MergeSwap y Handed) rest y
 claims_some {m = m} {t = t} {a = a} {y = y} {rest = rest} s test found =
@@ -94,7 +93,7 @@ claims_some {m = m} {t = t} {a = a} {y = y} {rest = rest} s test found =
       deciding = omega (arith, weights.deciding);
     }) (swapped_claimed (block_of m.rows y) k lives.rule found (none_decides s fits.1 lives.rule))
 
-pub row_after_handed_swap : {p : Module} {n : ℕ} {m : Machine} {t : ℕ} {a : Actor} {y : ℕ} {rest : List Duty}
+pub row_after_handed_swap : {p : Accounts} {n : ℕ} {m : Machine} {t : ℕ} {a : Actor} {y : ℕ} {rest : List Duty}
     → Doing p n m t a (MergeSwap y Handed) rest → KeepsRow m t a (MergeSwap y Handed) rest y
 row_after_handed_swap {m = m} {y = y} s =
     elim (eqb_tells (m.memory (Local y)) 0) [
@@ -116,7 +115,7 @@ row_after_handed_swap {m = m} {y = y} s =
 
 -- ---- the carried count is added
 
-pub row_after_merge_load : {p : Module} {n : ℕ} {m : Machine} {t : ℕ} {a : Actor} {y c : ℕ} {rest : List Duty}
+pub row_after_merge_load : {p : Accounts} {n : ℕ} {m : Machine} {t : ℕ} {a : Actor} {y c : ℕ} {rest : List Duty}
     → Doing p n m t a (MergeLoad y c) rest → KeepsRow m t a (MergeLoad y c) rest y
 row_after_merge_load {m = m} {y = y} {c = c} s =
     let found = m.memory (Shared y) in
@@ -150,14 +149,14 @@ merging_low owner m y live =
     ]
 
 -- so all that is carried is this duty's
-carried_here : {p : Module} {n : ℕ} {m : Machine} {t : ℕ} {a : Actor} {y c w : ℕ} {rest : List Duty} (owner : ℕ)
+carried_here : {p : Accounts} {n : ℕ} {m : Machine} {t : ℕ} {a : Actor} {y c w : ℕ} {rest : List Duty} (owner : ℕ)
     → Doing p n m t a (MergeExchange y c w) rest → IsLive owner (numbers_of m y)
     → weight (merges y) (done_by m t a (MergeExchange y c w) rest).actors + 1 ≡ weight (merges y) m.actors
     → weight (carries y) (done_by m t a (MergeExchange y c w) rest).actors ≡ 0
 carried_here {m = m} {t = t} {a = a} {y = y} {c = c} {w = w} {rest = rest} owner s live fewer =
     none_carried y (done_by m t a (MergeExchange y c w) rest).actors (omega (arith, fewer, merging_low owner m y live))
 
-merge_ends : {p : Module} {n : ℕ} {m : Machine} {t : ℕ} {a : Actor} {y c w : ℕ} {rest : List Duty}
+merge_ends : {p : Accounts} {n : ℕ} {m : Machine} {t : ℕ} {a : Actor} {y c w : ℕ} {rest : List Duty}
     → Doing p n m t a (MergeExchange y c w) rest
     → (m.memory (Shared y) == w) ≡ true → m.memory (Shared y) ≡ w → (merged_word w c == dead_word) ≡ true
     → merged_word w c ≡ dead_word → KeepsRow m t a (MergeExchange y c w) rest y
@@ -183,7 +182,7 @@ merge_ends {m = m} {t = t} {a = a} {y = y} {c = c} {w = w} {rest = rest} s test 
       deciding = omega (arith, weights.deciding);
     }) (merged_dies (block_of m.rows y) k c lives.rule some carried (word ∙ dead))
 
-merge_stays : {p : Module} {n : ℕ} {m : Machine} {t : ℕ} {a : Actor} {y c w : ℕ} {rest : List Duty}
+merge_stays : {p : Accounts} {n : ℕ} {m : Machine} {t : ℕ} {a : Actor} {y c w : ℕ} {rest : List Duty}
     → Doing p n m t a (MergeExchange y c w) rest
     → (m.memory (Shared y) == w) ≡ true → m.memory (Shared y) ≡ w → (merged_word w c == dead_word) ≡ false
     → merged_word w c ≢ dead_word → KeepsRow m t a (MergeExchange y c w) rest y
@@ -208,7 +207,7 @@ merge_stays {m = m} {t = t} {a = a} {y = y} {c = c} {w = w} {rest = rest} s test
       deciding = omega (arith, weights.deciding);
     }) (merged_live (block_of m.rows y) k c lives.rule some carried (λ e. isnt_dead (sym word ∙ e)))
 
-pub row_after_merge_exchange : {p : Module} {n : ℕ} {m : Machine} {t : ℕ} {a : Actor} {y c w : ℕ} {rest : List Duty}
+pub row_after_merge_exchange : {p : Accounts} {n : ℕ} {m : Machine} {t : ℕ} {a : Actor} {y c w : ℕ} {rest : List Duty}
     → Doing p n m t a (MergeExchange y c w) rest → KeepsRow m t a (MergeExchange y c w) rest y
 row_after_merge_exchange {m = m} {y = y} {c = c} {w = w} s =
     elim (eqb_tells (m.memory (Shared y)) w) [

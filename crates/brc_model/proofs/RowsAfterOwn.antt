@@ -3,7 +3,6 @@ use Rattle.std.proofs.Common.{◌≡◌, ℕ, ◌+◌, ◌<◌, ◌≤◌, Bool,
 use Rattle.std.specs.Prelude.{◌==◌}
 use Rattle.std.specs.List.{list_any}
 use Rattle.std.proofs.lemmas.Bool.{eq-eqb, ne_eqb}
-use Rattle.brc_lang.specs.declared.module.Module.{Module}
 use Rattle.brc_lang.specs.declared.module.Instr.{Instr}
 use Rattle.brc_model.specs.declared.duty.Holding.{Holding}
 use Rattle.brc_model.specs.Plain.{Reference, same, without, references_to}
@@ -18,7 +17,8 @@ use Rattle.brc_model.specs.Machine.{Life, Live, Actor, Machine, written, same_ad
 use Rattle.brc_model.proofs.Bag.{held, one_if, held_has, held-le-references_to, references_to-without}
 use Rattle.brc_model.proofs.Holds.{nothing, the_root, of_variables, reference_of}
 use Rattle.brc_model.proofs.Rows.{Numbers, InOwned, InSwapped, InMerged, IsLive}
-use Rattle.brc_model.proofs.Rule.{numbers_of, extra, lacks, extra_of, lacks_of, HoldsAt, PlaceFits, IsBacked}
+use Rattle.brc_model.proofs.Rule.{Accounts, numbers_of, extra, lacks, extra_of, lacks_of, IsBacked}
+use Rattle.brc_model.proofs.Alive.{extra_held}
 use Rattle.brc_model.proofs.RowsAfterStep.{Doing, following, KeepsRow, RowStays, row_stays, Lives, row_lives}
 use Rattle.brc_model.proofs.RowsAfterElsewhere.{AreApart, IsApart}
 
@@ -35,32 +35,14 @@ written_here memory at word this = ap (λ (same : Bool). cond same word (memory 
 
 -- ---- references of the thread
 
--- what the place says that the thread holds
-record Says (bag : List Reference) (t : ℕ) (agenda : List Duty) : Type 0 where
-  pub says : Holding → ℕ → Bool
-  pub holds : HoldsAt bag t says agenda
-
-says_of : (code : List Instr) (bag : List Reference) (t : ℕ) (agenda : List Duty) (place : Place)
-    → PlaceFits code bag t agenda place → Says bag t agenda
-says_of code bag t agenda (Standing left) placed = record { says = the_root; holds = placed }
-says_of code bag t agenda (Inside left at variables) placed =
-    record { says = of_variables placed.0 variables; holds = placed.2 }
-says_of code bag t agenda Departing placed = record { says = nothing; holds = placed }
-
 -- what a duty gives up is there
-pub gives_up : {p : Module} {n : ℕ} {m : Machine} {t : ℕ} {a : Actor} {d : Duty} {rest : List Duty}
+pub gives_up : {p : Accounts} {n : ℕ} {m : Machine} {t : ℕ} {a : Actor} {d : Duty} {rest : List Duty}
     → Doing p n m t a d rest → (k : Holding) (object : ℕ) → extra d k object ≡ true → lacks d k object ≡ false
     → 0 < held (reference_of t k object) m.plain.references
-gives_up {m = m} {t = t} {a = a} {d = d} s k object more less =
-    let bag = m.plain.references in
-    let says = says_of _ bag t a.agenda a.place (s.rule.each t a s.actor).0.placed in
-    let each : held (reference_of t k object) bag + one_if (lacks d k object) ≡ one_if (says.says k object)
-    + one_if (extra d k object) =
-    subst (λ (ds : List Duty). held (reference_of t k object) bag + one_if (lacks_of ds k object)
-    ≡ one_if (says.says k object) + one_if (extra_of ds k object)) s.agenda (says.holds.each k object) in
-    let given : one_if (extra d k object) ≡ 1 = ap one_if more in
-    let made : one_if (lacks d k object) ≡ 0 = ap one_if less in
-    omega (arith, each, given, made)
+gives_up {p = p} {m = m} {t = t} {a = a} s k object more less =
+    extra_held m.plain.references t (p t) a.agenda k object (s.rule.each t a s.actor).0.holds
+    (ap (λ (ds : List Duty). extra_of ds k object) s.agenda ∙ more)
+    (ap (λ (ds : List Duty). lacks_of ds k object) s.agenda ∙ less)
 
 -- a reference that is there, and the bag without it
 pub record IsLost (bag : List Reference) (r : Reference) : Type 0 where
@@ -80,7 +62,7 @@ is_lost bag r some =
 
 -- ---- the row lives
 
-pub lives_so : {p : Module} {n : ℕ} {m : Machine} {t : ℕ} {a : Actor} {d : Duty} {rest : List Duty}
+pub lives_so : {p : Accounts} {n : ℕ} {m : Machine} {t : ℕ} {a : Actor} {d : Duty} {rest : List Duty}
     → Doing p n m t a d rest → (y : ℕ) → 0 < y
     → 1 ≤ (numbers_of m y).references + (numbers_of m y).mark + (numbers_of m y).waiting + (numbers_of m y).merging
     + (numbers_of m y).deciding
@@ -88,7 +70,7 @@ pub lives_so : {p : Module} {n : ℕ} {m : Machine} {t : ℕ} {a : Actor} {d : D
 lives_so {m = m} s y some counted =
     row_lives (block_of m.rows y) (m.life y) (numbers_of m y) (s.rule.rows y some) counted
 
-pub lives_backed : {p : Module} {n : ℕ} {m : Machine} {t : ℕ} {a : Actor} {d : Duty} {rest : List Duty}
+pub lives_backed : {p : Accounts} {n : ℕ} {m : Machine} {t : ℕ} {a : Actor} {d : Duty} {rest : List Duty}
     → Doing p n m t a d rest → (y : ℕ) → 0 < y → IsBacked m t y
     → Lives (block_of m.rows y) (m.life y) (numbers_of m y)
 lives_backed {m = m} {t = t} s y some backed =
@@ -116,7 +98,7 @@ pub record KeepsWords (m after : Machine) (x : ℕ) : Type 0 where
   pub mark : m.memory (Mark x) ≡ after.memory (Mark x)
   pub references : references_to x m.plain.references ≡ references_to x after.plain.references
 
-pub row_apart : {p : Module} {n : ℕ} {m : Machine} {t : ℕ} {a : Actor} {d : Duty} {rest : List Duty}
+pub row_apart : {p : Accounts} {n : ℕ} {m : Machine} {t : ℕ} {a : Actor} {d : Duty} {rest : List Duty}
     → Doing p n m t a d rest → (x : ℕ) → 0 < x → IsApart x d → AreApart x (following m t a d)
     → ((life : ℕ → Life) (state : Life) → with_life (with_life life (ended_row d) state) (born_row d) Live x ≡ life x)
     → KeepsWords m (done_by m t a d rest) x → KeepsRow m t a d rest x

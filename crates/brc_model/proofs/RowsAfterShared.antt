@@ -2,7 +2,6 @@
 use Rattle.std.proofs.Common.{◌≡◌, ◌≢◌, ℕ, ◌+◌, ◌-◌, ◌<◌, ◌≤◌, Bool, true, false, cond, List, [], ◌∷◌, refl, sym, ap, ◌∙◌, arith, inl, inr}
 use Rattle.std.specs.Prelude.{◌==◌}
 use Rattle.std.proofs.lemmas.Bool.Decides.{eqb_tells}
-use Rattle.brc_lang.specs.declared.module.Module.{Module}
 use Rattle.brc_model.specs.declared.duty.Holding.TheVariants.{InHand}
 use Rattle.brc_model.specs.Plain.{references_to, Plain, moved}
 use Rattle.brc_word.specs.Words.{fresh_word, dead_word, released_word}
@@ -18,7 +17,7 @@ use Rattle.brc_model.proofs.Holds.{reference_of}
 use Rattle.brc_model.proofs.Rows.{waits}
 use Rattle.brc_model.proofs.RowSteps.{shared_queued, shared_lost, shared_dies}
 use Rattle.brc_model.proofs.RowMerges.{handed_lost, handed_dies}
-use Rattle.brc_model.proofs.Rule.{numbers_of}
+use Rattle.brc_model.proofs.Rule.{Accounts, numbers_of}
 use Rattle.brc_model.proofs.RowsAfterStep.{Doing, head_fits_of, KeepsRow, weighed, row_becomes, row_stays}
 use Rattle.brc_model.proofs.RowsAfterOwn.{own, one_own, written_here, gives_up, is_lost, lives_so}
 
@@ -27,7 +26,7 @@ same_waits : (x y : ℕ) (r : Reason) (w : ℕ) → waits x (SharedLoad y r) ≡
 same_waits x y Own w = refl
 same_waits x y Handed w = refl
 
-pub row_after_shared_load : {p : Module} {n : ℕ} {m : Machine} {t : ℕ} {a : Actor} {y : ℕ} {r : Reason}
+pub row_after_shared_load : {p : Accounts} {n : ℕ} {m : Machine} {t : ℕ} {a : Actor} {y : ℕ} {r : Reason}
     {rest : List Duty}
     → 0 < y → Doing p n m t a (SharedLoad y r) rest → KeepsRow m t a (SharedLoad y r) rest y
 row_after_shared_load {m = m} {y = y} {r = r} some s =
@@ -63,7 +62,7 @@ exchange_moves memory t y Own w found p e =
 exchange_moves memory t y Handed w found p e = refl
 
 -- another thread was faster: it loads anew
-row_after_lost_exchange : {p : Module} {n : ℕ} {m : Machine} {t : ℕ} {a : Actor} {y : ℕ} {r : Reason} {w : ℕ}
+row_after_lost_exchange : {p : Accounts} {n : ℕ} {m : Machine} {t : ℕ} {a : Actor} {y : ℕ} {r : Reason} {w : ℕ}
     {rest : List Duty}
     → 0 < y → Doing p n m t a (SharedExchange y r w) rest
     → (m.memory (Shared y) == w) ≡ false → KeepsRow m t a (SharedExchange y r w) rest y
@@ -89,7 +88,7 @@ own_moves : (memory : Address → ℕ) (t y w found : ℕ) (p : Plain) → (foun
     ≡ references_to y (moved p (lose t y)).references
 own_moves memory t y w found p e = ap (λ (b : Bool). references_to y (moved p (cond b (lose t y) [])).references) e
 
-own_queues : {p : Module} {n : ℕ} {m : Machine} {t : ℕ} {a : Actor} {y w : ℕ} {rest : List Duty}
+own_queues : {p : Accounts} {n : ℕ} {m : Machine} {t : ℕ} {a : Actor} {y w : ℕ} {rest : List Duty}
     → Doing p n m t a (SharedExchange y Own w) rest
     → (m.memory (Shared y) == w) ≡ true → m.memory (Shared y) ≡ w → (w == fresh_word) ≡ true → w ≡ fresh_word
     → KeepsRow m t a (SharedExchange y Own w) rest y
@@ -113,7 +112,7 @@ own_queues {m = m} {t = t} {a = a} {y = y} {w = w} {rest = rest} s test same is_
       deciding = omega (arith, weights.deciding);
     }) (shared_queued (block_of m.rows y) k lives.rule (same ∙ fresh) lost.before)
 
-own_dies : {p : Module} {n : ℕ} {m : Machine} {t : ℕ} {a : Actor} {y w : ℕ} {rest : List Duty}
+own_dies : {p : Accounts} {n : ℕ} {m : Machine} {t : ℕ} {a : Actor} {y w : ℕ} {rest : List Duty}
     → Doing p n m t a (SharedExchange y Own w) rest
     → (m.memory (Shared y) == w) ≡ true → m.memory (Shared y) ≡ w → (w == fresh_word) ≡ false
     → (w - 4 == dead_word) ≡ true → w - 4 ≡ dead_word → KeepsRow m t a (SharedExchange y Own w) rest y
@@ -137,7 +136,7 @@ own_dies {m = m} {t = t} {a = a} {y = y} {w = w} {rest = rest} s test same other
       deciding = omega (arith, weights.deciding);
     }) (shared_dies (block_of m.rows y) k lives.rule (omega (arith, same, dead)) lost.before)
 
-own_loses : {p : Module} {n : ℕ} {m : Machine} {t : ℕ} {a : Actor} {y w : ℕ} {rest : List Duty}
+own_loses : {p : Accounts} {n : ℕ} {m : Machine} {t : ℕ} {a : Actor} {y w : ℕ} {rest : List Duty}
     → Doing p n m t a (SharedExchange y Own w) rest
     → (m.memory (Shared y) == w) ≡ true → m.memory (Shared y) ≡ w → (w == fresh_word) ≡ false → w ≢ fresh_word
     → (w - 4 == dead_word) ≡ false → w - 4 ≢ dead_word
@@ -162,7 +161,7 @@ own_loses {m = m} {t = t} {a = a} {y = y} {w = w} {rest = rest} s test same othe
     }) (shared_lost (block_of m.rows y) k lives.rule (λ e. isnt_fresh (sym same ∙ e))
     (λ e. isnt_dead (ap (λ (v : ℕ). v - 4) (sym same) ∙ e)) lost.before)
 
-pub row_after_own_exchange : {p : Module} {n : ℕ} {m : Machine} {t : ℕ} {a : Actor} {y w : ℕ} {rest : List Duty}
+pub row_after_own_exchange : {p : Accounts} {n : ℕ} {m : Machine} {t : ℕ} {a : Actor} {y w : ℕ} {rest : List Duty}
     → Doing p n m t a (SharedExchange y Own w) rest → KeepsRow m t a (SharedExchange y Own w) rest y
 row_after_own_exchange {m = m} {y = y} {w = w} s =
     elim (eqb_tells (m.memory (Shared y)) w) [
@@ -178,7 +177,7 @@ row_after_own_exchange {m = m} {y = y} {w = w} s =
 
 -- ---- the handed reference of a claimed mark
 
-handed_ends : {p : Module} {n : ℕ} {m : Machine} {t : ℕ} {a : Actor} {y w : ℕ} {rest : List Duty}
+handed_ends : {p : Accounts} {n : ℕ} {m : Machine} {t : ℕ} {a : Actor} {y w : ℕ} {rest : List Duty}
     → Doing p n m t a (SharedExchange y Handed w) rest
     → (m.memory (Shared y) == w) ≡ true → m.memory (Shared y) ≡ w → (w == fresh_word) ≡ false
     → (w - 4 == dead_word) ≡ true → w - 4 ≡ dead_word → KeepsRow m t a (SharedExchange y Handed w) rest y
@@ -203,7 +202,7 @@ handed_ends {m = m} {t = t} {a = a} {y = y} {w = w} {rest = rest} s test same ot
       deciding = omega (arith, weights.deciding);
     }) (handed_dies (block_of m.rows y) k lives.rule (omega (arith, same, dead)) awaits)
 
-handed_stays : {p : Module} {n : ℕ} {m : Machine} {t : ℕ} {a : Actor} {y w : ℕ} {rest : List Duty}
+handed_stays : {p : Accounts} {n : ℕ} {m : Machine} {t : ℕ} {a : Actor} {y w : ℕ} {rest : List Duty}
     → Doing p n m t a (SharedExchange y Handed w) rest
     → (m.memory (Shared y) == w) ≡ true → m.memory (Shared y) ≡ w → (w == fresh_word) ≡ false
     → (w - 4 == dead_word) ≡ false → w - 4 ≢ dead_word → KeepsRow m t a (SharedExchange y Handed w) rest y
@@ -228,7 +227,7 @@ handed_stays {m = m} {t = t} {a = a} {y = y} {w = w} {rest = rest} s test same o
     }) (handed_lost (block_of m.rows y) k lives.rule fits.1 (λ e. isnt_dead (ap (λ (v : ℕ). v - 4) (sym same) ∙ e))
     awaits)
 
-pub row_after_handed_exchange : {p : Module} {n : ℕ} {m : Machine} {t : ℕ} {a : Actor} {y w : ℕ} {rest : List Duty}
+pub row_after_handed_exchange : {p : Accounts} {n : ℕ} {m : Machine} {t : ℕ} {a : Actor} {y w : ℕ} {rest : List Duty}
     → Doing p n m t a (SharedExchange y Handed w) rest → KeepsRow m t a (SharedExchange y Handed w) rest y
 row_after_handed_exchange {m = m} {y = y} {w = w} s =
     let fits = head_fits_of s in

@@ -2,14 +2,9 @@
 -- dying rows are at hand or chained.
 use Rattle.std.proofs.Common.{◌≡◌, ◌≢◌, ℕ, ◌+◌, ◌<◌, ◌≤◌, Bool, true, false, List, [], ◌∷◌, ◌⊎◌, length, Some}
 use Rattle.std.specs.Prelude.{◌==◌, ◌&&◌, nat_le, slice_get, count_by, AllPairs}
-use Rattle.brc_lang.specs.declared.module.Instr.{Instr}
-use Rattle.brc_lang.specs.declared.module.Module.{Module}
-use Rattle.brc_model.specs.declared.slot.State.{State}
-use Rattle.brc_model.specs.Walks.{IsAcceptableCode}
 use Rattle.brc_model.specs.declared.duty.Holding.{Holding}
 use Rattle.brc_model.specs.declared.duty.Holding.TheVariants.{InHand}
 use Rattle.brc_model.specs.Plain.{Reference, same_holding, is_among, references_to}
-use Rattle.brc_model.specs.Threads.{code_of}
 use Rattle.brc_word.specs.Words.{owner_part, local_part, phase_part, dying_word, kind_part}
 use Rattle.brc_model.specs.Kinds.{kind_number, kind_of_word, is_counted_kind}
 use Rattle.brc_model.specs.declared.duty.Reason.TheVariants.{Own, Handed}
@@ -24,8 +19,7 @@ use Rattle.brc_model.specs.declared.actor.Place.{Place}
 use Rattle.brc_model.specs.declared.actor.Place.TheVariants.{Standing, Inside, Departing}
 use Rattle.brc_model.specs.Machine.{Actor, Life, Unborn, Live, Dying, Closed, Machine, first_row}
 use Rattle.brc_model.proofs.Bag.{held, one_if, cell_reference}
-use Rattle.brc_model.proofs.Holds.{nothing, the_root, of_variables, reference_of}
-use Rattle.brc_model.proofs.Grounded.{IsInside, AreInstructions}
+use Rattle.brc_model.proofs.Holds.{reference_of}
 use Rattle.brc_model.proofs.Rows.{waits, carries, merges, decides, weight, Numbers, RowRule}
 
 -- ---- rows
@@ -70,18 +64,20 @@ abbrev pub lacks_of : List Duty → Holding → ℕ → Bool
 lacks_of [] k object = false
 lacks_of (d ∷ rest) k object = lacks d k object
 
--- the bag has just what the place says, with what the duty at hand has more or less
-pub record HoldsAt (bag : List Reference) (t : ℕ) (says : Holding → ℕ → Bool) (agenda : List Duty) : Type 0 where
-  pub each : (k : Holding) (object : ℕ)
-      → held (reference_of t k object) bag + one_if (lacks_of agenda k object) ≡ one_if (says k object)
-      + one_if (extra_of agenda k object)
+-- A thread's account: how many references it holds to each object, by each way of holding one, apart from those that
+-- its work makes or gives up just now.
+abbrev pub Account : Type 0
+Account = Holding → ℕ → ℕ
 
--- where the thread stands when its agenda is done, and what it then holds
-abbrev pub PlaceFits : List Instr → List Reference → ℕ → List Duty → Place → Type 0
-PlaceFits code bag t agenda (Standing left) = HoldsAt bag t the_root agenda
-PlaceFits code bag t agenda (Inside left at variables) =
-    (s : State) × IsInside code at variables s × HoldsAt bag t (of_variables s variables) agenda
-PlaceFits code bag t agenda Departing = HoldsAt bag t nothing agenda
+-- each thread's, by its number
+abbrev pub Accounts : Type 0
+Accounts = ℕ → Account
+
+-- the bag has just what the thread's account says, with what the duty at hand has more or less
+pub record HoldsAt (bag : List Reference) (t : ℕ) (account : Account) (agenda : List Duty) : Type 0 where
+  pub each : (k : Holding) (object : ℕ)
+      → held (reference_of t k object) bag + one_if (lacks_of agenda k object) ≡ account k object
+      + one_if (extra_of agenda k object)
 
 -- ---- what the duty at hand knows
 
@@ -244,11 +240,14 @@ pub record ChainFits (m : Machine) (t head : ℕ) (agenda : List Duty) : Type 0 
 
 -- ---- one thread
 
-pub record ActorFits (p : Module) (m : Machine) (t : ℕ) (a : Actor) : Type 0 where
-  pub accepted : IsAcceptableCode (code_of (slice_get p.functions a.function))
-  pub instructions : AreInstructions (code_of (slice_get p.functions a.function))
+-- a thread whose exit is under way or done holds no reference but the one that it gives up just now
+abbrev pub HoldsNone : Account → Type 0
+HoldsNone account = (k : Holding) (object : ℕ) → account k object ≡ 0
+
+pub record ActorFits (account : Account) (m : Machine) (t : ℕ) (a : Actor) : Type 0 where
   pub word : m.memory (ThreadWord t) ≡ status_word a.status
-  pub placed : PlaceFits (code_of (slice_get p.functions a.function)) m.plain.references t a.agenda a.place
+  pub holds : HoldsAt m.plain.references t account a.agenda
+  pub departed : a.place ≡ Departing → HoldsNone account
   pub head_fits : HeadOf m t a a.agenda
   pub chain : ChainFits m t a.head a.agenda
 
@@ -257,6 +256,10 @@ abbrev pub AgendaFits : ℕ → ℕ → Actor → Status → Type 0
 AgendaFits rows t a Gone = (a.agenda ≡ []) × (a.place ≡ Departing) × (a.head ≡ 0)
 AgendaFits rows t a Running = Agenda rows t a.used Running a.place a.agenda
 AgendaFits rows t a Leaving = Agenda rows t a.used Leaving a.place a.agenda
+
+-- all that is said of one thread
+abbrev pub Fits : Account → Machine → ℕ → Actor → Type 0
+Fits account m t a = ActorFits account m t a × AgendaFits m.rows t a a.status × HandedOnce a.agenda
 
 -- ---- marks that are set are watched
 
@@ -282,16 +285,14 @@ pub record UsesFit (rows : ℕ) (life : ℕ → Life) (t used : ℕ) : Type 0 wh
 
 -- ---- the whole
 
-pub record Rule (p : Module) (n : ℕ) (m : Machine) : Type 0 where
-  pub functions : m.functions ≡ p.functions
+pub record Rule (p : Accounts) (n : ℕ) (m : Machine) : Type 0 where
   pub threads : length m.actors ≡ n
   pub some_rows : 0 < m.rows
   pub few_threads : n ≤ 33
   pub few_rows : m.rows ≤ 1024
   pub rows : (x : ℕ) → 0 < x → RowRule (block_of m.rows x) (m.life x) (numbers_of m x)
   pub marks : (x : ℕ) → m.memory (Mark x) ≡ 0 ⊎ ((m.memory (Mark x) ≡ 1) × (0 < x) × IsWatched m x)
-  pub each : (t : ℕ) (a : Actor) → slice_get m.actors t ≡ Some a
-      → ActorFits p m t a × AgendaFits m.rows t a a.status × HandedOnce a.agenda
+  pub each : (t : ℕ) (a : Actor) → slice_get m.actors t ≡ Some a → Fits (p t) m t a
   pub beyond : (t : ℕ) → n ≤ t → (k : Holding) (object : ℕ) → held (reference_of t k object) m.plain.references ≡ 0
   pub dying : (x t : ℕ) → n ≤ t → dies_by (m.life x) t ≡ false
   pub cells : (x i : ℕ) → m.memory (Cell x i) ≡ 0

@@ -8,7 +8,6 @@ use Rattle.brc_lang.specs.declared.module.Module.{Module}
 use Rattle.brc_lang.specs.Grammar.{IsModule}
 use Rattle.brc_model.specs.declared.thread.Call.{Call}
 use Rattle.brc_model.specs.Walks.{IsAcceptable}
-use Rattle.brc_model.specs.Threads.{code_of}
 use Rattle.brc_model.specs.declared.duty.Holding.{Holding}
 use Rattle.brc_model.specs.Plain.{Holder, ByThread, ByCell, references_to}
 use Rattle.brc_model.specs.declared.duty.Duty.{Duty}
@@ -22,15 +21,14 @@ use Rattle.brc_model.specs.Machine.{Actor, Life, Unborn, Live, Dying, Closed, Ma
 use Rattle.brc_model.specs.Safety.{AreCalls, has_gone, AllGone, IsHeldByOpenList, IsSafeNow, Safe}
 use Rattle.brc_model.proofs.Bag.{held, one_if, empty_bag}
 use Rattle.brc_model.proofs.Lists.{some_is, list_all_found, slice_get-map}
-use Rattle.brc_model.proofs.Holds.{nothing, reference_of}
+use Rattle.brc_model.proofs.Holds.{reference_of}
 use Rattle.brc_model.proofs.Rows.{waits, carries, merges, decides, agenda_weight, weight, IsDefault, IsQueued, AtZero, AboveZero, InOwned, InSwapped, InMerged, IsLive, RowRule}
-use Rattle.brc_model.proofs.Rule.{numbers_of, HoldsAt, PlaceFits, AgendaFits, scans, Linked, dies_by, hand_of, looks, ByRunning, ByExit, ByLook, Rule, status_word}
+use Rattle.brc_model.proofs.Rule.{Accounts, numbers_of, HoldsAt, AgendaFits, scans, Linked, dies_by, hand_of, looks, ByRunning, ByExit, ByLook, Rule, status_word}
 use Rattle.brc_model.proofs.Agreeing.{agrees_at, is_free_of}
 use Rattle.brc_model.proofs.Deciders.{sum_zero}
 use Rattle.brc_model.proofs.Settled.{IsSettled}
-use Rattle.brc_model.proofs.FirstMachine.{first_rule}
-use Rattle.brc_model.proofs.Whole.{Whole}
-use Rattle.brc_model.proofs.WholeEvents.{event_keeps, whole_after}
+use Rattle.brc_model.proofs.FirstMachine.{first_accounts, first_rule, first_coded}
+use Rattle.brc_model.proofs.WholeEvents.{Whole, event_keeps, whole_after}
 use Rattle.brc_model.proofs.Blocks.{born_used}
 
 -- ---- when all threads are gone
@@ -46,7 +44,7 @@ pub record IsGoneAt (m : Machine) (t : ℕ) (a : Actor) : Type 0 where
   pub place : a.place ≡ Departing
   pub head : a.head ≡ 0
 
-gone_at : (p : Module) (n : ℕ) (m : Machine) (t : ℕ) (a : Actor) → Rule p n m → AllGone m
+gone_at : (p : Accounts) (n : ℕ) (m : Machine) (t : ℕ) (a : Actor) → Rule p n m → AllGone m
     → slice_get m.actors t ≡ Some a → IsGoneAt m t a
 gone_at p n m t a rule done found =
     let status : a.status ≡ Gone =
@@ -55,7 +53,7 @@ gone_at p n m t a rule done found =
     subst (λ (s : Status). AgendaFits m.rows t a s) status (rule.each t a found).1 in
     record { status = status; agenda = fits.0; place = fits.1; head = fits.2 }
 
-gone_holds : (p : Module) (n : ℕ) (m : Machine) (t : ℕ) (k : Holding) (object : ℕ) → Rule p n m → AllGone m
+gone_holds : (p : Accounts) (n : ℕ) (m : Machine) (t : ℕ) (k : Holding) (object : ℕ) → Rule p n m → AllGone m
     → held (reference_of t k object) m.plain.references ≡ 0
 gone_holds p n m t k object rule done =
     elim (slice_get_cases m.actors t).1 [
@@ -63,28 +61,26 @@ gone_holds p n m t k object rule done =
           let a = found.0 in
           let gone = gone_at p n m t a rule done found.2 in
           let old = (rule.each t a found.2).0 in
-          let code = code_of (slice_get p.functions a.function) in
-          let placed : HoldsAt m.plain.references t nothing [] =
-          subst (λ (q : Place). PlaceFits code m.plain.references t [] q) gone.place
-          (subst (λ (l : List Duty). PlaceFits code m.plain.references t l a.place) gone.agenda old.placed) in
-          omega (arith, placed.each k object)
+          let holds : HoldsAt m.plain.references t (p t) [] =
+          subst (HoldsAt m.plain.references t (p t)) gone.agenda old.holds in
+          omega (arith, holds.each k object, old.departed gone.place k object)
       | inr past ↦ rule.beyond t (omega (arith, past.0, rule.threads)) k object
     ]
 
-none_holds : (p : Module) (n : ℕ) (m : Machine) (h : Holder) (object : ℕ) → Rule p n m → AllGone m
+none_holds : (p : Accounts) (n : ℕ) (m : Machine) (h : Holder) (object : ℕ) → Rule p n m → AllGone m
     → held (record { holder = h; object = object }) m.plain.references ≡ 0
 none_holds p n m (ByThread t k) object rule done = gone_holds p n m t k object rule done
 none_holds p n m (ByCell x i) object rule done = rule.cells_hold x i object
 
-pub none_left : (p : Module) (n : ℕ) (m : Machine) → Rule p n m → AllGone m → m.plain.references ≡ []
+pub none_left : (p : Accounts) (n : ℕ) (m : Machine) → Rule p n m → AllGone m → m.plain.references ≡ []
 none_left p n m rule done = empty_bag m.plain.references (λ r. none_holds p n m r.holder r.object rule done)
 
-no_weights : (p : Module) (n : ℕ) (m : Machine) (f : Duty → ℕ) → Rule p n m → AllGone m → weight f m.actors ≡ 0
+no_weights : (p : Accounts) (n : ℕ) (m : Machine) (f : Duty → ℕ) → Rule p n m → AllGone m → weight f m.actors ≡ 0
 no_weights p n m f rule done =
     sum_zero (agenda_weight f) m.actors (λ t a found. ap (sum_by f) (gone_at p n m t a rule done found).agenda)
 
 -- no mark is left: nobody watches
-no_mark : (p : Module) (n : ℕ) (m : Machine) (x : ℕ) → Rule p n m → AllGone m → block_of m.rows x < n
+no_mark : (p : Accounts) (n : ℕ) (m : Machine) (x : ℕ) → Rule p n m → AllGone m → block_of m.rows x < n
     → m.memory (Mark x) ≡ 0
 no_mark p n m x rule done within =
     elim (rule.marks x) [
@@ -108,7 +104,7 @@ no_mark p n m x rule done within =
     ]
 
 -- a live row has a reference
-live_referenced : (p : Module) (n : ℕ) (m : Machine) (x : ℕ) → Rule p n m → AllGone m → block_of m.rows x < n
+live_referenced : (p : Accounts) (n : ℕ) (m : Machine) (x : ℕ) → Rule p n m → AllGone m → block_of m.rows x < n
     → IsLive (block_of m.rows x) (numbers_of m x) → 0 < references_to x m.plain.references
 live_referenced p n m x rule done within live =
     let mark = no_mark p n m x rule done within in
@@ -130,7 +126,7 @@ live_referenced p n m x rule done within live =
     ]
 
 -- no row is dying: every chain is empty
-none_dying : (p : Module) (n : ℕ) (m : Machine) (x t : ℕ) → Rule p n m → AllGone m → m.life x ≡ Dying t → ⊥
+none_dying : (p : Accounts) (n : ℕ) (m : Machine) (x t : ℕ) → Rule p n m → AllGone m → m.life x ≡ Dying t → ⊥
 none_dying p n m x t rule done dying =
     let dies : dies_by (m.life x) t ≡ true = ap (λ (l : Life). dies_by l t) dying ∙ eq-eqb t t refl in
     elim (slice_get_cases m.actors t).1 [
@@ -149,7 +145,7 @@ none_dying p n m x t rule done dying =
     ]
 
 -- what was born and has no reference is closed
-born_closed : (p : Module) (n : ℕ) (m : Machine) (x : ℕ) (l : Life) → Rule p n m → AllGone m → 0 < x
+born_closed : (p : Accounts) (n : ℕ) (m : Machine) (x : ℕ) (l : Life) → Rule p n m → AllGone m → 0 < x
     → references_to x m.plain.references ≡ 0 → (m.life x ≢ Unborn) → m.life x ≡ l → m.life x ≡ Closed
 born_closed p n m x Unborn rule done pos none born is = absurd (born is)
 born_closed p n m x Live rule done pos none born is =
@@ -163,7 +159,7 @@ born_closed p n m x (Dying t) rule done pos none born is = absurd (none_dying p 
 born_closed p n m x Closed rule done pos none born is = is
 
 -- what is closed was born, and is counted
-pub closed_born : (p : Module) (n : ℕ) (m : Machine) (x : ℕ) → Rule p n m → m.life x ≡ Closed
+pub closed_born : (p : Accounts) (n : ℕ) (m : Machine) (x : ℕ) → Rule p n m → m.life x ≡ Closed
     → (0 < x) × (m.life x ≢ Unborn)
 closed_born p n m zero rule closed = absurd (let wrong : Live ≡ Closed = sym rule.none_lives ∙ closed in cc)
 closed_born p n m (suc x) rule closed = (omega arith, λ e. let wrong : Closed ≡ Unborn = sym closed ∙ e in cc)
@@ -173,21 +169,21 @@ closed_born p n m (suc x) rule closed = (omega arith, λ e. let wrong : Closed �
 pub safe_now : (p : Module) (n : ℕ) (m : Machine) → Whole p n m → 0 < n → IsSafeNow m
 safe_now p n m whole some = record {
   none_bad = λ event. (event_keeps p n m event whole).0;
-  agrees = λ x pos. agrees_at p n m x whole.rule pos;
-  kinds = whole.rule.kinds;
-  free = λ x pos alive born. is_free_of p n m x whole.rule pos alive born;
-  closed_once = whole.rule.once;
+  agrees = λ x pos. agrees_at whole.accounts n m x whole.kept.rule pos;
+  kinds = whole.kept.rule.kinds;
+  free = λ x pos alive born. is_free_of whole.accounts n m x whole.kept.rule pos alive born;
+  closed_once = whole.kept.rule.once;
   closed_at_end = λ done x. (
     λ closed.
-        let was = closed_born p n m x whole.rule (whole.rule.closed_is x closed) in
-        (whole.rule.born_has x was.0 was.1, ap (references_to x) (none_left p n m whole.rule done)),
+        let was = closed_born whole.accounts n m x whole.kept.rule (whole.kept.rule.closed_is x closed) in
+        (whole.kept.rule.born_has x was.0 was.1, ap (references_to x) (none_left whole.accounts n m whole.kept.rule done)),
     λ born.
-        let was = whole.rule.born_is x born.0 in
-        whole.rule.closed_has x (born_closed p n m x (m.life x) whole.rule done was.0 born.1 was.1 refl),
+        let was = whole.kept.rule.born_is x born.0 in
+        whole.kept.rule.closed_has x (born_closed whole.accounts n m x (m.life x) whole.kept.rule done was.0 born.1 was.1 refl),
   );
-  none_left = λ done. none_left p n m whole.rule done;
+  none_left = λ done. none_left whole.accounts n m whole.kept.rule done;
   left_in_lists = λ done.
-      subst (All (IsHeldByOpenList m.plain)) (sym (none_left p n m whole.rule done))
+      subst (All (IsHeldByOpenList m.plain)) (sym (none_left whole.accounts n m whole.kept.rule done))
       (λ i d within. absurd (omega (arith, within)));
 }
 
@@ -201,8 +197,10 @@ first_settled calls (suc t) a is =
 pub first_whole : (m : Module) (rows : ℕ) (calls : List Call) → IsModule m → IsAcceptable m → AreCalls m calls
     → 0 < rows → rows ≤ 1024 → Whole m (1 + length calls) (first_machine m rows calls)
 first_whole m rows calls fits accepted are_calls some few = record {
-  rule = first_rule m rows calls fits accepted are_calls some few;
-  settled = first_settled calls;
+  accounts = first_accounts;
+  kept = record { rule = first_rule m rows calls are_calls some few; settled = first_settled calls };
+  functions = refl;
+  coded = λ t a is. first_coded m calls t a fits accepted are_calls is;
 }
 
 pub accepted_is_safe : (m : Module) → IsModule m → IsAcceptable m → Safe m

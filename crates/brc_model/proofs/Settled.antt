@@ -1,7 +1,6 @@
 -- A thread's chain is empty when it leaves, looks at a mark and is gone: it settles before each.
 use Rattle.std.proofs.Common.{◌≡◌, ℕ, zero, suc, ◌+◌, ◌-◌, Bool, true, false, cond, List, [], ◌∷◌, ◌++◌, ◌⊎◌, inl, inr, refl, sym, subst, arith}
 use Rattle.std.specs.Prelude.{◌==◌, ◌&&◌, nat_lt}
-use Rattle.brc_lang.specs.declared.module.Module.{Module}
 use Rattle.brc_word.specs.Words.{local_part, is_immortal_word, fresh_word, dead_word, released_word, merged_word}
 use Rattle.brc_model.specs.declared.duty.Reason.TheVariants.{Own, Handed}
 use Rattle.brc_model.specs.declared.duty.Duty.{Duty}
@@ -12,7 +11,7 @@ use Rattle.brc_model.specs.declared.actor.Status.{Status}
 use Rattle.brc_model.specs.declared.actor.Status.TheVariants.{Leaving, Gone}
 use Rattle.brc_model.specs.declared.actor.Place.{Place}
 use Rattle.brc_model.specs.Machine.{Actor, Machine, is_running, actor_by}
-use Rattle.brc_model.proofs.Rule.{Later, Agenda, NoneHanded, HandedOnce}
+use Rattle.brc_model.proofs.Rule.{Accounts, Later, Agenda, NoneHanded, HandedOnce}
 use Rattle.brc_model.proofs.Leaves.{AtDuty, head_of}
 use Rattle.brc_model.proofs.Lives.{next_of}
 use Rattle.brc_model.proofs.Neutral.{found_by, agenda_here, handed_here}
@@ -238,7 +237,7 @@ settled_claim rows t used head status place false x behind rest later none =
 
 -- ---- after a step
 
-settled_plain : (p : Module) (n : ℕ) (m : Machine) (t : ℕ) (a : Actor) (d : Duty) (rest : List Duty)
+settled_plain : (p : Accounts) (n : ℕ) (m : Machine) (t : ℕ) (a : Actor) (d : Duty) (rest : List Duty)
     → AtDuty p n m t a d rest → (a.status ≡ Gone → ⊥) → IsPlain d → IsSettled a.head (d ∷ rest)
     → IsSettled (head_by a.head d (found_by m t a d)) (actor_by t a d rest (found_by m t a d)).agenda
 settled_plain p n m t a d rest here alive plain settled =
@@ -249,7 +248,7 @@ settled_plain p n m t a d rest here alive plain settled =
     (plain_settles a.head d rest plain settled)
 
 -- a thread's step keeps it so
-pub settled_after : (p : Module) (n : ℕ) (m : Machine) (t : ℕ) (a : Actor) (d : Duty) (rest : List Duty)
+pub settled_after : (p : Accounts) (n : ℕ) (m : Machine) (t : ℕ) (a : Actor) (d : Duty) (rest : List Duty)
     → AtDuty p n m t a d rest → (a.status ≡ Gone → ⊥) → IsSettled a.head (d ∷ rest)
     → IsSettled (head_by a.head d (found_by m t a d)) (actor_by t a d rest (found_by m t a d)).agenda
 settled_after p n m t a Settle rest here alive settled = settled_inner _ (SettleKind (a.head - 1)) (Settle ∷ rest) tt tt

@@ -1,33 +1,44 @@
 -- A thread at rest takes up duties, or stands elsewhere: the rule holds with its new agenda.
-use Rattle.std.proofs.Common.{◌≡◌, ℕ, false, List, [], ◌∷◌, inl, inr, Some, refl, sym, ap, ◌∙◌, subst, arith}
-use Rattle.std.specs.Prelude.{slice_get, slice_set, sum_by}
-use Rattle.std.proofs.lemmas.Bool.{false≢true}
+use Rattle.std.proofs.Common.{◌≡◌, ◌≢◌, ℕ, Bool, false, cond, List, [], ◌∷◌, inl, inr, Some, refl, sym, ap, ◌∙◌, subst, arith}
+use Rattle.std.specs.Prelude.{◌==◌, slice_get, slice_set, sum_by}
+use Rattle.std.proofs.lemmas.Bool.{false≢true, eq-eqb, ne_eqb}
 use Rattle.std.proofs.lemmas.Bool.Decides.{eqb_tells}
 use Rattle.std.proofs.lemmas.List.{length-set, set-set}
 use Rattle.std.proofs.lemmas.Option.{slice_get_within}
-use Rattle.brc_lang.specs.declared.module.Module.{Module}
-use Rattle.brc_model.specs.Threads.{code_of}
 use Rattle.brc_model.specs.declared.duty.Duty.{Duty}
 use Rattle.brc_model.specs.Duties.{block_of, address_of}
 use Rattle.brc_model.specs.declared.actor.Status.{Status}
 use Rattle.brc_model.specs.declared.actor.Status.TheVariants.{Running}
 use Rattle.brc_model.specs.declared.actor.Place.{Place}
+use Rattle.brc_model.specs.declared.actor.Place.TheVariants.{Departing}
 use Rattle.brc_model.specs.Machine.{Actor, Machine, at_place, with_actor, actor_by, done_by}
 use Rattle.brc_model.proofs.Lists.{some_is, slice_get-set_same, slice_get-set_other, written_actor}
 use Rattle.brc_model.proofs.Bag.{one_if}
 use Rattle.brc_model.proofs.Weights.{weight-set}
 use Rattle.brc_model.proofs.Rows.{waits, carries, merges, decides, agenda_weight, weight, Numbers, RowRule}
-use Rattle.brc_model.proofs.Rule.{numbers_of, PlaceFits, HeadOf, Agenda, HandedOnce, scans, hand_of, ActorFits, AgendaFits, looks, IsWatched, ByRunning, ByExit, ByLook, Rule, UsesFit}
-use Rattle.brc_model.proofs.Others.{LeavesOthers, others_fit}
+use Rattle.brc_model.proofs.Rule.{Account, Accounts, numbers_of, HoldsAt, HoldsNone, Fits, HeadOf, Agenda, HandedOnce, scans, hand_of, ActorFits, AgendaFits, looks, IsWatched, ByRunning, ByExit, ByLook, Rule, UsesFit}
+use Rattle.brc_model.proofs.Others.{LeavesOthers, each_fits}
 
 -- the thread with another place and agenda
 abbrev pub sitting : Actor → Place → List Duty → Actor
 sitting a place agenda =
     record { function = a.function; place = place; status = a.status; agenda = agenda; head = a.head; used = a.used }
 
--- what the new agenda has to show
-pub record Sits (p : Module) (m : Machine) (t : ℕ) (a : Actor) (place : Place) (agenda : List Duty) : Type 0 where
-  pub placed : PlaceFits (code_of (slice_get p.functions a.function)) m.plain.references t agenda place
+-- the accounts with one thread's replaced
+abbrev pub with_account : Accounts → ℕ → Account → Accounts
+with_account p t account u = cond (u == t) account (p u)
+
+pub with_account_same : (p : Accounts) (t : ℕ) (account : Account) → account ≡ with_account p t account t
+with_account_same p t account = sym (ap (λ (b : Bool). cond b account (p t)) (eq-eqb t t refl))
+
+pub with_account_other : (p : Accounts) (t : ℕ) (account : Account) (u : ℕ) → u ≢ t → p u ≡ with_account p t account u
+with_account_other p t account u ne = sym (ap (λ (b : Bool). cond b account (p u)) (ne_eqb u t ne))
+
+-- What a thread has to show to take up work: its account is then that of the place where it will stand.
+pub record Sits (m : Machine) (t : ℕ) (a : Actor) (place : Place) (agenda : List Duty) (account : Account)
+    : Type 0 where
+  pub holds : HoldsAt m.plain.references t account agenda
+  pub departed : place ≡ Departing → HoldsNone account
   pub knows : HeadOf (with_actor m t (sitting a place agenda)) t (sitting a place agenda) agenda
   pub fits : Agenda m.rows t a.used Running place agenda
   pub handed : HandedOnce agenda
@@ -39,7 +50,7 @@ pub record Sits (p : Module) (m : Machine) (t : ℕ) (a : Actor) (place : Place)
   pub no_looks : (x : ℕ) → sum_by (looks x) agenda ≡ 0
 
 -- a thread that has nothing to do
-pub record AtRest (p : Module) (n : ℕ) (m : Machine) (t : ℕ) (a : Actor) : Type 0 where
+pub record AtRest (p : Accounts) (n : ℕ) (m : Machine) (t : ℕ) (a : Actor) : Type 0 where
   pub rule : Rule p n m
   pub found : slice_get m.actors t ≡ Some a
   pub agenda : a.agenda ≡ []
@@ -52,10 +63,11 @@ same_weight f actors t a place agenda found none weightless =
     let before : agenda_weight f a ≡ 0 = ap (sum_by f) none in
     omega (arith, weight-set f actors t a (sitting a place agenda) found, before, weightless)
 
-same_numbers : (p : Module) (n : ℕ) (m : Machine) (t : ℕ) (a : Actor) (place : Place) (agenda : List Duty) (x : ℕ)
-    → AtRest p n m t a → Sits p m t a place agenda
+same_numbers : (p : Accounts) (n : ℕ) (m : Machine) (t : ℕ) (a : Actor) (place : Place) (agenda : List Duty)
+    (account : Account) (x : ℕ)
+    → AtRest p n m t a → Sits m t a place agenda account
     → numbers_of m x ≡ numbers_of (with_actor m t (sitting a place agenda)) x
-same_numbers p n m t a place agenda x rest sits =
+same_numbers p n m t a place agenda account x rest sits =
     let w : weight (waits x) m.actors ≡ weight (waits x) (slice_set m.actors t (sitting a place agenda)) =
     sym (same_weight (waits x) m.actors t a place agenda rest.found rest.agenda (sits.no_waits x)) in
     let c : weight (carries x) m.actors ≡ weight (carries x) (slice_set m.actors t (sitting a place agenda)) =
@@ -75,11 +87,12 @@ same_numbers p n m t a place agenda x rest sits =
       deciding = d i;
     }
 
-still_watched : (p : Module) (n : ℕ) (m : Machine) (t : ℕ) (a : Actor) (place : Place) (agenda : List Duty) (x : ℕ)
-    → AtRest p n m t a → Sits p m t a place agenda → IsWatched m x
+still_watched : (p : Accounts) (n : ℕ) (m : Machine) (t : ℕ) (a : Actor) (place : Place) (agenda : List Duty)
+    (account : Account) (x : ℕ)
+    → AtRest p n m t a → Sits m t a place agenda account → IsWatched m x
     → IsWatched (with_actor m t (sitting a place agenda)) x
-still_watched p n m t a place agenda x rest sits (ByRunning one) = ByRunning one
-still_watched p n m t a place agenda x rest sits (ByExit b found scanned) =
+still_watched p n m t a place agenda account x rest sits (ByRunning one) = ByRunning one
+still_watched p n m t a place agenda account x rest sits (ByExit b found scanned) =
     elim (eqb_tells (block_of m.rows x) t) [
       | inl same ↦
           let this : b ≡ a = some_is b a (sym found ∙ ap (slice_get m.actors) same.1 ∙ rest.found) in
@@ -88,7 +101,7 @@ still_watched p n m t a place agenda x rest sits (ByExit b found scanned) =
       | inr apart ↦
           ByExit b (slice_get-set_other m.actors t (block_of m.rows x) (sitting a place agenda) apart.1 ∙ found) scanned
     ]
-still_watched p n m t a place agenda x rest sits (ByLook some) =
+still_watched p n m t a place agenda account x rest sits (ByLook some) =
     ByLook (omega (
       arith,
       some,
@@ -109,20 +122,19 @@ nothing_changes m t b = record {
   lives = λ u x ne. refl;
 }
 
-sitting_fits : (p : Module) (n : ℕ) (m : Machine) (t : ℕ) (a : Actor) (place : Place) (agenda : List Duty)
-    → AtRest p n m t a → Sits p m t a place agenda
-    → ActorFits p (with_actor m t (sitting a place agenda)) t (sitting a place agenda)
-    × AgendaFits m.rows t (sitting a place agenda) a.status × HandedOnce agenda
-sitting_fits p n m t a place agenda rest sits =
+sitting_fits : (p : Accounts) (n : ℕ) (m : Machine) (t : ℕ) (a : Actor) (place : Place) (agenda : List Duty)
+    (account : Account)
+    → AtRest p n m t a → Sits m t a place agenda account
+    → Fits account (with_actor m t (sitting a place agenda)) t (sitting a place agenda)
+sitting_fits p n m t a place agenda account rest sits =
     let old = (rest.rule.each t a rest.found).0 in
     let none : (x : ℕ)
     → one_if (hand_of a.agenda x) ≡ one_if (hand_of agenda x) =
     λ x. ap one_if (ap (λ (l : List Duty). hand_of l x) rest.agenda ∙ sym (sits.hands x)) in (
       record {
-        accepted = old.accepted;
-        instructions = old.instructions;
         word = old.word;
-        placed = sits.placed;
+        holds = sits.holds;
+        departed = sits.departed;
         head_fits = sits.knows;
         chain =
             record {
@@ -135,46 +147,29 @@ sitting_fits p n m t a place agenda rest sits =
       sits.handed,
     )
 
-sitting_each : (p : Module) (n : ℕ) (m : Machine) (t : ℕ) (a : Actor) (place : Place) (agenda : List Duty)
-    → AtRest p n m t a → Sits p m t a place agenda
-    → (u : ℕ) (b : Actor) → slice_get (slice_set m.actors t (sitting a place agenda)) u ≡ Some b
-    → ActorFits p (with_actor m t (sitting a place agenda)) u b × AgendaFits m.rows u b b.status × HandedOnce b.agenda
-sitting_each p n m t a place agenda rest sits u b is =
-    let now = sitting a place agenda in
-    elim (eqb_tells u t) [
-      | inl same ↦
-          let written_is : Some now ≡ Some b =
-          sym (ap (slice_get (slice_set m.actors t now)) same.1
-          ∙ slice_get-set_same m.actors t now (slice_get_within m.actors t a rest.found)) ∙ is in
-          let P : Actor
-          → Type 0 = λ x. ActorFits p (with_actor m t now) u x × AgendaFits m.rows u x x.status
-          × HandedOnce x.agenda in
-          let Q : ℕ
-          → Type 0 = λ w. ActorFits p (with_actor m t now) w now × AgendaFits m.rows w now now.status
-          × HandedOnce now.agenda in
-          subst P (some_is now b written_is) (subst Q (sym same.1) (sitting_fits p n m t a place agenda rest sits))
-      | inr apart ↦
-          let found : slice_get m.actors u ≡ Some b = sym (slice_get-set_other m.actors t u now apart.1) ∙ is in
-          let old = rest.rule.each u b found in
-          (others_fit p m (with_actor m t now) t u b (nothing_changes m t now) apart.1 found old.0, old.1, old.2)
-    ]
-
-pub sits_rule : (p : Module) (n : ℕ) (m : Machine) (t : ℕ) (a : Actor) (place : Place) (agenda : List Duty)
-    → AtRest p n m t a → Sits p m t a place agenda → Rule p n (with_actor m t (sitting a place agenda))
-sits_rule p n m t a place agenda rest sits = record {
-  functions = rest.rule.functions;
+-- Taking work up under its condition keeps the rule.
+pub sits_rule : (p : Accounts) (n : ℕ) (m : Machine) (t : ℕ) (a : Actor) (place : Place) (agenda : List Duty)
+    (account : Account)
+    → AtRest p n m t a → Sits m t a place agenda account
+    → Rule (with_account p t account) n (with_actor m t (sitting a place agenda))
+sits_rule p n m t a place agenda account rest sits = record {
   threads = length-set m.actors t (sitting a place agenda) ∙ rest.rule.threads;
   some_rows = rest.rule.some_rows;
   few_threads = rest.rule.few_threads;
   few_rows = rest.rule.few_rows;
   rows =
       λ x pos. subst (λ (k : Numbers). RowRule (block_of m.rows x) (m.life x) k)
-      (same_numbers p n m t a place agenda x rest sits) (rest.rule.rows x pos);
+      (same_numbers p n m t a place agenda account x rest sits) (rest.rule.rows x pos);
   marks = λ x. elim (rest.rule.marks x) [
     | inl none ↦ inl none
-    | inr set ↦ inr (set.0, set.1, still_watched p n m t a place agenda x rest sits set.2)
+    | inr set ↦ inr (set.0, set.1, still_watched p n m t a place agenda account x rest sits set.2)
   ];
-  each = λ u b is. sitting_each p n m t a place agenda rest sits u b is;
+  each =
+      let now = sitting a place agenda in
+      let own = sitting_fits p n m t a place agenda account rest sits in
+      each_fits p (with_account p t account) m (with_actor m t now) t a now rest.found (nothing_changes m t now)
+      (with_account_other p t account)
+      (subst (λ (c : Account). Fits c (with_actor m t now) t now) (with_account_same p t account) own) rest.rule.each;
   beyond = rest.rule.beyond;
   dying = rest.rule.dying;
   cells = rest.rule.cells;

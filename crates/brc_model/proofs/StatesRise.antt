@@ -14,8 +14,9 @@ use Rattle.brc_model.proofs.RowSteps.{shared_range, shared_up, shared_down, shar
 use Rattle.brc_model.proofs.Written.{written_here, written_apart, apart_shared}
 use Rattle.brc_model.proofs.Leaves.{AtDuty, exchange_alive}
 use Rattle.brc_model.proofs.Neutral.{memory_by}
-use Rattle.brc_model.proofs.Whole.{Whole}
+use Rattle.brc_model.proofs.WholeEvents.{Whole}
 use Rattle.brc_model.proofs.StepCases.{ShowsSteps, at_duty, event_shows}
+use Rattle.brc_model.proofs.Rule.{Accounts}
 
 -- ---- what a word's state is after an exchange
 
@@ -72,7 +73,7 @@ rises_at m y v x here =
 loads : (m : Machine) (y x : ℕ) → phase_part (m.memory (Shared x)) ≤ phase_in m y (m.memory (Shared y)) x
 loads m y x = rises_at m y (m.memory (Shared y)) x (omega arith)
 
-rises : (p : Module) (n : ℕ) (m : Machine) (t : ℕ) (a : Actor) (d : Duty) (rest : List Duty) (x : ℕ)
+rises : (p : Accounts) (n : ℕ) (m : Machine) (t : ℕ) (a : Actor) (d : Duty) (rest : List Duty) (x : ℕ)
     → AtDuty p n m t a d rest → phase_part (m.memory (Shared x)) ≤ phase_part (memory_by m t a d (Shared x))
 rises p n m t a (RetainAdd y h) rest x here =
     rises_at m y (m.memory (Shared y) + 4) x (omega (arith, (shared_up (m.memory (Shared y))).1))

@@ -20,6 +20,7 @@ use Rattle.brc_model.proofs.Settled.{IsSettled}
 use Rattle.brc_model.proofs.Whole.{Whole, Doing, sits_down, starts_settled}
 use Rattle.brc_model.proofs.WholeEvents.{ClaimsSo, claims_so}
 use Rattle.brc_model.specs.Plain.{Move}
+use Rattle.brc_model.proofs.Rule.{Accounts}
 
 -- what a property of a machine, of the thread that steps and of the machine afterwards has to show
 pub record ShowsSteps (Q : ℕ → Machine → Machine → Type 0) (p : Module) (n : ℕ) : Type 0 where
@@ -37,7 +38,7 @@ pub record ShowsSteps (Q : ℕ → Machine → Machine → Type 0) (p : Module) 
       → Q t m (done_by m t a d rest)
 
 -- the rule at the thread's first duty
-pub at_duty : {p : Module} {n : ℕ} {m : Machine} {t : ℕ} {a : Actor} {d : Duty} {rest : List Duty}
+pub at_duty : {p : Accounts} {n : ℕ} {m : Machine} {t : ℕ} {a : Actor} {d : Duty} {rest : List Duty}
     → Doing p n m t a d rest → AtDuty p n m t a d rest
 at_duty doing = record { rule = doing.whole.rule; found = doing.found; agenda = doing.agenda }
 

@@ -25,7 +25,7 @@ use Rattle.brc_model.proofs.Ranges.{limit, IsSmall, AreSmall, head_small}
 use Rattle.brc_model.proofs.RangesEvents.{starts_small, claim_small, Bounded, bounded_after, first_ranges}
 use Rattle.brc_model.proofs.Bounds.{duty_suits}
 use Rattle.brc_model.proofs.Blocks.{used_low, block_within}
-use Rattle.brc_model.proofs.Rule.{Rule}
+use Rattle.brc_model.proofs.Rule.{Accounts, Rule}
 use Rattle.brc_model.proofs.UsesAfter.{own_uses}
 use Rattle.std.proofs.Math.Nat.{mul-le-mul_right}
 
@@ -73,7 +73,7 @@ duty_there p n m t a (BirthLocal x h) rest whole here alive small = small
 
 -- ---- the thread has no more rows than there are
 
-used_within : (p : Module) (n : ℕ) (m : Machine) (t : ℕ) (a : Actor) (used : ℕ) → Rule p n m
+used_within : (p : Accounts) (n : ℕ) (m : Machine) (t : ℕ) (a : Actor) (used : ℕ) → Rule p n m
     → slice_get m.actors t ≡ Some a → (0 < t → used ≤ m.rows) → (t ≡ 0 → used ≡ 2) → used ≤ limit n m
 used_within p n m zero a used rule found few main = omega (arith, main refl)
 used_within p n m (suc t) a used rule found few main =
@@ -81,7 +81,7 @@ used_within p n m (suc t) a used rule found few main =
     let more : 1 * m.rows ≤ (n - 1) * m.rows = mul-le-mul_right m.rows (omega (arith, within)) in
     omega (arith, few (omega arith), more)
 
-duty_used : (p : Module) (n : ℕ) (m : Machine) (t : ℕ) (a : Actor) (d : Duty) (rest : List Duty)
+duty_used : (p : Accounts) (n : ℕ) (m : Machine) (t : ℕ) (a : Actor) (d : Duty) (rest : List Duty)
     → AtDuty p n m t a d rest → used_by a.used d ≤ limit n m
 duty_used p n m t a d rest here =
     let after = own_uses p n m t a d rest here in

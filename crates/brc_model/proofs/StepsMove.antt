@@ -27,7 +27,7 @@ use Rattle.brc_model.proofs.Written.{written_here, written_load}
 use Rattle.brc_model.proofs.Begins.{IsTaken}
 use Rattle.brc_model.proofs.Sits.{AtRest}
 use Rattle.brc_model.proofs.TakenSits.{rests, begun_fits}
-use Rattle.brc_model.proofs.Whole.{Whole}
+use Rattle.brc_model.proofs.WholeEvents.{Whole}
 use Rattle.brc_model.proofs.WholeEvents.{claimer_rests, gone_claims_none, whole_after}
 use Rattle.brc_model.proofs.Safe.{first_whole}
 use Rattle.brc_model.proofs.Worlds.{worlds_follow}

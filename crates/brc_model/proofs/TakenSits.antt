@@ -1,4 +1,4 @@
--- What a thread takes up fits it, so the rule holds of the thread with it.
+-- What a thread of accepted code takes up fits it: its account is then that of the place where it will stand.
 use Rattle.std.proofs.Common.{◌≡◌, ◌≢◌, ℕ, zero, suc, ◌<◌, Bool, List, [], ◌∷◌, Some, refl, sym, subst, arith}
 use Rattle.std.specs.Prelude.{slice_get, sum_by}
 use Rattle.std.proofs.lemmas.List.Sums.{sum_by-cons}
@@ -17,13 +17,14 @@ use Rattle.brc_model.specs.declared.actor.Place.TheVariants.{Standing, Departing
 use Rattle.brc_model.specs.Machine.{Actor, Machine, first_row, begun, begun_by, with_actor, block_size, next_row}
 use Rattle.brc_model.proofs.Holds.{the_root}
 use Rattle.brc_model.proofs.Rows.{waits, carries, merges, decides}
-use Rattle.brc_model.proofs.Rule.{HoldsAt, PlaceFits, Later, Agenda, AgendaFits, NoneHanded, looks, Rule, IsNext}
+use Rattle.brc_model.proofs.Coded.{PlaceSays, InCode, place_fits, placed_by, departed_none}
+use Rattle.brc_model.proofs.Rule.{Account, Accounts, HoldsAt, HoldsNone, Later, Agenda, AgendaFits, NoneHanded, looks, Rule, IsNext}
 use Rattle.brc_model.proofs.Begins.{Starts, Gives, Takes, Follows, Nothing, Settles, Leaves, Taken, IsTaken, Bears}
 use Rattle.brc_model.proofs.Taking.{begun_taken}
 use Rattle.brc_model.proofs.Sits.{Sits, AtRest, sitting}
 
 -- a thread with room is no main, which has used all its rows
-next_is : (p : Module) (n : ℕ) (m : Machine) (t : ℕ) (a : Actor) (place : Place) (agenda : List Duty) → AtRest p n m t a
+next_is : (p : Accounts) (n : ℕ) (m : Machine) (t : ℕ) (a : Actor) (place : Place) (agenda : List Duty) → AtRest p n m t a
     → a.used < block_size m.rows t
     → IsNext (with_actor m t (sitting a place agenda)) t (sitting a place agenda) (next_row m.rows t a.used)
 next_is p n m zero a place agenda at room = absurd (omega (arith, room, (at.rule.uses 0 a at.found).main refl))
@@ -50,16 +51,18 @@ follows_weigh rows t used place rest f settle leave (Leaves leaves) =
     let x = first_row rows t in
     omega (arith, sum_by-cons f Settle (Leave x used ∷ []), sum_by-cons f (Leave x used) [], settle, leave x used)
 
-starts_sit : (p : Module) (n : ℕ) (m : Machine) (t : ℕ) (a : Actor) (place : Place) (d : Duty) (rest : List Duty)
-    → AtRest p n m t a → PlaceFits (code_of (slice_get p.functions a.function)) m.plain.references t (d ∷ rest) place
+pub starts_sit : (p : Accounts) (n : ℕ) (m : Machine) (t : ℕ) (a : Actor) (place : Place) (d : Duty) (rest : List Duty)
+    (account : Account)
+    → AtRest p n m t a → HoldsAt m.plain.references t account (d ∷ rest) → (place ≡ Departing → HoldsNone account)
     → Starts m.plain.references m.rows t a.used d rest → Follows m.rows t a.used place rest
-    → Sits p m t a place (d ∷ rest)
-starts_sit p n m t a place d rest at placed (Gives row h behind some) follows =
+    → Sits m t a place (d ∷ rest) account
+starts_sit p n m t a place d rest account at holds departed (Gives row h behind some) follows =
     let weigh =
     λ (f : Duty → ℕ) (settle : f Settle ≡ 0) (leave : (x k : ℕ) → f (Leave x k) ≡ 0). follows_weigh m.rows t a.used
     place rest f settle leave follows in
     record {
-      placed = placed;
+      holds = holds;
+      departed = departed;
       knows = tt;
       fits = later_follows m.rows t a.used place rest follows;
       handed = none_handed m.rows t a.used place rest follows;
@@ -73,12 +76,13 @@ starts_sit p n m t a place d rest at placed (Gives row h behind some) follows =
           λ x. omega (arith, sum_by-cons (decides x) (ReleaseLoad row h) rest, weigh (decides x) refl (λ y k. refl));
       no_looks = λ x. omega (arith, sum_by-cons (looks x) (ReleaseLoad row h) rest, weigh (looks x) refl (λ y k. refl));
     }
-starts_sit p n m t a place d rest at placed (Takes row h by behind some) follows =
+starts_sit p n m t a place d rest account at holds departed (Takes row h by behind some) follows =
     let weigh =
     λ (f : Duty → ℕ) (settle : f Settle ≡ 0) (leave : (x k : ℕ) → f (Leave x k) ≡ 0). follows_weigh m.rows t a.used
     place rest f settle leave follows in
     record {
-      placed = placed;
+      holds = holds;
+      departed = departed;
       knows = record { by = by; held_so = some };
       fits = later_follows m.rows t a.used place rest follows;
       handed = none_handed m.rows t a.used place rest follows;
@@ -92,10 +96,11 @@ starts_sit p n m t a place d rest at placed (Takes row h by behind some) follows
           λ x. omega (arith, sum_by-cons (decides x) (RetainLoad row h) rest, weigh (decides x) refl (λ y k. refl));
       no_looks = λ x. omega (arith, sum_by-cons (looks x) (RetainLoad row h) rest, weigh (looks x) refl (λ y k. refl));
     }
-starts_sit p n m t a place d rest at placed (Bears h w room few said) follows =
+starts_sit p n m t a place d rest account at holds departed (Bears h w room few said) follows =
     let row = next_row m.rows t a.used in
     record {
-      placed = placed;
+      holds = holds;
+      departed = departed;
       knows = (next_is p n m t a place (BirthKind row h w ∷ []) at room, refl, said);
       fits = later_follows m.rows t a.used place [] follows;
       handed = tt;
@@ -107,34 +112,47 @@ starts_sit p n m t a place d rest at placed (Bears h w room few said) follows =
       no_looks = λ x. sum_by-cons (looks x) (BirthKind row h w) [];
     }
 
-pub taken_sits : (p : Module) (n : ℕ) (m : Machine) (t : ℕ) (a : Actor) (place : Place) (d : Duty) (rest : List Duty)
-    → AtRest p n m t a
+-- the account of the place where the thread will stand
+pub record TakenSits (p : Module) (m : Machine) (t : ℕ) (a : Actor) (place : Place) (agenda : List Duty) : Type 0 where
+  pub account : Account
+  pub says : PlaceSays (code_of (slice_get p.functions a.function)) place account
+  pub sits : Sits m t a place agenda account
+
+pub taken_sits : (p : Module) (c : Accounts) (n : ℕ) (m : Machine) (t : ℕ) (a : Actor) (place : Place) (d : Duty)
+    (rest : List Duty)
+    → AtRest c n m t a
     → Taken (code_of (slice_get p.functions a.function)) m.plain.references m.rows t a.used place d rest
-    → Sits p m t a place (d ∷ rest)
-taken_sits p n m t a place d rest at taken =
-    starts_sit p n m t a place d rest at taken.placed taken.starts taken.follows
+    → TakenSits p m t a place (d ∷ rest)
+taken_sits p c n m t a place d rest at taken =
+    let code = code_of (slice_get p.functions a.function) in
+    let placed = placed_by code m.plain.references t (d ∷ rest) place taken.placed in
+    record {
+      account = placed.account;
+      says = placed.says;
+      sits =
+          starts_sit c n m t a place d rest placed.account at placed.holds
+          (departed_none code place placed.account placed.says) taken.starts taken.follows;
+    }
 
 -- the claim of a row of the thread's own block
-same_at : (bag : List Reference) (t row : ℕ) (says : Holding → ℕ → Bool) → HoldsAt bag t says []
-    → HoldsAt bag t says (ClaimMark row ∷ [])
-same_at bag t row says holds = record { each = holds.each }
-
-pub claim_sits : (p : Module) (m : Machine) (t : ℕ) (a : Actor) (left row : ℕ)
-    → PlaceFits (code_of (slice_get p.functions a.function)) m.plain.references t [] (Standing left)
-    → block_of m.rows row ≡ t
-    → Sits p m t a (Standing left) (ClaimMark row ∷ [])
-claim_sits p m t a left row placed mine = record {
-  placed = same_at m.plain.references t row the_root placed;
-  knows = mine;
-  fits = ((let e : Standing left ≢ Departing = λ q. cc in e), refl);
-  handed = tt;
-  hands = λ x. refl;
-  no_waits = λ x. sum_by-cons (waits x) (ClaimMark row) [];
-  no_carries = λ x. sum_by-cons (carries x) (ClaimMark row) [];
-  no_merges = λ x. sum_by-cons (merges x) (ClaimMark row) [];
-  no_decides = λ x. sum_by-cons (decides x) (ClaimMark row) [];
-  no_looks = λ x. sum_by-cons (looks x) (ClaimMark row) [];
-}
+pub claim_sits : (p : Accounts) (n : ℕ) (m : Machine) (t : ℕ) (a : Actor) (left row : ℕ) → AtRest p n m t a
+    → block_of m.rows row ≡ t → Sits m t a (Standing left) (ClaimMark row ∷ []) (p t)
+claim_sits p n m t a left row at mine =
+    let holds : HoldsAt m.plain.references t (p t) [] =
+    subst (HoldsAt m.plain.references t (p t)) at.agenda (at.rule.each t a at.found).0.holds in
+    record {
+      holds = record { each = holds.each };
+      departed = λ e. absurd (let wrong : Standing left ≡ Departing = e in cc);
+      knows = mine;
+      fits = ((let e : Standing left ≢ Departing = λ q. cc in e), refl);
+      handed = tt;
+      hands = λ x. refl;
+      no_waits = λ x. sum_by-cons (waits x) (ClaimMark row) [];
+      no_carries = λ x. sum_by-cons (carries x) (ClaimMark row) [];
+      no_merges = λ x. sum_by-cons (merges x) (ClaimMark row) [];
+      no_decides = λ x. sum_by-cons (decides x) (ClaimMark row) [];
+      no_looks = λ x. sum_by-cons (looks x) (ClaimMark row) [];
+    }
 
 -- ---- what a thread at rest takes up
 
@@ -147,17 +165,19 @@ agenda_rests rows t used a Leaving alive none fits =
     subst (λ (l : List Duty). Agenda rows t a.used Leaving a.place l) none fits
 
 -- a thread without an agenda that isn't gone runs, and its exit isn't taken up
-pub rests : (p : Module) (n : ℕ) (m : Machine) (t : ℕ) (a : Actor) → Rule p n m → slice_get m.actors t ≡ Some a
+pub rests : (p : Accounts) (n : ℕ) (m : Machine) (t : ℕ) (a : Actor) → Rule p n m → slice_get m.actors t ≡ Some a
     → (a.status ≡ Gone → ⊥) → a.agenda ≡ [] → (a.place ≢ Departing) × (a.status ≡ Running)
 rests p n m t a rule found alive none = agenda_rests m.rows t a.used a a.status alive none (rule.each t a found).1
 
-pub begun_fits : (p : Module) (n : ℕ) (m : Machine) (t : ℕ) (a : Actor) → AtRest p n m t a → (a.place ≢ Departing)
+pub begun_fits : (p : Module) (c : Accounts) (n : ℕ) (m : Machine) (t : ℕ) (a : Actor) → AtRest c n m t a
+    → m.functions ≡ p.functions → InCode p a (c t) → (a.place ≢ Departing)
     → IsTaken (code_of (slice_get p.functions a.function)) m.plain.references m.rows t a.used (begun_by m t a)
-begun_fits p n m t a at stays =
-    let old = (at.rule.each t a at.found).0 in
+begun_fits p c n m t a at functions coded stays =
     let code = code_of (slice_get p.functions a.function) in
+    let holds : HoldsAt m.plain.references t (c t) [] =
+    subst (HoldsAt m.plain.references t (c t)) at.agenda (at.rule.each t a at.found).0.holds in
     let here : IsTaken code m.plain.references m.rows t a.used (begun m.rows t a.used code a.place) =
-    begun_taken code m.plain.references m.rows t a.used a.place old.accepted old.instructions stays
-    (subst (λ (l : List Duty). PlaceFits code m.plain.references t l a.place) at.agenda old.placed) in
+    begun_taken code m.plain.references m.rows t a.used a.place coded.accepted coded.instructions stays
+    (place_fits code m.plain.references t [] a.place (c t) coded.says holds) in
     subst (λ (fs : List Function). IsTaken code m.plain.references m.rows t a.used
-    (begun m.rows t a.used (code_of (slice_get fs a.function)) a.place)) (sym at.rule.functions) here
+    (begun m.rows t a.used (code_of (slice_get fs a.function)) a.place)) (sym functions) here

@@ -7,7 +7,6 @@ use Rattle.std.proofs.lemmas.Bool.{eq-eqb, cases_lt}
 use Rattle.std.proofs.lemmas.Bool.Decides.{eqb_tells}
 use Rattle.std.proofs.lemmas.List.Folds.{list_any-append}
 use Rattle.std.proofs.lemmas.Option.{slice_get_within}
-use Rattle.brc_lang.specs.declared.module.Module.{Module}
 use Rattle.brc_model.specs.declared.duty.Holding.{Holding}
 use Rattle.brc_model.specs.declared.duty.Holding.TheVariants.{ByVariable, AsCaller, InHand}
 use Rattle.brc_model.specs.Plain.{is_among, Plain, Move, Born, Gain, Lose, HandOn, Finalise, move, moved}
@@ -19,7 +18,7 @@ use Rattle.brc_model.specs.declared.address.Address.{Address}
 use Rattle.brc_model.specs.Duties.{block_of, address_of}
 use Rattle.brc_model.specs.Machine.{Actor, Unborn, Live, Dying, Closed, Machine, first_row, used_by, hand_on, gain, lose, moves_by, born_row, actor_by, done_by, take_out}
 use Rattle.brc_model.proofs.Lists.{some_is, slice_get-set_same, slice_get-set_other}
-use Rattle.brc_model.proofs.Rule.{IsNext, UsesFit, Rule}
+use Rattle.brc_model.proofs.Rule.{Accounts, IsNext, UsesFit, Rule}
 use Rattle.brc_model.proofs.Blocks.{next_above, next_block, next_unborn}
 use Rattle.brc_model.proofs.Leaves.{AtDuty, head_of}
 use Rattle.brc_model.proofs.Neutral.{found_by, uses_same}
@@ -38,7 +37,7 @@ closed_not_unborn : Closed ≡ Unborn → ⊥
 closed_not_unborn e = cc
 
 -- what was born is never unborn again
-pub stays_born : (p : Module) (n : ℕ) (m : Machine) (t : ℕ) (a : Actor) (d : Duty) (rest : List Duty) (x : ℕ)
+pub stays_born : (p : Accounts) (n : ℕ) (m : Machine) (t : ℕ) (a : Actor) (d : Duty) (rest : List Duty) (x : ℕ)
     → AtDuty p n m t a d rest → m.life x ≢ Unborn → (done_by m t a d rest).life x ≢ Unborn
 stays_born p n m t a d rest x here born =
     elim (life_step p n m t a d rest x here) [
@@ -49,7 +48,7 @@ stays_born p n m t a d rest x here born =
     ]
 
 -- only the step of its birth bears a row
-pub stays_unborn : (p : Module) (n : ℕ) (m : Machine) (t : ℕ) (a : Actor) (d : Duty) (rest : List Duty) (x : ℕ)
+pub stays_unborn : (p : Accounts) (n : ℕ) (m : Machine) (t : ℕ) (a : Actor) (d : Duty) (rest : List Duty) (x : ℕ)
     → AtDuty p n m t a d rest → m.life x ≡ Unborn → (born_row d ≡ Some x → ⊥) → (done_by m t a d rest).life x ≡ Unborn
 stays_unborn p n m t a d rest x here unborn other =
     elim (life_step p n m t a d rest x here) [
@@ -62,14 +61,14 @@ stays_unborn p n m t a d rest x here unborn other =
 none_is_not : (x : ℕ) → None ≡ Some x → ⊥
 none_is_not x e = cc
 
-born_next : (p : Module) (n : ℕ) (m : Machine) (t : ℕ) (a : Actor) (d : Duty) (rest : List Duty) (x : ℕ)
+born_next : (p : Accounts) (n : ℕ) (m : Machine) (t : ℕ) (a : Actor) (d : Duty) (rest : List Duty) (x : ℕ)
     → AtDuty p n m t a d rest → born_row d ≡ Some x → IsNext m t a x × (used_by a.used d ≡ a.used + 1)
 born_next p n m t a (BirthLocal y h) rest x here e =
     (subst (λ (z : ℕ). IsNext m t a z) (some_is y x e) (head_of p n m t a (BirthLocal y h) rest here).0, refl)
 born_next p n m t a _ rest x here e = absurd (none_is_not x e)
 
 -- the row that a birth bears lives
-born_lives : (p : Module) (n : ℕ) (m : Machine) (t : ℕ) (a : Actor) (d : Duty) (rest : List Duty) (x : ℕ)
+born_lives : (p : Accounts) (n : ℕ) (m : Machine) (t : ℕ) (a : Actor) (d : Duty) (rest : List Duty) (x : ℕ)
     → AtDuty p n m t a d rest → born_row d ≡ Some x → (done_by m t a d rest).life x ≡ Live
 born_lives p n m t a (BirthLocal y h) rest x here e =
     ap (λ (b : Bool). cond b Live (m.life x)) (eq-eqb y x (some_is y x e))
@@ -82,7 +81,7 @@ either_born : (d : Duty) → (born_row d ≡ None) ⊎ ((x : ℕ) × (born_row d
 either_born (BirthLocal x h) = inr (x, refl)
 either_born _ = inl refl
 
-pub own_uses : (p : Module) (n : ℕ) (m : Machine) (t : ℕ) (a : Actor) (d : Duty) (rest : List Duty)
+pub own_uses : (p : Accounts) (n : ℕ) (m : Machine) (t : ℕ) (a : Actor) (d : Duty) (rest : List Duty)
     → AtDuty p n m t a d rest → UsesFit m.rows (done_by m t a d rest).life t (used_by a.used d)
 own_uses p n m t a d rest here =
     let old = here.rule.uses t a here.found in
@@ -118,7 +117,7 @@ own_uses p n m t a d rest here =
           subst (λ (u : ℕ). UsesFit m.rows (done_by m t a d rest).life t u) (sym next.1) now
     ]
 
-others_uses : (p : Module) (n : ℕ) (m : Machine) (t : ℕ) (a : Actor) (d : Duty) (rest : List Duty) (u : ℕ) (b : Actor)
+others_uses : (p : Accounts) (n : ℕ) (m : Machine) (t : ℕ) (a : Actor) (d : Duty) (rest : List Duty) (u : ℕ) (b : Actor)
     → AtDuty p n m t a d rest → u ≢ t → slice_get m.actors u ≡ Some b
     → UsesFit m.rows (done_by m t a d rest).life u b.used
 others_uses p n m t a d rest u b here ne found =
@@ -132,7 +131,7 @@ others_uses p n m t a d rest u b here ne found =
           (λ e. ne (sym block ∙ next_block m t a x (born_next p n m t a d rest x here e).0));
     }
 
-pub uses_after : (p : Module) (n : ℕ) (m : Machine) (t : ℕ) (a : Actor) (d : Duty) (rest : List Duty)
+pub uses_after : (p : Accounts) (n : ℕ) (m : Machine) (t : ℕ) (a : Actor) (d : Duty) (rest : List Duty)
     → AtDuty p n m t a d rest → (u : ℕ) (b : Actor) → slice_get (done_by m t a d rest).actors u ≡ Some b
     → UsesFit m.rows (done_by m t a d rest).life u b.used
 uses_after p n m t a d rest here u b is =
@@ -150,7 +149,7 @@ uses_after p n m t a d rest here u b is =
           others_uses p n m t a d rest u b here apart.1 (sym (slice_get-set_other m.actors t u after apart.1) ∙ is)
     ]
 
-pub no_block_after : (p : Module) (n : ℕ) (m : Machine) (t : ℕ) (a : Actor) (d : Duty) (rest : List Duty)
+pub no_block_after : (p : Accounts) (n : ℕ) (m : Machine) (t : ℕ) (a : Actor) (d : Duty) (rest : List Duty)
     → AtDuty p n m t a d rest → (x : ℕ) → n ≤ block_of m.rows x → (done_by m t a d rest).life x ≡ Unborn
 no_block_after p n m t a d rest here x past =
     let within : t < n = omega (arith, slice_get_within m.actors t a here.found, here.rule.threads) in
@@ -223,7 +222,7 @@ born_step m t (BirthLocal x h) found = OneBorn x refl refl
 born_step m t d found =
     SameBorn refl (moved_born m.plain (moves_by m.memory t d found) (moves_none m.memory t d found refl))
 
-pub born_is_after : (p : Module) (n : ℕ) (m : Machine) (t : ℕ) (a : Actor) (d : Duty) (rest : List Duty)
+pub born_is_after : (p : Accounts) (n : ℕ) (m : Machine) (t : ℕ) (a : Actor) (d : Duty) (rest : List Duty)
     → AtDuty p n m t a d rest → (x : ℕ) → is_among x (done_by m t a d rest).plain.born ≡ true
     → (0 < x) × ((done_by m t a d rest).life x ≢ Unborn)
 born_is_after p n m t a d rest here x is =
@@ -244,7 +243,7 @@ born_is_after p n m t a d rest here x is =
     ]
 
 -- what is born stands in the list, now or before
-pub before_or_now : (p : Module) (n : ℕ) (m : Machine) (t : ℕ) (a : Actor) (d : Duty) (rest : List Duty) (x : ℕ)
+pub before_or_now : (p : Accounts) (n : ℕ) (m : Machine) (t : ℕ) (a : Actor) (d : Duty) (rest : List Duty) (x : ℕ)
     → AtDuty p n m t a d rest → (done_by m t a d rest).life x ≢ Unborn → (m.life x ≢ Unborn) ⊎ (born_row d ≡ Some x)
 before_or_now p n m t a d rest x here born =
     elim (life_step p n m t a d rest x here) [
@@ -254,7 +253,7 @@ before_or_now p n m t a d rest x here born =
       | IsBorn now unborn above this none ↦ inr this
     ]
 
-pub born_has_after : (p : Module) (n : ℕ) (m : Machine) (t : ℕ) (a : Actor) (d : Duty) (rest : List Duty)
+pub born_has_after : (p : Accounts) (n : ℕ) (m : Machine) (t : ℕ) (a : Actor) (d : Duty) (rest : List Duty)
     → AtDuty p n m t a d rest → (x : ℕ) → 0 < x → (done_by m t a d rest).life x ≢ Unborn
     → is_among x (done_by m t a d rest).plain.born ≡ true
 born_has_after p n m t a d rest here x above born =
@@ -286,7 +285,7 @@ none_counted x (y ∷ ys) none =
           omega (arith, sum_by-cons (λ (z : ℕ). cond (z == x) 1 0) y ys, apart, none_counted x ys later)
     ] refl none
 
-not_listed : (p : Module) (n : ℕ) (m : Machine) (x : ℕ) → Rule p n m → m.life x ≡ Unborn
+not_listed : (p : Accounts) (n : ℕ) (m : Machine) (x : ℕ) → Rule p n m → m.life x ≡ Unborn
     → is_among x m.plain.born ≡ false
 not_listed p n m x rule unborn =
     elim (is_among x m.plain.born) as (λ b. is_among x m.plain.born ≡ b → b ≡ false) [
@@ -316,7 +315,7 @@ one_more x y l once none =
           omega (arith, parts, once, last, other)
     ]
 
-pub born_once_after : (p : Module) (n : ℕ) (m : Machine) (t : ℕ) (a : Actor) (d : Duty) (rest : List Duty)
+pub born_once_after : (p : Accounts) (n : ℕ) (m : Machine) (t : ℕ) (a : Actor) (d : Duty) (rest : List Duty)
     → AtDuty p n m t a d rest → (x : ℕ) → count_by (λ y. y == x) (done_by m t a d rest).plain.born ≤ 1
 born_once_after p n m t a d rest here x =
     let Q : List ℕ → Type 0 = λ l. count_by (λ y. y == x) l ≤ 1 in

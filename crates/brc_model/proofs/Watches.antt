@@ -4,7 +4,6 @@ use Rattle.std.specs.Prelude.{◌==◌, ◌&&◌, nat_lt, slice_get, sum_by}
 use Rattle.std.proofs.lemmas.Bool.{eqb-true, ne_eqb, leb-true, le-leb}
 use Rattle.std.proofs.lemmas.Bool.Decides.{eqb_tells}
 use Rattle.std.proofs.lemmas.List.Sums.{sum_by-cons, sum_by-append}
-use Rattle.brc_lang.specs.declared.module.Module.{Module}
 use Rattle.brc_word.specs.Words.{local_part, is_immortal_word, fresh_word, dead_word, released_word, merged_word}
 use Rattle.brc_model.specs.declared.duty.Reason.TheVariants.{Own, Handed}
 use Rattle.brc_model.specs.declared.duty.Duty.{Duty}
@@ -18,7 +17,7 @@ use Rattle.brc_model.specs.Machine.{Actor, Machine, is_running, first_row, actor
 use Rattle.brc_model.proofs.Lists.{some_is, slice_get-set_other}
 use Rattle.brc_model.proofs.Bag.{one_if}
 use Rattle.brc_model.proofs.Rows.{agenda_weight, weight}
-use Rattle.brc_model.proofs.Rule.{Later, Agenda, scans, looks, IsWatched, ByRunning, ByExit, ByLook, Rule, status_word}
+use Rattle.brc_model.proofs.Rule.{Accounts, Later, Agenda, scans, looks, IsWatched, ByRunning, ByExit, ByLook, Rule, status_word}
 use Rattle.brc_model.proofs.Written.{written_here, written_apart, written_load, apart_mark}
 use Rattle.brc_model.proofs.Leaves.{AtDuty, head_of, words_left}
 use Rattle.brc_model.proofs.Lives.{next_of}
@@ -209,7 +208,7 @@ other_scans m t a d rest x none reach e =
     (reaches_behind x (next_of m t a d) rest less reach)
     (scans_behind x (next_of m t a d) rest less ∙ sym (first_scans x d rest none) ∙ e)
 
-agenda_scans : (p : Module) (n : ℕ) (m : Machine) (t : ℕ) (a : Actor) (d : Duty) (rest : List Duty) (x : ℕ)
+agenda_scans : (p : Accounts) (n : ℕ) (m : Machine) (t : ℕ) (a : Actor) (d : Duty) (rest : List Duty) (x : ℕ)
     → AtDuty p n m t a d rest → (a.status ≡ Gone → ⊥) → x < first_row m.rows t + a.used → Spares d x
     → scans x (d ∷ rest) ≡ true
     → scans x (actor_by t a d rest (found_by m t a d)).agenda ≡ true
@@ -243,12 +242,12 @@ looks_step m t a d rest x found is =
     omega (arith, weight_set (looks x) m.actors t a after found, before, now)
 
 -- a duty that doesn't look at the row
-look_kept : (p : Module) (n : ℕ) (m : Machine) (t : ℕ) (a : Actor) (d : Duty) (rest : List Duty) (x : ℕ)
+look_kept : (p : Accounts) (n : ℕ) (m : Machine) (t : ℕ) (a : Actor) (d : Duty) (rest : List Duty) (x : ℕ)
     → AtDuty p n m t a d rest → looks x d ≡ 0 → 0 < weight (looks x) m.actors → IsWatched (done_by m t a d rest) x
 look_kept p n m t a d rest x here none some =
     ByLook (omega (arith, looks_step m t a d rest x here.found here.agenda, none, some))
 
-look_after : (p : Module) (n : ℕ) (m : Machine) (t : ℕ) (a : Actor) (d : Duty) (rest : List Duty) (x : ℕ)
+look_after : (p : Accounts) (n : ℕ) (m : Machine) (t : ℕ) (a : Actor) (d : Duty) (rest : List Duty) (x : ℕ)
     → AtDuty p n m t a d rest → Spares d x → 0 < weight (looks x) m.actors → IsWatched (done_by m t a d rest) x
 look_after p n m t a (Look y) rest x here spares some =
     let word = m.memory (ThreadWord (block_of m.rows y)) in
@@ -272,7 +271,7 @@ look_after p n m t a _ rest x here spares some = look_kept p n m t a _ rest x he
 -- ---- the block's thread stays watchful
 
 -- the marked row is one of the used rows of its block's thread
-pub marked_within : (p : Module) (n : ℕ) (m : Machine) (t : ℕ) (a : Actor) (x : ℕ) → Rule p n m
+pub marked_within : (p : Accounts) (n : ℕ) (m : Machine) (t : ℕ) (a : Actor) (x : ℕ) → Rule p n m
     → slice_get m.actors t ≡ Some a → m.memory (Mark x) ≡ 1 → block_of m.rows x ≡ t
     → (first_row m.rows t ≤ x) × (x < first_row m.rows t + a.used)
 marked_within p n m t a x rule found marked block =
@@ -290,7 +289,7 @@ mine_after m t a d rest x found block e =
     let after = actor_by t a d rest (found_by m t a d) in
     ByExit after (ap (slice_get (set m.actors t after)) block ∙ set_found m.actors t a after found) e
 
-running_after : (p : Module) (n : ℕ) (m : Machine) (t : ℕ) (a : Actor) (d : Duty) (rest : List Duty) (x : ℕ)
+running_after : (p : Accounts) (n : ℕ) (m : Machine) (t : ℕ) (a : Actor) (d : Duty) (rest : List Duty) (x : ℕ)
     → AtDuty p n m t a d rest → (a.status ≡ Gone → ⊥) → m.memory (Mark x) ≡ 1
     → m.memory (ThreadWord (block_of m.rows x)) ≡ 1 → IsWatched (done_by m t a d rest) x
 running_after p n m t a (Leave y k) [] x here alive marked runs =
@@ -320,7 +319,7 @@ running_after p n m t a (Look y) rest x here alive marked runs =
     ByRunning (written_load m.memory (ThreadWord (block_of m.rows y)) (ThreadWord (block_of m.rows x)) ∙ runs)
 running_after p n m t a _ rest x here alive marked runs = ByRunning runs
 
-exit_after : (p : Module) (n : ℕ) (m : Machine) (t : ℕ) (a : Actor) (d : Duty) (rest : List Duty) (x : ℕ) (b : Actor)
+exit_after : (p : Accounts) (n : ℕ) (m : Machine) (t : ℕ) (a : Actor) (d : Duty) (rest : List Duty) (x : ℕ) (b : Actor)
     → AtDuty p n m t a d rest → (a.status ≡ Gone → ⊥) → m.memory (Mark x) ≡ 1 → Spares d x
     → slice_get m.actors (block_of m.rows x) ≡ Some b → scans x b.agenda ≡ true → IsWatched (done_by m t a d rest) x
 exit_after p n m t a d rest x b here alive marked spares found e =
@@ -337,7 +336,7 @@ exit_after p n m t a d rest x b here alive marked spares found e =
           ∙ found) e
     ]
 
-watched_after : (p : Module) (n : ℕ) (m : Machine) (t : ℕ) (a : Actor) (d : Duty) (rest : List Duty) (x : ℕ)
+watched_after : (p : Accounts) (n : ℕ) (m : Machine) (t : ℕ) (a : Actor) (d : Duty) (rest : List Duty) (x : ℕ)
     → AtDuty p n m t a d rest → (a.status ≡ Gone → ⊥) → m.memory (Mark x) ≡ 1 → Spares d x
     → IsWatched m x → IsWatched (done_by m t a d rest) x
 watched_after p n m t a d rest x here alive marked spares (ByRunning runs) =
@@ -351,7 +350,7 @@ watched_after p n m t a d rest x here alive marked spares (ByLook some) = look_a
 abbrev pub MarkFits : Machine → ℕ → Type 0
 MarkFits m x = (m.memory (Mark x) ≡ 0) ⊎ ((m.memory (Mark x) ≡ 1) × (0 < x) × IsWatched m x)
 
-mark_kept : (p : Module) (n : ℕ) (m : Machine) (t : ℕ) (a : Actor) (d : Duty) (rest : List Duty) (x : ℕ)
+mark_kept : (p : Accounts) (n : ℕ) (m : Machine) (t : ℕ) (a : Actor) (d : Duty) (rest : List Duty) (x : ℕ)
     → AtDuty p n m t a d rest → (a.status ≡ Gone → ⊥) → Spares d x
     → memory_by m t a d (Mark x) ≡ m.memory (Mark x) → MarkFits (done_by m t a d rest) x
 mark_kept p n m t a d rest x here alive spares same =
@@ -361,7 +360,7 @@ mark_kept p n m t a d rest x here alive spares same =
     ]
 
 -- a duty that takes the mark of y away
-mark_taken : (p : Module) (n : ℕ) (m : Machine) (t : ℕ) (a : Actor) (d : Duty) (rest : List Duty) (y x : ℕ)
+mark_taken : (p : Accounts) (n : ℕ) (m : Machine) (t : ℕ) (a : Actor) (d : Duty) (rest : List Duty) (y x : ℕ)
     → AtDuty p n m t a d rest → (a.status ≡ Gone → ⊥) → (y ≢ x → Spares d x)
     → ((z : ℕ) → memory_by m t a d (Mark z) ≡ written m.memory (Mark y) 0 (Mark z)) → MarkFits (done_by m t a d rest) x
 mark_taken p n m t a d rest y x here alive spares now =
@@ -373,7 +372,7 @@ mark_taken p n m t a d rest y x here alive spares now =
           (now x ∙ written_apart m.memory (Mark y) (Mark x) 0 (apart_mark y x other.1))
     ]
 
-pub marks_after : (p : Module) (n : ℕ) (m : Machine) (t : ℕ) (a : Actor) (d : Duty) (rest : List Duty)
+pub marks_after : (p : Accounts) (n : ℕ) (m : Machine) (t : ℕ) (a : Actor) (d : Duty) (rest : List Duty)
     → AtDuty p n m t a d rest → (a.status ≡ Gone → ⊥) → (x : ℕ) → MarkFits (done_by m t a d rest) x
 marks_after p n m t a (SetMark y) rest here alive x =
     elim (eqb_tells y x) [

@@ -2,7 +2,6 @@
 use Rattle.std.proofs.Common.{◌≡◌, ℕ, zero, suc, Bool, false, List, ◌∷◌, Some, refl, sym, ◌∙◌, subst, arith}
 use Rattle.std.specs.Prelude.{slice_get}
 use Rattle.std.proofs.lemmas.Option.{slice_get_within}
-use Rattle.brc_lang.specs.declared.module.Module.{Module}
 use Rattle.brc_model.specs.Plain.{Reference}
 use Rattle.brc_model.specs.declared.duty.Reason.TheVariants.{Own, Handed}
 use Rattle.brc_model.specs.declared.duty.Duty.{Duty}
@@ -12,7 +11,7 @@ use Rattle.brc_model.specs.declared.actor.Place.{Place}
 use Rattle.brc_model.specs.Machine.{Actor, Machine, actor_by, done_by, at_place, with_actor}
 use Rattle.brc_model.specs.Events.{is_bad_duty}
 use Rattle.brc_model.proofs.Lists.{slice_get-set_same, written_actor}
-use Rattle.brc_model.proofs.Rule.{Rule}
+use Rattle.brc_model.proofs.Rule.{Account, Accounts, Rule}
 use Rattle.brc_model.proofs.Leaves.{AtDuty}
 use Rattle.brc_model.proofs.Neutral.{OwnFits, found_by}
 use Rattle.brc_model.proofs.OwnRetains.{own_retain_counted}
@@ -27,17 +26,18 @@ use Rattle.brc_model.proofs.Watches.{marks_after}
 use Rattle.brc_model.proofs.KeepsDuty.{keeps_by}
 use Rattle.brc_model.proofs.NotBad.{duty_not_bad}
 use Rattle.brc_model.proofs.Begins.{Starts, Gives, Takes, Follows, Nothing, Settles as SettlesFirst, Leaves, Bears}
-use Rattle.brc_model.proofs.Sits.{sitting, Sits, AtRest, sits_rule, taken_up_step}
+use Rattle.brc_model.proofs.Sits.{with_account, sitting, Sits, AtRest, sits_rule, taken_up_step}
 use Rattle.brc_model.proofs.OwnBirths.{own_birth_kind, own_birth_slot, own_birth_local}
 use Rattle.brc_model.proofs.Nones.{own_retain_none, own_release_none}
 
-pub record Whole (p : Module) (n : ℕ) (m : Machine) : Type 0 where
+-- What holds of each machine that steps lead to, whatever its threads run: the rule, and that no chain is left over.
+pub record Kept (p : Accounts) (n : ℕ) (m : Machine) : Type 0 where
   pub rule : Rule p n m
   pub settled : (t : ℕ) (a : Actor) → slice_get m.actors t ≡ Some a → IsSettled a.head a.agenda
 
 -- ---- a duty
 
-own_fits : (p : Module) (n : ℕ) (m : Machine) (t : ℕ) (a : Actor) (d : Duty) (rest : List Duty)
+own_fits : (p : Accounts) (n : ℕ) (m : Machine) (t : ℕ) (a : Actor) (d : Duty) (rest : List Duty)
     → AtDuty p n m t a d rest → (a.status ≡ Gone → ⊥) → IsSettled a.head (d ∷ rest)
     → OwnFits p (done_by m t a d rest) t (actor_by t a d rest (found_by m t a d))
 own_fits p n m t a (RetainLoad zero h) rest here alive settled = own_retain_none p n m t a h rest here alive
@@ -75,23 +75,21 @@ own_fits p n m t a (BirthKind x h w) rest here alive settled = own_birth_kind p 
 own_fits p n m t a (BirthSlot x h) rest here alive settled = own_birth_slot p n m t a x h rest here alive
 own_fits p n m t a (BirthLocal x h) rest here alive settled = own_birth_local p n m t a x h rest here alive
 
--- the whole, with a thread at its first duty
-pub record Doing (p : Module) (n : ℕ) (m : Machine) (t : ℕ) (a : Actor) (d : Duty) (rest : List Duty) : Type 0 where
-  pub whole : Whole p n m
+-- a thread at its first duty
+pub record Doing (p : Accounts) (n : ℕ) (m : Machine) (t : ℕ) (a : Actor) (d : Duty) (rest : List Duty) : Type 0 where
+  pub kept : Kept p n m
   pub found : slice_get m.actors t ≡ Some a
   pub agenda : a.agenda ≡ d ∷ rest
   pub alive : a.status ≡ Gone → ⊥
 
-abbrev pub KeepsOn : Module → ℕ → Bool → Machine → Type 0
-KeepsOn p n bad m = (bad ≡ false) × Whole p n m
-
-pub keeps_duty : (p : Module) (n : ℕ) (m : Machine) (t : ℕ) (a : Actor) (d : Duty) (rest : List Duty)
-    → Doing p n m t a d rest → KeepsOn p n (is_bad_duty m t a d) (done_by m t a d rest)
-keeps_duty p n m t a d rest doing =
+-- The first part of the theorem: a thread's next duty isn't bad, and doing it keeps the invariant.
+pub duty_kept : (p : Accounts) (n : ℕ) (m : Machine) (t : ℕ) (a : Actor) (d : Duty) (rest : List Duty)
+    → Doing p n m t a d rest → (is_bad_duty m t a d ≡ false) × Kept p n (done_by m t a d rest)
+duty_kept p n m t a d rest doing =
     let here : AtDuty p n m t a d rest =
-    record { rule = doing.whole.rule; found = doing.found; agenda = doing.agenda } in
+    record { rule = doing.kept.rule; found = doing.found; agenda = doing.agenda } in
     let settled : IsSettled a.head (d ∷ rest) =
-    subst (IsSettled a.head) doing.agenda (doing.whole.settled t a doing.found) in (
+    subst (IsSettled a.head) doing.agenda (doing.kept.settled t a doing.found) in (
       duty_not_bad p n m t a d rest here,
       record {
         rule =
@@ -100,42 +98,48 @@ keeps_duty p n m t a d rest doing =
         settled =
             λ u b is. written_actor (λ w c. IsSettled c.head c.agenda) m.actors t a
             (actor_by t a d rest (found_by m t a d)) doing.found
-            (settled_after p n m t a d rest here doing.alive settled) doing.whole.settled u b is;
+            (settled_after p n m t a d rest here doing.alive settled) doing.kept.settled u b is;
       },
     )
 
 -- ---- what is taken up
 
-pub whole_sits : (p : Module) (n : ℕ) (m : Machine) (t : ℕ) (a : Actor) (place : Place) (agenda : List Duty)
-    → Whole p n m → AtRest p n m t a → Sits p m t a place agenda → IsSettled a.head agenda
-    → Whole p n (with_actor m t (sitting a place agenda))
-whole_sits p n m t a place agenda whole rest sits settled = record {
-  rule = sits_rule p n m t a place agenda rest sits;
+-- The second part: taking work up under its condition keeps the invariant.
+pub kept_sits : (p : Accounts) (n : ℕ) (m : Machine) (t : ℕ) (a : Actor) (place : Place) (agenda : List Duty)
+    (account : Account)
+    → Kept p n m → AtRest p n m t a → Sits m t a place agenda account → IsSettled a.head agenda
+    → Kept (with_account p t account) n (with_actor m t (sitting a place agenda))
+kept_sits p n m t a place agenda account kept rest sits settled = record {
+  rule = sits_rule p n m t a place agenda account rest sits;
   settled =
       λ u b is. written_actor (λ w c. IsSettled c.head c.agenda) m.actors t a (sitting a place agenda) rest.found
-      settled whole.settled u b is;
+      settled kept.settled u b is;
 }
 
 -- the thread that has taken duties up stands at the first of them
-pub sits_down : (p : Module) (n : ℕ) (m : Machine) (t : ℕ) (a : Actor) (place : Place) (d : Duty) (rest : List Duty)
-    → Whole p n m → AtRest p n m t a → Sits p m t a place (d ∷ rest) → IsSettled a.head (d ∷ rest)
-    → Doing p n (with_actor m t (sitting a place (d ∷ rest))) t (sitting a place (d ∷ rest)) d rest
-sits_down p n m t a place d rest whole at sits settled = record {
-  whole = whole_sits p n m t a place (d ∷ rest) whole at sits settled;
+pub sits_down : (p : Accounts) (n : ℕ) (m : Machine) (t : ℕ) (a : Actor) (place : Place) (d : Duty) (rest : List Duty)
+    (account : Account)
+    → Kept p n m → AtRest p n m t a → Sits m t a place (d ∷ rest) account → IsSettled a.head (d ∷ rest)
+    → Doing (with_account p t account) n (with_actor m t (sitting a place (d ∷ rest))) t (sitting a place (d ∷ rest)) d
+    rest
+sits_down p n m t a place d rest account kept at sits settled = record {
+  kept = kept_sits p n m t a place (d ∷ rest) account kept at sits settled;
   found = slice_get-set_same m.actors t (sitting a place (d ∷ rest)) (slice_get_within m.actors t a at.found);
   agenda = refl;
   alive = λ e. let wrong : Running ≡ Gone = sym at.running ∙ e in absurd cc;
 }
 
 -- a duty that is taken up and done at once
-pub taken_up : (p : Module) (n : ℕ) (m : Machine) (t : ℕ) (a : Actor) (place : Place) (d : Duty) (rest : List Duty)
-    → Whole p n m → AtRest p n m t a → Sits p m t a place (d ∷ rest) → IsSettled a.head (d ∷ rest)
-    → KeepsOn p n (is_bad_duty m t a d) (done_by m t (at_place a place) d rest)
-taken_up p n m t a place d rest whole at sits settled =
+pub taken_up : (p : Accounts) (n : ℕ) (m : Machine) (t : ℕ) (a : Actor) (place : Place) (d : Duty) (rest : List Duty)
+    (account : Account)
+    → Kept p n m → AtRest p n m t a → Sits m t a place (d ∷ rest) account → IsSettled a.head (d ∷ rest)
+    → (is_bad_duty m t a d ≡ false) × Kept (with_account p t account) n (done_by m t (at_place a place) d rest)
+taken_up p n m t a place d rest account kept at sits settled =
     let now = sitting a place (d ∷ rest) in
     let done =
-    keeps_duty p n (with_actor m t now) t now d rest (sits_down p n m t a place d rest whole at sits settled) in
-    (done.0, subst (Whole p n) (taken_up_step m t a place d rest) done.1)
+    duty_kept (with_account p t account) n (with_actor m t now) t now d rest
+    (sits_down p n m t a place d rest account kept at sits settled) in
+    (done.0, subst (Kept (with_account p t account) n) (taken_up_step m t a place d rest) done.1)
 
 pub starts_settled : (bag : List Reference) (rows t used head : ℕ) (place : Place) (d : Duty) (rest : List Duty)
     → Starts bag rows t used d rest → Follows rows t used place rest → IsSettled head (d ∷ rest)

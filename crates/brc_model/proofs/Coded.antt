@@ -1,0 +1,76 @@
+-- Where a thread of accepted code stands: its account is what its place says. The step world has this layer on top of
+-- what the rule says of any thread.
+use Rattle.std.proofs.Common.{◌≡◌, ℕ, Bool, List, Option, refl, ap, subst}
+use Rattle.std.specs.Prelude.{slice_get}
+use Rattle.brc_lang.specs.declared.module.Instr.{Instr}
+use Rattle.brc_lang.specs.declared.module.Module.{Module}
+use Rattle.brc_model.specs.declared.slot.State.{State}
+use Rattle.brc_model.specs.Walks.{IsAcceptableCode}
+use Rattle.brc_model.specs.declared.duty.Holding.{Holding}
+use Rattle.brc_model.specs.Plain.{Reference}
+use Rattle.brc_model.specs.Threads.{code_of}
+use Rattle.brc_model.specs.declared.duty.Duty.{Duty}
+use Rattle.brc_model.specs.declared.actor.Place.{Place}
+use Rattle.brc_model.specs.declared.actor.Place.TheVariants.{Standing, Inside, Departing}
+use Rattle.brc_model.specs.Machine.{Actor}
+use Rattle.brc_model.proofs.Bag.{one_if}
+use Rattle.brc_model.proofs.Holds.{nothing, the_root, of_variables}
+use Rattle.brc_model.proofs.Grounded.{IsInside, AreInstructions}
+use Rattle.brc_model.proofs.Rule.{Account, HoldsAt, HoldsNone}
+
+-- the account of a thread that holds just these references, each once
+abbrev pub once_each : (Holding → ℕ → Bool) → Account
+once_each holds k object = one_if (holds k object)
+
+-- what the thread's account is where it stands when its agenda is done
+abbrev pub PlaceSays : List Instr → Place → Account → Type 0
+PlaceSays code (Standing left) account = account ≡ once_each the_root
+PlaceSays code (Inside left at variables) account =
+    (s : State) × IsInside code at variables s × (account ≡ once_each (of_variables s variables))
+PlaceSays code Departing account = account ≡ once_each nothing
+
+pub record InCode (p : Module) (a : Actor) (account : Account) : Type 0 where
+  pub accepted : IsAcceptableCode (code_of (slice_get p.functions a.function))
+  pub instructions : AreInstructions (code_of (slice_get p.functions a.function))
+  pub says : PlaceSays (code_of (slice_get p.functions a.function)) a.place account
+
+-- ---- what the thread holds
+
+-- the bag has just what the place says
+abbrev pub PlaceFits : List Instr → List Reference → ℕ → List Duty → Place → Type 0
+PlaceFits code bag t agenda (Standing left) = HoldsAt bag t (once_each the_root) agenda
+PlaceFits code bag t agenda (Inside left at variables) =
+    (s : State) × IsInside code at variables s × HoldsAt bag t (once_each (of_variables s variables)) agenda
+PlaceFits code bag t agenda Departing = HoldsAt bag t (once_each nothing) agenda
+
+pub place_fits : (code : List Instr) (bag : List Reference) (t : ℕ) (agenda : List Duty) (place : Place)
+    (account : Account)
+    → PlaceSays code place account → HoldsAt bag t account agenda → PlaceFits code bag t agenda place
+place_fits code bag t agenda (Standing left) account says holds =
+    subst (λ (c : Account). HoldsAt bag t c agenda) says holds
+place_fits code bag t agenda (Inside left at variables) account says holds =
+    (says.0, says.1, subst (λ (c : Account). HoldsAt bag t c agenda) says.2 holds)
+place_fits code bag t agenda Departing account says holds =
+    subst (λ (c : Account). HoldsAt bag t c agenda) says holds
+
+-- the account that a place gives
+pub record Placed (code : List Instr) (bag : List Reference) (t : ℕ) (agenda : List Duty) (place : Place) : Type 0 where
+  pub account : Account
+  pub says : PlaceSays code place account
+  pub holds : HoldsAt bag t account agenda
+
+pub placed_by : (code : List Instr) (bag : List Reference) (t : ℕ) (agenda : List Duty) (place : Place)
+    → PlaceFits code bag t agenda place → Placed code bag t agenda place
+placed_by code bag t agenda (Standing left) fits = record { account = once_each the_root; says = refl; holds = fits }
+placed_by code bag t agenda (Inside left at variables) fits =
+    record { account = once_each (of_variables fits.0 variables); says = (fits.0, fits.1, refl); holds = fits.2 }
+placed_by code bag t agenda Departing fits = record { account = once_each nothing; says = refl; holds = fits }
+
+-- who departs holds nothing
+pub departed_none : (code : List Instr) (place : Place) (account : Account) → PlaceSays code place account
+    → place ≡ Departing → HoldsNone account
+departed_none code (Standing left) account says e k object =
+    absurd (let wrong : Standing left ≡ Departing = e in cc)
+departed_none code (Inside left at variables) account says e k object =
+    absurd (let wrong : Inside left at variables ≡ Departing = e in cc)
+departed_none code Departing account says e k object = ap (λ (c : Account). c k object) says
