@@ -20,7 +20,7 @@ use Rattle.brc_model.proofs.Leaves.{AtDuty, head_of, exchange_alive, merge_alive
 use Rattle.brc_model.proofs.OwnRetains.{counts_owner, count_above, weight_here}
 use Rattle.brc_model.proofs.OwnReleases.{release_alive}
 use Rattle.brc_model.proofs.MergesOnce.{carried_is}
-use Rattle.brc_model.proofs.FewHeld.{references_few}
+use Rattle.brc_model.proofs.FewHeld.{most_each, references_few}
 
 -- ---- a live row's shared word
 
@@ -38,7 +38,7 @@ live_few owner k live =
 
 -- few references are counted, so the count is near the bias
 record NearBias (m : Machine) (x : ℕ) : Type 0 where
-  high : biased_part (m.memory (Shared x)) + weight (carries x) m.actors ≤ bias + 1255
+  high : biased_part (m.memory (Shared x)) + weight (carries x) m.actors ≤ bias + 33 * most_each + 1
   some : 1 ≤ biased_part (m.memory (Shared x))
   state : phase_part (m.memory (Shared x)) ≢ 1
 

@@ -1,7 +1,12 @@
 -- Where a thread of accepted code stands: its account is what its place says. The step world has this layer on top of
 -- what the rule says of any thread.
-use Rattle.std.proofs.Common.{◌≡◌, ℕ, Bool, List, Option, refl, ap, subst}
-use Rattle.std.specs.Prelude.{slice_get}
+use Rattle.std.proofs.Common.{◌≡◌, ℕ, ◌≤◌, Bool, true, false, List, Option, length, refl, sym, ap, subst, arith}
+use Rattle.std.specs.Prelude.{◌==◌, ◌&&◌, slice_get}
+use Rattle.std.proofs.lemmas.List.{get_or_past}
+use Rattle.brc_model.specs.declared.slot.Slot.TheVariants.{Empty}
+use Rattle.brc_model.specs.Slots.{slot_of, is_owned, names}
+use Rattle.brc_model.specs.Plain.{root_row}
+use Rattle.brc_model.specs.Threads.{row_of}
 use Rattle.brc_lang.specs.declared.module.Instr.{Instr}
 use Rattle.brc_lang.specs.declared.module.Module.{Module}
 use Rattle.brc_model.specs.declared.slot.State.{State}
@@ -16,7 +21,7 @@ use Rattle.brc_model.specs.Machine.{Actor}
 use Rattle.brc_model.proofs.Bag.{one_if}
 use Rattle.brc_model.proofs.Holds.{nothing, the_root, of_variables}
 use Rattle.brc_model.proofs.Grounded.{IsInside, AreInstructions}
-use Rattle.brc_model.proofs.Rule.{Account, HoldsAt, HoldsNone}
+use Rattle.brc_model.proofs.Rule.{Account, HoldsAt, HoldsNone, IsBounded}
 
 -- the account of a thread that holds just these references, each once
 abbrev pub once_each : (Holding → ℕ → Bool) → Account
@@ -74,3 +79,46 @@ departed_none code (Standing left) account says e k object =
 departed_none code (Inside left at variables) account says e k object =
     absurd (let wrong : Inside left at variables ≡ Departing = e in cc)
 departed_none code Departing account says e k object = ap (λ (c : Account). c k object) says
+
+-- ---- how much the thread holds
+
+one_at_most : (b : Bool) → one_if b ≤ 1
+one_at_most true = omega arith
+one_at_most false = omega arith
+
+pub root_bounded : IsBounded (once_each the_root)
+root_bounded = record {
+  by_variable = λ v object. omega arith;
+  sixteen = λ v object past. refl;
+  lent = λ object. omega (arith, one_at_most (object == root_row));
+  in_hand = λ object. refl;
+}
+
+nothing_bounded : IsBounded (once_each nothing)
+nothing_bounded = record {
+  by_variable = λ v object. omega arith;
+  sixteen = λ v object past. refl;
+  lent = λ object. omega arith;
+  in_hand = λ object. refl;
+}
+
+-- only the sixteen variables own
+past_owns_none : (s : State) (v : ℕ) → length s.slots ≡ 16 → 16 ≤ v → is_owned (slot_of s v) ≡ false
+past_owns_none s v slots past = ap is_owned (get_or_past s.slots v Empty (omega (arith, slots, past)))
+
+variables_bounded : (s : State) (variables : List (Option ℕ)) → length s.slots ≡ 16
+    → IsBounded (once_each (of_variables s variables))
+variables_bounded s variables slots = record {
+  by_variable = λ v object. one_at_most (is_owned (slot_of s v) && names (row_of variables v) object);
+  sixteen = λ v object past.
+      ap (λ (b : Bool). one_if (b && names (row_of variables v) object)) (past_owns_none s v slots past);
+  lent = λ object. omega (arith, one_at_most (object == root_row));
+  in_hand = λ object. refl;
+}
+
+pub says_bounded : (code : List Instr) (place : Place) (account : Account) → PlaceSays code place account
+    → IsBounded account
+says_bounded code (Standing left) account says = subst IsBounded (sym says) root_bounded
+says_bounded code (Inside left at variables) account says =
+    subst IsBounded (sym says.2) (variables_bounded says.0 variables says.1.slots)
+says_bounded code Departing account says = subst IsBounded (sym says) nothing_bounded

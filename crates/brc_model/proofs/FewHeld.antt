@@ -1,4 +1,4 @@
--- A thread holds an object in at most nineteen ways, and in each at most twice: so an object has few references.
+-- A thread holds an object in at most nineteen ways, and in each within a bound: so an object has few references.
 use Rattle.std.proofs.Common.{◌≡◌, ℕ, zero, suc, ◌+◌, ◌*◌, ◌<◌, ◌≤◌, Bool, true, false, List, [], ◌∷◌, length, Option, Some, inl, inr, refl, sym, ap, ◌∙◌, subst, arith}
 use Rattle.std.specs.Prelude.{◌==◌, ◌||◌, slice_get, sum_by}
 use Rattle.std.specs.List.{list_any}
@@ -6,22 +6,17 @@ use Rattle.std.proofs.lemmas.Bool.{cases_lt}
 use Rattle.std.proofs.lemmas.Bool.Decides.{eqb_tells}
 use Rattle.std.proofs.lemmas.Option.{slice_get_cases}
 use Rattle.std.proofs.lemmas.List.Sums.{sum_by-cons}
-use Rattle.brc_lang.specs.declared.module.Instr.{Instr}
 use Rattle.brc_model.specs.declared.duty.Holding.{Holding}
 use Rattle.brc_model.specs.declared.duty.Holding.TheVariants.{ByVariable, AsCaller, InHand}
 use Rattle.brc_model.specs.declared.duty.Reason.TheVariants.{Own}
 use Rattle.brc_model.specs.declared.duty.Duty.{Duty}
 use Rattle.brc_model.specs.declared.duty.Duty.TheVariants.{ReleaseLoad, ReleaseStore, SharedLoad, SharedExchange}
-use Rattle.brc_model.specs.declared.actor.Place.{Place}
-use Rattle.brc_model.specs.declared.actor.Place.TheVariants.{Standing, Inside, Departing}
 use Rattle.brc_model.specs.Plain.{Holder, ByThread, ByCell, Reference, same, references_to}
-use Rattle.brc_model.specs.Threads.{code_of}
 use Rattle.brc_model.specs.Machine.{Actor, Machine}
 use Rattle.brc_model.proofs.Bag.{held, one_if, same_holding-true, same-true, same-refl, held-cons, references_to-cons}
 use Rattle.brc_model.proofs.Lists.{and_first}
-use Rattle.brc_model.proofs.Holds.{nothing, the_root, of_variables, reference_of}
-use Rattle.brc_model.proofs.Grounded.{owned_low}
-use Rattle.brc_model.proofs.Rule.{Accounts, extra, extra_of, HoldsAt, PlaceFits, Rule}
+use Rattle.brc_model.proofs.Holds.{reference_of}
+use Rattle.brc_model.proofs.Rule.{Account, Accounts, extra, extra_of, most_lent, IsBounded, Rule}
 
 -- ---- a list that all references to an object are among
 
@@ -82,11 +77,21 @@ covered keys (q ∷ bag) x covers =
           omega (arith, references_to-cons x q bag, sum_more keys bag q, rest, none)
     ]
 
-twice_each : (keys bag : List Reference) → ((k : Reference) → held k bag ≤ 2)
-    → sum_by (λ (k : Reference). held k bag) keys ≤ 2 * length keys
-twice_each [] bag twice = omega arith
-twice_each (k ∷ keys) bag twice =
-    omega (arith, sum_by-cons (λ (k : Reference). held k bag) k keys, twice k, twice_each keys bag twice)
+-- how often a reference may be held: twice in all, and as the caller as often as it may be lent
+abbrev most_by : Holder → ℕ
+most_by (ByThread t AsCaller) = most_lent + 1
+most_by (ByThread t (ByVariable v)) = 2
+most_by (ByThread t InHand) = 2
+most_by (ByCell x i) = 2
+
+abbrev most_held : Reference → ℕ
+most_held r = most_by r.holder
+
+sum_below : (f g : Reference → ℕ) (keys : List Reference) → ((k : Reference) → f k ≤ g k)
+    → sum_by f keys ≤ sum_by g keys
+sum_below f g [] below = omega arith
+sum_below f g (k ∷ keys) below =
+    omega (arith, sum_by-cons f k keys, sum_by-cons g k keys, below k, sum_below f g keys below)
 
 -- ---- the ways to hold an object
 
@@ -101,15 +106,42 @@ ways own x zero = []
 ways own x (suc t) =
     reference_of t (own t) x ∷ reference_of t InHand x ∷ reference_of t AsCaller x ∷ variables_of t x 16 (ways own x t)
 
-variables_long : (t x v : ℕ) (tail : List Reference) → length (variables_of t x v tail) ≡ v + length tail
-variables_long t x zero tail = omega arith
-variables_long t x (suc v) tail = omega (arith, variables_long t x v tail)
+-- as often as one thread may hold an object in all
+abbrev pub most_each : ℕ
+most_each = 2 * most_lent + 36
 
-ways_long : (own : ℕ → Holding) (x n : ℕ) → length (ways own x n) ≡ 19 * n
-ways_long own x zero = omega arith
-ways_long own x (suc t) =
-    let rest = ways own x t in
-    omega (arith, variables_long t x 16 rest, ways_long own x t)
+most_of_one : (t : ℕ) (h : Holding) → most_by (ByThread t h) ≤ most_lent + 1
+most_of_one t (ByVariable v) = omega arith
+most_of_one t AsCaller = omega arith
+most_of_one t InHand = omega arith
+
+most_of_variables : (t x v : ℕ) (tail : List Reference)
+    → sum_by most_held (variables_of t x v tail) ≡ 2 * v + sum_by most_held tail
+most_of_variables t x zero tail = omega arith
+most_of_variables t x (suc v) tail =
+    let rest = variables_of t x v tail in
+    omega (
+      arith,
+      sum_by-cons most_held (reference_of t (ByVariable v) x) rest,
+      most_of_variables t x v tail,
+    )
+
+most_of_ways : (own : ℕ → Holding) (x n : ℕ) → sum_by most_held (ways own x n) ≤ most_each * n
+most_of_ways own x zero = omega arith
+most_of_ways own x (suc t) =
+    let later = ways own x t in
+    let variables = variables_of t x 16 later in
+    let called = reference_of t AsCaller x ∷ variables in
+    let in_hand = reference_of t InHand x ∷ called in
+    omega (
+      arith,
+      sum_by-cons most_held (reference_of t (own t) x) in_hand,
+      sum_by-cons most_held (reference_of t InHand x) called,
+      sum_by-cons most_held (reference_of t AsCaller x) variables,
+      most_of_one t (own t),
+      most_of_variables t x 16 later,
+      most_of_ways own x t,
+    )
 
 among_tail : (r : Reference) (t x v : ℕ) (tail : List Reference) → list_any (same r) tail ≡ true
     → list_any (same r) (variables_of t x v tail) ≡ true
@@ -184,37 +216,24 @@ among_all own r x t (suc n) low e =
 
 -- ---- what the rule says of one thread
 
-one_if_some : (b c : Bool) → 0 < one_if b + one_if c → c ≡ false → b ≡ true
-one_if_some true c h e = refl
-one_if_some false c h e = absurd (let none : one_if c ≡ 0 = ap one_if e in omega (arith, h, none))
-
 one_if_low : (b : Bool) → one_if b ≤ 1
 one_if_low true = omega arith
 one_if_low false = omega arith
 
-record SaysAt (bag : List Reference) (t : ℕ) (agenda : List Duty) : Type 0 where
-  what : Holding → ℕ → Bool
-  holds : HoldsAt bag t what agenda
-  low : (h : Holding) (object : ℕ) → what h object ≡ true → is_low h
+-- who holds an object by a variable does so by one of the sixteen
+account_low : (account : Account) (h : Holding) (object : ℕ) → IsBounded account → 0 < account h object → is_low h
+account_low account (ByVariable v) object bounded some = elim (cases_lt v 16) [
+  | inl lt ↦ lt
+  | inr past ↦ absurd (omega (arith, some, bounded.sixteen v object past))
+]
+account_low account AsCaller object bounded some = tt
+account_low account InHand object bounded some = tt
 
-root_low : (h : Holding) (object : ℕ) → the_root h object ≡ true → is_low h
-root_low (ByVariable v) object e = absurd cc
-root_low AsCaller object e = tt
-root_low InHand object e = tt
-
-place_says : (code : List Instr) (bag : List Reference) (t : ℕ) (agenda : List Duty) (place : Place)
-    → PlaceFits code bag t agenda place → SaysAt bag t agenda
-place_says code bag t agenda (Standing left) fits = record { what = the_root; holds = fits; low = root_low }
-place_says code bag t agenda (Inside left at variables) fits = record {
-  what = of_variables fits.0 variables;
-  holds = fits.2;
-  low = λ h object. elim h as (λ h. of_variables fits.0 variables h object ≡ true → is_low h) [
-    | ByVariable v ↦ λ e. owned_low fits.0 v fits.1.slots (and_first _ _ e)
-    | AsCaller ↦ λ e. tt
-    | InHand ↦ λ e. tt
-  ];
-}
-place_says code bag t agenda Departing fits = record { what = nothing; holds = fits; low = λ h object e. absurd cc }
+account_most : (account : Account) (t : ℕ) (h : Holding) (object : ℕ) → IsBounded account
+    → account h object + 1 ≤ most_by (ByThread t h)
+account_most account t (ByVariable v) object bounded = omega (arith, bounded.by_variable v object)
+account_most account t AsCaller object bounded = omega (arith, bounded.lent object)
+account_most account t InHand object bounded = omega (arith, bounded.in_hand object)
 
 -- how a thread holds what its duty at hand gives up
 abbrev given_up : List Duty → Holding
@@ -240,25 +259,19 @@ agenda_at _ = []
 abbrev own_way : Machine → ℕ → Holding
 own_way m t = given_up (agenda_at (slice_get m.actors t))
 
-says_at : (p : Accounts) (n : ℕ) (m : Machine) (t : ℕ) (a : Actor) → Rule p n m → slice_get m.actors t ≡ Some a
-    → SaysAt m.plain.references t a.agenda
-says_at p n m t a rule found =
-    place_says (code_of (slice_get p.functions a.function)) m.plain.references t a.agenda a.place
-    (rule.each t a found).0.placed
-
-held_twice : (p : Accounts) (n : ℕ) (m : Machine) (h : Holder) (object : ℕ) → Rule p n m
-    → held (record { holder = h; object = object }) m.plain.references ≤ 2
-held_twice p n m (ByCell x i) object rule = omega (arith, rule.cells_hold x i object)
-held_twice p n m (ByThread t k) object rule =
+within_most : (p : Accounts) (n : ℕ) (m : Machine) (h : Holder) (object : ℕ) → Rule p n m
+    → held (record { holder = h; object = object }) m.plain.references ≤ most_by h
+within_most p n m (ByCell x i) object rule = omega (arith, rule.cells_hold x i object)
+within_most p n m (ByThread t k) object rule =
     elim (slice_get_cases m.actors t).1 [
       | inl found ↦
           let a = found.0 in
-          let says = says_at p n m t a rule found.2 in
+          let fits = (rule.each t a found.2).0 in
           omega (
             arith,
-            says.holds.each k object,
-            one_if_low (says.what k object),
+            fits.holds.each k object,
             one_if_low (extra_of a.agenda k object),
+            account_most (p t) t k object fits.bounded,
           )
       | inr past ↦ omega (arith, rule.beyond t (omega (arith, past.0, rule.threads)) k object)
     ]
@@ -272,7 +285,7 @@ held_way p n m (ByThread t k) object rule some =
     elim (slice_get_cases m.actors t).1 [
       | inl found ↦
           let a = found.0 in
-          let says = says_at p n m t a rule found.2 in
+          let fits = (rule.each t a found.2).0 in
           let within : t < n = omega (arith, found.1, rule.threads) in
           let at_thread : list_any (same r) (ways (own_way m) object (suc t)) ≡ true =
           elim (extra_of a.agenda k object) as
@@ -281,9 +294,9 @@ held_way p n m (ByThread t k) object rule some =
                 let own : own_way m t ≡ given_up a.agenda = ap (λ (o : Option Actor). given_up (agenda_at o)) found.2 in
                 among_own (own_way m) object t k (extra_given_of a.agenda k object e ∙ sym own)
             | false ↦ λ e.
-                let said : says.what k object ≡ true =
-                one_if_some _ (extra_of a.agenda k object) (omega (arith, says.holds.each k object, some)) e in
-                among_low (own_way m) object t k (says.low k object said)
+                let none : one_if (extra_of a.agenda k object) ≡ 0 = ap one_if e in
+                let said : 0 < p t k object = omega (arith, fits.holds.each k object, some, none) in
+                among_low (own_way m) object t k (account_low (p t) k object fits.bounded said)
           ] refl in
           among_all (own_way m) r object t n within at_thread
       | inr past ↦ absurd (omega (arith, rule.beyond t (omega (arith, past.0, rule.threads)) k object, some))
@@ -292,7 +305,7 @@ held_way p n m (ByThread t k) object rule some =
 -- ---- all references to an object
 
 pub references_few : (p : Accounts) (n : ℕ) (m : Machine) (x : ℕ) → Rule p n m
-    → references_to x m.plain.references ≤ 38 * n
+    → references_to x m.plain.references ≤ most_each * n
 references_few p n m x rule =
     let keys = ways (own_way m) x n in
     let covers : Covers keys m.plain.references x =
@@ -303,6 +316,7 @@ references_few p n m x rule =
     omega (
       arith,
       covered keys m.plain.references x covers,
-      twice_each keys m.plain.references (λ r. held_twice p n m r.holder r.object rule),
-      ways_long (own_way m) x n,
+      sum_below (λ (r : Reference). held r m.plain.references) most_held keys
+          (λ r. within_most p n m r.holder r.object rule),
+      most_of_ways (own_way m) x n,
     )

@@ -24,7 +24,7 @@ use Rattle.brc_model.proofs.Grounded.{AreInstructions}
 use Rattle.brc_model.proofs.Holds.{the_root}
 use Rattle.brc_model.proofs.Rows.{waits, carries, merges, decides, agenda_weight, weight, IsDefault, AboveZero, InOwned, RowRule}
 use Rattle.brc_model.proofs.Rule.{Accounts, numbers_of, HoldsAt, ChainFits, Fits, dies_by, Rule, UsesFit}
-use Rattle.brc_model.proofs.Coded.{once_each, InCode}
+use Rattle.brc_model.proofs.Coded.{once_each, root_bounded, InCode}
 use Rattle.brc_model.proofs.Blocks.{block_main}
 use Rattle.brc_model.proofs.UsesAfter.{one_at_most}
 use Rattle.brc_word.specs.Words.{kind_part}
@@ -119,6 +119,7 @@ first_fits m rows calls zero a is =
       record {
         word = thread_word (length calls) 0 (omega arith);
         holds = caller_holds calls 0 (omega arith);
+        bounded = root_bounded;
         departed = λ e. absurd (standing_stays 0 e);
         head_fits = tt;
         chain = first_chain m rows calls 0;
@@ -133,6 +134,7 @@ first_fits m rows calls (suc t) a is =
       record {
         word = thread_word (length calls) (suc t) (omega (arith, within));
         holds = caller_holds calls (suc t) (omega (arith, within));
+        bounded = root_bounded;
         departed = λ e. absurd (standing_stays call.source.times e);
         head_fits = tt;
         chain = first_chain m rows calls (suc t);

@@ -117,6 +117,7 @@ own_neutral p n m t a d rest next agenda here alive step =
       actor = record {
         word = step.word ∙ old.word ∙ ap status_word (sym step.same_status);
         holds = subst (HoldsAt new.plain.references t (p t)) (sym whole) holds;
+        bounded = old.bounded;
         departed = old.departed;
         head_fits =
             subst (λ (l : List Duty). HeadOf new t after l) (sym whole)

@@ -190,6 +190,7 @@ others_fit : (account : Account) (m new : Machine) (t u : ℕ) (b : Actor) → L
 others_fit account m new t u b leaves ne found fits = record {
   word = leaves.words u ne ∙ fits.word;
   holds = holds_kept m new t u account b.agenda leaves ne fits.holds;
+  bounded = fits.bounded;
   departed = fits.departed;
   head_fits = head_of_kept m new t u b b.agenda leaves ne found fits.head_fits;
   chain = chain_kept m new t u b.head b.agenda leaves ne fits.chain;

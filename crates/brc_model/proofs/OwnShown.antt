@@ -41,6 +41,7 @@ own_shown p n m t a d rest agenda status head here step =
       actor = record {
         word = step.word ∙ ap status_word (sym step.status_is);
         holds = subst (HoldsAt new.plain.references t (p t)) (sym step.agenda_is) holds;
+        bounded = old.bounded;
         departed = old.departed;
         head_fits =
             subst (λ (l : List Duty). HeadOf new t after l) (sym step.agenda_is)

@@ -230,6 +230,7 @@ own_dying p n m t a d rest x here alive kept step =
       actor = record {
         word = keeping_word m t a d kept ∙ old.word ∙ ap status_word (sym same_status);
         holds = subst (HoldsAt new.plain.references t (p t)) (sym whole) holds;
+        bounded = old.bounded;
         departed = old.departed;
         head_fits = subst (λ (l : List Duty). HeadOf new t after l) (sym whole) (step.counted, dies);
         chain =

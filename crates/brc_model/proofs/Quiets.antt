@@ -18,7 +18,7 @@ use Rattle.brc_model.proofs.Bag.{one_if, references_to-cons, references_to-witho
 use Rattle.brc_model.proofs.Holds.{reference_of}
 use Rattle.brc_model.proofs.MovesApart.{AreAside, IsNoWayOf, moved_aside}
 use Rattle.brc_model.proofs.Rows.{waits, carries, merges, decides, weight, Numbers, RowRule}
-use Rattle.brc_model.proofs.Rule.{Account, Accounts, HoldsAt, Fits, numbers_of, scans, ActorFits, AgendaFits, UsesFit, looks, IsWatched, ByRunning, ByExit, ByLook, Rule, ChainFits}
+use Rattle.brc_model.proofs.Rule.{Account, Accounts, HoldsAt, IsBounded, Fits, numbers_of, scans, ActorFits, AgendaFits, UsesFit, looks, IsWatched, ByRunning, ByExit, ByLook, Rule, ChainFits}
 use Rattle.brc_lang.specs.declared.kind.Kind.{Kind}
 use Rattle.brc_model.specs.Kinds.{kind_number}
 use Rattle.brc_model.proofs.Others.{LeavesOthers, each_fits}
@@ -141,6 +141,7 @@ leaves m t a moves place quiet = record {
 pub record QuietSits (m : Machine) (t : ℕ) (moves : List Move) (place : Place) (account : Account) : Type 0 where
   pub moves_fit : QuietMoves m.plain.references t moves
   pub holds : HoldsAt (bag_after m.plain.references moves) t account []
+  pub bounded : IsBounded account
   pub stays : place ≢ Departing
 
 own_fits : (p : Accounts) (n : ℕ) (m : Machine) (t : ℕ) (a : Actor) (moves : List Move) (place : Place)
@@ -155,6 +156,7 @@ own_fits p n m t a moves place account rest taken =
         holds =
             subst (λ (l : List Reference). HoldsAt l t account []) (sym (quiet_bag m.plain t moves taken.moves_fit))
             taken.holds;
+        bounded = taken.bounded;
         departed = λ e. absurd (taken.stays e);
         head_fits = tt;
         chain = record { chained = chain.chained; linked = chain.linked; once = chain.once };

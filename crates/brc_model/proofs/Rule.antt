@@ -3,7 +3,7 @@
 use Rattle.std.proofs.Common.{◌≡◌, ◌≢◌, ℕ, ◌+◌, ◌<◌, ◌≤◌, Bool, true, false, List, [], ◌∷◌, ◌⊎◌, length, Some}
 use Rattle.std.specs.Prelude.{◌==◌, ◌&&◌, nat_le, slice_get, count_by, AllPairs}
 use Rattle.brc_model.specs.declared.duty.Holding.{Holding}
-use Rattle.brc_model.specs.declared.duty.Holding.TheVariants.{InHand}
+use Rattle.brc_model.specs.declared.duty.Holding.TheVariants.{ByVariable, AsCaller, InHand}
 use Rattle.brc_model.specs.Plain.{Reference, same_holding, is_among, references_to}
 use Rattle.brc_word.specs.Words.{owner_part, local_part, phase_part, dying_word, kind_part}
 use Rattle.brc_model.specs.Kinds.{kind_number, kind_of_word, is_counted_kind}
@@ -240,6 +240,16 @@ pub record ChainFits (m : Machine) (t head : ℕ) (agenda : List Duty) : Type 0 
 
 -- ---- one thread
 
+-- How many references a thread may hold: one by each of sixteen variables, and 2^32 as the caller that lends them.
+abbrev pub most_lent : ℕ
+most_lent = 4294967296
+
+pub record IsBounded (account : Account) : Type 0 where
+  pub by_variable : (v object : ℕ) → account (ByVariable v) object ≤ 1
+  pub sixteen : (v object : ℕ) → 16 ≤ v → account (ByVariable v) object ≡ 0
+  pub lent : (object : ℕ) → account AsCaller object ≤ most_lent
+  pub in_hand : (object : ℕ) → account InHand object ≡ 0
+
 -- a thread whose exit is under way or done holds no reference but the one that it gives up just now
 abbrev pub HoldsNone : Account → Type 0
 HoldsNone account = (k : Holding) (object : ℕ) → account k object ≡ 0
@@ -247,6 +257,7 @@ HoldsNone account = (k : Holding) (object : ℕ) → account k object ≡ 0
 pub record ActorFits (account : Account) (m : Machine) (t : ℕ) (a : Actor) : Type 0 where
   pub word : m.memory (ThreadWord t) ≡ status_word a.status
   pub holds : HoldsAt m.plain.references t account a.agenda
+  pub bounded : IsBounded account
   pub departed : a.place ≡ Departing → HoldsNone account
   pub head_fits : HeadOf m t a a.agenda
   pub chain : ChainFits m t a.head a.agenda

@@ -16,7 +16,7 @@ use Rattle.brc_model.proofs.Lists.{some_is, slice_get-set_same, slice_get-set_ot
 use Rattle.brc_model.proofs.Bag.{one_if}
 use Rattle.brc_model.proofs.Weights.{weight-set}
 use Rattle.brc_model.proofs.Rows.{waits, carries, merges, decides, agenda_weight, weight, Numbers, RowRule}
-use Rattle.brc_model.proofs.Rule.{Account, Accounts, numbers_of, HoldsAt, HoldsNone, Fits, HeadOf, Agenda, HandedOnce, scans, hand_of, ActorFits, AgendaFits, looks, IsWatched, ByRunning, ByExit, ByLook, Rule, UsesFit}
+use Rattle.brc_model.proofs.Rule.{Account, Accounts, numbers_of, HoldsAt, HoldsNone, IsBounded, Fits, HeadOf, Agenda, HandedOnce, scans, hand_of, ActorFits, AgendaFits, looks, IsWatched, ByRunning, ByExit, ByLook, Rule, UsesFit}
 use Rattle.brc_model.proofs.Others.{LeavesOthers, each_fits}
 
 -- the thread with another place and agenda
@@ -38,6 +38,7 @@ with_account_other p t account u ne = sym (ap (λ (b : Bool). cond b account (p 
 pub record Sits (m : Machine) (t : ℕ) (a : Actor) (place : Place) (agenda : List Duty) (account : Account)
     : Type 0 where
   pub holds : HoldsAt m.plain.references t account agenda
+  pub bounded : IsBounded account
   pub departed : place ≡ Departing → HoldsNone account
   pub knows : HeadOf (with_actor m t (sitting a place agenda)) t (sitting a place agenda) agenda
   pub fits : Agenda m.rows t a.used Running place agenda
@@ -134,6 +135,7 @@ sitting_fits p n m t a place agenda account rest sits =
       record {
         word = old.word;
         holds = sits.holds;
+        bounded = sits.bounded;
         departed = sits.departed;
         head_fits = sits.knows;
         chain =

@@ -17,8 +17,8 @@ use Rattle.brc_model.specs.declared.actor.Place.TheVariants.{Standing, Departing
 use Rattle.brc_model.specs.Machine.{Actor, Machine, first_row, begun, begun_by, with_actor, block_size, next_row}
 use Rattle.brc_model.proofs.Holds.{the_root}
 use Rattle.brc_model.proofs.Rows.{waits, carries, merges, decides}
-use Rattle.brc_model.proofs.Coded.{PlaceSays, InCode, place_fits, placed_by, departed_none}
-use Rattle.brc_model.proofs.Rule.{Account, Accounts, HoldsAt, HoldsNone, Later, Agenda, AgendaFits, NoneHanded, looks, Rule, IsNext}
+use Rattle.brc_model.proofs.Coded.{PlaceSays, InCode, place_fits, placed_by, departed_none, says_bounded}
+use Rattle.brc_model.proofs.Rule.{Account, Accounts, HoldsAt, HoldsNone, IsBounded, Later, Agenda, AgendaFits, NoneHanded, looks, Rule, IsNext}
 use Rattle.brc_model.proofs.Begins.{Starts, Gives, Takes, Follows, Nothing, Settles, Leaves, Taken, IsTaken, Bears}
 use Rattle.brc_model.proofs.Taking.{begun_taken}
 use Rattle.brc_model.proofs.Sits.{Sits, AtRest, sitting}
@@ -53,15 +53,17 @@ follows_weigh rows t used place rest f settle leave (Leaves leaves) =
 
 pub starts_sit : (p : Accounts) (n : ℕ) (m : Machine) (t : ℕ) (a : Actor) (place : Place) (d : Duty) (rest : List Duty)
     (account : Account)
-    → AtRest p n m t a → HoldsAt m.plain.references t account (d ∷ rest) → (place ≡ Departing → HoldsNone account)
+    → AtRest p n m t a → HoldsAt m.plain.references t account (d ∷ rest) → IsBounded account
+    → (place ≡ Departing → HoldsNone account)
     → Starts m.plain.references m.rows t a.used d rest → Follows m.rows t a.used place rest
     → Sits m t a place (d ∷ rest) account
-starts_sit p n m t a place d rest account at holds departed (Gives row h behind some) follows =
+starts_sit p n m t a place d rest account at holds bounded departed (Gives row h behind some) follows =
     let weigh =
     λ (f : Duty → ℕ) (settle : f Settle ≡ 0) (leave : (x k : ℕ) → f (Leave x k) ≡ 0). follows_weigh m.rows t a.used
     place rest f settle leave follows in
     record {
       holds = holds;
+      bounded = bounded;
       departed = departed;
       knows = tt;
       fits = later_follows m.rows t a.used place rest follows;
@@ -76,12 +78,13 @@ starts_sit p n m t a place d rest account at holds departed (Gives row h behind 
           λ x. omega (arith, sum_by-cons (decides x) (ReleaseLoad row h) rest, weigh (decides x) refl (λ y k. refl));
       no_looks = λ x. omega (arith, sum_by-cons (looks x) (ReleaseLoad row h) rest, weigh (looks x) refl (λ y k. refl));
     }
-starts_sit p n m t a place d rest account at holds departed (Takes row h by behind some) follows =
+starts_sit p n m t a place d rest account at holds bounded departed (Takes row h by behind some) follows =
     let weigh =
     λ (f : Duty → ℕ) (settle : f Settle ≡ 0) (leave : (x k : ℕ) → f (Leave x k) ≡ 0). follows_weigh m.rows t a.used
     place rest f settle leave follows in
     record {
       holds = holds;
+      bounded = bounded;
       departed = departed;
       knows = record { by = by; held_so = some };
       fits = later_follows m.rows t a.used place rest follows;
@@ -96,10 +99,11 @@ starts_sit p n m t a place d rest account at holds departed (Takes row h by behi
           λ x. omega (arith, sum_by-cons (decides x) (RetainLoad row h) rest, weigh (decides x) refl (λ y k. refl));
       no_looks = λ x. omega (arith, sum_by-cons (looks x) (RetainLoad row h) rest, weigh (looks x) refl (λ y k. refl));
     }
-starts_sit p n m t a place d rest account at holds departed (Bears h w room few said) follows =
+starts_sit p n m t a place d rest account at holds bounded departed (Bears h w room few said) follows =
     let row = next_row m.rows t a.used in
     record {
       holds = holds;
+      bounded = bounded;
       departed = departed;
       knows = (next_is p n m t a place (BirthKind row h w ∷ []) at room, refl, said);
       fits = later_follows m.rows t a.used place [] follows;
@@ -131,6 +135,7 @@ taken_sits p c n m t a place d rest at taken =
       says = placed.says;
       sits =
           starts_sit c n m t a place d rest placed.account at placed.holds
+          (says_bounded code place placed.account placed.says)
           (departed_none code place placed.account placed.says) taken.starts taken.follows;
     }
 
@@ -138,10 +143,12 @@ taken_sits p c n m t a place d rest at taken =
 pub claim_sits : (p : Accounts) (n : ℕ) (m : Machine) (t : ℕ) (a : Actor) (left row : ℕ) → AtRest p n m t a
     → block_of m.rows row ≡ t → Sits m t a (Standing left) (ClaimMark row ∷ []) (p t)
 claim_sits p n m t a left row at mine =
+    let old = (at.rule.each t a at.found).0 in
     let holds : HoldsAt m.plain.references t (p t) [] =
-    subst (HoldsAt m.plain.references t (p t)) at.agenda (at.rule.each t a at.found).0.holds in
+    subst (HoldsAt m.plain.references t (p t)) at.agenda old.holds in
     record {
       holds = record { each = holds.each };
+      bounded = old.bounded;
       departed = λ e. absurd (let wrong : Standing left ≡ Departing = e in cc);
       knows = mine;
       fits = ((let e : Standing left ≢ Departing = λ q. cc in e), refl);

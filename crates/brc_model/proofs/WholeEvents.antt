@@ -19,7 +19,7 @@ use Rattle.brc_model.specs.Machine.{Actor, Machine, actor_by, Begun, Stuck, Quie
 use Rattle.brc_model.specs.Events.{is_bad_duty, is_bad_begun, is_bad_agenda, is_bad_status, is_bad_choice, is_bad_event}
 use Rattle.brc_model.proofs.Lists.{and_first, and_second, written_actor, some_is, slice_get-set_same, slice_get-set_other}
 use Rattle.brc_model.proofs.Rule.{Account, Accounts, Rule}
-use Rattle.brc_model.proofs.Coded.{PlaceSays, InCode, placed_by}
+use Rattle.brc_model.proofs.Coded.{PlaceSays, InCode, placed_by, says_bounded}
 use Rattle.brc_model.proofs.Neutral.{found_by}
 use Rattle.brc_model.proofs.OwnRetains.{running_is}
 use Rattle.brc_model.proofs.Begins.{IsTaken, bag_after}
@@ -116,7 +116,12 @@ begun_keeps p n m t a (Quiet moves place) whole at taken =
     let code = code_of (slice_get p.functions a.function) in
     let placed = placed_by code (bag_after m.plain.references moves) t [] place taken.placed in
     let sits : QuietSits m t moves place placed.account =
-    record { moves_fit = taken.moves_fit; holds = placed.holds; stays = taken.stays } in
+    record {
+      moves_fit = taken.moves_fit;
+      holds = placed.holds;
+      bounded = says_bounded code place placed.account placed.says;
+      stays = taken.stays;
+    } in
     let own = whole.coded t a at.found in
     let here : Whole p n (quieted m t a moves place) = record {
       accounts = with_account c t placed.account;
