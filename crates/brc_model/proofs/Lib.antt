@@ -61,6 +61,8 @@ pub mod Settled
 pub mod OwnExits
 pub mod Watches
 pub mod Whole
+pub mod Claims
+pub mod Actions
 pub mod WholeEvents
 pub mod Safe
 pub mod FewHeld

@@ -1,28 +1,25 @@
 -- Each step of a world that steps lead to asks for words that are there, and finds words that suit its duty.
-use Rattle.std.proofs.Common.{◌≡◌, ℕ, zero, suc, ◌+◌, ◌-◌, ◌*◌, ◌<◌, ◌≤◌, List, [], ◌∷◌, length, Some, refl, sym, ap, ◌∙◌, subst, arith}
+use Rattle.std.proofs.Common.{◌≡◌, ℕ, zero, suc, ◌+◌, ◌-◌, ◌*◌, ◌<◌, ◌≤◌, List, ◌∷◌, length, Some, refl, sym, ap, ◌∙◌, subst, arith}
 use Rattle.std.specs.Prelude.{slice_get}
 use Rattle.std.proofs.lemmas.List.{length-set}
 use Rattle.std.proofs.lemmas.Option.{slice_get_within}
 use Rattle.brc_lang.specs.declared.module.Module.{Module}
 use Rattle.brc_model.specs.declared.duty.Duty.{Duty}
 use Rattle.brc_model.specs.declared.duty.Duty.TheVariants.{RetainLoad, RetainStore, RetainAdd, ReleaseLoad, ReleaseStore, DecideAtZero, SharedLoad, SharedExchange, SetMark, Look, TakeMark, MergeSwap, MergeLoad, MergeExchange, Die, Settle, SettleKind, SettleCell, TakeSlot, CloseResource, SettleEnd, Leave, Scan, Finish, ClaimMark, BirthKind, BirthSlot, BirthLocal}
-use Rattle.brc_model.specs.declared.actor.Status.TheVariants.{Running, Gone}
+use Rattle.brc_model.specs.declared.actor.Status.TheVariants.{Gone}
 use Rattle.brc_model.specs.declared.actor.Place.{Place}
-use Rattle.brc_model.specs.Threads.{code_of}
 use Rattle.brc_model.specs.Duties.{address_of}
-use Rattle.brc_model.specs.Machine.{Actor, Machine, Begun, Work, begun_by, is_running, with_actor, first_machine, machine_after, used_by}
+use Rattle.brc_model.specs.Machine.{Actor, Machine, is_running, with_actor, first_machine, machine_after, used_by}
 use Rattle.brc_model.specs.World.{World, world_of, row_count, IsReachable}
 use Rattle.brc_model.specs.Within.{IsThere, Suits, IsWithin, StepsWithin}
-use Rattle.brc_model.proofs.Lists.{slice_get-set_same}
 use Rattle.brc_model.proofs.Leaves.{AtDuty, head_of}
 use Rattle.brc_model.proofs.Neutral.{agenda_here}
-use Rattle.brc_model.proofs.Begins.{Taken, IsTaken}
-use Rattle.brc_model.proofs.Sits.{sitting, AtRest}
-use Rattle.brc_model.proofs.TakenSits.{taken_sits, rests, begun_fits}
-use Rattle.brc_model.proofs.Whole.{Whole, whole_sits, starts_settled}
+use Rattle.brc_model.proofs.Sits.{sitting}
+use Rattle.brc_model.proofs.Whole.{Whole, Doing}
+use Rattle.brc_model.proofs.Actions.{DutyFits, ActionFits, action_fits}
 use Rattle.brc_model.proofs.Safe.{first_whole}
-use Rattle.brc_model.proofs.Ranges.{limit, IsSmall, AreSmall, head_small}
-use Rattle.brc_model.proofs.RangesEvents.{starts_small, claim_small, Bounded, bounded_after, first_ranges}
+use Rattle.brc_model.proofs.Ranges.{limit, IsSmall, head_small}
+use Rattle.brc_model.proofs.RangesEvents.{Bounded, bounded_after, first_ranges}
 use Rattle.brc_model.proofs.Bounds.{duty_suits}
 use Rattle.brc_model.proofs.Blocks.{used_low, block_within}
 use Rattle.brc_model.proofs.Rule.{Rule}
@@ -89,39 +86,32 @@ duty_used p n m t a d rest here =
 
 -- ---- a duty
 
-duty_within : (p : Module) (n : ℕ) (m : Machine) (t : ℕ) (a : Actor) (d : Duty) (rest : List Duty) → Whole p n m
-    → slice_get m.actors t ≡ Some a → a.agenda ≡ d ∷ rest → (a.status ≡ Gone → ⊥) → IsSmall (limit n m) d → n ≤ 33
-    → IsWithin (world_of m) t a d
-duty_within p n m t a d rest whole found is alive small few =
-    let here : AtDuty p n m t a d rest = record { rule = whole.rule; found = found; agenda = is } in
+duty_within : (p : Module) (n : ℕ) (m : Machine) (t : ℕ) (a : Actor) (d : Duty) (rest : List Duty)
+    → Doing p n m t a d rest → IsSmall (limit n m) d → n ≤ 33 → IsWithin (world_of m) t a d
+duty_within p n m t a d rest doing small few =
+    let rule = doing.whole.rule in
+    let here : AtDuty p n m t a d rest = record { rule = rule; found = doing.found; agenda = doing.agenda } in
     record {
       there =
           subst (λ (l : ℕ). IsThere (2 + (l - 1) * m.rows) (length m.actors) (address_of m.rows t a.head d))
-          (sym whole.rule.threads) (duty_there p n m t a d rest whole here alive small);
+          (sym rule.threads) (duty_there p n m t a d rest doing.whole here doing.alive small);
       head =
-          subst (λ (l : ℕ). a.head ≤ 2 + (l - 1) * m.rows) (sym whole.rule.threads)
-          (head_small p n m t a whole.rule found);
+          subst (λ (l : ℕ). a.head ≤ 2 + (l - 1) * m.rows) (sym rule.threads)
+          (head_small p n m t a rule doing.found);
       used =
-          subst (λ (l : ℕ). used_by a.used d ≤ 2 + (l - 1) * m.rows) (sym whole.rule.threads)
+          subst (λ (l : ℕ). used_by a.used d ≤ 2 + (l - 1) * m.rows) (sym rule.threads)
           (duty_used p n m t a d rest here);
-      suits = duty_suits p n m t a d rest (row_count (world_of m)) here alive few;
+      suits = duty_suits p n m t a d rest (row_count (world_of m)) here doing.alive few;
     }
 
--- what is taken up, by the thread that already has it
-taken_within : (p : Module) (n : ℕ) (m : Machine) (t : ℕ) (a : Actor) (d : Duty) (rest : List Duty) (place : Place)
-    → Whole p n m → AtRest p n m t a → n ≤ 33
-    → Taken (code_of (slice_get p.functions a.function)) m.plain.references m.rows t a.used place d rest
+-- a duty that the thread does, by the thread that already has it in its agenda
+does_within : (p : Module) (n : ℕ) (m : Machine) (t : ℕ) (a : Actor) (d : Duty) (rest : List Duty) (place : Place)
+    → Bounded p n m → n ≤ 33 → slice_get m.actors t ≡ Some a → DutyFits p n m t a d rest place
     → IsWithin (world_of m) t a d
-taken_within p n m t a d rest place whole at few taken =
+does_within p n m t a d rest place bounded few found fits =
     let now = sitting a place (d ∷ rest) in
-    let settled = starts_settled m.plain.references m.rows t a.used a.head place d rest taken.starts taken.follows in
-    let middle : Whole p n (with_actor m t now) =
-    whole_sits p n m t a place (d ∷ rest) whole at (taken_sits p n m t a place d rest at taken) settled in
-    let alive : a.status ≡ Gone → ⊥ = λ e. (let wrong : Running ≡ Gone = sym at.running ∙ e in absurd cc) in
     let within : IsWithin (world_of (with_actor m t now)) t now d =
-    duty_within p n (with_actor m t now) t now d rest middle
-    (slice_get-set_same m.actors t now (slice_get_within m.actors t a at.found)) refl alive
-    (starts_small p n m t a d rest at.rule at.found taken.starts) few in
+    duty_within p n (with_actor m t now) t now d rest fits.doing (fits.small (bounded.ranges.each t a found)).0 few in
     let long = length-set m.actors t now in
     record {
       there = subst (λ (l : ℕ). IsThere (2 + (l - 1) * m.rows) l (address_of m.rows t a.head d)) long within.there;
@@ -132,39 +122,11 @@ taken_within p n m t a d rest place whole at few taken =
           (m.memory (address_of m.rows t a.head d))) long within.suits;
     }
 
-begun_within : (p : Module) (n : ℕ) (m : Machine) (t : ℕ) (a : Actor) (d : Duty) (rest : List Duty) (place : Place)
-    → Whole p n m → slice_get m.actors t ≡ Some a → n ≤ 33
-    → (a.status ≡ Gone → ⊥) → a.agenda ≡ [] → begun_by m t a ≡ Work (d ∷ rest) place → IsWithin (world_of m) t a d
-begun_within p n m t a d rest place whole found few alive is work =
-    let at_rest = rests p n m t a whole.rule found alive is in
-    let at : AtRest p n m t a = record { rule = whole.rule; found = found; agenda = is; running = at_rest.1 } in
-    taken_within p n m t a d rest place whole at few
-    (subst (λ (b : Begun). IsTaken (code_of (slice_get p.functions a.function)) m.plain.references m.rows t a.used b)
-    work (begun_fits p n m t a at at_rest.0))
-
-claim_within : (p : Module) (n : ℕ) (m : Machine) (t : ℕ) (a : Actor) (row : ℕ) → Whole p n m
-    → slice_get m.actors t ≡ Some a → row < limit n m → IsWithin (world_of m) t a (ClaimMark row)
-claim_within p n m t a row whole found small = record {
-  there = subst (λ (l : ℕ). row < 2 + (l - 1) * m.rows) (sym whole.rule.threads) small;
-  head =
-      subst (λ (l : ℕ). a.head ≤ 2 + (l - 1) * m.rows) (sym whole.rule.threads) (head_small p n m t a whole.rule found);
-  used =
-      subst (λ (l : ℕ). a.used ≤ 2 + (l - 1) * m.rows) (sym whole.rule.threads)
-      (let uses = whole.rule.uses t a found in used_within p n m t a a.used whole.rule found uses.few uses.main);
-  suits = tt;
-}
-
 machine_within : (p : Module) (n : ℕ) (m : Machine) (t : ℕ) (a : Actor) → Bounded p n m → n ≤ 33
     → slice_get m.actors t ≡ Some a → StepsWithin (world_of m) t a
-machine_within p n m t a bounded few found = record {
-  goes_on =
-      λ d rest alive is. duty_within p n m t a d rest bounded.whole found is alive
-      (subst (AreSmall (limit n m)) is (bounded.ranges.each t a found)).0 few;
-  takes_up = λ d rest place alive is work. begun_within p n m t a d rest place bounded.whole found few alive is work;
-  claims =
-      λ row may. claim_within p n m t a row bounded.whole found
-      (claim_small p n m t a row a.place bounded.whole found may);
-}
+machine_within p n m t a bounded few found choice d rest place is =
+    does_within p n m t a d rest place bounded few found
+    (subst (ActionFits p n m t a) is (action_fits p n m t a choice bounded.whole found))
 
 -- ---- the worlds that steps lead to
 

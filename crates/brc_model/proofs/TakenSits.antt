@@ -14,12 +14,12 @@ use Rattle.brc_model.specs.declared.actor.Status.{Status}
 use Rattle.brc_model.specs.declared.actor.Status.TheVariants.{Running, Leaving, Gone}
 use Rattle.brc_model.specs.declared.actor.Place.{Place}
 use Rattle.brc_model.specs.declared.actor.Place.TheVariants.{Standing, Departing}
-use Rattle.brc_model.specs.Machine.{Actor, Machine, first_row, begun, begun_by, with_actor, block_size, next_row}
+use Rattle.brc_model.specs.Machine.{Actor, Machine, first_row, dispatch, agenda_action, with_actor, block_size, next_row}
 use Rattle.brc_model.proofs.Holds.{the_root}
 use Rattle.brc_model.proofs.Rows.{waits, carries, merges, decides}
 use Rattle.brc_model.proofs.Rule.{HoldsAt, PlaceFits, Later, Agenda, AgendaFits, NoneHanded, looks, Rule, IsNext}
 use Rattle.brc_model.proofs.Begins.{Starts, Gives, Takes, Follows, Nothing, Settles, Leaves, Taken, IsTaken, Bears}
-use Rattle.brc_model.proofs.Taking.{begun_taken}
+use Rattle.brc_model.proofs.Taking.{dispatch_taken}
 use Rattle.brc_model.proofs.Sits.{Sits, AtRest, sitting}
 
 -- a thread with room is no main, which has used all its rows
@@ -151,13 +151,14 @@ pub rests : (p : Module) (n : ℕ) (m : Machine) (t : ℕ) (a : Actor) → Rule 
     → (a.status ≡ Gone → ⊥) → a.agenda ≡ [] → (a.place ≢ Departing) × (a.status ≡ Running)
 rests p n m t a rule found alive none = agenda_rests m.rows t a.used a a.status alive none (rule.each t a found).1
 
-pub begun_fits : (p : Module) (n : ℕ) (m : Machine) (t : ℕ) (a : Actor) → AtRest p n m t a → (a.place ≢ Departing)
-    → IsTaken (code_of (slice_get p.functions a.function)) m.plain.references m.rows t a.used (begun_by m t a)
-begun_fits p n m t a at stays =
+pub dispatch_fits : (p : Module) (n : ℕ) (m : Machine) (t : ℕ) (a : Actor) → AtRest p n m t a → (a.place ≢ Departing)
+    → IsTaken (code_of (slice_get p.functions a.function)) m.plain.references m.rows t a.used
+    (agenda_action m.functions m.rows t a [])
+dispatch_fits p n m t a at stays =
     let old = (at.rule.each t a at.found).0 in
     let code = code_of (slice_get p.functions a.function) in
-    let here : IsTaken code m.plain.references m.rows t a.used (begun m.rows t a.used code a.place) =
-    begun_taken code m.plain.references m.rows t a.used a.place old.accepted old.instructions stays
+    let here : IsTaken code m.plain.references m.rows t a.used (dispatch m.rows t a.used code a.place) =
+    dispatch_taken code m.plain.references m.rows t a.used a.place old.accepted old.instructions stays
     (subst (λ (l : List Duty). PlaceFits code m.plain.references t l a.place) at.agenda old.placed) in
     subst (λ (fs : List Function). IsTaken code m.plain.references m.rows t a.used
-    (begun m.rows t a.used (code_of (slice_get fs a.function)) a.place)) (sym at.rule.functions) here
+    (dispatch m.rows t a.used (code_of (slice_get fs a.function)) a.place)) (sym at.rule.functions) here

@@ -1,190 +1,50 @@
 -- Each event, by whatever thread and choice, keeps the whole invariant and is not bad.
-use Rattle.std.proofs.Common.{◌≡◌, ℕ, ◌+◌, ◌<◌, ◌≤◌, Bool, true, false, cond, List, [], ◌∷◌, length, Option, None, Some, refl, sym, ap, ◌∙◌, subst, not}
-use Rattle.std.specs.Prelude.{◌==◌, ◌&&◌, nat_lt, nat_le, slice_get}
-use Rattle.std.proofs.lemmas.Bool.{eqb-true, ltb-true, leb-true}
-use Rattle.std.proofs.lemmas.List.{nil_from_length}
+use Rattle.std.proofs.Common.{◌≡◌, ℕ, false, List, [], ◌∷◌, Option, None, Some, refl, sym, ap, subst, not}
+use Rattle.std.specs.Prelude.{slice_get}
 use Rattle.brc_lang.specs.declared.module.Module.{Module}
-use Rattle.brc_model.specs.Threads.{code_of}
 use Rattle.brc_model.specs.declared.duty.Duty.{Duty}
-use Rattle.brc_model.specs.declared.duty.Duty.TheVariants.{ClaimMark}
-use Rattle.brc_model.specs.declared.actor.Status.{Status}
-use Rattle.brc_model.specs.declared.actor.Status.TheVariants.{Running, Leaving, Gone}
-use Rattle.brc_model.specs.declared.actor.Place.{Place}
-use Rattle.brc_model.specs.declared.actor.Place.TheVariants.{Standing, Inside, Departing}
 use Rattle.brc_model.specs.declared.thread.Choice.{Choice}
-use Rattle.brc_model.specs.declared.thread.Choice.TheVariants.{Ok, Fault, Claim}
-use Rattle.brc_model.specs.Machine.{Actor, Machine, Begun, Stuck, Quiet, Work, begun_by, done_by, at_place, with_actor, begins, goes_on, acts, may_claim, first_row, is_running, chosen, next_machine, machine_after, with_moves}
-use Rattle.brc_model.specs.Events.{is_bad_duty, is_bad_begun, is_bad_agenda, is_bad_status, is_bad_choice, is_bad_event}
-use Rattle.brc_model.proofs.Lists.{and_first, and_second, written_actor}
-use Rattle.brc_model.proofs.Rule.{PlaceFits}
-use Rattle.brc_model.proofs.OwnRetains.{running_is}
-use Rattle.brc_model.proofs.Begins.{IsTaken}
-use Rattle.brc_model.proofs.Sits.{sitting, Sits, AtRest}
-use Rattle.brc_model.proofs.TakenSits.{taken_sits, claim_sits, rests, begun_fits}
-use Rattle.brc_model.proofs.Whole.{Whole, KeepsOn, keeps_duty, taken_up, starts_settled}
-use Rattle.brc_model.proofs.Blocks.{used_block}
+use Rattle.brc_model.specs.Machine.{Actor, Machine, Action, Skip, Stuck, Silent, Does, action_of, of_thread, at_place, with_actor, with_moves, machine_by, next_machine, machine_after}
+use Rattle.brc_model.specs.Events.{is_bad_action, is_bad_event}
+use Rattle.brc_model.proofs.Lists.{written_actor}
+use Rattle.brc_model.proofs.Sits.{sitting, taken_up_step}
+use Rattle.brc_model.proofs.Whole.{Whole, KeepsOn, keeps_duty}
 use Rattle.brc_model.proofs.Quiets.{quieted, quiet_rule, quiet_allowed}
 use Rattle.brc_model.proofs.Settled.{IsSettled}
+use Rattle.brc_model.proofs.Actions.{ActionFits, action_fits}
 
--- ---- what a thread at rest takes up
-
-begun_keeps : (p : Module) (n : ℕ) (m : Machine) (t : ℕ) (a : Actor) (b : Begun) → Whole p n m → AtRest p n m t a
-    → IsTaken (code_of (slice_get p.functions a.function)) m.plain.references m.rows t a.used b
-    → KeepsOn p n (is_bad_begun m t a b) (begins m t a b)
-begun_keeps p n m t a Stuck whole at taken = absurd taken
-begun_keeps p n m t a (Quiet moves place) whole at taken =
+-- an action that fits its thread
+action_keeps : (p : Module) (n : ℕ) (m : Machine) (t : ℕ) (a : Actor) (x : Action) → Whole p n m
+    → slice_get m.actors t ≡ Some a → ActionFits p n m t a x → KeepsOn p n (is_bad_action m t a x) (machine_by m t a x)
+action_keeps p n m t a Skip whole found fits = (refl, whole)
+action_keeps p n m t a Stuck whole found fits = absurd fits
+action_keeps p n m t a (Silent moves place) whole found fits =
     let here : Whole p n (quieted m t a moves place) = record {
-      rule = quiet_rule p n m t a moves place at taken;
+      rule = quiet_rule p n m t a moves place fits.at fits.taken;
       settled =
-          λ u b is. written_actor (λ w c. IsSettled c.head c.agenda) m.actors t a (sitting a place []) at.found tt
+          λ u b is. written_actor (λ w c. IsSettled c.head c.agenda) m.actors t a (sitting a place []) found tt
           whole.settled u b is;
     } in
     let same : quieted m t a moves place ≡ with_moves (with_actor m t (at_place a place)) moves =
-    ap (λ (l : List Duty). with_moves (with_actor m t (sitting a place l)) moves) (sym at.agenda) in
-    (ap not (quiet_allowed m.plain t moves taken.moves_fit), subst (Whole p n) same here)
-begun_keeps p n m t a (Work [] place) whole at taken = absurd taken
-begun_keeps p n m t a (Work (d ∷ rest) place) whole at taken =
-    taken_up p n m t a place d rest whole at (taken_sits p n m t a place d rest at taken)
-    (starts_settled m.plain.references m.rows t a.used a.head place d rest taken.starts taken.follows)
+    ap (λ (l : List Duty). with_moves (with_actor m t (sitting a place l)) moves) (sym fits.at.agenda) in
+    (ap not (quiet_allowed m.plain t moves fits.taken.moves_fit), subst (Whole p n) same here)
+action_keeps p n m t a (Does d rest place) whole found fits =
+    let now = sitting a place (d ∷ rest) in
+    let done = keeps_duty p n (with_actor m t now) t now d rest fits.doing in
+    (done.0, subst (Whole p n) (taken_up_step m t a place d rest) done.1)
 
--- ---- a thread that isn't gone
-
-agenda_keeps : (p : Module) (n : ℕ) (m : Machine) (t : ℕ) (a : Actor) (agenda : List Duty) → Whole p n m
-    → slice_get m.actors t ≡ Some a → (a.status ≡ Gone → ⊥) → a.agenda ≡ agenda
-    → KeepsOn p n (is_bad_agenda m t a agenda) (goes_on m t a agenda)
-agenda_keeps p n m t a [] whole found alive is =
-    let at_rest = rests p n m t a whole.rule found alive is in
-    let at : AtRest p n m t a = record { rule = whole.rule; found = found; agenda = is; running = at_rest.1 } in
-    begun_keeps p n m t a (begun_by m t a) whole at (begun_fits p n m t a at at_rest.0)
-agenda_keeps p n m t a (d ∷ rest) whole found alive is =
-    keeps_duty p n m t a d rest (record { whole = whole; found = found; agenda = is; alive = alive })
-
-status_keeps : (p : Module) (n : ℕ) (m : Machine) (t : ℕ) (a : Actor) (status : Status) → Whole p n m
-    → slice_get m.actors t ≡ Some a → a.status ≡ status → KeepsOn p n (is_bad_status m t a status) (acts m t a status)
-status_keeps p n m t a Gone whole found is = (refl, whole)
-status_keeps p n m t a Running whole found is =
-    agenda_keeps p n m t a a.agenda whole found (λ e. let wrong : Running ≡ Gone = sym is ∙ e in absurd cc) refl
-status_keeps p n m t a Leaving whole found is =
-    agenda_keeps p n m t a a.agenda whole found (λ e. let wrong : Leaving ≡ Gone = sym is ∙ e in absurd cc) refl
-
--- ---- claims
-
-claims_at : (m : Machine) (t : ℕ) (a : Actor) (left row : ℕ)
-    → (is_running a.status && (length a.agenda == 0) && nat_le (first_row m.rows t) row && nat_lt row
-    (first_row m.rows t + a.used)) ≡ true
-    → (a.status ≡ Running) × (a.agenda ≡ []) × (first_row m.rows t ≤ row) × (row < first_row m.rows t + a.used)
-claims_at m t a left row e =
-    let front =
-    and_first (is_running a.status && (length a.agenda == 0) && nat_le (first_row m.rows t) row)
-    (nat_lt row (first_row m.rows t + a.used)) e in
-    let high =
-    and_second (is_running a.status && (length a.agenda == 0) && nat_le (first_row m.rows t) row)
-    (nat_lt row (first_row m.rows t + a.used)) e in
-    let pair = and_first (is_running a.status && (length a.agenda == 0)) (nat_le (first_row m.rows t) row) front in
-    let low = and_second (is_running a.status && (length a.agenda == 0)) (nat_le (first_row m.rows t) row) front in (
-      running_is a.status (and_first (is_running a.status) (length a.agenda == 0) pair),
-      nil_from_length a.agenda (eqb-true _ _ (and_second (is_running a.status) (length a.agenda == 0) pair)),
-      leb-true _ _ low,
-      ltb-true _ _ high,
-    )
-
--- a claim is made by a thread at rest, of a row of its own block
-pub record ClaimsSo (p : Module) (n : ℕ) (m : Machine) (t : ℕ) (a : Actor) (row : ℕ) : Type 0 where
-  pub place : Place
-  pub stands : a.place ≡ place
-  pub at : AtRest p n m t a
-  pub sits : Sits p m t a place (ClaimMark row ∷ [])
-
-claim_now : (p : Module) (n : ℕ) (m : Machine) (t : ℕ) (a : Actor) (left row : ℕ) → Whole p n m
-    → slice_get m.actors t ≡ Some a → a.place ≡ Standing left
-    → (is_running a.status && (length a.agenda == 0) && nat_le (first_row m.rows t) row && nat_lt row
-    (first_row m.rows t + a.used)) ≡ true
-    → ClaimsSo p n m t a row
-claim_now p n m t a left row whole found place e =
-    let may = claims_at m t a left row e in
-    let old = (whole.rule.each t a found).0 in
-    let code = code_of (slice_get p.functions a.function) in
-    let placed : PlaceFits code m.plain.references t [] (Standing left) =
-    subst (λ (l : List Duty). PlaceFits code m.plain.references t l (Standing left)) may.1
-    (subst (λ (q : Place). PlaceFits code m.plain.references t a.agenda q) place old.placed) in
-    record {
-      place = Standing left;
-      stands = place;
-      at = record { rule = whole.rule; found = found; agenda = may.1; running = may.0 };
-      sits = claim_sits p m t a left row placed (used_block p n m t a row whole.rule found may.2 may.3);
-    }
-
-abbrev claims_where : Machine → ℕ → Actor → ℕ → Place → Bool
-claims_where m t a row place = elim place [
-  | Standing left ↦
-      is_running a.status && (length a.agenda == 0) && nat_le (first_row m.rows t) row && nat_lt row
-      (first_row m.rows t + a.used)
-  | Inside left at variables ↦ false
-  | Departing ↦ false
-]
-
-pub claims_so : (p : Module) (n : ℕ) (m : Machine) (t : ℕ) (a : Actor) (row : ℕ) (place : Place) → Whole p n m
-    → slice_get m.actors t ≡ Some a → a.place ≡ place → may_claim m.rows t a row ≡ true → ClaimsSo p n m t a row
-claims_so p n m t a row (Standing left) whole found place e =
-    claim_now p n m t a left row whole found place (sym (ap (claims_where m t a row) place) ∙ e)
-claims_so p n m t a row (Inside left at variables) whole found place e =
-    absurd (let wrong : false ≡ true = sym (ap (claims_where m t a row) place) ∙ e in cc)
-claims_so p n m t a row Departing whole found place e =
-    absurd (let wrong : false ≡ true = sym (ap (claims_where m t a row) place) ∙ e in cc)
-
-claim_keeps : (p : Module) (n : ℕ) (m : Machine) (t : ℕ) (a : Actor) (row : ℕ) → Whole p n m → ClaimsSo p n m t a row
-    → KeepsOn p n (is_bad_duty m t a (ClaimMark row)) (done_by m t a (ClaimMark row) [])
-claim_keeps p n m t a row whole so =
-    let done = taken_up p n m t a so.place (ClaimMark row) [] whole so.at so.sits tt in
-    let same : done_by m t (at_place a so.place) (ClaimMark row) [] ≡ done_by m t a (ClaimMark row) [] =
-    ap (λ (q : Place). done_by m t (at_place a q) (ClaimMark row) []) (sym so.stands) in
-    (done.0, subst (Whole p n) same done.1)
-
-if_claims : (p : Module) (n : ℕ) (m : Machine) (t : ℕ) (a : Actor) (row : ℕ) (b : Bool) → Whole p n m
-    → (b ≡ true → ClaimsSo p n m t a row)
-    → KeepsOn p n (cond b (is_bad_duty m t a (ClaimMark row)) false) (cond b (done_by m t a (ClaimMark row) []) m)
-if_claims p n m t a row true whole claims = claim_keeps p n m t a row whole (claims refl)
-if_claims p n m t a row false whole claims = (refl, whole)
-
--- a thread claims with nothing else to do
-rests_where : (m : Machine) (t : ℕ) (a : Actor) (row : ℕ) (place : Place) → a.place ≡ place
-    → may_claim m.rows t a row ≡ true → a.agenda ≡ []
-rests_where m t a row (Standing left) place e =
-    (claims_at m t a left row (sym (ap (claims_where m t a row) place) ∙ e)).1
-rests_where m t a row (Inside left at variables) place e =
-    absurd (let wrong : false ≡ true = sym (ap (claims_where m t a row) place) ∙ e in cc)
-rests_where m t a row Departing place e =
-    absurd (let wrong : false ≡ true = sym (ap (claims_where m t a row) place) ∙ e in cc)
-
-pub claimer_rests : (m : Machine) (t : ℕ) (a : Actor) (row : ℕ) → may_claim m.rows t a row ≡ true → a.agenda ≡ []
-claimer_rests m t a row e = rests_where m t a row a.place refl e
-
--- and no thread that is gone claims
-gone_where : (m : Machine) (t : ℕ) (a : Actor) (row : ℕ) (place : Place) → a.place ≡ place → a.status ≡ Gone
-    → may_claim m.rows t a row ≡ false
-gone_where m t a row (Standing left) place gone =
-    ap (claims_where m t a row) place
-    ∙ ap (λ (s : Status). is_running s && (length a.agenda == 0) && nat_le (first_row m.rows t) row && nat_lt row
-    (first_row m.rows t + a.used)) gone
-gone_where m t a row (Inside left at variables) place gone = ap (claims_where m t a row) place
-gone_where m t a row Departing place gone = ap (claims_where m t a row) place
-
-pub gone_claims_none : (m : Machine) (t : ℕ) (a : Actor) (row : ℕ) → a.status ≡ Gone → may_claim m.rows t a row ≡ false
-gone_claims_none m t a row gone = gone_where m t a row a.place refl gone
-
--- ---- every event
-
-choice_keeps : (p : Module) (n : ℕ) (m : Machine) (t : ℕ) (choice : Choice) (o : Option Actor) → Whole p n m
-    → slice_get m.actors t ≡ o → KeepsOn p n (is_bad_choice m t choice o) (chosen m t choice o)
-choice_keeps p n m t choice None whole found = (refl, whole)
-choice_keeps p n m t Ok (Some a) whole found = status_keeps p n m t a a.status whole found refl
-choice_keeps p n m t Fault (Some a) whole found = status_keeps p n m t a a.status whole found refl
-choice_keeps p n m t (Claim row) (Some a) whole found =
-    if_claims p n m t a row (may_claim m.rows t a row) whole (λ e. claims_so p n m t a row a.place whole found refl e)
+thread_keeps : (p : Module) (n : ℕ) (m : Machine) (t : ℕ) (choice : Choice) (o : Option Actor) → Whole p n m
+    → slice_get m.actors t ≡ o
+    → KeepsOn p n (of_thread false (λ a. is_bad_action m t a (action_of m.functions m.rows t a choice)) o)
+    (of_thread m (λ a. machine_by m t a (action_of m.functions m.rows t a choice)) o)
+thread_keeps p n m t choice None whole found = (refl, whole)
+thread_keeps p n m t choice (Some a) whole found =
+    action_keeps p n m t a (action_of m.functions m.rows t a choice) whole found
+    (action_fits p n m t a choice whole found)
 
 pub event_keeps : (p : Module) (n : ℕ) (m : Machine) (event : ℕ × Choice) → Whole p n m
     → KeepsOn p n (is_bad_event m event) (next_machine m event)
-event_keeps p n m event whole = choice_keeps p n m event.0 event.1 (slice_get m.actors event.0) whole refl
+event_keeps p n m event whole = thread_keeps p n m event.0 event.1 (slice_get m.actors event.0) whole refl
 
 pub whole_after : (p : Module) (n : ℕ) (m : Machine) (events : List (ℕ × Choice)) → Whole p n m
     → Whole p n (machine_after m events)
