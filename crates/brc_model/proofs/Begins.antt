@@ -17,7 +17,7 @@ use Rattle.brc_model.specs.declared.duty.Duty.{Duty}
 use Rattle.brc_model.specs.declared.duty.Duty.TheVariants.{RetainLoad, ReleaseLoad, Settle, Leave, BirthKind}
 use Rattle.brc_model.specs.declared.actor.Place.{Place}
 use Rattle.brc_model.specs.declared.actor.Place.TheVariants.{Standing, Inside, Departing}
-use Rattle.brc_model.specs.Machine.{Begun, Stuck, Quiet, Work, with_row, first_row, block_size, next_row, gain, pass_on}
+use Rattle.brc_model.specs.Machine.{Action, Skip, Stuck, Silent, Does, with_row, first_row, block_size, next_row, gain, pass_on}
 use Rattle.brc_model.proofs.Bag.{held, one_if}
 use Rattle.brc_model.proofs.Lists.{none_at}
 use Rattle.brc_model.proofs.Holds.{the_root, of_variables, reference_of, Holds}
@@ -81,14 +81,14 @@ pub record QuietTaken (code : List Instr) (bag : List Reference) (t : ℕ) (move
     pub placed : PlaceFits code (bag_after bag moves) t [] place
     pub stays : place ≢ Departing
 
-abbrev pub IsTaken : List Instr → List Reference → ℕ → ℕ → ℕ → Begun → Type 0
+abbrev pub IsTaken : List Instr → List Reference → ℕ → ℕ → ℕ → Action → Type 0
+IsTaken code bag rows t used Skip = ⊥
 IsTaken code bag rows t used Stuck = ⊥
-IsTaken code bag rows t used (Quiet moves place) = QuietTaken code bag t moves place
-IsTaken code bag rows t used (Work [] place) = ⊥
-IsTaken code bag rows t used (Work (d ∷ rest) place) = Taken code bag rows t used place d rest
+IsTaken code bag rows t used (Silent moves place) = QuietTaken code bag t moves place
+IsTaken code bag rows t used (Does d rest place) = Taken code bag rows t used place d rest
 
 pub taken_with_row : (code : List Instr) (bag : List Reference) (rows t used object : ℕ) (row : Option ℕ)
-    (work : ℕ → Begun)
+    (work : ℕ → Action)
     → row ≡ Some object → IsTaken code bag rows t used (work object)
     → IsTaken code bag rows t used (with_row row work)
 taken_with_row code bag rows t used object row work is taken =

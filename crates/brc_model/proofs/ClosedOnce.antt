@@ -14,7 +14,7 @@ use Rattle.brc_model.proofs.Bag.{one_if}
 use Rattle.brc_model.proofs.Closing.{GoesOn, BeginsToDie, IsClosed, life_step, SameClosed, OneMore, closed_step, IsBorn}
 use Rattle.brc_model.proofs.ClosedAfter.{live_not_closed, dying_not_closed, among_more, unborn_not_closed}
 use Rattle.brc_model.proofs.Leaves.{AtDuty}
-use Rattle.brc_model.proofs.WholeEvents.{Whole}
+use Rattle.brc_model.proofs.Whole.{Whole}
 use Rattle.brc_model.proofs.StepCases.{ShowsSteps, at_duty, event_shows}
 use Rattle.brc_model.proofs.Quiets.{quiet_closed}
 use Rattle.brc_model.proofs.Rule.{Accounts}
@@ -31,16 +31,16 @@ stays_among m t a d rest = λ x was.
       | OneMore y ended more ↦ ap (is_among x) more ∙ among_more x m.plain.closed (y ∷ []) was
     ]
 
-closed_shown : (p : Module) (n : ℕ) → ShowsSteps (λ t m new. StaysAmong m new) p n
-closed_shown p n = record {
-  stays = λ t m whole x was. was;
+closed_shown : (n : ℕ) → ShowsSteps (λ t m new. StaysAmong m new) n
+closed_shown n = record {
+  stays = λ p t m kept x was. was;
   sits = λ t m new a place agenda found shown. shown;
-  moves = λ t m a moves place whole found quiet x was. ap (is_among x) (quiet_closed m.plain t moves quiet) ∙ was;
-  does = λ t m a d rest doing. stays_among m t a d rest;
+  moves = λ p t m a moves place kept found quiet x was. ap (is_among x) (quiet_closed m.plain t moves quiet) ∙ was;
+  does = λ p t m a d rest doing. stays_among m t a d rest;
 }
 
 pub closed_stays : (p : Module) (n : ℕ) (m : Machine) (event : ℕ × Choice) → Whole p n m → ClosedStays m event
-closed_stays p n m event whole = event_shows (closed_shown p n) m event whole
+closed_stays p n m event whole = event_shows (closed_shown n) m event whole
 
 -- ---- what is closed anew wasn't closed
 
@@ -71,16 +71,16 @@ closes_at_duty p n m t a d rest here =
       | OneMore row ended more ↦ inr (row, ne_true _ (ends_open p n m t a d rest row here ended), more)
     ]
 
-closes_shown : (p : Module) (n : ℕ) → ShowsSteps (λ t m new. ClosesSo m new) p n
-closes_shown p n = record {
-  stays = λ t m whole. inl refl;
+closes_shown : (n : ℕ) → ShowsSteps (λ t m new. ClosesSo m new) n
+closes_shown n = record {
+  stays = λ p t m kept. inl refl;
   sits = λ t m new a place agenda found shown. shown;
-  moves = λ t m a moves place whole found quiet. inl (quiet_closed m.plain t moves quiet);
-  does = λ t m a d rest doing. closes_at_duty p n m t a d rest (at_duty doing);
+  moves = λ p t m a moves place kept found quiet. inl (quiet_closed m.plain t moves quiet);
+  does = λ p t m a d rest doing. closes_at_duty p n m t a d rest (at_duty doing);
 }
 
 pub closes_anew : (p : Module) (n : ℕ) (m : Machine) (event : ℕ × Choice) → Whole p n m → ClosesAnew m event
-closes_anew p n m event whole = event_shows (closes_shown p n) m event whole
+closes_anew p n m event whole = event_shows (closes_shown n) m event whole
 
 -- ---- it is closed once
 
@@ -126,4 +126,4 @@ once_counted x (y ∷ ys) once =
     ]
 
 pub closed_once : (p : Module) (n : ℕ) (m : Machine) → Whole p n m → ClosedOnce m
-closed_once p n m whole = λ x. once_counted x m.plain.closed whole.rule.once
+closed_once p n m whole = λ x. once_counted x m.plain.closed whole.kept.rule.once

@@ -12,14 +12,15 @@ use Rattle.brc_model.specs.Threads.{row_of, entry_variables, code_of}
 use Rattle.brc_model.specs.declared.duty.Reason.TheVariants.{Own, Handed}
 use Rattle.brc_model.specs.declared.duty.Duty.{Duty}
 use Rattle.brc_model.specs.declared.duty.Duty.TheVariants.{RetainLoad, RetainStore, RetainAdd, ReleaseLoad, ReleaseStore, DecideAtZero, SharedLoad, SharedExchange, SetMark, Look, TakeMark, MergeSwap, MergeLoad, MergeExchange, Die, Settle, SettleKind, SettleCell, TakeSlot, CloseResource, SettleEnd, Leave, Scan, Finish, ClaimMark, BirthKind, BirthSlot, BirthLocal}
-use Rattle.brc_model.specs.declared.address.Address.TheVariants.{Mark}
 use Rattle.brc_model.specs.Duties.{address_of, next_by, counts_locally, shared_result, cells_of, head_by, ready, has_resource, cells_from}
 use Rattle.brc_model.specs.declared.actor.Status.{Status}
 use Rattle.brc_model.specs.declared.actor.Status.TheVariants.{Running, Leaving, Gone}
 use Rattle.brc_model.specs.declared.actor.Place.{Place}
 use Rattle.brc_model.specs.declared.actor.Place.TheVariants.{Standing, Inside, Departing}
-use Rattle.brc_model.specs.Machine.{Actor, Machine, Begun, Stuck, Quiet, Work, with_row, begun_instruction, begun, begun_by, is_running, actor_by, done_by, at_place, begins, goes_on, acts, may_claim, chosen, next_machine, machine_after, main_actor, worker_actor, first_machine, has_room}
+use Rattle.brc_model.specs.Machine.{Actor, Machine, Action, Skip, Stuck, Silent, Does, with_row, dispatch_instruction, dispatch, is_running, actor_by, done_by, at_place, may_claim, agenda_action, status_action, action_of, of_thread, machine_by, next_machine, machine_after, main_actor, worker_actor, first_machine, has_room}
+use Rattle.brc_lang.specs.declared.module.Function.{Function}
 use Rattle.brc_model.proofs.Lists.{some_is, slice_get-map, written_actor}
+use Rattle.brc_model.proofs.Claims.{claimer}
 
 -- ---- agendas
 
@@ -177,99 +178,98 @@ duty_emptied m t a b d rest are found e =
     (ready_empties (head_by b.head d word) (next_by t (is_running b.status) b.head d word ++ rest)
     (next_empties t (is_running b.status) b.head d rest word e)) are
 
--- what is taken up empties a chain that is empty
-abbrev StartsEmpty : Begun → Type 0
-StartsEmpty Stuck = Unit {0}
-StartsEmpty (Quiet moves place) = Unit {0}
-StartsEmpty (Work [] place) = Unit {0}
-StartsEmpty (Work (d ∷ rest) place) = empties false (d ∷ rest) ≡ true
+-- ---- what a thread does
 
-row_starts : (o : Option ℕ) (work : ℕ → Begun) → ((row : ℕ) → StartsEmpty (work row)) → StartsEmpty (with_row o work)
-row_starts None work each = tt
-row_starts (Some row) work each = each row
+-- the chain is empty once the duties are done
+abbrev ActionEmpties : ℕ → Action → Type 0
+ActionEmpties head Skip = Unit {0}
+ActionEmpties head Stuck = Unit {0}
+ActionEmpties head (Silent moves place) = Unit {0}
+ActionEmpties head (Does d rest place) = Empties head (d ∷ rest)
 
-room_starts : (b : Bool) (one two : Begun) → StartsEmpty one → StartsEmpty two → StartsEmpty (cond b one two)
-room_starts true one two first second = first
-room_starts false one two first second = second
+row_empties : (o : Option ℕ) (work : ℕ → Action) → ((row : ℕ) → ActionEmpties 0 (work row))
+    → ActionEmpties 0 (with_row o work)
+row_empties None work each = tt
+row_empties (Some row) work each = each row
 
-instruction_starts : (rows t used left at : ℕ) (variables : List (Option ℕ)) (i : Option Instr)
-    → StartsEmpty (begun_instruction rows t used left at variables i)
-instruction_starts rows t used left at variables None = tt
-instruction_starts rows t used left at variables (Some (Num to value otherwise)) =
-    room_starts (has_room rows t used) _ _ refl tt
-instruction_starts rows t used left at variables (Some (NoneObject to)) = tt
-instruction_starts rows t used left at variables (Some (Newref to from)) =
-    row_starts (row_of variables from) _ (λ row. refl)
-instruction_starts rows t used left at variables (Some (MoveReference to from)) =
-    row_starts (row_of variables from) _ (λ row. tt)
-instruction_starts rows t used left at variables (Some (Drop from)) = row_starts (row_of variables from) _ (λ row. refl)
-instruction_starts rows t used left at variables (Some (Goto to)) = tt
-instruction_starts rows t used left at variables (Some (Ret from)) = row_starts (row_of variables from) _ (λ row. refl)
-instruction_starts rows t used left at variables (Some Fail) = tt
+either_empties : (head : ℕ) (b : Bool) (one two : Action) → (b ≡ true → ActionEmpties head one)
+    → ActionEmpties head two → ActionEmpties head (cond b one two)
+either_empties head true one two first second = first refl
+either_empties head false one two first second = second
 
-starts_empty : (rows t used : ℕ) (code : List Instr) (place : Place) → StartsEmpty (begun rows t used code place)
-starts_empty rows t used code Departing = tt
-starts_empty rows t used code (Standing zero) = refl
-starts_empty rows t used code (Standing (suc left)) =
-    instruction_starts rows t used left 0 entry_variables (slice_get code 0)
-starts_empty rows t used code (Inside left at variables) =
-    instruction_starts rows t used left at variables (slice_get code at)
+-- what is dispatched with an empty chain
+instruction_empties : (rows t used left at : ℕ) (variables : List (Option ℕ)) (i : Option Instr)
+    → ActionEmpties 0 (dispatch_instruction rows t used left at variables i)
+instruction_empties rows t used left at variables None = tt
+instruction_empties rows t used left at variables (Some (Num to value otherwise)) =
+    either_empties 0 (has_room rows t used) _ _ (λ _. refl) tt
+instruction_empties rows t used left at variables (Some (NoneObject to)) = tt
+instruction_empties rows t used left at variables (Some (Newref to from)) =
+    row_empties (row_of variables from) _ (λ row. refl)
+instruction_empties rows t used left at variables (Some (MoveReference to from)) =
+    row_empties (row_of variables from) _ (λ row. tt)
+instruction_empties rows t used left at variables (Some (Drop from)) =
+    row_empties (row_of variables from) _ (λ row. refl)
+instruction_empties rows t used left at variables (Some (Goto to)) = tt
+instruction_empties rows t used left at variables (Some (Ret from)) =
+    row_empties (row_of variables from) _ (λ row. refl)
+instruction_empties rows t used left at variables (Some Fail) = tt
+
+dispatch_empties : (rows t used : ℕ) (code : List Instr) (place : Place)
+    → ActionEmpties 0 (dispatch rows t used code place)
+dispatch_empties rows t used code Departing = tt
+dispatch_empties rows t used code (Standing zero) = refl
+dispatch_empties rows t used code (Standing (suc left)) =
+    instruction_empties rows t used left 0 entry_variables (slice_get code 0)
+dispatch_empties rows t used code (Inside left at variables) =
+    instruction_empties rows t used left at variables (slice_get code at)
 
 no_chain : (head : ℕ) → Empties head [] → head ≡ 0
 no_chain zero e = refl
 no_chain (suc head) e = absurd cc
 
-begins_emptied : (m : Machine) (t : ℕ) (a : Actor) (b : Begun) → AreEmptied m → slice_get m.actors t ≡ Some a
-    → a.head ≡ 0 → StartsEmpty b → AreEmptied (begins m t a b)
-begins_emptied m t a Stuck are found none starts = are
-begins_emptied m t a (Quiet moves place) are found none starts =
+agenda_empties : (functions : List Function) (rows t : ℕ) (a : Actor) (agenda : List Duty) → Empties a.head agenda
+    → ActionEmpties a.head (agenda_action functions rows t a agenda)
+agenda_empties functions rows t a [] e =
+    subst (λ (head : ℕ). ActionEmpties head (agenda_action functions rows t a [])) (sym (no_chain a.head e))
+    (dispatch_empties rows t a.used (code_of (slice_get functions a.function)) a.place)
+agenda_empties functions rows t a (d ∷ rest) e = e
+
+status_empties : (functions : List Function) (rows t : ℕ) (a : Actor) (status : Status) → IsEmptied a
+    → ActionEmpties a.head (status_action functions rows t a status)
+status_empties functions rows t a Gone e = tt
+status_empties functions rows t a Running e = agenda_empties functions rows t a a.agenda e
+status_empties functions rows t a Leaving e = agenda_empties functions rows t a a.agenda e
+
+action_empties : (functions : List Function) (rows t : ℕ) (a : Actor) (choice : Choice) → IsEmptied a
+    → ActionEmpties a.head (action_of functions rows t a choice)
+action_empties functions rows t a Ok e = status_empties functions rows t a a.status e
+action_empties functions rows t a Fault e = status_empties functions rows t a a.status e
+action_empties functions rows t a (Claim row) e =
+    either_empties a.head (may_claim rows t a row) (Does (ClaimMark row) [] a.place) Skip
+    (λ may. subst (Empties a.head) (claimer rows t a row may).agenda e) tt
+
+action_emptied : (m : Machine) (t : ℕ) (a : Actor) (x : Action) → AreEmptied m → slice_get m.actors t ≡ Some a
+    → ActionEmpties a.head x → AreEmptied (machine_by m t a x)
+action_emptied m t a Skip are found e = are
+action_emptied m t a Stuck are found e = are
+action_emptied m t a (Silent moves place) are found e =
     sets_emptied m.actors t a (at_place a place) found (are t a found) are
-begins_emptied m t a (Work [] place) are found none starts = are
-begins_emptied m t a (Work (d ∷ rest) place) are found none starts =
-    duty_emptied m t a (at_place a place) d rest are found
-    (subst (λ (head : ℕ). Empties head (d ∷ rest)) (sym none) starts)
+action_emptied m t a (Does d rest place) are found e = duty_emptied m t a (at_place a place) d rest are found e
 
-goes_on_emptied : (m : Machine) (t : ℕ) (a : Actor) (agenda : List Duty) → AreEmptied m → slice_get m.actors t ≡ Some a
-    → a.agenda ≡ agenda → AreEmptied (goes_on m t a agenda)
-goes_on_emptied m t a [] are found is =
-    begins_emptied m t a (begun_by m t a) are found (no_chain a.head (subst (Empties a.head) is (are t a found)))
-    (starts_empty m.rows t a.used (code_of (slice_get m.functions a.function)) a.place)
-goes_on_emptied m t a (d ∷ rest) are found is =
-    duty_emptied m t a a d rest are found (subst (Empties a.head) is (are t a found))
-
-acts_emptied : (m : Machine) (t : ℕ) (a : Actor) (status : Status) → AreEmptied m → slice_get m.actors t ≡ Some a
-    → AreEmptied (acts m t a status)
-acts_emptied m t a Gone are found = are
-acts_emptied m t a Running are found = goes_on_emptied m t a a.agenda are found refl
-acts_emptied m t a Leaving are found = goes_on_emptied m t a a.agenda are found refl
-
--- a claim is all that the thread does, and it settles
-claim_emptied : (m : Machine) (t : ℕ) (a : Actor) (row : ℕ) → AreEmptied m → slice_get m.actors t ≡ Some a
-    → AreEmptied (done_by m t a (ClaimMark row) [])
-claim_emptied m t a row are found =
-    let word = m.memory (Mark row) in
-    sets_emptied m.actors t a (actor_by t a (ClaimMark row) [] word) found
-    (ready_empties a.head (next_by t (is_running a.status) a.head (ClaimMark row) word ++ [])
-    (claim_empties (some_chain a.head) row (word == 1) [] [] refl)) are
-
-if_claims_emptied : (m : Machine) (t : ℕ) (a : Actor) (row : ℕ) (may : Bool) → AreEmptied m
-    → slice_get m.actors t ≡ Some a → AreEmptied (cond may (done_by m t a (ClaimMark row) []) m)
-if_claims_emptied m t a row true are found = claim_emptied m t a row are found
-if_claims_emptied m t a row false are found = are
-
-chosen_emptied : (m : Machine) (t : ℕ) (choice : Choice) (o : Option Actor) → AreEmptied m → slice_get m.actors t ≡ o
-    → AreEmptied (chosen m t choice o)
-chosen_emptied m t choice None are found = are
-chosen_emptied m t Ok (Some a) are found = acts_emptied m t a a.status are found
-chosen_emptied m t Fault (Some a) are found = acts_emptied m t a a.status are found
-chosen_emptied m t (Claim row) (Some a) are found = if_claims_emptied m t a row (may_claim m.rows t a row) are found
+thread_emptied : (m : Machine) (t : ℕ) (choice : Choice) (o : Option Actor) → AreEmptied m → slice_get m.actors t ≡ o
+    → AreEmptied (of_thread m (λ a. machine_by m t a (action_of m.functions m.rows t a choice)) o)
+thread_emptied m t choice None are found = are
+thread_emptied m t choice (Some a) are found =
+    action_emptied m t a (action_of m.functions m.rows t a choice) are found
+    (action_empties m.functions m.rows t a choice (are t a found))
 
 -- ---- every machine that steps lead to
 
 emptied_after : (m : Machine) (events : List (ℕ × Choice)) → AreEmptied m → AreEmptied (machine_after m events)
 emptied_after m [] are = are
 emptied_after m (e ∷ events) are =
-    emptied_after (next_machine m e) events (chosen_emptied m e.0 e.1 (slice_get m.actors e.0) are refl)
+    emptied_after (next_machine m e) events (thread_emptied m e.0 e.1 (slice_get m.actors e.0) are refl)
 
 first_emptied : (calls : List Call) (t : ℕ) (a : Actor) → slice_get (main_actor ∷ map worker_actor calls) t ≡ Some a
     → IsEmptied a

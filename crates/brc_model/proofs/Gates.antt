@@ -20,7 +20,7 @@ use Rattle.brc_model.proofs.Neutral.{memory_by}
 use Rattle.brc_model.proofs.OwnChains.{chain_here, head_low}
 use Rattle.brc_model.proofs.Closing.{GoesOn, BeginsToDie, IsClosed, life_step, IsBorn}
 use Rattle.brc_model.proofs.ClosedAfter.{live_not_closed, dying_not_closed, unborn_not_closed}
-use Rattle.brc_model.proofs.WholeEvents.{Whole}
+use Rattle.brc_model.proofs.Whole.{Whole}
 use Rattle.brc_model.proofs.WholeEvents.{event_keeps, whole_after}
 use Rattle.brc_model.proofs.Safe.{first_whole}
 use Rattle.brc_model.proofs.StepCases.{ShowsSteps, at_duty, event_shows}
@@ -115,13 +115,13 @@ gate_after p n m t a d rest x here few before =
       }
     ]
 
-gates_kept : (p : Module) (n : ℕ) → n ≤ 33
-    → ShowsSteps (λ t m new. ((x : ℕ) → GateFits m x) → (x : ℕ) → GateFits new x) p n
-gates_kept p n few = record {
-  stays = λ t m whole gates. gates;
+gates_kept : (n : ℕ) → n ≤ 33
+    → ShowsSteps (λ t m new. ((x : ℕ) → GateFits m x) → (x : ℕ) → GateFits new x) n
+gates_kept n few = record {
+  stays = λ p t m kept gates. gates;
   sits = λ t m new a place agenda found q. λ gates. q (λ x. record { is = (gates x).is; has = (gates x).has });
-  moves = λ t m a moves place whole found quiet gates x. record { is = (gates x).is; has = (gates x).has };
-  does = λ t m a d rest doing gates x. gate_after p n m t a d rest x (at_duty doing) few (gates x);
+  moves = λ p t m a moves place kept found quiet gates x. record { is = (gates x).is; has = (gates x).has };
+  does = λ p t m a d rest doing gates x. gate_after p n m t a d rest x (at_duty doing) few (gates x);
 }
 
 gates_after : (p : Module) (n : ℕ) (m : Machine) (events : List (ℕ × Choice)) → n ≤ 33 → Whole p n m
@@ -129,7 +129,7 @@ gates_after : (p : Module) (n : ℕ) (m : Machine) (events : List (ℕ × Choice
 gates_after p n m [] few whole gates = gates
 gates_after p n m (e ∷ events) few whole gates =
     gates_after p n (next_machine m e) events few (event_keeps p n m e whole).1
-    (event_shows (gates_kept p n few) m e whole gates)
+    (event_shows (gates_kept n few) m e whole gates)
 
 -- ---- in each machine that events lead to
 
@@ -148,7 +148,7 @@ gates_tell p fits accepted = λ rows calls events some most are_calls.
     let whole = first_whole p rows calls fits accepted are_calls some most in
     let few : n ≤ 33 = omega (arith, are_calls.most) in
     let gates = gates_after p n first events few whole (first_gates p rows calls) in
-    let rule = (whole_after p n first events whole).rule in
+    let rule = (whole_after p n first events whole).kept.rule in
     λ x. (λ e. rule.closed_has x ((gates x).is e), λ c. (gates x).has (rule.closed_is x c))
 
 -- ---- what is born
@@ -159,5 +159,7 @@ each_used p n m rule x born = let used = born_used p n m x rule born in (used.by
 pub born_are_used : (p : Module) → IsModule p → IsAcceptable p → Always BornAreUsed p
 born_are_used p fits accepted = λ rows calls events some most are_calls.
     let n = 1 + length calls in
-    each_used p n _ (whole_after p n (first_machine p rows calls) events
-    (first_whole p rows calls fits accepted are_calls some most)).rule
+    let whole =
+    whole_after p n (first_machine p rows calls) events
+    (first_whole p rows calls fits accepted are_calls some most) in
+    each_used whole.accounts n _ whole.kept.rule

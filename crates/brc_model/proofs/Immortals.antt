@@ -16,7 +16,7 @@ use Rattle.brc_model.proofs.Rule.{Accounts, numbers_of, Rule}
 use Rattle.brc_model.proofs.Written.{written_apart, written_load, apart_shared, apart_gate}
 use Rattle.brc_model.proofs.Leaves.{AtDuty, head_of}
 use Rattle.brc_model.proofs.Neutral.{memory_by}
-use Rattle.brc_model.proofs.WholeEvents.{Whole}
+use Rattle.brc_model.proofs.Whole.{Whole}
 use Rattle.brc_model.proofs.WholeEvents.{event_keeps}
 use Rattle.brc_model.proofs.StepCases.{ShowsSteps, at_duty, event_shows}
 use Rattle.brc_model.proofs.Nones.{next_counted, none_local}
@@ -111,9 +111,9 @@ record NoneStays (m new : Machine) : Type 0 where
   slot : new.memory (Slot 0) ≡ m.memory (Slot 0)
   resource : new.memory (Resource 0) ≡ m.memory (Resource 0)
 
-none_shown : (p : Module) (n : ℕ) → ShowsSteps (λ t m new. NoneStays m new) p n
-none_shown p n = record {
-  stays = λ t m whole. record { local = refl; shared = refl; gate = refl; kind = refl; slot = refl; resource = refl };
+none_shown : (n : ℕ) → ShowsSteps (λ t m new. NoneStays m new) n
+none_shown n = record {
+  stays = λ p t m kept. record { local = refl; shared = refl; gate = refl; kind = refl; slot = refl; resource = refl };
   sits =
       λ t m new a place agenda found shown. record {
         local = shown.local;
@@ -124,9 +124,9 @@ none_shown p n = record {
         resource = shown.resource;
       };
   moves =
-      λ t m a moves place whole found quiet. record
+      λ p t m a moves place kept found quiet. record
       { local = refl; shared = refl; gate = refl; kind = refl; slot = refl; resource = refl };
-  does = λ t m a d rest doing. record {
+  does = λ p t m a d rest doing. record {
     local = none_local p n m t a d rest (at_duty doing);
     shared = none_shared p n m t a d rest (at_duty doing);
     gate = none_gate p n m t a d rest (at_duty doing);
@@ -142,7 +142,7 @@ none_mark p n m rule = elim (rule.marks 0) [ inl none ↦ none | inr set ↦ abs
 
 none_stays : (p : Module) (n : ℕ) (m : Machine) (event : ℕ × Choice) → Whole p n m → StaysAt m (next_machine m event) 0
 none_stays p n m event whole =
-    let words = event_shows (none_shown p n) m event whole in
+    let words = event_shows (none_shown n) m event whole in
     let new = (event_keeps p n m event whole).1 in
     record {
       local = words.local;
@@ -151,11 +151,11 @@ none_stays p n m event whole =
       kind = words.kind;
       slot = words.slot;
       resource = words.resource;
-      mark = none_mark p n (next_machine m event) new.rule ∙ sym (none_mark p n m whole.rule);
-      cells = λ i. new.rule.cells 0 i ∙ sym (whole.rule.cells 0 i);
+      mark = none_mark new.accounts n (next_machine m event) new.kept.rule ∙ sym (none_mark whole.accounts n m whole.kept.rule);
+      cells = λ i. new.kept.rule.cells 0 i ∙ sym (whole.kept.rule.cells 0 i);
     }
 
 pub immortals_stay : (p : Module) (n : ℕ) (m : Machine) (event : ℕ × Choice) → Whole p n m → ImmortalsStay m event
 immortals_stay p n m event whole =
-    λ x is. subst (λ (z : ℕ). StaysAt m (next_machine m event) z) (sym (immortal_is_none p n m x whole.rule is))
+    λ x is. subst (λ (z : ℕ). StaysAt m (next_machine m event) z) (sym (immortal_is_none whole.accounts n m x whole.kept.rule is))
     (none_stays p n m event whole)

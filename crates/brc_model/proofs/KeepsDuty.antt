@@ -1,16 +1,13 @@
 -- The rule holds after a thread's first duty, where it holds of that thread and of the marks.
-use Rattle.std.proofs.Common.{◌≡◌, ℕ, ◌<◌, Bool, true, false, cond, List, ◌⊎◌, inl, inr, Some, refl, sym, ap, ◌∙◌, subst, arith}
+use Rattle.std.proofs.Common.{◌≡◌, ℕ, ◌<◌, Bool, true, false, cond, List, ◌⊎◌, Some, refl, ◌∙◌, arith}
 use Rattle.std.specs.Prelude.{slice_get, slice_set}
-use Rattle.std.proofs.lemmas.Bool.Decides.{eqb_tells}
 use Rattle.std.proofs.lemmas.List.{length-set}
 use Rattle.std.proofs.lemmas.Option.{slice_get_within}
-use Rattle.brc_model.specs.Plain.{same}
 use Rattle.brc_model.specs.declared.duty.Duty.{Duty}
 use Rattle.brc_model.specs.declared.duty.Duty.TheVariants.{SettleCell}
 use Rattle.brc_model.specs.declared.address.Address.TheVariants.{Cell, Mark}
 use Rattle.brc_model.specs.declared.actor.Status.TheVariants.{Gone}
 use Rattle.brc_model.specs.Machine.{Actor, Machine, actor_by, done_by, same_address}
-use Rattle.brc_model.proofs.Lists.{some_is, slice_get-set_same, slice_get-set_other}
 use Rattle.brc_model.proofs.Rule.{Accounts, Fits, IsWatched, Rule}
 use Rattle.brc_model.proofs.Others.{each_fits}
 use Rattle.brc_model.proofs.MovesApart.{moves_apart, moves_off_cells}

@@ -61,7 +61,10 @@ pub mod OwnSettles
 pub mod Settled
 pub mod OwnExits
 pub mod Watches
+pub mod Kept
 pub mod Whole
+pub mod Claims
+pub mod Actions
 pub mod WholeEvents
 pub mod Safe
 pub mod FewHeld

@@ -24,7 +24,7 @@ use Rattle.brc_model.proofs.Rule.{Later, Agenda, AgendaFits, scans, looks, statu
 use Rattle.brc_model.proofs.Rule as rule
 use Rattle.brc_model.proofs.OwnExits.{marked_born}
 use Rattle.brc_model.proofs.Watches.{marked_within}
-use Rattle.brc_model.proofs.WholeEvents.{Whole}
+use Rattle.brc_model.proofs.Whole.{Whole}
 use Rattle.brc_model.proofs.WholeEvents.{whole_after}
 use Rattle.brc_model.proofs.Safe.{first_whole}
 use Rattle.brc_model.proofs.Blocks.{born_used}
@@ -40,8 +40,8 @@ status_runs Gone e = absurd (omega (arith, e))
 by_running : (p : Module) (n : ℕ) (m : Machine) (x : ℕ) → Whole p n m → m.memory (Mark x) ≡ 1
     → m.memory (ThreadWord (block_of m.rows x)) ≡ 1 → IsWatched m x
 by_running p n m x whole marked word =
-    let used = born_used p n m x whole.rule (marked_born p n m x whole.rule marked) in
-    let fits = (whole.rule.each (block_of m.rows x) used.by used.found).0 in
+    let used = born_used whole.accounts n m x whole.kept.rule (marked_born whole.accounts n m x whole.kept.rule marked) in
+    let fits = (whole.kept.rule.each (block_of m.rows x) used.by used.found).0 in
     ByRunning (used.by, used.found, status_runs used.by.status (sym fits.word ∙ word))
 
 -- ---- by an exit
@@ -94,8 +94,8 @@ by_exit : (p : Module) (n : ℕ) (m : Machine) (x : ℕ) (a : Actor) → Whole p
     → slice_get m.actors (block_of m.rows x) ≡ Some a → scans x a.agenda ≡ true → IsWatched m x
 by_exit p n m x a whole marked found e =
     let t = block_of m.rows x in
-    let within = marked_within p n m t a x whole.rule found marked refl in
-    let shown = exit_scans m.rows t a a.status x (whole.rule.each t a found).1 within.1 e in
+    let within = marked_within whole.accounts n m t a x whole.kept.rule found marked refl in
+    let shown = exit_scans m.rows t a a.status x (whole.kept.rule.each t a found).1 within.1 e in
     ByExit a found shown.0 shown.1
 
 -- ---- by a look
@@ -120,7 +120,7 @@ watched_so p n m x whole marked (rule.ByLook weighs) = by_look m x weighs
 
 all_watched : (p : Module) (n : ℕ) (m : Machine) → Whole p n m → MarksWatched m
 all_watched p n m whole = λ x set.
-    elim (whole.rule.marks x) [
+    elim (whole.kept.rule.marks x) [
       | inl none ↦ absurd (set none)
       | inr marked ↦ watched_so p n m x whole marked.0 marked.2
     ]

@@ -4,10 +4,9 @@ use Rattle.std.specs.Prelude.{◌==◌, ◌&&◌, ◌||◌, count_by, slice_get,
 use Rattle.std.specs.List.{list_any}
 use Rattle.std.proofs.lemmas.Bool.{eq-eqb, ne_eqb, lt-ltb}
 use Rattle.std.proofs.lemmas.List.Sums.{sum_by-cons}
-use Rattle.brc_lang.specs.declared.module.Instr.{Instr}
 use Rattle.brc_model.specs.declared.duty.Holding.{Holding}
 use Rattle.brc_model.specs.declared.duty.Holding.TheVariants.{ByVariable, AsCaller, InHand}
-use Rattle.brc_model.specs.Plain.{none_row, is_counted, is_among, Reference, Plain, same_holding, same, references_to, Move, Gain, Lose, HandOn, Finalise, is_allowed, are_allowed, Born, ByThread, holds_by_cells, move, without}
+use Rattle.brc_model.specs.Plain.{none_row, is_counted, is_among, Plain, same_holding, same, references_to, Move, Gain, Lose, HandOn, Finalise, is_allowed, are_allowed, Born, ByThread, holds_by_cells, move, without}
 use Rattle.brc_word.specs.Words.{local_part, is_immortal_word}
 use Rattle.brc_model.specs.declared.duty.Reason.TheVariants.{Own, Handed}
 use Rattle.brc_model.specs.declared.duty.Duty.{Duty}
@@ -16,12 +15,10 @@ use Rattle.brc_lang.specs.declared.kind.Kind.{Kind}
 use Rattle.brc_model.specs.Kinds.{kind_of_word, is_counted_kind}
 use Rattle.brc_model.specs.declared.address.Address.TheVariants.{Local, KindOf}
 use Rattle.brc_model.specs.Duties.{address_of}
-use Rattle.brc_model.specs.declared.actor.Place.{Place}
-use Rattle.brc_model.specs.declared.actor.Place.TheVariants.{Standing, Inside, Departing}
 use Rattle.brc_model.specs.Machine.{Actor, Unborn, Live, Dying, Closed, Machine, hand_on, gain, lose, moves_by, birth, take_out}
 use Rattle.brc_model.specs.Events.{touched_row, is_freed_for, touches_freed, is_bad_duty}
 use Rattle.brc_model.proofs.Bag.{held, one_if, same_holding-refl, held_has, held-le-references_to, no_cell_holds, same-refl}
-use Rattle.brc_model.proofs.Holds.{nothing, the_root, of_variables, reference_of}
+use Rattle.brc_model.proofs.Holds.{reference_of}
 use Rattle.brc_model.proofs.Rows.{waits, decides, merges, InOwned, InSwapped, InMerged}
 use Rattle.brc_model.proofs.Rule.{Accounts, extra_of, lacks_of, IsBacked, Linked, dies_by, Rule, IsNext}
 use Rattle.brc_model.proofs.Agreeing.{is_free_of}

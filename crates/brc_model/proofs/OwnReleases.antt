@@ -4,7 +4,6 @@ use Rattle.std.proofs.Common.{◌≡◌, ℕ, ◌+◌, ◌-◌, ◌<◌, Bool, t
 use Rattle.std.specs.Prelude.{◌==◌, ◌&&◌}
 use Rattle.std.specs.List.{list_any}
 use Rattle.std.proofs.lemmas.Bool.{eqb-true, eq-eqb, ne_eqb}
-use Rattle.brc_lang.specs.declared.module.Instr.{Instr}
 use Rattle.brc_model.specs.declared.duty.Holding.{Holding}
 use Rattle.brc_model.specs.declared.duty.Holding.TheVariants.{ByVariable, AsCaller, InHand}
 use Rattle.brc_model.specs.Plain.{Reference, same_holding, same, without, moved}
@@ -16,11 +15,9 @@ use Rattle.brc_model.specs.declared.duty.Duty.TheVariants.{RetainStore, RetainAd
 use Rattle.brc_model.specs.declared.address.Address.TheVariants.{Local, Shared}
 use Rattle.brc_model.specs.Duties.{counts_locally}
 use Rattle.brc_model.specs.declared.actor.Status.TheVariants.{Gone}
-use Rattle.brc_model.specs.declared.actor.Place.{Place}
-use Rattle.brc_model.specs.declared.actor.Place.TheVariants.{Standing, Inside, Departing}
 use Rattle.brc_model.specs.Machine.{Actor, Machine, is_running, lose, hand_on, done_by, actor_by}
 use Rattle.brc_model.proofs.Bag.{held, one_if, same_holding-refl, held-cons, held-without, held_has, held-le-references_to}
-use Rattle.brc_model.proofs.Holds.{nothing, the_root, of_variables, reference_of}
+use Rattle.brc_model.proofs.Holds.{reference_of}
 use Rattle.brc_model.proofs.Rows.{InOwned, InSwapped, InMerged}
 use Rattle.brc_model.proofs.RowSteps.{owner_down}
 use Rattle.brc_model.proofs.Rule.{Accounts, extra_of, lacks_of, NoneHanded, HandedOnce}

@@ -17,7 +17,7 @@ use Rattle.brc_model.proofs.Written.{written_here, written_apart, written_load, 
 use Rattle.brc_model.proofs.Leaves.{AtDuty, head_of, locals_left}
 use Rattle.brc_model.proofs.Neutral.{memory_by}
 use Rattle.brc_model.proofs.Sits.{sitting}
-use Rattle.brc_model.proofs.WholeEvents.{Whole}
+use Rattle.brc_model.proofs.Whole.{Whole}
 use Rattle.brc_model.proofs.StepCases.{ShowsSteps, at_duty, event_shows}
 use Rattle.brc_model.proofs.Immortals.{counted_low}
 use Rattle.brc_model.proofs.Blocks.{next_unborn}
@@ -63,18 +63,18 @@ counts_at_duty p n m t a d rest here = λ x owner owns runs changed.
       | inr apart ↦ absurd (changed (local_left p n m t a d rest x owner here (λ e. apart.1 (sym e)) owns runs))
     ]
 
-counts_shown : (p : Module) (n : ℕ) → ShowsSteps CountsSo p n
-counts_shown p n = record {
-  stays = λ t m whole x owner owns runs changed. absurd (changed refl);
+counts_shown : (n : ℕ) → ShowsSteps CountsSo n
+counts_shown n = record {
+  stays = λ p t m kept x owner owns runs changed. absurd (changed refl);
   sits =
       λ t m new a place agenda found shown x owner owns runs changed. shown x owner owns
       (runs_still m t owner a place agenda found runs) changed;
-  moves = λ t m a moves place whole found quiet x owner owns runs changed. absurd (changed refl);
-  does = λ t m a d rest doing. counts_at_duty p n m t a d rest (at_duty doing);
+  moves = λ p t m a moves place kept found quiet x owner owns runs changed. absurd (changed refl);
+  does = λ p t m a d rest doing. counts_at_duty p n m t a d rest (at_duty doing);
 }
 
 pub only_owners_count : (p : Module) (n : ℕ) (m : Machine) (event : ℕ × Choice) → Whole p n m → OnlyOwnersCount m event
-only_owners_count p n m event whole = event_shows (counts_shown p n) m event whole
+only_owners_count p n m event whole = event_shows (counts_shown n) m event whole
 
 -- ---- owners
 
@@ -112,14 +112,14 @@ owned_after p n m t a (BirthLocal y h) rest x here born =
 owned_after p n m t a (MergeSwap y r) rest x here born = owned_at m y 0 x (inr refl)
 owned_after p n m t a _ rest x here born = inl refl
 
-owners_shown : (p : Module) (n : ℕ)
-    → ShowsSteps (λ t m new. (x : ℕ) → m.life x ≢ Unborn → OwnedSo (new.memory (Local x)) (m.memory (Local x))) p n
-owners_shown p n = record {
-  stays = λ t m whole x born. inl refl;
+owners_shown : (n : ℕ)
+    → ShowsSteps (λ t m new. (x : ℕ) → m.life x ≢ Unborn → OwnedSo (new.memory (Local x)) (m.memory (Local x))) n
+owners_shown n = record {
+  stays = λ p t m kept x born. inl refl;
   sits = λ t m new a place agenda found shown. shown;
-  moves = λ t m a moves place whole found quiet x born. inl refl;
-  does = λ t m a d rest doing x born. owned_after p n m t a d rest x (at_duty doing) born;
+  moves = λ p t m a moves place kept found quiet x born. inl refl;
+  does = λ p t m a d rest doing x born. owned_after p n m t a d rest x (at_duty doing) born;
 }
 
 pub owners_stay : (p : Module) (n : ℕ) (m : Machine) (event : ℕ × Choice) → Whole p n m → OwnersStay m event
-owners_stay p n m event whole = event_shows (owners_shown p n) m event whole
+owners_stay p n m event whole = event_shows (owners_shown n) m event whole

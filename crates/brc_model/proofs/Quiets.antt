@@ -1,6 +1,6 @@
 -- A thread at rest stands elsewhere, and some of its references move: the moves are allowed, and the rule holds
 -- afterwards.
-use Rattle.std.proofs.Common.{◌≡◌, ◌≢◌, ℕ, ◌<◌, Bool, true, false, List, [], inl, inr, Some, refl, sym, ap, ◌∙◌, subst, arith, ◌≤◌}
+use Rattle.std.proofs.Common.{◌≡◌, ◌≢◌, ℕ, ◌<◌, Bool, true, false, List, [], inl, inr, refl, sym, ap, ◌∙◌, subst, arith, ◌≤◌}
 use Rattle.std.specs.Prelude.{count_by, ◌==◌, ◌&&◌, slice_get, slice_set, AllPairs}
 use Rattle.std.proofs.lemmas.Bool.{ne_eqb, false≢true}
 use Rattle.std.proofs.lemmas.Bool.Decides.{eqb_tells}
@@ -13,12 +13,12 @@ use Rattle.brc_model.specs.declared.actor.Status.{Status}
 use Rattle.brc_model.specs.declared.actor.Place.{Place}
 use Rattle.brc_model.specs.declared.actor.Place.TheVariants.{Departing}
 use Rattle.brc_model.specs.Machine.{Actor, Machine, with_actor, with_moves}
-use Rattle.brc_model.proofs.Lists.{some_is, written_actor, slice_get-set_same, slice_get-set_other}
+use Rattle.brc_model.proofs.Lists.{some_is, written_actor, slice_get-set_other}
 use Rattle.brc_model.proofs.Bag.{one_if, references_to-cons, references_to-without, other_thread, cell_reference}
 use Rattle.brc_model.proofs.Holds.{reference_of}
 use Rattle.brc_model.proofs.MovesApart.{AreAside, IsNoWayOf, moved_aside}
 use Rattle.brc_model.proofs.Rows.{waits, carries, merges, decides, weight, Numbers, RowRule}
-use Rattle.brc_model.proofs.Rule.{Account, Accounts, HoldsAt, IsBounded, Fits, numbers_of, scans, ActorFits, AgendaFits, UsesFit, looks, IsWatched, ByRunning, ByExit, ByLook, Rule, ChainFits}
+use Rattle.brc_model.proofs.Rule.{Account, Accounts, HoldsAt, IsBounded, Fits, numbers_of, scans, AgendaFits, UsesFit, looks, IsWatched, ByRunning, ByExit, ByLook, Rule, ChainFits}
 use Rattle.brc_lang.specs.declared.kind.Kind.{Kind}
 use Rattle.brc_model.specs.Kinds.{kind_number}
 use Rattle.brc_model.proofs.Others.{LeavesOthers, each_fits}

@@ -1,9 +1,8 @@
 -- What a step on its duty's own row starts from: its words, its weights and the references that its thread has.
-use Rattle.std.proofs.Common.{◌≡◌, ℕ, ◌+◌, ◌<◌, ◌≤◌, Bool, true, false, cond, List, refl, sym, ap, ◌∙◌, subst, arith}
+use Rattle.std.proofs.Common.{◌≡◌, ℕ, ◌+◌, ◌<◌, ◌≤◌, Bool, true, false, cond, List, refl, sym, ap, ◌∙◌, arith}
 use Rattle.std.specs.Prelude.{◌==◌}
 use Rattle.std.specs.List.{list_any}
 use Rattle.std.proofs.lemmas.Bool.{eq-eqb, ne_eqb}
-use Rattle.brc_lang.specs.declared.module.Instr.{Instr}
 use Rattle.brc_model.specs.declared.duty.Holding.{Holding}
 use Rattle.brc_model.specs.Plain.{Reference, same, without, references_to}
 use Rattle.brc_word.specs.Words.{local_part, is_immortal_word}
@@ -11,11 +10,9 @@ use Rattle.brc_model.specs.declared.duty.Duty.{Duty}
 use Rattle.brc_model.specs.declared.address.Address.{Address}
 use Rattle.brc_model.specs.declared.address.Address.TheVariants.{Local, Shared, Mark}
 use Rattle.brc_model.specs.Duties.{block_of}
-use Rattle.brc_model.specs.declared.actor.Place.{Place}
-use Rattle.brc_model.specs.declared.actor.Place.TheVariants.{Standing, Inside, Departing}
 use Rattle.brc_model.specs.Machine.{Life, Live, Actor, Machine, written, same_address, with_life, ended_row, born_row, done_by}
 use Rattle.brc_model.proofs.Bag.{held, one_if, held_has, held-le-references_to, references_to-without}
-use Rattle.brc_model.proofs.Holds.{nothing, the_root, of_variables, reference_of}
+use Rattle.brc_model.proofs.Holds.{reference_of}
 use Rattle.brc_model.proofs.Rows.{Numbers, InOwned, InSwapped, InMerged, IsLive}
 use Rattle.brc_model.proofs.Rule.{Accounts, numbers_of, extra, lacks, extra_of, lacks_of, IsBacked}
 use Rattle.brc_model.proofs.Alive.{extra_held}

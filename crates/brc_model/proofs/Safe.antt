@@ -15,7 +15,6 @@ use Rattle.brc_model.specs.declared.address.Address.TheVariants.{Mark, ThreadWor
 use Rattle.brc_model.specs.Duties.{block_of}
 use Rattle.brc_model.specs.declared.actor.Status.{Status}
 use Rattle.brc_model.specs.declared.actor.Status.TheVariants.{Running, Leaving, Gone}
-use Rattle.brc_model.specs.declared.actor.Place.{Place}
 use Rattle.brc_model.specs.declared.actor.Place.TheVariants.{Departing}
 use Rattle.brc_model.specs.Machine.{Actor, Life, Unborn, Live, Dying, Closed, Machine, main_actor, worker_actor, first_machine}
 use Rattle.brc_model.specs.Safety.{AreCalls, has_gone, AllGone, IsHeldByOpenList, IsSafeNow, Safe}
@@ -28,7 +27,8 @@ use Rattle.brc_model.proofs.Agreeing.{agrees_at, is_free_of}
 use Rattle.brc_model.proofs.Deciders.{sum_zero}
 use Rattle.brc_model.proofs.Settled.{IsSettled}
 use Rattle.brc_model.proofs.FirstMachine.{first_accounts, first_rule, first_coded}
-use Rattle.brc_model.proofs.WholeEvents.{Whole, event_keeps, whole_after}
+use Rattle.brc_model.proofs.Whole.{Whole}
+use Rattle.brc_model.proofs.WholeEvents.{event_keeps, whole_after}
 use Rattle.brc_model.proofs.Blocks.{born_used}
 
 -- ---- when all threads are gone

@@ -2,9 +2,9 @@
 use Rattle.std.proofs.Common.{◌≡◌, ◌≢◌, ℕ, Bool, false, cond, List, [], ◌∷◌, inl, inr, Some, refl, sym, ap, ◌∙◌, subst, arith}
 use Rattle.std.specs.Prelude.{◌==◌, slice_get, slice_set, sum_by}
 use Rattle.std.proofs.lemmas.Bool.{false≢true, eq-eqb, ne_eqb}
+use Rattle.std.proofs.Math.Path.{fun_ext}
 use Rattle.std.proofs.lemmas.Bool.Decides.{eqb_tells}
 use Rattle.std.proofs.lemmas.List.{length-set, set-set}
-use Rattle.std.proofs.lemmas.Option.{slice_get_within}
 use Rattle.brc_model.specs.declared.duty.Duty.{Duty}
 use Rattle.brc_model.specs.Duties.{block_of, address_of}
 use Rattle.brc_model.specs.declared.actor.Status.{Status}
@@ -12,11 +12,11 @@ use Rattle.brc_model.specs.declared.actor.Status.TheVariants.{Running}
 use Rattle.brc_model.specs.declared.actor.Place.{Place}
 use Rattle.brc_model.specs.declared.actor.Place.TheVariants.{Departing}
 use Rattle.brc_model.specs.Machine.{Actor, Machine, at_place, with_actor, actor_by, done_by}
-use Rattle.brc_model.proofs.Lists.{some_is, slice_get-set_same, slice_get-set_other, written_actor}
+use Rattle.brc_model.proofs.Lists.{some_is, slice_get-set_other, written_actor}
 use Rattle.brc_model.proofs.Bag.{one_if}
 use Rattle.brc_model.proofs.Weights.{weight-set}
 use Rattle.brc_model.proofs.Rows.{waits, carries, merges, decides, agenda_weight, weight, Numbers, RowRule}
-use Rattle.brc_model.proofs.Rule.{Account, Accounts, numbers_of, HoldsAt, HoldsNone, IsBounded, Fits, HeadOf, Agenda, HandedOnce, scans, hand_of, ActorFits, AgendaFits, looks, IsWatched, ByRunning, ByExit, ByLook, Rule, UsesFit}
+use Rattle.brc_model.proofs.Rule.{Account, Accounts, numbers_of, HoldsAt, HoldsNone, IsBounded, Fits, HeadOf, Agenda, HandedOnce, scans, hand_of, AgendaFits, looks, IsWatched, ByRunning, ByExit, ByLook, Rule, UsesFit}
 use Rattle.brc_model.proofs.Others.{LeavesOthers, each_fits}
 
 -- the thread with another place and agenda
@@ -31,8 +31,20 @@ with_account p t account u = cond (u == t) account (p u)
 pub with_account_same : (p : Accounts) (t : ℕ) (account : Account) → account ≡ with_account p t account t
 with_account_same p t account = sym (ap (λ (b : Bool). cond b account (p t)) (eq-eqb t t refl))
 
+with_account_here : (p : Accounts) (t : ℕ) (account : Account) (u : ℕ) → u ≡ t → account ≡ with_account p t account u
+with_account_here p t account u this =
+    sym (ap (λ (b : Bool). cond b account (p u)) (eq-eqb u t this))
+
 pub with_account_other : (p : Accounts) (t : ℕ) (account : Account) (u : ℕ) → u ≢ t → p u ≡ with_account p t account u
 with_account_other p t account u ne = sym (ap (λ (b : Bool). cond b account (p u)) (ne_eqb u t ne))
+
+pub with_account_itself : (p : Accounts) (t : ℕ) → with_account p t (p t) ≡ p
+with_account_itself p t =
+    fun_ext (λ (u : ℕ).
+    elim (eqb_tells u t) [
+      | inl this ↦ sym (with_account_here p t (p t) u this.1) ∙ ap p (sym this.1)
+      | inr apart ↦ sym (with_account_other p t (p t) u apart.1)
+    ])
 
 -- What a thread has to show to take up work: its account is then that of the place where it will stand.
 pub record Sits (m : Machine) (t : ℕ) (a : Actor) (place : Place) (agenda : List Duty) (account : Account)

@@ -14,7 +14,7 @@ use Rattle.brc_model.proofs.RowSteps.{shared_range, shared_up, shared_down, shar
 use Rattle.brc_model.proofs.Written.{written_here, written_apart, apart_shared}
 use Rattle.brc_model.proofs.Leaves.{AtDuty, exchange_alive}
 use Rattle.brc_model.proofs.Neutral.{memory_by}
-use Rattle.brc_model.proofs.WholeEvents.{Whole}
+use Rattle.brc_model.proofs.Whole.{Whole}
 use Rattle.brc_model.proofs.StepCases.{ShowsSteps, at_duty, event_shows}
 use Rattle.brc_model.proofs.Rule.{Accounts}
 
@@ -90,14 +90,14 @@ rises p n m t a _ rest x here = omega arith
 
 -- ---- each event
 
-states_shown : (p : Module) (n : ℕ)
-    → ShowsSteps (λ t m new. (x : ℕ) → phase_part (m.memory (Shared x)) ≤ phase_part (new.memory (Shared x))) p n
-states_shown p n = record {
-  stays = λ t m whole x. omega arith;
+states_shown : (n : ℕ)
+    → ShowsSteps (λ t m new. (x : ℕ) → phase_part (m.memory (Shared x)) ≤ phase_part (new.memory (Shared x))) n
+states_shown n = record {
+  stays = λ p t m kept x. omega arith;
   sits = λ t m new a place agenda found shown. shown;
-  moves = λ t m a moves place whole found quiet x. omega arith;
-  does = λ t m a d rest doing x. rises p n m t a d rest x (at_duty doing);
+  moves = λ p t m a moves place kept found quiet x. omega arith;
+  does = λ p t m a d rest doing x. rises p n m t a d rest x (at_duty doing);
 }
 
 pub states_rise : (p : Module) (n : ℕ) (m : Machine) (event : ℕ × Choice) → Whole p n m → StatesRise m event
-states_rise p n m event whole = event_shows (states_shown p n) m event whole
+states_rise p n m event whole = event_shows (states_shown n) m event whole

@@ -1,28 +1,25 @@
 -- Each step of a world that steps lead to asks for words that are there, and finds words that suit its duty.
-use Rattle.std.proofs.Common.{◌≡◌, ℕ, zero, suc, ◌+◌, ◌-◌, ◌*◌, ◌<◌, ◌≤◌, List, [], ◌∷◌, length, Some, refl, sym, ap, ◌∙◌, subst, arith}
+use Rattle.std.proofs.Common.{◌≡◌, ℕ, zero, suc, ◌+◌, ◌-◌, ◌*◌, ◌<◌, ◌≤◌, List, ◌∷◌, length, Some, refl, sym, ap, ◌∙◌, subst, arith}
 use Rattle.std.specs.Prelude.{slice_get}
 use Rattle.std.proofs.lemmas.List.{length-set}
 use Rattle.std.proofs.lemmas.Option.{slice_get_within}
 use Rattle.brc_lang.specs.declared.module.Module.{Module}
 use Rattle.brc_model.specs.declared.duty.Duty.{Duty}
 use Rattle.brc_model.specs.declared.duty.Duty.TheVariants.{RetainLoad, RetainStore, RetainAdd, ReleaseLoad, ReleaseStore, DecideAtZero, SharedLoad, SharedExchange, SetMark, Look, TakeMark, MergeSwap, MergeLoad, MergeExchange, Die, Settle, SettleKind, SettleCell, TakeSlot, CloseResource, SettleEnd, Leave, Scan, Finish, ClaimMark, BirthKind, BirthSlot, BirthLocal}
-use Rattle.brc_model.specs.declared.actor.Status.TheVariants.{Running, Gone}
+use Rattle.brc_model.specs.declared.actor.Status.TheVariants.{Gone}
 use Rattle.brc_model.specs.declared.actor.Place.{Place}
-use Rattle.brc_model.specs.Threads.{code_of}
 use Rattle.brc_model.specs.Duties.{address_of}
-use Rattle.brc_model.specs.Machine.{Actor, Machine, Begun, Work, begun_by, is_running, with_actor, first_machine, machine_after, used_by}
+use Rattle.brc_model.specs.Machine.{Actor, Machine, is_running, with_actor, first_machine, machine_after, used_by}
 use Rattle.brc_model.specs.World.{World, world_of, row_count, IsReachable}
 use Rattle.brc_model.specs.Within.{IsThere, Suits, IsWithin, StepsWithin}
-use Rattle.brc_model.proofs.Lists.{slice_get-set_same}
 use Rattle.brc_model.proofs.Leaves.{AtDuty, head_of}
 use Rattle.brc_model.proofs.Neutral.{agenda_here}
-use Rattle.brc_model.proofs.Begins.{Taken, IsTaken}
-use Rattle.brc_model.proofs.Sits.{sitting, AtRest}
-use Rattle.brc_model.proofs.TakenSits.{taken_sits, rests, begun_fits}
-use Rattle.brc_model.proofs.Whole.{Whole, whole_sits, starts_settled}
+use Rattle.brc_model.proofs.Sits.{sitting, with_account}
+use Rattle.brc_model.proofs.Kept.{Doing}
+use Rattle.brc_model.proofs.Actions.{DutyFits, ActionFits, action_fits}
 use Rattle.brc_model.proofs.Safe.{first_whole}
-use Rattle.brc_model.proofs.Ranges.{limit, IsSmall, AreSmall, head_small}
-use Rattle.brc_model.proofs.RangesEvents.{starts_small, claim_small, Bounded, bounded_after, first_ranges}
+use Rattle.brc_model.proofs.Ranges.{limit, IsSmall, head_small}
+use Rattle.brc_model.proofs.RangesEvents.{Bounded, bounded_after, first_ranges}
 use Rattle.brc_model.proofs.Bounds.{duty_suits}
 use Rattle.brc_model.proofs.Blocks.{used_low, block_within}
 use Rattle.brc_model.proofs.Rule.{Accounts, Rule}
@@ -31,45 +28,45 @@ use Rattle.std.proofs.Math.Nat.{mul-le-mul_right}
 
 -- ---- the word is there
 
-duty_there : (p : Module) (n : ℕ) (m : Machine) (t : ℕ) (a : Actor) (d : Duty) (rest : List Duty) → Whole p n m
+duty_there : (p : Accounts) (n : ℕ) (m : Machine) (t : ℕ) (a : Actor) (d : Duty) (rest : List Duty)
     → AtDuty p n m t a d rest → (a.status ≡ Gone → ⊥) → IsSmall (limit n m) d
     → IsThere (limit n m) (length m.actors) (address_of m.rows t a.head d)
-duty_there p n m t a (RetainLoad x h) rest whole here alive small = small
-duty_there p n m t a (RetainStore x h w) rest whole here alive small = small
-duty_there p n m t a (RetainAdd x h) rest whole here alive small = small
-duty_there p n m t a (ReleaseLoad x h) rest whole here alive small = small
-duty_there p n m t a (ReleaseStore x w) rest whole here alive small = small
-duty_there p n m t a (DecideAtZero x) rest whole here alive small = small
-duty_there p n m t a (SharedLoad x r) rest whole here alive small = small
-duty_there p n m t a (SharedExchange x r w) rest whole here alive small = small
-duty_there p n m t a (SetMark x) rest whole here alive small = small
-duty_there p n m t a (Look x) rest whole here alive small =
+duty_there p n m t a (RetainLoad x h) rest here alive small = small
+duty_there p n m t a (RetainStore x h w) rest here alive small = small
+duty_there p n m t a (RetainAdd x h) rest here alive small = small
+duty_there p n m t a (ReleaseLoad x h) rest here alive small = small
+duty_there p n m t a (ReleaseStore x w) rest here alive small = small
+duty_there p n m t a (DecideAtZero x) rest here alive small = small
+duty_there p n m t a (SharedLoad x r) rest here alive small = small
+duty_there p n m t a (SharedExchange x r w) rest here alive small = small
+duty_there p n m t a (SetMark x) rest here alive small = small
+duty_there p n m t a (Look x) rest here alive small =
     let within : t < n = omega (arith, slice_get_within m.actors t a here.found, here.rule.threads) in
     omega (arith, block_within m.rows n x here.rule.some_rows (omega (arith, within)) small, here.rule.threads)
-duty_there p n m t a (TakeMark x) rest whole here alive small = small
-duty_there p n m t a (MergeSwap x r) rest whole here alive small = small
-duty_there p n m t a (MergeLoad x c) rest whole here alive small = small
-duty_there p n m t a (MergeExchange x c w) rest whole here alive small = small
-duty_there p n m t a (Die x) rest whole here alive small = small
-duty_there p n m t a Settle rest whole here alive small = omega (arith, head_small p n m t a here.rule here.found)
-duty_there p n m t a (SettleKind x) rest whole here alive small = small
-duty_there p n m t a (SettleCell x i c) rest whole here alive small =
+duty_there p n m t a (TakeMark x) rest here alive small = small
+duty_there p n m t a (MergeSwap x r) rest here alive small = small
+duty_there p n m t a (MergeLoad x c) rest here alive small = small
+duty_there p n m t a (MergeExchange x c w) rest here alive small = small
+duty_there p n m t a (Die x) rest here alive small = small
+duty_there p n m t a Settle rest here alive small = omega (arith, head_small p n m t a here.rule here.found)
+duty_there p n m t a (SettleKind x) rest here alive small = small
+duty_there p n m t a (SettleCell x i c) rest here alive small =
     let (pos, dies, more) = head_of p n m t a (SettleCell x i c) rest here in
     (small.0, omega (arith, more, small.1))
-duty_there p n m t a (TakeSlot x) rest whole here alive small = small
-duty_there p n m t a (CloseResource x) rest whole here alive small = small
-duty_there p n m t a (SettleEnd x) rest whole here alive small = small
-duty_there p n m t a (Leave x c) rest whole here alive small = slice_get_within m.actors t a here.found
-duty_there p n m t a (Scan x c) rest whole here alive small =
+duty_there p n m t a (TakeSlot x) rest here alive small = small
+duty_there p n m t a (CloseResource x) rest here alive small = small
+duty_there p n m t a (SettleEnd x) rest here alive small = small
+duty_there p n m t a (Leave x c) rest here alive small = slice_get_within m.actors t a here.found
+duty_there p n m t a (Scan x c) rest here alive small =
     let fits = agenda_here p n m t a (Scan x c) rest here alive in
     let some = head_of p n m t a (Scan x c) rest here in
     used_low p n m t a x here.rule here.found
     (omega (arith, slice_get_within m.actors t a here.found, here.rule.threads)) (omega (arith, fits.2, some))
-duty_there p n m t a Finish rest whole here alive small = slice_get_within m.actors t a here.found
-duty_there p n m t a (ClaimMark x) rest whole here alive small = small
-duty_there p n m t a (BirthKind x h w) rest whole here alive small = small.0
-duty_there p n m t a (BirthSlot x h) rest whole here alive small = small
-duty_there p n m t a (BirthLocal x h) rest whole here alive small = small
+duty_there p n m t a Finish rest here alive small = slice_get_within m.actors t a here.found
+duty_there p n m t a (ClaimMark x) rest here alive small = small
+duty_there p n m t a (BirthKind x h w) rest here alive small = small.0
+duty_there p n m t a (BirthSlot x h) rest here alive small = small
+duty_there p n m t a (BirthLocal x h) rest here alive small = small
 
 -- ---- the thread has no more rows than there are
 
@@ -89,39 +86,34 @@ duty_used p n m t a d rest here =
 
 -- ---- a duty
 
-duty_within : (p : Module) (n : ℕ) (m : Machine) (t : ℕ) (a : Actor) (d : Duty) (rest : List Duty) → Whole p n m
-    → slice_get m.actors t ≡ Some a → a.agenda ≡ d ∷ rest → (a.status ≡ Gone → ⊥) → IsSmall (limit n m) d → n ≤ 33
-    → IsWithin (world_of m) t a d
-duty_within p n m t a d rest whole found is alive small few =
-    let here : AtDuty p n m t a d rest = record { rule = whole.rule; found = found; agenda = is } in
+duty_within : (p : Accounts) (n : ℕ) (m : Machine) (t : ℕ) (a : Actor) (d : Duty) (rest : List Duty)
+    → Doing p n m t a d rest → IsSmall (limit n m) d → n ≤ 33 → IsWithin (world_of m) t a d
+duty_within p n m t a d rest doing small few =
+    let rule = doing.kept.rule in
+    let here : AtDuty p n m t a d rest = record { rule = rule; found = doing.found; agenda = doing.agenda } in
     record {
       there =
           subst (λ (l : ℕ). IsThere (2 + (l - 1) * m.rows) (length m.actors) (address_of m.rows t a.head d))
-          (sym whole.rule.threads) (duty_there p n m t a d rest whole here alive small);
+          (sym rule.threads) (duty_there p n m t a d rest here doing.alive small);
       head =
-          subst (λ (l : ℕ). a.head ≤ 2 + (l - 1) * m.rows) (sym whole.rule.threads)
-          (head_small p n m t a whole.rule found);
+          subst (λ (l : ℕ). a.head ≤ 2 + (l - 1) * m.rows) (sym rule.threads)
+          (head_small p n m t a rule doing.found);
       used =
-          subst (λ (l : ℕ). used_by a.used d ≤ 2 + (l - 1) * m.rows) (sym whole.rule.threads)
+          subst (λ (l : ℕ). used_by a.used d ≤ 2 + (l - 1) * m.rows) (sym rule.threads)
           (duty_used p n m t a d rest here);
-      suits = duty_suits p n m t a d rest (row_count (world_of m)) here alive few;
+      suits = duty_suits p n m t a d rest (row_count (world_of m)) here doing.alive few;
     }
 
--- what is taken up, by the thread that already has it
-taken_within : (p : Module) (n : ℕ) (m : Machine) (t : ℕ) (a : Actor) (d : Duty) (rest : List Duty) (place : Place)
-    → Whole p n m → AtRest p n m t a → n ≤ 33
-    → Taken (code_of (slice_get p.functions a.function)) m.plain.references m.rows t a.used place d rest
+-- a duty that the thread does, by the thread that already has it in its agenda
+does_within : (p : Module) (n : ℕ) (m : Machine) (t : ℕ) (a : Actor) (d : Duty) (rest : List Duty) (place : Place)
+    → (bounded : Bounded p n m) → n ≤ 33 → slice_get m.actors t ≡ Some a
+    → DutyFits p bounded.whole.accounts n m t a d rest place
     → IsWithin (world_of m) t a d
-taken_within p n m t a d rest place whole at few taken =
+does_within p n m t a d rest place bounded few found fits =
     let now = sitting a place (d ∷ rest) in
-    let settled = starts_settled m.plain.references m.rows t a.used a.head place d rest taken.starts taken.follows in
-    let middle : Whole p n (with_actor m t now) =
-    whole_sits p n m t a place (d ∷ rest) whole at (taken_sits p n m t a place d rest at taken) settled in
-    let alive : a.status ≡ Gone → ⊥ = λ e. (let wrong : Running ≡ Gone = sym at.running ∙ e in absurd cc) in
     let within : IsWithin (world_of (with_actor m t now)) t now d =
-    duty_within p n (with_actor m t now) t now d rest middle
-    (slice_get-set_same m.actors t now (slice_get_within m.actors t a at.found)) refl alive
-    (starts_small p n m t a d rest at.rule at.found taken.starts) few in
+    duty_within (with_account bounded.whole.accounts t fits.account) n (with_actor m t now) t now d rest fits.doing
+    (fits.small (bounded.ranges.each t a found)).0 few in
     let long = length-set m.actors t now in
     record {
       there = subst (λ (l : ℕ). IsThere (2 + (l - 1) * m.rows) l (address_of m.rows t a.head d)) long within.there;
@@ -132,39 +124,11 @@ taken_within p n m t a d rest place whole at few taken =
           (m.memory (address_of m.rows t a.head d))) long within.suits;
     }
 
-begun_within : (p : Module) (n : ℕ) (m : Machine) (t : ℕ) (a : Actor) (d : Duty) (rest : List Duty) (place : Place)
-    → Whole p n m → slice_get m.actors t ≡ Some a → n ≤ 33
-    → (a.status ≡ Gone → ⊥) → a.agenda ≡ [] → begun_by m t a ≡ Work (d ∷ rest) place → IsWithin (world_of m) t a d
-begun_within p n m t a d rest place whole found few alive is work =
-    let at_rest = rests p n m t a whole.rule found alive is in
-    let at : AtRest p n m t a = record { rule = whole.rule; found = found; agenda = is; running = at_rest.1 } in
-    taken_within p n m t a d rest place whole at few
-    (subst (λ (b : Begun). IsTaken (code_of (slice_get p.functions a.function)) m.plain.references m.rows t a.used b)
-    work (begun_fits p n m t a at at_rest.0))
-
-claim_within : (p : Module) (n : ℕ) (m : Machine) (t : ℕ) (a : Actor) (row : ℕ) → Whole p n m
-    → slice_get m.actors t ≡ Some a → row < limit n m → IsWithin (world_of m) t a (ClaimMark row)
-claim_within p n m t a row whole found small = record {
-  there = subst (λ (l : ℕ). row < 2 + (l - 1) * m.rows) (sym whole.rule.threads) small;
-  head =
-      subst (λ (l : ℕ). a.head ≤ 2 + (l - 1) * m.rows) (sym whole.rule.threads) (head_small p n m t a whole.rule found);
-  used =
-      subst (λ (l : ℕ). a.used ≤ 2 + (l - 1) * m.rows) (sym whole.rule.threads)
-      (let uses = whole.rule.uses t a found in used_within p n m t a a.used whole.rule found uses.few uses.main);
-  suits = tt;
-}
-
 machine_within : (p : Module) (n : ℕ) (m : Machine) (t : ℕ) (a : Actor) → Bounded p n m → n ≤ 33
     → slice_get m.actors t ≡ Some a → StepsWithin (world_of m) t a
-machine_within p n m t a bounded few found = record {
-  goes_on =
-      λ d rest alive is. duty_within p n m t a d rest bounded.whole found is alive
-      (subst (AreSmall (limit n m)) is (bounded.ranges.each t a found)).0 few;
-  takes_up = λ d rest place alive is work. begun_within p n m t a d rest place bounded.whole found few alive is work;
-  claims =
-      λ row may. claim_within p n m t a row bounded.whole found
-      (claim_small p n m t a row a.place bounded.whole found may);
-}
+machine_within p n m t a bounded few found choice d rest place is =
+    does_within p n m t a d rest place bounded few found
+    (subst (ActionFits p bounded.whole.accounts n m t a) is (action_fits p n m t a choice bounded.whole found))
 
 -- ---- the worlds that steps lead to
 
@@ -186,10 +150,10 @@ steps_within p w t a r found =
 -- ---- how large a world is
 
 pub same_functions : (p : Module) (w : World) → IsReachable p w → w.functions ≡ p.functions
-same_functions p w r = ap (λ (v : World). v.functions) r.reached ∙ (reached_bounded p w r).whole.rule.functions
+same_functions p w r = ap (λ (v : World). v.functions) r.reached ∙ (reached_bounded p w r).whole.functions
 
 threads_are : (p : Module) (w : World) (r : IsReachable p w) → length w.actors ≡ 1 + length r.calls
-threads_are p w r = ap (λ (v : World). length v.actors) r.reached ∙ (reached_bounded p w r).whole.rule.threads
+threads_are p w r = ap (λ (v : World). length v.actors) r.reached ∙ (reached_bounded p w r).whole.kept.rule.threads
 
 pub some_threads : (p : Module) (w : World) → IsReachable p w → 1 < length w.actors
 some_threads p w r = omega (arith, threads_are p w r, r.calls_fit.some)
@@ -201,10 +165,10 @@ pub some_rows : (p : Module) (w : World) → IsReachable p w → 0 < w.rows
 some_rows p w r =
     let same : w.rows ≡ (machine_after (first_machine p r.rows r.calls) r.events).rows =
     ap (λ (v : World). v.rows) r.reached in
-    omega (arith, same, (reached_bounded p w r).whole.rule.some_rows)
+    omega (arith, same, (reached_bounded p w r).whole.kept.rule.some_rows)
 
 pub few_rows : (p : Module) (w : World) → IsReachable p w → w.rows ≤ 1024
 few_rows p w r =
     let same : w.rows ≡ (machine_after (first_machine p r.rows r.calls) r.events).rows =
     ap (λ (v : World). v.rows) r.reached in
-    omega (arith, same, (reached_bounded p w r).whole.rule.few_rows)
+    omega (arith, same, (reached_bounded p w r).whole.kept.rule.few_rows)

@@ -1,14 +1,15 @@
 -- Which steps change the world: each of a thread that isn't gone, but for a claim that is out of place or finds no
 -- mark.
-use Rattle.std.proofs.Common.{◌≡◌, ◌≢◌, ℕ, zero, suc, ◌+◌, Bool, true, false, cond, List, [], ◌∷◌, ◌++◌, length, Option, None, Some, refl, sym, ap, ◌∙◌, subst, arith, ◌<◌}
+use Rattle.std.proofs.Common.{◌≡◌, ◌≢◌, ℕ, zero, suc, ◌+◌, Bool, true, false, cond, List, [], ◌∷◌, ◌++◌, length, inl, inr, Option, None, Some, refl, sym, ap, ◌∙◌, subst, arith, ◌<◌, ◌⊎◌}
 use Rattle.std.specs.Prelude.{◌==◌, slice_get, slice_set}
 use Rattle.std.proofs.Math.Path.{fun_ext}
 use Rattle.std.proofs.lemmas.Option.{slice_get_within}
 use Rattle.brc_lang.specs.declared.module.Instr.{Instr}
 use Rattle.brc_lang.specs.declared.module.Instr.TheVariants.{Num, NoneObject, Newref, Move as MoveReference, Drop, Goto, Ret, Fail}
 use Rattle.brc_lang.specs.declared.module.Module.{Module}
+use Rattle.brc_model.specs.declared.thread.Choice.{Choice}
 use Rattle.brc_model.specs.declared.thread.Choice.TheVariants.{Ok, Fault, Claim}
-use Rattle.brc_model.specs.Plain.{Reference, none_row}
+use Rattle.brc_model.specs.Plain.{none_row}
 use Rattle.brc_model.specs.Threads.{row_of, entry_variables, code_of}
 use Rattle.brc_model.specs.declared.duty.Reason.TheVariants.{Handed}
 use Rattle.brc_model.specs.declared.duty.Duty.{Duty}
@@ -20,15 +21,15 @@ use Rattle.brc_model.specs.declared.actor.Status.{Status}
 use Rattle.brc_model.specs.declared.actor.Status.TheVariants.{Running, Leaving, Gone}
 use Rattle.brc_model.specs.declared.actor.Place.{Place}
 use Rattle.brc_model.specs.declared.actor.Place.TheVariants.{Standing, Inside, Departing}
-use Rattle.brc_model.specs.Machine.{Actor, Machine, Begun, Stuck, Quiet, Work, with_row, begun_instruction, begun, begun_by, is_running, actor_by, done_by, at_place, begins, goes_on, acts, may_claim, chosen, next_machine, first_machine, machine_after, written, has_room, next_row}
+use Rattle.brc_model.specs.Machine.{Actor, Machine, Action, Skip, Stuck, Silent, Does, with_row, dispatch_instruction, dispatch, is_running, actor_by, done_by, at_place, may_claim, agenda_action, status_action, action_of, of_thread, machine_by, next_machine, first_machine, machine_after, written, has_room, next_row}
 use Rattle.brc_model.specs.World.{World, world_of, machine_of, step, IsReachable}
 use Rattle.brc_model.proofs.Lists.{some_is, slice_get-set_same, set_found}
 use Rattle.brc_model.proofs.Written.{written_here, written_load}
-use Rattle.brc_model.proofs.Begins.{IsTaken}
-use Rattle.brc_model.proofs.Sits.{AtRest}
-use Rattle.brc_model.proofs.TakenSits.{rests, begun_fits}
-use Rattle.brc_model.proofs.WholeEvents.{Whole}
-use Rattle.brc_model.proofs.WholeEvents.{claimer_rests, gone_claims_none, whole_after}
+use Rattle.brc_model.proofs.Claims.{claimer, gone_claims_none}
+use Rattle.brc_model.proofs.Actions.{ActionFits, action_fits}
+use Rattle.brc_model.proofs.Rule.{Accounts}
+use Rattle.brc_model.proofs.Whole.{Whole}
+use Rattle.brc_model.proofs.WholeEvents.{whole_after}
 use Rattle.brc_model.proofs.Safe.{first_whole}
 use Rattle.brc_model.proofs.Worlds.{worlds_follow}
 use Rattle.brc_model.proofs.AgendaMoves.{agenda_moves}
@@ -45,18 +46,19 @@ actor_apart v w t a b found set apart e =
     apart (some_is b a (sym (slice_get-set_same w.actors t b (slice_get_within w.actors t a found))
     ∙ ap (λ (l : List Actor). slice_get l t) (sym set ∙ ap (λ (u : World). u.actors) e) ∙ found))
 
--- the thread then stands elsewhere
-abbrev IsElsewhere : Place → Begun → Type 0
+-- the thread is then elsewhere
+abbrev IsElsewhere : Place → Action → Type 0
+IsElsewhere place Skip = ⊥
 IsElsewhere place Stuck = Unit {0}
-IsElsewhere place (Quiet moves next) = next ≢ place
-IsElsewhere place (Work duties next) = next ≢ place
+IsElsewhere place (Silent moves next) = next ≢ place
+IsElsewhere place (Does d rest next) = next ≢ place
 
-row_elsewhere : (place : Place) (o : Option ℕ) (work : ℕ → Begun) → ((row : ℕ) → IsElsewhere place (work row))
+row_elsewhere : (place : Place) (o : Option ℕ) (work : ℕ → Action) → ((row : ℕ) → IsElsewhere place (work row))
     → IsElsewhere place (with_row o work)
 row_elsewhere place None work each = tt
 row_elsewhere place (Some row) work each = each row
 
-room_elsewhere : (place : Place) (b : Bool) (one two : Begun) → IsElsewhere place one → IsElsewhere place two
+room_elsewhere : (place : Place) (b : Bool) (one two : Action) → IsElsewhere place one → IsElsewhere place two
     → IsElsewhere place (cond b one two)
 room_elsewhere place true one two first second = first
 room_elsewhere place false one two first second = second
@@ -66,7 +68,7 @@ instruction_elsewhere : (place : Place) (rows t used left at : ℕ) (variables :
     (i : Option Instr)
     → LeadsForward code → slice_get code at ≡ i
     → ((next : ℕ) (later : List (Option ℕ)) → at < next → Inside left next later ≢ place) → Standing left ≢ place
-    → IsElsewhere place (begun_instruction rows t used left at variables i)
+    → IsElsewhere place (dispatch_instruction rows t used left at variables i)
 instruction_elsewhere place rows t used left at variables code None forward found inside ends = tt
 instruction_elsewhere place rows t used left at variables code (Some (Num to value otherwise)) forward found inside
     ends =
@@ -97,54 +99,63 @@ one_point_on : (left at next : ℕ) (variables later : List (Option ℕ)) → at
     → Inside left next later ≢ Inside left at variables
 one_point_on left at next variables later on e = (let same : next ≡ at = cc in omega (arith, same, on))
 
-begun_elsewhere : (rows t used : ℕ) (code : List Instr) (place : Place) → LeadsForward code
-    → IsElsewhere place (begun rows t used code place)
-begun_elsewhere rows t used code Departing forward = tt
-begun_elsewhere rows t used code (Standing zero) forward = λ e. cc
-begun_elsewhere rows t used code (Standing (suc left)) forward =
+dispatch_elsewhere : (rows t used : ℕ) (code : List Instr) (place : Place) → LeadsForward code
+    → IsElsewhere place (dispatch rows t used code place)
+dispatch_elsewhere rows t used code Departing forward = tt
+dispatch_elsewhere rows t used code (Standing zero) forward = λ e. cc
+dispatch_elsewhere rows t used code (Standing (suc left)) forward =
     instruction_elsewhere (Standing (suc left)) rows t used left 0 entry_variables code (slice_get code 0) forward refl
     (λ next later on e. cc) (one_call_less left)
-begun_elsewhere rows t used code (Inside left at variables) forward =
+dispatch_elsewhere rows t used code (Inside left at variables) forward =
     instruction_elsewhere (Inside left at variables) rows t used left at variables code (slice_get code at) forward
     refl (λ next later on e. one_point_on left at next variables later on e) (λ e. cc)
 
-begins_move : (m : Machine) (t : ℕ) (a : Actor) (b : Begun) (code : List Instr) (bag : List Reference)
-    → slice_get m.actors t ≡ Some a → IsTaken code bag m.rows t a.used b → IsElsewhere a.place b
-    → world_of (begins m t a b) ≢ world_of m
-begins_move m t a Stuck code bag found taken elsewhere = absurd taken
-begins_move m t a (Quiet moves place) code bag found taken elsewhere =
-    actor_apart (world_of (begins m t a (Quiet moves place))) (world_of m) t a (at_place a place) found refl
-    (λ e. elsewhere (ap (λ (c : Actor). c.place) e))
-begins_move m t a (Work [] place) code bag found taken elsewhere = absurd taken
-begins_move m t a (Work (d ∷ rest) place) code bag found taken elsewhere =
-    actor_apart (world_of (begins m t a (Work (d ∷ rest) place))) (world_of m) t a
-    (actor_by t (at_place a place) d rest (m.memory (address_of m.rows t a.head d))) found refl
-    (λ e. elsewhere (ap (λ (c : Actor). c.place) e))
+-- the thread is elsewhere, or does the first duty of its agenda
+abbrev Moves : Actor → Action → Type 0
+Moves a Skip = ⊥
+Moves a Stuck = Unit {0}
+Moves a (Silent moves place) = place ≢ a.place
+Moves a (Does d rest place) = (place ≢ a.place) ⊎ (a.agenda ≡ d ∷ rest)
 
-goes_on_move : (p : Module) (n : ℕ) (m : Machine) (t : ℕ) (a : Actor) (agenda : List Duty) → Whole p n m
-    → slice_get m.actors t ≡ Some a → (a.status ≡ Gone → ⊥) → a.agenda ≡ agenda
-    → world_of (goes_on m t a agenda) ≢ world_of m
-goes_on_move p n m t a [] whole found alive is =
-    let at_rest = rests p n m t a whole.rule found alive is in
-    let at : AtRest p n m t a = record { rule = whole.rule; found = found; agenda = is; running = at_rest.1 } in
-    let forward : LeadsForward (code_of (slice_get m.functions a.function)) =
-    subst (λ (fs : List Function). LeadsForward (code_of (slice_get fs a.function))) (sym whole.rule.functions)
-    (whole.rule.each t a found).0.instructions.forward in
-    begins_move m t a (begun_by m t a) (code_of (slice_get p.functions a.function)) m.plain.references found
-    (begun_fits p n m t a at at_rest.0)
-    (begun_elsewhere m.rows t a.used (code_of (slice_get m.functions a.function)) a.place forward)
-goes_on_move p n m t a (d ∷ rest) whole found alive is =
+elsewhere_moves : (a : Actor) (x : Action) → IsElsewhere a.place x → Moves a x
+elsewhere_moves a Skip elsewhere = elsewhere
+elsewhere_moves a Stuck elsewhere = tt
+elsewhere_moves a (Silent moves place) elsewhere = elsewhere
+elsewhere_moves a (Does d rest place) elsewhere = inl elsewhere
+
+agenda_moves_on : (functions : List Function) (rows t : ℕ) (a : Actor) (agenda : List Duty) → a.agenda ≡ agenda
+    → LeadsForward (code_of (slice_get functions a.function)) → Moves a (agenda_action functions rows t a agenda)
+agenda_moves_on functions rows t a [] is forward =
+    elsewhere_moves a (agenda_action functions rows t a [])
+    (dispatch_elsewhere rows t a.used (code_of (slice_get functions a.function)) a.place forward)
+agenda_moves_on functions rows t a (d ∷ rest) is forward = inr is
+
+status_moves_on : (functions : List Function) (rows t : ℕ) (a : Actor) (status : Status) → status ≢ Gone
+    → LeadsForward (code_of (slice_get functions a.function)) → Moves a (status_action functions rows t a status)
+status_moves_on functions rows t a Gone alive forward = absurd (alive refl)
+status_moves_on functions rows t a Running alive forward = agenda_moves_on functions rows t a a.agenda refl forward
+status_moves_on functions rows t a Leaving alive forward = agenda_moves_on functions rows t a a.agenda refl forward
+
+action_moves : (p : Module) (c : Accounts) (n : ℕ) (m : Machine) (t : ℕ) (a : Actor) (x : Action)
+    → slice_get m.actors t ≡ Some a → ActionFits p c n m t a x → Moves a x → world_of (machine_by m t a x) ≢ world_of m
+action_moves p c n m t a Skip found fits moves = absurd moves
+action_moves p c n m t a Stuck found fits moves = absurd fits
+action_moves p c n m t a (Silent refs place) found fits moves =
+    actor_apart (world_of (machine_by m t a (Silent refs place))) (world_of m) t a (at_place a place) found refl
+    (λ e. moves (ap (λ (c : Actor). c.place) e))
+action_moves p c n m t a (Does d rest place) found fits moves =
     let word = m.memory (address_of m.rows t a.head d) in
-    actor_apart (world_of (done_by m t a d rest)) (world_of m) t a (actor_by t a d rest word) found refl
-    (λ e. agenda_moves t (is_running a.status) a.head (head_by a.head d word) d rest word
-    (ap (λ (c : Actor). c.agenda) e ∙ is))
+    actor_apart (world_of (machine_by m t a (Does d rest place))) (world_of m) t a
+    (actor_by t (at_place a place) d rest word) found refl (λ e. elim moves [
+      | inl elsewhere ↦ elsewhere (ap (λ (c : Actor). c.place) e)
+      | inr is ↦
+          agenda_moves t (is_running a.status) a.head (head_by a.head d word) d rest word
+          (ap (λ (c : Actor). c.agenda) e ∙ is)
+    ])
 
-acts_move : (p : Module) (n : ℕ) (m : Machine) (t : ℕ) (a : Actor) (status : Status) → Whole p n m
-    → slice_get m.actors t ≡ Some a → (a.status ≡ Gone → ⊥) → (status ≡ Gone → ⊥)
-    → world_of (acts m t a status) ≢ world_of m
-acts_move p n m t a Gone whole found alive also = absurd (also refl)
-acts_move p n m t a Running whole found alive also = goes_on_move p n m t a a.agenda whole found alive refl
-acts_move p n m t a Leaving whole found alive also = goes_on_move p n m t a a.agenda whole found alive refl
+-- the machine after an event of the thread
+abbrev after : Machine → ℕ → Choice → Option Actor → Machine
+after m t choice o = of_thread m (λ a. machine_by m t a (action_of m.functions m.rows t a choice)) o
 
 abbrev BothMove : World → ℕ → Type 0
 BothMove w t = (step w t Ok ≢ w) × (step w t Fault ≢ w)
@@ -152,11 +163,16 @@ BothMove w t = (step w t Ok ≢ w) × (step w t Fault ≢ w)
 machine_moves : (p : Module) (n : ℕ) (m : Machine) (t : ℕ) (a : Actor) → Whole p n m → slice_get m.actors t ≡ Some a
     → (a.status ≡ Gone → ⊥) → BothMove (world_of m) t
 machine_moves p n m t a whole found alive =
-    let acting : world_of (acts m t a a.status) ≢ world_of m = acts_move p n m t a a.status whole found alive alive in
+    let forward : LeadsForward (code_of (slice_get m.functions a.function)) =
+    subst (λ (fs : List Function). LeadsForward (code_of (slice_get fs a.function))) (sym whole.functions)
+    (whole.coded t a found).instructions.forward in
+    let acting : world_of (machine_by m t a (action_of m.functions m.rows t a Ok)) ≢ world_of m =
+    action_moves p whole.accounts n m t a (action_of m.functions m.rows t a Ok) found
+    (action_fits p n m t a Ok whole found) (status_moves_on m.functions m.rows t a a.status alive forward) in
     let by_ok : world_of (next_machine m (t, Ok)) ≢ world_of m =
-    subst (λ (o : Option Actor). world_of (chosen m t Ok o) ≢ world_of m) (sym found) acting in
+    subst (λ (o : Option Actor). world_of (after m t Ok o) ≢ world_of m) (sym found) acting in
     let by_fault : world_of (next_machine m (t, Fault)) ≢ world_of m =
-    subst (λ (o : Option Actor). world_of (chosen m t Fault o) ≢ world_of m) (sym found) acting in
+    subst (λ (o : Option Actor). world_of (after m t Fault o) ≢ world_of m) (sym found) acting in
     (λ e. by_ok (worlds_follow m (t, Ok) ∙ e), λ e. by_fault (worlds_follow m (t, Fault) ∙ e))
 
 pub going_on_moves : (p : Module) (w : World) (t : ℕ) (a : Actor) → IsReachable p w → slice_get w.actors t ≡ Some a
@@ -174,12 +190,16 @@ going_on_moves p w t a here found alive =
 
 -- ---- claims
 
+-- the action of a claim
+abbrev claimed : ℕ → Actor → Bool → Action
+claimed row a may = cond may (Does (ClaimMark row) [] a.place) Skip
+
 claim_is : (w : World) (t : ℕ) (a : Actor) (row : ℕ) (may : Bool) → slice_get w.actors t ≡ Some a
     → may_claim w.rows t a row ≡ may
-    → step w t (Claim row) ≡ world_of (cond may (done_by (machine_of w) t a (ClaimMark row) []) (machine_of w))
+    → step w t (Claim row) ≡ world_of (machine_by (machine_of w) t a (claimed row a may))
 claim_is w t a row may found is =
-    ap (λ (o : Option Actor). world_of (chosen (machine_of w) t (Claim row) o)) found
-    ∙ ap (λ (b : Bool). world_of (cond b (done_by (machine_of w) t a (ClaimMark row) []) (machine_of w))) is
+    ap (λ (o : Option Actor). world_of (after (machine_of w) t (Claim row) o)) found
+    ∙ ap (λ (b : Bool). world_of (machine_by (machine_of w) t a (claimed row a b))) is
 
 pub claim_moves : (w : World) (t : ℕ) (a : Actor) (row : ℕ) → slice_get w.actors t ≡ Some a
     → may_claim w.rows t a row ≡ true → w.memory (Mark row) ≢ 0 → step w t (Claim row) ≢ w
@@ -222,7 +242,7 @@ pub claim_misses : (p : Module) (w : World) (t : ℕ) (a : Actor) (row : ℕ) �
     → slice_get w.actors t ≡ Some a → may_claim w.rows t a row ≡ true → w.memory (Mark row) ≡ 0
     → step w t (Claim row) ≡ w
 claim_misses p w t a row here found may none =
-    let rest = claimer_rests (machine_of w) t a row may in
+    let rest = (claimer w.rows t a row may).agenda in
     let there : slice_get (machine_after (first_machine p here.rows here.calls) here.events).actors t ≡ Some a =
     ap (λ (v : World). slice_get v.actors t) (sym here.reached) ∙ found in
     claim_is w t a row true found may
@@ -237,9 +257,9 @@ claim_stays w t a row found may = claim_is w t a row false found may
 pub gone_stays : (w : World) (t : ℕ) (a : Actor) (row : ℕ) → slice_get w.actors t ≡ Some a → a.status ≡ Gone
     → (step w t Ok ≡ w) × (step w t Fault ≡ w) × (step w t (Claim row) ≡ w)
 gone_stays w t a row found gone =
-    let still : world_of (acts (machine_of w) t a a.status) ≡ w =
-    ap (λ (s : Status). world_of (acts (machine_of w) t a s)) gone in (
-      ap (λ (o : Option Actor). world_of (chosen (machine_of w) t Ok o)) found ∙ still,
-      ap (λ (o : Option Actor). world_of (chosen (machine_of w) t Fault o)) found ∙ still,
-      claim_stays w t a row found (gone_claims_none (machine_of w) t a row gone),
+    let still : world_of (machine_by (machine_of w) t a (action_of w.functions w.rows t a Ok)) ≡ w =
+    ap (λ (s : Status). world_of (machine_by (machine_of w) t a (status_action w.functions w.rows t a s))) gone in (
+      ap (λ (o : Option Actor). world_of (after (machine_of w) t Ok o)) found ∙ still,
+      ap (λ (o : Option Actor). world_of (after (machine_of w) t Fault o)) found ∙ still,
+      claim_stays w t a row found (gone_claims_none w.rows t a row gone),
     )

@@ -1,11 +1,9 @@
 -- What a thread of accepted code takes up fits it: its account is then that of the place where it will stand.
-use Rattle.std.proofs.Common.{◌≡◌, ◌≢◌, ℕ, zero, suc, ◌<◌, Bool, List, [], ◌∷◌, Some, refl, sym, subst, arith}
+use Rattle.std.proofs.Common.{◌≡◌, ◌≢◌, ℕ, zero, suc, ◌<◌, List, [], ◌∷◌, Some, refl, sym, subst, arith}
 use Rattle.std.specs.Prelude.{slice_get, sum_by}
 use Rattle.std.proofs.lemmas.List.Sums.{sum_by-cons}
 use Rattle.brc_lang.specs.declared.module.Function.{Function}
 use Rattle.brc_lang.specs.declared.module.Module.{Module}
-use Rattle.brc_model.specs.declared.duty.Holding.{Holding}
-use Rattle.brc_model.specs.Plain.{Reference}
 use Rattle.brc_model.specs.Threads.{code_of}
 use Rattle.brc_model.specs.declared.duty.Duty.{Duty}
 use Rattle.brc_model.specs.declared.duty.Duty.TheVariants.{RetainLoad, ReleaseLoad, Settle, Leave, ClaimMark, BirthKind}
@@ -14,13 +12,12 @@ use Rattle.brc_model.specs.declared.actor.Status.{Status}
 use Rattle.brc_model.specs.declared.actor.Status.TheVariants.{Running, Leaving, Gone}
 use Rattle.brc_model.specs.declared.actor.Place.{Place}
 use Rattle.brc_model.specs.declared.actor.Place.TheVariants.{Standing, Departing}
-use Rattle.brc_model.specs.Machine.{Actor, Machine, first_row, begun, begun_by, with_actor, block_size, next_row}
-use Rattle.brc_model.proofs.Holds.{the_root}
+use Rattle.brc_model.specs.Machine.{Actor, Machine, first_row, dispatch, agenda_action, with_actor, block_size, next_row}
 use Rattle.brc_model.proofs.Rows.{waits, carries, merges, decides}
 use Rattle.brc_model.proofs.Coded.{PlaceSays, InCode, place_fits, placed_by, departed_none, says_bounded}
 use Rattle.brc_model.proofs.Rule.{Account, Accounts, HoldsAt, HoldsNone, IsBounded, Later, Agenda, AgendaFits, NoneHanded, looks, Rule, IsNext}
 use Rattle.brc_model.proofs.Begins.{Starts, Gives, Takes, Follows, Nothing, Settles, Leaves, Taken, IsTaken, Bears}
-use Rattle.brc_model.proofs.Taking.{begun_taken}
+use Rattle.brc_model.proofs.Taking.{dispatch_taken}
 use Rattle.brc_model.proofs.Sits.{Sits, AtRest, sitting}
 
 -- a thread with room is no main, which has used all its rows
@@ -176,15 +173,16 @@ pub rests : (p : Accounts) (n : ℕ) (m : Machine) (t : ℕ) (a : Actor) → Rul
     → (a.status ≡ Gone → ⊥) → a.agenda ≡ [] → (a.place ≢ Departing) × (a.status ≡ Running)
 rests p n m t a rule found alive none = agenda_rests m.rows t a.used a a.status alive none (rule.each t a found).1
 
-pub begun_fits : (p : Module) (c : Accounts) (n : ℕ) (m : Machine) (t : ℕ) (a : Actor) → AtRest c n m t a
+pub dispatch_fits : (p : Module) (c : Accounts) (n : ℕ) (m : Machine) (t : ℕ) (a : Actor) → AtRest c n m t a
     → m.functions ≡ p.functions → InCode p a (c t) → (a.place ≢ Departing)
-    → IsTaken (code_of (slice_get p.functions a.function)) m.plain.references m.rows t a.used (begun_by m t a)
-begun_fits p c n m t a at functions coded stays =
+    → IsTaken (code_of (slice_get p.functions a.function)) m.plain.references m.rows t a.used
+    (agenda_action m.functions m.rows t a [])
+dispatch_fits p c n m t a at functions coded stays =
     let code = code_of (slice_get p.functions a.function) in
     let holds : HoldsAt m.plain.references t (c t) [] =
     subst (HoldsAt m.plain.references t (c t)) at.agenda (at.rule.each t a at.found).0.holds in
-    let here : IsTaken code m.plain.references m.rows t a.used (begun m.rows t a.used code a.place) =
-    begun_taken code m.plain.references m.rows t a.used a.place coded.accepted coded.instructions stays
+    let here : IsTaken code m.plain.references m.rows t a.used (dispatch m.rows t a.used code a.place) =
+    dispatch_taken code m.plain.references m.rows t a.used a.place coded.accepted coded.instructions stays
     (place_fits code m.plain.references t [] a.place (c t) coded.says holds) in
     subst (λ (fs : List Function). IsTaken code m.plain.references m.rows t a.used
-    (begun m.rows t a.used (code_of (slice_get fs a.function)) a.place)) (sym functions) here
+    (dispatch m.rows t a.used (code_of (slice_get fs a.function)) a.place)) (sym functions) here

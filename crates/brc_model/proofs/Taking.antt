@@ -20,7 +20,7 @@ use Rattle.brc_model.specs.declared.duty.Duty.TheVariants.{RetainLoad, ReleaseLo
 use Rattle.brc_model.specs.Kinds.{kind_numbered, kind_of_word, is_counted_kind}
 use Rattle.brc_model.specs.declared.actor.Place.{Place}
 use Rattle.brc_model.specs.declared.actor.Place.TheVariants.{Standing, Inside, Departing}
-use Rattle.brc_model.specs.Machine.{Work, begun_instruction, begun, Begun, first_row, has_room, next_row, block_size, number_word}
+use Rattle.brc_model.specs.Machine.{Action, Does, dispatch_instruction, dispatch, first_row, has_room, next_row, block_size, number_word}
 use Rattle.brc_model.proofs.Bag.{held, one_if, held-le-references_to}
 use Rattle.brc_model.proofs.Lists.{first_false}
 use Rattle.brc_model.proofs.Holds.{the_root, of_variables, reference_of, Holds, owned_has, caller_has, holds-ended, holds-entered}
@@ -68,7 +68,7 @@ number_counts value low =
 newref_taken : (code : List Instr) (bag : List Reference) (rows t used left at : ℕ) (variables : List (Option ℕ))
     (s : State) (to from : ℕ)
     → StandsAt code bag t at variables s (Newref to from)
-    → IsTaken code bag rows t used (begun_instruction rows t used left at variables (Some (Newref to from)))
+    → IsTaken code bag rows t used (dispatch_instruction rows t used left at variables (Some (Newref to from)))
 newref_taken code bag rows t used left at variables s to from here =
     let some : is_empty (slot_of s from) ≡ false = first_false _ _ here.met.not_empty in
     let free : is_owned (slot_of s to) ≡ false = first_false _ _ here.met.free in
@@ -97,7 +97,7 @@ newref_taken code bag rows t used left at variables s to from here =
       follows = Nothing (inside_stays left (at + 1) (slice_set variables to (Some live.object)));
     } in
     taken_with_row code bag rows t used live.object (row_of variables from)
-    (λ row. Work (RetainLoad row (ByVariable to) ∷ []) (Inside left (at + 1) (slice_set variables to (Some row))))
+    (λ row. Does (RetainLoad row (ByVariable to)) [] (Inside left (at + 1) (slice_set variables to (Some row))))
     live.is_row taken
 
 given_referenced : (bag : List Reference) (t : ℕ) (s : State) (variables : List (Option ℕ)) (from row : ℕ)
@@ -111,7 +111,7 @@ given_referenced bag t s variables from row owned is holds =
 drop_taken : (code : List Instr) (bag : List Reference) (rows t used left at : ℕ) (variables : List (Option ℕ))
     (s : State) (from : ℕ)
     → StandsAt code bag t at variables s (Drop from)
-    → IsTaken code bag rows t used (begun_instruction rows t used left at variables (Some (Drop from)))
+    → IsTaken code bag rows t used (dispatch_instruction rows t used left at variables (Some (Drop from)))
 drop_taken code bag rows t used left at variables s from here =
     let owned = owned_slot (slot_of s from) (first_false _ _ here.met.not_empty) (first_false _ _ here.met.owned) in
     let row = owned_row (slot_of s from) (row_of variables from) owned (here.inside.grounded from) in
@@ -136,13 +136,13 @@ drop_taken code bag rows t used left at variables s from here =
       follows = Settles (inside_stays left (at + 1) (slice_set variables from None));
     } in
     taken_with_row code bag rows t used row.0 (row_of variables from)
-    (λ r. Work (ReleaseLoad r (ByVariable from) ∷ Settle ∷ [])
+    (λ r. Does (ReleaseLoad r (ByVariable from)) (Settle ∷ [])
     (Inside left (at + 1) (slice_set variables from None))) row.1 taken
 
 ret_taken : (code : List Instr) (bag : List Reference) (rows t used left at : ℕ) (variables : List (Option ℕ))
     (s : State) (from : ℕ)
     → StandsAt code bag t at variables s (Ret from)
-    → IsTaken code bag rows t used (begun_instruction rows t used left at variables (Some (Ret from)))
+    → IsTaken code bag rows t used (dispatch_instruction rows t used left at variables (Some (Ret from)))
 ret_taken code bag rows t used left at variables s from here =
     let owned = owned_slot (slot_of s from) (first_false _ _ here.met.not_empty) (first_false _ _ here.met.owned) in
     let row = owned_row (slot_of s from) (row_of variables from) owned (here.inside.grounded from) in
@@ -164,7 +164,7 @@ ret_taken code bag rows t used left at variables s from here =
       follows = Settles (standing_stays left);
     } in
     taken_with_row code bag rows t used row.0 (row_of variables from)
-    (λ r. Work (ReleaseLoad r (ByVariable from) ∷ Settle ∷ []) (Standing left)) row.1 taken
+    (λ r. Does (ReleaseLoad r (ByVariable from)) (Settle ∷ []) (Standing left)) row.1 taken
 
 -- ---- a new number
 
@@ -220,7 +220,7 @@ num_fails code bag t left at variables s to value otherwise here =
       stays = inside_stays left otherwise (slice_set variables to None);
     }
 
-either_taken : (code : List Instr) (bag : List Reference) (rows t used : ℕ) (b : Bool) (one two : Begun)
+either_taken : (code : List Instr) (bag : List Reference) (rows t used : ℕ) (b : Bool) (one two : Action)
     → (b ≡ true → IsTaken code bag rows t used one) → IsTaken code bag rows t used two
     → IsTaken code bag rows t used (cond b one two)
 either_taken code bag rows t used true one two first second = first refl
@@ -229,7 +229,7 @@ either_taken code bag rows t used false one two first second = second
 num_taken : (code : List Instr) (bag : List Reference) (rows t used left at : ℕ) (variables : List (Option ℕ))
     (s : State) (to value otherwise : ℕ)
     → StandsAt code bag t at variables s (Num to value otherwise)
-    → IsTaken code bag rows t used (begun_instruction rows t used left at variables (Some (Num to value otherwise)))
+    → IsTaken code bag rows t used (dispatch_instruction rows t used left at variables (Some (Num to value otherwise)))
 num_taken code bag rows t used left at variables s to value otherwise here =
     either_taken code bag rows t used (has_room rows t used) _ _
     (λ room. num_born code bag rows t used left at variables s to value otherwise here room)
@@ -240,7 +240,7 @@ num_taken code bag rows t used left at variables s to value otherwise here =
 instruction_taken : (code : List Instr) (bag : List Reference) (rows t used left at : ℕ) (variables : List (Option ℕ))
     (s : State) (i : Instr)
     → StandsAt code bag t at variables s i
-    → IsTaken code bag rows t used (begun_instruction rows t used left at variables (Some i))
+    → IsTaken code bag rows t used (dispatch_instruction rows t used left at variables (Some i))
 instruction_taken code bag rows t used left at variables s (Num to value otherwise) here =
     num_taken code bag rows t used left at variables s to value otherwise here
 instruction_taken code bag rows t used left at variables s (NoneObject to) here =
@@ -268,7 +268,7 @@ inside_taken : (code : List Instr) (bag : List Reference) (rows t used left at :
     (s : State)
     → IsAcceptableCode code → AreInstructions code → IsInside code at variables s
     → Holds bag t (of_variables s variables)
-    → IsTaken code bag rows t used (begun_instruction rows t used left at variables (slice_get code at))
+    → IsTaken code bag rows t used (dispatch_instruction rows t used left at variables (slice_get code at))
 inside_taken code bag rows t used left at variables s accepted instructions inside holds =
     let on = passes_on code inside.exits at s accepted inside.walked in
     let here : StandsAt code bag t at variables s on.here =
@@ -279,7 +279,7 @@ inside_taken code bag rows t used left at variables s accepted instructions insi
       met = on.met;
       leads = on.leads;
     } in
-    subst (λ (o : Option Instr). IsTaken code bag rows t used (begun_instruction rows t used left at variables o))
+    subst (λ (o : Option Instr). IsTaken code bag rows t used (dispatch_instruction rows t used left at variables o))
     (sym on.found) (instruction_taken code bag rows t used left at variables s on.here here)
 
 -- the exit gives up the caller's reference
@@ -292,11 +292,11 @@ exit_held bag t holds InHand object = omega (arith, holds.each InHand object)
 exit_held bag t holds (ByVariable v) object = omega (arith, holds.each (ByVariable v) object)
 
 -- whatever a thread at rest takes up is fit
-pub begun_taken : (code : List Instr) (bag : List Reference) (rows t used : ℕ) (place : Place) → IsAcceptableCode code
+pub dispatch_taken : (code : List Instr) (bag : List Reference) (rows t used : ℕ) (place : Place) → IsAcceptableCode code
     → AreInstructions code → (place ≢ Departing) → PlaceFits code bag t [] place
-    → IsTaken code bag rows t used (begun rows t used code place)
-begun_taken code bag rows t used Departing accepted instructions stays fits = absurd (stays refl)
-begun_taken code bag rows t used (Standing zero) accepted instructions stays fits =
+    → IsTaken code bag rows t used (dispatch rows t used code place)
+dispatch_taken code bag rows t used Departing accepted instructions stays fits = absurd (stays refl)
+dispatch_taken code bag rows t used (Standing zero) accepted instructions stays fits =
     let holds = holds_plain bag t the_root fits in
     let one : held (reference_of t AsCaller root_row) bag ≡ 1 = holds.each AsCaller root_row in
     record {
@@ -306,9 +306,9 @@ begun_taken code bag rows t used (Standing zero) accepted instructions stays fit
           (omega (arith, one, held-le-references_to (reference_of t AsCaller root_row) bag));
       follows = Leaves refl;
     }
-begun_taken code bag rows t used (Standing (suc left)) accepted instructions stays fits =
+dispatch_taken code bag rows t used (Standing (suc left)) accepted instructions stays fits =
     inside_taken code bag rows t used left 0 entry_variables entry accepted instructions (entry_inside code)
     (holds-entered bag t (holds_plain bag t the_root fits))
-begun_taken code bag rows t used (Inside left at variables) accepted instructions stays fits =
+dispatch_taken code bag rows t used (Inside left at variables) accepted instructions stays fits =
     inside_taken code bag rows t used left at variables fits.0 accepted instructions fits.1
     (holds_plain bag t (of_variables fits.0 variables) fits.2)

@@ -16,7 +16,7 @@ use Rattle.brc_model.specs.declared.duty.Holding.TheVariants.{ByVariable}
 use Rattle.brc_model.specs.Plain.{Reference, same_holding, none_row, same, without}
 use Rattle.brc_model.specs.Threads.{row_of}
 use Rattle.brc_model.specs.declared.actor.Place.TheVariants.{Inside}
-use Rattle.brc_model.specs.Machine.{begun_instruction, Quiet, gain, pass_on}
+use Rattle.brc_model.specs.Machine.{dispatch_instruction, Silent, gain, pass_on}
 use Rattle.brc_model.proofs.Bag.{held, one_if, held_has, held-without, held-cons}
 use Rattle.brc_model.proofs.Lists.{first_false}
 use Rattle.brc_model.proofs.Holds.{of_variables, reference_of, Holds, owned_has}
@@ -43,7 +43,7 @@ gained_holds bag t to row says lacks k object =
 pub none_taken : (code : List Instr) (bag : List Reference) (rows t used left at : ℕ) (variables : List (Option ℕ))
     (s : State) (to : ℕ)
     → StandsAt code bag t at variables s (NoneObject to)
-    → IsTaken code bag rows t used (begun_instruction rows t used left at variables (Some (NoneObject to)))
+    → IsTaken code bag rows t used (dispatch_instruction rows t used left at variables (Some (NoneObject to)))
 none_taken code bag rows t used left at variables s to here =
     let slot : Slot = Owned kinds.None in
     let free : is_owned (slot_of s to) ≡ false = first_false _ _ here.met.free in
@@ -108,7 +108,7 @@ still_free s from to in_slots free =
 pub move_taken : (code : List Instr) (bag : List Reference) (rows t used left at : ℕ) (variables : List (Option ℕ))
     (s : State) (to from : ℕ)
     → StandsAt code bag t at variables s (MoveReference to from)
-    → IsTaken code bag rows t used (begun_instruction rows t used left at variables (Some (MoveReference to from)))
+    → IsTaken code bag rows t used (dispatch_instruction rows t used left at variables (Some (MoveReference to from)))
 move_taken code bag rows t used left at variables s to from here =
     let owned = owned_slot (slot_of s from) (first_false _ _ here.met.not_empty) (first_false _ _ here.met.owned) in
     let free : is_owned (slot_of s to) ≡ false = first_false _ _ here.met.free in
@@ -148,7 +148,7 @@ move_taken code bag rows t used left at variables s to from here =
       stays = inside_stays left (at + 1) (slice_set v1 to (Some row.0));
     } in
     taken_with_row code bag rows t used row.0 (row_of variables from)
-    (λ x. Quiet (pass_on t (ByVariable from) (ByVariable to) x) (Inside left (at + 1) (slice_set v1 to (Some x))))
+    (λ x. Silent (pass_on t (ByVariable from) (ByVariable to) x) (Inside left (at + 1) (slice_set v1 to (Some x))))
     row.1 taken
 
 -- ---- a jump
@@ -156,7 +156,7 @@ move_taken code bag rows t used left at variables s to from here =
 pub goto_taken : (code : List Instr) (bag : List Reference) (rows t used left at : ℕ) (variables : List (Option ℕ))
     (s : State) (to : ℕ)
     → StandsAt code bag t at variables s (Goto to)
-    → IsTaken code bag rows t used (begun_instruction rows t used left at variables (Some (Goto to)))
+    → IsTaken code bag rows t used (dispatch_instruction rows t used left at variables (Some (Goto to)))
 goto_taken code bag rows t used left at variables s to here =
     let next : IsInside code to variables s = record {
       exits = here.inside.exits ++ Success ∷ [];

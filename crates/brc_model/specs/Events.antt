@@ -1,17 +1,13 @@
 -- Which events are bad: one that touches a freed row, one that makes a move that isn't allowed, and one that can't go
 -- on.
-use Rattle.std.specs.Prelude.{ℕ, Bool, true, false, ◌||◌, ◌==◌, not, if◌then◌else◌, List, [], ◌∷◌, Option, None, Some, slice_get}
+use Rattle.std.specs.Prelude.{ℕ, Bool, true, false, ◌||◌, ◌==◌, not, Option, None, Some, slice_get}
 use Rattle.brc_model.specs.Plain.{are_allowed}
 use Rattle.brc_model.specs.declared.duty.Duty.{Duty}
-use Rattle.brc_model.specs.declared.duty.Duty.TheVariants.{ClaimMark}
 use Rattle.brc_model.specs.declared.address.Address.{Address}
 use Rattle.brc_model.specs.declared.address.Address.TheVariants.{Local, Shared, Gate, KindOf, Mark, Cell, Slot, Resource, ThreadWord}
 use Rattle.brc_model.specs.Duties.{address_of}
-use Rattle.brc_model.specs.declared.actor.Status.{Status}
-use Rattle.brc_model.specs.declared.actor.Status.TheVariants.{Running, Leaving, Gone}
 use Rattle.brc_model.specs.declared.thread.Choice.{Choice}
-use Rattle.brc_model.specs.declared.thread.Choice.TheVariants.{Ok, Fault, Claim}
-use Rattle.brc_model.specs.Machine.{Actor, Life, Unborn, Live, Dying, Closed, Machine, Begun, Stuck, Quiet, Work, begun_by, moves_by, may_claim}
+use Rattle.brc_model.specs.Machine.{Actor, Life, Unborn, Live, Dying, Closed, Machine, Action, Skip, Stuck, Silent, Does, action_of, of_thread, moves_by}
 
 -- marks and thread words belong to no row
 abbrev pub touched_row : Address → Option ℕ
@@ -41,26 +37,14 @@ is_bad_duty m t a d =
     touches_freed m t (touched_row (address_of m.rows t a.head d))
     || not (are_allowed m.plain (moves_by m.memory t d (m.memory (address_of m.rows t a.head d))))
 
-abbrev pub is_bad_begun : Machine → ℕ → Actor → Begun → Bool
-is_bad_begun m t a Stuck = true
-is_bad_begun m t a (Quiet moves place) = not (are_allowed m.plain moves)
-is_bad_begun m t a (Work [] place) = false
-is_bad_begun m t a (Work (d ∷ rest) place) = is_bad_duty m t a d
-
-abbrev pub is_bad_agenda : Machine → ℕ → Actor → List Duty → Bool
-is_bad_agenda m t a [] = is_bad_begun m t a (begun_by m t a)
-is_bad_agenda m t a (d ∷ rest) = is_bad_duty m t a d
-
-abbrev pub is_bad_status : Machine → ℕ → Actor → Status → Bool
-is_bad_status m t a Gone = false
-is_bad_status m t a Running = is_bad_agenda m t a a.agenda
-is_bad_status m t a Leaving = is_bad_agenda m t a a.agenda
-
-abbrev pub is_bad_choice : Machine → ℕ → Choice → Option Actor → Bool
-is_bad_choice m t choice None = false
-is_bad_choice m t Ok (Some a) = is_bad_status m t a a.status
-is_bad_choice m t Fault (Some a) = is_bad_status m t a a.status
-is_bad_choice m t (Claim row) (Some a) = if may_claim m.rows t a row then is_bad_duty m t a (ClaimMark row) else false
+-- Says whether the thread's action is bad.
+abbrev pub is_bad_action : Machine → ℕ → Actor → Action → Bool
+is_bad_action m t a Skip = false
+is_bad_action m t a Stuck = true
+is_bad_action m t a (Silent moves place) = not (are_allowed m.plain moves)
+is_bad_action m t a (Does d rest place) = is_bad_duty m t a d
 
 abbrev pub is_bad_event : Machine → ℕ × Choice → Bool
-is_bad_event m event = is_bad_choice m event.0 event.1 (slice_get m.actors event.0)
+is_bad_event m event =
+    of_thread false (λ a. is_bad_action m event.0 a (action_of m.functions m.rows event.0 a event.1))
+    (slice_get m.actors event.0)

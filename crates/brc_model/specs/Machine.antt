@@ -79,16 +79,18 @@ abbrev pub used_by : ℕ → Duty → ℕ
 used_by used (BirthLocal x h) = used + 1
 used_by used _ = used
 
--- what a step takes up: the thread's next instruction, or its exit
-pub data Begun : Type 0 where
+-- What a thread does at an event.
+pub data Action : Type 0 where
+  -- it takes no step
+  Skip : Action
   -- it can't go on
-  Stuck : Begun
-  -- a step on no word: where the thread stands then, and what of its references moves
-  Quiet : List Move → Place → Begun
-  -- duties to do, and where the thread stands when they are done
-  Work : List Duty → Place → Begun
+  Stuck : Action
+  -- it takes a step on no word: which of its references move, and where it then is
+  Silent : List Move → Place → Action
+  -- it does a duty: the duties behind it, and where it is from then on
+  Does : Duty → List Duty → Place → Action
 
-abbrev pub with_row : Option ℕ → (ℕ → Begun) → Begun
+abbrev pub with_row : Option ℕ → (ℕ → Action) → Action
 with_row None work = Stuck
 with_row (Some row) work = work row
 
@@ -113,39 +115,73 @@ has_room rows t used = nat_lt used (block_size rows t)
 abbrev pub number_word : ℕ → ℕ
 number_word value = 2 * 4294967296 + value
 
--- the next instruction of a thread that has used so many rows of its block
-abbrev pub begun_instruction : ℕ → ℕ → ℕ → ℕ → ℕ → List (Option ℕ) → Option Instr → Begun
-begun_instruction rows t used left at variables None = Stuck
-begun_instruction rows t used left at variables (Some (Num to value otherwise)) =
+-- Dispatches an instruction for a thread that has used so many rows of its block.
+abbrev pub dispatch_instruction : ℕ → ℕ → ℕ → ℕ → ℕ → List (Option ℕ) → Option Instr → Action
+dispatch_instruction rows t used left at variables None = Stuck
+dispatch_instruction rows t used left at variables (Some (Num to value otherwise)) =
     if has_room rows t used
-    then Work (BirthKind (next_row rows t used) (ByVariable to) (number_word value) ∷ [])
+    then Does (BirthKind (next_row rows t used) (ByVariable to) (number_word value)) []
     (Inside left (at + 1) (slice_set variables to (Some (next_row rows t used))))
-    else Quiet [] (Inside left otherwise (slice_set variables to None))
-begun_instruction rows t used left at variables (Some (NoneObject to)) =
-    Quiet (gain t (ByVariable to) none_row) (Inside left (at + 1) (slice_set variables to (Some none_row)))
-begun_instruction rows t used left at variables (Some (Newref to from)) =
+    else Silent [] (Inside left otherwise (slice_set variables to None))
+dispatch_instruction rows t used left at variables (Some (NoneObject to)) =
+    Silent (gain t (ByVariable to) none_row) (Inside left (at + 1) (slice_set variables to (Some none_row)))
+dispatch_instruction rows t used left at variables (Some (Newref to from)) =
     with_row (row_of variables from)
-    (λ row. Work (RetainLoad row (ByVariable to) ∷ []) (Inside left (at + 1) (slice_set variables to (Some row))))
-begun_instruction rows t used left at variables (Some (MoveReference to from)) =
+    (λ row. Does (RetainLoad row (ByVariable to)) [] (Inside left (at + 1) (slice_set variables to (Some row))))
+dispatch_instruction rows t used left at variables (Some (MoveReference to from)) =
     with_row (row_of variables from)
-    (λ row. Quiet (pass_on t (ByVariable from) (ByVariable to) row)
+    (λ row. Silent (pass_on t (ByVariable from) (ByVariable to) row)
     (Inside left (at + 1) (slice_set (slice_set variables from None) to (Some row))))
-begun_instruction rows t used left at variables (Some (Drop from)) =
+dispatch_instruction rows t used left at variables (Some (Drop from)) =
     with_row (row_of variables from)
-    (λ row. Work (ReleaseLoad row (ByVariable from) ∷ Settle ∷ [])
+    (λ row. Does (ReleaseLoad row (ByVariable from)) (Settle ∷ [])
     (Inside left (at + 1) (slice_set variables from None)))
-begun_instruction rows t used left at variables (Some (Goto to)) = Quiet [] (Inside left to variables)
-begun_instruction rows t used left at variables (Some (Ret from)) =
-    with_row (row_of variables from) (λ row. Work (ReleaseLoad row (ByVariable from) ∷ Settle ∷ []) (Standing left))
-begun_instruction rows t used left at variables (Some Fail) = Quiet [] (Standing left)
+dispatch_instruction rows t used left at variables (Some (Goto to)) = Silent [] (Inside left to variables)
+dispatch_instruction rows t used left at variables (Some (Ret from)) =
+    with_row (row_of variables from) (λ row. Does (ReleaseLoad row (ByVariable from)) (Settle ∷ []) (Standing left))
+dispatch_instruction rows t used left at variables (Some Fail) = Silent [] (Standing left)
 
--- with no call left a thread gives up its reference to the root, settles, and leaves
-abbrev pub begun : ℕ → ℕ → ℕ → List Instr → Place → Begun
-begun rows t used code Departing = Stuck
-begun rows t used code (Standing zero) =
-    Work (ReleaseLoad root_row AsCaller ∷ Settle ∷ Leave (first_row rows t) used ∷ []) Departing
-begun rows t used code (Standing (suc left)) = begun_instruction rows t used left 0 entry_variables (slice_get code 0)
-begun rows t used code (Inside left at variables) = begun_instruction rows t used left at variables (slice_get code at)
+-- Dispatches a thread's next instruction; with no call left it gives up its reference to the root, settles, and leaves.
+abbrev pub dispatch : ℕ → ℕ → ℕ → List Instr → Place → Action
+dispatch rows t used code Departing = Stuck
+dispatch rows t used code (Standing zero) =
+    Does (ReleaseLoad root_row AsCaller) (Settle ∷ Leave (first_row rows t) used ∷ []) Departing
+dispatch rows t used code (Standing (suc left)) = dispatch_instruction rows t used left 0 entry_variables (slice_get code 0)
+dispatch rows t used code (Inside left at variables) = dispatch_instruction rows t used left at variables (slice_get code at)
+
+-- Says whether a thread is between its calls, or before or behind all of them.
+abbrev pub is_standing : Place → Bool
+is_standing (Standing left) = true
+is_standing (Inside left at variables) = false
+is_standing Departing = false
+
+-- a queue is looked into by a running thread that stands outside its calls, for a used row of its own block
+abbrev pub may_claim : ℕ → ℕ → Actor → ℕ → Bool
+may_claim rows t a row =
+    is_standing a.place && is_running a.status && (length a.agenda == 0) && nat_le (first_row rows t) row
+    && nat_lt row (first_row rows t + a.used)
+
+-- Does the first duty of the agenda, or dispatches the next instruction where there is none.
+abbrev pub agenda_action : List Function → ℕ → ℕ → Actor → List Duty → Action
+agenda_action functions rows t a [] = dispatch rows t a.used (code_of (slice_get functions a.function)) a.place
+agenda_action functions rows t a (d ∷ rest) = Does d rest a.place
+
+-- A thread that is gone takes no step.
+abbrev pub status_action : List Function → ℕ → ℕ → Actor → Status → Action
+status_action functions rows t a Gone = Skip
+status_action functions rows t a Running = agenda_action functions rows t a a.agenda
+status_action functions rows t a Leaving = agenda_action functions rows t a a.agenda
+
+-- Returns what the thread does at an event with the choice: no step is a host call, so a fault changes nothing.
+abbrev pub action_of : List Function → ℕ → ℕ → Actor → Choice → Action
+action_of functions rows t a Ok = status_action functions rows t a a.status
+action_of functions rows t a Fault = status_action functions rows t a a.status
+action_of functions rows t a (Claim row) = if may_claim rows t a row then Does (ClaimMark row) [] a.place else Skip
+
+-- Applies a function to the thread of an event, if there is such a thread.
+abbrev pub of_thread : {A : Type 0} → A → (Actor → A) → Option Actor → A
+of_thread otherwise of_actor None = otherwise
+of_thread otherwise of_actor (Some a) = of_actor a
 
 -- ---- the world
 
@@ -272,43 +308,17 @@ with_moves m moves =
       life = m.life;
     }
 
-abbrev pub begins : Machine → ℕ → Actor → Begun → Machine
-begins m t a Stuck = m
-begins m t a (Quiet moves place) = with_moves (with_actor m t (at_place a place)) moves
-begins m t a (Work [] place) = m
-begins m t a (Work (d ∷ rest) place) = done_by m t (at_place a place) d rest
-
-abbrev pub begun_by : Machine → ℕ → Actor → Begun
-begun_by m t a = begun m.rows t a.used (code_of (slice_get m.functions a.function)) a.place
-
-abbrev pub goes_on : Machine → ℕ → Actor → List Duty → Machine
-goes_on m t a [] = begins m t a (begun_by m t a)
-goes_on m t a (d ∷ rest) = done_by m t a d rest
-
--- a thread that is gone takes no step
-abbrev pub acts : Machine → ℕ → Actor → Status → Machine
-acts m t a Gone = m
-acts m t a Running = goes_on m t a a.agenda
-acts m t a Leaving = goes_on m t a a.agenda
-
--- a queue is looked into by a running thread that stands outside its calls, for a used row of its own block
-abbrev pub may_claim : ℕ → ℕ → Actor → ℕ → Bool
-may_claim rows t a row = elim a.place [
-  | Standing left ↦
-      is_running a.status && (length a.agenda == 0) && nat_le (first_row rows t) row
-      && nat_lt row (first_row rows t + a.used)
-  | Inside left at variables ↦ false
-  | Departing ↦ false
-]
-
-abbrev pub chosen : Machine → ℕ → Choice → Option Actor → Machine
-chosen m t choice None = m
-chosen m t Ok (Some a) = acts m t a a.status
-chosen m t Fault (Some a) = acts m t a a.status
-chosen m t (Claim row) (Some a) = if may_claim m.rows t a row then done_by m t a (ClaimMark row) [] else m
+-- Returns the machine after the thread's action.
+abbrev pub machine_by : Machine → ℕ → Actor → Action → Machine
+machine_by m t a Skip = m
+machine_by m t a Stuck = m
+machine_by m t a (Silent moves place) = with_moves (with_actor m t (at_place a place)) moves
+machine_by m t a (Does d rest place) = done_by m t (at_place a place) d rest
 
 abbrev pub next_machine : Machine → ℕ × Choice → Machine
-next_machine m event = chosen m event.0 event.1 (slice_get m.actors event.0)
+next_machine m event =
+    of_thread m (λ a. machine_by m event.0 a (action_of m.functions m.rows event.0 a event.1))
+    (slice_get m.actors event.0)
 
 abbrev pub machine_after : Machine → List (ℕ × Choice) → Machine
 machine_after m events = fold next_machine m events

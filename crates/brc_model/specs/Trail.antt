@@ -1,18 +1,13 @@
 -- What one thread does with words, one event after another: a thread is an automaton whose steps depend on what it
 -- finds, and on nothing else that others do.
-use Rattle.std.specs.Prelude.{◌≡◌, ◌≢◌, ℕ, ◌==◌, true, if◌then◌else◌, List, [], ◌∷◌, ◌++◌, Option, None, Some, slice_get}
+use Rattle.std.specs.Prelude.{◌≡◌, ℕ, ◌==◌, if◌then◌else◌, List, [], ◌∷◌, ◌++◌, slice_get}
 use Rattle.brc_lang.specs.declared.module.Function.{Function}
 use Rattle.brc_model.specs.declared.thread.Choice.{Choice}
-use Rattle.brc_model.specs.declared.thread.Choice.TheVariants.{Ok, Fault, Claim}
 use Rattle.brc_model.specs.declared.duty.Duty.{Duty}
-use Rattle.brc_model.specs.declared.duty.Duty.TheVariants.{ClaimMark}
 use Rattle.brc_model.specs.declared.address.Address.{Address}
-use Rattle.brc_model.specs.declared.actor.Status.{Status}
-use Rattle.brc_model.specs.declared.actor.Status.TheVariants.{Running, Leaving, Gone}
 use Rattle.brc_model.specs.declared.actor.Place.{Place}
-use Rattle.brc_model.specs.Threads.{code_of}
 use Rattle.brc_model.specs.Duties.{address_of, left_by}
-use Rattle.brc_model.specs.Machine.{Actor, Begun, Stuck, Quiet, Work, begun, Machine, actor_by, at_place, begun_by, may_claim, next_machine}
+use Rattle.brc_model.specs.Machine.{Actor, Action, Skip, Stuck, Silent, Does, action_of, of_thread, Machine, actor_by, at_place, next_machine}
 use Rattle.brc_model.specs.Plain.{Move}
 
 -- a word that a thread looked at, what it found there, and what it left
@@ -28,28 +23,17 @@ abbrev pub event_of : ℕ → ℕ → Actor → Duty → ℕ → WordEvent
 event_of rows t a d found =
     record { address = address_of rows t a.head d; found = found; left = left_by t a.head d found }
 
--- what the thread's next step takes up
-abbrev pub begun_in : List Function → ℕ → ℕ → Actor → Begun
-begun_in functions rows t a = begun rows t a.used (code_of (slice_get functions a.function)) a.place
-
 -- one step of a thread, with the word events that it makes, and the thread afterwards
 pub data MakesStep (functions : List Function) (rows t : ℕ) (a : Actor) : List WordEvent → Actor → Type 0 where
-  -- with nothing to do, it stands elsewhere
-  Quietly : (moves : List Move) (place : Place) → a.status ≢ Gone → a.agenda ≡ []
-      → begun_in functions rows t a ≡ Quiet moves place
+  -- it takes a step on no word, and then is elsewhere
+  GoesSilently : (choice : Choice) (moves : List Move) (place : Place)
+      → action_of functions rows t a choice ≡ Silent moves place
       → MakesStep functions rows t a [] (at_place a place)
-  -- it does the first duty of its agenda
-  DoesDuty : (d : Duty) (rest : List Duty) (found : ℕ) → a.status ≢ Gone → a.agenda ≡ d ∷ rest
-      → MakesStep functions rows t a (event_of rows t a d found ∷ []) (actor_by t a d rest found)
-  -- with nothing to do, it takes duties up, and does the first of them
-  TakesUp : (place : Place) (d : Duty) (rest : List Duty) (found : ℕ) → a.status ≢ Gone → a.agenda ≡ []
-      → begun_in functions rows t a ≡ Work (d ∷ rest) place
+  -- it does a duty, whatever the duty finds
+  DoesDuty : (choice : Choice) (d : Duty) (rest : List Duty) (place : Place) (found : ℕ)
+      → action_of functions rows t a choice ≡ Does d rest place
       → MakesStep functions rows t a (event_of rows t (at_place a place) d found ∷ [])
       (actor_by t (at_place a place) d rest found)
-  -- it looks at the mark of a row of its own
-  Claims : (row found : ℕ) → may_claim rows t a row ≡ true
-      → MakesStep functions rows t a (event_of rows t a (ClaimMark row) found ∷ [])
-      (actor_by t a (ClaimMark row) [] found)
 
 -- one step after another
 pub data CanMake (functions : List Function) (rows t : ℕ) : Actor → List WordEvent → Actor → Type 0 where
@@ -63,30 +47,19 @@ pub data CanMake (functions : List Function) (rows t : ℕ) : Actor → List Wor
 abbrev pub event_by : Machine → ℕ → Actor → Duty → List WordEvent
 event_by m t a d = event_of m.rows t a d (m.memory (address_of m.rows t a.head d)) ∷ []
 
-abbrev pub made_beginning : Machine → ℕ → Actor → Begun → List WordEvent
-made_beginning m t a Stuck = []
-made_beginning m t a (Quiet moves place) = []
-made_beginning m t a (Work [] place) = []
-made_beginning m t a (Work (d ∷ rest) place) = event_by m t (at_place a place) d
-
-abbrev pub made_going_on : Machine → ℕ → Actor → List Duty → List WordEvent
-made_going_on m t a [] = made_beginning m t a (begun_by m t a)
-made_going_on m t a (d ∷ rest) = event_by m t a d
-
-abbrev pub made_acting : Machine → ℕ → Actor → Status → List WordEvent
-made_acting m t a Gone = []
-made_acting m t a Running = made_going_on m t a a.agenda
-made_acting m t a Leaving = made_going_on m t a a.agenda
-
-abbrev pub made_choosing : Machine → ℕ → Choice → Option Actor → List WordEvent
-made_choosing m t choice None = []
-made_choosing m t Ok (Some a) = made_acting m t a a.status
-made_choosing m t Fault (Some a) = made_acting m t a a.status
-made_choosing m t (Claim row) (Some a) = if may_claim m.rows t a row then event_by m t a (ClaimMark row) else []
+-- Returns the word events of the thread's action.
+abbrev pub made_by : Machine → ℕ → Actor → Action → List WordEvent
+made_by m t a Skip = []
+made_by m t a Stuck = []
+made_by m t a (Silent moves place) = []
+made_by m t a (Does d rest place) = event_by m t (at_place a place) d
 
 -- what the thread does with words at an event: nothing at another thread's
 abbrev pub made_at : ℕ → Machine → ℕ × Choice → List WordEvent
-made_at t m event = if event.0 == t then made_choosing m t event.1 (slice_get m.actors t) else []
+made_at t m event =
+    if event.0 == t
+    then of_thread [] (λ a. made_by m t a (action_of m.functions m.rows t a event.1)) (slice_get m.actors t)
+    else []
 
 -- and along the events from a machine
 abbrev pub events_on : ℕ → Machine → List (ℕ × Choice) → List WordEvent

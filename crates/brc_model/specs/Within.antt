@@ -1,16 +1,16 @@
 -- What a step can rely on: the word that it asks for is there, and the words that it finds and leaves have the forms of
 -- a header's, below all bounds.
-use Rattle.std.specs.Prelude.{◌≡◌, ◌≢◌, ℕ, ◌+◌, ◌*◌, ◌<◌, ◌≤◌, Bool, true, List, ◌∷◌, [], length}
+use Rattle.std.specs.Prelude.{◌≡◌, ◌≢◌, ℕ, ◌+◌, ◌*◌, ◌<◌, ◌≤◌, Bool, true, List, length}
 use Rattle.brc_word.specs.Words.{owner_part, local_part, biased_part, phase_part, bias}
-use Rattle.brc_model.specs.declared.actor.Status.TheVariants.{Gone}
+use Rattle.brc_model.specs.declared.thread.Choice.{Choice}
 use Rattle.brc_model.specs.declared.actor.Place.{Place}
 use Rattle.brc_model.specs.declared.address.Address.{Address}
 use Rattle.brc_model.specs.declared.address.Address.TheVariants.{Local, Shared, Gate, KindOf, Mark, Cell, Slot, Resource, ThreadWord}
 use Rattle.brc_model.specs.declared.duty.Duty.{Duty}
-use Rattle.brc_model.specs.declared.duty.Duty.TheVariants.{RetainStore, RetainAdd, ReleaseLoad, ReleaseStore, SharedExchange, MergeExchange, SettleCell, ClaimMark}
+use Rattle.brc_model.specs.declared.duty.Duty.TheVariants.{RetainStore, RetainAdd, ReleaseLoad, ReleaseStore, SharedExchange, MergeExchange, SettleCell}
 use Rattle.brc_model.specs.Duties.{address_of}
-use Rattle.brc_model.specs.Machine.{Actor, used_by, Work, begun_by, may_claim, is_running}
-use Rattle.brc_model.specs.World.{World, machine_of, row_count}
+use Rattle.brc_model.specs.Machine.{Actor, used_by, Does, action_of, is_running}
+use Rattle.brc_model.specs.World.{World, row_count}
 
 -- the word at the address is there: so many rows and threads
 abbrev pub IsThere : ℕ → ℕ → Address → Type 0
@@ -47,9 +47,8 @@ pub record IsWithin (w : World) (t : ℕ) (a : Actor) (d : Duty) : Type 0 where
   pub used : used_by a.used d ≤ row_count w
   pub suits : Suits t (is_running a.status) (row_count w) d (w.memory (address_of w.rows t a.head d))
 
--- whatever duty comes next: the first of the agenda, the first that is taken up, or a claim
-pub record StepsWithin (w : World) (t : ℕ) (a : Actor) : Type 0 where
-  pub goes_on : (d : Duty) (rest : List Duty) → a.status ≢ Gone → a.agenda ≡ d ∷ rest → IsWithin w t a d
-  pub takes_up : (d : Duty) (rest : List Duty) (place : Place) → a.status ≢ Gone → a.agenda ≡ []
-      → begun_by (machine_of w) t a ≡ Work (d ∷ rest) place → IsWithin w t a d
-  pub claims : (row : ℕ) → may_claim w.rows t a row ≡ true → IsWithin w t a (ClaimMark row)
+-- Each duty that the thread may do at its next event is within.
+abbrev pub StepsWithin : World → ℕ → Actor → Type 0
+StepsWithin w t a =
+    (choice : Choice) (d : Duty) (rest : List Duty) (place : Place)
+    → action_of w.functions w.rows t a choice ≡ Does d rest place → IsWithin w t a d
