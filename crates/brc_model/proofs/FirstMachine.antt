@@ -23,7 +23,7 @@ use Rattle.brc_model.proofs.Callers.{callers_beyond, callers_off_cells, callers_
 use Rattle.brc_model.proofs.Grounded.{AreInstructions}
 use Rattle.brc_model.proofs.Holds.{the_root}
 use Rattle.brc_model.proofs.Rows.{waits, carries, merges, decides, agenda_weight, weight, IsDefault, AboveZero, InOwned, RowRule}
-use Rattle.brc_model.proofs.Rule.{numbers_of, HoldsAt, ChainFits, ActorFits, AgendaFits, HandedOnce, dies_by, Rule, UsesFit}
+use Rattle.brc_model.proofs.Rule.{numbers_of, HoldsAt, ChainFits, ActorFits, AgendaFits, dies_by, Rule, UsesFit}
 use Rattle.brc_model.proofs.Blocks.{block_main}
 use Rattle.brc_model.proofs.UsesAfter.{one_at_most}
 use Rattle.brc_word.specs.Words.{kind_part}
@@ -108,12 +108,11 @@ standing_stays left e = cc
 
 first_actor : (m : Module) (rows : ℕ) (calls : List Call) (t : ℕ) (a : Actor) → IsModule m → IsAcceptable m
     → AreCalls m calls → slice_get (main_actor ∷ map worker_actor calls) t ≡ Some a
-    → ActorFits m (first_machine m rows calls) t a × AgendaFits rows t a a.status × HandedOnce a.agenda
+    → ActorFits m (first_machine m rows calls) t a × AgendaFits rows t a a.status
 first_actor m rows calls zero a fits accepted are_calls is =
     let function = function_fits m 0 fits accepted fits.some in
     let P : Actor
-    → Type 0 = λ x. ActorFits m (first_machine m rows calls) 0 x × AgendaFits rows 0 x x.status
-    × HandedOnce x.agenda in
+    → Type 0 = λ x. ActorFits m (first_machine m rows calls) 0 x × AgendaFits rows 0 x x.status in
     subst P (some_is main_actor a is) (
       record {
         accepted = function.0;
@@ -124,7 +123,6 @@ first_actor m rows calls zero a fits accepted are_calls is =
         chain = first_chain m rows calls 0;
       },
       (standing_stays 0, refl),
-      tt,
     )
 first_actor m rows calls (suc t) a fits accepted are_calls is =
     let call = slice_get-map worker_actor calls t a is in
@@ -132,8 +130,7 @@ first_actor m rows calls (suc t) a fits accepted are_calls is =
     let function = function_fits m call.source.function fits accepted good.0 in
     let within : t < length calls = slice_get_within calls t call.source call.is_there in
     let P : Actor
-    → Type 0 = λ x. ActorFits m (first_machine m rows calls) (suc t) x × AgendaFits rows (suc t) x x.status
-    × HandedOnce x.agenda in
+    → Type 0 = λ x. ActorFits m (first_machine m rows calls) (suc t) x × AgendaFits rows (suc t) x x.status in
     subst P call.is_image (
       record {
         accepted = function.0;
@@ -144,7 +141,6 @@ first_actor m rows calls (suc t) a fits accepted are_calls is =
         chain = first_chain m rows calls (suc t);
       },
       (standing_stays call.source.times, refl),
-      tt,
     )
 
 life_not_closed : (x : ℕ) → first_life x ≡ Closed → ⊥

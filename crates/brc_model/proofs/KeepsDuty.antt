@@ -12,7 +12,7 @@ use Rattle.brc_model.specs.declared.address.Address.TheVariants.{Cell, Mark}
 use Rattle.brc_model.specs.declared.actor.Status.TheVariants.{Gone}
 use Rattle.brc_model.specs.Machine.{Actor, Machine, actor_by, done_by, same_address}
 use Rattle.brc_model.proofs.Lists.{some_is, slice_get-set_same, slice_get-set_other}
-use Rattle.brc_model.proofs.Rule.{HandedOnce, AgendaFits, ActorFits, IsWatched, Rule}
+use Rattle.brc_model.proofs.Rule.{AgendaFits, ActorFits, IsWatched, Rule}
 use Rattle.brc_model.proofs.Others.{others_fit}
 use Rattle.brc_model.proofs.MovesApart.{moves_apart, moves_off_cells}
 use Rattle.brc_model.proofs.Leaves.{AtDuty}
@@ -41,7 +41,7 @@ cells_left m t a _ x i empty = empty
 others_and_own : (p : Module) (n : ℕ) (m : Machine) (t : ℕ) (a : Actor) (d : Duty) (rest : List Duty)
     → AtDuty p n m t a d rest → OwnFits p (done_by m t a d rest) t (actor_by t a d rest (found_by m t a d))
     → (u : ℕ) (b : Actor) → slice_get (slice_set m.actors t (actor_by t a d rest (found_by m t a d))) u ≡ Some b
-    → ActorFits p (done_by m t a d rest) u b × AgendaFits m.rows u b b.status × HandedOnce b.agenda
+    → ActorFits p (done_by m t a d rest) u b × AgendaFits m.rows u b b.status
 others_and_own p n m t a d rest here own u b is =
     let after = actor_by t a d rest (found_by m t a d) in
     elim (eqb_tells u t) [
@@ -50,18 +50,15 @@ others_and_own p n m t a d rest here own u b is =
           sym (ap (slice_get (slice_set m.actors t after)) same.1
           ∙ slice_get-set_same m.actors t after (slice_get_within m.actors t a here.found)) ∙ is in
           let P : Actor
-          → Type 0 = λ x. ActorFits p (done_by m t a d rest) u x × AgendaFits m.rows u x x.status
-          × HandedOnce x.agenda in
+          → Type 0 = λ x. ActorFits p (done_by m t a d rest) u x × AgendaFits m.rows u x x.status in
           let Q : ℕ
-          → Type 0 = λ w. ActorFits p (done_by m t a d rest) w after × AgendaFits m.rows w after after.status
-          × HandedOnce after.agenda in
-          subst P (some_is after b written_is) (subst Q (sym same.1) (own.actor, own.agenda, own.handed))
+          → Type 0 = λ w. ActorFits p (done_by m t a d rest) w after × AgendaFits m.rows w after after.status in
+          subst P (some_is after b written_is) (subst Q (sym same.1) (own.actor, own.agenda))
       | inr apart ↦
           let found : slice_get m.actors u ≡ Some b = sym (slice_get-set_other m.actors t u after apart.1) ∙ is in
           let old = here.rule.each u b found in (
             others_fit p m (done_by m t a d rest) t u b (leaves_others p n m t a d rest here) apart.1 found old.0,
             old.1,
-            old.2,
           )
     ]
 

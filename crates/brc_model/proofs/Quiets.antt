@@ -19,7 +19,7 @@ use Rattle.brc_model.proofs.Bag.{one_if, references_to-cons, references_to-witho
 use Rattle.brc_model.proofs.Holds.{reference_of}
 use Rattle.brc_model.proofs.MovesApart.{AreAside, IsNoWayOf, moved_aside}
 use Rattle.brc_model.proofs.Rows.{waits, carries, merges, decides, weight, Numbers, RowRule}
-use Rattle.brc_model.proofs.Rule.{numbers_of, PlaceFits, HandedOnce, scans, ActorFits, AgendaFits, UsesFit, looks, IsWatched, ByRunning, ByExit, ByLook, Rule, ChainFits}
+use Rattle.brc_model.proofs.Rule.{numbers_of, PlaceFits, scans, ActorFits, AgendaFits, UsesFit, looks, IsWatched, ByRunning, ByExit, ByLook, Rule, ChainFits}
 use Rattle.brc_lang.specs.declared.kind.Kind.{Kind}
 use Rattle.brc_model.specs.Kinds.{kind_number}
 use Rattle.brc_model.proofs.Others.{LeavesOthers, others_fit}
@@ -141,7 +141,7 @@ leaves m t a moves place quiet = record {
 own_fits : (p : Module) (n : ℕ) (m : Machine) (t : ℕ) (a : Actor) (moves : List Move) (place : Place) → AtRest p n m t a
     → QuietTaken (code_of (slice_get p.functions a.function)) m.plain.references t moves place
     → ActorFits p (quieted m t a moves place) t (sitting a place [])
-    × AgendaFits m.rows t (sitting a place []) a.status × HandedOnce []
+    × AgendaFits m.rows t (sitting a place []) a.status
 own_fits p n m t a moves place rest taken =
     let old = (rest.rule.each t a rest.found).0 in
     let code = code_of (slice_get p.functions a.function) in
@@ -157,13 +157,12 @@ own_fits p n m t a moves place rest taken =
         chain = record { chained = chain.chained; linked = chain.linked; once = chain.once };
       },
       subst (λ (s : Status). AgendaFits m.rows t (sitting a place []) s) (sym rest.running) (taken.stays, refl),
-      tt,
     )
 
 each_fits : (p : Module) (n : ℕ) (m : Machine) (t : ℕ) (a : Actor) (moves : List Move) (place : Place)
     → AtRest p n m t a → QuietTaken (code_of (slice_get p.functions a.function)) m.plain.references t moves place
     → (u : ℕ) (b : Actor) → slice_get (slice_set m.actors t (sitting a place [])) u ≡ Some b
-    → ActorFits p (quieted m t a moves place) u b × AgendaFits m.rows u b b.status × HandedOnce b.agenda
+    → ActorFits p (quieted m t a moves place) u b × AgendaFits m.rows u b b.status
 each_fits p n m t a moves place rest taken u b is =
     let now = sitting a place [] in
     elim (eqb_tells u t) [
@@ -172,11 +171,9 @@ each_fits p n m t a moves place rest taken u b is =
           sym (ap (slice_get (slice_set m.actors t now)) same.1
           ∙ slice_get-set_same m.actors t now (slice_get_within m.actors t a rest.found)) ∙ is in
           let P : Actor
-          → Type 0 = λ x. ActorFits p (quieted m t a moves place) u x × AgendaFits m.rows u x x.status
-          × HandedOnce x.agenda in
+          → Type 0 = λ x. ActorFits p (quieted m t a moves place) u x × AgendaFits m.rows u x x.status in
           let Q : ℕ
-          → Type 0 = λ w. ActorFits p (quieted m t a moves place) w now × AgendaFits m.rows w now now.status
-          × HandedOnce now.agenda in
+          → Type 0 = λ w. ActorFits p (quieted m t a moves place) w now × AgendaFits m.rows w now now.status in
           subst P (some_is now b written_is) (subst Q (sym same.1) (own_fits p n m t a moves place rest taken))
       | inr apart ↦
           let found : slice_get m.actors u ≡ Some b = sym (slice_get-set_other m.actors t u now apart.1) ∙ is in
@@ -184,7 +181,6 @@ each_fits p n m t a moves place rest taken u b is =
             others_fit p m (quieted m t a moves place) t u b (leaves m t a moves place taken.moves_fit) apart.1 found
                 old.0,
             old.1,
-            old.2,
           )
     ]
 

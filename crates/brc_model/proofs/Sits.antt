@@ -17,7 +17,7 @@ use Rattle.brc_model.proofs.Lists.{some_is, slice_get-set_same, slice_get-set_ot
 use Rattle.brc_model.proofs.Bag.{one_if}
 use Rattle.brc_model.proofs.Weights.{weight-set}
 use Rattle.brc_model.proofs.Rows.{waits, carries, merges, decides, agenda_weight, weight, Numbers, RowRule}
-use Rattle.brc_model.proofs.Rule.{numbers_of, PlaceFits, HeadOf, Agenda, HandedOnce, scans, hand_of, ActorFits, AgendaFits, looks, IsWatched, ByRunning, ByExit, ByLook, Rule, UsesFit}
+use Rattle.brc_model.proofs.Rule.{numbers_of, PlaceFits, HeadOf, Agenda, scans, hand_of, ActorFits, AgendaFits, looks, IsWatched, ByRunning, ByExit, ByLook, Rule, UsesFit}
 use Rattle.brc_model.proofs.Others.{LeavesOthers, others_fit}
 
 -- the thread with another place and agenda
@@ -30,7 +30,6 @@ pub record Sits (p : Module) (m : Machine) (t : ℕ) (a : Actor) (place : Place)
   pub placed : PlaceFits (code_of (slice_get p.functions a.function)) m.plain.references t agenda place
   pub knows : HeadOf (with_actor m t (sitting a place agenda)) t (sitting a place agenda) agenda
   pub fits : Agenda m.rows t a.used Running place agenda
-  pub handed : HandedOnce agenda
   pub hands : (x : ℕ) → hand_of agenda x ≡ false
   pub no_waits : (x : ℕ) → sum_by (waits x) agenda ≡ 0
   pub no_carries : (x : ℕ) → sum_by (carries x) agenda ≡ 0
@@ -112,7 +111,7 @@ nothing_changes m t b = record {
 sitting_fits : (p : Module) (n : ℕ) (m : Machine) (t : ℕ) (a : Actor) (place : Place) (agenda : List Duty)
     → AtRest p n m t a → Sits p m t a place agenda
     → ActorFits p (with_actor m t (sitting a place agenda)) t (sitting a place agenda)
-    × AgendaFits m.rows t (sitting a place agenda) a.status × HandedOnce agenda
+    × AgendaFits m.rows t (sitting a place agenda) a.status
 sitting_fits p n m t a place agenda rest sits =
     let old = (rest.rule.each t a rest.found).0 in
     let none : (x : ℕ)
@@ -132,13 +131,12 @@ sitting_fits p n m t a place agenda rest sits =
             };
       },
       subst (λ (s : Status). AgendaFits m.rows t (sitting a place agenda) s) (sym rest.running) sits.fits,
-      sits.handed,
     )
 
 sitting_each : (p : Module) (n : ℕ) (m : Machine) (t : ℕ) (a : Actor) (place : Place) (agenda : List Duty)
     → AtRest p n m t a → Sits p m t a place agenda
     → (u : ℕ) (b : Actor) → slice_get (slice_set m.actors t (sitting a place agenda)) u ≡ Some b
-    → ActorFits p (with_actor m t (sitting a place agenda)) u b × AgendaFits m.rows u b b.status × HandedOnce b.agenda
+    → ActorFits p (with_actor m t (sitting a place agenda)) u b × AgendaFits m.rows u b b.status
 sitting_each p n m t a place agenda rest sits u b is =
     let now = sitting a place agenda in
     elim (eqb_tells u t) [
@@ -147,16 +145,14 @@ sitting_each p n m t a place agenda rest sits u b is =
           sym (ap (slice_get (slice_set m.actors t now)) same.1
           ∙ slice_get-set_same m.actors t now (slice_get_within m.actors t a rest.found)) ∙ is in
           let P : Actor
-          → Type 0 = λ x. ActorFits p (with_actor m t now) u x × AgendaFits m.rows u x x.status
-          × HandedOnce x.agenda in
+          → Type 0 = λ x. ActorFits p (with_actor m t now) u x × AgendaFits m.rows u x x.status in
           let Q : ℕ
-          → Type 0 = λ w. ActorFits p (with_actor m t now) w now × AgendaFits m.rows w now now.status
-          × HandedOnce now.agenda in
+          → Type 0 = λ w. ActorFits p (with_actor m t now) w now × AgendaFits m.rows w now now.status in
           subst P (some_is now b written_is) (subst Q (sym same.1) (sitting_fits p n m t a place agenda rest sits))
       | inr apart ↦
           let found : slice_get m.actors u ≡ Some b = sym (slice_get-set_other m.actors t u now apart.1) ∙ is in
           let old = rest.rule.each u b found in
-          (others_fit p m (with_actor m t now) t u b (nothing_changes m t now) apart.1 found old.0, old.1, old.2)
+          (others_fit p m (with_actor m t now) t u b (nothing_changes m t now) apart.1 found old.0, old.1)
     ]
 
 pub sits_rule : (p : Module) (n : ℕ) (m : Machine) (t : ℕ) (a : Actor) (place : Place) (agenda : List Duty)

@@ -48,8 +48,8 @@ duty_there p n m t a (Look x) rest whole here alive small =
     omega (arith, block_within m.rows n x here.rule.some_rows (omega (arith, within)) small, here.rule.threads)
 duty_there p n m t a (TakeMark x) rest whole here alive small = small
 duty_there p n m t a (MergeSwap x r) rest whole here alive small = small
-duty_there p n m t a (MergeLoad x c) rest whole here alive small = small
-duty_there p n m t a (MergeExchange x c w) rest whole here alive small = small
+duty_there p n m t a (MergeLoad x c r) rest whole here alive small = small
+duty_there p n m t a (MergeExchange x c w r) rest whole here alive small = small
 duty_there p n m t a (Die x) rest whole here alive small = small
 duty_there p n m t a Settle rest whole here alive small = omega (arith, head_small p n m t a here.rule here.found)
 duty_there p n m t a (SettleKind x) rest whole here alive small = small

@@ -17,7 +17,7 @@ use Rattle.brc_model.specs.declared.actor.Place.TheVariants.{Standing, Departing
 use Rattle.brc_model.specs.Machine.{Actor, Machine, first_row, begun, begun_by, with_actor, block_size, next_row}
 use Rattle.brc_model.proofs.Holds.{the_root}
 use Rattle.brc_model.proofs.Rows.{waits, carries, merges, decides}
-use Rattle.brc_model.proofs.Rule.{HoldsAt, PlaceFits, Later, Agenda, AgendaFits, NoneHanded, looks, Rule, IsNext}
+use Rattle.brc_model.proofs.Rule.{HoldsAt, PlaceFits, Later, Agenda, AgendaFits, looks, Rule, IsNext}
 use Rattle.brc_model.proofs.Begins.{Starts, Gives, Takes, Follows, Nothing, Settles, Leaves, Taken, IsTaken, Bears}
 use Rattle.brc_model.proofs.Taking.{begun_taken}
 use Rattle.brc_model.proofs.Sits.{Sits, AtRest, sitting}
@@ -35,11 +35,6 @@ later_follows : (rows t used : ℕ) (place : Place) (rest : List Duty) → Follo
 later_follows rows t used place rest (Nothing stays) = (stays, refl)
 later_follows rows t used place rest (Settles stays) = (stays, refl)
 later_follows rows t used place rest (Leaves leaves) = (refl, leaves, refl, refl)
-
-none_handed : (rows t used : ℕ) (place : Place) (rest : List Duty) → Follows rows t used place rest → NoneHanded rest
-none_handed rows t used place rest (Nothing stays) = tt
-none_handed rows t used place rest (Settles stays) = tt
-none_handed rows t used place rest (Leaves leaves) = tt
 
 -- what follows weighs nothing
 follows_weigh : (rows t used : ℕ) (place : Place) (rest : List Duty) (f : Duty → ℕ) → f Settle ≡ 0
@@ -62,7 +57,6 @@ starts_sit p n m t a place d rest at placed (Gives row h behind some) follows =
       placed = placed;
       knows = tt;
       fits = later_follows m.rows t a.used place rest follows;
-      handed = none_handed m.rows t a.used place rest follows;
       hands = λ x. refl;
       no_waits = λ x. omega (arith, sum_by-cons (waits x) (ReleaseLoad row h) rest, weigh (waits x) refl (λ y k. refl));
       no_carries =
@@ -81,7 +75,6 @@ starts_sit p n m t a place d rest at placed (Takes row h by behind some) follows
       placed = placed;
       knows = record { by = by; held_so = some };
       fits = later_follows m.rows t a.used place rest follows;
-      handed = none_handed m.rows t a.used place rest follows;
       hands = λ x. refl;
       no_waits = λ x. omega (arith, sum_by-cons (waits x) (RetainLoad row h) rest, weigh (waits x) refl (λ y k. refl));
       no_carries =
@@ -98,7 +91,6 @@ starts_sit p n m t a place d rest at placed (Bears h w room few said) follows =
       placed = placed;
       knows = (next_is p n m t a place (BirthKind row h w ∷ []) at room, refl, said);
       fits = later_follows m.rows t a.used place [] follows;
-      handed = tt;
       hands = λ x. refl;
       no_waits = λ x. sum_by-cons (waits x) (BirthKind row h w) [];
       no_carries = λ x. sum_by-cons (carries x) (BirthKind row h w) [];
@@ -127,7 +119,6 @@ claim_sits p m t a left row placed mine = record {
   placed = same_at m.plain.references t row the_root placed;
   knows = mine;
   fits = ((let e : Standing left ≢ Departing = λ q. cc in e), refl);
-  handed = tt;
   hands = λ x. refl;
   no_waits = λ x. sum_by-cons (waits x) (ClaimMark row) [];
   no_carries = λ x. sum_by-cons (carries x) (ClaimMark row) [];
