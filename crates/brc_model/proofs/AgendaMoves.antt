@@ -2,10 +2,11 @@
 use Rattle.std.proofs.Common.{◌≡◌, ◌≢◌, ℕ, zero, suc, ◌+◌, ◌-◌, ◌≤◌, Bool, true, false, cond, List, [], ◌∷◌, ◌++◌, length, refl, sym, ap, ◌∙◌, arith}
 use Rattle.std.specs.Prelude.{◌==◌, ◌&&◌, nat_lt}
 use Rattle.brc_word.specs.Words.{local_part, is_immortal_word, fresh_word, dead_word, released_word, merged_word}
+use Rattle.brc_model.specs.declared.duty.Reason.{Reason}
 use Rattle.brc_model.specs.declared.duty.Reason.TheVariants.{Own, Handed}
 use Rattle.brc_model.specs.declared.duty.Duty.{Duty}
 use Rattle.brc_model.specs.declared.duty.Duty.TheVariants.{RetainLoad, RetainStore, RetainAdd, ReleaseLoad, ReleaseStore, DecideAtZero, SharedLoad, SharedExchange, SetMark, Look, TakeMark, MergeSwap, MergeLoad, MergeExchange, Die, Settle, SettleKind, SettleCell, TakeSlot, CloseResource, SettleEnd, Leave, Scan, Finish, ClaimMark, BirthKind, BirthSlot, BirthLocal}
-use Rattle.brc_model.specs.Duties.{next_by, counts_locally, shared_result, cells_of, cells_from, release_found, ready, has_resource}
+use Rattle.brc_model.specs.Duties.{next_by, counts_locally, once_merged, merge_result, shared_result, cells_of, cells_from, release_found, ready, has_resource}
 use Rattle.brc_model.proofs.OwnRetains.{is_passed, ready_first}
 
 -- what is passed over makes the agenda no longer
@@ -72,10 +73,9 @@ scan_follows (suc head) x k n rest e =
 
 scans_follow : (head x k n : ℕ) (rest : List Duty) (b : Bool)
     → IsOther head (Scan x k) rest
-    (cond b (MergeSwap x Handed ∷ SharedLoad x Handed ∷ []) [] ++ Settle ∷ Scan (x + 1) n ∷ [])
+    (cond b (MergeSwap x Handed ∷ []) [] ++ Settle ∷ Scan (x + 1) n ∷ [])
 scans_follow head x k n rest true =
-    other_follows head (Scan x k) rest (MergeSwap x Handed) (SharedLoad x Handed ∷ Settle ∷ Scan (x + 1) n ∷ []) refl
-    (λ e. cc)
+    other_follows head (Scan x k) rest (MergeSwap x Handed) (Settle ∷ Scan (x + 1) n ∷ []) refl (λ e. cc)
 scans_follow head x k n rest false = scan_follows head x k n rest
 
 claim_follows : (head x : ℕ) (rest : List Duty) → ready head (Settle ∷ rest) ≢ ClaimMark x ∷ rest
@@ -84,9 +84,9 @@ claim_follows (suc head) x rest e =
     (let same : Settle ≡ ClaimMark x = same_first Settle (ClaimMark x) rest rest e in cc)
 
 claims_follow : (head x : ℕ) (rest : List Duty) (b : Bool)
-    → IsOther head (ClaimMark x) rest (cond b (MergeSwap x Handed ∷ SharedLoad x Handed ∷ []) [] ++ Settle ∷ [])
+    → IsOther head (ClaimMark x) rest (cond b (MergeSwap x Handed ∷ []) [] ++ Settle ∷ [])
 claims_follow head x rest true =
-    other_follows head (ClaimMark x) rest (MergeSwap x Handed) (SharedLoad x Handed ∷ Settle ∷ []) refl (λ e. cc)
+    other_follows head (ClaimMark x) rest (MergeSwap x Handed) (Settle ∷ []) refl (λ e. cc)
 claims_follow head x rest false = claim_follows head x rest
 
 leave_follows : (head x k n : ℕ) (rest : List Duty) → ready head (Scan x n ∷ Finish ∷ rest) ≢ Leave x k ∷ rest
@@ -97,6 +97,18 @@ leave_follows zero x k (suc n) rest e =
     (let same : Scan x (suc n) ≡ Leave x k = same_first (Scan x (suc n)) (Leave x k) (Finish ∷ rest) rest e in cc)
 leave_follows (suc head) x k (suc n) rest e =
     (let same : Scan x (suc n) ≡ Leave x k = same_first (Scan x (suc n)) (Leave x k) (Finish ∷ rest) rest e in cc)
+
+merged_follows : (head : ℕ) (d : Duty) (rest : List Duty) (x : ℕ) (r : Reason) → SharedLoad x Handed ≢ d
+    → IsOther head d rest (once_merged x r)
+merged_follows head d rest x Own apart = none_follows head d rest
+merged_follows head d rest x Handed apart = other_follows head d rest (SharedLoad x Handed) [] refl apart
+
+result_follows : (head : ℕ) (d : Duty) (rest : List Duty) (x : ℕ) (r : Reason) (word : ℕ) → Die x ≢ d
+    → SharedLoad x Handed ≢ d → IsOther head d rest (merge_result x r word)
+result_follows head d rest x Own word dies apart =
+    either_follows head d rest (word == dead_word) (Die x ∷ []) [] (other_follows head d rest (Die x) [] refl dies)
+    (none_follows head d rest)
+result_follows head d rest x Handed word dies apart = other_follows head d rest (SharedLoad x Handed) [] refl apart
 
 pub agenda_moves : (t : ℕ) (running : Bool) (before head : ℕ) (d : Duty) (rest : List Duty) (found : ℕ)
     → IsOther head d rest (next_by t running before d found)
@@ -134,19 +146,19 @@ agenda_moves t running before head (Look x) rest found =
     either_follows head _ rest (found == 1) [] (TakeMark x ∷ []) (none_follows head _ rest)
     (other_follows head _ rest (TakeMark x) [] refl (λ e. cc))
 agenda_moves t running before head (TakeMark x) rest found =
-    either_follows head _ rest (found == 1) (MergeSwap x Handed ∷ SharedLoad x Handed ∷ []) []
-    (other_follows head _ rest (MergeSwap x Handed) (SharedLoad x Handed ∷ []) refl (λ e. cc))
+    either_follows head _ rest (found == 1) (MergeSwap x Handed ∷ []) []
+    (other_follows head _ rest (MergeSwap x Handed) [] refl (λ e. cc))
     (none_follows head _ rest)
 agenda_moves t running before head (MergeSwap x r) rest found =
-    either_follows head _ rest (found == 0) [] (MergeLoad x (local_part found) ∷ []) (none_follows head _ rest)
-    (other_follows head _ rest (MergeLoad x (local_part found)) [] refl (λ e. cc))
-agenda_moves t running before head (MergeLoad x c) rest found =
-    other_follows head _ rest (MergeExchange x c found) [] refl (λ e. cc)
-agenda_moves t running before head (MergeExchange x c w) rest found =
-    either_follows head _ rest (found == w) _ (MergeLoad x c ∷ [])
-    (either_follows head _ rest (merged_word w c == dead_word) (Die x ∷ []) []
-    (other_follows head _ rest (Die x) [] refl (λ e. cc)) (none_follows head _ rest))
-    (other_follows head _ rest (MergeLoad x c) [] refl (λ e. cc))
+    either_follows head _ rest (found == 0) (once_merged x r) (MergeLoad x (local_part found) r ∷ [])
+    (merged_follows head _ rest x r (λ e. cc))
+    (other_follows head _ rest (MergeLoad x (local_part found) r) [] refl (λ e. cc))
+agenda_moves t running before head (MergeLoad x c r) rest found =
+    other_follows head _ rest (MergeExchange x c found r) [] refl (λ e. cc)
+agenda_moves t running before head (MergeExchange x c w r) rest found =
+    either_follows head _ rest (found == w) (merge_result x r (merged_word w c)) (MergeLoad x c r ∷ [])
+    (result_follows head _ rest x r (merged_word w c) (λ e. cc) (λ e. cc))
+    (other_follows head _ rest (MergeLoad x c r) [] refl (λ e. cc))
 agenda_moves t running before head (Die x) rest found = none_follows head _ rest
 agenda_moves t running before head Settle rest found =
     other_follows head _ rest (SettleKind (before - 1)) (Settle ∷ []) refl (λ e. cc)

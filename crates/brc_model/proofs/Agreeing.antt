@@ -106,13 +106,13 @@ decides_only x (MergeSwap y Own) other = ap one_if other
 decides_only x _ other = refl
 
 swaps_only : (x : ℕ) (d : Duty) → has_swapped x d ≡ false → merges x d ≡ 0
-swaps_only x (MergeLoad y c) other = ap one_if other
-swaps_only x (MergeExchange y c w) other = ap one_if other
+swaps_only x (MergeLoad y c r) other = ap one_if other
+swaps_only x (MergeExchange y c w r) other = ap one_if other
 swaps_only x _ other = refl
 
 merges_only : (x : ℕ) (d : Duty) → decides_or_merges x d ≡ false → merges x d ≡ 0
-merges_only x (MergeLoad y c) other = ap one_if other
-merges_only x (MergeExchange y c w) other = ap one_if other
+merges_only x (MergeLoad y c r) other = ap one_if other
+merges_only x (MergeExchange y c w r) other = ap one_if other
 merges_only x _ other = refl
 
 -- the thread whose agenda weighs has such a duty

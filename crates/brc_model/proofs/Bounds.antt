@@ -83,13 +83,13 @@ duty_suits p n m t a (SharedExchange x r w) rest count here alive few = λ same.
       record { low = omega (arith, near.high, word); state = λ e. near.state (ap phase_part same ∙ e) },
       omega (arith, near.some, word),
     )
-duty_suits p n m t a (MergeExchange x c w) rest count here alive few = (
-  (head_of p n m t a (MergeExchange x c w) rest here).1,
+duty_suits p n m t a (MergeExchange x c w r) rest count here alive few = (
+  (head_of p n m t a (MergeExchange x c w r) rest here).1,
   λ same.
-      let near = near_bias p n m x here.rule few (merge_alive p n m t a x c w rest here) in
+      let near = near_bias p n m x here.rule few (merge_alive p n m t a x c w r rest here) in
       let word : biased_part (m.memory (Shared x)) ≡ biased_part w = ap biased_part same in (
         record { low = omega (arith, near.high, word); state = λ e. near.state (ap phase_part same ∙ e) },
-        omega (arith, near.high, word, carried_is p n m t a x c w rest here),
+        omega (arith, near.high, word, carried_is p n m t a x c w r rest here),
       ),
 )
 duty_suits p n m t a (SettleCell x i k) rest count here alive few = omega (arith, here.rule.cells x i)

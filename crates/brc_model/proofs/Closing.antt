@@ -83,8 +83,8 @@ may_die_positive p n m t a (SharedExchange x Own w) rest y here is =
     subst (λ (z : ℕ). 0 < z) is (head_of p n m t a (SharedExchange x Own w) rest here)
 may_die_positive p n m t a (SharedExchange x Handed w) rest y here is =
     subst (λ (z : ℕ). 0 < z) is (head_of p n m t a (SharedExchange x Handed w) rest here).0
-may_die_positive p n m t a (MergeExchange x c w) rest y here is =
-    subst (λ (z : ℕ). 0 < z) is (head_of p n m t a (MergeExchange x c w) rest here).0
+may_die_positive p n m t a (MergeExchange x c w r) rest y here is =
+    subst (λ (z : ℕ). 0 < z) is (head_of p n m t a (MergeExchange x c w r) rest here).0
 may_die_positive p n m t a _ rest y here is = absurd is
 
 -- a row's life after the step: it goes on, or it was alive and dies by this thread, or it was dying by it and is

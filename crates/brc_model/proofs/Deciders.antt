@@ -3,9 +3,9 @@ use Rattle.std.proofs.Common.{◌≡◌, ℕ, zero, suc, ◌+◌, ◌<◌, List,
 use Rattle.std.specs.Prelude.{◌==◌, slice_get, sum_by}
 use Rattle.std.proofs.lemmas.Bool.Decides.{eqb_tells}
 use Rattle.std.proofs.lemmas.List.Sums.{sum_by-cons}
-use Rattle.brc_model.specs.declared.duty.Reason.TheVariants.{Own, Handed}
+use Rattle.brc_model.specs.declared.duty.Reason.TheVariants.{Own}
 use Rattle.brc_model.specs.declared.duty.Duty.{Duty}
-use Rattle.brc_model.specs.declared.duty.Duty.TheVariants.{DecideAtZero, SharedLoad, MergeSwap, Settle, Leave, Scan, Finish}
+use Rattle.brc_model.specs.declared.duty.Duty.TheVariants.{DecideAtZero, MergeSwap, Settle, Leave, Scan, Finish}
 use Rattle.brc_model.specs.declared.actor.Status.{Status}
 use Rattle.brc_model.specs.declared.actor.Status.TheVariants.{Running, Leaving, Gone}
 use Rattle.brc_model.specs.declared.actor.Place.{Place}
@@ -21,12 +21,6 @@ later_decides : (rows t used : ℕ) (status : Status) (place : Place) (x : ℕ) 
 later_decides rows t used status place x [] later = refl
 later_decides rows t used status place x (Settle ∷ rest) later =
     omega (arith, sum_by-cons (decides x) Settle rest, later_decides rows t used status place x rest later)
-later_decides rows t used status place x (SharedLoad y Handed ∷ rest) later =
-    omega (
-      arith,
-      sum_by-cons (decides x) (SharedLoad y Handed) rest,
-      later_decides rows t used status place x rest later.1,
-    )
 later_decides rows t used status place x (Leave y k ∷ []) later = refl
 later_decides rows t used status place x (Scan y k ∷ rest) later =
     omega (arith, sum_by-cons (decides x) (Scan y k) rest, later_decides rows t used status place x rest later.3)

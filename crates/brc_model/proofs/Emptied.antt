@@ -9,10 +9,11 @@ use Rattle.brc_model.specs.declared.thread.Call.{Call}
 use Rattle.brc_model.specs.declared.thread.Choice.{Choice}
 use Rattle.brc_model.specs.declared.thread.Choice.TheVariants.{Ok, Fault, Claim}
 use Rattle.brc_model.specs.Threads.{row_of, entry_variables, code_of}
+use Rattle.brc_model.specs.declared.duty.Reason.{Reason}
 use Rattle.brc_model.specs.declared.duty.Reason.TheVariants.{Own, Handed}
 use Rattle.brc_model.specs.declared.duty.Duty.{Duty}
 use Rattle.brc_model.specs.declared.duty.Duty.TheVariants.{RetainLoad, RetainStore, RetainAdd, ReleaseLoad, ReleaseStore, DecideAtZero, SharedLoad, SharedExchange, SetMark, Look, TakeMark, MergeSwap, MergeLoad, MergeExchange, Die, Settle, SettleKind, SettleCell, TakeSlot, CloseResource, SettleEnd, Leave, Scan, Finish, ClaimMark, BirthKind, BirthSlot, BirthLocal}
-use Rattle.brc_model.specs.Duties.{address_of, next_by, counts_locally, shared_result, cells_of, head_by, ready, has_resource, cells_from}
+use Rattle.brc_model.specs.Duties.{address_of, next_by, counts_locally, once_merged, merge_result, shared_result, cells_of, head_by, ready, has_resource, cells_from}
 use Rattle.brc_model.specs.declared.actor.Status.{Status}
 use Rattle.brc_model.specs.declared.actor.Status.TheVariants.{Running, Leaving, Gone}
 use Rattle.brc_model.specs.declared.actor.Place.{Place}
@@ -91,9 +92,20 @@ either_makes full rest false one two first second = second
 
 -- a claim settles in any case
 claim_empties : (full : Bool) (x : ℕ) (b : Bool) (behind rest : List Duty) → empties false (behind ++ rest) ≡ true
-    → MakesUp full (cond b (MergeSwap x Handed ∷ SharedLoad x Handed ∷ []) [] ++ Settle ∷ behind) rest
+    → MakesUp full (cond b (MergeSwap x Handed ∷ []) [] ++ Settle ∷ behind) rest
 claim_empties full x true behind rest e = e
 claim_empties full x false behind rest e = e
+
+merged_makes : (full : Bool) (rest : List Duty) (x : ℕ) (r : Reason) → empties true rest ≡ true
+    → MakesUp full (once_merged x r) rest
+merged_makes full rest x Own e = asks_less full rest e
+merged_makes full rest x Handed e = e
+
+result_makes : (full : Bool) (rest : List Duty) (x : ℕ) (r : Reason) (word : ℕ) → empties true rest ≡ true
+    → MakesUp full (merge_result x r word) rest
+result_makes full rest x Own word e =
+    either_makes full rest (word == dead_word) (Die x ∷ []) [] e (asks_less full rest e)
+result_makes full rest x Handed word e = e
 
 next_empties : (t : ℕ) (running : Bool) (head : ℕ) (d : Duty) (rest : List Duty) (found : ℕ) → Empties head (d ∷ rest)
     → MakesUp (some_chain (head_by head d found)) (next_by t running head d found) rest
@@ -122,16 +134,15 @@ next_empties t running head (SetMark x) rest found e = e
 next_empties t running head (Look x) rest found e =
     either_makes (some_chain head) rest (found == 1) [] (TakeMark x ∷ []) (asks_less (some_chain head) rest e) e
 next_empties t running head (TakeMark x) rest found e =
-    either_makes (some_chain head) rest (found == 1) (MergeSwap x Handed ∷ SharedLoad x Handed ∷ []) [] e
+    either_makes (some_chain head) rest (found == 1) (MergeSwap x Handed ∷ []) [] e
     (asks_less (some_chain head) rest e)
 next_empties t running head (MergeSwap x r) rest found e =
-    either_makes (some_chain head) rest (found == 0) [] (MergeLoad x (local_part found) ∷ [])
-    (asks_less (some_chain head) rest e) e
-next_empties t running head (MergeLoad x c) rest found e = e
-next_empties t running head (MergeExchange x c w) rest found e =
-    either_makes (some_chain head) rest (found == w) _ (MergeLoad x c ∷ [])
-    (either_makes (some_chain head) rest (merged_word w c == dead_word) (Die x ∷ []) [] e
-    (asks_less (some_chain head) rest e)) e
+    either_makes (some_chain head) rest (found == 0) (once_merged x r) (MergeLoad x (local_part found) r ∷ [])
+    (merged_makes (some_chain head) rest x r e) e
+next_empties t running head (MergeLoad x c r) rest found e = e
+next_empties t running head (MergeExchange x c w r) rest found e =
+    either_makes (some_chain head) rest (found == w) (merge_result x r (merged_word w c)) (MergeLoad x c r ∷ [])
+    (result_makes (some_chain head) rest x r (merged_word w c) e) e
 next_empties t running head (Die x) rest found e = asks_less (some_chain (x + 1)) rest e
 next_empties t running head Settle rest found e = e
 next_empties t running head (SettleKind x) rest found e =

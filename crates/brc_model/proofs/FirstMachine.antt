@@ -125,7 +125,6 @@ first_fits m rows calls zero a is =
         chain = first_chain m rows calls 0;
       },
       (standing_stays 0, refl),
-      tt,
     )
 first_fits m rows calls (suc t) a is =
     let call = slice_get-map worker_actor calls t a is in
@@ -140,7 +139,6 @@ first_fits m rows calls (suc t) a is =
         chain = first_chain m rows calls (suc t);
       },
       (standing_stays call.source.times, refl),
-      tt,
     )
 
 pub first_coded : (m : Module) (calls : List Call) (t : ℕ) (a : Actor) → IsModule m → IsAcceptable m → AreCalls m calls

@@ -65,9 +65,9 @@ none_shared p n m t a (SharedExchange y Own w) rest here =
     shared_apart m y _ (head_of p n m t a (SharedExchange y Own w) rest here)
 none_shared p n m t a (SharedExchange y Handed w) rest here =
     shared_apart m y _ (head_of p n m t a (SharedExchange y Handed w) rest here).0
-none_shared p n m t a (MergeLoad y c) rest here = written_load m.memory (Shared y) (Shared 0)
-none_shared p n m t a (MergeExchange y c w) rest here =
-    shared_apart m y _ (head_of p n m t a (MergeExchange y c w) rest here).0
+none_shared p n m t a (MergeLoad y c r) rest here = written_load m.memory (Shared y) (Shared 0)
+none_shared p n m t a (MergeExchange y c w r) rest here =
+    shared_apart m y _ (head_of p n m t a (MergeExchange y c w r) rest here).0
 none_shared p n m t a _ rest here = refl
 
 none_gate : (p : Accounts) (n : ℕ) (m : Machine) (t : ℕ) (a : Actor) (d : Duty) (rest : List Duty)

@@ -40,7 +40,7 @@ others_and_own : (p : Accounts) (n : ℕ) (m : Machine) (t : ℕ) (a : Actor) (d
     → Fits (p u) (done_by m t a d rest) u b
 others_and_own p n m t a d rest here own =
     each_fits p p m (done_by m t a d rest) t a (actor_by t a d rest (found_by m t a d)) here.found
-    (leaves_others p n m t a d rest here) (λ u ne. refl) (own.actor, own.agenda, own.handed) here.rule.each
+    (leaves_others p n m t a d rest here) (λ u ne. refl) (own.actor, own.agenda) here.rule.each
 
 -- ---- the whole rule
 

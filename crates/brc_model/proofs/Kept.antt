@@ -59,8 +59,9 @@ own_fits p n m t a (Look x) rest here alive settled = own_look p n m t a x rest 
 own_fits p n m t a (TakeMark x) rest here alive settled = own_take_mark p n m t a x rest here alive
 own_fits p n m t a (MergeSwap x Own) rest here alive settled = own_merge_swap_own p n m t a x rest here alive
 own_fits p n m t a (MergeSwap x Handed) rest here alive settled = own_merge_swap_handed p n m t a x rest here alive
-own_fits p n m t a (MergeLoad x c) rest here alive settled = own_merge_load p n m t a x c rest here alive
-own_fits p n m t a (MergeExchange x c w) rest here alive settled = own_merge_exchange p n m t a x c w rest here alive
+own_fits p n m t a (MergeLoad x c r) rest here alive settled = own_merge_load p n m t a x c r rest here alive
+own_fits p n m t a (MergeExchange x c w r) rest here alive settled =
+    own_merge_exchange p n m t a x c w r rest here alive
 own_fits p n m t a (Die x) rest here alive settled = own_die p n m t a x rest here alive
 own_fits p n m t a Settle rest here alive settled = own_settle p n m t a rest here alive
 own_fits p n m t a (SettleKind x) rest here alive settled = own_settle_kind p n m t a x rest here alive

@@ -1,9 +1,8 @@
 -- A thread's step leaves what the other threads rely on.
-use Rattle.std.proofs.Common.{◌≡◌, ◌≢◌, ℕ, ◌+◌, ◌-◌, ◌<◌, ◌≤◌, Bool, true, false, cond, List, [], ◌∷◌, inl, inr, Some, refl, sym, ap, ◌∙◌, subst, arith}
-use Rattle.std.specs.Prelude.{◌==◌, slice_get, sum_by}
+use Rattle.std.proofs.Common.{◌≡◌, ◌≢◌, ℕ, ◌+◌, ◌-◌, ◌<◌, ◌≤◌, Bool, true, false, cond, List, ◌∷◌, inl, inr, Some, refl, sym, ap, ◌∙◌, subst, arith}
+use Rattle.std.specs.Prelude.{◌==◌, slice_get}
 use Rattle.std.proofs.lemmas.Bool.{eqb-true, eq-eqb, ne_eqb}
 use Rattle.std.proofs.lemmas.Bool.Decides.{eqb_tells}
-use Rattle.std.proofs.lemmas.List.Sums.{sum_by-cons}
 use Rattle.brc_model.specs.declared.duty.Holding.TheVariants.{InHand}
 use Rattle.brc_word.specs.Words.{owner_part, biased_part, phase_part, fresh_word, released_word, merged_word, local_word}
 use Rattle.brc_model.specs.declared.duty.Reason.{Reason}
@@ -17,7 +16,7 @@ use Rattle.brc_model.proofs.Bag.{held, one_if, held-le-references_to}
 use Rattle.brc_model.proofs.Holds.{reference_of}
 use Rattle.brc_model.proofs.Rows.{waits, decides, merges, InOwned, InSwapped, InMerged, RowRule}
 use Rattle.brc_model.proofs.RowSteps.{shared_range, shared_up, shared_down, shared_merged}
-use Rattle.brc_model.proofs.Rule.{Accounts, extra_of, lacks_of, OwnsLocally, FollowsHanded, HeadFits, HeadOf, dies_by, Rule, status_word, numbers_of}
+use Rattle.brc_model.proofs.Rule.{Accounts, extra_of, lacks_of, OwnsLocally, HeadFits, HeadOf, dies_by, Rule, status_word, numbers_of}
 use Rattle.brc_model.proofs.Alive.{first_weighs, Alive, alive_referenced, alive_waiting, alive_deciding, alive_merging, extra_held}
 use Rattle.brc_model.proofs.Written.{written_here, written_apart, written_load, apart_local, apart_shared, apart_gate, apart_thread}
 use Rattle.brc_model.proofs.Others.{is_dying}
@@ -69,30 +68,19 @@ decide_alive p n m t a x rest here =
     alive_deciding p n m x here.rule (head_of p n m t a (DecideAtZero x) rest here).0
     (omega (arith, first_weighs (decides x) m.actors t a (DecideAtZero x) rest here.found here.agenda, one))
 
-pub merge_alive : (p : Accounts) (n : ℕ) (m : Machine) (t : ℕ) (a : Actor) (x c w : ℕ) (rest : List Duty)
-    → AtDuty p n m t a (MergeExchange x c w) rest → Alive m x
-merge_alive p n m t a x c w rest here =
+pub merge_alive : (p : Accounts) (n : ℕ) (m : Machine) (t : ℕ) (a : Actor) (x c w : ℕ) (r : Reason) (rest : List Duty)
+    → AtDuty p n m t a (MergeExchange x c w r) rest → Alive m x
+merge_alive p n m t a x c w r rest here =
     let one : one_if (x == x) ≡ 1 = ap one_if (eq-eqb x x refl) in
-    alive_merging p n m x here.rule (head_of p n m t a (MergeExchange x c w) rest here).0
-    (omega (arith, first_weighs (merges x) m.actors t a (MergeExchange x c w) rest here.found here.agenda, one))
-
-pub handed_weighs : (x : ℕ) (rest : List Duty) → FollowsHanded x rest → 1 ≤ sum_by (waits x) rest
-handed_weighs x [] follows = absurd follows
-handed_weighs x (SharedLoad y Handed ∷ rest) follows =
-    let one : one_if (y == x) ≡ 1 = ap one_if (eq-eqb y x follows) in
-    omega (arith, sum_by-cons (waits x) (SharedLoad y Handed) rest, one)
-handed_weighs x _ follows = absurd follows
+    alive_merging p n m x here.rule (head_of p n m t a (MergeExchange x c w r) rest here).0
+    (omega (arith, first_weighs (merges x) m.actors t a (MergeExchange x c w r) rest here.found here.agenda, one))
 
 pub claim_alive : (p : Accounts) (n : ℕ) (m : Machine) (t : ℕ) (a : Actor) (x : ℕ) (rest : List Duty)
     → AtDuty p n m t a (MergeSwap x Handed) rest → Alive m x
 claim_alive p n m t a x rest here =
-    let fits = head_of p n m t a (MergeSwap x Handed) rest here in
-    alive_waiting p n m x here.rule fits.0
-    (omega (
-      arith,
-      first_weighs (waits x) m.actors t a (MergeSwap x Handed) rest here.found here.agenda,
-      handed_weighs x rest fits.2,
-    ))
+    let one : one_if (x == x) ≡ 1 = ap one_if (eq-eqb x x refl) in
+    alive_waiting p n m x here.rule (head_of p n m t a (MergeSwap x Handed) rest here).0
+    (omega (arith, first_weighs (waits x) m.actors t a (MergeSwap x Handed) rest here.found here.agenda, one))
 
 -- ---- local words
 
@@ -198,9 +186,9 @@ merged_left p n m t a (SharedExchange y r w) rest here x was =
     let same : m.memory (Shared y) ≡ w = eqb-true (m.memory (Shared y)) w won in
     released_merged w (subst (λ (v : ℕ). 1 ≤ biased_part v) same (shared_range _ _ alive.live))
     (ap phase_part (sym same) ∙ phase)) phase) was
-merged_left p n m t a (MergeLoad y c) rest here x was =
+merged_left p n m t a (MergeLoad y c r) rest here x was =
     ap phase_part (written_load m.memory (Shared y) (Shared x)) ∙ was
-merged_left p n m t a (MergeExchange y c w) rest here x was =
+merged_left p n m t a (MergeExchange y c w r) rest here x was =
     phase_written m y (cond (m.memory (Shared y) == w) (merged_word w c) (m.memory (Shared y))) x
     (λ phase. exchanged (m.memory (Shared y) == w) (merged_word w c) (m.memory (Shared y)) 0 (λ v. phase_part v ≡ 3)
     (λ won. (shared_merged w c).1) phase) was

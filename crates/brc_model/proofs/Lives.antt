@@ -8,7 +8,7 @@ use Rattle.brc_model.specs.declared.duty.Reason.{Reason}
 use Rattle.brc_model.specs.declared.duty.Reason.TheVariants.{Own, Handed}
 use Rattle.brc_model.specs.declared.duty.Duty.{Duty}
 use Rattle.brc_model.specs.declared.duty.Duty.TheVariants.{RetainLoad, RetainStore, RetainAdd, ReleaseLoad, ReleaseStore, DecideAtZero, SharedLoad, SharedExchange, SetMark, Look, TakeMark, MergeSwap, MergeLoad, MergeExchange, Die, Settle, SettleKind, SettleCell, TakeSlot, CloseResource, SettleEnd, Leave, Scan, Finish, ClaimMark, BirthKind, BirthSlot, BirthLocal}
-use Rattle.brc_model.specs.Duties.{address_of, next_by, counts_locally, shared_result, has_resource, cells_of, cells_from, release_found}
+use Rattle.brc_model.specs.Duties.{address_of, next_by, counts_locally, once_merged, merge_result, shared_result, has_resource, cells_of, cells_from, release_found}
 use Rattle.brc_model.specs.Machine.{Actor, Life, Unborn, Live, Dying, Closed, Machine, is_running, dies_next, ended_row, born_row, with_life, life_by, done_by}
 use Rattle.brc_model.proofs.Lists.{some_is}
 use Rattle.brc_model.proofs.Rule.{Accounts, dies_by, HasCountedKind, Rule}
@@ -25,7 +25,7 @@ use Rattle.brc_model.proofs.MovesApart.{moves_apart}
 abbrev pub MayDie : Duty → ℕ → Type 0
 MayDie (DecideAtZero x) y = x ≡ y
 MayDie (SharedExchange x r w) y = x ≡ y
-MayDie (MergeExchange x c w) y = x ≡ y
+MayDie (MergeExchange x c w r) y = x ≡ y
 MayDie _ y = ⊥
 
 none_some : {A : Type 0} (x : A) → None ≡ Some x → ⊥
@@ -45,11 +45,19 @@ exchange_dies : (a : Bool) (x y w : ℕ) (r : Reason)
 exchange_dies true x y w r e = result_dies (w == fresh_word) (released_word w == dead_word) x y e
 exchange_dies false x y w r e = absurd (none_some y e)
 
-merge_dies : (a b : Bool) (x y c : ℕ) → dies_next (cond a (cond b (Die x ∷ []) []) (MergeLoad x c ∷ [])) ≡ Some y
-    → x ≡ y
-merge_dies true true x y c e = some_is x y e
-merge_dies true false x y c e = absurd (none_some y e)
-merge_dies false b x y c e = absurd (none_some y e)
+last_dies : (b : Bool) (x y : ℕ) → dies_next (cond b (Die x ∷ []) []) ≡ Some y → x ≡ y
+last_dies true x y e = some_is x y e
+last_dies false x y e = absurd (none_some y e)
+
+merge_dies : (a : Bool) (x y c word : ℕ) (r : Reason)
+    → dies_next (cond a (merge_result x r word) (MergeLoad x c r ∷ [])) ≡ Some y → x ≡ y
+merge_dies true x y c word Own e = last_dies (word == dead_word) x y e
+merge_dies true x y c word Handed e = absurd (none_some y e)
+merge_dies false x y c word r e = absurd (none_some y e)
+
+merged_none : (x y : ℕ) (r : Reason) → dies_next (once_merged x r) ≡ Some y → ⊥
+merged_none x y Own e = none_some y e
+merged_none x y Handed e = none_some y e
 
 either_none : (b : Bool) (x z : List Duty) (y : ℕ) → (dies_next x ≡ Some y → ⊥) → (dies_next z ≡ Some y → ⊥)
     → dies_next (cond b x z) ≡ Some y → ⊥
@@ -57,7 +65,7 @@ either_none true x z y f g = f
 either_none false x z y f g = g
 
 claimed_none : (b : Bool) (x y : ℕ) (rest : List Duty) → (dies_next rest ≡ Some y → ⊥)
-    → dies_next (cond b (MergeSwap x Handed ∷ SharedLoad x Handed ∷ []) [] ++ rest) ≡ Some y → ⊥
+    → dies_next (cond b (MergeSwap x Handed ∷ []) [] ++ rest) ≡ Some y → ⊥
 claimed_none true x y rest none e = none_some y e
 claimed_none false x y rest none e = none e
 
@@ -87,12 +95,12 @@ next_dies t running head (SetMark x) found y cells e = none_some y e
 next_dies t running head (Look x) found y cells e =
     either_none (found == 1) [] (TakeMark x ∷ []) y (none_some y) (none_some y) e
 next_dies t running head (TakeMark x) found y cells e =
-    either_none (found == 1) (MergeSwap x Handed ∷ SharedLoad x Handed ∷ []) [] y (none_some y) (none_some y) e
+    either_none (found == 1) (MergeSwap x Handed ∷ []) [] y (none_some y) (none_some y) e
 next_dies t running head (MergeSwap x r) found y cells e =
-    either_none (found == 0) [] (MergeLoad x (local_part found) ∷ []) y (none_some y) (none_some y) e
-next_dies t running head (MergeLoad x c) found y cells e = none_some y e
-next_dies t running head (MergeExchange x c w) found y cells e =
-    merge_dies (found == w) (merged_word w c == dead_word) x y c e
+    either_none (found == 0) (once_merged x r) (MergeLoad x (local_part found) r ∷ []) y (merged_none x y r)
+    (none_some y) e
+next_dies t running head (MergeLoad x c r) found y cells e = none_some y e
+next_dies t running head (MergeExchange x c w r) found y cells e = merge_dies (found == w) x y c (merged_word w c) r e
 next_dies t running head (Die x) found y cells e = none_some y e
 next_dies t running head Settle found y cells e = none_some y e
 next_dies t running head (SettleKind x) found y cells e =
@@ -121,8 +129,8 @@ may_die_alive : (p : Accounts) (n : ℕ) (m : Machine) (t : ℕ) (a : Actor) (d 
 may_die_alive p n m t a (DecideAtZero x) rest y here is = subst (Alive m) is (decide_alive p n m t a x rest here)
 may_die_alive p n m t a (SharedExchange x r w) rest y here is =
     subst (Alive m) is (exchange_alive p n m t a x w r rest here)
-may_die_alive p n m t a (MergeExchange x c w) rest y here is =
-    subst (Alive m) is (merge_alive p n m t a x c w rest here)
+may_die_alive p n m t a (MergeExchange x c w r) rest y here is =
+    subst (Alive m) is (merge_alive p n m t a x c w r rest here)
 may_die_alive p n m t a _ rest y here is = absurd is
 
 abbrev pub next_of : Machine → ℕ → Actor → Duty → List Duty

@@ -6,9 +6,8 @@ use Rattle.std.proofs.lemmas.Bool.{lt-ltb}
 use Rattle.brc_lang.specs.declared.module.Module.{Module}
 use Rattle.brc_lang.specs.Grammar.{IsModule}
 use Rattle.brc_model.specs.Walks.{IsAcceptable}
-use Rattle.brc_model.specs.declared.duty.Reason.TheVariants.{Handed}
 use Rattle.brc_model.specs.declared.duty.Duty.{Duty}
-use Rattle.brc_model.specs.declared.duty.Duty.TheVariants.{SharedLoad, Look, TakeMark, Settle, Leave, Scan, Finish}
+use Rattle.brc_model.specs.declared.duty.Duty.TheVariants.{Look, TakeMark, Settle, Leave, Scan, Finish}
 use Rattle.brc_model.specs.declared.address.Address.TheVariants.{Mark, ThreadWord}
 use Rattle.brc_model.specs.declared.actor.Status.{Status}
 use Rattle.brc_model.specs.declared.actor.Status.TheVariants.{Running, Leaving, Gone}
@@ -58,8 +57,6 @@ later_scans : (rows t used : ℕ) (status : Status) (place : Place) (x : ℕ) (l
 later_scans rows t used status place x [] later low e = absurd cc
 later_scans rows t used status place x (Settle ∷ rest) later low e =
     later_scans rows t used status place x rest later low e
-later_scans rows t used status place x (SharedLoad y Handed ∷ rest) later low e =
-    later_scans rows t used status place x rest later.1 low e
 later_scans rows t used status place x (Leave y k ∷ []) later low e = absurd cc
 later_scans rows t used status place x (Scan y k ∷ rest) later low e = (
   later.0,

@@ -1,14 +1,16 @@
 -- At most one thread merges a row, and a claimant that finds no owner finds the row merged.
-use Rattle.std.proofs.Common.{◌≡◌, ◌≢◌, ℕ, zero, suc, ◌+◌, ◌<◌, ◌≤◌, Bool, true, false, cond, List, [], ◌∷◌, inl, inr, Some, refl, sym, ap, ◌∙◌, subst, arith}
+use Rattle.std.proofs.Common.{◌≡◌, ◌≢◌, ℕ, zero, suc, ◌+◌, ◌<◌, ◌≤◌, Bool, true, false, cond, List, [], ◌∷◌, ◌⊎◌, inl, inr, Some, refl, sym, ap, ◌∙◌, subst, arith}
 use Rattle.std.specs.Prelude.{◌==◌, slice_get, sum_by}
 use Rattle.std.proofs.lemmas.Bool.{eq-eqb}
 use Rattle.std.proofs.lemmas.Bool.Decides.{eqb_tells}
 use Rattle.std.proofs.lemmas.List.Sums.{sum_by-cons}
-use Rattle.brc_word.specs.Words.{biased_part, phase_part, bias, dead_word, merged_word}
-use Rattle.brc_model.specs.declared.duty.Reason.TheVariants.{Handed}
+use Rattle.brc_word.specs.Words.{phase_part}
+use Rattle.brc_model.specs.declared.duty.Reason.{Reason}
+use Rattle.brc_model.specs.declared.duty.Reason.TheVariants.{Own, Handed}
 use Rattle.brc_model.specs.declared.duty.Duty.{Duty}
-use Rattle.brc_model.specs.declared.duty.Duty.TheVariants.{SharedLoad, MergeSwap, MergeLoad, MergeExchange, Settle, Leave, Scan, Finish}
+use Rattle.brc_model.specs.declared.duty.Duty.TheVariants.{MergeSwap, MergeLoad, MergeExchange, Settle, Leave, Scan, Finish}
 use Rattle.brc_model.specs.declared.address.Address.TheVariants.{Local, Shared, ThreadWord}
+use Rattle.brc_model.specs.Duties.{block_of}
 use Rattle.brc_model.specs.declared.actor.Status.{Status}
 use Rattle.brc_model.specs.declared.actor.Status.TheVariants.{Running, Leaving, Gone}
 use Rattle.brc_model.specs.declared.actor.Place.{Place}
@@ -17,10 +19,9 @@ use Rattle.brc_model.proofs.Lists.{some_is}
 use Rattle.brc_model.proofs.Bag.{one_if}
 use Rattle.brc_model.proofs.Rows.{waits, carries, merges, agenda_weight, weight, Phased, IsDefault, IsQueued, InOwned, InSwapped, InMerged}
 use Rattle.brc_model.proofs.HasDuties.{some_weighs}
-use Rattle.brc_model.proofs.RowSteps.{shared_merged}
-use Rattle.brc_model.proofs.Rule.{Accounts, numbers_of, FollowsHanded, IsMergeOf, HeadFits, HeadOf, Later, Agenda, AgendaFits, status_word}
+use Rattle.brc_model.proofs.Rule.{Accounts, numbers_of, MayCarry, HeadFits, HeadOf, Later, Agenda, AgendaFits, status_word}
 use Rattle.brc_model.proofs.Alive.{agenda_in, first_weighs}
-use Rattle.brc_model.proofs.Leaves.{AtDuty, head_of, handed_weighs, claim_alive, merge_alive}
+use Rattle.brc_model.proofs.Leaves.{AtDuty, head_of, claim_alive, merge_alive}
 use Rattle.brc_model.proofs.Neutral.{agenda_here}
 
 -- ---- weights of agendas
@@ -46,12 +47,6 @@ later_merges : (rows t used : ℕ) (status : Status) (place : Place) (x : ℕ) (
 later_merges rows t used status place x [] later = refl
 later_merges rows t used status place x (Settle ∷ rest) later =
     omega (arith, sum_by-cons (merges x) Settle rest, later_merges rows t used status place x rest later)
-later_merges rows t used status place x (SharedLoad y Handed ∷ rest) later =
-    omega (
-      arith,
-      sum_by-cons (merges x) (SharedLoad y Handed) rest,
-      later_merges rows t used status place x rest later.1,
-    )
 later_merges rows t used status place x (Leave y k ∷ []) later = refl
 later_merges rows t used status place x (Scan y k ∷ rest) later =
     omega (arith, sum_by-cons (merges x) (Scan y k) rest, later_merges rows t used status place x rest later.3)
@@ -68,41 +63,45 @@ rest_merges rows t used status place x Finish [] fits = refl
 rest_merges rows t used status place x Finish (e ∷ rest) fits = absurd fits
 rest_merges rows t used status place x _ rest fits = later_merges rows t used status place x rest fits
 
--- a thread that is at a merge of the row
-record Merger (m : Machine) (u : ℕ) (b : Actor) (x : ℕ) : Type 0 where
-  pub first : Duty
-  pub rest : List Duty
-  pub agenda : b.agenda ≡ first ∷ rest
-  pub merge : IsMergeOf m u b x rest
+-- a thread that merges the row: its running owner, or one whose handed reference awaits
+abbrev IsMerger : Machine → ℕ → Actor → ℕ → Type 0
+IsMerger m u b x = ((b.status ≡ Running) × (block_of m.rows x ≡ u)) ⊎ (1 ≤ agenda_weight (waits x) b)
+
+-- a merge of another row weighs nothing
+at_other : (y x : ℕ) → (y == x) ≡ false → 0 < one_if (y == x) → ⊥
+at_other y x other some = let none : one_if (y == x) ≡ 0 = ap one_if other in omega (arith, some, none)
 
 merger_knows : (m : Machine) (u x : ℕ) (b : Actor) (d : Duty) (rest : List Duty) → HeadFits m u b d rest
-    → 0 < merges x d → IsMergeOf m u b x rest
-merger_knows m u x b (MergeLoad y c) rest fits some =
+    → 0 < merges x d → ((b.status ≡ Running) × (block_of m.rows x ≡ u)) ⊎ (1 ≤ waits x d)
+merger_knows m u x b (MergeLoad y c Own) rest fits some =
     elim (eqb_tells y x) [
-      | inl same ↦ subst (λ (z : ℕ). IsMergeOf m u b z rest) same.1 fits.2
-      | inr other ↦ let none : one_if (y == x) ≡ 0 = ap one_if other.0 in absurd (omega (arith, some, none))
+      | inl same ↦ inl (subst (λ (z : ℕ). MayCarry m u b z Own) same.1 fits.2)
+      | inr other ↦ absurd (at_other y x other.0 some)
     ]
-merger_knows m u x b (MergeExchange y c w) rest fits some =
+merger_knows m u x b (MergeExchange y c w Own) rest fits some =
     elim (eqb_tells y x) [
-      | inl same ↦ subst (λ (z : ℕ). IsMergeOf m u b z rest) same.1 fits.2
-      | inr other ↦ let none : one_if (y == x) ≡ 0 = ap one_if other.0 in absurd (omega (arith, some, none))
+      | inl same ↦ inl (subst (λ (z : ℕ). MayCarry m u b z Own) same.1 fits.2)
+      | inr other ↦ absurd (at_other y x other.0 some)
     ]
+merger_knows m u x b (MergeLoad y c Handed) rest fits some = inr some
+merger_knows m u x b (MergeExchange y c w Handed) rest fits some = inr some
 merger_knows m u x b _ rest fits some = absurd (omega (arith, some))
 
 first_merges : (m : Machine) (u x : ℕ) (b : Actor) (d : Duty) (rest : List Duty) → b.agenda ≡ d ∷ rest
-    → sum_by (merges x) rest ≡ 0 → HeadFits m u b d rest → 0 < agenda_weight (merges x) b → Merger m u b x
+    → sum_by (merges x) rest ≡ 0 → HeadFits m u b d rest → 0 < agenda_weight (merges x) b → IsMerger m u b x
 first_merges m u x b d rest is none head some =
     let whole : agenda_weight (merges x) b ≡ merges x d + sum_by (merges x) rest =
     ap (sum_by (merges x)) is ∙ sum_by-cons (merges x) d rest in
-    record {
-      first = d;
-      rest = rest;
-      agenda = is;
-      merge = merger_knows m u x b d rest head (omega (arith, whole, none, some));
-    }
+    elim (merger_knows m u x b d rest head (omega (arith, whole, none, some))) [
+      | inl own ↦ inl own
+      | inr waiting ↦
+          let all : agenda_weight (waits x) b ≡ waits x d + sum_by (waits x) rest =
+          ap (sum_by (waits x)) is ∙ sum_by-cons (waits x) d rest in
+          inr (omega (arith, all, waiting))
+    ]
 
 merger_of : (m : Machine) (u x : ℕ) (b : Actor) (agenda : List Duty) → b.agenda ≡ agenda → (status : Status)
-    → AgendaFits m.rows u b status → HeadOf m u b agenda → 0 < agenda_weight (merges x) b → Merger m u b x
+    → AgendaFits m.rows u b status → HeadOf m u b agenda → 0 < agenda_weight (merges x) b → IsMerger m u b x
 merger_of m u x b [] is status fits head some =
     let none : agenda_weight (merges x) b ≡ 0 = ap (sum_by (merges x)) is in absurd (omega (arith, some, none))
 merger_of m u x b (d ∷ rest) is Gone fits head some = absurd (let wrong : [] ≡ d ∷ rest = sym fits.0 ∙ is in cc)
@@ -117,33 +116,26 @@ merger_of m u x b (d ∷ rest) is Leaving fits head some =
 
 -- ---- a claimant
 
-handed_waits : (x u : ℕ) (b : Actor) (d : Duty) (rest : List Duty) → b.agenda ≡ d ∷ rest → FollowsHanded x rest
-    → 1 ≤ agenda_weight (waits x) b
-handed_waits x u b d rest is follows =
-    let whole : agenda_weight (waits x) b ≡ waits x d + sum_by (waits x) rest =
-    ap (sum_by (waits x)) is ∙ sum_by-cons (waits x) d rest in
-    omega (arith, whole, handed_weighs x rest follows)
-
 -- a claimant and another merger: the owner runs and is the other, or two decrements await
 claimants_clash : (p : Accounts) (n : ℕ) (m : Machine) (t u x : ℕ) (a b : Actor) (rest : List Duty)
-    → AtDuty p n m t a (MergeSwap x Handed) rest → u ≢ t → slice_get m.actors u ≡ Some b → Merger m u b x
+    → AtDuty p n m t a (MergeSwap x Handed) rest → u ≢ t → slice_get m.actors u ≡ Some b → IsMerger m u b x
     → Phased (numbers_of m x) → ⊥
 claimants_clash p n m t u x a b rest here ne found merger phased =
-    let fits = head_of p n m t a (MergeSwap x Handed) rest here in
-    elim merger.merge [
-      | inl own ↦ elim fits.1 [
+    elim merger [
+      | inl own ↦ elim (head_of p n m t a (MergeSwap x Handed) rest here).1 [
         | inl mine ↦ ne (sym own.1 ∙ mine)
         | inr stopped ↦
             stopped (ap (λ (z : ℕ). m.memory (ThreadWord z)) own.1 ∙ (here.rule.each u b found).0.word
             ∙ ap status_word own.0)
       ]
-      | inr follows ↦
-          let mine = handed_waits x t a (MergeSwap x Handed) rest here.agenda fits.2 in
-          let theirs = handed_waits x u b merger.first merger.rest merger.agenda follows in
+      | inr theirs ↦
+          let one : one_if (x == x) ≡ 1 = ap one_if (eq-eqb x x refl) in
+          let mine : agenda_weight (waits x) a ≡ one_if (x == x) + sum_by (waits x) rest =
+          ap (sum_by (waits x)) here.agenda ∙ sum_by-cons (waits x) (MergeSwap x Handed) rest in
           let both = two_weigh (waits x) m.actors t u a b ne here.found found in
           elim phased [
-            | IsDefault q w k ↦ absurd (omega (arith, mine, theirs, both, w))
-            | IsQueued q w ↦ absurd (omega (arith, mine, theirs, both, w))
+            | IsDefault q w k ↦ absurd (omega (arith, mine, one, theirs, both, w))
+            | IsQueued q w ↦ absurd (omega (arith, mine, one, theirs, both, w))
           ]
     ]
 
@@ -190,8 +182,8 @@ none_carried true c e = absurd (omega (arith, e))
 none_carried false c e = refl
 
 unmerged_carries : (x : ℕ) (d : Duty) → merges x d ≡ 0 → carries x d ≡ 0
-unmerged_carries x (MergeLoad y c) e = none_carried (y == x) c e
-unmerged_carries x (MergeExchange y c w) e = none_carried (y == x) c e
+unmerged_carries x (MergeLoad y c r) e = none_carried (y == x) c e
+unmerged_carries x (MergeExchange y c w r) e = none_carried (y == x) c e
 unmerged_carries x _ e = refl
 
 agenda_carries : (x : ℕ) (agenda : List Duty) → sum_by (merges x) agenda ≡ 0 → sum_by (carries x) agenda ≡ 0
@@ -244,14 +236,14 @@ one_carries x (b ∷ rest) (suc t) a found one =
     )
 
 -- all that is carried of a row is what its merger carries
-pub carried_is : (p : Accounts) (n : ℕ) (m : Machine) (t : ℕ) (a : Actor) (x c w : ℕ) (rest : List Duty)
-    → AtDuty p n m t a (MergeExchange x c w) rest → weight (carries x) m.actors ≡ c
-carried_is p n m t a x c w rest here =
-    let d : Duty = MergeExchange x c w in
+pub carried_is : (p : Accounts) (n : ℕ) (m : Machine) (t : ℕ) (a : Actor) (x c w : ℕ) (r : Reason) (rest : List Duty)
+    → AtDuty p n m t a (MergeExchange x c w r) rest → weight (carries x) m.actors ≡ c
+carried_is p n m t a x c w r rest here =
+    let d : Duty = MergeExchange x c w r in
     let one : one_if (x == x) ≡ 1 = ap one_if (eq-eqb x x refl) in
     let mine : cond (x == x) c 0 ≡ c = ap (λ (b : Bool). cond b c 0) (eq-eqb x x refl) in
     let first = first_weighs (merges x) m.actors t a d rest here.found here.agenda in
-    let all : weight (merges x) m.actors ≡ 1 = elim (merge_alive p n m t a x c w rest here).live.mode [
+    let all : weight (merges x) m.actors ≡ 1 = elim (merge_alive p n m t a x c w r rest here).live.mode [
       | InOwned o ↦ absurd (omega (arith, first, one, o.merging))
       | InSwapped s ↦ s.merging
       | InMerged s ↦ absurd (omega (arith, first, one, s.merging))
@@ -262,27 +254,3 @@ carried_is p n m t a x c w rest here =
     ap (sum_by (carries x)) here.agenda ∙ sum_by-cons (carries x) d rest in
     let others : sum_by (carries x) rest ≡ 0 = agenda_carries x rest (omega (arith, first, all, one)) in
     omega (arith, one_carries x m.actors t a here.found (omega (arith, all, whole, first, one)), carry, others, mine)
-
--- a handed reference that awaits keeps the merged object alive
-pub awaited_lives : (p : Accounts) (n : ℕ) (m : Machine) (t : ℕ) (a : Actor) (x c w : ℕ) (rest : List Duty)
-    → AtDuty p n m t a (MergeExchange x c w) rest → FollowsHanded x rest → m.memory (Shared x) ≡ w
-    → merged_word w c ≡ dead_word → ⊥
-awaited_lives p n m t a x c w rest here follows same dead =
-    let alive = merge_alive p n m t a x c w rest here in
-    let first = first_weighs (merges x) m.actors t a (MergeExchange x c w) rest here.found here.agenda in
-    let one : one_if (x == x) ≡ 1 = ap one_if (eq-eqb x x refl) in
-    let waiting : 1 ≤ weight (waits x) m.actors =
-    omega (
-      arith,
-      first_weighs (waits x) m.actors t a (MergeExchange x c w) rest here.found here.agenda,
-      handed_weighs x rest follows,
-    ) in
-    let local : m.memory (Local x) ≡ 0 = elim alive.live.mode [
-      | InOwned o ↦ absurd (omega (arith, first, one, o.merging))
-      | InSwapped s ↦ s.local
-      | InMerged s ↦ s.local
-    ] in
-    let word : biased_part (m.memory (Shared x)) ≡ biased_part w = ap biased_part same in
-    let up = shared_merged w c in
-    let count : biased_part w + c ≡ bias = omega (arith, up.0, dead) in
-    absurd (omega (arith, alive.live.sum, local, word, count, carried_is p n m t a x c w rest here, waiting))

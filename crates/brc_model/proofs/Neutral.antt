@@ -1,5 +1,6 @@
 -- A thread after a step that lets no row die and finalises none.
 use Rattle.std.proofs.Common.{◌≡◌, ℕ, List, ◌∷◌, ◌++◌, Option, None, refl, sym, ap, ◌∙◌, subst, arith, Some}
+use Rattle.std.specs.Prelude.{slice_get}
 use Rattle.brc_model.specs.Plain.{Reference, moved}
 use Rattle.brc_model.specs.declared.duty.Duty.{Duty}
 use Rattle.brc_model.specs.declared.address.Address.{Address}
@@ -9,7 +10,7 @@ use Rattle.brc_model.specs.declared.actor.Status.{Status}
 use Rattle.brc_model.specs.declared.actor.Status.TheVariants.{Running, Leaving, Gone}
 use Rattle.brc_model.specs.Machine.{Actor, Life, Dying, Closed, Machine, status_by, moves_by, dies_next, ended_row, with_life, life_by, actor_by, done_by, written, born_row, used_by, Live}
 use Rattle.brc_model.proofs.Bag.{one_if}
-use Rattle.brc_model.proofs.Rule.{Accounts, HoldsAt, HeadOf, Agenda, HandedOnce, hand_of, dies_by, ChainFits, ActorFits, AgendaFits, status_word}
+use Rattle.brc_model.proofs.Rule.{Accounts, HoldsAt, HeadOf, Agenda, hand_of, dies_by, ChainFits, ActorFits, AgendaFits, status_word}
 use Rattle.brc_model.proofs.Leaves.{AtDuty}
 use Rattle.brc_model.proofs.Lives.{next_of}
 use Rattle.brc_model.proofs.Own.{HeldStep, holds_step, ChainSame, chain_same}
@@ -19,7 +20,6 @@ use Rattle.brc_model.specs.declared.duty.Duty.TheVariants.{BirthLocal}
 pub record OwnFits (p : Accounts) (m : Machine) (t : ℕ) (a : Actor) : Type 0 where
   pub actor : ActorFits (p t) m t a
   pub agenda : AgendaFits m.rows t a a.status
-  pub handed : HandedOnce a.agenda
 
 abbrev pub found_by : Machine → ℕ → Actor → Duty → ℕ
 found_by m t a d = m.memory (address_of m.rows t a.head d)
@@ -51,10 +51,6 @@ agenda_here p n m t a d rest here alive =
     subst (λ (l : List Duty). Agenda m.rows t a.used a.status a.place l) here.agenda
     (agenda_in m.rows t a a.status alive (here.rule.each t a here.found).1)
 
-pub handed_here : (p : Accounts) (n : ℕ) (m : Machine) (t : ℕ) (a : Actor) (d : Duty) (rest : List Duty)
-    → AtDuty p n m t a d rest → HandedOnce (d ∷ rest)
-handed_here p n m t a d rest here = subst HandedOnce here.agenda (here.rule.each t a here.found).2
-
 -- ---- the step
 
 -- what a neutral step has to show of its new agenda
@@ -71,7 +67,6 @@ pub record NeutralStep (m : Machine) (t : ℕ) (a : Actor) (d : Duty) (rest next
   pub hands : (x : ℕ) → hand_of agenda x ≡ hand_of (d ∷ rest) x
   pub held : HeldStep m.plain.references (bag_by m t a d) t (d ∷ rest) agenda
   pub fits : Agenda m.rows t a.used a.status a.place agenda
-  pub handed : HandedOnce agenda
   pub knows : (b : Actor) → b.status ≡ a.status → b.head ≡ a.head → b.used ≡ a.used
       → HeadOf (done_by m t a d rest) t b agenda
 
@@ -129,5 +124,4 @@ own_neutral p n m t a d rest next agenda here alive step =
           (subst (λ (l : List Duty). Agenda m.rows t after.used after.status a.place l) (sym whole)
           (subst (λ (u : ℕ). Agenda m.rows t u after.status a.place agenda) (sym (uses_same a.used d step.none_born))
           (subst (λ (s : Status). Agenda m.rows t a.used s a.place agenda) (sym step.same_status) step.fits)));
-      handed = subst HandedOnce (sym whole) step.handed;
     }

@@ -18,7 +18,7 @@ use Rattle.brc_model.proofs.Written.{written_apart, written_load, apart_local}
 use Rattle.brc_model.proofs.Blocks.{next_above}
 use Rattle.brc_model.proofs.Leaves.{AtDuty, head_of}
 use Rattle.brc_model.proofs.Own.{HeldStep}
-use Rattle.brc_model.proofs.Neutral.{OwnFits, found_by, bag_by, memory_by, agenda_here, handed_here}
+use Rattle.brc_model.proofs.Neutral.{OwnFits, found_by, bag_by, memory_by, agenda_here}
 use Rattle.brc_model.proofs.OwnCounts.{held_gained, held_lost}
 use Rattle.brc_model.proofs.OwnSteps.{own_done}
 use Rattle.brc_model.proofs.Lives.{next_of}
@@ -70,7 +70,6 @@ own_retain_none p n m t a h rest here alive =
     (counts_locally t (is_running a.status) word && nat_lt (local_part word) 4294967294)
     (RetainStore 0 h word ∷ []) (RetainAdd 0 h ∷ []))) immortal in
     own_done p n m t a d rest here alive refl next (agenda_here p n m t a d rest here alive)
-    (handed_here p n m t a d rest here)
     (subst (λ (l : List Reference). HeldStep m.plain.references l t (d ∷ rest) []) (sym bag)
     (held_gained m.plain.references t 0 h (d ∷ rest) [] (λ k o. refl) (λ k o. refl) (λ k o. refl) (λ k o. refl)))
 
@@ -104,7 +103,6 @@ own_release_none p n m t a h rest here alive some =
     ap (λ (b : Bool). cond b [] (cond (counts_locally t (is_running a.status) word) (ReleaseStore 0 word ∷ [])
     (SharedLoad 0 Own ∷ []))) immortal in
     own_done p n m t a d rest here alive refl next (agenda_here p n m t a d rest here alive)
-    (handed_here p n m t a d rest here)
     (subst (λ (l : List Reference). HeldStep m.plain.references l t (d ∷ rest) []) (sym bag)
     (held_lost m.plain.references t 0 h (d ∷ rest) [] (held_has (reference_of t h 0) m.plain.references some)
     (λ k o. refl) (λ k o. refl) (λ k o. refl) (λ k o. refl)))

@@ -123,10 +123,10 @@ touches_none p n m t a (MergeSwap x Own) rest here =
     alive_free m t x (alive_deciding p n m x here.rule (head_of p n m t a (MergeSwap x Own) rest here).0
     (omega (arith, first_weighs (decides x) m.actors t a (MergeSwap x Own) rest here.found here.agenda, one_at x)))
 touches_none p n m t a (MergeSwap x Handed) rest here = alive_free m t x (claim_alive p n m t a x rest here)
-touches_none p n m t a (MergeLoad x c) rest here =
-    alive_free m t x (alive_merging p n m x here.rule (head_of p n m t a (MergeLoad x c) rest here).0
-    (omega (arith, first_weighs (merges x) m.actors t a (MergeLoad x c) rest here.found here.agenda, one_at x)))
-touches_none p n m t a (MergeExchange x c w) rest here = alive_free m t x (merge_alive p n m t a x c w rest here)
+touches_none p n m t a (MergeLoad x c r) rest here =
+    alive_free m t x (alive_merging p n m x here.rule (head_of p n m t a (MergeLoad x c r) rest here).0
+    (omega (arith, first_weighs (merges x) m.actors t a (MergeLoad x c r) rest here.found here.agenda, one_at x)))
+touches_none p n m t a (MergeExchange x c w r) rest here = alive_free m t x (merge_alive p n m t a x c w r rest here)
 touches_none p n m t a (Die x) rest here = dying_free m t x (head_of p n m t a (Die x) rest here).1
 touches_none p n m t a Settle rest here = dying_free m t (a.head - 1) (chain_head_dies p n m t a rest here)
 touches_none p n m t a (SettleKind x) rest here = dying_free m t x (head_of p n m t a (SettleKind x) rest here).1

@@ -7,6 +7,7 @@ use Rattle.std.proofs.lemmas.List.Sums.{sum_by-cons}
 use Rattle.std.proofs.lemmas.Option.{slice_get_within}
 use Rattle.brc_model.specs.declared.duty.Holding.{Holding}
 use Rattle.brc_word.specs.Words.{phase_part, local_part, owner_part}
+use Rattle.brc_model.specs.declared.duty.Reason.{Reason}
 use Rattle.brc_model.specs.declared.duty.Reason.TheVariants.{Own, Handed}
 use Rattle.brc_model.specs.declared.duty.Duty.{Duty}
 use Rattle.brc_model.specs.declared.duty.Duty.TheVariants.{RetainLoad, RetainStore, RetainAdd, ReleaseLoad, ReleaseStore, DecideAtZero, SharedLoad, SharedExchange, SetMark, Look, TakeMark, MergeSwap, MergeLoad, MergeExchange, Die, Settle, SettleKind, SettleCell, TakeSlot, CloseResource, SettleEnd, Leave, Scan, Finish, ClaimMark, BirthKind, BirthSlot, BirthLocal}
@@ -17,7 +18,7 @@ use Rattle.brc_model.specs.Machine.{Actor, Life, Unborn, Live, Dying, Closed, Ma
 use Rattle.brc_model.proofs.Bag.{held, one_if}
 use Rattle.brc_model.proofs.Holds.{reference_of}
 use Rattle.brc_model.proofs.Lists.{some_is, slice_get-set_same, slice_get-set_other}
-use Rattle.brc_model.proofs.Rule.{Fits, AgendaFits, Accounts, HoldsAt, Account, OwnsLocally, IsBacked, MayMerge, IsMergeOf, IsNext, HasCountedKind, HeadFits, HeadOf, Linked, dies_by, ChainFits, ActorFits}
+use Rattle.brc_model.proofs.Rule.{Fits, AgendaFits, Accounts, HoldsAt, Account, OwnsLocally, IsBacked, MayMerge, MayCarry, IsNext, HasCountedKind, HeadFits, HeadOf, Linked, dies_by, ChainFits, ActorFits}
 
 -- what the others rely on
 pub record LeavesOthers (m new : Machine) (t : ℕ) : Type 0 where
@@ -59,10 +60,10 @@ may_merge_kept m new t u x leaves (inr stopped) =
     inr (subst (λ (r : ℕ). new.memory (ThreadWord (block_of r x)) ≢ 1) (sym leaves.rows)
     (leaves.stopped (block_of m.rows x) stopped))
 
-merge_of_kept : (m new : Machine) (t u x : ℕ) (b : Actor) (rest : List Duty) → LeavesOthers m new t
-    → IsMergeOf m u b x rest → IsMergeOf new u b x rest
-merge_of_kept m new t u x b rest leaves (inl own) = inl (own.0, ap (λ (r : ℕ). block_of r x) leaves.rows ∙ own.1)
-merge_of_kept m new t u x b rest leaves (inr handed) = inr handed
+may_carry_kept : (m new : Machine) (t u x : ℕ) (b : Actor) (r : Reason) → LeavesOthers m new t → MayCarry m u b x r
+    → MayCarry new u b x r
+may_carry_kept m new t u x b Own leaves own = (own.0, ap (λ (r : ℕ). block_of r x) leaves.rows ∙ own.1)
+may_carry_kept m new t u x b Handed leaves handed = tt
 
 pub dying_is : (l : Life) (u : ℕ) → l ≡ Dying u → dies_by l u ≡ true
 dying_is l u is = ap (λ (k : Life). dies_by k u) is ∙ eq-eqb u u refl
@@ -121,11 +122,11 @@ head_kept m new t u b (MergeSwap x Own) rest leaves ne found fits = (
   ap local_part (leaves.locals u x b ne found fits.1) ∙ fits.2,
 )
 head_kept m new t u b (MergeSwap x Handed) rest leaves ne found fits =
-    (fits.0, may_merge_kept m new t u x leaves fits.1, fits.2)
-head_kept m new t u b (MergeLoad x c) rest leaves ne found fits =
-    (fits.0, fits.1, merge_of_kept m new t u x b rest leaves fits.2)
-head_kept m new t u b (MergeExchange x c w) rest leaves ne found fits =
-    (fits.0, fits.1, merge_of_kept m new t u x b rest leaves fits.2)
+    (fits.0, may_merge_kept m new t u x leaves fits.1)
+head_kept m new t u b (MergeLoad x c r) rest leaves ne found fits =
+    (fits.0, fits.1, may_carry_kept m new t u x b r leaves fits.2)
+head_kept m new t u b (MergeExchange x c w r) rest leaves ne found fits =
+    (fits.0, fits.1, may_carry_kept m new t u x b r leaves fits.2)
 head_kept m new t u b (Die x) rest leaves ne found fits = (fits.0, life_kept m new t u x leaves ne fits.1)
 head_kept m new t u b Settle rest leaves ne found fits = fits
 head_kept m new t u b (SettleKind x) rest leaves ne found fits = (fits.0, life_kept m new t u x leaves ne fits.1)
@@ -215,6 +216,5 @@ each_fits p q m new t a after at leaves same own each u b is =
           let fits = others_fit (p u) m new t u b leaves apart.1 found old.0 in (
             subst (λ (account : Account). ActorFits account new u b) (same u apart.1) fits,
             subst (λ (rows : ℕ). AgendaFits rows u b b.status) (sym leaves.rows) old.1,
-            old.2,
           )
     ]

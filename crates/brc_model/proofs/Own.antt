@@ -1,18 +1,18 @@
 -- A thread after its own step: what it holds, its chain and its agenda, put together from what the step changed.
-use Rattle.std.proofs.Common.{◌≡◌, ℕ, zero, suc, ◌+◌, false, List, [], ◌∷◌, refl, arith}
+use Rattle.std.proofs.Common.{◌≡◌, ℕ, zero, suc, ◌+◌, Bool, false, List, [], ◌∷◌, refl, arith}
 use Rattle.brc_model.specs.declared.duty.Holding.{Holding}
 use Rattle.brc_model.specs.Plain.{Reference}
-use Rattle.brc_model.specs.declared.duty.Reason.TheVariants.{Handed}
 use Rattle.brc_model.specs.declared.duty.Duty.{Duty}
-use Rattle.brc_model.specs.declared.duty.Duty.TheVariants.{SharedLoad, Settle, Leave, Scan, Finish}
+use Rattle.brc_model.specs.declared.duty.Duty.TheVariants.{Settle, Leave, Scan, Finish}
 use Rattle.brc_model.specs.declared.address.Address.TheVariants.{Gate}
 use Rattle.brc_model.specs.Duties.{ready}
 use Rattle.brc_model.specs.declared.actor.Status.{Status}
 use Rattle.brc_model.specs.declared.actor.Place.{Place}
+use Rattle.brc_model.specs.declared.actor.Place.TheVariants.{Standing, Inside, Departing}
 use Rattle.brc_model.specs.Machine.{Actor, Machine}
 use Rattle.brc_model.proofs.Bag.{held, one_if}
 use Rattle.brc_model.proofs.Holds.{reference_of}
-use Rattle.brc_model.proofs.Rule.{extra_of, lacks_of, HoldsAt, Account, HeadOf, Later, Agenda, NoneHanded, HandedOnce, hand_of, dies_by, ChainFits}
+use Rattle.brc_model.proofs.Rule.{extra_of, lacks_of, HoldsAt, Account, HeadOf, Later, Agenda, hand_of, dies_by, ChainFits}
 use Rattle.brc_model.proofs.Others.{linked_kept}
 
 -- ---- what is held
@@ -33,103 +33,92 @@ holds_step bag new t account agenda later step holds =
 -- what is known of an agenda that begins with duties for later
 pub record IsReady (rows t used : ℕ) (status : Status) (place : Place) (head : ℕ) (agenda : List Duty) : Type 0 where
   pub fits : Agenda rows t used status place agenda
-  pub handed : HandedOnce agenda
   pub more : (k : Holding) (object : ℕ) → extra_of agenda k object ≡ false
   pub less : (k : Holding) (object : ℕ) → lacks_of agenda k object ≡ false
   pub at_hand : (x : ℕ) → hand_of agenda x ≡ false
   pub knows : (m : Machine) (a : Actor) → a.head ≡ head → HeadOf m t a agenda
 
 pub ready_is : (rows t used : ℕ) (status : Status) (place : Place) (head : ℕ) (rest : List Duty)
-    → Later rows t used status place rest → NoneHanded rest → IsReady rows t used status place head (ready head rest)
-ready_is rows t used status place zero [] later none =
+    → Later rows t used status place rest → IsReady rows t used status place head (ready head rest)
+ready_is rows t used status place zero [] later =
     record {
       fits = later;
-      handed = tt;
       more = λ k o. refl;
       less = λ k o. refl;
       at_hand = λ x. refl;
       knows = λ m a h. tt;
     }
-ready_is rows t used status place (suc head) [] later none =
+ready_is rows t used status place (suc head) [] later =
     record {
       fits = later;
-      handed = tt;
       more = λ k o. refl;
       less = λ k o. refl;
       at_hand = λ x. refl;
       knows = λ m a h. tt;
     }
-ready_is rows t used status place zero (Settle ∷ rest) later none =
-    ready_is rows t used status place zero rest later none
-ready_is rows t used status place (suc head) (Settle ∷ rest) later none =
+ready_is rows t used status place zero (Settle ∷ rest) later =
+    ready_is rows t used status place zero rest later
+ready_is rows t used status place (suc head) (Settle ∷ rest) later =
     record {
       fits = later;
-      handed = none;
       more = λ k o. refl;
       less = λ k o. refl;
       at_hand = λ x. refl;
       knows = λ m a h. omega (arith, h);
     }
-ready_is rows t used status place head (SharedLoad x Handed ∷ rest) later none = absurd none
-ready_is rows t used status place zero (Leave x k ∷ []) later none =
+ready_is rows t used status place zero (Leave x k ∷ []) later =
     record {
       fits = later;
-      handed = none;
       more = λ k o. refl;
       less = λ k o. refl;
       at_hand = λ x. refl;
       knows = λ m a h. tt;
     }
-ready_is rows t used status place (suc head) (Leave x k ∷ []) later none =
+ready_is rows t used status place (suc head) (Leave x k ∷ []) later =
     record {
       fits = later;
-      handed = none;
       more = λ k o. refl;
       less = λ k o. refl;
       at_hand = λ x. refl;
       knows = λ m a h. tt;
     }
-ready_is rows t used status place zero (Scan x zero ∷ rest) later none =
-    ready_is rows t used status place zero rest later.3 none
-ready_is rows t used status place (suc head) (Scan x zero ∷ rest) later none =
-    ready_is rows t used status place (suc head) rest later.3 none
-ready_is rows t used status place zero (Scan x (suc k) ∷ rest) later none =
+ready_is rows t used status place zero (Scan x zero ∷ rest) later =
+    ready_is rows t used status place zero rest later.3
+ready_is rows t used status place (suc head) (Scan x zero ∷ rest) later =
+    ready_is rows t used status place (suc head) rest later.3
+ready_is rows t used status place zero (Scan x (suc k) ∷ rest) later =
     record {
       fits = later;
-      handed = none;
       more = λ k o. refl;
       less = λ k o. refl;
       at_hand = λ x. refl;
       knows = λ m a h. omega arith;
     }
-ready_is rows t used status place (suc head) (Scan x (suc k) ∷ rest) later none =
+ready_is rows t used status place (suc head) (Scan x (suc k) ∷ rest) later =
     record {
       fits = later;
-      handed = none;
       more = λ k o. refl;
       less = λ k o. refl;
       at_hand = λ x. refl;
       knows = λ m a h. omega arith;
     }
-ready_is rows t used status place zero (Finish ∷ []) later none =
+ready_is rows t used status place zero (Finish ∷ []) later =
     record {
       fits = later;
-      handed = none;
       more = λ k o. refl;
       less = λ k o. refl;
       at_hand = λ x. refl;
       knows = λ m a h. tt;
     }
-ready_is rows t used status place (suc head) (Finish ∷ []) later none =
+ready_is rows t used status place (suc head) (Finish ∷ []) later =
     record {
       fits = later;
-      handed = none;
       more = λ k o. refl;
       less = λ k o. refl;
       at_hand = λ x. refl;
       knows = λ m a h. tt;
     }
-ready_is rows t used status place head _ later none = absurd later
+ready_is rows t used status place head _ later = absurd later
 
 -- ---- chains
 

@@ -16,7 +16,7 @@ use Rattle.brc_model.specs.Kinds.{kind_of_word, is_counted_kind}
 use Rattle.brc_model.proofs.Blocks.{next_unborn}
 use Rattle.brc_model.proofs.Leaves.{AtDuty, head_of}
 use Rattle.brc_model.proofs.Own.{chain_same}
-use Rattle.brc_model.proofs.Neutral.{OwnFits, found_by, agenda_here, handed_here, agenda_out}
+use Rattle.brc_model.proofs.Neutral.{OwnFits, found_by, agenda_here, agenda_out}
 use Rattle.brc_model.proofs.OwnCounts.{held_same, held_gained}
 use Rattle.brc_model.proofs.OwnRetains.{ready_first}
 use Rattle.brc_model.proofs.OwnSteps.{own_keeps}
@@ -55,7 +55,6 @@ own_birth_kind p n m t a x h w rest here alive =
             hands = λ y. refl;
             held = held_same m.plain.references t (d ∷ rest) (BirthSlot x h ∷ rest) (λ k o. refl) (λ k o. refl);
             fits = agenda_here p n m t a d rest here alive;
-            handed = handed_here p n m t a d rest here;
             knows = λ b status head used. (still_next m new t a b x refl status used fits.0, fits.1, said);
           })
       | false ↦ λ e.
@@ -66,7 +65,6 @@ own_birth_kind p n m t a x h w rest here alive =
             hands = λ y. refl;
             held = held_same m.plain.references t (d ∷ rest) (BirthLocal x h ∷ rest) (λ k o. refl) (λ k o. refl);
             fits = agenda_here p n m t a d rest here alive;
-            handed = handed_here p n m t a d rest here;
             knows = λ b status head used. (still_next m new t a b x refl status used fits.0, fits.1, said);
           })
     ] refl
@@ -86,7 +84,6 @@ own_birth_slot p n m t a x h rest here alive =
       hands = λ y. refl;
       held = held_same m.plain.references t (d ∷ rest) (BirthLocal x h ∷ rest) (λ k o. refl) (λ k o. refl);
       fits = agenda_here p n m t a d rest here alive;
-      handed = handed_here p n m t a d rest here;
       knows = λ b status head used. (still_next m new t a b x refl status used fits.0, fits.1, fits.2);
     })
 
@@ -129,7 +126,6 @@ own_birth_local p n m t a x h [] here alive =
           agenda_out m.rows t after a.status alive
           (subst (λ (l : List Duty). Agenda m.rows t after.used a.status a.place l) (sym (ready_none a.head))
           later);
-      handed = tt;
       knows = λ b status head used. tt;
     })
 own_birth_local p n m t a x h (e ∷ rest) here alive =

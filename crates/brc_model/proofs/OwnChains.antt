@@ -17,7 +17,7 @@ use Rattle.brc_model.proofs.Written.{written_here, written_apart, written_load, 
 use Rattle.brc_model.proofs.Others.{is_dying, linked_kept}
 use Rattle.brc_model.proofs.Leaves.{AtDuty, head_of}
 use Rattle.brc_model.proofs.Own.{ready_is}
-use Rattle.brc_model.proofs.Neutral.{OwnFits, found_by, agenda_here, handed_here}
+use Rattle.brc_model.proofs.Neutral.{OwnFits, found_by, agenda_here}
 use Rattle.brc_model.proofs.OwnCounts.{held_same}
 use Rattle.brc_model.proofs.OwnRetains.{ready_first}
 use Rattle.brc_model.proofs.Blocks.{born_low}
@@ -104,8 +104,7 @@ pub own_die : (p : Accounts) (n : ℕ) (m : Machine) (t : ℕ) (a : Actor) (x : 
     → OwnFits p (done_by m t a (Die x) rest) t (actor_by t a (Die x) rest (found_by m t a (Die x)))
 own_die p n m t a x rest here alive =
     let ready_so =
-    ready_is m.rows t a.used a.status a.place (x + 1) rest (agenda_here p n m t a (Die x) rest here alive)
-    (handed_here p n m t a (Die x) rest here) in
+    ready_is m.rows t a.used a.status a.place (x + 1) rest (agenda_here p n m t a (Die x) rest here alive) in
     own_shown p n m t a (Die x) rest (ready (x + 1) rest) a.status (x + 1) here (record {
       head_is = refl;
       status_is = refl;
@@ -114,7 +113,6 @@ own_die p n m t a x rest here alive =
       held = held_same m.plain.references t (Die x ∷ rest) (ready (x + 1) rest) ready_so.more ready_so.less;
       chain = die_chain p n m t a x rest (ready (x + 1) rest) here ready_so.at_hand;
       fits = agenda_shown m t a (Die x) rest (ready (x + 1) rest) a.status alive refl refl ready_so.fits;
-      handed = ready_so.handed;
       knows = λ b status head used. ready_so.knows (done_by m t a (Die x) rest) b head;
     })
 
@@ -190,7 +188,6 @@ settle_shown p n m t a rest first here alive row_is =
       fits =
           agenda_shown m t a Settle rest later a.status alive refl (front (next_part (m.memory (Gate (a.head - 1)))))
           (agenda_here p n m t a Settle rest here alive);
-      handed = handed_here p n m t a Settle rest here;
       knows = λ b status h used. (dying_above p n m t first.row here.rule first.dies, first.dies);
     }
 
@@ -237,8 +234,7 @@ pub own_settle_end : (p : Accounts) (n : ℕ) (m : Machine) (t : ℕ) (a : Actor
     → OwnFits p (done_by m t a (SettleEnd x) rest) t (actor_by t a (SettleEnd x) rest (found_by m t a (SettleEnd x)))
 own_settle_end p n m t a x rest here alive =
     let ready_so =
-    ready_is m.rows t a.used a.status a.place a.head rest (agenda_here p n m t a (SettleEnd x) rest here alive)
-    (handed_here p n m t a (SettleEnd x) rest here) in
+    ready_is m.rows t a.used a.status a.place a.head rest (agenda_here p n m t a (SettleEnd x) rest here alive) in
     own_shown p n m t a (SettleEnd x) rest (ready a.head rest) a.status a.head here (record {
       head_is = refl;
       status_is = refl;
@@ -247,6 +243,5 @@ own_settle_end p n m t a x rest here alive =
       held = held_same m.plain.references t (SettleEnd x ∷ rest) (ready a.head rest) ready_so.more ready_so.less;
       chain = end_chain p n m t a x rest (ready a.head rest) here ready_so.at_hand;
       fits = agenda_shown m t a (SettleEnd x) rest (ready a.head rest) a.status alive refl refl ready_so.fits;
-      handed = ready_so.handed;
       knows = λ b status head used. ready_so.knows (done_by m t a (SettleEnd x) rest) b head;
     })

@@ -5,19 +5,19 @@ use Rattle.std.proofs.lemmas.Bool.{eqb-true}
 use Rattle.brc_model.specs.declared.duty.Holding.{Holding}
 use Rattle.brc_model.specs.declared.duty.Reason.TheVariants.{Handed}
 use Rattle.brc_model.specs.declared.duty.Duty.{Duty}
-use Rattle.brc_model.specs.declared.duty.Duty.TheVariants.{SharedLoad, MergeSwap, Settle, Leave, Scan, Finish, ClaimMark}
+use Rattle.brc_model.specs.declared.duty.Duty.TheVariants.{MergeSwap, Settle, Leave, Scan, Finish, ClaimMark}
 use Rattle.brc_model.specs.declared.address.Address.TheVariants.{Gate, Mark, ThreadWord}
 use Rattle.brc_model.specs.Duties.{block_of, claimed, head_by, ready}
 use Rattle.brc_model.specs.declared.actor.Status.TheVariants.{Leaving, Gone}
 use Rattle.brc_model.specs.Machine.{Actor, Life, Machine, status_by, dies_next, ended_row, actor_by, done_by, born_row, Unborn}
 use Rattle.brc_model.proofs.Bag.{one_if}
-use Rattle.brc_model.proofs.Rule.{Accounts, extra_of, lacks_of, Later, NoneHanded, numbers_of, hand_of, dies_by, ChainFits, Rule}
+use Rattle.brc_model.proofs.Rule.{Accounts, extra_of, lacks_of, Later, numbers_of, hand_of, dies_by, ChainFits, Rule}
 use Rattle.brc_model.proofs.Rows.{RowRule}
 use Rattle.brc_model.proofs.Written.{written_here}
 use Rattle.brc_model.proofs.Leaves.{AtDuty, head_of}
 use Rattle.brc_model.proofs.Lives.{next_of}
 use Rattle.brc_model.proofs.Own.{HeldStep, ready_is, chain_same}
-use Rattle.brc_model.proofs.Neutral.{OwnFits, found_by, bag_by, memory_by, agenda_here, handed_here, own_neutral}
+use Rattle.brc_model.proofs.Neutral.{OwnFits, found_by, bag_by, memory_by, agenda_here, own_neutral}
 use Rattle.brc_model.proofs.OwnCounts.{held_same}
 use Rattle.brc_model.proofs.OwnRetains.{ready_first}
 use Rattle.brc_model.proofs.OwnShown.{own_shown, agenda_shown}
@@ -59,40 +59,37 @@ record ClaimStep (m : Machine) (t : ℕ) (a : Actor) (d : Duty) (x : ℕ) (rest 
       → HeldStep m.plain.references (bag_by m t a d) t (d ∷ rest) agenda
   block : m.memory (Mark x) ≡ 1 → block_of m.rows x ≡ t
   later : Later m.rows t a.used a.status a.place (behind ++ rest)
-  none : NoneHanded (behind ++ rest)
 
 claim_step : (p : Accounts) (n : ℕ) (m : Machine) (t : ℕ) (a : Actor) (d : Duty) (x : ℕ) (rest behind : List Duty)
     → AtDuty p n m t a d rest → (a.status ≡ Gone → ⊥) → ClaimStep m t a d x rest behind
     → OwnFits p (done_by m t a d rest) t (actor_by t a d rest (found_by m t a d))
 claim_step p n m t a d x rest behind here alive step =
-    let both = MergeSwap x Handed ∷ SharedLoad x Handed ∷ [] in
     elim (m.memory (Mark x) == 1) as
     (λ b. (m.memory (Mark x) == 1) ≡ b
     → OwnFits p (done_by m t a d rest) t (actor_by t a d rest (found_by m t a d))) [
       | true ↦ λ e.
           let marked : m.memory (Mark x) ≡ 1 = eqb-true (m.memory (Mark x)) 1 e in
           let above = mark_above p n m x here.rule marked in
-          own_neutral p n m t a d rest (MergeSwap x Handed ∷ SharedLoad x Handed ∷ behind)
-          (MergeSwap x Handed ∷ SharedLoad x Handed ∷ (behind ++ rest)) here alive (record {
-            next_is = step.next_is ∙ ap (λ (b : Bool). cond b both [] ++ behind) e;
+          own_neutral p n m t a d rest (MergeSwap x Handed ∷ behind)
+          (MergeSwap x Handed ∷ (behind ++ rest)) here alive (record {
+            next_is = step.next_is ∙ ap (λ (b : Bool). cond b (MergeSwap x Handed ∷ []) [] ++ behind) e;
             none_dies = refl;
             none_ends = step.none_ends;
             none_born = step.none_born;
             same_head = step.same_head;
             same_status = step.same_status;
-            agenda_is = ready_first a.head (MergeSwap x Handed) (SharedLoad x Handed ∷ (behind ++ rest)) refl;
+            agenda_is = ready_first a.head (MergeSwap x Handed) (behind ++ rest) refl;
             gates = step.gates;
             word = step.word;
             hands = λ y. sym (step.hands y);
-            held = step.held (MergeSwap x Handed ∷ SharedLoad x Handed ∷ (behind ++ rest)) (λ h o. refl) (λ h o. refl);
-            fits = (above, step.later);
-            handed = (refl, step.none);
-            knows = λ b status head used. (above, inl (step.block marked), refl);
+            held = step.held (MergeSwap x Handed ∷ (behind ++ rest)) (λ h o. refl) (λ h o. refl);
+            fits = step.later;
+            knows = λ b status head used. (above, inl (step.block marked));
           })
       | false ↦ λ e.
-          let ready_so = ready_is m.rows t a.used a.status a.place a.head (behind ++ rest) step.later step.none in
+          let ready_so = ready_is m.rows t a.used a.status a.place a.head (behind ++ rest) step.later in
           own_neutral p n m t a d rest behind (ready a.head (behind ++ rest)) here alive (record {
-            next_is = step.next_is ∙ ap (λ (b : Bool). cond b both [] ++ behind) e;
+            next_is = step.next_is ∙ ap (λ (b : Bool). cond b (MergeSwap x Handed ∷ []) [] ++ behind) e;
             none_dies = step.none_dies;
             none_ends = step.none_ends;
             none_born = step.none_born;
@@ -104,7 +101,6 @@ claim_step p n m t a d x rest behind here alive step =
             hands = λ y. ready_so.at_hand y ∙ sym (step.hands y);
             held = step.held (ready a.head (behind ++ rest)) ready_so.more ready_so.less;
             fits = ready_so.fits;
-            handed = ready_so.handed;
             knows = λ b status head used. ready_so.knows (done_by m t a d rest) b head;
           })
     ] refl
@@ -128,7 +124,6 @@ own_scan p n m t a x k rest here alive =
       held = λ agenda more less. held_same m.plain.references t (Scan x k ∷ rest) agenda more less;
       block = λ marked. used_block p n m t a x here.rule here.found fits.1 (omega (arith, fits.2, some));
       later = (fits.0, omega (arith, fits.1), omega (arith, fits.2, some), fits.3);
-      none = handed_here p n m t a (Scan x k) rest here;
     })
 
 -- a running thread looks into its queue
@@ -149,7 +144,6 @@ own_claim_mark p n m t a x rest here alive =
       held = λ agenda more less. held_same m.plain.references t (ClaimMark x ∷ rest) agenda more less;
       block = λ marked. head_of p n m t a (ClaimMark x) rest here;
       later = agenda_here p n m t a (ClaimMark x) rest here alive;
-      none = handed_here p n m t a (ClaimMark x) rest here;
     })
 
 -- ---- the thread says that it leaves
@@ -179,7 +173,7 @@ own_leave p n m t a x k [] here alive =
     let looks : List Duty = Scan x k ∷ Finish ∷ [] in
     let ready_so =
     ready_is m.rows t a.used Leaving a.place a.head looks
-    (refl, omega (arith, fits.2), omega (arith, fits.2, fits.3), (refl, fits.1)) tt in
+    (refl, omega (arith, fits.2), omega (arith, fits.2, fits.3), (refl, fits.1)) in
     own_shown p n m t a (Leave x k) [] (ready a.head looks) Leaving a.head here (record {
       head_is = refl;
       status_is = refl;
@@ -190,7 +184,6 @@ own_leave p n m t a x k [] here alive =
           exit_chain p n m t a (Leave x k) [] (ready a.head looks) here (λ y. refl) (λ y. refl) (λ y. refl)
           ready_so.at_hand;
       fits = agenda_shown m t a (Leave x k) [] (ready a.head looks) Leaving (λ e. cc) refl refl ready_so.fits;
-      handed = ready_so.handed;
       knows = λ b status head used. ready_so.knows (done_by m t a (Leave x k) []) b head;
     })
 own_leave p n m t a x k (e ∷ rest) here alive = absurd (agenda_here p n m t a (Leave x k) (e ∷ rest) here alive)
@@ -211,7 +204,6 @@ own_finish p n m t a [] here alive empty =
       held = held_same m.plain.references t (Finish ∷ []) [] (λ k o. refl) (λ k o. refl);
       chain = exit_chain p n m t a Finish [] [] here (λ y. refl) (λ y. refl) (λ y. refl) (λ y. refl);
       fits = (ready_none a.head, fits.1, empty);
-      handed = tt;
       knows = λ b status head used. tt;
     })
 own_finish p n m t a (e ∷ rest) here alive empty = absurd (agenda_here p n m t a Finish (e ∷ rest) here alive)

@@ -4,29 +4,31 @@ use Rattle.std.proofs.Common.{◌≡◌, ℕ, ◌+◌, ◌-◌, ◌<◌, Bool, t
 use Rattle.std.specs.Prelude.{◌==◌, ◌&&◌}
 use Rattle.std.specs.List.{list_any}
 use Rattle.std.proofs.lemmas.Bool.{eqb-true, eq-eqb, ne_eqb}
+use Rattle.brc_lang.specs.declared.module.Instr.{Instr}
 use Rattle.brc_model.specs.declared.duty.Holding.{Holding}
 use Rattle.brc_model.specs.declared.duty.Holding.TheVariants.{ByVariable, AsCaller, InHand}
 use Rattle.brc_model.specs.Plain.{Reference, same_holding, same, without, moved}
 use Rattle.brc_word.specs.Words.{owner_part, local_part, is_immortal_word, fresh_word}
-use Rattle.brc_model.specs.declared.duty.Reason.{Reason}
-use Rattle.brc_model.specs.declared.duty.Reason.TheVariants.{Own, Handed}
+use Rattle.brc_model.specs.declared.duty.Reason.TheVariants.{Own}
 use Rattle.brc_model.specs.declared.duty.Duty.{Duty}
 use Rattle.brc_model.specs.declared.duty.Duty.TheVariants.{RetainStore, RetainAdd, ReleaseLoad, ReleaseStore, DecideAtZero, SharedLoad, MergeSwap, Die}
 use Rattle.brc_model.specs.declared.address.Address.TheVariants.{Local, Shared}
 use Rattle.brc_model.specs.Duties.{counts_locally}
 use Rattle.brc_model.specs.declared.actor.Status.TheVariants.{Gone}
+use Rattle.brc_model.specs.declared.actor.Place.{Place}
+use Rattle.brc_model.specs.declared.actor.Place.TheVariants.{Standing, Inside, Departing}
 use Rattle.brc_model.specs.Machine.{Actor, Machine, is_running, lose, hand_on, done_by, actor_by}
 use Rattle.brc_model.proofs.Bag.{held, one_if, same_holding-refl, held-cons, held-without, held_has, held-le-references_to}
-use Rattle.brc_model.proofs.Holds.{reference_of}
+use Rattle.brc_model.proofs.Holds.{nothing, the_root, of_variables, reference_of}
 use Rattle.brc_model.proofs.Rows.{InOwned, InSwapped, InMerged}
 use Rattle.brc_model.proofs.RowSteps.{owner_down}
-use Rattle.brc_model.proofs.Rule.{Accounts, extra_of, lacks_of, NoneHanded, HandedOnce}
+use Rattle.brc_model.proofs.Rule.{Accounts, extra_of, lacks_of, HoldsAt}
 use Rattle.brc_model.proofs.Alive.{extra_held, Alive, alive_referenced}
 use Rattle.brc_model.proofs.Written.{written_here}
 use Rattle.brc_model.proofs.Leaves.{AtDuty, head_of, decide_alive}
 use Rattle.brc_model.proofs.Lives.{next_of}
 use Rattle.brc_model.proofs.Own.{HeldStep}
-use Rattle.brc_model.proofs.Neutral.{OwnFits, found_by, bag_by, agenda_here, handed_here}
+use Rattle.brc_model.proofs.Neutral.{OwnFits, found_by, bag_by, agenda_here}
 use Rattle.brc_model.proofs.OwnCounts.{same_is, held_same, held_gained, held_lost}
 use Rattle.brc_model.proofs.OwnRetains.{counts_owner, count_above, weight_here}
 use Rattle.brc_model.proofs.OwnSteps.{own_done, own_next, own_dying}
@@ -41,7 +43,6 @@ pub own_retain_store : (p : Accounts) (n : ℕ) (m : Machine) (t : ℕ) (a : Act
 own_retain_store p n m t a x h w rest here alive =
     own_done p n m t a (RetainStore x h w) rest here alive refl refl
     (agenda_here p n m t a (RetainStore x h w) rest here alive)
-    (handed_here p n m t a (RetainStore x h w) rest here)
     (held_gained m.plain.references t x h (RetainStore x h w ∷ rest) [] (λ k o. refl) (λ k o. refl) (λ k o. refl)
     (λ k o. refl))
 
@@ -51,7 +52,7 @@ pub own_retain_add : (p : Accounts) (n : ℕ) (m : Machine) (t : ℕ) (a : Actor
     (actor_by t a (RetainAdd x h) rest (found_by m t a (RetainAdd x h)))
 own_retain_add p n m t a x h rest here alive =
     own_done p n m t a (RetainAdd x h) rest here alive refl refl
-    (agenda_here p n m t a (RetainAdd x h) rest here alive) (handed_here p n m t a (RetainAdd x h) rest here)
+    (agenda_here p n m t a (RetainAdd x h) rest here alive)
     (held_gained m.plain.references t x h (RetainAdd x h ∷ rest) [] (λ k o. refl) (λ k o. refl) (λ k o. refl)
     (λ k o. refl))
 
@@ -150,7 +151,6 @@ own_release_counted p n m t a x h rest pos here alive =
     λ e more less. subst (λ (l : List Reference). HeldStep m.plain.references l t (d ∷ rest) (e ∷ rest)) (sym bag)
     (held_handed_on m t x h rest (e ∷ rest) has more less) in
     let later = agenda_here p n m t a d rest here alive in
-    let handed = handed_here p n m t a d rest here in
     elim (counts_locally t (is_running a.status) word) as
     (λ b. counts_locally t (is_running a.status) word ≡ b
     → OwnFits p (done_by m t a d rest) t (actor_by t a d rest word)) [
@@ -162,7 +162,7 @@ own_release_counted p n m t a x h rest pos here alive =
           let same_word : (done_by m t a d rest).memory (Local x) ≡ word = written_here m.memory (Local x) word in
           own_next p n m t a d (ReleaseStore x word) rest here alive refl refl refl
           (first ∙ ap (λ (b : Bool). cond b (ReleaseStore x word ∷ []) (SharedLoad x Own ∷ [])) e)
-          (keeps (ReleaseStore x word) (λ k o. refl) (λ k o. refl)) later handed
+          (keeps (ReleaseStore x word) (λ k o. refl) (λ k o. refl)) later
           (λ b status head used. (
             pos,
             record {
@@ -176,7 +176,7 @@ own_release_counted p n m t a x h rest pos here alive =
       | false ↦ λ e.
           own_next p n m t a d (SharedLoad x Own) rest here alive refl refl refl
           (first ∙ ap (λ (b : Bool). cond b (ReleaseStore x word ∷ []) (SharedLoad x Own ∷ [])) e)
-          (keeps (SharedLoad x Own) (λ k o. refl) (λ k o. refl)) later handed
+          (keeps (SharedLoad x Own) (λ k o. refl) (λ k o. refl)) later
           (λ b status head used. pos)
     ] refl
 
@@ -207,7 +207,6 @@ own_release_store p n m t a x w rest here alive =
     → HeldStep m.plain.references (bag_by m t a d) t (d ∷ rest) later =
     λ later more less. held_let_go p n m t a d rest later x here (λ k o. refl) (λ k o. refl) more less in
     let later = agenda_here p n m t a d rest here alive in
-    let handed = handed_here p n m t a d rest here in
     elim (local_part w == 1) as (λ b. (local_part w == 1) ≡ b
     → OwnFits p (done_by m t a d rest) t (actor_by t a d rest (m.memory (Local x)))) [
       | true ↦ λ e.
@@ -218,7 +217,7 @@ own_release_store p n m t a x w rest here alive =
           let owner : owner_part (w - 1) ≡ t + 1 = down.0 ∙ ap owner_part (sym fits.2) ∙ fits.1.owner in
           own_next p n m t a d (DecideAtZero x) rest here alive refl refl refl
           (ap (λ (b : Bool). cond b (DecideAtZero x ∷ []) []) e)
-          (lost (DecideAtZero x ∷ rest) (λ k o. refl) (λ k o. refl)) later handed
+          (lost (DecideAtZero x ∷ rest) (λ k o. refl) (λ k o. refl)) later
           (λ b status head used. (
             fits.0,
             record {
@@ -230,16 +229,11 @@ own_release_store p n m t a x w rest here alive =
             ap local_part now ∙ zero_left,
           ))
       | false ↦ λ e.
-          own_done p n m t a d rest here alive refl (ap (λ (b : Bool). cond b (DecideAtZero x ∷ []) []) e) later handed
+          own_done p n m t a d rest here alive refl (ap (λ (b : Bool). cond b (DecideAtZero x ∷ []) []) e) later
           (lost [] (λ k o. refl) (λ k o. refl))
     ] refl
 
 -- ---- the owner decides
-
-swap_handed : (x : ℕ) (r : Reason) (rest : List Duty) → NoneHanded rest → HandedOnce (MergeSwap x r ∷ rest)
-swap_handed x r [] none = none
-swap_handed x r (SharedLoad y Handed ∷ rest) none = absurd none
-swap_handed x r _ none = none
 
 pub own_decide : (p : Accounts) (n : ℕ) (m : Machine) (t : ℕ) (a : Actor) (x : ℕ) (rest : List Duty)
     → AtDuty p n m t a (DecideAtZero x) rest → (a.status ≡ Gone → ⊥)
@@ -250,7 +244,6 @@ own_decide p n m t a x rest here alive =
     let d : Duty = DecideAtZero x in
     let fits = head_of p n m t a d rest here in
     let later = agenda_here p n m t a d rest here alive in
-    let handed = handed_here p n m t a d rest here in
     elim (word == fresh_word) as (λ b. (word == fresh_word) ≡ b
     → OwnFits p (done_by m t a d rest) t (actor_by t a d rest word)) [
       | true ↦ λ e.
@@ -260,13 +253,11 @@ own_decide p n m t a x rest here alive =
             lived = (decide_alive p n m t a x rest here).life;
             held = held_same m.plain.references t (d ∷ rest) (Die x ∷ rest) (λ k o. refl) (λ k o. refl);
             later = later;
-            handed = handed;
           })
       | false ↦ λ e.
           own_next p n m t a d (MergeSwap x Own) rest here alive refl refl refl
           (ap (λ (b : Bool). cond b (Die x ∷ []) (MergeSwap x Own ∷ [])) e)
           (held_same m.plain.references t (d ∷ rest) (MergeSwap x Own ∷ rest) (λ k o. refl) (λ k o. refl)) later
-          (swap_handed x Own rest handed)
           (λ b status head used. (
             fits.0,
             record { running = status ∙ fits.1.running; owner = fits.1.owner; low = fits.1.low },

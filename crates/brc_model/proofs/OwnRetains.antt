@@ -22,7 +22,7 @@ use Rattle.brc_model.proofs.Alive.{Alive, alive_backed}
 use Rattle.brc_model.proofs.Written.{written_here}
 use Rattle.brc_model.proofs.Leaves.{AtDuty, head_of}
 use Rattle.brc_model.proofs.Own.{HeldStep}
-use Rattle.brc_model.proofs.Neutral.{OwnFits, found_by, bag_by, agenda_here, handed_here, own_neutral}
+use Rattle.brc_model.proofs.Neutral.{OwnFits, found_by, bag_by, agenda_here, own_neutral}
 use Rattle.brc_model.proofs.OwnCounts.{held_same, backed_not_immortal}
 use Rattle.brc_model.proofs.Deciders.{nobody_decides, rest_decides}
 
@@ -139,7 +139,6 @@ own_retain_counted p n m t a x h rest pos here alive =
             hands = λ y. refl;
             held = keeps (RetainStore x h word) (λ k o. refl) (λ k o. refl);
             fits = agenda_here p n m t a (RetainLoad x h) rest here alive;
-            handed = handed_here p n m t a (RetainLoad x h) rest here;
             knows =
                 λ b status head used. (
                   pos,
@@ -168,7 +167,6 @@ own_retain_counted p n m t a x h rest pos here alive =
             hands = λ y. refl;
             held = keeps (RetainAdd x h) (λ k o. refl) (λ k o. refl);
             fits = agenda_here p n m t a (RetainLoad x h) rest here alive;
-            handed = handed_here p n m t a (RetainLoad x h) rest here;
             knows = λ b status head used. (pos, backed);
           })
     ] refl

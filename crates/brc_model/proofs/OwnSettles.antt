@@ -12,11 +12,11 @@ use Rattle.brc_model.specs.declared.actor.Status.{Status}
 use Rattle.brc_model.specs.declared.actor.Status.TheVariants.{Gone}
 use Rattle.brc_model.specs.Machine.{Actor, Dying, Machine, status_by, ended_row, actor_by, done_by, born_row, dies_next, take_out}
 use Rattle.brc_model.specs.Plain.{moved}
-use Rattle.brc_model.proofs.Rule.{Accounts, extra_of, lacks_of, Later, Agenda, NoneHanded, HandedOnce, hand_of, extra, lacks, HeadFits, at_hand}
+use Rattle.brc_model.proofs.Rule.{Accounts, extra_of, lacks_of, Later, Agenda, hand_of, extra, lacks, HeadFits, at_hand}
 use Rattle.brc_model.proofs.Leaves.{AtDuty, head_of}
 use Rattle.brc_model.proofs.Lives.{next_of}
 use Rattle.brc_model.proofs.Own.{HeldStep}
-use Rattle.brc_model.proofs.Neutral.{OwnFits, found_by, bag_by, memory_by, agenda_here, handed_here, life_same, own_neutral}
+use Rattle.brc_model.proofs.Neutral.{OwnFits, found_by, bag_by, memory_by, agenda_here, life_same, own_neutral}
 use Rattle.brc_model.proofs.OwnCounts.{held_same}
 use Rattle.brc_model.proofs.OwnRetains.{ready_first, is_passed}
 use Rattle.brc_model.specs.declared.actor.Place.{Place}
@@ -38,7 +38,6 @@ record SettlingStep (m : Machine) (t : ℕ) (a : Actor) (d : Duty) (x : ℕ) (re
       → ((h : Holding) (object : ℕ) → lacks_of (e ∷ rest) h object ≡ false)
       → HeldStep m.plain.references (bag_by m t a d) t (d ∷ rest) (e ∷ rest)
   later : Later m.rows t a.used a.status a.place rest
-  none : NoneHanded rest
 
 -- what follows: a duty that keeps the row at hand
 record KeepsHand (e : Duty) (x : ℕ) : Type 0 where
@@ -49,7 +48,6 @@ record KeepsHand (e : Duty) (x : ℕ) : Type 0 where
   lacks_none : (h : Holding) (object : ℕ) → lacks e h object ≡ false
   later : (rows t used : ℕ) (status : Status) (place : Place) (rest : List Duty) → Later rows t used status place rest
       → Agenda rows t used status place (e ∷ rest)
-  handed : (rest : List Duty) → NoneHanded rest → HandedOnce (e ∷ rest)
 
 settles_on : (p : Accounts) (n : ℕ) (m : Machine) (t : ℕ) (a : Actor) (d e : Duty) (x : ℕ) (rest : List Duty)
     → AtDuty p n m t a d rest → (a.status ≡ Gone → ⊥) → SettlingStep m t a d x rest
@@ -70,7 +68,6 @@ settles_on p n m t a d e x rest here alive step keeps next knows =
       hands = λ y. keeps.hand y ∙ step.hands y;
       held = step.held e keeps.extra_none keeps.lacks_none;
       fits = keeps.later m.rows t a.used a.status a.place rest step.later;
-      handed = keeps.handed rest step.none;
       knows =
           λ b status head used. knows (life_same m t a d (e ∷ []) x next keeps.lives step.none_ends step.none_born
           ∙ step.dies) b;
@@ -85,7 +82,6 @@ keeps_cell x i k =
       extra_none = λ h o. refl;
       lacks_none = λ h o. refl;
       later = λ rows t used status place rest later. later;
-      handed = λ rest none. none;
     }
 
 keeps_end : (x : ℕ) → KeepsHand (SettleEnd x) x
@@ -97,7 +93,6 @@ keeps_end x =
       extra_none = λ h o. refl;
       lacks_none = λ h o. refl;
       later = λ rows t used status place rest later. later;
-      handed = λ rest none. none;
     }
 
 keeps_slot : (x : ℕ) → KeepsHand (TakeSlot x) x
@@ -109,7 +104,6 @@ keeps_slot x =
       extra_none = λ h o. refl;
       lacks_none = λ h o. refl;
       later = λ rows t used status place rest later. later;
-      handed = λ rest none. none;
     }
 
 keeps_close : (x : ℕ) → KeepsHand (CloseResource x) x
@@ -121,7 +115,6 @@ keeps_close x =
       extra_none = λ h o. refl;
       lacks_none = λ h o. refl;
       later = λ rows t used status place rest later. later;
-      handed = λ rest none. none;
     }
 
 -- a cell or the end follows
@@ -163,7 +156,6 @@ own_settle_kind p n m t a x rest here alive =
       hands = λ y. refl;
       held = λ e more less. held_same m.plain.references t (SettleKind x ∷ rest) (e ∷ rest) more less;
       later = agenda_here p n m t a (SettleKind x) rest here alive;
-      none = handed_here p n m t a (SettleKind x) rest here;
     } in
     elim (has_resource word) as (λ b. has_resource word ≡ b
     → OwnFits p (done_by m t a (SettleKind x) rest) t (actor_by t a (SettleKind x) rest word)) [
@@ -201,7 +193,6 @@ own_settle_cell p n m t a x i k rest here alive =
           (SettleCell x i k ∷ rest) (e ∷ rest)) (sym (here.rule.cells x i))
           (held_same m.plain.references t (SettleCell x i k ∷ rest) (e ∷ rest) more less);
       later = agenda_here p n m t a (SettleCell x i k) rest here alive;
-      none = handed_here p n m t a (SettleCell x i k) rest here;
     }) (ap (λ (l : List Duty). l ++ cells_from x (i + 1) k) empty)
 
 -- ---- the row's resource
@@ -223,7 +214,6 @@ own_take_slot p n m t a x rest here alive =
       hands = λ y. refl;
       held = λ e more less. held_same m.plain.references t (TakeSlot x ∷ rest) (e ∷ rest) more less;
       later = agenda_here p n m t a (TakeSlot x) rest here alive;
-      none = handed_here p n m t a (TakeSlot x) rest here;
     }) (keeps_close x) refl (λ dies b. (fits.0, dies))
 
 pub own_close_resource : (p : Accounts) (n : ℕ) (m : Machine) (t : ℕ) (a : Actor) (x : ℕ) (rest : List Duty)
@@ -244,5 +234,4 @@ own_close_resource p n m t a x rest here alive =
       hands = λ y. refl;
       held = λ e more less. held_same m.plain.references t (CloseResource x ∷ rest) (e ∷ rest) more less;
       later = agenda_here p n m t a (CloseResource x) rest here alive;
-      none = handed_here p n m t a (CloseResource x) rest here;
     }) (keeps_end x) refl (λ dies b. (fits.0, dies))

@@ -19,7 +19,7 @@ use Rattle.brc_model.proofs.Written.{written_load}
 use Rattle.brc_model.proofs.Leaves.{AtDuty, head_of, exchange_alive}
 use Rattle.brc_model.proofs.Lives.{leaves_others}
 use Rattle.brc_model.proofs.Own.{HeldStep}
-use Rattle.brc_model.proofs.Neutral.{OwnFits, found_by, bag_by, agenda_here, handed_here}
+use Rattle.brc_model.proofs.Neutral.{OwnFits, found_by, bag_by, agenda_here}
 use Rattle.brc_model.proofs.OwnCounts.{held_same}
 use Rattle.brc_model.proofs.OwnSteps.{own_done, own_next, own_dying}
 use Rattle.brc_model.proofs.OwnReleases.{held_let_go}
@@ -35,7 +35,7 @@ own_shared_load p n m t a x Own rest here alive =
     own_next p n m t a d (SharedExchange x Own (m.memory (Shared x))) rest here alive refl refl refl refl
     (held_same m.plain.references t (d ∷ rest) (SharedExchange x Own (m.memory (Shared x)) ∷ rest) (λ k o. refl)
     (λ k o. refl))
-    (agenda_here p n m t a d rest here alive) (handed_here p n m t a d rest here)
+    (agenda_here p n m t a d rest here alive)
     (λ b status head used. head_of p n m t a d rest here)
 own_shared_load p n m t a x Handed rest here alive =
     let d : Duty = SharedLoad x Handed in
@@ -43,7 +43,7 @@ own_shared_load p n m t a x Handed rest here alive =
     own_next p n m t a d (SharedExchange x Handed (m.memory (Shared x))) rest here alive refl refl refl refl
     (held_same m.plain.references t (d ∷ rest) (SharedExchange x Handed (m.memory (Shared x)) ∷ rest) (λ k o. refl)
     (λ k o. refl))
-    (agenda_here p n m t a d rest here alive) (handed_here p n m t a d rest here)
+    (agenda_here p n m t a d rest here alive)
     (λ b status head used. (fits.0, ap phase_part (written_load m.memory (Shared x) (Shared x)) ∙ fits.1))
 
 exchange_next : (x w found : ℕ) (r : Reason) (fresh dead : Bool) → (found == w) ≡ true → (w == fresh_word) ≡ fresh
@@ -66,13 +66,12 @@ exchange_won : (p : Accounts) (n : ℕ) (m : Machine) (t : ℕ) (a : Actor) (x w
 exchange_won p n m t a x w r rest here alive pos won moves =
     let d : Duty = SharedExchange x r w in
     let later = agenda_here p n m t a d rest here alive in
-    let handed = handed_here p n m t a d rest here in
     elim (w == fresh_word) as (λ b. (w == fresh_word) ≡ b
     → OwnFits p (done_by m t a d rest) t (actor_by t a d rest (m.memory (Shared x)))) [
       | true ↦ λ fresh.
           own_next p n m t a d (SetMark x) rest here alive refl refl refl
           (exchange_next x w (m.memory (Shared x)) r true (released_word w == dead_word) won fresh refl)
-          (moves (SetMark x ∷ rest) (λ k o. refl) (λ k o. refl)) later handed (λ b status head used. pos)
+          (moves (SetMark x ∷ rest) (λ k o. refl) (λ k o. refl)) later (λ b status head used. pos)
       | false ↦ λ other.
           elim (released_word w == dead_word) as
           (λ b. (released_word w == dead_word) ≡ b
@@ -84,11 +83,10 @@ exchange_won p n m t a x w r rest here alive pos won moves =
                   lived = (exchange_alive p n m t a x w r rest here).life;
                   held = moves (Die x ∷ rest) (λ k o. refl) (λ k o. refl);
                   later = later;
-                  handed = handed;
                 })
             | false ↦ λ some.
                 own_done p n m t a d rest here alive refl
-                (exchange_next x w (m.memory (Shared x)) r false false won other some) later handed
+                (exchange_next x w (m.memory (Shared x)) r false false won other some) later
                 (moves [] (λ k o. refl) (λ k o. refl))
           ] refl
     ] refl
@@ -117,7 +115,7 @@ own_shared_exchange p n m t a x Own w rest here alive =
           (subst (λ (l : List Reference). HeldStep m.plain.references l t (d ∷ rest) (SharedLoad x Own ∷ rest))
           (sym bag) (held_same m.plain.references t (d ∷ rest) (SharedLoad x Own ∷ rest) (λ k o. refl)
           (λ k o. refl)))
-          (agenda_here p n m t a d rest here alive) (handed_here p n m t a d rest here) (λ b status head used. pos)
+          (agenda_here p n m t a d rest here alive) (λ b status head used. pos)
     ] refl
 own_shared_exchange p n m t a x Handed w rest here alive =
     let found = m.memory (Shared x) in
@@ -131,6 +129,6 @@ own_shared_exchange p n m t a x Handed w rest here alive =
           own_next p n m t a d (SharedLoad x Handed) rest here alive refl refl refl
           (ap (λ (b : Bool). cond b (shared_result x w) (SharedLoad x Handed ∷ [])) lost)
           (held_same m.plain.references t (d ∷ rest) (SharedLoad x Handed ∷ rest) (λ k o. refl) (λ k o. refl))
-          (agenda_here p n m t a d rest here alive) (handed_here p n m t a d rest here)
+          (agenda_here p n m t a d rest here alive)
           (λ b status head used. (fits.0, (leaves_others p n m t a d rest here).merged x fits.1))
     ] refl

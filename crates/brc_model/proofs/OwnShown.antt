@@ -1,12 +1,13 @@
 -- A thread after its own step, where the step changes the head of its chain, a row's life or the thread's status.
 use Rattle.std.proofs.Common.{◌≡◌, ℕ, List, ◌∷◌, None, refl, sym, ap, ◌∙◌, subst}
+use Rattle.std.specs.Prelude.{slice_get}
 use Rattle.brc_model.specs.declared.duty.Duty.{Duty}
 use Rattle.brc_model.specs.declared.address.Address.TheVariants.{ThreadWord}
 use Rattle.brc_model.specs.Duties.{head_by}
 use Rattle.brc_model.specs.declared.actor.Status.{Status}
 use Rattle.brc_model.specs.declared.actor.Status.TheVariants.{Gone}
 use Rattle.brc_model.specs.Machine.{Actor, Machine, status_by, actor_by, done_by, born_row, used_by}
-use Rattle.brc_model.proofs.Rule.{Accounts, HoldsAt, HeadOf, Agenda, HandedOnce, ChainFits, AgendaFits, status_word}
+use Rattle.brc_model.proofs.Rule.{Accounts, HoldsAt, HeadOf, Agenda, ChainFits, AgendaFits, status_word}
 use Rattle.brc_model.proofs.Leaves.{AtDuty}
 use Rattle.brc_model.proofs.Own.{HeldStep, holds_step}
 use Rattle.brc_model.proofs.Neutral.{OwnFits, found_by, bag_by, memory_by, agenda_out, uses_same}
@@ -21,7 +22,6 @@ pub record ShownStep (m : Machine) (t : ℕ) (a : Actor) (d : Duty) (rest agenda
   pub held : HeldStep m.plain.references (bag_by m t a d) t (d ∷ rest) agenda
   pub chain : ChainFits (done_by m t a d rest) t head agenda
   pub fits : AgendaFits m.rows t (actor_by t a d rest (found_by m t a d)) status
-  pub handed : HandedOnce agenda
   pub knows : (b : Actor) → b.status ≡ status → b.head ≡ head → b.used ≡ used_by a.used d
       → HeadOf (done_by m t a d rest) t b agenda
 
@@ -50,7 +50,6 @@ own_shown p n m t a d rest agenda status head here step =
             (subst (λ (h : ℕ). ChainFits new t h agenda) (sym step.head_is) step.chain);
       };
       agenda = subst (λ (s : Status). AgendaFits m.rows t after s) (sym step.status_is) step.fits;
-      handed = subst HandedOnce (sym step.agenda_is) step.handed;
     }
 
 -- the agenda of a thread that isn't gone

@@ -1,7 +1,7 @@
 -- A thread after the step of a duty that keeps lives: one that leaves its status, the head of its chain and all gates.
 -- Either no row dies by it, or its own row begins to die, and is at hand from then on.
 use Rattle.std.proofs.Common.{◌≡◌, ℕ, ◌+◌, ◌<◌, Bool, true, false, cond, List, [], ◌∷◌, ◌++◌, inl, inr, Option, None, Some, refl, sym, ap, ◌∙◌, subst, arith}
-use Rattle.std.specs.Prelude.{◌==◌}
+use Rattle.std.specs.Prelude.{◌==◌, slice_get}
 use Rattle.std.proofs.lemmas.Bool.{eq-eqb}
 use Rattle.std.proofs.lemmas.Bool.Decides.{eqb_tells}
 use Rattle.brc_model.specs.declared.duty.Duty.{Duty}
@@ -12,7 +12,7 @@ use Rattle.brc_model.specs.declared.actor.Status.{Status}
 use Rattle.brc_model.specs.declared.actor.Status.TheVariants.{Gone}
 use Rattle.brc_model.specs.Machine.{Actor, Life, Live, Dying, Closed, Machine, status_by, dies_next, ended_row, with_life, life_by, actor_by, done_by, born_row}
 use Rattle.brc_model.proofs.Bag.{one_if}
-use Rattle.brc_model.proofs.Rule.{Accounts, extra_of, lacks_of, HoldsAt, HeadFits, HeadOf, Later, Agenda, NoneHanded, HandedOnce, hand_of, dies_by, ChainFits, status_word}
+use Rattle.brc_model.proofs.Rule.{Accounts, extra_of, lacks_of, HoldsAt, HeadFits, HeadOf, Later, Agenda, hand_of, dies_by, ChainFits, status_word}
 use Rattle.brc_model.proofs.Written.{written_load}
 use Rattle.brc_model.proofs.Leaves.{AtDuty}
 use Rattle.brc_model.proofs.Lives.{next_of}
@@ -90,7 +90,6 @@ pub record KeepingStep (m : Machine) (t : ℕ) (a : Actor) (d : Duty) (rest next
   pub hands : (x : ℕ) → hand_of agenda x ≡ false
   pub held : HeldStep m.plain.references (bag_by m t a d) t (d ∷ rest) agenda
   pub fits : Agenda m.rows t a.used a.status a.place agenda
-  pub handed : HandedOnce agenda
   pub knows : (b : Actor) → b.status ≡ a.status → b.head ≡ a.head → b.used ≡ a.used
       → HeadOf (done_by m t a d rest) t b agenda
 
@@ -111,18 +110,17 @@ own_keeps p n m t a d rest next agenda here alive kept step =
       hands = λ x. step.hands x ∙ sym (keeping_hand d rest x kept);
       held = step.held;
       fits = step.fits;
-      handed = step.handed;
       knows = step.knows;
     })
 
 -- the agenda goes on with what was for later
 pub own_done : (p : Accounts) (n : ℕ) (m : Machine) (t : ℕ) (a : Actor) (d : Duty) (rest : List Duty)
     → AtDuty p n m t a d rest → (a.status ≡ Gone → ⊥) → keeps_lives d ≡ true → next_of m t a d ≡ []
-    → Later m.rows t a.used a.status a.place rest → NoneHanded rest
+    → Later m.rows t a.used a.status a.place rest
     → HeldStep m.plain.references (bag_by m t a d) t (d ∷ rest) []
     → OwnFits p (done_by m t a d rest) t (actor_by t a d rest (found_by m t a d))
-own_done p n m t a d rest here alive kept next later none moves =
-    let then = ready_is m.rows t a.used a.status a.place a.head rest later none in
+own_done p n m t a d rest here alive kept next later moves =
+    let then = ready_is m.rows t a.used a.status a.place a.head rest later in
     own_keeps p n m t a d rest [] (ready a.head rest) here alive kept (record {
       next_is = next;
       none_dies = refl;
@@ -135,7 +133,6 @@ own_done p n m t a d rest here alive kept next later none moves =
             omega (arith, moves.each k object, more, less);
       };
       fits = then.fits;
-      handed = then.handed;
       knows = λ b status head used. then.knows (done_by m t a d rest) b head;
     })
 
@@ -144,11 +141,11 @@ pub own_next : (p : Accounts) (n : ℕ) (m : Machine) (t : ℕ) (a : Actor) (d e
     → AtDuty p n m t a d rest → (a.status ≡ Gone → ⊥) → keeps_lives d ≡ true → keeps_lives e ≡ true
     → is_passed e ≡ false
     → next_of m t a d ≡ e ∷ [] → HeldStep m.plain.references (bag_by m t a d) t (d ∷ rest) (e ∷ rest)
-    → Agenda m.rows t a.used a.status a.place (e ∷ rest) → HandedOnce (e ∷ rest)
+    → Agenda m.rows t a.used a.status a.place (e ∷ rest)
     → ((b : Actor) → b.status ≡ a.status → b.head ≡ a.head → b.used ≡ a.used
     → HeadFits (done_by m t a d rest) t b e rest)
     → OwnFits p (done_by m t a d rest) t (actor_by t a d rest (found_by m t a d))
-own_next p n m t a d e rest here alive kept other stays next moves fits handed knows =
+own_next p n m t a d e rest here alive kept other stays next moves fits knows =
     own_keeps p n m t a d rest (e ∷ []) (e ∷ rest) here alive kept (record {
       next_is = next;
       none_dies = keeping_lives e other;
@@ -156,7 +153,6 @@ own_next p n m t a d e rest here alive kept other stays next moves fits handed k
       hands = λ x. keeping_hand e rest x other;
       held = moves;
       fits = fits;
-      handed = handed;
       knows = knows;
     })
 
@@ -169,7 +165,6 @@ pub record DyingStep (m : Machine) (t : ℕ) (a : Actor) (d : Duty) (rest : List
   pub lived : m.life x ≡ Live
   pub held : HeldStep m.plain.references (bag_by m t a d) t (d ∷ rest) (Die x ∷ rest)
   pub later : Later m.rows t a.used a.status a.place rest
-  pub handed : NoneHanded rest
 
 dying_life : (m : Machine) (t : ℕ) (a : Actor) (d : Duty) (x y : ℕ) → next_of m t a d ≡ Die x ∷ [] → ended_row d ≡ None
     → born_row d ≡ None → life_by m.life t d (next_of m t a d) y ≡ cond (x == y) (Dying t) (m.life y)
@@ -242,5 +237,4 @@ own_dying p n m t a d rest x here alive kept step =
           (subst (λ (u : ℕ). Later m.rows t u after.status a.place rest)
           (sym (uses_same a.used d (keeping_born d kept)))
           (subst (λ (s : Status). Later m.rows t a.used s a.place rest) (sym same_status) step.later)));
-      handed = subst HandedOnce (sym whole) step.handed;
     }

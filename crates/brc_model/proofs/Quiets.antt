@@ -162,7 +162,6 @@ own_fits p n m t a moves place account rest taken =
         chain = record { chained = chain.chained; linked = chain.linked; once = chain.once };
       },
       subst (λ (s : Status). AgendaFits m.rows t (sitting a place []) s) (sym rest.running) (taken.stays, refl),
-      tt,
     )
 
 -- A quiet step under its condition keeps the rule.

@@ -5,10 +5,12 @@ use Rattle.std.proofs.lemmas.Bool.{eq-eqb, eqb-true}
 use Rattle.std.proofs.lemmas.List.Sums.{sum_by-cons}
 use Rattle.brc_word.specs.Words.{local_part, is_immortal_word, fresh_word, dead_word, released_word, merged_word}
 use Rattle.brc_model.specs.Plain.{references_to}
+use Rattle.brc_model.specs.declared.duty.Reason.{Reason}
+use Rattle.brc_model.specs.declared.duty.Reason.TheVariants.{Own, Handed}
 use Rattle.brc_model.specs.declared.duty.Duty.{Duty}
 use Rattle.brc_model.specs.declared.duty.Duty.TheVariants.{RetainLoad, RetainStore, RetainAdd, ReleaseLoad, ReleaseStore, DecideAtZero, SharedLoad, SharedExchange, SetMark, Look, TakeMark, MergeSwap, MergeLoad, MergeExchange, Die, Settle, SettleKind, SettleCell, TakeSlot, CloseResource, SettleEnd, Leave, Scan, Finish, ClaimMark, BirthKind, BirthSlot, BirthLocal}
 use Rattle.brc_model.specs.declared.address.Address.TheVariants.{KindOf, Mark}
-use Rattle.brc_model.specs.Duties.{address_of, left_by, next_by, ready, counts_locally, claimed, shared_result, cells_of, cells_from, release_found, block_of, has_resource}
+use Rattle.brc_model.specs.Duties.{address_of, left_by, next_by, ready, counts_locally, once_merged, merge_result, claimed, shared_result, cells_of, cells_from, release_found, block_of, has_resource}
 use Rattle.brc_model.specs.Machine.{Actor, Life, Unborn, Machine, written, is_running, actor_by, done_by}
 use Rattle.brc_model.proofs.Bag.{one_if}
 use Rattle.brc_model.proofs.Rows.{RowRule}
@@ -34,8 +36,8 @@ IsSmall k (SetMark x) = x < k
 IsSmall k (Look x) = x < k
 IsSmall k (TakeMark x) = x < k
 IsSmall k (MergeSwap x r) = x < k
-IsSmall k (MergeLoad x c) = x < k
-IsSmall k (MergeExchange x c w) = x < k
+IsSmall k (MergeLoad x c r) = x < k
+IsSmall k (MergeExchange x c w r) = x < k
 IsSmall k (Die x) = x < k
 IsSmall k Settle = Unit {0}
 IsSmall k (SettleKind x) = x < k
@@ -75,7 +77,15 @@ both_small k (d ∷ l) r first second = (first.0, both_small k l r first.1 secon
 
 claimed_small : (k : ℕ) (x found : ℕ) → (found ≡ 1 → x < k) → AreSmall k (claimed x found)
 claimed_small k x found small =
-    if_small k (found == 1) _ [] (λ e. let low = small (eqb-true found 1 e) in (low, (low, tt))) tt
+    if_small k (found == 1) _ [] (λ e. (small (eqb-true found 1 e), tt)) tt
+
+merged_small : (k : ℕ) (x : ℕ) (r : Reason) → x < k → AreSmall k (once_merged x r)
+merged_small k x Own small = tt
+merged_small k x Handed small = (small, tt)
+
+result_small : (k : ℕ) (x : ℕ) (r : Reason) (word : ℕ) → x < k → AreSmall k (merge_result x r word)
+result_small k x Own word small = if_small k (word == dead_word) _ [] (λ e. (small, tt)) tt
+result_small k x Handed word small = (small, tt)
 
 shared_small : (k : ℕ) (x w : ℕ) → x < k → AreSmall k (shared_result x w)
 shared_small k x w small =
@@ -110,10 +120,11 @@ next_small k t running head (SharedExchange x r w) found small finds =
 next_small k t running head (SetMark x) found small finds = (small, tt)
 next_small k t running head (Look x) found small finds = if_small k (found == 1) [] _ (λ e. tt) (small, tt)
 next_small k t running head (TakeMark x) found small finds = claimed_small k x found (λ e. small)
-next_small k t running head (MergeSwap x r) found small finds = if_small k (found == 0) [] _ (λ e. tt) (small, tt)
-next_small k t running head (MergeLoad x c) found small finds = (small, tt)
-next_small k t running head (MergeExchange x c w) found small finds =
-    if_small k (found == w) _ _ (λ e. if_small k (merged_word w c == dead_word) _ [] (λ f. (small, tt)) tt) (small, tt)
+next_small k t running head (MergeSwap x r) found small finds =
+    if_small k (found == 0) _ _ (λ e. merged_small k x r small) (small, tt)
+next_small k t running head (MergeLoad x c r) found small finds = (small, tt)
+next_small k t running head (MergeExchange x c w r) found small finds =
+    if_small k (found == w) _ _ (λ e. result_small k x r (merged_word w c) small) (small, tt)
 next_small k t running head (Die x) found small finds = tt
 next_small k t running head Settle found small finds = (finds, (tt, tt))
 next_small k t running head (SettleKind x) found small finds =

@@ -11,22 +11,26 @@ use Rattle.brc_model.proofs.Bag.{one_if}
 
 -- ---- weights of a duty at a row
 
--- a decrement that awaits: a mark to be set, or a claimed mark whose reference isn't given up
+-- a decrement that awaits: a mark to be set, or a claimed mark whose reference isn't given up yet, before its merge and
+-- after it
 abbrev pub waits : ℕ → Duty → ℕ
 waits x (SetMark y) = one_if (y == x)
 waits x (SharedLoad y Handed) = one_if (y == x)
 waits x (SharedExchange y Handed w) = one_if (y == x)
+waits x (MergeSwap y Handed) = one_if (y == x)
+waits x (MergeLoad y c Handed) = one_if (y == x)
+waits x (MergeExchange y c w Handed) = one_if (y == x)
 waits x _ = 0
 
 -- a local count that is swapped out and not yet added
 abbrev pub carries : ℕ → Duty → ℕ
-carries x (MergeLoad y c) = cond (y == x) c 0
-carries x (MergeExchange y c w) = cond (y == x) c 0
+carries x (MergeLoad y c r) = cond (y == x) c 0
+carries x (MergeExchange y c w r) = cond (y == x) c 0
 carries x _ = 0
 
 abbrev pub merges : ℕ → Duty → ℕ
-merges x (MergeLoad y c) = one_if (y == x)
-merges x (MergeExchange y c w) = one_if (y == x)
+merges x (MergeLoad y c r) = one_if (y == x)
+merges x (MergeExchange y c w r) = one_if (y == x)
 merges x _ = 0
 
 -- the owner has found its last local reference gone

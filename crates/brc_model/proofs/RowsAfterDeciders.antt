@@ -5,7 +5,7 @@ use Rattle.std.proofs.lemmas.Bool.Decides.{eqb_tells}
 use Rattle.std.proofs.lemmas.List.Sums.{sum_by-cons}
 use Rattle.brc_model.specs.declared.duty.Reason.TheVariants.{Own, Handed}
 use Rattle.brc_model.specs.declared.duty.Duty.{Duty}
-use Rattle.brc_model.specs.declared.duty.Duty.TheVariants.{DecideAtZero, SharedLoad, MergeSwap, Settle, Leave, Scan, Finish}
+use Rattle.brc_model.specs.declared.duty.Duty.TheVariants.{DecideAtZero, MergeSwap, Settle, Leave, Scan, Finish}
 use Rattle.brc_model.specs.declared.address.Address.TheVariants.{ThreadWord}
 use Rattle.brc_model.specs.Duties.{block_of}
 use Rattle.brc_model.specs.declared.actor.Status.{Status}
@@ -26,12 +26,6 @@ later_undecided : (x rows t used : ℕ) (status : Status) (place : Place) (ds : 
 later_undecided x rows t used status place [] later = refl
 later_undecided x rows t used status place (Settle ∷ rest) later =
     omega (arith, sum_by-cons (decides x) Settle rest, later_undecided x rows t used status place rest later)
-later_undecided x rows t used status place (SharedLoad y Handed ∷ rest) later =
-    omega (
-      arith,
-      sum_by-cons (decides x) (SharedLoad y Handed) rest,
-      later_undecided x rows t used status place rest later.1,
-    )
 later_undecided x rows t used status place (Leave y n ∷ []) later = refl
 later_undecided x rows t used status place (Scan y n ∷ rest) later =
     omega (arith, sum_by-cons (decides x) (Scan y n) rest, later_undecided x rows t used status place rest later.3)

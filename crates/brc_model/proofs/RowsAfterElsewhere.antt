@@ -5,12 +5,13 @@ use Rattle.std.proofs.lemmas.List.Sums.{sum_by-cons}
 use Rattle.brc_model.specs.declared.duty.Holding.TheVariants.{ByVariable, AsCaller, InHand}
 use Rattle.brc_model.specs.Plain.{Reference, same, without, references_to, Plain, Move, Born, Gain, Lose, HandOn, Finalise, move, moved}
 use Rattle.brc_word.specs.Words.{is_immortal_word, local_part, fresh_word, dead_word, released_word, merged_word}
+use Rattle.brc_model.specs.declared.duty.Reason.{Reason}
 use Rattle.brc_model.specs.declared.duty.Reason.TheVariants.{Own, Handed}
 use Rattle.brc_model.specs.declared.duty.Duty.{Duty}
 use Rattle.brc_model.specs.declared.duty.Duty.TheVariants.{RetainLoad, RetainStore, RetainAdd, ReleaseLoad, ReleaseStore, DecideAtZero, SharedLoad, SharedExchange, SetMark, Look, TakeMark, MergeSwap, MergeLoad, MergeExchange, Die, Settle, SettleKind, SettleCell, TakeSlot, CloseResource, SettleEnd, Leave, Scan, Finish, ClaimMark, BirthKind, BirthSlot, BirthLocal}
 use Rattle.brc_model.specs.declared.address.Address.{Address}
 use Rattle.brc_model.specs.declared.address.Address.TheVariants.{Local, Shared, Mark}
-use Rattle.brc_model.specs.Duties.{address_of, left_by, counts_locally, claimed, has_resource, cells_of, cells_from, release_found, next_by}
+use Rattle.brc_model.specs.Duties.{address_of, left_by, counts_locally, once_merged, merge_result, claimed, has_resource, cells_of, cells_from, release_found, next_by}
 use Rattle.brc_model.specs.Machine.{Life, Actor, Machine, is_running, same_address, written, moves_by, dies_next, with_life, ended_row, born_row, take_out}
 use Rattle.brc_model.proofs.Bag.{one_if, references_to-cons, same-true}
 use Rattle.brc_model.proofs.Rows.{waits, carries, merges, decides}
@@ -32,8 +33,8 @@ subject (SetMark x) = x
 subject (Look x) = x
 subject (TakeMark x) = x
 subject (MergeSwap x r) = x
-subject (MergeLoad x c) = x
-subject (MergeExchange x c w) = x
+subject (MergeLoad x c r) = x
+subject (MergeExchange x c w r) = x
 subject (Die x) = x
 subject Settle = 0
 subject (SettleKind x) = x
@@ -67,8 +68,8 @@ other_shared rows t head (RetainAdd y h) x e = e
 other_shared rows t head (DecideAtZero y) x e = e
 other_shared rows t head (SharedLoad y r) x e = e
 other_shared rows t head (SharedExchange y r w) x e = e
-other_shared rows t head (MergeLoad y c) x e = e
-other_shared rows t head (MergeExchange y c w) x e = e
+other_shared rows t head (MergeLoad y c r) x e = e
+other_shared rows t head (MergeExchange y c w r) x e = e
 other_shared rows t head d x e = refl
 
 other_mark : (rows t head : ℕ) (d : Duty) (x : ℕ) → (subject d == x) ≡ false
@@ -205,16 +206,19 @@ waits_other : (x : ℕ) (d : Duty) → (subject d == x) ≡ false → waits x d 
 waits_other x (SetMark y) e = ap one_if e
 waits_other x (SharedLoad y Handed) e = ap one_if e
 waits_other x (SharedExchange y Handed w) e = ap one_if e
+waits_other x (MergeSwap y Handed) e = ap one_if e
+waits_other x (MergeLoad y c Handed) e = ap one_if e
+waits_other x (MergeExchange y c w Handed) e = ap one_if e
 waits_other x d e = refl
 
 carries_other : (x : ℕ) (d : Duty) → (subject d == x) ≡ false → carries x d ≡ 0
-carries_other x (MergeLoad y c) e = ap (λ (b : Bool). cond b c 0) e
-carries_other x (MergeExchange y c w) e = ap (λ (b : Bool). cond b c 0) e
+carries_other x (MergeLoad y c r) e = ap (λ (b : Bool). cond b c 0) e
+carries_other x (MergeExchange y c w r) e = ap (λ (b : Bool). cond b c 0) e
 carries_other x d e = refl
 
 merges_other : (x : ℕ) (d : Duty) → (subject d == x) ≡ false → merges x d ≡ 0
-merges_other x (MergeLoad y c) e = ap one_if e
-merges_other x (MergeExchange y c w) e = ap one_if e
+merges_other x (MergeLoad y c r) e = ap one_if e
+merges_other x (MergeExchange y c w r) e = ap one_if e
 merges_other x d e = refl
 
 decides_other : (x : ℕ) (d : Duty) → (subject d == x) ≡ false → decides x d ≡ 0
@@ -261,10 +265,8 @@ release_apart x y =
 -- a mark that was taken, at another row, and what follows it
 claimed_apart : (x y found : ℕ) (ds : List Duty) → (y == x) ≡ false → AreApart x ds → AreApart x (claimed y found ++ ds)
 claimed_apart x y found ds e others =
-    elim (found == 1) as (λ b. AreApart x ((if b then MergeSwap y Handed ∷ SharedLoad y Handed ∷ [] else []) ++ ds)) [
-      | true ↦
-          more_apart x (MergeSwap y Handed) _ (other_apart x (MergeSwap y Handed) e)
-          (more_apart x (SharedLoad y Handed) ds (other_apart x (SharedLoad y Handed) e) others)
+    elim (found == 1) as (λ b. AreApart x ((if b then MergeSwap y Handed ∷ [] else []) ++ ds)) [
+      | true ↦ more_apart x (MergeSwap y Handed) ds (other_apart x (MergeSwap y Handed) e) others
       | false ↦ others
     ]
 
@@ -282,6 +284,14 @@ cells_apart x y i n =
 pub released_apart : (x found : ℕ) (ds : List Duty) → AreApart x ds → AreApart x (release_found found ++ ds)
 released_apart x zero ds others = others
 released_apart x (suc y) ds others = more_apart x (ReleaseLoad y InHand) ds (release_apart x y) others
+
+merged_apart : (x y : ℕ) (r : Reason) → (y == x) ≡ false → AreApart x (once_merged y r)
+merged_apart x y Own e = none_apart x
+merged_apart x y Handed e = one x (SharedLoad y Handed) e
+
+result_apart : (x y : ℕ) (r : Reason) (word : ℕ) → (y == x) ≡ false → AreApart x (merge_result y r word)
+result_apart x y Own word e = apart_if (word == dead_word) (one x (Die y) e) (none_apart x)
+result_apart x y Handed word e = one x (SharedLoad y Handed) e
 
 pub next_apart : (t : ℕ) (running : Bool) (head : ℕ) (d : Duty) (found x : ℕ) → (subject d == x) ≡ false
     → AreApart x (next_by t running head d found)
@@ -305,14 +315,12 @@ next_apart t running head (SharedExchange y r w) found x e =
 next_apart t running head (SetMark y) found x e = one x (Look y) e
 next_apart t running head (Look y) found x e = apart_if (found == 1) (none_apart x) (one x (TakeMark y) e)
 next_apart t running head (TakeMark y) found x e =
-    apart_if (found == 1) (more_apart x (MergeSwap y Handed) _ (other_apart x (MergeSwap y Handed) e)
-    (one x (SharedLoad y Handed) e)) (none_apart x)
+    apart_if (found == 1) (one x (MergeSwap y Handed) e) (none_apart x)
 next_apart t running head (MergeSwap y r) found x e =
-    apart_if (found == 0) (none_apart x) (one x (MergeLoad y (local_part found)) e)
-next_apart t running head (MergeLoad y c) found x e = one x (MergeExchange y c found) e
-next_apart t running head (MergeExchange y c w) found x e =
-    apart_if (found == w) (apart_if (merged_word w c == dead_word) (one x (Die y) e) (none_apart x))
-    (one x (MergeLoad y c) e)
+    apart_if (found == 0) (merged_apart x y r e) (one x (MergeLoad y (local_part found) r) e)
+next_apart t running head (MergeLoad y c r) found x e = one x (MergeExchange y c found r) e
+next_apart t running head (MergeExchange y c w r) found x e =
+    apart_if (found == w) (result_apart x y r (merged_word w c) e) (one x (MergeLoad y c r) e)
 next_apart t running head (Die y) found x e = none_apart x
 next_apart t running head Settle found x e =
     more_apart x (SettleKind (head - 1)) _ (kind_apart x (head - 1)) (one_apart x Settle (settle_apart x))

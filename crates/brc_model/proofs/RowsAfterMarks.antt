@@ -5,7 +5,7 @@ use Rattle.std.proofs.lemmas.List.Sums.{sum_by-append}
 use Rattle.brc_model.specs.Plain.{references_to, moved}
 use Rattle.brc_model.specs.declared.duty.Reason.TheVariants.{Handed}
 use Rattle.brc_model.specs.declared.duty.Duty.{Duty}
-use Rattle.brc_model.specs.declared.duty.Duty.TheVariants.{SharedLoad, SetMark, Look, TakeMark, MergeSwap, Die, Settle, SettleKind, SettleCell, TakeSlot, CloseResource, SettleEnd, Scan, ClaimMark}
+use Rattle.brc_model.specs.declared.duty.Duty.TheVariants.{SetMark, Look, TakeMark, MergeSwap, Die, Settle, SettleKind, SettleCell, TakeSlot, CloseResource, SettleEnd, Scan, ClaimMark}
 use Rattle.brc_model.specs.declared.address.Address.TheVariants.{Local, Shared, Mark, Cell, KindOf}
 use Rattle.brc_model.specs.Duties.{block_of, claimed, has_resource, cells_of, cells_from}
 use Rattle.brc_model.specs.Machine.{Life, Live, Dying, Closed, Actor, Machine, with_life, dies_next, life_by, done_by, take_out}
@@ -84,7 +84,7 @@ takes_none {m = m} {t = t} {a = a} {d = d} {rest = rest} {tail = tail} {y = y} s
     })
 
 abbrev hands : ℕ → List Duty
-hands y = MergeSwap y Handed ∷ SharedLoad y Handed ∷ []
+hands y = MergeSwap y Handed ∷ []
 
 -- one was set, and its decrement awaits by the handed reference
 takes_one : {p : Accounts} {n : ℕ} {m : Machine} {t : ℕ} {a : Actor} {d : Duty} {rest tail : List Duty} {y : ℕ}

@@ -7,6 +7,7 @@ use Rattle.brc_model.specs.declared.duty.Holding.TheVariants.{ByVariable, AsCall
 use Rattle.brc_model.specs.Plain.{Reference, same_holding, is_among, references_to}
 use Rattle.brc_word.specs.Words.{owner_part, local_part, phase_part, dying_word, kind_part}
 use Rattle.brc_model.specs.Kinds.{kind_number, kind_of_word, is_counted_kind}
+use Rattle.brc_model.specs.declared.duty.Reason.{Reason}
 use Rattle.brc_model.specs.declared.duty.Reason.TheVariants.{Own, Handed}
 use Rattle.brc_model.specs.declared.duty.Duty.{Duty}
 use Rattle.brc_model.specs.declared.duty.Duty.TheVariants.{RetainLoad, RetainStore, RetainAdd, ReleaseLoad, ReleaseStore, DecideAtZero, SharedLoad, SharedExchange, SetMark, Look, TakeMark, MergeSwap, MergeLoad, MergeExchange, Die, Settle, SettleKind, SettleCell, TakeSlot, CloseResource, SettleEnd, Leave, Scan, Finish, ClaimMark, BirthKind, BirthSlot, BirthLocal}
@@ -101,13 +102,10 @@ pub record IsBacked (m : Machine) (t x : ℕ) : Type 0 where
 abbrev pub MayMerge : Machine → ℕ → ℕ → Type 0
 MayMerge m t x = (block_of m.rows x ≡ t) ⊎ (m.memory (ThreadWord (block_of m.rows x)) ≢ 1)
 
-abbrev pub FollowsHanded : ℕ → List Duty → Type 0
-FollowsHanded x (SharedLoad y Handed ∷ rest) = y ≡ x
-FollowsHanded x _ = ⊥
-
--- a merge is the running owner's, or it is made for a claimed mark
-abbrev pub IsMergeOf : Machine → ℕ → Actor → ℕ → List Duty → Type 0
-IsMergeOf m t a x rest = ((a.status ≡ Running) × (block_of m.rows x ≡ t)) ⊎ FollowsHanded x rest
+-- a merge for the thread's own release is the running owner's
+abbrev pub MayCarry : Machine → ℕ → Actor → ℕ → Reason → Type 0
+MayCarry m t a x Own = (a.status ≡ Running) × (block_of m.rows x ≡ t)
+MayCarry m t a x Handed = Unit {0}
 
 -- the next row of a running worker's block: it is there, and not used yet
 pub record IsNext (m : Machine) (t : ℕ) (a : Actor) (x : ℕ) : Type 0 where
@@ -137,9 +135,9 @@ HeadFits m t a (SetMark x) rest = 0 < x
 HeadFits m t a (Look x) rest = 0 < x
 HeadFits m t a (TakeMark x) rest = (0 < x) × (m.memory (ThreadWord (block_of m.rows x)) ≢ 1)
 HeadFits m t a (MergeSwap x Own) rest = (0 < x) × OwnsLocally m t a x × (local_part (m.memory (Local x)) ≡ 0)
-HeadFits m t a (MergeSwap x Handed) rest = (0 < x) × MayMerge m t x × FollowsHanded x rest
-HeadFits m t a (MergeLoad x c) rest = (0 < x) × (c < 4294967296) × IsMergeOf m t a x rest
-HeadFits m t a (MergeExchange x c w) rest = (0 < x) × (c < 4294967296) × IsMergeOf m t a x rest
+HeadFits m t a (MergeSwap x Handed) rest = (0 < x) × MayMerge m t x
+HeadFits m t a (MergeLoad x c r) rest = (0 < x) × (c < 4294967296) × MayCarry m t a x r
+HeadFits m t a (MergeExchange x c w r) rest = (0 < x) × (c < 4294967296) × MayCarry m t a x r
 HeadFits m t a (Die x) rest = (0 < x) × (m.life x ≡ Dying t)
 HeadFits m t a Settle rest = 0 < a.head
 HeadFits m t a (SettleKind x) rest = (0 < x) × (m.life x ≡ Dying t)
@@ -161,13 +159,11 @@ HeadOf m t a (d ∷ rest) = HeadFits m t a d rest
 
 -- ---- what is for later
 
--- The agenda behind its first duty: it settles, gives up handed references, and ends the thread's exit where that is
--- taken up.
+-- The agenda behind its first duty: it settles, and ends the thread's exit where that is taken up.
 -- A leaving thread has still to look through the marks of its used rows from one on.
 abbrev pub Later : ℕ → ℕ → ℕ → Status → Place → List Duty → Type 0
 Later rows t used status place [] = (place ≢ Departing) × (status ≡ Running)
 Later rows t used status place (Settle ∷ rest) = Later rows t used status place rest
-Later rows t used status place (SharedLoad x Handed ∷ rest) = (0 < x) × Later rows t used status place rest
 Later rows t used status place (Leave x n ∷ []) =
     (status ≡ Running) × (place ≡ Departing) × (x ≡ first_row rows t) × (n ≡ used)
 Later rows t used status place (Scan x n ∷ rest) =
@@ -184,20 +180,6 @@ Agenda rows t used status place (Leave x n ∷ rest) = Later rows t used status 
 Agenda rows t used status place (Scan x n ∷ rest) = Later rows t used status place (Scan x n ∷ rest)
 Agenda rows t used status place (Finish ∷ rest) = Later rows t used status place (Finish ∷ rest)
 Agenda rows t used status place (d ∷ rest) = Later rows t used status place rest
-
--- a handed reference is given up right after its merge, and nowhere else
-abbrev pub NoneHanded : List Duty → Type 0
-NoneHanded [] = Unit {0}
-NoneHanded (SharedLoad x Handed ∷ rest) = ⊥
-NoneHanded (d ∷ rest) = NoneHanded rest
-
-abbrev pub HandedOnce : List Duty → Type 0
-HandedOnce [] = Unit {0}
-HandedOnce (SharedLoad x r ∷ rest) = NoneHanded rest
-HandedOnce (MergeSwap x r ∷ SharedLoad y Handed ∷ rest) = (y ≡ x) × NoneHanded rest
-HandedOnce (MergeLoad x c ∷ SharedLoad y Handed ∷ rest) = (y ≡ x) × NoneHanded rest
-HandedOnce (MergeExchange x c w ∷ SharedLoad y Handed ∷ rest) = (y ≡ x) × NoneHanded rest
-HandedOnce (d ∷ rest) = NoneHanded rest
 
 -- whether a row's mark is still to be looked at by its thread's exit
 abbrev pub scans : ℕ → List Duty → Bool
@@ -270,7 +252,7 @@ AgendaFits rows t a Leaving = Agenda rows t a.used Leaving a.place a.agenda
 
 -- all that is said of one thread
 abbrev pub Fits : Account → Machine → ℕ → Actor → Type 0
-Fits account m t a = ActorFits account m t a × AgendaFits m.rows t a a.status × HandedOnce a.agenda
+Fits account m t a = ActorFits account m t a × AgendaFits m.rows t a a.status
 
 -- ---- marks that are set are watched
 

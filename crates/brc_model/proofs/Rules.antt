@@ -141,7 +141,7 @@ module _ (memory : Address → ℕ) (t : ℕ) (running : Bool) (head : ℕ) wher
       record { left_is = refl; next_is = rw (same_test f 0 nobody) refl; moves_are = refl }
   computed d found left next moves (rules.LocalTakenOut x reason f owned) =
       record { left_is = refl; next_is = rw (other_test f 0 owned) refl; moves_are = refl }
-  computed d found left next moves (rules.MergeRead x carried f) =
+  computed d found left next moves (rules.MergeRead x carried reason f) =
       record { left_is = refl; next_is = refl; moves_are = refl }
   computed d found left next moves (rules.Merges x carried word alive) =
       let won = itself word in let lives = other_test (merged_word word carried) dead_word alive in
@@ -149,7 +149,9 @@ module _ (memory : Address → ℕ) (t : ℕ) (running : Bool) (head : ℕ) wher
   computed d found left next moves (rules.MergesToZero x carried word dead) =
       let won = itself word in let dies = same_test (merged_word word carried) dead_word dead in
       record { left_is = rw won refl; next_is = rw (won, dies) refl; moves_are = refl }
-  computed d found left next moves (rules.MergeLost x carried word f lost) =
+  computed d found left next moves (rules.MergesForHanded x carried word) =
+      let won = itself word in record { left_is = rw won refl; next_is = rw won refl; moves_are = refl }
+  computed d found left next moves (rules.MergeLost x carried word reason f lost) =
       let missed = other_test f word lost in
       record { left_is = rw missed refl; next_is = rw missed refl; moves_are = refl }
   computed d found left next moves (rules.Chained x f) = record { left_is = refl; next_is = refl; moves_are = refl }
@@ -224,12 +226,13 @@ module _ (memory : Address → ℕ) (t : ℕ) (running : Bool) (head : ℕ) wher
         ]
       ]
 
-  merged_by : (x carried word : ℕ) → GoesByRule (MergeExchange x carried word) word
-  merged_by x carried word =
+  merged_by : (x carried word : ℕ) (reason : Reason) → GoesByRule (MergeExchange x carried word reason) word
+  merged_by x carried word Own =
       elim (eqb_tells (merged_word word carried) dead_word) [
         | inl dead ↦ applies _ _ _ _ _ (rules.MergesToZero x carried word dead.1)
         | inr alive ↦ applies _ _ _ _ _ (rules.Merges x carried word alive.1)
       ]
+  merged_by x carried word Handed = applies _ _ _ _ _ (rules.MergesForHanded x carried word)
 
   pub by_rule : (d : Duty) (found : ℕ) → GoesByRule d found
   by_rule (BirthKind x h word) found =
@@ -288,11 +291,12 @@ module _ (memory : Address → ℕ) (t : ℕ) (running : Bool) (head : ℕ) wher
         | inl nobody ↦ applies _ _ _ _ _ (rules.NobodysCount x reason found nobody.1)
         | inr owned ↦ applies _ _ _ _ _ (rules.LocalTakenOut x reason found owned.1)
       ]
-  by_rule (MergeLoad x carried) found = rules.MergeRead x carried found
-  by_rule (MergeExchange x carried word) found =
+  by_rule (MergeLoad x carried reason) found = rules.MergeRead x carried reason found
+  by_rule (MergeExchange x carried word reason) found =
       elim (eqb_tells found word) [
-        | inl won ↦ subst (GoesByRule (MergeExchange x carried word)) (sym won.1) (merged_by x carried word)
-        | inr lost ↦ applies _ _ _ _ _ (rules.MergeLost x carried word found lost.1)
+        | inl won ↦
+            subst (GoesByRule (MergeExchange x carried word reason)) (sym won.1) (merged_by x carried word reason)
+        | inr lost ↦ applies _ _ _ _ _ (rules.MergeLost x carried word reason found lost.1)
       ]
   by_rule (Die x) found = rules.Chained x found
   by_rule Settle found = rules.ChainRead found

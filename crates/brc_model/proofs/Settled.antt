@@ -1,20 +1,21 @@
 -- A thread's chain is empty when it leaves, looks at a mark and is gone: it settles before each.
-use Rattle.std.proofs.Common.{◌≡◌, ℕ, zero, suc, ◌+◌, ◌-◌, Bool, true, false, cond, List, [], ◌∷◌, ◌++◌, ◌⊎◌, inl, inr, refl, sym, subst, arith}
+use Rattle.std.proofs.Common.{◌≡◌, ℕ, zero, suc, ◌+◌, ◌-◌, Bool, true, false, cond, List, [], ◌∷◌, ◌++◌, refl, sym, subst, arith}
 use Rattle.std.specs.Prelude.{◌==◌, ◌&&◌, nat_lt}
 use Rattle.brc_word.specs.Words.{local_part, is_immortal_word, fresh_word, dead_word, released_word, merged_word}
+use Rattle.brc_model.specs.declared.duty.Reason.{Reason}
 use Rattle.brc_model.specs.declared.duty.Reason.TheVariants.{Own, Handed}
 use Rattle.brc_model.specs.declared.duty.Duty.{Duty}
 use Rattle.brc_model.specs.declared.duty.Duty.TheVariants.{RetainLoad, RetainStore, RetainAdd, ReleaseLoad, ReleaseStore, DecideAtZero, SharedLoad, SharedExchange, SetMark, Look, TakeMark, MergeSwap, MergeLoad, MergeExchange, Die, Settle, SettleKind, SettleCell, TakeSlot, CloseResource, SettleEnd, Leave, Scan, Finish, ClaimMark, BirthKind, BirthSlot, BirthLocal}
 use Rattle.brc_model.specs.declared.address.Address.TheVariants.{Mark}
-use Rattle.brc_model.specs.Duties.{next_by, counts_locally, shared_result, cells_of, cells_from, release_found, head_by, ready, has_resource}
+use Rattle.brc_model.specs.Duties.{next_by, counts_locally, once_merged, merge_result, shared_result, cells_of, cells_from, release_found, head_by, ready, has_resource}
 use Rattle.brc_model.specs.declared.actor.Status.{Status}
 use Rattle.brc_model.specs.declared.actor.Status.TheVariants.{Leaving, Gone}
 use Rattle.brc_model.specs.declared.actor.Place.{Place}
 use Rattle.brc_model.specs.Machine.{Actor, Machine, is_running, actor_by}
-use Rattle.brc_model.proofs.Rule.{Accounts, Later, Agenda, NoneHanded, HandedOnce}
+use Rattle.brc_model.proofs.Rule.{Accounts, Later, Agenda}
 use Rattle.brc_model.proofs.Leaves.{AtDuty, head_of}
 use Rattle.brc_model.proofs.Lives.{next_of}
-use Rattle.brc_model.proofs.Neutral.{found_by, agenda_here, handed_here}
+use Rattle.brc_model.proofs.Neutral.{found_by, agenda_here}
 
 -- ---- what is meant
 
@@ -89,62 +90,43 @@ settled_inner (suc head) _ rest inner settles = settles
 
 -- with an empty chain any exit may come first
 settled_zero : (rows t used : ℕ) (status : Status) (place : Place) (rest : List Duty)
-    → Later rows t used status place rest → NoneHanded rest → IsSettled 0 (ready 0 rest)
-settled_zero rows t used status place [] later none = tt
-settled_zero rows t used status place (Settle ∷ rest) later none = settled_zero rows t used status place rest later none
-settled_zero rows t used status place (SharedLoad x Handed ∷ rest) later none = absurd none
-settled_zero rows t used status place (Leave x k ∷ []) later none = refl
-settled_zero rows t used status place (Scan x zero ∷ rest) later none =
-    settled_zero rows t used status place rest later.3 none
-settled_zero rows t used status place (Scan x (suc k) ∷ rest) later none = refl
-settled_zero rows t used status place (Finish ∷ []) later none = refl
-settled_zero rows t used status place _ later none = absurd later
+    → Later rows t used status place rest → IsSettled 0 (ready 0 rest)
+settled_zero rows t used status place [] later = tt
+settled_zero rows t used status place (Settle ∷ rest) later = settled_zero rows t used status place rest later
+settled_zero rows t used status place (Leave x k ∷ []) later = refl
+settled_zero rows t used status place (Scan x zero ∷ rest) later = settled_zero rows t used status place rest later.3
+settled_zero rows t used status place (Scan x (suc k) ∷ rest) later = refl
+settled_zero rows t used status place (Finish ∷ []) later = refl
+settled_zero rows t used status place _ later = absurd later
 
 settled_empty : (rows t used head : ℕ) (status : Status) (place : Place) (rest : List Duty) → head ≡ 0
-    → Later rows t used status place rest → NoneHanded rest → IsSettled head (ready head rest)
-settled_empty rows t used head status place rest is later none =
-    subst (λ (h : ℕ). IsSettled h (ready h rest)) (sym is) (settled_zero rows t used status place rest later none)
+    → Later rows t used status place rest → IsSettled head (ready head rest)
+settled_empty rows t used head status place rest is later =
+    subst (λ (h : ℕ). IsSettled h (ready h rest)) (sym is) (settled_zero rows t used status place rest later)
 
 settled_later : (rows t used head : ℕ) (status : Status) (place : Place) (rest : List Duty)
-    → Later rows t used status place rest → NoneHanded rest → Settles rest → IsSettled head (ready head rest)
-settled_later rows t used zero status place rest later none settles =
-    settled_zero rows t used status place rest later none
-settled_later rows t used (suc head) status place [] later none settles = tt
-settled_later rows t used (suc head) status place (Settle ∷ rest) later none settles = tt
-settled_later rows t used (suc head) status place (SharedLoad x Handed ∷ rest) later none settles = absurd none
-settled_later rows t used (suc head) status place (Leave x k ∷ []) later none settles = absurd settles
-settled_later rows t used (suc head) status place (Scan x k ∷ rest) later none settles = absurd settles
-settled_later rows t used (suc head) status place (Finish ∷ []) later none settles = absurd settles
-settled_later rows t used (suc head) status place _ later none settles = absurd later
-
--- a handed reference may come first, and none behind it
-abbrev HandedFirst : List Duty → Type 0
-HandedFirst (SharedLoad x Handed ∷ rest) = Unit {0}
-HandedFirst _ = ⊥
-
-handed_or : (d : Duty) (rest : List Duty) → HandedOnce (d ∷ rest) → IsInner d → NoneHanded rest ⊎ HandedFirst rest
-handed_or (MergeSwap x r) [] once inner = inl tt
-handed_or (MergeSwap x r) (SharedLoad y Handed ∷ rest) once inner = inr tt
-handed_or (MergeSwap x r) (_ ∷ rest) once inner = inl once
-handed_or (MergeLoad x c) [] once inner = inl tt
-handed_or (MergeLoad x c) (SharedLoad y Handed ∷ rest) once inner = inr tt
-handed_or (MergeLoad x c) (_ ∷ rest) once inner = inl once
-handed_or (MergeExchange x c w) [] once inner = inl tt
-handed_or (MergeExchange x c w) (SharedLoad y Handed ∷ rest) once inner = inr tt
-handed_or (MergeExchange x c w) (_ ∷ rest) once inner = inl once
-handed_or _ rest once inner = inl once
-
-settled_handed : (head : ℕ) (rest : List Duty) → HandedFirst rest → Settles rest → IsSettled head (ready head rest)
-settled_handed zero (SharedLoad x Handed ∷ rest) first settles = settles
-settled_handed (suc head) (SharedLoad x Handed ∷ rest) first settles = settles
-settled_handed zero _ first settles = absurd first
-settled_handed (suc head) _ first settles = absurd first
+    → Later rows t used status place rest → Settles rest → IsSettled head (ready head rest)
+settled_later rows t used zero status place rest later settles = settled_zero rows t used status place rest later
+settled_later rows t used (suc head) status place [] later settles = tt
+settled_later rows t used (suc head) status place (Settle ∷ rest) later settles = tt
+settled_later rows t used (suc head) status place (Leave x k ∷ []) later settles = absurd settles
+settled_later rows t used (suc head) status place (Scan x k ∷ rest) later settles = absurd settles
+settled_later rows t used (suc head) status place (Finish ∷ []) later settles = absurd settles
+settled_later rows t used (suc head) status place _ later settles = absurd later
 
 -- ---- what follows a step
 
 release_inner : (found : ℕ) → AreInner (release_found found)
 release_inner zero = tt
 release_inner (suc y) = (tt, tt)
+
+merged_inner : (x : ℕ) (r : Reason) → AreInner (once_merged x r)
+merged_inner x Own = tt
+merged_inner x Handed = (tt, tt)
+
+result_inner : (x : ℕ) (r : Reason) (word : ℕ) → AreInner (merge_result x r word)
+result_inner x Own word = either_inner (word == dead_word) (Die x ∷ []) [] (tt, tt) tt
+result_inner x Handed word = (tt, tt)
 
 next_inner : (t : ℕ) (running : Bool) (head : ℕ) (d : Duty) (found : ℕ) → IsPlain d
     → AreInner (next_by t running head d found)
@@ -168,13 +150,13 @@ next_inner t running head (SharedExchange x r w) found plain =
 next_inner t running head (SetMark x) found plain = (tt, tt)
 next_inner t running head (Look x) found plain = either_inner (found == 1) [] (TakeMark x ∷ []) tt (tt, tt)
 next_inner t running head (TakeMark x) found plain =
-    either_inner (found == 1) (MergeSwap x Handed ∷ SharedLoad x Handed ∷ []) [] (tt, (tt, tt)) tt
+    either_inner (found == 1) (MergeSwap x Handed ∷ []) [] (tt, tt) tt
 next_inner t running head (MergeSwap x r) found plain =
-    either_inner (found == 0) [] (MergeLoad x (local_part found) ∷ []) tt (tt, tt)
-next_inner t running head (MergeLoad x c) found plain = (tt, tt)
-next_inner t running head (MergeExchange x c w) found plain =
-    either_inner (found == w) _ (MergeLoad x c ∷ [])
-    (either_inner (merged_word w c == dead_word) (Die x ∷ []) [] (tt, tt) tt) (tt, tt)
+    either_inner (found == 0) (once_merged x r) (MergeLoad x (local_part found) r ∷ []) (merged_inner x r) (tt, tt)
+next_inner t running head (MergeLoad x c r) found plain = (tt, tt)
+next_inner t running head (MergeExchange x c w r) found plain =
+    either_inner (found == w) (merge_result x r (merged_word w c)) (MergeLoad x c r ∷ [])
+    (result_inner x r (merged_word w c)) (tt, tt)
 next_inner t running head (SettleKind x) found plain =
     either_inner (has_resource found) (TakeSlot x ∷ []) (cells_from x 0 (cells_of found)) (tt, tt)
     (either_inner (nat_lt 0 (cells_of found)) (SettleCell x 0 (cells_of found) ∷ []) (SettleEnd x ∷ []) (tt, tt)
@@ -194,13 +176,6 @@ next_inner t running head (BirthKind x h w) found plain =
 next_inner t running head (BirthSlot x h) found plain = (tt, tt)
 next_inner t running head _ found plain = tt
 
-plain_inner : (d : Duty) → IsPlain d → IsInner d
-plain_inner Settle plain = absurd plain
-plain_inner (Leave x k) plain = absurd plain
-plain_inner (Scan x k) plain = absurd plain
-plain_inner Finish plain = absurd plain
-plain_inner _ plain = tt
-
 plain_settles : (head : ℕ) (d : Duty) (rest : List Duty) → IsPlain d → IsSettled head (d ∷ rest) → Settles rest
 plain_settles head Settle rest plain settled = absurd plain
 plain_settles head (Leave x k) rest plain settled = absurd plain
@@ -217,23 +192,19 @@ plain_later rows t used status place Finish rest plain fits = absurd plain
 plain_later rows t used status place _ rest plain fits = fits
 
 settled_next : (rows t used head : ℕ) (status : Status) (place : Place) (next rest : List Duty) → AreInner next
-    → Later rows t used status place rest → NoneHanded rest ⊎ HandedFirst rest → Settles rest
-    → IsSettled head (ready head (next ++ rest))
-settled_next rows t used head status place [] rest inner later (inl none) settles =
-    settled_later rows t used head status place rest later none settles
-settled_next rows t used head status place [] rest inner later (inr first) settles =
-    settled_handed head rest first settles
-settled_next rows t used head status place (d ∷ next) rest inner later handed settles =
+    → Later rows t used status place rest → Settles rest → IsSettled head (ready head (next ++ rest))
+settled_next rows t used head status place [] rest inner later settles =
+    settled_later rows t used head status place rest later settles
+settled_next rows t used head status place (d ∷ next) rest inner later settles =
     settled_inner head d (next ++ rest) inner.0 (settles_behind (d ∷ next) rest inner settles)
 
 settled_claim : (rows t used head : ℕ) (status : Status) (place : Place) (b : Bool) (x : ℕ) (behind rest : List Duty)
-    → Later rows t used status place (behind ++ rest) → NoneHanded (behind ++ rest)
-    → IsSettled head (ready head ((cond b (MergeSwap x Handed ∷ SharedLoad x Handed ∷ []) [] ++ (Settle ∷ behind))
-    ++ rest))
-settled_claim rows t used head status place true x behind rest later none =
-    settled_inner head (MergeSwap x Handed) (SharedLoad x Handed ∷ Settle ∷ (behind ++ rest)) tt tt
-settled_claim rows t used head status place false x behind rest later none =
-    settled_later rows t used head status place (Settle ∷ (behind ++ rest)) later none tt
+    → Later rows t used status place (behind ++ rest)
+    → IsSettled head (ready head ((cond b (MergeSwap x Handed ∷ []) [] ++ (Settle ∷ behind)) ++ rest))
+settled_claim rows t used head status place true x behind rest later =
+    settled_inner head (MergeSwap x Handed) (Settle ∷ (behind ++ rest)) tt tt
+settled_claim rows t used head status place false x behind rest later =
+    settled_later rows t used head status place (Settle ∷ (behind ++ rest)) later tt
 
 -- ---- after a step
 
@@ -244,7 +215,6 @@ settled_plain p n m t a d rest here alive plain settled =
     settled_next m.rows t a.used (head_by a.head d (found_by m t a d)) a.status a.place (next_of m t a d) rest
     (next_inner t (is_running a.status) a.head d (found_by m t a d) plain)
     (plain_later m.rows t a.used a.status a.place d rest plain (agenda_here p n m t a d rest here alive))
-    (handed_or d rest (handed_here p n m t a d rest here) (plain_inner d plain))
     (plain_settles a.head d rest plain settled)
 
 -- a thread's step keeps it so
@@ -255,7 +225,7 @@ settled_after p n m t a Settle rest here alive settled = settled_inner _ (Settle
 settled_after p n m t a (Leave x k) [] here alive settled =
     let fits = agenda_here p n m t a (Leave x k) [] here alive in
     settled_empty m.rows t a.used a.head Leaving a.place (Scan x k ∷ Finish ∷ []) settled
-    (refl, omega (arith, fits.2), omega (arith, fits.2, fits.3), (refl, fits.1)) tt
+    (refl, omega (arith, fits.2), omega (arith, fits.2, fits.3), (refl, fits.1))
 settled_after p n m t a (Leave x k) (e ∷ rest) here alive settled =
     absurd (agenda_here p n m t a (Leave x k) (e ∷ rest) here alive)
 settled_after p n m t a (Scan x k) rest here alive settled =
@@ -263,11 +233,10 @@ settled_after p n m t a (Scan x k) rest here alive settled =
     let fits = agenda_here p n m t a (Scan x k) rest here alive in
     settled_claim m.rows t a.used a.head a.status a.place (m.memory (Mark x) == 1) x (Scan (x + 1) (k - 1) ∷ []) rest
     (fits.0, omega (arith, fits.1), omega (arith, fits.2, some), fits.3)
-    (handed_here p n m t a (Scan x k) rest here)
 settled_after p n m t a Finish [] here alive settled = subst (IsSettled a.head) (sym (ready_none a.head)) tt
 settled_after p n m t a Finish (e ∷ rest) here alive settled =
     absurd (agenda_here p n m t a Finish (e ∷ rest) here alive)
 settled_after p n m t a (ClaimMark x) rest here alive settled =
     settled_claim m.rows t a.used a.head a.status a.place (m.memory (Mark x) == 1) x [] rest
-    (agenda_here p n m t a (ClaimMark x) rest here alive) (handed_here p n m t a (ClaimMark x) rest here)
+    (agenda_here p n m t a (ClaimMark x) rest here alive)
 settled_after p n m t a d rest here alive settled = settled_plain p n m t a d rest here alive tt settled

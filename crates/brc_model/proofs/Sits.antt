@@ -16,7 +16,7 @@ use Rattle.brc_model.proofs.Lists.{some_is, slice_get-set_other, written_actor}
 use Rattle.brc_model.proofs.Bag.{one_if}
 use Rattle.brc_model.proofs.Weights.{weight-set}
 use Rattle.brc_model.proofs.Rows.{waits, carries, merges, decides, agenda_weight, weight, Numbers, RowRule}
-use Rattle.brc_model.proofs.Rule.{Account, Accounts, numbers_of, HoldsAt, HoldsNone, IsBounded, Fits, HeadOf, Agenda, HandedOnce, scans, hand_of, AgendaFits, looks, IsWatched, ByRunning, ByExit, ByLook, Rule, UsesFit}
+use Rattle.brc_model.proofs.Rule.{Account, Accounts, numbers_of, HoldsAt, HoldsNone, IsBounded, Fits, HeadOf, Agenda, scans, hand_of, AgendaFits, looks, IsWatched, ByRunning, ByExit, ByLook, Rule, UsesFit}
 use Rattle.brc_model.proofs.Others.{LeavesOthers, each_fits}
 
 -- the thread with another place and agenda
@@ -54,7 +54,6 @@ pub record Sits (m : Machine) (t : ℕ) (a : Actor) (place : Place) (agenda : Li
   pub departed : place ≡ Departing → HoldsNone account
   pub knows : HeadOf (with_actor m t (sitting a place agenda)) t (sitting a place agenda) agenda
   pub fits : Agenda m.rows t a.used Running place agenda
-  pub handed : HandedOnce agenda
   pub hands : (x : ℕ) → hand_of agenda x ≡ false
   pub no_waits : (x : ℕ) → sum_by (waits x) agenda ≡ 0
   pub no_carries : (x : ℕ) → sum_by (carries x) agenda ≡ 0
@@ -158,7 +157,6 @@ sitting_fits p n m t a place agenda account rest sits =
             };
       },
       subst (λ (s : Status). AgendaFits m.rows t (sitting a place agenda) s) (sym rest.running) sits.fits,
-      sits.handed,
     )
 
 -- Taking work up under its condition keeps the rule.

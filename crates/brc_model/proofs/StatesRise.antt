@@ -83,8 +83,8 @@ rises p n m t a (SharedExchange y r w) rest x here =
     let alive = exchange_alive p n m t a y w r rest here in
     rises_at m y _ x (exchange_rises (m.memory (Shared y)) w (released_word w)
     (λ same. released_rises w (subst (λ (v : ℕ). 1 ≤ biased_part v) same (shared_range _ _ alive.live))))
-rises p n m t a (MergeLoad y c) rest x here = loads m y x
-rises p n m t a (MergeExchange y c w) rest x here =
+rises p n m t a (MergeLoad y c r) rest x here = loads m y x
+rises p n m t a (MergeExchange y c w r) rest x here =
     rises_at m y _ x (exchange_rises (m.memory (Shared y)) w (merged_word w c) (λ same. merged_rises w c))
 rises p n m t a _ rest x here = omega arith
 

@@ -45,8 +45,8 @@ duty_there p n m t a (Look x) rest here alive small =
     omega (arith, block_within m.rows n x here.rule.some_rows (omega (arith, within)) small, here.rule.threads)
 duty_there p n m t a (TakeMark x) rest here alive small = small
 duty_there p n m t a (MergeSwap x r) rest here alive small = small
-duty_there p n m t a (MergeLoad x c) rest here alive small = small
-duty_there p n m t a (MergeExchange x c w) rest here alive small = small
+duty_there p n m t a (MergeLoad x c r) rest here alive small = small
+duty_there p n m t a (MergeExchange x c w r) rest here alive small = small
 duty_there p n m t a (Die x) rest here alive small = small
 duty_there p n m t a Settle rest here alive small = omega (arith, head_small p n m t a here.rule here.found)
 duty_there p n m t a (SettleKind x) rest here alive small = small

@@ -13,7 +13,7 @@ use Rattle.brc_model.specs.Plain.{none_row}
 use Rattle.brc_model.specs.Threads.{row_of, entry_variables, code_of}
 use Rattle.brc_model.specs.declared.duty.Reason.TheVariants.{Handed}
 use Rattle.brc_model.specs.declared.duty.Duty.{Duty}
-use Rattle.brc_model.specs.declared.duty.Duty.TheVariants.{SharedLoad, MergeSwap, Settle, ClaimMark}
+use Rattle.brc_model.specs.declared.duty.Duty.TheVariants.{MergeSwap, Settle, ClaimMark}
 use Rattle.brc_model.specs.declared.address.Address.{Address}
 use Rattle.brc_model.specs.declared.address.Address.TheVariants.{Mark}
 use Rattle.brc_model.specs.Duties.{address_of, head_by, ready}
@@ -215,10 +215,9 @@ unmarked_stays memory row none =
     ∙ written_load memory (Mark row) b)
 
 none_claimed : (head row found : ℕ) → head ≡ 0 → found ≡ 0
-    → ready head ((cond (found == 1) (MergeSwap row Handed ∷ SharedLoad row Handed ∷ []) [] ++ Settle ∷ []) ++ []) ≡ []
+    → ready head ((cond (found == 1) (MergeSwap row Handed ∷ []) [] ++ Settle ∷ []) ++ []) ≡ []
 none_claimed head row found empty none =
-    ap (λ (word : ℕ). ready head ((cond (word == 1) (MergeSwap row Handed ∷ SharedLoad row Handed ∷ []) [] ++ Settle
-    ∷ []) ++ [])) none ∙ ap (λ (h : ℕ). ready h (Settle ∷ [])) empty
+    ap (λ (word : ℕ). ready head ((cond (word == 1) (MergeSwap row Handed ∷ []) [] ++ Settle ∷ []) ++ [])) none ∙ ap (λ (h : ℕ). ready h (Settle ∷ [])) empty
 
 miss_stays : (w : World) (t : ℕ) (a : Actor) (row : ℕ) → slice_get w.actors t ≡ Some a → a.agenda ≡ [] → a.head ≡ 0
     → w.memory (Mark row) ≡ 0 → world_of (done_by (machine_of w) t a (ClaimMark row) []) ≡ w

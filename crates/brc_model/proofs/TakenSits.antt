@@ -15,7 +15,7 @@ use Rattle.brc_model.specs.declared.actor.Place.TheVariants.{Standing, Departing
 use Rattle.brc_model.specs.Machine.{Actor, Machine, first_row, dispatch, agenda_action, with_actor, block_size, next_row}
 use Rattle.brc_model.proofs.Rows.{waits, carries, merges, decides}
 use Rattle.brc_model.proofs.Coded.{PlaceSays, InCode, place_fits, placed_by, departed_none, says_bounded}
-use Rattle.brc_model.proofs.Rule.{Account, Accounts, HoldsAt, HoldsNone, IsBounded, Later, Agenda, AgendaFits, NoneHanded, looks, Rule, IsNext}
+use Rattle.brc_model.proofs.Rule.{Account, Accounts, HoldsAt, HoldsNone, IsBounded, Later, Agenda, AgendaFits, looks, Rule, IsNext}
 use Rattle.brc_model.proofs.Begins.{Starts, Gives, Takes, Follows, Nothing, Settles, Leaves, Taken, IsTaken, Bears}
 use Rattle.brc_model.proofs.Taking.{dispatch_taken}
 use Rattle.brc_model.proofs.Sits.{Sits, AtRest, sitting}
@@ -33,11 +33,6 @@ later_follows : (rows t used : ℕ) (place : Place) (rest : List Duty) → Follo
 later_follows rows t used place rest (Nothing stays) = (stays, refl)
 later_follows rows t used place rest (Settles stays) = (stays, refl)
 later_follows rows t used place rest (Leaves leaves) = (refl, leaves, refl, refl)
-
-none_handed : (rows t used : ℕ) (place : Place) (rest : List Duty) → Follows rows t used place rest → NoneHanded rest
-none_handed rows t used place rest (Nothing stays) = tt
-none_handed rows t used place rest (Settles stays) = tt
-none_handed rows t used place rest (Leaves leaves) = tt
 
 -- what follows weighs nothing
 follows_weigh : (rows t used : ℕ) (place : Place) (rest : List Duty) (f : Duty → ℕ) → f Settle ≡ 0
@@ -64,7 +59,6 @@ starts_sit p n m t a place d rest account at holds bounded departed (Gives row h
       departed = departed;
       knows = tt;
       fits = later_follows m.rows t a.used place rest follows;
-      handed = none_handed m.rows t a.used place rest follows;
       hands = λ x. refl;
       no_waits = λ x. omega (arith, sum_by-cons (waits x) (ReleaseLoad row h) rest, weigh (waits x) refl (λ y k. refl));
       no_carries =
@@ -85,7 +79,6 @@ starts_sit p n m t a place d rest account at holds bounded departed (Takes row h
       departed = departed;
       knows = record { by = by; held_so = some };
       fits = later_follows m.rows t a.used place rest follows;
-      handed = none_handed m.rows t a.used place rest follows;
       hands = λ x. refl;
       no_waits = λ x. omega (arith, sum_by-cons (waits x) (RetainLoad row h) rest, weigh (waits x) refl (λ y k. refl));
       no_carries =
@@ -104,7 +97,6 @@ starts_sit p n m t a place d rest account at holds bounded departed (Bears h w r
       departed = departed;
       knows = (next_is p n m t a place (BirthKind row h w ∷ []) at room, refl, said);
       fits = later_follows m.rows t a.used place [] follows;
-      handed = tt;
       hands = λ x. refl;
       no_waits = λ x. sum_by-cons (waits x) (BirthKind row h w) [];
       no_carries = λ x. sum_by-cons (carries x) (BirthKind row h w) [];
@@ -149,7 +141,6 @@ claim_sits p n m t a left row at mine =
       departed = λ e. absurd (let wrong : Standing left ≡ Departing = e in cc);
       knows = mine;
       fits = ((let e : Standing left ≢ Departing = λ q. cc in e), refl);
-      handed = tt;
       hands = λ x. refl;
       no_waits = λ x. sum_by-cons (waits x) (ClaimMark row) [];
       no_carries = λ x. sum_by-cons (carries x) (ClaimMark row) [];

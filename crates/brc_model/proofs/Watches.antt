@@ -5,11 +5,12 @@ use Rattle.std.proofs.lemmas.Bool.{eqb-true, ne_eqb, leb-true, le-leb}
 use Rattle.std.proofs.lemmas.Bool.Decides.{eqb_tells}
 use Rattle.std.proofs.lemmas.List.Sums.{sum_by-cons, sum_by-append}
 use Rattle.brc_word.specs.Words.{local_part, is_immortal_word, fresh_word, dead_word, released_word, merged_word}
+use Rattle.brc_model.specs.declared.duty.Reason.{Reason}
 use Rattle.brc_model.specs.declared.duty.Reason.TheVariants.{Own, Handed}
 use Rattle.brc_model.specs.declared.duty.Duty.{Duty}
 use Rattle.brc_model.specs.declared.duty.Duty.TheVariants.{RetainLoad, RetainStore, RetainAdd, ReleaseLoad, ReleaseStore, DecideAtZero, SharedLoad, SharedExchange, SetMark, Look, TakeMark, MergeSwap, MergeLoad, MergeExchange, Die, Settle, SettleKind, SettleCell, TakeSlot, SettleEnd, Leave, Scan, Finish, ClaimMark, BirthKind, BirthSlot, BirthLocal}
 use Rattle.brc_model.specs.declared.address.Address.TheVariants.{Mark, ThreadWord}
-use Rattle.brc_model.specs.Duties.{block_of, next_by, counts_locally, claimed, shared_result, cells_of, cells_from, release_found, head_by, ready, has_resource}
+use Rattle.brc_model.specs.Duties.{block_of, next_by, counts_locally, once_merged, merge_result, claimed, shared_result, cells_of, cells_from, release_found, head_by, ready, has_resource}
 use Rattle.brc_model.specs.declared.actor.Status.{Status}
 use Rattle.brc_model.specs.declared.actor.Status.TheVariants.{Gone}
 use Rattle.brc_model.specs.declared.actor.Place.{Place}
@@ -85,8 +86,6 @@ later_reaches : (rows t used : ℕ) (status : Status) (place : Place) (x : ℕ) 
 later_reaches rows t used status place x [] later low = tt
 later_reaches rows t used status place x (Settle ∷ rest) later low =
     later_reaches rows t used status place x rest later low
-later_reaches rows t used status place x (SharedLoad y Handed ∷ rest) later low =
-    later_reaches rows t used status place x rest later.1 low
 later_reaches rows t used status place x (Leave y k ∷ []) later low = tt
 later_reaches rows t used status place x (Scan y k ∷ rest) later low =
     (omega (arith, later.2, low), later_reaches rows t used status place x rest later.3 low)
@@ -134,6 +133,14 @@ release_scanless : (found : ℕ) → Scanless (release_found found)
 release_scanless zero = tt
 release_scanless (suc y) = tt
 
+merged_scanless : (x : ℕ) (r : Reason) → Scanless (once_merged x r)
+merged_scanless x Own = tt
+merged_scanless x Handed = tt
+
+result_scanless : (x : ℕ) (r : Reason) (word : ℕ) → Scanless (merge_result x r word)
+result_scanless x Own word = either_scanless (word == dead_word) (Die x ∷ []) [] tt tt
+result_scanless x Handed word = tt
+
 abbrev NoScan : Duty → Type 0
 NoScan (Leave x k) = ⊥
 NoScan (Scan x k) = ⊥
@@ -158,12 +165,12 @@ next_scanless t running head (SharedExchange x r w) found none =
     (either_scanless (released_word w == dead_word) (Die x ∷ []) [] tt tt)) tt
 next_scanless t running head (Look x) found none = either_scanless (found == 1) [] (TakeMark x ∷ []) tt tt
 next_scanless t running head (TakeMark x) found none =
-    either_scanless (found == 1) (MergeSwap x Handed ∷ SharedLoad x Handed ∷ []) [] tt tt
+    either_scanless (found == 1) (MergeSwap x Handed ∷ []) [] tt tt
 next_scanless t running head (MergeSwap x r) found none =
-    either_scanless (found == 0) [] (MergeLoad x (local_part found) ∷ []) tt tt
-next_scanless t running head (MergeExchange x c w) found none =
-    either_scanless (found == w) _ (MergeLoad x c ∷ [])
-    (either_scanless (merged_word w c == dead_word) (Die x ∷ []) [] tt tt) tt
+    either_scanless (found == 0) (once_merged x r) (MergeLoad x (local_part found) r ∷ []) (merged_scanless x r) tt
+next_scanless t running head (MergeExchange x c w r) found none =
+    either_scanless (found == w) (merge_result x r (merged_word w c)) (MergeLoad x c r ∷ [])
+    (result_scanless x r (merged_word w c)) tt
 next_scanless t running head (SettleKind x) found none =
     either_scanless (has_resource found) (TakeSlot x ∷ []) (cells_from x 0 (cells_of found)) tt
     (either_scanless (nat_lt 0 (cells_of found)) (SettleCell x 0 (cells_of found) ∷ []) (SettleEnd x ∷ []) tt tt)
@@ -176,7 +183,7 @@ next_scanless t running head (Leave x k) found none = absurd none
 next_scanless t running head (Scan x k) found none = absurd none
 next_scanless t running head (ClaimMark x) found none =
     append_scanless (claimed x found) (Settle ∷ [])
-    (either_scanless (found == 1) (MergeSwap x Handed ∷ SharedLoad x Handed ∷ []) [] tt tt) tt
+    (either_scanless (found == 1) (MergeSwap x Handed ∷ []) [] tt tt) tt
 next_scanless t running head _ found none = tt
 
 -- ---- a row that is still to be scanned stays so
@@ -194,10 +201,10 @@ Spares _ x = Unit {0}
 
 claim_scans : (b : Bool) (x y j k head : ℕ) (rest : List Duty) → Reaches x (Scan j k ∷ rest)
     → scans x (Scan j k ∷ rest) ≡ true
-    → scans x (ready head ((cond b (MergeSwap y Handed ∷ SharedLoad y Handed ∷ []) [] ++ (Settle ∷ Scan j k ∷ []))
+    → scans x (ready head ((cond b (MergeSwap y Handed ∷ []) [] ++ (Settle ∷ Scan j k ∷ []))
     ++ rest)) ≡ true
 claim_scans true x y j k head rest reach e =
-    scans_ready x head (MergeSwap y Handed ∷ SharedLoad y Handed ∷ Settle ∷ Scan j k ∷ rest) reach e
+    scans_ready x head (MergeSwap y Handed ∷ Settle ∷ Scan j k ∷ rest) reach e
 claim_scans false x y j k head rest reach e = scans_ready x head (Settle ∷ Scan j k ∷ rest) reach e
 
 other_scans : (m : Machine) (t : ℕ) (a : Actor) (d : Duty) (rest : List Duty) (x : ℕ) → NoScan d → Reaches x rest

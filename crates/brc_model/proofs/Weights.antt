@@ -111,8 +111,8 @@ carried_if y x c none = elim (y == x) as (λ b. one_if b ≡ 0 → cond b c 0 �
 ] none
 
 carries_none : (x : ℕ) (d : Duty) → merges x d ≡ 0 → carries x d ≡ 0
-carries_none x (MergeLoad y c) none = carried_if y x c none
-carries_none x (MergeExchange y c w) none = carried_if y x c none
+carries_none x (MergeLoad y c r) none = carried_if y x c none
+carries_none x (MergeExchange y c w r) none = carried_if y x c none
 carries_none x d none = refl
 
 pub none_carried : (x : ℕ) (actors : List Actor) → weight (merges x) actors ≡ 0 → weight (carries x) actors ≡ 0

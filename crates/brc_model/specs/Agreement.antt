@@ -16,17 +16,21 @@ use Rattle.brc_model.specs.Machine.{Live, Actor, Machine}
 abbrev pub at_row : ℕ → ℕ → ℕ
 at_row x y = if y == x then 1 else 0
 
--- a decrement that awaits: a mark to be set, or a claimed mark whose reference isn't given up
+-- a decrement that awaits: a mark to be set, or a claimed mark whose reference isn't given up yet, before its merge and
+-- after it
 abbrev pub awaits : ℕ → Duty → ℕ
 awaits x (SetMark y) = at_row x y
 awaits x (SharedLoad y Handed) = at_row x y
 awaits x (SharedExchange y Handed w) = at_row x y
+awaits x (MergeSwap y Handed) = at_row x y
+awaits x (MergeLoad y c Handed) = at_row x y
+awaits x (MergeExchange y c w Handed) = at_row x y
 awaits x _ = 0
 
 -- a local count that is swapped out and not yet added
 abbrev pub carries : ℕ → Duty → ℕ
-carries x (MergeLoad y c) = if y == x then c else 0
-carries x (MergeExchange y c w) = if y == x then c else 0
+carries x (MergeLoad y c r) = if y == x then c else 0
+carries x (MergeExchange y c w r) = if y == x then c else 0
 carries x _ = 0
 
 -- over the agendas of all threads
@@ -42,8 +46,8 @@ is_deciding x _ = false
 
 -- to add the local count to the shared word: it is swapped out of the local word
 abbrev pub has_swapped : ℕ → Duty → Bool
-has_swapped x (MergeLoad y c) = y == x
-has_swapped x (MergeExchange y c w) = y == x
+has_swapped x (MergeLoad y c r) = y == x
+has_swapped x (MergeExchange y c w r) = y == x
 has_swapped x _ = false
 
 -- to swap the local count out, or to add what was swapped out

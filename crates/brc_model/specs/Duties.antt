@@ -2,6 +2,7 @@
 -- one word, and names the duties that follow it by what the step found.
 use Rattle.std.specs.Prelude.{ℕ, zero, suc, ◌+◌, ◌-◌, ◌/◌, Bool, ◌&&◌, ◌||◌, ◌==◌, nat_lt, if◌then◌else◌, List, [], ◌∷◌, ◌++◌}
 use Rattle.brc_model.specs.declared.duty.Holding.TheVariants.{InHand}
+use Rattle.brc_model.specs.declared.duty.Reason.{Reason}
 use Rattle.brc_model.specs.declared.duty.Reason.TheVariants.{Own, Handed}
 use Rattle.brc_model.specs.declared.duty.Duty.{Duty}
 use Rattle.brc_model.specs.declared.duty.Duty.TheVariants.{RetainLoad, RetainStore, RetainAdd, ReleaseLoad, ReleaseStore, DecideAtZero, SharedLoad, SharedExchange, SetMark, Look, TakeMark, MergeSwap, MergeLoad, MergeExchange, Die, Settle, SettleKind, SettleCell, TakeSlot, CloseResource, SettleEnd, Leave, Scan, Finish, ClaimMark, BirthKind, BirthSlot, BirthLocal}
@@ -31,8 +32,8 @@ address_of rows t head (SetMark x) = Mark x
 address_of rows t head (Look x) = ThreadWord (block_of rows x)
 address_of rows t head (TakeMark x) = Mark x
 address_of rows t head (MergeSwap x r) = Local x
-address_of rows t head (MergeLoad x c) = Shared x
-address_of rows t head (MergeExchange x c w) = Shared x
+address_of rows t head (MergeLoad x c r) = Shared x
+address_of rows t head (MergeExchange x c w r) = Shared x
 address_of rows t head (Die x) = Gate x
 address_of rows t head Settle = Gate (head - 1)
 address_of rows t head (SettleKind x) = KindOf x
@@ -62,8 +63,8 @@ left_by t head (SetMark x) found = 1
 left_by t head (Look x) found = found
 left_by t head (TakeMark x) found = 0
 left_by t head (MergeSwap x r) found = 0
-left_by t head (MergeLoad x c) found = found
-left_by t head (MergeExchange x c w) found = if found == w then merged_word w c else found
+left_by t head (MergeLoad x c r) found = found
+left_by t head (MergeExchange x c w r) found = if found == w then merged_word w c else found
 left_by t head (Die x) found = dying_word t head
 left_by t head Settle found = found
 left_by t head (SettleKind x) found = found
@@ -85,9 +86,19 @@ left_by t head (BirthLocal x h) found = local_word t 1
 abbrev pub counts_locally : ℕ → Bool → ℕ → Bool
 counts_locally t running word = running && (owner_part word == t + 1)
 
--- a claimed mark: the object is merged, and the handed reference is given up
+-- a claimed mark: the object is merged, for the handed reference is to be given up
 abbrev pub claimed : ℕ → ℕ → List Duty
-claimed x found = if found == 1 then MergeSwap x Handed ∷ SharedLoad x Handed ∷ [] else []
+claimed x found = if found == 1 then MergeSwap x Handed ∷ [] else []
+
+-- what the object was merged for comes next: a handed reference is given up
+abbrev pub once_merged : ℕ → Reason → List Duty
+once_merged x Own = []
+once_merged x Handed = SharedLoad x Handed ∷ []
+
+-- a merge left this shared word: without any reference left the object dies; a handed one is still counted
+abbrev pub merge_result : ℕ → Reason → ℕ → List Duty
+merge_result x Own word = if word == dead_word then Die x ∷ [] else []
+merge_result x Handed word = once_merged x Handed
 
 -- after a release by the shared word that found w: a queued object is marked, and one that nothing counts any more dies
 abbrev pub shared_result : ℕ → ℕ → List Duty
@@ -128,10 +139,11 @@ next_by t running head (SharedExchange x r w) found = if found == w then shared_
 next_by t running head (SetMark x) found = Look x ∷ []
 next_by t running head (Look x) found = if found == 1 then [] else TakeMark x ∷ []
 next_by t running head (TakeMark x) found = claimed x found
-next_by t running head (MergeSwap x r) found = if found == 0 then [] else MergeLoad x (local_part found) ∷ []
-next_by t running head (MergeLoad x c) found = MergeExchange x c found ∷ []
-next_by t running head (MergeExchange x c w) found =
-    if found == w then (if merged_word w c == dead_word then Die x ∷ [] else []) else MergeLoad x c ∷ []
+next_by t running head (MergeSwap x r) found =
+    if found == 0 then once_merged x r else MergeLoad x (local_part found) r ∷ []
+next_by t running head (MergeLoad x c r) found = MergeExchange x c found r ∷ []
+next_by t running head (MergeExchange x c w r) found =
+    if found == w then merge_result x r (merged_word w c) else MergeLoad x c r ∷ []
 next_by t running head (Die x) found = []
 next_by t running head Settle found = SettleKind (head - 1) ∷ Settle ∷ []
 next_by t running head (SettleKind x) found =

@@ -12,7 +12,7 @@ use Rattle.brc_model.specs.declared.address.Address.TheVariants.{KindOf}
 use Rattle.brc_word.specs.Words.{local_word, local_part, is_immortal_word, fresh_word, dead_word, merged_word, dying_word, closed_word}
 use Rattle.brc_model.specs.Kinds.{kind_of_word}
 use Rattle.brc_model.specs.Plain.{Move, Finalise}
-use Rattle.brc_model.specs.Duties.{left_by, next_by, counts_locally, has_resource, cells_of, cells_from, release_found}
+use Rattle.brc_model.specs.Duties.{left_by, next_by, counts_locally, once_merged, has_resource, cells_of, cells_from, release_found}
 use Rattle.brc_model.specs.Machine.{moves_by, gain, lose, hand_on, take_out, birth}
 
 -- the shared word counts one reference in its third bit
@@ -117,29 +117,32 @@ module _ (memory : Address → ℕ) (t : ℕ) (running : Bool) (head : ℕ) wher
     OwnerExits : (x found : ℕ) → found ≢ 1
         → Goes (Look x) found found (TakeMark x ∷ []) []
     MarkTakenBack : (x found : ℕ) → found ≡ 1
-        → Goes (TakeMark x) found 0 (MergeSwap x Handed ∷ SharedLoad x Handed ∷ []) []
+        → Goes (TakeMark x) found 0 (MergeSwap x Handed ∷ []) []
     -- the owner's exit was faster
     MarkGone : (x found : ℕ) → found ≢ 1
         → Goes (TakeMark x) found 0 [] []
     MarkClaimed : (x found : ℕ) → found ≡ 1
-        → Goes (ClaimMark x) found 0 (MergeSwap x Handed ∷ SharedLoad x Handed ∷ Settle ∷ []) []
+        → Goes (ClaimMark x) found 0 (MergeSwap x Handed ∷ Settle ∷ []) []
     NothingToClaim : (x found : ℕ) → found ≢ 1
         → Goes (ClaimMark x) found 0 (Settle ∷ []) []
     -- ---- a merge: the local count goes over into the shared word, and nobody owns the object any more
 
-    -- it is merged already
+    -- it is merged already: what it was to be merged for comes next
     NobodysCount : (x : ℕ) (reason : Reason) (found : ℕ) → found ≡ 0
-        → Goes (MergeSwap x reason) found 0 [] []
+        → Goes (MergeSwap x reason) found 0 (once_merged x reason) []
     LocalTakenOut : (x : ℕ) (reason : Reason) (found : ℕ) → found ≢ 0
-        → Goes (MergeSwap x reason) found 0 (MergeLoad x (local_part found) ∷ []) []
-    MergeRead : (x carried found : ℕ)
-        → Goes (MergeLoad x carried) found found (MergeExchange x carried found ∷ []) []
+        → Goes (MergeSwap x reason) found 0 (MergeLoad x (local_part found) reason ∷ []) []
+    MergeRead : (x carried : ℕ) (reason : Reason) (found : ℕ)
+        → Goes (MergeLoad x carried reason) found found (MergeExchange x carried found reason ∷ []) []
     Merges : (x carried word : ℕ) → merged_word word carried ≢ dead_word
-        → Goes (MergeExchange x carried word) word (merged_word word carried) [] []
+        → Goes (MergeExchange x carried word Own) word (merged_word word carried) [] []
     MergesToZero : (x carried word : ℕ) → merged_word word carried ≡ dead_word
-        → Goes (MergeExchange x carried word) word (merged_word word carried) (Die x ∷ []) []
-    MergeLost : (x carried word found : ℕ) → found ≢ word
-        → Goes (MergeExchange x carried word) found found (MergeLoad x carried ∷ []) []
+        → Goes (MergeExchange x carried word Own) word (merged_word word carried) (Die x ∷ []) []
+    -- the handed reference is still counted: it is given up next
+    MergesForHanded : (x carried word : ℕ)
+        → Goes (MergeExchange x carried word Handed) word (merged_word word carried) (SharedLoad x Handed ∷ []) []
+    MergeLost : (x carried word : ℕ) (reason : Reason) (found : ℕ) → found ≢ word
+        → Goes (MergeExchange x carried word reason) found found (MergeLoad x carried reason ∷ []) []
     -- ---- deallocation
 
     -- the dying object becomes the head of its thread's chain
@@ -168,8 +171,7 @@ module _ (memory : Address → ℕ) (t : ℕ) (running : Bool) (head : ℕ) wher
     SaysLeaving : (first rows found : ℕ)
         → Goes (Leave first rows) found 2 (Scan first rows ∷ Finish ∷ []) []
     ScanFindsMark : (x rows found : ℕ) → found ≡ 1
-        → Goes (Scan x rows) found 0
-        (MergeSwap x Handed ∷ SharedLoad x Handed ∷ Settle ∷ Scan (x + 1) (rows - 1) ∷ []) []
+        → Goes (Scan x rows) found 0 (MergeSwap x Handed ∷ Settle ∷ Scan (x + 1) (rows - 1) ∷ []) []
     ScanFindsNone : (x rows found : ℕ) → found ≢ 1
         → Goes (Scan x rows) found 0 (Settle ∷ Scan (x + 1) (rows - 1) ∷ []) []
     SaysGone : (found : ℕ)

@@ -36,7 +36,7 @@ Suits t running n (RetainAdd x h) found = IsShared found × (biased_part found +
 Suits t running n (ReleaseLoad x h) found = running ≡ true → owner_part found ≡ t + 1 → 1 ≤ local_part found
 Suits t running n (ReleaseStore x w) found = 1 ≤ local_part w
 Suits t running n (SharedExchange x r w) found = found ≡ w → IsShared w × (1 ≤ biased_part w)
-Suits t running n (MergeExchange x c w) found =
+Suits t running n (MergeExchange x c w r) found =
     (c < 4294967296) × (found ≡ w → IsShared w × (biased_part w + c < 2 * bias))
 Suits t running n (SettleCell x i k) found = found ≤ n
 Suits t running n _ found = Unit {0}

@@ -11,7 +11,7 @@ pub enum Holding {
     InHand,
 }
 
-/// Whose reference a release by the shared word gives up.
+/// Whose reference a release by the shared word gives up, and for whose release a merge is made.
 #[derive(Clone, Copy, Debug)]
 pub enum Reason {
     /// The thread's own.
@@ -77,21 +77,24 @@ pub enum Duty {
     TakeMark {
         row: u32,
     },
-    /// The local word is swapped for that of nobody.
+    /// A merge begins: the local word is swapped for that of nobody. The owner merges an object when it gives its last
+    /// local reference up; a thread that claims a mark merges it before it gives the handed reference up.
     MergeSwap {
         row: u32,
         reason: Reason,
     },
-    /// The shared word is looked at, with so many local references to be added.
+    /// The shared word is looked at: the `carried` local references are to be added to it.
     MergeLoad {
         row: u32,
         carried: u32,
+        reason: Reason,
     },
     /// The shared word is exchanged for the merged one, if it is still as it was found.
     MergeExchange {
         row: u32,
         carried: u32,
         word: u64,
+        reason: Reason,
     },
     /// The object dies: it is put in front of the thread's dying chain.
     Die {
