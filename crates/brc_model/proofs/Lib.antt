@@ -62,6 +62,7 @@ pub mod OwnExits
 pub mod Watches
 pub mod Whole
 pub mod Claims
+pub mod Dispatching
 pub mod Actions
 pub mod WholeEvents
 pub mod Safe
