@@ -1,106 +1,123 @@
--- A thread that isn't gone does what its step begins with.
-use Rattle.std.proofs.Common.{◌≡◌, ◌≢◌, ℕ, true, List, [], ◌∷◌, refl, sym, ap, ◌∙◌}
+-- A thread that isn't gone does its action.
+use Rattle.std.proofs.Common.{◌≡◌, ◌≢◌, ℕ, true, List, refl, sym, subst}
 use Rattle.brc_lang.specs.declared.module.Function.{Function}
 use Rattle.brc_model.specs.declared.actor.Status.{Status}
 use Rattle.brc_model.specs.declared.actor.Status.TheVariants.{Running, Leaving, Gone}
 use Rattle.brc_model.specs.declared.address.Address.{Address}
 use Rattle.brc_model.specs.declared.duty.Duty.{Duty}
 use Rattle.brc_model.specs.declared.duty.Duty.TheVariants.{ClaimMark}
-use Rattle.brc_model.specs.Machine as model
-use Rattle.brc_model.specs.Machine.{Actor}
+use Rattle.brc_model.specs.Machine.{Actor, Action, Skip, Stuck, Silent, Does, agenda_action, status_action}
+use Rattle.brc_model.proofs.Dispatching.{TakesStep, agenda_steps}
+use Rattle.brc_world.specs.declared.did.Did.{Did}
 use Rattle.brc_world.specs.declared.did.Did.TheVariants as answers
 use Rattle.brc_world.specs.declared.dispatch.Start.{Start}
-use Rattle.brc_world.specs.declared.dispatch.Start.TheVariants.{Doing}
-use Rattle.brc_world.specs.Actors.{actor_on, begun_of, start_of, started, memory_done, actor_done, memory_from, actor_from, memory_by, actor_by, did_from, did_by, CanDo, CanStart, finds_mark, memory_claimed, actor_claimed, did_claim}
+use Rattle.brc_world.specs.declared.dispatch.Start.TheVariants as starts
+use Rattle.brc_world.specs.Actors.{start_by, started, memory_done, actor_done, memory_by, actor_by, did_by, CanDo, CanAct, finds_mark, memory_claimed, actor_claimed, did_claim}
 
--- ---- what a step begins with leaves the thread's head, status and rows
+-- the answer, the words and the thread are those after the action
+pub record IsStep (rows t : ℕ) (memory : Address → ℕ) (a : Actor) (x : Action) (did : Did) (words : Address → ℕ)
+    (b : Actor) : Type 0 where
+  pub answer : did ≡ did_by x
+  pub memory_is : words ≡ memory_by rows t memory a x
+  pub actor : b ≡ actor_by rows t memory a x
 
-head_begun : (a : Actor) (b : model.Begun) → (actor_on a [] b).head ≡ a.head
-head_begun a model.Stuck = refl
-head_begun a (model.Quiet moves place) = refl
-head_begun a (model.Work [] place) = refl
-head_begun a (model.Work (d ∷ rest) place) = refl
+-- ---- by what the step starts with
 
-pub head_on : (a : Actor) (agenda : List Duty) (b : model.Begun) → (actor_on a agenda b).head ≡ a.head
-head_on a [] b = head_begun a b
-head_on a (d ∷ rest) b = refl
+stuck_by : (rows t : ℕ) (memory : Address → ℕ) (a : Actor) (x : Action) → TakesStep x → starts.Stuck ≡ start_by x
+    → IsStep rows t memory a x answers.Same memory (started a x)
+stuck_by rows t memory a Skip steps e = absurd steps
+stuck_by rows t memory a Stuck steps e = record { answer = refl; memory_is = refl; actor = refl }
+stuck_by rows t memory a (Silent moves place) steps e = absurd cc
+stuck_by rows t memory a (Does d rest place) steps e = absurd cc
 
-status_begun : (a : Actor) (b : model.Begun) → (actor_on a [] b).status ≡ a.status
-status_begun a model.Stuck = refl
-status_begun a (model.Quiet moves place) = refl
-status_begun a (model.Work [] place) = refl
-status_begun a (model.Work (d ∷ rest) place) = refl
+moved_by : (rows t : ℕ) (memory : Address → ℕ) (a : Actor) (x : Action) → starts.Moved ≡ start_by x
+    → IsStep rows t memory a x answers.Moved memory (started a x)
+moved_by rows t memory a Skip e = absurd cc
+moved_by rows t memory a Stuck e = absurd cc
+moved_by rows t memory a (Silent moves place) e = record { answer = refl; memory_is = refl; actor = refl }
+moved_by rows t memory a (Does d rest place) e = absurd cc
 
-pub status_on : (a : Actor) (agenda : List Duty) (b : model.Begun) → (actor_on a agenda b).status ≡ a.status
-status_on a [] b = status_begun a b
-status_on a (d ∷ rest) b = refl
+doing_is : (d e : Duty) → starts.Doing d ≡ starts.Doing e → e ≡ d
+doing_is d e same = cc
 
-used_begun : (a : Actor) (b : model.Begun) → (actor_on a [] b).used ≡ a.used
-used_begun a model.Stuck = refl
-used_begun a (model.Quiet moves place) = refl
-used_begun a (model.Work [] place) = refl
-used_begun a (model.Work (d ∷ rest) place) = refl
+does_by : (rows t : ℕ) (memory : Address → ℕ) (a : Actor) (x : Action) (d : Duty) → starts.Doing d ≡ start_by x
+    → IsStep rows t memory a x answers.Moved (memory_done rows t memory (started a x) d)
+    (actor_done rows t memory (started a x) d)
+does_by rows t memory a Skip d e = absurd cc
+does_by rows t memory a Stuck d e = absurd cc
+does_by rows t memory a (Silent moves place) d e = absurd cc
+does_by rows t memory a (Does c rest place) d e =
+    let b = started a (Does c rest place) in
+    subst (λ (f : Duty). IsStep rows t memory a (Does c rest place) answers.Moved (memory_done rows t memory b f)
+    (actor_done rows t memory b f)) (doing_is d c e) (record { answer = refl; memory_is = refl; actor = refl })
 
-pub used_on : (a : Actor) (agenda : List Duty) (b : model.Begun) → (actor_on a agenda b).used ≡ a.used
-used_on a [] b = used_begun a b
-used_on a (d ∷ rest) b = refl
+can_by : (rows t n threads : ℕ) (memory : Address → ℕ) (a : Actor) (x : Action) (d : Duty) → starts.Doing d ≡ start_by x
+    → CanAct rows t n threads memory a x → CanDo rows t n threads memory (started a x) d
+can_by rows t n threads memory a Skip d e can = absurd cc
+can_by rows t n threads memory a Stuck d e can = absurd cc
+can_by rows t n threads memory a (Silent moves place) d e can = absurd cc
+can_by rows t n threads memory a (Does c rest place) d e can =
+    subst (CanDo rows t n threads memory (started a (Does c rest place))) (doing_is d c e)
+    (record { there = can.there; suits = can.suits; uses = can.uses })
 
 -- ---- a thread that isn't gone
 
-memory_goes : (functions : List Function) (rows t : ℕ) (memory : Address → ℕ) (a : Actor) (s : Status) → s ≢ Gone
-    → memory_by functions rows t memory a s
-    ≡ memory_from rows t memory (started functions rows t a) (start_of functions rows t a)
-memory_goes functions rows t memory a Running alive = refl
-memory_goes functions rows t memory a Leaving alive = refl
-memory_goes functions rows t memory a Gone alive = absurd (alive refl)
+alive_action : (functions : List Function) (rows t : ℕ) (a : Actor) (s : Status) → s ≢ Gone
+    → agenda_action functions rows t a a.agenda ≡ status_action functions rows t a s
+alive_action functions rows t a Running alive = refl
+alive_action functions rows t a Leaving alive = refl
+alive_action functions rows t a Gone alive = absurd (alive refl)
 
-actor_goes : (functions : List Function) (rows t : ℕ) (memory : Address → ℕ) (a : Actor) (s : Status) → s ≢ Gone
-    → actor_by functions rows t memory a s
-    ≡ actor_from rows t memory (started functions rows t a) (start_of functions rows t a)
-actor_goes functions rows t memory a Running alive = refl
-actor_goes functions rows t memory a Leaving alive = refl
-actor_goes functions rows t memory a Gone alive = absurd (alive refl)
-
-did_goes : (functions : List Function) (rows t : ℕ) (a : Actor) (s : Status) → s ≢ Gone
-    → did_by functions rows t a s ≡ did_from (start_of functions rows t a)
-did_goes functions rows t a Running alive = refl
-did_goes functions rows t a Leaving alive = refl
-did_goes functions rows t a Gone alive = absurd (alive refl)
-
--- the step begins so, and the thread is then so
-pub record Begins (functions : List Function) (rows t : ℕ) (a b : Actor) (start : Start) : Type 0 where
+-- its step has started with its action, and the thread is then so
+pub record HasStarted (functions : List Function) (rows t : ℕ) (a b : Actor) (start : Start) : Type 0 where
   pub alive : a.status ≢ Gone
-  pub starts : start ≡ start_of functions rows t a
-  pub actor : b ≡ started functions rows t a
+  pub starts : start ≡ start_by (agenda_action functions rows t a a.agenda)
+  pub actor : b ≡ started a (agenda_action functions rows t a a.agenda)
 
-pub did_is : (functions : List Function) (rows t : ℕ) (a b : Actor) (start : Start) → Begins functions rows t a b start
-    → did_from start ≡ did_by functions rows t a a.status
-did_is functions rows t a b start begins =
-    ap did_from begins.starts ∙ sym (did_goes functions rows t a a.status begins.alive)
+abbrev StepsTo : List Function → ℕ → ℕ → (Address → ℕ) → Actor → Did → (Address → ℕ) → Actor → Type 0
+StepsTo functions rows t memory a did words b =
+    IsStep rows t memory a (status_action functions rows t a a.status) did words b
 
-pub words_are : (functions : List Function) (rows t : ℕ) (memory : Address → ℕ) (a b : Actor) (start : Start)
-    → Begins functions rows t a b start
-    → memory_from rows t memory b start ≡ memory_by functions rows t memory a a.status
-words_are functions rows t memory a b start begins =
-    rw (begins.actor, begins.starts) (sym (memory_goes functions rows t memory a a.status begins.alive))
+of_status : (functions : List Function) (rows t : ℕ) (memory : Address → ℕ) (a : Actor) (did : Did)
+    (words : Address → ℕ) (b : Actor)
+    → a.status ≢ Gone → IsStep rows t memory a (agenda_action functions rows t a a.agenda) did words b
+    → StepsTo functions rows t memory a did words b
+of_status functions rows t memory a did words b alive step =
+    subst (λ (x : Action). IsStep rows t memory a x did words b) (alive_action functions rows t a a.status alive) step
 
-pub actor_is : (functions : List Function) (rows t : ℕ) (memory : Address → ℕ) (a b : Actor) (start : Start)
-    → Begins functions rows t a b start → actor_from rows t memory b start ≡ actor_by functions rows t memory a a.status
-actor_is functions rows t memory a b start begins =
-    rw (begins.actor, begins.starts) (sym (actor_goes functions rows t memory a a.status begins.alive))
+pub stuck_step : (functions : List Function) (rows t : ℕ) (memory : Address → ℕ) (a b : Actor)
+    → HasStarted functions rows t a b starts.Stuck → StepsTo functions rows t memory a answers.Same memory b
+stuck_step functions rows t memory a b begun =
+    of_status functions rows t memory a answers.Same memory b begun.alive
+    (subst (IsStep rows t memory a (agenda_action functions rows t a a.agenda) answers.Same memory) (sym begun.actor)
+    (stuck_by rows t memory a (agenda_action functions rows t a a.agenda) (agenda_steps functions rows t a a.agenda)
+    begun.starts))
+
+pub moved_step : (functions : List Function) (rows t : ℕ) (memory : Address → ℕ) (a b : Actor)
+    → HasStarted functions rows t a b starts.Moved → StepsTo functions rows t memory a answers.Moved memory b
+moved_step functions rows t memory a b begun =
+    of_status functions rows t memory a answers.Moved memory b begun.alive
+    (subst (IsStep rows t memory a (agenda_action functions rows t a a.agenda) answers.Moved memory) (sym begun.actor)
+    (moved_by rows t memory a (agenda_action functions rows t a a.agenda) begun.starts))
+
+pub does_step : (functions : List Function) (rows t : ℕ) (memory : Address → ℕ) (a b : Actor) (d : Duty)
+    → HasStarted functions rows t a b (starts.Doing d)
+    → StepsTo functions rows t memory a answers.Moved (memory_done rows t memory b d) (actor_done rows t memory b d)
+does_step functions rows t memory a b d begun =
+    of_status functions rows t memory a answers.Moved (memory_done rows t memory b d) (actor_done rows t memory b d)
+    begun.alive
+    (subst (λ (c : Actor). IsStep rows t memory a (agenda_action functions rows t a a.agenda) answers.Moved
+    (memory_done rows t memory c d) (actor_done rows t memory c d)) (sym begun.actor)
+    (does_by rows t memory a (agenda_action functions rows t a a.agenda) d begun.starts))
 
 pub can_do : (functions : List Function) (rows t n threads : ℕ) (memory : Address → ℕ) (a b : Actor) (d : Duty)
-    → Begins functions rows t a b (Doing d) → CanStart functions rows t n threads memory a
+    → HasStarted functions rows t a b (starts.Doing d)
+    → CanAct rows t n threads memory a (status_action functions rows t a a.status)
     → CanDo rows t n threads memory b d
-can_do functions rows t n threads memory a b d begins can =
-    let head : b.head ≡ a.head =
-    ap (λ (x : Actor). x.head) begins.actor ∙ head_on a a.agenda (begun_of functions rows t a) in
-    let status : b.status ≡ a.status =
-    ap (λ (x : Actor). x.status) begins.actor ∙ status_on a a.agenda (begun_of functions rows t a) in
-    let used : b.used ≡ a.used =
-    ap (λ (x : Actor). x.used) begins.actor ∙ used_on a a.agenda (begun_of functions rows t a) in
-    let able = can d begins.alive (sym begins.starts) in
-    record { there = rw head able.there; suits = rw (head, status) able.suits; uses = rw used able.uses }
+can_do functions rows t n threads memory a b d begun can =
+    subst (λ (c : Actor). CanDo rows t n threads memory c d) (sym begun.actor)
+    (can_by rows t n threads memory a (agenda_action functions rows t a a.agenda) d begun.starts
+    (subst (CanAct rows t n threads memory a) (sym (alive_action functions rows t a a.status begun.alive)) can))
 
 -- ---- a claim that finds a mark
 

@@ -5,14 +5,12 @@ use Rattle.brc_model.specs.declared.actor.Status.{Status}
 use Rattle.brc_model.specs.declared.actor.Status.TheVariants.{Running, Leaving, Gone}
 use Rattle.brc_model.specs.declared.thread.Choice.TheVariants.{Ok, Claim}
 use Rattle.brc_model.specs.Safety.{has_gone}
-use Rattle.brc_model.specs.Machine.{Actor}
+use Rattle.brc_model.specs.Machine.{Actor, Action, Skip, Stuck, Silent, Does, status_action}
 use Rattle.brc_model.specs.World.{World, step}
 use Rattle.brc_world.specs.declared.did.Did.TheVariants as answers
-use Rattle.brc_world.specs.declared.dispatch.Start.{Start}
-use Rattle.brc_world.specs.declared.dispatch.Start.TheVariants.{Stuck, Moved, Doing}
-use Rattle.brc_world.specs.Actors.{begun_of, start_of, started, did_from, did_by, finds_mark, did_claim}
+use Rattle.brc_world.specs.Actors.{memory_by, actor_by, did_by, finds_mark, did_claim}
 use Rattle.brc_world.specs.Answers.{is_gone, is_gone_at, IsAnswer}
-use Rattle.brc_world.proofs.Stepping.{with_words, unchanged, going_on_by, stuck_stays}
+use Rattle.brc_world.proofs.Stepping.{with_words, unchanged}
 
 gone_is : (w : World) (t : ℕ) (a : Actor) (s : Status) → slice_get w.actors t ≡ Some a → a.status ≡ s
     → is_gone_at w t ≡ has_gone s
@@ -20,28 +18,27 @@ gone_is w t a s found is = ap is_gone found ∙ ap has_gone is
 
 -- ---- going on
 
-start_answers : (w : World) (t : ℕ) (start : Start) → is_gone_at w t ≡ false → step w t Ok ≢ w
-    → (start ≡ Stuck → step w t Ok ≡ w) → IsAnswer w t (step w t Ok) (did_from start)
-start_answers w t Stuck here moves stays = (here, stays refl)
-start_answers w t Moved here moves stays = (here, moves)
-start_answers w t (Doing d) here moves stays = (here, moves)
-
--- a thread that can't go on changes nothing
-stuck_is : (w : World) (t : ℕ) (a : Actor) → slice_get w.actors t ≡ Some a → start_of w.functions w.rows t a ≡ Stuck
-    → with_words w t w.memory (started w.functions w.rows t a) ≡ w
-stuck_is w t a found stuck =
-    ap (with_words w t w.memory) (stuck_stays a a.agenda (begun_of w.functions w.rows t a) stuck)
-    ∙ unchanged w t a found
+action_answers : (w : World) (t : ℕ) (a : Actor) (x : Action) → slice_get w.actors t ≡ Some a
+    → is_gone_at w t ≡ false → step w t Ok ≢ w
+    → step w t Ok ≡ with_words w t (memory_by w.rows t w.memory a x) (actor_by w.rows t w.memory a x)
+    → IsAnswer w t (step w t Ok) (did_by x)
+action_answers w t a Skip found here moves is = absurd (moves (is ∙ unchanged w t a found))
+action_answers w t a Stuck found here moves is = (here, is ∙ unchanged w t a found)
+action_answers w t a (Silent refs place) found here moves is = (here, moves)
+action_answers w t a (Does d rest place) found here moves is = (here, moves)
 
 pub going_answers : (w : World) (t : ℕ) (a : Actor) (s : Status) → slice_get w.actors t ≡ Some a → a.status ≡ s
-    → (s ≢ Gone → step w t Ok ≢ w) → IsAnswer w t (step w t Ok) (did_by w.functions w.rows t a s)
-going_answers w t a Gone found is moves = gone_is w t a Gone found is
-going_answers w t a Running found is moves =
-    start_answers w t (start_of w.functions w.rows t a) (gone_is w t a Running found is) (moves (λ e. cc))
-    (λ stuck. going_on_by w t a Running found is ∙ (rw stuck (stuck_is w t a found stuck)))
-going_answers w t a Leaving found is moves =
-    start_answers w t (start_of w.functions w.rows t a) (gone_is w t a Leaving found is) (moves (λ e. cc))
-    (λ stuck. going_on_by w t a Leaving found is ∙ (rw stuck (stuck_is w t a found stuck)))
+    → (s ≢ Gone → step w t Ok ≢ w)
+    → step w t Ok ≡ with_words w t (memory_by w.rows t w.memory a (status_action w.functions w.rows t a s))
+    (actor_by w.rows t w.memory a (status_action w.functions w.rows t a s))
+    → IsAnswer w t (step w t Ok) (did_by (status_action w.functions w.rows t a s))
+going_answers w t a Gone found at moves is = gone_is w t a Gone found at
+going_answers w t a Running found at moves is =
+    action_answers w t a (status_action w.functions w.rows t a Running) found (gone_is w t a Running found at)
+    (moves (λ e. cc)) is
+going_answers w t a Leaving found at moves is =
+    action_answers w t a (status_action w.functions w.rows t a Leaving) found (gone_is w t a Leaving found at)
+    (moves (λ e. cc)) is
 
 -- ---- claims
 

@@ -1,23 +1,23 @@
 -- Lists of steps, one after another.
-use Rattle.std.proofs.Common.{◌≡◌, ◌≢◌, ℕ, zero, suc, ◌+◌, ◌-◌, ◌<◌, ◌≤◌, true, false, List, [], ◌∷◌, ◌++◌, Option, Some, None, slice_get, replicate, take, drop, length, get_or, refl, sym, ap, subst, ◌∙◌, append_assoc, arith}
+use Rattle.std.proofs.Common.{◌≡◌, ◌≢◌, ℕ, zero, suc, ◌+◌, ◌-◌, ◌<◌, ◌≤◌, true, List, [], ◌∷◌, ◌++◌, Option, Some, None, slice_get, replicate, take, drop, length, get_or, refl, sym, ap, subst, ◌∙◌, append_assoc, arith}
 use Rattle.std.specs.Prelude.{Result, Ok, Err, OnErr}
 use Rattle.std.proofs.Math.Seq.{split_at}
 use Rattle.std.proofs.lemmas.List.{replicate-append-replicate, take_more, take_all, append-nil}
 use Rattle.std.proofs.lemmas.List.Concat.{flat_map-append}
 use Rattle.std.proofs.lemmas.List.Sums.{fold-append}
-use Rattle.brc_model.specs.declared.actor.Place.{Place}
-use Rattle.brc_model.specs.declared.actor.Place.TheVariants.{Standing, Inside, Departing}
 use Rattle.brc_model.specs.declared.actor.Status.{Status}
 use Rattle.brc_model.specs.declared.actor.Status.TheVariants.{Running, Leaving, Gone}
 use Rattle.brc_model.specs.declared.thread.Choice.{Choice}
 use Rattle.brc_model.specs.declared.thread.Choice.TheVariants as choices
 use Rattle.brc_model.specs.Safety.{has_gone}
-use Rattle.brc_model.specs.Machine.{Actor, Machine, chosen, may_claim, next_machine, machine_after}
-use Rattle.brc_model.specs.World.{World, world_of, machine_of, step}
+use Rattle.brc_model.specs.Machine.{Actor, Machine, next_machine, machine_after}
+use Rattle.brc_model.specs.World.{World, world_of, step}
 use Rattle.brc_schedule.specs.declared.schedule.Steps.{Steps}
 use Rattle.brc_world.specs.declared.did.Did.{Did}
 use Rattle.brc_world.specs.declared.did.Did.TheVariants as dids
 use Rattle.brc_world.specs.Answers.{is_gone, is_gone_at, IsAnswer}
+use Rattle.brc_model.proofs.Claims.{gone_claims_none}
+use Rattle.brc_world.proofs.Stepping.{after}
 use Rattle.brc_world.specs.Runs.{world_after, events_of_line, events_of, StandsWithin}
 
 -- the worlds are those of the machines that the safety of a module speaks of
@@ -34,17 +34,10 @@ after_both w made more = fold-append (λ (v : World) (event : ℕ × Choice). st
 
 -- ---- a thread that is gone
 
-gone_claims : (rows t : ℕ) (a : Actor) (row : ℕ) (place : Place) → a.place ≡ place → a.status ≡ Gone
-    → may_claim rows t a row ≡ false
-gone_claims rows t a row (Standing left) at gone = rw (at, gone) refl
-gone_claims rows t a row (Inside left i variables) at gone = rw at refl
-gone_claims rows t a row Departing at gone = rw at refl
-
-gone_chosen : (w : World) (t : ℕ) (choice : Choice) (a : Actor) → a.status ≡ Gone
-    → world_of (chosen (machine_of w) t choice (Some a)) ≡ w
-gone_chosen w t choices.Ok a gone = rw gone refl
-gone_chosen w t choices.Fault a gone = rw gone refl
-gone_chosen w t (choices.Claim row) a gone = rw (gone_claims w.rows t a row a.place refl gone) refl
+gone_acts : (w : World) (t : ℕ) (choice : Choice) (a : Actor) → a.status ≡ Gone → after w t choice (Some a) ≡ w
+gone_acts w t choices.Ok a gone = rw gone refl
+gone_acts w t choices.Fault a gone = rw gone refl
+gone_acts w t (choices.Claim row) a gone = rw (gone_claims_none w.rows t a row gone) refl
 
 status_gone : (s : Status) → has_gone s ≡ true → s ≡ Gone
 status_gone Gone e = refl
@@ -52,9 +45,9 @@ status_gone Running e = absurd cc
 status_gone Leaving e = absurd cc
 
 gone_among : (w : World) (t : ℕ) (choice : Choice) (o : Option Actor) → is_gone o ≡ true
-    → world_of (chosen (machine_of w) t choice o) ≡ w
+    → after w t choice o ≡ w
 gone_among w t choice None e = refl
-gone_among w t choice (Some a) e = gone_chosen w t choice a (status_gone a.status e)
+gone_among w t choice (Some a) e = gone_acts w t choice a (status_gone a.status e)
 
 gone_step : (w : World) (t : ℕ) (choice : Choice) → is_gone_at w t ≡ true → step w t choice ≡ w
 gone_step w t choice e = gone_among w t choice (slice_get w.actors t) e

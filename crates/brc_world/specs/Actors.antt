@@ -1,7 +1,5 @@
--- The threads as the model has them, and what each thread's step begins with: the first duty of its agenda, or what its
--- next instruction or its exit asks for.
-use Rattle.std.specs.Prelude.{◌≡◌, ◌≢◌, ℕ, ◌≤◌, Bool, true, false, ◌==◌, ◌&&◌, not, if◌then◌else◌, List, [], ◌∷◌, reverse, Option, slice_get}
-use Rattle.brc_lang.specs.declared.module.Function.{Function}
+-- The threads as the model has them, and what a step does to its thread and to the words, by the thread's action.
+use Rattle.std.specs.Prelude.{◌≡◌, ℕ, ◌≤◌, Bool, true, false, ◌==◌, ◌&&◌, not, if◌then◌else◌, List, [], ◌∷◌, reverse, Option}
 use Rattle.brc_model.specs.declared.actor.Status.{Status}
 use Rattle.brc_model.specs.declared.actor.Status.TheVariants.{Running, Leaving, Gone}
 use Rattle.brc_model.specs.declared.address.Address.{Address}
@@ -12,11 +10,10 @@ use Rattle.brc_model.specs.declared.duty.Holding.TheVariants.{AsCaller}
 use Rattle.brc_model.specs.declared.actor.Place.{Place}
 use Rattle.brc_model.specs.declared.actor.Place.TheVariants.{Standing, Inside, Departing}
 use Rattle.brc_model.specs.Plain.{root_row}
-use Rattle.brc_model.specs.Threads.{code_of}
 use Rattle.brc_model.specs.Duties.{address_of, left_by}
 use Rattle.brc_model.specs.Within.{IsThere, Suits}
 use Rattle.brc_model.specs.Machine as model
-use Rattle.brc_model.specs.Machine.{Actor, at_place}
+use Rattle.brc_model.specs.Machine.{Actor, Action, Skip, Stuck, Silent, Does, at_place}
 use Rattle.brc_world.specs.declared.did.Did.{Did}
 use Rattle.brc_world.specs.declared.did.Did.TheVariants as answers
 use Rattle.brc_world.specs.declared.dispatch.Start.{Start}
@@ -47,30 +44,22 @@ with_agenda a agenda =
     record { function = a.function; place = a.place; status = a.status; agenda = agenda; head = a.head; used = a.used }
 
 -- the exit: a thread with no call left gives up its reference to the root, settles, and leaves
-abbrev pub exit_begun : ℕ → ℕ → ℕ → model.Begun
-exit_begun rows t used =
-    model.Work (ReleaseLoad root_row AsCaller ∷ Settle ∷ Leave (model.first_row rows t) used ∷ []) Departing
+abbrev pub exit_action : ℕ → ℕ → ℕ → Action
+exit_action rows t used = Does (ReleaseLoad root_row AsCaller) (Settle ∷ Leave (model.first_row rows t) used ∷ []) Departing
 
-abbrev pub start_begun : model.Begun → Start
-start_begun model.Stuck = starts.Stuck
-start_begun (model.Quiet moves place) = starts.Moved
-start_begun (model.Work [] place) = starts.Stuck
-start_begun (model.Work (d ∷ rest) place) = starts.Doing d
+-- Returns what a step with the action starts with.
+abbrev pub start_by : Action → Start
+start_by Skip = starts.Stuck
+start_by Stuck = starts.Stuck
+start_by (Silent moves place) = starts.Moved
+start_by (Does d rest place) = starts.Doing d
 
-abbrev pub actor_begun : Actor → model.Begun → Actor
-actor_begun a model.Stuck = a
-actor_begun a (model.Quiet moves place) = at_place a place
-actor_begun a (model.Work [] place) = a
-actor_begun a (model.Work (d ∷ rest) place) = with_agenda (at_place a place) rest
-
--- what the step begins with, and the thread then
-abbrev pub start_on : List Duty → model.Begun → Start
-start_on [] b = start_begun b
-start_on (d ∷ rest) b = starts.Doing d
-
-abbrev pub actor_on : Actor → List Duty → model.Begun → Actor
-actor_on a [] b = actor_begun a b
-actor_on a (d ∷ rest) b = with_agenda a rest
+-- Returns the thread once its step has started: the duty that it does has left its agenda.
+abbrev pub started : Actor → Action → Actor
+started a Skip = a
+started a Stuck = a
+started a (Silent moves place) = at_place a place
+started a (Does d rest place) = with_agenda (at_place a place) rest
 
 -- what needs no step: a chain that is empty, and marks of no rows
 abbrev pub is_idle : ℕ → Duty → Bool
@@ -79,15 +68,6 @@ is_idle head (Scan x n) = n == 0
 is_idle head _ = false
 
 -- ---- a step of one thread, as it changes the words and the thread
-
-abbrev pub begun_of : List Function → ℕ → ℕ → Actor → model.Begun
-begun_of functions rows t a = model.begun rows t a.used (code_of (slice_get functions a.function)) a.place
-
-abbrev pub start_of : List Function → ℕ → ℕ → Actor → Start
-start_of functions rows t a = start_on a.agenda (begun_of functions rows t a)
-
-abbrev pub started : List Function → ℕ → ℕ → Actor → Actor
-started functions rows t a = actor_on a a.agenda (begun_of functions rows t a)
 
 abbrev pub found_by : ℕ → ℕ → (Address → ℕ) → Actor → Duty → ℕ
 found_by rows t memory a d = memory (address_of rows t a.head d)
@@ -100,40 +80,26 @@ memory_done rows t memory a d =
 abbrev pub actor_done : ℕ → ℕ → (Address → ℕ) → Actor → Duty → Actor
 actor_done rows t memory a d = model.actor_by t a d a.agenda (found_by rows t memory a d)
 
-abbrev pub memory_from : ℕ → ℕ → (Address → ℕ) → Actor → Start → Address → ℕ
-memory_from rows t memory a starts.Stuck = memory
-memory_from rows t memory a starts.Moved = memory
-memory_from rows t memory a (starts.Doing d) = memory_done rows t memory a d
+-- Returns the words after the thread's action.
+abbrev pub memory_by : ℕ → ℕ → (Address → ℕ) → Actor → Action → Address → ℕ
+memory_by rows t memory a Skip = memory
+memory_by rows t memory a Stuck = memory
+memory_by rows t memory a (Silent moves place) = memory
+memory_by rows t memory a (Does d rest place) = memory_done rows t memory a d
 
-abbrev pub actor_from : ℕ → ℕ → (Address → ℕ) → Actor → Start → Actor
-actor_from rows t memory a starts.Stuck = a
-actor_from rows t memory a starts.Moved = a
-actor_from rows t memory a (starts.Doing d) = actor_done rows t memory a d
+-- Returns the thread after its action.
+abbrev pub actor_by : ℕ → ℕ → (Address → ℕ) → Actor → Action → Actor
+actor_by rows t memory a Skip = a
+actor_by rows t memory a Stuck = a
+actor_by rows t memory a (Silent moves place) = at_place a place
+actor_by rows t memory a (Does d rest place) = actor_done rows t memory (with_agenda (at_place a place) rest) d
 
-abbrev pub memory_by : List Function → ℕ → ℕ → (Address → ℕ) → Actor → Status → Address → ℕ
-memory_by functions rows t memory a Gone = memory
-memory_by functions rows t memory a Running =
-    memory_from rows t memory (started functions rows t a) (start_of functions rows t a)
-memory_by functions rows t memory a Leaving =
-    memory_from rows t memory (started functions rows t a) (start_of functions rows t a)
-
-abbrev pub actor_by : List Function → ℕ → ℕ → (Address → ℕ) → Actor → Status → Actor
-actor_by functions rows t memory a Gone = a
-actor_by functions rows t memory a Running =
-    actor_from rows t memory (started functions rows t a) (start_of functions rows t a)
-actor_by functions rows t memory a Leaving =
-    actor_from rows t memory (started functions rows t a) (start_of functions rows t a)
-
--- the step's answer
-abbrev pub did_from : Start → Did
-did_from starts.Stuck = answers.Same
-did_from starts.Moved = answers.Moved
-did_from (starts.Doing d) = answers.Moved
-
-abbrev pub did_by : List Function → ℕ → ℕ → Actor → Status → Did
-did_by functions rows t a Gone = answers.Gone
-did_by functions rows t a Running = did_from (start_of functions rows t a)
-did_by functions rows t a Leaving = did_from (start_of functions rows t a)
+-- Returns the answer of a step with the action.
+abbrev pub did_by : Action → Did
+did_by Skip = answers.Gone
+did_by Stuck = answers.Same
+did_by (Silent moves place) = answers.Moved
+did_by (Does d rest place) = answers.Moved
 
 -- the duty can be done: its word is there, among so many rows and threads, and suits it; and the thread uses no more
 -- rows
@@ -142,10 +108,12 @@ pub record CanDo (rows t n threads : ℕ) (memory : Address → ℕ) (a : Actor)
   pub suits : Suits t (model.is_running a.status) n d (found_by rows t memory a d)
   pub uses : model.used_by a.used d ≤ n
 
--- the duty that the step begins with can be done
-abbrev pub CanStart : List Function → ℕ → ℕ → ℕ → ℕ → (Address → ℕ) → Actor → Type 0
-CanStart functions rows t n threads memory a =
-    (d : Duty) → a.status ≢ Gone → start_of functions rows t a ≡ starts.Doing d → CanDo rows t n threads memory a d
+-- the duty that the thread does can be done
+abbrev pub CanAct : ℕ → ℕ → ℕ → ℕ → (Address → ℕ) → Actor → Action → Type 0
+CanAct rows t n threads memory a Skip = Unit {0}
+CanAct rows t n threads memory a Stuck = Unit {0}
+CanAct rows t n threads memory a (Silent moves place) = Unit {0}
+CanAct rows t n threads memory a (Does d rest place) = CanDo rows t n threads memory a d
 
 -- ---- a claim
 

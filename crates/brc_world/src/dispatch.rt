@@ -5,9 +5,8 @@ ghost use Rattle.std.specs.Prelude.{[], ◌∷◌, reverse, vec_len, vec_capacit
 ghost use Rattle.brc_model.specs.declared.duty.Duty.TheVariants.{ReleaseLoad, Settle};
 ghost use Rattle.brc_model.specs.declared.duty.Holding.TheVariants.{ByVariable};
 ghost use Rattle.brc_model.specs.Threads.{code_of, entry_variables};
-ghost use Rattle.brc_model.specs.Machine.{begun, begun_instruction, first_row, has_room, next_row};
-ghost use Rattle.brc_world.specs.Actors.{actor_of, with_agenda, begun_of, start_on, actor_on};
-ghost use Rattle.brc_world.specs.Actors.{exit_begun, start_begun, actor_begun};
+ghost use Rattle.brc_model.specs.Machine.{agenda_action, dispatch_instruction, first_row, has_room, next_row};
+ghost use Rattle.brc_world.specs.Actors.{actor_of, with_agenda, exit_action, start_by, started};
 
 use crate::states::NUM;
 use crate::thread::{Stage, Thread, Variables};
@@ -36,11 +35,10 @@ const ROOT: u32 = 1;
 #[inline(always)]
 pub fn first_duty(functions: &[Function], rows: u16, number: u8, thread: &mut Thread) -> Start
     requires room { vec_len thread.old.agenda + 8 ≤ vec_capacity thread.old.agenda }
-    ensures starts { result ≡ start_on (reverse thread.old.agenda.items) (begun rows number thread.old.used
-        (code_of (slice_get functions.now thread.old.function)) (actor_of thread.old).place) }
-    ensures actor { actor_of thread.new ≡ actor_on (actor_of thread.old) (reverse thread.old.agenda.items)
-        (begun rows number thread.old.used (code_of (slice_get functions.now thread.old.function))
-        (actor_of thread.old).place) }
+    ensures starts { result ≡ start_by (agenda_action functions.now rows number (actor_of thread.old)
+        (reverse thread.old.agenda.items)) }
+    ensures actor { actor_of thread.new ≡ started (actor_of thread.old) (agenda_action functions.now rows number
+        (actor_of thread.old) (reverse thread.old.agenda.items)) }
     ensures room { vec_len thread.new.agenda + 4 ≤ vec_capacity thread.new.agenda }
 {
     match thread.agenda.pop() {
@@ -55,9 +53,9 @@ pub fn first_duty(functions: &[Function], rows: u16, number: u8, thread: &mut Th
 fn dispatch(functions: &[Function], rows: u16, number: u8, thread: &mut Thread) -> Start
     requires empty { thread.old.agenda.items ≡ [] }
     requires room { 8 ≤ vec_capacity thread.old.agenda }
-    ensures starts { result ≡ start_begun (begun_of functions.now rows number (actor_of thread.old)) }
-    ensures actor { actor_of thread.new ≡ actor_begun (actor_of thread.old)
-        (begun_of functions.now rows number (actor_of thread.old)) }
+    ensures starts { result ≡ start_by (agenda_action functions.now rows number (actor_of thread.old) []) }
+    ensures actor { actor_of thread.new ≡ started (actor_of thread.old)
+        (agenda_action functions.now rows number (actor_of thread.old) []) }
     ensures room { vec_len thread.new.agenda + 4 ≤ vec_capacity thread.new.agenda }
 {
     match thread.stage {
@@ -82,8 +80,8 @@ fn dispatch(functions: &[Function], rows: u16, number: u8, thread: &mut Thread) 
 fn exit(rows: u16, number: u8, thread: &mut Thread) -> Start
     requires empty { thread.old.agenda.items ≡ [] }
     requires room { 8 ≤ vec_capacity thread.old.agenda }
-    ensures starts { result ≡ start_begun (exit_begun rows number thread.old.used) }
-    ensures actor { actor_of thread.new ≡ actor_begun (actor_of thread.old) (exit_begun rows number thread.old.used) }
+    ensures starts { result ≡ start_by (exit_action rows number thread.old.used) }
+    ensures actor { actor_of thread.new ≡ started (actor_of thread.old) (exit_action rows number thread.old.used) }
     ensures room { vec_len thread.new.agenda + 4 ≤ vec_capacity thread.new.agenda }
 {
     thread.stage = Stage::Exiting;
@@ -110,9 +108,9 @@ fn next_instruction(
 ) -> Start
     requires empty { thread.old.agenda.items ≡ [] }
     requires room { 8 ≤ vec_capacity thread.old.agenda }
-    ensures starts { result ≡ start_begun (begun_instruction rows number thread.old.used left thread.old.at
+    ensures starts { result ≡ start_by (dispatch_instruction rows number thread.old.used left thread.old.at
         thread.old.variables (slice_get (code_of (slice_get functions.now thread.old.function)) thread.old.at)) }
-    ensures actor { actor_of thread.new ≡ actor_begun (actor_of thread.old) (begun_instruction rows number
+    ensures actor { actor_of thread.new ≡ started (actor_of thread.old) (dispatch_instruction rows number
         thread.old.used left thread.old.at thread.old.variables
         (slice_get (code_of (slice_get functions.now thread.old.function)) thread.old.at)) }
     ensures room { vec_len thread.new.agenda + 4 ≤ vec_capacity thread.new.agenda }
@@ -168,9 +166,9 @@ fn begin(instr: Instr, rows: u16, number: u8, thread: &mut Thread, left: u32) ->
     requires empty { thread.old.agenda.items ≡ [] }
     requires room { 8 ≤ vec_capacity thread.old.agenda }
     requires next { thread.old.at + 1 < 2 ^ 64 }
-    ensures starts { result ≡ start_begun (begun_instruction rows number thread.old.used left thread.old.at
+    ensures starts { result ≡ start_by (dispatch_instruction rows number thread.old.used left thread.old.at
         thread.old.variables (Some instr)) }
-    ensures actor { actor_of thread.new ≡ actor_begun (actor_of thread.old) (begun_instruction rows number
+    ensures actor { actor_of thread.new ≡ started (actor_of thread.old) (dispatch_instruction rows number
         thread.old.used left thread.old.at thread.old.variables (Some instr)) }
     ensures room { vec_len thread.new.agenda + 4 ≤ vec_capacity thread.new.agenda }
 {

@@ -4,10 +4,10 @@ ghost use Rattle.std.specs.Prelude.{◌≡◌, ◌≢◌, ◌+◌, ◌<◌, ◌�
 ghost use Rattle.std.specs.Prelude.{vec_len, vec_capacity};
 ghost use Rattle.brc_model.specs.declared.actor.Status.TheVariants.{Gone};
 ghost use Rattle.brc_model.specs.Duties.{address_of, left_by};
-ghost use Rattle.brc_model.specs.Machine.{is_running, used_by, may_claim};
+ghost use Rattle.brc_model.specs.Machine.{is_running, used_by, may_claim, status_action};
 ghost use Rattle.brc_model.specs.Within.{IsThere, Suits};
 ghost use Rattle.brc_world.specs.Storage.{word_in, IsStored};
-ghost use Rattle.brc_world.specs.Actors.{actor_of, found_by, actor_done, memory_by, actor_by, did_by, CanStart, finds_mark, memory_claimed, actor_claimed, did_claim, CanClaim};
+ghost use Rattle.brc_world.specs.Actors.{actor_of, found_by, actor_done, memory_by, actor_by, did_by, CanAct, finds_mark, memory_claimed, actor_claimed, did_claim, CanClaim};
 
 use crate::address::address_of;
 use crate::agenda::{pass_over, push};
@@ -90,13 +90,14 @@ pub fn act(
     requires some_rows { 0 < rows }
     requires small { length memory.old.local ≤ 32770 }
     requires known { number ≤ 32 }
-    requires can { CanStart functions.now rows number (length memory.old.local) (length memory.old.thread)
-        (word_in memory.old) (actor_of thread.old) }
-    ensures did { IfOk result (λ did. did ≡ did_by functions.now rows number (actor_of thread.old) thread.old.status) }
-    ensures words { OnOk result (word_in memory.new
-        ≡ memory_by functions.now rows number (word_in memory.old) (actor_of thread.old) thread.old.status) }
-    ensures actor { OnOk result (actor_of thread.new
-        ≡ actor_by functions.now rows number (word_in memory.old) (actor_of thread.old) thread.old.status) }
+    requires can { CanAct rows number (length memory.old.local) (length memory.old.thread) (word_in memory.old)
+        (actor_of thread.old) (status_action functions.now rows number (actor_of thread.old) thread.old.status) }
+    ensures did { IfOk result (λ did. did
+        ≡ did_by (status_action functions.now rows number (actor_of thread.old) thread.old.status)) }
+    ensures words { OnOk result (word_in memory.new ≡ memory_by rows number (word_in memory.old) (actor_of thread.old)
+        (status_action functions.now rows number (actor_of thread.old) thread.old.status)) }
+    ensures actor { OnOk result (actor_of thread.new ≡ actor_by rows number (word_in memory.old) (actor_of thread.old)
+        (status_action functions.now rows number (actor_of thread.old) thread.old.status)) }
     ensures refused { IfErr result (λ _. thread.old.status ≢ Gone) }
     ensures same_words { OnErr result (memory.new ≡ memory.old) }
     ensures same_actor { OnErr result (actor_of thread.new ≡ actor_of thread.old) }

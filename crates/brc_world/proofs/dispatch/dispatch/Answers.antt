@@ -5,16 +5,16 @@ use Rattle.brc_model.specs.declared.actor.Place.TheVariants.{Standing}
 use Rattle.brc_model.specs.Threads.{code_of}
 use Rattle.brc_model.specs.Machine as model
 use Rattle.brc_model.specs.Machine.{Actor}
-use Rattle.brc_world.specs.Actors.{start_begun, actor_begun, place_of}
+use Rattle.brc_world.specs.Actors.{start_by, started, place_of}
 use Rattle.brc_world.proofs.Calling.{standing_begins}
 use Rattle.brc_world.proofs.dispatch.dispatch.Goals as goal
 
--- what the model's thread takes up there
+-- what the model's thread dispatches there
 begins : (c : goal.After-next_instruction-in-Idle)
-    → model.begun_instruction c.args.rows c.args.number c.args.thread.now.used (c.args.thread.now.left - 1) 0
+    → model.dispatch_instruction c.args.rows c.args.number c.args.thread.now.used (c.args.thread.now.left - 1) 0
     c.entry_variables-thread.result
     (slice_get (code_of (slice_get c.args.functions.now c.args.thread.now.function)) 0)
-    ≡ model.begun c.args.rows c.args.number c.args.thread.now.used
+    ≡ model.dispatch c.args.rows c.args.number c.args.thread.now.used
     (code_of (slice_get c.args.functions.now c.args.thread.now.function))
     (place_of c.args.thread.now.stage c.args.thread.now.left c.args.thread.now.at c.args.thread.now.variables)
 begins c =
@@ -24,7 +24,7 @@ begins c =
     c.if-thread-eq0.false)
 
 pub returns-else-thread-eq0-clause-starts : goal.returns-else-thread-eq0-clause-starts
-returns-else-thread-eq0-clause-starts c = c.next_instruction-in-Idle.ensures.starts ∙ ap start_begun (begins c)
+returns-else-thread-eq0-clause-starts c = c.next_instruction-in-Idle.ensures.starts ∙ ap start_by (begins c)
 
 -- the thread before its call
 abbrev idle : (c : goal.After-next_instruction-in-Idle) → Actor
@@ -40,4 +40,4 @@ idle c = record {
 pub returns-else-thread-eq0-clause-actor : goal.returns-else-thread-eq0-clause-actor
 returns-else-thread-eq0-clause-actor c =
     (rw c.in-Idle.is at c.next_instruction-in-Idle.ensures.actor)
-    ∙ (rw c.in-Idle.is (ap (actor_begun (idle c)) (rw c.in-Idle.is at (begins c))))
+    ∙ (rw c.in-Idle.is (ap (started (idle c)) (rw c.in-Idle.is at (begins c))))

@@ -1,6 +1,6 @@
--- What the step begins with is done, and it can be done.
-use Rattle.std.proofs.Common.{◌∙◌}
-use Rattle.brc_world.proofs.Acting.{Begins, did_is, words_are, actor_is, can_do}
+-- The step starts with the thread's action, which can be done.
+use Rattle.std.proofs.Common.{refl, ◌∙◌}
+use Rattle.brc_world.proofs.Acting.{HasStarted, stuck_step, moved_step, does_step, can_do}
 use Rattle.brc_world.specs.declared.dispatch.Start.TheVariants.{Doing}
 use Rattle.brc_world.specs.Storage.{word_in}
 use Rattle.brc_world.specs.Actors.{actor_of}
@@ -8,13 +8,13 @@ use Rattle.brc_world.proofs.doing.act.Goals as goal
 
 pub do_duty-requires : goal.do_duty-requires
 do_duty-requires c =
-    let begins : Begins c.args.functions.now c.args.rows c.args.number (actor_of c.args.thread.now)
+    let has : HasStarted c.args.functions.now c.args.rows c.args.number (actor_of c.args.thread.now)
     (actor_of c.first_duty.new.thread) (Doing c.in-Doing.duty) = record {
       alive = c.in_default.not-Gone;
       starts = rw c.in_ok-reserve.ensures.items at c.in-Doing.ensures.starts;
       actor = rw c.in_ok-reserve.ensures.items at c.in-Doing.ensures.actor;
     } in
-    let can = can_do _ _ _ _ _ (word_in c.args.memory.now) _ _ _ begins c.requires.can in
+    let can = can_do _ _ _ _ _ (word_in c.args.memory.now) _ _ _ has c.requires.can in
     record {
       some_rows = c.requires.some_rows;
       small = c.requires.small;
@@ -27,19 +27,60 @@ do_duty-requires c =
 
 pub returns-in-Doing : goal.returns-in-Doing
 returns-in-Doing c =
-    let begins : Begins c.args.functions.now c.args.rows c.args.number (actor_of c.args.thread.now)
+    let has : HasStarted c.args.functions.now c.args.rows c.args.number (actor_of c.args.thread.now)
     (actor_of c.first_duty.new.thread) (Doing c.in-Doing.duty) = record {
       alive = c.in_default.not-Gone;
       starts = rw c.in_ok-reserve.ensures.items at c.in-Doing.ensures.starts;
       actor = rw c.in_ok-reserve.ensures.items at c.in-Doing.ensures.actor;
     } in
+    let step = does_step _ _ _ (word_in c.args.memory.now) _ _ _ has in
     record {
-      did = did_is _ _ _ _ _ _ begins;
-      words = c.do_duty.ensures.word.words ∙ words_are _ _ _ (word_in c.args.memory.now) _ _ _ begins;
-      actor = c.do_duty.ensures.actor ∙ actor_is _ _ _ (word_in c.args.memory.now) _ _ _ begins;
+      did = step.answer;
+      words = c.do_duty.ensures.word.words ∙ step.memory_is;
+      actor = c.do_duty.ensures.actor ∙ step.actor;
       same_words = tt;
       same_actor = tt;
       refused = tt;
       as_many_rows = c.do_duty.ensures.word.rows;
       as_many_threads = c.do_duty.ensures.word.threads;
+    }
+
+pub returns-in-Stuck : goal.returns-in-Stuck
+returns-in-Stuck c =
+    let step =
+    stuck_step _ _ _ (word_in c.args.memory.now) (actor_of c.args.thread.now) (actor_of c.first_duty.new.thread)
+    (record {
+      alive = c.in_default.not-Gone;
+      starts = rw c.in_ok-reserve.ensures.items at c.in-Stuck.ensures.starts;
+      actor = rw c.in_ok-reserve.ensures.items at c.in-Stuck.ensures.actor;
+    }) in
+    record {
+      did = step.answer;
+      words = step.memory_is;
+      actor = step.actor;
+      same_words = tt;
+      same_actor = tt;
+      refused = tt;
+      as_many_rows = refl;
+      as_many_threads = refl;
+    }
+
+pub returns-in-Moved : goal.returns-in-Moved
+returns-in-Moved c =
+    let step =
+    moved_step _ _ _ (word_in c.args.memory.now) (actor_of c.args.thread.now) (actor_of c.first_duty.new.thread)
+    (record {
+      alive = c.in_default.not-Gone;
+      starts = rw c.in_ok-reserve.ensures.items at c.in-Moved.ensures.starts;
+      actor = rw c.in_ok-reserve.ensures.items at c.in-Moved.ensures.actor;
+    }) in
+    record {
+      did = step.answer;
+      words = step.memory_is;
+      actor = step.actor;
+      same_words = tt;
+      same_actor = tt;
+      refused = tt;
+      as_many_rows = refl;
+      as_many_threads = refl;
     }

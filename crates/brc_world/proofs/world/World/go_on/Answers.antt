@@ -1,11 +1,12 @@
 use Rattle.std.proofs.Common.{refl, sym, arith}
 use Rattle.brc_model.specs.declared.thread.Choice.TheVariants.{Ok}
+use Rattle.brc_model.specs.Machine.{status_action}
 use Rattle.brc_world.specs.Actors.{actor_of, memory_by, actor_by}
 use Rattle.brc_world.specs.Storage.{word_in}
 use Rattle.brc_world.specs.Worlds.{seen}
 use Rattle.brc_world.proofs.Outcomes.{contents, Turned, Outcome, outcome, answered, refusal, thread_at, rows_small}
 use Rattle.brc_world.proofs.Answering.{going_answers}
-use Rattle.brc_world.proofs.Stepping.{going_on, can_start}
+use Rattle.brc_world.proofs.Stepping.{going_on, can_go_on}
 use Rattle.brc_world.proofs.world.World.go_on.Goals as goal
 
 pub overflow_cast-thread : goal.overflow_cast-thread
@@ -38,7 +39,7 @@ act-requires-clause-can c =
     thread_at c.self.inside.accepted.now.functions c.self.inside.rows c.self.inside.memory
     c.self.inside.threads.items c.args.thread c.index_mut.result.now c.index_mut.ensures.value within in
     let steps = c.steps_are_within.ensures _ _ c.args.thread _ c.self.invariant.reachable here in
-    rw (c.as_slice.ensures, c.self.invariant.rows, c.self.invariant.threads) (can_start _ _ _ steps)
+    rw (c.as_slice.ensures, c.self.invariant.rows, c.self.invariant.threads) (can_go_on _ _ _ steps)
 
 -- the world after the step, and where the step's thread stood
 outcome_of : (c : goal.After-self-1)
@@ -53,8 +54,9 @@ outcome_of c =
     let before = c.index_mut.result.now in
     let after = c.act.new.thread in
     let w = seen (contents p.functions rows words threads) in
-    let memory = memory_by p.functions rows t (word_in words) (actor_of before) before.status in
-    let next = actor_by p.functions rows t (word_in words) (actor_of before) before.status in
+    let action = status_action p.functions rows t (actor_of before) before.status in
+    let memory = memory_by rows t (word_in words) (actor_of before) action in
+    let next = actor_by rows t (word_in words) (actor_of before) action in
     let turned : Turned words c.act.new.memory (actor_of before) (actor_of after) c.act.result memory next = record {
       words = rw c.as_slice.ensures at c.act.ensures.words;
       actor = rw c.as_slice.ensures at c.act.ensures.actor;
@@ -93,7 +95,8 @@ returns-clause-answer c =
     rw (sym c.self.view_is) (answered w _ _ t c.act.result _ (outcome_of c).made
     (rw c.as_slice.ensures at c.act.ensures.did)
     (going_answers w t (actor_of before) before.status here refl
-    (λ alive. (c.steps_move.ensures.goes_on p w t (actor_of before) c.self.invariant.reachable here alive).0)))
+    (λ alive. (c.steps_move.ensures.goes_on p w t (actor_of before) c.self.invariant.reachable here alive).0)
+    (going_on w t (actor_of before) here)))
 
 pub returns-clause-refused : goal.returns-clause-refused
 returns-clause-refused c =

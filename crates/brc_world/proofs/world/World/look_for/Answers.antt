@@ -5,7 +5,7 @@ use Rattle.brc_world.specs.Storage.{word_in}
 use Rattle.brc_world.specs.Worlds.{seen}
 use Rattle.brc_world.proofs.Outcomes.{contents, Turned, Outcome, outcome, answered, refusal, thread_at, rows_small}
 use Rattle.brc_world.proofs.Answering.{claim_answers}
-use Rattle.brc_world.proofs.Stepping.{able, claim_is, claim_moves, claim_stays}
+use Rattle.brc_world.proofs.Stepping.{can_claim, claim_is, claim_moves, claim_stays}
 use Rattle.brc_world.proofs.world.World.look_for.Goals as goal
 
 pub overflow_cast-thread : goal.overflow_cast-thread
@@ -38,7 +38,7 @@ claim-requires-clause-can c =
     thread_at c.self.inside.accepted.now.functions c.self.inside.rows c.self.inside.memory
     c.self.inside.threads.items c.args.thread c.index_mut.result.now c.index_mut.ensures.value within in
     let steps = c.steps_are_within.ensures _ _ c.args.thread _ c.self.invariant.reachable here in
-    rw (c.self.invariant.rows, c.self.invariant.threads) (λ may. able _ _ _ _ (steps.claims c.args.row may))
+    rw (c.self.invariant.rows, c.self.invariant.threads) (can_claim _ _ _ c.args.row steps)
 
 -- the world after the step, and where the step's thread stood
 outcome_of : (c : goal.After-self-1)
