@@ -11,7 +11,7 @@ use Rattle.brc_model.specs.Agreement.{has_swapped, is_merging, decides_or_merges
 use Rattle.brc_model.proofs.Bag.{one_if}
 use Rattle.brc_model.proofs.Rows.{decides, merges, weight, Numbers, Phased, IsDefault, IsQueued, Decided, AtZero, AboveZero, Mode, InOwned, InSwapped, InMerged, IsLive, IsDead, RowRule}
 use Rattle.brc_model.proofs.HasDuties.{Weighs, some_weighs, is_listed}
-use Rattle.brc_model.proofs.Deciders.{agenda_decides}
+use Rattle.brc_model.proofs.Deciders.{decider_owns}
 use Rattle.brc_model.proofs.Rule.{Accounts, numbers_of, Rule}
 
 or_first : (a b : Bool) → (a || b) ≡ false → a ≡ false
@@ -126,11 +126,8 @@ owner_decides : (p : Accounts) (n : ℕ) (m : Machine) (x : ℕ) → Rule p n m 
     → OwnerHas m x (decides_or_merges x)
 owner_decides p n m x rule one =
     let it = some_weighs (decides x) m.actors (omega (arith, one)) in
-    let fits = rule.each it.who it.which it.found in
-    elim (agenda_decides p n m it.who x it.which it.which.agenda refl it.which.status refl fits.1 fits.0.head_fits) [
-      | inl none ↦ absurd (omega (arith, it.some, none))
-      | inr owns ↦ (it.who, owns.owner, has_duty m (decides x) (decides_or_merges x) (decides_only x) it)
-    ]
+    let owns = decider_owns p n m it.who x it.which rule it.found it.some in
+    (it.who, owns.owner, has_duty m (decides x) (decides_or_merges x) (decides_only x) it)
 
 default_local : (p : Accounts) (n : ℕ) (m : Machine) (x : ℕ) → Rule p n m
     → LocalSays (block_of m.rows x) (numbers_of m x) → IsCountedLocally m x ⊎ SomeThreadHas m (decides_or_merges x)

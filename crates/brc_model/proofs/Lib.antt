@@ -27,6 +27,7 @@ pub mod Lives
 pub mod Own
 pub mod Neutral
 pub mod OwnCounts
+pub mod Weighing
 pub mod Deciders
 pub mod OwnRetains
 pub mod Agreeing
@@ -46,7 +47,6 @@ pub mod RowsAfterOwn
 pub mod RowsAfterLocal
 pub mod RowsAfterShared
 pub mod RowsAfterMarks
-pub mod RowsAfterDeciders
 pub mod RowsAfterMerge
 pub mod RowsAfter
 pub mod OwnSteps

@@ -8,21 +8,19 @@ use Rattle.brc_word.specs.Words.{phase_part}
 use Rattle.brc_model.specs.declared.duty.Reason.{Reason}
 use Rattle.brc_model.specs.declared.duty.Reason.TheVariants.{Own, Handed}
 use Rattle.brc_model.specs.declared.duty.Duty.{Duty}
-use Rattle.brc_model.specs.declared.duty.Duty.TheVariants.{MergeSwap, MergeLoad, MergeExchange, Settle, Leave, Scan, Finish}
+use Rattle.brc_model.specs.declared.duty.Duty.TheVariants.{MergeSwap, MergeLoad, MergeExchange}
 use Rattle.brc_model.specs.declared.address.Address.TheVariants.{Local, Shared, ThreadWord}
 use Rattle.brc_model.specs.Duties.{block_of}
-use Rattle.brc_model.specs.declared.actor.Status.{Status}
-use Rattle.brc_model.specs.declared.actor.Status.TheVariants.{Running, Leaving, Gone}
-use Rattle.brc_model.specs.declared.actor.Place.{Place}
+use Rattle.brc_model.specs.declared.actor.Status.TheVariants.{Running}
 use Rattle.brc_model.specs.Machine.{Actor, Machine}
 use Rattle.brc_model.proofs.Lists.{some_is}
 use Rattle.brc_model.proofs.Bag.{one_if}
 use Rattle.brc_model.proofs.Rows.{waits, carries, merges, agenda_weight, weight, Phased, IsDefault, IsQueued, InOwned, InSwapped, InMerged}
 use Rattle.brc_model.proofs.HasDuties.{some_weighs}
-use Rattle.brc_model.proofs.Rule.{Accounts, numbers_of, MayCarry, HeadFits, HeadOf, Later, Agenda, AgendaFits, status_word}
+use Rattle.brc_model.proofs.Rule.{Accounts, numbers_of, MayCarry, HeadFits, Rule, status_word}
 use Rattle.brc_model.proofs.Alive.{agenda_in, first_weighs}
 use Rattle.brc_model.proofs.Leaves.{AtDuty, head_of, claim_alive, merge_alive}
-use Rattle.brc_model.proofs.Neutral.{agenda_here}
+use Rattle.brc_model.proofs.Weighing.{IsOfRow, own_weighs, weighing}
 
 -- ---- weights of agendas
 
@@ -42,26 +40,8 @@ two_weigh f (c ∷ rest) (suc t) (suc u) a b ne one two =
 
 -- ---- who merges
 
-later_merges : (rows t used : ℕ) (status : Status) (place : Place) (x : ℕ) (rest : List Duty)
-    → Later rows t used status place rest → sum_by (merges x) rest ≡ 0
-later_merges rows t used status place x [] later = refl
-later_merges rows t used status place x (Settle ∷ rest) later =
-    omega (arith, sum_by-cons (merges x) Settle rest, later_merges rows t used status place x rest later)
-later_merges rows t used status place x (Leave y k ∷ []) later = refl
-later_merges rows t used status place x (Scan y k ∷ rest) later =
-    omega (arith, sum_by-cons (merges x) (Scan y k) rest, later_merges rows t used status place x rest later.3)
-later_merges rows t used status place x (Finish ∷ []) later = refl
-later_merges rows t used status place x _ later = absurd later
-
-rest_merges : (rows t used : ℕ) (status : Status) (place : Place) (x : ℕ) (d : Duty) (rest : List Duty)
-    → Agenda rows t used status place (d ∷ rest) → sum_by (merges x) rest ≡ 0
-rest_merges rows t used status place x Settle rest fits = later_merges rows t used status place x rest fits
-rest_merges rows t used status place x (Leave y k) [] fits = refl
-rest_merges rows t used status place x (Leave y k) (e ∷ rest) fits = absurd fits
-rest_merges rows t used status place x (Scan y k) rest fits = later_merges rows t used status place x rest fits.3
-rest_merges rows t used status place x Finish [] fits = refl
-rest_merges rows t used status place x Finish (e ∷ rest) fits = absurd fits
-rest_merges rows t used status place x _ rest fits = later_merges rows t used status place x rest fits
+merges_of_row : (x : ℕ) → IsOfRow (merges x)
+merges_of_row x = record { settle = refl; leave = λ y n. refl; scan = λ y n. refl; finish = refl }
 
 -- a thread that merges the row: its running owner, or one whose handed reference awaits
 abbrev IsMerger : Machine → ℕ → Actor → ℕ → Type 0
@@ -87,32 +67,14 @@ merger_knows m u x b (MergeLoad y c Handed) rest fits some = inr some
 merger_knows m u x b (MergeExchange y c w Handed) rest fits some = inr some
 merger_knows m u x b _ rest fits some = absurd (omega (arith, some))
 
-first_merges : (m : Machine) (u x : ℕ) (b : Actor) (d : Duty) (rest : List Duty) → b.agenda ≡ d ∷ rest
-    → sum_by (merges x) rest ≡ 0 → HeadFits m u b d rest → 0 < agenda_weight (merges x) b → IsMerger m u b x
-first_merges m u x b d rest is none head some =
-    let whole : agenda_weight (merges x) b ≡ merges x d + sum_by (merges x) rest =
-    ap (sum_by (merges x)) is ∙ sum_by-cons (merges x) d rest in
-    elim (merger_knows m u x b d rest head (omega (arith, whole, none, some))) [
+merger_of : (p : Accounts) (n : ℕ) (m : Machine) (u x : ℕ) (b : Actor) → Rule p n m → slice_get m.actors u ≡ Some b
+    → 0 < agenda_weight (merges x) b → IsMerger m u b x
+merger_of p n m u x b rule found some =
+    let it = weighing p n m u b (merges x) (merges_of_row x) rule found some in
+    elim (merger_knows m u x b it.duty it.rest it.knows it.some) [
       | inl own ↦ inl own
-      | inr waiting ↦
-          let all : agenda_weight (waits x) b ≡ waits x d + sum_by (waits x) rest =
-          ap (sum_by (waits x)) is ∙ sum_by-cons (waits x) d rest in
-          inr (omega (arith, all, waiting))
+      | inr waiting ↦ inr (omega (arith, it.among (waits x), waiting))
     ]
-
-merger_of : (m : Machine) (u x : ℕ) (b : Actor) (agenda : List Duty) → b.agenda ≡ agenda → (status : Status)
-    → AgendaFits m.rows u b status → HeadOf m u b agenda → 0 < agenda_weight (merges x) b → IsMerger m u b x
-merger_of m u x b [] is status fits head some =
-    let none : agenda_weight (merges x) b ≡ 0 = ap (sum_by (merges x)) is in absurd (omega (arith, some, none))
-merger_of m u x b (d ∷ rest) is Gone fits head some = absurd (let wrong : [] ≡ d ∷ rest = sym fits.0 ∙ is in cc)
-merger_of m u x b (d ∷ rest) is Running fits head some =
-    first_merges m u x b d rest is
-    (rest_merges m.rows u b.used Running b.place x d rest
-    (subst (λ (l : List Duty). Agenda m.rows u b.used Running b.place l) is fits)) head some
-merger_of m u x b (d ∷ rest) is Leaving fits head some =
-    first_merges m u x b d rest is
-    (rest_merges m.rows u b.used Leaving b.place x d rest
-    (subst (λ (l : List Duty). Agenda m.rows u b.used Leaving b.place l) is fits)) head some
 
 -- ---- a claimant
 
@@ -141,37 +103,26 @@ claimants_clash p n m t u x a b rest here ne found merger phased =
 
 -- while a thread claims a row, no other is at a merge of it
 claimed_alone : (p : Accounts) (n : ℕ) (m : Machine) (t : ℕ) (a : Actor) (x : ℕ) (rest : List Duty)
-    → AtDuty p n m t a (MergeSwap x Handed) rest → (a.status ≡ Gone → ⊥) → 0 < weight (merges x) m.actors
-    → Phased (numbers_of m x) → ⊥
-claimed_alone p n m t a x rest here alive some phased =
+    → AtDuty p n m t a (MergeSwap x Handed) rest → 0 < weight (merges x) m.actors → Phased (numbers_of m x) → ⊥
+claimed_alone p n m t a x rest here some phased =
     let other = some_weighs (merges x) m.actors some in
-    let whole : agenda_weight (merges x) a ≡ merges x (MergeSwap x Handed) + sum_by (merges x) rest =
-    ap (sum_by (merges x)) here.agenda ∙ sum_by-cons (merges x) (MergeSwap x Handed) rest in
     let none : agenda_weight (merges x) a ≡ 0 =
-    omega (
-      arith,
-      whole,
-      rest_merges m.rows t a.used a.status a.place x (MergeSwap x Handed) rest
-          (agenda_here p n m t a (MergeSwap x Handed) rest here alive),
-    ) in
+    own_weighs p n m t a (MergeSwap x Handed) rest (merges x) here (merges_of_row x) in
     let ne : other.who ≢ t = λ same.
     let which : agenda_weight (merges x) other.which ≡ agenda_weight (merges x) a =
     ap (agenda_weight (merges x)) (some_is other.which a
     (sym other.found ∙ ap (slice_get m.actors) same ∙ here.found)) in
     absurd (omega (arith, other.some, which, none)) in
-    let fits = here.rule.each other.who other.which other.found in
     claimants_clash p n m t other.who x a other.which rest here ne other.found
-    (merger_of m other.who x other.which other.which.agenda refl other.which.status fits.1 fits.0.head_fits
-    other.some) phased
+    (merger_of p n m other.who x other.which here.rule other.found other.some) phased
 
 -- a claimant that finds no owner finds the row merged
 pub swapped_apart : (p : Accounts) (n : ℕ) (m : Machine) (t : ℕ) (a : Actor) (x : ℕ) (rest : List Duty)
-    → AtDuty p n m t a (MergeSwap x Handed) rest → (a.status ≡ Gone → ⊥) → m.memory (Local x) ≡ 0
-    → phase_part (m.memory (Shared x)) ≡ 3
-swapped_apart p n m t a x rest here alive none =
+    → AtDuty p n m t a (MergeSwap x Handed) rest → m.memory (Local x) ≡ 0 → phase_part (m.memory (Shared x)) ≡ 3
+swapped_apart p n m t a x rest here none =
     elim (claim_alive p n m t a x rest here).live.mode [
       | InOwned o ↦ absurd (omega (arith, o.owned, none))
-      | InSwapped s ↦ absurd (claimed_alone p n m t a x rest here alive (omega (arith, s.merging)) s.phased)
+      | InSwapped s ↦ absurd (claimed_alone p n m t a x rest here (omega (arith, s.merging)) s.phased)
       | InMerged s ↦ s.phase
     ]
 

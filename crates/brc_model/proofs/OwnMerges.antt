@@ -132,7 +132,7 @@ own_merge_swap_handed p n m t a x rest here alive =
           (ap (λ (b : Bool). cond b (gives ∷ []) (e ∷ [])) none)
           (held_same m.plain.references t (d ∷ rest) (gives ∷ rest) (λ k o. refl) (λ k o. refl))
           later
-          (λ b status head used. (fits.0, swapped_apart p n m t a x rest here alive (eqb-true found 0 none)))
+          (λ b status head used. (fits.0, swapped_apart p n m t a x rest here (eqb-true found 0 none)))
       | false ↦ λ some.
           own_next p n m t a d e rest here alive refl refl refl
           (ap (λ (b : Bool). cond b (gives ∷ []) (e ∷ [])) some)

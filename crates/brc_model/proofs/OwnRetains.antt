@@ -1,8 +1,7 @@
 -- A thread after its own steps of a retain, and of the owner's release.
 use Rattle.std.proofs.Common.{◌≡◌, ℕ, zero, suc, ◌+◌, ◌<◌, ◌≤◌, Bool, true, false, cond, List, [], ◌∷◌, Some, refl, sym, ap, ◌∙◌, subst, arith}
-use Rattle.std.specs.Prelude.{◌==◌, ◌&&◌, nat_lt, slice_get, sum_by}
+use Rattle.std.specs.Prelude.{◌==◌, ◌&&◌, nat_lt, slice_get}
 use Rattle.std.proofs.lemmas.Bool.{eqb-true, ltb-true}
-use Rattle.std.proofs.lemmas.List.Sums.{sum_by-cons}
 use Rattle.brc_model.specs.declared.duty.Holding.{Holding}
 use Rattle.brc_model.specs.Plain.{Reference, same_holding, moved}
 use Rattle.brc_word.specs.Words.{owner_part, local_part, is_immortal_word}
@@ -24,7 +23,8 @@ use Rattle.brc_model.proofs.Leaves.{AtDuty, head_of}
 use Rattle.brc_model.proofs.Own.{HeldStep}
 use Rattle.brc_model.proofs.Neutral.{OwnFits, found_by, bag_by, agenda_here, own_neutral}
 use Rattle.brc_model.proofs.OwnCounts.{held_same, backed_not_immortal}
-use Rattle.brc_model.proofs.Deciders.{nobody_decides, rest_decides}
+use Rattle.brc_model.proofs.Weighing.{own_weighs}
+use Rattle.brc_model.proofs.Deciders.{decides_of_row, nobody_decides}
 
 abbrev pub is_passed : Duty → Bool
 is_passed Settle = true
@@ -73,11 +73,8 @@ count_above p n m t x a rule found owns mine alive =
     ]
 
 pub weight_here : (p : Accounts) (n : ℕ) (m : Machine) (t x : ℕ) (a : Actor) (d : Duty) (rest : List Duty)
-    → AtDuty p n m t a d rest → (a.status ≡ Gone → ⊥) → decides x d ≡ 0 → agenda_weight (decides x) a ≡ 0
-weight_here p n m t x a d rest here alive none =
-    let whole = sum_by-cons (decides x) d rest in
-    let others = rest_decides m.rows t a.used a.status a.place x d rest (agenda_here p n m t a d rest here alive) in
-    ap (sum_by (decides x)) here.agenda ∙ omega (arith, whole, none, others)
+    → AtDuty p n m t a d rest → decides x d ≡ 0 → agenda_weight (decides x) a ≡ 0
+weight_here p n m t x a d rest here none = own_weighs p n m t a d rest (decides x) here (decides_of_row x) ∙ none
 
 retain_bag : (m : Machine) (t : ℕ) (a : Actor) (x : ℕ) (h : Holding) → is_immortal_word (m.memory (Local x)) ≡ false
     → bag_by m t a (RetainLoad x h) ≡ m.plain.references
@@ -123,7 +120,7 @@ own_retain_counted p n m t a x h rest pos here alive =
           let owns = counts_owner m t a x counts living in
           let some =
           count_above p n m t x a here.rule here.found owns
-          (weight_here p n m t x a (RetainLoad x h) rest here alive refl) living in
+          (weight_here p n m t x a (RetainLoad x h) rest here refl) living in
           let same : new.memory (Local x) ≡ word = written_here m.memory (Local x) word in
           own_neutral p n m t a (RetainLoad x h) rest (RetainStore x h word ∷ []) (RetainStore x h word ∷ rest) here
           alive (record {

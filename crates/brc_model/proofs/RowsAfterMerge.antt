@@ -19,7 +19,8 @@ use Rattle.brc_model.proofs.Rule.{Accounts, numbers_of}
 use Rattle.brc_model.proofs.Weights.{agenda_weight-le, none_carried}
 use Rattle.brc_model.proofs.RowsAfterStep.{Doing, head_fits_of, following, KeepsRow, weighed, row_becomes, row_stays}
 use Rattle.brc_model.proofs.RowsAfterOwn.{own, one_own, written_here, lives_so}
-use Rattle.brc_model.proofs.RowsAfterDeciders.{none_decides}
+use Rattle.brc_model.proofs.Deciders.{none_decides}
+use Rattle.brc_model.proofs.Leaves.{AtDuty}
 
 carried_own : (y c : ℕ) → cond (y == y) c 0 ≡ c
 carried_own y c = ap (λ (b : Bool). cond b c 0) (own y)
@@ -61,8 +62,10 @@ head_awaits {m = m} {t = t} {a = a} {d = d} {rest = rest} y s =
 claims_some : {p : Accounts} {n : ℕ} {m : Machine} {t : ℕ} {a : Actor} {y : ℕ} {rest : List Duty}
     → Doing p n m t a (MergeSwap y Handed) rest
     → (m.memory (Local y) == 0) ≡ false → m.memory (Local y) ≢ 0 → KeepsRow m t a (MergeSwap y Handed) rest y
-claims_some {m = m} {t = t} {a = a} {y = y} {rest = rest} s test found =
+claims_some {p = p} {n = n} {m = m} {t = t} {a = a} {y = y} {rest = rest} s test found =
     let fits = head_fits_of s in
+    let here : AtDuty p n m t a (MergeSwap y Handed) rest =
+    record { rule = s.rule; found = s.actor; agenda = s.agenda } in
     let k = numbers_of m y in
     let c = local_part (m.memory (Local y)) in
     let weights = weighed s (MergeLoad y c Handed ∷ []) (rw test refl) y in
@@ -78,7 +81,7 @@ claims_some {m = m} {t = t} {a = a} {y = y} {rest = rest} s test found =
       carried = omega (arith, weights.carried, carried_own y c);
       merging = omega (arith, weights.merging, one);
       deciding = omega (arith, weights.deciding);
-    }) (swapped_claimed (block_of m.rows y) k lives.rule found (none_decides s fits.1 lives.rule))
+    }) (swapped_claimed (block_of m.rows y) k lives.rule found (none_decides p n m t a y rest here fits.1 lives.rule))
 
 pub row_after_handed_swap : {p : Accounts} {n : ℕ} {m : Machine} {t : ℕ} {a : Actor} {y : ℕ} {rest : List Duty}
     → Doing p n m t a (MergeSwap y Handed) rest → KeepsRow m t a (MergeSwap y Handed) rest y
