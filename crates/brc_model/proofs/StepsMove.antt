@@ -217,7 +217,8 @@ unmarked_stays memory row none =
 none_claimed : (head row found : ℕ) → head ≡ 0 → found ≡ 0
     → ready head ((cond (found == 1) (MergeSwap row Handed ∷ []) [] ++ Settle ∷ []) ++ []) ≡ []
 none_claimed head row found empty none =
-    ap (λ (word : ℕ). ready head ((cond (word == 1) (MergeSwap row Handed ∷ []) [] ++ Settle ∷ []) ++ [])) none ∙ ap (λ (h : ℕ). ready h (Settle ∷ [])) empty
+    ap (λ (word : ℕ). ready head ((cond (word == 1) (MergeSwap row Handed ∷ []) [] ++ Settle ∷ []) ++ [])) none
+    ∙ ap (λ (h : ℕ). ready h (Settle ∷ [])) empty
 
 miss_stays : (w : World) (t : ℕ) (a : Actor) (row : ℕ) → slice_get w.actors t ≡ Some a → a.agenda ≡ [] → a.head ≡ 0
     → w.memory (Mark row) ≡ 0 → world_of (done_by (machine_of w) t a (ClaimMark row) []) ≡ w

@@ -8,7 +8,7 @@ use Rattle.brc_model.specs.Machine.{is_running, status_by, used_by}
 use Rattle.brc_world.specs.declared.effect.Doer.{Doer}
 use Rattle.brc_world.specs.declared.effect.Effect.{Effect}
 use Rattle.brc_world.specs.declared.effect.Next.{Next}
-use Rattle.brc_world.specs.declared.effect.Next.TheVariants.{Nothing, One, Two, Release, Three, Four}
+use Rattle.brc_world.specs.declared.effect.Next.TheVariants.{Nothing, One, Two, Release, Three}
 
 abbrev pub duties_of : Next → List Duty
 duties_of Nothing = []
@@ -16,7 +16,6 @@ duties_of (One a) = a ∷ []
 duties_of (Two a b) = a ∷ b ∷ []
 duties_of (Release x a) = ReleaseLoad x InHand ∷ a ∷ []
 duties_of (Three a b c) = a ∷ b ∷ c ∷ []
-duties_of (Four a b c d) = a ∷ b ∷ c ∷ d ∷ []
 
 -- the row and the cell of a duty that goes on to the next one are there, among n rows in all
 abbrev pub IsNumbered : ℕ → Duty → Type 0

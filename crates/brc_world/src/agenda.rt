@@ -33,12 +33,6 @@ pub fn push(agenda: &mut Vec<Duty>, next: Next)
             agenda.push_reserved(b);
             agenda.push_reserved(a);
         }
-        Next::Four(a, b, c, d) => {
-            agenda.push_reserved(d);
-            agenda.push_reserved(c);
-            agenda.push_reserved(b);
-            agenda.push_reserved(a);
-        }
     }
 }
 

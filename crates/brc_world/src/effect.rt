@@ -25,7 +25,6 @@ pub enum Next {
     /// The reference in the thread's hand is given up first.
     Release { row: u32, then: Duty },
     Three(Duty, Duty, Duty),
-    Four(Duty, Duty, Duty, Duty),
 }
 
 /// What a step does.
@@ -80,11 +79,18 @@ impl Doer {
             Duty::SetMark { row } => self.set_mark(row),
             Duty::Look { row } => self.look(row, found),
             Duty::TakeMark { row } => self.take_mark(row, found),
-            Duty::MergeSwap { row, .. } => self.merge_swap(row, found),
-            Duty::MergeLoad { row, carried } => self.merge_load(row, carried, found),
-            Duty::MergeExchange { row, carried, word } => {
-                self.merge_exchange(row, carried, word, found)
-            }
+            Duty::MergeSwap { row, reason } => self.merge_swap(row, reason, found),
+            Duty::MergeLoad {
+                row,
+                carried,
+                reason,
+            } => self.merge_load(row, carried, reason, found),
+            Duty::MergeExchange {
+                row,
+                carried,
+                word,
+                reason,
+            } => self.merge_exchange(row, carried, word, reason, found),
             Duty::Die { row } => self.die(row),
             Duty::Settle => self.settle(found),
             Duty::SettleKind { row } => self.settle_kind(row, found),

@@ -4,7 +4,7 @@ ghost use Rattle.std.specs.Prelude.{ℕ, ◌<◌};
 ghost use Rattle.brc_model.specs.declared.duty.Duty.TheVariants as duties;
 ghost use Rattle.brc_world.specs.Effects.{IsEffect};
 
-use super::release::{handed_merge, handed_release};
+use super::release::handed_merge;
 use super::{Doer, Effect, Next};
 use crate::states::{GONE, LEAVING, SET};
 use brc_model::{Duty, Status};
@@ -35,11 +35,7 @@ impl Doer {
             rows: rows.saturating_sub(1),
         };
         if found == SET {
-            let merge = handed_merge(row);
-            self.leaves(
-                0,
-                Next::Four(merge, handed_release(row), Duty::Settle, then),
-            )
+            self.leaves(0, Next::Three(handed_merge(row), Duty::Settle, then))
         } else {
             self.leaves(0, Next::Two(Duty::Settle, then))
         }
@@ -62,8 +58,7 @@ impl Doer {
         ensures { IsEffect self (duties.ClaimMark row) found result }
     {
         if found == SET {
-            let merge = handed_merge(row);
-            self.leaves(0, Next::Three(merge, handed_release(row), Duty::Settle))
+            self.leaves(0, Next::Two(handed_merge(row), Duty::Settle))
         } else {
             self.leaves(0, Next::One(Duty::Settle))
         }

@@ -3,34 +3,39 @@
 ghost use Rattle.std.specs.Prelude.{◌≡◌, ◌+◌, ◌*◌, ◌<◌};
 ghost use Rattle.brc_word.specs.Words.{biased_part, bias};
 ghost use Rattle.brc_model.specs.declared.duty.Duty.TheVariants as duties;
-ghost use Rattle.brc_model.specs.declared.duty.Reason.{Reason};
+ghost use Rattle.brc_model.specs.Duties.{once_merged};
 ghost use Rattle.brc_model.specs.Within.{IsShared};
-ghost use Rattle.brc_world.specs.Effects.{IsEffect};
+ghost use Rattle.brc_world.specs.Effects.{duties_of, IsEffect};
 
 use super::{Doer, Effect, Next};
-use brc_model::Duty;
+use brc_model::{Duty, Reason};
 use brc_word::{is_dead, local_count, merged};
 
 impl Doer {
     /// A merge swaps the local word for nobody's, and carries over the local count that it found. In one step, so
     /// that no reference is in both words or is counted after the merge (`merge_swap_keeps_local`). A word that is
-    /// nobody's already has been merged. (PEP 703, Biased Reference Counting: `_Py_ExplicitMergeRefcount`.)
+    /// nobody's already has been merged, and what the merge was made for comes next. (PEP 703, Biased Reference
+    /// Counting: `_Py_ExplicitMergeRefcount`.)
     #[inline(always)]
-    pub(super) fn merge_swap(self, row: u32, found: u64) -> Effect
-        ensures { (reason : Reason) → IsEffect self (duties.MergeSwap row reason) found result }
+    pub(super) fn merge_swap(self, row: u32, reason: Reason, found: u64) -> Effect
+        ensures { IsEffect self (duties.MergeSwap row reason) found result }
     {
         if found == 0 {
-            return self.leaves(0, Next::Nothing);
+            return self.leaves(0, once_merged(row, reason));
         }
-        let carried = local_count(found);
-        self.leaves(0, Next::One(Duty::MergeLoad { row, carried }))
+        let load = Duty::MergeLoad {
+            row,
+            carried: local_count(found),
+            reason,
+        };
+        self.leaves(0, Next::One(load))
     }
 
     /// The carried count is to be added to the shared one, which other threads still change: so it is looked at first
     /// ..
     #[inline(always)]
-    pub(super) fn merge_load(self, row: u32, carried: u32, found: u64) -> Effect
-        ensures { IsEffect self (duties.MergeLoad row carried) found result }
+    pub(super) fn merge_load(self, row: u32, carried: u32, reason: Reason, found: u64) -> Effect
+        ensures { IsEffect self (duties.MergeLoad row carried reason) found result }
     {
         self.leaves(
             found,
@@ -38,27 +43,57 @@ impl Doer {
                 row,
                 carried,
                 word: found,
+                reason,
             }),
         )
     }
 
     /// .. and exchanged if it is still the same; else the merge looks again. Count and state change in one step: from
-    /// then on nobody owns the object, all references are in the shared count (`merge_drops_local`), and at zero it
-    /// dies.
+    /// then on nobody owns the object, and all references are in the shared count (`merge_drops_local`). At zero it
+    /// dies. A claimed mark's reference is still counted, and given up next.
     #[inline(always)]
-    pub(super) fn merge_exchange(self, row: u32, carried: u32, word: u64, found: u64) -> Effect
+    pub(super) fn merge_exchange(
+        self,
+        row: u32,
+        carried: u32,
+        word: u64,
+        reason: Reason,
+        found: u64,
+    ) -> Effect
         requires shared { found ≡ word → IsShared word }
         requires total { found ≡ word → biased_part word + carried < 2 * bias }
-        ensures { IsEffect self (duties.MergeExchange row carried word) found result }
+        ensures { IsEffect self (duties.MergeExchange row carried word reason) found result }
     {
         if found != word {
-            return self.leaves(found, Next::One(Duty::MergeLoad { row, carried }));
+            let load = Duty::MergeLoad {
+                row,
+                carried,
+                reason,
+            };
+            return self.leaves(found, Next::One(load));
         }
         let after = merged(word, carried);
-        if is_dead(after) {
-            self.leaves(after, Next::One(Duty::Die { row }))
-        } else {
-            self.leaves(after, Next::Nothing)
-        }
+        let next = match reason {
+            Reason::Own => {
+                if is_dead(after) {
+                    Next::One(Duty::Die { row })
+                } else {
+                    Next::Nothing
+                }
+            }
+            Reason::Handed => once_merged(row, reason),
+        };
+        self.leaves(after, next)
+    }
+}
+
+/// What the object was merged for: the reference that a claimed mark was queued with is given up.
+#[inline(always)]
+fn once_merged(row: u32, reason: Reason) -> Next
+    ensures { duties_of result ≡ once_merged row reason }
+{
+    match reason {
+        Reason::Own => Next::Nothing,
+        Reason::Handed => Next::One(Duty::SharedLoad { row, reason }),
     }
 }

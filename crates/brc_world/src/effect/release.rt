@@ -142,30 +142,19 @@ impl Doer {
         ensures { IsEffect self (duties.TakeMark row) found result }
     {
         if found == SET {
-            self.leaves(0, Next::Two(handed_merge(row), handed_release(row)))
+            self.leaves(0, Next::One(handed_merge(row)))
         } else {
             self.leaves(0, Next::Nothing)
         }
     }
 }
 
-/// A claimed mark: the object is merged ..
+/// A claimed mark: the object is merged, so that the reference that it was queued with can be given up.
 #[inline(always)]
 pub(super) fn handed_merge(row: u32) -> Duty
     ensures { result ≡ duties.MergeSwap row reasons.Handed }
 {
     Duty::MergeSwap {
-        row,
-        reason: Reason::Handed,
-    }
-}
-
-/// .. and the reference that it was queued with is given up.
-#[inline(always)]
-pub(super) fn handed_release(row: u32) -> Duty
-    ensures { result ≡ duties.SharedLoad row reasons.Handed }
-{
-    Duty::SharedLoad {
         row,
         reason: Reason::Handed,
     }

@@ -16,9 +16,6 @@ returns-in-ReleaseStore c = rw c.in-ReleaseStore.is (c.release_store.ensures _)
 pub returns-in-SetMark : goal.returns-in-SetMark
 returns-in-SetMark c = rw c.in-SetMark.is (c.set_mark.ensures _)
 
-pub returns-in-MergeSwap : goal.returns-in-MergeSwap
-returns-in-MergeSwap c = rw c.in-MergeSwap.is (c.merge_swap.ensures _)
-
 pub returns-in-Die : goal.returns-in-Die
 returns-in-Die c = rw c.in-Die.is (c.die.ensures _)
 
