@@ -35,7 +35,7 @@ pub record SilentFits (p : Module) (c : Accounts) (n : ℕ) (m : Machine) (t : �
   pub at : AtRest c n m t a
   pub account : Account
   pub says : PlaceSays (code_of (slice_get p.functions a.function)) place account
-  pub sits : QuietSits m t moves place account
+  pub sits : QuietSits m t a moves place account
 
 -- a duty, of a thread that has it in its agenda already, its account then, and duties as small as the thread's are
 pub record DutyFits (p : Module) (c : Accounts) (n : ℕ) (m : Machine) (t : ℕ) (a : Actor) (d : Duty)
@@ -114,6 +114,7 @@ taken_fits p n m t a (Silent moves place) whole at taken =
       account = placed.account;
       says = placed.says;
       sits = record {
+        alone = (whole.coded t a at.found).alone;
         moves_fit = taken.moves_fit;
         holds = placed.holds;
         bounded = says_bounded code place placed.account placed.says;
@@ -122,7 +123,7 @@ taken_fits p n m t a (Silent moves place) whole at taken =
     }
 taken_fits p n m t a (Does d rest place) whole at taken =
     let c = whole.accounts in
-    let here = taken_sits p c n m t a place d rest at taken in
+    let here = taken_sits p c n m t a place d rest at (whole.coded t a at.found).alone taken in
     record {
       account = here.account;
       says = here.says;
@@ -169,7 +170,7 @@ claim_fits p n m t a row whole found may =
     record { rule = rule; found = found; agenda = claims.agenda; running = claims.running } in
     let sits : Sits m t a a.place (ClaimMark row ∷ []) (c t) =
     subst (λ (q : Place). Sits m t a q (ClaimMark row ∷ []) (c t)) (sym claims.stands)
-    (claim_sits c n m t a claims.left row at (used_block c n m t a row rule found claims.low claims.high)) in
+    (claim_sits c n m t a claims.left row at (whole.coded t a found).alone (used_block c n m t a row rule found claims.low claims.high)) in
     record {
       account = c t;
       says = (whole.coded t a found).says;

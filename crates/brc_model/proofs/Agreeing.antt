@@ -10,7 +10,7 @@ use Rattle.brc_model.specs.Machine.{Life, Unborn, Live, Dying, Closed, Machine}
 use Rattle.brc_model.specs.Agreement.{has_swapped, is_merging, decides_or_merges, HasDuty, SomeThreadHas, OwnerHas, IsCountedLocally, IsPhase, AgreesAt, IsFreeOf}
 use Rattle.brc_model.proofs.Bag.{one_if}
 use Rattle.brc_model.proofs.Rows.{decides, merges, weight, Numbers, Phased, IsDefault, IsQueued, Decided, AtZero, AboveZero, Mode, InOwned, InSwapped, InMerged, IsLive, IsDead, RowRule}
-use Rattle.brc_model.proofs.HasDuties.{Weighs, some_weighs, is_listed}
+use Rattle.brc_model.proofs.HasDuties.{Weighs, some_weighs, is_open}
 use Rattle.brc_model.proofs.Deciders.{decider_owns}
 use Rattle.brc_model.proofs.Rule.{Accounts, numbers_of, Rule}
 
@@ -119,7 +119,7 @@ merges_only x _ other = refl
 has_duty : (m : Machine) (f : Duty → ℕ) (is_such : Duty → Bool) → ((d : Duty) → is_such d ≡ false → f d ≡ 0)
     → (it : Weighs f m.actors) → HasDuty m it.who is_such
 has_duty m f is_such only it =
-    record { actor = it.which; found = it.found; listed = is_listed f is_such only it.which.agenda it.some }
+    record { actor = it.which; found = it.found; listed = is_open f is_such only it.which it.some }
 
 -- who decides about a row is its owner
 owner_decides : (p : Accounts) (n : ℕ) (m : Machine) (x : ℕ) → Rule p n m → weight (decides x) m.actors ≡ 1

@@ -27,7 +27,7 @@ agenda_in f (b ∷ rest) (suc t) a found = omega (arith, sum_by-cons (agenda_wei
 pub first_weighs : (f : Duty → ℕ) (actors : List Actor) (t : ℕ) (a : Actor) (d : Duty) (rest : List Duty)
     → slice_get actors t ≡ Some a → a.agenda ≡ d ∷ rest → f d + sum_by f rest ≤ weight f actors
 first_weighs f actors t a d rest found is =
-    let here : agenda_weight f a ≡ f d + sum_by f rest = ap (sum_by f) is ∙ sum_by-cons f d rest in
+    let here : sum_by f a.agenda ≡ f d + sum_by f rest = ap (sum_by f) is ∙ sum_by-cons f d rest in
     omega (arith, here, agenda_in f actors t a found)
 
 -- ---- life
@@ -74,14 +74,3 @@ pub alive_backed : (p : Accounts) (n : ℕ) (m : Machine) (t x : ℕ) → Rule p
 alive_backed p n m t x rule pos backed =
     alive_referenced p n m x rule pos
     (omega (arith, backed.held_so, held-le-references_to (reference_of t backed.by x) m.plain.references))
-
--- ---- what is given up
-
--- the reference that is being given up is held
-pub extra_held : (bag : List Reference) (t : ℕ) (account : Account) (agenda : List Duty) (k : Holding) (x : ℕ)
-    → HoldsAt bag t account agenda → extra_of agenda k x ≡ true → lacks_of agenda k x ≡ false
-    → 0 < held (reference_of t k x) bag
-extra_held bag t account agenda k x holds more less =
-    let a : one_if (extra_of agenda k x) ≡ 1 = ap one_if more in
-    let b : one_if (lacks_of agenda k x) ≡ 0 = ap one_if less in
-    omega (arith, holds.each k x, a, b)

@@ -23,7 +23,7 @@ use Rattle.brc_model.proofs.Lists.{none_at}
 use Rattle.brc_model.proofs.Holds.{the_root, of_variables, reference_of, Holds}
 use Rattle.brc_model.proofs.Grounded.{slot_of-put_same, slot_of-put_other, row_of-set_same, row_of-set_other}
 use Rattle.brc_model.proofs.OwnCounts.{flip_eqb}
-use Rattle.brc_model.proofs.Rule.{HoldsAt}
+use Rattle.brc_model.proofs.Aside.{HoldsAlone}
 use Rattle.brc_model.proofs.Coded.{once_each, PlaceFits}
 use Rattle.brc_model.specs.Duties.{cells_of}
 use Rattle.brc_lang.specs.declared.kind.Kind.TheVariants as kinds
@@ -31,12 +31,12 @@ use Rattle.brc_model.specs.Kinds.{kind_of_word, is_counted_kind}
 
 -- ---- nothing is at hand
 
-pub holds_plain : (bag : List Reference) (t : ℕ) (says : Holding → ℕ → Bool) → HoldsAt bag t (once_each says) []
+pub holds_plain : (bag : List Reference) (t : ℕ) (says : Holding → ℕ → Bool) → HoldsAlone bag t (once_each says) []
     → Holds bag t says
 holds_plain bag t says holds = record { each = λ k object. omega (arith, holds.each k object) }
 
 pub holds_at_none : (bag : List Reference) (t : ℕ) (says : Holding → ℕ → Bool) → Holds bag t says
-    → HoldsAt bag t (once_each says) []
+    → HoldsAlone bag t (once_each says) []
 holds_at_none bag t says holds = record { each = λ k object. omega (arith, holds.each k object) }
 
 -- ---- what is taken up

@@ -64,7 +64,7 @@ release_suits p n m t a (suc y) h rest here alive runs owner =
     ap (λ (b : Bool). b && (owner_part (m.memory (Local x)) == t + 1)) runs
     ∙ eq-eqb (owner_part (m.memory (Local x))) (t + 1) owner in
     count_above p n m t x a here.rule here.found (counts_owner m t a x counts living)
-    (weight_here p n m t x a (ReleaseLoad x h) rest here refl) living
+    (weight_here p n m t x a (ReleaseLoad x h) rest here (eq-eqb x x refl) refl) living
 
 pub duty_suits : (p : Accounts) (n : ℕ) (m : Machine) (t : ℕ) (a : Actor) (d : Duty) (rest : List Duty) (count : ℕ)
     → AtDuty p n m t a d rest → (a.status ≡ Gone → ⊥) → n ≤ 33

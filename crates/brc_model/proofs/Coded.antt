@@ -1,6 +1,6 @@
 -- Where a thread of accepted code stands: its account is what its place says. The step world has this layer on top of
 -- what the rule says of any thread.
-use Rattle.std.proofs.Common.{◌≡◌, ℕ, ◌≤◌, Bool, true, false, List, Option, length, refl, sym, ap, subst, arith}
+use Rattle.std.proofs.Common.{◌≡◌, ℕ, ◌≤◌, Bool, true, false, List, [], Option, length, refl, sym, ap, subst, arith}
 use Rattle.std.specs.Prelude.{◌==◌, ◌&&◌, slice_get}
 use Rattle.std.proofs.lemmas.List.{get_or_past}
 use Rattle.brc_model.specs.declared.slot.Slot.TheVariants.{Empty}
@@ -21,7 +21,8 @@ use Rattle.brc_model.specs.Machine.{Actor}
 use Rattle.brc_model.proofs.Bag.{one_if}
 use Rattle.brc_model.proofs.Holds.{nothing, the_root, of_variables}
 use Rattle.brc_model.proofs.Grounded.{IsInside, AreInstructions}
-use Rattle.brc_model.proofs.Rule.{Account, HoldsAt, HoldsNone, IsBounded}
+use Rattle.brc_model.proofs.Rule.{Account, HoldsNone, IsBounded}
+use Rattle.brc_model.proofs.Aside.{HoldsAlone}
 
 -- the account of a thread that holds just these references, each once
 abbrev pub once_each : (Holding → ℕ → Bool) → Account
@@ -35,6 +36,8 @@ PlaceSays code (Inside left at variables) account =
 PlaceSays code Departing account = account ≡ once_each nothing
 
 pub record InCode (p : Module) (a : Actor) (account : Account) : Type 0 where
+  -- code does one piece of work at a time
+  pub alone : a.aside ≡ []
   pub accepted : IsAcceptableCode (code_of (slice_get p.functions a.function))
   pub instructions : AreInstructions (code_of (slice_get p.functions a.function))
   pub says : PlaceSays (code_of (slice_get p.functions a.function)) a.place account
@@ -43,26 +46,26 @@ pub record InCode (p : Module) (a : Actor) (account : Account) : Type 0 where
 
 -- the bag has just what the place says
 abbrev pub PlaceFits : List Instr → List Reference → ℕ → List Duty → Place → Type 0
-PlaceFits code bag t agenda (Standing left) = HoldsAt bag t (once_each the_root) agenda
+PlaceFits code bag t agenda (Standing left) = HoldsAlone bag t (once_each the_root) agenda
 PlaceFits code bag t agenda (Inside left at variables) =
-    (s : State) × IsInside code at variables s × HoldsAt bag t (once_each (of_variables s variables)) agenda
-PlaceFits code bag t agenda Departing = HoldsAt bag t (once_each nothing) agenda
+    (s : State) × IsInside code at variables s × HoldsAlone bag t (once_each (of_variables s variables)) agenda
+PlaceFits code bag t agenda Departing = HoldsAlone bag t (once_each nothing) agenda
 
 pub place_fits : (code : List Instr) (bag : List Reference) (t : ℕ) (agenda : List Duty) (place : Place)
     (account : Account)
-    → PlaceSays code place account → HoldsAt bag t account agenda → PlaceFits code bag t agenda place
+    → PlaceSays code place account → HoldsAlone bag t account agenda → PlaceFits code bag t agenda place
 place_fits code bag t agenda (Standing left) account says holds =
-    subst (λ (c : Account). HoldsAt bag t c agenda) says holds
+    subst (λ (c : Account). HoldsAlone bag t c agenda) says holds
 place_fits code bag t agenda (Inside left at variables) account says holds =
-    (says.0, says.1, subst (λ (c : Account). HoldsAt bag t c agenda) says.2 holds)
+    (says.0, says.1, subst (λ (c : Account). HoldsAlone bag t c agenda) says.2 holds)
 place_fits code bag t agenda Departing account says holds =
-    subst (λ (c : Account). HoldsAt bag t c agenda) says holds
+    subst (λ (c : Account). HoldsAlone bag t c agenda) says holds
 
 -- the account that a place gives
 pub record Placed (code : List Instr) (bag : List Reference) (t : ℕ) (agenda : List Duty) (place : Place) : Type 0 where
   pub account : Account
   pub says : PlaceSays code place account
-  pub holds : HoldsAt bag t account agenda
+  pub holds : HoldsAlone bag t account agenda
 
 pub placed_by : (code : List Instr) (bag : List Reference) (t : ℕ) (agenda : List Duty) (place : Place)
     → PlaceFits code bag t agenda place → Placed code bag t agenda place

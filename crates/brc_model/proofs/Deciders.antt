@@ -1,6 +1,7 @@
 -- Only the running owner decides about a row, and only by its first duty.
 use Rattle.std.proofs.Common.{◌≡◌, ℕ, suc, ◌<◌, List, [], ◌∷◌, inl, inr, Some, refl, sym, ap, ◌∙◌, subst, arith}
 use Rattle.std.specs.Prelude.{◌==◌, slice_get, sum_by}
+use Rattle.std.proofs.lemmas.Bool.{eq-eqb}
 use Rattle.std.proofs.lemmas.Bool.Decides.{eqb_tells}
 use Rattle.std.proofs.lemmas.List.Sums.{sum_by-cons}
 use Rattle.brc_model.specs.declared.duty.Reason.TheVariants.{Own, Handed}
@@ -15,10 +16,8 @@ use Rattle.brc_model.proofs.Rows.{decides, agenda_weight, weight, IsLive, InOwne
 use Rattle.brc_model.proofs.HasDuties.{some_weighs}
 use Rattle.brc_model.proofs.Rule.{Accounts, numbers_of, OwnsLocally, MayMerge, HeadFits, Rule, status_word}
 use Rattle.brc_model.proofs.Leaves.{AtDuty}
-use Rattle.brc_model.proofs.Weighing.{IsOfRow, own_weighs, weighing}
-
-pub decides_of_row : (x : ℕ) → IsOfRow (decides x)
-decides_of_row x = record { settle = refl; leave = λ y n. refl; scan = λ y n. refl; finish = refl }
+use Rattle.brc_model.proofs.Aside.{decides_of_row}
+use Rattle.brc_model.proofs.Weighing.{own_weighs, weighing}
 
 -- who decides about a row owns it and runs
 duty_owns : (m : Machine) (u x : ℕ) (b : Actor) (d : Duty) (rest : List Duty) → HeadFits m u b d rest
@@ -38,7 +37,7 @@ duty_owns m u x b _ rest fits some = absurd (omega (arith, some))
 pub decider_owns : (p : Accounts) (n : ℕ) (m : Machine) (u x : ℕ) (b : Actor) → Rule p n m → slice_get m.actors u ≡ Some b
     → 0 < agenda_weight (decides x) b → OwnsLocally m u b x
 decider_owns p n m u x b rule found some =
-    let it = weighing p n m u b (decides x) (decides_of_row x) rule found some in
+    let it = weighing p n m u x b (decides x) (decides_of_row x) rule found some in
     duty_owns m u x b it.duty it.rest it.knows it.some
 
 pub sum_zero : (f : Actor → ℕ) (actors : List Actor) → ((u : ℕ) (b : Actor) → slice_get actors u ≡ Some b → f b ≡ 0)
@@ -92,7 +91,7 @@ none_decides p n m t a y rest here may live =
                 let which : it.which ≡ a =
                 some_is it.which a (sym it.found ∙ ap (slice_get m.actors) at ∙ here.found) in
                 let same = ap (agenda_weight (decides y)) which in
-                let own = own_weighs p n m t a (MergeSwap y Handed) rest (decides y) here (decides_of_row y) in
+                let own = own_weighs p n m t y a (MergeSwap y Handed) rest (decides y) here (decides_of_row y) (eq-eqb y y refl) in
                 absurd (omega (arith, it.some, same, own))
             | inr stopped ↦
                 absurd (stopped (ap (λ (u : ℕ). m.memory (ThreadWord u)) (sym owner)

@@ -1,6 +1,6 @@
 -- A thread holds an object in at most nineteen ways, and in each within a bound: so an object has few references.
-use Rattle.std.proofs.Common.{◌≡◌, ℕ, zero, suc, ◌+◌, ◌*◌, ◌<◌, ◌≤◌, Bool, true, false, List, [], ◌∷◌, Option, Some, inl, inr, refl, sym, ap, ◌∙◌, subst, arith}
-use Rattle.std.specs.Prelude.{◌==◌, ◌||◌, slice_get, sum_by}
+use Rattle.std.proofs.Common.{◌≡◌, ℕ, zero, suc, ◌+◌, ◌*◌, ◌<◌, ◌≤◌, Bool, true, false, cond, List, [], ◌∷◌, Option, Some, inl, inr, refl, sym, ap, ◌∙◌, subst, arith}
+use Rattle.std.specs.Prelude.{◌==◌, ◌||◌, if◌then◌else◌, slice_get, sum_by, count_by}
 use Rattle.std.specs.List.{list_any}
 use Rattle.std.proofs.lemmas.Bool.{cases_lt}
 use Rattle.std.proofs.lemmas.Bool.Decides.{eqb_tells}
@@ -16,7 +16,8 @@ use Rattle.brc_model.specs.Machine.{Actor, Machine}
 use Rattle.brc_model.proofs.Bag.{held, one_if, same_holding-true, same-true, same-refl, held-cons, references_to-cons}
 use Rattle.brc_model.proofs.Lists.{and_first}
 use Rattle.brc_model.proofs.Holds.{reference_of}
-use Rattle.brc_model.proofs.Rule.{Account, Accounts, extra, extra_of, most_lent, IsBounded, Rule}
+use Rattle.brc_model.proofs.Rule.{Account, Accounts, extra, extra_of, extra_aside, is_about, about_of, most_lent, IsBounded, Rule}
+use Rattle.brc_model.proofs.Aside.{extra_about, extra_counted}
 
 -- ---- a list that all references to an object are among
 
@@ -235,29 +236,64 @@ account_most account t (ByVariable v) object bounded = omega (arith, bounded.by_
 account_most account t AsCaller object bounded = omega (arith, bounded.lent object)
 account_most account t InHand object bounded = omega (arith, bounded.in_hand object)
 
--- how a thread holds what its duty at hand gives up
-abbrev given_up : List Duty → Holding
-given_up (ReleaseLoad x h ∷ rest) = h
-given_up _ = InHand
+-- how a thread holds what a duty gives up
+abbrev given_by : Duty → Holding
+given_by (ReleaseLoad x h) = h
+given_by _ = InHand
 
-extra_given : (d : Duty) (rest : List Duty) (k : Holding) (object : ℕ) → extra d k object ≡ true
-    → k ≡ given_up (d ∷ rest)
-extra_given (ReleaseLoad x h) rest k object e = sym (same_holding-true h k (and_first _ _ e))
-extra_given (ReleaseStore x w) rest k object e = sym (same_holding-true InHand k (and_first _ _ e))
-extra_given (SharedLoad x Own) rest k object e = sym (same_holding-true InHand k (and_first _ _ e))
-extra_given (SharedExchange x Own w) rest k object e = sym (same_holding-true InHand k (and_first _ _ e))
-extra_given _ rest k object e = absurd cc
+extra_given : (d : Duty) (k : Holding) (object : ℕ) → extra d k object ≡ true → k ≡ given_by d
+extra_given (ReleaseLoad x h) k object e = sym (same_holding-true h k (and_first _ _ e))
+extra_given (ReleaseStore x w) k object e = sym (same_holding-true InHand k (and_first _ _ e))
+extra_given (SharedLoad x Own) k object e = sym (same_holding-true InHand k (and_first _ _ e))
+extra_given (SharedExchange x Own w) k object e = sym (same_holding-true InHand k (and_first _ _ e))
+extra_given _ k object e = absurd cc
 
-extra_given_of : (agenda : List Duty) (k : Holding) (object : ℕ) → extra_of agenda k object ≡ true → k ≡ given_up agenda
-extra_given_of [] k object e = absurd cc
-extra_given_of (d ∷ rest) k object e = extra_given d rest k object e
+-- what the one duty about the object gives up
+abbrev given_in : ℕ → List Duty → Holding
+given_in x [] = InHand
+given_in x (d ∷ rest) = if is_about x d then given_by d else given_in x rest
 
-abbrev agenda_at : Option Actor → List Duty
-agenda_at (Some a) = a.agenda
-agenda_at _ = []
+is_true : (b : Bool) → 0 < one_if b → b ≡ true
+is_true true some = refl
+is_true false some = absurd (omega (arith, some))
 
-abbrev own_way : Machine → ℕ → Holding
-own_way m t = given_up (agenda_at (slice_get m.actors t))
+given_as : (x : ℕ) (ds : List Duty) (k : Holding) → count_by (is_about x) ds ≤ 1
+    → 0 < count_by (λ d. extra d k x) ds → k ≡ given_in x ds
+given_as x [] k few some = absurd (omega (arith, some))
+given_as x (d ∷ rest) k few some =
+    let about = sum_by-cons (λ (e : Duty). cond (is_about x e) 1 0) d rest in
+    let given = sum_by-cons (λ (e : Duty). cond (extra e k x) 1 0) d rest in
+    elim (is_about x d) as (λ b. is_about x d ≡ b → k ≡ cond b (given_by d) (given_in x rest)) [
+      | true ↦ λ e.
+          let one : one_if (is_about x d) ≡ 1 = ap one_if e in
+          extra_given d k x (is_true (extra d k x) (omega (arith, about, given, few, some, one,
+          extra_counted rest k x)))
+      | false ↦ λ e.
+          let none : one_if (is_about x d) ≡ 0 = ap one_if e in
+          given_as x rest k (omega (arith, about, few)) (omega (arith, given, some, none, extra_about d k x))
+    ] refl
+
+-- the duty at hand, and those that are put aside
+abbrev opened : List Duty → List Duty → List Duty
+opened [] aside = aside
+opened (d ∷ rest) aside = d ∷ aside
+
+opened_about : (x : ℕ) (agenda aside : List Duty)
+    → count_by (is_about x) (opened agenda aside) ≡ one_if (about_of x agenda) + count_by (is_about x) aside
+opened_about x [] aside = omega arith
+opened_about x (d ∷ rest) aside = sum_by-cons (λ (e : Duty). cond (is_about x e) 1 0) d aside
+
+opened_extra : (x : ℕ) (k : Holding) (agenda aside : List Duty)
+    → count_by (λ d. extra d k x) (opened agenda aside) ≡ one_if (extra_of agenda k x) + extra_aside aside k x
+opened_extra x k [] aside = omega arith
+opened_extra x k (d ∷ rest) aside = sum_by-cons (λ (e : Duty). cond (extra e k x) 1 0) d aside
+
+abbrev opened_by : Option Actor → List Duty
+opened_by (Some a) = opened a.agenda a.aside
+opened_by _ = []
+
+abbrev own_way : Machine → ℕ → ℕ → Holding
+own_way m x t = given_in x (opened_by (slice_get m.actors t))
 
 within_most : (p : Accounts) (n : ℕ) (m : Machine) (h : Holder) (object : ℕ) → Rule p n m
     → held (record { holder = h; object = object }) m.plain.references ≤ most_by h
@@ -266,39 +302,46 @@ within_most p n m (ByThread t k) object rule =
     elim (slice_get_cases m.actors t).1 [
       | inl found ↦
           let a = found.0 in
-          let fits = (rule.each t a found.2).0 in
+          let fits = rule.each t a found.2 in
+          let extra = extra_counted (opened a.agenda a.aside) k object in
           omega (
             arith,
-            fits.holds.each k object,
-            one_if_low (extra_of a.agenda k object),
-            account_most (p t) t k object fits.bounded,
+            fits.0.holds.each k object,
+            extra,
+            opened_extra object k a.agenda a.aside,
+            opened_about object a.agenda a.aside,
+            fits.2.apart object,
+            account_most (p t) t k object fits.0.bounded,
           )
       | inr past ↦ omega (arith, rule.beyond t (omega (arith, past.0, rule.threads)) k object)
     ]
 
 held_way : (p : Accounts) (n : ℕ) (m : Machine) (h : Holder) (object : ℕ) → Rule p n m
     → 0 < held (record { holder = h; object = object }) m.plain.references
-    → list_any (same (record { holder = h; object = object })) (ways (own_way m) object n) ≡ true
+    → list_any (same (record { holder = h; object = object })) (ways (own_way m object) object n) ≡ true
 held_way p n m (ByCell x i) object rule some = absurd (omega (arith, rule.cells_hold x i object, some))
 held_way p n m (ByThread t k) object rule some =
     let r = reference_of t k object in
     elim (slice_get_cases m.actors t).1 [
       | inl found ↦
           let a = found.0 in
-          let fits = (rule.each t a found.2).0 in
+          let fits = rule.each t a found.2 in
           let within : t < n = omega (arith, found.1, rule.threads) in
-          let at_thread : list_any (same r) (ways (own_way m) object (suc t)) ≡ true =
-          elim (extra_of a.agenda k object) as
-          (λ b. extra_of a.agenda k object ≡ b → list_any (same r) (ways (own_way m) object (suc t)) ≡ true) [
-            | true ↦ λ e.
-                let own : own_way m t ≡ given_up a.agenda = ap (λ (o : Option Actor). given_up (agenda_at o)) found.2 in
-                among_own (own_way m) object t k (extra_given_of a.agenda k object e ∙ sym own)
-            | false ↦ λ e.
-                let none : one_if (extra_of a.agenda k object) ≡ 0 = ap one_if e in
-                let said : 0 < p t k object = omega (arith, fits.holds.each k object, some, none) in
-                among_low (own_way m) object t k (account_low (p t) k object fits.bounded said)
-          ] refl in
-          among_all (own_way m) r object t n within at_thread
+          let all = opened a.agenda a.aside in
+          let about = opened_about object a.agenda a.aside in
+          let extra = opened_extra object k a.agenda a.aside in
+          let at_thread : list_any (same r) (ways (own_way m object) object (suc t)) ≡ true =
+          elim (eqb_tells (count_by (λ d. Rattle.brc_model.proofs.Rule.extra d k object) all) 0) [
+            | inl none ↦
+                let said : 0 < p t k object = omega (arith, fits.0.holds.each k object, some, none.1, extra) in
+                among_low (own_way m object) object t k (account_low (p t) k object fits.0.bounded said)
+            | inr more ↦
+                let own : own_way m object t ≡ given_in object all =
+                ap (λ (o : Option Actor). given_in object (opened_by o)) found.2 in
+                among_own (own_way m object) object t k
+                (given_as object all k (omega (arith, about, fits.2.apart object)) (omega (arith, more.1)) ∙ sym own)
+          ] in
+          among_all (own_way m object) r object t n within at_thread
       | inr past ↦ absurd (omega (arith, rule.beyond t (omega (arith, past.0, rule.threads)) k object, some))
     ]
 
@@ -307,10 +350,10 @@ held_way p n m (ByThread t k) object rule some =
 pub references_few : (p : Accounts) (n : ℕ) (m : Machine) (x : ℕ) → Rule p n m
     → references_to x m.plain.references ≤ most_each * n
 references_few p n m x rule =
-    let keys = ways (own_way m) x n in
+    let keys = ways (own_way m x) x n in
     let covers : Covers keys m.plain.references x =
     record {
-      each = λ r is some. subst (λ (y : ℕ). list_any (same r) (ways (own_way m) y n) ≡ true) is
+      each = λ r is some. subst (λ (y : ℕ). list_any (same r) (ways (own_way m y) y n) ≡ true) is
           (held_way p n m r.holder r.object rule some);
     } in
     omega (
@@ -318,5 +361,5 @@ references_few p n m x rule =
       covered keys m.plain.references x covers,
       sum_below (λ (r : Reference). held r m.plain.references) most_held keys
           (λ r. within_most p n m r.holder r.object rule),
-      most_of_ways (own_way m) x n,
+      most_of_ways (own_way m x) x n,
     )

@@ -24,6 +24,7 @@ use Rattle.brc_model.proofs.Grounded.{AreInstructions}
 use Rattle.brc_model.proofs.Holds.{the_root}
 use Rattle.brc_model.proofs.Rows.{waits, carries, merges, decides, agenda_weight, weight, IsDefault, AboveZero, InOwned, RowRule}
 use Rattle.brc_model.proofs.Rule.{Accounts, numbers_of, HoldsAt, ChainFits, Fits, dies_by, Rule, UsesFit}
+use Rattle.brc_model.proofs.Aside.{alone_fits}
 use Rattle.brc_model.proofs.Coded.{once_each, root_bounded, InCode}
 use Rattle.brc_model.proofs.Blocks.{block_main}
 use Rattle.brc_model.proofs.UsesAfter.{one_at_most}
@@ -101,7 +102,7 @@ abbrev pub first_accounts : Accounts
 first_accounts t = once_each the_root
 
 caller_holds : (calls : List Call) (t : ℕ) → t < 1 + length calls
-    → HoldsAt (callers_below (1 + length calls)) t (first_accounts t) []
+    → HoldsAt (callers_below (1 + length calls)) t (first_accounts t) [] []
 caller_holds calls t below =
     record { each = λ k object. omega (arith, callers_hold (1 + length calls) t k object below) }
 
@@ -125,6 +126,7 @@ first_fits m rows calls zero a is =
         chain = first_chain m rows calls 0;
       },
       (standing_stays 0, refl),
+      alone_fits (first_machine m rows calls) 0 main_actor refl,
     )
 first_fits m rows calls (suc t) a is =
     let call = slice_get-map worker_actor calls t a is in
@@ -139,6 +141,7 @@ first_fits m rows calls (suc t) a is =
         chain = first_chain m rows calls (suc t);
       },
       (standing_stays call.source.times, refl),
+      alone_fits (first_machine m rows calls) (suc t) (worker_actor call.source) refl,
     )
 
 pub first_coded : (m : Module) (calls : List Call) (t : ℕ) (a : Actor) → IsModule m → IsAcceptable m → AreCalls m calls
@@ -146,13 +149,13 @@ pub first_coded : (m : Module) (calls : List Call) (t : ℕ) (a : Actor) → IsM
 first_coded m calls zero a fits accepted are_calls is =
     let function = function_fits m 0 fits accepted fits.some in
     subst (λ (x : Actor). InCode m x (first_accounts 0)) (some_is main_actor a is)
-    (record { accepted = function.0; instructions = function.1; says = refl })
+    (record { alone = refl; accepted = function.0; instructions = function.1; says = refl })
 first_coded m calls (suc t) a fits accepted are_calls is =
     let call = slice_get-map worker_actor calls t a is in
     let good = all_of_found (IsCall m) calls t call.source are_calls.each call.is_there in
     let function = function_fits m call.source.function fits accepted good.0 in
     subst (λ (x : Actor). InCode m x (first_accounts (suc t))) call.is_image
-    (record { accepted = function.0; instructions = function.1; says = refl })
+    (record { alone = refl; accepted = function.0; instructions = function.1; says = refl })
 
 life_not_closed : (x : ℕ) → first_life x ≡ Closed → ⊥
 life_not_closed zero e = cc

@@ -1,5 +1,6 @@
 -- Where the agendas of all threads weigh something, some thread has a duty that does.
-use Rattle.std.proofs.Common.{◌≡◌, ℕ, zero, suc, ◌<◌, Bool, true, false, List, [], ◌∷◌, Some, refl, arith}
+use Rattle.std.proofs.Common.{◌≡◌, ℕ, zero, suc, ◌<◌, Bool, true, false, List, [], ◌∷◌, inl, inr, Some, refl, arith}
+use Rattle.std.proofs.lemmas.Bool.Decides.{eqb_tells}
 use Rattle.std.specs.Prelude.{◌||◌, slice_get, sum_by}
 use Rattle.std.specs.List.{list_any}
 use Rattle.std.proofs.lemmas.List.Sums.{sum_by-cons}
@@ -24,6 +25,14 @@ some_weighs f (b ∷ rest) some =
       | suc k ↦ λ e. record { who = 0; which = b; found = refl; some = omega (arith, e) }
     ] refl
 
+or_second : (b c : Bool) → c ≡ true → (b || c) ≡ true
+or_second true c e = refl
+or_second false c e = e
+
+or_left : (b c : Bool) → b ≡ true → (b || c) ≡ true
+or_left true c e = refl
+or_left false c e = absurd cc
+
 -- the agenda has such a duty, where only such duties weigh
 weighs_here : (f : Duty → ℕ) (is_such : Duty → Bool) (d : Duty) (rest : List Duty) (b : Bool)
     → (b ≡ false → f d ≡ 0) → 0 < sum_by f (d ∷ rest) → (0 < sum_by f rest → list_any is_such rest ≡ true)
@@ -36,3 +45,13 @@ pub is_listed : (f : Duty → ℕ) (is_such : Duty → Bool) → ((d : Duty) →
 is_listed f is_such only [] some = absurd (omega (arith, some))
 is_listed f is_such only (d ∷ rest) some =
     weighs_here f is_such d rest (is_such d) (only d) some (is_listed f is_such only rest)
+
+-- the thread has such a duty in its agenda, or put aside
+pub is_open : (f : Duty → ℕ) (is_such : Duty → Bool) → ((d : Duty) → is_such d ≡ false → f d ≡ 0) → (a : Actor)
+    → 0 < agenda_weight f a → (list_any is_such a.agenda || list_any is_such a.aside) ≡ true
+is_open f is_such only a some =
+    elim (eqb_tells (sum_by f a.agenda) 0) [
+      | inl none ↦
+          or_second (list_any is_such a.agenda) _ (is_listed f is_such only a.aside (omega (arith, some, none.1)))
+      | inr more ↦ or_left (list_any is_such a.agenda) _ (is_listed f is_such only a.agenda (omega (arith, more.1)))
+    ]

@@ -8,7 +8,8 @@ use Rattle.brc_model.specs.declared.duty.Duty.TheVariants.{SettleCell}
 use Rattle.brc_model.specs.declared.address.Address.TheVariants.{Cell, Mark}
 use Rattle.brc_model.specs.declared.actor.Status.TheVariants.{Gone}
 use Rattle.brc_model.specs.Machine.{Actor, Machine, actor_by, done_by, same_address}
-use Rattle.brc_model.proofs.Rule.{Accounts, Fits, IsWatched, Rule}
+use Rattle.brc_model.proofs.AsideAfter.{aside_after}
+use Rattle.brc_model.proofs.Rule.{AsideFits, Accounts, Fits, IsWatched, Rule}
 use Rattle.brc_model.proofs.Others.{each_fits}
 use Rattle.brc_model.proofs.MovesApart.{moves_apart, moves_off_cells}
 use Rattle.brc_model.proofs.Leaves.{AtDuty}
@@ -36,11 +37,12 @@ cells_left m t a _ x i empty = empty
 
 others_and_own : (p : Accounts) (n : ℕ) (m : Machine) (t : ℕ) (a : Actor) (d : Duty) (rest : List Duty)
     → AtDuty p n m t a d rest → OwnFits p (done_by m t a d rest) t (actor_by t a d rest (found_by m t a d))
+    → AsideFits (done_by m t a d rest) t (actor_by t a d rest (found_by m t a d))
     → (u : ℕ) (b : Actor) → slice_get (slice_set m.actors t (actor_by t a d rest (found_by m t a d))) u ≡ Some b
     → Fits (p u) (done_by m t a d rest) u b
-others_and_own p n m t a d rest here own =
+others_and_own p n m t a d rest here own aside =
     each_fits p p m (done_by m t a d rest) t a (actor_by t a d rest (found_by m t a d)) here.found
-    (leaves_others p n m t a d rest here) (λ u ne. refl) (own.actor, own.agenda) here.rule.each
+    (leaves_others p n m t a d rest here) (λ u ne. refl) (own.actor, own.agenda, aside) here.rule.each
 
 -- ---- the whole rule
 
@@ -59,7 +61,7 @@ keeps_by p n m t a d rest here alive own marks =
       few_rows = here.rule.few_rows;
       rows = λ x pos. rows_after p n m t a d rest here.rule here.found here.agenda alive x pos;
       marks = marks;
-      each = λ u b is. others_and_own p n m t a d rest here own u b is;
+      each = others_and_own p n m t a d rest here own (aside_after p n m t a d rest here);
       beyond =
           λ u past k object. moves_apart m.memory m.plain u t k object d (found_by m t a d)
           (λ e. absurd (omega (arith, within, past, e))) ∙ here.rule.beyond u past k object;

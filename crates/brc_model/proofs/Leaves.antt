@@ -17,7 +17,8 @@ use Rattle.brc_model.proofs.Holds.{reference_of}
 use Rattle.brc_model.proofs.Rows.{waits, decides, merges, InOwned, InSwapped, InMerged, RowRule}
 use Rattle.brc_model.proofs.RowSteps.{shared_range, shared_up, shared_down, shared_merged}
 use Rattle.brc_model.proofs.Rule.{Accounts, extra_of, lacks_of, OwnsLocally, HeadFits, HeadOf, dies_by, Rule, status_word, numbers_of}
-use Rattle.brc_model.proofs.Alive.{first_weighs, Alive, alive_referenced, alive_waiting, alive_deciding, alive_merging, extra_held}
+use Rattle.brc_model.proofs.Aside.{extra_held}
+use Rattle.brc_model.proofs.Alive.{first_weighs, Alive, alive_referenced, alive_waiting, alive_deciding, alive_merging}
 use Rattle.brc_model.proofs.Written.{written_here, written_apart, written_load, apart_local, apart_shared, apart_gate, apart_thread}
 use Rattle.brc_model.proofs.Others.{is_dying}
 use Rattle.brc_model.proofs.Blocks.{next_above, next_unborn}
@@ -39,9 +40,9 @@ own_alive : (p : Accounts) (n : ℕ) (m : Machine) (t : ℕ) (a : Actor) (d : Du
     → AtDuty p n m t a d rest → 0 < x → extra_of (d ∷ rest) InHand x ≡ true
     → lacks_of (d ∷ rest) InHand x ≡ false → Alive m x
 own_alive p n m t a d rest x here pos more less =
-    let fits = (here.rule.each t a here.found).0 in
+    let fits = here.rule.each t a here.found in
     let some : 0 < held (reference_of t InHand x) m.plain.references =
-    extra_held m.plain.references t (p t) a.agenda InHand x fits.holds
+    extra_held m.plain.references t (p t) a.agenda a.aside InHand x fits.0.holds (fits.2.apart x)
     (ap (λ (l : List Duty). extra_of l InHand x) here.agenda ∙ more)
     (ap (λ (l : List Duty). lacks_of l InHand x) here.agenda ∙ less) in
     alive_referenced p n m x here.rule pos

@@ -17,6 +17,7 @@ pub mod HasDuties
 pub mod RowSteps
 pub mod RowMerges
 pub mod Rule
+pub mod Aside
 pub mod Coded
 pub mod Others
 pub mod Alive
@@ -38,6 +39,8 @@ pub mod Begins
 pub mod Taking
 pub mod TakingQuiet
 pub mod FirstMachine
+pub mod Beside
+pub mod AsideAfter
 pub mod KeepsDuty
 pub mod Sits
 pub mod Weights

@@ -18,7 +18,7 @@ use Rattle.brc_model.specs.Progress.{Always}
 use Rattle.brc_model.specs.Watched.{looks_at, scans_over, IsWatched, ByRunning, ByExit, ByLook, MarksWatched}
 use Rattle.brc_model.proofs.Bag.{one_if}
 use Rattle.brc_model.proofs.Rows.{weight}
-use Rattle.brc_model.proofs.HasDuties.{some_weighs, is_listed}
+use Rattle.brc_model.proofs.HasDuties.{some_weighs, is_open}
 use Rattle.brc_model.proofs.Rule.{Later, Agenda, AgendaFits, scans, looks, status_word}
 use Rattle.brc_model.proofs.Rule as rule
 use Rattle.brc_model.proofs.OwnExits.{marked_born}
@@ -105,7 +105,7 @@ looks_only x _ other = refl
 by_look : (m : Machine) (x : ℕ) → 0 < weight (looks x) m.actors → IsWatched m x
 by_look m x weighs =
     let it = some_weighs (looks x) m.actors weighs in
-    ByLook it.who it.which it.found (is_listed (looks x) (looks_at x) (looks_only x) it.which.agenda it.some)
+    ByLook it.who it.which it.found (is_open (looks x) (looks_at x) (looks_only x) it.which it.some)
 
 -- ---- all marks
 

@@ -20,7 +20,8 @@ use Rattle.brc_model.proofs.HasDuties.{some_weighs}
 use Rattle.brc_model.proofs.Rule.{Accounts, numbers_of, MayCarry, HeadFits, Rule, status_word}
 use Rattle.brc_model.proofs.Alive.{agenda_in, first_weighs}
 use Rattle.brc_model.proofs.Leaves.{AtDuty, head_of, claim_alive, merge_alive}
-use Rattle.brc_model.proofs.Weighing.{IsOfRow, own_weighs, weighing}
+use Rattle.brc_model.proofs.Aside.{waits_of_row, carries_of_row, merges_of_row}
+use Rattle.brc_model.proofs.Weighing.{own_weighs, weighing}
 
 -- ---- weights of agendas
 
@@ -39,9 +40,6 @@ two_weigh f (c ∷ rest) (suc t) (suc u) a b ne one two =
     omega (arith, sum_by-cons (agenda_weight f) c rest, two_weigh f rest t u a b (λ e. ne (ap suc e)) one two)
 
 -- ---- who merges
-
-merges_of_row : (x : ℕ) → IsOfRow (merges x)
-merges_of_row x = record { settle = refl; leave = λ y n. refl; scan = λ y n. refl; finish = refl }
 
 -- a thread that merges the row: its running owner, or one whose handed reference awaits
 abbrev IsMerger : Machine → ℕ → Actor → ℕ → Type 0
@@ -70,7 +68,7 @@ merger_knows m u x b _ rest fits some = absurd (omega (arith, some))
 merger_of : (p : Accounts) (n : ℕ) (m : Machine) (u x : ℕ) (b : Actor) → Rule p n m → slice_get m.actors u ≡ Some b
     → 0 < agenda_weight (merges x) b → IsMerger m u b x
 merger_of p n m u x b rule found some =
-    let it = weighing p n m u b (merges x) (merges_of_row x) rule found some in
+    let it = weighing p n m u x b (merges x) (merges_of_row x) rule found some in
     elim (merger_knows m u x b it.duty it.rest it.knows it.some) [
       | inl own ↦ inl own
       | inr waiting ↦ inr (omega (arith, it.among (waits x), waiting))
@@ -92,8 +90,8 @@ claimants_clash p n m t u x a b rest here ne found merger phased =
       ]
       | inr theirs ↦
           let one : one_if (x == x) ≡ 1 = ap one_if (eq-eqb x x refl) in
-          let mine : agenda_weight (waits x) a ≡ one_if (x == x) + sum_by (waits x) rest =
-          ap (sum_by (waits x)) here.agenda ∙ sum_by-cons (waits x) (MergeSwap x Handed) rest in
+          let mine : agenda_weight (waits x) a ≡ one_if (x == x) =
+          own_weighs p n m t x a (MergeSwap x Handed) rest (waits x) here (waits_of_row x) (eq-eqb x x refl) in
           let both = two_weigh (waits x) m.actors t u a b ne here.found found in
           elim phased [
             | IsDefault q w k ↦ absurd (omega (arith, mine, one, theirs, both, w))
@@ -107,7 +105,7 @@ claimed_alone : (p : Accounts) (n : ℕ) (m : Machine) (t : ℕ) (a : Actor) (x 
 claimed_alone p n m t a x rest here some phased =
     let other = some_weighs (merges x) m.actors some in
     let none : agenda_weight (merges x) a ≡ 0 =
-    own_weighs p n m t a (MergeSwap x Handed) rest (merges x) here (merges_of_row x) in
+    own_weighs p n m t x a (MergeSwap x Handed) rest (merges x) here (merges_of_row x) (eq-eqb x x refl) in
     let ne : other.who ≢ t = λ same.
     let which : agenda_weight (merges x) other.which ≡ agenda_weight (merges x) a =
     ap (agenda_weight (merges x)) (some_is other.which a
@@ -148,11 +146,19 @@ agenda_carries x (d ∷ rest) none =
       agenda_carries x rest (omega (arith, sum_by-cons (merges x) d rest, none)),
     )
 
+thread_carries : (x : ℕ) (b : Actor) → agenda_weight (merges x) b ≡ 0 → agenda_weight (carries x) b ≡ 0
+thread_carries x b none =
+    omega (
+      arith,
+      agenda_carries x b.agenda (omega (arith, none)),
+      agenda_carries x b.aside (omega (arith, none)),
+    )
+
 all_carry : (x : ℕ) (actors : List Actor) → weight (merges x) actors ≡ 0 → weight (carries x) actors ≡ 0
 all_carry x [] none = refl
 all_carry x (b ∷ rest) none =
     let first : agenda_weight (carries x) b ≡ 0 =
-    agenda_carries x b.agenda (omega (arith, sum_by-cons (agenda_weight (merges x)) b rest, none)) in
+    thread_carries x b (omega (arith, sum_by-cons (agenda_weight (merges x)) b rest, none)) in
     omega (
       arith,
       sum_by-cons (agenda_weight (carries x)) b rest,
@@ -178,7 +184,7 @@ one_carries x (b ∷ rest) zero a found one =
 one_carries x (b ∷ rest) (suc t) a found one =
     let others = agenda_in (merges x) rest t a found in
     let first : agenda_weight (carries x) b ≡ 0 =
-    agenda_carries x b.agenda (omega (arith, sum_by-cons (agenda_weight (merges x)) b rest, others, one)) in
+    thread_carries x b (omega (arith, sum_by-cons (agenda_weight (merges x)) b rest, others, one)) in
     omega (
       arith,
       sum_by-cons (agenda_weight (carries x)) b rest,
@@ -199,9 +205,6 @@ carried_is p n m t a x c w r rest here =
       | InSwapped s ↦ s.merging
       | InMerged s ↦ absurd (omega (arith, first, one, s.merging))
     ] in
-    let whole : agenda_weight (merges x) a ≡ merges x d + sum_by (merges x) rest =
-    ap (sum_by (merges x)) here.agenda ∙ sum_by-cons (merges x) d rest in
-    let carry : agenda_weight (carries x) a ≡ carries x d + sum_by (carries x) rest =
-    ap (sum_by (carries x)) here.agenda ∙ sum_by-cons (carries x) d rest in
-    let others : sum_by (carries x) rest ≡ 0 = agenda_carries x rest (omega (arith, first, all, one)) in
-    omega (arith, one_carries x m.actors t a here.found (omega (arith, all, whole, first, one)), carry, others, mine)
+    let whole = own_weighs p n m t x a d rest (merges x) here (merges_of_row x) (eq-eqb x x refl) in
+    let carry = own_weighs p n m t x a d rest (carries x) here (carries_of_row x) (eq-eqb x x refl) in
+    omega (arith, one_carries x m.actors t a here.found (omega (arith, all, whole, first, one)), carry, mine)

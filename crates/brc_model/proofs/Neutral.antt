@@ -92,9 +92,9 @@ own_neutral p n m t a d rest next agenda here alive step =
     let whole : after.agenda ≡ agenda =
     ap (λ (h : ℕ). ready h (next_of m t a d ++ rest)) step.same_head
     ∙ ap (λ (l : List Duty). ready a.head (l ++ rest)) step.next_is ∙ step.agenda_is in
-    let holds : HoldsAt new.plain.references t (p t) agenda =
-    holds_step m.plain.references new.plain.references t (p t) (d ∷ rest) agenda step.held
-    (subst (HoldsAt m.plain.references t (p t)) here.agenda old.holds) in
+    let holds : HoldsAt new.plain.references t (p t) agenda a.aside =
+    holds_step m.plain.references new.plain.references t (p t) (d ∷ rest) agenda a.aside step.held
+    (subst (λ (l : List Duty). HoldsAt m.plain.references t (p t) l a.aside) here.agenda old.holds) in
     let same : ChainSame m new t a.agenda agenda = record {
       gates = step.gates;
       hands = λ x.
@@ -109,7 +109,7 @@ own_neutral p n m t a d rest next agenda here alive step =
     record {
       actor = record {
         word = step.word ∙ old.word ∙ ap status_word (sym step.same_status);
-        holds = subst (HoldsAt new.plain.references t (p t)) (sym whole) holds;
+        holds = subst (λ (l : List Duty). HoldsAt new.plain.references t (p t) l a.aside) (sym whole) holds;
         bounded = old.bounded;
         departed = old.departed;
         head_fits =

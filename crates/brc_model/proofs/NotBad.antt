@@ -22,7 +22,8 @@ use Rattle.brc_model.proofs.Holds.{reference_of}
 use Rattle.brc_model.proofs.Rows.{waits, decides, merges, InOwned, InSwapped, InMerged}
 use Rattle.brc_model.proofs.Rule.{Accounts, extra_of, lacks_of, IsBacked, Linked, dies_by, Rule, IsNext}
 use Rattle.brc_model.proofs.Agreeing.{is_free_of}
-use Rattle.brc_model.proofs.Alive.{extra_held, Alive, first_weighs, alive_referenced, alive_waiting, alive_deciding, alive_merging, alive_backed}
+use Rattle.brc_model.proofs.Aside.{extra_held}
+use Rattle.brc_model.proofs.Alive.{Alive, first_weighs, alive_referenced, alive_waiting, alive_deciding, alive_merging, alive_backed}
 use Rattle.brc_model.proofs.Others.{is_dying}
 use Rattle.brc_model.proofs.Leaves.{AtDuty, head_of, exchange_alive, decide_alive, merge_alive, claim_alive}
 use Rattle.brc_model.proofs.Blocks.{next_above, next_unborn}
@@ -36,7 +37,8 @@ pub gives_held : (p : Accounts) (n : ℕ) (m : Machine) (t : ℕ) (a : Actor) (d
     → AtDuty p n m t a d rest → extra_of (d ∷ rest) k x ≡ true → lacks_of (d ∷ rest) k x ≡ false
     → 0 < held (reference_of t k x) m.plain.references
 gives_held p n m t a d rest k x here more less =
-    extra_held m.plain.references t (p t) a.agenda k x (here.rule.each t a here.found).0.holds
+    let fits = here.rule.each t a here.found in
+    extra_held m.plain.references t (p t) a.agenda a.aside k x fits.0.holds (fits.2.apart x)
     (ap (λ (l : List Duty). extra_of l k x) here.agenda ∙ more)
     (ap (λ (l : List Duty). lacks_of l k x) here.agenda ∙ less)
 

@@ -18,7 +18,7 @@ use Rattle.brc_model.specs.Machine.{Actor, Life, Unborn, Live, Dying, Closed, Ma
 use Rattle.brc_model.proofs.Bag.{held, one_if}
 use Rattle.brc_model.proofs.Holds.{reference_of}
 use Rattle.brc_model.proofs.Lists.{some_is, slice_get-set_same, slice_get-set_other}
-use Rattle.brc_model.proofs.Rule.{Fits, AgendaFits, Accounts, HoldsAt, Account, OwnsLocally, IsBacked, MayMerge, MayCarry, IsNext, HasCountedKind, HeadFits, HeadOf, Linked, dies_by, ChainFits, ActorFits}
+use Rattle.brc_model.proofs.Rule.{AllWait, AsideFits, Fits, AgendaFits, Accounts, HoldsAt, Account, OwnsLocally, IsBacked, MayMerge, MayCarry, IsNext, HasCountedKind, HeadFits, HeadOf, Linked, dies_by, ChainFits, ActorFits}
 
 -- what the others rely on
 pub record LeavesOthers (m new : Machine) (t : ℕ) : Type 0 where
@@ -35,9 +35,9 @@ pub record LeavesOthers (m new : Machine) (t : ℕ) : Type 0 where
   pub kinds : (x : ℕ) → HasCountedKind m.memory x → HasCountedKind new.memory x
   pub lives : (u x : ℕ) → u ≢ t → dies_by (new.life x) u ≡ dies_by (m.life x) u
 
-holds_kept : (m new : Machine) (t u : ℕ) (account : Account) (agenda : List Duty) → LeavesOthers m new t → u ≢ t
-    → HoldsAt m.plain.references u account agenda → HoldsAt new.plain.references u account agenda
-holds_kept m new t u account agenda leaves ne holds =
+holds_kept : (m new : Machine) (t u : ℕ) (account : Account) (agenda aside : List Duty) → LeavesOthers m new t → u ≢ t
+    → HoldsAt m.plain.references u account agenda aside → HoldsAt new.plain.references u account agenda aside
+holds_kept m new t u account agenda aside leaves ne holds =
     record { each = λ k object. omega (arith, leaves.bag u k object ne, holds.each k object) }
 
 backed_kept : (m new : Machine) (t u x : ℕ) → LeavesOthers m new t → u ≢ t → IsBacked m u x → IsBacked new u x
@@ -188,11 +188,30 @@ others_fit : (account : Account) (m new : Machine) (t u : ℕ) (b : Actor) → L
     → slice_get m.actors u ≡ Some b → ActorFits account m u b → ActorFits account new u b
 others_fit account m new t u b leaves ne found fits = record {
   word = leaves.words u ne ∙ fits.word;
-  holds = holds_kept m new t u account b.agenda leaves ne fits.holds;
+  holds = holds_kept m new t u account b.agenda b.aside leaves ne fits.holds;
   bounded = fits.bounded;
   departed = fits.departed;
   head_fits = head_of_kept m new t u b b.agenda leaves ne found fits.head_fits;
   chain = chain_kept m new t u b.head b.agenda leaves ne fits.chain;
+}
+
+-- ---- what is put aside
+
+waits_kept : (m new : Machine) (t u : ℕ) (b : Actor) (aside : List Duty) → LeavesOthers m new t → u ≢ t
+    → slice_get m.actors u ≡ Some b → AllWait m u b aside → AllWait new u b aside
+waits_kept m new t u b [] leaves ne found waits = tt
+waits_kept m new t u b (d ∷ rest) leaves ne found waits = (
+  waits.0,
+  head_kept m new t u b d [] leaves ne found waits.1,
+  waits_kept m new t u b rest leaves ne found waits.2,
+)
+
+aside_kept : (m new : Machine) (t u : ℕ) (b : Actor) → LeavesOthers m new t → u ≢ t → slice_get m.actors u ≡ Some b
+    → AsideFits m u b → AsideFits new u b
+aside_kept m new t u b leaves ne found fits = record {
+  waits = waits_kept m new t u b b.aside leaves ne found fits.waits;
+  apart = fits.apart;
+  pieces = fits.pieces;
 }
 
 -- ---- all threads
@@ -216,5 +235,6 @@ each_fits p q m new t a after at leaves same own each u b is =
           let fits = others_fit (p u) m new t u b leaves apart.1 found old.0 in (
             subst (λ (account : Account). ActorFits account new u b) (same u apart.1) fits,
             subst (λ (rows : ℕ). AgendaFits rows u b b.status) (sym leaves.rows) old.1,
+            aside_kept m new t u b leaves apart.1 found old.2,
           )
     ]

@@ -22,9 +22,9 @@ pub record HeldStep (bag new : List Reference) (t : ℕ) (agenda later : List Du
       → held (reference_of t k object) new + one_if (lacks_of later k object) + one_if (extra_of agenda k object)
       ≡ held (reference_of t k object) bag + one_if (lacks_of agenda k object) + one_if (extra_of later k object)
 
-pub holds_step : (bag new : List Reference) (t : ℕ) (account : Account) (agenda later : List Duty)
-    → HeldStep bag new t agenda later → HoldsAt bag t account agenda → HoldsAt new t account later
-holds_step bag new t account agenda later step holds =
+pub holds_step : (bag new : List Reference) (t : ℕ) (account : Account) (agenda later aside : List Duty)
+    → HeldStep bag new t agenda later → HoldsAt bag t account agenda aside → HoldsAt new t account later aside
+holds_step bag new t account agenda later aside step holds =
     record { each = λ k object. omega (arith, step.each k object, holds.each k object) }
 
 -- ---- agendas

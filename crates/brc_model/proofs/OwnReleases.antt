@@ -20,7 +20,8 @@ use Rattle.brc_model.proofs.Holds.{reference_of}
 use Rattle.brc_model.proofs.Rows.{InOwned, InSwapped, InMerged}
 use Rattle.brc_model.proofs.RowSteps.{owner_down}
 use Rattle.brc_model.proofs.Rule.{Accounts, extra_of, lacks_of}
-use Rattle.brc_model.proofs.Alive.{extra_held, Alive, alive_referenced}
+use Rattle.brc_model.proofs.Aside.{extra_held}
+use Rattle.brc_model.proofs.Alive.{Alive, alive_referenced}
 use Rattle.brc_model.proofs.Written.{written_here}
 use Rattle.brc_model.proofs.Leaves.{AtDuty, head_of, decide_alive}
 use Rattle.brc_model.proofs.Lives.{next_of}
@@ -59,7 +60,8 @@ extra_here : (p : Accounts) (n : ℕ) (m : Machine) (t : ℕ) (a : Actor) (d : D
     → AtDuty p n m t a d rest → extra_of (d ∷ rest) h x ≡ true → lacks_of (d ∷ rest) h x ≡ false
     → 0 < held (reference_of t h x) m.plain.references
 extra_here p n m t a d rest h x here more less =
-    extra_held m.plain.references t (p t) a.agenda h x (here.rule.each t a here.found).0.holds
+    let fits = here.rule.each t a here.found in
+    extra_held m.plain.references t (p t) a.agenda a.aside h x fits.0.holds (fits.2.apart x)
     (ap (λ (l : List Duty). extra_of l h x) here.agenda ∙ more)
     (ap (λ (l : List Duty). lacks_of l h x) here.agenda ∙ less)
 
@@ -154,7 +156,7 @@ own_release_counted p n m t a x h rest pos here alive =
       | true ↦ λ e.
           let owns = counts_owner m t a x e living in
           let some =
-          count_above p n m t x a here.rule here.found owns (weight_here p n m t x a d rest here refl) living
+          count_above p n m t x a here.rule here.found owns (weight_here p n m t x a d rest here (eq-eqb x x refl) refl) living
           in
           let same_word : (done_by m t a d rest).memory (Local x) ≡ word = written_here m.memory (Local x) word in
           own_next p n m t a d (ReleaseStore x word) rest here alive refl refl refl

@@ -1,5 +1,6 @@
 -- A thread after its own steps of a retain, and of the owner's release.
 use Rattle.std.proofs.Common.{◌≡◌, ℕ, zero, suc, ◌+◌, ◌<◌, ◌≤◌, Bool, true, false, cond, List, [], ◌∷◌, Some, refl, sym, ap, ◌∙◌, subst, arith}
+use Rattle.std.proofs.lemmas.Bool.{eq-eqb}
 use Rattle.std.specs.Prelude.{◌==◌, ◌&&◌, nat_lt, slice_get}
 use Rattle.std.proofs.lemmas.Bool.{eqb-true, ltb-true}
 use Rattle.brc_model.specs.declared.duty.Holding.{Holding}
@@ -16,7 +17,7 @@ use Rattle.brc_model.proofs.Lists.{and_first, and_second}
 use Rattle.brc_model.proofs.Bag.{held}
 use Rattle.brc_model.proofs.Holds.{reference_of}
 use Rattle.brc_model.proofs.Rows.{decides, agenda_weight, weight, InOwned, InSwapped, InMerged, AtZero, AboveZero}
-use Rattle.brc_model.proofs.Rule.{Accounts, extra_of, lacks_of, OwnsLocally, IsBacked, Rule}
+use Rattle.brc_model.proofs.Rule.{Accounts, is_about, extra_of, lacks_of, OwnsLocally, IsBacked, Rule}
 use Rattle.brc_model.proofs.Alive.{Alive, alive_backed}
 use Rattle.brc_model.proofs.Written.{written_here}
 use Rattle.brc_model.proofs.Leaves.{AtDuty, head_of}
@@ -24,7 +25,8 @@ use Rattle.brc_model.proofs.Own.{HeldStep}
 use Rattle.brc_model.proofs.Neutral.{OwnFits, found_by, bag_by, agenda_here, own_neutral}
 use Rattle.brc_model.proofs.OwnCounts.{held_same, backed_not_immortal}
 use Rattle.brc_model.proofs.Weighing.{own_weighs}
-use Rattle.brc_model.proofs.Deciders.{decides_of_row, nobody_decides}
+use Rattle.brc_model.proofs.Aside.{decides_of_row}
+use Rattle.brc_model.proofs.Deciders.{nobody_decides}
 
 abbrev pub is_passed : Duty → Bool
 is_passed Settle = true
@@ -73,8 +75,9 @@ count_above p n m t x a rule found owns mine alive =
     ]
 
 pub weight_here : (p : Accounts) (n : ℕ) (m : Machine) (t x : ℕ) (a : Actor) (d : Duty) (rest : List Duty)
-    → AtDuty p n m t a d rest → decides x d ≡ 0 → agenda_weight (decides x) a ≡ 0
-weight_here p n m t x a d rest here none = own_weighs p n m t a d rest (decides x) here (decides_of_row x) ∙ none
+    → AtDuty p n m t a d rest → is_about x d ≡ true → decides x d ≡ 0 → agenda_weight (decides x) a ≡ 0
+weight_here p n m t x a d rest here this none =
+    own_weighs p n m t x a d rest (decides x) here (decides_of_row x) this ∙ none
 
 retain_bag : (m : Machine) (t : ℕ) (a : Actor) (x : ℕ) (h : Holding) → is_immortal_word (m.memory (Local x)) ≡ false
     → bag_by m t a (RetainLoad x h) ≡ m.plain.references
@@ -120,7 +123,7 @@ own_retain_counted p n m t a x h rest pos here alive =
           let owns = counts_owner m t a x counts living in
           let some =
           count_above p n m t x a here.rule here.found owns
-          (weight_here p n m t x a (RetainLoad x h) rest here refl) living in
+          (weight_here p n m t x a (RetainLoad x h) rest here (eq-eqb x x refl) refl) living in
           let same : new.memory (Local x) ≡ word = written_here m.memory (Local x) word in
           own_neutral p n m t a (RetainLoad x h) rest (RetainStore x h word ∷ []) (RetainStore x h word ∷ rest) here
           alive (record {

@@ -32,13 +32,13 @@ own_shown p n m t a d rest agenda status head here step =
     let old = (here.rule.each t a here.found).0 in
     let new = done_by m t a d rest in
     let after = actor_by t a d rest (found_by m t a d) in
-    let holds : HoldsAt new.plain.references t (p t) agenda =
-    holds_step m.plain.references new.plain.references t (p t) (d ∷ rest) agenda step.held
-    (subst (HoldsAt m.plain.references t (p t)) here.agenda old.holds) in
+    let holds : HoldsAt new.plain.references t (p t) agenda a.aside =
+    holds_step m.plain.references new.plain.references t (p t) (d ∷ rest) agenda a.aside step.held
+    (subst (λ (l : List Duty). HoldsAt m.plain.references t (p t) l a.aside) here.agenda old.holds) in
     record {
       actor = record {
         word = step.word ∙ ap status_word (sym step.status_is);
-        holds = subst (HoldsAt new.plain.references t (p t)) (sym step.agenda_is) holds;
+        holds = subst (λ (l : List Duty). HoldsAt new.plain.references t (p t) l a.aside) (sym step.agenda_is) holds;
         bounded = old.bounded;
         departed = old.departed;
         head_fits =

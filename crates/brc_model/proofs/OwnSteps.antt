@@ -207,9 +207,9 @@ own_dying p n m t a d rest x here alive kept step =
     ap (λ (h : ℕ). ready h (next_of m t a d ++ rest)) same_head
     ∙ ap (λ (l : List Duty). ready a.head (l ++ rest)) step.next_is ∙ ready_first a.head (Die x) rest refl in
     let life = λ (y : ℕ). dying_life m t a d x y step.next_is (keeping_ends d kept) (keeping_born d kept) in
-    let holds : HoldsAt new.plain.references t (p t) agenda =
-    holds_step m.plain.references new.plain.references t (p t) (d ∷ rest) agenda step.held
-    (subst (HoldsAt m.plain.references t (p t)) here.agenda old.holds) in
+    let holds : HoldsAt new.plain.references t (p t) agenda a.aside =
+    holds_step m.plain.references new.plain.references t (p t) (d ∷ rest) agenda a.aside step.held
+    (subst (λ (l : List Duty). HoldsAt m.plain.references t (p t) l a.aside) here.agenda old.holds) in
     let same : ChainSame m new t a.agenda agenda = record {
       gates = λ y. keeping_gates m t a d y kept;
       hands = λ y.
@@ -224,7 +224,7 @@ own_dying p n m t a d rest x here alive kept step =
     record {
       actor = record {
         word = keeping_word m t a d kept ∙ old.word ∙ ap status_word (sym same_status);
-        holds = subst (HoldsAt new.plain.references t (p t)) (sym whole) holds;
+        holds = subst (λ (l : List Duty). HoldsAt new.plain.references t (p t) l a.aside) (sym whole) holds;
         bounded = old.bounded;
         departed = old.departed;
         head_fits = subst (λ (l : List Duty). HeadOf new t after l) (sym whole) (step.counted, dies);

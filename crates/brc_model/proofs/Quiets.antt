@@ -18,6 +18,7 @@ use Rattle.brc_model.proofs.Bag.{one_if, references_to-cons, references_to-witho
 use Rattle.brc_model.proofs.Holds.{reference_of}
 use Rattle.brc_model.proofs.MovesApart.{AreAside, IsNoWayOf, moved_aside}
 use Rattle.brc_model.proofs.Rows.{waits, carries, merges, decides, weight, Numbers, RowRule}
+use Rattle.brc_model.proofs.Aside.{HoldsAlone, holds_alone, alone_fits}
 use Rattle.brc_model.proofs.Rule.{Account, Accounts, HoldsAt, IsBounded, Fits, numbers_of, scans, AgendaFits, UsesFit, looks, IsWatched, ByRunning, ByExit, ByLook, Rule, ChainFits}
 use Rattle.brc_lang.specs.declared.kind.Kind.{Kind}
 use Rattle.brc_model.specs.Kinds.{kind_number}
@@ -138,15 +139,17 @@ leaves m t a moves place quiet = record {
 }
 
 -- what a thread has to show to take a quiet step
-pub record QuietSits (m : Machine) (t : ℕ) (moves : List Move) (place : Place) (account : Account) : Type 0 where
+pub record QuietSits (m : Machine) (t : ℕ) (a : Actor) (moves : List Move) (place : Place) (account : Account)
+    : Type 0 where
+  pub alone : a.aside ≡ []
   pub moves_fit : QuietMoves m.plain.references t moves
-  pub holds : HoldsAt (bag_after m.plain.references moves) t account []
+  pub holds : HoldsAlone (bag_after m.plain.references moves) t account []
   pub bounded : IsBounded account
   pub stays : place ≢ Departing
 
 own_fits : (p : Accounts) (n : ℕ) (m : Machine) (t : ℕ) (a : Actor) (moves : List Move) (place : Place)
     (account : Account)
-    → AtRest p n m t a → QuietSits m t moves place account
+    → AtRest p n m t a → QuietSits m t a moves place account
     → Fits account (quieted m t a moves place) t (sitting a place [])
 own_fits p n m t a moves place account rest taken =
     let old = (rest.rule.each t a rest.found).0 in
@@ -154,20 +157,22 @@ own_fits p n m t a moves place account rest taken =
       record {
         word = old.word;
         holds =
-            subst (λ (l : List Reference). HoldsAt l t account []) (sym (quiet_bag m.plain t moves taken.moves_fit))
-            taken.holds;
+            subst (λ (l : List Reference). HoldsAt l t account [] a.aside)
+            (sym (quiet_bag m.plain t moves taken.moves_fit))
+            (holds_alone (bag_after m.plain.references moves) t account [] a.aside taken.alone taken.holds);
         bounded = taken.bounded;
         departed = λ e. absurd (taken.stays e);
         head_fits = tt;
         chain = record { chained = chain.chained; linked = chain.linked; once = chain.once };
       },
       subst (λ (s : Status). AgendaFits m.rows t (sitting a place []) s) (sym rest.running) (taken.stays, refl),
+      alone_fits (quieted m t a moves place) t (sitting a place []) taken.alone,
     )
 
 -- A quiet step under its condition keeps the rule.
 pub quiet_rule : (p : Accounts) (n : ℕ) (m : Machine) (t : ℕ) (a : Actor) (moves : List Move) (place : Place)
     (account : Account)
-    → AtRest p n m t a → QuietSits m t moves place account
+    → AtRest p n m t a → QuietSits m t a moves place account
     → Rule (with_account p t account) n (quieted m t a moves place)
 quiet_rule p n m t a moves place account rest taken =
     let quiet = taken.moves_fit in

@@ -39,9 +39,9 @@ decides x (DecideAtZero y) = one_if (y == x)
 decides x (MergeSwap y Own) = one_if (y == x)
 decides x _ = 0
 
--- over all agendas
+-- over all duties of a thread
 abbrev pub agenda_weight : (Duty → ℕ) → Actor → ℕ
-agenda_weight f a = sum_by f a.agenda
+agenda_weight f a = sum_by f a.agenda + sum_by f a.aside
 
 abbrev pub weight : (Duty → ℕ) → List Actor → ℕ
 weight f actors = sum_by (agenda_weight f) actors

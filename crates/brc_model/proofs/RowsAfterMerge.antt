@@ -55,7 +55,7 @@ row_after_own_swap {m = m} {t = t} {a = a} {y = y} {rest = rest} s =
 head_awaits : {p : Accounts} {n : ℕ} {m : Machine} {t : ℕ} {a : Actor} {d : Duty} {rest : List Duty} (y : ℕ)
     → Doing p n m t a d rest → waits y d ≤ weight (waits y) m.actors
 head_awaits {m = m} {t = t} {a = a} {d = d} {rest = rest} y s =
-    let whole : agenda_weight (waits y) a ≡ sum_by (waits y) (d ∷ rest) = ap (sum_by (waits y)) s.agenda in
+    let whole : sum_by (waits y) a.agenda ≡ sum_by (waits y) (d ∷ rest) = ap (sum_by (waits y)) s.agenda in
     omega (arith, agenda_weight-le (waits y) m.actors t a s.actor, whole, sum_by-cons (waits y) d rest)
 
 -- the local word that a claimant finds

@@ -15,7 +15,7 @@ use Rattle.brc_model.proofs.Bag.{held, one_if, held_has, held-le-references_to, 
 use Rattle.brc_model.proofs.Holds.{reference_of}
 use Rattle.brc_model.proofs.Rows.{Numbers, InOwned, InSwapped, InMerged, IsLive}
 use Rattle.brc_model.proofs.Rule.{Accounts, numbers_of, extra, lacks, extra_of, lacks_of, IsBacked}
-use Rattle.brc_model.proofs.Alive.{extra_held}
+use Rattle.brc_model.proofs.Aside.{extra_held}
 use Rattle.brc_model.proofs.RowsAfterStep.{Doing, following, KeepsRow, RowStays, row_stays, Lives, row_lives}
 use Rattle.brc_model.proofs.RowsAfterElsewhere.{AreApart, IsApart}
 
@@ -37,7 +37,8 @@ pub gives_up : {p : Accounts} {n : ℕ} {m : Machine} {t : ℕ} {a : Actor} {d :
     → Doing p n m t a d rest → (k : Holding) (object : ℕ) → extra d k object ≡ true → lacks d k object ≡ false
     → 0 < held (reference_of t k object) m.plain.references
 gives_up {p = p} {m = m} {t = t} {a = a} s k object more less =
-    extra_held m.plain.references t (p t) a.agenda k object (s.rule.each t a s.actor).0.holds
+    let fits = s.rule.each t a s.actor in
+    extra_held m.plain.references t (p t) a.agenda a.aside k object fits.0.holds (fits.2.apart object)
     (ap (λ (ds : List Duty). extra_of ds k object) s.agenda ∙ more)
     (ap (λ (ds : List Duty). lacks_of ds k object) s.agenda ∙ less)
 

@@ -74,11 +74,18 @@ Account = Holding → ℕ → ℕ
 abbrev pub Accounts : Type 0
 Accounts = ℕ → Account
 
--- the bag has just what the thread's account says, with what the duty at hand has more or less
-pub record HoldsAt (bag : List Reference) (t : ℕ) (account : Account) (agenda : List Duty) : Type 0 where
+-- of the duties that are put aside: how many make or give up a reference just now
+abbrev pub extra_aside : List Duty → Holding → ℕ → ℕ
+extra_aside aside k object = count_by (λ d. extra d k object) aside
+
+abbrev pub lacks_aside : List Duty → Holding → ℕ → ℕ
+lacks_aside aside k object = count_by (λ d. lacks d k object) aside
+
+-- the bag has just what the thread's account says, with what its open work has more or less
+pub record HoldsAt (bag : List Reference) (t : ℕ) (account : Account) (agenda aside : List Duty) : Type 0 where
   pub each : (k : Holding) (object : ℕ)
-      → held (reference_of t k object) bag + one_if (lacks_of agenda k object) ≡ account k object
-      + one_if (extra_of agenda k object)
+      → held (reference_of t k object) bag + one_if (lacks_of agenda k object) + lacks_aside aside k object
+      ≡ account k object + one_if (extra_of agenda k object) + extra_aside aside k object
 
 -- ---- what the duty at hand knows
 
@@ -238,9 +245,9 @@ HoldsNone account = (k : Holding) (object : ℕ) → account k object ≡ 0
 
 pub record ActorFits (account : Account) (m : Machine) (t : ℕ) (a : Actor) : Type 0 where
   pub word : m.memory (ThreadWord t) ≡ status_word a.status
-  pub holds : HoldsAt m.plain.references t account a.agenda
+  pub holds : HoldsAt m.plain.references t account a.agenda a.aside
   pub bounded : IsBounded account
-  pub departed : a.place ≡ Departing → HoldsNone account
+  pub departed : a.place ≡ Departing → HoldsNone account × (a.aside ≡ [])
   pub head_fits : HeadOf m t a a.agenda
   pub chain : ChainFits m t a.head a.agenda
 
@@ -250,9 +257,90 @@ AgendaFits rows t a Gone = (a.agenda ≡ []) × (a.place ≡ Departing) × (a.he
 AgendaFits rows t a Running = Agenda rows t a.used Running a.place a.agenda
 AgendaFits rows t a Leaving = Agenda rows t a.used Leaving a.place a.agenda
 
+-- ---- work that is put aside
+
+-- whether a duty is about the row
+abbrev pub is_about : ℕ → Duty → Bool
+is_about x (RetainLoad y h) = y == x
+is_about x (RetainStore y h w) = y == x
+is_about x (RetainAdd y h) = y == x
+is_about x (ReleaseLoad y h) = y == x
+is_about x (ReleaseStore y w) = y == x
+is_about x (DecideAtZero y) = y == x
+is_about x (SharedLoad y r) = y == x
+is_about x (SharedExchange y r w) = y == x
+is_about x (SetMark y) = y == x
+is_about x (Look y) = y == x
+is_about x (TakeMark y) = y == x
+is_about x (MergeSwap y r) = y == x
+is_about x (MergeLoad y c r) = y == x
+is_about x (MergeExchange y c w r) = y == x
+is_about x (Die y) = y == x
+is_about x (SettleKind y) = y == x
+is_about x (SettleCell y i n) = y == x
+is_about x (TakeSlot y) = y == x
+is_about x (CloseResource y) = y == x
+is_about x (SettleEnd y) = y == x
+is_about x (ClaimMark y) = y == x
+is_about x (BirthKind y h w) = y == x
+is_about x (BirthSlot y h) = y == x
+is_about x (BirthLocal y h) = y == x
+is_about x Settle = false
+is_about x (Leave y n) = false
+is_about x (Scan y n) = false
+is_about x Finish = false
+
+abbrev pub about_of : ℕ → List Duty → Bool
+about_of x [] = false
+about_of x (d ∷ rest) = is_about x d
+
+-- Whether a duty may be put aside: it retains, releases, queues or merges. What settles, claims, exits or gives birth
+-- is done in one go.
+abbrev pub may_wait : Duty → Bool
+may_wait (RetainLoad x h) = true
+may_wait (RetainStore x h w) = true
+may_wait (RetainAdd x h) = true
+may_wait (ReleaseLoad x h) = true
+may_wait (ReleaseStore x w) = true
+may_wait (DecideAtZero x) = true
+may_wait (SharedLoad x r) = true
+may_wait (SharedExchange x r w) = true
+may_wait (SetMark x) = true
+may_wait (Look x) = true
+may_wait (TakeMark x) = true
+may_wait (MergeSwap x r) = true
+may_wait (MergeLoad x c r) = true
+may_wait (MergeExchange x c w r) = true
+may_wait _ = false
+
+-- whether a duty may be at hand while others are put aside: these, a row that dies, and a birth
+abbrev pub is_piece : Duty → Bool
+is_piece (Die x) = true
+is_piece (BirthKind x h w) = true
+is_piece (BirthSlot x h) = true
+is_piece (BirthLocal x h) = true
+is_piece d = may_wait d
+
+-- such a duty alone, or none
+abbrev pub IsPiece : List Duty → Type 0
+IsPiece [] = Unit {0}
+IsPiece (d ∷ []) = is_piece d ≡ true
+IsPiece _ = ⊥
+
+-- what is put aside knows what it knows
+abbrev pub AllWait : Machine → ℕ → Actor → List Duty → Type 0
+AllWait m t a [] = Unit {0}
+AllWait m t a (d ∷ rest) = (may_wait d ≡ true) × HeadFits m t a d [] × AllWait m t a rest
+
+-- several pieces of work, each about another row
+pub record AsideFits (m : Machine) (t : ℕ) (a : Actor) : Type 0 where
+  pub waits : AllWait m t a a.aside
+  pub apart : (x : ℕ) → one_if (about_of x a.agenda) + count_by (is_about x) a.aside ≤ 1
+  pub pieces : (a.aside ≡ []) ⊎ IsPiece a.agenda
+
 -- all that is said of one thread
 abbrev pub Fits : Account → Machine → ℕ → Actor → Type 0
-Fits account m t a = ActorFits account m t a × AgendaFits m.rows t a a.status
+Fits account m t a = ActorFits account m t a × AgendaFits m.rows t a a.status × AsideFits m t a
 
 -- ---- marks that are set are watched
 

@@ -61,9 +61,12 @@ gone_holds p n m t k object rule done =
           let a = found.0 in
           let gone = gone_at p n m t a rule done found.2 in
           let old = (rule.each t a found.2).0 in
-          let holds : HoldsAt m.plain.references t (p t) [] =
-          subst (HoldsAt m.plain.references t (p t)) gone.agenda old.holds in
-          omega (arith, holds.each k object, old.departed gone.place k object)
+          let departed = old.departed gone.place in
+          let agenda : HoldsAt m.plain.references t (p t) [] a.aside =
+          subst (λ (l : List Duty). HoldsAt m.plain.references t (p t) l a.aside) gone.agenda old.holds in
+          let holds : HoldsAt m.plain.references t (p t) [] [] =
+          subst (HoldsAt m.plain.references t (p t) []) departed.1 agenda in
+          omega (arith, holds.each k object, departed.0 k object)
       | inr past ↦ rule.beyond t (omega (arith, past.0, rule.threads)) k object
     ]
 
@@ -77,7 +80,11 @@ none_left p n m rule done = empty_bag m.plain.references (λ r. none_holds p n m
 
 no_weights : (p : Accounts) (n : ℕ) (m : Machine) (f : Duty → ℕ) → Rule p n m → AllGone m → weight f m.actors ≡ 0
 no_weights p n m f rule done =
-    sum_zero (agenda_weight f) m.actors (λ t a found. ap (sum_by f) (gone_at p n m t a rule done found).agenda)
+    sum_zero (agenda_weight f) m.actors (λ t a found.
+    let gone = gone_at p n m t a rule done found in
+    let agenda : sum_by f a.agenda ≡ 0 = ap (sum_by f) gone.agenda in
+    let aside : sum_by f a.aside ≡ 0 = ap (sum_by f) ((rule.each t a found).0.departed gone.place).1 in
+    omega (arith, agenda, aside))
 
 -- no mark is left: nobody watches
 no_mark : (p : Accounts) (n : ℕ) (m : Machine) (x : ℕ) → Rule p n m → AllGone m → block_of m.rows x < n

@@ -16,13 +16,21 @@ use Rattle.brc_model.proofs.Lists.{some_is, slice_get-set_other, written_actor}
 use Rattle.brc_model.proofs.Bag.{one_if}
 use Rattle.brc_model.proofs.Weights.{weight-set}
 use Rattle.brc_model.proofs.Rows.{waits, carries, merges, decides, agenda_weight, weight, Numbers, RowRule}
-use Rattle.brc_model.proofs.Rule.{Account, Accounts, numbers_of, HoldsAt, HoldsNone, IsBounded, Fits, HeadOf, Agenda, scans, hand_of, AgendaFits, looks, IsWatched, ByRunning, ByExit, ByLook, Rule, UsesFit}
+use Rattle.brc_model.proofs.Rule.{Account, Accounts, numbers_of, HoldsAt, HoldsNone, IsBounded, AsideFits, Fits, HeadOf, Agenda, scans, hand_of, AgendaFits, looks, IsWatched, ByRunning, ByExit, ByLook, Rule, UsesFit}
 use Rattle.brc_model.proofs.Others.{LeavesOthers, each_fits}
 
 -- the thread with another place and agenda
 abbrev pub sitting : Actor → Place → List Duty → Actor
 sitting a place agenda =
-    record { function = a.function; place = place; status = a.status; agenda = agenda; head = a.head; used = a.used }
+    record {
+      function = a.function;
+      place = place;
+      status = a.status;
+      agenda = agenda;
+      aside = a.aside;
+      head = a.head;
+      used = a.used;
+    }
 
 -- the accounts with one thread's replaced
 abbrev pub with_account : Accounts → ℕ → Account → Accounts
@@ -49,9 +57,10 @@ with_account_itself p t =
 -- What a thread has to show to take up work: its account is then that of the place where it will stand.
 pub record Sits (m : Machine) (t : ℕ) (a : Actor) (place : Place) (agenda : List Duty) (account : Account)
     : Type 0 where
-  pub holds : HoldsAt m.plain.references t account agenda
+  pub holds : HoldsAt m.plain.references t account agenda a.aside
   pub bounded : IsBounded account
-  pub departed : place ≡ Departing → HoldsNone account
+  pub departed : place ≡ Departing → HoldsNone account × (a.aside ≡ [])
+  pub aside : AsideFits (with_actor m t (sitting a place agenda)) t (sitting a place agenda)
   pub knows : HeadOf (with_actor m t (sitting a place agenda)) t (sitting a place agenda) agenda
   pub fits : Agenda m.rows t a.used Running place agenda
   pub hands : (x : ℕ) → hand_of agenda x ≡ false
@@ -72,7 +81,7 @@ pub same_weight : (f : Duty → ℕ) (actors : List Actor) (t : ℕ) (a : Actor)
     → slice_get actors t ≡ Some a → a.agenda ≡ [] → sum_by f agenda ≡ 0
     → weight f (slice_set actors t (sitting a place agenda)) ≡ weight f actors
 same_weight f actors t a place agenda found none weightless =
-    let before : agenda_weight f a ≡ 0 = ap (sum_by f) none in
+    let before : sum_by f a.agenda ≡ 0 = ap (sum_by f) none in
     omega (arith, weight-set f actors t a (sitting a place agenda) found, before, weightless)
 
 same_numbers : (p : Accounts) (n : ℕ) (m : Machine) (t : ℕ) (a : Actor) (place : Place) (agenda : List Duty)
@@ -157,6 +166,7 @@ sitting_fits p n m t a place agenda account rest sits =
             };
       },
       subst (λ (s : Status). AgendaFits m.rows t (sitting a place agenda) s) (sym rest.running) sits.fits,
+      sits.aside,
     )
 
 -- Taking work up under its condition keeps the rule.

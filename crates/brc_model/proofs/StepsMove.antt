@@ -230,6 +230,7 @@ miss_stays w t a row found rest empty none =
       place = a.place;
       status = a.status;
       agenda = agenda i;
+      aside = a.aside;
       head = a.head;
       used = a.used;
     } in

@@ -14,6 +14,7 @@ use Rattle.brc_model.specs.declared.actor.Place.{Place}
 use Rattle.brc_model.specs.declared.actor.Place.TheVariants.{Standing, Departing}
 use Rattle.brc_model.specs.Machine.{Actor, Machine, first_row, dispatch, agenda_action, with_actor, block_size, next_row}
 use Rattle.brc_model.proofs.Rows.{waits, carries, merges, decides}
+use Rattle.brc_model.proofs.Aside.{HoldsAlone, holds_alone, alone_holds, alone_fits}
 use Rattle.brc_model.proofs.Coded.{PlaceSays, InCode, place_fits, placed_by, departed_none, says_bounded}
 use Rattle.brc_model.proofs.Rule.{Account, Accounts, HoldsAt, HoldsNone, IsBounded, Later, Agenda, AgendaFits, looks, Rule, IsNext}
 use Rattle.brc_model.proofs.Begins.{Starts, Gives, Takes, Follows, Nothing, Settles, Leaves, Taken, IsTaken, Bears}
@@ -45,18 +46,19 @@ follows_weigh rows t used place rest f settle leave (Leaves leaves) =
 
 pub starts_sit : (p : Accounts) (n : ℕ) (m : Machine) (t : ℕ) (a : Actor) (place : Place) (d : Duty) (rest : List Duty)
     (account : Account)
-    → AtRest p n m t a → HoldsAt m.plain.references t account (d ∷ rest) → IsBounded account
+    → AtRest p n m t a → a.aside ≡ [] → HoldsAlone m.plain.references t account (d ∷ rest) → IsBounded account
     → (place ≡ Departing → HoldsNone account)
     → Starts m.plain.references m.rows t a.used d rest → Follows m.rows t a.used place rest
     → Sits m t a place (d ∷ rest) account
-starts_sit p n m t a place d rest account at holds bounded departed (Gives row h behind some) follows =
+starts_sit p n m t a place d rest account at alone holds bounded departed (Gives row h behind some) follows =
     let weigh =
     λ (f : Duty → ℕ) (settle : f Settle ≡ 0) (leave : (x k : ℕ) → f (Leave x k) ≡ 0). follows_weigh m.rows t a.used
     place rest f settle leave follows in
     record {
-      holds = holds;
+      holds = holds_alone m.plain.references t account (d ∷ rest) a.aside alone holds;
       bounded = bounded;
-      departed = departed;
+      departed = λ e. (departed e, alone);
+      aside = alone_fits (with_actor m t (sitting a place (d ∷ rest))) t (sitting a place (d ∷ rest)) alone;
       knows = tt;
       fits = later_follows m.rows t a.used place rest follows;
       hands = λ x. refl;
@@ -69,14 +71,15 @@ starts_sit p n m t a place d rest account at holds bounded departed (Gives row h
           λ x. omega (arith, sum_by-cons (decides x) (ReleaseLoad row h) rest, weigh (decides x) refl (λ y k. refl));
       no_looks = λ x. omega (arith, sum_by-cons (looks x) (ReleaseLoad row h) rest, weigh (looks x) refl (λ y k. refl));
     }
-starts_sit p n m t a place d rest account at holds bounded departed (Takes row h by behind some) follows =
+starts_sit p n m t a place d rest account at alone holds bounded departed (Takes row h by behind some) follows =
     let weigh =
     λ (f : Duty → ℕ) (settle : f Settle ≡ 0) (leave : (x k : ℕ) → f (Leave x k) ≡ 0). follows_weigh m.rows t a.used
     place rest f settle leave follows in
     record {
-      holds = holds;
+      holds = holds_alone m.plain.references t account (d ∷ rest) a.aside alone holds;
       bounded = bounded;
-      departed = departed;
+      departed = λ e. (departed e, alone);
+      aside = alone_fits (with_actor m t (sitting a place (d ∷ rest))) t (sitting a place (d ∷ rest)) alone;
       knows = record { by = by; held_so = some };
       fits = later_follows m.rows t a.used place rest follows;
       hands = λ x. refl;
@@ -89,12 +92,13 @@ starts_sit p n m t a place d rest account at holds bounded departed (Takes row h
           λ x. omega (arith, sum_by-cons (decides x) (RetainLoad row h) rest, weigh (decides x) refl (λ y k. refl));
       no_looks = λ x. omega (arith, sum_by-cons (looks x) (RetainLoad row h) rest, weigh (looks x) refl (λ y k. refl));
     }
-starts_sit p n m t a place d rest account at holds bounded departed (Bears h w room few said) follows =
+starts_sit p n m t a place d rest account at alone holds bounded departed (Bears h w room few said) follows =
     let row = next_row m.rows t a.used in
     record {
-      holds = holds;
+      holds = holds_alone m.plain.references t account (d ∷ rest) a.aside alone holds;
       bounded = bounded;
-      departed = departed;
+      departed = λ e. (departed e, alone);
+      aside = alone_fits (with_actor m t (sitting a place (d ∷ rest))) t (sitting a place (d ∷ rest)) alone;
       knows = (next_is p n m t a place (BirthKind row h w ∷ []) at room, refl, said);
       fits = later_follows m.rows t a.used place [] follows;
       hands = λ x. refl;
@@ -113,30 +117,32 @@ pub record TakenSits (p : Module) (m : Machine) (t : ℕ) (a : Actor) (place : P
 
 pub taken_sits : (p : Module) (c : Accounts) (n : ℕ) (m : Machine) (t : ℕ) (a : Actor) (place : Place) (d : Duty)
     (rest : List Duty)
-    → AtRest c n m t a
+    → AtRest c n m t a → a.aside ≡ []
     → Taken (code_of (slice_get p.functions a.function)) m.plain.references m.rows t a.used place d rest
     → TakenSits p m t a place (d ∷ rest)
-taken_sits p c n m t a place d rest at taken =
+taken_sits p c n m t a place d rest at alone taken =
     let code = code_of (slice_get p.functions a.function) in
     let placed = placed_by code m.plain.references t (d ∷ rest) place taken.placed in
     record {
       account = placed.account;
       says = placed.says;
       sits =
-          starts_sit c n m t a place d rest placed.account at placed.holds
+          starts_sit c n m t a place d rest placed.account at alone placed.holds
           (says_bounded code place placed.account placed.says)
           (departed_none code place placed.account placed.says) taken.starts taken.follows;
     }
 
 -- the claim of a row of the thread's own block
 pub claim_sits : (p : Accounts) (n : ℕ) (m : Machine) (t : ℕ) (a : Actor) (left row : ℕ) → AtRest p n m t a
-    → block_of m.rows row ≡ t → Sits m t a (Standing left) (ClaimMark row ∷ []) (p t)
-claim_sits p n m t a left row at mine =
+    → a.aside ≡ [] → block_of m.rows row ≡ t → Sits m t a (Standing left) (ClaimMark row ∷ []) (p t)
+claim_sits p n m t a left row at alone mine =
     let old = (at.rule.each t a at.found).0 in
-    let holds : HoldsAt m.plain.references t (p t) [] =
-    subst (HoldsAt m.plain.references t (p t)) at.agenda old.holds in
+    let holds : HoldsAt m.plain.references t (p t) [] a.aside =
+    subst (λ (l : List Duty). HoldsAt m.plain.references t (p t) l a.aside) at.agenda old.holds in
+    let now = sitting a (Standing left) (ClaimMark row ∷ []) in
     record {
       holds = record { each = holds.each };
+      aside = alone_fits (with_actor m t now) t now alone;
       bounded = old.bounded;
       departed = λ e. absurd (let wrong : Standing left ≡ Departing = e in cc);
       knows = mine;
@@ -170,8 +176,10 @@ pub dispatch_fits : (p : Module) (c : Accounts) (n : ℕ) (m : Machine) (t : ℕ
     (agenda_action m.functions m.rows t a [])
 dispatch_fits p c n m t a at functions coded stays =
     let code = code_of (slice_get p.functions a.function) in
-    let holds : HoldsAt m.plain.references t (c t) [] =
-    subst (HoldsAt m.plain.references t (c t)) at.agenda (at.rule.each t a at.found).0.holds in
+    let holds : HoldsAlone m.plain.references t (c t) [] =
+    alone_holds m.plain.references t (c t) [] a.aside coded.alone
+    (subst (λ (l : List Duty). HoldsAt m.plain.references t (c t) l a.aside) at.agenda
+    (at.rule.each t a at.found).0.holds) in
     let here : IsTaken code m.plain.references m.rows t a.used (dispatch m.rows t a.used code a.place) =
     dispatch_taken code m.plain.references m.rows t a.used a.place coded.accepted coded.instructions stays
     (place_fits code m.plain.references t [] a.place (c t) coded.says holds) in

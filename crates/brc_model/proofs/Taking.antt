@@ -27,7 +27,7 @@ use Rattle.brc_model.proofs.Holds.{the_root, of_variables, reference_of, Holds, 
 use Rattle.brc_model.proofs.Grounded.{IsGrounded, IsInside, AreInstructions, live_slot, owned_slot, owned_row, grounded-put, StandsAt, entry_inside}
 use Rattle.brc_model.proofs.Passing.{passes_on}
 use Rattle.brc_model.proofs.OwnCounts.{flip_eqb}
-use Rattle.brc_model.proofs.Rule.{HoldsAt}
+use Rattle.brc_model.proofs.Aside.{HoldsAlone}
 use Rattle.brc_model.proofs.Coded.{once_each, PlaceFits}
 use Rattle.brc_model.proofs.Begins.{holds_plain, holds_at_none, Gives, Takes, Nothing, Settles, Leaves, Taken, IsTaken, taken_with_row, standing_stays, inside_stays, newref_held, emptied_held, ended_says, Bears, Stays, QuietTaken, cleared_held}
 use Rattle.brc_model.specs.Duties.{cells_of}
@@ -87,7 +87,7 @@ newref_taken code bag rows t used left at variables s to from here =
       grounded =
           grounded-put s variables to slot (Some live.object) in_slots in_rows (live.object, refl) here.inside.grounded;
     } in
-    let held_now : HoldsAt bag t (once_each (of_variables (put s to slot) (slice_set variables to (Some live.object))))
+    let held_now : HoldsAlone bag t (once_each (of_variables (put s to slot) (slice_set variables to (Some live.object))))
     (RetainLoad live.object (ByVariable to) ∷ []) =
     record { each = newref_held bag t s variables to live.object slot in_slots in_rows free refl here.holds } in
     let taken : Taken code bag rows t used (Inside left (at + 1) (slice_set variables to (Some live.object)))
@@ -124,7 +124,7 @@ drop_taken code bag rows t used left at variables s from here =
       rows = length-set variables from None ∙ here.inside.rows;
       grounded = grounded-put s variables from Empty None in_slots in_rows tt here.inside.grounded;
     } in
-    let held_now : HoldsAt bag t (once_each (of_variables (put s from Empty) (slice_set variables from None)))
+    let held_now : HoldsAlone bag t (once_each (of_variables (put s from Empty) (slice_set variables from None)))
     (ReleaseLoad row.0 (ByVariable from) ∷ Settle ∷ []) =
     record { each = emptied_held bag t s variables from row.0 in_slots owned row.1 here.holds } in
     let taken : Taken code bag rows t used (Inside left (at + 1) (slice_set variables from None))
@@ -148,7 +148,7 @@ ret_taken code bag rows t used left at variables s from here =
     let row = owned_row (slot_of s from) (row_of variables from) owned (here.inside.grounded from) in
     let in_slots : from < length s.slots = omega (arith, here.variables, here.inside.slots) in
     let none : list_any is_owned (put s from Empty).slots ≡ false = first_false _ _ here.met.none_left in
-    let held_now : HoldsAt bag t (once_each the_root) (ReleaseLoad row.0 (ByVariable from) ∷ Settle ∷ []) = record {
+    let held_now : HoldsAlone bag t (once_each the_root) (ReleaseLoad row.0 (ByVariable from) ∷ Settle ∷ []) = record {
       each = λ k object.
           let said : one_if (of_variables (put s from Empty) (slice_set variables from None) k object)
           ≡ one_if (the_root k object) =
@@ -186,7 +186,7 @@ num_born code bag rows t used left at variables s to value otherwise here room =
       rows = length-set variables to (Some row) ∙ here.inside.rows;
       grounded = grounded-put s variables to slot (Some row) in_slots in_rows (row, refl) here.inside.grounded;
     } in
-    let held_now : HoldsAt bag t (once_each (of_variables (put s to slot) (slice_set variables to (Some row))))
+    let held_now : HoldsAlone bag t (once_each (of_variables (put s to slot) (slice_set variables to (Some row))))
     (BirthKind row (ByVariable to) (number_word value) ∷ []) =
     record { each = newref_held bag t s variables to row slot in_slots in_rows free refl here.holds } in
     record {

@@ -241,9 +241,9 @@ looks_step : (m : Machine) (t : ℕ) (a : Actor) (d : Duty) (rest : List Duty) (
     + sum_by (looks x) (next_of m t a d)
 looks_step m t a d rest x found is =
     let after = actor_by t a d rest (found_by m t a d) in
-    let before : agenda_weight (looks x) a ≡ looks x d + sum_by (looks x) rest =
+    let before : sum_by (looks x) a.agenda ≡ looks x d + sum_by (looks x) rest =
     ap (sum_by (looks x)) is ∙ sum_by-cons (looks x) d rest in
-    let now : agenda_weight (looks x) after ≡ sum_by (looks x) (next_of m t a d) + sum_by (looks x) rest =
+    let now : sum_by (looks x) after.agenda ≡ sum_by (looks x) (next_of m t a d) + sum_by (looks x) rest =
     looks_ready x (head_by a.head d (found_by m t a d)) (next_of m t a d ++ rest)
     ∙ sum_by-append (looks x) (next_of m t a d) rest in
     omega (arith, weight_set (looks x) m.actors t a after found, before, now)

@@ -50,13 +50,14 @@ agenda_weight-le f actors t a is =
 pub weight-stepped : (f : Duty → ℕ) → IsLight f
     → (actors : List Actor) (t : ℕ) (a b : Actor) (d : Duty) (next rest : List Duty) (head : ℕ)
     → slice_get actors t ≡ Some a
-    → a.agenda ≡ d ∷ rest → b.agenda ≡ ready head (next ++ rest)
+    → a.agenda ≡ d ∷ rest → b.agenda ≡ ready head (next ++ rest) → b.aside ≡ a.aside
     → weight f (slice_set actors t b) + f d ≡ weight f actors + sum_by f next
-weight-stepped f light actors t a b d next rest head is before after =
-    let old : agenda_weight f a ≡ f d + sum_by f rest = ap (sum_by f) before ∙ sum_by-cons f d rest in
-    let new : agenda_weight f b ≡ sum_by f next + sum_by f rest =
+weight-stepped f light actors t a b d next rest head is before after same =
+    let old : sum_by f a.agenda ≡ f d + sum_by f rest = ap (sum_by f) before ∙ sum_by-cons f d rest in
+    let beside : sum_by f b.aside ≡ sum_by f a.aside = ap (sum_by f) same in
+    let new : sum_by f b.agenda ≡ sum_by f next + sum_by f rest =
     ap (sum_by f) after ∙ sum_by-ready f light head (next ++ rest) ∙ sum_by-append f next rest in
-    omega (arith, weight-set f actors t a b is, old, new)
+    omega (arith, weight-set f actors t a b is, old, new, beside)
 
 -- ---- the four weights after a step
 
@@ -82,15 +83,15 @@ weighed_after m t a d rest next is agenda follows x =
     ap (λ (ds : List Duty). ready head (ds ++ rest)) follows in
     record {
       waiting =
-          weight-stepped (waits x) (light (waits x) refl (λ y n. refl)) m.actors t a _ d next rest head is agenda now;
+          weight-stepped (waits x) (light (waits x) refl (λ y n. refl)) m.actors t a _ d next rest head is agenda now refl;
       carried =
           weight-stepped (carries x) (light (carries x) refl (λ y n. refl)) m.actors t a _ d next rest head is agenda
-          now;
+          now refl;
       merging =
-          weight-stepped (merges x) (light (merges x) refl (λ y n. refl)) m.actors t a _ d next rest head is agenda now;
+          weight-stepped (merges x) (light (merges x) refl (λ y n. refl)) m.actors t a _ d next rest head is agenda now refl;
       deciding =
           weight-stepped (decides x) (light (decides x) refl (λ y n. refl)) m.actors t a _ d next rest head is agenda
-          now;
+          now refl;
     }
 
 -- ---- where nothing merges, nothing is carried
@@ -118,7 +119,10 @@ carries_none x d none = refl
 pub none_carried : (x : ℕ) (actors : List Actor) → weight (merges x) actors ≡ 0 → weight (carries x) actors ≡ 0
 none_carried x actors none =
     sum_none (agenda_weight (merges x)) (agenda_weight (carries x))
-    (λ (a : Actor). sum_none (merges x) (carries x) (carries_none x) a.agenda) actors none
+    (λ (a : Actor) (e : agenda_weight (merges x) a ≡ 0).
+    let first = sum_none (merges x) (carries x) (carries_none x) a.agenda (omega (arith, e)) in
+    let second = sum_none (merges x) (carries x) (carries_none x) a.aside (omega (arith, e)) in
+    omega (arith, first, second)) actors none
 
 -- ---- what weighs something is somewhere
 

@@ -33,9 +33,9 @@ carries x (MergeLoad y c r) = if y == x then c else 0
 carries x (MergeExchange y c w r) = if y == x then c else 0
 carries x _ = 0
 
--- over the agendas of all threads
+-- over the duties of all threads
 abbrev pub weighed : (Duty → ℕ) → Machine → ℕ
-weighed f m = sum_by (λ (a : Actor). sum_by f a.agenda) m.actors
+weighed f m = sum_by (λ (a : Actor). sum_by f a.agenda + sum_by f a.aside) m.actors
 
 -- ---- who has a duty about a row
 
@@ -58,11 +58,11 @@ is_merging x d = has_swapped x d
 abbrev pub decides_or_merges : ℕ → Duty → Bool
 decides_or_merges x d = is_deciding x d || is_merging x d
 
--- the thread has such a duty in its agenda
+-- the thread has such a duty in its agenda, or put aside
 pub record HasDuty (m : Machine) (t : ℕ) (is_such : Duty → Bool) : Type 0 where
   pub actor : Actor
   pub found : slice_get m.actors t ≡ Some actor
-  pub listed : list_any is_such actor.agenda ≡ true
+  pub listed : (list_any is_such actor.agenda || list_any is_such actor.aside) ≡ true
 
 abbrev pub SomeThreadHas : Machine → (Duty → Bool) → Type 0
 SomeThreadHas m is_such = (t : ℕ) × HasDuty m t is_such

@@ -59,6 +59,8 @@ pub record Actor : Type 0 where
   pub place : Place
   pub status : Status
   pub agenda : List Duty
+  -- other work that is open: duties that are put aside, each about another row (in code there are none)
+  pub aside : List Duty
   -- the head of its dying chain: 0, or a row and 1
   pub head : ℕ
   -- how many rows of its block are used
@@ -263,6 +265,7 @@ actor_by t a d rest found = record {
   place = a.place;
   status = status_by a.status d;
   agenda = ready (head_by a.head d found) (next_by t (is_running a.status) a.head d found ++ rest);
+  aside = a.aside;
   head = head_by a.head d found;
   used = used_by a.used d;
 }
@@ -283,7 +286,15 @@ done_by m t a d rest =
 
 abbrev pub at_place : Actor → Place → Actor
 at_place a place =
-    record { function = a.function; place = place; status = a.status; agenda = a.agenda; head = a.head; used = a.used }
+    record {
+      function = a.function;
+      place = place;
+      status = a.status;
+      agenda = a.agenda;
+      aside = a.aside;
+      head = a.head;
+      used = a.used;
+    }
 
 abbrev pub with_actor : Machine → ℕ → Actor → Machine
 with_actor m t a =
@@ -326,11 +337,11 @@ machine_after m events = fold next_machine m events
 -- ---- the first state
 
 abbrev pub main_actor : Actor
-main_actor = record { function = 0; place = Standing 0; status = Running; agenda = []; head = 0; used = 2 }
+main_actor = record { function = 0; place = Standing 0; status = Running; agenda = []; aside = []; head = 0; used = 2 }
 
 abbrev pub worker_actor : Call → Actor
 worker_actor c =
-    record { function = c.function; place = Standing c.times; status = Running; agenda = []; head = 0; used = 0 }
+    record { function = c.function; place = Standing c.times; status = Running; agenda = []; aside = []; head = 0; used = 0 }
 
 -- none is immortal, the root is a list of eight cells that main owns, with a count for main and each worker
 abbrev pub first_memory : ℕ → Address → ℕ

@@ -1,7 +1,7 @@
 -- Who will look at a mark that is set. (PEP 703, Biased Reference Counting, the queue and the merge: an object that
 -- another thread queued is merged by its owner, or, once the owner leaves, by the owner's exit or by the thread that
 -- queued it.)
-use Rattle.std.specs.Prelude.{◌≡◌, ◌≢◌, ℕ, ◌+◌, Bool, true, false, ◌&&◌, ◌==◌, nat_le, nat_lt, slice_get, Some}
+use Rattle.std.specs.Prelude.{◌≡◌, ◌≢◌, ℕ, ◌+◌, Bool, true, false, ◌&&◌, ◌||◌, ◌==◌, nat_le, nat_lt, slice_get, Some}
 use Rattle.std.specs.List.{list_any}
 use Rattle.brc_model.specs.declared.duty.Duty.{Duty}
 use Rattle.brc_model.specs.declared.duty.Duty.TheVariants.{Look, TakeMark, Scan}
@@ -27,7 +27,8 @@ pub data IsWatched (m : Machine) (x : ℕ) : Type 0 where
   ByRunning : Runs m (block_of m.rows x) → IsWatched m x
   ByExit : (a : Actor) → slice_get m.actors (block_of m.rows x) ≡ Some a → a.status ≡ Leaving
       → list_any (scans_over x) a.agenda ≡ true → IsWatched m x
-  ByLook : (t : ℕ) (a : Actor) → slice_get m.actors t ≡ Some a → list_any (looks_at x) a.agenda ≡ true → IsWatched m x
+  ByLook : (t : ℕ) (a : Actor) → slice_get m.actors t ≡ Some a → (list_any (looks_at x) a.agenda || list_any (looks_at x) a.aside) ≡ true
+      → IsWatched m x
 
 -- no mark is forgotten
 abbrev pub MarksWatched : Machine → Type 0

@@ -35,13 +35,22 @@ actor_of t = record {
   place = place_of t.stage t.left t.at t.variables;
   status = t.status;
   agenda = reverse t.agenda.items;
+  aside = [];
   head = t.head;
   used = t.used;
 }
 
 abbrev pub with_agenda : Actor → List Duty → Actor
 with_agenda a agenda =
-    record { function = a.function; place = a.place; status = a.status; agenda = agenda; head = a.head; used = a.used }
+    record {
+      function = a.function;
+      place = a.place;
+      status = a.status;
+      agenda = agenda;
+      aside = a.aside;
+      head = a.head;
+      used = a.used;
+    }
 
 -- the exit: a thread with no call left gives up its reference to the root, settles, and leaves
 abbrev pub exit_action : ℕ → ℕ → ℕ → Action

@@ -33,6 +33,7 @@ idle c = record {
   place = Standing c.args.thread.now.left;
   status = c.args.thread.now.status;
   agenda = reverse c.args.thread.now.agenda.items;
+  aside = [];
   head = c.args.thread.now.head;
   used = c.args.thread.now.used;
 }
