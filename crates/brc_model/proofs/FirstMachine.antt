@@ -14,7 +14,7 @@ use Rattle.brc_model.specs.Threads.{code_of}
 use Rattle.brc_model.specs.Machine.{callers_below, Actor, Unborn, Closed, main_actor, worker_actor, first_memory, first_life, first_kinds, first_machine, Live}
 use Rattle.brc_model.specs.Safety.{IsCall, AreCalls}
 use Rattle.brc_model.specs.declared.duty.Duty.{Duty}
-use Rattle.brc_model.specs.declared.address.Address.TheVariants.{KindOf, ThreadWord}
+use Rattle.brc_model.specs.declared.address.Address.TheVariants.{Gate, KindOf, Slot, ThreadWord}
 use Rattle.brc_model.specs.Duties.{block_of}
 use Rattle.brc_model.specs.declared.actor.Place.TheVariants.{Standing, Departing}
 use Rattle.brc_model.proofs.Bag.{one_if}
@@ -23,7 +23,7 @@ use Rattle.brc_model.proofs.Callers.{callers_beyond, callers_off_cells, callers_
 use Rattle.brc_model.proofs.Grounded.{AreInstructions}
 use Rattle.brc_model.proofs.Holds.{the_root}
 use Rattle.brc_model.proofs.Rows.{waits, carries, merges, decides, agenda_weight, weight, IsDefault, AboveZero, InOwned, RowRule}
-use Rattle.brc_model.proofs.Rule.{Accounts, numbers_of, HoldsAt, ChainFits, Fits, dies_by, Rule, UsesFit}
+use Rattle.brc_model.proofs.Rule.{Accounts, numbers_of, HoldsAt, ChainFits, Fits, dies_by, Rule, UsesFit, GateFits, BlankFits}
 use Rattle.brc_model.proofs.Aside.{alone_fits}
 use Rattle.brc_model.proofs.Coded.{once_each, root_bounded, InCode}
 use Rattle.brc_model.proofs.Blocks.{block_main}
@@ -198,6 +198,42 @@ first_uses rows calls (suc t) a is =
     let call = slice_get-map worker_actor calls t a is in
     subst (λ (b : Actor). UsesFit rows first_life (suc t) b.used) call.is_image (worker_uses rows t)
 
+-- the rows behind the root are blank
+blank_words : (workers x : ℕ) → 1 < x
+    → (first_memory workers (KindOf x) ≡ 0) × (first_memory workers (Slot x) ≡ 0)
+blank_words workers zero above = absurd (omega arith)
+blank_words workers (suc zero) above = absurd (omega arith)
+blank_words workers (suc (suc x)) above = (refl, refl)
+
+main_blanks : (rows workers : ℕ) → BlankFits rows (first_memory workers) 0 2 []
+main_blanks rows workers = record {
+  kinds = λ x block past none. absurd (omega (arith, block_main rows x block, past));
+  slots = λ x block past none. absurd (omega (arith, block_main rows x block, past));
+}
+
+worker_blanks : (rows workers t : ℕ) → BlankFits rows (first_memory workers) (suc t) 0 []
+worker_blanks rows workers t = record {
+  kinds = λ x block past none. (blank_words workers x (omega (arith, past))).0;
+  slots = λ x block past none. (blank_words workers x (omega (arith, past))).1;
+}
+
+first_blanks : (rows workers : ℕ) (calls : List Call) (t : ℕ) (a : Actor)
+    → slice_get (main_actor ∷ map worker_actor calls) t ≡ Some a
+    → BlankFits rows (first_memory workers) t a.used a.agenda
+first_blanks rows workers calls zero a is =
+    subst (λ (b : Actor). BlankFits rows (first_memory workers) 0 b.used b.agenda) (some_is main_actor a is)
+    (main_blanks rows workers)
+first_blanks rows workers calls (suc t) a is =
+    let call = slice_get-map worker_actor calls t a is in
+    subst (λ (b : Actor). BlankFits rows (first_memory workers) (suc t) b.used b.agenda) call.is_image
+    (worker_blanks rows workers t)
+
+-- no row has begun to die, and all gates are free
+first_gates : (workers x : ℕ) → GateFits (first_life x) (first_memory workers (Gate x))
+first_gates workers zero = refl
+first_gates workers (suc zero) = refl
+first_gates workers (suc (suc x)) = refl
+
 -- a block that isn't main's has none of the first rows
 far_unborn : (rows n x : ℕ) → 0 < n → n ≤ block_of rows x → first_life x ≡ Unborn
 far_unborn rows n zero some past = absurd (omega (arith, some, past))
@@ -238,9 +274,11 @@ first_rule m rows calls are_calls some_rows few_rows = record {
   marks = λ x. inl refl;
   each = first_fits m rows calls;
   beyond = λ t past k object. callers_beyond (1 + length calls) t k object past;
+  gates = first_gates (length calls);
   dying = λ x t past. none_dies x t;
   cells = λ x i. refl;
   uses = first_uses rows calls;
+  blanks = first_blanks rows (length calls) calls;
   no_block = λ x past. far_unborn rows (1 + length calls) x (omega arith) past;
   cells_hold = λ x i object. callers_off_cells (1 + length calls) x i object;
   none_lives = refl;

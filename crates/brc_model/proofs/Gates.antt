@@ -1,165 +1,115 @@
 -- A row's gate says that it is closed, just where it was finalised; and what is born is among the used rows.
-use Rattle.std.proofs.Common.{◌≡◌, ◌≢◌, ℕ, zero, suc, ◌+◌, ◌-◌, ◌<◌, ◌≤◌, List, [], ◌∷◌, inl, inr, length, None, Some, refl, sym, ap, ◌∙◌, subst, arith}
-use Rattle.std.proofs.lemmas.Bool.Decides.{eqb_tells}
-use Rattle.std.proofs.lemmas.Option.{slice_get_within}
+use Rattle.std.proofs.Common.{◌≡◌, ◌≢◌, ℕ, ◌<◌, Bool, true, false, cond, List, [], ◌∷◌, ◌⊎◌, inl, inr, refl, sym, ap, ◌∙◌, subst, arith}
+use Rattle.std.specs.Prelude.{◌==◌, count_by}
+use Rattle.std.proofs.lemmas.Bool.{eqb-true, eq-eqb, cases_lt, false≢true}
+use Rattle.std.proofs.lemmas.List.Sums.{sum_by-cons}
 use Rattle.brc_lang.specs.declared.module.Module.{Module}
 use Rattle.brc_lang.specs.Grammar.{IsModule}
 use Rattle.brc_model.specs.Walks.{IsAcceptable}
-use Rattle.brc_word.specs.Words.{dying_word, closed_word}
-use Rattle.brc_model.specs.declared.thread.Call.{Call}
-use Rattle.brc_model.specs.declared.thread.Choice.{Choice}
+use Rattle.brc_word.specs.Words.{free_word, dying_word, closed_word}
 use Rattle.brc_model.specs.declared.duty.Duty.{Duty}
-use Rattle.brc_model.specs.declared.duty.Duty.TheVariants.{Die, Settle, SettleEnd}
+use Rattle.brc_model.specs.declared.duty.Duty.TheVariants.{Die, SettleKind, SettleCell, TakeSlot, CloseResource, SettleEnd}
+use Rattle.brc_model.specs.declared.address.Address.{Address}
 use Rattle.brc_model.specs.declared.address.Address.TheVariants.{Gate}
-use Rattle.brc_model.specs.Machine.{Actor, Dying, Closed, Machine, ended_row, done_by, next_machine, first_life, first_machine, machine_after}
+use Rattle.brc_model.specs.Machine.{Actor, Life, Unborn, Live, Dying, Closed, Machine}
 use Rattle.brc_model.specs.Progress.{Always, GatesTell, BornAreUsed}
-use Rattle.brc_model.proofs.Lists.{some_is}
-use Rattle.brc_model.proofs.Written.{written_here, written_apart, written_load, apart_gate}
-use Rattle.brc_model.proofs.Leaves.{AtDuty, head_of}
-use Rattle.brc_model.proofs.Neutral.{memory_by}
-use Rattle.brc_model.proofs.OwnChains.{chain_here, head_low}
-use Rattle.brc_model.proofs.Closing.{GoesOn, BeginsToDie, IsClosed, life_step, IsBorn}
-use Rattle.brc_model.proofs.ClosedAfter.{live_not_closed, dying_not_closed, unborn_not_closed}
+use Rattle.brc_model.proofs.Lists.{some_within}
+use Rattle.brc_model.proofs.Bag.{one_if}
+use Rattle.brc_model.proofs.Others.{dying_is}
 use Rattle.brc_model.proofs.Whole.{Whole}
-use Rattle.brc_model.proofs.WholeEvents.{event_keeps, whole_after}
-use Rattle.brc_model.proofs.Safe.{first_whole}
-use Rattle.brc_model.proofs.StepCases.{ShowsSteps, at_duty, event_shows}
+use Rattle.brc_model.proofs.RowLaws.{always}
 use Rattle.brc_model.proofs.Blocks.{born_used}
-use Rattle.brc_model.proofs.Rule.{Accounts, Rule}
+use Rattle.brc_model.proofs.Rule.{Accounts, IsDyingWord, HeadOf, Linked, hand_of, dies_by, GateFits, Rule}
 
--- ---- what a step does to a gate
-
--- it stays, or its row is chained, or its row is closed
-data GateStep (m : Machine) (t : ℕ) (d : Duty) (x now : ℕ) : Type 0 where
-  Stays : now ≡ m.memory (Gate x) → (ended_row d ≡ Some x → ⊥) → GateStep m t d x now
-  IsChained : now ≢ closed_word → m.life x ≡ Dying t → (ended_row d ≡ Some x → ⊥) → GateStep m t d x now
-  Ends : now ≡ closed_word → ended_row d ≡ Some x → GateStep m t d x now
-
-no_end : (x : ℕ) → None ≡ Some x → ⊥
-no_end x e = cc
+-- ---- the gate of a dying row
 
 -- a dying row's word is below the closed one, for threads and rows are few
-chained_low : (t head : ℕ) → t < 33 → head < 4294967296 → dying_word t head ≢ closed_word
-chained_low t head few low e = absurd (omega (arith, few, low, e))
+dying_low : (t gate : ℕ) → t < 33 → IsDyingWord t gate → gate ≢ closed_word
+dying_low t gate few (next, is, low) e = absurd (omega (arith, few, low, is, e))
 
-gate_step : (p : Accounts) (n : ℕ) (m : Machine) (t : ℕ) (a : Actor) (d : Duty) (rest : List Duty) (x : ℕ)
-    → AtDuty p n m t a d rest → n ≤ 33 → GateStep m t d x (memory_by m t a d (Gate x))
-gate_step p n m t a (Die y) rest x here few =
-    elim (eqb_tells y x) [
-      | inl same ↦
-          let within : t < 33 = omega (arith, slice_get_within m.actors t a here.found, here.rule.threads, few) in
-          let chain = chain_here p n m t a (Die y) rest here in
-          let low = head_low p n m t a.head (Die y ∷ rest) chain.chained here.rule chain.linked chain.once in
-          let word : memory_by m t a (Die y) (Gate x) ≡ dying_word t a.head =
-          subst (λ (z : ℕ). memory_by m t a (Die y) (Gate z) ≡ dying_word t a.head) same.1
-          (written_here m.memory (Gate y) (dying_word t a.head)) in
-          IsChained (λ e. chained_low t a.head within low (sym word ∙ e))
-          (ap m.life (sym same.1) ∙ (head_of p n m t a (Die y) rest here).1) (no_end x)
-      | inr apart ↦
-          Stays (written_apart m.memory (Gate y) (Gate x) (dying_word t a.head) (apart_gate y x apart.1)) (no_end x)
-    ]
-gate_step p n m t a (SettleEnd y) rest x here few =
-    elim (eqb_tells y x) [
-      | inl same ↦
-          Ends (subst (λ (z : ℕ). memory_by m t a (SettleEnd y) (Gate z) ≡ closed_word) same.1
-          (written_here m.memory (Gate y) closed_word)) (ap Some same.1)
-      | inr apart ↦
-          Stays (written_apart m.memory (Gate y) (Gate x) closed_word (apart_gate y x apart.1))
-          (λ e. apart.1 (some_is y x e))
-    ]
-gate_step p n m t a Settle rest x here few = Stays (written_load m.memory (Gate (a.head - 1)) (Gate x)) (no_end x)
-gate_step p n m t a _ rest x here few = Stays refl (no_end x)
+-- at hand, its gate is free before its first step and a dying word after it
+hand_gate : (m : Machine) (t : ℕ) (a : Actor) (agenda : List Duty) (x : ℕ) → HeadOf m t a agenda
+    → hand_of agenda x ≡ true → (m.memory (Gate x) ≡ free_word) ⊎ IsDyingWord t (m.memory (Gate x))
+hand_gate m t a (Die y ∷ rest) x fits at = inl (ap (λ (z : ℕ). m.memory (Gate z)) (sym (eqb-true y x at)) ∙ fits.2)
+hand_gate m t a (SettleKind y ∷ rest) x fits at =
+    inr (subst (λ (z : ℕ). IsDyingWord t (m.memory (Gate z))) (eqb-true y x at) fits.2)
+hand_gate m t a (SettleCell y i k ∷ rest) x fits at =
+    inr (subst (λ (z : ℕ). IsDyingWord t (m.memory (Gate z))) (eqb-true y x at) fits.3)
+hand_gate m t a (TakeSlot y ∷ rest) x fits at =
+    inr (subst (λ (z : ℕ). IsDyingWord t (m.memory (Gate z))) (eqb-true y x at) fits.2)
+hand_gate m t a (CloseResource y ∷ rest) x fits at =
+    inr (subst (λ (z : ℕ). IsDyingWord t (m.memory (Gate z))) (eqb-true y x at) fits.2)
+hand_gate m t a (SettleEnd y ∷ rest) x fits at =
+    inr (subst (λ (z : ℕ). IsDyingWord t (m.memory (Gate z))) (eqb-true y x at) fits.2)
+hand_gate m t a _ x fits at = absurd (false≢true at)
 
--- ---- the gate and the row's life
+-- in the chain, it is a dying word
+chained_gate : (memory : Address → ℕ) (t head : ℕ) (chained : List ℕ) (x : ℕ) → Linked memory t head chained
+    → 0 < count_by (λ y. y == x) chained → IsDyingWord t (memory (Gate x))
+chained_gate memory t head [] x linked some = absurd (omega (arith, some))
+chained_gate memory t head (y ∷ ys) x linked some =
+    elim (y == x) as (λ b. (y == x) ≡ b → IsDyingWord t (memory (Gate x))) [
+      | true ↦ λ same.
+          subst (λ (z : ℕ). IsDyingWord t (memory (Gate z))) (eqb-true y x same) (linked.1.0, linked.1.1, linked.1.2)
+      | false ↦ λ other.
+          let apart : one_if (y == x) ≡ 0 = ap one_if other in
+          chained_gate memory t linked.1.0 ys x linked.1.3
+          (omega (arith, some, sum_by-cons (λ (z : ℕ). cond (z == x) 1 0) y ys, apart))
+    ] refl
 
-record GateFits (m : Machine) (x : ℕ) : Type 0 where
-  is : m.memory (Gate x) ≡ closed_word → m.life x ≡ Closed
-  has : m.life x ≡ Closed → m.memory (Gate x) ≡ closed_word
+dying_gate : (p : Accounts) (n : ℕ) (m : Machine) (t x : ℕ) → Rule p n m → t < n → m.life x ≡ Dying t
+    → (m.memory (Gate x) ≡ free_word) ⊎ IsDyingWord t (m.memory (Gate x))
+dying_gate p n m t x rule within dies =
+    let some = some_within m.actors t (omega (arith, within, rule.threads)) in
+    let fits = (rule.each t some.0 some.1).0 in
+    elim (hand_of some.0.agenda x) as (λ b. hand_of some.0.agenda x ≡ b
+    → (m.memory (Gate x) ≡ free_word) ⊎ IsDyingWord t (m.memory (Gate x))) [
+      | true ↦ λ at. hand_gate m t some.0 some.0.agenda x fits.head_fits at
+      | false ↦ λ off.
+          let one : one_if (dies_by (m.life x) t) ≡ 1 = ap one_if (dying_is (m.life x) t dies) in
+          let none : one_if (hand_of some.0.agenda x) ≡ 0 = ap one_if off in
+          inr (chained_gate m.memory t some.0.head fits.chain.chained x fits.chain.linked
+          (omega (arith, fits.chain.once x, one, none)))
+    ] refl
 
-gate_after : (p : Accounts) (n : ℕ) (m : Machine) (t : ℕ) (a : Actor) (d : Duty) (rest : List Duty) (x : ℕ)
-    → AtDuty p n m t a d rest → n ≤ 33 → GateFits m x → GateFits (done_by m t a d rest) x
-gate_after p n m t a d rest x here few before =
-    elim (gate_step p n m t a d rest x here few) [
-      | Stays same other ↦ elim (life_step p n m t a d rest x here) [
-        | GoesOn now going ↦
-            record { is = λ e. now ∙ before.is (sym same ∙ e); has = λ c. same ∙ before.has (sym now ∙ c) }
-        | BeginsToDie now alive positive none ↦
-            record {
-              is = λ e. absurd (live_not_closed (sym alive ∙ before.is (sym same ∙ e)));
-              has = λ c. absurd (dying_not_closed t (sym now ∙ c));
-            }
-        | IsClosed now dying positive ended ↦ absurd (other ended)
-        | IsBorn now unborn above born none ↦
-            record {
-              is = λ e. absurd (unborn_not_closed (sym unborn ∙ before.is (sym same ∙ e)));
-              has = λ c. absurd (live_not_closed (sym now ∙ c));
-            }
-      ]
-      | IsChained apart was other ↦ record {
-        is = λ e. absurd (apart e);
-        has = λ c. elim (life_step p n m t a d rest x here) [
-          | GoesOn now going ↦ absurd (dying_not_closed t (sym was ∙ sym now ∙ c))
-          | BeginsToDie now alive positive none ↦ absurd (dying_not_closed t (sym now ∙ c))
-          | IsClosed now dying positive ended ↦ absurd (other ended)
-          | IsBorn now unborn above born none ↦ absurd (live_not_closed (sym now ∙ c))
-        ];
-      }
-      | Ends word last ↦ record {
-        is = λ e. elim (life_step p n m t a d rest x here) [
-          | GoesOn now going ↦ absurd (going last)
-          | BeginsToDie now alive positive none ↦ absurd (no_end x (sym none ∙ last))
-          | IsClosed now dying positive ended ↦ now
-          | IsBorn now unborn above born none ↦ absurd (no_end x (sym none ∙ last))
-        ];
-        has = λ c. word;
-      }
+-- ---- what a gate says
+
+dying_within : (p : Accounts) (n : ℕ) (m : Machine) (t x : ℕ) → Rule p n m → m.life x ≡ Dying t → t < n
+dying_within p n m t x rule dies =
+    elim (cases_lt t n) [
+      | inl within ↦ within
+      | inr past ↦ absurd (false≢true (sym (rule.dying x t (omega (arith, past))) ∙ dying_is (m.life x) t dies))
     ]
 
-gates_kept : (n : ℕ) → n ≤ 33
-    → ShowsSteps (λ t m new. ((x : ℕ) → GateFits m x) → (x : ℕ) → GateFits new x) n
-gates_kept n few = record {
-  stays = λ p t m kept gates. gates;
-  sits = λ t m new a place agenda found q. λ gates. q (λ x. record { is = (gates x).is; has = (gates x).has });
-  moves = λ p t m a moves place kept found quiet gates x. record { is = (gates x).is; has = (gates x).has };
-  does = λ p t m a d rest doing gates x. gate_after p n m t a d rest x (at_duty doing) few (gates x);
-}
+-- only a closed row's gate says so
+closed_by : (p : Accounts) (n : ℕ) (m : Machine) (x : ℕ) (l : Life) → Rule p n m → m.life x ≡ l
+    → GateFits l (m.memory (Gate x)) → m.memory (Gate x) ≡ closed_word → l ≡ Closed
+closed_by p n m x Unborn rule is fits e = absurd (omega (arith, fits, e))
+closed_by p n m x Live rule is fits e = absurd (omega (arith, fits, e))
+closed_by p n m x (Dying t) rule is fits e =
+    let within = dying_within p n m t x rule is in
+    elim (dying_gate p n m t x rule within is) [
+      | inl free ↦ absurd (omega (arith, free, e))
+      | inr word ↦ absurd (dying_low t (m.memory (Gate x)) (omega (arith, within, rule.few_threads)) word e)
+    ]
+closed_by p n m x Closed rule is fits e = refl
 
-gates_after : (p : Module) (n : ℕ) (m : Machine) (events : List (ℕ × Choice)) → n ≤ 33 → Whole p n m
-    → ((x : ℕ) → GateFits m x) → (x : ℕ) → GateFits (machine_after m events) x
-gates_after p n m [] few whole gates = gates
-gates_after p n m (e ∷ events) few whole gates =
-    gates_after p n (next_machine m e) events few (event_keeps p n m e whole).1
-    (event_shows (gates_kept n few) m e whole gates)
-
--- ---- in each machine that events lead to
-
-life_not_closed : (x : ℕ) → first_life x ≡ Closed → ⊥
-life_not_closed zero e = cc
-life_not_closed (suc zero) e = cc
-life_not_closed (suc (suc x)) e = cc
-
-first_gates : (p : Module) (rows : ℕ) (calls : List Call) (x : ℕ) → GateFits (first_machine p rows calls) x
-first_gates p rows calls x = record { is = λ e. absurd (omega (arith, e)); has = λ c. absurd (life_not_closed x c) }
+tell_in : (p : Module) (n : ℕ) (m : Machine) → Whole p n m → GatesTell m
+tell_in p n m whole =
+    let rule = whole.kept.rule in
+    λ x. (
+      λ e. rule.closed_has x (closed_by whole.accounts n m x (m.life x) rule refl (rule.gates x) e),
+      λ c. subst (λ (l : Life). GateFits l (m.memory (Gate x))) (rule.closed_is x c) (rule.gates x),
+    )
 
 pub gates_tell : (p : Module) → IsModule p → IsAcceptable p → Always GatesTell p
-gates_tell p fits accepted = λ rows calls events some most are_calls.
-    let n = 1 + length calls in
-    let first = first_machine p rows calls in
-    let whole = first_whole p rows calls fits accepted are_calls some most in
-    let few : n ≤ 33 = omega (arith, are_calls.most) in
-    let gates = gates_after p n first events few whole (first_gates p rows calls) in
-    let rule = (whole_after p n first events whole).kept.rule in
-    λ x. (λ e. rule.closed_has x ((gates x).is e), λ c. (gates x).has (rule.closed_is x c))
+gates_tell = always GatesTell tell_in
 
 -- ---- what is born
 
-each_used : (p : Accounts) (n : ℕ) (m : Machine) → Rule p n m → BornAreUsed m
-each_used p n m rule x born = let used = born_used p n m x rule born in (used.by, used.found, used.low, used.high)
+used_in : (p : Module) (n : ℕ) (m : Machine) → Whole p n m → BornAreUsed m
+used_in p n m whole = λ x born.
+    let used = born_used whole.accounts n m x whole.kept.rule born in (used.by, used.found, used.low, used.high)
 
 pub born_are_used : (p : Module) → IsModule p → IsAcceptable p → Always BornAreUsed p
-born_are_used p fits accepted = λ rows calls events some most are_calls.
-    let n = 1 + length calls in
-    let whole =
-    whole_after p n (first_machine p rows calls) events
-    (first_whole p rows calls fits accepted are_calls some most) in
-    each_used whole.accounts n _ whole.kept.rule
+born_are_used = always BornAreUsed used_in

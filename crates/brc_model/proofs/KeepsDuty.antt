@@ -20,12 +20,10 @@ use Rattle.brc_model.proofs.ClosedAfter.{closed_is_after, closed_has_after, clos
 use Rattle.brc_model.proofs.UsesAfter.{uses_after, no_block_after, born_is_after, born_has_after, born_once_after}
 use Rattle.brc_model.proofs.KindsAfter.{kinds_after}
 use Rattle.brc_model.proofs.Nones.{none_local}
+use Rattle.brc_model.proofs.GatesAfter.{gates_after}
+use Rattle.brc_model.proofs.BlanksAfter.{zero_written, blanks_after}
 
 -- ---- cells stay empty
-
-zero_written : (b : Bool) (v : ℕ) → v ≡ 0 → cond b 0 v ≡ 0
-zero_written true v e = refl
-zero_written false v e = e
 
 cells_left : (m : Machine) (t : ℕ) (a : Actor) (d : Duty) (x i : ℕ) → m.memory (Cell x i) ≡ 0
     → memory_by m t a d (Cell x i) ≡ 0
@@ -65,9 +63,11 @@ keeps_by p n m t a d rest here alive own marks =
       beyond =
           λ u past k object. moves_apart m.memory m.plain u t k object d (found_by m t a d)
           (λ e. absurd (omega (arith, within, past, e))) ∙ here.rule.beyond u past k object;
+      gates = λ x. gates_after p n m t a d rest here x;
       dying = λ x u past. dying_after p n m t a d rest x u here past;
       cells = λ x i. cells_left m t a d x i (here.rule.cells x i);
       uses = λ u b is. uses_after p n m t a d rest here u b is;
+      blanks = λ u b is. blanks_after p n m t a d rest here u b is;
       no_block = λ x past. no_block_after p n m t a d rest here x past;
       born_is = λ x is. born_is_after p n m t a d rest here x is;
       born_has = λ x above is. born_has_after p n m t a d rest here x above is;

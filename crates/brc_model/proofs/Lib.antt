@@ -10,6 +10,8 @@ pub mod Nones
 pub mod Quiets
 pub mod UsesAfter
 pub mod KindsAfter
+pub mod GatesAfter
+pub mod BlanksAfter
 pub mod Callers
 pub mod Worked
 pub mod Rows
@@ -82,6 +84,7 @@ pub mod Emptied
 pub mod StepsMove
 pub mod StepCases
 pub mod Gates
+pub mod Stores
 pub mod StatesRise
 pub mod Immortals
 pub mod Owners

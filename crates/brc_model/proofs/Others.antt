@@ -18,7 +18,7 @@ use Rattle.brc_model.specs.Machine.{Actor, Life, Unborn, Live, Dying, Closed, Ma
 use Rattle.brc_model.proofs.Bag.{held, one_if}
 use Rattle.brc_model.proofs.Holds.{reference_of}
 use Rattle.brc_model.proofs.Lists.{some_is, slice_get-set_same, slice_get-set_other}
-use Rattle.brc_model.proofs.Rule.{AllWait, AsideFits, Fits, AgendaFits, Accounts, HoldsAt, Account, OwnsLocally, IsBacked, MayMerge, MayCarry, IsNext, HasCountedKind, HeadFits, HeadOf, Linked, dies_by, ChainFits, ActorFits}
+use Rattle.brc_model.proofs.Rule.{AllWait, AsideFits, Fits, AgendaFits, Accounts, HoldsAt, Account, OwnsLocally, IsBacked, MayMerge, MayCarry, IsNext, HasCountedKind, HeadFits, HeadOf, Linked, dies_by, ChainFits, ActorFits, IsDyingWord}
 
 -- what the others rely on
 pub record LeavesOthers (m new : Machine) (t : ℕ) : Type 0 where
@@ -77,6 +77,14 @@ is_dying Closed u e = absurd cc
 life_kept : (m new : Machine) (t u x : ℕ) → LeavesOthers m new t → u ≢ t → m.life x ≡ Dying u → new.life x ≡ Dying u
 life_kept m new t u x leaves ne is = is_dying (new.life x) u (leaves.lives u x ne ∙ dying_is (m.life x) u is)
 
+gate_kept : (m new : Machine) (t u x : ℕ) → LeavesOthers m new t → u ≢ t → m.life x ≡ Dying u
+    → new.memory (Gate x) ≡ m.memory (Gate x)
+gate_kept m new t u x leaves ne is = leaves.gates u x ne (dying_is (m.life x) u is)
+
+dying_word_kept : (m new : Machine) (t u x : ℕ) → LeavesOthers m new t → u ≢ t → m.life x ≡ Dying u
+    → IsDyingWord u (m.memory (Gate x)) → IsDyingWord u (new.memory (Gate x))
+dying_word_kept m new t u x leaves ne is word = subst (IsDyingWord u) (sym (gate_kept m new t u x leaves ne is)) word
+
 next_kept : (m new : Machine) (t u x : ℕ) (b : Actor) → LeavesOthers m new t → IsNext m u b x → IsNext new u b x
 next_kept m new t u x b leaves next = record {
   running = next.running;
@@ -127,14 +135,19 @@ head_kept m new t u b (MergeLoad x c r) rest leaves ne found fits =
     (fits.0, fits.1, may_carry_kept m new t u x b r leaves fits.2)
 head_kept m new t u b (MergeExchange x c w r) rest leaves ne found fits =
     (fits.0, fits.1, may_carry_kept m new t u x b r leaves fits.2)
-head_kept m new t u b (Die x) rest leaves ne found fits = (fits.0, life_kept m new t u x leaves ne fits.1)
+head_kept m new t u b (Die x) rest leaves ne found fits =
+    (fits.0, life_kept m new t u x leaves ne fits.1, gate_kept m new t u x leaves ne fits.1 ∙ fits.2)
 head_kept m new t u b Settle rest leaves ne found fits = fits
-head_kept m new t u b (SettleKind x) rest leaves ne found fits = (fits.0, life_kept m new t u x leaves ne fits.1)
+head_kept m new t u b (SettleKind x) rest leaves ne found fits =
+    (fits.0, life_kept m new t u x leaves ne fits.1, dying_word_kept m new t u x leaves ne fits.1 fits.2)
 head_kept m new t u b (SettleCell x i n) rest leaves ne found fits =
-    (fits.0, life_kept m new t u x leaves ne fits.1, fits.2)
-head_kept m new t u b (TakeSlot x) rest leaves ne found fits = (fits.0, life_kept m new t u x leaves ne fits.1)
-head_kept m new t u b (CloseResource x) rest leaves ne found fits = (fits.0, life_kept m new t u x leaves ne fits.1)
-head_kept m new t u b (SettleEnd x) rest leaves ne found fits = (fits.0, life_kept m new t u x leaves ne fits.1)
+    (fits.0, life_kept m new t u x leaves ne fits.1, fits.2, dying_word_kept m new t u x leaves ne fits.1 fits.3)
+head_kept m new t u b (TakeSlot x) rest leaves ne found fits =
+    (fits.0, life_kept m new t u x leaves ne fits.1, dying_word_kept m new t u x leaves ne fits.1 fits.2)
+head_kept m new t u b (CloseResource x) rest leaves ne found fits =
+    (fits.0, life_kept m new t u x leaves ne fits.1, dying_word_kept m new t u x leaves ne fits.1 fits.2)
+head_kept m new t u b (SettleEnd x) rest leaves ne found fits =
+    (fits.0, life_kept m new t u x leaves ne fits.1, dying_word_kept m new t u x leaves ne fits.1 fits.2)
 head_kept m new t u b (Leave x k) rest leaves ne found fits = fits
 head_kept m new t u b (Scan x k) rest leaves ne found fits = fits
 head_kept m new t u b Finish rest leaves ne found fits = fits

@@ -12,7 +12,7 @@ use Rattle.brc_model.specs.Duties.{ready}
 use Rattle.brc_model.specs.declared.actor.Status.TheVariants.{Gone}
 use Rattle.brc_model.specs.Machine.{Actor, Unborn, Live, Dying, Closed, Machine, with_life, actor_by, done_by, written}
 use Rattle.brc_model.proofs.Bag.{one_if}
-use Rattle.brc_model.proofs.Rule.{Accounts, Linked, hand_of, dies_by, ChainFits, Rule}
+use Rattle.brc_model.proofs.Rule.{Accounts, IsDyingWord, Linked, hand_of, dies_by, ChainFits, Rule}
 use Rattle.brc_model.proofs.Written.{written_here, written_apart, written_load, apart_gate}
 use Rattle.brc_model.proofs.Others.{is_dying, linked_kept}
 use Rattle.brc_model.proofs.Leaves.{AtDuty, head_of}
@@ -128,6 +128,7 @@ record FirstChained (m : Machine) (t : ℕ) (a : Actor) (rest : List Duty) : Typ
   head_is : a.head ≡ row + 1
   next : ℕ
   next_is : next_part (m.memory (Gate row)) ≡ next
+  gate : IsDyingWord t (m.memory (Gate row))
   linked : Linked m.memory t next others
   once : (x : ℕ) → one_if (row == x) + count_by (λ y. y == x) others ≡ one_if (dies_by (m.life x) t)
   dies : m.life row ≡ Dying t
@@ -148,6 +149,7 @@ first_by m t a rest (x ∷ xs) some linked once =
       head_is = linked.0;
       next = linked.1.0;
       next_is = next_of_dying (m.memory (Gate x)) t linked.1.0 linked.1.1 linked.1.2;
+      gate = (linked.1.0, linked.1.1, linked.1.2);
       linked = linked.1.3;
       once = each;
       dies = is_dying (m.life x) t (one_if_some _ (omega (arith, each x, here)));
@@ -188,7 +190,11 @@ settle_shown p n m t a rest first here alive row_is =
       fits =
           agenda_shown m t a Settle rest later a.status alive refl (front (next_part (m.memory (Gate (a.head - 1)))))
           (agenda_here p n m t a Settle rest here alive);
-      knows = λ b status h used. (dying_above p n m t first.row here.rule first.dies, first.dies);
+      knows = λ b status h used. (
+        dying_above p n m t first.row here.rule first.dies,
+        first.dies,
+        subst (IsDyingWord t) (sym (written_load m.memory (Gate (a.head - 1)) (Gate first.row))) first.gate,
+      );
     }
 
 pub own_settle : (p : Accounts) (n : ℕ) (m : Machine) (t : ℕ) (a : Actor) (rest : List Duty)

@@ -12,7 +12,7 @@ use Rattle.brc_model.specs.declared.actor.Status.{Status}
 use Rattle.brc_model.specs.declared.actor.Status.TheVariants.{Gone}
 use Rattle.brc_model.specs.Machine.{Actor, Dying, Machine, status_by, ended_row, actor_by, done_by, born_row, dies_next, take_out}
 use Rattle.brc_model.specs.Plain.{moved}
-use Rattle.brc_model.proofs.Rule.{Accounts, extra_of, lacks_of, Later, Agenda, hand_of, extra, lacks, HeadFits, at_hand}
+use Rattle.brc_model.proofs.Rule.{Accounts, extra_of, lacks_of, Later, Agenda, hand_of, extra, lacks, IsDyingWord, HeadFits, at_hand}
 use Rattle.brc_model.proofs.Leaves.{AtDuty, head_of}
 use Rattle.brc_model.proofs.Lives.{next_of}
 use Rattle.brc_model.proofs.Own.{HeldStep}
@@ -27,6 +27,7 @@ use Rattle.brc_model.specs.declared.actor.Place.{Place}
 record SettlingStep (m : Machine) (t : ℕ) (a : Actor) (d : Duty) (x : ℕ) (rest : List Duty) : Type 0 where
   above : 0 < x
   dies : m.life x ≡ Dying t
+  gate : IsDyingWord t (m.memory (Gate x))
   none_ends : ended_row d ≡ None
   none_born : born_row d ≡ None
   same_head : head_by a.head d (found_by m t a d) ≡ a.head
@@ -52,7 +53,8 @@ record KeepsHand (e : Duty) (x : ℕ) : Type 0 where
 settles_on : (p : Accounts) (n : ℕ) (m : Machine) (t : ℕ) (a : Actor) (d e : Duty) (x : ℕ) (rest : List Duty)
     → AtDuty p n m t a d rest → (a.status ≡ Gone → ⊥) → SettlingStep m t a d x rest
     → KeepsHand e x → next_of m t a d ≡ e ∷ []
-    → ((done_by m t a d rest).life x ≡ Dying t → (b : Actor) → HeadFits (done_by m t a d rest) t b e rest)
+    → ((done_by m t a d rest).life x ≡ Dying t → IsDyingWord t ((done_by m t a d rest).memory (Gate x)) → (b : Actor)
+    → HeadFits (done_by m t a d rest) t b e rest)
     → OwnFits p (done_by m t a d rest) t (actor_by t a d rest (found_by m t a d))
 settles_on p n m t a d e x rest here alive step keeps next knows =
     own_neutral p n m t a d rest (e ∷ []) (e ∷ rest) here alive (record {
@@ -70,7 +72,7 @@ settles_on p n m t a d e x rest here alive step keeps next knows =
       fits = keeps.later m.rows t a.used a.status a.place rest step.later;
       knows =
           λ b status head used. knows (life_same m t a d (e ∷ []) x next keeps.lives step.none_ends step.none_born
-          ∙ step.dies) b;
+          ∙ step.dies) (subst (IsDyingWord t) (sym (step.gates x)) step.gate) b;
     })
 
 keeps_cell : (x i k : ℕ) → KeepsHand (SettleCell x i k) x
@@ -128,11 +130,12 @@ cells_step p n m t a d x i k rest here alive step next_is =
           let next : next_of m t a d ≡ SettleCell x i k ∷ [] =
           next_is ∙ ap (λ (b : Bool). cond b (SettleCell x i k ∷ []) (SettleEnd x ∷ [])) e in
           settles_on p n m t a d (SettleCell x i k) x rest here alive step (keeps_cell x i k) next
-          (λ dies b. (step.above, dies, ltb-true i k e))
+          (λ dies gate b. (step.above, dies, ltb-true i k e, gate))
       | false ↦ λ e.
           let next : next_of m t a d ≡ SettleEnd x ∷ [] =
           next_is ∙ ap (λ (b : Bool). cond b (SettleCell x i k ∷ []) (SettleEnd x ∷ [])) e in
-          settles_on p n m t a d (SettleEnd x) x rest here alive step (keeps_end x) next (λ dies b. (step.above, dies))
+          settles_on p n m t a d (SettleEnd x) x rest here alive step (keeps_end x) next
+          (λ dies gate b. (step.above, dies, gate))
     ] refl
 
 -- ---- what the row is
@@ -147,6 +150,7 @@ own_settle_kind p n m t a x rest here alive =
     let step : SettlingStep m t a (SettleKind x) x rest = record {
       above = fits.0;
       dies = fits.1;
+      gate = fits.2;
       none_ends = refl;
       none_born = refl;
       same_head = refl;
@@ -162,7 +166,7 @@ own_settle_kind p n m t a x rest here alive =
       | true ↦
           λ e. settles_on p n m t a (SettleKind x) (TakeSlot x) x rest here alive step (keeps_slot x)
           (ap (λ (b : Bool). cond b (TakeSlot x ∷ []) (cells_from x 0 (cells_of word))) e)
-          (λ dies b. (fits.0, dies))
+          (λ dies gate b. (fits.0, dies, gate))
       | false ↦
           λ e. cells_step p n m t a (SettleKind x) x 0 (cells_of word) rest here alive step
           (ap (λ (b : Bool). cond b (TakeSlot x ∷ []) (cells_from x 0 (cells_of word))) e)
@@ -181,6 +185,7 @@ own_settle_cell p n m t a x i k rest here alive =
     cells_step p n m t a (SettleCell x i k) x (i + 1) k rest here alive (record {
       above = fits.0;
       dies = fits.1;
+      gate = fits.3;
       none_ends = refl;
       none_born = refl;
       same_head = refl;
@@ -205,6 +210,7 @@ own_take_slot p n m t a x rest here alive =
     settles_on p n m t a (TakeSlot x) (CloseResource x) x rest here alive (record {
       above = fits.0;
       dies = fits.1;
+      gate = fits.2;
       none_ends = refl;
       none_born = refl;
       same_head = refl;
@@ -214,7 +220,7 @@ own_take_slot p n m t a x rest here alive =
       hands = λ y. refl;
       held = λ e more less. held_same m.plain.references t (TakeSlot x ∷ rest) (e ∷ rest) more less;
       later = agenda_here p n m t a (TakeSlot x) rest here alive;
-    }) (keeps_close x) refl (λ dies b. (fits.0, dies))
+    }) (keeps_close x) refl (λ dies gate b. (fits.0, dies, gate))
 
 pub own_close_resource : (p : Accounts) (n : ℕ) (m : Machine) (t : ℕ) (a : Actor) (x : ℕ) (rest : List Duty)
     → AtDuty p n m t a (CloseResource x) rest → (a.status ≡ Gone → ⊥)
@@ -225,6 +231,7 @@ own_close_resource p n m t a x rest here alive =
     settles_on p n m t a (CloseResource x) (SettleEnd x) x rest here alive (record {
       above = fits.0;
       dies = fits.1;
+      gate = fits.2;
       none_ends = refl;
       none_born = refl;
       same_head = refl;
@@ -234,4 +241,4 @@ own_close_resource p n m t a x rest here alive =
       hands = λ y. refl;
       held = λ e more less. held_same m.plain.references t (CloseResource x ∷ rest) (e ∷ rest) more less;
       later = agenda_here p n m t a (CloseResource x) rest here alive;
-    }) (keeps_end x) refl (λ dies b. (fits.0, dies))
+    }) (keeps_end x) refl (λ dies gate b. (fits.0, dies, gate))

@@ -12,7 +12,8 @@ use Rattle.brc_model.specs.declared.actor.Status.{Status}
 use Rattle.brc_model.specs.declared.actor.Status.TheVariants.{Gone}
 use Rattle.brc_model.specs.Machine.{Actor, Life, Live, Dying, Closed, Machine, status_by, dies_next, ended_row, with_life, life_by, actor_by, done_by, born_row}
 use Rattle.brc_model.proofs.Bag.{one_if}
-use Rattle.brc_model.proofs.Rule.{Accounts, extra_of, lacks_of, HoldsAt, HeadFits, HeadOf, Later, Agenda, hand_of, dies_by, ChainFits, status_word}
+use Rattle.brc_word.specs.Words.{free_word}
+use Rattle.brc_model.proofs.Rule.{Accounts, extra_of, lacks_of, HoldsAt, HeadFits, HeadOf, Later, Agenda, hand_of, dies_by, GateFits, ChainFits, status_word}
 use Rattle.brc_model.proofs.Written.{written_load}
 use Rattle.brc_model.proofs.Leaves.{AtDuty}
 use Rattle.brc_model.proofs.Lives.{next_of}
@@ -220,6 +221,9 @@ own_dying p n m t a d rest x here alive kept step =
           omega (arith, before, now, dying_hands m.life t x y step.lived);
     } in
     let chain : ChainFits new t a.head agenda = chain_same m new t a.head a.agenda agenda same old.chain in
+    let gate : new.memory (Gate x) ≡ free_word =
+    keeping_gates m t a d x kept
+    ∙ subst (λ (l : Life). GateFits l (m.memory (Gate x))) step.lived (here.rule.gates x) in
     let dies : new.life x ≡ Dying t = life x ∙ ap (λ (b : Bool). cond b (Dying t) (m.life x)) (eq-eqb x x refl) in
     record {
       actor = record {
@@ -227,7 +231,7 @@ own_dying p n m t a d rest x here alive kept step =
         holds = subst (λ (l : List Duty). HoldsAt new.plain.references t (p t) l a.aside) (sym whole) holds;
         bounded = old.bounded;
         departed = old.departed;
-        head_fits = subst (λ (l : List Duty). HeadOf new t after l) (sym whole) (step.counted, dies);
+        head_fits = subst (λ (l : List Duty). HeadOf new t after l) (sym whole) (step.counted, dies, gate);
         chain =
             subst (λ (l : List Duty). ChainFits new t after.head l) (sym whole)
             (subst (λ (h : ℕ). ChainFits new t h agenda) (sym same_head) chain);

@@ -19,12 +19,12 @@ use Rattle.brc_model.proofs.Holds.{reference_of}
 use Rattle.brc_model.proofs.MovesApart.{AreAside, IsNoWayOf, moved_aside}
 use Rattle.brc_model.proofs.Rows.{waits, carries, merges, decides, weight, Numbers, RowRule}
 use Rattle.brc_model.proofs.Aside.{HoldsAlone, holds_alone, alone_fits}
-use Rattle.brc_model.proofs.Rule.{Account, Accounts, HoldsAt, IsBounded, Fits, numbers_of, scans, AgendaFits, UsesFit, looks, IsWatched, ByRunning, ByExit, ByLook, Rule, ChainFits}
+use Rattle.brc_model.proofs.Rule.{Account, Accounts, HoldsAt, IsBounded, Fits, numbers_of, scans, AgendaFits, UsesFit, looks, IsWatched, ByRunning, ByExit, ByLook, Rule, ChainFits, BlankFits}
 use Rattle.brc_lang.specs.declared.kind.Kind.{Kind}
 use Rattle.brc_model.specs.Kinds.{kind_number}
 use Rattle.brc_model.proofs.Others.{LeavesOthers, each_fits}
 use Rattle.brc_model.proofs.Begins.{QuietMoves, Stays, GainsNone, HandsOn, bag_after}
-use Rattle.brc_model.proofs.Sits.{sitting, AtRest, same_weight, with_account, with_account_same, with_account_other}
+use Rattle.brc_model.proofs.Sits.{sitting, AtRest, rest_blanks, same_weight, with_account, with_account_same, with_account_other}
 
 -- ---- the moves
 
@@ -203,6 +203,7 @@ quiet_rule p n m t a moves place account rest taken =
           (quiet_aside m.plain.references (ByThread u k) t moves quiet
           (λ h. other_thread u t k h (λ e. absurd (omega (arith, within, past, e)))))
           ∙ rest.rule.beyond u past k object;
+      gates = rest.rule.gates;
       dying = rest.rule.dying;
       cells = rest.rule.cells;
       cells_hold =
@@ -212,6 +213,9 @@ quiet_rule p n m t a moves place account rest taken =
       uses =
           λ u b is. written_actor (λ w c. UsesFit m.rows m.life w c.used) m.actors t a (sitting a place []) rest.found
           (rest.rule.uses t a rest.found) rest.rule.uses u b is;
+      blanks =
+          λ u b is. written_actor (λ w c. BlankFits m.rows m.memory w c.used c.agenda) m.actors t a (sitting a place [])
+          rest.found (rest_blanks p n m t a [] rest) rest.rule.blanks u b is;
       no_block = rest.rule.no_block;
       none_lives = rest.rule.none_lives;
       born_is = λ x is. rest.rule.born_is x (sym (ap (is_among x) born) ∙ is);

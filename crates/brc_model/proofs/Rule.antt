@@ -5,14 +5,14 @@ use Rattle.std.specs.Prelude.{◌==◌, ◌&&◌, nat_le, slice_get, count_by, A
 use Rattle.brc_model.specs.declared.duty.Holding.{Holding}
 use Rattle.brc_model.specs.declared.duty.Holding.TheVariants.{ByVariable, AsCaller, InHand}
 use Rattle.brc_model.specs.Plain.{Reference, same_holding, is_among, references_to}
-use Rattle.brc_word.specs.Words.{owner_part, local_part, phase_part, dying_word, kind_part}
+use Rattle.brc_word.specs.Words.{owner_part, local_part, phase_part, free_word, dying_word, closed_word, kind_part}
 use Rattle.brc_model.specs.Kinds.{kind_number, kind_of_word, is_counted_kind}
 use Rattle.brc_model.specs.declared.duty.Reason.{Reason}
 use Rattle.brc_model.specs.declared.duty.Reason.TheVariants.{Own, Handed}
 use Rattle.brc_model.specs.declared.duty.Duty.{Duty}
 use Rattle.brc_model.specs.declared.duty.Duty.TheVariants.{RetainLoad, RetainStore, RetainAdd, ReleaseLoad, ReleaseStore, DecideAtZero, SharedLoad, SharedExchange, SetMark, Look, TakeMark, MergeSwap, MergeLoad, MergeExchange, Die, Settle, SettleKind, SettleCell, TakeSlot, CloseResource, SettleEnd, Leave, Scan, Finish, ClaimMark, BirthKind, BirthSlot, BirthLocal}
 use Rattle.brc_model.specs.declared.address.Address.{Address}
-use Rattle.brc_model.specs.declared.address.Address.TheVariants.{Local, Shared, Gate, KindOf, Mark, Cell, ThreadWord}
+use Rattle.brc_model.specs.declared.address.Address.TheVariants.{Local, Shared, Gate, KindOf, Mark, Cell, Slot, ThreadWord}
 use Rattle.brc_model.specs.Duties.{block_of}
 use Rattle.brc_model.specs.declared.actor.Status.{Status}
 use Rattle.brc_model.specs.declared.actor.Status.TheVariants.{Running, Leaving, Gone}
@@ -125,6 +125,10 @@ pub record IsNext (m : Machine) (t : ℕ) (a : Actor) (x : ℕ) : Type 0 where
 abbrev pub HasCountedKind : (Address → ℕ) → ℕ → Type 0
 HasCountedKind memory x = is_counted_kind (kind_of_word (memory (KindOf x))) ≡ true
 
+-- the gate of a row that the thread has chained: it names the thread and the next row of the chain
+abbrev pub IsDyingWord : ℕ → ℕ → Type 0
+IsDyingWord t word = (next : ℕ) × (word ≡ dying_word t next) × (next < 4294967296)
+
 abbrev pub HeadFits : Machine → ℕ → Actor → Duty → List Duty → Type 0
 HeadFits m t a (RetainLoad x h) rest = IsBacked m t x
 HeadFits m t a (RetainStore x h w) rest =
@@ -145,13 +149,14 @@ HeadFits m t a (MergeSwap x Own) rest = (0 < x) × OwnsLocally m t a x × (local
 HeadFits m t a (MergeSwap x Handed) rest = (0 < x) × MayMerge m t x
 HeadFits m t a (MergeLoad x c r) rest = (0 < x) × (c < 4294967296) × MayCarry m t a x r
 HeadFits m t a (MergeExchange x c w r) rest = (0 < x) × (c < 4294967296) × MayCarry m t a x r
-HeadFits m t a (Die x) rest = (0 < x) × (m.life x ≡ Dying t)
+HeadFits m t a (Die x) rest = (0 < x) × (m.life x ≡ Dying t) × (m.memory (Gate x) ≡ free_word)
 HeadFits m t a Settle rest = 0 < a.head
-HeadFits m t a (SettleKind x) rest = (0 < x) × (m.life x ≡ Dying t)
-HeadFits m t a (SettleCell x i n) rest = (0 < x) × (m.life x ≡ Dying t) × (i < n)
-HeadFits m t a (TakeSlot x) rest = (0 < x) × (m.life x ≡ Dying t)
-HeadFits m t a (CloseResource x) rest = (0 < x) × (m.life x ≡ Dying t)
-HeadFits m t a (SettleEnd x) rest = (0 < x) × (m.life x ≡ Dying t)
+HeadFits m t a (SettleKind x) rest = (0 < x) × (m.life x ≡ Dying t) × IsDyingWord t (m.memory (Gate x))
+HeadFits m t a (SettleCell x i n) rest =
+    (0 < x) × (m.life x ≡ Dying t) × (i < n) × IsDyingWord t (m.memory (Gate x))
+HeadFits m t a (TakeSlot x) rest = (0 < x) × (m.life x ≡ Dying t) × IsDyingWord t (m.memory (Gate x))
+HeadFits m t a (CloseResource x) rest = (0 < x) × (m.life x ≡ Dying t) × IsDyingWord t (m.memory (Gate x))
+HeadFits m t a (SettleEnd x) rest = (0 < x) × (m.life x ≡ Dying t) × IsDyingWord t (m.memory (Gate x))
 HeadFits m t a (Leave x n) rest = Unit {0}
 HeadFits m t a (Scan x n) rest = 0 < n
 HeadFits m t a Finish rest = Unit {0}
@@ -220,6 +225,14 @@ hand_of (d ∷ rest) x = at_hand d x
 abbrev pub dies_by : Life → ℕ → Bool
 dies_by (Dying u) t = u == t
 dies_by _ t = false
+
+-- A row's gate is free while the row lives, and says in the end that the row is closed. In between, the thread that
+-- closes the row knows the gate by `HeadFits` and by its chain.
+abbrev pub GateFits : Life → ℕ → Type 0
+GateFits Unborn gate = gate ≡ free_word
+GateFits Live gate = gate ≡ free_word
+GateFits (Dying t) gate = Unit {0}
+GateFits Closed gate = gate ≡ closed_word
 
 pub record ChainFits (m : Machine) (t head : ℕ) (agenda : List Duty) : Type 0 where
   pub chained : List ℕ
@@ -364,6 +377,24 @@ pub record UsesFit (rows : ℕ) (life : ℕ → Life) (t used : ℕ) : Type 0 wh
   pub born : (x : ℕ) → first_row rows t ≤ x → x < first_row rows t + used → life x ≢ Unborn
   pub unborn : (x : ℕ) → block_of rows x ≡ t → first_row rows t + used ≤ x → life x ≡ Unborn
 
+-- whether the thread's birth of the row has stored its kind word
+abbrev pub kind_stored : List Duty → ℕ → Bool
+kind_stored (BirthSlot y h ∷ rest) x = y == x
+kind_stored (BirthLocal y h ∷ rest) x = y == x
+kind_stored _ x = false
+
+-- and whether it has stored its slot's word
+abbrev pub slot_stored : List Duty → ℕ → Bool
+slot_stored (BirthLocal y h ∷ rest) x = y == x
+slot_stored _ x = false
+
+-- the unused rows of a thread's block are blank, apart from what the birth under way has stored
+pub record BlankFits (rows : ℕ) (memory : Address → ℕ) (t used : ℕ) (agenda : List Duty) : Type 0 where
+  pub kinds : (x : ℕ) → block_of rows x ≡ t → first_row rows t + used ≤ x → kind_stored agenda x ≡ false
+      → memory (KindOf x) ≡ 0
+  pub slots : (x : ℕ) → block_of rows x ≡ t → first_row rows t + used ≤ x → slot_stored agenda x ≡ false
+      → memory (Slot x) ≡ 0
+
 -- ---- the whole
 
 pub record Rule (p : Accounts) (n : ℕ) (m : Machine) : Type 0 where
@@ -375,9 +406,11 @@ pub record Rule (p : Accounts) (n : ℕ) (m : Machine) : Type 0 where
   pub marks : (x : ℕ) → m.memory (Mark x) ≡ 0 ⊎ ((m.memory (Mark x) ≡ 1) × (0 < x) × IsWatched m x)
   pub each : (t : ℕ) (a : Actor) → slice_get m.actors t ≡ Some a → Fits (p t) m t a
   pub beyond : (t : ℕ) → n ≤ t → (k : Holding) (object : ℕ) → held (reference_of t k object) m.plain.references ≡ 0
+  pub gates : (x : ℕ) → GateFits (m.life x) (m.memory (Gate x))
   pub dying : (x t : ℕ) → n ≤ t → dies_by (m.life x) t ≡ false
   pub cells : (x i : ℕ) → m.memory (Cell x i) ≡ 0
   pub uses : (t : ℕ) (a : Actor) → slice_get m.actors t ≡ Some a → UsesFit m.rows m.life t a.used
+  pub blanks : (t : ℕ) (a : Actor) → slice_get m.actors t ≡ Some a → BlankFits m.rows m.memory t a.used a.agenda
   pub no_block : (x : ℕ) → n ≤ block_of m.rows x → m.life x ≡ Unborn
   -- no instruction stores in a cell yet
   pub cells_hold : (x i object : ℕ) → held (cell_reference x i object) m.plain.references ≡ 0

@@ -16,7 +16,7 @@ use Rattle.brc_model.proofs.Lists.{some_is, slice_get-set_other, written_actor}
 use Rattle.brc_model.proofs.Bag.{one_if}
 use Rattle.brc_model.proofs.Weights.{weight-set}
 use Rattle.brc_model.proofs.Rows.{waits, carries, merges, decides, agenda_weight, weight, Numbers, RowRule}
-use Rattle.brc_model.proofs.Rule.{Account, Accounts, numbers_of, HoldsAt, HoldsNone, IsBounded, AsideFits, Fits, HeadOf, Agenda, scans, hand_of, AgendaFits, looks, IsWatched, ByRunning, ByExit, ByLook, Rule, UsesFit}
+use Rattle.brc_model.proofs.Rule.{Account, Accounts, numbers_of, HoldsAt, HoldsNone, IsBounded, AsideFits, Fits, HeadOf, Agenda, scans, hand_of, AgendaFits, looks, IsWatched, ByRunning, ByExit, ByLook, Rule, UsesFit, BlankFits}
 use Rattle.brc_model.proofs.Others.{LeavesOthers, each_fits}
 
 -- the thread with another place and agenda
@@ -169,6 +169,17 @@ sitting_fits p n m t a place agenda account rest sits =
       sits.aside,
     )
 
+-- at rest all unused rows are blank, whatever is taken up
+pub rest_blanks : (p : Accounts) (n : ℕ) (m : Machine) (t : ℕ) (a : Actor) (agenda : List Duty)
+    → AtRest p n m t a → BlankFits m.rows m.memory t a.used agenda
+rest_blanks p n m t a agenda rest =
+    let old : BlankFits m.rows m.memory t a.used [] =
+    subst (λ (l : List Duty). BlankFits m.rows m.memory t a.used l) rest.agenda (rest.rule.blanks t a rest.found) in
+    record {
+      kinds = λ x block past none. old.kinds x block past refl;
+      slots = λ x block past none. old.slots x block past refl;
+    }
+
 -- Taking work up under its condition keeps the rule.
 pub sits_rule : (p : Accounts) (n : ℕ) (m : Machine) (t : ℕ) (a : Actor) (place : Place) (agenda : List Duty)
     (account : Account)
@@ -193,11 +204,15 @@ sits_rule p n m t a place agenda account rest sits = record {
       (with_account_other p t account)
       (subst (λ (c : Account). Fits c (with_actor m t now) t now) (with_account_same p t account) own) rest.rule.each;
   beyond = rest.rule.beyond;
+  gates = rest.rule.gates;
   dying = rest.rule.dying;
   cells = rest.rule.cells;
   uses =
       λ u b is. written_actor (λ w c. UsesFit m.rows m.life w c.used) m.actors t a (sitting a place agenda) rest.found
       (rest.rule.uses t a rest.found) rest.rule.uses u b is;
+  blanks =
+      λ u b is. written_actor (λ w c. BlankFits m.rows m.memory w c.used c.agenda) m.actors t a (sitting a place agenda)
+      rest.found (rest_blanks p n m t a agenda rest) rest.rule.blanks u b is;
   no_block = rest.rule.no_block;
   cells_hold = rest.rule.cells_hold;
   none_lives = rest.rule.none_lives;

@@ -51,7 +51,7 @@ duty_there p n m t a (Die x) rest here alive small = small
 duty_there p n m t a Settle rest here alive small = omega (arith, head_small p n m t a here.rule here.found)
 duty_there p n m t a (SettleKind x) rest here alive small = small
 duty_there p n m t a (SettleCell x i c) rest here alive small =
-    let (pos, dies, more) = head_of p n m t a (SettleCell x i c) rest here in
+    let (pos, dies, more, gate) = head_of p n m t a (SettleCell x i c) rest here in
     (small.0, omega (arith, more, small.1))
 duty_there p n m t a (TakeSlot x) rest here alive small = small
 duty_there p n m t a (CloseResource x) rest here alive small = small

@@ -46,6 +46,10 @@ merged_word word carried = (biased_part word + carried) * 4 + 3
 
 -- ---- gates, kinds and thread words
 
+-- the gate of an object that is neither dying nor closed
+abbrev pub free_word : ℕ
+free_word = 1
+
 abbrev pub dying_word : ℕ → ℕ → ℕ
 dying_word thread next = (thread + 1) * 4294967296 + next
 
