@@ -21,7 +21,8 @@ use Rattle.brc_model.proofs.Rule.{Account, Accounts, Rule}
 use Rattle.brc_model.proofs.Coded.{PlaceSays, placed_by, says_bounded}
 use Rattle.brc_model.proofs.Quiets.{QuietSits}
 use Rattle.brc_model.proofs.Begins.{Starts, Gives, Takes, Bears, Follows, Nothing, Settles, Leaves, IsTaken, bag_after}
-use Rattle.brc_model.proofs.Sits.{sitting, Sits, AtRest, with_account, with_account_itself}
+use Rattle.brc_model.proofs.Sits.{sitting, Sits, AtRest}
+use Rattle.brc_model.proofs.Replaced.{with_account, with_account_itself}
 use Rattle.brc_model.proofs.TakenSits.{taken_sits, claim_sits, rests, dispatch_fits}
 use Rattle.brc_model.proofs.Kept.{Kept, Doing, sits_down, starts_settled}
 use Rattle.brc_model.proofs.Whole.{Whole}

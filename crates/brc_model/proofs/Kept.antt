@@ -27,7 +27,8 @@ use Rattle.brc_model.proofs.Watches.{marks_after}
 use Rattle.brc_model.proofs.KeepsDuty.{keeps_by}
 use Rattle.brc_model.proofs.NotBad.{duty_not_bad}
 use Rattle.brc_model.proofs.Begins.{Starts, Gives, Takes, Follows, Nothing, Settles as SettlesFirst, Leaves, Bears}
-use Rattle.brc_model.proofs.Sits.{with_account, sitting, Sits, AtRest, sits_rule, taken_up_step}
+use Rattle.brc_model.proofs.Sits.{sitting, Sits, AtRest, sits_rule, taken_up_step}
+use Rattle.brc_model.proofs.Replaced.{with_account}
 use Rattle.brc_model.proofs.OwnBirths.{own_birth_kind, own_birth_slot, own_birth_local}
 use Rattle.brc_model.proofs.Nones.{own_retain_none, own_release_none}
 

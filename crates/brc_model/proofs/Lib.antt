@@ -44,6 +44,7 @@ pub mod FirstMachine
 pub mod Beside
 pub mod AsideAfter
 pub mod KeepsDuty
+pub mod Replaced
 pub mod Sits
 pub mod Weights
 pub mod RowsAfterStep

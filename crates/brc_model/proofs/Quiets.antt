@@ -24,7 +24,8 @@ use Rattle.brc_lang.specs.declared.kind.Kind.{Kind}
 use Rattle.brc_model.specs.Kinds.{kind_number}
 use Rattle.brc_model.proofs.Others.{LeavesOthers, each_fits}
 use Rattle.brc_model.proofs.Begins.{QuietMoves, Stays, GainsNone, HandsOn, bag_after}
-use Rattle.brc_model.proofs.Sits.{sitting, AtRest, rest_blanks, same_weight, with_account, with_account_same, with_account_other}
+use Rattle.brc_model.proofs.Sits.{sitting, AtRest, rest_blanks, same_weight}
+use Rattle.brc_model.proofs.Replaced.{with_account, with_account_same, with_account_other}
 
 -- ---- the moves
 

@@ -9,7 +9,8 @@ use Rattle.brc_model.specs.declared.actor.Place.{Place}
 use Rattle.brc_model.specs.declared.thread.Choice.{Choice}
 use Rattle.brc_model.specs.Machine.{Actor, Machine, Action, Skip, Stuck, Silent, Does, action_of, of_thread, done_by, at_place, with_actor, with_moves, machine_by, next_machine}
 use Rattle.brc_model.proofs.Begins.{QuietMoves}
-use Rattle.brc_model.proofs.Sits.{sitting, with_account, taken_up_step}
+use Rattle.brc_model.proofs.Sits.{sitting, taken_up_step}
+use Rattle.brc_model.proofs.Replaced.{with_account}
 use Rattle.brc_model.proofs.Leaves.{AtDuty}
 use Rattle.brc_model.proofs.Rule.{Accounts}
 use Rattle.brc_model.proofs.Kept.{Kept, Doing}

@@ -14,7 +14,8 @@ use Rattle.brc_model.specs.World.{World, world_of, row_count, IsReachable}
 use Rattle.brc_model.specs.Within.{IsThere, Suits, IsWithin, StepsWithin}
 use Rattle.brc_model.proofs.Leaves.{AtDuty, head_of}
 use Rattle.brc_model.proofs.Neutral.{agenda_here}
-use Rattle.brc_model.proofs.Sits.{sitting, with_account}
+use Rattle.brc_model.proofs.Sits.{sitting}
+use Rattle.brc_model.proofs.Replaced.{with_account}
 use Rattle.brc_model.proofs.Kept.{Doing}
 use Rattle.brc_model.proofs.Actions.{DutyFits, ActionFits, action_fits}
 use Rattle.brc_model.proofs.Safe.{first_whole}

@@ -9,7 +9,7 @@ use Rattle.brc_model.specs.Machine.{Actor, Machine}
 use Rattle.brc_model.proofs.Lists.{some_is, slice_get-set_same, slice_get-set_other}
 use Rattle.brc_model.proofs.Rule.{Account, Accounts}
 use Rattle.brc_model.proofs.Coded.{InCode}
-use Rattle.brc_model.proofs.Sits.{with_account, with_account_same, with_account_other}
+use Rattle.brc_model.proofs.Replaced.{with_account, with_account_same, with_account_other}
 use Rattle.brc_model.proofs.Kept.{Kept}
 
 pub record Whole (p : Module) (n : ℕ) (m : Machine) : Type 0 where

@@ -8,7 +8,8 @@ use Rattle.brc_model.specs.Machine.{Actor, Machine, actor_by, Action, Skip, Stuc
 use Rattle.brc_model.specs.Events.{is_bad_action, is_bad_event}
 use Rattle.brc_model.proofs.Lists.{written_actor}
 use Rattle.brc_model.proofs.Neutral.{found_by}
-use Rattle.brc_model.proofs.Sits.{sitting, taken_up_step, with_account}
+use Rattle.brc_model.proofs.Sits.{sitting, taken_up_step}
+use Rattle.brc_model.proofs.Replaced.{with_account}
 use Rattle.brc_model.proofs.Kept.{Kept, duty_kept}
 use Rattle.brc_model.proofs.Whole.{Whole, KeepsOn, coded_set}
 use Rattle.brc_model.proofs.Quiets.{quieted, quiet_rule, quiet_allowed}
