@@ -1,16 +1,15 @@
 -- A row that is referenced, awaited, decided about or merged is live; and what an agenda weighs, all agendas weigh.
-use Rattle.std.proofs.Common.{◌≡◌, ℕ, zero, suc, ◌+◌, ◌<◌, ◌≤◌, true, false, List, [], ◌∷◌, Some, refl, ap, ◌∙◌, subst, arith}
+use Rattle.std.proofs.Common.{◌≡◌, ℕ, zero, suc, ◌+◌, ◌<◌, ◌≤◌, List, [], ◌∷◌, Some, refl, ap, ◌∙◌, subst, arith}
 use Rattle.std.specs.Prelude.{slice_get, sum_by}
 use Rattle.std.proofs.lemmas.List.Sums.{sum_by-cons}
-use Rattle.brc_model.specs.declared.duty.Holding.{Holding}
-use Rattle.brc_model.specs.Plain.{Reference, references_to}
+use Rattle.brc_model.specs.Plain.{references_to}
 use Rattle.brc_model.specs.declared.duty.Duty.{Duty}
 use Rattle.brc_model.specs.Duties.{block_of}
 use Rattle.brc_model.specs.Machine.{Life, Unborn, Live, Dying, Closed, Actor, Machine}
-use Rattle.brc_model.proofs.Bag.{held, one_if, held-le-references_to}
+use Rattle.brc_model.proofs.Bag.{held-le-references_to}
 use Rattle.brc_model.proofs.Holds.{reference_of}
 use Rattle.brc_model.proofs.Rows.{waits, merges, decides, agenda_weight, weight, Numbers, IsLive, RowRule}
-use Rattle.brc_model.proofs.Rule.{Accounts, numbers_of, extra_of, lacks_of, Account, HoldsAt, IsBacked, Rule}
+use Rattle.brc_model.proofs.Rule.{Accounts, numbers_of, IsBacked, Rule}
 
 -- ---- weights
 

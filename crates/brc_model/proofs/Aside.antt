@@ -1,5 +1,5 @@
 -- Work that is put aside: what a duty makes, gives up or weighs at a row, only a duty about that row does.
-use Rattle.std.proofs.Common.{◌≡◌, ℕ, zero, suc, ◌+◌, ◌<◌, ◌≤◌, Bool, true, false, cond, List, [], ◌∷◌, ◌⊎◌, inl, inr, refl, sym, ap, ◌∙◌, subst, arith}
+use Rattle.std.proofs.Common.{◌≡◌, ℕ, ◌+◌, ◌<◌, ◌≤◌, Bool, true, false, cond, List, [], ◌∷◌, inl, refl, sym, ap, ◌∙◌, subst, arith}
 use Rattle.std.specs.Prelude.{◌==◌, ◌&&◌, count_by, sum_by}
 use Rattle.std.proofs.lemmas.List.Sums.{sum_by-cons}
 use Rattle.brc_model.specs.declared.duty.Holding.{Holding}
@@ -15,6 +15,18 @@ use Rattle.brc_model.proofs.Rows.{waits, carries, merges, decides}
 use Rattle.brc_model.proofs.Rule.{Account, extra, lacks, extra_of, lacks_of, extra_aside, lacks_aside, HoldsAt, is_about, about_of, looks, AsideFits}
 
 -- ---- one duty
+
+-- no row that both duties are about
+abbrev pub AreApart : Duty → Duty → Type 0
+AreApart d e = (x : ℕ) → is_about x d ≡ true → is_about x e ≡ false
+
+false_unless : (b : Bool) → (b ≡ true → ⊥) → b ≡ false
+false_unless true none = absurd (none refl)
+false_unless false none = refl
+
+pub apart_swapped : (d e : Duty) → AreApart d e → AreApart e d
+apart_swapped d e apart x about =
+    false_unless (is_about x d) (λ other. let wrong : true ≡ false = sym about ∙ apart x other in cc)
 
 and_at_most : (b c : Bool) → one_if (b && c) ≤ one_if c
 and_at_most true true = omega arith

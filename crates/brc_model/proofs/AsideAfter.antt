@@ -1,18 +1,17 @@
 -- What is put aside stays so through the thread's own step: the duty at hand goes on as one piece about its row, and
 -- leaves what the others know.
-use Rattle.std.proofs.Common.{◌≡◌, ℕ, zero, suc, ◌+◌, ◌≤◌, Bool, true, false, cond, List, [], ◌∷◌, ◌++◌, ◌⊎◌, inl, inr, refl, sym, ap, ◌∙◌, subst, arith}
+use Rattle.std.proofs.Common.{◌≡◌, ℕ, zero, suc, ◌+◌, ◌≤◌, Bool, true, false, cond, List, [], ◌∷◌, ◌++◌, inl, inr, refl, sym, ap, subst, arith}
 use Rattle.std.specs.Prelude.{◌==◌, ◌&&◌, nat_lt, count_by}
 use Rattle.std.proofs.lemmas.List.Sums.{sum_by-cons}
 use Rattle.brc_word.specs.Words.{is_immortal_word, local_part, fresh_word, dead_word, released_word, merged_word}
-use Rattle.brc_model.specs.declared.duty.Reason.{Reason}
 use Rattle.brc_model.specs.declared.duty.Reason.TheVariants.{Own, Handed}
 use Rattle.brc_model.specs.declared.duty.Duty.{Duty}
-use Rattle.brc_model.specs.declared.duty.Duty.TheVariants.{RetainLoad, RetainStore, RetainAdd, ReleaseLoad, ReleaseStore, DecideAtZero, SharedLoad, SharedExchange, SetMark, Look, TakeMark, MergeSwap, MergeLoad, MergeExchange, Die, Settle, SettleKind, SettleCell, TakeSlot, CloseResource, SettleEnd, Leave, Scan, Finish, ClaimMark, BirthKind, BirthSlot, BirthLocal}
-use Rattle.brc_model.specs.Duties.{next_by, head_by, ready, counts_locally, claimed, shared_result, merge_result, once_merged, has_resource}
+use Rattle.brc_model.specs.declared.duty.Duty.TheVariants.{RetainLoad, RetainStore, RetainAdd, ReleaseLoad, ReleaseStore, DecideAtZero, SharedLoad, SharedExchange, SetMark, Look, TakeMark, MergeSwap, MergeLoad, MergeExchange, Die, Settle, Leave, Scan, Finish, BirthKind, BirthSlot, BirthLocal}
+use Rattle.brc_model.specs.Duties.{next_by, head_by, ready, counts_locally, has_resource}
 use Rattle.brc_model.specs.declared.actor.Status.{Status}
 use Rattle.brc_model.specs.Machine.{Actor, Machine, is_running, status_by, actor_by, done_by}
 use Rattle.brc_model.proofs.Bag.{one_if}
-use Rattle.brc_model.proofs.Rule.{Accounts, HeadFits, is_about, about_of, may_wait, is_piece, IsPiece, AllWait, AsideFits}
+use Rattle.brc_model.proofs.Rule.{Accounts, is_about, about_of, is_piece, IsPiece, AllWait, AsideFits}
 use Rattle.brc_model.proofs.Aside.{alone_fits}
 use Rattle.brc_model.proofs.Leaves.{AtDuty}
 use Rattle.brc_model.proofs.Neutral.{found_by}
@@ -118,7 +117,7 @@ waits_after p n m t a d rest [] here piece apart waits = tt
 waits_after p n m t a d rest (e ∷ es) here piece apart waits =
     let whole = λ (x : ℕ). sum_by-cons (λ (f : Duty). cond (is_about x f) 1 0) e es in (
       waits.0,
-      beside p n m t a d rest e here (piece_status a.status d piece)
+      beside p n m t a d rest here (piece_status a.status d piece) e
           (λ x this. is_false (is_about x e) (omega (arith, whole x, apart x this))) waits.0 waits.1,
       waits_after p n m t a d rest es here piece (λ x this. omega (arith, whole x, apart x this)) waits.2,
     )

@@ -266,8 +266,15 @@ given_as x (d ∷ rest) k few some =
     elim (is_about x d) as (λ b. is_about x d ≡ b → k ≡ cond b (given_by d) (given_in x rest)) [
       | true ↦ λ e.
           let one : one_if (is_about x d) ≡ 1 = ap one_if e in
-          extra_given d k x (is_true (extra d k x) (omega (arith, about, given, few, some, one,
-          extra_counted rest k x)))
+          extra_given d k x (is_true (extra d k x) (omega (
+            arith,
+            about,
+            given,
+            few,
+            some,
+            one,
+            extra_counted rest k x,
+          )))
       | false ↦ λ e.
           let none : one_if (is_about x d) ≡ 0 = ap one_if e in
           given_as x rest k (omega (arith, about, few)) (omega (arith, given, some, none, extra_about d k x))

@@ -13,7 +13,7 @@ use Rattle.brc_model.specs.declared.address.Address.{Address}
 use Rattle.brc_model.specs.declared.address.Address.TheVariants.{Local, Shared}
 use Rattle.brc_model.specs.Duties.{block_of, once_merged}
 use Rattle.brc_model.specs.Machine.{Live, Dying, Actor, Machine, written, life_by, done_by}
-use Rattle.brc_model.proofs.Rows.{waits, carries, merges, decides, agenda_weight, weight, IsLive, InOwned, InSwapped, InMerged}
+use Rattle.brc_model.proofs.Rows.{waits, carries, merges, decides, weight, IsLive, InOwned, InSwapped, InMerged}
 use Rattle.brc_model.proofs.RowMerges.{swapped_own, swapped_claimed, merged_live, merged_dies}
 use Rattle.brc_model.proofs.Rule.{Accounts, numbers_of}
 use Rattle.brc_model.proofs.Weights.{agenda_weight-le, none_carried}

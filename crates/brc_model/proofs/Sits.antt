@@ -1,22 +1,19 @@
 -- A thread at rest takes up duties, or stands elsewhere: the rule holds with its new agenda.
-use Rattle.std.proofs.Common.{◌≡◌, ◌≢◌, ℕ, Bool, false, cond, List, [], ◌∷◌, inl, inr, Some, refl, sym, ap, ◌∙◌, subst, arith}
-use Rattle.std.specs.Prelude.{◌==◌, slice_get, slice_set, sum_by}
-use Rattle.std.proofs.lemmas.Bool.{false≢true, eq-eqb, ne_eqb}
-use Rattle.std.proofs.Math.Path.{fun_ext}
-use Rattle.std.proofs.lemmas.Bool.Decides.{eqb_tells}
-use Rattle.std.proofs.lemmas.List.{length-set, set-set}
+use Rattle.std.proofs.Common.{◌≡◌, ℕ, false, List, [], ◌∷◌, Some, refl, sym, ap, ◌∙◌, subst, arith}
+use Rattle.std.specs.Prelude.{slice_get, slice_set, sum_by}
+use Rattle.std.proofs.lemmas.Bool.{false≢true}
+use Rattle.std.proofs.lemmas.List.{set-set}
 use Rattle.brc_model.specs.declared.duty.Duty.{Duty}
-use Rattle.brc_model.specs.Duties.{block_of, address_of}
+use Rattle.brc_model.specs.Duties.{address_of}
 use Rattle.brc_model.specs.declared.actor.Status.{Status}
 use Rattle.brc_model.specs.declared.actor.Status.TheVariants.{Running}
 use Rattle.brc_model.specs.declared.actor.Place.{Place}
 use Rattle.brc_model.specs.declared.actor.Place.TheVariants.{Departing}
 use Rattle.brc_model.specs.Machine.{Actor, Machine, at_place, with_actor, actor_by, done_by}
-use Rattle.brc_model.proofs.Lists.{some_is, slice_get-set_other, written_actor}
 use Rattle.brc_model.proofs.Bag.{one_if}
 use Rattle.brc_model.proofs.Weights.{weight-set}
-use Rattle.brc_model.proofs.Rows.{waits, carries, merges, decides, agenda_weight, weight, Numbers, RowRule}
-use Rattle.brc_model.proofs.Rule.{Account, Accounts, numbers_of, HoldsAt, HoldsNone, IsBounded, AsideFits, Fits, HeadOf, Agenda, scans, hand_of, AgendaFits, looks, IsWatched, ByRunning, ByExit, ByLook, Rule, UsesFit, BlankFits}
+use Rattle.brc_model.proofs.Rows.{waits, carries, merges, decides, agenda_weight, weight}
+use Rattle.brc_model.proofs.Rule.{Account, Accounts, HoldsAt, HoldsNone, IsBounded, AsideFits, Fits, HeadOf, Agenda, scans, hand_of, AgendaFits, looks, Rule, BlankFits}
 use Rattle.brc_model.proofs.Replaced.{with_account, replaced_rule}
 
 -- the thread with another place and agenda
