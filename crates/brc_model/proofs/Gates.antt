@@ -1,12 +1,12 @@
 -- A row's gate says that it is closed, just where it was finalised; and what is born is among the used rows.
-use Rattle.std.proofs.Common.{◌≡◌, ◌≢◌, ℕ, ◌<◌, Bool, true, false, cond, List, [], ◌∷◌, ◌⊎◌, inl, inr, refl, sym, ap, ◌∙◌, subst, arith}
+use Rattle.std.proofs.Common.{◌≡◌, ◌≢◌, ℕ, ◌<◌, true, false, cond, List, [], ◌∷◌, ◌⊎◌, inl, inr, refl, sym, ap, ◌∙◌, subst, arith}
 use Rattle.std.specs.Prelude.{◌==◌, count_by}
-use Rattle.std.proofs.lemmas.Bool.{eqb-true, eq-eqb, cases_lt, false≢true}
+use Rattle.std.proofs.lemmas.Bool.{eqb-true, cases_lt, false≢true}
 use Rattle.std.proofs.lemmas.List.Sums.{sum_by-cons}
 use Rattle.brc_lang.specs.declared.module.Module.{Module}
 use Rattle.brc_lang.specs.Grammar.{IsModule}
 use Rattle.brc_model.specs.Walks.{IsAcceptable}
-use Rattle.brc_word.specs.Words.{free_word, dying_word, closed_word}
+use Rattle.brc_word.specs.Words.{free_word, closed_word}
 use Rattle.brc_model.specs.declared.duty.Duty.{Duty}
 use Rattle.brc_model.specs.declared.duty.Duty.TheVariants.{Die, SettleKind, SettleCell, TakeSlot, CloseResource, SettleEnd}
 use Rattle.brc_model.specs.declared.address.Address.{Address}

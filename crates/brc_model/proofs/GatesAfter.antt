@@ -1,6 +1,6 @@
 -- Which gates are free and which say that their row is closed, after each step too.
-use Rattle.std.proofs.Common.{◌≡◌, ℕ, ◌-◌, List, ◌∷◌, None, Some, refl, sym, ap, ◌∙◌, subst}
-use Rattle.brc_word.specs.Words.{free_word, dying_word, closed_word}
+use Rattle.std.proofs.Common.{◌≡◌, ℕ, ◌-◌, List, None, Some, refl, sym, ap, ◌∙◌, subst}
+use Rattle.brc_word.specs.Words.{dying_word, closed_word}
 use Rattle.brc_model.specs.declared.duty.Duty.{Duty}
 use Rattle.brc_model.specs.declared.duty.Duty.TheVariants.{Die, Settle, SettleEnd}
 use Rattle.brc_model.specs.declared.address.Address.TheVariants.{Gate}

@@ -10,14 +10,14 @@ use Rattle.brc_word.specs.Words.{free_word}
 use Rattle.brc_model.specs.declared.duty.Duty.{Duty}
 use Rattle.brc_model.specs.declared.duty.Duty.TheVariants.{RetainStore, ReleaseStore, SetMark, Die, SettleEnd, Leave, Finish, BirthKind, BirthSlot, BirthLocal}
 use Rattle.brc_model.specs.declared.address.Address.{Address}
-use Rattle.brc_model.specs.declared.address.Address.TheVariants.{Local, KindOf, Slot, Mark, ThreadWord}
+use Rattle.brc_model.specs.declared.address.Address.TheVariants.{Local, Mark, ThreadWord}
 use Rattle.brc_model.specs.declared.actor.Status.{Status}
 use Rattle.brc_model.specs.declared.actor.Status.TheVariants.{Running, Leaving, Gone}
 use Rattle.brc_model.specs.Duties.{block_of, left_by, next_by, head_by}
-use Rattle.brc_model.specs.Machine.{Actor, Life, Unborn, Machine, first_row, moves_by}
+use Rattle.brc_model.specs.Machine.{Actor, Life, Machine, first_row, moves_by}
 use Rattle.brc_model.proofs.Bag.{one_if}
 use Rattle.brc_model.proofs.Rows.{waits, Numbers, IsDefault, IsQueued, InOwned, InSwapped, InMerged, Phased, RowRule}
-use Rattle.brc_model.proofs.Rule.{Accounts, numbers_of, status_word, IsNext, IsDyingWord, Agenda, AgendaFits, BlankFits}
+use Rattle.brc_model.proofs.Rule.{Accounts, numbers_of, status_word, IsNext, IsDyingWord, Agenda, AgendaFits}
 use Rattle.brc_model.proofs.Alive.{first_weighs, alive_waiting}
 use Rattle.brc_model.proofs.Blocks.{next_above, next_block, next_unborn}
 use Rattle.brc_model.proofs.Leaves.{AtDuty, head_of}
