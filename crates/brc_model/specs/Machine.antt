@@ -319,6 +319,7 @@ machine_by m t a Stuck = m
 machine_by m t a (Silent moves place) = with_moves (with_actor m t (at_place a place)) moves
 machine_by m t a (Does d rest place) = done_by m t (at_place a place) d rest
 
+-- Returns the machine after the event; where there is no such thread, it stays as it is.
 abbrev pub next_machine : Machine → ℕ × Choice → Machine
 next_machine m event =
     of_thread m (λ a. machine_by m event.0 a (action_of m.functions m.rows event.0 a event.1))
