@@ -292,8 +292,8 @@ exit_held bag t holds InHand object = omega (arith, holds.each InHand object)
 exit_held bag t holds (ByVariable v) object = omega (arith, holds.each (ByVariable v) object)
 
 -- whatever a thread at rest takes up is fit
-pub dispatch_taken : (code : List Instr) (bag : List Reference) (rows t used : ℕ) (place : Place) → IsAcceptableCode code
-    → AreInstructions code → (place ≢ Departing) → PlaceFits code bag t [] place
+pub dispatch_taken : (code : List Instr) (bag : List Reference) (rows t used : ℕ) (place : Place)
+    → IsAcceptableCode code → AreInstructions code → (place ≢ Departing) → PlaceFits code bag t [] place
     → IsTaken code bag rows t used (dispatch rows t used code place)
 dispatch_taken code bag rows t used Departing accepted instructions stays fits = absurd (stays refl)
 dispatch_taken code bag rows t used (Standing zero) accepted instructions stays fits =

@@ -44,6 +44,7 @@ is_bad_action m t a Stuck = true
 is_bad_action m t a (Silent moves place) = not (are_allowed m.plain moves)
 is_bad_action m t a (Does d rest place) = is_bad_duty m t a d
 
+-- Says whether the event is bad: whether its thread's action is.
 abbrev pub is_bad_event : Machine → ℕ × Choice → Bool
 is_bad_event m event =
     of_thread false (λ a. is_bad_action m event.0 a (action_of m.functions m.rows event.0 a event.1))

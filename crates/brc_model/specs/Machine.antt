@@ -1,5 +1,6 @@
 -- The step world: memory, a word at each address; threads, each with an agenda; and beside them the plain world and the
--- life of each row. A step does the first duty of one thread's agenda, or takes up its next instruction with it.
+-- life of each row. At an event one thread acts: it does the first duty of its agenda, or dispatches its next
+-- instruction.
 use Rattle.std.specs.Prelude.{ℕ, zero, suc, ◌+◌, ◌*◌, Bool, true, false, ◌&&◌, ◌==◌, nat_lt, nat_le, if◌then◌else◌, List, [], ◌∷◌, ◌++◌, length, map, Option, None, Some, fold, slice_get, slice_set}
 use Rattle.brc_lang.specs.declared.module.Instr.{Instr}
 use Rattle.brc_lang.specs.declared.module.Instr.TheVariants.{Num, NoneObject, Newref, Move as MoveReference, Drop, Goto, Ret, Fail}
@@ -117,7 +118,7 @@ has_room rows t used = nat_lt used (block_size rows t)
 abbrev pub number_word : ℕ → ℕ
 number_word value = 2 * 4294967296 + value
 
--- Dispatches an instruction for a thread that has used so many rows of its block.
+-- Returns what a thread does that is at an instruction and has used so many rows of its block.
 abbrev pub dispatch_instruction : ℕ → ℕ → ℕ → ℕ → ℕ → List (Option ℕ) → Option Instr → Action
 dispatch_instruction rows t used left at variables None = Stuck
 dispatch_instruction rows t used left at variables (Some (Num to value otherwise)) =
@@ -143,38 +144,41 @@ dispatch_instruction rows t used left at variables (Some (Ret from)) =
     with_row (row_of variables from) (λ row. Does (ReleaseLoad row (ByVariable from)) (Settle ∷ []) (Standing left))
 dispatch_instruction rows t used left at variables (Some Fail) = Silent [] (Standing left)
 
--- Dispatches a thread's next instruction; with no call left it gives up its reference to the root, settles, and leaves.
+-- Returns what a thread at rest does; with no call left it gives up its reference to the root, settles, and leaves.
 abbrev pub dispatch : ℕ → ℕ → ℕ → List Instr → Place → Action
 dispatch rows t used code Departing = Stuck
 dispatch rows t used code (Standing zero) =
     Does (ReleaseLoad root_row AsCaller) (Settle ∷ Leave (first_row rows t) used ∷ []) Departing
-dispatch rows t used code (Standing (suc left)) = dispatch_instruction rows t used left 0 entry_variables (slice_get code 0)
-dispatch rows t used code (Inside left at variables) = dispatch_instruction rows t used left at variables (slice_get code at)
+dispatch rows t used code (Standing (suc left)) =
+    dispatch_instruction rows t used left 0 entry_variables (slice_get code 0)
+dispatch rows t used code (Inside left at variables) =
+    dispatch_instruction rows t used left at variables (slice_get code at)
 
--- Says whether a thread is between its calls, or before or behind all of them.
+-- Says whether the place is outside all calls.
 abbrev pub is_standing : Place → Bool
 is_standing (Standing left) = true
 is_standing (Inside left at variables) = false
 is_standing Departing = false
 
--- a queue is looked into by a running thread that stands outside its calls, for a used row of its own block
+-- Says whether the thread may claim the row: it runs, stands outside its calls with nothing to do, and has used the row
+-- of its own block.
 abbrev pub may_claim : ℕ → ℕ → Actor → ℕ → Bool
 may_claim rows t a row =
     is_standing a.place && is_running a.status && (length a.agenda == 0) && nat_le (first_row rows t) row
     && nat_lt row (first_row rows t + a.used)
 
--- Does the first duty of the agenda, or dispatches the next instruction where there is none.
+-- Returns what a thread that isn't gone does: the first duty of its agenda, or what it dispatches.
 abbrev pub agenda_action : List Function → ℕ → ℕ → Actor → List Duty → Action
 agenda_action functions rows t a [] = dispatch rows t a.used (code_of (slice_get functions a.function)) a.place
 agenda_action functions rows t a (d ∷ rest) = Does d rest a.place
 
--- A thread that is gone takes no step.
+-- Returns what a thread of the status does: one that is gone takes no step.
 abbrev pub status_action : List Function → ℕ → ℕ → Actor → Status → Action
 status_action functions rows t a Gone = Skip
 status_action functions rows t a Running = agenda_action functions rows t a a.agenda
 status_action functions rows t a Leaving = agenda_action functions rows t a a.agenda
 
--- Returns what the thread does at an event with the choice: no step is a host call, so a fault changes nothing.
+-- Returns what the thread does at an event with the choice; no step is a host call, so a fault is no other choice.
 abbrev pub action_of : List Function → ℕ → ℕ → Actor → Choice → Action
 action_of functions rows t a Ok = status_action functions rows t a a.status
 action_of functions rows t a Fault = status_action functions rows t a a.status
@@ -326,6 +330,7 @@ machine_by m t a Stuck = m
 machine_by m t a (Silent moves place) = with_moves (with_actor m t (at_place a place)) moves
 machine_by m t a (Does d rest place) = done_by m t (at_place a place) d rest
 
+-- Returns the machine after the event; where there is no such thread, it stays as it is.
 abbrev pub next_machine : Machine → ℕ × Choice → Machine
 next_machine m event =
     of_thread m (λ a. machine_by m event.0 a (action_of m.functions m.rows event.0 a event.1))

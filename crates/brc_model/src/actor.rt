@@ -23,6 +23,6 @@ pub enum Place {
         at: usize,
         variables: [Option<u32>; 16],
     },
-    /// Its exit is taken up.
+    /// Its exit is dispatched.
     Departing,
 }

@@ -54,7 +54,8 @@ with_agenda a agenda =
 
 -- the exit: a thread with no call left gives up its reference to the root, settles, and leaves
 abbrev pub exit_action : ℕ → ℕ → ℕ → Action
-exit_action rows t used = Does (ReleaseLoad root_row AsCaller) (Settle ∷ Leave (model.first_row rows t) used ∷ []) Departing
+exit_action rows t used =
+    Does (ReleaseLoad root_row AsCaller) (Settle ∷ Leave (model.first_row rows t) used ∷ []) Departing
 
 -- Returns what a step with the action starts with.
 abbrev pub start_by : Action → Start
