@@ -86,16 +86,16 @@ left_by t head (BirthLocal x h) found = local_word t 1
 abbrev pub counts_locally : ℕ → Bool → ℕ → Bool
 counts_locally t running word = running && (owner_part word == t + 1)
 
--- a claimed mark: the object is merged, for the handed reference is to be given up
+-- a claimed mark: the object is merged first, so that its handed reference can be given up
 abbrev pub claimed : ℕ → ℕ → List Duty
 claimed x found = if found == 1 then MergeSwap x Handed ∷ [] else []
 
--- what the object was merged for comes next: a handed reference is given up
+-- once the object is merged, a handed reference is given up
 abbrev pub once_merged : ℕ → Reason → List Duty
 once_merged x Own = []
 once_merged x Handed = SharedLoad x Handed ∷ []
 
--- a merge left this shared word: without any reference left the object dies; a handed one is still counted
+-- after a merge that left this word: what nothing counts any more dies; a handed reference still counts and is given up
 abbrev pub merge_result : ℕ → Reason → ℕ → List Duty
 merge_result x Own word = if word == dead_word then Die x ∷ [] else []
 merge_result x Handed word = once_merged x Handed
