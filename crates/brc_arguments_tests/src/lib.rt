@@ -1,0 +1,5 @@
+//! Tests of `brc_arguments`.
+#![tactic(auto)]
+
+#[cfg(test)]
+mod command_lines;

@@ -1,0 +1,5 @@
+//! Tests of `brc_report`.
+#![tactic(auto)]
+
+#[cfg(test)]
+mod reports;

@@ -1,0 +1,5 @@
+//! Tests of `brc_schedule`.
+#![tactic(auto)]
+
+#[cfg(test)]
+mod reading;

@@ -1,0 +1,5 @@
+//! Tests of `brc_word`.
+#![tactic(auto)]
+
+#[cfg(test)]
+mod words;

@@ -1,0 +1,7 @@
+//! Tests of `brc_world`.
+#![tactic(auto)]
+
+#[cfg(test)]
+mod interleavings;
+#[cfg(test)]
+mod steps;
