@@ -1,4 +1,4 @@
-//! Tests of `brc_check`.
+//! Tests of the checker: what it accepts, what it refuses, and its tables.
 #![tactic(auto)]
 
 #[cfg(test)]

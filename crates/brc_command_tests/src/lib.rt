@@ -1,8 +1,10 @@
-//! Tests of `brc_command`.
+//! Tests of the commands and of the command line.
 #![tactic(auto)]
 
 #[cfg(test)]
 mod births;
+#[cfg(test)]
+mod command_lines;
 #[cfg(test)]
 mod commands;
 #[cfg(test)]

@@ -1,5 +1,0 @@
-//! Tests of `brc_report`.
-#![tactic(auto)]
-
-#[cfg(test)]
-mod reports;

@@ -1,5 +1,0 @@
-//! Tests of `brc_schedule`.
-#![tactic(auto)]
-
-#[cfg(test)]
-mod reading;

@@ -1,5 +1,0 @@
-//! Tests of `brc_word`.
-#![tactic(auto)]
-
-#[cfg(test)]
-mod words;
