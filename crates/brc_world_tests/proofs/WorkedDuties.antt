@@ -1,9 +1,17 @@
 -- Births and deaths by the definitions that the code's contracts name: thread 3 has used four rows, and row 7 is the
 -- object's. Of these objects the instructions make numbers alone, so no run of a module shows the others.
-use Rattle.std.proofs.Common.{◌≡◌, ℕ, List, [], ◌∷◌, map, refl}
+use Rattle.std.proofs.Common.{◌≡◌, ℕ, List, [], ◌∷◌, true, map, refl}
 use Rattle.brc_model.specs.declared.duty.Duty.{Duty}
-use Rattle.brc_model.specs.declared.duty.Duty.TheVariants.{BirthKind, BirthSlot, BirthLocal, SettleKind, SettleCell,
-    TakeSlot, CloseResource, SettleEnd}
+use Rattle.brc_model.specs.declared.duty.Duty.TheVariants.{
+  BirthKind,
+  BirthSlot,
+  BirthLocal,
+  SettleKind,
+  SettleCell,
+  TakeSlot,
+  CloseResource,
+  SettleEnd,
+}
 use Rattle.brc_model.specs.declared.duty.Holding.TheVariants.{InHand}
 use Rattle.brc_model.specs.declared.address.Address.{Address}
 use Rattle.brc_model.specs.declared.address.Address.TheVariants.{KindOf, Slot, Local, Resource}
@@ -11,10 +19,16 @@ use Rattle.brc_model.specs.Duties.{address_of, left_by, next_by}
 use Rattle.brc_model.specs.Machine.{used_by}
 
 -- the kind words of the number 7, a list of one cell, a file and a socket
-number list file sock : ℕ
+number : ℕ
 number = 8589934599
+
+list : ℕ
 list = 12884901889
+
+file : ℕ
 file = 17179869184
+
+sock : ℕ
 sock = 21474836480
 
 births : List Duty
@@ -27,7 +41,7 @@ births-leave = refl
 
 births-lead_to : map (λ (d : Duty). next_by 3 true 0 d 0) births
     ≡ (BirthLocal 7 InHand ∷ []) ∷ (BirthLocal 7 InHand ∷ []) ∷ (BirthSlot 7 InHand ∷ []) ∷ (BirthSlot 7 InHand ∷ [])
-      ∷ (BirthLocal 7 InHand ∷ []) ∷ [] ∷ []
+    ∷ (BirthLocal 7 InHand ∷ []) ∷ [] ∷ []
 unfolding number list file sock births
 births-lead_to = refl
 
