@@ -1,13 +1,9 @@
 //! Checks and runs native extension modules.
 #![tactic(auto)]
 
-mod act;
-mod command;
 mod disk;
-#[cfg(test)]
-mod tests;
 
-use act::act;
+use brc_arguments::act;
 use disk::Disk;
 use std::io;
 use std::io::ErrorKind;

@@ -22,8 +22,3 @@ pub use inferring::infer;
 pub use refused::Refused;
 pub use table::Table;
 pub use verifying::verify;
-
-#[cfg(test)]
-mod table_tests;
-#[cfg(test)]
-mod tests;

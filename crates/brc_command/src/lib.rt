@@ -22,14 +22,3 @@ pub use step_fault::StepFault;
 pub use stepping::step_text;
 pub use stop::Stop;
 pub use turns::run;
-
-#[cfg(test)]
-mod birth_tests;
-#[cfg(test)]
-mod limit_tests;
-#[cfg(test)]
-mod path_tests;
-#[cfg(test)]
-mod step_tests;
-#[cfg(test)]
-mod tests;

@@ -30,10 +30,3 @@ pub use reading::read;
 pub use sequence::Sequence;
 pub use variable::Variable;
 pub use writing::write;
-
-#[cfg(test)]
-mod line_tests;
-#[cfg(test)]
-mod target_tests;
-#[cfg(test)]
-mod tests;

@@ -133,6 +133,3 @@ fn write_numeral<W: Write>(before: &[u8], number: u64, writer: &mut W) -> io::Re
     write_bytes(before, writer)?;
     write_number(number, writer)
 }
-
-#[cfg(test)]
-mod tests;

@@ -6,6 +6,3 @@ mod tally;
 
 pub use report::{write_entry, write_tally};
 pub use tally::{Left, Tally};
-
-#[cfg(test)]
-mod tests;

@@ -10,6 +10,3 @@ mod schedule;
 pub use laws::{each_text_reads, one_schedule};
 pub use reading::read_schedule;
 pub use schedule::{PlannedCall, Schedule, Steps};
-
-#[cfg(test)]
-mod tests;

@@ -22,6 +22,3 @@ pub use local::{
 };
 pub use shared::{Phase, Shared, SharedChoice, merge_word, pack, release_choice, unpack};
 pub use shared_word::{is_dead, is_fresh, merged, released, shared_with_one_more};
-
-#[cfg(test)]
-mod tests;

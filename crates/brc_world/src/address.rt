@@ -55,6 +55,3 @@ pub fn block_of(rows: u16, row: u32) -> u32
         _ => (row - 2) / u32::from(rows) + 1,
     }
 }
-
-#[cfg(test)]
-mod tests;

@@ -13,8 +13,6 @@ mod exit;
 mod merge;
 mod release;
 mod retain;
-#[cfg(test)]
-mod tests;
 
 /// The duties that take the place of one that is done, in their order.
 #[derive(Clone, Copy, Debug)]

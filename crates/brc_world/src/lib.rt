@@ -24,8 +24,3 @@ pub use did::Did;
 pub use laws::{runs_follow_machines, tallies_follow_machines};
 pub use no_memory::NoMemory;
 pub use world::World;
-
-#[cfg(test)]
-mod interleaving_tests;
-#[cfg(test)]
-mod tests;

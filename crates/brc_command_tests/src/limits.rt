@@ -1,7 +1,7 @@
 //! The largest modules and worlds, where memory is ample.
 
-use crate::asked::Asked;
-use crate::tests::{CHECK, STEP, Shelf, assert_told, to_run};
+use crate::commands::{CHECK, STEP, Shelf, assert_told, to_run};
+use brc_command::Asked;
 use std::alloc::{AllocError, Global};
 use std::test::Fail;
 

@@ -1,9 +1,9 @@
 ghost use Rattle.std.specs.Prelude.{◌<◌, length};
 
-use crate::tests::{TAKE_AND_DROP, accepted, step, told};
-use crate::{NoMemory, World};
+use crate::steps::{TAKE_AND_DROP, accepted, step, told};
 use brc_check::Checked;
 use brc_model::{Call, Choice};
+use brc_world::{NoMemory, World};
 use std::alloc::{AllocError, Global};
 use std::collections::BTreeSet;
 use std::test::*;

@@ -1,6 +1,6 @@
-use super::*;
-use crate::line_tests::{IN_ORDER, NONE_AND_MOVE, NUM_NUMBERS, NUM_WORDS, READ, TARGETS};
-use crate::target_tests::{AHEAD, EARLIER, NOT_AHEAD};
+use crate::line_cases::{IN_ORDER, NONE_AND_MOVE, NUM_NUMBERS, NUM_WORDS, READ, TARGETS};
+use crate::target_cases::{AHEAD, EARLIER, NOT_AHEAD};
+use brc_lang::{FaultCode, Instr, ReadFault, Sequence, Variable, read, write, write_bytes};
 use std::alloc::{AllocError, Global};
 use std::test::Fail;
 

@@ -1,8 +1,6 @@
 ghost use Rattle.std.specs.Prelude.{◌≡◌, ◌⊎◌, ◌<◌, ◌≤◌, ⊤, IfOk, codes};
 
-use crate::asked::{Asked, Run};
-use crate::carrying::execute;
-use crate::load::{Load, LoadError};
+use brc_command::{Asked, Load, LoadError, Run, execute};
 use std::alloc::Global;
 use std::io;
 use std::io::{ErrorKind, Write};

@@ -1,4 +1,4 @@
-use crate::tests::{CHECK, assert_told, both, told};
+use crate::commands::{CHECK, assert_told, both, told};
 
 // What each module is told on standard error, with its status.
 #[test]

@@ -1,6 +1,11 @@
 ghost use Rattle.std.specs.Prelude.{◌≡◌};
 
-use super::*;
+use brc_word::{
+    LocalChoice, Phase, Shared, SharedChoice, closed, dying, is_closed, is_dead, is_fresh,
+    is_immortal, kind_argument, kind_number, kind_word, local_count, local_with_one_less,
+    local_with_one_more, local_word, merge_word, merged, next_of_dying, pack, read_local,
+    release_choice, release_choice_local, released, retain_choice, shared_with_one_more, unpack,
+};
 use std::test::*;
 
 fn shared(count: i64, phase: Phase) -> Shared

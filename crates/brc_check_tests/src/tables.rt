@@ -2,8 +2,8 @@
 
 ghost use Rattle.brc_lang.specs.Grammar.{IsModule};
 
-use super::*;
-use crate::tests::{function_of, module_of};
+use crate::functions::{function_of, module_of};
+use brc_check::{CheckCode, Slot, State, Table, check, infer, verify};
 use brc_lang::{Kind, Module, Variable};
 use std::alloc::Global;
 use std::test::*;

@@ -1,7 +1,7 @@
 ghost use Rattle.std.specs.Prelude.{IfOk};
 ghost use Rattle.brc_lang.specs.Grammar.{IsModule};
 
-use super::*;
+use brc_check::{CheckCode, check};
 use brc_lang::{Module, read};
 use std::alloc::Global;
 use std::test::*;

@@ -1,5 +1,5 @@
-use crate::asked::Asked;
-use crate::tests::{STEP, assert_told, both, to_run};
+use crate::commands::{STEP, assert_told, both, to_run};
+use brc_command::Asked;
 
 const TWO_NUMBERS: &[u8] =
     b"module 1\nfunc f\nnum v1 1 else @4\nnum v2 2 else @3\ndrop v2\ndrop v1\nfail\nend\n";

@@ -1,5 +1,5 @@
 ghost use Rattle.std.specs.Prelude.{◌≡◌, ◌≢◌, ◌≤◌};
-ghost use Rattle.brc.specs.Acts.{Ends, Stops, IsRefused};
+ghost use Rattle.brc_arguments.specs.Acts.{Ends, Stops, IsRefused};
 
 use crate::command::parse;
 use brc_command::{Load, StepFault, Stop, execute, write_stop};

@@ -1,5 +1,5 @@
-use crate::load::LoadError;
-use crate::tests::{Bytes, CHECK, FIRST, ONE_REPORT, SMALLEST, STEP, Shelf, assert_told, both};
+use crate::commands::{Bytes, CHECK, FIRST, ONE_REPORT, SMALLEST, STEP, Shelf, assert_told, both};
+use brc_command::LoadError;
 
 const ONE_CALL: &[u8] = b"schedule 1\nworkers 1\nrows 4\ncall 1 f 1\n";
 

@@ -1,5 +1,5 @@
-use crate::{Left, Tally, write_entry, write_tally};
 use brc_lang::{Kind, Sequence};
+use brc_report::{Left, Tally, write_entry, write_tally};
 use std::alloc::Global;
 use std::test::Fail;
 

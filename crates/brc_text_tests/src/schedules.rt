@@ -1,6 +1,6 @@
-use crate::{PlannedCall, Steps, read_schedule};
 use brc_lang::write_number;
 use brc_model::Choice;
+use brc_schedule::{PlannedCall, Steps, read_schedule};
 use std::alloc::{AllocError, Global};
 use std::test::*;
 

@@ -1,4 +1,4 @@
-use crate::{Function, Instr, Module, Name, Sequence, Variable, write, write_number};
+use brc_lang::{Function, Instr, Module, Name, Sequence, Variable, write, write_number};
 use std::alloc::{AllocError, Global};
 use std::io;
 use std::io::{ErrorKind, Write};

@@ -1,6 +1,6 @@
 ghost use Rattle.std.specs.Prelude.{⊤};
 
-use crate::act::act;
+use brc_arguments::act;
 use brc_command::{Load, LoadError};
 use std::alloc::Global;
 use std::process::Abort;

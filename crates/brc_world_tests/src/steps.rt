@@ -1,10 +1,9 @@
 ghost use Rattle.std.specs.Prelude.{◌<◌, length, IfOk};
 
-use super::*;
 use brc_check::{Checked, check};
 use brc_lang::{Kind, read};
 use brc_model::{Call, Choice};
-use brc_report::{Left, Tally};
+use brc_world::{Did, Left, NoMemory, Tally, World};
 use std::alloc::Global;
 use std::test::*;
 

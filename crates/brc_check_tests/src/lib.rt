@@ -1,0 +1,7 @@
+//! Tests of the checker: what it accepts, what it refuses, and its tables.
+#![tactic(auto)]
+
+#[cfg(test)]
+mod functions;
+#[cfg(test)]
+mod tables;

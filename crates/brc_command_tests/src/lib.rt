@@ -1,0 +1,15 @@
+//! Tests of the commands and of the command line.
+#![tactic(auto)]
+
+#[cfg(test)]
+mod births;
+#[cfg(test)]
+mod command_lines;
+#[cfg(test)]
+mod commands;
+#[cfg(test)]
+mod limits;
+#[cfg(test)]
+mod paths;
+#[cfg(test)]
+mod steps;
