@@ -73,6 +73,7 @@ pub mod Claims
 pub mod Dispatching
 pub mod Actions
 pub mod WholeEvents
+pub mod Rearranging
 pub mod Safe
 pub mod FewHeld
 pub mod Ranges
