@@ -16,15 +16,16 @@ use Rattle.brc_model.specs.declared.thread.Choice.TheVariants.{Ok, Fault, Claim}
 use Rattle.brc_model.specs.Machine.{Actor, Machine, Action, Skip, Stuck, Silent, Does, agenda_action, status_action, may_claim, action_of, with_actor}
 use Rattle.brc_model.proofs.Bag.{held-le-references_to}
 use Rattle.brc_model.proofs.Lists.{slice_get-set_same, set_found}
-use Rattle.brc_model.proofs.Holds.{reference_of}
-use Rattle.brc_model.proofs.Rule.{Account, Accounts, Rule}
+use Rattle.brc_model.specs.References.{reference_of}
+use Rattle.brc_model.specs.Accounts.{Account, Accounts}
+use Rattle.brc_model.specs.Invariant.{Rule, Kept}
 use Rattle.brc_model.proofs.Coded.{PlaceSays, placed_by, says_bounded}
 use Rattle.brc_model.proofs.Quiets.{QuietSits}
 use Rattle.brc_model.proofs.Begins.{Starts, Gives, Takes, Bears, Follows, Nothing, Settles, Leaves, IsTaken, bag_after}
 use Rattle.brc_model.proofs.Sits.{sitting, Sits, AtRest}
 use Rattle.brc_model.proofs.Replaced.{with_account, with_account_itself}
 use Rattle.brc_model.proofs.TakenSits.{taken_sits, claim_sits, rests, dispatch_fits}
-use Rattle.brc_model.proofs.Kept.{Kept, Doing, sits_down, starts_settled}
+use Rattle.brc_model.proofs.Kept.{Doing, sits_down, starts_settled}
 use Rattle.brc_model.proofs.Whole.{Whole}
 use Rattle.brc_model.proofs.Blocks.{used_block, used_low, next_within}
 use Rattle.brc_model.proofs.Ranges.{limit, IsSmall, AreSmall, referenced_small}

@@ -8,11 +8,12 @@ use Rattle.brc_model.specs.declared.duty.Duty.TheVariants.{DecideAtZero, MergeSw
 use Rattle.brc_model.specs.Duties.{block_of}
 use Rattle.brc_model.specs.Machine.{Life, Unborn, Live, Dying, Closed, Machine}
 use Rattle.brc_model.specs.Agreement.{has_swapped, is_merging, decides_or_merges, HasDuty, SomeThreadHas, OwnerHas, IsCountedLocally, IsPhase, AgreesAt, IsFreeOf}
-use Rattle.brc_model.proofs.Bag.{one_if}
-use Rattle.brc_model.proofs.Rows.{decides, merges, weight, Numbers, Phased, IsDefault, IsQueued, Decided, AtZero, AboveZero, Mode, InOwned, InSwapped, InMerged, IsLive, IsDead, RowRule}
+use Rattle.brc_model.specs.References.{one_if}
+use Rattle.brc_model.specs.RowRule.{decides, merges, weight, Numbers, Phased, IsDefault, IsQueued, Decided, AtZero, AboveZero, Mode, InOwned, InSwapped, InMerged, IsLive, IsDead, RowRule}
+use Rattle.brc_model.specs.Accounts.{Accounts}
+use Rattle.brc_model.specs.Invariant.{numbers_of, Rule}
 use Rattle.brc_model.proofs.HasDuties.{Weighs, some_weighs, is_open}
 use Rattle.brc_model.proofs.Deciders.{decider_owns}
-use Rattle.brc_model.proofs.Rule.{Accounts, numbers_of, Rule}
 
 or_first : (a b : Bool) → (a || b) ≡ false → a ≡ false
 or_first true b e = absurd cc

@@ -7,9 +7,11 @@ use Rattle.brc_model.specs.declared.duty.Duty.{Duty}
 use Rattle.brc_model.specs.Duties.{block_of}
 use Rattle.brc_model.specs.Machine.{Life, Unborn, Live, Dying, Closed, Actor, Machine}
 use Rattle.brc_model.proofs.Bag.{held-le-references_to}
-use Rattle.brc_model.proofs.Holds.{reference_of}
-use Rattle.brc_model.proofs.Rows.{waits, merges, decides, agenda_weight, weight, Numbers, IsLive, RowRule}
-use Rattle.brc_model.proofs.Rule.{Accounts, numbers_of, IsBacked, Rule}
+use Rattle.brc_model.specs.References.{reference_of}
+use Rattle.brc_model.specs.RowRule.{waits, merges, decides, agenda_weight, weight, Numbers, IsLive, RowRule}
+use Rattle.brc_model.specs.Accounts.{Accounts}
+use Rattle.brc_model.specs.Invariant.{numbers_of, Rule}
+use Rattle.brc_model.specs.Knowledge.{IsBacked}
 
 -- ---- weights
 

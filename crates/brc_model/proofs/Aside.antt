@@ -9,10 +9,11 @@ use Rattle.brc_model.specs.declared.duty.Duty.{Duty}
 use Rattle.brc_model.specs.declared.duty.Duty.TheVariants.{RetainLoad, RetainStore, RetainAdd, ReleaseLoad, ReleaseStore, DecideAtZero, SharedLoad, SharedExchange, SetMark, Look, TakeMark, MergeSwap, MergeLoad, MergeExchange, BirthKind, BirthSlot, BirthLocal}
 use Rattle.brc_model.specs.Plain.{Reference, same_holding}
 use Rattle.brc_model.specs.Machine.{Actor, Machine}
-use Rattle.brc_model.proofs.Bag.{held, one_if}
-use Rattle.brc_model.proofs.Holds.{reference_of}
-use Rattle.brc_model.proofs.Rows.{waits, carries, merges, decides}
-use Rattle.brc_model.proofs.Rule.{Account, extra, lacks, extra_of, lacks_of, extra_aside, lacks_aside, HoldsAt, is_about, about_of, looks, AsideFits}
+use Rattle.brc_model.specs.References.{held, one_if, reference_of}
+use Rattle.brc_model.specs.RowRule.{waits, carries, merges, decides}
+use Rattle.brc_model.specs.Accounts.{Account, extra, lacks, extra_of, lacks_of, extra_aside, lacks_aside, HoldsAt}
+use Rattle.brc_model.specs.OpenWork.{is_about, about_of, AsideFits}
+use Rattle.brc_model.specs.Invariant.{looks}
 
 -- ---- one duty
 
@@ -176,7 +177,7 @@ one_at_most false = omega arith
 pub alone_fits : (m : Machine) (t : ℕ) (a : Actor) → a.aside ≡ [] → AsideFits m t a
 alone_fits m t a none =
     record {
-      waits = subst (Rattle.brc_model.proofs.Rule.AllWait m t a) (sym none) tt;
+      waits = subst (Rattle.brc_model.specs.OpenWork.AllWait m t a) (sym none) tt;
       apart = λ x.
           let zero_aside : count_by (is_about x) a.aside ≡ 0 = ap (count_by (is_about x)) none in
           omega (arith, one_at_most (about_of x a.agenda), zero_aside);

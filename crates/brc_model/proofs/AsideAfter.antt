@@ -10,8 +10,9 @@ use Rattle.brc_model.specs.declared.duty.Duty.TheVariants.{RetainLoad, RetainSto
 use Rattle.brc_model.specs.Duties.{next_by, head_by, ready, counts_locally, has_resource}
 use Rattle.brc_model.specs.declared.actor.Status.{Status}
 use Rattle.brc_model.specs.Machine.{Actor, Machine, is_running, status_by, actor_by, done_by}
-use Rattle.brc_model.proofs.Bag.{one_if}
-use Rattle.brc_model.proofs.Rule.{Accounts, is_about, about_of, is_piece, IsPiece, AllWait, AsideFits}
+use Rattle.brc_model.specs.References.{one_if}
+use Rattle.brc_model.specs.Accounts.{Accounts}
+use Rattle.brc_model.specs.OpenWork.{is_about, about_of, is_piece, IsPiece, AllWait, AsideFits}
 use Rattle.brc_model.proofs.Aside.{alone_fits}
 use Rattle.brc_model.proofs.Leaves.{AtDuty}
 use Rattle.brc_model.proofs.Neutral.{found_by}

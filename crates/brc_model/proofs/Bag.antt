@@ -8,13 +8,7 @@ use Rattle.brc_model.proofs.Lists.{and_first, and_second}
 use Rattle.brc_model.specs.declared.duty.Holding.{Holding}
 use Rattle.brc_model.specs.declared.duty.Holding.TheVariants.{ByVariable, AsCaller, InHand}
 use Rattle.brc_model.specs.Plain.{Holder, ByThread, ByCell, Reference, same_holding, same_holder, same, without, references_to, is_cell_of, holds_by_cells}
-
--- how many such references the bag has
-abbrev pub held : Reference → List Reference → ℕ
-held r bag = count_by (same r) bag
-
-abbrev pub one_if : Bool → ℕ
-one_if b = cond b 1 0
+use Rattle.brc_model.specs.References.{held, one_if, cell_reference}
 
 pub same_holding-true : (h k : Holding) → same_holding h k ≡ true → h ≡ k
 same_holding-true (ByVariable v) (ByVariable w) e = ap ByVariable (eqb-true v w e)
@@ -148,9 +142,6 @@ empty_bag [] none = refl
 empty_bag (q ∷ qs) none = absurd (omega (arith, held_itself q qs, none q))
 
 -- ---- cells of lists
-
-abbrev pub cell_reference : ℕ → ℕ → ℕ → Reference
-cell_reference x i object = record { holder = ByCell x i; object = object }
 
 not_by_cell : (x : ℕ) (h : Holder) (object : ℕ) (bag : List Reference)
     → ((i y : ℕ) → held (cell_reference x i y) bag ≡ 0) → 0 < held (record { holder = h; object = object }) bag

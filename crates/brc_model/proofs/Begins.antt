@@ -18,9 +18,9 @@ use Rattle.brc_model.specs.declared.duty.Duty.TheVariants.{RetainLoad, ReleaseLo
 use Rattle.brc_model.specs.declared.actor.Place.{Place}
 use Rattle.brc_model.specs.declared.actor.Place.TheVariants.{Standing, Inside, Departing}
 use Rattle.brc_model.specs.Machine.{Action, Skip, Stuck, Silent, Does, with_row, first_row, block_size, next_row, gain, pass_on}
-use Rattle.brc_model.proofs.Bag.{held, one_if}
+use Rattle.brc_model.specs.References.{held, one_if, reference_of}
 use Rattle.brc_model.proofs.Lists.{none_at}
-use Rattle.brc_model.proofs.Holds.{the_root, of_variables, reference_of, Holds}
+use Rattle.brc_model.proofs.Holds.{the_root, of_variables, Holds}
 use Rattle.brc_model.proofs.Grounded.{slot_of-put_same, slot_of-put_other, row_of-set_same, row_of-set_other}
 use Rattle.brc_model.proofs.OwnCounts.{flip_eqb}
 use Rattle.brc_model.proofs.Aside.{HoldsAlone}

@@ -15,9 +15,11 @@ use Rattle.brc_model.specs.declared.address.Address.TheVariants.{Local, Shared, 
 use Rattle.brc_model.specs.Plain.{Reference, Plain, same, same_holder, without, Move, Born, Gain, Lose, HandOn, Finalise, move, moved}
 use Rattle.brc_model.specs.Duties.{block_of}
 use Rattle.brc_model.specs.Machine.{Actor, Machine, status_by, lose, gain, take_out, moves_by, actor_by, done_by}
-use Rattle.brc_model.proofs.Bag.{held, one_if, held-cons}
-use Rattle.brc_model.proofs.Holds.{reference_of}
-use Rattle.brc_model.proofs.Rule.{Accounts, is_about, may_wait, OwnsLocally, IsBacked, MayMerge, MayCarry, HeadFits}
+use Rattle.brc_model.proofs.Bag.{held-cons}
+use Rattle.brc_model.specs.References.{held, one_if, reference_of}
+use Rattle.brc_model.specs.Accounts.{Accounts}
+use Rattle.brc_model.specs.OpenWork.{is_about, may_wait}
+use Rattle.brc_model.specs.Knowledge.{OwnsLocally, IsBacked, MayMerge, MayCarry, HeadFits}
 use Rattle.brc_model.proofs.Aside.{AreApart, apart_swapped}
 use Rattle.brc_model.proofs.Written.{written_apart}
 use Rattle.brc_model.proofs.MovesApart.{held-without_apart}

@@ -15,7 +15,9 @@ use Rattle.brc_model.proofs.Written.{written_load}
 use Rattle.brc_model.proofs.Blocks.{next_block}
 use Rattle.brc_model.proofs.Leaves.{AtDuty, head_of}
 use Rattle.brc_model.proofs.Neutral.{found_by, memory_by}
-use Rattle.brc_model.proofs.Rule.{Accounts, IsNext, kind_stored, slot_stored, BlankFits}
+use Rattle.brc_model.specs.Accounts.{Accounts}
+use Rattle.brc_model.specs.Knowledge.{IsNext}
+use Rattle.brc_model.specs.Invariant.{kind_stored, slot_stored, BlankFits}
 
 -- ---- the thread that steps
 

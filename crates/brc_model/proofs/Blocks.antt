@@ -7,7 +7,9 @@ use Rattle.std.proofs.lemmas.Bool.{cases_lt}
 use Rattle.brc_model.specs.Duties.{block_of}
 use Rattle.brc_model.specs.Machine.{Actor, Unborn, Machine, first_row, block_size, next_row}
 use Rattle.brc_model.proofs.Lists.{some_within}
-use Rattle.brc_model.proofs.Rule.{Accounts, IsNext, Rule}
+use Rattle.brc_model.specs.Accounts.{Accounts}
+use Rattle.brc_model.specs.Knowledge.{IsNext}
+use Rattle.brc_model.specs.Invariant.{Rule}
 use Rattle.std.proofs.lemmas.Option.{slice_get_within}
 
 -- ---- arithmetic

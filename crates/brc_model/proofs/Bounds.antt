@@ -12,9 +12,10 @@ use Rattle.brc_model.specs.Duties.{address_of, block_of, counts_locally}
 use Rattle.brc_model.specs.declared.actor.Status.TheVariants.{Gone}
 use Rattle.brc_model.specs.Machine.{Actor, Machine, is_running}
 use Rattle.brc_model.specs.Within.{Suits}
-use Rattle.brc_model.proofs.Rows.{carries, weight, Numbers, Phased, IsDefault, IsQueued, InOwned, InSwapped, InMerged, IsLive}
+use Rattle.brc_model.specs.RowRule.{carries, weight, Numbers, Phased, IsDefault, IsQueued, InOwned, InSwapped, InMerged, IsLive}
+use Rattle.brc_model.specs.Accounts.{Accounts}
+use Rattle.brc_model.specs.Invariant.{numbers_of, Rule}
 use Rattle.brc_model.proofs.RowSteps.{shared_range}
-use Rattle.brc_model.proofs.Rule.{Accounts, numbers_of, Rule}
 use Rattle.brc_model.proofs.Alive.{Alive, alive_backed}
 use Rattle.brc_model.proofs.Leaves.{AtDuty, head_of, exchange_alive, merge_alive}
 use Rattle.brc_model.proofs.OwnRetains.{counts_owner, count_above, weight_here}

@@ -7,8 +7,9 @@ use Rattle.brc_model.specs.declared.duty.Holding.{Holding}
 use Rattle.brc_model.specs.declared.duty.Holding.TheVariants.{ByVariable, AsCaller, InHand}
 use Rattle.brc_model.specs.Plain.{root_row, same, references_to}
 use Rattle.brc_model.specs.Machine.{caller_reference, callers_below}
-use Rattle.brc_model.proofs.Bag.{held, one_if, other_thread, same-other_holder, held-cons, references_to-cons, cell_reference}
-use Rattle.brc_model.proofs.Holds.{the_root, reference_of}
+use Rattle.brc_model.proofs.Bag.{other_thread, same-other_holder, held-cons, references_to-cons}
+use Rattle.brc_model.specs.References.{held, one_if, cell_reference, reference_of}
+use Rattle.brc_model.proofs.Holds.{the_root}
 
 -- by the caller, the object tells
 same-one_caller : (t object row : ℕ)

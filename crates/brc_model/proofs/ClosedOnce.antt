@@ -10,14 +10,14 @@ use Rattle.brc_model.specs.declared.duty.Duty.{Duty}
 use Rattle.brc_model.specs.Duties.{address_of}
 use Rattle.brc_model.specs.Machine.{Actor, Machine, ended_row, done_by}
 use Rattle.brc_model.specs.Progress.{ClosedStays, ClosesAnew, ClosedOnce}
-use Rattle.brc_model.proofs.Bag.{one_if}
+use Rattle.brc_model.specs.References.{one_if}
+use Rattle.brc_model.specs.Accounts.{Accounts}
 use Rattle.brc_model.proofs.Closing.{GoesOn, BeginsToDie, IsClosed, life_step, SameClosed, OneMore, closed_step, IsBorn}
 use Rattle.brc_model.proofs.ClosedAfter.{live_not_closed, dying_not_closed, among_more, unborn_not_closed}
 use Rattle.brc_model.proofs.Leaves.{AtDuty}
 use Rattle.brc_model.proofs.Whole.{Whole}
 use Rattle.brc_model.proofs.StepCases.{ShowsSteps, at_duty, event_shows}
 use Rattle.brc_model.proofs.Quiets.{quiet_closed}
-use Rattle.brc_model.proofs.Rule.{Accounts}
 
 -- ---- what is closed stays closed
 

@@ -18,10 +18,10 @@ use Rattle.brc_model.specs.declared.duty.Duty.{Duty}
 use Rattle.brc_model.specs.declared.actor.Place.{Place}
 use Rattle.brc_model.specs.declared.actor.Place.TheVariants.{Standing, Inside, Departing}
 use Rattle.brc_model.specs.Machine.{Actor}
-use Rattle.brc_model.proofs.Bag.{one_if}
+use Rattle.brc_model.specs.References.{one_if}
+use Rattle.brc_model.specs.Accounts.{Account, HoldsNone, IsBounded}
 use Rattle.brc_model.proofs.Holds.{nothing, the_root, of_variables}
 use Rattle.brc_model.proofs.Grounded.{IsInside, AreInstructions}
-use Rattle.brc_model.proofs.Rule.{Account, HoldsNone, IsBounded}
 use Rattle.brc_model.proofs.Aside.{HoldsAlone}
 
 -- the account of a thread that holds just these references, each once

@@ -11,10 +11,12 @@ use Rattle.brc_model.specs.declared.address.Address.TheVariants.{ThreadWord}
 use Rattle.brc_model.specs.Duties.{block_of}
 use Rattle.brc_model.specs.Machine.{Actor, Machine}
 use Rattle.brc_model.proofs.Lists.{some_is}
-use Rattle.brc_model.proofs.Bag.{one_if}
-use Rattle.brc_model.proofs.Rows.{decides, agenda_weight, weight, IsLive, InOwned, InSwapped, InMerged}
+use Rattle.brc_model.specs.References.{one_if}
+use Rattle.brc_model.specs.RowRule.{decides, agenda_weight, weight, IsLive, InOwned, InSwapped, InMerged}
+use Rattle.brc_model.specs.Accounts.{Accounts}
+use Rattle.brc_model.specs.Invariant.{numbers_of, Rule}
+use Rattle.brc_model.specs.Knowledge.{OwnsLocally, MayMerge, HeadFits, status_word}
 use Rattle.brc_model.proofs.HasDuties.{some_weighs}
-use Rattle.brc_model.proofs.Rule.{Accounts, numbers_of, OwnsLocally, MayMerge, HeadFits, Rule, status_word}
 use Rattle.brc_model.proofs.Leaves.{AtDuty}
 use Rattle.brc_model.proofs.Aside.{decides_of_row}
 use Rattle.brc_model.proofs.Weighing.{own_weighs, weighing}

@@ -13,10 +13,12 @@ use Rattle.brc_model.specs.declared.duty.Duty.{Duty}
 use Rattle.brc_model.specs.declared.duty.Duty.TheVariants.{ReleaseLoad, ReleaseStore, SharedLoad, SharedExchange}
 use Rattle.brc_model.specs.Plain.{Holder, ByThread, ByCell, Reference, same, references_to}
 use Rattle.brc_model.specs.Machine.{Actor, Machine}
-use Rattle.brc_model.proofs.Bag.{held, one_if, same_holding-true, same-true, same-refl, held-cons, references_to-cons}
+use Rattle.brc_model.proofs.Bag.{same_holding-true, same-true, same-refl, held-cons, references_to-cons}
+use Rattle.brc_model.specs.References.{held, one_if, reference_of}
+use Rattle.brc_model.specs.Accounts.{Account, Accounts, extra, extra_of, extra_aside, most_lent, IsBounded}
+use Rattle.brc_model.specs.OpenWork.{is_about, about_of}
+use Rattle.brc_model.specs.Invariant.{Rule}
 use Rattle.brc_model.proofs.Lists.{and_first}
-use Rattle.brc_model.proofs.Holds.{reference_of}
-use Rattle.brc_model.proofs.Rule.{Account, Accounts, extra, extra_of, extra_aside, is_about, about_of, most_lent, IsBounded, Rule}
 use Rattle.brc_model.proofs.Aside.{extra_about, extra_counted}
 
 -- ---- a list that all references to an object are among
@@ -338,7 +340,7 @@ held_way p n m (ByThread t k) object rule some =
           let about = opened_about object a.agenda a.aside in
           let extra = opened_extra object k a.agenda a.aside in
           let at_thread : list_any (same r) (ways (own_way m object) object (suc t)) ≡ true =
-          elim (eqb_tells (count_by (λ d. Rattle.brc_model.proofs.Rule.extra d k object) all) 0) [
+          elim (eqb_tells (count_by (λ d. Rattle.brc_model.specs.Accounts.extra d k object) all) 0) [
             | inl none ↦
                 let said : 0 < p t k object = omega (arith, fits.0.holds.each k object, some, none.1, extra) in
                 among_low (own_way m object) object t k (account_low (p t) k object fits.0.bounded said)

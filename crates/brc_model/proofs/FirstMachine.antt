@@ -17,13 +17,15 @@ use Rattle.brc_model.specs.declared.duty.Duty.{Duty}
 use Rattle.brc_model.specs.declared.address.Address.TheVariants.{Gate, KindOf, Slot, ThreadWord}
 use Rattle.brc_model.specs.Duties.{block_of}
 use Rattle.brc_model.specs.declared.actor.Place.TheVariants.{Standing, Departing}
-use Rattle.brc_model.proofs.Bag.{one_if}
+use Rattle.brc_model.specs.References.{one_if}
+use Rattle.brc_model.specs.RowRule.{waits, carries, merges, decides, agenda_weight, weight, IsDefault, AboveZero, InOwned, RowRule}
+use Rattle.brc_model.specs.Accounts.{Accounts, HoldsAt}
+use Rattle.brc_model.specs.Invariant.{numbers_of, Fits, Rule, UsesFit, BlankFits}
+use Rattle.brc_model.specs.OpenWork.{ChainFits, dies_by, GateFits}
 use Rattle.brc_model.proofs.Lists.{some_is, all_at, all_of_found, slice_get-map}
 use Rattle.brc_model.proofs.Callers.{callers_beyond, callers_off_cells, callers_hold, root_references, other_references}
 use Rattle.brc_model.proofs.Grounded.{AreInstructions}
 use Rattle.brc_model.proofs.Holds.{the_root}
-use Rattle.brc_model.proofs.Rows.{waits, carries, merges, decides, agenda_weight, weight, IsDefault, AboveZero, InOwned, RowRule}
-use Rattle.brc_model.proofs.Rule.{Accounts, numbers_of, HoldsAt, ChainFits, Fits, dies_by, Rule, UsesFit, GateFits, BlankFits}
 use Rattle.brc_model.proofs.Aside.{alone_fits}
 use Rattle.brc_model.proofs.Coded.{once_each, root_bounded, InCode}
 use Rattle.brc_model.proofs.Blocks.{block_main}

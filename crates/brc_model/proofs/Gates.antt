@@ -14,12 +14,15 @@ use Rattle.brc_model.specs.declared.address.Address.TheVariants.{Gate}
 use Rattle.brc_model.specs.Machine.{Actor, Life, Unborn, Live, Dying, Closed, Machine}
 use Rattle.brc_model.specs.Progress.{Always, GatesTell, BornAreUsed}
 use Rattle.brc_model.proofs.Lists.{some_within}
-use Rattle.brc_model.proofs.Bag.{one_if}
+use Rattle.brc_model.specs.References.{one_if}
+use Rattle.brc_model.specs.Accounts.{Accounts}
+use Rattle.brc_model.specs.Knowledge.{IsDyingWord, HeadOf}
+use Rattle.brc_model.specs.OpenWork.{Linked, hand_of, dies_by, GateFits}
+use Rattle.brc_model.specs.Invariant.{Rule}
 use Rattle.brc_model.proofs.Others.{dying_is}
 use Rattle.brc_model.proofs.Whole.{Whole}
 use Rattle.brc_model.proofs.RowLaws.{always}
 use Rattle.brc_model.proofs.Blocks.{born_used}
-use Rattle.brc_model.proofs.Rule.{Accounts, IsDyingWord, HeadOf, Linked, hand_of, dies_by, GateFits, Rule}
 
 -- ---- the gate of a dying row
 

@@ -17,8 +17,9 @@ use Rattle.brc_model.specs.declared.duty.Holding.TheVariants.{ByVariable, AsCall
 use Rattle.brc_model.specs.Plain.{root_row, Reference, references_to}
 use Rattle.brc_model.specs.Threads.{row_of, entry_variables}
 use Rattle.brc_model.proofs.Lists.{get_or-replicate_default}
-use Rattle.brc_model.proofs.Bag.{held, held-le-references_to}
-use Rattle.brc_model.proofs.Holds.{of_variables, reference_of, Holds, owned_has, caller_has}
+use Rattle.brc_model.proofs.Bag.{held-le-references_to}
+use Rattle.brc_model.specs.References.{held, reference_of}
+use Rattle.brc_model.proofs.Holds.{of_variables, Holds, owned_has, caller_has}
 use Rattle.brc_model.proofs.Passing.{AreMet}
 
 -- what a slot says of the row in the variable

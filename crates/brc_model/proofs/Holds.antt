@@ -9,10 +9,10 @@ use Rattle.brc_model.specs.declared.slot.State.{State}
 use Rattle.brc_model.specs.Slots.{slot_of, is_owned, names, entry}
 use Rattle.brc_model.specs.declared.duty.Holding.{Holding}
 use Rattle.brc_model.specs.declared.duty.Holding.TheVariants.{ByVariable, AsCaller, InHand}
-use Rattle.brc_model.specs.Plain.{root_row, ByThread, Reference}
+use Rattle.brc_model.specs.Plain.{root_row, Reference}
 use Rattle.brc_model.specs.Threads.{row_of, entry_variables}
 use Rattle.brc_model.proofs.Lists.{none_at, get_or-replicate_default}
-use Rattle.brc_model.proofs.Bag.{held, one_if}
+use Rattle.brc_model.specs.References.{held, one_if, reference_of}
 
 abbrev pub nothing : Holding → ℕ → Bool
 nothing h object = false
@@ -27,9 +27,6 @@ abbrev pub of_variables : State → List (Option ℕ) → Holding → ℕ → Bo
 of_variables s variables (ByVariable v) object = is_owned (slot_of s v) && names (row_of variables v) object
 of_variables s variables AsCaller object = object == root_row
 of_variables s variables InHand object = false
-
-abbrev pub reference_of : ℕ → Holding → ℕ → Reference
-reference_of t h object = record { holder = ByThread t h; object = object }
 
 -- the thread holds just these references, each once
 pub record Holds (bag : List Reference) (t : ℕ) (holds : Holding → ℕ → Bool) : Type 0 where

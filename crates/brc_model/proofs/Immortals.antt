@@ -11,8 +11,9 @@ use Rattle.brc_model.specs.declared.address.Address.TheVariants.{Local, Shared, 
 use Rattle.brc_model.specs.Duties.{block_of}
 use Rattle.brc_model.specs.Machine.{Actor, Life, Unborn, Live, Dying, Closed, Machine, written, next_machine}
 use Rattle.brc_model.specs.Progress.{StaysAt, ImmortalsStay}
-use Rattle.brc_model.proofs.Rows.{Numbers, InOwned, InSwapped, InMerged, RowRule}
-use Rattle.brc_model.proofs.Rule.{Accounts, numbers_of, Rule}
+use Rattle.brc_model.specs.RowRule.{Numbers, InOwned, InSwapped, InMerged, RowRule}
+use Rattle.brc_model.specs.Accounts.{Accounts}
+use Rattle.brc_model.specs.Invariant.{numbers_of, Rule}
 use Rattle.brc_model.proofs.Written.{written_apart, written_load, apart_shared, apart_gate}
 use Rattle.brc_model.proofs.Leaves.{AtDuty, head_of}
 use Rattle.brc_model.proofs.Neutral.{memory_by}

@@ -9,7 +9,9 @@ use Rattle.brc_model.specs.declared.address.Address.TheVariants.{Cell, Mark}
 use Rattle.brc_model.specs.declared.actor.Status.TheVariants.{Gone}
 use Rattle.brc_model.specs.Machine.{Actor, Machine, actor_by, done_by, same_address}
 use Rattle.brc_model.proofs.AsideAfter.{aside_after}
-use Rattle.brc_model.proofs.Rule.{AsideFits, Accounts, Fits, IsWatched, Rule}
+use Rattle.brc_model.specs.OpenWork.{AsideFits}
+use Rattle.brc_model.specs.Accounts.{Accounts}
+use Rattle.brc_model.specs.Invariant.{Fits, IsWatched, Rule}
 use Rattle.brc_model.proofs.Others.{each_fits}
 use Rattle.brc_model.proofs.MovesApart.{moves_apart, moves_off_cells}
 use Rattle.brc_model.proofs.Leaves.{AtDuty}

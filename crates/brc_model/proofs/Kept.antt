@@ -12,7 +12,9 @@ use Rattle.brc_model.specs.declared.actor.Place.{Place}
 use Rattle.brc_model.specs.Machine.{Actor, Machine, actor_by, done_by, at_place, with_actor}
 use Rattle.brc_model.specs.Events.{is_bad_duty}
 use Rattle.brc_model.proofs.Lists.{slice_get-set_same, written_actor}
-use Rattle.brc_model.proofs.Rule.{Account, Accounts, Rule}
+use Rattle.brc_model.specs.Accounts.{Account, Accounts}
+use Rattle.brc_model.specs.Invariant.{Kept}
+use Rattle.brc_model.specs.OpenWork.{IsSettled}
 use Rattle.brc_model.proofs.Leaves.{AtDuty}
 use Rattle.brc_model.proofs.Neutral.{OwnFits, found_by}
 use Rattle.brc_model.proofs.OwnRetains.{own_retain_counted}
@@ -22,7 +24,7 @@ use Rattle.brc_model.proofs.OwnMerges.{own_set_mark, own_look, own_take_mark, ow
 use Rattle.brc_model.proofs.OwnChains.{own_die, own_settle, own_settle_end}
 use Rattle.brc_model.proofs.OwnSettles.{own_settle_kind, own_settle_cell, own_take_slot, own_close_resource}
 use Rattle.brc_model.proofs.OwnExits.{own_leave, own_scan, own_finish, own_claim_mark}
-use Rattle.brc_model.proofs.Settled.{IsSettled, settled_after}
+use Rattle.brc_model.proofs.Settled.{settled_after}
 use Rattle.brc_model.proofs.Watches.{marks_after}
 use Rattle.brc_model.proofs.KeepsDuty.{keeps_by}
 use Rattle.brc_model.proofs.NotBad.{duty_not_bad}
@@ -31,11 +33,6 @@ use Rattle.brc_model.proofs.Sits.{sitting, Sits, AtRest, sits_rule, taken_up_ste
 use Rattle.brc_model.proofs.Replaced.{with_account}
 use Rattle.brc_model.proofs.OwnBirths.{own_birth_kind, own_birth_slot, own_birth_local}
 use Rattle.brc_model.proofs.Nones.{own_retain_none, own_release_none}
-
--- What holds of each machine that steps lead to, whatever its threads run: the rule, and that no chain is left over.
-pub record Kept (p : Accounts) (n : ℕ) (m : Machine) : Type 0 where
-  pub rule : Rule p n m
-  pub settled : (t : ℕ) (a : Actor) → slice_get m.actors t ≡ Some a → IsSettled a.head a.agenda
 
 -- ---- a duty
 

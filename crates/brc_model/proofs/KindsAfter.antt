@@ -18,7 +18,7 @@ use Rattle.brc_model.proofs.Leaves.{AtDuty, head_of}
 use Rattle.brc_model.proofs.Neutral.{found_by, memory_by}
 use Rattle.brc_model.proofs.UsesAfter.{AllBearNone, moves_none, before_or_now}
 use Rattle.brc_model.proofs.Lists.{some_is}
-use Rattle.brc_model.proofs.Rule.{Accounts}
+use Rattle.brc_model.specs.Accounts.{Accounts}
 
 -- ---- numbers and kinds
 

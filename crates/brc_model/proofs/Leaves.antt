@@ -12,11 +12,14 @@ use Rattle.brc_model.specs.declared.duty.Duty.TheVariants.{RetainLoad, RetainSto
 use Rattle.brc_model.specs.declared.address.Address.TheVariants.{Local, Shared, Gate, ThreadWord}
 use Rattle.brc_model.specs.Duties.{block_of, address_of, left_by}
 use Rattle.brc_model.specs.Machine.{Actor, Dying, Machine, written, Unborn, Life}
-use Rattle.brc_model.proofs.Bag.{held, one_if, held-le-references_to}
-use Rattle.brc_model.proofs.Holds.{reference_of}
-use Rattle.brc_model.proofs.Rows.{waits, decides, merges, InOwned, InSwapped, InMerged, RowRule}
+use Rattle.brc_model.proofs.Bag.{held-le-references_to}
+use Rattle.brc_model.specs.References.{held, one_if, reference_of}
+use Rattle.brc_model.specs.RowRule.{waits, decides, merges, InOwned, InSwapped, InMerged, RowRule}
+use Rattle.brc_model.specs.Accounts.{Accounts, extra_of, lacks_of}
+use Rattle.brc_model.specs.Knowledge.{OwnsLocally, HeadFits, HeadOf, status_word}
+use Rattle.brc_model.specs.OpenWork.{dies_by}
+use Rattle.brc_model.specs.Invariant.{Rule, numbers_of}
 use Rattle.brc_model.proofs.RowSteps.{shared_range, shared_up, shared_down, shared_merged}
-use Rattle.brc_model.proofs.Rule.{Accounts, extra_of, lacks_of, OwnsLocally, HeadFits, HeadOf, dies_by, Rule, status_word, numbers_of}
 use Rattle.brc_model.proofs.Aside.{extra_held}
 use Rattle.brc_model.proofs.Alive.{first_weighs, Alive, alive_referenced, alive_waiting, alive_deciding, alive_merging}
 use Rattle.brc_model.proofs.Written.{written_here, written_apart, written_load, apart_local, apart_shared, apart_gate, apart_thread}

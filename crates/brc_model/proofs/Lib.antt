@@ -14,11 +14,9 @@ pub mod GatesAfter
 pub mod BlanksAfter
 pub mod Callers
 pub mod Worked
-pub mod Rows
 pub mod HasDuties
 pub mod RowSteps
 pub mod RowMerges
-pub mod Rule
 pub mod Aside
 pub mod Coded
 pub mod Others

@@ -11,7 +11,10 @@ use Rattle.brc_model.specs.declared.duty.Duty.TheVariants.{RetainLoad, RetainSto
 use Rattle.brc_model.specs.Duties.{address_of, next_by, counts_locally, once_merged, merge_result, shared_result, has_resource, cells_of, cells_from, release_found}
 use Rattle.brc_model.specs.Machine.{Actor, Life, Unborn, Live, Dying, Closed, Machine, is_running, dies_next, ended_row, born_row, with_life, life_by, done_by}
 use Rattle.brc_model.proofs.Lists.{some_is}
-use Rattle.brc_model.proofs.Rule.{Accounts, dies_by, HasCountedKind, Rule}
+use Rattle.brc_model.specs.Accounts.{Accounts}
+use Rattle.brc_model.specs.OpenWork.{dies_by}
+use Rattle.brc_model.specs.Knowledge.{HasCountedKind}
+use Rattle.brc_model.specs.Invariant.{Rule}
 use Rattle.brc_model.proofs.Written.{written_load}
 use Rattle.brc_model.specs.declared.address.Address.TheVariants.{KindOf}
 use Rattle.brc_model.specs.Kinds.{kind_of_word, is_counted_kind}

@@ -16,11 +16,13 @@ use Rattle.brc_model.specs.Duties.{block_of}
 use Rattle.brc_model.specs.Machine.{Actor, Machine, first_row, first_machine}
 use Rattle.brc_model.specs.Progress.{Always}
 use Rattle.brc_model.specs.Watched.{looks_at, scans_over, IsWatched, ByRunning, ByExit, ByLook, MarksWatched}
-use Rattle.brc_model.proofs.Bag.{one_if}
-use Rattle.brc_model.proofs.Rows.{weight}
+use Rattle.brc_model.specs.References.{one_if}
+use Rattle.brc_model.specs.RowRule.{weight}
+use Rattle.brc_model.specs.OpenWork.{Later, Agenda, AgendaFits, scans}
+use Rattle.brc_model.specs.Invariant.{looks}
+use Rattle.brc_model.specs.Knowledge.{status_word}
 use Rattle.brc_model.proofs.HasDuties.{some_weighs, is_open}
-use Rattle.brc_model.proofs.Rule.{Later, Agenda, AgendaFits, scans, looks, status_word}
-use Rattle.brc_model.proofs.Rule as rule
+use Rattle.brc_model.specs.Invariant as rule
 use Rattle.brc_model.proofs.OwnExits.{marked_born}
 use Rattle.brc_model.proofs.Watches.{marked_within}
 use Rattle.brc_model.proofs.Whole.{Whole}

@@ -14,10 +14,12 @@ use Rattle.brc_model.specs.Duties.{block_of}
 use Rattle.brc_model.specs.declared.actor.Status.TheVariants.{Running}
 use Rattle.brc_model.specs.Machine.{Actor, Machine}
 use Rattle.brc_model.proofs.Lists.{some_is}
-use Rattle.brc_model.proofs.Bag.{one_if}
-use Rattle.brc_model.proofs.Rows.{waits, carries, merges, agenda_weight, weight, Phased, IsDefault, IsQueued, InOwned, InSwapped, InMerged}
+use Rattle.brc_model.specs.References.{one_if}
+use Rattle.brc_model.specs.RowRule.{waits, carries, merges, agenda_weight, weight, Phased, IsDefault, IsQueued, InOwned, InSwapped, InMerged}
+use Rattle.brc_model.specs.Accounts.{Accounts}
+use Rattle.brc_model.specs.Invariant.{numbers_of, Rule}
+use Rattle.brc_model.specs.Knowledge.{MayCarry, HeadFits, status_word}
 use Rattle.brc_model.proofs.HasDuties.{some_weighs}
-use Rattle.brc_model.proofs.Rule.{Accounts, numbers_of, MayCarry, HeadFits, Rule, status_word}
 use Rattle.brc_model.proofs.Alive.{agenda_in, first_weighs}
 use Rattle.brc_model.proofs.Leaves.{AtDuty, head_of, claim_alive, merge_alive}
 use Rattle.brc_model.proofs.Aside.{waits_of_row, carries_of_row, merges_of_row}

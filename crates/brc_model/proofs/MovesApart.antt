@@ -11,8 +11,8 @@ use Rattle.brc_model.specs.declared.duty.Duty.{Duty}
 use Rattle.brc_model.specs.declared.duty.Duty.TheVariants.{RetainLoad, RetainStore, RetainAdd, ReleaseLoad, ReleaseStore, SharedExchange, SettleEnd, BirthLocal, SettleCell}
 use Rattle.brc_model.specs.declared.address.Address.{Address}
 use Rattle.brc_model.specs.Machine.{hand_on, gain, lose, moves_by, take_out}
-use Rattle.brc_model.proofs.Bag.{held, one_if, same-true, held-cons, same-other_holder, other_thread, cell_reference}
-use Rattle.brc_model.proofs.Holds.{reference_of}
+use Rattle.brc_model.proofs.Bag.{same-true, held-cons, same-other_holder, other_thread}
+use Rattle.brc_model.specs.References.{held, one_if, cell_reference, reference_of}
 
 -- what another reference's loss leaves
 pub held-without_apart : (x r : Reference) (bag : List Reference) → same x r ≡ false

@@ -8,8 +8,11 @@ use Rattle.brc_model.specs.Duties.{address_of, left_by, head_by, ready}
 use Rattle.brc_model.specs.declared.actor.Status.{Status}
 use Rattle.brc_model.specs.declared.actor.Status.TheVariants.{Running, Leaving, Gone}
 use Rattle.brc_model.specs.Machine.{Actor, Life, Dying, Closed, Machine, status_by, moves_by, dies_next, ended_row, with_life, life_by, actor_by, done_by, written, born_row, used_by, Live}
-use Rattle.brc_model.proofs.Bag.{one_if}
-use Rattle.brc_model.proofs.Rule.{Accounts, HoldsAt, HeadOf, Agenda, hand_of, dies_by, ChainFits, ActorFits, AgendaFits, status_word}
+use Rattle.brc_model.specs.References.{one_if}
+use Rattle.brc_model.specs.Accounts.{Accounts, HoldsAt}
+use Rattle.brc_model.specs.Knowledge.{HeadOf, status_word}
+use Rattle.brc_model.specs.OpenWork.{Agenda, hand_of, dies_by, ChainFits, AgendaFits}
+use Rattle.brc_model.specs.Invariant.{ActorFits}
 use Rattle.brc_model.proofs.Leaves.{AtDuty}
 use Rattle.brc_model.proofs.Lives.{next_of}
 use Rattle.brc_model.proofs.Own.{HeldStep, holds_step, ChainSame, chain_same}

@@ -11,9 +11,11 @@ use Rattle.brc_model.specs.declared.duty.Duty.TheVariants.{RetainLoad, RetainSto
 use Rattle.brc_model.specs.declared.address.Address.TheVariants.{Local}
 use Rattle.brc_model.specs.declared.actor.Status.TheVariants.{Gone}
 use Rattle.brc_model.specs.Machine.{Actor, Machine, gain, lose, hand_on, written, done_by, actor_by, is_running}
-use Rattle.brc_model.proofs.Bag.{held_has, same-refl, held}
-use Rattle.brc_model.proofs.Holds.{reference_of}
-use Rattle.brc_model.proofs.Rule.{Accounts, IsNext, Rule}
+use Rattle.brc_model.proofs.Bag.{held_has, same-refl}
+use Rattle.brc_model.specs.References.{held, reference_of}
+use Rattle.brc_model.specs.Accounts.{Accounts}
+use Rattle.brc_model.specs.Knowledge.{IsNext}
+use Rattle.brc_model.specs.Invariant.{Rule}
 use Rattle.brc_model.proofs.Written.{written_apart, written_load, apart_local}
 use Rattle.brc_model.proofs.Blocks.{next_above}
 use Rattle.brc_model.proofs.Leaves.{AtDuty, head_of}

@@ -17,10 +17,13 @@ use Rattle.brc_model.specs.declared.address.Address.TheVariants.{Local, KindOf}
 use Rattle.brc_model.specs.Duties.{address_of}
 use Rattle.brc_model.specs.Machine.{Actor, Unborn, Live, Dying, Closed, Machine, hand_on, gain, lose, moves_by, birth, take_out}
 use Rattle.brc_model.specs.Events.{touched_row, is_freed_for, touches_freed, is_bad_duty}
-use Rattle.brc_model.proofs.Bag.{held, one_if, same_holding-refl, held_has, held-le-references_to, no_cell_holds, same-refl}
-use Rattle.brc_model.proofs.Holds.{reference_of}
-use Rattle.brc_model.proofs.Rows.{waits, decides, merges, InOwned, InSwapped, InMerged}
-use Rattle.brc_model.proofs.Rule.{Accounts, extra_of, lacks_of, IsBacked, Linked, dies_by, Rule, IsNext}
+use Rattle.brc_model.proofs.Bag.{same_holding-refl, held_has, held-le-references_to, no_cell_holds, same-refl}
+use Rattle.brc_model.specs.References.{held, one_if, reference_of}
+use Rattle.brc_model.specs.RowRule.{waits, decides, merges, InOwned, InSwapped, InMerged}
+use Rattle.brc_model.specs.Accounts.{Accounts, extra_of, lacks_of}
+use Rattle.brc_model.specs.Knowledge.{IsBacked, IsNext}
+use Rattle.brc_model.specs.OpenWork.{Linked, dies_by}
+use Rattle.brc_model.specs.Invariant.{Rule}
 use Rattle.brc_model.proofs.Agreeing.{is_free_of}
 use Rattle.brc_model.proofs.Aside.{extra_held}
 use Rattle.brc_model.proofs.Alive.{Alive, first_weighs, alive_referenced, alive_waiting, alive_deciding, alive_merging, alive_backed}

@@ -15,10 +15,12 @@ use Rattle.brc_model.specs.declared.address.Address.{Address}
 use Rattle.brc_model.specs.declared.address.Address.TheVariants.{Local, Shared, Gate, ThreadWord}
 use Rattle.brc_model.specs.Duties.{block_of}
 use Rattle.brc_model.specs.Machine.{Actor, Life, Unborn, Live, Dying, Closed, Machine, first_row}
-use Rattle.brc_model.proofs.Bag.{held, one_if}
-use Rattle.brc_model.proofs.Holds.{reference_of}
+use Rattle.brc_model.specs.References.{held, one_if, reference_of}
+use Rattle.brc_model.specs.OpenWork.{AllWait, AsideFits, AgendaFits, Linked, dies_by, ChainFits}
+use Rattle.brc_model.specs.Invariant.{Fits, ActorFits}
+use Rattle.brc_model.specs.Accounts.{Accounts, HoldsAt, Account}
+use Rattle.brc_model.specs.Knowledge.{OwnsLocally, IsBacked, MayMerge, MayCarry, IsNext, HasCountedKind, HeadFits, HeadOf, IsDyingWord}
 use Rattle.brc_model.proofs.Lists.{some_is, slice_get-set_same, slice_get-set_other}
-use Rattle.brc_model.proofs.Rule.{AllWait, AsideFits, Fits, AgendaFits, Accounts, HoldsAt, Account, OwnsLocally, IsBacked, MayMerge, MayCarry, IsNext, HasCountedKind, HeadFits, HeadOf, Linked, dies_by, ChainFits, ActorFits, IsDyingWord}
 
 -- what the others rely on
 pub record LeavesOthers (m new : Machine) (t : ℕ) : Type 0 where

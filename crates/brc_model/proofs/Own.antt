@@ -9,9 +9,10 @@ use Rattle.brc_model.specs.Duties.{ready}
 use Rattle.brc_model.specs.declared.actor.Status.{Status}
 use Rattle.brc_model.specs.declared.actor.Place.{Place}
 use Rattle.brc_model.specs.Machine.{Actor, Machine}
-use Rattle.brc_model.proofs.Bag.{held, one_if}
-use Rattle.brc_model.proofs.Holds.{reference_of}
-use Rattle.brc_model.proofs.Rule.{extra_of, lacks_of, HoldsAt, Account, HeadOf, Later, Agenda, hand_of, dies_by, ChainFits}
+use Rattle.brc_model.specs.References.{held, one_if, reference_of}
+use Rattle.brc_model.specs.Accounts.{extra_of, lacks_of, HoldsAt, Account}
+use Rattle.brc_model.specs.Knowledge.{HeadOf}
+use Rattle.brc_model.specs.OpenWork.{Later, Agenda, hand_of, dies_by, ChainFits}
 use Rattle.brc_model.proofs.Others.{linked_kept}
 
 -- ---- what is held

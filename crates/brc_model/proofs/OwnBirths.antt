@@ -8,8 +8,10 @@ use Rattle.brc_model.specs.declared.duty.Duty.TheVariants.{BirthKind, BirthSlot,
 use Rattle.brc_model.specs.Duties.{has_resource}
 use Rattle.brc_model.specs.declared.actor.Status.TheVariants.{Gone}
 use Rattle.brc_model.specs.Machine.{Actor, Life, Unborn, Live, Machine, done_by, actor_by, first_row}
-use Rattle.brc_model.proofs.Bag.{one_if}
-use Rattle.brc_model.proofs.Rule.{Accounts, IsNext, HasCountedKind, Agenda, dies_by}
+use Rattle.brc_model.specs.References.{one_if}
+use Rattle.brc_model.specs.Accounts.{Accounts}
+use Rattle.brc_model.specs.Knowledge.{IsNext, HasCountedKind}
+use Rattle.brc_model.specs.OpenWork.{Agenda, dies_by}
 use Rattle.brc_model.proofs.Written.{written_here}
 use Rattle.brc_model.specs.declared.address.Address.TheVariants.{KindOf}
 use Rattle.brc_model.specs.Kinds.{kind_of_word, is_counted_kind}

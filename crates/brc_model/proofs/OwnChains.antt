@@ -11,8 +11,11 @@ use Rattle.brc_model.specs.declared.address.Address.TheVariants.{Gate}
 use Rattle.brc_model.specs.Duties.{ready}
 use Rattle.brc_model.specs.declared.actor.Status.TheVariants.{Gone}
 use Rattle.brc_model.specs.Machine.{Actor, Unborn, Live, Dying, Closed, Machine, with_life, actor_by, done_by, written}
-use Rattle.brc_model.proofs.Bag.{one_if}
-use Rattle.brc_model.proofs.Rule.{Accounts, IsDyingWord, Linked, hand_of, dies_by, ChainFits, Rule}
+use Rattle.brc_model.specs.References.{one_if}
+use Rattle.brc_model.specs.Accounts.{Accounts}
+use Rattle.brc_model.specs.Knowledge.{IsDyingWord}
+use Rattle.brc_model.specs.OpenWork.{Linked, hand_of, dies_by, ChainFits}
+use Rattle.brc_model.specs.Invariant.{Rule}
 use Rattle.brc_model.proofs.Written.{written_here, written_apart, written_load, apart_gate}
 use Rattle.brc_model.proofs.Others.{is_dying, linked_kept}
 use Rattle.brc_model.proofs.Leaves.{AtDuty, head_of}

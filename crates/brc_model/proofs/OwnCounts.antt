@@ -11,10 +11,10 @@ use Rattle.brc_model.specs.declared.duty.Duty.{Duty}
 use Rattle.brc_model.specs.declared.duty.Duty.TheVariants.{RetainLoad}
 use Rattle.brc_model.specs.declared.address.Address.TheVariants.{Local}
 use Rattle.brc_model.specs.Machine.{Actor, Machine}
-use Rattle.brc_model.proofs.Bag.{one_if, held-cons, held-without}
-use Rattle.brc_model.proofs.Holds.{reference_of}
-use Rattle.brc_model.proofs.Rows.{InOwned, InSwapped, InMerged}
-use Rattle.brc_model.proofs.Rule.{Accounts, extra_of, lacks_of}
+use Rattle.brc_model.proofs.Bag.{held-cons, held-without}
+use Rattle.brc_model.specs.References.{one_if, reference_of}
+use Rattle.brc_model.specs.RowRule.{InOwned, InSwapped, InMerged}
+use Rattle.brc_model.specs.Accounts.{Accounts, extra_of, lacks_of}
 use Rattle.brc_model.proofs.Alive.{alive_backed}
 use Rattle.brc_model.proofs.Leaves.{AtDuty, head_of}
 use Rattle.brc_model.proofs.Own.{HeldStep}

@@ -10,9 +10,11 @@ use Rattle.brc_model.specs.declared.address.Address.TheVariants.{Gate, Mark, Thr
 use Rattle.brc_model.specs.Duties.{block_of, claimed, head_by, ready}
 use Rattle.brc_model.specs.declared.actor.Status.TheVariants.{Leaving, Gone}
 use Rattle.brc_model.specs.Machine.{Actor, Life, Machine, status_by, dies_next, ended_row, actor_by, done_by, born_row, Unborn}
-use Rattle.brc_model.proofs.Bag.{one_if}
-use Rattle.brc_model.proofs.Rule.{Accounts, extra_of, lacks_of, Later, numbers_of, hand_of, dies_by, ChainFits, Rule}
-use Rattle.brc_model.proofs.Rows.{RowRule}
+use Rattle.brc_model.specs.References.{one_if}
+use Rattle.brc_model.specs.Accounts.{Accounts, extra_of, lacks_of}
+use Rattle.brc_model.specs.OpenWork.{Later, hand_of, dies_by, ChainFits}
+use Rattle.brc_model.specs.Invariant.{numbers_of, Rule}
+use Rattle.brc_model.specs.RowRule.{RowRule}
 use Rattle.brc_model.proofs.Written.{written_here}
 use Rattle.brc_model.proofs.Leaves.{AtDuty, head_of}
 use Rattle.brc_model.proofs.Lives.{next_of}

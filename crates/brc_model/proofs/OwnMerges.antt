@@ -11,10 +11,11 @@ use Rattle.brc_model.specs.declared.address.Address.TheVariants.{Local, Shared, 
 use Rattle.brc_model.specs.Duties.{block_of, merge_result}
 use Rattle.brc_model.specs.declared.actor.Status.TheVariants.{Gone}
 use Rattle.brc_model.specs.Machine.{Actor, Machine, done_by, actor_by}
-use Rattle.brc_model.proofs.Bag.{one_if}
-use Rattle.brc_model.proofs.Rows.{decides, InOwned, InSwapped, InMerged}
+use Rattle.brc_model.specs.References.{one_if}
+use Rattle.brc_model.specs.RowRule.{decides, InOwned, InSwapped, InMerged}
+use Rattle.brc_model.specs.Accounts.{Accounts}
+use Rattle.brc_model.specs.Knowledge.{MayCarry}
 use Rattle.brc_model.proofs.RowSteps.{shared_merged}
-use Rattle.brc_model.proofs.Rule.{Accounts, MayCarry}
 use Rattle.brc_model.proofs.Alive.{first_weighs, Alive, alive_deciding}
 use Rattle.brc_model.proofs.Written.{written_here}
 use Rattle.brc_model.proofs.Leaves.{AtDuty, head_of, merge_alive}

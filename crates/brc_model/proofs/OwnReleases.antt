@@ -15,11 +15,11 @@ use Rattle.brc_model.specs.declared.address.Address.TheVariants.{Local, Shared}
 use Rattle.brc_model.specs.Duties.{counts_locally}
 use Rattle.brc_model.specs.declared.actor.Status.TheVariants.{Gone}
 use Rattle.brc_model.specs.Machine.{Actor, Machine, is_running, lose, hand_on, done_by, actor_by}
-use Rattle.brc_model.proofs.Bag.{held, one_if, same_holding-refl, held-cons, held-without, held_has, held-le-references_to}
-use Rattle.brc_model.proofs.Holds.{reference_of}
-use Rattle.brc_model.proofs.Rows.{InOwned, InSwapped, InMerged}
+use Rattle.brc_model.proofs.Bag.{same_holding-refl, held-cons, held-without, held_has, held-le-references_to}
+use Rattle.brc_model.specs.References.{held, one_if, reference_of}
+use Rattle.brc_model.specs.RowRule.{InOwned, InSwapped, InMerged}
+use Rattle.brc_model.specs.Accounts.{Accounts, extra_of, lacks_of}
 use Rattle.brc_model.proofs.RowSteps.{owner_down}
-use Rattle.brc_model.proofs.Rule.{Accounts, extra_of, lacks_of}
 use Rattle.brc_model.proofs.Aside.{extra_held}
 use Rattle.brc_model.proofs.Alive.{Alive, alive_referenced}
 use Rattle.brc_model.proofs.Written.{written_here}

@@ -14,10 +14,12 @@ use Rattle.brc_model.specs.declared.actor.Status.{Status}
 use Rattle.brc_model.specs.declared.actor.Status.TheVariants.{Running, Leaving, Gone}
 use Rattle.brc_model.specs.Machine.{Actor, Machine, is_running, gain, done_by, actor_by}
 use Rattle.brc_model.proofs.Lists.{and_first, and_second}
-use Rattle.brc_model.proofs.Bag.{held}
-use Rattle.brc_model.proofs.Holds.{reference_of}
-use Rattle.brc_model.proofs.Rows.{decides, agenda_weight, weight, InOwned, InSwapped, InMerged, AtZero, AboveZero}
-use Rattle.brc_model.proofs.Rule.{Accounts, is_about, extra_of, lacks_of, OwnsLocally, IsBacked, Rule}
+use Rattle.brc_model.specs.References.{held, reference_of}
+use Rattle.brc_model.specs.RowRule.{decides, agenda_weight, weight, InOwned, InSwapped, InMerged, AtZero, AboveZero}
+use Rattle.brc_model.specs.Accounts.{Accounts, extra_of, lacks_of}
+use Rattle.brc_model.specs.OpenWork.{is_about}
+use Rattle.brc_model.specs.Knowledge.{OwnsLocally, IsBacked}
+use Rattle.brc_model.specs.Invariant.{Rule}
 use Rattle.brc_model.proofs.Alive.{Alive, alive_backed}
 use Rattle.brc_model.proofs.Written.{written_here}
 use Rattle.brc_model.proofs.Leaves.{AtDuty, head_of}

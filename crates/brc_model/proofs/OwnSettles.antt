@@ -12,7 +12,9 @@ use Rattle.brc_model.specs.declared.actor.Status.{Status}
 use Rattle.brc_model.specs.declared.actor.Status.TheVariants.{Gone}
 use Rattle.brc_model.specs.Machine.{Actor, Dying, Machine, status_by, ended_row, actor_by, done_by, born_row, dies_next, take_out}
 use Rattle.brc_model.specs.Plain.{moved}
-use Rattle.brc_model.proofs.Rule.{Accounts, extra_of, lacks_of, Later, Agenda, hand_of, extra, lacks, IsDyingWord, HeadFits, at_hand}
+use Rattle.brc_model.specs.Accounts.{Accounts, extra_of, lacks_of, extra, lacks}
+use Rattle.brc_model.specs.OpenWork.{Later, Agenda, hand_of, at_hand}
+use Rattle.brc_model.specs.Knowledge.{IsDyingWord, HeadFits}
 use Rattle.brc_model.proofs.Leaves.{AtDuty, head_of}
 use Rattle.brc_model.proofs.Lives.{next_of}
 use Rattle.brc_model.proofs.Own.{HeldStep}

@@ -6,7 +6,9 @@ use Rattle.brc_model.specs.Duties.{head_by}
 use Rattle.brc_model.specs.declared.actor.Status.{Status}
 use Rattle.brc_model.specs.declared.actor.Status.TheVariants.{Gone}
 use Rattle.brc_model.specs.Machine.{Actor, Machine, status_by, actor_by, done_by, born_row, used_by}
-use Rattle.brc_model.proofs.Rule.{Accounts, HoldsAt, HeadOf, Agenda, ChainFits, AgendaFits, status_word}
+use Rattle.brc_model.specs.Accounts.{Accounts, HoldsAt}
+use Rattle.brc_model.specs.Knowledge.{HeadOf, status_word}
+use Rattle.brc_model.specs.OpenWork.{Agenda, ChainFits, AgendaFits}
 use Rattle.brc_model.proofs.Leaves.{AtDuty}
 use Rattle.brc_model.proofs.Own.{HeldStep, holds_step}
 use Rattle.brc_model.proofs.Neutral.{OwnFits, found_by, bag_by, memory_by, agenda_out, uses_same}

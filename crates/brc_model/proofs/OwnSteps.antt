@@ -11,9 +11,11 @@ use Rattle.brc_model.specs.Duties.{head_by, ready, block_of}
 use Rattle.brc_model.specs.declared.actor.Status.{Status}
 use Rattle.brc_model.specs.declared.actor.Status.TheVariants.{Gone}
 use Rattle.brc_model.specs.Machine.{Actor, Life, Live, Dying, Closed, Machine, status_by, dies_next, ended_row, with_life, life_by, actor_by, done_by, born_row}
-use Rattle.brc_model.proofs.Bag.{one_if}
+use Rattle.brc_model.specs.References.{one_if}
+use Rattle.brc_model.specs.Accounts.{Accounts, extra_of, lacks_of, HoldsAt}
+use Rattle.brc_model.specs.Knowledge.{HeadFits, HeadOf, status_word}
+use Rattle.brc_model.specs.OpenWork.{Later, Agenda, hand_of, dies_by, GateFits, ChainFits}
 use Rattle.brc_word.specs.Words.{free_word}
-use Rattle.brc_model.proofs.Rule.{Accounts, extra_of, lacks_of, HoldsAt, HeadFits, HeadOf, Later, Agenda, hand_of, dies_by, GateFits, ChainFits, status_word}
 use Rattle.brc_model.proofs.Written.{written_load}
 use Rattle.brc_model.proofs.Leaves.{AtDuty}
 use Rattle.brc_model.proofs.Lives.{next_of}

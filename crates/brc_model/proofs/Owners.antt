@@ -22,7 +22,7 @@ use Rattle.brc_model.proofs.StepCases.{ShowsSteps, at_duty, event_shows}
 use Rattle.brc_model.proofs.Immortals.{counted_low}
 use Rattle.brc_model.proofs.Blocks.{next_unborn}
 use Rattle.brc_model.proofs.Nones.{none_local}
-use Rattle.brc_model.proofs.Rule.{Accounts}
+use Rattle.brc_model.specs.Accounts.{Accounts}
 
 -- ---- others leave a running owner's count
 

@@ -14,12 +14,14 @@ use Rattle.brc_model.specs.declared.actor.Place.{Place}
 use Rattle.brc_model.specs.declared.actor.Place.TheVariants.{Departing}
 use Rattle.brc_model.specs.Machine.{Actor, Machine, with_actor, with_moves}
 use Rattle.brc_model.proofs.Lists.{some_is, written_actor, slice_get-set_other}
-use Rattle.brc_model.proofs.Bag.{one_if, references_to-cons, references_to-without, other_thread, cell_reference}
-use Rattle.brc_model.proofs.Holds.{reference_of}
+use Rattle.brc_model.proofs.Bag.{references_to-cons, references_to-without, other_thread}
+use Rattle.brc_model.specs.References.{one_if, cell_reference, reference_of}
+use Rattle.brc_model.specs.RowRule.{waits, carries, merges, decides, weight, Numbers, RowRule}
+use Rattle.brc_model.specs.Accounts.{Account, Accounts, HoldsAt, IsBounded}
+use Rattle.brc_model.specs.Invariant.{Fits, numbers_of, UsesFit, looks, IsWatched, ByRunning, ByExit, ByLook, Rule, BlankFits}
+use Rattle.brc_model.specs.OpenWork.{scans, AgendaFits, ChainFits}
 use Rattle.brc_model.proofs.MovesApart.{AreAside, IsNoWayOf, moved_aside}
-use Rattle.brc_model.proofs.Rows.{waits, carries, merges, decides, weight, Numbers, RowRule}
 use Rattle.brc_model.proofs.Aside.{HoldsAlone, holds_alone, alone_fits}
-use Rattle.brc_model.proofs.Rule.{Account, Accounts, HoldsAt, IsBounded, Fits, numbers_of, scans, AgendaFits, UsesFit, looks, IsWatched, ByRunning, ByExit, ByLook, Rule, ChainFits, BlankFits}
 use Rattle.brc_lang.specs.declared.kind.Kind.{Kind}
 use Rattle.brc_model.specs.Kinds.{kind_number}
 use Rattle.brc_model.proofs.Others.{LeavesOthers, each_fits}

@@ -12,9 +12,11 @@ use Rattle.brc_model.specs.declared.duty.Duty.TheVariants.{RetainLoad, RetainSto
 use Rattle.brc_model.specs.declared.address.Address.TheVariants.{KindOf, Mark}
 use Rattle.brc_model.specs.Duties.{address_of, left_by, next_by, ready, counts_locally, once_merged, merge_result, claimed, shared_result, cells_of, cells_from, release_found, block_of, has_resource}
 use Rattle.brc_model.specs.Machine.{Actor, Life, Unborn, Machine, written, is_running, actor_by, done_by}
-use Rattle.brc_model.proofs.Bag.{one_if}
-use Rattle.brc_model.proofs.Rows.{RowRule}
-use Rattle.brc_model.proofs.Rule.{Accounts, numbers_of, Linked, dies_by, Rule}
+use Rattle.brc_model.specs.References.{one_if}
+use Rattle.brc_model.specs.RowRule.{RowRule}
+use Rattle.brc_model.specs.Accounts.{Accounts}
+use Rattle.brc_model.specs.Invariant.{numbers_of, Rule}
+use Rattle.brc_model.specs.OpenWork.{Linked, dies_by}
 use Rattle.brc_model.proofs.Written.{written_load}
 use Rattle.brc_model.proofs.Lists.{written_actor}
 use Rattle.brc_model.proofs.Blocks.{born_within}

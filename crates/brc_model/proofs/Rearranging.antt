@@ -1,6 +1,6 @@
 -- The same work, elsewhere: a thread puts the duty at hand aside, or takes one back that it has put aside. Nothing else
 -- changes, so the invariant holds as before.
-use Rattle.std.proofs.Common.{◌≡◌, ◌≢◌, ℕ, ◌+◌, ◌≤◌, Bool, true, false, cond, List, [], ◌∷◌, ◌++◌, inl, inr, Some, refl, sym, ap, ◌∙◌, subst, arith}
+use Rattle.std.proofs.Common.{◌≡◌, ◌≢◌, ℕ, ◌+◌, true, false, cond, List, [], ◌∷◌, ◌++◌, inr, Some, refl, sym, ap, ◌∙◌, subst, arith}
 use Rattle.std.specs.Prelude.{slice_get, count_by, sum_by}
 use Rattle.std.proofs.lemmas.Bool.{false≢true}
 use Rattle.std.proofs.lemmas.List.Sums.{sum_by-cons, sum_by-append}
@@ -12,14 +12,15 @@ use Rattle.brc_model.specs.declared.actor.Status.TheVariants.{Running, Leaving, 
 use Rattle.brc_model.specs.declared.actor.Place.{Place}
 use Rattle.brc_model.specs.declared.actor.Place.TheVariants.{Departing}
 use Rattle.brc_model.specs.Machine.{Actor, Machine, with_actor}
-use Rattle.brc_model.proofs.Bag.{one_if}
+use Rattle.brc_model.specs.References.{one_if}
+use Rattle.brc_model.specs.RowRule.{waits, carries, merges, decides, agenda_weight}
+use Rattle.brc_model.specs.Accounts.{Accounts, extra, lacks, extra_of, lacks_of, extra_aside, lacks_aside}
+use Rattle.brc_model.specs.Knowledge.{HeadFits, HeadOf}
+use Rattle.brc_model.specs.OpenWork.{Later, Agenda, AgendaFits, is_about, about_of, at_hand, hand_of, scans, may_wait, is_piece, AllWait, AsideFits, IsSettled}
+use Rattle.brc_model.specs.Invariant.{looks, kind_stored, slot_stored, BlankFits, Rule, Kept}
 use Rattle.brc_model.proofs.Lists.{written_actor}
-use Rattle.brc_model.proofs.Rows.{waits, carries, merges, decides, agenda_weight}
-use Rattle.brc_model.proofs.Rule.{Accounts, HeadFits, HeadOf, Later, Agenda, AgendaFits, extra, lacks, extra_of, lacks_of, extra_aside, lacks_aside, looks, kind_stored, slot_stored, is_about, about_of, at_hand, hand_of, scans, may_wait, is_piece, IsPiece, AllWait, AsideFits, ActorFits, Fits, BlankFits, Rule}
 use Rattle.brc_model.proofs.Beside.{LeavesBeside, known_beside}
-use Rattle.brc_model.proofs.Replaced.{with_account, with_account_itself, Replaces, replaced_rule}
-use Rattle.brc_model.proofs.Kept.{Kept}
-use Rattle.brc_model.proofs.Settled.{IsSettled}
+use Rattle.brc_model.proofs.Replaced.{with_account, with_account_itself, replaced_rule}
 
 -- the thread with other not_departing work
 abbrev pub working : Actor → List Duty → List Duty → Actor

@@ -12,8 +12,10 @@ use Rattle.brc_model.specs.Duties.{block_of}
 use Rattle.brc_model.specs.Machine.{Actor, Machine, with_actor}
 use Rattle.brc_model.proofs.Lists.{some_is, slice_get-set_same, slice_get-set_other, written_actor}
 use Rattle.brc_model.proofs.Weights.{weight-set}
-use Rattle.brc_model.proofs.Rows.{waits, carries, merges, decides, agenda_weight, weight, Numbers, RowRule}
-use Rattle.brc_model.proofs.Rule.{Account, Accounts, numbers_of, Fits, scans, looks, IsWatched, ByRunning, ByExit, ByLook, Rule, UsesFit, BlankFits}
+use Rattle.brc_model.specs.RowRule.{waits, carries, merges, decides, agenda_weight, weight, Numbers, RowRule}
+use Rattle.brc_model.specs.Accounts.{Account, Accounts}
+use Rattle.brc_model.specs.Invariant.{numbers_of, Fits, looks, IsWatched, ByRunning, ByExit, ByLook, Rule, UsesFit, BlankFits}
+use Rattle.brc_model.specs.OpenWork.{scans}
 use Rattle.brc_model.proofs.Others.{LeavesOthers, each_fits}
 
 -- the accounts with one thread's replaced

@@ -8,8 +8,9 @@ use Rattle.brc_model.specs.declared.duty.Duty.TheVariants.{RetainLoad, RetainSto
 use Rattle.brc_model.specs.Duties.{block_of}
 use Rattle.brc_model.specs.declared.actor.Status.TheVariants.{Gone}
 use Rattle.brc_model.specs.Machine.{Actor, Machine, done_by}
-use Rattle.brc_model.proofs.Rows.{RowRule}
-use Rattle.brc_model.proofs.Rule.{Accounts, Rule, numbers_of}
+use Rattle.brc_model.specs.RowRule.{RowRule}
+use Rattle.brc_model.specs.Accounts.{Accounts}
+use Rattle.brc_model.specs.Invariant.{Rule, numbers_of}
 use Rattle.brc_model.proofs.RowsAfterStep.{Doing, KeepsRow}
 use Rattle.brc_model.proofs.RowsAfterElsewhere.{subject, row_elsewhere}
 use Rattle.brc_model.proofs.RowsAfterLocal.{row_after_retain_load, row_after_retain_store, row_after_retain_add, row_after_release_load, row_after_release_store, row_after_decide}

@@ -9,9 +9,11 @@ use Rattle.brc_model.specs.declared.address.Address.TheVariants.{Local}
 use Rattle.brc_model.specs.Duties.{block_of, has_resource}
 use Rattle.brc_model.specs.Machine.{Actor, Life, Live, Machine}
 use Rattle.brc_model.proofs.Bag.{references_to-cons}
-use Rattle.brc_model.proofs.Holds.{reference_of}
-use Rattle.brc_model.proofs.Rows.{Numbers, IsDefault, AboveZero, InOwned, IsLive, IsUnborn, RowRule}
-use Rattle.brc_model.proofs.Rule.{Accounts, IsNext, numbers_of}
+use Rattle.brc_model.specs.References.{reference_of}
+use Rattle.brc_model.specs.RowRule.{Numbers, IsDefault, AboveZero, InOwned, IsLive, IsUnborn, RowRule}
+use Rattle.brc_model.specs.Accounts.{Accounts}
+use Rattle.brc_model.specs.Knowledge.{IsNext}
+use Rattle.brc_model.specs.Invariant.{numbers_of}
 use Rattle.brc_model.proofs.RowsAfterOwn.{own, one_own, written_here, row_apart}
 use Rattle.brc_model.proofs.RowsAfterStep.{Doing, KeepsRow, head_fits_of, weighed, row_becomes, row_stays}
 use Rattle.brc_model.proofs.RowsAfterElsewhere.{IsApart, apart_if, one_apart}

@@ -13,11 +13,12 @@ use Rattle.brc_model.specs.declared.address.Address.{Address}
 use Rattle.brc_model.specs.declared.address.Address.TheVariants.{Local, Shared, Mark}
 use Rattle.brc_model.specs.Duties.{address_of, left_by, counts_locally, once_merged, merge_result, claimed, has_resource, cells_of, cells_from, release_found, next_by}
 use Rattle.brc_model.specs.Machine.{Life, Actor, Machine, is_running, same_address, written, moves_by, dies_next, with_life, ended_row, born_row, take_out}
-use Rattle.brc_model.proofs.Bag.{one_if, references_to-cons, same-true}
-use Rattle.brc_model.proofs.Rows.{waits, carries, merges, decides}
+use Rattle.brc_model.proofs.Bag.{references_to-cons, same-true}
+use Rattle.brc_model.specs.References.{one_if}
+use Rattle.brc_model.specs.RowRule.{waits, carries, merges, decides}
+use Rattle.brc_model.specs.Accounts.{Accounts}
 use Rattle.brc_model.proofs.Lives.{cell_found}
 use Rattle.brc_model.proofs.RowsAfterStep.{Doing, found_by, following, KeepsRow, RowStays, row_stays}
-use Rattle.brc_model.proofs.Rule.{Accounts}
 
 -- the row that a duty is about, or none
 abbrev pub subject : Duty → ℕ

@@ -13,9 +13,10 @@ use Rattle.brc_model.specs.declared.address.Address.TheVariants.{Local, Shared}
 use Rattle.brc_model.specs.Duties.{block_of, counts_locally}
 use Rattle.brc_model.specs.Machine.{Live, Dying, Actor, Machine, gain, lose, hand_on}
 use Rattle.brc_model.proofs.Bag.{references_to-cons, same_holding-refl}
-use Rattle.brc_model.proofs.Holds.{reference_of}
+use Rattle.brc_model.specs.References.{reference_of}
+use Rattle.brc_model.specs.Accounts.{Accounts}
+use Rattle.brc_model.specs.Invariant.{numbers_of}
 use Rattle.brc_model.proofs.RowSteps.{local_up, local_down, local_to_zero, zero_dies, shared_gained}
-use Rattle.brc_model.proofs.Rule.{Accounts, numbers_of}
 use Rattle.brc_model.proofs.RowsAfterStep.{Doing, head_fits_of, KeepsRow, weighed, row_becomes, row_stays}
 use Rattle.brc_model.proofs.RowsAfterElsewhere.{IsApart, none_apart, one_apart, apart_if}
 use Rattle.brc_model.proofs.RowsAfterOwn.{own, one_own, written_here, gives_up, IsLost, is_lost, lives_so, lives_backed, counted_word, row_apart}

@@ -9,9 +9,10 @@ use Rattle.brc_model.specs.declared.duty.Duty.TheVariants.{SetMark, Look, TakeMa
 use Rattle.brc_model.specs.declared.address.Address.TheVariants.{Local, Shared, Mark, Cell, KindOf}
 use Rattle.brc_model.specs.Duties.{block_of, claimed, has_resource, cells_of, cells_from}
 use Rattle.brc_model.specs.Machine.{Life, Live, Dying, Closed, Actor, Machine, with_life, dies_next, life_by, done_by, take_out}
-use Rattle.brc_model.proofs.Rows.{waits, carries, merges, decides, RowRule}
+use Rattle.brc_model.specs.RowRule.{waits, carries, merges, decides, RowRule}
+use Rattle.brc_model.specs.Accounts.{Accounts}
+use Rattle.brc_model.specs.Invariant.{numbers_of}
 use Rattle.brc_model.proofs.RowMerges.{mark_set, mark_taken}
-use Rattle.brc_model.proofs.Rule.{Accounts, numbers_of}
 use Rattle.brc_model.proofs.RowsAfterStep.{Doing, head_fits_of, following, KeepsRow, weighed, row_becomes, row_stays}
 use Rattle.brc_model.proofs.RowsAfterElsewhere.{IsApart, AreApart, none_apart, one_apart, more_apart, apart_if, settle_apart, scan_apart, kind_apart, cells_apart, released_apart}
 use Rattle.brc_model.proofs.RowsAfterOwn.{own, one_own, written_here, lives_so, row_apart}

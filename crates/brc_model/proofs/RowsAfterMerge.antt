@@ -13,9 +13,10 @@ use Rattle.brc_model.specs.declared.address.Address.{Address}
 use Rattle.brc_model.specs.declared.address.Address.TheVariants.{Local, Shared}
 use Rattle.brc_model.specs.Duties.{block_of, once_merged}
 use Rattle.brc_model.specs.Machine.{Live, Dying, Actor, Machine, written, life_by, done_by}
-use Rattle.brc_model.proofs.Rows.{waits, carries, merges, decides, weight, IsLive, InOwned, InSwapped, InMerged}
+use Rattle.brc_model.specs.RowRule.{waits, carries, merges, decides, weight, IsLive, InOwned, InSwapped, InMerged}
+use Rattle.brc_model.specs.Accounts.{Accounts}
+use Rattle.brc_model.specs.Invariant.{numbers_of}
 use Rattle.brc_model.proofs.RowMerges.{swapped_own, swapped_claimed, merged_live, merged_dies}
-use Rattle.brc_model.proofs.Rule.{Accounts, numbers_of}
 use Rattle.brc_model.proofs.Weights.{agenda_weight-le, none_carried}
 use Rattle.brc_model.proofs.RowsAfterStep.{Doing, head_fits_of, following, KeepsRow, weighed, row_becomes, row_stays}
 use Rattle.brc_model.proofs.RowsAfterOwn.{own, one_own, written_here, lives_so}

@@ -11,10 +11,12 @@ use Rattle.brc_model.specs.declared.address.Address.{Address}
 use Rattle.brc_model.specs.declared.address.Address.TheVariants.{Local, Shared, Mark}
 use Rattle.brc_model.specs.Duties.{block_of}
 use Rattle.brc_model.specs.Machine.{Life, Live, Actor, Machine, written, same_address, with_life, ended_row, born_row, done_by}
-use Rattle.brc_model.proofs.Bag.{held, one_if, held_has, held-le-references_to, references_to-without}
-use Rattle.brc_model.proofs.Holds.{reference_of}
-use Rattle.brc_model.proofs.Rows.{Numbers, InOwned, InSwapped, InMerged, IsLive}
-use Rattle.brc_model.proofs.Rule.{Accounts, numbers_of, extra, lacks, extra_of, lacks_of, IsBacked}
+use Rattle.brc_model.proofs.Bag.{held_has, held-le-references_to, references_to-without}
+use Rattle.brc_model.specs.References.{held, one_if, reference_of}
+use Rattle.brc_model.specs.RowRule.{Numbers, InOwned, InSwapped, InMerged, IsLive}
+use Rattle.brc_model.specs.Accounts.{Accounts, extra, lacks, extra_of, lacks_of}
+use Rattle.brc_model.specs.Invariant.{numbers_of}
+use Rattle.brc_model.specs.Knowledge.{IsBacked}
 use Rattle.brc_model.proofs.Aside.{extra_held}
 use Rattle.brc_model.proofs.RowsAfterStep.{Doing, following, KeepsRow, RowStays, row_stays, Lives, row_lives}
 use Rattle.brc_model.proofs.RowsAfterElsewhere.{AreApart, IsApart}

@@ -13,11 +13,12 @@ use Rattle.brc_model.specs.declared.address.Address.{Address}
 use Rattle.brc_model.specs.declared.address.Address.TheVariants.{Shared}
 use Rattle.brc_model.specs.Duties.{block_of}
 use Rattle.brc_model.specs.Machine.{Live, Dying, Actor, Machine, written, lose, moves_by}
-use Rattle.brc_model.proofs.Holds.{reference_of}
-use Rattle.brc_model.proofs.Rows.{waits}
+use Rattle.brc_model.specs.References.{reference_of}
+use Rattle.brc_model.specs.RowRule.{waits}
+use Rattle.brc_model.specs.Accounts.{Accounts}
+use Rattle.brc_model.specs.Invariant.{numbers_of}
 use Rattle.brc_model.proofs.RowSteps.{shared_queued, shared_lost, shared_dies}
 use Rattle.brc_model.proofs.RowMerges.{handed_lost, handed_dies}
-use Rattle.brc_model.proofs.Rule.{Accounts, numbers_of}
 use Rattle.brc_model.proofs.RowsAfterStep.{Doing, head_fits_of, KeepsRow, weighed, row_becomes, row_stays}
 use Rattle.brc_model.proofs.RowsAfterOwn.{own, one_own, written_here, gives_up, is_lost, lives_so}
 

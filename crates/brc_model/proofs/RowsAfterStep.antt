@@ -6,8 +6,10 @@ use Rattle.brc_model.specs.declared.duty.Duty.{Duty}
 use Rattle.brc_model.specs.declared.address.Address.TheVariants.{Local, Shared, Mark}
 use Rattle.brc_model.specs.Duties.{block_of, address_of, next_by}
 use Rattle.brc_model.specs.Machine.{Life, Unborn, Live, Dying, Closed, Actor, Machine, is_running, life_by, done_by}
-use Rattle.brc_model.proofs.Rows.{waits, carries, merges, decides, Numbers, IsLive, RowRule}
-use Rattle.brc_model.proofs.Rule.{Accounts, Rule, HeadFits, HeadOf, numbers_of}
+use Rattle.brc_model.specs.RowRule.{waits, carries, merges, decides, Numbers, IsLive, RowRule}
+use Rattle.brc_model.specs.Accounts.{Accounts}
+use Rattle.brc_model.specs.Invariant.{Rule, numbers_of}
+use Rattle.brc_model.specs.Knowledge.{HeadFits, HeadOf}
 use Rattle.brc_model.proofs.Weights.{Weighed, weighed_after}
 
 -- a thread is about to do the first duty of its agenda

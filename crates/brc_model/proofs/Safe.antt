@@ -18,14 +18,16 @@ use Rattle.brc_model.specs.declared.actor.Status.TheVariants.{Running, Leaving, 
 use Rattle.brc_model.specs.declared.actor.Place.TheVariants.{Departing}
 use Rattle.brc_model.specs.Machine.{Actor, Life, Unborn, Live, Dying, Closed, Machine, main_actor, worker_actor, first_machine}
 use Rattle.brc_model.specs.Safety.{AreCalls, has_gone, AllGone, IsHeldByOpenList, IsSafeNow, Safe}
-use Rattle.brc_model.proofs.Bag.{held, one_if, empty_bag}
+use Rattle.brc_model.proofs.Bag.{empty_bag}
+use Rattle.brc_model.specs.References.{held, one_if, reference_of}
+use Rattle.brc_model.specs.RowRule.{waits, carries, merges, decides, agenda_weight, weight, IsDefault, IsQueued, AtZero, AboveZero, InOwned, InSwapped, InMerged, IsLive, RowRule}
+use Rattle.brc_model.specs.Accounts.{Accounts, HoldsAt}
+use Rattle.brc_model.specs.Invariant.{numbers_of, looks, ByRunning, ByExit, ByLook, Rule}
+use Rattle.brc_model.specs.OpenWork.{AgendaFits, scans, Linked, dies_by, hand_of, IsSettled}
+use Rattle.brc_model.specs.Knowledge.{status_word}
 use Rattle.brc_model.proofs.Lists.{some_is, list_all_found, slice_get-map}
-use Rattle.brc_model.proofs.Holds.{reference_of}
-use Rattle.brc_model.proofs.Rows.{waits, carries, merges, decides, agenda_weight, weight, IsDefault, IsQueued, AtZero, AboveZero, InOwned, InSwapped, InMerged, IsLive, RowRule}
-use Rattle.brc_model.proofs.Rule.{Accounts, numbers_of, HoldsAt, AgendaFits, scans, Linked, dies_by, hand_of, looks, ByRunning, ByExit, ByLook, Rule, status_word}
 use Rattle.brc_model.proofs.Agreeing.{agrees_at, is_free_of}
 use Rattle.brc_model.proofs.Deciders.{sum_zero}
-use Rattle.brc_model.proofs.Settled.{IsSettled}
 use Rattle.brc_model.proofs.FirstMachine.{first_accounts, first_rule, first_coded}
 use Rattle.brc_model.proofs.Whole.{Whole}
 use Rattle.brc_model.proofs.WholeEvents.{event_keeps, whole_after}

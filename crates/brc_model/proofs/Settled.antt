@@ -12,29 +12,13 @@ use Rattle.brc_model.specs.declared.actor.Status.{Status}
 use Rattle.brc_model.specs.declared.actor.Status.TheVariants.{Leaving, Gone}
 use Rattle.brc_model.specs.declared.actor.Place.{Place}
 use Rattle.brc_model.specs.Machine.{Actor, Machine, is_running, actor_by}
-use Rattle.brc_model.proofs.Rule.{Accounts, Later, Agenda}
+use Rattle.brc_model.specs.Accounts.{Accounts}
+use Rattle.brc_model.specs.OpenWork.{Later, Agenda, Settles, IsSettled}
 use Rattle.brc_model.proofs.Leaves.{AtDuty, head_of}
 use Rattle.brc_model.proofs.Lives.{next_of}
 use Rattle.brc_model.proofs.Neutral.{found_by, agenda_here}
 
 -- ---- what is meant
-
--- the first duty of an exit stands behind a settling
-abbrev pub Settles : List Duty → Type 0
-Settles [] = Unit {0}
-Settles (Settle ∷ rest) = Unit {0}
-Settles (Leave x k ∷ rest) = ⊥
-Settles (Scan x k ∷ rest) = ⊥
-Settles (Finish ∷ rest) = ⊥
-Settles (d ∷ rest) = Settles rest
-
--- where it is the first of all, the chain is empty
-abbrev pub IsSettled : ℕ → List Duty → Type 0
-IsSettled head [] = Unit {0}
-IsSettled head (Leave x k ∷ rest) = head ≡ 0
-IsSettled head (Scan x k ∷ rest) = head ≡ 0
-IsSettled head (Finish ∷ rest) = head ≡ 0
-IsSettled head (d ∷ rest) = Settles (d ∷ rest)
 
 -- neither settles nor exits
 abbrev IsInner : Duty → Type 0

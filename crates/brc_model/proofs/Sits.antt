@@ -10,10 +10,13 @@ use Rattle.brc_model.specs.declared.actor.Status.TheVariants.{Running}
 use Rattle.brc_model.specs.declared.actor.Place.{Place}
 use Rattle.brc_model.specs.declared.actor.Place.TheVariants.{Departing}
 use Rattle.brc_model.specs.Machine.{Actor, Machine, at_place, with_actor, actor_by, done_by}
-use Rattle.brc_model.proofs.Bag.{one_if}
+use Rattle.brc_model.specs.References.{one_if}
+use Rattle.brc_model.specs.RowRule.{waits, carries, merges, decides, agenda_weight, weight}
+use Rattle.brc_model.specs.Accounts.{Account, Accounts, HoldsAt, HoldsNone, IsBounded}
+use Rattle.brc_model.specs.OpenWork.{AsideFits, Agenda, scans, hand_of, AgendaFits}
+use Rattle.brc_model.specs.Invariant.{Fits, looks, Rule, BlankFits}
+use Rattle.brc_model.specs.Knowledge.{HeadOf}
 use Rattle.brc_model.proofs.Weights.{weight-set}
-use Rattle.brc_model.proofs.Rows.{waits, carries, merges, decides, agenda_weight, weight}
-use Rattle.brc_model.proofs.Rule.{Account, Accounts, HoldsAt, HoldsNone, IsBounded, AsideFits, Fits, HeadOf, Agenda, scans, hand_of, AgendaFits, looks, Rule, BlankFits}
 use Rattle.brc_model.proofs.Replaced.{with_account, replaced_rule}
 
 -- the thread with another place and agenda

@@ -16,7 +16,7 @@ use Rattle.brc_model.proofs.Leaves.{AtDuty, exchange_alive}
 use Rattle.brc_model.proofs.Neutral.{memory_by}
 use Rattle.brc_model.proofs.Whole.{Whole}
 use Rattle.brc_model.proofs.StepCases.{ShowsSteps, at_duty, event_shows}
-use Rattle.brc_model.proofs.Rule.{Accounts}
+use Rattle.brc_model.specs.Accounts.{Accounts}
 
 -- ---- what a word's state is after an exchange
 

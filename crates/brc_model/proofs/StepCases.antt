@@ -12,8 +12,9 @@ use Rattle.brc_model.proofs.Begins.{QuietMoves}
 use Rattle.brc_model.proofs.Sits.{sitting, taken_up_step}
 use Rattle.brc_model.proofs.Replaced.{with_account}
 use Rattle.brc_model.proofs.Leaves.{AtDuty}
-use Rattle.brc_model.proofs.Rule.{Accounts}
-use Rattle.brc_model.proofs.Kept.{Kept, Doing}
+use Rattle.brc_model.specs.Accounts.{Accounts}
+use Rattle.brc_model.specs.Invariant.{Kept}
+use Rattle.brc_model.proofs.Kept.{Doing}
 use Rattle.brc_model.proofs.Whole.{Whole}
 use Rattle.brc_model.proofs.Actions.{ActionFits, action_fits}
 

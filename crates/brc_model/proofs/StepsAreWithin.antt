@@ -23,7 +23,8 @@ use Rattle.brc_model.proofs.Ranges.{limit, IsSmall, head_small}
 use Rattle.brc_model.proofs.RangesEvents.{Bounded, bounded_after, first_ranges}
 use Rattle.brc_model.proofs.Bounds.{duty_suits}
 use Rattle.brc_model.proofs.Blocks.{used_low, block_within}
-use Rattle.brc_model.proofs.Rule.{Accounts, Rule}
+use Rattle.brc_model.specs.Accounts.{Accounts}
+use Rattle.brc_model.specs.Invariant.{Rule}
 use Rattle.brc_model.proofs.UsesAfter.{own_uses}
 use Rattle.std.proofs.Math.Nat.{mul-le-mul_right}
 

@@ -27,7 +27,7 @@ use Rattle.brc_model.proofs.Lists.{some_is, slice_get-set_same, set_found}
 use Rattle.brc_model.proofs.Written.{written_here, written_load}
 use Rattle.brc_model.proofs.Claims.{claimer, gone_claims_none}
 use Rattle.brc_model.proofs.Actions.{ActionFits, action_fits}
-use Rattle.brc_model.proofs.Rule.{Accounts}
+use Rattle.brc_model.specs.Accounts.{Accounts}
 use Rattle.brc_model.proofs.Whole.{Whole}
 use Rattle.brc_model.proofs.WholeEvents.{whole_after}
 use Rattle.brc_model.proofs.Safe.{first_whole}

@@ -15,9 +15,12 @@ use Rattle.brc_model.specs.declared.actor.Status.{Status}
 use Rattle.brc_model.specs.declared.actor.Status.TheVariants.{Running, Leaving, Gone}
 use Rattle.brc_model.specs.Duties.{block_of, left_by, next_by, head_by}
 use Rattle.brc_model.specs.Machine.{Actor, Life, Machine, first_row, moves_by}
-use Rattle.brc_model.proofs.Bag.{one_if}
-use Rattle.brc_model.proofs.Rows.{waits, Numbers, IsDefault, IsQueued, InOwned, InSwapped, InMerged, Phased, RowRule}
-use Rattle.brc_model.proofs.Rule.{Accounts, numbers_of, status_word, IsNext, IsDyingWord, Agenda, AgendaFits}
+use Rattle.brc_model.specs.References.{one_if}
+use Rattle.brc_model.specs.RowRule.{waits, Numbers, IsDefault, IsQueued, InOwned, InSwapped, InMerged, Phased, RowRule}
+use Rattle.brc_model.specs.Accounts.{Accounts}
+use Rattle.brc_model.specs.Invariant.{numbers_of}
+use Rattle.brc_model.specs.Knowledge.{status_word, IsNext, IsDyingWord}
+use Rattle.brc_model.specs.OpenWork.{Agenda, AgendaFits}
 use Rattle.brc_model.proofs.Alive.{first_weighs, alive_waiting}
 use Rattle.brc_model.proofs.Blocks.{next_above, next_block, next_unborn}
 use Rattle.brc_model.proofs.Leaves.{AtDuty, head_of}

@@ -13,10 +13,13 @@ use Rattle.brc_model.specs.declared.actor.Status.TheVariants.{Running, Leaving, 
 use Rattle.brc_model.specs.declared.actor.Place.{Place}
 use Rattle.brc_model.specs.declared.actor.Place.TheVariants.{Standing, Departing}
 use Rattle.brc_model.specs.Machine.{Actor, Machine, first_row, dispatch, agenda_action, with_actor, block_size, next_row}
-use Rattle.brc_model.proofs.Rows.{waits, carries, merges, decides}
+use Rattle.brc_model.specs.RowRule.{waits, carries, merges, decides}
+use Rattle.brc_model.specs.Accounts.{Account, Accounts, HoldsAt, HoldsNone, IsBounded}
+use Rattle.brc_model.specs.OpenWork.{Later, Agenda, AgendaFits}
+use Rattle.brc_model.specs.Invariant.{looks, Rule}
+use Rattle.brc_model.specs.Knowledge.{IsNext}
 use Rattle.brc_model.proofs.Aside.{HoldsAlone, holds_alone, alone_holds, alone_fits}
 use Rattle.brc_model.proofs.Coded.{PlaceSays, InCode, place_fits, placed_by, departed_none, says_bounded}
-use Rattle.brc_model.proofs.Rule.{Account, Accounts, HoldsAt, HoldsNone, IsBounded, Later, Agenda, AgendaFits, looks, Rule, IsNext}
 use Rattle.brc_model.proofs.Begins.{Starts, Gives, Takes, Follows, Nothing, Settles, Leaves, Taken, IsTaken, Bears}
 use Rattle.brc_model.proofs.Taking.{dispatch_taken}
 use Rattle.brc_model.proofs.Sits.{Sits, AtRest, sitting}

@@ -21,9 +21,10 @@ use Rattle.brc_model.specs.Kinds.{kind_numbered, kind_of_word, is_counted_kind}
 use Rattle.brc_model.specs.declared.actor.Place.{Place}
 use Rattle.brc_model.specs.declared.actor.Place.TheVariants.{Standing, Inside, Departing}
 use Rattle.brc_model.specs.Machine.{Action, Does, dispatch_instruction, dispatch, first_row, has_room, next_row, block_size, number_word}
-use Rattle.brc_model.proofs.Bag.{held, one_if, held-le-references_to}
+use Rattle.brc_model.proofs.Bag.{held-le-references_to}
+use Rattle.brc_model.specs.References.{held, one_if, reference_of}
 use Rattle.brc_model.proofs.Lists.{first_false}
-use Rattle.brc_model.proofs.Holds.{the_root, of_variables, reference_of, Holds, owned_has, caller_has, holds-ended, holds-entered}
+use Rattle.brc_model.proofs.Holds.{the_root, of_variables, Holds, owned_has, caller_has, holds-ended, holds-entered}
 use Rattle.brc_model.proofs.Grounded.{IsGrounded, IsInside, AreInstructions, live_slot, owned_slot, owned_row, grounded-put, StandsAt, entry_inside}
 use Rattle.brc_model.proofs.Passing.{passes_on}
 use Rattle.brc_model.proofs.OwnCounts.{flip_eqb}

@@ -17,9 +17,10 @@ use Rattle.brc_model.specs.Plain.{Reference, same_holding, none_row, same, witho
 use Rattle.brc_model.specs.Threads.{row_of}
 use Rattle.brc_model.specs.declared.actor.Place.TheVariants.{Inside}
 use Rattle.brc_model.specs.Machine.{dispatch_instruction, Silent, gain, pass_on}
-use Rattle.brc_model.proofs.Bag.{held, one_if, held_has, held-without, held-cons}
+use Rattle.brc_model.proofs.Bag.{held_has, held-without, held-cons}
+use Rattle.brc_model.specs.References.{held, one_if, reference_of}
 use Rattle.brc_model.proofs.Lists.{first_false}
-use Rattle.brc_model.proofs.Holds.{of_variables, reference_of, Holds, owned_has}
+use Rattle.brc_model.proofs.Holds.{of_variables, Holds, owned_has}
 use Rattle.brc_model.proofs.Grounded.{IsInside, owned_slot, owned_row, grounded-put, StandsAt, slot_of-put_same, slot_of-put_other}
 use Rattle.brc_model.proofs.OwnCounts.{same_is}
 use Rattle.brc_model.proofs.Begins.{holds_at_none, IsTaken, taken_with_row, inside_stays, newref_held, emptied_held, Stays, GainsNone, HandsOn, QuietTaken}

@@ -16,9 +16,12 @@ use Rattle.brc_model.specs.declared.actor.Status.TheVariants.{Gone}
 use Rattle.brc_model.specs.declared.actor.Place.{Place}
 use Rattle.brc_model.specs.Machine.{Actor, Machine, is_running, first_row, actor_by, done_by, written}
 use Rattle.brc_model.proofs.Lists.{some_is, slice_get-set_other}
-use Rattle.brc_model.proofs.Bag.{one_if}
-use Rattle.brc_model.proofs.Rows.{agenda_weight, weight}
-use Rattle.brc_model.proofs.Rule.{Accounts, Later, Agenda, scans, looks, IsWatched, ByRunning, ByExit, ByLook, Rule, status_word}
+use Rattle.brc_model.specs.References.{one_if}
+use Rattle.brc_model.specs.RowRule.{agenda_weight, weight}
+use Rattle.brc_model.specs.Accounts.{Accounts}
+use Rattle.brc_model.specs.OpenWork.{Later, Agenda, scans}
+use Rattle.brc_model.specs.Invariant.{looks, IsWatched, ByRunning, ByExit, ByLook, Rule}
+use Rattle.brc_model.specs.Knowledge.{status_word}
 use Rattle.brc_model.proofs.Written.{written_here, written_apart, written_load, apart_mark}
 use Rattle.brc_model.proofs.Leaves.{AtDuty, head_of, words_left}
 use Rattle.brc_model.proofs.Lives.{next_of}

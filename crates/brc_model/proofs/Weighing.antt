@@ -10,9 +10,12 @@ use Rattle.brc_model.specs.declared.actor.Status.{Status}
 use Rattle.brc_model.specs.declared.actor.Status.TheVariants.{Running, Leaving, Gone}
 use Rattle.brc_model.specs.declared.actor.Place.{Place}
 use Rattle.brc_model.specs.Machine.{Actor, Machine}
-use Rattle.brc_model.proofs.Rows.{agenda_weight}
-use Rattle.brc_model.proofs.Bag.{one_if}
-use Rattle.brc_model.proofs.Rule.{Accounts, HeadFits, HeadOf, Later, Agenda, AgendaFits, is_about, about_of, AllWait, Rule}
+use Rattle.brc_model.specs.RowRule.{agenda_weight}
+use Rattle.brc_model.specs.References.{one_if}
+use Rattle.brc_model.specs.Accounts.{Accounts}
+use Rattle.brc_model.specs.Knowledge.{HeadFits, HeadOf}
+use Rattle.brc_model.specs.OpenWork.{Later, Agenda, AgendaFits, is_about, about_of, AllWait}
+use Rattle.brc_model.specs.Invariant.{Rule}
 use Rattle.brc_model.proofs.Aside.{IsOfRow, aside_weighs}
 use Rattle.brc_model.proofs.Leaves.{AtDuty}
 

@@ -8,8 +8,8 @@ use Rattle.brc_model.specs.declared.duty.Duty.{Duty}
 use Rattle.brc_model.specs.declared.duty.Duty.TheVariants.{MergeLoad, MergeExchange, Settle, Scan}
 use Rattle.brc_model.specs.Duties.{address_of, next_by, head_by, ready}
 use Rattle.brc_model.specs.Machine.{Actor, Machine, is_running, done_by}
-use Rattle.brc_model.proofs.Bag.{one_if}
-use Rattle.brc_model.proofs.Rows.{waits, carries, merges, decides, agenda_weight, weight}
+use Rattle.brc_model.specs.References.{one_if}
+use Rattle.brc_model.specs.RowRule.{waits, carries, merges, decides, agenda_weight, weight}
 
 -- ---- what is passed over weighs nothing
 

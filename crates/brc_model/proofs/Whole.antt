@@ -7,10 +7,10 @@ use Rattle.std.proofs.lemmas.Option.{slice_get_within}
 use Rattle.brc_lang.specs.declared.module.Module.{Module}
 use Rattle.brc_model.specs.Machine.{Actor, Machine}
 use Rattle.brc_model.proofs.Lists.{some_is, slice_get-set_same, slice_get-set_other}
-use Rattle.brc_model.proofs.Rule.{Account, Accounts}
+use Rattle.brc_model.specs.Accounts.{Account, Accounts}
+use Rattle.brc_model.specs.Invariant.{Kept}
 use Rattle.brc_model.proofs.Coded.{InCode}
 use Rattle.brc_model.proofs.Replaced.{with_account, with_account_same, with_account_other}
-use Rattle.brc_model.proofs.Kept.{Kept}
 
 pub record Whole (p : Module) (n : ℕ) (m : Machine) : Type 0 where
   pub accounts : Accounts

@@ -10,10 +10,11 @@ use Rattle.brc_model.proofs.Lists.{written_actor}
 use Rattle.brc_model.proofs.Neutral.{found_by}
 use Rattle.brc_model.proofs.Sits.{sitting, taken_up_step}
 use Rattle.brc_model.proofs.Replaced.{with_account}
-use Rattle.brc_model.proofs.Kept.{Kept, duty_kept}
+use Rattle.brc_model.proofs.Kept.{duty_kept}
+use Rattle.brc_model.specs.Invariant.{Kept}
+use Rattle.brc_model.specs.OpenWork.{IsSettled}
 use Rattle.brc_model.proofs.Whole.{Whole, KeepsOn, coded_set}
 use Rattle.brc_model.proofs.Quiets.{quieted, quiet_rule, quiet_allowed}
-use Rattle.brc_model.proofs.Settled.{IsSettled}
 use Rattle.brc_model.proofs.Actions.{ActionFits, action_fits}
 
 -- an action that fits its thread

@@ -7,6 +7,12 @@ pub mod Threads
 pub mod Duties
 pub mod Machine
 pub mod Rules
+pub mod References
+pub mod RowRule
+pub mod Accounts
+pub mod Knowledge
+pub mod OpenWork
+pub mod Invariant
 pub mod Agreement
 pub mod Events
 pub mod Safety

@@ -1,13 +1,12 @@
 -- What holds of one row's counts, whatever thread comes next: the numbers that the row's words, the references to it
 -- and the duties about it come to, and the rule that ties them together.
-use Rattle.std.proofs.Common.{◌≡◌, ℕ, ◌+◌, ◌<◌, ◌≤◌, cond, List}
-use Rattle.std.specs.Prelude.{◌==◌, sum_by}
+use Rattle.std.specs.Prelude.{◌≡◌, ℕ, ◌+◌, ◌<◌, ◌≤◌, ◌==◌, if◌then◌else◌, List, sum_by}
 use Rattle.brc_word.specs.Words.{owner_part, local_part, biased_part, phase_part, bias, fresh_word}
 use Rattle.brc_model.specs.declared.duty.Reason.TheVariants.{Own, Handed}
 use Rattle.brc_model.specs.declared.duty.Duty.{Duty}
 use Rattle.brc_model.specs.declared.duty.Duty.TheVariants.{DecideAtZero, SharedLoad, SharedExchange, SetMark, MergeSwap, MergeLoad, MergeExchange}
 use Rattle.brc_model.specs.Machine.{Life, Unborn, Live, Dying, Closed, Actor}
-use Rattle.brc_model.proofs.Bag.{one_if}
+use Rattle.brc_model.specs.References.{one_if}
 
 -- ---- weights of a duty at a row
 
@@ -24,8 +23,8 @@ waits x _ = 0
 
 -- a local count that is swapped out and not yet added
 abbrev pub carries : ℕ → Duty → ℕ
-carries x (MergeLoad y c r) = cond (y == x) c 0
-carries x (MergeExchange y c w r) = cond (y == x) c 0
+carries x (MergeLoad y c r) = if y == x then c else 0
+carries x (MergeExchange y c w r) = if y == x then c else 0
 carries x _ = 0
 
 abbrev pub merges : ℕ → Duty → ℕ

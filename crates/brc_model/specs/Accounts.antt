@@ -1,0 +1,74 @@
+-- What a thread holds: how many references to each object, by each way of holding one, and what its open work has more
+-- or less just now.
+use Rattle.std.specs.Prelude.{◌≡◌, ℕ, ◌+◌, ◌≤◌, Bool, false, ◌==◌, ◌&&◌, List, [], ◌∷◌, count_by}
+use Rattle.brc_model.specs.declared.duty.Holding.{Holding}
+use Rattle.brc_model.specs.declared.duty.Holding.TheVariants.{ByVariable, AsCaller, InHand}
+use Rattle.brc_model.specs.Plain.{Reference, same_holding}
+use Rattle.brc_model.specs.declared.duty.Reason.TheVariants.{Own}
+use Rattle.brc_model.specs.declared.duty.Duty.{Duty}
+use Rattle.brc_model.specs.declared.duty.Duty.TheVariants.{RetainLoad, RetainStore, RetainAdd, ReleaseLoad, ReleaseStore, SharedLoad, SharedExchange, BirthKind, BirthSlot, BirthLocal}
+use Rattle.brc_model.specs.References.{held, one_if, reference_of}
+
+-- what is held beyond what the place says: a reference that is being given up
+abbrev pub extra : Duty → Holding → ℕ → Bool
+extra (ReleaseLoad x h) k object = same_holding h k && (x == object)
+extra (ReleaseStore x w) k object = same_holding InHand k && (x == object)
+extra (SharedLoad x Own) k object = same_holding InHand k && (x == object)
+extra (SharedExchange x Own w) k object = same_holding InHand k && (x == object)
+extra _ k object = false
+
+-- what the place says and isn't held yet: a reference that is being made
+abbrev pub lacks : Duty → Holding → ℕ → Bool
+lacks (RetainLoad x h) k object = same_holding h k && (x == object)
+lacks (RetainStore x h w) k object = same_holding h k && (x == object)
+lacks (RetainAdd x h) k object = same_holding h k && (x == object)
+lacks (BirthKind x h w) k object = same_holding h k && (x == object)
+lacks (BirthSlot x h) k object = same_holding h k && (x == object)
+lacks (BirthLocal x h) k object = same_holding h k && (x == object)
+lacks _ k object = false
+
+abbrev pub extra_of : List Duty → Holding → ℕ → Bool
+extra_of [] k object = false
+extra_of (d ∷ rest) k object = extra d k object
+
+abbrev pub lacks_of : List Duty → Holding → ℕ → Bool
+lacks_of [] k object = false
+lacks_of (d ∷ rest) k object = lacks d k object
+
+-- A thread's account: how many references it holds to each object, by each way of holding one, apart from those that
+-- its work makes or gives up just now.
+abbrev pub Account : Type 0
+Account = Holding → ℕ → ℕ
+
+-- each thread's, by its number
+abbrev pub Accounts : Type 0
+Accounts = ℕ → Account
+
+-- of the duties that are put aside: how many make or give up a reference just now
+abbrev pub extra_aside : List Duty → Holding → ℕ → ℕ
+extra_aside aside k object = count_by (λ d. extra d k object) aside
+
+abbrev pub lacks_aside : List Duty → Holding → ℕ → ℕ
+lacks_aside aside k object = count_by (λ d. lacks d k object) aside
+
+-- the bag has just what the thread's account says, with what its open work has more or less
+pub record HoldsAt (bag : List Reference) (t : ℕ) (account : Account) (agenda aside : List Duty) : Type 0 where
+  pub each : (k : Holding) (object : ℕ)
+      → held (reference_of t k object) bag + one_if (lacks_of agenda k object) + lacks_aside aside k object
+      ≡ account k object + one_if (extra_of agenda k object) + extra_aside aside k object
+
+-- ---- how much it may hold
+
+-- How many references a thread may hold: one by each of sixteen variables, and 2^32 as the caller that lends them.
+abbrev pub most_lent : ℕ
+most_lent = 4294967296
+
+pub record IsBounded (account : Account) : Type 0 where
+  pub by_variable : (v object : ℕ) → account (ByVariable v) object ≤ 1
+  pub sixteen : (v object : ℕ) → 16 ≤ v → account (ByVariable v) object ≡ 0
+  pub lent : (object : ℕ) → account AsCaller object ≤ most_lent
+  pub in_hand : (object : ℕ) → account InHand object ≡ 0
+
+-- a thread whose exit is under way or done holds no reference but the one that it gives up just now
+abbrev pub HoldsNone : Account → Type 0
+HoldsNone account = (k : Holding) (object : ℕ) → account k object ≡ 0

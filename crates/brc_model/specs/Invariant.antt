@@ -1,0 +1,122 @@
+-- What holds of each machine that steps lead to, whatever its threads run: each row's rule, what each thread holds and
+-- knows, that set marks are watched, and that the dying rows are at hand or chained.
+use Rattle.std.specs.Prelude.{◌≡◌, ◌≢◌, ◌⊎◌, ℕ, ◌+◌, ◌<◌, ◌≤◌, Bool, true, false, ◌==◌, List, [], ◌∷◌, length, Some, slice_get, count_by, AllPairs}
+use Rattle.brc_model.specs.declared.duty.Holding.{Holding}
+use Rattle.brc_model.specs.Plain.{is_among, references_to}
+use Rattle.brc_word.specs.Words.{kind_part}
+use Rattle.brc_model.specs.Kinds.{kind_number}
+use Rattle.brc_model.specs.declared.duty.Duty.{Duty}
+use Rattle.brc_model.specs.declared.duty.Duty.TheVariants.{Look, TakeMark, BirthSlot, BirthLocal}
+use Rattle.brc_model.specs.declared.address.Address.{Address}
+use Rattle.brc_model.specs.declared.address.Address.TheVariants.{Local, Shared, Gate, KindOf, Mark, Cell, Slot, ThreadWord}
+use Rattle.brc_model.specs.Duties.{block_of}
+use Rattle.brc_model.specs.declared.actor.Place.TheVariants.{Departing}
+use Rattle.brc_model.specs.Machine.{Actor, Life, Unborn, Live, Closed, Machine, first_row}
+use Rattle.brc_model.specs.References.{held, one_if, reference_of, cell_reference}
+use Rattle.brc_model.specs.RowRule.{waits, carries, merges, decides, weight, Numbers, RowRule}
+use Rattle.brc_model.specs.Accounts.{Account, Accounts, HoldsAt, IsBounded, HoldsNone}
+use Rattle.brc_model.specs.Knowledge.{status_word, HeadOf}
+use Rattle.brc_model.specs.OpenWork.{scans, AgendaFits, IsSettled, GateFits, dies_by, ChainFits, AsideFits}
+
+-- ---- rows
+
+abbrev pub numbers_of : Machine → ℕ → Numbers
+numbers_of m x = record {
+  local = m.memory (Local x);
+  shared = m.memory (Shared x);
+  mark = m.memory (Mark x);
+  references = references_to x m.plain.references;
+  waiting = weight (waits x) m.actors;
+  carried = weight (carries x) m.actors;
+  merging = weight (merges x) m.actors;
+  deciding = weight (decides x) m.actors;
+}
+
+-- ---- one thread
+
+pub record ActorFits (account : Account) (m : Machine) (t : ℕ) (a : Actor) : Type 0 where
+  pub word : m.memory (ThreadWord t) ≡ status_word a.status
+  pub holds : HoldsAt m.plain.references t account a.agenda a.aside
+  pub bounded : IsBounded account
+  pub departed : a.place ≡ Departing → HoldsNone account × (a.aside ≡ [])
+  pub head_fits : HeadOf m t a a.agenda
+  pub chain : ChainFits m t a.head a.agenda
+
+-- all that is said of one thread
+abbrev pub Fits : Account → Machine → ℕ → Actor → Type 0
+Fits account m t a = ActorFits account m t a × AgendaFits m.rows t a a.status × AsideFits m t a
+
+-- ---- marks that are set are watched
+
+abbrev pub looks : ℕ → Duty → ℕ
+looks x (Look y) = one_if (y == x)
+looks x (TakeMark y) = one_if (y == x)
+looks x _ = 0
+
+pub data IsWatched (m : Machine) (x : ℕ) : Type 0 where
+  ByRunning : m.memory (ThreadWord (block_of m.rows x)) ≡ 1 → IsWatched m x
+  ByExit : (a : Actor) → slice_get m.actors (block_of m.rows x) ≡ Some a → scans x a.agenda ≡ true → IsWatched m x
+  ByLook : 0 < weight (looks x) m.actors → IsWatched m x
+
+-- ---- births
+
+-- the rows of a thread's block that it has used are born, and the others aren't
+pub record UsesFit (rows : ℕ) (life : ℕ → Life) (t used : ℕ) : Type 0 where
+  -- main uses none and the root; a worker has so many rows
+  pub main : t ≡ 0 → used ≡ 2
+  pub few : 0 < t → used ≤ rows
+  pub born : (x : ℕ) → first_row rows t ≤ x → x < first_row rows t + used → life x ≢ Unborn
+  pub unborn : (x : ℕ) → block_of rows x ≡ t → first_row rows t + used ≤ x → life x ≡ Unborn
+
+-- whether the thread's birth of the row has stored its kind word
+abbrev pub kind_stored : List Duty → ℕ → Bool
+kind_stored (BirthSlot y h ∷ rest) x = y == x
+kind_stored (BirthLocal y h ∷ rest) x = y == x
+kind_stored _ x = false
+
+-- and whether it has stored its slot's word
+abbrev pub slot_stored : List Duty → ℕ → Bool
+slot_stored (BirthLocal y h ∷ rest) x = y == x
+slot_stored _ x = false
+
+-- the unused rows of a thread's block are blank, apart from what the birth under way has stored
+pub record BlankFits (rows : ℕ) (memory : Address → ℕ) (t used : ℕ) (agenda : List Duty) : Type 0 where
+  pub kinds : (x : ℕ) → block_of rows x ≡ t → first_row rows t + used ≤ x → kind_stored agenda x ≡ false
+      → memory (KindOf x) ≡ 0
+  pub slots : (x : ℕ) → block_of rows x ≡ t → first_row rows t + used ≤ x → slot_stored agenda x ≡ false
+      → memory (Slot x) ≡ 0
+
+-- ---- the whole
+
+pub record Rule (p : Accounts) (n : ℕ) (m : Machine) : Type 0 where
+  pub threads : length m.actors ≡ n
+  pub some_rows : 0 < m.rows
+  pub few_threads : n ≤ 33
+  pub few_rows : m.rows ≤ 1024
+  pub rows : (x : ℕ) → 0 < x → RowRule (block_of m.rows x) (m.life x) (numbers_of m x)
+  pub marks : (x : ℕ) → m.memory (Mark x) ≡ 0 ⊎ ((m.memory (Mark x) ≡ 1) × (0 < x) × IsWatched m x)
+  pub each : (t : ℕ) (a : Actor) → slice_get m.actors t ≡ Some a → Fits (p t) m t a
+  pub beyond : (t : ℕ) → n ≤ t → (k : Holding) (object : ℕ) → held (reference_of t k object) m.plain.references ≡ 0
+  pub gates : (x : ℕ) → GateFits (m.life x) (m.memory (Gate x))
+  pub dying : (x t : ℕ) → n ≤ t → dies_by (m.life x) t ≡ false
+  pub cells : (x i : ℕ) → m.memory (Cell x i) ≡ 0
+  pub uses : (t : ℕ) (a : Actor) → slice_get m.actors t ≡ Some a → UsesFit m.rows m.life t a.used
+  pub blanks : (t : ℕ) (a : Actor) → slice_get m.actors t ≡ Some a → BlankFits m.rows m.memory t a.used a.agenda
+  pub no_block : (x : ℕ) → n ≤ block_of m.rows x → m.life x ≡ Unborn
+  -- no instruction stores in a cell yet
+  pub cells_hold : (x i object : ℕ) → held (cell_reference x i object) m.plain.references ≡ 0
+  pub none_lives : m.life 0 ≡ Live
+  pub born_is : (x : ℕ) → is_among x m.plain.born ≡ true → (0 < x) × (m.life x ≢ Unborn)
+  pub born_has : (x : ℕ) → 0 < x → m.life x ≢ Unborn → is_among x m.plain.born ≡ true
+  pub born_once : (x : ℕ) → count_by (λ y. y == x) m.plain.born ≤ 1
+  pub closed_is : (x : ℕ) → is_among x m.plain.closed ≡ true → m.life x ≡ Closed
+  pub closed_has : (x : ℕ) → m.life x ≡ Closed → is_among x m.plain.closed ≡ true
+  pub once : AllPairs (λ x y. x ≢ y) m.plain.closed
+  pub kinds : (x : ℕ) → m.life x ≢ Unborn → kind_part (m.memory (KindOf x)) ≡ kind_number (m.plain.kinds x)
+  -- none is immortal
+  pub none_word : m.memory (Local 0) ≡ 8589934591
+
+-- What holds of each machine that steps lead to, whatever its threads run: the rule, and that no chain is left over.
+pub record Kept (p : Accounts) (n : ℕ) (m : Machine) : Type 0 where
+  pub rule : Rule p n m
+  pub settled : (t : ℕ) (a : Actor) → slice_get m.actors t ≡ Some a → IsSettled a.head a.agenda

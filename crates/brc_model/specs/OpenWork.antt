@@ -1,0 +1,191 @@
+-- The order of a thread's agenda, the rows that it finalises, and the work that it has put aside.
+use Rattle.std.specs.Prelude.{◌≡◌, ◌≢◌, ◌⊎◌, ℕ, ◌+◌, ◌<◌, ◌≤◌, Bool, true, false, ◌==◌, nat_le, List, [], ◌∷◌, count_by}
+use Rattle.brc_word.specs.Words.{free_word, dying_word, closed_word}
+use Rattle.brc_model.specs.declared.duty.Duty.{Duty}
+use Rattle.brc_model.specs.declared.duty.Duty.TheVariants.{RetainLoad, RetainStore, RetainAdd, ReleaseLoad, ReleaseStore, DecideAtZero, SharedLoad, SharedExchange, SetMark, Look, TakeMark, MergeSwap, MergeLoad, MergeExchange, Die, Settle, SettleKind, SettleCell, TakeSlot, CloseResource, SettleEnd, Leave, Scan, Finish, ClaimMark, BirthKind, BirthSlot, BirthLocal}
+use Rattle.brc_model.specs.declared.address.Address.{Address}
+use Rattle.brc_model.specs.declared.address.Address.TheVariants.{Gate}
+use Rattle.brc_model.specs.declared.actor.Status.{Status}
+use Rattle.brc_model.specs.declared.actor.Status.TheVariants.{Running, Leaving, Gone}
+use Rattle.brc_model.specs.declared.actor.Place.{Place}
+use Rattle.brc_model.specs.declared.actor.Place.TheVariants.{Departing}
+use Rattle.brc_model.specs.Machine.{Actor, Life, Unborn, Live, Dying, Closed, Machine, first_row}
+use Rattle.brc_model.specs.References.{one_if}
+use Rattle.brc_model.specs.Knowledge.{HeadFits}
+
+-- ---- what is for later
+
+-- The agenda behind its first duty: it settles, and ends the thread's exit where that is taken up.
+-- A leaving thread has still to look through the marks of its used rows from one on.
+abbrev pub Later : ℕ → ℕ → ℕ → Status → Place → List Duty → Type 0
+Later rows t used status place [] = (place ≢ Departing) × (status ≡ Running)
+Later rows t used status place (Settle ∷ rest) = Later rows t used status place rest
+Later rows t used status place (Leave x n ∷ []) =
+    (status ≡ Running) × (place ≡ Departing) × (x ≡ first_row rows t) × (n ≡ used)
+Later rows t used status place (Scan x n ∷ rest) =
+    (status ≡ Leaving) × (first_row rows t ≤ x) × (x + n ≡ first_row rows t + used)
+    × Later rows t used status place rest
+Later rows t used status place (Finish ∷ []) = (status ≡ Leaving) × (place ≡ Departing)
+Later rows t used status place _ = ⊥
+
+-- the first duty too, where it is of these
+abbrev pub Agenda : ℕ → ℕ → ℕ → Status → Place → List Duty → Type 0
+Agenda rows t used status place [] = Later rows t used status place []
+Agenda rows t used status place (Settle ∷ rest) = Later rows t used status place (Settle ∷ rest)
+Agenda rows t used status place (Leave x n ∷ rest) = Later rows t used status place (Leave x n ∷ rest)
+Agenda rows t used status place (Scan x n ∷ rest) = Later rows t used status place (Scan x n ∷ rest)
+Agenda rows t used status place (Finish ∷ rest) = Later rows t used status place (Finish ∷ rest)
+Agenda rows t used status place (d ∷ rest) = Later rows t used status place rest
+
+-- whether a row's mark is still to be looked at by its thread's exit
+abbrev pub scans : ℕ → List Duty → Bool
+scans x [] = false
+scans x (Scan y n ∷ rest) = nat_le y x
+scans x (d ∷ rest) = scans x rest
+
+-- a thread that is gone has nothing to do
+abbrev pub AgendaFits : ℕ → ℕ → Actor → Status → Type 0
+AgendaFits rows t a Gone = (a.agenda ≡ []) × (a.place ≡ Departing) × (a.head ≡ 0)
+AgendaFits rows t a Running = Agenda rows t a.used Running a.place a.agenda
+AgendaFits rows t a Leaving = Agenda rows t a.used Leaving a.place a.agenda
+
+-- ---- when a chain is empty
+
+-- the first duty of an exit stands behind a settling
+abbrev pub Settles : List Duty → Type 0
+Settles [] = Unit {0}
+Settles (Settle ∷ rest) = Unit {0}
+Settles (Leave x k ∷ rest) = ⊥
+Settles (Scan x k ∷ rest) = ⊥
+Settles (Finish ∷ rest) = ⊥
+Settles (d ∷ rest) = Settles rest
+
+-- where it is the first of all, the chain is empty
+abbrev pub IsSettled : ℕ → List Duty → Type 0
+IsSettled head [] = Unit {0}
+IsSettled head (Leave x k ∷ rest) = head ≡ 0
+IsSettled head (Scan x k ∷ rest) = head ≡ 0
+IsSettled head (Finish ∷ rest) = head ≡ 0
+IsSettled head (d ∷ rest) = Settles (d ∷ rest)
+
+-- ---- dying rows
+
+-- the rows that are chained from the head on, each by the gate word of the one before
+abbrev pub Linked : (Address → ℕ) → ℕ → ℕ → List ℕ → Type 0
+Linked memory t head [] = head ≡ 0
+Linked memory t head (x ∷ xs) =
+    (head ≡ x + 1) × ((next : ℕ) × (memory (Gate x) ≡ dying_word t next) × (next < 4294967296)
+    × Linked memory t next xs)
+
+-- the row that is at hand between two steps of its finalising, or before its gate is stored
+abbrev pub at_hand : Duty → ℕ → Bool
+at_hand (Die y) x = y == x
+at_hand (SettleKind y) x = y == x
+at_hand (SettleCell y i n) x = y == x
+at_hand (TakeSlot y) x = y == x
+at_hand (CloseResource y) x = y == x
+at_hand (SettleEnd y) x = y == x
+at_hand _ x = false
+
+abbrev pub hand_of : List Duty → ℕ → Bool
+hand_of [] x = false
+hand_of (d ∷ rest) x = at_hand d x
+
+abbrev pub dies_by : Life → ℕ → Bool
+dies_by (Dying u) t = u == t
+dies_by _ t = false
+
+-- A row's gate is free while the row lives, and says in the end that the row is closed. In between, the thread that
+-- closes the row knows the gate by `HeadFits` and by its chain.
+abbrev pub GateFits : Life → ℕ → Type 0
+GateFits Unborn gate = gate ≡ free_word
+GateFits Live gate = gate ≡ free_word
+GateFits (Dying t) gate = Unit {0}
+GateFits Closed gate = gate ≡ closed_word
+
+pub record ChainFits (m : Machine) (t head : ℕ) (agenda : List Duty) : Type 0 where
+  pub chained : List ℕ
+  pub linked : Linked m.memory t head chained
+  -- each row that dies by the thread is at hand or chained, once
+  pub once : (x : ℕ) → one_if (hand_of agenda x) + count_by (λ y. y == x) chained ≡ one_if (dies_by (m.life x) t)
+
+-- ---- work that is put aside
+
+-- whether a duty is about the row
+abbrev pub is_about : ℕ → Duty → Bool
+is_about x (RetainLoad y h) = y == x
+is_about x (RetainStore y h w) = y == x
+is_about x (RetainAdd y h) = y == x
+is_about x (ReleaseLoad y h) = y == x
+is_about x (ReleaseStore y w) = y == x
+is_about x (DecideAtZero y) = y == x
+is_about x (SharedLoad y r) = y == x
+is_about x (SharedExchange y r w) = y == x
+is_about x (SetMark y) = y == x
+is_about x (Look y) = y == x
+is_about x (TakeMark y) = y == x
+is_about x (MergeSwap y r) = y == x
+is_about x (MergeLoad y c r) = y == x
+is_about x (MergeExchange y c w r) = y == x
+is_about x (Die y) = y == x
+is_about x (SettleKind y) = y == x
+is_about x (SettleCell y i n) = y == x
+is_about x (TakeSlot y) = y == x
+is_about x (CloseResource y) = y == x
+is_about x (SettleEnd y) = y == x
+is_about x (ClaimMark y) = y == x
+is_about x (BirthKind y h w) = y == x
+is_about x (BirthSlot y h) = y == x
+is_about x (BirthLocal y h) = y == x
+is_about x Settle = false
+is_about x (Leave y n) = false
+is_about x (Scan y n) = false
+is_about x Finish = false
+
+abbrev pub about_of : ℕ → List Duty → Bool
+about_of x [] = false
+about_of x (d ∷ rest) = is_about x d
+
+-- Whether a duty may be put aside: it retains, releases, queues or merges. What settles, claims, exits or gives birth
+-- is done in one go.
+abbrev pub may_wait : Duty → Bool
+may_wait (RetainLoad x h) = true
+may_wait (RetainStore x h w) = true
+may_wait (RetainAdd x h) = true
+may_wait (ReleaseLoad x h) = true
+may_wait (ReleaseStore x w) = true
+may_wait (DecideAtZero x) = true
+may_wait (SharedLoad x r) = true
+may_wait (SharedExchange x r w) = true
+may_wait (SetMark x) = true
+may_wait (Look x) = true
+may_wait (TakeMark x) = true
+may_wait (MergeSwap x r) = true
+may_wait (MergeLoad x c r) = true
+may_wait (MergeExchange x c w r) = true
+may_wait _ = false
+
+-- whether a duty may be at hand while others are put aside: these, a row that dies, and a birth
+abbrev pub is_piece : Duty → Bool
+is_piece (Die x) = true
+is_piece (BirthKind x h w) = true
+is_piece (BirthSlot x h) = true
+is_piece (BirthLocal x h) = true
+is_piece d = may_wait d
+
+-- such a duty alone, or none
+abbrev pub IsPiece : List Duty → Type 0
+IsPiece [] = Unit {0}
+IsPiece (d ∷ []) = is_piece d ≡ true
+IsPiece _ = ⊥
+
+-- what is put aside knows what it knows
+abbrev pub AllWait : Machine → ℕ → Actor → List Duty → Type 0
+AllWait m t a [] = Unit {0}
+AllWait m t a (d ∷ rest) = (may_wait d ≡ true) × HeadFits m t a d [] × AllWait m t a rest
+
+-- several pieces of work, each about another row
+pub record AsideFits (m : Machine) (t : ℕ) (a : Actor) : Type 0 where
+  pub waits : AllWait m t a a.aside
+  pub apart : (x : ℕ) → one_if (about_of x a.agenda) + count_by (is_about x) a.aside ≤ 1
+  pub pieces : (a.aside ≡ []) ⊎ IsPiece a.agenda

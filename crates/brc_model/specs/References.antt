@@ -1,0 +1,17 @@
+-- Counting the references in the bag.
+use Rattle.std.specs.Prelude.{ℕ, Bool, if◌then◌else◌, List, count_by}
+use Rattle.brc_model.specs.declared.duty.Holding.{Holding}
+use Rattle.brc_model.specs.Plain.{ByThread, ByCell, Reference, same}
+
+-- how many such references the bag has
+abbrev pub held : Reference → List Reference → ℕ
+held r bag = count_by (same r) bag
+
+abbrev pub one_if : Bool → ℕ
+one_if b = if b then 1 else 0
+
+abbrev pub reference_of : ℕ → Holding → ℕ → Reference
+reference_of t h object = record { holder = ByThread t h; object = object }
+
+abbrev pub cell_reference : ℕ → ℕ → ℕ → Reference
+cell_reference x i object = record { holder = ByCell x i; object = object }
