@@ -11,7 +11,7 @@ use Rattle.brc_lang.specs.declared.module.Module.{Module}
 use Rattle.brc_model.specs.declared.thread.Call.{Call}
 use Rattle.brc_model.specs.declared.thread.Choice.{Choice}
 use Rattle.brc_model.specs.declared.thread.Choice.TheVariants.{Ok as Succeed}
-use Rattle.brc_model.proofs.Lists.{some_within}
+use Rattle.brc_model.proofs.Basics.Lists.{some_within}
 use Rattle.brc_model.specs.Machine.{Actor}
 use Rattle.brc_model.specs.Safety.{has_gone}
 use Rattle.brc_model.specs.World.{World, step, first_world}

@@ -16,7 +16,7 @@ use Rattle.brc_schedule.specs.declared.schedule.Steps.{Steps}
 use Rattle.brc_world.specs.declared.did.Did.{Did}
 use Rattle.brc_world.specs.declared.did.Did.TheVariants as dids
 use Rattle.brc_world.specs.Answers.{is_gone, is_gone_at, IsAnswer}
-use Rattle.brc_model.proofs.Claims.{gone_claims_none}
+use Rattle.brc_model.proofs.Dispatch.Claims.{gone_claims_none}
 use Rattle.brc_world.proofs.Stepping.{after}
 use Rattle.brc_world.specs.Runs.{world_after, events_of_line, events_of, StandsWithin}
 

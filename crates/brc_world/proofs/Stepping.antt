@@ -16,7 +16,7 @@ use Rattle.brc_model.specs.declared.thread.Choice.TheVariants.{Ok, Claim, Fault}
 use Rattle.brc_model.specs.Machine.{Actor, Action, Skip, Stuck, Silent, Does, may_claim, status_action, action_of, of_thread, machine_by}
 use Rattle.brc_model.specs.World.{IsReachable, World, world_of, machine_of, step, row_count}
 use Rattle.brc_model.specs.Within.{IsWithin, StepsWithin}
-use Rattle.brc_model.proofs.Claims.{claimer}
+use Rattle.brc_model.proofs.Dispatch.Claims.{claimer}
 use Rattle.brc_world.specs.Actors.{memory_by, actor_by, finds_mark, memory_claimed, actor_claimed, CanDo, CanAct, CanClaim}
 
 -- the world with other words and another thread

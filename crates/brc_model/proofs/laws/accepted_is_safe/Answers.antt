@@ -1,4 +1,4 @@
-use Rattle.brc_model.proofs.Safe as safe
+use Rattle.brc_model.proofs.Promises.Safe as safe
 use Rattle.brc_model.proofs.laws.accepted_is_safe.Goals as goal
 
 pub returns : goal.returns

@@ -1,4 +1,4 @@
-use Rattle.brc_model.proofs.Births as births
+use Rattle.brc_model.proofs.Promises.Births as births
 use Rattle.brc_model.proofs.row_laws.an_object_is_born_once.Goals as goal
 
 pub returns : goal.returns

@@ -1,4 +1,4 @@
-use Rattle.brc_model.proofs.Births as births
+use Rattle.brc_model.proofs.Promises.Births as births
 use Rattle.brc_model.proofs.row_laws.born_rows_are_there.Goals as goal
 
 pub returns : goal.returns

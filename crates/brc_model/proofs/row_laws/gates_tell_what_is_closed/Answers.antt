@@ -1,4 +1,4 @@
-use Rattle.brc_model.proofs.Gates as gates
+use Rattle.brc_model.proofs.Promises.Gates as gates
 use Rattle.brc_model.proofs.row_laws.gates_tell_what_is_closed.Goals as goal
 
 pub returns : goal.returns

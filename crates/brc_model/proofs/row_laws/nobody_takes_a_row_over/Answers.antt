@@ -1,4 +1,4 @@
-use Rattle.brc_model.proofs.RowLaws as rows
+use Rattle.brc_model.proofs.Promises.RowLaws as rows
 use Rattle.brc_model.proofs.row_laws.nobody_takes_a_row_over.Goals as goal
 
 pub returns : goal.returns

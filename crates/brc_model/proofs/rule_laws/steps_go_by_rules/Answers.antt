@@ -1,4 +1,4 @@
-use Rattle.brc_model.proofs.Rules.{by_rule, computed}
+use Rattle.brc_model.proofs.Promises.Rules.{by_rule, computed}
 use Rattle.brc_model.proofs.rule_laws.steps_go_by_rules.Goals as goal
 
 pub returns-clause-each : goal.returns-clause-each

@@ -1,4 +1,4 @@
-use Rattle.brc_model.proofs.StepsMove.{going_on_moves, claim_moves, claim_misses, claim_stays, gone_stays}
+use Rattle.brc_model.proofs.Promises.StepsMove.{going_on_moves, claim_moves, claim_misses, claim_stays, gone_stays}
 use Rattle.brc_model.proofs.world_laws.steps_move.Goals as goal
 
 pub returns-clause-goes_on : goal.returns-clause-goes_on

@@ -1,4 +1,4 @@
-use Rattle.brc_model.proofs.Trail as trail
+use Rattle.brc_model.proofs.Promises.Trail as trail
 use Rattle.brc_model.proofs.world_laws.threads_make_their_trails.Goals as goal
 
 pub returns : goal.returns

@@ -1,4 +1,4 @@
-use Rattle.brc_model.proofs.StepsAreWithin as within
+use Rattle.brc_model.proofs.Limits.StepsAreWithin as within
 use Rattle.brc_model.proofs.world_laws.worlds_are_small.Goals as goal
 
 pub returns-clause-functions : goal.returns-clause-functions

@@ -1,4 +1,4 @@
-use Rattle.brc_model.proofs.Worlds as worlds
+use Rattle.brc_model.proofs.Promises.Worlds as worlds
 use Rattle.brc_model.proofs.world_laws.worlds_follow_machines.Goals as goal
 
 pub returns : goal.returns

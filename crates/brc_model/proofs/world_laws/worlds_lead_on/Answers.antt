@@ -1,4 +1,4 @@
-use Rattle.brc_model.proofs.Worlds as worlds
+use Rattle.brc_model.proofs.Promises.Worlds as worlds
 use Rattle.brc_model.proofs.world_laws.worlds_lead_on.Goals as goal
 
 pub returns-clause-first : goal.returns-clause-first

@@ -1,0 +1,62 @@
+-- One word is written, and the others stay.
+use Rattle.std.proofs.Common.{◌≡◌, ℕ, Bool, true, false, cond, refl, ap, ◌∙◌}
+use Rattle.std.specs.Prelude.{◌==◌, ◌&&◌}
+use Rattle.std.proofs.lemmas.Bool.{eqb-true, eq-eqb, ne_eqb}
+use Rattle.brc_model.specs.declared.address.Address.{Address}
+use Rattle.brc_model.specs.declared.address.Address.TheVariants.{Local, Shared, Gate, KindOf, Mark, Cell, Slot, Resource, ThreadWord}
+use Rattle.brc_model.specs.Machine.{same_address, written}
+use Rattle.brc_model.proofs.Basics.Lists.{and_first, and_second}
+
+same_address-true : (a b : Address) → same_address a b ≡ true → a ≡ b
+same_address-true (Local x) (Local y) e = ap Local (eqb-true x y e)
+same_address-true (Shared x) (Shared y) e = ap Shared (eqb-true x y e)
+same_address-true (Gate x) (Gate y) e = ap Gate (eqb-true x y e)
+same_address-true (KindOf x) (KindOf y) e = ap KindOf (eqb-true x y e)
+same_address-true (Mark x) (Mark y) e = ap Mark (eqb-true x y e)
+same_address-true (Cell x i) (Cell y j) e =
+    λ k. Cell (eqb-true x y (and_first (x == y) (i == j) e) k) (eqb-true i j (and_second (x == y) (i == j) e) k)
+same_address-true (Slot x) (Slot y) e = ap Slot (eqb-true x y e)
+same_address-true (Resource x) (Resource y) e = ap Resource (eqb-true x y e)
+same_address-true (ThreadWord x) (ThreadWord y) e = ap ThreadWord (eqb-true x y e)
+same_address-true _ _ e = absurd cc
+
+same_address-refl : (a : Address) → same_address a a ≡ true
+same_address-refl (Local x) = eq-eqb x x refl
+same_address-refl (Shared x) = eq-eqb x x refl
+same_address-refl (Gate x) = eq-eqb x x refl
+same_address-refl (KindOf x) = eq-eqb x x refl
+same_address-refl (Mark x) = eq-eqb x x refl
+same_address-refl (Cell x i) = ap (λ (b : Bool). b && (i == i)) (eq-eqb x x refl) ∙ eq-eqb i i refl
+same_address-refl (Slot x) = eq-eqb x x refl
+same_address-refl (Resource x) = eq-eqb x x refl
+same_address-refl (ThreadWord x) = eq-eqb x x refl
+
+pub written_here : (memory : Address → ℕ) (a : Address) (v : ℕ) → written memory a v a ≡ v
+written_here memory a v = ap (λ (b : Bool). cond b v (memory a)) (same_address-refl a)
+
+pub written_apart : (memory : Address → ℕ) (a b : Address) (v : ℕ) → same_address a b ≡ false
+    → written memory a v b ≡ memory b
+written_apart memory a b v apart = ap (λ (t : Bool). cond t v (memory b)) apart
+
+-- a load writes what it found
+pub written_load : (memory : Address → ℕ) (a b : Address) → written memory a (memory a) b ≡ memory b
+written_load memory a b =
+    elim (same_address a b) as (λ t. same_address a b ≡ t → cond t (memory a) (memory b) ≡ memory b) [
+      | true ↦ λ e. ap memory (same_address-true a b e)
+      | false ↦ λ e. refl
+    ] refl
+
+pub apart_local : (x y : ℕ) → (x ≡ y → ⊥) → same_address (Local x) (Local y) ≡ false
+apart_local x y ne = ne_eqb x y ne
+
+pub apart_shared : (x y : ℕ) → (x ≡ y → ⊥) → same_address (Shared x) (Shared y) ≡ false
+apart_shared x y ne = ne_eqb x y ne
+
+pub apart_gate : (x y : ℕ) → (x ≡ y → ⊥) → same_address (Gate x) (Gate y) ≡ false
+apart_gate x y ne = ne_eqb x y ne
+
+pub apart_mark : (x y : ℕ) → (x ≡ y → ⊥) → same_address (Mark x) (Mark y) ≡ false
+apart_mark x y ne = ne_eqb x y ne
+
+pub apart_thread : (x y : ℕ) → (x ≡ y → ⊥) → same_address (ThreadWord x) (ThreadWord y) ≡ false
+apart_thread x y ne = ne_eqb x y ne

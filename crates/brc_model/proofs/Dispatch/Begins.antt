@@ -1,0 +1,230 @@
+-- What a thread takes up with its next step: its agenda then fits the place where it will stand.
+use Rattle.std.proofs.Common.{◌≡◌, ◌≢◌, ℕ, ◌+◌, ◌<◌, Bool, true, false, List, [], ◌∷◌, inl, inr, length, Option, None, Some, refl, sym, ap, ◌∙◌, subst, arith, ◌≤◌}
+use Rattle.std.specs.Prelude.{◌==◌, ◌&&◌, slice_set}
+use Rattle.std.specs.List.{list_any}
+use Rattle.std.proofs.lemmas.Bool.{eq-eqb}
+use Rattle.std.proofs.lemmas.Bool.Decides.{eqb_tells}
+use Rattle.brc_lang.specs.declared.module.Instr.{Instr}
+use Rattle.brc_model.specs.declared.slot.Slot.{Slot}
+use Rattle.brc_model.specs.declared.slot.Slot.TheVariants.{Empty}
+use Rattle.brc_model.specs.declared.slot.State.{State}
+use Rattle.brc_model.specs.Slots.{slot_of, is_owned, names, put}
+use Rattle.brc_model.specs.declared.duty.Holding.{Holding}
+use Rattle.brc_model.specs.declared.duty.Holding.TheVariants.{ByVariable, AsCaller, InHand}
+use Rattle.brc_model.specs.Plain.{Reference, same_holding, references_to, none_row, same, Move, moved}
+use Rattle.brc_model.specs.Threads.{row_of}
+use Rattle.brc_model.specs.declared.duty.Duty.{Duty}
+use Rattle.brc_model.specs.declared.duty.Duty.TheVariants.{RetainLoad, ReleaseLoad, Settle, Leave, BirthKind}
+use Rattle.brc_model.specs.declared.actor.Place.{Place}
+use Rattle.brc_model.specs.declared.actor.Place.TheVariants.{Standing, Inside, Departing}
+use Rattle.brc_model.specs.Machine.{Action, Skip, Stuck, Silent, Does, with_row, first_row, block_size, next_row, gain, pass_on}
+use Rattle.brc_model.specs.References.{held, one_if, reference_of}
+use Rattle.brc_model.proofs.Basics.Lists.{none_at}
+use Rattle.brc_model.proofs.Dispatch.Holds.{the_root, of_variables, Holds}
+use Rattle.brc_model.proofs.Dispatch.Grounded.{slot_of-put_same, slot_of-put_other, row_of-set_same, row_of-set_other}
+use Rattle.brc_model.proofs.Stepping.OwnCounts.{flip_eqb}
+use Rattle.brc_model.proofs.Frame.Aside.{HoldsAlone}
+use Rattle.brc_model.proofs.Dispatch.Coded.{once_each, PlaceFits}
+use Rattle.brc_model.specs.Duties.{cells_of}
+use Rattle.brc_lang.specs.declared.kind.Kind.TheVariants as kinds
+use Rattle.brc_model.specs.Kinds.{kind_of_word, is_counted_kind}
+
+-- ---- nothing is at hand
+
+pub holds_plain : (bag : List Reference) (t : ℕ) (says : Holding → ℕ → Bool) → HoldsAlone bag t (once_each says) []
+    → Holds bag t says
+holds_plain bag t says holds = record { each = λ k object. omega (arith, holds.each k object) }
+
+pub holds_at_none : (bag : List Reference) (t : ℕ) (says : Holding → ℕ → Bool) → Holds bag t says
+    → HoldsAlone bag t (once_each says) []
+holds_at_none bag t says holds = record { each = λ k object. omega (arith, holds.each k object) }
+
+-- ---- what is taken up
+
+-- the first duty gives up a reference that is held, makes one of an object that is referenced, or begins the next row's
+-- birth
+pub data Starts (bag : List Reference) (rows t used : ℕ) : Duty → List Duty → Type 0 where
+  Gives : (row : ℕ) (h : Holding) (rest : List Duty) → 0 < references_to row bag
+      → Starts bag rows t used (ReleaseLoad row h) rest
+  Takes : (row : ℕ) (h by : Holding) (rest : List Duty) → 0 < held (reference_of t by row) bag
+      → Starts bag rows t used (RetainLoad row h) rest
+  Bears : (h : Holding) (w : ℕ) → used < block_size rows t → cells_of w ≤ 8 → is_counted_kind (kind_of_word w) ≡ true
+      → Starts bag rows t used (BirthKind (next_row rows t used) h w) []
+
+-- the duties behind it settle, and leave where the thread is to leave
+pub data Follows (rows t used : ℕ) (place : Place) : List Duty → Type 0 where
+  Nothing : (place ≢ Departing) → Follows rows t used place []
+  Settles : (place ≢ Departing) → Follows rows t used place (Settle ∷ [])
+  Leaves : (place ≡ Departing) → Follows rows t used place (Settle ∷ Leave (first_row rows t) used ∷ [])
+
+pub record Taken (code : List Instr) (bag : List Reference) (rows t used : ℕ) (place : Place) (d : Duty)
+    (rest : List Duty) : Type 0 where
+  pub placed : PlaceFits code bag t (d ∷ rest) place
+  pub starts : Starts bag rows t used d rest
+  pub follows : Follows rows t used place rest
+
+-- a quiet step moves nothing, gains a reference to none, or hands one on from one of the thread's holders to another
+pub data QuietMoves (bag : List Reference) (t : ℕ) : List Move → Type 0 where
+  Stays : QuietMoves bag t []
+  GainsNone : (h : Holding) → QuietMoves bag t (gain t h none_row)
+  HandsOn : (from to : Holding) (x : ℕ) → list_any (same (reference_of t from x)) bag ≡ true
+      → QuietMoves bag t (pass_on t from to x)
+
+-- the bag after the moves
+abbrev pub bag_after : List Reference → List Move → List Reference
+bag_after bag moves =
+    (moved (record { references = bag; born = []; closed = []; kinds = λ x. kinds.Any }) moves).references
+
+pub record QuietTaken (code : List Instr) (bag : List Reference) (t : ℕ) (moves : List Move) (place : Place) : Type 0
+  where
+    pub moves_fit : QuietMoves bag t moves
+    pub placed : PlaceFits code (bag_after bag moves) t [] place
+    pub stays : place ≢ Departing
+
+abbrev pub IsTaken : List Instr → List Reference → ℕ → ℕ → ℕ → Action → Type 0
+IsTaken code bag rows t used Skip = ⊥
+IsTaken code bag rows t used Stuck = ⊥
+IsTaken code bag rows t used (Silent moves place) = QuietTaken code bag t moves place
+IsTaken code bag rows t used (Does d rest place) = Taken code bag rows t used place d rest
+
+pub taken_with_row : (code : List Instr) (bag : List Reference) (rows t used object : ℕ) (row : Option ℕ)
+    (work : ℕ → Action)
+    → row ≡ Some object → IsTaken code bag rows t used (work object)
+    → IsTaken code bag rows t used (with_row row work)
+taken_with_row code bag rows t used object row work is taken =
+    subst (λ (o : Option ℕ). IsTaken code bag rows t used (with_row o work)) (sym is) taken
+
+pub standing_stays : (left : ℕ) → Standing left ≢ Departing
+standing_stays left e = cc
+
+pub inside_stays : (left at : ℕ) (variables : List (Option ℕ)) → Inside left at variables ≢ Departing
+inside_stays left at variables e = cc
+
+-- ---- what is held, with one reference more or less
+
+abbrev by_variable : Slot → Option ℕ → ℕ → ℕ
+by_variable slot row object = one_if (is_owned slot && names row object)
+
+-- the destination lacks its new reference
+pub newref_held : (bag : List Reference) (t : ℕ) (s : State) (variables : List (Option ℕ)) (to row : ℕ) (slot : Slot)
+    → to < length s.slots → to < length variables → is_owned (slot_of s to) ≡ false
+    → is_owned slot ≡ true → Holds bag t (of_variables s variables)
+    → (k : Holding) (object : ℕ)
+    → held (reference_of t k object) bag + one_if (same_holding (ByVariable to) k && (row == object))
+    ≡ one_if (of_variables (put s to slot) (slice_set variables to (Some row)) k object) + 0
+newref_held bag t s variables to row slot in_slots in_rows free owned holds AsCaller object =
+    omega (arith, holds.each AsCaller object)
+newref_held bag t s variables to row slot in_slots in_rows free owned holds InHand object =
+    omega (arith, holds.each InHand object)
+newref_held bag t s variables to row slot in_slots in_rows free owned holds (ByVariable v) object =
+    elim (eqb_tells to v) [
+      | inl this ↦
+          let P : ℕ
+          → Type 0 = λ w. held (reference_of t (ByVariable w) object) bag + one_if ((to == w) && (row == object))
+          ≡ one_if (of_variables (put s to slot) (slice_set variables to (Some row)) (ByVariable w) object)
+          + 0 in
+          let before : held (reference_of t (ByVariable to) object) bag ≡ 0 =
+          holds.each (ByVariable to) object
+          ∙ ap (λ (b : Bool). one_if (b && names (row_of variables to) object)) free in
+          let more : one_if ((to == to) && (row == object)) ≡ one_if (row == object) =
+          ap (λ (b : Bool). one_if (b && (row == object))) (eq-eqb to to refl) in
+          let said : by_variable (slot_of (put s to slot) to) (row_of (slice_set variables to (Some row)) to) object
+          ≡ one_if (object == row) =
+          ap (λ (x : Slot). by_variable x (row_of (slice_set variables to (Some row)) to) object)
+          (slot_of-put_same s to slot in_slots)
+          ∙ ap (λ (b : Bool). one_if (b && names (row_of (slice_set variables to (Some row)) to) object)) owned
+          ∙ ap (λ (x : Option ℕ). one_if (names x object)) (row_of-set_same variables to (Some row) in_rows) in
+          let flipped : one_if (object == row) ≡ one_if (row == object) = ap one_if (flip_eqb object row) in
+          subst P this.1 (omega (arith, before, more, said, flipped))
+      | inr other ↦
+          let none : one_if ((to == v) && (row == object)) ≡ 0 =
+          ap (λ (b : Bool). one_if (b && (row == object))) other.0 in
+          let apart : v ≢ to = λ e. other.1 (sym e) in
+          let said : by_variable (slot_of (put s to slot) v) (row_of (slice_set variables to (Some row)) v) object
+          ≡ by_variable (slot_of s v) (row_of variables v) object =
+          ap (λ (x : Slot). by_variable x (row_of (slice_set variables to (Some row)) v) object)
+          (slot_of-put_other s to v slot apart)
+          ∙ ap (λ (x : Option ℕ). by_variable (slot_of s v) x object)
+          (row_of-set_other variables to v (Some row) apart) in
+          omega (arith, holds.each (ByVariable v) object, none, said)
+    ]
+
+-- the variable that is emptied has its reference more than the place says
+pub emptied_held : (bag : List Reference) (t : ℕ) (s : State) (variables : List (Option ℕ)) (from row : ℕ)
+    → from < length s.slots → is_owned (slot_of s from) ≡ true → row_of variables from ≡ Some row
+    → Holds bag t (of_variables s variables)
+    → (k : Holding) (object : ℕ)
+    → held (reference_of t k object) bag + 0
+    ≡ one_if (of_variables (put s from Empty) (slice_set variables from None) k object)
+    + one_if (same_holding (ByVariable from) k && (row == object))
+emptied_held bag t s variables from row in_slots owned is holds AsCaller object =
+    omega (arith, holds.each AsCaller object)
+emptied_held bag t s variables from row in_slots owned is holds InHand object = omega (arith, holds.each InHand object)
+emptied_held bag t s variables from row in_slots owned is holds (ByVariable v) object =
+    elim (eqb_tells from v) [
+      | inl this ↦
+          let P : ℕ
+          → Type 0 = λ w. held (reference_of t (ByVariable w) object) bag + 0
+          ≡ one_if (of_variables (put s from Empty) (slice_set variables from None) (ByVariable w) object)
+          + one_if ((from == w) && (row == object)) in
+          let before : held (reference_of t (ByVariable from) object) bag ≡ one_if (object == row) =
+          holds.each (ByVariable from) object
+          ∙ ap (λ (b : Bool). one_if (b && names (row_of variables from) object)) owned
+          ∙ ap (λ (o : Option ℕ). one_if (names o object)) is in
+          let more : one_if ((from == from) && (row == object)) ≡ one_if (row == object) =
+          ap (λ (b : Bool). one_if (b && (row == object))) (eq-eqb from from refl) in
+          let said : by_variable (slot_of (put s from Empty) from) (row_of (slice_set variables from None) from) object
+          ≡ 0 =
+          ap (λ (x : Slot). by_variable x (row_of (slice_set variables from None) from) object)
+          (slot_of-put_same s from Empty in_slots) in
+          let flipped : one_if (object == row) ≡ one_if (row == object) = ap one_if (flip_eqb object row) in
+          subst P this.1 (omega (arith, before, more, said, flipped))
+      | inr other ↦
+          let none : one_if ((from == v) && (row == object)) ≡ 0 =
+          ap (λ (b : Bool). one_if (b && (row == object))) other.0 in
+          let apart : v ≢ from = λ e. other.1 (sym e) in
+          let said : by_variable (slot_of (put s from Empty) v) (row_of (slice_set variables from None) v) object
+          ≡ by_variable (slot_of s v) (row_of variables v) object =
+          ap (λ (x : Slot). by_variable x (row_of (slice_set variables from None) v) object)
+          (slot_of-put_other s from v Empty apart)
+          ∙ ap (λ (x : Option ℕ). by_variable (slot_of s v) x object) (row_of-set_other variables from v None apart) in
+          omega (arith, holds.each (ByVariable v) object, none, said)
+    ]
+
+-- where no slot owns but the one that is emptied, the call is over
+pub ended_says : (s : State) (variables : List (Option ℕ)) (k : Holding) (object : ℕ)
+    → list_any is_owned s.slots ≡ false → of_variables s variables k object ≡ the_root k object
+ended_says s variables AsCaller object none = refl
+ended_says s variables InHand object none = refl
+ended_says s variables (ByVariable v) object none =
+    ap (λ (b : Bool). b && names (row_of variables v) object) (none_at is_owned s.slots v Empty none refl)
+
+-- a variable that owns nothing holds nothing once it is emptied either
+pub cleared_held : (bag : List Reference) (t : ℕ) (s : State) (variables : List (Option ℕ)) (to : ℕ)
+    → to < length s.slots → is_owned (slot_of s to) ≡ false → Holds bag t (of_variables s variables)
+    → (k : Holding) (object : ℕ)
+    → held (reference_of t k object) bag ≡ one_if (of_variables (put s to Empty) (slice_set variables to None) k object)
+cleared_held bag t s variables to in_slots free holds AsCaller object = holds.each AsCaller object
+cleared_held bag t s variables to in_slots free holds InHand object = holds.each InHand object
+cleared_held bag t s variables to in_slots free holds (ByVariable v) object =
+    elim (eqb_tells to v) [
+      | inl this ↦
+          let P : ℕ
+          → Type 0 = λ w. held (reference_of t (ByVariable w) object) bag
+          ≡ one_if (of_variables (put s to Empty) (slice_set variables to None) (ByVariable w) object) in
+          let before : held (reference_of t (ByVariable to) object) bag ≡ 0 =
+          holds.each (ByVariable to) object
+          ∙ ap (λ (b : Bool). one_if (b && names (row_of variables to) object)) free in
+          let said : by_variable (slot_of (put s to Empty) to) (row_of (slice_set variables to None) to) object ≡ 0 =
+          ap (λ (x : Slot). by_variable x (row_of (slice_set variables to None) to) object)
+          (slot_of-put_same s to Empty in_slots) in
+          subst P this.1 (before ∙ sym said)
+      | inr other ↦
+          let apart : v ≢ to = λ e. other.1 (sym e) in
+          let said : by_variable (slot_of (put s to Empty) v) (row_of (slice_set variables to None) v) object
+          ≡ by_variable (slot_of s v) (row_of variables v) object =
+          ap (λ (x : Slot). by_variable x (row_of (slice_set variables to None) v) object)
+          (slot_of-put_other s to v Empty apart)
+          ∙ ap (λ (x : Option ℕ). by_variable (slot_of s v) x object) (row_of-set_other variables to v None apart) in
+          holds.each (ByVariable v) object ∙ sym said
+    ]

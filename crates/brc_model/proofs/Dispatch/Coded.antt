@@ -1,0 +1,127 @@
+-- Where a thread of accepted code stands: its account is what its place says. The step world has this layer on top of
+-- what the rule says of any thread.
+use Rattle.std.proofs.Common.{◌≡◌, ℕ, ◌≤◌, Bool, true, false, List, [], Option, length, refl, sym, ap, subst, arith}
+use Rattle.std.specs.Prelude.{◌==◌, ◌&&◌, slice_get}
+use Rattle.std.proofs.lemmas.List.{get_or_past}
+use Rattle.brc_model.specs.declared.slot.Slot.TheVariants.{Empty}
+use Rattle.brc_model.specs.Slots.{slot_of, is_owned, names}
+use Rattle.brc_model.specs.Plain.{root_row}
+use Rattle.brc_model.specs.Threads.{row_of}
+use Rattle.brc_lang.specs.declared.module.Instr.{Instr}
+use Rattle.brc_lang.specs.declared.module.Module.{Module}
+use Rattle.brc_model.specs.declared.slot.State.{State}
+use Rattle.brc_model.specs.Walks.{IsAcceptableCode}
+use Rattle.brc_model.specs.declared.duty.Holding.{Holding}
+use Rattle.brc_model.specs.Plain.{Reference}
+use Rattle.brc_model.specs.Threads.{code_of}
+use Rattle.brc_model.specs.declared.duty.Duty.{Duty}
+use Rattle.brc_model.specs.declared.actor.Place.{Place}
+use Rattle.brc_model.specs.declared.actor.Place.TheVariants.{Standing, Inside, Departing}
+use Rattle.brc_model.specs.Machine.{Actor}
+use Rattle.brc_model.specs.References.{one_if}
+use Rattle.brc_model.specs.Accounts.{Account, HoldsNone, IsBounded}
+use Rattle.brc_model.proofs.Dispatch.Holds.{nothing, the_root, of_variables}
+use Rattle.brc_model.proofs.Dispatch.Grounded.{IsInside, AreInstructions}
+use Rattle.brc_model.proofs.Frame.Aside.{HoldsAlone}
+
+-- the account of a thread that holds just these references, each once
+abbrev pub once_each : (Holding → ℕ → Bool) → Account
+once_each holds k object = one_if (holds k object)
+
+-- what the thread's account is where it stands when its agenda is done
+abbrev pub PlaceSays : List Instr → Place → Account → Type 0
+PlaceSays code (Standing left) account = account ≡ once_each the_root
+PlaceSays code (Inside left at variables) account =
+    (s : State) × IsInside code at variables s × (account ≡ once_each (of_variables s variables))
+PlaceSays code Departing account = account ≡ once_each nothing
+
+pub record InCode (p : Module) (a : Actor) (account : Account) : Type 0 where
+  -- code does one piece of work at a time
+  pub alone : a.aside ≡ []
+  pub accepted : IsAcceptableCode (code_of (slice_get p.functions a.function))
+  pub instructions : AreInstructions (code_of (slice_get p.functions a.function))
+  pub says : PlaceSays (code_of (slice_get p.functions a.function)) a.place account
+
+-- ---- what the thread holds
+
+-- the bag has just what the place says
+abbrev pub PlaceFits : List Instr → List Reference → ℕ → List Duty → Place → Type 0
+PlaceFits code bag t agenda (Standing left) = HoldsAlone bag t (once_each the_root) agenda
+PlaceFits code bag t agenda (Inside left at variables) =
+    (s : State) × IsInside code at variables s × HoldsAlone bag t (once_each (of_variables s variables)) agenda
+PlaceFits code bag t agenda Departing = HoldsAlone bag t (once_each nothing) agenda
+
+pub place_fits : (code : List Instr) (bag : List Reference) (t : ℕ) (agenda : List Duty) (place : Place)
+    (account : Account)
+    → PlaceSays code place account → HoldsAlone bag t account agenda → PlaceFits code bag t agenda place
+place_fits code bag t agenda (Standing left) account says holds =
+    subst (λ (c : Account). HoldsAlone bag t c agenda) says holds
+place_fits code bag t agenda (Inside left at variables) account says holds =
+    (says.0, says.1, subst (λ (c : Account). HoldsAlone bag t c agenda) says.2 holds)
+place_fits code bag t agenda Departing account says holds =
+    subst (λ (c : Account). HoldsAlone bag t c agenda) says holds
+
+-- the account that a place gives
+pub record Placed (code : List Instr) (bag : List Reference) (t : ℕ) (agenda : List Duty) (place : Place) : Type 0 where
+  pub account : Account
+  pub says : PlaceSays code place account
+  pub holds : HoldsAlone bag t account agenda
+
+pub placed_by : (code : List Instr) (bag : List Reference) (t : ℕ) (agenda : List Duty) (place : Place)
+    → PlaceFits code bag t agenda place → Placed code bag t agenda place
+placed_by code bag t agenda (Standing left) fits = record { account = once_each the_root; says = refl; holds = fits }
+placed_by code bag t agenda (Inside left at variables) fits =
+    record { account = once_each (of_variables fits.0 variables); says = (fits.0, fits.1, refl); holds = fits.2 }
+placed_by code bag t agenda Departing fits = record { account = once_each nothing; says = refl; holds = fits }
+
+-- who departs holds nothing
+pub departed_none : (code : List Instr) (place : Place) (account : Account) → PlaceSays code place account
+    → place ≡ Departing → HoldsNone account
+departed_none code (Standing left) account says e k object =
+    absurd (let wrong : Standing left ≡ Departing = e in cc)
+departed_none code (Inside left at variables) account says e k object =
+    absurd (let wrong : Inside left at variables ≡ Departing = e in cc)
+departed_none code Departing account says e k object = ap (λ (c : Account). c k object) says
+
+-- ---- how much the thread holds
+
+one_at_most : (b : Bool) → one_if b ≤ 1
+one_at_most true = omega arith
+one_at_most false = omega arith
+
+pub root_bounded : IsBounded (once_each the_root)
+root_bounded = record {
+  by_variable = λ v object. omega arith;
+  sixteen = λ v object past. refl;
+  lent = λ object. omega (arith, one_at_most (object == root_row));
+  in_hand = λ object. refl;
+}
+
+nothing_bounded : IsBounded (once_each nothing)
+nothing_bounded = record {
+  by_variable = λ v object. omega arith;
+  sixteen = λ v object past. refl;
+  lent = λ object. omega arith;
+  in_hand = λ object. refl;
+}
+
+-- only the sixteen variables own
+past_owns_none : (s : State) (v : ℕ) → length s.slots ≡ 16 → 16 ≤ v → is_owned (slot_of s v) ≡ false
+past_owns_none s v slots past = ap is_owned (get_or_past s.slots v Empty (omega (arith, slots, past)))
+
+variables_bounded : (s : State) (variables : List (Option ℕ)) → length s.slots ≡ 16
+    → IsBounded (once_each (of_variables s variables))
+variables_bounded s variables slots = record {
+  by_variable = λ v object. one_at_most (is_owned (slot_of s v) && names (row_of variables v) object);
+  sixteen = λ v object past.
+      ap (λ (b : Bool). one_if (b && names (row_of variables v) object)) (past_owns_none s v slots past);
+  lent = λ object. omega (arith, one_at_most (object == root_row));
+  in_hand = λ object. refl;
+}
+
+pub says_bounded : (code : List Instr) (place : Place) (account : Account) → PlaceSays code place account
+    → IsBounded account
+says_bounded code (Standing left) account says = subst IsBounded (sym says) root_bounded
+says_bounded code (Inside left at variables) account says =
+    subst IsBounded (sym says.2) (variables_bounded says.0 variables says.1.slots)
+says_bounded code Departing account says = subst IsBounded (sym says) nothing_bounded

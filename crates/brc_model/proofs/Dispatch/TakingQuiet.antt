@@ -1,0 +1,175 @@
+-- In accepted code an instruction that changes no word is fit to be taken up: none, move and goto.
+use Rattle.std.proofs.Common.{◌≡◌, ℕ, ◌+◌, ◌<◌, true, false, List, [], ◌∷◌, ◌++◌, length, Option, None, Some, refl, ap, ◌∙◌, arith, Bool, inl, inr}
+use Rattle.std.specs.Prelude.{◌==◌, ◌&&◌, slice_set}
+use Rattle.std.specs.List.{list_any}
+use Rattle.std.proofs.lemmas.List.{length-set}
+use Rattle.brc_lang.specs.declared.module.Instr.{Instr}
+use Rattle.brc_lang.specs.declared.module.Instr.TheVariants.{NoneObject, Move as MoveReference, Goto}
+use Rattle.brc_lang.specs.declared.kind.Kind.TheVariants as kinds
+use Rattle.brc_model.specs.declared.slot.Slot.{Slot}
+use Rattle.brc_model.specs.declared.slot.Slot.TheVariants.{Empty, Owned}
+use Rattle.brc_model.specs.declared.slot.State.{State}
+use Rattle.brc_model.specs.declared.slot.Exit.TheVariants.{Success}
+use Rattle.brc_model.specs.Slots.{slot_of, is_owned, kind_of, put}
+use Rattle.brc_model.specs.declared.duty.Holding.{Holding}
+use Rattle.brc_model.specs.declared.duty.Holding.TheVariants.{ByVariable}
+use Rattle.brc_model.specs.Plain.{Reference, same_holding, none_row, same, without}
+use Rattle.brc_model.specs.Threads.{row_of}
+use Rattle.brc_model.specs.declared.actor.Place.TheVariants.{Inside}
+use Rattle.brc_model.specs.Machine.{dispatch_instruction, Silent, gain, pass_on}
+use Rattle.brc_model.proofs.Basics.Bag.{held_has, held-without, held-cons}
+use Rattle.brc_model.specs.References.{held, one_if, reference_of}
+use Rattle.brc_model.proofs.Basics.Lists.{first_false}
+use Rattle.brc_model.proofs.Dispatch.Holds.{of_variables, Holds, owned_has}
+use Rattle.brc_model.proofs.Dispatch.Grounded.{IsInside, owned_slot, owned_row, grounded-put, StandsAt, slot_of-put_same, slot_of-put_other}
+use Rattle.brc_model.proofs.Stepping.OwnCounts.{same_is}
+use Rattle.brc_model.proofs.Dispatch.Begins.{holds_at_none, IsTaken, taken_with_row, inside_stays, newref_held, emptied_held, Stays, GainsNone, HandsOn, QuietTaken}
+use Rattle.std.proofs.lemmas.Bool.Decides.{eqb_tells}
+
+-- what lacked one reference has it
+pub gained_holds : (bag : List Reference) (t to row : ℕ) (says : Holding → ℕ → Bool)
+    → ((k : Holding) (object : ℕ) → held (reference_of t k object) bag
+    + one_if (same_holding (ByVariable to) k && (row == object)) ≡ one_if (says k object) + 0)
+    → (k : Holding) (object : ℕ)
+    → held (reference_of t k object) (reference_of t (ByVariable to) row ∷ bag) ≡ one_if (says k object)
+gained_holds bag t to row says lacks k object =
+    let r = reference_of t k object in
+    let one : one_if (same r (reference_of t (ByVariable to) row))
+    ≡ one_if (same_holding (ByVariable to) k && (row == object)) =
+    ap one_if (same_is t row (ByVariable to) k object) in
+    omega (arith, lacks k object, held-cons r (reference_of t (ByVariable to) row) bag, one)
+
+-- ---- none
+
+pub none_taken : (code : List Instr) (bag : List Reference) (rows t used left at : ℕ) (variables : List (Option ℕ))
+    (s : State) (to : ℕ)
+    → StandsAt code bag t at variables s (NoneObject to)
+    → IsTaken code bag rows t used (dispatch_instruction rows t used left at variables (Some (NoneObject to)))
+none_taken code bag rows t used left at variables s to here =
+    let slot : Slot = Owned kinds.None in
+    let free : is_owned (slot_of s to) ≡ false = first_false _ _ here.met.free in
+    let in_slots : to < length s.slots = omega (arith, here.variables, here.inside.slots) in
+    let in_rows : to < length variables = omega (arith, here.variables, here.inside.rows) in
+    let next : IsInside code (at + 1) (slice_set variables to (Some none_row)) (put s to slot) = record {
+      exits = here.inside.exits ++ Success ∷ [];
+      walked = here.leads Success (at + 1) refl;
+      slots = length-set s.slots to slot ∙ here.inside.slots;
+      rows = length-set variables to (Some none_row) ∙ here.inside.rows;
+      grounded =
+          grounded-put s variables to slot (Some none_row) in_slots in_rows (none_row, refl) here.inside.grounded;
+    } in
+    let holds : Holds (reference_of t (ByVariable to) none_row ∷ bag) t
+    (of_variables (put s to slot) (slice_set variables to (Some none_row))) =
+    record {
+      each = gained_holds bag t to none_row _
+          (newref_held bag t s variables to none_row slot in_slots in_rows free refl here.holds);
+    } in
+    let taken : QuietTaken code bag t (gain t (ByVariable to) none_row)
+    (Inside left (at + 1) (slice_set variables to (Some none_row))) =
+    record {
+      moves_fit = GainsNone (ByVariable to);
+      placed = (put s to slot, next, holds_at_none _ t _ holds);
+      stays = inside_stays left (at + 1) (slice_set variables to (Some none_row));
+    } in
+    taken
+
+-- ---- a reference is handed on
+
+-- the reference that a variable owns is lost, and the variable emptied
+lost_holds : (bag : List Reference) (t : ℕ) (s : State) (variables : List (Option ℕ)) (from row : ℕ)
+    → from < length s.slots → is_owned (slot_of s from) ≡ true → row_of variables from ≡ Some row
+    → Holds bag t (of_variables s variables)
+    → list_any (same (reference_of t (ByVariable from) row)) bag ≡ true
+    → Holds (without (reference_of t (ByVariable from) row) bag) t
+    (of_variables (put s from Empty) (slice_set variables from None))
+lost_holds bag t s variables from row in_slots owned is holds has = record {
+  each = λ k object.
+      let r = reference_of t k object in
+      let one : one_if (same r (reference_of t (ByVariable from) row))
+      ≡ one_if (same_holding (ByVariable from) k && (row == object)) =
+      ap one_if (same_is t row (ByVariable from) k object) in
+      omega (
+        arith,
+        emptied_held bag t s variables from row in_slots owned is holds k object,
+        held-without r (reference_of t (ByVariable from) row) bag has,
+        one,
+      );
+}
+
+still_free : (s : State) (from to : ℕ) → from < length s.slots → is_owned (slot_of s to) ≡ false
+    → is_owned (slot_of (put s from Empty) to) ≡ false
+still_free s from to in_slots free =
+    elim (eqb_tells to from) [
+      | inl this ↦
+          ap (λ (x : ℕ). is_owned (slot_of (put s from Empty) x)) this.1
+          ∙ ap is_owned (slot_of-put_same s from Empty in_slots)
+      | inr other ↦ ap is_owned (slot_of-put_other s from to Empty other.1) ∙ free
+    ]
+
+pub move_taken : (code : List Instr) (bag : List Reference) (rows t used left at : ℕ) (variables : List (Option ℕ))
+    (s : State) (to from : ℕ)
+    → StandsAt code bag t at variables s (MoveReference to from)
+    → IsTaken code bag rows t used (dispatch_instruction rows t used left at variables (Some (MoveReference to from)))
+move_taken code bag rows t used left at variables s to from here =
+    let owned = owned_slot (slot_of s from) (first_false _ _ here.met.not_empty) (first_false _ _ here.met.owned) in
+    let free : is_owned (slot_of s to) ≡ false = first_false _ _ here.met.free in
+    let row = owned_row (slot_of s from) (row_of variables from) owned (here.inside.grounded from) in
+    let slot : Slot = Owned (kind_of (slot_of s from)) in
+    let s1 = put s from Empty in
+    let v1 = slice_set variables from None in
+    let r = reference_of t (ByVariable from) row.0 in
+    let in_slots : from < length s.slots = omega (arith, here.variables.1, here.inside.slots) in
+    let in_rows : from < length variables = omega (arith, here.variables.1, here.inside.rows) in
+    let to_slots : to < length s1.slots =
+    omega (arith, here.variables.0, here.inside.slots, length-set s.slots from Empty) in
+    let to_rows : to < length v1 = omega (arith, here.variables.0, here.inside.rows, length-set variables from None) in
+    let grounded = grounded-put s variables from Empty None in_slots in_rows tt here.inside.grounded in
+    let next : IsInside code (at + 1) (slice_set v1 to (Some row.0)) (put s1 to slot) = record {
+      exits = here.inside.exits ++ Success ∷ [];
+      walked = here.leads Success (at + 1) refl;
+      slots = length-set s1.slots to slot ∙ length-set s.slots from Empty ∙ here.inside.slots;
+      rows = length-set v1 to (Some row.0) ∙ length-set variables from None ∙ here.inside.rows;
+      grounded = grounded-put s1 v1 to slot (Some row.0) to_slots to_rows (row.0, refl) grounded;
+    } in
+    let one : held r bag ≡ 1 = owned_has bag t s variables from row.0 owned row.1 here.holds in
+    let has = held_has r bag (omega (arith, one)) in
+    let fewer = lost_holds bag t s variables from row.0 in_slots owned row.1 here.holds has in
+    let holds : Holds (reference_of t (ByVariable to) row.0 ∷ without r bag) t
+    (of_variables (put s1 to slot) (slice_set v1 to (Some row.0))) =
+    record {
+      each = gained_holds (without r bag) t to row.0 _
+          (newref_held (without r bag) t s1 v1 to row.0 slot to_slots to_rows (still_free s from to in_slots free) refl
+          fewer);
+    } in
+    let taken : QuietTaken code bag t (pass_on t (ByVariable from) (ByVariable to) row.0)
+    (Inside left (at + 1) (slice_set v1 to (Some row.0))) =
+    record {
+      moves_fit = HandsOn (ByVariable from) (ByVariable to) row.0 has;
+      placed = (put s1 to slot, next, holds_at_none _ t _ holds);
+      stays = inside_stays left (at + 1) (slice_set v1 to (Some row.0));
+    } in
+    taken_with_row code bag rows t used row.0 (row_of variables from)
+    (λ x. Silent (pass_on t (ByVariable from) (ByVariable to) x) (Inside left (at + 1) (slice_set v1 to (Some x))))
+    row.1 taken
+
+-- ---- a jump
+
+pub goto_taken : (code : List Instr) (bag : List Reference) (rows t used left at : ℕ) (variables : List (Option ℕ))
+    (s : State) (to : ℕ)
+    → StandsAt code bag t at variables s (Goto to)
+    → IsTaken code bag rows t used (dispatch_instruction rows t used left at variables (Some (Goto to)))
+goto_taken code bag rows t used left at variables s to here =
+    let next : IsInside code to variables s = record {
+      exits = here.inside.exits ++ Success ∷ [];
+      walked = here.leads Success to refl;
+      slots = here.inside.slots;
+      rows = here.inside.rows;
+      grounded = here.inside.grounded;
+    } in
+    let taken : QuietTaken code bag t [] (Inside left to variables) =
+    record {
+      moves_fit = Stays;
+      placed = (s, next, holds_at_none bag t _ here.holds);
+      stays = inside_stays left to variables;
+    } in
+    taken

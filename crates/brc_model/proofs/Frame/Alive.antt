@@ -1,0 +1,77 @@
+-- A row that is referenced, awaited, decided about or merged is live; and what an agenda weighs, all agendas weigh.
+use Rattle.std.proofs.Common.{◌≡◌, ℕ, zero, suc, ◌+◌, ◌<◌, ◌≤◌, List, [], ◌∷◌, Some, refl, ap, ◌∙◌, subst, arith}
+use Rattle.std.specs.Prelude.{slice_get, sum_by}
+use Rattle.std.proofs.lemmas.List.Sums.{sum_by-cons}
+use Rattle.brc_model.specs.Plain.{references_to}
+use Rattle.brc_model.specs.declared.duty.Duty.{Duty}
+use Rattle.brc_model.specs.Duties.{block_of}
+use Rattle.brc_model.specs.Machine.{Life, Unborn, Live, Dying, Closed, Actor, Machine}
+use Rattle.brc_model.proofs.Basics.Bag.{held-le-references_to}
+use Rattle.brc_model.specs.References.{reference_of}
+use Rattle.brc_model.specs.RowRule.{waits, merges, decides, agenda_weight, weight, Numbers, IsLive, RowRule}
+use Rattle.brc_model.specs.Accounts.{Accounts}
+use Rattle.brc_model.specs.Invariant.{numbers_of, Rule}
+use Rattle.brc_model.specs.Knowledge.{IsBacked}
+
+-- ---- weights
+
+pub agenda_in : (f : Duty → ℕ) (actors : List Actor) (t : ℕ) (a : Actor) → slice_get actors t ≡ Some a
+    → agenda_weight f a ≤ weight f actors
+agenda_in f [] t a found = absurd cc
+agenda_in f (b ∷ rest) zero a found =
+    let P : Actor → Type 0 = λ x. agenda_weight f x ≤ weight f (b ∷ rest) in
+    let this : b ≡ a = cc in
+    subst P this (omega (arith, sum_by-cons (agenda_weight f) b rest))
+agenda_in f (b ∷ rest) (suc t) a found = omega (arith, sum_by-cons (agenda_weight f) b rest, agenda_in f rest t a found)
+
+-- the first duty's weight, and that of the others, is among all
+pub first_weighs : (f : Duty → ℕ) (actors : List Actor) (t : ℕ) (a : Actor) (d : Duty) (rest : List Duty)
+    → slice_get actors t ≡ Some a → a.agenda ≡ d ∷ rest → f d + sum_by f rest ≤ weight f actors
+first_weighs f actors t a d rest found is =
+    let here : sum_by f a.agenda ≡ f d + sum_by f rest = ap (sum_by f) is ∙ sum_by-cons f d rest in
+    omega (arith, here, agenda_in f actors t a found)
+
+-- ---- life
+
+-- one of the numbers says that the row is live
+pub record IsAlive (owner : ℕ) (l : Life) (n : Numbers) : Type 0 where
+  pub life : l ≡ Live
+  pub live : IsLive owner n
+
+alive_by : (owner : ℕ) (l : Life) (n : Numbers) → RowRule owner l n
+    → 0 < n.references + n.mark + n.waiting + n.deciding + n.merging → IsAlive owner l n
+alive_by owner Unborn n row some =
+    absurd (omega (arith, row.mark, row.references, row.waiting, row.merging, row.deciding, some))
+alive_by owner Live n row some = record { life = refl; live = row }
+alive_by owner (Dying t) n row some =
+    absurd (omega (arith, row.mark, row.references, row.waiting, row.merging, row.deciding, some))
+alive_by owner Closed n row some =
+    absurd (omega (arith, row.mark, row.references, row.waiting, row.merging, row.deciding, some))
+
+abbrev pub Alive : Machine → ℕ → Type 0
+Alive m x = IsAlive (block_of m.rows x) (m.life x) (numbers_of m x)
+
+pub alive_referenced : (p : Accounts) (n : ℕ) (m : Machine) (x : ℕ) → Rule p n m → 0 < x
+    → 0 < references_to x m.plain.references → Alive m x
+alive_referenced p n m x rule pos some =
+    alive_by (block_of m.rows x) (m.life x) (numbers_of m x) (rule.rows x pos) (omega (arith, some))
+
+pub alive_waiting : (p : Accounts) (n : ℕ) (m : Machine) (x : ℕ) → Rule p n m → 0 < x → 0 < weight (waits x) m.actors
+    → Alive m x
+alive_waiting p n m x rule pos some =
+    alive_by (block_of m.rows x) (m.life x) (numbers_of m x) (rule.rows x pos) (omega (arith, some))
+
+pub alive_deciding : (p : Accounts) (n : ℕ) (m : Machine) (x : ℕ) → Rule p n m → 0 < x → 0 < weight (decides x) m.actors
+    → Alive m x
+alive_deciding p n m x rule pos some =
+    alive_by (block_of m.rows x) (m.life x) (numbers_of m x) (rule.rows x pos) (omega (arith, some))
+
+pub alive_merging : (p : Accounts) (n : ℕ) (m : Machine) (x : ℕ) → Rule p n m → 0 < x → 0 < weight (merges x) m.actors
+    → Alive m x
+alive_merging p n m x rule pos some =
+    alive_by (block_of m.rows x) (m.life x) (numbers_of m x) (rule.rows x pos) (omega (arith, some))
+
+pub alive_backed : (p : Accounts) (n : ℕ) (m : Machine) (t x : ℕ) → Rule p n m → 0 < x → IsBacked m t x → Alive m x
+alive_backed p n m t x rule pos backed =
+    alive_referenced p n m x rule pos
+    (omega (arith, backed.held_so, held-le-references_to (reference_of t backed.by x) m.plain.references))

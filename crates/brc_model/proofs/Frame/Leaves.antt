@@ -1,0 +1,251 @@
+-- A thread's step leaves what the other threads rely on.
+use Rattle.std.proofs.Common.{◌≡◌, ◌≢◌, ℕ, ◌+◌, ◌-◌, ◌<◌, ◌≤◌, Bool, true, false, cond, List, ◌∷◌, inl, inr, Some, refl, sym, ap, ◌∙◌, subst, arith}
+use Rattle.std.specs.Prelude.{◌==◌, slice_get}
+use Rattle.std.proofs.lemmas.Bool.{eqb-true, eq-eqb, ne_eqb}
+use Rattle.std.proofs.lemmas.Bool.Decides.{eqb_tells}
+use Rattle.brc_model.specs.declared.duty.Holding.TheVariants.{InHand}
+use Rattle.brc_word.specs.Words.{owner_part, biased_part, phase_part, fresh_word, released_word, merged_word, local_word}
+use Rattle.brc_model.specs.declared.duty.Reason.{Reason}
+use Rattle.brc_model.specs.declared.duty.Reason.TheVariants.{Own, Handed}
+use Rattle.brc_model.specs.declared.duty.Duty.{Duty}
+use Rattle.brc_model.specs.declared.duty.Duty.TheVariants.{RetainLoad, RetainStore, RetainAdd, ReleaseLoad, ReleaseStore, DecideAtZero, SharedLoad, SharedExchange, Look, MergeSwap, MergeLoad, MergeExchange, Die, Settle, SettleEnd, Leave, Finish, BirthLocal}
+use Rattle.brc_model.specs.declared.address.Address.TheVariants.{Local, Shared, Gate, ThreadWord}
+use Rattle.brc_model.specs.Duties.{block_of, address_of, left_by}
+use Rattle.brc_model.specs.Machine.{Actor, Dying, Machine, written, Unborn, Life}
+use Rattle.brc_model.proofs.Basics.Bag.{held-le-references_to}
+use Rattle.brc_model.specs.References.{held, one_if, reference_of}
+use Rattle.brc_model.specs.RowRule.{waits, decides, merges, InOwned, InSwapped, InMerged, RowRule}
+use Rattle.brc_model.specs.Accounts.{Accounts, extra_of, lacks_of}
+use Rattle.brc_model.specs.Knowledge.{OwnsLocally, HeadFits, HeadOf, status_word}
+use Rattle.brc_model.specs.OpenWork.{dies_by}
+use Rattle.brc_model.specs.Invariant.{Rule, numbers_of}
+use Rattle.brc_model.proofs.Objects.RowSteps.{shared_range, shared_up, shared_down, shared_merged}
+use Rattle.brc_model.proofs.Frame.Aside.{extra_held}
+use Rattle.brc_model.proofs.Frame.Alive.{first_weighs, Alive, alive_referenced, alive_waiting, alive_deciding, alive_merging}
+use Rattle.brc_model.proofs.Basics.Written.{written_here, written_apart, written_load, apart_local, apart_shared, apart_gate, apart_thread}
+use Rattle.brc_model.proofs.Frame.Others.{is_dying}
+use Rattle.brc_model.proofs.Basics.Blocks.{next_above, next_unborn}
+
+-- a thread at its first duty
+pub record AtDuty (p : Accounts) (n : ℕ) (m : Machine) (t : ℕ) (a : Actor) (d : Duty) (rest : List Duty) : Type 0 where
+  pub rule : Rule p n m
+  pub found : slice_get m.actors t ≡ Some a
+  pub agenda : a.agenda ≡ d ∷ rest
+
+pub head_of : (p : Accounts) (n : ℕ) (m : Machine) (t : ℕ) (a : Actor) (d : Duty) (rest : List Duty)
+    → AtDuty p n m t a d rest → HeadFits m t a d rest
+head_of p n m t a d rest here =
+    subst (λ (l : List Duty). HeadOf m t a l) here.agenda (here.rule.each t a here.found).0.head_fits
+
+-- ---- which rows are alive at a duty
+
+own_alive : (p : Accounts) (n : ℕ) (m : Machine) (t : ℕ) (a : Actor) (d : Duty) (rest : List Duty) (x : ℕ)
+    → AtDuty p n m t a d rest → 0 < x → extra_of (d ∷ rest) InHand x ≡ true
+    → lacks_of (d ∷ rest) InHand x ≡ false → Alive m x
+own_alive p n m t a d rest x here pos more less =
+    let fits = here.rule.each t a here.found in
+    let some : 0 < held (reference_of t InHand x) m.plain.references =
+    extra_held m.plain.references t (p t) a.agenda a.aside InHand x fits.0.holds (fits.2.apart x)
+    (ap (λ (l : List Duty). extra_of l InHand x) here.agenda ∙ more)
+    (ap (λ (l : List Duty). lacks_of l InHand x) here.agenda ∙ less) in
+    alive_referenced p n m x here.rule pos
+    (omega (arith, some, held-le-references_to (reference_of t InHand x) m.plain.references))
+
+pub exchange_alive : (p : Accounts) (n : ℕ) (m : Machine) (t : ℕ) (a : Actor) (x w : ℕ) (r : Reason) (rest : List Duty)
+    → AtDuty p n m t a (SharedExchange x r w) rest → Alive m x
+exchange_alive p n m t a x w Own rest here =
+    own_alive p n m t a (SharedExchange x Own w) rest x here (head_of p n m t a (SharedExchange x Own w) rest here)
+    (eq-eqb x x refl) refl
+exchange_alive p n m t a x w Handed rest here =
+    let one : one_if (x == x) ≡ 1 = ap one_if (eq-eqb x x refl) in
+    alive_waiting p n m x here.rule (head_of p n m t a (SharedExchange x Handed w) rest here).0
+    (omega (
+      arith,
+      first_weighs (waits x) m.actors t a (SharedExchange x Handed w) rest here.found here.agenda,
+      one,
+    ))
+
+pub decide_alive : (p : Accounts) (n : ℕ) (m : Machine) (t : ℕ) (a : Actor) (x : ℕ) (rest : List Duty)
+    → AtDuty p n m t a (DecideAtZero x) rest → Alive m x
+decide_alive p n m t a x rest here =
+    let one : one_if (x == x) ≡ 1 = ap one_if (eq-eqb x x refl) in
+    alive_deciding p n m x here.rule (head_of p n m t a (DecideAtZero x) rest here).0
+    (omega (arith, first_weighs (decides x) m.actors t a (DecideAtZero x) rest here.found here.agenda, one))
+
+pub merge_alive : (p : Accounts) (n : ℕ) (m : Machine) (t : ℕ) (a : Actor) (x c w : ℕ) (r : Reason) (rest : List Duty)
+    → AtDuty p n m t a (MergeExchange x c w r) rest → Alive m x
+merge_alive p n m t a x c w r rest here =
+    let one : one_if (x == x) ≡ 1 = ap one_if (eq-eqb x x refl) in
+    alive_merging p n m x here.rule (head_of p n m t a (MergeExchange x c w r) rest here).0
+    (omega (arith, first_weighs (merges x) m.actors t a (MergeExchange x c w r) rest here.found here.agenda, one))
+
+pub claim_alive : (p : Accounts) (n : ℕ) (m : Machine) (t : ℕ) (a : Actor) (x : ℕ) (rest : List Duty)
+    → AtDuty p n m t a (MergeSwap x Handed) rest → Alive m x
+claim_alive p n m t a x rest here =
+    let one : one_if (x == x) ≡ 1 = ap one_if (eq-eqb x x refl) in
+    alive_waiting p n m x here.rule (head_of p n m t a (MergeSwap x Handed) rest here).0
+    (omega (arith, first_weighs (waits x) m.actors t a (MergeSwap x Handed) rest here.found here.agenda, one))
+
+-- ---- local words
+
+owners_clash : (m : Machine) (t u x y : ℕ) (a b : Actor) → u ≢ t → OwnsLocally m t a y → OwnsLocally m u b x → y ≡ x → ⊥
+owners_clash m t u x y a b ne mine other same =
+    let theirs : owner_part (m.memory (Local y)) ≡ u + 1 =
+    ap (λ (z : ℕ). owner_part (m.memory (Local z))) same ∙ other.owner in
+    ne (omega (arith, theirs, mine.owner))
+
+claim_clash : (p : Accounts) (n : ℕ) (m : Machine) (t u x y : ℕ) (a b : Actor) (rest : List Duty)
+    → AtDuty p n m t a (MergeSwap y Handed) rest → u ≢ t → slice_get m.actors u ≡ Some b → OwnsLocally m u b x → y ≡ x
+    → ⊥
+claim_clash p n m t u x y a b rest here ne found other same =
+    let alive = claim_alive p n m t a y rest here in
+    let theirs : owner_part (m.memory (Local y)) ≡ u + 1 =
+    ap (λ (z : ℕ). owner_part (m.memory (Local z))) same ∙ other.owner in
+    let block : u ≡ block_of m.rows y = elim alive.live.mode [
+      | InOwned o ↦ omega (arith, o.owned, theirs)
+      | InSwapped s ↦ absurd (omega (arith, s.local, theirs))
+      | InMerged s ↦ absurd (omega (arith, s.local, theirs))
+    ] in
+    elim (head_of p n m t a (MergeSwap y Handed) rest here).1 [
+      | inl mine ↦ ne (block ∙ mine)
+      | inr stopped ↦
+          stopped (ap (λ (z : ℕ). m.memory (ThreadWord z)) (sym block) ∙ (here.rule.each u b found).0.word
+          ∙ ap status_word other.running)
+    ]
+
+-- nobody owns what isn't born
+unowned_clash : (p : Accounts) (n : ℕ) (m : Machine) (u x y : ℕ) (b : Actor) → Rule p n m → 1 < y → m.life y ≡ Unborn
+    → OwnsLocally m u b x → y ≡ x → ⊥
+unowned_clash p n m u x y b rule above unborn other same =
+    let theirs : owner_part (m.memory (Local y)) ≡ u + 1 =
+    ap (λ (z : ℕ). owner_part (m.memory (Local z))) same ∙ other.owner in
+    let row =
+    subst (λ (l : Life). RowRule (block_of m.rows y) l (numbers_of m y)) unborn
+    (rule.rows y (omega (arith, above))) in
+    omega (arith, theirs, row.local)
+
+local_kept : (m : Machine) (y x v : ℕ) → (y ≡ x → ⊥) → written m.memory (Local y) v (Local x) ≡ m.memory (Local x)
+local_kept m y x v ne = written_apart m.memory (Local y) (Local x) v (apart_local y x ne)
+
+pub locals_left : (p : Accounts) (n : ℕ) (m : Machine) (t : ℕ) (a : Actor) (d : Duty) (rest : List Duty)
+    → AtDuty p n m t a d rest → (u x : ℕ) (b : Actor) → u ≢ t → slice_get m.actors u ≡ Some b → OwnsLocally m u b x
+    → written m.memory (address_of m.rows t a.head d) (left_by t a.head d (m.memory (address_of m.rows t a.head d)))
+    (Local x) ≡ m.memory (Local x)
+locals_left p n m t a (RetainLoad y h) rest here u x b ne found other = written_load m.memory (Local y) (Local x)
+locals_left p n m t a (ReleaseLoad y h) rest here u x b ne found other = written_load m.memory (Local y) (Local x)
+locals_left p n m t a (RetainStore y h w) rest here u x b ne found other =
+    local_kept m y x (w + 1) (owners_clash m t u x y a b ne (head_of p n m t a (RetainStore y h w) rest here).2 other)
+locals_left p n m t a (ReleaseStore y w) rest here u x b ne found other =
+    local_kept m y x (w - 1) (owners_clash m t u x y a b ne (head_of p n m t a (ReleaseStore y w) rest here).1 other)
+locals_left p n m t a (MergeSwap y Own) rest here u x b ne found other =
+    local_kept m y x 0 (owners_clash m t u x y a b ne (head_of p n m t a (MergeSwap y Own) rest here).1 other)
+locals_left p n m t a (BirthLocal y h) rest here u x b ne found other =
+    local_kept m y x (local_word t 1)
+    (unowned_clash p n m u x y b here.rule (next_above m t a y (head_of p n m t a (BirthLocal y h) rest here).0)
+    (next_unborn p n m t a y here.rule here.found (head_of p n m t a (BirthLocal y h) rest here).0) other)
+locals_left p n m t a (MergeSwap y Handed) rest here u x b ne found other =
+    local_kept m y x 0 (claim_clash p n m t u x y a b rest here ne found other)
+locals_left p n m t a _ rest here u x b ne found other = refl
+
+-- ---- a merged object stays merged
+
+abbrev phase_after : Machine → ℕ → ℕ → ℕ → ℕ
+phase_after m y v x = phase_part (written m.memory (Shared y) v (Shared x))
+
+phase_written : (m : Machine) (y v x : ℕ) → (phase_part (m.memory (Shared y)) ≡ 3 → phase_part v ≡ 3)
+    → phase_part (m.memory (Shared x)) ≡ 3 → phase_after m y v x ≡ 3
+phase_written m y v x here was =
+    elim (eqb_tells y x) [
+      | inl same ↦
+          let P : ℕ → Type 0 = λ z. phase_part (m.memory (Shared z)) ≡ 3 → phase_after m y v z ≡ 3 in
+          let itself : P y = λ w. ap phase_part (written_here m.memory (Shared y) v) ∙ here w in
+          subst P same.1 itself was
+      | inr other ↦ ap phase_part (written_apart m.memory (Shared y) (Shared x) v (apart_shared y x other.1)) ∙ was
+    ]
+
+released_merged : (w : ℕ) → 1 ≤ biased_part w → phase_part w ≡ 3 → phase_part (released_word w) ≡ 3
+released_merged w some phase =
+    let other : (w == fresh_word) ≡ false = ne_eqb w fresh_word (λ e. absurd (omega (arith, phase, e))) in
+    ap (λ (b : Bool). phase_part (cond b (w + 2) (w - 4))) other ∙ (shared_down w some).1 ∙ phase
+
+exchanged : (b : Bool) (x y z : ℕ) → (P : ℕ → Type 0) → (b ≡ true → P x) → P y → P (cond b x y)
+exchanged true x y z P win lose = win refl
+exchanged false x y z P win lose = lose
+
+pub merged_left : (p : Accounts) (n : ℕ) (m : Machine) (t : ℕ) (a : Actor) (d : Duty) (rest : List Duty)
+    → AtDuty p n m t a d rest → (x : ℕ) → phase_part (m.memory (Shared x)) ≡ 3
+    → phase_part (written m.memory (address_of m.rows t a.head d)
+    (left_by t a.head d (m.memory (address_of m.rows t a.head d))) (Shared x)) ≡ 3
+merged_left p n m t a (RetainAdd y h) rest here x was =
+    phase_written m y (m.memory (Shared y) + 4) x (λ w. (shared_up (m.memory (Shared y))).1 ∙ w) was
+merged_left p n m t a (DecideAtZero y) rest here x was =
+    ap phase_part (written_load m.memory (Shared y) (Shared x)) ∙ was
+merged_left p n m t a (SharedLoad y r) rest here x was =
+    ap phase_part (written_load m.memory (Shared y) (Shared x)) ∙ was
+merged_left p n m t a (SharedExchange y r w) rest here x was =
+    let alive = exchange_alive p n m t a y w r rest here in
+    phase_written m y (cond (m.memory (Shared y) == w) (released_word w) (m.memory (Shared y))) x
+    (λ phase. exchanged (m.memory (Shared y) == w) (released_word w) (m.memory (Shared y)) 0 (λ v. phase_part v ≡ 3)
+    (λ won.
+    let same : m.memory (Shared y) ≡ w = eqb-true (m.memory (Shared y)) w won in
+    released_merged w (subst (λ (v : ℕ). 1 ≤ biased_part v) same (shared_range _ _ alive.live))
+    (ap phase_part (sym same) ∙ phase)) phase) was
+merged_left p n m t a (MergeLoad y c r) rest here x was =
+    ap phase_part (written_load m.memory (Shared y) (Shared x)) ∙ was
+merged_left p n m t a (MergeExchange y c w r) rest here x was =
+    phase_written m y (cond (m.memory (Shared y) == w) (merged_word w c) (m.memory (Shared y))) x
+    (λ phase. exchanged (m.memory (Shared y) == w) (merged_word w c) (m.memory (Shared y)) 0 (λ v. phase_part v ≡ 3)
+    (λ won. (shared_merged w c).1) phase) was
+merged_left p n m t a _ rest here x was = was
+
+-- ---- thread words
+
+thread_written : (m : Machine) (t u v : ℕ) → v ≢ 1 → m.memory (ThreadWord u) ≢ 1
+    → written m.memory (ThreadWord t) v (ThreadWord u) ≢ 1
+thread_written m t u v other was =
+    elim (eqb_tells t u) [
+      | inl same ↦
+          subst (λ (z : ℕ). written m.memory (ThreadWord t) v (ThreadWord z) ≢ 1) same.1
+          (λ e. other (sym (written_here m.memory (ThreadWord t) v) ∙ e))
+      | inr apart ↦
+          λ e. was (sym (written_apart m.memory (ThreadWord t) (ThreadWord u) v (apart_thread t u apart.1)) ∙ e)
+    ]
+
+pub stopped_left : (m : Machine) (t : ℕ) (a : Actor) (d : Duty) (u : ℕ) → m.memory (ThreadWord u) ≢ 1
+    → written m.memory (address_of m.rows t a.head d) (left_by t a.head d (m.memory (address_of m.rows t a.head d)))
+    (ThreadWord u) ≢ 1
+stopped_left m t a (Look y) u was =
+    λ e. was (sym (written_load m.memory (ThreadWord (block_of m.rows y)) (ThreadWord u)) ∙ e)
+stopped_left m t a (Leave y k) u was = thread_written m t u 2 (λ e. absurd (omega (arith, e))) was
+stopped_left m t a Finish u was = thread_written m t u 3 (λ e. absurd (omega (arith, e))) was
+stopped_left m t a _ u was = was
+
+pub words_left : (m : Machine) (t : ℕ) (a : Actor) (d : Duty) (u : ℕ) → u ≢ t
+    → written m.memory (address_of m.rows t a.head d) (left_by t a.head d (m.memory (address_of m.rows t a.head d)))
+    (ThreadWord u) ≡ m.memory (ThreadWord u)
+words_left m t a (Look y) u ne = written_load m.memory (ThreadWord (block_of m.rows y)) (ThreadWord u)
+words_left m t a (Leave y k) u ne =
+    written_apart m.memory (ThreadWord t) (ThreadWord u) 2 (apart_thread t u (λ e. ne (sym e)))
+words_left m t a Finish u ne =
+    written_apart m.memory (ThreadWord t) (ThreadWord u) 3 (apart_thread t u (λ e. ne (sym e)))
+words_left m t a _ u ne = refl
+
+-- ---- gates
+
+gate_clash : (m : Machine) (t u x y : ℕ) → u ≢ t → m.life y ≡ Dying t → dies_by (m.life x) u ≡ true → y ≡ x → ⊥
+gate_clash m t u x y ne mine other same =
+    let both : Dying t ≡ Dying u = sym mine ∙ ap m.life same ∙ is_dying (m.life x) u other in
+    ne (let e : t ≡ u = cc in sym e)
+
+pub gates_left : (p : Accounts) (n : ℕ) (m : Machine) (t : ℕ) (a : Actor) (d : Duty) (rest : List Duty)
+    → AtDuty p n m t a d rest → (u x : ℕ) → u ≢ t → dies_by (m.life x) u ≡ true
+    → written m.memory (address_of m.rows t a.head d) (left_by t a.head d (m.memory (address_of m.rows t a.head d)))
+    (Gate x) ≡ m.memory (Gate x)
+gates_left p n m t a (Die y) rest here u x ne dies =
+    written_apart m.memory (Gate y) (Gate x) _
+    (apart_gate y x (gate_clash m t u x y ne (head_of p n m t a (Die y) rest here).1 dies))
+gates_left p n m t a Settle rest here u x ne dies = written_load m.memory (Gate (a.head - 1)) (Gate x)
+gates_left p n m t a (SettleEnd y) rest here u x ne dies =
+    written_apart m.memory (Gate y) (Gate x) _
+    (apart_gate y x (gate_clash m t u x y ne (head_of p n m t a (SettleEnd y) rest here).1 dies))
+gates_left p n m t a _ rest here u x ne dies = refl

@@ -1,0 +1,318 @@
+-- The same work, elsewhere: a thread puts the duty at hand aside, or takes one back that it has put aside. Nothing else
+-- changes, so the invariant holds as before.
+use Rattle.std.proofs.Common.{◌≡◌, ◌≢◌, ℕ, ◌+◌, true, false, cond, List, [], ◌∷◌, ◌++◌, inr, Some, refl, sym, ap, ◌∙◌, subst, arith}
+use Rattle.std.specs.Prelude.{slice_get, count_by, sum_by}
+use Rattle.std.proofs.lemmas.Bool.{false≢true}
+use Rattle.std.proofs.lemmas.List.Sums.{sum_by-cons, sum_by-append}
+use Rattle.brc_model.specs.declared.duty.Holding.{Holding}
+use Rattle.brc_model.specs.declared.duty.Duty.{Duty}
+use Rattle.brc_model.specs.declared.duty.Duty.TheVariants.{Die, Settle, SettleKind, SettleCell, TakeSlot, CloseResource, SettleEnd, Leave, Scan, Finish, BirthKind, BirthSlot, BirthLocal}
+use Rattle.brc_model.specs.declared.actor.Status.{Status}
+use Rattle.brc_model.specs.declared.actor.Status.TheVariants.{Running, Leaving, Gone}
+use Rattle.brc_model.specs.declared.actor.Place.{Place}
+use Rattle.brc_model.specs.declared.actor.Place.TheVariants.{Departing}
+use Rattle.brc_model.specs.Machine.{Actor, Machine, with_actor}
+use Rattle.brc_model.specs.References.{one_if}
+use Rattle.brc_model.specs.RowRule.{waits, carries, merges, decides, agenda_weight}
+use Rattle.brc_model.specs.Accounts.{Accounts, extra, lacks, extra_of, lacks_of, extra_aside, lacks_aside}
+use Rattle.brc_model.specs.Knowledge.{HeadFits, HeadOf}
+use Rattle.brc_model.specs.OpenWork.{Later, Agenda, AgendaFits, is_about, about_of, at_hand, hand_of, scans, may_wait, is_piece, AllWait, AsideFits, IsSettled}
+use Rattle.brc_model.specs.Invariant.{looks, kind_stored, slot_stored, BlankFits, Rule, Kept}
+use Rattle.brc_model.proofs.Basics.Lists.{written_actor}
+use Rattle.brc_model.proofs.Frame.Beside.{LeavesBeside, known_beside}
+use Rattle.brc_model.proofs.Keeping.Replaced.{with_account, with_account_itself, replaced_rule}
+
+-- the thread with other not_departing work
+abbrev pub working : Actor → List Duty → List Duty → Actor
+working a agenda aside =
+    record {
+      function = a.function;
+      place = a.place;
+      status = a.status;
+      agenda = agenda;
+      aside = aside;
+      head = a.head;
+      used = a.used;
+    }
+
+-- ---- a duty that may wait
+
+waiting_later : (rows t used : ℕ) (status : Status) (place : Place) (d : Duty) → may_wait d ≡ true
+    → Agenda rows t used status place (d ∷ []) → Later rows t used status place []
+waiting_later rows t used status place Settle waits fits = absurd cc
+waiting_later rows t used status place (Leave x n) waits fits = absurd cc
+waiting_later rows t used status place (Scan x n) waits fits = absurd cc
+waiting_later rows t used status place Finish waits fits = absurd cc
+waiting_later rows t used status place _ waits fits = fits
+
+later_waiting : (rows t used : ℕ) (status : Status) (place : Place) (d : Duty) → may_wait d ≡ true
+    → Later rows t used status place [] → Agenda rows t used status place (d ∷ [])
+later_waiting rows t used status place Settle waits fits = absurd cc
+later_waiting rows t used status place (Leave x n) waits fits = absurd cc
+later_waiting rows t used status place (Scan x n) waits fits = absurd cc
+later_waiting rows t used status place Finish waits fits = absurd cc
+later_waiting rows t used status place _ waits fits = fits
+
+waiting_hand : (d : Duty) (x : ℕ) → may_wait d ≡ true → at_hand d x ≡ false
+waiting_hand (Die y) x waits = absurd cc
+waiting_hand (SettleKind y) x waits = absurd cc
+waiting_hand (SettleCell y i n) x waits = absurd cc
+waiting_hand (TakeSlot y) x waits = absurd cc
+waiting_hand (CloseResource y) x waits = absurd cc
+waiting_hand (SettleEnd y) x waits = absurd cc
+waiting_hand _ x waits = refl
+
+waiting_piece : (d : Duty) → may_wait d ≡ true → is_piece d ≡ true
+waiting_piece (Die x) waits = absurd cc
+waiting_piece (BirthKind x h w) waits = absurd cc
+waiting_piece (BirthSlot x h) waits = absurd cc
+waiting_piece (BirthLocal x h) waits = absurd cc
+waiting_piece _ waits = waits
+
+waiting_scans : (d : Duty) (x : ℕ) → may_wait d ≡ true → scans x (d ∷ []) ≡ false
+waiting_scans (Scan y n) x waits = absurd cc
+waiting_scans _ x waits = refl
+
+waiting_settled : (head : ℕ) (d : Duty) → may_wait d ≡ true → IsSettled head (d ∷ [])
+waiting_settled head Settle waits = absurd cc
+waiting_settled head (Leave x n) waits = absurd cc
+waiting_settled head (Scan x n) waits = absurd cc
+waiting_settled head Finish waits = absurd cc
+waiting_settled head _ waits = tt
+
+waiting_stores : (d : Duty) (x : ℕ) → may_wait d ≡ true
+    → (kind_stored (d ∷ []) x ≡ false) × (slot_stored (d ∷ []) x ≡ false)
+waiting_stores (BirthSlot y h) x waits = absurd cc
+waiting_stores (BirthLocal y h) x waits = absurd cc
+waiting_stores _ x waits = (refl, refl)
+
+-- ---- what the others know stays
+
+-- what a thread that only rearranges its work leaves to each of its duties: everything
+all_left : (m : Machine) (t : ℕ) (a : Actor) (agenda aside : List Duty) (x : ℕ)
+    → LeavesBeside m (with_actor m t (working a agenda aside)) t a (working a agenda aside) x
+all_left m t a agenda aside x = record {
+  rows = refl;
+  status = refl;
+  local = refl;
+  shared = refl;
+  references = λ k. refl;
+  stopped = λ u was. was;
+}
+
+still_known : (m : Machine) (t : ℕ) (a : Actor) (agenda aside : List Duty) (d : Duty) → may_wait d ≡ true
+    → HeadFits m t a d []
+    → HeadFits (with_actor m t (working a agenda aside)) t (working a agenda aside) d []
+still_known m t a agenda aside d waits knows =
+    known_beside m (with_actor m t (working a agenda aside)) t a (working a agenda aside) d waits
+    (λ x about. all_left m t a agenda aside x) knows
+
+still_wait : (m : Machine) (t : ℕ) (a : Actor) (agenda aside ds : List Duty) → AllWait m t a ds
+    → AllWait (with_actor m t (working a agenda aside)) t (working a agenda aside) ds
+still_wait m t a agenda aside [] waits = tt
+still_wait m t a agenda aside (d ∷ ds) waits =
+    (waits.0, still_known m t a agenda aside d waits.0 waits.1, still_wait m t a agenda aside ds waits.2)
+
+-- ---- both ways
+
+-- Work is arranged otherwise: each weight, and whatever else is counted, is what it was.
+pub record Rearranges (m : Machine) (t : ℕ) (a : Actor) (agenda aside : List Duty) : Type 0 where
+  pub stays : (a.place ≢ Departing) × (a.status ≡ Running)
+  pub weighs : (f : Duty → ℕ) → sum_by f agenda + sum_by f aside ≡ agenda_weight f a
+  pub lacks_same : (k : Holding) (x : ℕ) → one_if (lacks_of agenda k x) + lacks_aside aside k x
+      ≡ one_if (lacks_of a.agenda k x) + lacks_aside a.aside k x
+  pub extra_same : (k : Holding) (x : ℕ) → one_if (extra_of agenda k x) + extra_aside aside k x
+      ≡ one_if (extra_of a.agenda k x) + extra_aside a.aside k x
+  pub hands : (x : ℕ) → hand_of agenda x ≡ hand_of a.agenda x
+  pub knows : HeadOf (with_actor m t (working a agenda aside)) t (working a agenda aside) agenda
+  pub fits : Agenda m.rows t a.used Running a.place agenda
+  pub others : AsideFits (with_actor m t (working a agenda aside)) t (working a agenda aside)
+  pub blanks : BlankFits m.rows m.memory t a.used agenda
+  pub scans_on : (x : ℕ) → scans x a.agenda ≡ true → scans x agenda ≡ true
+  pub settled : IsSettled a.head agenda
+
+pub rearranged : (p : Accounts) (n : ℕ) (m : Machine) (t : ℕ) (a : Actor) (agenda aside : List Duty) → Kept p n m
+    → slice_get m.actors t ≡ Some a → Rearranges m t a agenda aside
+    → Kept p n (with_actor m t (working a agenda aside))
+rearranged p n m t a agenda aside kept found new =
+    let b = working a agenda aside in
+    let old = (kept.rule.each t a found).0 in
+    let rule : Rule (with_account p t (p t)) n (with_actor m t b) =
+    replaced_rule p n m t a b (p t) kept.rule found (record {
+      fits = (
+        record {
+          word = old.word;
+          holds = record {
+            each = λ k x. omega (arith, old.holds.each k x, new.lacks_same k x, new.extra_same k x);
+          };
+          bounded = old.bounded;
+          departed = λ e. absurd (new.stays.0 e);
+          head_fits = new.knows;
+          chain = record {
+            chained = old.chain.chained;
+            linked = old.chain.linked;
+            once = λ x.
+                let hand : one_if (hand_of agenda x) ≡ one_if (hand_of a.agenda x) = ap one_if (new.hands x) in
+                omega (arith, old.chain.once x, hand);
+          };
+        },
+        subst (λ (s : Status). AgendaFits m.rows t b s) (sym new.stays.1) new.fits,
+        new.others,
+      );
+      used = refl;
+      blanks = new.blanks;
+      waits = λ x. new.weighs (waits x);
+      carries = λ x. new.weighs (carries x);
+      merges = λ x. new.weighs (merges x);
+      decides = λ x. new.weighs (decides x);
+      looks = λ x. new.weighs (looks x);
+      scans = new.scans_on;
+    }) in
+    record {
+      rule = subst (λ (q : Accounts). Rule q n (with_actor m t b)) (with_account_itself p t) rule;
+      settled =
+          λ u c is. written_actor (λ w q. IsSettled q.head q.agenda) m.actors t a b found new.settled kept.settled u c
+          is;
+    }
+
+-- ---- a duty is put aside
+
+alone_stays : (rows t : ℕ) (a : Actor) (status : Status) (d : Duty) → may_wait d ≡ true → a.agenda ≡ d ∷ []
+    → AgendaFits rows t a status → (a.place ≢ Departing) × (status ≡ Running)
+alone_stays rows t a Gone d waits is fits = absurd (let wrong : [] ≡ d ∷ [] = sym fits.0 ∙ is in cc)
+alone_stays rows t a Running d waits is fits =
+    waiting_later rows t a.used Running a.place d waits (subst (Agenda rows t a.used Running a.place) is fits)
+alone_stays rows t a Leaving d waits is fits =
+    waiting_later rows t a.used Leaving a.place d waits (subst (Agenda rows t a.used Leaving a.place) is fits)
+
+-- A thread puts the only duty of its agenda aside, where that may wait.
+pub put_aside : (p : Accounts) (n : ℕ) (m : Machine) (t : ℕ) (a : Actor) (d : Duty) → Kept p n m
+    → slice_get m.actors t ≡ Some a → a.agenda ≡ d ∷ [] → may_wait d ≡ true
+    → Kept p n (with_actor m t (working a [] (d ∷ a.aside)))
+put_aside p n m t a d kept found is waits =
+    let fits = kept.rule.each t a found in
+    let stays = alone_stays m.rows t a a.status d waits is fits.1 in
+    let knows : HeadFits m t a d [] = subst (HeadOf m t a) is fits.0.head_fits in
+    let blanks : BlankFits m.rows m.memory t a.used (d ∷ []) =
+    subst (BlankFits m.rows m.memory t a.used) is (kept.rule.blanks t a found) in
+    rearranged p n m t a [] (d ∷ a.aside) kept found (record {
+      stays = stays;
+      weighs = λ f.
+          let old : sum_by f a.agenda ≡ sum_by f (d ∷ []) = ap (sum_by f) is in
+          omega (arith, old, sum_by-cons f d [], sum_by-cons f d a.aside);
+      lacks_same = λ k x.
+          let old : one_if (lacks_of a.agenda k x) ≡ one_if (lacks d k x) =
+          ap (λ (l : List Duty). one_if (lacks_of l k x)) is in
+          omega (arith, old, sum_by-cons (λ (e : Duty). cond (lacks e k x) 1 0) d a.aside);
+      extra_same = λ k x.
+          let old : one_if (extra_of a.agenda k x) ≡ one_if (extra d k x) =
+          ap (λ (l : List Duty). one_if (extra_of l k x)) is in
+          omega (arith, old, sum_by-cons (λ (e : Duty). cond (extra e k x) 1 0) d a.aside);
+      hands = λ x. sym (ap (λ (l : List Duty). hand_of l x) is ∙ waiting_hand d x waits);
+      knows = tt;
+      fits = (stays.0, refl);
+      others = record {
+        waits = (
+          waits,
+          still_known m t a [] (d ∷ a.aside) d waits knows,
+          still_wait m t a [] (d ∷ a.aside) a.aside fits.2.waits,
+        );
+        apart = λ x.
+            let old : one_if (about_of x a.agenda) ≡ one_if (is_about x d) =
+            ap (λ (l : List Duty). one_if (about_of x l)) is in
+            omega (arith, fits.2.apart x, old, sum_by-cons (λ (e : Duty). cond (is_about x e) 1 0) d a.aside);
+        pieces = inr tt;
+      };
+      blanks = record {
+        kinds = λ x block past none. blanks.kinds x block past (waiting_stores d x waits).0;
+        slots = λ x block past none. blanks.slots x block past (waiting_stores d x waits).1;
+      };
+      scans_on = λ x scanned.
+          absurd (false≢true (sym (ap (scans x) is ∙ waiting_scans d x waits) ∙ scanned));
+      settled = tt;
+    })
+
+-- ---- a duty is taken back
+
+sum_split : (f : Duty → ℕ) (before after : List Duty) (d : Duty)
+    → sum_by f (before ++ d ∷ after) ≡ f d + sum_by f (before ++ after)
+sum_split f before after d =
+    omega (
+      arith,
+      sum_by-append f before (d ∷ after),
+      sum_by-append f before after,
+      sum_by-cons f d after,
+    )
+
+-- the duty that is taken back, and those that stay aside
+record Split (m : Machine) (t : ℕ) (a : Actor) (d : Duty) (others : List Duty) : Type 0 where
+  waits : may_wait d ≡ true
+  knows : HeadFits m t a d []
+  stay : AllWait m t a others
+
+split_off : (m : Machine) (t : ℕ) (a : Actor) (before after : List Duty) (d : Duty) → AllWait m t a (before ++ d ∷ after)
+    → Split m t a d (before ++ after)
+split_off m t a [] after d all = record { waits = all.0; knows = all.1; stay = all.2 }
+split_off m t a (e ∷ before) after d all =
+    let rest = split_off m t a before after d all.2 in
+    record { waits = rest.waits; knows = rest.knows; stay = (all.0, all.1, rest.stay) }
+
+idle_stays : (rows t : ℕ) (a : Actor) (status : Status) → (a.place ≡ Departing → ⊥) → a.agenda ≡ []
+    → AgendaFits rows t a status → (a.place ≢ Departing) × (status ≡ Running)
+idle_stays rows t a Gone not_departing none fits = absurd (not_departing fits.1)
+idle_stays rows t a Running not_departing none fits = subst (Agenda rows t a.used Running a.place) none fits
+idle_stays rows t a Leaving not_departing none fits = subst (Agenda rows t a.used Leaving a.place) none fits
+
+-- A thread with nothing at hand takes one of the duties back that it has put aside.
+pub take_back : (p : Accounts) (n : ℕ) (m : Machine) (t : ℕ) (a : Actor) (before after : List Duty) (d : Duty)
+    → Kept p n m → slice_get m.actors t ≡ Some a → a.agenda ≡ [] → a.aside ≡ before ++ d ∷ after
+    → Kept p n (with_actor m t (working a (d ∷ []) (before ++ after)))
+take_back p n m t a before after d kept found none is =
+    let fits = kept.rule.each t a found in
+    let others = before ++ after in
+    let it = split_off m t a before after d (subst (AllWait m t a) is fits.2.waits) in
+    let one : sum_by (λ (e : Duty). 1) a.aside ≡ 1 + sum_by (λ (e : Duty). 1) others =
+    ap (sum_by (λ (e : Duty). 1)) is ∙ sum_split (λ (e : Duty). 1) before after d in
+    let not_departing : a.place ≡ Departing
+    → ⊥ = λ e.
+    let empty : sum_by (λ (e : Duty). 1) a.aside ≡ 0 = ap (sum_by (λ (e : Duty). 1)) (fits.0.departed e).1 in
+    absurd (omega (arith, empty, one)) in
+    let stays = idle_stays m.rows t a a.status not_departing none fits.1 in
+    rearranged p n m t a (d ∷ []) others kept found (record {
+      stays = stays;
+      weighs = λ f.
+          let old : sum_by f a.agenda ≡ 0 = ap (sum_by f) none in
+          let all : sum_by f a.aside ≡ f d + sum_by f others = ap (sum_by f) is ∙ sum_split f before after d in
+          omega (arith, old, all, sum_by-cons f d []);
+      lacks_same = λ k x.
+          let old : one_if (lacks_of a.agenda k x) ≡ 0 = ap (λ (l : List Duty). one_if (lacks_of l k x)) none in
+          let all : lacks_aside a.aside k x ≡ one_if (lacks d k x) + lacks_aside others k x =
+          ap (λ (l : List Duty). lacks_aside l k x) is
+          ∙ sum_split (λ (e : Duty). cond (lacks e k x) 1 0) before after d in
+          omega (arith, old, all);
+      extra_same = λ k x.
+          let old : one_if (extra_of a.agenda k x) ≡ 0 = ap (λ (l : List Duty). one_if (extra_of l k x)) none in
+          let all : extra_aside a.aside k x ≡ one_if (extra d k x) + extra_aside others k x =
+          ap (λ (l : List Duty). extra_aside l k x) is
+          ∙ sum_split (λ (e : Duty). cond (extra e k x) 1 0) before after d in
+          omega (arith, old, all);
+      hands = λ x. waiting_hand d x it.waits ∙ sym (ap (λ (l : List Duty). hand_of l x) none);
+      knows = still_known m t a (d ∷ []) others d it.waits it.knows;
+      fits = later_waiting m.rows t a.used Running a.place d it.waits (stays.0, refl);
+      others = record {
+        waits = still_wait m t a (d ∷ []) others others it.stay;
+        apart = λ x.
+            let all : count_by (is_about x) a.aside ≡ one_if (is_about x d) + count_by (is_about x) others =
+            ap (count_by (is_about x)) is ∙ sum_split (λ (e : Duty). cond (is_about x e) 1 0) before after d in
+            omega (arith, fits.2.apart x, all);
+        pieces = inr (waiting_piece d it.waits);
+      };
+      blanks =
+          let old = subst (BlankFits m.rows m.memory t a.used) none (kept.rule.blanks t a found) in
+          record {
+            kinds = λ x block past stored. old.kinds x block past refl;
+            slots = λ x block past stored. old.slots x block past refl;
+          };
+      scans_on = λ x scanned. absurd (false≢true (sym (ap (scans x) none) ∙ scanned));
+      settled = waiting_settled a.head d it.waits;
+    })

@@ -1,0 +1,146 @@
+-- One thread has other work, or the same work elsewhere, and another account: where its duties weigh what they weighed,
+-- the rule holds as before. Memory, references and lives are as they were.
+use Rattle.std.proofs.Common.{◌≡◌, ◌≢◌, ℕ, Bool, true, cond, List, inl, inr, Some, refl, sym, ap, ◌∙◌, subst, arith}
+use Rattle.std.specs.Prelude.{◌==◌, slice_get, slice_set}
+use Rattle.std.proofs.lemmas.Bool.{eq-eqb, ne_eqb}
+use Rattle.std.proofs.Math.Path.{fun_ext}
+use Rattle.std.proofs.lemmas.Bool.Decides.{eqb_tells}
+use Rattle.std.proofs.lemmas.List.{length-set}
+use Rattle.std.proofs.lemmas.Option.{slice_get_within}
+use Rattle.brc_model.specs.declared.duty.Duty.{Duty}
+use Rattle.brc_model.specs.Duties.{block_of}
+use Rattle.brc_model.specs.Machine.{Actor, Machine, with_actor}
+use Rattle.brc_model.proofs.Basics.Lists.{some_is, slice_get-set_same, slice_get-set_other, written_actor}
+use Rattle.brc_model.proofs.Objects.Weights.{weight-set}
+use Rattle.brc_model.specs.RowRule.{waits, carries, merges, decides, agenda_weight, weight, Numbers, RowRule}
+use Rattle.brc_model.specs.Accounts.{Account, Accounts}
+use Rattle.brc_model.specs.Invariant.{numbers_of, Fits, looks, IsWatched, ByRunning, ByExit, ByLook, Rule, UsesFit, BlankFits}
+use Rattle.brc_model.specs.OpenWork.{scans}
+use Rattle.brc_model.proofs.Frame.Others.{LeavesOthers, each_fits}
+
+-- the accounts with one thread's replaced
+abbrev pub with_account : Accounts → ℕ → Account → Accounts
+with_account p t account u = cond (u == t) account (p u)
+
+pub with_account_same : (p : Accounts) (t : ℕ) (account : Account) → account ≡ with_account p t account t
+with_account_same p t account = sym (ap (λ (b : Bool). cond b account (p t)) (eq-eqb t t refl))
+
+with_account_here : (p : Accounts) (t : ℕ) (account : Account) (u : ℕ) → u ≡ t → account ≡ with_account p t account u
+with_account_here p t account u this =
+    sym (ap (λ (b : Bool). cond b account (p u)) (eq-eqb u t this))
+
+pub with_account_other : (p : Accounts) (t : ℕ) (account : Account) (u : ℕ) → u ≢ t → p u ≡ with_account p t account u
+with_account_other p t account u ne = sym (ap (λ (b : Bool). cond b account (p u)) (ne_eqb u t ne))
+
+pub with_account_itself : (p : Accounts) (t : ℕ) → with_account p t (p t) ≡ p
+with_account_itself p t =
+    fun_ext (λ (u : ℕ).
+    elim (eqb_tells u t) [
+      | inl this ↦ sym (with_account_here p t (p t) u this.1) ∙ ap p (sym this.1)
+      | inr apart ↦ sym (with_account_other p t (p t) u apart.1)
+    ])
+
+-- What one thread's new state has to show.
+pub record Replaces (m : Machine) (t : ℕ) (a b : Actor) (account : Account) : Type 0 where
+  pub fits : Fits account (with_actor m t b) t b
+  pub used : b.used ≡ a.used
+  pub blanks : BlankFits m.rows m.memory t b.used b.agenda
+  pub waits : (x : ℕ) → agenda_weight (waits x) b ≡ agenda_weight (waits x) a
+  pub carries : (x : ℕ) → agenda_weight (carries x) b ≡ agenda_weight (carries x) a
+  pub merges : (x : ℕ) → agenda_weight (merges x) b ≡ agenda_weight (merges x) a
+  pub decides : (x : ℕ) → agenda_weight (decides x) b ≡ agenda_weight (decides x) a
+  pub looks : (x : ℕ) → agenda_weight (looks x) b ≡ agenda_weight (looks x) a
+  pub scans : (x : ℕ) → scans x a.agenda ≡ true → scans x b.agenda ≡ true
+
+same_weight : (f : Duty → ℕ) (actors : List Actor) (t : ℕ) (a b : Actor) → slice_get actors t ≡ Some a
+    → agenda_weight f b ≡ agenda_weight f a → weight f (slice_set actors t b) ≡ weight f actors
+same_weight f actors t a b found same = omega (arith, weight-set f actors t a b found, same)
+
+same_numbers : (m : Machine) (t : ℕ) (a b : Actor) (account : Account) (x : ℕ) → slice_get m.actors t ≡ Some a
+    → Replaces m t a b account → numbers_of m x ≡ numbers_of (with_actor m t b) x
+same_numbers m t a b account x found new =
+    let w = sym (same_weight (waits x) m.actors t a b found (new.waits x)) in
+    let c = sym (same_weight (carries x) m.actors t a b found (new.carries x)) in
+    let g = sym (same_weight (merges x) m.actors t a b found (new.merges x)) in
+    let d = sym (same_weight (decides x) m.actors t a b found (new.decides x)) in
+    λ i. record {
+      local = (numbers_of m x).local;
+      shared = (numbers_of m x).shared;
+      mark = (numbers_of m x).mark;
+      references = (numbers_of m x).references;
+      waiting = w i;
+      carried = c i;
+      merging = g i;
+      deciding = d i;
+    }
+
+still_watched : (m : Machine) (t : ℕ) (a b : Actor) (account : Account) (x : ℕ) → slice_get m.actors t ≡ Some a
+    → Replaces m t a b account → IsWatched m x → IsWatched (with_actor m t b) x
+still_watched m t a b account x found new (ByRunning one) = ByRunning one
+still_watched m t a b account x found new (ByExit c is scanned) =
+    elim (eqb_tells (block_of m.rows x) t) [
+      | inl same ↦
+          let this : c ≡ a = some_is c a (sym is ∙ ap (slice_get m.actors) same.1 ∙ found) in
+          let there : slice_get (slice_set m.actors t b) (block_of m.rows x) ≡ Some b =
+          ap (slice_get (slice_set m.actors t b)) same.1
+          ∙ slice_get-set_same m.actors t b (slice_get_within m.actors t a found) in
+          ByExit b there (new.scans x (sym (ap (λ (q : Actor). scans x q.agenda) this) ∙ scanned))
+      | inr apart ↦ ByExit c (slice_get-set_other m.actors t (block_of m.rows x) b apart.1 ∙ is) scanned
+    ]
+still_watched m t a b account x found new (ByLook some) =
+    ByLook (omega (arith, some, same_weight (looks x) m.actors t a b found (new.looks x)))
+
+nothing_changes : (m : Machine) (t : ℕ) (b : Actor) → LeavesOthers m (with_actor m t b) t
+nothing_changes m t b = record {
+  rows = refl;
+  bag = λ u k object ne. refl;
+  locals = λ u x c ne found owns. refl;
+  merged = λ x was. was;
+  stopped = λ u was. was;
+  words = λ u ne. refl;
+  gates = λ u x ne dies. refl;
+  kinds = λ x was. was;
+  lives = λ u x ne. refl;
+}
+
+pub replaced_rule : (p : Accounts) (n : ℕ) (m : Machine) (t : ℕ) (a b : Actor) (account : Account) → Rule p n m
+    → slice_get m.actors t ≡ Some a → Replaces m t a b account
+    → Rule (with_account p t account) n (with_actor m t b)
+replaced_rule p n m t a b account rule found new = record {
+  threads = length-set m.actors t b ∙ rule.threads;
+  some_rows = rule.some_rows;
+  few_threads = rule.few_threads;
+  few_rows = rule.few_rows;
+  rows =
+      λ x pos. subst (λ (k : Numbers). RowRule (block_of m.rows x) (m.life x) k)
+      (same_numbers m t a b account x found new) (rule.rows x pos);
+  marks = λ x. elim (rule.marks x) [
+    | inl none ↦ inl none
+    | inr set ↦ inr (set.0, set.1, still_watched m t a b account x found new set.2)
+  ];
+  each =
+      each_fits p (with_account p t account) m (with_actor m t b) t a b found (nothing_changes m t b)
+      (with_account_other p t account)
+      (subst (λ (c : Account). Fits c (with_actor m t b) t b) (with_account_same p t account) new.fits) rule.each;
+  beyond = rule.beyond;
+  gates = rule.gates;
+  dying = rule.dying;
+  cells = rule.cells;
+  uses =
+      λ u c is. written_actor (λ w q. UsesFit m.rows m.life w q.used) m.actors t a b found
+      (subst (UsesFit m.rows m.life t) (sym new.used) (rule.uses t a found)) rule.uses u c is;
+  blanks =
+      λ u c is. written_actor (λ w q. BlankFits m.rows m.memory w q.used q.agenda) m.actors t a b found new.blanks
+      rule.blanks u c is;
+  no_block = rule.no_block;
+  cells_hold = rule.cells_hold;
+  none_lives = rule.none_lives;
+  born_is = rule.born_is;
+  born_has = rule.born_has;
+  born_once = rule.born_once;
+  closed_is = rule.closed_is;
+  closed_has = rule.closed_has;
+  once = rule.once;
+  kinds = rule.kinds;
+  none_word = rule.none_word;
+}

@@ -1,0 +1,42 @@
+-- What holds of each machine that an accepted module's events lead to: the invariant of all threads, and that each
+-- thread stands in its function's code, with the account that its place says.
+use Rattle.std.proofs.Common.{◌≡◌, ℕ, Bool, false, List, inl, inr, Some, sym, ap, ◌∙◌, subst}
+use Rattle.std.specs.Prelude.{slice_get, slice_set}
+use Rattle.std.proofs.lemmas.Bool.Decides.{eqb_tells}
+use Rattle.std.proofs.lemmas.Option.{slice_get_within}
+use Rattle.brc_lang.specs.declared.module.Module.{Module}
+use Rattle.brc_model.specs.Machine.{Actor, Machine}
+use Rattle.brc_model.proofs.Basics.Lists.{some_is, slice_get-set_same, slice_get-set_other}
+use Rattle.brc_model.specs.Accounts.{Account, Accounts}
+use Rattle.brc_model.specs.Invariant.{Kept}
+use Rattle.brc_model.proofs.Dispatch.Coded.{InCode}
+use Rattle.brc_model.proofs.Keeping.Replaced.{with_account, with_account_same, with_account_other}
+
+pub record Whole (p : Module) (n : ℕ) (m : Machine) : Type 0 where
+  pub accounts : Accounts
+  pub kept : Kept accounts n m
+  pub functions : m.functions ≡ p.functions
+  pub coded : (t : ℕ) (a : Actor) → slice_get m.actors t ≡ Some a → InCode p a (accounts t)
+
+abbrev pub KeepsOn : Module → ℕ → Bool → Machine → Type 0
+KeepsOn p n bad m = (bad ≡ false) × Whole p n m
+
+-- all threads stand in their code where one has moved, with its new account
+pub coded_set : (p : Module) (c : Accounts) (actors : List Actor) (t : ℕ) (a after : Actor) (account : Account)
+    → slice_get actors t ≡ Some a → InCode p after account
+    → ((u : ℕ) (b : Actor) → slice_get actors u ≡ Some b → InCode p b (c u))
+    → (u : ℕ) (b : Actor) → slice_get (slice_set actors t after) u ≡ Some b → InCode p b (with_account c t account u)
+coded_set p c actors t a after account at own each u b is =
+    elim (eqb_tells u t) [
+      | inl this ↦
+          let written_is : Some after ≡ Some b =
+          sym (ap (slice_get (slice_set actors t after)) this.1
+          ∙ slice_get-set_same actors t after (slice_get_within actors t a at)) ∙ is in
+          let here : InCode p after (with_account c t account t) =
+          subst (InCode p after) (with_account_same c t account) own in
+          subst (λ (x : Actor). InCode p x (with_account c t account u)) (some_is after b written_is)
+          (subst (λ (w : ℕ). InCode p after (with_account c t account w)) (sym this.1) here)
+      | inr apart ↦
+          subst (InCode p b) (with_account_other c t account u apart.1)
+          (each u b (sym (slice_get-set_other actors t u after apart.1) ∙ is))
+    ]

@@ -1,0 +1,10 @@
+-- Words and numbers stay below their bounds: `StepsAreWithin.steps_within`.
+--
+-- In order: `FewHeld` (an object has few references), `Ranges` and `RangesEvents` (rows of duties are rows that there are),
+-- `Bounds` (words), `StepsAreWithin`.
+
+pub mod FewHeld
+pub mod Ranges
+pub mod RangesEvents
+pub mod Bounds
+pub mod StepsAreWithin

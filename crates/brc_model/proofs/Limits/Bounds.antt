@@ -1,0 +1,97 @@
+-- The words that a duty finds at a row: a shared word has few counts more than its bias, and suits what is done with
+-- it.
+use Rattle.std.proofs.Common.{◌≡◌, ◌≢◌, ℕ, ◌+◌, ◌*◌, ◌≤◌, Bool, true, List, refl, ap, ◌∙◌, arith, zero, suc}
+use Rattle.std.specs.Prelude.{◌==◌, ◌&&◌}
+use Rattle.std.proofs.lemmas.Bool.{eq-eqb}
+use Rattle.brc_word.specs.Words.{owner_part, local_part, biased_part, phase_part, bias}
+use Rattle.brc_model.specs.declared.duty.Holding.{Holding}
+use Rattle.brc_model.specs.declared.duty.Duty.{Duty}
+use Rattle.brc_model.specs.declared.duty.Duty.TheVariants.{RetainStore, RetainAdd, ReleaseLoad, ReleaseStore, SharedExchange, MergeExchange, SettleCell}
+use Rattle.brc_model.specs.declared.address.Address.TheVariants.{Local, Shared}
+use Rattle.brc_model.specs.Duties.{address_of, block_of, counts_locally}
+use Rattle.brc_model.specs.declared.actor.Status.TheVariants.{Gone}
+use Rattle.brc_model.specs.Machine.{Actor, Machine, is_running}
+use Rattle.brc_model.specs.Within.{Suits}
+use Rattle.brc_model.specs.RowRule.{carries, weight, Numbers, Phased, IsDefault, IsQueued, InOwned, InSwapped, InMerged, IsLive}
+use Rattle.brc_model.specs.Accounts.{Accounts}
+use Rattle.brc_model.specs.Invariant.{numbers_of, Rule}
+use Rattle.brc_model.proofs.Objects.RowSteps.{shared_range}
+use Rattle.brc_model.proofs.Frame.Alive.{Alive, alive_backed}
+use Rattle.brc_model.proofs.Frame.Leaves.{AtDuty, head_of, exchange_alive, merge_alive}
+use Rattle.brc_model.proofs.Stepping.OwnRetains.{counts_owner, count_above, weight_here}
+use Rattle.brc_model.proofs.Stepping.OwnReleases.{release_alive}
+use Rattle.brc_model.proofs.Work.MergesOnce.{carried_is}
+use Rattle.brc_model.proofs.Limits.FewHeld.{most_each, references_few}
+
+-- ---- a live row's shared word
+
+phased_few : (k : Numbers) → Phased k → (k.mark + k.waiting ≤ 1) × (phase_part k.shared ≢ 1)
+phased_few k (IsDefault phase none above) = (omega (arith, none), λ e. absurd (omega (arith, phase, e)))
+phased_few k (IsQueued phase one) = (omega (arith, one), λ e. absurd (omega (arith, phase, e)))
+
+live_few : (owner : ℕ) (k : Numbers) → IsLive owner k → (k.mark + k.waiting ≤ 1) × (phase_part k.shared ≢ 1)
+live_few owner k live =
+    elim live.mode [
+      | InOwned o ↦ phased_few k o.phased
+      | InSwapped s ↦ phased_few k s.phased
+      | InMerged g ↦ (g.awaits, λ e. absurd (omega (arith, g.phase, e)))
+    ]
+
+-- few references are counted, so the count is near the bias
+record NearBias (m : Machine) (x : ℕ) : Type 0 where
+  high : biased_part (m.memory (Shared x)) + weight (carries x) m.actors ≤ bias + 33 * most_each + 1
+  some : 1 ≤ biased_part (m.memory (Shared x))
+  state : phase_part (m.memory (Shared x)) ≢ 1
+
+near_bias : (p : Accounts) (n : ℕ) (m : Machine) (x : ℕ) → Rule p n m → n ≤ 33 → Alive m x → NearBias m x
+near_bias p n m x rule few alive =
+    let says = live_few (block_of m.rows x) (numbers_of m x) alive.live in
+    record {
+      high = omega (arith, alive.live.sum, says.0, references_few p n m x rule, few);
+      some = shared_range (block_of m.rows x) (numbers_of m x) alive.live;
+      state = says.1;
+    }
+
+-- ---- what a duty finds
+
+release_suits : (p : Accounts) (n : ℕ) (m : Machine) (t : ℕ) (a : Actor) (x : ℕ) (h : Holding) (rest : List Duty)
+    → AtDuty p n m t a (ReleaseLoad x h) rest → (a.status ≡ Gone → ⊥)
+    → is_running a.status ≡ true → owner_part (m.memory (Local x)) ≡ t + 1 → 1 ≤ local_part (m.memory (Local x))
+release_suits p n m t a zero h rest here alive runs owner = omega (arith, here.rule.none_word)
+release_suits p n m t a (suc y) h rest here alive runs owner =
+    let x = suc y in
+    let living = release_alive p n m t a x h rest (omega arith) here in
+    let counts : counts_locally t (is_running a.status) (m.memory (Local x)) ≡ true =
+    ap (λ (b : Bool). b && (owner_part (m.memory (Local x)) == t + 1)) runs
+    ∙ eq-eqb (owner_part (m.memory (Local x))) (t + 1) owner in
+    count_above p n m t x a here.rule here.found (counts_owner m t a x counts living)
+    (weight_here p n m t x a (ReleaseLoad x h) rest here (eq-eqb x x refl) refl) living
+
+pub duty_suits : (p : Accounts) (n : ℕ) (m : Machine) (t : ℕ) (a : Actor) (d : Duty) (rest : List Duty) (count : ℕ)
+    → AtDuty p n m t a d rest → (a.status ≡ Gone → ⊥) → n ≤ 33
+    → Suits t (is_running a.status) count d (m.memory (address_of m.rows t a.head d))
+duty_suits p n m t a (RetainStore x h w) rest count here alive few =
+    let (pos, backed, owns, same, some, low) = head_of p n m t a (RetainStore x h w) rest here in low
+duty_suits p n m t a (RetainAdd x h) rest count here alive few =
+    let fits = head_of p n m t a (RetainAdd x h) rest here in
+    let near = near_bias p n m x here.rule few (alive_backed p n m t x here.rule fits.0 fits.1) in
+    (record { low = omega (arith, near.high); state = near.state }, omega (arith, near.high))
+duty_suits p n m t a (ReleaseLoad x h) rest count here alive few = release_suits p n m t a x h rest here alive
+duty_suits p n m t a (ReleaseStore x w) rest count here alive few = (head_of p n m t a (ReleaseStore x w) rest here).3
+duty_suits p n m t a (SharedExchange x r w) rest count here alive few = λ same.
+    let near = near_bias p n m x here.rule few (exchange_alive p n m t a x w r rest here) in
+    let word : biased_part (m.memory (Shared x)) ≡ biased_part w = ap biased_part same in (
+      record { low = omega (arith, near.high, word); state = λ e. near.state (ap phase_part same ∙ e) },
+      omega (arith, near.some, word),
+    )
+duty_suits p n m t a (MergeExchange x c w r) rest count here alive few = (
+  (head_of p n m t a (MergeExchange x c w r) rest here).1,
+  λ same.
+      let near = near_bias p n m x here.rule few (merge_alive p n m t a x c w r rest here) in
+      let word : biased_part (m.memory (Shared x)) ≡ biased_part w = ap biased_part same in (
+        record { low = omega (arith, near.high, word); state = λ e. near.state (ap phase_part same ∙ e) },
+        omega (arith, near.high, word, carried_is p n m t a x c w r rest here),
+      ),
+)
+duty_suits p n m t a (SettleCell x i k) rest count here alive few = omega (arith, here.rule.cells x i)
+duty_suits p n m t a _ rest count here alive few = tt

@@ -1,0 +1,374 @@
+-- A thread holds an object in at most nineteen ways, and in each within a bound: so an object has few references.
+use Rattle.std.proofs.Common.{◌≡◌, ℕ, zero, suc, ◌+◌, ◌*◌, ◌<◌, ◌≤◌, Bool, true, false, cond, List, [], ◌∷◌, Option, Some, inl, inr, refl, sym, ap, ◌∙◌, subst, arith}
+use Rattle.std.specs.Prelude.{◌==◌, ◌||◌, if◌then◌else◌, slice_get, sum_by, count_by}
+use Rattle.std.specs.List.{list_any}
+use Rattle.std.proofs.lemmas.Bool.{cases_lt}
+use Rattle.std.proofs.lemmas.Bool.Decides.{eqb_tells}
+use Rattle.std.proofs.lemmas.Option.{slice_get_cases}
+use Rattle.std.proofs.lemmas.List.Sums.{sum_by-cons}
+use Rattle.brc_model.specs.declared.duty.Holding.{Holding}
+use Rattle.brc_model.specs.declared.duty.Holding.TheVariants.{ByVariable, AsCaller, InHand}
+use Rattle.brc_model.specs.declared.duty.Reason.TheVariants.{Own}
+use Rattle.brc_model.specs.declared.duty.Duty.{Duty}
+use Rattle.brc_model.specs.declared.duty.Duty.TheVariants.{ReleaseLoad, ReleaseStore, SharedLoad, SharedExchange}
+use Rattle.brc_model.specs.Plain.{Holder, ByThread, ByCell, Reference, same, references_to}
+use Rattle.brc_model.specs.Machine.{Actor, Machine}
+use Rattle.brc_model.proofs.Basics.Bag.{same_holding-true, same-true, same-refl, held-cons, references_to-cons}
+use Rattle.brc_model.specs.References.{held, one_if, reference_of}
+use Rattle.brc_model.specs.Accounts.{Account, Accounts, extra, extra_of, extra_aside, most_lent, IsBounded}
+use Rattle.brc_model.specs.OpenWork.{is_about, about_of}
+use Rattle.brc_model.specs.Invariant.{Rule}
+use Rattle.brc_model.proofs.Basics.Lists.{and_first}
+use Rattle.brc_model.proofs.Frame.Aside.{extra_about, extra_counted}
+
+-- ---- a list that all references to an object are among
+
+record Covers (keys bag : List Reference) (x : ℕ) : Type 0 where
+  each : (r : Reference) → r.object ≡ x → 0 < held r bag → list_any (same r) keys ≡ true
+
+or_second : (a b : Bool) → b ≡ true → (a || b) ≡ true
+or_second true b e = refl
+or_second false b e = e
+
+or_first : (a b : Bool) → a ≡ true → (a || b) ≡ true
+or_first true b e = refl
+or_first false b e = absurd cc
+
+-- one reference more, and each key counts it if it is the same
+sum_more : (keys bag : List Reference) (q : Reference)
+    → sum_by (λ (k : Reference). held k (q ∷ bag)) keys ≡ sum_by (λ (k : Reference). one_if (same k q)) keys
+    + sum_by (λ (k : Reference). held k bag) keys
+sum_more [] bag q = refl
+sum_more (k ∷ keys) bag q =
+    let all = sum_by-cons (λ (k : Reference). held k (q ∷ bag)) k keys in
+    let one = sum_by-cons (λ (k : Reference). one_if (same k q)) k keys in
+    let old = sum_by-cons (λ (k : Reference). held k bag) k keys in
+    omega (arith, all, one, old, held-cons k q bag, sum_more keys bag q)
+
+some_same : (keys : List Reference) (q : Reference) → list_any (same q) keys ≡ true
+    → 1 ≤ sum_by (λ (k : Reference). one_if (same k q)) keys
+some_same [] q e = absurd cc
+some_same (k ∷ keys) q e =
+    let all = sum_by-cons (λ (k : Reference). one_if (same k q)) k keys in
+    elim (same q k) as (λ b. same q k ≡ b → 1 ≤ sum_by (λ (k : Reference). one_if (same k q)) (k ∷ keys)) [
+      | true ↦ λ is.
+          let back : same k q ≡ true = subst (λ (r : Reference). same r q ≡ true) (same-true q k is) (same-refl q) in
+          let one : one_if (same k q) ≡ 1 = ap one_if back in
+          omega (arith, all, one)
+      | false ↦
+          λ is. let later =
+          some_same keys q (sym (ap (λ (b : Bool). b || list_any (same q) keys) is) ∙ e) in omega
+          (arith, all, later)
+    ] refl
+
+covered : (keys bag : List Reference) (x : ℕ) → Covers keys bag x
+    → references_to x bag ≤ sum_by (λ (k : Reference). held k bag) keys
+covered keys [] x covers = omega arith
+covered keys (q ∷ bag) x covers =
+    let smaller : Covers keys bag x =
+    record { each = λ r is some. covers.each r is (omega (arith, held-cons r q bag, some)) } in
+    let rest = covered keys bag x smaller in
+    elim (eqb_tells q.object x) [
+      | inl this ↦
+          let is_held : held q (q ∷ bag) ≡ 1 + held q bag =
+          held-cons q q bag ∙ ap (λ (b : Bool). one_if b + held q bag) (same-refl q) in
+          let one = some_same keys q (covers.each q this.1 (omega (arith, is_held))) in
+          let is_one : one_if (q.object == x) ≡ 1 = ap one_if this.0 in
+          omega (arith, references_to-cons x q bag, sum_more keys bag q, rest, one, is_one)
+      | inr other ↦
+          let none : one_if (q.object == x) ≡ 0 = ap one_if other.0 in
+          omega (arith, references_to-cons x q bag, sum_more keys bag q, rest, none)
+    ]
+
+-- how often a reference may be held: twice in all, and as the caller as often as it may be lent
+abbrev most_by : Holder → ℕ
+most_by (ByThread t AsCaller) = most_lent + 1
+most_by (ByThread t (ByVariable v)) = 2
+most_by (ByThread t InHand) = 2
+most_by (ByCell x i) = 2
+
+abbrev most_held : Reference → ℕ
+most_held r = most_by r.holder
+
+sum_below : (f g : Reference → ℕ) (keys : List Reference) → ((k : Reference) → f k ≤ g k)
+    → sum_by f keys ≤ sum_by g keys
+sum_below f g [] below = omega arith
+sum_below f g (k ∷ keys) below =
+    omega (arith, sum_by-cons f k keys, sum_by-cons g k keys, below k, sum_below f g keys below)
+
+-- ---- the ways to hold an object
+
+-- by each variable below a number, before other ways
+abbrev variables_of : ℕ → ℕ → ℕ → List Reference → List Reference
+variables_of t x zero tail = tail
+variables_of t x (suc v) tail = reference_of t (ByVariable v) x ∷ variables_of t x v tail
+
+-- for each thread: one way of its own, in the hand, as the caller, and by the sixteen variables
+abbrev ways : (ℕ → Holding) → ℕ → ℕ → List Reference
+ways own x zero = []
+ways own x (suc t) =
+    reference_of t (own t) x ∷ reference_of t InHand x ∷ reference_of t AsCaller x ∷ variables_of t x 16 (ways own x t)
+
+-- as often as one thread may hold an object in all
+abbrev pub most_each : ℕ
+most_each = 2 * most_lent + 36
+
+most_of_one : (t : ℕ) (h : Holding) → most_by (ByThread t h) ≤ most_lent + 1
+most_of_one t (ByVariable v) = omega arith
+most_of_one t AsCaller = omega arith
+most_of_one t InHand = omega arith
+
+most_of_variables : (t x v : ℕ) (tail : List Reference)
+    → sum_by most_held (variables_of t x v tail) ≡ 2 * v + sum_by most_held tail
+most_of_variables t x zero tail = omega arith
+most_of_variables t x (suc v) tail =
+    let rest = variables_of t x v tail in
+    omega (
+      arith,
+      sum_by-cons most_held (reference_of t (ByVariable v) x) rest,
+      most_of_variables t x v tail,
+    )
+
+most_of_ways : (own : ℕ → Holding) (x n : ℕ) → sum_by most_held (ways own x n) ≤ most_each * n
+most_of_ways own x zero = omega arith
+most_of_ways own x (suc t) =
+    let later = ways own x t in
+    let variables = variables_of t x 16 later in
+    let called = reference_of t AsCaller x ∷ variables in
+    let in_hand = reference_of t InHand x ∷ called in
+    omega (
+      arith,
+      sum_by-cons most_held (reference_of t (own t) x) in_hand,
+      sum_by-cons most_held (reference_of t InHand x) called,
+      sum_by-cons most_held (reference_of t AsCaller x) variables,
+      most_of_one t (own t),
+      most_of_variables t x 16 later,
+      most_of_ways own x t,
+    )
+
+among_tail : (r : Reference) (t x v : ℕ) (tail : List Reference) → list_any (same r) tail ≡ true
+    → list_any (same r) (variables_of t x v tail) ≡ true
+among_tail r t x zero tail e = e
+among_tail r t x (suc v) tail e = or_second (same r (reference_of t (ByVariable v) x)) _ (among_tail r t x v tail e)
+
+among_variables : (t x k v : ℕ) (tail : List Reference) → v < k
+    → list_any (same (reference_of t (ByVariable v) x)) (variables_of t x k tail) ≡ true
+among_variables t x zero v tail low = absurd (omega (arith, low))
+among_variables t x (suc k) v tail low =
+    let r = reference_of t (ByVariable v) x in
+    elim (eqb_tells v k) [
+      | inl this ↦
+          let is : same r (reference_of t (ByVariable k) x) ≡ true =
+          subst (λ (w : ℕ). same r (reference_of t (ByVariable w) x) ≡ true) this.1 (same-refl r) in
+          or_first (same r (reference_of t (ByVariable k) x)) _ is
+      | inr other ↦
+          let below : v < k = elim (cases_lt v k) [
+            | inl lt ↦ lt
+            | inr past ↦ absurd (other.1 (omega (arith, past, low)))
+          ] in
+          or_second (same r (reference_of t (ByVariable k) x)) _ (among_variables t x k v tail below)
+    ]
+
+among_later : (own : ℕ → Holding) (r : Reference) (x t : ℕ) → list_any (same r) (ways own x t) ≡ true
+    → list_any (same r) (ways own x (suc t)) ≡ true
+among_later own r x t e =
+    let rest = among_tail r t x 16 (ways own x t) e in
+    or_second (same r (reference_of t (own t) x)) _
+    (or_second (same r (reference_of t InHand x)) _ (or_second (same r (reference_of t AsCaller x)) _ rest))
+
+among_own : (own : ℕ → Holding) (x t : ℕ) (h : Holding) → h ≡ own t
+    → list_any (same (reference_of t h x)) (ways own x (suc t)) ≡ true
+among_own own x t h e =
+    let r = reference_of t h x in
+    or_first (same r (reference_of t (own t) x)) _
+    (subst (λ (k : Holding). same r (reference_of t k x) ≡ true) e (same-refl r))
+
+abbrev is_low : Holding → Type 0
+is_low (ByVariable v) = v < 16
+is_low AsCaller = Unit {0}
+is_low InHand = Unit {0}
+
+among_low : (own : ℕ → Holding) (x t : ℕ) (h : Holding) → is_low h
+    → list_any (same (reference_of t h x)) (ways own x (suc t)) ≡ true
+among_low own x t (ByVariable v) low =
+    let r = reference_of t (ByVariable v) x in
+    or_second (same r (reference_of t (own t) x)) _
+    (or_second (same r (reference_of t InHand x)) _
+    (or_second (same r (reference_of t AsCaller x)) _ (among_variables t x 16 v (ways own x t) low)))
+among_low own x t AsCaller low =
+    let r = reference_of t AsCaller x in
+    or_second (same r (reference_of t (own t) x)) _
+    (or_second (same r (reference_of t InHand x)) _ (or_first (same r (reference_of t AsCaller x)) _ (same-refl r)))
+among_low own x t InHand low =
+    let r = reference_of t InHand x in
+    or_second (same r (reference_of t (own t) x)) _ (or_first (same r (reference_of t InHand x)) _ (same-refl r))
+
+among_all : (own : ℕ → Holding) (r : Reference) (x t n : ℕ) → t < n → list_any (same r) (ways own x (suc t)) ≡ true
+    → list_any (same r) (ways own x n) ≡ true
+among_all own r x t zero low e = absurd (omega (arith, low))
+among_all own r x t (suc n) low e =
+    elim (eqb_tells t n) [
+      | inl this ↦ subst (λ (u : ℕ). list_any (same r) (ways own x (suc u)) ≡ true) this.1 e
+      | inr other ↦
+          let below : t < n = elim (cases_lt t n) [
+            | inl lt ↦ lt
+            | inr past ↦ absurd (other.1 (omega (arith, past, low)))
+          ] in
+          among_later own r x n (among_all own r x t n below e)
+    ]
+
+-- ---- what the rule says of one thread
+
+one_if_low : (b : Bool) → one_if b ≤ 1
+one_if_low true = omega arith
+one_if_low false = omega arith
+
+-- who holds an object by a variable does so by one of the sixteen
+account_low : (account : Account) (h : Holding) (object : ℕ) → IsBounded account → 0 < account h object → is_low h
+account_low account (ByVariable v) object bounded some = elim (cases_lt v 16) [
+  | inl lt ↦ lt
+  | inr past ↦ absurd (omega (arith, some, bounded.sixteen v object past))
+]
+account_low account AsCaller object bounded some = tt
+account_low account InHand object bounded some = tt
+
+account_most : (account : Account) (t : ℕ) (h : Holding) (object : ℕ) → IsBounded account
+    → account h object + 1 ≤ most_by (ByThread t h)
+account_most account t (ByVariable v) object bounded = omega (arith, bounded.by_variable v object)
+account_most account t AsCaller object bounded = omega (arith, bounded.lent object)
+account_most account t InHand object bounded = omega (arith, bounded.in_hand object)
+
+-- how a thread holds what a duty gives up
+abbrev given_by : Duty → Holding
+given_by (ReleaseLoad x h) = h
+given_by _ = InHand
+
+extra_given : (d : Duty) (k : Holding) (object : ℕ) → extra d k object ≡ true → k ≡ given_by d
+extra_given (ReleaseLoad x h) k object e = sym (same_holding-true h k (and_first _ _ e))
+extra_given (ReleaseStore x w) k object e = sym (same_holding-true InHand k (and_first _ _ e))
+extra_given (SharedLoad x Own) k object e = sym (same_holding-true InHand k (and_first _ _ e))
+extra_given (SharedExchange x Own w) k object e = sym (same_holding-true InHand k (and_first _ _ e))
+extra_given _ k object e = absurd cc
+
+-- what the one duty about the object gives up
+abbrev given_in : ℕ → List Duty → Holding
+given_in x [] = InHand
+given_in x (d ∷ rest) = if is_about x d then given_by d else given_in x rest
+
+is_true : (b : Bool) → 0 < one_if b → b ≡ true
+is_true true some = refl
+is_true false some = absurd (omega (arith, some))
+
+given_as : (x : ℕ) (ds : List Duty) (k : Holding) → count_by (is_about x) ds ≤ 1
+    → 0 < count_by (λ d. extra d k x) ds → k ≡ given_in x ds
+given_as x [] k few some = absurd (omega (arith, some))
+given_as x (d ∷ rest) k few some =
+    let about = sum_by-cons (λ (e : Duty). cond (is_about x e) 1 0) d rest in
+    let given = sum_by-cons (λ (e : Duty). cond (extra e k x) 1 0) d rest in
+    elim (is_about x d) as (λ b. is_about x d ≡ b → k ≡ cond b (given_by d) (given_in x rest)) [
+      | true ↦ λ e.
+          let one : one_if (is_about x d) ≡ 1 = ap one_if e in
+          extra_given d k x (is_true (extra d k x) (omega (
+            arith,
+            about,
+            given,
+            few,
+            some,
+            one,
+            extra_counted rest k x,
+          )))
+      | false ↦ λ e.
+          let none : one_if (is_about x d) ≡ 0 = ap one_if e in
+          given_as x rest k (omega (arith, about, few)) (omega (arith, given, some, none, extra_about d k x))
+    ] refl
+
+-- the duty at hand, and those that are put aside
+abbrev opened : List Duty → List Duty → List Duty
+opened [] aside = aside
+opened (d ∷ rest) aside = d ∷ aside
+
+opened_about : (x : ℕ) (agenda aside : List Duty)
+    → count_by (is_about x) (opened agenda aside) ≡ one_if (about_of x agenda) + count_by (is_about x) aside
+opened_about x [] aside = omega arith
+opened_about x (d ∷ rest) aside = sum_by-cons (λ (e : Duty). cond (is_about x e) 1 0) d aside
+
+opened_extra : (x : ℕ) (k : Holding) (agenda aside : List Duty)
+    → count_by (λ d. extra d k x) (opened agenda aside) ≡ one_if (extra_of agenda k x) + extra_aside aside k x
+opened_extra x k [] aside = omega arith
+opened_extra x k (d ∷ rest) aside = sum_by-cons (λ (e : Duty). cond (extra e k x) 1 0) d aside
+
+abbrev opened_by : Option Actor → List Duty
+opened_by (Some a) = opened a.agenda a.aside
+opened_by _ = []
+
+abbrev own_way : Machine → ℕ → ℕ → Holding
+own_way m x t = given_in x (opened_by (slice_get m.actors t))
+
+within_most : (p : Accounts) (n : ℕ) (m : Machine) (h : Holder) (object : ℕ) → Rule p n m
+    → held (record { holder = h; object = object }) m.plain.references ≤ most_by h
+within_most p n m (ByCell x i) object rule = omega (arith, rule.cells_hold x i object)
+within_most p n m (ByThread t k) object rule =
+    elim (slice_get_cases m.actors t).1 [
+      | inl found ↦
+          let a = found.0 in
+          let fits = rule.each t a found.2 in
+          let extra = extra_counted (opened a.agenda a.aside) k object in
+          omega (
+            arith,
+            fits.0.holds.each k object,
+            extra,
+            opened_extra object k a.agenda a.aside,
+            opened_about object a.agenda a.aside,
+            fits.2.apart object,
+            account_most (p t) t k object fits.0.bounded,
+          )
+      | inr past ↦ omega (arith, rule.beyond t (omega (arith, past.0, rule.threads)) k object)
+    ]
+
+held_way : (p : Accounts) (n : ℕ) (m : Machine) (h : Holder) (object : ℕ) → Rule p n m
+    → 0 < held (record { holder = h; object = object }) m.plain.references
+    → list_any (same (record { holder = h; object = object })) (ways (own_way m object) object n) ≡ true
+held_way p n m (ByCell x i) object rule some = absurd (omega (arith, rule.cells_hold x i object, some))
+held_way p n m (ByThread t k) object rule some =
+    let r = reference_of t k object in
+    elim (slice_get_cases m.actors t).1 [
+      | inl found ↦
+          let a = found.0 in
+          let fits = rule.each t a found.2 in
+          let within : t < n = omega (arith, found.1, rule.threads) in
+          let all = opened a.agenda a.aside in
+          let about = opened_about object a.agenda a.aside in
+          let extra = opened_extra object k a.agenda a.aside in
+          let at_thread : list_any (same r) (ways (own_way m object) object (suc t)) ≡ true =
+          elim (eqb_tells (count_by (λ d. Rattle.brc_model.specs.Accounts.extra d k object) all) 0) [
+            | inl none ↦
+                let said : 0 < p t k object = omega (arith, fits.0.holds.each k object, some, none.1, extra) in
+                among_low (own_way m object) object t k (account_low (p t) k object fits.0.bounded said)
+            | inr more ↦
+                let own : own_way m object t ≡ given_in object all =
+                ap (λ (o : Option Actor). given_in object (opened_by o)) found.2 in
+                among_own (own_way m object) object t k
+                (given_as object all k (omega (arith, about, fits.2.apart object)) (omega (arith, more.1)) ∙ sym own)
+          ] in
+          among_all (own_way m object) r object t n within at_thread
+      | inr past ↦ absurd (omega (arith, rule.beyond t (omega (arith, past.0, rule.threads)) k object, some))
+    ]
+
+-- ---- all references to an object
+
+pub references_few : (p : Accounts) (n : ℕ) (m : Machine) (x : ℕ) → Rule p n m
+    → references_to x m.plain.references ≤ most_each * n
+references_few p n m x rule =
+    let keys = ways (own_way m x) x n in
+    let covers : Covers keys m.plain.references x =
+    record {
+      each = λ r is some. subst (λ (y : ℕ). list_any (same r) (ways (own_way m y) y n) ≡ true) is
+          (held_way p n m r.holder r.object rule some);
+    } in
+    omega (
+      arith,
+      covered keys m.plain.references x covers,
+      sum_below (λ (r : Reference). held r m.plain.references) most_held keys
+          (λ r. within_most p n m r.holder r.object rule),
+      most_of_ways (own_way m x) x n,
+    )

@@ -1,0 +1,170 @@
+-- The unused rows of each thread's block are blank after a step too, apart from what the birth under way has stored.
+use Rattle.std.proofs.Common.{◌≡◌, ◌≢◌, ℕ, zero, suc, ◌+◌, ◌≤◌, Bool, true, false, cond, List, [], ◌∷◌, ◌++◌, inl, inr, Some, refl, sym, ap, ◌∙◌, subst, arith}
+use Rattle.std.specs.Prelude.{◌==◌, slice_get, slice_set}
+use Rattle.std.proofs.lemmas.Bool.{ne_eqb}
+use Rattle.std.proofs.lemmas.Bool.Decides.{eqb_tells}
+use Rattle.std.proofs.lemmas.Option.{slice_get_within}
+use Rattle.brc_model.specs.declared.duty.Holding.{Holding}
+use Rattle.brc_model.specs.declared.duty.Duty.{Duty}
+use Rattle.brc_model.specs.declared.duty.Duty.TheVariants.{SettleKind, TakeSlot, BirthKind, BirthSlot, BirthLocal}
+use Rattle.brc_model.specs.declared.address.Address.TheVariants.{KindOf, Slot}
+use Rattle.brc_model.specs.Duties.{block_of, has_resource, ready}
+use Rattle.brc_model.specs.Machine.{Actor, Machine, first_row, used_by, actor_by, done_by}
+use Rattle.brc_model.proofs.Basics.Lists.{some_is, slice_get-set_same, slice_get-set_other}
+use Rattle.brc_model.proofs.Basics.Written.{written_load}
+use Rattle.brc_model.proofs.Basics.Blocks.{next_block}
+use Rattle.brc_model.proofs.Frame.Leaves.{AtDuty, head_of}
+use Rattle.brc_model.proofs.Stepping.Neutral.{found_by, memory_by}
+use Rattle.brc_model.specs.Accounts.{Accounts}
+use Rattle.brc_model.specs.Knowledge.{IsNext}
+use Rattle.brc_model.specs.Invariant.{kind_stored, slot_stored, BlankFits}
+
+-- ---- the thread that steps
+
+-- a word that is 0 stays so where another word is stored, and where 0 is stored
+still_zero : (b : Bool) (v word : ℕ) → b ≡ false → word ≡ 0 → cond b v word ≡ 0
+still_zero b v word apart zero_before = ap (λ (c : Bool). cond c v word) apart ∙ zero_before
+
+pub zero_written : (b : Bool) (v : ℕ) → v ≡ 0 → cond b 0 v ≡ 0
+zero_written true v e = refl
+zero_written false v e = e
+
+-- what the agenda says that is stored, after the birth's first step and after its step on the slot
+kind_stored_after_kind : (b : Bool) (head y : ℕ) (h : Holding) (rest : List Duty) (x : ℕ)
+    → kind_stored (ready head (cond b (BirthSlot y h ∷ []) (BirthLocal y h ∷ []) ++ rest)) x ≡ (y == x)
+kind_stored_after_kind true zero y h rest x = refl
+kind_stored_after_kind true (suc head) y h rest x = refl
+kind_stored_after_kind false zero y h rest x = refl
+kind_stored_after_kind false (suc head) y h rest x = refl
+
+kind_stored_after_slot : (head y : ℕ) (h : Holding) (rest : List Duty) (x : ℕ)
+    → kind_stored (ready head (BirthLocal y h ∷ rest)) x ≡ (y == x)
+kind_stored_after_slot zero y h rest x = refl
+kind_stored_after_slot (suc head) y h rest x = refl
+
+slot_stored_after_slot : (head y : ℕ) (h : Holding) (rest : List Duty) (x : ℕ)
+    → slot_stored (ready head (BirthLocal y h ∷ rest)) x ≡ (y == x)
+slot_stored_after_slot zero y h rest x = refl
+slot_stored_after_slot (suc head) y h rest x = refl
+
+-- what the rule says of the thread's unused rows, at its first duty
+pub blanks_here : (p : Accounts) (n : ℕ) (m : Machine) (t : ℕ) (a : Actor) (d : Duty) (rest : List Duty)
+    → AtDuty p n m t a d rest → BlankFits m.rows m.memory t a.used (d ∷ rest)
+blanks_here p n m t a d rest here =
+    subst (λ (l : List Duty). BlankFits m.rows m.memory t a.used l) here.agenda (here.rule.blanks t a here.found)
+
+-- the row that was born isn't one of the unused any more
+born_apart : (m : Machine) (t : ℕ) (a : Actor) (y x : ℕ) → IsNext m t a y → first_row m.rows t + (a.used + 1) ≤ x
+    → (y == x) ≡ false
+born_apart m t a y x next past =
+    ne_eqb y x (λ e. let row = next.row in absurd (omega (arith, row, past, e)))
+
+own_blanks : (p : Accounts) (n : ℕ) (m : Machine) (t : ℕ) (a : Actor) (d : Duty) (rest : List Duty)
+    → AtDuty p n m t a d rest
+    → BlankFits m.rows (memory_by m t a d) t (used_by a.used d) (actor_by t a d rest (found_by m t a d)).agenda
+own_blanks p n m t a (BirthKind y h w) rest here =
+    let old = blanks_here p n m t a (BirthKind y h w) rest here in
+    record {
+      kinds = λ x block past none.
+          still_zero (y == x) w (m.memory (KindOf x))
+          (sym (kind_stored_after_kind (has_resource w) a.head y h rest x) ∙ none)
+          (old.kinds x block past refl);
+      slots = λ x block past none. old.slots x block past refl;
+    }
+own_blanks p n m t a (BirthSlot y h) rest here =
+    let old = blanks_here p n m t a (BirthSlot y h) rest here in
+    record {
+      kinds = λ x block past none. old.kinds x block past (sym (kind_stored_after_slot a.head y h rest x) ∙ none);
+      slots = λ x block past none.
+          still_zero (y == x) 1 (m.memory (Slot x)) (sym (slot_stored_after_slot a.head y h rest x) ∙ none)
+          (old.slots x block past refl);
+    }
+own_blanks p n m t a (BirthLocal y h) rest here =
+    let old = blanks_here p n m t a (BirthLocal y h) rest here in
+    let next = (head_of p n m t a (BirthLocal y h) rest here).0 in
+    record {
+      kinds = λ x block past none. old.kinds x block (omega (arith, past)) (born_apart m t a y x next past);
+      slots = λ x block past none. old.slots x block (omega (arith, past)) (born_apart m t a y x next past);
+    }
+own_blanks p n m t a (SettleKind y) rest here =
+    let old = blanks_here p n m t a (SettleKind y) rest here in
+    record {
+      kinds = λ x block past none. written_load m.memory (KindOf y) (KindOf x) ∙ old.kinds x block past refl;
+      slots = λ x block past none. old.slots x block past refl;
+    }
+own_blanks p n m t a (TakeSlot y) rest here =
+    let old = blanks_here p n m t a (TakeSlot y) rest here in
+    record {
+      kinds = λ x block past none. old.kinds x block past refl;
+      slots = λ x block past none. zero_written (y == x) (m.memory (Slot x)) (old.slots x block past refl);
+    }
+own_blanks p n m t a d rest here =
+    let old = blanks_here p n m t a d rest here in
+    record {
+      kinds = λ x block past none. old.kinds x block past refl;
+      slots = λ x block past none. old.slots x block past refl;
+    }
+
+-- ---- the other threads
+
+-- no other thread's block has the row of the birth
+block_apart : (m : Machine) (t u : ℕ) (a : Actor) (y x : ℕ) → u ≢ t → IsNext m t a y → block_of m.rows x ≡ u
+    → (y == x) ≡ false
+block_apart m t u a y x ne next block =
+    ne_eqb y x (λ e. ne (sym block ∙ ap (block_of m.rows) (sym e) ∙ next_block m t a y next))
+
+others_blanks : (p : Accounts) (n : ℕ) (m : Machine) (t : ℕ) (a : Actor) (d : Duty) (rest : List Duty) (u : ℕ)
+    (b : Actor)
+    → AtDuty p n m t a d rest → u ≢ t → slice_get m.actors u ≡ Some b
+    → BlankFits m.rows (memory_by m t a d) u b.used b.agenda
+others_blanks p n m t a (BirthKind y h w) rest u b here ne found =
+    let old = here.rule.blanks u b found in
+    let next = (head_of p n m t a (BirthKind y h w) rest here).0 in
+    record {
+      kinds = λ x block past none.
+          still_zero (y == x) w (m.memory (KindOf x)) (block_apart m t u a y x ne next block)
+          (old.kinds x block past none);
+      slots = old.slots;
+    }
+others_blanks p n m t a (BirthSlot y h) rest u b here ne found =
+    let old = here.rule.blanks u b found in
+    let next = (head_of p n m t a (BirthSlot y h) rest here).0 in
+    record {
+      kinds = old.kinds;
+      slots = λ x block past none.
+          still_zero (y == x) 1 (m.memory (Slot x)) (block_apart m t u a y x ne next block)
+          (old.slots x block past none);
+    }
+others_blanks p n m t a (SettleKind y) rest u b here ne found =
+    let old = here.rule.blanks u b found in
+    record {
+      kinds = λ x block past none. written_load m.memory (KindOf y) (KindOf x) ∙ old.kinds x block past none;
+      slots = old.slots;
+    }
+others_blanks p n m t a (TakeSlot y) rest u b here ne found =
+    let old = here.rule.blanks u b found in
+    record {
+      kinds = old.kinds;
+      slots = λ x block past none. zero_written (y == x) (m.memory (Slot x)) (old.slots x block past none);
+    }
+others_blanks p n m t a _ rest u b here ne found =
+    let old = here.rule.blanks u b found in
+    record { kinds = old.kinds; slots = old.slots }
+
+pub blanks_after : (p : Accounts) (n : ℕ) (m : Machine) (t : ℕ) (a : Actor) (d : Duty) (rest : List Duty)
+    → AtDuty p n m t a d rest → (u : ℕ) (b : Actor) → slice_get (done_by m t a d rest).actors u ≡ Some b
+    → BlankFits m.rows (memory_by m t a d) u b.used b.agenda
+blanks_after p n m t a d rest here u b is =
+    let after = actor_by t a d rest (found_by m t a d) in
+    elim (eqb_tells u t) [
+      | inl same ↦
+          let written_is : Some after ≡ Some b =
+          sym (ap (slice_get (slice_set m.actors t after)) same.1
+          ∙ slice_get-set_same m.actors t after (slice_get_within m.actors t a here.found)) ∙ is in
+          let own : BlankFits m.rows (memory_by m t a d) u after.used after.agenda =
+          subst (λ (w : ℕ). BlankFits m.rows (memory_by m t a d) w after.used after.agenda) (sym same.1)
+          (own_blanks p n m t a d rest here) in
+          subst (λ (c : Actor). BlankFits m.rows (memory_by m t a d) u c.used c.agenda) (some_is after b written_is) own
+      | inr apart ↦
+          others_blanks p n m t a d rest u b here apart.1 (sym (slice_get-set_other m.actors t u after apart.1) ∙ is)
+    ]

@@ -1,0 +1,142 @@
+-- What the rule says of life and closed rows holds after a step.
+use Rattle.std.proofs.Common.{◌≡◌, ◌≢◌, ℕ, ◌<◌, ◌≤◌, Bool, true, false, List, [], ◌∷◌, ◌++◌, ◌⊎◌, inl, inr, None, Some, refl, sym, ap, ◌∙◌, subst, arith}
+use Rattle.std.specs.Prelude.{◌==◌, ◌||◌, AllPairs}
+use Rattle.std.proofs.lemmas.Bool.{eqb-true, eq-eqb, ne_eqb}
+use Rattle.std.proofs.lemmas.List.{get_or_default}
+use Rattle.std.proofs.lemmas.List.Folds.{list_any-append, list_any-from_Any}
+use Rattle.std.proofs.lemmas.List.Quantifiers.{all_pairs_push}
+use Rattle.std.proofs.lemmas.Option.{slice_get_within}
+use Rattle.brc_model.specs.Plain.{is_among}
+use Rattle.brc_model.specs.declared.duty.Duty.{Duty}
+use Rattle.brc_model.specs.Duties.{address_of}
+use Rattle.brc_model.specs.Machine.{Actor, Life, Unborn, Live, Dying, Closed, Machine, done_by}
+use Rattle.brc_model.proofs.Basics.Lists.{some_is}
+use Rattle.brc_model.specs.Accounts.{Accounts}
+use Rattle.brc_model.specs.OpenWork.{dies_by}
+use Rattle.brc_model.proofs.Frame.Leaves.{AtDuty}
+use Rattle.brc_model.proofs.Objects.Closing.{GoesOn, BeginsToDie, IsClosed, IsBorn, life_step, SameClosed, OneMore, closed_step}
+
+pub dying_not_closed : (t : ℕ) → Dying t ≡ Closed → ⊥
+dying_not_closed t e = cc
+
+pub live_not_closed : Live ≡ Closed → ⊥
+live_not_closed e = cc
+
+pub unborn_not_closed : Unborn ≡ Closed → ⊥
+unborn_not_closed e = cc
+
+pub either_true : (a b : Bool) → (a || b) ≡ true → (a ≡ true) ⊎ (b ≡ true)
+either_true true b e = inl refl
+either_true false b e = inr e
+
+pub one_is : (x y : ℕ) → is_among x (y ∷ []) ≡ true → y ≡ x
+one_is x y e = elim (either_true (y == x) false e) [ inl same ↦ eqb-true y x same | inr wrong ↦ absurd cc ]
+
+-- a row that was closed is closed still, and one that is closed now was, or ended
+pub closed_stays : (p : Accounts) (n : ℕ) (m : Machine) (t : ℕ) (a : Actor) (d : Duty) (rest : List Duty) (x : ℕ)
+    → AtDuty p n m t a d rest → m.life x ≡ Closed → (done_by m t a d rest).life x ≡ Closed
+closed_stays p n m t a d rest x here was =
+    elim (life_step p n m t a d rest x here) [
+      | GoesOn same other ↦ same ∙ was
+      | BeginsToDie now alive positive none ↦ absurd (live_not_closed (sym alive ∙ was))
+      | IsClosed now dying positive ended ↦ now
+      | IsBorn now unborn above born none ↦ absurd (unborn_not_closed (sym unborn ∙ was))
+    ]
+
+pub closed_is_after : (p : Accounts) (n : ℕ) (m : Machine) (t : ℕ) (a : Actor) (d : Duty) (rest : List Duty) (x : ℕ)
+    → AtDuty p n m t a d rest → is_among x (done_by m t a d rest).plain.closed ≡ true
+    → (done_by m t a d rest).life x ≡ Closed
+closed_is_after p n m t a d rest x here is =
+    elim (closed_step m t d (m.memory (address_of m.rows t a.head d))) [
+      | SameClosed none same ↦
+          closed_stays p n m t a d rest x here (here.rule.closed_is x (sym (ap (is_among x) same) ∙ is))
+      | OneMore y ended more ↦
+          elim (either_true (is_among x m.plain.closed) (is_among x (y ∷ []))
+          (sym (ap (is_among x) more ∙ list_any-append (λ z. z == x) m.plain.closed (y ∷ [])) ∙ is)) [
+            | inl old ↦ closed_stays p n m t a d rest x here (here.rule.closed_is x old)
+            | inr new ↦
+                elim (life_step p n m t a d rest x here) [
+                  | GoesOn same other ↦ absurd (other (ended ∙ ap Some (one_is x y new)))
+                  | BeginsToDie now alive positive none ↦ absurd (let wrong : None ≡ Some y = sym none ∙ ended in cc)
+                  | IsClosed now dying positive e ↦ now
+                  | IsBorn now unborn above born none ↦ absurd (let wrong : None ≡ Some y = sym none ∙ ended in cc)
+                ]
+          ]
+    ]
+
+pub among_more : (x : ℕ) (xs ys : List ℕ) → is_among x xs ≡ true → is_among x (xs ++ ys) ≡ true
+among_more x xs ys e = list_any-append (λ z. z == x) xs ys ∙ ap (λ (b : Bool). b || is_among x ys) e
+
+pub among_last : (x : ℕ) (xs : List ℕ) → is_among x (xs ++ x ∷ []) ≡ true
+among_last x xs =
+    list_any-append (λ z. z == x) xs (x ∷ []) ∙ elim (is_among x xs) as (λ b. (b || is_among x (x ∷ [])) ≡ true) [
+      | true ↦ refl
+      | false ↦ ap (λ (b : Bool). b || false) (eq-eqb x x refl)
+    ]
+
+pub closed_has_after : (p : Accounts) (n : ℕ) (m : Machine) (t : ℕ) (a : Actor) (d : Duty) (rest : List Duty) (x : ℕ)
+    → AtDuty p n m t a d rest → (done_by m t a d rest).life x ≡ Closed
+    → is_among x (done_by m t a d rest).plain.closed ≡ true
+closed_has_after p n m t a d rest x here is =
+    let Q : List ℕ → Type 0 = λ l. is_among x l ≡ true in
+    elim (closed_step m t d (m.memory (address_of m.rows t a.head d))) [
+      | SameClosed none same ↦
+          subst Q (sym same) (elim (life_step p n m t a d rest x here) [
+            | GoesOn now other ↦ here.rule.closed_has x (sym now ∙ is)
+            | BeginsToDie now alive positive e ↦ absurd (dying_not_closed t (sym now ∙ is))
+            | IsClosed now dying positive ended ↦ absurd (let wrong : None ≡ Some x = sym none ∙ ended in cc)
+            | IsBorn now unborn above born e ↦ absurd (live_not_closed (sym now ∙ is))
+          ])
+      | OneMore y ended more ↦
+          subst Q (sym more) (elim (life_step p n m t a d rest x here) [
+            | GoesOn now other ↦ among_more x m.plain.closed (y ∷ []) (here.rule.closed_has x (sym now ∙ is))
+            | BeginsToDie now alive positive e ↦ absurd (dying_not_closed t (sym now ∙ is))
+            | IsClosed now dying positive e ↦
+                subst (λ (z : ℕ). is_among x (m.plain.closed ++ z ∷ []) ≡ true) (some_is x y (sym e ∙ ended))
+                (among_last x m.plain.closed)
+            | IsBorn now unborn above born e ↦ absurd (live_not_closed (sym now ∙ is))
+          ])
+    ]
+
+pub closed_once_after : (p : Accounts) (n : ℕ) (m : Machine) (t : ℕ) (a : Actor) (d : Duty) (rest : List Duty)
+    → AtDuty p n m t a d rest → AllPairs (λ x y. x ≢ y) (done_by m t a d rest).plain.closed
+closed_once_after p n m t a d rest here =
+    let Q : List ℕ → Type 0 = λ l. AllPairs (λ x y. x ≢ y) l in
+    elim (closed_step m t d (m.memory (address_of m.rows t a.head d))) [
+      | SameClosed none same ↦ subst Q (sym same) here.rule.once
+      | OneMore y ended more ↦
+          subst Q (sym more) (all_pairs_push (λ x z. x ≢ z) m.plain.closed y here.rule.once (λ k e lt same.
+          let found : is_among y m.plain.closed ≡ true =
+          list_any-from_Any (λ z. z == y) m.plain.closed
+          (k, y, lt, get_or_default m.plain.closed k y e lt ∙ same, eq-eqb y y refl) in
+          elim (life_step p n m t a d rest y here) [
+            | GoesOn now other ↦ absurd (other ended)
+            | BeginsToDie now alive positive none ↦ absurd (live_not_closed (sym alive ∙ here.rule.closed_is y found))
+            | IsClosed now dying positive last ↦ absurd (dying_not_closed t (sym dying ∙ here.rule.closed_is y found))
+            | IsBorn now unborn above born none ↦ absurd (unborn_not_closed (sym unborn ∙ here.rule.closed_is y found))
+          ]))
+    ]
+
+-- ---- who dies
+
+pub none_lives_after : (p : Accounts) (n : ℕ) (m : Machine) (t : ℕ) (a : Actor) (d : Duty) (rest : List Duty)
+    → AtDuty p n m t a d rest → (done_by m t a d rest).life 0 ≡ Live
+none_lives_after p n m t a d rest here =
+    elim (life_step p n m t a d rest 0 here) [
+      | GoesOn now other ↦ now ∙ here.rule.none_lives
+      | BeginsToDie now alive positive none ↦ absurd (omega (arith, positive))
+      | IsClosed now dying positive ended ↦ absurd (omega (arith, positive))
+      | IsBorn now unborn above born none ↦ absurd (omega (arith, above))
+    ]
+
+pub dying_after : (p : Accounts) (n : ℕ) (m : Machine) (t : ℕ) (a : Actor) (d : Duty) (rest : List Duty) (x u : ℕ)
+    → AtDuty p n m t a d rest → n ≤ u → dies_by ((done_by m t a d rest).life x) u ≡ false
+dying_after p n m t a d rest x u here past =
+    let within : t < n = omega (arith, slice_get_within m.actors t a here.found, here.rule.threads) in
+    elim (life_step p n m t a d rest x here) [
+      | GoesOn now other ↦ ap (λ (l : Life). dies_by l u) now ∙ here.rule.dying x u past
+      | BeginsToDie now alive positive none ↦
+          ap (λ (l : Life). dies_by l u) now ∙ ne_eqb t u (λ e. absurd (omega (arith, within, past, e)))
+      | IsClosed now dying positive ended ↦ ap (λ (l : Life). dies_by l u) now
+      | IsBorn now unborn above born none ↦ ap (λ (l : Life). dies_by l u) now
+    ]

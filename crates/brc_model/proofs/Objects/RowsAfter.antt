@@ -1,0 +1,66 @@
+-- Each duty keeps each row's rule.
+use Rattle.std.proofs.Common.{◌≡◌, ℕ, ◌<◌, List, ◌∷◌, Some, arith, subst, inl, inr}
+use Rattle.std.specs.Prelude.{slice_get}
+use Rattle.std.proofs.lemmas.Bool.Decides.{eqb_tells}
+use Rattle.brc_model.specs.declared.duty.Reason.TheVariants.{Own, Handed}
+use Rattle.brc_model.specs.declared.duty.Duty.{Duty}
+use Rattle.brc_model.specs.declared.duty.Duty.TheVariants.{RetainLoad, RetainStore, RetainAdd, ReleaseLoad, ReleaseStore, DecideAtZero, SharedLoad, SharedExchange, SetMark, Look, TakeMark, MergeSwap, MergeLoad, MergeExchange, Die, Settle, SettleKind, SettleCell, TakeSlot, CloseResource, SettleEnd, Leave, Scan, Finish, ClaimMark, BirthKind, BirthSlot, BirthLocal}
+use Rattle.brc_model.specs.Duties.{block_of}
+use Rattle.brc_model.specs.declared.actor.Status.TheVariants.{Gone}
+use Rattle.brc_model.specs.Machine.{Actor, Machine, done_by}
+use Rattle.brc_model.specs.RowRule.{RowRule}
+use Rattle.brc_model.specs.Accounts.{Accounts}
+use Rattle.brc_model.specs.Invariant.{Rule, numbers_of}
+use Rattle.brc_model.proofs.Objects.RowsAfterStep.{Doing, KeepsRow}
+use Rattle.brc_model.proofs.Objects.RowsAfterElsewhere.{subject, row_elsewhere}
+use Rattle.brc_model.proofs.Objects.RowsAfterLocal.{row_after_retain_load, row_after_retain_store, row_after_retain_add, row_after_release_load, row_after_release_store, row_after_decide}
+use Rattle.brc_model.proofs.Objects.RowsAfterShared.{row_after_shared_load, row_after_own_exchange, row_after_handed_exchange}
+use Rattle.brc_model.proofs.Objects.RowsAfterMarks.{row_after_set_mark, row_after_look, row_after_take_mark, row_after_scan, row_after_claim, row_after_die, row_after_kind, row_after_cell, row_after_take_slot, row_after_close, row_after_end}
+use Rattle.brc_model.proofs.Objects.RowsAfterBirths.{row_after_birth_kind, row_after_birth_slot, row_after_birth_local}
+use Rattle.brc_model.proofs.Objects.RowsAfterMerge.{row_after_own_swap, row_after_handed_swap, row_after_merge_load, row_after_merge_exchange}
+
+-- the row that the duty is about
+own_row : (p : Accounts) (n : ℕ) (m : Machine) (t : ℕ) (a : Actor) (d : Duty) (rest : List Duty) → Doing p n m t a d rest
+    → 0 < subject d → KeepsRow m t a d rest (subject d)
+own_row p n m t a (RetainLoad y h) rest s some = row_after_retain_load some s
+own_row p n m t a (RetainStore y h w) rest s some = row_after_retain_store s
+own_row p n m t a (RetainAdd y h) rest s some = row_after_retain_add s
+own_row p n m t a (ReleaseLoad y h) rest s some = row_after_release_load some s
+own_row p n m t a (ReleaseStore y w) rest s some = row_after_release_store s
+own_row p n m t a (DecideAtZero y) rest s some = row_after_decide s
+own_row p n m t a (SharedLoad y r) rest s some = row_after_shared_load some s
+own_row p n m t a (SharedExchange y Own w) rest s some = row_after_own_exchange s
+own_row p n m t a (SharedExchange y Handed w) rest s some = row_after_handed_exchange s
+own_row p n m t a (SetMark y) rest s some = row_after_set_mark s
+own_row p n m t a (Look y) rest s some = row_after_look s
+own_row p n m t a (TakeMark y) rest s some = row_after_take_mark s
+own_row p n m t a (MergeSwap y Own) rest s some = row_after_own_swap s
+own_row p n m t a (MergeSwap y Handed) rest s some = row_after_handed_swap s
+own_row p n m t a (MergeLoad y c r) rest s some = row_after_merge_load s
+own_row p n m t a (MergeExchange y c w r) rest s some = row_after_merge_exchange s
+own_row p n m t a (Die y) rest s some = row_after_die some s
+own_row p n m t a Settle rest s some = absurd (omega (arith, some))
+own_row p n m t a (SettleKind y) rest s some = row_after_kind some s
+own_row p n m t a (SettleCell y i cells) rest s some = row_after_cell some s
+own_row p n m t a (TakeSlot y) rest s some = row_after_take_slot some s
+own_row p n m t a (CloseResource y) rest s some = row_after_close some s
+own_row p n m t a (SettleEnd y) rest s some = row_after_end s
+own_row p n m t a (Leave y left) rest s some = absurd (omega (arith, some))
+own_row p n m t a (Scan y left) rest s some = row_after_scan some s
+own_row p n m t a Finish rest s some = absurd (omega (arith, some))
+own_row p n m t a (ClaimMark y) rest s some = row_after_claim some s
+own_row p n m t a (BirthKind y h w) rest s some = row_after_birth_kind some s
+own_row p n m t a (BirthSlot y h) rest s some = row_after_birth_slot some s
+own_row p n m t a (BirthLocal y h) rest s some = row_after_birth_local s
+
+pub rows_after : (p : Accounts) (n : ℕ) (m : Machine) (t : ℕ) (a : Actor) (d : Duty) (rest : List Duty) → Rule p n m
+    → slice_get m.actors t ≡ Some a → a.agenda ≡ d ∷ rest → (a.status ≡ Gone → ⊥)
+    → (x : ℕ) → 0 < x
+    → RowRule (block_of m.rows x) ((done_by m t a d rest).life x) (numbers_of (done_by m t a d rest) x)
+rows_after p n m t a d rest rule actor agenda runs x some =
+    let s : Doing p n m t a d rest = record { rule = rule; actor = actor; agenda = agenda } in
+    elim (eqb_tells (subject d) x) [
+      | inl same ↦
+          subst (λ (z : ℕ). KeepsRow m t a d rest z) same.1 (own_row p n m t a d rest s (omega (arith, some, same.1)))
+      | inr other ↦ row_elsewhere s x some other.0
+    ]

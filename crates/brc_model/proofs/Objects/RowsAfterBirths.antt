@@ -1,0 +1,99 @@
+-- A birth keeps the rule of the row that is born.
+use Rattle.std.proofs.Common.{ℕ, ◌+◌, ◌<◌, Bool, cond, List, [], ◌∷◌, refl, sym, ap, subst, arith}
+use Rattle.std.proofs.lemmas.Option.{slice_get_within}
+use Rattle.brc_model.specs.declared.duty.Holding.{Holding}
+use Rattle.brc_word.specs.Words.{local_word}
+use Rattle.brc_model.specs.declared.duty.Duty.{Duty}
+use Rattle.brc_model.specs.declared.duty.Duty.TheVariants.{BirthKind, BirthSlot, BirthLocal}
+use Rattle.brc_model.specs.declared.address.Address.TheVariants.{Local}
+use Rattle.brc_model.specs.Duties.{block_of, has_resource}
+use Rattle.brc_model.specs.Machine.{Actor, Life, Live, Machine}
+use Rattle.brc_model.proofs.Basics.Bag.{references_to-cons}
+use Rattle.brc_model.specs.References.{reference_of}
+use Rattle.brc_model.specs.RowRule.{Numbers, IsDefault, AboveZero, InOwned, IsLive, IsUnborn, RowRule}
+use Rattle.brc_model.specs.Accounts.{Accounts}
+use Rattle.brc_model.specs.Knowledge.{IsNext}
+use Rattle.brc_model.specs.Invariant.{numbers_of}
+use Rattle.brc_model.proofs.Objects.RowsAfterOwn.{own, one_own, written_here, row_apart}
+use Rattle.brc_model.proofs.Objects.RowsAfterStep.{Doing, KeepsRow, head_fits_of, weighed, row_becomes, row_stays}
+use Rattle.brc_model.proofs.Objects.RowsAfterElsewhere.{IsApart, apart_if, one_apart}
+use Rattle.brc_model.proofs.Basics.Blocks.{next_above, next_unborn, next_block}
+
+-- ---- what the object is, and its resource
+
+pub row_after_birth_kind : {p : Accounts} {n : ℕ} {m : Machine} {t : ℕ} {a : Actor} {y : ℕ} {h : Holding} {w : ℕ}
+    {rest : List Duty}
+    → 0 < y → Doing p n m t a (BirthKind y h w) rest → KeepsRow m t a (BirthKind y h w) rest y
+row_after_birth_kind {y = y} {h = h} {w = w} some s =
+    let this : IsApart y (BirthKind y h w) =
+    record { waiting = refl; carried = refl; merging = refl; deciding = refl; lives = λ life state. refl } in
+    let slot : IsApart y (BirthSlot y h) =
+    record { waiting = refl; carried = refl; merging = refl; deciding = refl; lives = λ life state. refl } in
+    let local : IsApart y (BirthLocal y h) =
+    record { waiting = refl; carried = refl; merging = refl; deciding = refl; lives = λ life state. refl } in
+    row_apart s y some this (apart_if (has_resource w) (one_apart y _ slot) (one_apart y _ local)) (λ life state. refl)
+    (record { local = refl; shared = refl; mark = refl; references = refl })
+
+pub row_after_birth_slot : {p : Accounts} {n : ℕ} {m : Machine} {t : ℕ} {a : Actor} {y : ℕ} {h : Holding}
+    {rest : List Duty}
+    → 0 < y → Doing p n m t a (BirthSlot y h) rest → KeepsRow m t a (BirthSlot y h) rest y
+row_after_birth_slot {y = y} {h = h} some s =
+    row_stays {next = BirthLocal y h ∷ []} {x = y} s some
+    (record {
+      follows = refl;
+      lives = refl;
+      local = refl;
+      shared = refl;
+      mark = refl;
+      references = refl;
+      waiting = refl;
+      carried = refl;
+      merging = refl;
+      deciding = refl;
+    })
+
+-- ---- the object is counted
+
+-- one local reference of the owner's, and nothing else
+born_live : (owner : ℕ) (k : Numbers) → owner < 4294967294 → IsUnborn k
+    → IsLive owner (record k { local = local_word owner 1; references = k.references + 1 })
+born_live owner k low unborn = record {
+  sum = omega (arith, low, unborn.shared, unborn.mark, unborn.references, unborn.waiting, unborn.carried);
+  mode = InOwned (record {
+    owned = omega (arith, low);
+    low = omega (arith, low);
+    merging = unborn.merging;
+    carried = unborn.carried;
+    decided = AboveZero (omega (arith, low)) unborn.deciding;
+    phased =
+        IsDefault (omega (arith, unborn.shared)) (omega (arith, unborn.mark, unborn.waiting))
+        (omega (arith, unborn.shared));
+  });
+}
+
+pub row_after_birth_local : {p : Accounts} {n : ℕ} {m : Machine} {t : ℕ} {a : Actor} {y : ℕ} {h : Holding}
+    {rest : List Duty}
+    → Doing p n m t a (BirthLocal y h) rest → KeepsRow m t a (BirthLocal y h) rest y
+row_after_birth_local {p = p} {n = n} {m = m} {t = t} {a = a} {y = y} {h = h} {rest = rest} s =
+    let next : IsNext m t a y = (head_fits_of s).0 in
+    let k = numbers_of m y in
+    let weights = weighed s [] refl y in
+    let one = one_own y in
+    let above = next_above m t a y next in
+    let block = next_block m t a y next in
+    let within = slice_get_within m.actors t a s.actor in
+    let unborn : IsUnborn k =
+    subst (λ (l : Life). RowRule (block_of m.rows y) l k) (next_unborn p n m t a y s.rule s.actor next)
+    (s.rule.rows y (omega (arith, above))) in
+    row_becomes m t a (BirthLocal y h) rest y [] refl Live (ap (λ (b : Bool). cond b Live (m.life y)) (own y))
+    (record k { local = local_word t 1; references = k.references + 1 }) (record {
+      local = sym (written_here m.memory (Local y) (local_word t 1) (own y));
+      shared = refl;
+      mark = refl;
+      references = omega (arith, references_to-cons y (reference_of t h y) m.plain.references, one);
+      waiting = omega (arith, weights.waiting);
+      carried = omega (arith, weights.carried);
+      merging = omega (arith, weights.merging);
+      deciding = omega (arith, weights.deciding);
+    }) (subst (λ (o : ℕ). IsLive o (record k { local = local_word t 1; references = k.references + 1 })) (sym block)
+    (born_live t k (omega (arith, within, s.rule.threads, s.rule.few_threads)) unborn))

@@ -1,0 +1,227 @@
+-- Retaining and releasing by the local word keep the row's rule.
+use Rattle.std.proofs.Common.{◌≡◌, ℕ, ◌+◌, ◌-◌, ◌<◌, ◌≤◌, Bool, false, cond, List, [], ◌∷◌, ◌++◌, refl, sym, ap, ◌∙◌, arith, inl, inr}
+use Rattle.std.specs.Prelude.{◌&&◌, nat_lt}
+use Rattle.std.proofs.lemmas.Bool.Decides.{eqb_tells}
+use Rattle.brc_model.specs.declared.duty.Holding.{Holding}
+use Rattle.brc_model.specs.declared.duty.Holding.TheVariants.{ByVariable, AsCaller, InHand}
+use Rattle.brc_model.specs.Plain.{without, references_to, Plain, moved}
+use Rattle.brc_word.specs.Words.{local_part, is_immortal_word, fresh_word}
+use Rattle.brc_model.specs.declared.duty.Reason.TheVariants.{Own}
+use Rattle.brc_model.specs.declared.duty.Duty.{Duty}
+use Rattle.brc_model.specs.declared.duty.Duty.TheVariants.{RetainLoad, RetainStore, RetainAdd, ReleaseLoad, ReleaseStore, DecideAtZero, SharedLoad, MergeSwap, Die}
+use Rattle.brc_model.specs.declared.address.Address.TheVariants.{Local, Shared}
+use Rattle.brc_model.specs.Duties.{block_of, counts_locally}
+use Rattle.brc_model.specs.Machine.{Live, Dying, Actor, Machine, gain, lose, hand_on}
+use Rattle.brc_model.proofs.Basics.Bag.{references_to-cons, same_holding-refl}
+use Rattle.brc_model.specs.References.{reference_of}
+use Rattle.brc_model.specs.Accounts.{Accounts}
+use Rattle.brc_model.specs.Invariant.{numbers_of}
+use Rattle.brc_model.proofs.Objects.RowSteps.{local_up, local_down, local_to_zero, zero_dies, shared_gained}
+use Rattle.brc_model.proofs.Objects.RowsAfterStep.{Doing, head_fits_of, KeepsRow, weighed, row_becomes, row_stays}
+use Rattle.brc_model.proofs.Objects.RowsAfterElsewhere.{IsApart, none_apart, one_apart, apart_if}
+use Rattle.brc_model.proofs.Objects.RowsAfterOwn.{own, one_own, written_here, gives_up, IsLost, is_lost, lives_so, lives_backed, counted_word, row_apart}
+
+-- ---- retaining
+
+retain_apart : (x y : ℕ) (h : Holding) (w : ℕ)
+    → (IsApart x (RetainLoad y h)) × (IsApart x (RetainStore y h w)) × (IsApart x (RetainAdd y h))
+retain_apart x y h w = (
+  record { waiting = refl; carried = refl; merging = refl; deciding = refl; lives = λ life state. refl },
+  record { waiting = refl; carried = refl; merging = refl; deciding = refl; lives = λ life state. refl },
+  record { waiting = refl; carried = refl; merging = refl; deciding = refl; lives = λ life state. refl },
+)
+
+pub row_after_retain_load : {p : Accounts} {n : ℕ} {m : Machine} {t : ℕ} {a : Actor} {y : ℕ} {h : Holding}
+    {rest : List Duty}
+    → 0 < y → Doing p n m t a (RetainLoad y h) rest → KeepsRow m t a (RetainLoad y h) rest y
+row_after_retain_load {m = m} {t = t} {y = y} {h = h} some s =
+    let fits = head_fits_of s in
+    let w = m.memory (Local y) in
+    let lives = lives_backed s y some fits in
+    let counted : is_immortal_word w ≡ false = counted_word (block_of m.rows y) (numbers_of m y) lives.rule in
+    let parts = retain_apart y y h w in
+    let next =
+    apart_if (is_immortal_word w) (none_apart y)
+    (apart_if (counts_locally t _ w && nat_lt (local_part w) 4294967294) (one_apart y _ parts.1)
+    (one_apart y _ parts.2)) in
+    row_apart s y some parts.0 next (λ life state. refl) (record {
+      local = sym (written_here m.memory (Local y) w (own y));
+      shared = refl;
+      mark = refl;
+      references = sym (ap (λ (b : Bool). references_to y (moved m.plain (cond b (gain t h y) [])).references) counted);
+    })
+
+pub row_after_retain_store : {p : Accounts} {n : ℕ} {m : Machine} {t : ℕ} {a : Actor} {y : ℕ} {h : Holding} {w : ℕ}
+    {rest : List Duty}
+    → Doing p n m t a (RetainStore y h w) rest → KeepsRow m t a (RetainStore y h w) rest y
+row_after_retain_store {m = m} {t = t} {a = a} {y = y} {h = h} {w = w} {rest = rest} s =
+    let fits = head_fits_of s in
+    let k = numbers_of m y in
+    let lives = lives_backed s y fits.0 fits.1 in
+    let weights = weighed s [] refl y in
+    let low : local_part (m.memory (Local y)) ≡ local_part w = ap local_part fits.3 in
+    let one = one_own y in
+    row_becomes m t a (RetainStore y h w) rest y [] refl Live lives.is_live
+    (record k { local = k.local + 1; references = k.references + 1 }) (record {
+      local = omega (arith, written_here m.memory (Local y) (w + 1) (own y), fits.3);
+      shared = refl;
+      mark = refl;
+      references = omega (arith, references_to-cons y (reference_of t h y) m.plain.references, one);
+      waiting = omega (arith, weights.waiting);
+      carried = omega (arith, weights.carried);
+      merging = omega (arith, weights.merging);
+      deciding = omega (arith, weights.deciding);
+    }) (local_up (block_of m.rows y) k lives.rule (omega (arith, low, fits.4)) (omega (arith, low, fits.5)))
+
+pub row_after_retain_add : {p : Accounts} {n : ℕ} {m : Machine} {t : ℕ} {a : Actor} {y : ℕ} {h : Holding}
+    {rest : List Duty}
+    → Doing p n m t a (RetainAdd y h) rest → KeepsRow m t a (RetainAdd y h) rest y
+row_after_retain_add {m = m} {t = t} {a = a} {y = y} {h = h} {rest = rest} s =
+    let fits = head_fits_of s in
+    let k = numbers_of m y in
+    let lives = lives_backed s y fits.0 fits.1 in
+    let weights = weighed s [] refl y in
+    let one = one_own y in
+    row_becomes m t a (RetainAdd y h) rest y [] refl Live lives.is_live
+    (record k { shared = k.shared + 4; references = k.references + 1 }) (record {
+      local = refl;
+      shared = sym (written_here m.memory (Shared y) (m.memory (Shared y) + 4) (own y));
+      mark = refl;
+      references = omega (arith, references_to-cons y (reference_of t h y) m.plain.references, one);
+      waiting = omega (arith, weights.waiting);
+      carried = omega (arith, weights.carried);
+      merging = omega (arith, weights.merging);
+      deciding = omega (arith, weights.deciding);
+    }) (shared_gained (block_of m.rows y) k lives.rule)
+
+-- ---- releasing
+
+-- a reference that is taken into the hand is one reference still
+handed_on : (t y : ℕ) (h : Holding) (p : Plain) → IsLost p.references (reference_of t h y)
+    → references_to y p.references ≡ references_to y (moved p (hand_on t h y ++ [])).references
+handed_on t y InHand p lost = refl
+handed_on t y AsCaller p lost =
+    let one = one_own y in
+    omega (
+      arith,
+      references_to-cons y (reference_of t InHand y) (without (reference_of t AsCaller y) p.references),
+      lost.less,
+      one,
+    )
+handed_on t y (ByVariable v) p lost =
+    let one = one_own y in
+    omega (
+      arith,
+      references_to-cons y (reference_of t InHand y)
+          (without (reference_of t (ByVariable v) y) p.references),
+      lost.less,
+      one,
+    )
+
+pub row_after_release_load : {p : Accounts} {n : ℕ} {m : Machine} {t : ℕ} {a : Actor} {y : ℕ} {h : Holding}
+    {rest : List Duty}
+    → 0 < y → Doing p n m t a (ReleaseLoad y h) rest → KeepsRow m t a (ReleaseLoad y h) rest y
+row_after_release_load {m = m} {t = t} {y = y} {h = h} some s =
+    let w = m.memory (Local y) in
+    let lost =
+    is_lost m.plain.references (reference_of t h y) (gives_up s h y (rw (same_holding-refl h, own y) refl) refl) in
+    let lives = lives_so s y some (omega (arith, lost.before)) in
+    let counted : is_immortal_word w ≡ false = counted_word (block_of m.rows y) (numbers_of m y) lives.rule in
+    let load : IsApart y (ReleaseLoad y h) =
+    record { waiting = refl; carried = refl; merging = refl; deciding = refl; lives = λ life state. refl } in
+    let store : IsApart y (ReleaseStore y w) =
+    record { waiting = refl; carried = refl; merging = refl; deciding = refl; lives = λ life state. refl } in
+    let shared : IsApart y (SharedLoad y Own) =
+    record { waiting = refl; carried = refl; merging = refl; deciding = refl; lives = λ life state. refl } in
+    let next =
+    apart_if (is_immortal_word w) (none_apart y)
+    (apart_if (counts_locally t _ w) (one_apart y _ store) (one_apart y _ shared)) in
+    row_apart s y some load next (λ life state. refl) (record {
+      local = sym (written_here m.memory (Local y) w (own y));
+      shared = refl;
+      mark = refl;
+      references =
+          handed_on t y h m.plain lost ∙ sym
+          (ap (λ (b : Bool). references_to y (moved m.plain (hand_on t h y ++ cond b (lose t y) [])).references)
+          counted);
+    })
+
+pub row_after_release_store : {p : Accounts} {n : ℕ} {m : Machine} {t : ℕ} {a : Actor} {y w : ℕ} {rest : List Duty}
+    → Doing p n m t a (ReleaseStore y w) rest → KeepsRow m t a (ReleaseStore y w) rest y
+row_after_release_store {m = m} {t = t} {a = a} {y = y} {w = w} {rest = rest} s =
+    let fits = head_fits_of s in
+    let k = numbers_of m y in
+    let lost = is_lost m.plain.references (reference_of t InHand y) (gives_up s InHand y (rw (own y) refl) refl) in
+    let lives = lives_so s y fits.0 (omega (arith, lost.before)) in
+    let word = written_here m.memory (Local y) (w - 1) (own y) in
+    let low : local_part (m.memory (Local y)) ≡ local_part w = ap local_part fits.2 in
+    let one = one_own y in
+    elim (eqb_tells (local_part w) 1) [
+      | inl last ↦
+          let weights = weighed s (DecideAtZero y ∷ []) (rw last.0 refl) y in
+          row_becomes m t a (ReleaseStore y w) rest y (DecideAtZero y ∷ []) (rw last.0 refl) Live lives.is_live
+          (record k { local = k.local - 1; references = k.references - 1; deciding = k.deciding + 1 }) (record {
+            local = omega (arith, word, fits.2);
+            shared = refl;
+            mark = refl;
+            references = omega (arith, lost.less);
+            waiting = omega (arith, weights.waiting);
+            carried = omega (arith, weights.carried);
+            merging = omega (arith, weights.merging);
+            deciding = omega (arith, weights.deciding, one);
+          }) (local_to_zero (block_of m.rows y) k lives.rule (low ∙ last.1) lost.before)
+      | inr more ↦
+          let weights = weighed s [] (rw more.0 refl) y in
+          row_becomes m t a (ReleaseStore y w) rest y [] (rw more.0 refl) Live lives.is_live
+          (record k { local = k.local - 1; references = k.references - 1 }) (record {
+            local = omega (arith, word, fits.2);
+            shared = refl;
+            mark = refl;
+            references = omega (arith, lost.less);
+            waiting = omega (arith, weights.waiting);
+            carried = omega (arith, weights.carried);
+            merging = omega (arith, weights.merging);
+            deciding = omega (arith, weights.deciding);
+          }) (local_down (block_of m.rows y) k lives.rule (omega (arith, low, fits.3, more.1)) lost.before)
+    ]
+
+-- ---- the owner at zero
+
+pub row_after_decide : {p : Accounts} {n : ℕ} {m : Machine} {t : ℕ} {a : Actor} {y : ℕ} {rest : List Duty}
+    → Doing p n m t a (DecideAtZero y) rest → KeepsRow m t a (DecideAtZero y) rest y
+row_after_decide {m = m} {t = t} {a = a} {y = y} {rest = rest} s =
+    let fits = head_fits_of s in
+    let k = numbers_of m y in
+    let word = written_here m.memory (Shared y) (m.memory (Shared y)) (own y) in
+    let one = one_own y in
+    elim (eqb_tells (m.memory (Shared y)) fresh_word) [
+      | inl fresh ↦
+          let weights = weighed s (Die y ∷ []) (rw fresh.0 refl) y in
+          let decided : 1 ≤ k.deciding = omega (arith, weights.deciding, one) in
+          let lives = lives_so s y fits.0 (omega (arith, decided)) in
+          row_becomes m t a (DecideAtZero y) rest y (Die y ∷ []) (rw fresh.0 refl) (Dying t)
+          (ap (λ (b : Bool). cond b (Dying t) (m.life y)) (own y)) (record k { deciding = k.deciding - 1 })
+          (record {
+            local = refl;
+            shared = sym word;
+            mark = refl;
+            references = refl;
+            waiting = omega (arith, weights.waiting);
+            carried = omega (arith, weights.carried);
+            merging = omega (arith, weights.merging);
+            deciding = omega (arith, weights.deciding, one);
+          }) (zero_dies (block_of m.rows y) k lives.rule fits.2 decided fresh.1)
+      | inr other ↦
+          row_stays {next = MergeSwap y Own ∷ []} {x = y} s fits.0 (record {
+            follows = rw other.0 refl;
+            lives = refl;
+            local = refl;
+            shared = sym word;
+            mark = refl;
+            references = refl;
+            waiting = refl;
+            carried = refl;
+            merging = refl;
+            deciding = omega arith;
+          })
+    ]

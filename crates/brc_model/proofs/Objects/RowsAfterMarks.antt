@@ -1,0 +1,294 @@
+-- Setting, taking and looking at marks, and what finalises or leaves, keep the row's rule.
+use Rattle.std.proofs.Common.{◌≡◌, ℕ, ◌+◌, ◌-◌, ◌<◌, ◌≤◌, Bool, true, false, cond, List, [], ◌∷◌, ◌++◌, refl, sym, ap, ◌∙◌, subst, arith, inl, inr}
+use Rattle.std.specs.Prelude.{◌==◌}
+use Rattle.std.proofs.lemmas.List.Sums.{sum_by-append}
+use Rattle.brc_model.specs.Plain.{references_to, moved}
+use Rattle.brc_model.specs.declared.duty.Reason.TheVariants.{Handed}
+use Rattle.brc_model.specs.declared.duty.Duty.{Duty}
+use Rattle.brc_model.specs.declared.duty.Duty.TheVariants.{SetMark, Look, TakeMark, MergeSwap, Die, Settle, SettleKind, SettleCell, TakeSlot, CloseResource, SettleEnd, Scan, ClaimMark}
+use Rattle.brc_model.specs.declared.address.Address.TheVariants.{Local, Shared, Mark, Cell, KindOf}
+use Rattle.brc_model.specs.Duties.{block_of, claimed, has_resource, cells_of, cells_from}
+use Rattle.brc_model.specs.Machine.{Life, Live, Dying, Closed, Actor, Machine, with_life, dies_next, life_by, done_by, take_out}
+use Rattle.brc_model.specs.RowRule.{waits, carries, merges, decides, RowRule}
+use Rattle.brc_model.specs.Accounts.{Accounts}
+use Rattle.brc_model.specs.Invariant.{numbers_of}
+use Rattle.brc_model.proofs.Objects.RowMerges.{mark_set, mark_taken}
+use Rattle.brc_model.proofs.Objects.RowsAfterStep.{Doing, head_fits_of, following, KeepsRow, weighed, row_becomes, row_stays}
+use Rattle.brc_model.proofs.Objects.RowsAfterElsewhere.{IsApart, AreApart, none_apart, one_apart, more_apart, apart_if, settle_apart, scan_apart, kind_apart, cells_apart, released_apart}
+use Rattle.brc_model.proofs.Objects.RowsAfterOwn.{own, one_own, written_here, lives_so, row_apart}
+
+-- ---- a mark is set
+
+pub row_after_set_mark : {p : Accounts} {n : ℕ} {m : Machine} {t : ℕ} {a : Actor} {y : ℕ} {rest : List Duty}
+    → Doing p n m t a (SetMark y) rest → KeepsRow m t a (SetMark y) rest y
+row_after_set_mark {m = m} {t = t} {a = a} {y = y} {rest = rest} s =
+    let some : 0 < y = head_fits_of s in
+    let k = numbers_of m y in
+    let weights = weighed s (Look y ∷ []) refl y in
+    let one = one_own y in
+    let awaits : 1 ≤ k.waiting = omega (arith, weights.waiting, one) in
+    let lives = lives_so s y some (omega (arith, awaits)) in
+    row_becomes m t a (SetMark y) rest y (Look y ∷ []) refl Live lives.is_live
+    (record k { mark = 1; waiting = k.waiting - 1 }) (record {
+      local = refl;
+      shared = refl;
+      mark = sym (written_here m.memory (Mark y) 1 (own y));
+      references = refl;
+      waiting = omega (arith, weights.waiting, one);
+      carried = omega (arith, weights.carried);
+      merging = omega (arith, weights.merging);
+      deciding = omega (arith, weights.deciding);
+    }) (mark_set (block_of m.rows y) k lives.rule awaits)
+
+pub row_after_look : {p : Accounts} {n : ℕ} {m : Machine} {t : ℕ} {a : Actor} {y : ℕ} {rest : List Duty}
+    → Doing p n m t a (Look y) rest → KeepsRow m t a (Look y) rest y
+row_after_look {m = m} {y = y} s =
+    let some : 0 < y = head_fits_of s in
+    let look : IsApart y (Look y) =
+    record { waiting = refl; carried = refl; merging = refl; deciding = refl; lives = λ life state. refl } in
+    let take : IsApart y (TakeMark y) =
+    record { waiting = refl; carried = refl; merging = refl; deciding = refl; lives = λ life state. refl } in
+    row_apart s y some look (apart_if _ (none_apart y) (one_apart y (TakeMark y) take)) (λ life state. refl)
+    (record { local = refl; shared = refl; mark = refl; references = refl })
+
+-- ---- a mark is taken, by whoever may
+
+-- a duty that takes the mark, and what follows it whether the mark was set or not
+pub record Takes (m : Machine) (t : ℕ) (a : Actor) (d : Duty) (rest : List Duty) (y : ℕ) (tail : List Duty) : Type 0
+  where
+    pub follows : following m t a d ≡ claimed y (m.memory (Mark y)) ++ tail
+    pub this : IsApart y d
+    pub others : AreApart y tail
+    pub lives : (next : List Duty) → life_by m.life t d next y ≡ with_life m.life (dies_next next) (Dying t) y
+    pub local : m.memory (Local y) ≡ (done_by m t a d rest).memory (Local y)
+    pub shared : m.memory (Shared y) ≡ (done_by m t a d rest).memory (Shared y)
+    pub mark : (done_by m t a d rest).memory (Mark y) ≡ 0
+    pub references : references_to y m.plain.references ≡ references_to y (done_by m t a d rest).plain.references
+
+-- none was set
+takes_none : {p : Accounts} {n : ℕ} {m : Machine} {t : ℕ} {a : Actor} {d : Duty} {rest tail : List Duty} {y : ℕ}
+    → Doing p n m t a d rest → 0 < y → Takes m t a d rest y tail → m.memory (Mark y) ≡ 0
+    → KeepsRow m t a d rest y
+takes_none {m = m} {t = t} {a = a} {d = d} {rest = rest} {tail = tail} {y = y} s some takes unset =
+    let follows : following m t a d ≡ tail = takes.follows ∙ ap (λ (w : ℕ). claimed y w ++ tail) unset in
+    row_stays {next = tail} {x = y} s some (record {
+      follows = follows;
+      lives = takes.lives tail ∙ takes.others.lives m.life (Dying t);
+      local = takes.local;
+      shared = takes.shared;
+      mark = unset ∙ sym takes.mark;
+      references = takes.references;
+      waiting = takes.others.waiting ∙ sym takes.this.waiting;
+      carried = takes.others.carried ∙ sym takes.this.carried;
+      merging = takes.others.merging ∙ sym takes.this.merging;
+      deciding = takes.others.deciding ∙ sym takes.this.deciding;
+    })
+
+abbrev hands : ℕ → List Duty
+hands y = MergeSwap y Handed ∷ []
+
+-- one was set, and its decrement awaits by the handed reference
+takes_one : {p : Accounts} {n : ℕ} {m : Machine} {t : ℕ} {a : Actor} {d : Duty} {rest tail : List Duty} {y : ℕ}
+    → Doing p n m t a d rest → 0 < y → Takes m t a d rest y tail → m.memory (Mark y) ≡ 1
+    → KeepsRow m t a d rest y
+takes_one {m = m} {t = t} {a = a} {d = d} {rest = rest} {tail = tail} {y = y} s some takes set =
+    let k = numbers_of m y in
+    let follows : following m t a d ≡ hands y ++ tail = takes.follows ∙ ap (λ (w : ℕ). claimed y w ++ tail) set in
+    let weights = weighed s (hands y ++ tail) follows y in
+    let lives = lives_so s y some (omega (arith, set)) in
+    let one = one_own y in
+    row_becomes m t a d rest y (hands y ++ tail) follows Live (takes.lives (hands y ++ tail) ∙ lives.is_live)
+    (record k { mark = 0; waiting = k.waiting + 1 }) (record {
+      local = takes.local;
+      shared = takes.shared;
+      mark = sym takes.mark;
+      references = takes.references;
+      waiting =
+          omega (
+            arith,
+            weights.waiting,
+            one,
+            takes.this.waiting,
+            takes.others.waiting,
+            sum_by-append (waits y) (hands y) tail,
+          );
+      carried =
+          omega (
+            arith,
+            weights.carried,
+            takes.this.carried,
+            takes.others.carried,
+            sum_by-append (carries y) (hands y) tail,
+          );
+      merging =
+          omega (
+            arith,
+            weights.merging,
+            takes.this.merging,
+            takes.others.merging,
+            sum_by-append (merges y) (hands y) tail,
+          );
+      deciding =
+          omega (
+            arith,
+            weights.deciding,
+            takes.this.deciding,
+            takes.others.deciding,
+            sum_by-append (decides y) (hands y) tail,
+          );
+    }) (mark_taken (block_of m.rows y) k lives.rule set)
+
+row_after_taking : {p : Accounts} {n : ℕ} {m : Machine} {t : ℕ} {a : Actor} {d : Duty} {rest tail : List Duty} {y : ℕ}
+    → Doing p n m t a d rest → 0 < y → Takes m t a d rest y tail → KeepsRow m t a d rest y
+row_after_taking {y = y} s some takes =
+    elim (s.rule.marks y) [
+      | inl unset ↦ takes_none s some takes unset
+      | inr set ↦ takes_one s some takes set.0
+    ]
+
+pub row_after_take_mark : {p : Accounts} {n : ℕ} {m : Machine} {t : ℕ} {a : Actor} {y : ℕ} {rest : List Duty}
+    → Doing p n m t a (TakeMark y) rest → KeepsRow m t a (TakeMark y) rest y
+row_after_take_mark {m = m} {t = t} {a = a} {y = y} {rest = rest} s =
+    let takes : Takes m t a (TakeMark y) rest y [] = record {
+      follows = elim (m.memory (Mark y) == 1) as (λ b. cond b (hands y) [] ≡ cond b (hands y) [] ++ []) [
+        | true ↦ refl
+        | false ↦ refl
+      ];
+      this = record { waiting = refl; carried = refl; merging = refl; deciding = refl; lives = λ life state. refl };
+      others = none_apart y;
+      lives = λ next. refl;
+      local = refl;
+      shared = refl;
+      mark = written_here m.memory (Mark y) 0 (own y);
+      references = refl;
+    } in
+    row_after_taking s (head_fits_of s).0 takes
+
+pub row_after_scan : {p : Accounts} {n : ℕ} {m : Machine} {t : ℕ} {a : Actor} {y left : ℕ} {rest : List Duty} → 0 < y
+    → Doing p n m t a (Scan y left) rest → KeepsRow m t a (Scan y left) rest y
+row_after_scan {m = m} {t = t} {a = a} {y = y} {left = left} {rest = rest} some s =
+    let takes : Takes m t a (Scan y left) rest y (Settle ∷ Scan (y + 1) (left - 1) ∷ []) = record {
+      follows = refl;
+      this = scan_apart y y left;
+      others = more_apart y Settle _ (settle_apart y) (one_apart y _ (scan_apart y (y + 1) (left - 1)));
+      lives = λ next. refl;
+      local = refl;
+      shared = refl;
+      mark = written_here m.memory (Mark y) 0 (own y);
+      references = refl;
+    } in
+    row_after_taking s some takes
+
+pub row_after_claim : {p : Accounts} {n : ℕ} {m : Machine} {t : ℕ} {a : Actor} {y : ℕ} {rest : List Duty} → 0 < y
+    → Doing p n m t a (ClaimMark y) rest → KeepsRow m t a (ClaimMark y) rest y
+row_after_claim {m = m} {t = t} {a = a} {y = y} {rest = rest} some s =
+    let takes : Takes m t a (ClaimMark y) rest y (Settle ∷ []) = record {
+      follows = refl;
+      this = record { waiting = refl; carried = refl; merging = refl; deciding = refl; lives = λ life state. refl };
+      others = one_apart y Settle (settle_apart y);
+      lives = λ next. refl;
+      local = refl;
+      shared = refl;
+      mark = written_here m.memory (Mark y) 0 (own y);
+      references = refl;
+    } in
+    row_after_taking s some takes
+
+-- ---- an object dies, and is finalised
+
+pub row_after_die : {p : Accounts} {n : ℕ} {m : Machine} {t : ℕ} {a : Actor} {y : ℕ} {rest : List Duty} → 0 < y
+    → Doing p n m t a (Die y) rest → KeepsRow m t a (Die y) rest y
+row_after_die {y = y} some s =
+    row_stays {next = []} {x = y} s some
+    (record {
+      follows = refl;
+      lives = refl;
+      local = refl;
+      shared = refl;
+      mark = refl;
+      references = refl;
+      waiting = refl;
+      carried = refl;
+      merging = refl;
+      deciding = refl;
+    })
+
+pub row_after_kind : {p : Accounts} {n : ℕ} {m : Machine} {t : ℕ} {a : Actor} {y : ℕ} {rest : List Duty} → 0 < y
+    → Doing p n m t a (SettleKind y) rest → KeepsRow m t a (SettleKind y) rest y
+row_after_kind {m = m} {y = y} some s =
+    let word = m.memory (KindOf y) in
+    let slot : IsApart y (TakeSlot y) =
+    record { waiting = refl; carried = refl; merging = refl; deciding = refl; lives = λ life state. refl } in
+    let next = apart_if (has_resource word) (one_apart y (TakeSlot y) slot) (cells_apart y y 0 (cells_of word)) in
+    row_apart s y some (kind_apart y y) next (λ life state. refl)
+    (record { local = refl; shared = refl; mark = refl; references = refl })
+
+pub row_after_cell : {p : Accounts} {n : ℕ} {m : Machine} {t : ℕ} {a : Actor} {y i cells : ℕ} {rest : List Duty} → 0 < y
+    → Doing p n m t a (SettleCell y i cells) rest → KeepsRow m t a (SettleCell y i cells) rest y
+row_after_cell {m = m} {t = t} {y = y} {i = i} {cells = cells} some s =
+    let this : IsApart y (SettleCell y i cells) =
+    record { waiting = refl; carried = refl; merging = refl; deciding = refl; lives = λ life state. refl } in
+    row_apart s y some this (released_apart y (m.memory (Cell y i)) (cells_from y (i + 1) cells)
+    (cells_apart y y (i + 1) cells)) (λ life state. refl)
+    (record {
+      local = refl;
+      shared = refl;
+      mark = refl;
+      references =
+          ap (λ (w : ℕ). references_to y (moved m.plain (take_out t y i w)).references) (sym (s.rule.cells y i));
+    })
+
+pub row_after_take_slot : {p : Accounts} {n : ℕ} {m : Machine} {t : ℕ} {a : Actor} {y : ℕ} {rest : List Duty} → 0 < y
+    → Doing p n m t a (TakeSlot y) rest → KeepsRow m t a (TakeSlot y) rest y
+row_after_take_slot {y = y} some s =
+    row_stays {next = CloseResource y ∷ []} {x = y} s some
+    (record {
+      follows = refl;
+      lives = refl;
+      local = refl;
+      shared = refl;
+      mark = refl;
+      references = refl;
+      waiting = refl;
+      carried = refl;
+      merging = refl;
+      deciding = refl;
+    })
+
+pub row_after_close : {p : Accounts} {n : ℕ} {m : Machine} {t : ℕ} {a : Actor} {y : ℕ} {rest : List Duty} → 0 < y
+    → Doing p n m t a (CloseResource y) rest → KeepsRow m t a (CloseResource y) rest y
+row_after_close {y = y} some s =
+    row_stays {next = SettleEnd y ∷ []} {x = y} s some
+    (record {
+      follows = refl;
+      lives = refl;
+      local = refl;
+      shared = refl;
+      mark = refl;
+      references = refl;
+      waiting = refl;
+      carried = refl;
+      merging = refl;
+      deciding = refl;
+    })
+
+-- a row that was dying is closed
+pub row_after_end : {p : Accounts} {n : ℕ} {m : Machine} {t : ℕ} {a : Actor} {y : ℕ} {rest : List Duty}
+    → Doing p n m t a (SettleEnd y) rest → KeepsRow m t a (SettleEnd y) rest y
+row_after_end {m = m} {t = t} {a = a} {y = y} {rest = rest} s =
+    let fits = head_fits_of s in
+    let k = numbers_of m y in
+    let weights = weighed s [] refl y in
+    let dead : RowRule (block_of m.rows y) (Dying t) k =
+    subst (λ (l : Life). RowRule (block_of m.rows y) l k) fits.1 (s.rule.rows y fits.0) in
+    row_becomes m t a (SettleEnd y) rest y [] refl Closed (ap (λ (b : Bool). cond b Closed (m.life y)) (own y)) k
+    (record {
+      local = refl;
+      shared = refl;
+      mark = refl;
+      references = refl;
+      waiting = omega (arith, weights.waiting);
+      carried = omega (arith, weights.carried);
+      merging = omega (arith, weights.merging);
+      deciding = omega (arith, weights.deciding);
+    }) dead

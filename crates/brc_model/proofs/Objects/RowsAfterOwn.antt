@@ -1,0 +1,118 @@
+-- What a step on its duty's own row starts from: its words, its weights and the references that its thread has.
+use Rattle.std.proofs.Common.{◌≡◌, ℕ, ◌+◌, ◌<◌, ◌≤◌, Bool, true, false, cond, List, refl, sym, ap, ◌∙◌, arith}
+use Rattle.std.specs.Prelude.{◌==◌}
+use Rattle.std.specs.List.{list_any}
+use Rattle.std.proofs.lemmas.Bool.{eq-eqb, ne_eqb}
+use Rattle.brc_model.specs.declared.duty.Holding.{Holding}
+use Rattle.brc_model.specs.Plain.{Reference, same, without, references_to}
+use Rattle.brc_word.specs.Words.{local_part, is_immortal_word}
+use Rattle.brc_model.specs.declared.duty.Duty.{Duty}
+use Rattle.brc_model.specs.declared.address.Address.{Address}
+use Rattle.brc_model.specs.declared.address.Address.TheVariants.{Local, Shared, Mark}
+use Rattle.brc_model.specs.Duties.{block_of}
+use Rattle.brc_model.specs.Machine.{Life, Live, Actor, Machine, written, same_address, with_life, ended_row, born_row, done_by}
+use Rattle.brc_model.proofs.Basics.Bag.{held_has, held-le-references_to, references_to-without}
+use Rattle.brc_model.specs.References.{held, one_if, reference_of}
+use Rattle.brc_model.specs.RowRule.{Numbers, InOwned, InSwapped, InMerged, IsLive}
+use Rattle.brc_model.specs.Accounts.{Accounts, extra, lacks, extra_of, lacks_of}
+use Rattle.brc_model.specs.Invariant.{numbers_of}
+use Rattle.brc_model.specs.Knowledge.{IsBacked}
+use Rattle.brc_model.proofs.Frame.Aside.{extra_held}
+use Rattle.brc_model.proofs.Objects.RowsAfterStep.{Doing, following, KeepsRow, RowStays, row_stays, Lives, row_lives}
+use Rattle.brc_model.proofs.Objects.RowsAfterElsewhere.{AreApart, IsApart}
+
+pub own : (y : ℕ) → (y == y) ≡ true
+own y = eq-eqb y y refl
+
+pub one_own : (y : ℕ) → one_if (y == y) ≡ 1
+one_own y = ap one_if (own y)
+
+-- the word that was written
+pub written_here : (memory : Address → ℕ) (at : Address) (word : ℕ) → same_address at at ≡ true
+    → written memory at word at ≡ word
+written_here memory at word this = ap (λ (same : Bool). cond same word (memory at)) this
+
+-- ---- references of the thread
+
+-- what a duty gives up is there
+pub gives_up : {p : Accounts} {n : ℕ} {m : Machine} {t : ℕ} {a : Actor} {d : Duty} {rest : List Duty}
+    → Doing p n m t a d rest → (k : Holding) (object : ℕ) → extra d k object ≡ true → lacks d k object ≡ false
+    → 0 < held (reference_of t k object) m.plain.references
+gives_up {p = p} {m = m} {t = t} {a = a} s k object more less =
+    let fits = s.rule.each t a s.actor in
+    extra_held m.plain.references t (p t) a.agenda a.aside k object fits.0.holds (fits.2.apart object)
+    (ap (λ (ds : List Duty). extra_of ds k object) s.agenda ∙ more)
+    (ap (λ (ds : List Duty). lacks_of ds k object) s.agenda ∙ less)
+
+-- a reference that is there, and the bag without it
+pub record IsLost (bag : List Reference) (r : Reference) : Type 0 where
+  pub has : list_any (same r) bag ≡ true
+  pub before : 1 ≤ references_to r.object bag
+  pub less : references_to r.object (without r bag) + 1 ≡ references_to r.object bag
+
+pub is_lost : (bag : List Reference) (r : Reference) → 0 < held r bag → IsLost bag r
+is_lost bag r some =
+    let has = held_has r bag some in
+    let this = one_own r.object in
+    record {
+      has = has;
+      before = omega (arith, held-le-references_to r bag, some);
+      less = omega (arith, references_to-without r.object r bag has, this);
+    }
+
+-- ---- the row lives
+
+pub lives_so : {p : Accounts} {n : ℕ} {m : Machine} {t : ℕ} {a : Actor} {d : Duty} {rest : List Duty}
+    → Doing p n m t a d rest → (y : ℕ) → 0 < y
+    → 1 ≤ (numbers_of m y).references + (numbers_of m y).mark + (numbers_of m y).waiting + (numbers_of m y).merging
+    + (numbers_of m y).deciding
+    → Lives (block_of m.rows y) (m.life y) (numbers_of m y)
+lives_so {m = m} s y some counted =
+    row_lives (block_of m.rows y) (m.life y) (numbers_of m y) (s.rule.rows y some) counted
+
+pub lives_backed : {p : Accounts} {n : ℕ} {m : Machine} {t : ℕ} {a : Actor} {d : Duty} {rest : List Duty}
+    → Doing p n m t a d rest → (y : ℕ) → 0 < y → IsBacked m t y
+    → Lives (block_of m.rows y) (m.life y) (numbers_of m y)
+lives_backed {m = m} {t = t} s y some backed =
+    lives_so s y some (omega (
+      arith,
+      held-le-references_to (reference_of t backed.by y) m.plain.references,
+      backed.held_so,
+    ))
+
+-- a row above 0 isn't immortal
+pub counted_word : (owner : ℕ) (n : Numbers) → IsLive owner n → is_immortal_word n.local ≡ false
+counted_word owner n live =
+    ne_eqb (local_part n.local) 4294967295 (λ (e : local_part n.local ≡ 4294967295).
+    elim live.mode [
+      | InOwned o ↦ absurd (omega (arith, o.low, e))
+      | InSwapped w ↦ absurd (omega (arith, w.local, e))
+      | InMerged w ↦ absurd (omega (arith, w.local, e))
+    ])
+
+-- ---- a step whose duties weigh nothing at the row
+
+pub record KeepsWords (m after : Machine) (x : ℕ) : Type 0 where
+  pub local : m.memory (Local x) ≡ after.memory (Local x)
+  pub shared : m.memory (Shared x) ≡ after.memory (Shared x)
+  pub mark : m.memory (Mark x) ≡ after.memory (Mark x)
+  pub references : references_to x m.plain.references ≡ references_to x after.plain.references
+
+pub row_apart : {p : Accounts} {n : ℕ} {m : Machine} {t : ℕ} {a : Actor} {d : Duty} {rest : List Duty}
+    → Doing p n m t a d rest → (x : ℕ) → 0 < x → IsApart x d → AreApart x (following m t a d)
+    → ((life : ℕ → Life) (state : Life) → with_life (with_life life (ended_row d) state) (born_row d) Live x ≡ life x)
+    → KeepsWords m (done_by m t a d rest) x → KeepsRow m t a d rest x
+row_apart {m = m} {t = t} {a = a} {d = d} {rest = rest} s x some this next ends words =
+    let q : RowStays m t a d rest x (following m t a d) = record {
+      follows = refl;
+      lives = ends _ _ ∙ next.lives m.life _;
+      local = words.local;
+      shared = words.shared;
+      mark = words.mark;
+      references = words.references;
+      waiting = next.waiting ∙ sym this.waiting;
+      carried = next.carried ∙ sym this.carried;
+      merging = next.merging ∙ sym this.merging;
+      deciding = next.deciding ∙ sym this.deciding;
+    } in
+    row_stays s some q

@@ -1,0 +1,129 @@
+-- A row is finalised at most once: what is closed stays closed, and is closed once.
+use Rattle.std.proofs.Common.{◌≡◌, ◌≢◌, ℕ, suc, ◌+◌, ◌<◌, ◌≤◌, Bool, true, false, cond, List, [], ◌∷◌, ◌++◌, ◌⊎◌, inl, inr, length, Some, refl, sym, ap, ◌∙◌, arith}
+use Rattle.std.specs.Prelude.{◌==◌, count_by, get_or, AllPairs}
+use Rattle.std.proofs.lemmas.Bool.Decides.{eqb_tells}
+use Rattle.std.proofs.lemmas.List.Sums.{sum_by-cons}
+use Rattle.brc_lang.specs.declared.module.Module.{Module}
+use Rattle.brc_model.specs.Plain.{is_among}
+use Rattle.brc_model.specs.declared.thread.Choice.{Choice}
+use Rattle.brc_model.specs.declared.duty.Duty.{Duty}
+use Rattle.brc_model.specs.Duties.{address_of}
+use Rattle.brc_model.specs.Machine.{Actor, Machine, ended_row, done_by}
+use Rattle.brc_model.specs.Progress.{ClosedStays, ClosesAnew, ClosedOnce}
+use Rattle.brc_model.specs.References.{one_if}
+use Rattle.brc_model.specs.Accounts.{Accounts}
+use Rattle.brc_model.proofs.Objects.Closing.{GoesOn, BeginsToDie, IsClosed, life_step, SameClosed, OneMore, closed_step, IsBorn}
+use Rattle.brc_model.proofs.Objects.ClosedAfter.{live_not_closed, dying_not_closed, among_more, unborn_not_closed}
+use Rattle.brc_model.proofs.Frame.Leaves.{AtDuty}
+use Rattle.brc_model.proofs.Keeping.Whole.{Whole}
+use Rattle.brc_model.proofs.Promises.StepCases.{ShowsSteps, at_duty, event_shows}
+use Rattle.brc_model.proofs.Keeping.Quiets.{quiet_closed}
+
+-- ---- what is closed stays closed
+
+abbrev StaysAmong : Machine → Machine → Type 0
+StaysAmong m new = (x : ℕ) → is_among x m.plain.closed ≡ true → is_among x new.plain.closed ≡ true
+
+stays_among : (m : Machine) (t : ℕ) (a : Actor) (d : Duty) (rest : List Duty) → StaysAmong m (done_by m t a d rest)
+stays_among m t a d rest = λ x was.
+    elim (closed_step m t d (m.memory (address_of m.rows t a.head d))) [
+      | SameClosed none same ↦ ap (is_among x) same ∙ was
+      | OneMore y ended more ↦ ap (is_among x) more ∙ among_more x m.plain.closed (y ∷ []) was
+    ]
+
+closed_shown : (n : ℕ) → ShowsSteps (λ t m new. StaysAmong m new) n
+closed_shown n = record {
+  stays = λ p t m kept x was. was;
+  sits = λ t m new a place agenda found shown. shown;
+  moves = λ p t m a moves place kept found quiet x was. ap (is_among x) (quiet_closed m.plain t moves quiet) ∙ was;
+  does = λ p t m a d rest doing. stays_among m t a d rest;
+}
+
+pub closed_stays : (p : Module) (n : ℕ) (m : Machine) (event : ℕ × Choice) → Whole p n m → ClosedStays m event
+closed_stays p n m event whole = event_shows (closed_shown n) m event whole
+
+-- ---- what is closed anew wasn't closed
+
+ne_true : (b : Bool) → (b ≡ true → ⊥) → b ≡ false
+ne_true true wrong = absurd (wrong refl)
+ne_true false wrong = refl
+
+abbrev ClosesSo : Machine → Machine → Type 0
+ClosesSo m new =
+    (new.plain.closed ≡ m.plain.closed)
+    ⊎ ((row : ℕ) × (is_among row m.plain.closed ≡ false) × (new.plain.closed ≡ m.plain.closed ++ row ∷ []))
+
+ends_open : (p : Accounts) (n : ℕ) (m : Machine) (t : ℕ) (a : Actor) (d : Duty) (rest : List Duty) (row : ℕ)
+    → AtDuty p n m t a d rest → ended_row d ≡ Some row → is_among row m.plain.closed ≡ true → ⊥
+ends_open p n m t a d rest row here ended was =
+    elim (life_step p n m t a d rest row here) [
+      | GoesOn now other ↦ other ended
+      | BeginsToDie now alive positive none ↦ live_not_closed (sym alive ∙ here.rule.closed_is row was)
+      | IsClosed now dying positive last ↦ dying_not_closed t (sym dying ∙ here.rule.closed_is row was)
+      | IsBorn now unborn above born none ↦ unborn_not_closed (sym unborn ∙ here.rule.closed_is row was)
+    ]
+
+closes_at_duty : (p : Accounts) (n : ℕ) (m : Machine) (t : ℕ) (a : Actor) (d : Duty) (rest : List Duty)
+    → AtDuty p n m t a d rest → ClosesSo m (done_by m t a d rest)
+closes_at_duty p n m t a d rest here =
+    elim (closed_step m t d (m.memory (address_of m.rows t a.head d))) [
+      | SameClosed none same ↦ inl same
+      | OneMore row ended more ↦ inr (row, ne_true _ (ends_open p n m t a d rest row here ended), more)
+    ]
+
+closes_shown : (n : ℕ) → ShowsSteps (λ t m new. ClosesSo m new) n
+closes_shown n = record {
+  stays = λ p t m kept. inl refl;
+  sits = λ t m new a place agenda found shown. shown;
+  moves = λ p t m a moves place kept found quiet. inl (quiet_closed m.plain t moves quiet);
+  does = λ p t m a d rest doing. closes_at_duty p n m t a d rest (at_duty doing);
+}
+
+pub closes_anew : (p : Module) (n : ℕ) (m : Machine) (event : ℕ × Choice) → Whole p n m → ClosesAnew m event
+closes_anew p n m event whole = event_shows (closes_shown n) m event whole
+
+-- ---- it is closed once
+
+abbrev counted : ℕ → List ℕ → ℕ
+counted x xs = count_by (λ y. y == x) xs
+
+counted-cons : (x y : ℕ) (ys : List ℕ) → counted x (y ∷ ys) ≡ one_if (y == x) + counted x ys
+counted-cons x y ys = sum_by-cons (λ z. cond (z == x) 1 0) y ys
+
+not_counted : (x : ℕ) (ys : List ℕ) → ((j d : ℕ) → j < length ys → x ≢ get_or ys j d) → counted x ys ≡ 0
+not_counted x [] apart = refl
+not_counted x (y ∷ ys) apart =
+    elim (eqb_tells y x) [
+      | inl same ↦ absurd (apart 0 0 (omega arith) (sym same.1))
+      | inr other ↦
+          let none : one_if (y == x) ≡ 0 = ap one_if other.0 in
+          omega (
+            arith,
+            counted-cons x y ys,
+            none,
+            not_counted x ys (λ j d within. apart (suc j) d (omega (arith, within))),
+          )
+    ]
+
+once_counted : (x : ℕ) (ys : List ℕ) → AllPairs (λ z w. z ≢ w) ys → counted x ys ≤ 1
+once_counted x [] once = omega arith
+once_counted x (y ∷ ys) once =
+    elim (eqb_tells y x) [
+      | inl same ↦
+          let one : one_if (y == x) ≡ 1 = ap one_if same.0 in
+          let apart : (j d : ℕ) → j < length ys
+          → x ≢ get_or ys j d = λ j d within e. once 0 (suc j) d (omega arith) (omega (arith, within)) (same.1 ∙ e)
+          in
+          omega (arith, counted-cons x y ys, one, not_counted x ys apart)
+      | inr other ↦
+          let none : one_if (y == x) ≡ 0 = ap one_if other.0 in
+          omega (
+            arith,
+            counted-cons x y ys,
+            none,
+            once_counted x ys (λ i j d lt within. once (suc i) (suc j) d (omega (arith, lt)) (omega (arith, within))),
+          )
+    ]
+
+pub closed_once : (p : Module) (n : ℕ) (m : Machine) → Whole p n m → ClosedOnce m
+closed_once p n m whole = λ x. once_counted x m.plain.closed whole.kept.rule.once

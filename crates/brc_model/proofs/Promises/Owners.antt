@@ -1,0 +1,125 @@
+-- While its owner runs, a row's local word is changed by the owner's events alone, and nobody takes a row over.
+use Rattle.std.proofs.Common.{◌≡◌, ◌≢◌, ℕ, zero, suc, ◌+◌, ◌-◌, List, ◌⊎◌, inl, inr, Some, refl, sym, ap, ◌∙◌, subst, arith}
+use Rattle.std.specs.Prelude.{slice_get}
+use Rattle.std.proofs.lemmas.Bool.Decides.{eqb_tells}
+use Rattle.std.proofs.lemmas.Option.{slice_get_within}
+use Rattle.brc_lang.specs.declared.module.Module.{Module}
+use Rattle.brc_word.specs.Words.{owner_part, local_word}
+use Rattle.brc_model.specs.declared.thread.Choice.{Choice}
+use Rattle.brc_model.specs.declared.duty.Duty.{Duty}
+use Rattle.brc_model.specs.declared.duty.Duty.TheVariants.{RetainLoad, RetainStore, ReleaseLoad, ReleaseStore, MergeSwap, BirthLocal}
+use Rattle.brc_model.specs.declared.address.Address.TheVariants.{Local}
+use Rattle.brc_model.specs.declared.actor.Place.{Place}
+use Rattle.brc_model.specs.Machine.{Actor, Machine, written, with_actor, done_by, Unborn}
+use Rattle.brc_model.specs.Progress.{Runs, OnlyOwnersCount, OwnersStay}
+use Rattle.brc_model.proofs.Basics.Lists.{some_is, slice_get-set_same, slice_get-set_other}
+use Rattle.brc_model.proofs.Basics.Written.{written_here, written_apart, written_load, apart_local}
+use Rattle.brc_model.proofs.Frame.Leaves.{AtDuty, head_of, locals_left}
+use Rattle.brc_model.proofs.Stepping.Neutral.{memory_by}
+use Rattle.brc_model.proofs.Keeping.Sits.{sitting}
+use Rattle.brc_model.proofs.Keeping.Whole.{Whole}
+use Rattle.brc_model.proofs.Promises.StepCases.{ShowsSteps, at_duty, event_shows}
+use Rattle.brc_model.proofs.Promises.Immortals.{counted_low}
+use Rattle.brc_model.proofs.Basics.Blocks.{next_unborn}
+use Rattle.brc_model.proofs.Stepping.Nones.{none_local}
+use Rattle.brc_model.specs.Accounts.{Accounts}
+
+-- ---- others leave a running owner's count
+
+-- a running thread runs still, whoever sits down elsewhere
+runs_still : (m : Machine) (t u : ℕ) (a : Actor) (place : Place) (agenda : List Duty) → slice_get m.actors t ≡ Some a
+    → Runs m u → Runs (with_actor m t (sitting a place agenda)) u
+runs_still m t u a place agenda found runs =
+    let now = sitting a place agenda in
+    elim (eqb_tells u t) [
+      | inl same ↦
+          let this : runs.0 ≡ a = some_is runs.0 a (sym runs.1 ∙ ap (slice_get m.actors) same.1 ∙ found) in (
+            now,
+            ap (slice_get (with_actor m t now).actors) same.1
+                ∙ slice_get-set_same m.actors t now (slice_get_within m.actors t a found),
+            ap (λ (b : Actor). b.status) (sym this) ∙ runs.2,
+          )
+      | inr apart ↦ (runs.0, slice_get-set_other m.actors t u now apart.1 ∙ runs.1, runs.2)
+    ]
+
+local_left : (p : Accounts) (n : ℕ) (m : Machine) (t : ℕ) (a : Actor) (d : Duty) (rest : List Duty) (x owner : ℕ)
+    → AtDuty p n m t a d rest → owner ≢ t
+    → owner_part (m.memory (Local x)) ≡ owner + 1 → Runs m owner → memory_by m t a d (Local x) ≡ m.memory (Local x)
+local_left p n m t a d rest zero owner here ne owns runs = none_local p n m t a d rest here
+local_left p n m t a d rest (suc x) owner here ne owns runs =
+    locals_left p n m t a d rest here owner (suc x) runs.0 ne runs.1
+    (record { running = runs.2; owner = owns; low = counted_low p n m (suc x) here.rule (omega arith) })
+
+abbrev CountsSo : ℕ → Machine → Machine → Type 0
+CountsSo t m new =
+    (x owner : ℕ) → owner_part (m.memory (Local x)) ≡ owner + 1 → Runs m owner → new.memory (Local x)
+    ≢ m.memory (Local x) → t ≡ owner
+
+counts_at_duty : (p : Accounts) (n : ℕ) (m : Machine) (t : ℕ) (a : Actor) (d : Duty) (rest : List Duty)
+    → AtDuty p n m t a d rest → CountsSo t m (done_by m t a d rest)
+counts_at_duty p n m t a d rest here = λ x owner owns runs changed.
+    elim (eqb_tells t owner) [
+      | inl same ↦ same.1
+      | inr apart ↦ absurd (changed (local_left p n m t a d rest x owner here (λ e. apart.1 (sym e)) owns runs))
+    ]
+
+counts_shown : (n : ℕ) → ShowsSteps CountsSo n
+counts_shown n = record {
+  stays = λ p t m kept x owner owns runs changed. absurd (changed refl);
+  sits =
+      λ t m new a place agenda found shown x owner owns runs changed. shown x owner owns
+      (runs_still m t owner a place agenda found runs) changed;
+  moves = λ p t m a moves place kept found quiet x owner owns runs changed. absurd (changed refl);
+  does = λ p t m a d rest doing. counts_at_duty p n m t a d rest (at_duty doing);
+}
+
+pub only_owners_count : (p : Module) (n : ℕ) (m : Machine) (event : ℕ × Choice) → Whole p n m → OnlyOwnersCount m event
+only_owners_count p n m event whole = event_shows (counts_shown n) m event whole
+
+-- ---- owners
+
+abbrev OwnedSo : ℕ → ℕ → Type 0
+OwnedSo new old = (owner_part new ≡ owner_part old) ⊎ (owner_part new ≡ 0)
+
+owned_at : (m : Machine) (y v x : ℕ) → OwnedSo v (m.memory (Local y))
+    → OwnedSo (written m.memory (Local y) v (Local x)) (m.memory (Local x))
+owned_at m y v x here =
+    elim (eqb_tells y x) [
+      | inl same ↦
+          let itself : OwnedSo (written m.memory (Local y) v (Local y)) (m.memory (Local y)) =
+          subst (λ (w : ℕ). OwnedSo w (m.memory (Local y))) (sym (written_here m.memory (Local y) v)) here in
+          subst (λ (z : ℕ). OwnedSo (written m.memory (Local y) v (Local z)) (m.memory (Local z))) same.1 itself
+      | inr other ↦ inl (ap owner_part (written_apart m.memory (Local y) (Local x) v (apart_local y x other.1)))
+    ]
+
+owned_after : (p : Accounts) (n : ℕ) (m : Machine) (t : ℕ) (a : Actor) (d : Duty) (rest : List Duty) (x : ℕ)
+    → AtDuty p n m t a d rest → m.life x ≢ Unborn → OwnedSo (memory_by m t a d (Local x)) (m.memory (Local x))
+owned_after p n m t a (RetainLoad y h) rest x here born =
+    inl (ap owner_part (written_load m.memory (Local y) (Local x)))
+owned_after p n m t a (ReleaseLoad y h) rest x here born =
+    inl (ap owner_part (written_load m.memory (Local y) (Local x)))
+owned_after p n m t a (RetainStore y h w) rest x here born =
+    let fits = head_of p n m t a (RetainStore y h w) rest here in
+    owned_at m y (w + 1) x (inl (omega (arith, fits.3, fits.5)))
+owned_after p n m t a (ReleaseStore y w) rest x here born =
+    let fits = head_of p n m t a (ReleaseStore y w) rest here in
+    owned_at m y (w - 1) x (inl (omega (arith, fits.2, fits.3)))
+owned_after p n m t a (BirthLocal y h) rest x here born =
+    let apart : y ≡ x
+    → ⊥ = λ e. born (ap m.life (sym e)
+    ∙ next_unborn p n m t a y here.rule here.found (head_of p n m t a (BirthLocal y h) rest here).0) in
+    inl (ap owner_part (written_apart m.memory (Local y) (Local x) (local_word t 1) (apart_local y x apart)))
+owned_after p n m t a (MergeSwap y r) rest x here born = owned_at m y 0 x (inr refl)
+owned_after p n m t a _ rest x here born = inl refl
+
+owners_shown : (n : ℕ)
+    → ShowsSteps (λ t m new. (x : ℕ) → m.life x ≢ Unborn → OwnedSo (new.memory (Local x)) (m.memory (Local x))) n
+owners_shown n = record {
+  stays = λ p t m kept x born. inl refl;
+  sits = λ t m new a place agenda found shown. shown;
+  moves = λ p t m a moves place kept found quiet x born. inl refl;
+  does = λ p t m a d rest doing x born. owned_after p n m t a d rest x (at_duty doing) born;
+}
+
+pub owners_stay : (p : Module) (n : ℕ) (m : Machine) (event : ℕ × Choice) → Whole p n m → OwnersStay m event
+owners_stay p n m event whole = event_shows (owners_shown n) m event whole

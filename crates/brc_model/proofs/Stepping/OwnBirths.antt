@@ -1,0 +1,134 @@
+-- A thread after its own steps of a birth: the object's reference is gained with the last.
+use Rattle.std.proofs.Common.{◌≡◌, ℕ, ◌+◌, Bool, true, false, cond, List, [], ◌∷◌, inl, inr, refl, sym, ap, ◌∙◌, subst, arith}
+use Rattle.std.specs.Prelude.{◌==◌}
+use Rattle.std.proofs.lemmas.Bool.Decides.{eqb_tells}
+use Rattle.brc_model.specs.declared.duty.Holding.{Holding}
+use Rattle.brc_model.specs.declared.duty.Duty.{Duty}
+use Rattle.brc_model.specs.declared.duty.Duty.TheVariants.{BirthKind, BirthSlot, BirthLocal}
+use Rattle.brc_model.specs.Duties.{has_resource}
+use Rattle.brc_model.specs.declared.actor.Status.TheVariants.{Gone}
+use Rattle.brc_model.specs.Machine.{Actor, Life, Unborn, Live, Machine, done_by, actor_by, first_row}
+use Rattle.brc_model.specs.References.{one_if}
+use Rattle.brc_model.specs.Accounts.{Accounts}
+use Rattle.brc_model.specs.Knowledge.{IsNext, HasCountedKind}
+use Rattle.brc_model.specs.OpenWork.{Agenda, dies_by}
+use Rattle.brc_model.proofs.Basics.Written.{written_here}
+use Rattle.brc_model.specs.declared.address.Address.TheVariants.{KindOf}
+use Rattle.brc_model.specs.Kinds.{kind_of_word, is_counted_kind}
+use Rattle.brc_model.proofs.Basics.Blocks.{next_unborn}
+use Rattle.brc_model.proofs.Frame.Leaves.{AtDuty, head_of}
+use Rattle.brc_model.proofs.Stepping.Own.{chain_same}
+use Rattle.brc_model.proofs.Stepping.Neutral.{OwnFits, found_by, agenda_here, agenda_out}
+use Rattle.brc_model.proofs.Stepping.OwnCounts.{held_same, held_gained}
+use Rattle.brc_model.proofs.Stepping.OwnRetains.{ready_first}
+use Rattle.brc_model.proofs.Stepping.OwnSteps.{own_keeps}
+use Rattle.brc_model.proofs.Stepping.OwnShown.{own_shown}
+use Rattle.brc_model.proofs.Stepping.OwnChains.{chain_here}
+use Rattle.brc_model.proofs.Stepping.Settled.{ready_none}
+
+-- the row is still the next one
+still_next : (m new : Machine) (t : ℕ) (a b : Actor) (x : ℕ) → new.rows ≡ m.rows → b.status ≡ a.status → b.used ≡ a.used
+    → IsNext m t a x → IsNext new t b x
+still_next m new t a b x rows status used next = record {
+  running = status ∙ next.running;
+  worker = next.worker;
+  row =
+      next.row ∙ ap (λ (u : ℕ). first_row m.rows t + u) (sym used) ∙ ap (λ (r : ℕ). first_row r t + b.used) (sym rows);
+  room = omega (arith, next.room, rows, used);
+}
+
+pub own_birth_kind : (p : Accounts) (n : ℕ) (m : Machine) (t : ℕ) (a : Actor) (x : ℕ) (h : Holding) (w : ℕ)
+    (rest : List Duty)
+    → AtDuty p n m t a (BirthKind x h w) rest → (a.status ≡ Gone → ⊥)
+    → OwnFits p (done_by m t a (BirthKind x h w) rest) t
+    (actor_by t a (BirthKind x h w) rest (found_by m t a (BirthKind x h w)))
+own_birth_kind p n m t a x h w rest here alive =
+    let d : Duty = BirthKind x h w in
+    let fits = head_of p n m t a d rest here in
+    let new = done_by m t a d rest in
+    let said : HasCountedKind new.memory x =
+    ap (λ (v : ℕ). is_counted_kind (kind_of_word v)) (written_here m.memory (KindOf x) w) ∙ fits.2 in
+    elim (has_resource w) as (λ b. has_resource w ≡ b → OwnFits p new t (actor_by t a d rest (found_by m t a d))) [
+      | true ↦ λ e.
+          own_keeps p n m t a d rest (BirthSlot x h ∷ []) (BirthSlot x h ∷ rest) here alive refl (record {
+            next_is = ap (λ (b : Bool). cond b (BirthSlot x h ∷ []) (BirthLocal x h ∷ [])) e;
+            none_dies = refl;
+            agenda_is = ready_first a.head (BirthSlot x h) rest refl;
+            hands = λ y. refl;
+            held = held_same m.plain.references t (d ∷ rest) (BirthSlot x h ∷ rest) (λ k o. refl) (λ k o. refl);
+            fits = agenda_here p n m t a d rest here alive;
+            knows = λ b status head used. (still_next m new t a b x refl status used fits.0, fits.1, said);
+          })
+      | false ↦ λ e.
+          own_keeps p n m t a d rest (BirthLocal x h ∷ []) (BirthLocal x h ∷ rest) here alive refl (record {
+            next_is = ap (λ (b : Bool). cond b (BirthSlot x h ∷ []) (BirthLocal x h ∷ [])) e;
+            none_dies = refl;
+            agenda_is = ready_first a.head (BirthLocal x h) rest refl;
+            hands = λ y. refl;
+            held = held_same m.plain.references t (d ∷ rest) (BirthLocal x h ∷ rest) (λ k o. refl) (λ k o. refl);
+            fits = agenda_here p n m t a d rest here alive;
+            knows = λ b status head used. (still_next m new t a b x refl status used fits.0, fits.1, said);
+          })
+    ] refl
+
+pub own_birth_slot : (p : Accounts) (n : ℕ) (m : Machine) (t : ℕ) (a : Actor) (x : ℕ) (h : Holding) (rest : List Duty)
+    → AtDuty p n m t a (BirthSlot x h) rest → (a.status ≡ Gone → ⊥)
+    → OwnFits p (done_by m t a (BirthSlot x h) rest) t
+    (actor_by t a (BirthSlot x h) rest (found_by m t a (BirthSlot x h)))
+own_birth_slot p n m t a x h rest here alive =
+    let d : Duty = BirthSlot x h in
+    let fits = head_of p n m t a d rest here in
+    let new = done_by m t a d rest in
+    own_keeps p n m t a d rest (BirthLocal x h ∷ []) (BirthLocal x h ∷ rest) here alive refl (record {
+      next_is = refl;
+      none_dies = refl;
+      agenda_is = ready_first a.head (BirthLocal x h) rest refl;
+      hands = λ y. refl;
+      held = held_same m.plain.references t (d ∷ rest) (BirthLocal x h ∷ rest) (λ k o. refl) (λ k o. refl);
+      fits = agenda_here p n m t a d rest here alive;
+      knows = λ b status head used. (still_next m new t a b x refl status used fits.0, fits.1, fits.2);
+    })
+
+-- no row that dies changes
+born_dies : (life : ℕ → Life) (t x y : ℕ) → life x ≡ Unborn
+    → dies_by (cond (x == y) Live (life y)) t ≡ dies_by (life y) t
+born_dies life t x y unborn =
+    elim (eqb_tells x y) [
+      | inl same ↦
+          ap (λ (b : Bool). dies_by (cond b Live (life y)) t) same.0
+          ∙ sym (ap (λ (l : Life). dies_by l t) (ap life (sym same.1) ∙ unborn))
+      | inr other ↦ ap (λ (b : Bool). dies_by (cond b Live (life y)) t) other.0
+    ]
+
+-- the object is born, and nothing is left to do
+pub own_birth_local : (p : Accounts) (n : ℕ) (m : Machine) (t : ℕ) (a : Actor) (x : ℕ) (h : Holding) (rest : List Duty)
+    → AtDuty p n m t a (BirthLocal x h) rest → (a.status ≡ Gone → ⊥)
+    → OwnFits p (done_by m t a (BirthLocal x h) rest) t
+    (actor_by t a (BirthLocal x h) rest (found_by m t a (BirthLocal x h)))
+own_birth_local p n m t a x h [] here alive =
+    let d : Duty = BirthLocal x h in
+    let fits = head_of p n m t a d [] here in
+    let later = agenda_here p n m t a d [] here alive in
+    let new = done_by m t a d [] in
+    let after = actor_by t a d [] (found_by m t a d) in
+    own_shown p n m t a d [] [] a.status a.head here (record {
+      head_is = refl;
+      status_is = refl;
+      agenda_is = ready_none a.head;
+      word = (here.rule.each t a here.found).0.word;
+      held = held_gained m.plain.references t x h (d ∷ []) [] (λ k o. refl) (λ k o. refl) (λ k o. refl) (λ k o. refl);
+      chain = chain_same m new t a.head (d ∷ []) [] (record {
+        gates = λ y. refl;
+        hands =
+            λ y. let life : one_if (dies_by (new.life y) t) ≡ one_if (dies_by (m.life y) t) =
+            ap one_if (born_dies m.life t x y (next_unborn p n m t a x here.rule here.found fits.0)) in omega
+            (arith, life);
+      }) (chain_here p n m t a d [] here);
+      fits =
+          agenda_out m.rows t after a.status alive
+          (subst (λ (l : List Duty). Agenda m.rows t after.used a.status a.place l) (sym (ready_none a.head))
+          later);
+      knows = λ b status head used. tt;
+    })
+own_birth_local p n m t a x h (e ∷ rest) here alive =
+    absurd (let wrong : (e ∷ rest) ≡ [] = (head_of p n m t a (BirthLocal x h) (e ∷ rest) here).1 in cc)

@@ -1,0 +1,256 @@
+-- A thread after its own steps of its dying chain: a row is chained, taken from the chain, and closed.
+use Rattle.std.proofs.Common.{◌≡◌, ℕ, zero, suc, ◌+◌, ◌-◌, ◌<◌, ◌≤◌, Bool, true, false, cond, List, [], ◌∷◌, inl, inr, Some, refl, sym, ap, ◌∙◌, subst, arith, ◌≢◌}
+use Rattle.std.specs.Prelude.{◌==◌, count_by}
+use Rattle.std.proofs.lemmas.Bool.{eq-eqb}
+use Rattle.std.proofs.lemmas.Bool.Decides.{eqb_tells}
+use Rattle.std.proofs.lemmas.List.Sums.{sum_by-cons}
+use Rattle.brc_word.specs.Words.{dying_word, next_part, closed_word}
+use Rattle.brc_model.specs.declared.duty.Duty.{Duty}
+use Rattle.brc_model.specs.declared.duty.Duty.TheVariants.{Die, Settle, SettleKind, SettleEnd}
+use Rattle.brc_model.specs.declared.address.Address.TheVariants.{Gate}
+use Rattle.brc_model.specs.Duties.{ready}
+use Rattle.brc_model.specs.declared.actor.Status.TheVariants.{Gone}
+use Rattle.brc_model.specs.Machine.{Actor, Unborn, Live, Dying, Closed, Machine, with_life, actor_by, done_by, written}
+use Rattle.brc_model.specs.References.{one_if}
+use Rattle.brc_model.specs.Accounts.{Accounts}
+use Rattle.brc_model.specs.Knowledge.{IsDyingWord}
+use Rattle.brc_model.specs.OpenWork.{Linked, hand_of, dies_by, ChainFits}
+use Rattle.brc_model.specs.Invariant.{Rule}
+use Rattle.brc_model.proofs.Basics.Written.{written_here, written_apart, written_load, apart_gate}
+use Rattle.brc_model.proofs.Frame.Others.{is_dying, linked_kept}
+use Rattle.brc_model.proofs.Frame.Leaves.{AtDuty, head_of}
+use Rattle.brc_model.proofs.Stepping.Own.{ready_is}
+use Rattle.brc_model.proofs.Stepping.Neutral.{OwnFits, found_by, agenda_here}
+use Rattle.brc_model.proofs.Stepping.OwnCounts.{held_same}
+use Rattle.brc_model.proofs.Stepping.OwnRetains.{ready_first}
+use Rattle.brc_model.proofs.Basics.Blocks.{born_low}
+use Rattle.brc_model.proofs.Stepping.OwnShown.{ShownStep, own_shown, agenda_shown}
+
+-- ---- which rows die
+
+-- the chain at a thread's first duty
+pub chain_here : (p : Accounts) (n : ℕ) (m : Machine) (t : ℕ) (a : Actor) (d : Duty) (rest : List Duty)
+    → AtDuty p n m t a d rest → ChainFits m t a.head (d ∷ rest)
+chain_here p n m t a d rest here =
+    subst (λ (l : List Duty). ChainFits m t a.head l) here.agenda (here.rule.each t a here.found).0.chain
+
+one_if_low : (b : Bool) → one_if b ≤ 1
+one_if_low true = omega arith
+one_if_low false = omega arith
+
+pub one_if_some : (b : Bool) → 0 < one_if b → b ≡ true
+one_if_some true some = refl
+one_if_some false some = absurd (omega arith)
+
+-- only what was born dies
+pub dying_born : (m : Machine) (t x : ℕ) → m.life x ≡ Dying t → m.life x ≢ Unborn
+dying_born m t x dies unborn = let wrong : Unborn ≡ Dying t = sym unborn ∙ dies in cc
+
+pub dying_low : (p : Accounts) (n : ℕ) (m : Machine) (t x : ℕ) → Rule p n m → m.life x ≡ Dying t → x < 32770
+dying_low p n m t x rule dies = born_low p n m x rule (dying_born m t x dies)
+
+pub dying_above : (p : Accounts) (n : ℕ) (m : Machine) (t x : ℕ) → Rule p n m → m.life x ≡ Dying t → 0 < x
+dying_above p n m t zero rule dies = absurd (let wrong : Live ≡ Dying t = sym rule.none_lives ∙ dies in cc)
+dying_above p n m t (suc x) rule dies = omega arith
+
+-- the row at hand isn't chained
+hand_not_chained : (m : Machine) (t head x : ℕ) (agenda : List Duty) (chain : ChainFits m t head agenda)
+    → hand_of agenda x ≡ true → count_by (λ y. y == x) chain.chained ≡ 0
+hand_not_chained m t head x agenda chain at =
+    let one : one_if (hand_of agenda x) ≡ 1 = ap one_if at in
+    omega (arith, one, chain.once x, one_if_low (dies_by (m.life x) t))
+
+-- the head is a dying row's
+pub head_low : (p : Accounts) (n : ℕ) (m : Machine) (t head : ℕ) (agenda : List Duty) (chained : List ℕ) → Rule p n m
+    → Linked m.memory t head chained
+    → ((x : ℕ) → one_if (hand_of agenda x) + count_by (λ y. y == x) chained ≡ one_if (dies_by (m.life x) t))
+    → head < 4294967296
+head_low p n m t head agenda [] rule linked once = omega (arith, linked)
+head_low p n m t head agenda (x ∷ xs) rule linked once =
+    let here : one_if (x == x) ≡ 1 = ap one_if (eq-eqb x x refl) in
+    let dies : m.life x ≡ Dying t =
+    is_dying (m.life x) t (one_if_some _ (omega (arith, once x, sum_by-cons (λ y. cond (y == x) 1 0) x xs, here)))
+    in
+    omega (arith, linked.0, dying_low p n m t x rule dies)
+
+-- ---- a row is chained
+
+die_chain : (p : Accounts) (n : ℕ) (m : Machine) (t : ℕ) (a : Actor) (x : ℕ) (rest agenda : List Duty)
+    → AtDuty p n m t a (Die x) rest → ((y : ℕ) → hand_of agenda y ≡ false)
+    → ChainFits (done_by m t a (Die x) rest) t (x + 1) agenda
+die_chain p n m t a x rest agenda here none =
+    let old = chain_here p n m t a (Die x) rest here in
+    let absent = hand_not_chained m t a.head x (Die x ∷ rest) old (eq-eqb x x refl) in
+    let new = written m.memory (Gate x) (dying_word t a.head) in
+    record {
+      chained = x ∷ old.chained;
+      linked = (
+        refl,
+        (
+          a.head,
+          written_here m.memory (Gate x) (dying_word t a.head),
+          head_low p n m t a.head (Die x ∷ rest) old.chained here.rule old.linked old.once,
+          linked_kept m.memory new t a.head old.chained
+              (λ y some. written_apart m.memory (Gate x) (Gate y) (dying_word t a.head)
+              (apart_gate x y (λ e. absurd (omega
+              (arith, subst (λ (z : ℕ). 0 < count_by (λ w. w == z) old.chained) (sym e) some, absent)))))
+              old.linked,
+        ),
+      );
+      once =
+          λ y. let hand : one_if (hand_of agenda y) ≡ 0 =
+          ap one_if (none y) in omega (arith, hand, old.once y, sum_by-cons (λ z. cond (z == y) 1 0) x old.chained);
+    }
+
+pub own_die : (p : Accounts) (n : ℕ) (m : Machine) (t : ℕ) (a : Actor) (x : ℕ) (rest : List Duty)
+    → AtDuty p n m t a (Die x) rest → (a.status ≡ Gone → ⊥)
+    → OwnFits p (done_by m t a (Die x) rest) t (actor_by t a (Die x) rest (found_by m t a (Die x)))
+own_die p n m t a x rest here alive =
+    let ready_so =
+    ready_is m.rows t a.used a.status a.place (x + 1) rest (agenda_here p n m t a (Die x) rest here alive) in
+    own_shown p n m t a (Die x) rest (ready (x + 1) rest) a.status (x + 1) here (record {
+      head_is = refl;
+      status_is = refl;
+      agenda_is = refl;
+      word = (here.rule.each t a here.found).0.word;
+      held = held_same m.plain.references t (Die x ∷ rest) (ready (x + 1) rest) ready_so.more ready_so.less;
+      chain = die_chain p n m t a x rest (ready (x + 1) rest) here ready_so.at_hand;
+      fits = agenda_shown m t a (Die x) rest (ready (x + 1) rest) a.status alive refl refl ready_so.fits;
+      knows = λ b status head used. ready_so.knows (done_by m t a (Die x) rest) b head;
+    })
+
+-- ---- a row is taken from the chain
+
+next_of_dying : (word t next : ℕ) → word ≡ dying_word t next → next < 4294967296 → next_part word ≡ next
+next_of_dying word t next is low = omega (arith, is, low)
+
+-- what is known of the first of the chain
+record FirstChained (m : Machine) (t : ℕ) (a : Actor) (rest : List Duty) : Type 0 where
+  row : ℕ
+  others : List ℕ
+  head_is : a.head ≡ row + 1
+  next : ℕ
+  next_is : next_part (m.memory (Gate row)) ≡ next
+  gate : IsDyingWord t (m.memory (Gate row))
+  linked : Linked m.memory t next others
+  once : (x : ℕ) → one_if (row == x) + count_by (λ y. y == x) others ≡ one_if (dies_by (m.life x) t)
+  dies : m.life row ≡ Dying t
+
+first_by : (m : Machine) (t : ℕ) (a : Actor) (rest : List Duty) (chained : List ℕ) → 0 < a.head
+    → Linked m.memory t a.head chained
+    → ((x : ℕ) → one_if (hand_of (Settle ∷ rest) x) + count_by (λ y. y == x) chained ≡ one_if (dies_by (m.life x) t))
+    → FirstChained m t a rest
+first_by m t a rest [] some linked once = absurd (omega (arith, some, linked))
+first_by m t a rest (x ∷ xs) some linked once =
+    let each : (z : ℕ)
+    → one_if (x == z) + count_by (λ y. y == z) xs ≡ one_if (dies_by (m.life z) t) =
+    λ z. omega (arith, once z, sum_by-cons (λ y. cond (y == z) 1 0) x xs) in
+    let here : one_if (x == x) ≡ 1 = ap one_if (eq-eqb x x refl) in
+    record {
+      row = x;
+      others = xs;
+      head_is = linked.0;
+      next = linked.1.0;
+      next_is = next_of_dying (m.memory (Gate x)) t linked.1.0 linked.1.1 linked.1.2;
+      gate = (linked.1.0, linked.1.1, linked.1.2);
+      linked = linked.1.3;
+      once = each;
+      dies = is_dying (m.life x) t (one_if_some _ (omega (arith, each x, here)));
+    }
+
+first_chained : (p : Accounts) (n : ℕ) (m : Machine) (t : ℕ) (a : Actor) (rest : List Duty) → AtDuty p n m t a Settle rest
+    → FirstChained m t a rest
+first_chained p n m t a rest here =
+    let old = chain_here p n m t a Settle rest here in
+    first_by m t a rest old.chained (head_of p n m t a Settle rest here) old.linked old.once
+
+settle_shown : (p : Accounts) (n : ℕ) (m : Machine) (t : ℕ) (a : Actor) (rest : List Duty)
+    (first : FirstChained m t a rest)
+    → AtDuty p n m t a Settle rest → (a.status ≡ Gone → ⊥) → a.head - 1 ≡ first.row
+    → ShownStep m t a Settle rest (SettleKind first.row ∷ Settle ∷ rest) a.status first.next
+settle_shown p n m t a rest first here alive row_is =
+    let later = SettleKind first.row ∷ Settle ∷ rest in
+    let head : next_part (m.memory (Gate (a.head - 1))) ≡ first.next =
+    ap (λ (x : ℕ). next_part (m.memory (Gate x))) row_is ∙ first.next_is in
+    let front : (h : ℕ)
+    → ready h (SettleKind (a.head - 1) ∷ Settle ∷ rest) ≡ later =
+    λ h. ready_first h (SettleKind (a.head - 1)) (Settle ∷ rest) refl
+    ∙ ap (λ (x : ℕ). SettleKind x ∷ Settle ∷ rest) row_is in
+    let new = done_by m t a Settle rest in
+    record {
+      head_is = head;
+      status_is = refl;
+      agenda_is = front (next_part (m.memory (Gate (a.head - 1))));
+      word = (here.rule.each t a here.found).0.word;
+      held = held_same m.plain.references t (Settle ∷ rest) later (λ k o. refl) (λ k o. refl);
+      chain = record {
+        chained = first.others;
+        linked =
+            linked_kept m.memory new.memory t first.next first.others
+            (λ x some. written_load m.memory (Gate (a.head - 1)) (Gate x)) first.linked;
+        once = first.once;
+      };
+      fits =
+          agenda_shown m t a Settle rest later a.status alive refl (front (next_part (m.memory (Gate (a.head - 1)))))
+          (agenda_here p n m t a Settle rest here alive);
+      knows = λ b status h used. (
+        dying_above p n m t first.row here.rule first.dies,
+        first.dies,
+        subst (IsDyingWord t) (sym (written_load m.memory (Gate (a.head - 1)) (Gate first.row))) first.gate,
+      );
+    }
+
+pub own_settle : (p : Accounts) (n : ℕ) (m : Machine) (t : ℕ) (a : Actor) (rest : List Duty)
+    → AtDuty p n m t a Settle rest → (a.status ≡ Gone → ⊥)
+    → OwnFits p (done_by m t a Settle rest) t (actor_by t a Settle rest (found_by m t a Settle))
+own_settle p n m t a rest here alive =
+    let first = first_chained p n m t a rest here in
+    own_shown p n m t a Settle rest (SettleKind first.row ∷ Settle ∷ rest) a.status first.next here
+    (settle_shown p n m t a rest first here alive (omega (arith, first.head_is)))
+
+-- ---- the row is closed
+
+end_chain : (p : Accounts) (n : ℕ) (m : Machine) (t : ℕ) (a : Actor) (x : ℕ) (rest agenda : List Duty)
+    → AtDuty p n m t a (SettleEnd x) rest → ((y : ℕ) → hand_of agenda y ≡ false)
+    → ChainFits (done_by m t a (SettleEnd x) rest) t a.head agenda
+end_chain p n m t a x rest agenda here none =
+    let old = chain_here p n m t a (SettleEnd x) rest here in
+    let absent = hand_not_chained m t a.head x (SettleEnd x ∷ rest) old (eq-eqb x x refl) in
+    let new = written m.memory (Gate x) closed_word in
+    record {
+      chained = old.chained;
+      linked = linked_kept m.memory new t a.head old.chained
+          (λ y some. written_apart m.memory (Gate x) (Gate y) closed_word
+          (apart_gate x y (λ e. absurd (omega
+          (arith, subst (λ (z : ℕ). 0 < count_by (λ w. w == z) old.chained) (sym e) some, absent))))) old.linked;
+      once = λ y.
+          let hand : one_if (hand_of agenda y) ≡ 0 = ap one_if (none y) in
+          elim (eqb_tells x y) [
+            | inl same ↦
+                let gone : one_if (dies_by (with_life m.life (Some x) Closed y) t) ≡ 0 =
+                ap (λ (b : Bool). one_if (dies_by (cond b Closed (m.life y)) t)) same.0 in
+                omega (arith, hand, gone, subst (λ (z : ℕ). count_by (λ w. w == z) old.chained ≡ 0) same.1 absent)
+            | inr other ↦
+                let kept : one_if (dies_by (with_life m.life (Some x) Closed y) t) ≡ one_if (dies_by (m.life y) t) =
+                ap (λ (b : Bool). one_if (dies_by (cond b Closed (m.life y)) t)) other.0 in
+                let apart : one_if (x == y) ≡ 0 = ap one_if other.0 in
+                omega (arith, hand, kept, apart, old.once y)
+          ];
+    }
+
+pub own_settle_end : (p : Accounts) (n : ℕ) (m : Machine) (t : ℕ) (a : Actor) (x : ℕ) (rest : List Duty)
+    → AtDuty p n m t a (SettleEnd x) rest → (a.status ≡ Gone → ⊥)
+    → OwnFits p (done_by m t a (SettleEnd x) rest) t (actor_by t a (SettleEnd x) rest (found_by m t a (SettleEnd x)))
+own_settle_end p n m t a x rest here alive =
+    let ready_so =
+    ready_is m.rows t a.used a.status a.place a.head rest (agenda_here p n m t a (SettleEnd x) rest here alive) in
+    own_shown p n m t a (SettleEnd x) rest (ready a.head rest) a.status a.head here (record {
+      head_is = refl;
+      status_is = refl;
+      agenda_is = refl;
+      word = (here.rule.each t a here.found).0.word;
+      held = held_same m.plain.references t (SettleEnd x ∷ rest) (ready a.head rest) ready_so.more ready_so.less;
+      chain = end_chain p n m t a x rest (ready a.head rest) here ready_so.at_hand;
+      fits = agenda_shown m t a (SettleEnd x) rest (ready a.head rest) a.status alive refl refl ready_so.fits;
+      knows = λ b status head used. ready_so.knows (done_by m t a (SettleEnd x) rest) b head;
+    })

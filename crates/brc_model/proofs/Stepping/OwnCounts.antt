@@ -1,0 +1,117 @@
+-- A thread after its own steps of a retain and a release.
+use Rattle.std.proofs.Common.{◌≡◌, ℕ, Bool, true, false, List, ◌∷◌, refl, sym, ap, ◌∙◌, arith, ◌<◌}
+use Rattle.std.specs.Prelude.{◌==◌, ◌&&◌}
+use Rattle.std.specs.List.{list_any}
+use Rattle.std.proofs.lemmas.Bool.{eqb-true, eqb-false, eq-eqb, ne_eqb}
+use Rattle.brc_model.specs.declared.duty.Holding.{Holding}
+use Rattle.brc_model.specs.declared.duty.Holding.TheVariants.{ByVariable, AsCaller, InHand}
+use Rattle.brc_model.specs.Plain.{Reference, same_holding, same, without}
+use Rattle.brc_word.specs.Words.{local_part, is_immortal_word}
+use Rattle.brc_model.specs.declared.duty.Duty.{Duty}
+use Rattle.brc_model.specs.declared.duty.Duty.TheVariants.{RetainLoad}
+use Rattle.brc_model.specs.declared.address.Address.TheVariants.{Local}
+use Rattle.brc_model.specs.Machine.{Actor, Machine}
+use Rattle.brc_model.proofs.Basics.Bag.{held-cons, held-without}
+use Rattle.brc_model.specs.References.{one_if, reference_of}
+use Rattle.brc_model.specs.RowRule.{InOwned, InSwapped, InMerged}
+use Rattle.brc_model.specs.Accounts.{Accounts, extra_of, lacks_of}
+use Rattle.brc_model.proofs.Frame.Alive.{alive_backed}
+use Rattle.brc_model.proofs.Frame.Leaves.{AtDuty, head_of}
+use Rattle.brc_model.proofs.Stepping.Own.{HeldStep}
+
+-- ---- the bag
+
+pub flip_eqb : (x y : ℕ) → (x == y) ≡ (y == x)
+flip_eqb x y = elim (y == x) as (λ b. (y == x) ≡ b → (x == y) ≡ b) [
+  | true ↦ λ e. eq-eqb x y (sym (eqb-true y x e))
+  | false ↦ λ e. ne_eqb x y (λ s. eqb-false y x e (sym s))
+] refl
+
+flip_holding : (h k : Holding) → same_holding k h ≡ same_holding h k
+flip_holding (ByVariable v) (ByVariable w) = flip_eqb w v
+flip_holding (ByVariable v) AsCaller = refl
+flip_holding (ByVariable v) InHand = refl
+flip_holding AsCaller (ByVariable w) = refl
+flip_holding AsCaller AsCaller = refl
+flip_holding AsCaller InHand = refl
+flip_holding InHand (ByVariable w) = refl
+flip_holding InHand AsCaller = refl
+flip_holding InHand InHand = refl
+
+both_ways : (k h : Holding) (object x : ℕ) → (same_holding k h && (object == x)) ≡ (same_holding h k && (x == object))
+both_ways k h object x =
+    ap (λ (b : Bool). b && (object == x)) (flip_holding h k)
+    ∙ ap (λ (b : Bool). same_holding h k && b) (flip_eqb object x)
+
+-- one reference by one holder, as a test
+pub same_is : (t x : ℕ) (h k : Holding) (object : ℕ)
+    → same (reference_of t k object) (reference_of t h x) ≡ (same_holding h k && (x == object))
+same_is t x h k object =
+    let threads : (t == t) ≡ true = eq-eqb t t refl in
+    let front : same (reference_of t k object) (reference_of t h x) ≡ (same_holding k h && (object == x)) =
+    ap (λ (b : Bool). b && same_holding k h && (object == x)) threads in
+    front ∙ both_ways k h object x
+
+-- nothing moves, and the duty at hand has the same
+pub held_same : (bag : List Reference) (t : ℕ) (agenda later : List Duty)
+    → ((k : Holding) (object : ℕ) → extra_of later k object ≡ extra_of agenda k object)
+    → ((k : Holding) (object : ℕ) → lacks_of later k object ≡ lacks_of agenda k object)
+    → HeldStep bag bag t agenda later
+held_same bag t agenda later more less = record {
+  each =
+      λ k object. let a : one_if (extra_of later k object) ≡ one_if (extra_of agenda k object) =
+      ap one_if (more k object) in
+      let b : one_if (lacks_of later k object) ≡ one_if (lacks_of agenda k object) = ap one_if (less k object) in
+      omega (arith, a, b);
+}
+
+-- what was lacking is gained
+pub held_gained : (bag : List Reference) (t x : ℕ) (h : Holding) (agenda later : List Duty)
+    → ((k : Holding) (object : ℕ) → lacks_of agenda k object ≡ (same_holding h k && (x == object)))
+    → ((k : Holding) (object : ℕ) → extra_of agenda k object ≡ false)
+    → ((k : Holding) (object : ℕ) → extra_of later k object ≡ false)
+    → ((k : Holding) (object : ℕ) → lacks_of later k object ≡ false)
+    → HeldStep bag (reference_of t h x ∷ bag) t agenda later
+held_gained bag t x h agenda later lacked no_more more less = record {
+  each = λ k object.
+      let r = reference_of t k object in
+      let one : one_if (same r (reference_of t h x)) ≡ one_if (lacks_of agenda k object) =
+      ap one_if (same_is t x h k object ∙ sym (lacked k object)) in
+      let a : one_if (extra_of agenda k object) ≡ 0 = ap one_if (no_more k object) in
+      let b : one_if (extra_of later k object) ≡ 0 = ap one_if (more k object) in
+      let c : one_if (lacks_of later k object) ≡ 0 = ap one_if (less k object) in
+      omega (arith, held-cons r (reference_of t h x) bag, one, a, b, c);
+}
+
+-- what was extra is lost
+pub held_lost : (bag : List Reference) (t x : ℕ) (h : Holding) (agenda later : List Duty)
+    → list_any (same (reference_of t h x)) bag ≡ true
+    → ((k : Holding) (object : ℕ) → extra_of agenda k object ≡ (same_holding h k && (x == object)))
+    → ((k : Holding) (object : ℕ) → lacks_of agenda k object ≡ false)
+    → ((k : Holding) (object : ℕ) → extra_of later k object ≡ false)
+    → ((k : Holding) (object : ℕ) → lacks_of later k object ≡ false)
+    → HeldStep bag (without (reference_of t h x) bag) t agenda later
+held_lost bag t x h agenda later has extra no_less more less = record {
+  each = λ k object.
+      let r = reference_of t k object in
+      let one : one_if (same r (reference_of t h x)) ≡ one_if (extra_of agenda k object) =
+      ap one_if (same_is t x h k object ∙ sym (extra k object)) in
+      let a : one_if (lacks_of agenda k object) ≡ 0 = ap one_if (no_less k object) in
+      let b : one_if (extra_of later k object) ≡ 0 = ap one_if (more k object) in
+      let c : one_if (lacks_of later k object) ≡ 0 = ap one_if (less k object) in
+      omega (arith, held-without r (reference_of t h x) bag has, one, a, b, c);
+}
+
+-- ---- retains
+
+pub backed_not_immortal : (p : Accounts) (n : ℕ) (m : Machine) (t : ℕ) (a : Actor) (x : ℕ) (h : Holding)
+    (rest : List Duty)
+    → 0 < x → AtDuty p n m t a (RetainLoad x h) rest → is_immortal_word (m.memory (Local x)) ≡ false
+backed_not_immortal p n m t a x h rest pos here =
+    let fits = head_of p n m t a (RetainLoad x h) rest here in
+    let alive = alive_backed p n m t x here.rule pos fits in
+    ne_eqb (local_part (m.memory (Local x))) 4294967295 (elim alive.live.mode [
+      | InOwned o ↦ λ e. absurd (omega (arith, o.low, e))
+      | InSwapped s ↦ λ e. absurd (omega (arith, s.local, e))
+      | InMerged s ↦ λ e. absurd (omega (arith, s.local, e))
+    ])

@@ -1,0 +1,211 @@
+-- A thread after its own steps of an exit: it says that it leaves, looks through its rows' marks, and is gone.
+use Rattle.std.proofs.Common.{◌≡◌, ℕ, ◌+◌, ◌-◌, ◌<◌, Bool, true, false, cond, List, [], ◌∷◌, ◌++◌, inl, inr, None, refl, sym, ap, ◌∙◌, subst, arith, ◌≢◌}
+use Rattle.std.specs.Prelude.{◌==◌}
+use Rattle.std.proofs.lemmas.Bool.{eqb-true}
+use Rattle.brc_model.specs.declared.duty.Holding.{Holding}
+use Rattle.brc_model.specs.declared.duty.Reason.TheVariants.{Handed}
+use Rattle.brc_model.specs.declared.duty.Duty.{Duty}
+use Rattle.brc_model.specs.declared.duty.Duty.TheVariants.{MergeSwap, Settle, Leave, Scan, Finish, ClaimMark}
+use Rattle.brc_model.specs.declared.address.Address.TheVariants.{Gate, Mark, ThreadWord}
+use Rattle.brc_model.specs.Duties.{block_of, claimed, head_by, ready}
+use Rattle.brc_model.specs.declared.actor.Status.TheVariants.{Leaving, Gone}
+use Rattle.brc_model.specs.Machine.{Actor, Life, Machine, status_by, dies_next, ended_row, actor_by, done_by, born_row, Unborn}
+use Rattle.brc_model.specs.References.{one_if}
+use Rattle.brc_model.specs.Accounts.{Accounts, extra_of, lacks_of}
+use Rattle.brc_model.specs.OpenWork.{Later, hand_of, dies_by, ChainFits}
+use Rattle.brc_model.specs.Invariant.{numbers_of, Rule}
+use Rattle.brc_model.specs.RowRule.{RowRule}
+use Rattle.brc_model.proofs.Basics.Written.{written_here}
+use Rattle.brc_model.proofs.Frame.Leaves.{AtDuty, head_of}
+use Rattle.brc_model.proofs.Frame.Lives.{next_of}
+use Rattle.brc_model.proofs.Stepping.Own.{HeldStep, ready_is, chain_same}
+use Rattle.brc_model.proofs.Stepping.Neutral.{OwnFits, found_by, bag_by, memory_by, agenda_here, own_neutral}
+use Rattle.brc_model.proofs.Stepping.OwnCounts.{held_same}
+use Rattle.brc_model.proofs.Stepping.OwnRetains.{ready_first}
+use Rattle.brc_model.proofs.Stepping.OwnShown.{own_shown, agenda_shown}
+use Rattle.brc_model.proofs.Stepping.OwnChains.{chain_here}
+use Rattle.brc_model.proofs.Basics.Blocks.{used_block}
+use Rattle.brc_model.proofs.Stepping.Settled.{ready_none}
+
+-- ---- marked rows
+
+pub mark_above : (p : Accounts) (n : ℕ) (m : Machine) (x : ℕ) → Rule p n m → m.memory (Mark x) ≡ 1 → 0 < x
+mark_above p n m x rule marked = elim (rule.marks x) [
+  | inl none ↦ absurd (omega (arith, none, marked))
+  | inr some ↦ some.1
+]
+
+-- what is marked was born
+pub marked_born : (p : Accounts) (n : ℕ) (m : Machine) (x : ℕ) → Rule p n m → m.memory (Mark x) ≡ 1 → m.life x ≢ Unborn
+marked_born p n m x rule marked = λ unborn.
+    let row =
+    subst (λ (l : Life). RowRule (block_of m.rows x) l (numbers_of m x)) unborn
+    (rule.rows x (mark_above p n m x rule marked)) in
+    absurd (omega (arith, row.mark, marked))
+
+-- ---- a mark is claimed
+
+-- what both steps that claim a mark leave, with the duties behind the claim
+record ClaimStep (m : Machine) (t : ℕ) (a : Actor) (d : Duty) (x : ℕ) (rest behind : List Duty) : Type 0 where
+  next_is : next_of m t a d ≡ claimed x (m.memory (Mark x)) ++ behind
+  none_dies : dies_next behind ≡ None
+  none_ends : ended_row d ≡ None
+  none_born : born_row d ≡ None
+  same_head : head_by a.head d (found_by m t a d) ≡ a.head
+  same_status : status_by a.status d ≡ a.status
+  gates : (y : ℕ) → memory_by m t a d (Gate y) ≡ m.memory (Gate y)
+  word : memory_by m t a d (ThreadWord t) ≡ m.memory (ThreadWord t)
+  hands : (y : ℕ) → hand_of (d ∷ rest) y ≡ false
+  held : (agenda : List Duty) → ((h : Holding) (object : ℕ) → extra_of agenda h object ≡ false)
+      → ((h : Holding) (object : ℕ) → lacks_of agenda h object ≡ false)
+      → HeldStep m.plain.references (bag_by m t a d) t (d ∷ rest) agenda
+  block : m.memory (Mark x) ≡ 1 → block_of m.rows x ≡ t
+  later : Later m.rows t a.used a.status a.place (behind ++ rest)
+
+claim_step : (p : Accounts) (n : ℕ) (m : Machine) (t : ℕ) (a : Actor) (d : Duty) (x : ℕ) (rest behind : List Duty)
+    → AtDuty p n m t a d rest → (a.status ≡ Gone → ⊥) → ClaimStep m t a d x rest behind
+    → OwnFits p (done_by m t a d rest) t (actor_by t a d rest (found_by m t a d))
+claim_step p n m t a d x rest behind here alive step =
+    elim (m.memory (Mark x) == 1) as
+    (λ b. (m.memory (Mark x) == 1) ≡ b
+    → OwnFits p (done_by m t a d rest) t (actor_by t a d rest (found_by m t a d))) [
+      | true ↦ λ e.
+          let marked : m.memory (Mark x) ≡ 1 = eqb-true (m.memory (Mark x)) 1 e in
+          let above = mark_above p n m x here.rule marked in
+          own_neutral p n m t a d rest (MergeSwap x Handed ∷ behind)
+          (MergeSwap x Handed ∷ (behind ++ rest)) here alive (record {
+            next_is = step.next_is ∙ ap (λ (b : Bool). cond b (MergeSwap x Handed ∷ []) [] ++ behind) e;
+            none_dies = refl;
+            none_ends = step.none_ends;
+            none_born = step.none_born;
+            same_head = step.same_head;
+            same_status = step.same_status;
+            agenda_is = ready_first a.head (MergeSwap x Handed) (behind ++ rest) refl;
+            gates = step.gates;
+            word = step.word;
+            hands = λ y. sym (step.hands y);
+            held = step.held (MergeSwap x Handed ∷ (behind ++ rest)) (λ h o. refl) (λ h o. refl);
+            fits = step.later;
+            knows = λ b status head used. (above, inl (step.block marked));
+          })
+      | false ↦ λ e.
+          let ready_so = ready_is m.rows t a.used a.status a.place a.head (behind ++ rest) step.later in
+          own_neutral p n m t a d rest behind (ready a.head (behind ++ rest)) here alive (record {
+            next_is = step.next_is ∙ ap (λ (b : Bool). cond b (MergeSwap x Handed ∷ []) [] ++ behind) e;
+            none_dies = step.none_dies;
+            none_ends = step.none_ends;
+            none_born = step.none_born;
+            same_head = step.same_head;
+            same_status = step.same_status;
+            agenda_is = refl;
+            gates = step.gates;
+            word = step.word;
+            hands = λ y. ready_so.at_hand y ∙ sym (step.hands y);
+            held = step.held (ready a.head (behind ++ rest)) ready_so.more ready_so.less;
+            fits = ready_so.fits;
+            knows = λ b status head used. ready_so.knows (done_by m t a d rest) b head;
+          })
+    ] refl
+
+pub own_scan : (p : Accounts) (n : ℕ) (m : Machine) (t : ℕ) (a : Actor) (x k : ℕ) (rest : List Duty)
+    → AtDuty p n m t a (Scan x k) rest → (a.status ≡ Gone → ⊥)
+    → OwnFits p (done_by m t a (Scan x k) rest) t (actor_by t a (Scan x k) rest (found_by m t a (Scan x k)))
+own_scan p n m t a x k rest here alive =
+    let some = head_of p n m t a (Scan x k) rest here in
+    let fits = agenda_here p n m t a (Scan x k) rest here alive in
+    claim_step p n m t a (Scan x k) x rest (Settle ∷ Scan (x + 1) (k - 1) ∷ []) here alive (record {
+      next_is = refl;
+      none_dies = refl;
+      none_ends = refl;
+      none_born = refl;
+      same_head = refl;
+      same_status = refl;
+      gates = λ y. refl;
+      word = refl;
+      hands = λ y. refl;
+      held = λ agenda more less. held_same m.plain.references t (Scan x k ∷ rest) agenda more less;
+      block = λ marked. used_block p n m t a x here.rule here.found fits.1 (omega (arith, fits.2, some));
+      later = (fits.0, omega (arith, fits.1), omega (arith, fits.2, some), fits.3);
+    })
+
+-- a running thread looks into its queue
+pub own_claim_mark : (p : Accounts) (n : ℕ) (m : Machine) (t : ℕ) (a : Actor) (x : ℕ) (rest : List Duty)
+    → AtDuty p n m t a (ClaimMark x) rest → (a.status ≡ Gone → ⊥)
+    → OwnFits p (done_by m t a (ClaimMark x) rest) t (actor_by t a (ClaimMark x) rest (found_by m t a (ClaimMark x)))
+own_claim_mark p n m t a x rest here alive =
+    claim_step p n m t a (ClaimMark x) x rest (Settle ∷ []) here alive (record {
+      next_is = refl;
+      none_dies = refl;
+      none_ends = refl;
+      none_born = refl;
+      same_head = refl;
+      same_status = refl;
+      gates = λ y. refl;
+      word = refl;
+      hands = λ y. refl;
+      held = λ agenda more less. held_same m.plain.references t (ClaimMark x ∷ rest) agenda more less;
+      block = λ marked. head_of p n m t a (ClaimMark x) rest here;
+      later = agenda_here p n m t a (ClaimMark x) rest here alive;
+    })
+
+-- ---- the thread says that it leaves
+
+-- no row is at hand before the step, nor after it
+exit_chain : (p : Accounts) (n : ℕ) (m : Machine) (t : ℕ) (a : Actor) (d : Duty) (rest agenda : List Duty)
+    → AtDuty p n m t a d rest → ((y : ℕ) → memory_by m t a d (Gate y) ≡ m.memory (Gate y))
+    → ((y : ℕ) → (done_by m t a d rest).life y ≡ m.life y)
+    → ((y : ℕ) → hand_of (d ∷ rest) y ≡ false) → ((y : ℕ) → hand_of agenda y ≡ false)
+    → ChainFits (done_by m t a d rest) t a.head agenda
+exit_chain p n m t a d rest agenda here gates lives before after =
+    chain_same m (done_by m t a d rest) t a.head (d ∷ rest) agenda (record {
+      gates = gates;
+      hands = λ y.
+          let was : one_if (hand_of (d ∷ rest) y) ≡ 0 = ap one_if (before y) in
+          let now : one_if (hand_of agenda y) ≡ 0 = ap one_if (after y) in
+          let life : one_if (dies_by ((done_by m t a d rest).life y) t) ≡ one_if (dies_by (m.life y) t) =
+          ap (λ (l : Life). one_if (dies_by l t)) (lives y) in
+          omega (arith, was, now, life);
+    }) (chain_here p n m t a d rest here)
+
+pub own_leave : (p : Accounts) (n : ℕ) (m : Machine) (t : ℕ) (a : Actor) (x k : ℕ) (rest : List Duty)
+    → AtDuty p n m t a (Leave x k) rest → (a.status ≡ Gone → ⊥)
+    → OwnFits p (done_by m t a (Leave x k) rest) t (actor_by t a (Leave x k) rest (found_by m t a (Leave x k)))
+own_leave p n m t a x k [] here alive =
+    let fits = agenda_here p n m t a (Leave x k) [] here alive in
+    let looks : List Duty = Scan x k ∷ Finish ∷ [] in
+    let ready_so =
+    ready_is m.rows t a.used Leaving a.place a.head looks
+    (refl, omega (arith, fits.2), omega (arith, fits.2, fits.3), (refl, fits.1)) in
+    own_shown p n m t a (Leave x k) [] (ready a.head looks) Leaving a.head here (record {
+      head_is = refl;
+      status_is = refl;
+      agenda_is = refl;
+      word = written_here m.memory (ThreadWord t) 2;
+      held = held_same m.plain.references t (Leave x k ∷ []) (ready a.head looks) ready_so.more ready_so.less;
+      chain =
+          exit_chain p n m t a (Leave x k) [] (ready a.head looks) here (λ y. refl) (λ y. refl) (λ y. refl)
+          ready_so.at_hand;
+      fits = agenda_shown m t a (Leave x k) [] (ready a.head looks) Leaving (λ e. cc) refl refl ready_so.fits;
+      knows = λ b status head used. ready_so.knows (done_by m t a (Leave x k) []) b head;
+    })
+own_leave p n m t a x k (e ∷ rest) here alive = absurd (agenda_here p n m t a (Leave x k) (e ∷ rest) here alive)
+
+-- ---- the thread is gone
+
+-- its chain is empty by `IsSettled`: a thread settles before it leaves, and after each mark
+pub own_finish : (p : Accounts) (n : ℕ) (m : Machine) (t : ℕ) (a : Actor) (rest : List Duty)
+    → AtDuty p n m t a Finish rest → (a.status ≡ Gone → ⊥) → (empty : a.head ≡ 0)
+    → OwnFits p (done_by m t a Finish rest) t (actor_by t a Finish rest (found_by m t a Finish))
+own_finish p n m t a [] here alive empty =
+    let fits = agenda_here p n m t a Finish [] here alive in
+    own_shown p n m t a Finish [] [] Gone a.head here (record {
+      head_is = refl;
+      status_is = refl;
+      agenda_is = ready_none a.head;
+      word = written_here m.memory (ThreadWord t) 3;
+      held = held_same m.plain.references t (Finish ∷ []) [] (λ k o. refl) (λ k o. refl);
+      chain = exit_chain p n m t a Finish [] [] here (λ y. refl) (λ y. refl) (λ y. refl) (λ y. refl);
+      fits = (ready_none a.head, fits.1, empty);
+      knows = λ b status head used. tt;
+    })
+own_finish p n m t a (e ∷ rest) here alive empty = absurd (agenda_here p n m t a Finish (e ∷ rest) here alive)

@@ -1,0 +1,265 @@
+-- A thread after its own steps that make a reference, and after those that give one up by the local word or by the
+-- shared one.
+use Rattle.std.proofs.Common.{◌≡◌, ℕ, ◌+◌, ◌-◌, ◌<◌, Bool, true, false, cond, List, [], ◌∷◌, ◌++◌, refl, sym, ap, ◌∙◌, subst, arith}
+use Rattle.std.specs.Prelude.{◌==◌, ◌&&◌}
+use Rattle.std.specs.List.{list_any}
+use Rattle.std.proofs.lemmas.Bool.{eqb-true, eq-eqb, ne_eqb}
+use Rattle.brc_model.specs.declared.duty.Holding.{Holding}
+use Rattle.brc_model.specs.declared.duty.Holding.TheVariants.{ByVariable, AsCaller, InHand}
+use Rattle.brc_model.specs.Plain.{Reference, same_holding, same, without, moved}
+use Rattle.brc_word.specs.Words.{owner_part, local_part, is_immortal_word, fresh_word}
+use Rattle.brc_model.specs.declared.duty.Reason.TheVariants.{Own}
+use Rattle.brc_model.specs.declared.duty.Duty.{Duty}
+use Rattle.brc_model.specs.declared.duty.Duty.TheVariants.{RetainStore, RetainAdd, ReleaseLoad, ReleaseStore, DecideAtZero, SharedLoad, MergeSwap, Die}
+use Rattle.brc_model.specs.declared.address.Address.TheVariants.{Local, Shared}
+use Rattle.brc_model.specs.Duties.{counts_locally}
+use Rattle.brc_model.specs.declared.actor.Status.TheVariants.{Gone}
+use Rattle.brc_model.specs.Machine.{Actor, Machine, is_running, lose, hand_on, done_by, actor_by}
+use Rattle.brc_model.proofs.Basics.Bag.{same_holding-refl, held-cons, held-without, held_has, held-le-references_to}
+use Rattle.brc_model.specs.References.{held, one_if, reference_of}
+use Rattle.brc_model.specs.RowRule.{InOwned, InSwapped, InMerged}
+use Rattle.brc_model.specs.Accounts.{Accounts, extra_of, lacks_of}
+use Rattle.brc_model.proofs.Objects.RowSteps.{owner_down}
+use Rattle.brc_model.proofs.Frame.Aside.{extra_held}
+use Rattle.brc_model.proofs.Frame.Alive.{Alive, alive_referenced}
+use Rattle.brc_model.proofs.Basics.Written.{written_here}
+use Rattle.brc_model.proofs.Frame.Leaves.{AtDuty, head_of, decide_alive}
+use Rattle.brc_model.proofs.Frame.Lives.{next_of}
+use Rattle.brc_model.proofs.Stepping.Own.{HeldStep}
+use Rattle.brc_model.proofs.Stepping.Neutral.{OwnFits, found_by, bag_by, agenda_here}
+use Rattle.brc_model.proofs.Stepping.OwnCounts.{same_is, held_same, held_gained, held_lost}
+use Rattle.brc_model.proofs.Stepping.OwnRetains.{counts_owner, count_above, weight_here}
+use Rattle.brc_model.proofs.Stepping.OwnSteps.{own_done, own_next, own_dying}
+
+-- ---- a reference is made
+
+pub own_retain_store : (p : Accounts) (n : ℕ) (m : Machine) (t : ℕ) (a : Actor) (x : ℕ) (h : Holding) (w : ℕ)
+    (rest : List Duty)
+    → AtDuty p n m t a (RetainStore x h w) rest → (a.status ≡ Gone → ⊥)
+    → OwnFits p (done_by m t a (RetainStore x h w) rest) t
+    (actor_by t a (RetainStore x h w) rest (found_by m t a (RetainStore x h w)))
+own_retain_store p n m t a x h w rest here alive =
+    own_done p n m t a (RetainStore x h w) rest here alive refl refl
+    (agenda_here p n m t a (RetainStore x h w) rest here alive)
+    (held_gained m.plain.references t x h (RetainStore x h w ∷ rest) [] (λ k o. refl) (λ k o. refl) (λ k o. refl)
+    (λ k o. refl))
+
+pub own_retain_add : (p : Accounts) (n : ℕ) (m : Machine) (t : ℕ) (a : Actor) (x : ℕ) (h : Holding) (rest : List Duty)
+    → AtDuty p n m t a (RetainAdd x h) rest → (a.status ≡ Gone → ⊥)
+    → OwnFits p (done_by m t a (RetainAdd x h) rest) t
+    (actor_by t a (RetainAdd x h) rest (found_by m t a (RetainAdd x h)))
+own_retain_add p n m t a x h rest here alive =
+    own_done p n m t a (RetainAdd x h) rest here alive refl refl
+    (agenda_here p n m t a (RetainAdd x h) rest here alive)
+    (held_gained m.plain.references t x h (RetainAdd x h ∷ rest) [] (λ k o. refl) (λ k o. refl) (λ k o. refl)
+    (λ k o. refl))
+
+-- ---- a reference is taken to the hand
+
+extra_here : (p : Accounts) (n : ℕ) (m : Machine) (t : ℕ) (a : Actor) (d : Duty) (rest : List Duty) (h : Holding) (x : ℕ)
+    → AtDuty p n m t a d rest → extra_of (d ∷ rest) h x ≡ true → lacks_of (d ∷ rest) h x ≡ false
+    → 0 < held (reference_of t h x) m.plain.references
+extra_here p n m t a d rest h x here more less =
+    let fits = here.rule.each t a here.found in
+    extra_held m.plain.references t (p t) a.agenda a.aside h x fits.0.holds (fits.2.apart x)
+    (ap (λ (l : List Duty). extra_of l h x) here.agenda ∙ more)
+    (ap (λ (l : List Duty). lacks_of l h x) here.agenda ∙ less)
+
+pub release_held : (p : Accounts) (n : ℕ) (m : Machine) (t : ℕ) (a : Actor) (x : ℕ) (h : Holding) (rest : List Duty)
+    → AtDuty p n m t a (ReleaseLoad x h) rest → 0 < held (reference_of t h x) m.plain.references
+release_held p n m t a x h rest here =
+    extra_here p n m t a (ReleaseLoad x h) rest h x here
+    (ap (λ (b : Bool). b && (x == x)) (same_holding-refl h) ∙ eq-eqb x x refl) refl
+
+pub release_alive : (p : Accounts) (n : ℕ) (m : Machine) (t : ℕ) (a : Actor) (x : ℕ) (h : Holding) (rest : List Duty)
+    → 0 < x → AtDuty p n m t a (ReleaseLoad x h) rest → Alive m x
+release_alive p n m t a x h rest pos here =
+    alive_referenced p n m x here.rule pos
+    (omega (
+      arith,
+      release_held p n m t a x h rest here,
+      held-le-references_to (reference_of t h x) m.plain.references,
+    ))
+
+alive_mortal : (m : Machine) (x : ℕ) → Alive m x → is_immortal_word (m.memory (Local x)) ≡ false
+alive_mortal m x alive =
+    ne_eqb (local_part (m.memory (Local x))) 4294967295 (elim alive.live.mode [
+      | InOwned o ↦ λ e. absurd (omega (arith, o.low, e))
+      | InSwapped s ↦ λ e. absurd (omega (arith, s.local, e))
+      | InMerged s ↦ λ e. absurd (omega (arith, s.local, e))
+    ])
+
+-- the holder's reference becomes the hand's
+held_taken : (bag : List Reference) (t x : ℕ) (h : Holding) (rest later : List Duty)
+    → list_any (same (reference_of t h x)) bag ≡ true
+    → ((k : Holding) (object : ℕ) → extra_of later k object ≡ (same_holding InHand k && (x == object)))
+    → ((k : Holding) (object : ℕ) → lacks_of later k object ≡ false)
+    → HeldStep bag (reference_of t InHand x ∷ without (reference_of t h x) bag) t (ReleaseLoad x h ∷ rest) later
+held_taken bag t x h rest later has more less = record {
+  each = λ k object.
+      let r = reference_of t k object in
+      let lost : one_if (same r (reference_of t h x)) ≡ one_if (extra_of (ReleaseLoad x h ∷ rest) k object) =
+      ap one_if (same_is t x h k object) in
+      let gained : one_if (same r (reference_of t InHand x)) ≡ one_if (extra_of later k object) =
+      ap one_if (same_is t x InHand k object ∙ sym (more k object)) in
+      let c : one_if (lacks_of later k object) ≡ 0 = ap one_if (less k object) in
+      omega (
+        arith,
+        held-cons r (reference_of t InHand x) (without (reference_of t h x) bag),
+        held-without r (reference_of t h x) bag has,
+        lost,
+        gained,
+        c,
+      );
+}
+
+held_handed_on : (m : Machine) (t x : ℕ) (h : Holding) (rest later : List Duty)
+    → list_any (same (reference_of t h x)) m.plain.references ≡ true
+    → ((k : Holding) (object : ℕ) → extra_of later k object ≡ (same_holding InHand k && (x == object)))
+    → ((k : Holding) (object : ℕ) → lacks_of later k object ≡ false)
+    → HeldStep m.plain.references (moved m.plain (hand_on t h x ++ [])).references t (ReleaseLoad x h ∷ rest) later
+held_handed_on m t x (ByVariable v) rest later has more less =
+    held_taken m.plain.references t x (ByVariable v) rest later has more less
+held_handed_on m t x AsCaller rest later has more less =
+    held_taken m.plain.references t x AsCaller rest later has more less
+held_handed_on m t x InHand rest later has more less =
+    held_same m.plain.references t (ReleaseLoad x InHand ∷ rest) later more less
+
+-- of a counted object
+pub own_release_counted : (p : Accounts) (n : ℕ) (m : Machine) (t : ℕ) (a : Actor) (x : ℕ) (h : Holding)
+    (rest : List Duty)
+    → 0 < x → AtDuty p n m t a (ReleaseLoad x h) rest → (a.status ≡ Gone → ⊥)
+    → OwnFits p (done_by m t a (ReleaseLoad x h) rest) t
+    (actor_by t a (ReleaseLoad x h) rest (found_by m t a (ReleaseLoad x h)))
+own_release_counted p n m t a x h rest pos here alive =
+    let word = m.memory (Local x) in
+    let d : Duty = ReleaseLoad x h in
+    let living = release_alive p n m t a x h rest pos here in
+    let mortal = alive_mortal m x living in
+    let has = held_has (reference_of t h x) m.plain.references (release_held p n m t a x h rest here) in
+    let bag : bag_by m t a d ≡ (moved m.plain (hand_on t h x ++ [])).references =
+    ap (λ (b : Bool). (moved m.plain (hand_on t h x ++ cond b (lose t x) [])).references) mortal in
+    let first : next_of m t a d ≡ cond (counts_locally t (is_running a.status) word) (ReleaseStore x word ∷ [])
+    (SharedLoad x Own ∷ []) =
+    ap (λ (b : Bool). cond b [] (cond (counts_locally t (is_running a.status) word) (ReleaseStore x word ∷ [])
+    (SharedLoad x Own ∷ []))) mortal in
+    let keeps : (e : Duty)
+    → ((k : Holding) (object : ℕ) → extra_of (e ∷ rest) k object ≡ (same_holding InHand k && (x == object)))
+    → ((k : Holding) (object : ℕ) → lacks_of (e ∷ rest) k object ≡ false)
+    → HeldStep m.plain.references (bag_by m t a d) t (d ∷ rest) (e ∷ rest) =
+    λ e more less. subst (λ (l : List Reference). HeldStep m.plain.references l t (d ∷ rest) (e ∷ rest)) (sym bag)
+    (held_handed_on m t x h rest (e ∷ rest) has more less) in
+    let later = agenda_here p n m t a d rest here alive in
+    elim (counts_locally t (is_running a.status) word) as
+    (λ b. counts_locally t (is_running a.status) word ≡ b
+    → OwnFits p (done_by m t a d rest) t (actor_by t a d rest word)) [
+      | true ↦ λ e.
+          let owns = counts_owner m t a x e living in
+          let some =
+          count_above p n m t x a here.rule here.found owns (weight_here p n m t x a d rest here (eq-eqb x x refl) refl) living
+          in
+          let same_word : (done_by m t a d rest).memory (Local x) ≡ word = written_here m.memory (Local x) word in
+          own_next p n m t a d (ReleaseStore x word) rest here alive refl refl refl
+          (first ∙ ap (λ (b : Bool). cond b (ReleaseStore x word ∷ []) (SharedLoad x Own ∷ [])) e)
+          (keeps (ReleaseStore x word) (λ k o. refl) (λ k o. refl)) later
+          (λ b status head used. (
+            pos,
+            record {
+              running = status ∙ owns.running;
+              owner = ap owner_part same_word ∙ owns.owner;
+              low = subst (λ (w : ℕ). local_part w < 4294967295) (sym same_word) owns.low;
+            },
+            same_word,
+            some,
+          ))
+      | false ↦ λ e.
+          own_next p n m t a d (SharedLoad x Own) rest here alive refl refl refl
+          (first ∙ ap (λ (b : Bool). cond b (ReleaseStore x word ∷ []) (SharedLoad x Own ∷ [])) e)
+          (keeps (SharedLoad x Own) (λ k o. refl) (λ k o. refl)) later
+          (λ b status head used. pos)
+    ] refl
+
+-- ---- the reference in the hand is lost
+
+-- its duty has the hand's reference more, and what comes next has nothing
+pub held_let_go : (p : Accounts) (n : ℕ) (m : Machine) (t : ℕ) (a : Actor) (d : Duty) (rest later : List Duty) (x : ℕ)
+    → AtDuty p n m t a d rest
+    → ((k : Holding) (object : ℕ) → extra_of (d ∷ rest) k object ≡ (same_holding InHand k && (x == object)))
+    → ((k : Holding) (object : ℕ) → lacks_of (d ∷ rest) k object ≡ false)
+    → ((k : Holding) (object : ℕ) → extra_of later k object ≡ false)
+    → ((k : Holding) (object : ℕ) → lacks_of later k object ≡ false)
+    → HeldStep m.plain.references (without (reference_of t InHand x) m.plain.references) t (d ∷ rest) later
+held_let_go p n m t a d rest later x here extra none more less =
+    let some = extra_here p n m t a d rest InHand x here (extra InHand x ∙ eq-eqb x x refl) (none InHand x) in
+    held_lost m.plain.references t x InHand (d ∷ rest) later
+    (held_has (reference_of t InHand x) m.plain.references some) extra none more less
+
+pub own_release_store : (p : Accounts) (n : ℕ) (m : Machine) (t : ℕ) (a : Actor) (x w : ℕ) (rest : List Duty)
+    → AtDuty p n m t a (ReleaseStore x w) rest → (a.status ≡ Gone → ⊥)
+    → OwnFits p (done_by m t a (ReleaseStore x w) rest) t
+    (actor_by t a (ReleaseStore x w) rest (found_by m t a (ReleaseStore x w)))
+own_release_store p n m t a x w rest here alive =
+    let d : Duty = ReleaseStore x w in
+    let fits = head_of p n m t a d rest here in
+    let lost : (later : List Duty) → ((k : Holding) (object : ℕ) → extra_of later k object ≡ false)
+    → ((k : Holding) (object : ℕ) → lacks_of later k object ≡ false)
+    → HeldStep m.plain.references (bag_by m t a d) t (d ∷ rest) later =
+    λ later more less. held_let_go p n m t a d rest later x here (λ k o. refl) (λ k o. refl) more less in
+    let later = agenda_here p n m t a d rest here alive in
+    elim (local_part w == 1) as (λ b. (local_part w == 1) ≡ b
+    → OwnFits p (done_by m t a d rest) t (actor_by t a d rest (m.memory (Local x)))) [
+      | true ↦ λ e.
+          let one : local_part w ≡ 1 = eqb-true _ _ e in
+          let down = owner_down w fits.3 in
+          let now : (done_by m t a d rest).memory (Local x) ≡ w - 1 = written_here m.memory (Local x) (w - 1) in
+          let zero_left : local_part (w - 1) ≡ 0 = omega (arith, down.1, one) in
+          let owner : owner_part (w - 1) ≡ t + 1 = down.0 ∙ ap owner_part (sym fits.2) ∙ fits.1.owner in
+          own_next p n m t a d (DecideAtZero x) rest here alive refl refl refl
+          (ap (λ (b : Bool). cond b (DecideAtZero x ∷ []) []) e)
+          (lost (DecideAtZero x ∷ rest) (λ k o. refl) (λ k o. refl)) later
+          (λ b status head used. (
+            fits.0,
+            record {
+              running = status ∙ fits.1.running;
+              owner = ap owner_part now ∙ owner;
+              low =
+                  subst (λ (v : ℕ). local_part v < 4294967295) (sym now) (omega (arith, zero_left));
+            },
+            ap local_part now ∙ zero_left,
+          ))
+      | false ↦ λ e.
+          own_done p n m t a d rest here alive refl (ap (λ (b : Bool). cond b (DecideAtZero x ∷ []) []) e) later
+          (lost [] (λ k o. refl) (λ k o. refl))
+    ] refl
+
+-- ---- the owner decides
+
+pub own_decide : (p : Accounts) (n : ℕ) (m : Machine) (t : ℕ) (a : Actor) (x : ℕ) (rest : List Duty)
+    → AtDuty p n m t a (DecideAtZero x) rest → (a.status ≡ Gone → ⊥)
+    → OwnFits p (done_by m t a (DecideAtZero x) rest) t
+    (actor_by t a (DecideAtZero x) rest (found_by m t a (DecideAtZero x)))
+own_decide p n m t a x rest here alive =
+    let word = m.memory (Shared x) in
+    let d : Duty = DecideAtZero x in
+    let fits = head_of p n m t a d rest here in
+    let later = agenda_here p n m t a d rest here alive in
+    elim (word == fresh_word) as (λ b. (word == fresh_word) ≡ b
+    → OwnFits p (done_by m t a d rest) t (actor_by t a d rest word)) [
+      | true ↦ λ e.
+          own_dying p n m t a d rest x here alive refl (record {
+            next_is = ap (λ (b : Bool). cond b (Die x ∷ []) (MergeSwap x Own ∷ [])) e;
+            counted = fits.0;
+            lived = (decide_alive p n m t a x rest here).life;
+            held = held_same m.plain.references t (d ∷ rest) (Die x ∷ rest) (λ k o. refl) (λ k o. refl);
+            later = later;
+          })
+      | false ↦ λ e.
+          own_next p n m t a d (MergeSwap x Own) rest here alive refl refl refl
+          (ap (λ (b : Bool). cond b (Die x ∷ []) (MergeSwap x Own ∷ [])) e)
+          (held_same m.plain.references t (d ∷ rest) (MergeSwap x Own ∷ rest) (λ k o. refl) (λ k o. refl)) later
+          (λ b status head used. (
+            fits.0,
+            record { running = status ∙ fits.1.running; owner = fits.1.owner; low = fits.1.low },
+            fits.2,
+          ))
+    ] refl

@@ -1,0 +1,174 @@
+-- A thread after its own steps of a retain, and of the owner's release.
+use Rattle.std.proofs.Common.{◌≡◌, ℕ, zero, suc, ◌+◌, ◌<◌, ◌≤◌, Bool, true, false, cond, List, [], ◌∷◌, Some, refl, sym, ap, ◌∙◌, subst, arith}
+use Rattle.std.proofs.lemmas.Bool.{eq-eqb}
+use Rattle.std.specs.Prelude.{◌==◌, ◌&&◌, nat_lt, slice_get}
+use Rattle.std.proofs.lemmas.Bool.{eqb-true, ltb-true}
+use Rattle.brc_model.specs.declared.duty.Holding.{Holding}
+use Rattle.brc_model.specs.Plain.{Reference, same_holding, moved}
+use Rattle.brc_word.specs.Words.{owner_part, local_part, is_immortal_word}
+use Rattle.brc_model.specs.declared.duty.Duty.{Duty}
+use Rattle.brc_model.specs.declared.duty.Duty.TheVariants.{RetainLoad, RetainStore, RetainAdd, Settle, Scan}
+use Rattle.brc_model.specs.declared.address.Address.TheVariants.{Local}
+use Rattle.brc_model.specs.Duties.{next_by, counts_locally, ready}
+use Rattle.brc_model.specs.declared.actor.Status.{Status}
+use Rattle.brc_model.specs.declared.actor.Status.TheVariants.{Running, Leaving, Gone}
+use Rattle.brc_model.specs.Machine.{Actor, Machine, is_running, gain, done_by, actor_by}
+use Rattle.brc_model.proofs.Basics.Lists.{and_first, and_second}
+use Rattle.brc_model.specs.References.{held, reference_of}
+use Rattle.brc_model.specs.RowRule.{decides, agenda_weight, weight, InOwned, InSwapped, InMerged, AtZero, AboveZero}
+use Rattle.brc_model.specs.Accounts.{Accounts, extra_of, lacks_of}
+use Rattle.brc_model.specs.OpenWork.{is_about}
+use Rattle.brc_model.specs.Knowledge.{OwnsLocally, IsBacked}
+use Rattle.brc_model.specs.Invariant.{Rule}
+use Rattle.brc_model.proofs.Frame.Alive.{Alive, alive_backed}
+use Rattle.brc_model.proofs.Basics.Written.{written_here}
+use Rattle.brc_model.proofs.Frame.Leaves.{AtDuty, head_of}
+use Rattle.brc_model.proofs.Stepping.Own.{HeldStep}
+use Rattle.brc_model.proofs.Stepping.Neutral.{OwnFits, found_by, bag_by, agenda_here, own_neutral}
+use Rattle.brc_model.proofs.Stepping.OwnCounts.{held_same, backed_not_immortal}
+use Rattle.brc_model.proofs.Work.Weighing.{own_weighs}
+use Rattle.brc_model.proofs.Frame.Aside.{decides_of_row}
+use Rattle.brc_model.proofs.Work.Deciders.{nobody_decides}
+
+abbrev pub is_passed : Duty → Bool
+is_passed Settle = true
+is_passed (Scan x k) = true
+is_passed _ = false
+
+pub ready_first : (head : ℕ) (d : Duty) (rest : List Duty) → is_passed d ≡ false → ready head (d ∷ rest) ≡ d ∷ rest
+ready_first zero Settle rest e = absurd cc
+ready_first zero (Scan x k) rest e = absurd cc
+ready_first zero _ rest e = refl
+ready_first (suc head) Settle rest e = absurd cc
+ready_first (suc head) (Scan x k) rest e = absurd cc
+ready_first (suc head) _ rest e = refl
+
+-- ---- the local word is loaded for a retain
+
+pub running_is : (status : Status) → is_running status ≡ true → status ≡ Running
+running_is Running e = refl
+running_is Leaving e = absurd cc
+running_is Gone e = absurd cc
+
+pub counts_owner : (m : Machine) (t : ℕ) (a : Actor) (x : ℕ)
+    → counts_locally t (is_running a.status) (m.memory (Local x)) ≡ true → Alive m x → OwnsLocally m t a x
+counts_owner m t a x counts alive =
+    let owner : owner_part (m.memory (Local x)) ≡ t + 1 =
+    eqb-true _ _ (and_second (is_running a.status) (owner_part (m.memory (Local x)) == t + 1) counts) in
+    record {
+      running = running_is a.status (and_first (is_running a.status) (owner_part (m.memory (Local x)) == t + 1) counts);
+      owner = owner;
+      low = elim alive.live.mode [
+        | InOwned o ↦ o.low
+        | InSwapped s ↦ absurd (omega (arith, s.local, owner))
+        | InMerged s ↦ absurd (omega (arith, s.local, owner))
+      ];
+    }
+
+-- where nobody decides, the running owner's count is above 0
+pub count_above : (p : Accounts) (n : ℕ) (m : Machine) (t x : ℕ) (a : Actor) → Rule p n m → slice_get m.actors t ≡ Some a
+    → OwnsLocally m t a x → agenda_weight (decides x) a ≡ 0 → Alive m x → 1 ≤ local_part (m.memory (Local x))
+count_above p n m t x a rule found owns mine alive =
+    let none : weight (decides x) m.actors ≡ 0 = nobody_decides p n m t x a rule found owns mine in
+    elim alive.live.mode [
+      | InOwned o ↦ elim o.decided [ AtZero z d ↦ absurd (omega (arith, none, d)) | AboveZero z d ↦ z ]
+      | InSwapped s ↦ absurd (omega (arith, s.local, owns.owner))
+      | InMerged s ↦ absurd (omega (arith, s.local, owns.owner))
+    ]
+
+pub weight_here : (p : Accounts) (n : ℕ) (m : Machine) (t x : ℕ) (a : Actor) (d : Duty) (rest : List Duty)
+    → AtDuty p n m t a d rest → is_about x d ≡ true → decides x d ≡ 0 → agenda_weight (decides x) a ≡ 0
+weight_here p n m t x a d rest here this none =
+    own_weighs p n m t x a d rest (decides x) here (decides_of_row x) this ∙ none
+
+retain_bag : (m : Machine) (t : ℕ) (a : Actor) (x : ℕ) (h : Holding) → is_immortal_word (m.memory (Local x)) ≡ false
+    → bag_by m t a (RetainLoad x h) ≡ m.plain.references
+retain_bag m t a x h mortal = ap (λ (b : Bool). (moved m.plain (cond b (gain t h x) [])).references) mortal
+
+-- of a counted object
+pub own_retain_counted : (p : Accounts) (n : ℕ) (m : Machine) (t : ℕ) (a : Actor) (x : ℕ) (h : Holding) (rest : List Duty)
+    → 0 < x → AtDuty p n m t a (RetainLoad x h) rest → (a.status ≡ Gone → ⊥)
+    → OwnFits p (done_by m t a (RetainLoad x h) rest) t
+    (actor_by t a (RetainLoad x h) rest (found_by m t a (RetainLoad x h)))
+own_retain_counted p n m t a x h rest pos here alive =
+    let word = m.memory (Local x) in
+    let fits = head_of p n m t a (RetainLoad x h) rest here in
+    let mortal = backed_not_immortal p n m t a x h rest pos here in
+    let living = alive_backed p n m t x here.rule pos fits in
+    let bag = retain_bag m t a x h mortal in
+    let new = done_by m t a (RetainLoad x h) rest in
+    let backed : IsBacked new t x =
+    record {
+      by = fits.by;
+      held_so =
+          subst (λ (l : List Reference). 0 < held (reference_of t fits.by x) l) (sym bag) fits.held_so;
+    } in
+    let first : next_by t (is_running a.status) a.head (RetainLoad x h) word
+    ≡ cond (counts_locally t (is_running a.status) word && nat_lt (local_part word) 4294967294)
+    (RetainStore x h word ∷ []) (RetainAdd x h ∷ []) =
+    ap (λ (b : Bool). cond b [] (cond
+    (counts_locally t (is_running a.status) word && nat_lt (local_part word) 4294967294)
+    (RetainStore x h word ∷ []) (RetainAdd x h ∷ []))) mortal in
+    let keeps : (e : Duty) → ((k : Holding) (object : ℕ) → extra_of (e ∷ rest) k object ≡ false)
+    → ((k : Holding) (object : ℕ) → lacks_of (e ∷ rest) k object ≡ (same_holding h k && (x == object)))
+    → HeldStep m.plain.references (bag_by m t a (RetainLoad x h)) t (RetainLoad x h ∷ rest) (e ∷ rest) =
+    λ e more less. subst (λ (l : List Reference). HeldStep m.plain.references l t (RetainLoad x h ∷ rest) (e ∷ rest))
+    (sym bag) (held_same m.plain.references t (RetainLoad x h ∷ rest) (e ∷ rest) more less) in
+    let is_local = counts_locally t (is_running a.status) word && nat_lt (local_part word) 4294967294 in
+    elim is_local as (λ b. is_local ≡ b → OwnFits p new t (actor_by t a (RetainLoad x h) rest word)) [
+      | true ↦ λ e.
+          let counts =
+          and_first (counts_locally t (is_running a.status) word) (nat_lt (local_part word) 4294967294) e in
+          let low : local_part word < 4294967294 =
+          ltb-true _ _ (and_second (counts_locally t (is_running a.status) word)
+          (nat_lt (local_part word) 4294967294) e) in
+          let owns = counts_owner m t a x counts living in
+          let some =
+          count_above p n m t x a here.rule here.found owns
+          (weight_here p n m t x a (RetainLoad x h) rest here (eq-eqb x x refl) refl) living in
+          let same : new.memory (Local x) ≡ word = written_here m.memory (Local x) word in
+          own_neutral p n m t a (RetainLoad x h) rest (RetainStore x h word ∷ []) (RetainStore x h word ∷ rest) here
+          alive (record {
+            next_is = first ∙ ap (λ (b : Bool). cond b (RetainStore x h word ∷ []) (RetainAdd x h ∷ [])) e;
+            none_dies = refl;
+            none_ends = refl;
+            none_born = refl;
+            same_head = refl;
+            same_status = refl;
+            agenda_is = ready_first a.head (RetainStore x h word) rest refl;
+            gates = λ y. refl;
+            word = refl;
+            hands = λ y. refl;
+            held = keeps (RetainStore x h word) (λ k o. refl) (λ k o. refl);
+            fits = agenda_here p n m t a (RetainLoad x h) rest here alive;
+            knows =
+                λ b status head used. (
+                  pos,
+                  backed,
+                  record {
+                    running = status ∙ owns.running;
+                    owner = ap owner_part same ∙ owns.owner;
+                    low = subst (λ (w : ℕ). local_part w < 4294967295) (sym same) owns.low;
+                  },
+                  same,
+                  some,
+                  low,
+                );
+          })
+      | false ↦ λ e.
+          own_neutral p n m t a (RetainLoad x h) rest (RetainAdd x h ∷ []) (RetainAdd x h ∷ rest) here alive (record {
+            next_is = first ∙ ap (λ (b : Bool). cond b (RetainStore x h word ∷ []) (RetainAdd x h ∷ [])) e;
+            none_dies = refl;
+            none_ends = refl;
+            none_born = refl;
+            same_head = refl;
+            same_status = refl;
+            agenda_is = ready_first a.head (RetainAdd x h) rest refl;
+            gates = λ y. refl;
+            word = refl;
+            hands = λ y. refl;
+            held = keeps (RetainAdd x h) (λ k o. refl) (λ k o. refl);
+            fits = agenda_here p n m t a (RetainLoad x h) rest here alive;
+            knows = λ b status head used. (pos, backed);
+          })
+    ] refl

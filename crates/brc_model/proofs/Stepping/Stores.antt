@@ -1,0 +1,179 @@
+-- The word that each plain store overwrites. Some duties store whatever they find: `is_store` lists them, and
+-- `stores_blindly` shows that such a step does the same for every word found. A running thread does the step as one
+-- plain store. The rule of a store names the word stored and not the word found, and a step has both, so the word found
+-- has to follow from the invariant. `overwritten` shows that it does: where the rule holds, a thread at a storing duty
+-- finds the word that `Overwrites` says.
+use Rattle.std.proofs.Common.{◌≡◌, ℕ, ◌+◌, ◌<◌, ◌≤◌, Bool, true, false, List, [], ◌∷◌, refl, sym, ap, ◌∙◌, subst, arith}
+use Rattle.std.specs.Prelude.{◌==◌}
+use Rattle.std.proofs.lemmas.Bool.{eq-eqb}
+use Rattle.brc_word.specs.Words.{free_word}
+use Rattle.brc_model.specs.declared.duty.Duty.{Duty}
+use Rattle.brc_model.specs.declared.duty.Duty.TheVariants.{RetainStore, ReleaseStore, SetMark, Die, SettleEnd, Leave, Finish, BirthKind, BirthSlot, BirthLocal}
+use Rattle.brc_model.specs.declared.address.Address.{Address}
+use Rattle.brc_model.specs.declared.address.Address.TheVariants.{Local, Mark, ThreadWord}
+use Rattle.brc_model.specs.declared.actor.Status.{Status}
+use Rattle.brc_model.specs.declared.actor.Status.TheVariants.{Running, Leaving, Gone}
+use Rattle.brc_model.specs.Duties.{block_of, left_by, next_by, head_by}
+use Rattle.brc_model.specs.Machine.{Actor, Life, Machine, first_row, moves_by}
+use Rattle.brc_model.specs.References.{one_if}
+use Rattle.brc_model.specs.RowRule.{waits, Numbers, IsDefault, IsQueued, InOwned, InSwapped, InMerged, Phased, RowRule}
+use Rattle.brc_model.specs.Accounts.{Accounts}
+use Rattle.brc_model.specs.Invariant.{numbers_of}
+use Rattle.brc_model.specs.Knowledge.{status_word, IsNext, IsDyingWord}
+use Rattle.brc_model.specs.OpenWork.{Agenda, AgendaFits}
+use Rattle.brc_model.proofs.Frame.Alive.{first_weighs, alive_waiting}
+use Rattle.brc_model.proofs.Basics.Blocks.{next_above, next_block, next_unborn}
+use Rattle.brc_model.proofs.Frame.Leaves.{AtDuty, head_of}
+use Rattle.brc_model.proofs.Stepping.Neutral.{found_by}
+use Rattle.brc_model.proofs.Objects.BlanksAfter.{blanks_here}
+
+-- ---- the duties that store
+
+-- Says whether the duty stores a word whatever it finds.
+abbrev pub is_store : Duty → Bool
+is_store (RetainStore x h w) = true
+is_store (ReleaseStore x w) = true
+is_store (SetMark x) = true
+is_store (Die x) = true
+is_store (SettleEnd x) = true
+is_store (Leave x n) = true
+is_store Finish = true
+is_store (BirthKind x h w) = true
+is_store (BirthSlot x h) = true
+is_store (BirthLocal x h) = true
+is_store _ = false
+
+-- the duty does the same for both words found
+pub record StoresBlindly (memory : Address → ℕ) (t : ℕ) (running : Bool) (head : ℕ) (d : Duty) (found other : ℕ)
+    : Type 0 where
+  pub left : left_by t head d found ≡ left_by t head d other
+  pub next : next_by t running head d found ≡ next_by t running head d other
+  pub head_after : head_by head d found ≡ head_by head d other
+  pub moves : moves_by memory t d found ≡ moves_by memory t d other
+
+pub stores_blindly : (memory : Address → ℕ) (t : ℕ) (running : Bool) (head : ℕ) (d : Duty) (found other : ℕ)
+    → is_store d ≡ true → StoresBlindly memory t running head d found other
+stores_blindly memory t running head (RetainStore x h w) found other is =
+    record { left = refl; next = refl; head_after = refl; moves = refl }
+stores_blindly memory t running head (ReleaseStore x w) found other is =
+    record { left = refl; next = refl; head_after = refl; moves = refl }
+stores_blindly memory t running head (SetMark x) found other is =
+    record { left = refl; next = refl; head_after = refl; moves = refl }
+stores_blindly memory t running head (Die x) found other is =
+    record { left = refl; next = refl; head_after = refl; moves = refl }
+stores_blindly memory t running head (SettleEnd x) found other is =
+    record { left = refl; next = refl; head_after = refl; moves = refl }
+stores_blindly memory t running head (Leave x k) found other is =
+    record { left = refl; next = refl; head_after = refl; moves = refl }
+stores_blindly memory t running head Finish found other is =
+    record { left = refl; next = refl; head_after = refl; moves = refl }
+stores_blindly memory t running head (BirthKind x h w) found other is =
+    record { left = refl; next = refl; head_after = refl; moves = refl }
+stores_blindly memory t running head (BirthSlot x h) found other is =
+    record { left = refl; next = refl; head_after = refl; moves = refl }
+stores_blindly memory t running head (BirthLocal x h) found other is =
+    record { left = refl; next = refl; head_after = refl; moves = refl }
+stores_blindly memory t running head _ found other is = absurd cc
+
+-- ---- the word that a store overwrites
+
+-- Says which word a thread's storing duty finds; it says nothing about the other duties.
+abbrev pub Overwrites : ℕ → Duty → ℕ → Type 0
+Overwrites t (RetainStore x h w) found = found ≡ w
+Overwrites t (ReleaseStore x w) found = found ≡ w
+Overwrites t (SetMark x) found = found ≡ 0
+Overwrites t (Die x) found = found ≡ free_word
+Overwrites t (SettleEnd x) found = IsDyingWord t found
+Overwrites t (Leave x n) found = found ≡ status_word Running
+Overwrites t Finish found = found ≡ status_word Leaving
+Overwrites t (BirthKind x h w) found = found ≡ 0
+Overwrites t (BirthSlot x h) found = found ≡ 0
+Overwrites t (BirthLocal x h) found = found ≡ 0
+Overwrites t _ found = Unit {0}
+
+-- ---- marks
+
+phased_free : (n : Numbers) → Phased n → 0 < n.waiting → n.mark ≡ 0
+phased_free n (IsDefault phase none count) some = absurd (omega (arith, none, some))
+phased_free n (IsQueued phase one) some = omega (arith, one, some)
+
+-- at most one decrement is pending, and it is the one that this duty is about to queue
+mark_free : (p : Accounts) (n : ℕ) (m : Machine) (t : ℕ) (a : Actor) (x : ℕ) (rest : List Duty)
+    → AtDuty p n m t a (SetMark x) rest → m.memory (Mark x) ≡ 0
+mark_free p n m t a x rest here =
+    let one : one_if (x == x) ≡ 1 = ap one_if (eq-eqb x x refl) in
+    let weighs = first_weighs (waits x) m.actors t a (SetMark x) rest here.found here.agenda in
+    let some : 0 < (numbers_of m x).waiting = omega (arith, weighs, one) in
+    let alive = alive_waiting p n m x here.rule (head_of p n m t a (SetMark x) rest here) some in
+    elim alive.live.mode [
+      | InOwned o ↦ phased_free (numbers_of m x) o.phased some
+      | InSwapped s ↦ phased_free (numbers_of m x) s.phased some
+      | InMerged s ↦ let most = s.awaits in omega (arith, most, some)
+    ]
+
+-- ---- a thread's own word
+
+word_is : (p : Accounts) (n : ℕ) (m : Machine) (t : ℕ) (a : Actor) (d : Duty) (rest : List Duty) (status : Status)
+    → AtDuty p n m t a d rest → a.status ≡ status → m.memory (ThreadWord t) ≡ status_word status
+word_is p n m t a d rest status here is = (here.rule.each t a here.found).0.word ∙ ap status_word is
+
+-- a thread that is about to leave runs
+leaving_runs : (m : Machine) (t : ℕ) (a : Actor) (x k : ℕ) (rest : List Duty) (status : Status)
+    → a.agenda ≡ Leave x k ∷ rest → AgendaFits m.rows t a status → status ≡ Running
+leaving_runs m t a x k rest Running is fits = refl
+leaving_runs m t a x k rest Gone is fits = absurd (let wrong : [] ≡ Leave x k ∷ rest = sym fits.0 ∙ is in cc)
+leaving_runs m t a x k [] Leaving is fits =
+    (subst (λ (l : List Duty). Agenda m.rows t a.used Leaving a.place l) is fits).0
+leaving_runs m t a x k (e ∷ rest) Leaving is fits =
+    absurd (subst (λ (l : List Duty). Agenda m.rows t a.used Leaving a.place l) is fits)
+
+-- a thread that is about to be gone is leaving
+finishing_leaves : (m : Machine) (t : ℕ) (a : Actor) (rest : List Duty) (status : Status)
+    → a.agenda ≡ Finish ∷ rest → AgendaFits m.rows t a status → status ≡ Leaving
+finishing_leaves m t a rest Leaving is fits = refl
+finishing_leaves m t a rest Gone is fits = absurd (let wrong : [] ≡ Finish ∷ rest = sym fits.0 ∙ is in cc)
+finishing_leaves m t a [] Running is fits =
+    (subst (λ (l : List Duty). Agenda m.rows t a.used Running a.place l) is fits).0
+finishing_leaves m t a (e ∷ rest) Running is fits =
+    absurd (subst (λ (l : List Duty). Agenda m.rows t a.used Running a.place l) is fits)
+
+-- ---- births
+
+-- the row that is born next isn't used yet
+next_unused : (m : Machine) (t : ℕ) (a : Actor) (x : ℕ) → IsNext m t a x → first_row m.rows t + a.used ≤ x
+next_unused m t a x next = let row = next.row in omega (arith, row)
+
+next_local : (p : Accounts) (n : ℕ) (m : Machine) (t : ℕ) (a : Actor) (d : Duty) (rest : List Duty) (x : ℕ)
+    → AtDuty p n m t a d rest → IsNext m t a x → m.memory (Local x) ≡ 0
+next_local p n m t a d rest x here next =
+    let above = next_above m t a x next in
+    (subst (λ (l : Life). RowRule (block_of m.rows x) l (numbers_of m x))
+    (next_unborn p n m t a x here.rule here.found next) (here.rule.rows x (omega (arith, above)))).local
+
+-- ---- all of them
+
+-- A thread at a storing duty finds the word that the invariant says.
+pub overwritten : (p : Accounts) (n : ℕ) (m : Machine) (t : ℕ) (a : Actor) (d : Duty) (rest : List Duty)
+    → AtDuty p n m t a d rest → Overwrites t d (found_by m t a d)
+overwritten p n m t a (RetainStore x h w) rest here = (head_of p n m t a (RetainStore x h w) rest here).3
+overwritten p n m t a (ReleaseStore x w) rest here = (head_of p n m t a (ReleaseStore x w) rest here).2
+overwritten p n m t a (SetMark x) rest here = mark_free p n m t a x rest here
+overwritten p n m t a (Die x) rest here = (head_of p n m t a (Die x) rest here).2
+overwritten p n m t a (SettleEnd x) rest here = (head_of p n m t a (SettleEnd x) rest here).2
+overwritten p n m t a (Leave x k) rest here =
+    word_is p n m t a (Leave x k) rest Running here
+    (leaving_runs m t a x k rest a.status here.agenda (here.rule.each t a here.found).1)
+overwritten p n m t a Finish rest here =
+    word_is p n m t a Finish rest Leaving here
+    (finishing_leaves m t a rest a.status here.agenda (here.rule.each t a here.found).1)
+overwritten p n m t a (BirthKind x h w) rest here =
+    let d : Duty = BirthKind x h w in
+    let next = (head_of p n m t a d rest here).0 in
+    (blanks_here p n m t a d rest here).kinds x (next_block m t a x next) (next_unused m t a x next) refl
+overwritten p n m t a (BirthSlot x h) rest here =
+    let d : Duty = BirthSlot x h in
+    let next = (head_of p n m t a d rest here).0 in
+    (blanks_here p n m t a d rest here).slots x (next_block m t a x next) (next_unused m t a x next) refl
+overwritten p n m t a (BirthLocal x h) rest here =
+    next_local p n m t a (BirthLocal x h) rest x here (head_of p n m t a (BirthLocal x h) rest here).0
+overwritten p n m t a _ rest here = tt

@@ -1,0 +1,212 @@
+-- At most one thread merges a row, and a claimant that finds no owner finds the row merged.
+use Rattle.std.proofs.Common.{◌≡◌, ◌≢◌, ℕ, zero, suc, ◌+◌, ◌<◌, ◌≤◌, Bool, true, false, cond, List, [], ◌∷◌, ◌⊎◌, inl, inr, Some, refl, sym, ap, ◌∙◌, subst, arith}
+use Rattle.std.specs.Prelude.{◌==◌, slice_get, sum_by}
+use Rattle.std.proofs.lemmas.Bool.{eq-eqb}
+use Rattle.std.proofs.lemmas.Bool.Decides.{eqb_tells}
+use Rattle.std.proofs.lemmas.List.Sums.{sum_by-cons}
+use Rattle.brc_word.specs.Words.{phase_part}
+use Rattle.brc_model.specs.declared.duty.Reason.{Reason}
+use Rattle.brc_model.specs.declared.duty.Reason.TheVariants.{Own, Handed}
+use Rattle.brc_model.specs.declared.duty.Duty.{Duty}
+use Rattle.brc_model.specs.declared.duty.Duty.TheVariants.{MergeSwap, MergeLoad, MergeExchange}
+use Rattle.brc_model.specs.declared.address.Address.TheVariants.{Local, Shared, ThreadWord}
+use Rattle.brc_model.specs.Duties.{block_of}
+use Rattle.brc_model.specs.declared.actor.Status.TheVariants.{Running}
+use Rattle.brc_model.specs.Machine.{Actor, Machine}
+use Rattle.brc_model.proofs.Basics.Lists.{some_is}
+use Rattle.brc_model.specs.References.{one_if}
+use Rattle.brc_model.specs.RowRule.{waits, carries, merges, agenda_weight, weight, Phased, IsDefault, IsQueued, InOwned, InSwapped, InMerged}
+use Rattle.brc_model.specs.Accounts.{Accounts}
+use Rattle.brc_model.specs.Invariant.{numbers_of, Rule}
+use Rattle.brc_model.specs.Knowledge.{MayCarry, HeadFits, status_word}
+use Rattle.brc_model.proofs.Work.HasDuties.{some_weighs}
+use Rattle.brc_model.proofs.Frame.Alive.{agenda_in, first_weighs}
+use Rattle.brc_model.proofs.Frame.Leaves.{AtDuty, head_of, claim_alive, merge_alive}
+use Rattle.brc_model.proofs.Frame.Aside.{waits_of_row, carries_of_row, merges_of_row}
+use Rattle.brc_model.proofs.Work.Weighing.{own_weighs, weighing}
+
+-- ---- weights of agendas
+
+-- two threads' agendas weigh no more than all
+two_weigh : (f : Duty → ℕ) (actors : List Actor) (t u : ℕ) (a b : Actor) → u ≢ t → slice_get actors t ≡ Some a
+    → slice_get actors u ≡ Some b → agenda_weight f a + agenda_weight f b ≤ weight f actors
+two_weigh f [] t u a b ne one two = absurd cc
+two_weigh f (c ∷ rest) zero zero a b ne one two = absurd (ne refl)
+two_weigh f (c ∷ rest) zero (suc u) a b ne one two =
+    let this : agenda_weight f c ≡ agenda_weight f a = ap (agenda_weight f) (some_is c a one) in
+    omega (arith, sum_by-cons (agenda_weight f) c rest, agenda_in f rest u b two, this)
+two_weigh f (c ∷ rest) (suc t) zero a b ne one two =
+    let this : agenda_weight f c ≡ agenda_weight f b = ap (agenda_weight f) (some_is c b two) in
+    omega (arith, sum_by-cons (agenda_weight f) c rest, agenda_in f rest t a one, this)
+two_weigh f (c ∷ rest) (suc t) (suc u) a b ne one two =
+    omega (arith, sum_by-cons (agenda_weight f) c rest, two_weigh f rest t u a b (λ e. ne (ap suc e)) one two)
+
+-- ---- who merges
+
+-- a thread that merges the row: its running owner, or one whose handed reference awaits
+abbrev IsMerger : Machine → ℕ → Actor → ℕ → Type 0
+IsMerger m u b x = ((b.status ≡ Running) × (block_of m.rows x ≡ u)) ⊎ (1 ≤ agenda_weight (waits x) b)
+
+-- a merge of another row weighs nothing
+at_other : (y x : ℕ) → (y == x) ≡ false → 0 < one_if (y == x) → ⊥
+at_other y x other some = let none : one_if (y == x) ≡ 0 = ap one_if other in omega (arith, some, none)
+
+merger_knows : (m : Machine) (u x : ℕ) (b : Actor) (d : Duty) (rest : List Duty) → HeadFits m u b d rest
+    → 0 < merges x d → ((b.status ≡ Running) × (block_of m.rows x ≡ u)) ⊎ (1 ≤ waits x d)
+merger_knows m u x b (MergeLoad y c Own) rest fits some =
+    elim (eqb_tells y x) [
+      | inl same ↦ inl (subst (λ (z : ℕ). MayCarry m u b z Own) same.1 fits.2)
+      | inr other ↦ absurd (at_other y x other.0 some)
+    ]
+merger_knows m u x b (MergeExchange y c w Own) rest fits some =
+    elim (eqb_tells y x) [
+      | inl same ↦ inl (subst (λ (z : ℕ). MayCarry m u b z Own) same.1 fits.2)
+      | inr other ↦ absurd (at_other y x other.0 some)
+    ]
+merger_knows m u x b (MergeLoad y c Handed) rest fits some = inr some
+merger_knows m u x b (MergeExchange y c w Handed) rest fits some = inr some
+merger_knows m u x b _ rest fits some = absurd (omega (arith, some))
+
+merger_of : (p : Accounts) (n : ℕ) (m : Machine) (u x : ℕ) (b : Actor) → Rule p n m → slice_get m.actors u ≡ Some b
+    → 0 < agenda_weight (merges x) b → IsMerger m u b x
+merger_of p n m u x b rule found some =
+    let it = weighing p n m u x b (merges x) (merges_of_row x) rule found some in
+    elim (merger_knows m u x b it.duty it.rest it.knows it.some) [
+      | inl own ↦ inl own
+      | inr waiting ↦ inr (omega (arith, it.among (waits x), waiting))
+    ]
+
+-- ---- a claimant
+
+-- a claimant and another merger: the owner runs and is the other, or two decrements await
+claimants_clash : (p : Accounts) (n : ℕ) (m : Machine) (t u x : ℕ) (a b : Actor) (rest : List Duty)
+    → AtDuty p n m t a (MergeSwap x Handed) rest → u ≢ t → slice_get m.actors u ≡ Some b → IsMerger m u b x
+    → Phased (numbers_of m x) → ⊥
+claimants_clash p n m t u x a b rest here ne found merger phased =
+    elim merger [
+      | inl own ↦ elim (head_of p n m t a (MergeSwap x Handed) rest here).1 [
+        | inl mine ↦ ne (sym own.1 ∙ mine)
+        | inr stopped ↦
+            stopped (ap (λ (z : ℕ). m.memory (ThreadWord z)) own.1 ∙ (here.rule.each u b found).0.word
+            ∙ ap status_word own.0)
+      ]
+      | inr theirs ↦
+          let one : one_if (x == x) ≡ 1 = ap one_if (eq-eqb x x refl) in
+          let mine : agenda_weight (waits x) a ≡ one_if (x == x) =
+          own_weighs p n m t x a (MergeSwap x Handed) rest (waits x) here (waits_of_row x) (eq-eqb x x refl) in
+          let both = two_weigh (waits x) m.actors t u a b ne here.found found in
+          elim phased [
+            | IsDefault q w k ↦ absurd (omega (arith, mine, one, theirs, both, w))
+            | IsQueued q w ↦ absurd (omega (arith, mine, one, theirs, both, w))
+          ]
+    ]
+
+-- while a thread claims a row, no other is at a merge of it
+claimed_alone : (p : Accounts) (n : ℕ) (m : Machine) (t : ℕ) (a : Actor) (x : ℕ) (rest : List Duty)
+    → AtDuty p n m t a (MergeSwap x Handed) rest → 0 < weight (merges x) m.actors → Phased (numbers_of m x) → ⊥
+claimed_alone p n m t a x rest here some phased =
+    let other = some_weighs (merges x) m.actors some in
+    let none : agenda_weight (merges x) a ≡ 0 =
+    own_weighs p n m t x a (MergeSwap x Handed) rest (merges x) here (merges_of_row x) (eq-eqb x x refl) in
+    let ne : other.who ≢ t = λ same.
+    let which : agenda_weight (merges x) other.which ≡ agenda_weight (merges x) a =
+    ap (agenda_weight (merges x)) (some_is other.which a
+    (sym other.found ∙ ap (slice_get m.actors) same ∙ here.found)) in
+    absurd (omega (arith, other.some, which, none)) in
+    claimants_clash p n m t other.who x a other.which rest here ne other.found
+    (merger_of p n m other.who x other.which here.rule other.found other.some) phased
+
+-- a claimant that finds no owner finds the row merged
+pub swapped_apart : (p : Accounts) (n : ℕ) (m : Machine) (t : ℕ) (a : Actor) (x : ℕ) (rest : List Duty)
+    → AtDuty p n m t a (MergeSwap x Handed) rest → m.memory (Local x) ≡ 0 → phase_part (m.memory (Shared x)) ≡ 3
+swapped_apart p n m t a x rest here none =
+    elim (claim_alive p n m t a x rest here).live.mode [
+      | InOwned o ↦ absurd (omega (arith, o.owned, none))
+      | InSwapped s ↦ absurd (claimed_alone p n m t a x rest here (omega (arith, s.merging)) s.phased)
+      | InMerged s ↦ s.phase
+    ]
+
+-- ---- what is carried
+
+none_carried : (b : Bool) (c : ℕ) → one_if b ≡ 0 → cond b c 0 ≡ 0
+none_carried true c e = absurd (omega (arith, e))
+none_carried false c e = refl
+
+unmerged_carries : (x : ℕ) (d : Duty) → merges x d ≡ 0 → carries x d ≡ 0
+unmerged_carries x (MergeLoad y c r) e = none_carried (y == x) c e
+unmerged_carries x (MergeExchange y c w r) e = none_carried (y == x) c e
+unmerged_carries x _ e = refl
+
+agenda_carries : (x : ℕ) (agenda : List Duty) → sum_by (merges x) agenda ≡ 0 → sum_by (carries x) agenda ≡ 0
+agenda_carries x [] none = refl
+agenda_carries x (d ∷ rest) none =
+    let first : carries x d ≡ 0 = unmerged_carries x d (omega (arith, sum_by-cons (merges x) d rest, none)) in
+    omega (
+      arith,
+      sum_by-cons (carries x) d rest,
+      first,
+      agenda_carries x rest (omega (arith, sum_by-cons (merges x) d rest, none)),
+    )
+
+thread_carries : (x : ℕ) (b : Actor) → agenda_weight (merges x) b ≡ 0 → agenda_weight (carries x) b ≡ 0
+thread_carries x b none =
+    omega (
+      arith,
+      agenda_carries x b.agenda (omega (arith, none)),
+      agenda_carries x b.aside (omega (arith, none)),
+    )
+
+all_carry : (x : ℕ) (actors : List Actor) → weight (merges x) actors ≡ 0 → weight (carries x) actors ≡ 0
+all_carry x [] none = refl
+all_carry x (b ∷ rest) none =
+    let first : agenda_weight (carries x) b ≡ 0 =
+    thread_carries x b (omega (arith, sum_by-cons (agenda_weight (merges x)) b rest, none)) in
+    omega (
+      arith,
+      sum_by-cons (agenda_weight (carries x)) b rest,
+      first,
+      all_carry x rest (omega (arith, sum_by-cons (agenda_weight (merges x)) b rest, none)),
+    )
+
+-- where one thread alone merges, it alone carries
+one_carries : (x : ℕ) (actors : List Actor) (t : ℕ) (a : Actor) → slice_get actors t ≡ Some a
+    → weight (merges x) actors ≡ agenda_weight (merges x) a → weight (carries x) actors ≡ agenda_weight (carries x) a
+one_carries x [] t a found one = absurd cc
+one_carries x (b ∷ rest) zero a found one =
+    let same : agenda_weight (merges x) b ≡ agenda_weight (merges x) a =
+    ap (agenda_weight (merges x)) (some_is b a found) in
+    let also : agenda_weight (carries x) b ≡ agenda_weight (carries x) a =
+    ap (agenda_weight (carries x)) (some_is b a found) in
+    omega (
+      arith,
+      sum_by-cons (agenda_weight (carries x)) b rest,
+      also,
+      all_carry x rest (omega (arith, sum_by-cons (agenda_weight (merges x)) b rest, same, one)),
+    )
+one_carries x (b ∷ rest) (suc t) a found one =
+    let others = agenda_in (merges x) rest t a found in
+    let first : agenda_weight (carries x) b ≡ 0 =
+    thread_carries x b (omega (arith, sum_by-cons (agenda_weight (merges x)) b rest, others, one)) in
+    omega (
+      arith,
+      sum_by-cons (agenda_weight (carries x)) b rest,
+      first,
+      one_carries x rest t a found (omega (arith, sum_by-cons (agenda_weight (merges x)) b rest, others, one)),
+    )
+
+-- all that is carried of a row is what its merger carries
+pub carried_is : (p : Accounts) (n : ℕ) (m : Machine) (t : ℕ) (a : Actor) (x c w : ℕ) (r : Reason) (rest : List Duty)
+    → AtDuty p n m t a (MergeExchange x c w r) rest → weight (carries x) m.actors ≡ c
+carried_is p n m t a x c w r rest here =
+    let d : Duty = MergeExchange x c w r in
+    let one : one_if (x == x) ≡ 1 = ap one_if (eq-eqb x x refl) in
+    let mine : cond (x == x) c 0 ≡ c = ap (λ (b : Bool). cond b c 0) (eq-eqb x x refl) in
+    let first = first_weighs (merges x) m.actors t a d rest here.found here.agenda in
+    let all : weight (merges x) m.actors ≡ 1 = elim (merge_alive p n m t a x c w r rest here).live.mode [
+      | InOwned o ↦ absurd (omega (arith, first, one, o.merging))
+      | InSwapped s ↦ s.merging
+      | InMerged s ↦ absurd (omega (arith, first, one, s.merging))
+    ] in
+    let whole = own_weighs p n m t x a d rest (merges x) here (merges_of_row x) (eq-eqb x x refl) in
+    let carry = own_weighs p n m t x a d rest (carries x) here (carries_of_row x) (eq-eqb x x refl) in
+    omega (arith, one_carries x m.actors t a here.found (omega (arith, all, whole, first, one)), carry, mine)

@@ -1,0 +1,153 @@
+-- Who weighs something knows it: a thread weighs something at a row by the first duty of its agenda or by one that is
+-- put aside, and each of these knows what it needs of memory.
+use Rattle.std.proofs.Common.{◌≡◌, ℕ, ◌+◌, ◌<◌, ◌≤◌, true, List, [], ◌∷◌, inl, inr, Some, refl, sym, ap, ◌∙◌, subst, arith}
+use Rattle.std.specs.Prelude.{slice_get, sum_by}
+use Rattle.std.proofs.lemmas.Bool.Decides.{eqb_tells}
+use Rattle.std.proofs.lemmas.List.Sums.{sum_by-cons}
+use Rattle.brc_model.specs.declared.duty.Duty.{Duty}
+use Rattle.brc_model.specs.declared.duty.Duty.TheVariants.{Settle, Leave, Scan, Finish}
+use Rattle.brc_model.specs.declared.actor.Status.{Status}
+use Rattle.brc_model.specs.declared.actor.Status.TheVariants.{Running, Leaving, Gone}
+use Rattle.brc_model.specs.declared.actor.Place.{Place}
+use Rattle.brc_model.specs.Machine.{Actor, Machine}
+use Rattle.brc_model.specs.RowRule.{agenda_weight}
+use Rattle.brc_model.specs.References.{one_if}
+use Rattle.brc_model.specs.Accounts.{Accounts}
+use Rattle.brc_model.specs.Knowledge.{HeadFits, HeadOf}
+use Rattle.brc_model.specs.OpenWork.{Later, Agenda, AgendaFits, is_about, about_of, AllWait}
+use Rattle.brc_model.specs.Invariant.{Rule}
+use Rattle.brc_model.proofs.Frame.Aside.{IsOfRow, aside_weighs}
+use Rattle.brc_model.proofs.Frame.Leaves.{AtDuty}
+
+-- ---- what is for later weighs nothing
+
+later_weighs : (x : ℕ) (f : Duty → ℕ) → IsOfRow x f → (rows t used : ℕ) (status : Status) (place : Place) (rest : List Duty)
+    → Later rows t used status place rest → sum_by f rest ≡ 0
+later_weighs x f of_row rows t used status place [] later = refl
+later_weighs x f of_row rows t used status place (Settle ∷ rest) later =
+    omega (
+      arith,
+      sum_by-cons f Settle rest,
+      of_row.about Settle refl,
+      later_weighs x f of_row rows t used status place rest later,
+    )
+later_weighs x f of_row rows t used status place (Leave y k ∷ []) later =
+    omega (arith, sum_by-cons f (Leave y k) [], of_row.about (Leave y k) refl)
+later_weighs x f of_row rows t used status place (Scan y k ∷ rest) later =
+    omega (
+      arith,
+      sum_by-cons f (Scan y k) rest,
+      of_row.about (Scan y k) refl,
+      later_weighs x f of_row rows t used status place rest later.3,
+    )
+later_weighs x f of_row rows t used status place (Finish ∷ []) later =
+    omega (arith, sum_by-cons f Finish [], of_row.about Finish refl)
+later_weighs x f of_row rows t used status place _ later = absurd later
+
+rest_weighs : (x : ℕ) (f : Duty → ℕ) → IsOfRow x f → (rows t used : ℕ) (status : Status) (place : Place) (d : Duty)
+    (rest : List Duty)
+    → Agenda rows t used status place (d ∷ rest) → sum_by f rest ≡ 0
+rest_weighs x f of_row rows t used status place Settle rest fits = later_weighs x f of_row rows t used status place rest fits
+rest_weighs x f of_row rows t used status place (Leave y k) [] fits = refl
+rest_weighs x f of_row rows t used status place (Leave y k) (e ∷ rest) fits = absurd fits
+rest_weighs x f of_row rows t used status place (Scan y k) rest fits =
+    later_weighs x f of_row rows t used status place rest fits.3
+rest_weighs x f of_row rows t used status place Finish [] fits = refl
+rest_weighs x f of_row rows t used status place Finish (e ∷ rest) fits = absurd fits
+rest_weighs x f of_row rows t used status place _ rest fits = later_weighs x f of_row rows t used status place rest fits
+
+-- behind the first duty of any thread's agenda
+behind_weighs : (x : ℕ) (f : Duty → ℕ) → IsOfRow x f → (rows t : ℕ) (a : Actor) (status : Status) (d : Duty) (rest : List Duty)
+    → AgendaFits rows t a status → a.agenda ≡ d ∷ rest → sum_by f rest ≡ 0
+behind_weighs x f of_row rows t a Running d rest fits is =
+    rest_weighs x f of_row rows t a.used Running a.place d rest (subst (Agenda rows t a.used Running a.place) is fits)
+behind_weighs x f of_row rows t a Leaving d rest fits is =
+    rest_weighs x f of_row rows t a.used Leaving a.place d rest (subst (Agenda rows t a.used Leaving a.place) is fits)
+behind_weighs x f of_row rows t a Gone d rest fits is = absurd (let wrong : [] ≡ d ∷ rest = sym fits.0 ∙ is in cc)
+
+-- all that a thread weighs at a row, its first duty weighs, where that is about the row
+pub own_weighs : (p : Accounts) (n : ℕ) (m : Machine) (t x : ℕ) (a : Actor) (d : Duty) (rest : List Duty)
+    (f : Duty → ℕ)
+    → AtDuty p n m t a d rest → IsOfRow x f → is_about x d ≡ true → agenda_weight f a ≡ f d
+own_weighs p n m t x a d rest f here of_row this =
+    let fits = here.rule.each t a here.found in
+    let none = behind_weighs x f of_row m.rows t a a.status d rest fits.1 here.agenda in
+    let whole : sum_by f a.agenda ≡ f d + sum_by f rest = ap (sum_by f) here.agenda ∙ sum_by-cons f d rest in
+    let one : one_if (about_of x a.agenda) ≡ 1 =
+    ap (λ (l : List Duty). one_if (about_of x l)) here.agenda ∙ ap one_if this in
+    let aside = aside_weighs x f of_row a.aside (omega (arith, fits.2.apart x, one)) in
+    omega (arith, none, whole, aside)
+
+-- ---- who weighs something knows it
+
+-- a duty of the thread that weighs something, what it knows, and that all its weights are among the thread's
+pub record Weighing (f : Duty → ℕ) (m : Machine) (u : ℕ) (b : Actor) : Type 0 where
+  pub duty : Duty
+  pub rest : List Duty
+  pub some : 0 < f duty
+  pub knows : HeadFits m u b duty rest
+  pub among : (g : Duty → ℕ) → g duty ≤ agenda_weight g b
+
+weighing_agenda : (x : ℕ) (f : Duty → ℕ) → IsOfRow x f → (m : Machine) (u : ℕ) (b : Actor) (agenda : List Duty)
+    → b.agenda ≡ agenda → AgendaFits m.rows u b b.status → HeadOf m u b agenda → 0 < sum_by f b.agenda
+    → Weighing f m u b
+weighing_agenda x f of_row m u b [] is fits head some =
+    let none : sum_by f b.agenda ≡ 0 = ap (sum_by f) is in absurd (omega (arith, none, some))
+weighing_agenda x f of_row m u b (d ∷ rest) is fits head some =
+    let none = behind_weighs x f of_row m.rows u b b.status d rest fits is in
+    let whole : sum_by f b.agenda ≡ f d + sum_by f rest = ap (sum_by f) is ∙ sum_by-cons f d rest in
+    record {
+      duty = d;
+      rest = rest;
+      some = omega (arith, none, whole, some);
+      knows = head;
+      among = λ g.
+          let all : sum_by g b.agenda ≡ g d + sum_by g rest = ap (sum_by g) is ∙ sum_by-cons g d rest in
+          omega (arith, all);
+    }
+
+-- one of the duties that are put aside
+record WeighingAside (f : Duty → ℕ) (m : Machine) (u : ℕ) (b : Actor) (aside : List Duty) : Type 0 where
+  duty : Duty
+  some : 0 < f duty
+  knows : HeadFits m u b duty []
+  among : (g : Duty → ℕ) → g duty ≤ sum_by g aside
+
+weighing_aside : (f : Duty → ℕ) (m : Machine) (u : ℕ) (b : Actor) (aside : List Duty) → AllWait m u b aside
+    → 0 < sum_by f aside → WeighingAside f m u b aside
+weighing_aside f m u b [] waits some = absurd (omega (arith, some))
+weighing_aside f m u b (d ∷ rest) waits some =
+    elim (eqb_tells (f d) 0) [
+      | inl none ↦
+          let it = weighing_aside f m u b rest waits.2 (omega (arith, some, sum_by-cons f d rest, none.1)) in
+          record {
+            duty = it.duty;
+            some = it.some;
+            knows = it.knows;
+            among = λ g. omega (arith, it.among g, sum_by-cons g d rest);
+          }
+      | inr more ↦ record {
+        duty = d;
+        some = omega (arith, more.1);
+        knows = waits.1;
+        among = λ g. omega (arith, sum_by-cons g d rest);
+      }
+    ]
+
+pub weighing : (p : Accounts) (n : ℕ) (m : Machine) (u x : ℕ) (b : Actor) (f : Duty → ℕ) → IsOfRow x f → Rule p n m
+    → slice_get m.actors u ≡ Some b → 0 < agenda_weight f b → Weighing f m u b
+weighing p n m u x b f of_row rule found some =
+    let fits = rule.each u b found in
+    elim (eqb_tells (sum_by f b.agenda) 0) [
+      | inl none ↦
+          let it = weighing_aside f m u b b.aside fits.2.waits (omega (arith, some, none.1)) in
+          record {
+            duty = it.duty;
+            rest = [];
+            some = it.some;
+            knows = it.knows;
+            among = λ g. omega (arith, it.among g);
+          }
+      | inr more ↦
+          weighing_agenda x f of_row m u b b.agenda refl fits.1 fits.0.head_fits (omega (arith, more.1))
+    ]
