@@ -1,8 +1,8 @@
 -- What a thread of accepted code does next fits it: `Actions.action_fits`.
 --
--- In order: `Holds`, `Passing` and `Grounded` (what a thread's variables hold at a point that a walk comes to), `Coded` (its
--- account is what its place says), `Begins`, `Taking` and `TakingQuiet` (instruction by instruction), `TakenSits`, `Claims`,
--- and `Actions`, which puts them together.
+-- In order: `Holds`, `Passing` and `Grounded` (what a thread's variables hold at a point that a walk comes to), `Coded`
+-- (its account is what its place says), `Begins`, `Taking` and `TakingQuiet` (instruction by instruction), `TakenSits`,
+-- `Claims`, and `Actions`, which puts them together.
 
 pub mod Holds
 pub mod Passing

@@ -1,9 +1,9 @@
--- The theorem in two parts: doing a thread's next duty isn't bad and keeps the invariant (`Kept.duty_kept`), and so does
--- taking work up under its condition (`Kept.kept_sits`).
+-- The theorem in two parts: doing a thread's next duty isn't bad and keeps the invariant (`Kept.duty_kept`), and so
+-- does taking work up under its condition (`Kept.kept_sits`).
 --
--- In order: `NotBad` and `KeepsDuty` (a duty), `Replaced`, `Sits` and `Quiets` (work that is taken up), `Kept`, which says both;
--- `Rearranging` puts a duty aside and takes it back. `Callers` and `FirstMachine` show the invariant of the first machine;
--- `Whole` and `WholeEvents` bring it, with the layer of code, to every list of events.
+-- In order: `NotBad` and `KeepsDuty` (a duty), `Replaced`, `Sits` and `Quiets` (work that is taken up), `Kept`, which
+-- says both; `Rearranging` puts a duty aside and takes it back. `Callers` and `FirstMachine` show the invariant of the
+-- first machine; `Whole` and `WholeEvents` bring it, with the layer of code, to every list of events.
 
 pub mod NotBad
 pub mod KeepsDuty

@@ -2,8 +2,8 @@
 --
 -- In order: `RowSteps` and `RowMerges` (one row's numbers, by rule), `Weights` (what the duties of all threads weigh),
 -- `RowsAfterStep` and `RowsAfterElsewhere` (rows that the step isn't about), then duty by duty `RowsAfterOwn` to
--- `RowsAfterBirths`. `Closing` and `ClosedAfter` follow lives, `UsesAfter` and `BlanksAfter` the rows that are used and not,
--- `KindsAfter` kind words and `GatesAfter` gates.
+-- `RowsAfterBirths`. `Closing` and `ClosedAfter` follow lives, `UsesAfter` and `BlanksAfter` the rows that are used and
+-- not, `KindsAfter` kind words and `GatesAfter` gates.
 
 pub mod RowSteps
 pub mod RowMerges

@@ -1,8 +1,8 @@
 -- The thread that steps fits afterwards: the lemmas `own_*`, duty by duty.
 --
--- In order: `Own`, `Neutral`, `OwnSteps` and `OwnShown` put together what a step has to show; `OwnRetains` to `OwnBirths` show
--- it, in the order of an object's life; `Nones` does for none. `Settled`: the chain is empty where a thread leaves. `Stores`:
--- a duty that stores knows the word that it overwrites.
+-- In order: `Own`, `Neutral`, `OwnSteps` and `OwnShown` put together what a step has to show; `OwnRetains` to
+-- `OwnBirths` show it, in the order of an object's life; `Nones` does for none. `Settled`: the chain is empty where a
+-- thread leaves. `Stores`: a duty that stores knows the word that it overwrites.
 
 pub mod Own
 pub mod Neutral

@@ -120,3 +120,9 @@ pub record Rule (p : Accounts) (n : ℕ) (m : Machine) : Type 0 where
 pub record Kept (p : Accounts) (n : ℕ) (m : Machine) : Type 0 where
   pub rule : Rule p n m
   pub settled : (t : ℕ) (a : Actor) → slice_get m.actors t ≡ Some a → IsSettled a.head a.agenda
+
+-- a thread at its first duty
+pub record AtDuty (p : Accounts) (n : ℕ) (m : Machine) (t : ℕ) (a : Actor) (d : Duty) (rest : List Duty) : Type 0 where
+  pub rule : Rule p n m
+  pub found : slice_get m.actors t ≡ Some a
+  pub agenda : a.agenda ≡ d ∷ rest

@@ -346,7 +346,15 @@ main_actor = record { function = 0; place = Standing 0; status = Running; agenda
 
 abbrev pub worker_actor : Call → Actor
 worker_actor c =
-    record { function = c.function; place = Standing c.times; status = Running; agenda = []; aside = []; head = 0; used = 0 }
+    record {
+      function = c.function;
+      place = Standing c.times;
+      status = Running;
+      agenda = [];
+      aside = [];
+      head = 0;
+      used = 0;
+    }
 
 -- none is immortal, the root is a list of eight cells that main owns, with a count for main and each worker
 abbrev pub first_memory : ℕ → Address → ℕ

@@ -27,8 +27,8 @@ pub data IsWatched (m : Machine) (x : ℕ) : Type 0 where
   ByRunning : Runs m (block_of m.rows x) → IsWatched m x
   ByExit : (a : Actor) → slice_get m.actors (block_of m.rows x) ≡ Some a → a.status ≡ Leaving
       → list_any (scans_over x) a.agenda ≡ true → IsWatched m x
-  ByLook : (t : ℕ) (a : Actor) → slice_get m.actors t ≡ Some a → (list_any (looks_at x) a.agenda || list_any (looks_at x) a.aside) ≡ true
-      → IsWatched m x
+  ByLook : (t : ℕ) (a : Actor) → slice_get m.actors t ≡ Some a
+      → (list_any (looks_at x) a.agenda || list_any (looks_at x) a.aside) ≡ true → IsWatched m x
 
 -- no mark is forgotten
 abbrev pub MarksWatched : Machine → Type 0

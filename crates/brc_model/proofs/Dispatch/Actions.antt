@@ -172,7 +172,8 @@ claim_fits p n m t a row whole found may =
     record { rule = rule; found = found; agenda = claims.agenda; running = claims.running } in
     let sits : Sits m t a a.place (ClaimMark row ∷ []) (c t) =
     subst (λ (q : Place). Sits m t a q (ClaimMark row ∷ []) (c t)) (sym claims.stands)
-    (claim_sits c n m t a claims.left row at (whole.coded t a found).alone (used_block c n m t a row rule found claims.low claims.high)) in
+    (claim_sits c n m t a claims.left row at (whole.coded t a found).alone
+    (used_block c n m t a row rule found claims.low claims.high)) in
     record {
       account = c t;
       says = (whole.coded t a found).says;

@@ -25,7 +25,8 @@ use Rattle.brc_model.proofs.Dispatch.Taking.{dispatch_taken}
 use Rattle.brc_model.proofs.Keeping.Sits.{Sits, AtRest, sitting}
 
 -- a thread with room is no main, which has used all its rows
-next_is : (p : Accounts) (n : ℕ) (m : Machine) (t : ℕ) (a : Actor) (place : Place) (agenda : List Duty) → AtRest p n m t a
+next_is : (p : Accounts) (n : ℕ) (m : Machine) (t : ℕ) (a : Actor) (place : Place) (agenda : List Duty)
+    → AtRest p n m t a
     → a.used < block_size m.rows t
     → IsNext (with_actor m t (sitting a place agenda)) t (sitting a place agenda) (next_row m.rows t a.used)
 next_is p n m zero a place agenda at room = absurd (omega (arith, room, (at.rule.uses 0 a at.found).main refl))

@@ -88,7 +88,8 @@ newref_taken code bag rows t used left at variables s to from here =
       grounded =
           grounded-put s variables to slot (Some live.object) in_slots in_rows (live.object, refl) here.inside.grounded;
     } in
-    let held_now : HoldsAlone bag t (once_each (of_variables (put s to slot) (slice_set variables to (Some live.object))))
+    let held_now : HoldsAlone bag t (once_each (of_variables (put s to slot) (slice_set variables to
+    (Some live.object))))
     (RetainLoad live.object (ByVariable to) ∷ []) =
     record { each = newref_held bag t s variables to live.object slot in_slots in_rows free refl here.holds } in
     let taken : Taken code bag rows t used (Inside left (at + 1) (slice_set variables to (Some live.object)))

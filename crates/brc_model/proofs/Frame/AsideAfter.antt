@@ -14,10 +14,10 @@ use Rattle.brc_model.specs.References.{one_if}
 use Rattle.brc_model.specs.Accounts.{Accounts}
 use Rattle.brc_model.specs.OpenWork.{is_about, about_of, is_piece, IsPiece, AllWait, AsideFits}
 use Rattle.brc_model.proofs.Frame.Aside.{alone_fits}
-use Rattle.brc_model.proofs.Frame.Leaves.{AtDuty}
 use Rattle.brc_model.proofs.Stepping.Neutral.{found_by}
 use Rattle.brc_model.proofs.Stepping.Settled.{ready_none}
 use Rattle.brc_model.proofs.Frame.Beside.{beside}
+use Rattle.brc_model.specs.Invariant.{AtDuty}
 
 -- ---- a piece goes on as one piece
 
@@ -98,7 +98,14 @@ goes_on head d [] on =
     let P : List Duty → Type 0 = GoesOn d in
     subst P (sym (ready_none head)) (record { piece = tt; about = λ x. omega arith })
 goes_on head d (e ∷ []) on =
-    subst (GoesOn d) (sym (piece_ready head e on.0)) (record { piece = on.0; about = λ x. omega (arith, ap one_if (on.1 x)) })
+    subst (GoesOn d) (sym (piece_ready head e on.0)) (record {
+      piece = on.0;
+      about = λ x. omega (
+        arith,
+        ap one_if
+            (on.1 x),
+      );
+    })
 goes_on head d (e ∷ f ∷ next) on = absurd on
 
 -- ---- what is put aside

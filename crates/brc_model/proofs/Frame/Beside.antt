@@ -23,9 +23,10 @@ use Rattle.brc_model.specs.Knowledge.{OwnsLocally, IsBacked, MayMerge, MayCarry,
 use Rattle.brc_model.proofs.Frame.Aside.{AreApart, apart_swapped}
 use Rattle.brc_model.proofs.Basics.Written.{written_apart}
 use Rattle.brc_model.proofs.Basics.MovesApart.{held-without_apart}
-use Rattle.brc_model.proofs.Frame.Leaves.{AtDuty, stopped_left}
+use Rattle.brc_model.proofs.Frame.Leaves.{stopped_left}
 use Rattle.brc_model.proofs.Frame.Lives.{cell_found}
 use Rattle.brc_model.proofs.Stepping.Neutral.{found_by, memory_by}
+use Rattle.brc_model.specs.Invariant.{AtDuty}
 
 -- What a thread's step leaves to a duty about the row that the thread has put aside.
 pub record LeavesBeside (m new : Machine) (t : ℕ) (a after : Actor) (x : ℕ) : Type 0 where
@@ -75,7 +76,8 @@ module _ (m new : Machine) (t : ℕ) (a after : Actor) where
   may_carry_beside x Handed leaves handed = tt
 
   -- Shows that a duty keeps what it knows, where what it relies on is left at its row.
-  pub known_beside : (e : Duty) → may_wait e ≡ true → ((x : ℕ) → is_about x e ≡ true → LeavesRow x) → HeadFits m t a e []
+  pub known_beside : (e : Duty) → may_wait e ≡ true → ((x : ℕ) → is_about x e ≡ true → LeavesRow x)
+      → HeadFits m t a e []
       → HeadFits new t after e []
   known_beside (RetainLoad x h) waits leaves fits = backed_beside x (leaves x (itself x)) fits
   known_beside (RetainStore x h w) waits leaves fits =

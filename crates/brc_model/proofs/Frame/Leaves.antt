@@ -18,19 +18,13 @@ use Rattle.brc_model.specs.RowRule.{waits, decides, merges, InOwned, InSwapped, 
 use Rattle.brc_model.specs.Accounts.{Accounts, extra_of, lacks_of}
 use Rattle.brc_model.specs.Knowledge.{OwnsLocally, HeadFits, HeadOf, status_word}
 use Rattle.brc_model.specs.OpenWork.{dies_by}
-use Rattle.brc_model.specs.Invariant.{Rule, numbers_of}
+use Rattle.brc_model.specs.Invariant.{AtDuty, Rule, numbers_of}
 use Rattle.brc_model.proofs.Objects.RowSteps.{shared_range, shared_up, shared_down, shared_merged}
 use Rattle.brc_model.proofs.Frame.Aside.{extra_held}
 use Rattle.brc_model.proofs.Frame.Alive.{first_weighs, Alive, alive_referenced, alive_waiting, alive_deciding, alive_merging}
 use Rattle.brc_model.proofs.Basics.Written.{written_here, written_apart, written_load, apart_local, apart_shared, apart_gate, apart_thread}
 use Rattle.brc_model.proofs.Frame.Others.{is_dying}
 use Rattle.brc_model.proofs.Basics.Blocks.{next_above, next_unborn}
-
--- a thread at its first duty
-pub record AtDuty (p : Accounts) (n : ℕ) (m : Machine) (t : ℕ) (a : Actor) (d : Duty) (rest : List Duty) : Type 0 where
-  pub rule : Rule p n m
-  pub found : slice_get m.actors t ≡ Some a
-  pub agenda : a.agenda ≡ d ∷ rest
 
 pub head_of : (p : Accounts) (n : ℕ) (m : Machine) (t : ℕ) (a : Actor) (d : Duty) (rest : List Duty)
     → AtDuty p n m t a d rest → HeadFits m t a d rest

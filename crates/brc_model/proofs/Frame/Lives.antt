@@ -14,14 +14,14 @@ use Rattle.brc_model.proofs.Basics.Lists.{some_is}
 use Rattle.brc_model.specs.Accounts.{Accounts}
 use Rattle.brc_model.specs.OpenWork.{dies_by}
 use Rattle.brc_model.specs.Knowledge.{HasCountedKind}
-use Rattle.brc_model.specs.Invariant.{Rule}
+use Rattle.brc_model.specs.Invariant.{AtDuty, Rule}
 use Rattle.brc_model.proofs.Basics.Written.{written_load}
 use Rattle.brc_model.specs.declared.address.Address.TheVariants.{KindOf}
 use Rattle.brc_model.specs.Kinds.{kind_of_word, is_counted_kind}
 use Rattle.brc_model.proofs.Frame.Alive.{Alive}
 use Rattle.brc_model.proofs.Basics.Blocks.{next_unborn}
 use Rattle.brc_model.proofs.Frame.Others.{LeavesOthers}
-use Rattle.brc_model.proofs.Frame.Leaves.{AtDuty, head_of, exchange_alive, decide_alive, merge_alive, locals_left, merged_left, stopped_left, words_left, gates_left}
+use Rattle.brc_model.proofs.Frame.Leaves.{head_of, exchange_alive, decide_alive, merge_alive, locals_left, merged_left, stopped_left, words_left, gates_left}
 use Rattle.brc_model.proofs.Basics.MovesApart.{moves_apart}
 
 -- the row of a duty that may let it die

@@ -11,10 +11,9 @@ use Rattle.brc_model.specs.Machine.{Actor, Machine, actor_by, done_by, same_addr
 use Rattle.brc_model.proofs.Frame.AsideAfter.{aside_after}
 use Rattle.brc_model.specs.OpenWork.{AsideFits}
 use Rattle.brc_model.specs.Accounts.{Accounts}
-use Rattle.brc_model.specs.Invariant.{Fits, IsWatched, Rule}
+use Rattle.brc_model.specs.Invariant.{AtDuty, Fits, IsWatched, Rule}
 use Rattle.brc_model.proofs.Frame.Others.{each_fits}
 use Rattle.brc_model.proofs.Basics.MovesApart.{moves_apart, moves_off_cells}
-use Rattle.brc_model.proofs.Frame.Leaves.{AtDuty}
 use Rattle.brc_model.proofs.Frame.Lives.{cell_found, leaves_others}
 use Rattle.brc_model.proofs.Stepping.Neutral.{OwnFits, found_by, memory_by}
 use Rattle.brc_model.proofs.Objects.RowsAfter.{rows_after}

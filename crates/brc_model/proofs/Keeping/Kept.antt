@@ -1,5 +1,5 @@
--- The theorem in two parts: doing the next duty of a thread is not bad and keeps the invariant, and taking work up under
--- its condition keeps it. Whatever the threads run: the step world and the running threads stand on both alike.
+-- The theorem in two parts: doing the next duty of a thread is not bad and keeps the invariant, and taking work up
+-- under its condition keeps it. Whatever the threads run: the step world and the running threads stand on both alike.
 use Rattle.std.proofs.Common.{◌≡◌, ℕ, zero, suc, false, List, ◌∷◌, Some, refl, sym, ◌∙◌, subst, arith}
 use Rattle.std.specs.Prelude.{slice_get}
 use Rattle.std.proofs.lemmas.Option.{slice_get_within}
@@ -13,9 +13,8 @@ use Rattle.brc_model.specs.Machine.{Actor, Machine, actor_by, done_by, at_place,
 use Rattle.brc_model.specs.Events.{is_bad_duty}
 use Rattle.brc_model.proofs.Basics.Lists.{slice_get-set_same, written_actor}
 use Rattle.brc_model.specs.Accounts.{Account, Accounts}
-use Rattle.brc_model.specs.Invariant.{Kept}
+use Rattle.brc_model.specs.Invariant.{AtDuty, Kept}
 use Rattle.brc_model.specs.OpenWork.{IsSettled}
-use Rattle.brc_model.proofs.Frame.Leaves.{AtDuty}
 use Rattle.brc_model.proofs.Stepping.Neutral.{OwnFits, found_by}
 use Rattle.brc_model.proofs.Stepping.OwnRetains.{own_retain_counted}
 use Rattle.brc_model.proofs.Stepping.OwnReleases.{own_retain_store, own_retain_add, own_release_counted, release_held, own_release_store, own_decide}

@@ -23,12 +23,12 @@ use Rattle.brc_model.specs.RowRule.{waits, decides, merges, InOwned, InSwapped, 
 use Rattle.brc_model.specs.Accounts.{Accounts, extra_of, lacks_of}
 use Rattle.brc_model.specs.Knowledge.{IsBacked, IsNext}
 use Rattle.brc_model.specs.OpenWork.{Linked, dies_by}
-use Rattle.brc_model.specs.Invariant.{Rule}
+use Rattle.brc_model.specs.Invariant.{AtDuty, Rule}
 use Rattle.brc_model.proofs.Promises.Agreeing.{is_free_of}
 use Rattle.brc_model.proofs.Frame.Aside.{extra_held}
 use Rattle.brc_model.proofs.Frame.Alive.{Alive, first_weighs, alive_referenced, alive_waiting, alive_deciding, alive_merging, alive_backed}
 use Rattle.brc_model.proofs.Frame.Others.{is_dying}
-use Rattle.brc_model.proofs.Frame.Leaves.{AtDuty, head_of, exchange_alive, decide_alive, merge_alive, claim_alive}
+use Rattle.brc_model.proofs.Frame.Leaves.{head_of, exchange_alive, decide_alive, merge_alive, claim_alive}
 use Rattle.brc_model.proofs.Basics.Blocks.{next_above, next_unborn}
 use Rattle.brc_model.proofs.Stepping.Nones.{none_immortal}
 
@@ -48,7 +48,8 @@ gives_held p n m t a d rest k x here more less =
 holder_same : (h : Holding) (x : ℕ) → (same_holding h h && (x == x)) ≡ true
 holder_same h x = ap (λ (b : Bool). b && (x == x)) (same_holding-refl h) ∙ eq-eqb x x refl
 
-given_alive : (p : Accounts) (n : ℕ) (m : Machine) (t : ℕ) (a : Actor) (d : Duty) (rest : List Duty) (k : Holding) (x : ℕ)
+given_alive : (p : Accounts) (n : ℕ) (m : Machine) (t : ℕ) (a : Actor) (d : Duty) (rest : List Duty) (k : Holding)
+    (x : ℕ)
     → AtDuty p n m t a d rest → 0 < x → extra_of (d ∷ rest) k x ≡ true → lacks_of (d ∷ rest) k x ≡ false → Alive m x
 given_alive p n m t a d rest k x here pos more less =
     let some = gives_held p n m t a d rest k x here more less in
@@ -89,7 +90,8 @@ chain_head_dies p n m t a rest here =
     ] refl chain.linked
 
 -- nor is what isn't born yet
-next_free : (p : Accounts) (n : ℕ) (m : Machine) (t : ℕ) (a : Actor) (x : ℕ) → Rule p n m → slice_get m.actors t ≡ Some a
+next_free : (p : Accounts) (n : ℕ) (m : Machine) (t : ℕ) (a : Actor) (x : ℕ) → Rule p n m
+    → slice_get m.actors t ≡ Some a
     → IsNext m t a x → touches_freed m t (Some x) ≡ false
 next_free p n m t a x rule found next = ap (is_freed_for t) (next_unborn p n m t a x rule found next)
 

@@ -250,7 +250,8 @@ record Split (m : Machine) (t : ℕ) (a : Actor) (d : Duty) (others : List Duty)
   knows : HeadFits m t a d []
   stay : AllWait m t a others
 
-split_off : (m : Machine) (t : ℕ) (a : Actor) (before after : List Duty) (d : Duty) → AllWait m t a (before ++ d ∷ after)
+split_off : (m : Machine) (t : ℕ) (a : Actor) (before after : List Duty) (d : Duty)
+    → AllWait m t a (before ++ d ∷ after)
     → Split m t a d (before ++ after)
 split_off m t a [] after d all = record { waits = all.0; knows = all.1; stay = all.2 }
 split_off m t a (e ∷ before) after d all =

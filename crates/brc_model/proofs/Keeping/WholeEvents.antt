@@ -37,7 +37,8 @@ action_keeps p n m t a (Silent moves place) whole found fits =
       functions = whole.functions;
       coded =
           coded_set p c m.actors t a (sitting a place []) fits.account found
-          (record { alone = own.alone; accepted = own.accepted; instructions = own.instructions; says = fits.says }) whole.coded;
+          (record { alone = own.alone; accepted = own.accepted; instructions = own.instructions; says = fits.says })
+          whole.coded;
     } in
     let same : quieted m t a moves place ≡ with_moves (with_actor m t (at_place a place)) moves =
     ap (λ (l : List Duty). with_moves (with_actor m t (sitting a place l)) moves) (sym fits.at.agenda) in
@@ -54,7 +55,12 @@ action_keeps p n m t a (Does d rest place) whole found fits =
         functions = whole.functions;
         coded =
             coded_set p c m.actors t a (actor_by t (at_place a place) d rest (found_by m t a d)) fits.account found
-            (record { alone = own.alone; accepted = own.accepted; instructions = own.instructions; says = fits.says }) whole.coded;
+            (record {
+              alone = own.alone;
+              accepted = own.accepted;
+              instructions = own.instructions;
+              says = fits.says;
+            }) whole.coded;
       },
     )
 

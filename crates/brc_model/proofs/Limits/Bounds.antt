@@ -14,10 +14,10 @@ use Rattle.brc_model.specs.Machine.{Actor, Machine, is_running}
 use Rattle.brc_model.specs.Within.{Suits}
 use Rattle.brc_model.specs.RowRule.{carries, weight, Numbers, Phased, IsDefault, IsQueued, InOwned, InSwapped, InMerged, IsLive}
 use Rattle.brc_model.specs.Accounts.{Accounts}
-use Rattle.brc_model.specs.Invariant.{numbers_of, Rule}
+use Rattle.brc_model.specs.Invariant.{AtDuty, numbers_of, Rule}
 use Rattle.brc_model.proofs.Objects.RowSteps.{shared_range}
 use Rattle.brc_model.proofs.Frame.Alive.{Alive, alive_backed}
-use Rattle.brc_model.proofs.Frame.Leaves.{AtDuty, head_of, exchange_alive, merge_alive}
+use Rattle.brc_model.proofs.Frame.Leaves.{head_of, exchange_alive, merge_alive}
 use Rattle.brc_model.proofs.Stepping.OwnRetains.{counts_owner, count_above, weight_here}
 use Rattle.brc_model.proofs.Stepping.OwnReleases.{release_alive}
 use Rattle.brc_model.proofs.Work.MergesOnce.{carried_is}

@@ -169,7 +169,8 @@ ready_small k head (d ∷ rest) small = ready_step k head d rest small (ready_sm
 abbrev pub limit : ℕ → Machine → ℕ
 limit n m = 2 + (n - 1) * m.rows
 
-pub referenced_small : (p : Accounts) (n : ℕ) (m : Machine) (x : ℕ) → Rule p n m → 0 < references_to x m.plain.references
+pub referenced_small : (p : Accounts) (n : ℕ) (m : Machine) (x : ℕ) → Rule p n m
+    → 0 < references_to x m.plain.references
     → x < limit n m
 referenced_small p n m zero rule some = omega arith
 referenced_small p n m (suc x) rule some = born_within p n m (suc x) rule (λ unborn.

@@ -12,7 +12,7 @@ use Rattle.brc_model.specs.Duties.{address_of}
 use Rattle.brc_model.specs.Machine.{Actor, Machine, is_running, with_actor, first_machine, machine_after, used_by}
 use Rattle.brc_model.specs.World.{World, world_of, row_count, IsReachable}
 use Rattle.brc_model.specs.Within.{IsThere, Suits, IsWithin, StepsWithin}
-use Rattle.brc_model.proofs.Frame.Leaves.{AtDuty, head_of}
+use Rattle.brc_model.proofs.Frame.Leaves.{head_of}
 use Rattle.brc_model.proofs.Stepping.Neutral.{agenda_here}
 use Rattle.brc_model.proofs.Keeping.Sits.{sitting}
 use Rattle.brc_model.proofs.Keeping.Replaced.{with_account}
@@ -24,7 +24,7 @@ use Rattle.brc_model.proofs.Limits.RangesEvents.{Bounded, bounded_after, first_r
 use Rattle.brc_model.proofs.Limits.Bounds.{duty_suits}
 use Rattle.brc_model.proofs.Basics.Blocks.{used_low, block_within}
 use Rattle.brc_model.specs.Accounts.{Accounts}
-use Rattle.brc_model.specs.Invariant.{Rule}
+use Rattle.brc_model.specs.Invariant.{AtDuty, Rule}
 use Rattle.brc_model.proofs.Objects.UsesAfter.{own_uses}
 use Rattle.std.proofs.Math.Nat.{mul-le-mul_right}
 

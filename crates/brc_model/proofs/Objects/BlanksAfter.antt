@@ -13,11 +13,11 @@ use Rattle.brc_model.specs.Machine.{Actor, Machine, first_row, used_by, actor_by
 use Rattle.brc_model.proofs.Basics.Lists.{some_is, slice_get-set_same, slice_get-set_other}
 use Rattle.brc_model.proofs.Basics.Written.{written_load}
 use Rattle.brc_model.proofs.Basics.Blocks.{next_block}
-use Rattle.brc_model.proofs.Frame.Leaves.{AtDuty, head_of}
+use Rattle.brc_model.proofs.Frame.Leaves.{head_of}
 use Rattle.brc_model.proofs.Stepping.Neutral.{found_by, memory_by}
 use Rattle.brc_model.specs.Accounts.{Accounts}
 use Rattle.brc_model.specs.Knowledge.{IsNext}
-use Rattle.brc_model.specs.Invariant.{kind_stored, slot_stored, BlankFits}
+use Rattle.brc_model.specs.Invariant.{AtDuty, kind_stored, slot_stored, BlankFits}
 
 -- ---- the thread that steps
 

@@ -13,8 +13,8 @@ use Rattle.brc_model.specs.Machine.{Actor, Life, Unborn, Live, Dying, Closed, Ma
 use Rattle.brc_model.proofs.Basics.Lists.{some_is}
 use Rattle.brc_model.specs.Accounts.{Accounts}
 use Rattle.brc_model.specs.OpenWork.{dies_by}
-use Rattle.brc_model.proofs.Frame.Leaves.{AtDuty}
 use Rattle.brc_model.proofs.Objects.Closing.{GoesOn, BeginsToDie, IsClosed, IsBorn, life_step, SameClosed, OneMore, closed_step}
+use Rattle.brc_model.specs.Invariant.{AtDuty}
 
 pub dying_not_closed : (t : ℕ) → Dying t ≡ Closed → ⊥
 dying_not_closed t e = cc

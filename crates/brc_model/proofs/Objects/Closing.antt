@@ -16,8 +16,9 @@ use Rattle.brc_model.proofs.Basics.Lists.{some_is}
 use Rattle.brc_model.specs.Accounts.{Accounts}
 use Rattle.brc_model.specs.Knowledge.{IsNext}
 use Rattle.brc_model.proofs.Basics.Blocks.{next_above, next_unborn}
-use Rattle.brc_model.proofs.Frame.Leaves.{AtDuty, head_of}
+use Rattle.brc_model.proofs.Frame.Leaves.{head_of}
 use Rattle.brc_model.proofs.Frame.Lives.{MayDie, next_of, next_dies, cell_found, dying_was_alive}
+use Rattle.brc_model.specs.Invariant.{AtDuty}
 
 -- ---- the list of closed rows
 

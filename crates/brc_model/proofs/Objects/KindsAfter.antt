@@ -14,11 +14,12 @@ use Rattle.brc_model.specs.declared.address.Address.TheVariants.{KindOf}
 use Rattle.brc_model.specs.Machine.{Actor, Unborn, Machine, moves_by, born_row, done_by}
 use Rattle.brc_model.proofs.Basics.Written.{written_apart, written_load}
 use Rattle.brc_model.proofs.Basics.Blocks.{next_unborn}
-use Rattle.brc_model.proofs.Frame.Leaves.{AtDuty, head_of}
+use Rattle.brc_model.proofs.Frame.Leaves.{head_of}
 use Rattle.brc_model.proofs.Stepping.Neutral.{found_by, memory_by}
 use Rattle.brc_model.proofs.Objects.UsesAfter.{AllBearNone, moves_none, before_or_now}
 use Rattle.brc_model.proofs.Basics.Lists.{some_is}
 use Rattle.brc_model.specs.Accounts.{Accounts}
+use Rattle.brc_model.specs.Invariant.{AtDuty}
 
 -- ---- numbers and kinds
 

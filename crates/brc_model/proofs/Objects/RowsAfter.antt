@@ -10,8 +10,8 @@ use Rattle.brc_model.specs.declared.actor.Status.TheVariants.{Gone}
 use Rattle.brc_model.specs.Machine.{Actor, Machine, done_by}
 use Rattle.brc_model.specs.RowRule.{RowRule}
 use Rattle.brc_model.specs.Accounts.{Accounts}
-use Rattle.brc_model.specs.Invariant.{Rule, numbers_of}
-use Rattle.brc_model.proofs.Objects.RowsAfterStep.{Doing, KeepsRow}
+use Rattle.brc_model.specs.Invariant.{AtDuty, Rule, numbers_of}
+use Rattle.brc_model.proofs.Objects.RowsAfterStep.{KeepsRow}
 use Rattle.brc_model.proofs.Objects.RowsAfterElsewhere.{subject, row_elsewhere}
 use Rattle.brc_model.proofs.Objects.RowsAfterLocal.{row_after_retain_load, row_after_retain_store, row_after_retain_add, row_after_release_load, row_after_release_store, row_after_decide}
 use Rattle.brc_model.proofs.Objects.RowsAfterShared.{row_after_shared_load, row_after_own_exchange, row_after_handed_exchange}
@@ -20,7 +20,8 @@ use Rattle.brc_model.proofs.Objects.RowsAfterBirths.{row_after_birth_kind, row_a
 use Rattle.brc_model.proofs.Objects.RowsAfterMerge.{row_after_own_swap, row_after_handed_swap, row_after_merge_load, row_after_merge_exchange}
 
 -- the row that the duty is about
-own_row : (p : Accounts) (n : ℕ) (m : Machine) (t : ℕ) (a : Actor) (d : Duty) (rest : List Duty) → Doing p n m t a d rest
+own_row : (p : Accounts) (n : ℕ) (m : Machine) (t : ℕ) (a : Actor) (d : Duty) (rest : List Duty)
+    → AtDuty p n m t a d rest
     → 0 < subject d → KeepsRow m t a d rest (subject d)
 own_row p n m t a (RetainLoad y h) rest s some = row_after_retain_load some s
 own_row p n m t a (RetainStore y h w) rest s some = row_after_retain_store s
@@ -58,7 +59,7 @@ pub rows_after : (p : Accounts) (n : ℕ) (m : Machine) (t : ℕ) (a : Actor) (d
     → (x : ℕ) → 0 < x
     → RowRule (block_of m.rows x) ((done_by m t a d rest).life x) (numbers_of (done_by m t a d rest) x)
 rows_after p n m t a d rest rule actor agenda runs x some =
-    let s : Doing p n m t a d rest = record { rule = rule; actor = actor; agenda = agenda } in
+    let s : AtDuty p n m t a d rest = record { rule = rule; found = actor; agenda = agenda } in
     elim (eqb_tells (subject d) x) [
       | inl same ↦
           subst (λ (z : ℕ). KeepsRow m t a d rest z) same.1 (own_row p n m t a d rest s (omega (arith, some, same.1)))

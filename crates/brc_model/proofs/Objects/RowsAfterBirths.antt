@@ -13,9 +13,9 @@ use Rattle.brc_model.specs.References.{reference_of}
 use Rattle.brc_model.specs.RowRule.{Numbers, IsDefault, AboveZero, InOwned, IsLive, IsUnborn, RowRule}
 use Rattle.brc_model.specs.Accounts.{Accounts}
 use Rattle.brc_model.specs.Knowledge.{IsNext}
-use Rattle.brc_model.specs.Invariant.{numbers_of}
+use Rattle.brc_model.specs.Invariant.{AtDuty, numbers_of}
 use Rattle.brc_model.proofs.Objects.RowsAfterOwn.{own, one_own, written_here, row_apart}
-use Rattle.brc_model.proofs.Objects.RowsAfterStep.{Doing, KeepsRow, head_fits_of, weighed, row_becomes, row_stays}
+use Rattle.brc_model.proofs.Objects.RowsAfterStep.{KeepsRow, head_fits_of, weighed, row_becomes, row_stays}
 use Rattle.brc_model.proofs.Objects.RowsAfterElsewhere.{IsApart, apart_if, one_apart}
 use Rattle.brc_model.proofs.Basics.Blocks.{next_above, next_unborn, next_block}
 
@@ -23,7 +23,7 @@ use Rattle.brc_model.proofs.Basics.Blocks.{next_above, next_unborn, next_block}
 
 pub row_after_birth_kind : {p : Accounts} {n : ℕ} {m : Machine} {t : ℕ} {a : Actor} {y : ℕ} {h : Holding} {w : ℕ}
     {rest : List Duty}
-    → 0 < y → Doing p n m t a (BirthKind y h w) rest → KeepsRow m t a (BirthKind y h w) rest y
+    → 0 < y → AtDuty p n m t a (BirthKind y h w) rest → KeepsRow m t a (BirthKind y h w) rest y
 row_after_birth_kind {y = y} {h = h} {w = w} some s =
     let this : IsApart y (BirthKind y h w) =
     record { waiting = refl; carried = refl; merging = refl; deciding = refl; lives = λ life state. refl } in
@@ -36,7 +36,7 @@ row_after_birth_kind {y = y} {h = h} {w = w} some s =
 
 pub row_after_birth_slot : {p : Accounts} {n : ℕ} {m : Machine} {t : ℕ} {a : Actor} {y : ℕ} {h : Holding}
     {rest : List Duty}
-    → 0 < y → Doing p n m t a (BirthSlot y h) rest → KeepsRow m t a (BirthSlot y h) rest y
+    → 0 < y → AtDuty p n m t a (BirthSlot y h) rest → KeepsRow m t a (BirthSlot y h) rest y
 row_after_birth_slot {y = y} {h = h} some s =
     row_stays {next = BirthLocal y h ∷ []} {x = y} s some
     (record {
@@ -73,7 +73,7 @@ born_live owner k low unborn = record {
 
 pub row_after_birth_local : {p : Accounts} {n : ℕ} {m : Machine} {t : ℕ} {a : Actor} {y : ℕ} {h : Holding}
     {rest : List Duty}
-    → Doing p n m t a (BirthLocal y h) rest → KeepsRow m t a (BirthLocal y h) rest y
+    → AtDuty p n m t a (BirthLocal y h) rest → KeepsRow m t a (BirthLocal y h) rest y
 row_after_birth_local {p = p} {n = n} {m = m} {t = t} {a = a} {y = y} {h = h} {rest = rest} s =
     let next : IsNext m t a y = (head_fits_of s).0 in
     let k = numbers_of m y in
@@ -81,9 +81,9 @@ row_after_birth_local {p = p} {n = n} {m = m} {t = t} {a = a} {y = y} {h = h} {r
     let one = one_own y in
     let above = next_above m t a y next in
     let block = next_block m t a y next in
-    let within = slice_get_within m.actors t a s.actor in
+    let within = slice_get_within m.actors t a s.found in
     let unborn : IsUnborn k =
-    subst (λ (l : Life). RowRule (block_of m.rows y) l k) (next_unborn p n m t a y s.rule s.actor next)
+    subst (λ (l : Life). RowRule (block_of m.rows y) l k) (next_unborn p n m t a y s.rule s.found next)
     (s.rule.rows y (omega (arith, above))) in
     row_becomes m t a (BirthLocal y h) rest y [] refl Live (ap (λ (b : Bool). cond b Live (m.life y)) (own y))
     (record k { local = local_word t 1; references = k.references + 1 }) (record {

@@ -18,7 +18,8 @@ use Rattle.brc_model.specs.References.{one_if}
 use Rattle.brc_model.specs.RowRule.{waits, carries, merges, decides}
 use Rattle.brc_model.specs.Accounts.{Accounts}
 use Rattle.brc_model.proofs.Frame.Lives.{cell_found}
-use Rattle.brc_model.proofs.Objects.RowsAfterStep.{Doing, found_by, following, KeepsRow, RowStays, row_stays}
+use Rattle.brc_model.proofs.Objects.RowsAfterStep.{found_by, following, KeepsRow, RowStays, row_stays}
+use Rattle.brc_model.specs.Invariant.{AtDuty}
 
 -- the row that a duty is about, or none
 abbrev pub subject : Duty → ℕ
@@ -358,7 +359,7 @@ not_born x (BirthLocal y h) e life state = ap (λ (b : Bool). cond b state (life
 not_born x d e life state = refl
 
 pub row_elsewhere : {p : Accounts} {n : ℕ} {m : Machine} {t : ℕ} {a : Actor} {d : Duty} {rest : List Duty}
-    → Doing p n m t a d rest → (x : ℕ) → 0 < x → (subject d == x) ≡ false → KeepsRow m t a d rest x
+    → AtDuty p n m t a d rest → (x : ℕ) → 0 < x → (subject d == x) ≡ false → KeepsRow m t a d rest x
 row_elsewhere {p = p} {n = n} {m = m} {t = t} {a = a} {d = d} {rest = rest} s x some e =
     let found = found_by m t a d in
     let at = address_of m.rows t a.head d in

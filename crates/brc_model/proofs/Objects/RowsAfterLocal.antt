@@ -15,9 +15,9 @@ use Rattle.brc_model.specs.Machine.{Live, Dying, Actor, Machine, gain, lose, han
 use Rattle.brc_model.proofs.Basics.Bag.{references_to-cons, same_holding-refl}
 use Rattle.brc_model.specs.References.{reference_of}
 use Rattle.brc_model.specs.Accounts.{Accounts}
-use Rattle.brc_model.specs.Invariant.{numbers_of}
+use Rattle.brc_model.specs.Invariant.{AtDuty, numbers_of}
 use Rattle.brc_model.proofs.Objects.RowSteps.{local_up, local_down, local_to_zero, zero_dies, shared_gained}
-use Rattle.brc_model.proofs.Objects.RowsAfterStep.{Doing, head_fits_of, KeepsRow, weighed, row_becomes, row_stays}
+use Rattle.brc_model.proofs.Objects.RowsAfterStep.{head_fits_of, KeepsRow, weighed, row_becomes, row_stays}
 use Rattle.brc_model.proofs.Objects.RowsAfterElsewhere.{IsApart, none_apart, one_apart, apart_if}
 use Rattle.brc_model.proofs.Objects.RowsAfterOwn.{own, one_own, written_here, gives_up, IsLost, is_lost, lives_so, lives_backed, counted_word, row_apart}
 
@@ -33,7 +33,7 @@ retain_apart x y h w = (
 
 pub row_after_retain_load : {p : Accounts} {n : ℕ} {m : Machine} {t : ℕ} {a : Actor} {y : ℕ} {h : Holding}
     {rest : List Duty}
-    → 0 < y → Doing p n m t a (RetainLoad y h) rest → KeepsRow m t a (RetainLoad y h) rest y
+    → 0 < y → AtDuty p n m t a (RetainLoad y h) rest → KeepsRow m t a (RetainLoad y h) rest y
 row_after_retain_load {m = m} {t = t} {y = y} {h = h} some s =
     let fits = head_fits_of s in
     let w = m.memory (Local y) in
@@ -53,7 +53,7 @@ row_after_retain_load {m = m} {t = t} {y = y} {h = h} some s =
 
 pub row_after_retain_store : {p : Accounts} {n : ℕ} {m : Machine} {t : ℕ} {a : Actor} {y : ℕ} {h : Holding} {w : ℕ}
     {rest : List Duty}
-    → Doing p n m t a (RetainStore y h w) rest → KeepsRow m t a (RetainStore y h w) rest y
+    → AtDuty p n m t a (RetainStore y h w) rest → KeepsRow m t a (RetainStore y h w) rest y
 row_after_retain_store {m = m} {t = t} {a = a} {y = y} {h = h} {w = w} {rest = rest} s =
     let fits = head_fits_of s in
     let k = numbers_of m y in
@@ -75,7 +75,7 @@ row_after_retain_store {m = m} {t = t} {a = a} {y = y} {h = h} {w = w} {rest = r
 
 pub row_after_retain_add : {p : Accounts} {n : ℕ} {m : Machine} {t : ℕ} {a : Actor} {y : ℕ} {h : Holding}
     {rest : List Duty}
-    → Doing p n m t a (RetainAdd y h) rest → KeepsRow m t a (RetainAdd y h) rest y
+    → AtDuty p n m t a (RetainAdd y h) rest → KeepsRow m t a (RetainAdd y h) rest y
 row_after_retain_add {m = m} {t = t} {a = a} {y = y} {h = h} {rest = rest} s =
     let fits = head_fits_of s in
     let k = numbers_of m y in
@@ -120,7 +120,7 @@ handed_on t y (ByVariable v) p lost =
 
 pub row_after_release_load : {p : Accounts} {n : ℕ} {m : Machine} {t : ℕ} {a : Actor} {y : ℕ} {h : Holding}
     {rest : List Duty}
-    → 0 < y → Doing p n m t a (ReleaseLoad y h) rest → KeepsRow m t a (ReleaseLoad y h) rest y
+    → 0 < y → AtDuty p n m t a (ReleaseLoad y h) rest → KeepsRow m t a (ReleaseLoad y h) rest y
 row_after_release_load {m = m} {t = t} {y = y} {h = h} some s =
     let w = m.memory (Local y) in
     let lost =
@@ -147,7 +147,7 @@ row_after_release_load {m = m} {t = t} {y = y} {h = h} some s =
     })
 
 pub row_after_release_store : {p : Accounts} {n : ℕ} {m : Machine} {t : ℕ} {a : Actor} {y w : ℕ} {rest : List Duty}
-    → Doing p n m t a (ReleaseStore y w) rest → KeepsRow m t a (ReleaseStore y w) rest y
+    → AtDuty p n m t a (ReleaseStore y w) rest → KeepsRow m t a (ReleaseStore y w) rest y
 row_after_release_store {m = m} {t = t} {a = a} {y = y} {w = w} {rest = rest} s =
     let fits = head_fits_of s in
     let k = numbers_of m y in
@@ -188,7 +188,7 @@ row_after_release_store {m = m} {t = t} {a = a} {y = y} {w = w} {rest = rest} s 
 -- ---- the owner at zero
 
 pub row_after_decide : {p : Accounts} {n : ℕ} {m : Machine} {t : ℕ} {a : Actor} {y : ℕ} {rest : List Duty}
-    → Doing p n m t a (DecideAtZero y) rest → KeepsRow m t a (DecideAtZero y) rest y
+    → AtDuty p n m t a (DecideAtZero y) rest → KeepsRow m t a (DecideAtZero y) rest y
 row_after_decide {m = m} {t = t} {a = a} {y = y} {rest = rest} s =
     let fits = head_fits_of s in
     let k = numbers_of m y in

@@ -11,16 +11,16 @@ use Rattle.brc_model.specs.Duties.{block_of, claimed, has_resource, cells_of, ce
 use Rattle.brc_model.specs.Machine.{Life, Live, Dying, Closed, Actor, Machine, with_life, dies_next, life_by, done_by, take_out}
 use Rattle.brc_model.specs.RowRule.{waits, carries, merges, decides, RowRule}
 use Rattle.brc_model.specs.Accounts.{Accounts}
-use Rattle.brc_model.specs.Invariant.{numbers_of}
+use Rattle.brc_model.specs.Invariant.{AtDuty, numbers_of}
 use Rattle.brc_model.proofs.Objects.RowMerges.{mark_set, mark_taken}
-use Rattle.brc_model.proofs.Objects.RowsAfterStep.{Doing, head_fits_of, following, KeepsRow, weighed, row_becomes, row_stays}
+use Rattle.brc_model.proofs.Objects.RowsAfterStep.{head_fits_of, following, KeepsRow, weighed, row_becomes, row_stays}
 use Rattle.brc_model.proofs.Objects.RowsAfterElsewhere.{IsApart, AreApart, none_apart, one_apart, more_apart, apart_if, settle_apart, scan_apart, kind_apart, cells_apart, released_apart}
 use Rattle.brc_model.proofs.Objects.RowsAfterOwn.{own, one_own, written_here, lives_so, row_apart}
 
 -- ---- a mark is set
 
 pub row_after_set_mark : {p : Accounts} {n : ℕ} {m : Machine} {t : ℕ} {a : Actor} {y : ℕ} {rest : List Duty}
-    → Doing p n m t a (SetMark y) rest → KeepsRow m t a (SetMark y) rest y
+    → AtDuty p n m t a (SetMark y) rest → KeepsRow m t a (SetMark y) rest y
 row_after_set_mark {m = m} {t = t} {a = a} {y = y} {rest = rest} s =
     let some : 0 < y = head_fits_of s in
     let k = numbers_of m y in
@@ -41,7 +41,7 @@ row_after_set_mark {m = m} {t = t} {a = a} {y = y} {rest = rest} s =
     }) (mark_set (block_of m.rows y) k lives.rule awaits)
 
 pub row_after_look : {p : Accounts} {n : ℕ} {m : Machine} {t : ℕ} {a : Actor} {y : ℕ} {rest : List Duty}
-    → Doing p n m t a (Look y) rest → KeepsRow m t a (Look y) rest y
+    → AtDuty p n m t a (Look y) rest → KeepsRow m t a (Look y) rest y
 row_after_look {m = m} {y = y} s =
     let some : 0 < y = head_fits_of s in
     let look : IsApart y (Look y) =
@@ -67,7 +67,7 @@ pub record Takes (m : Machine) (t : ℕ) (a : Actor) (d : Duty) (rest : List Dut
 
 -- none was set
 takes_none : {p : Accounts} {n : ℕ} {m : Machine} {t : ℕ} {a : Actor} {d : Duty} {rest tail : List Duty} {y : ℕ}
-    → Doing p n m t a d rest → 0 < y → Takes m t a d rest y tail → m.memory (Mark y) ≡ 0
+    → AtDuty p n m t a d rest → 0 < y → Takes m t a d rest y tail → m.memory (Mark y) ≡ 0
     → KeepsRow m t a d rest y
 takes_none {m = m} {t = t} {a = a} {d = d} {rest = rest} {tail = tail} {y = y} s some takes unset =
     let follows : following m t a d ≡ tail = takes.follows ∙ ap (λ (w : ℕ). claimed y w ++ tail) unset in
@@ -89,7 +89,7 @@ hands y = MergeSwap y Handed ∷ []
 
 -- one was set, and its decrement awaits by the handed reference
 takes_one : {p : Accounts} {n : ℕ} {m : Machine} {t : ℕ} {a : Actor} {d : Duty} {rest tail : List Duty} {y : ℕ}
-    → Doing p n m t a d rest → 0 < y → Takes m t a d rest y tail → m.memory (Mark y) ≡ 1
+    → AtDuty p n m t a d rest → 0 < y → Takes m t a d rest y tail → m.memory (Mark y) ≡ 1
     → KeepsRow m t a d rest y
 takes_one {m = m} {t = t} {a = a} {d = d} {rest = rest} {tail = tail} {y = y} s some takes set =
     let k = numbers_of m y in
@@ -139,7 +139,7 @@ takes_one {m = m} {t = t} {a = a} {d = d} {rest = rest} {tail = tail} {y = y} s 
     }) (mark_taken (block_of m.rows y) k lives.rule set)
 
 row_after_taking : {p : Accounts} {n : ℕ} {m : Machine} {t : ℕ} {a : Actor} {d : Duty} {rest tail : List Duty} {y : ℕ}
-    → Doing p n m t a d rest → 0 < y → Takes m t a d rest y tail → KeepsRow m t a d rest y
+    → AtDuty p n m t a d rest → 0 < y → Takes m t a d rest y tail → KeepsRow m t a d rest y
 row_after_taking {y = y} s some takes =
     elim (s.rule.marks y) [
       | inl unset ↦ takes_none s some takes unset
@@ -147,7 +147,7 @@ row_after_taking {y = y} s some takes =
     ]
 
 pub row_after_take_mark : {p : Accounts} {n : ℕ} {m : Machine} {t : ℕ} {a : Actor} {y : ℕ} {rest : List Duty}
-    → Doing p n m t a (TakeMark y) rest → KeepsRow m t a (TakeMark y) rest y
+    → AtDuty p n m t a (TakeMark y) rest → KeepsRow m t a (TakeMark y) rest y
 row_after_take_mark {m = m} {t = t} {a = a} {y = y} {rest = rest} s =
     let takes : Takes m t a (TakeMark y) rest y [] = record {
       follows = elim (m.memory (Mark y) == 1) as (λ b. cond b (hands y) [] ≡ cond b (hands y) [] ++ []) [
@@ -165,7 +165,7 @@ row_after_take_mark {m = m} {t = t} {a = a} {y = y} {rest = rest} s =
     row_after_taking s (head_fits_of s).0 takes
 
 pub row_after_scan : {p : Accounts} {n : ℕ} {m : Machine} {t : ℕ} {a : Actor} {y left : ℕ} {rest : List Duty} → 0 < y
-    → Doing p n m t a (Scan y left) rest → KeepsRow m t a (Scan y left) rest y
+    → AtDuty p n m t a (Scan y left) rest → KeepsRow m t a (Scan y left) rest y
 row_after_scan {m = m} {t = t} {a = a} {y = y} {left = left} {rest = rest} some s =
     let takes : Takes m t a (Scan y left) rest y (Settle ∷ Scan (y + 1) (left - 1) ∷ []) = record {
       follows = refl;
@@ -180,7 +180,7 @@ row_after_scan {m = m} {t = t} {a = a} {y = y} {left = left} {rest = rest} some 
     row_after_taking s some takes
 
 pub row_after_claim : {p : Accounts} {n : ℕ} {m : Machine} {t : ℕ} {a : Actor} {y : ℕ} {rest : List Duty} → 0 < y
-    → Doing p n m t a (ClaimMark y) rest → KeepsRow m t a (ClaimMark y) rest y
+    → AtDuty p n m t a (ClaimMark y) rest → KeepsRow m t a (ClaimMark y) rest y
 row_after_claim {m = m} {t = t} {a = a} {y = y} {rest = rest} some s =
     let takes : Takes m t a (ClaimMark y) rest y (Settle ∷ []) = record {
       follows = refl;
@@ -197,7 +197,7 @@ row_after_claim {m = m} {t = t} {a = a} {y = y} {rest = rest} some s =
 -- ---- an object dies, and is finalised
 
 pub row_after_die : {p : Accounts} {n : ℕ} {m : Machine} {t : ℕ} {a : Actor} {y : ℕ} {rest : List Duty} → 0 < y
-    → Doing p n m t a (Die y) rest → KeepsRow m t a (Die y) rest y
+    → AtDuty p n m t a (Die y) rest → KeepsRow m t a (Die y) rest y
 row_after_die {y = y} some s =
     row_stays {next = []} {x = y} s some
     (record {
@@ -214,7 +214,7 @@ row_after_die {y = y} some s =
     })
 
 pub row_after_kind : {p : Accounts} {n : ℕ} {m : Machine} {t : ℕ} {a : Actor} {y : ℕ} {rest : List Duty} → 0 < y
-    → Doing p n m t a (SettleKind y) rest → KeepsRow m t a (SettleKind y) rest y
+    → AtDuty p n m t a (SettleKind y) rest → KeepsRow m t a (SettleKind y) rest y
 row_after_kind {m = m} {y = y} some s =
     let word = m.memory (KindOf y) in
     let slot : IsApart y (TakeSlot y) =
@@ -224,7 +224,7 @@ row_after_kind {m = m} {y = y} some s =
     (record { local = refl; shared = refl; mark = refl; references = refl })
 
 pub row_after_cell : {p : Accounts} {n : ℕ} {m : Machine} {t : ℕ} {a : Actor} {y i cells : ℕ} {rest : List Duty} → 0 < y
-    → Doing p n m t a (SettleCell y i cells) rest → KeepsRow m t a (SettleCell y i cells) rest y
+    → AtDuty p n m t a (SettleCell y i cells) rest → KeepsRow m t a (SettleCell y i cells) rest y
 row_after_cell {m = m} {t = t} {y = y} {i = i} {cells = cells} some s =
     let this : IsApart y (SettleCell y i cells) =
     record { waiting = refl; carried = refl; merging = refl; deciding = refl; lives = λ life state. refl } in
@@ -239,7 +239,7 @@ row_after_cell {m = m} {t = t} {y = y} {i = i} {cells = cells} some s =
     })
 
 pub row_after_take_slot : {p : Accounts} {n : ℕ} {m : Machine} {t : ℕ} {a : Actor} {y : ℕ} {rest : List Duty} → 0 < y
-    → Doing p n m t a (TakeSlot y) rest → KeepsRow m t a (TakeSlot y) rest y
+    → AtDuty p n m t a (TakeSlot y) rest → KeepsRow m t a (TakeSlot y) rest y
 row_after_take_slot {y = y} some s =
     row_stays {next = CloseResource y ∷ []} {x = y} s some
     (record {
@@ -256,7 +256,7 @@ row_after_take_slot {y = y} some s =
     })
 
 pub row_after_close : {p : Accounts} {n : ℕ} {m : Machine} {t : ℕ} {a : Actor} {y : ℕ} {rest : List Duty} → 0 < y
-    → Doing p n m t a (CloseResource y) rest → KeepsRow m t a (CloseResource y) rest y
+    → AtDuty p n m t a (CloseResource y) rest → KeepsRow m t a (CloseResource y) rest y
 row_after_close {y = y} some s =
     row_stays {next = SettleEnd y ∷ []} {x = y} s some
     (record {
@@ -274,7 +274,7 @@ row_after_close {y = y} some s =
 
 -- a row that was dying is closed
 pub row_after_end : {p : Accounts} {n : ℕ} {m : Machine} {t : ℕ} {a : Actor} {y : ℕ} {rest : List Duty}
-    → Doing p n m t a (SettleEnd y) rest → KeepsRow m t a (SettleEnd y) rest y
+    → AtDuty p n m t a (SettleEnd y) rest → KeepsRow m t a (SettleEnd y) rest y
 row_after_end {m = m} {t = t} {a = a} {y = y} {rest = rest} s =
     let fits = head_fits_of s in
     let k = numbers_of m y in

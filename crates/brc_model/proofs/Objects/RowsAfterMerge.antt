@@ -15,13 +15,12 @@ use Rattle.brc_model.specs.Duties.{block_of, once_merged}
 use Rattle.brc_model.specs.Machine.{Live, Dying, Actor, Machine, written, life_by, done_by}
 use Rattle.brc_model.specs.RowRule.{waits, carries, merges, decides, weight, IsLive, InOwned, InSwapped, InMerged}
 use Rattle.brc_model.specs.Accounts.{Accounts}
-use Rattle.brc_model.specs.Invariant.{numbers_of}
+use Rattle.brc_model.specs.Invariant.{AtDuty, numbers_of}
 use Rattle.brc_model.proofs.Objects.RowMerges.{swapped_own, swapped_claimed, merged_live, merged_dies}
 use Rattle.brc_model.proofs.Objects.Weights.{agenda_weight-le, none_carried}
-use Rattle.brc_model.proofs.Objects.RowsAfterStep.{Doing, head_fits_of, following, KeepsRow, weighed, row_becomes, row_stays}
+use Rattle.brc_model.proofs.Objects.RowsAfterStep.{head_fits_of, following, KeepsRow, weighed, row_becomes, row_stays}
 use Rattle.brc_model.proofs.Objects.RowsAfterOwn.{own, one_own, written_here, lives_so}
 use Rattle.brc_model.proofs.Work.Deciders.{none_decides}
-use Rattle.brc_model.proofs.Frame.Leaves.{AtDuty}
 
 carried_own : (y c : ℕ) → cond (y == y) c 0 ≡ c
 carried_own y c = ap (λ (b : Bool). cond b c 0) (own y)
@@ -29,7 +28,7 @@ carried_own y c = ap (λ (b : Bool). cond b c 0) (own y)
 -- ---- the local word is swapped out
 
 pub row_after_own_swap : {p : Accounts} {n : ℕ} {m : Machine} {t : ℕ} {a : Actor} {y : ℕ} {rest : List Duty}
-    → Doing p n m t a (MergeSwap y Own) rest → KeepsRow m t a (MergeSwap y Own) rest y
+    → AtDuty p n m t a (MergeSwap y Own) rest → KeepsRow m t a (MergeSwap y Own) rest y
 row_after_own_swap {m = m} {t = t} {a = a} {y = y} {rest = rest} s =
     let fits = head_fits_of s in
     let k = numbers_of m y in
@@ -54,19 +53,17 @@ row_after_own_swap {m = m} {t = t} {a = a} {y = y} {rest = rest} s =
 
 -- the decrement of the duty at hand is among those that await
 head_awaits : {p : Accounts} {n : ℕ} {m : Machine} {t : ℕ} {a : Actor} {d : Duty} {rest : List Duty} (y : ℕ)
-    → Doing p n m t a d rest → waits y d ≤ weight (waits y) m.actors
+    → AtDuty p n m t a d rest → waits y d ≤ weight (waits y) m.actors
 head_awaits {m = m} {t = t} {a = a} {d = d} {rest = rest} y s =
     let whole : sum_by (waits y) a.agenda ≡ sum_by (waits y) (d ∷ rest) = ap (sum_by (waits y)) s.agenda in
-    omega (arith, agenda_weight-le (waits y) m.actors t a s.actor, whole, sum_by-cons (waits y) d rest)
+    omega (arith, agenda_weight-le (waits y) m.actors t a s.found, whole, sum_by-cons (waits y) d rest)
 
 -- the local word that a claimant finds
 claims_some : {p : Accounts} {n : ℕ} {m : Machine} {t : ℕ} {a : Actor} {y : ℕ} {rest : List Duty}
-    → Doing p n m t a (MergeSwap y Handed) rest
+    → AtDuty p n m t a (MergeSwap y Handed) rest
     → (m.memory (Local y) == 0) ≡ false → m.memory (Local y) ≢ 0 → KeepsRow m t a (MergeSwap y Handed) rest y
 claims_some {p = p} {n = n} {m = m} {t = t} {a = a} {y = y} {rest = rest} s test found =
     let fits = head_fits_of s in
-    let here : AtDuty p n m t a (MergeSwap y Handed) rest =
-    record { rule = s.rule; found = s.actor; agenda = s.agenda } in
     let k = numbers_of m y in
     let c = local_part (m.memory (Local y)) in
     let weights = weighed s (MergeLoad y c Handed ∷ []) (rw test refl) y in
@@ -82,10 +79,10 @@ claims_some {p = p} {n = n} {m = m} {t = t} {a = a} {y = y} {rest = rest} s test
       carried = omega (arith, weights.carried, carried_own y c);
       merging = omega (arith, weights.merging, one);
       deciding = omega (arith, weights.deciding);
-    }) (swapped_claimed (block_of m.rows y) k lives.rule found (none_decides p n m t a y rest here fits.1 lives.rule))
+    }) (swapped_claimed (block_of m.rows y) k lives.rule found (none_decides p n m t a y rest s fits.1 lives.rule))
 
 pub row_after_handed_swap : {p : Accounts} {n : ℕ} {m : Machine} {t : ℕ} {a : Actor} {y : ℕ} {rest : List Duty}
-    → Doing p n m t a (MergeSwap y Handed) rest → KeepsRow m t a (MergeSwap y Handed) rest y
+    → AtDuty p n m t a (MergeSwap y Handed) rest → KeepsRow m t a (MergeSwap y Handed) rest y
 row_after_handed_swap {m = m} {y = y} s =
     elim (eqb_tells (m.memory (Local y)) 0) [
       | inl none ↦
@@ -113,7 +110,7 @@ again_waits y c w Handed = refl
 
 pub row_after_merge_load : {p : Accounts} {n : ℕ} {m : Machine} {t : ℕ} {a : Actor} {y c : ℕ} {r : Reason}
     {rest : List Duty}
-    → Doing p n m t a (MergeLoad y c r) rest → KeepsRow m t a (MergeLoad y c r) rest y
+    → AtDuty p n m t a (MergeLoad y c r) rest → KeepsRow m t a (MergeLoad y c r) rest y
 row_after_merge_load {m = m} {y = y} {c = c} {r = r} s =
     let found = m.memory (Shared y) in
     row_stays {next = MergeExchange y c found r ∷ []} {x = y} s (head_fits_of s).0 (record {
@@ -148,7 +145,7 @@ merging_low owner m y live =
 -- so all that is carried is this duty's
 carried_here : {p : Accounts} {n : ℕ} {m : Machine} {t : ℕ} {a : Actor} {y c w : ℕ} {r : Reason} {rest : List Duty}
     (owner : ℕ)
-    → Doing p n m t a (MergeExchange y c w r) rest → IsLive owner (numbers_of m y)
+    → AtDuty p n m t a (MergeExchange y c w r) rest → IsLive owner (numbers_of m y)
     → weight (merges y) (done_by m t a (MergeExchange y c w r) rest).actors + 1 ≡ weight (merges y) m.actors
     → weight (carries y) (done_by m t a (MergeExchange y c w r) rest).actors ≡ 0
 carried_here {m = m} {t = t} {a = a} {y = y} {c = c} {w = w} {r = r} {rest = rest} owner s live fewer =
@@ -157,7 +154,7 @@ carried_here {m = m} {t = t} {a = a} {y = y} {c = c} {w = w} {r = r} {rest = res
 
 -- nothing is left: the object dies
 merge_ends : {p : Accounts} {n : ℕ} {m : Machine} {t : ℕ} {a : Actor} {y c w : ℕ} {rest : List Duty}
-    → Doing p n m t a (MergeExchange y c w Own) rest
+    → AtDuty p n m t a (MergeExchange y c w Own) rest
     → (m.memory (Shared y) == w) ≡ true → m.memory (Shared y) ≡ w → (merged_word w c == dead_word) ≡ true
     → merged_word w c ≡ dead_word → KeepsRow m t a (MergeExchange y c w Own) rest y
 merge_ends {m = m} {t = t} {a = a} {y = y} {c = c} {w = w} {rest = rest} s test same is_dead dead =
@@ -197,7 +194,7 @@ releases m t y c w Handed =
 
 -- the object lives on, merged
 merge_stays : {p : Accounts} {n : ℕ} {m : Machine} {t : ℕ} {a : Actor} {y c w : ℕ} {r : Reason} {rest : List Duty}
-    → Doing p n m t a (MergeExchange y c w r) rest
+    → AtDuty p n m t a (MergeExchange y c w r) rest
     → (m.memory (Shared y) == w) ≡ true → m.memory (Shared y) ≡ w
     → following m t a (MergeExchange y c w r) ≡ once_merged y r
     → (IsLive (block_of m.rows y) (numbers_of m y) → 1 ≤ (numbers_of m y).merging → (numbers_of m y).carried ≡ c
@@ -226,7 +223,7 @@ merge_stays {m = m} {t = t} {a = a} {y = y} {c = c} {w = w} {r = r} {rest = rest
     }) (merged_live (block_of m.rows y) k c lives.rule some carried (alive lives.rule some carried))
 
 merge_won : {p : Accounts} {n : ℕ} {m : Machine} {t : ℕ} {a : Actor} {y c w : ℕ} {rest : List Duty} (r : Reason)
-    → Doing p n m t a (MergeExchange y c w r) rest
+    → AtDuty p n m t a (MergeExchange y c w r) rest
     → (m.memory (Shared y) == w) ≡ true → m.memory (Shared y) ≡ w → KeepsRow m t a (MergeExchange y c w r) rest y
 merge_won {c = c} {w = w} Own s test same =
     elim (eqb_tells (merged_word w c) dead_word) [
@@ -247,7 +244,7 @@ merge_won {m = m} {y = y} {c = c} Handed s test same =
 
 pub row_after_merge_exchange : {p : Accounts} {n : ℕ} {m : Machine} {t : ℕ} {a : Actor} {y c w : ℕ} {r : Reason}
     {rest : List Duty}
-    → Doing p n m t a (MergeExchange y c w r) rest → KeepsRow m t a (MergeExchange y c w r) rest y
+    → AtDuty p n m t a (MergeExchange y c w r) rest → KeepsRow m t a (MergeExchange y c w r) rest y
 row_after_merge_exchange {m = m} {y = y} {c = c} {w = w} {r = r} s =
     elim (eqb_tells (m.memory (Shared y)) w) [
       | inl same ↦ merge_won r s same.0 same.1

@@ -15,10 +15,10 @@ use Rattle.brc_model.proofs.Basics.Bag.{held_has, held-le-references_to, referen
 use Rattle.brc_model.specs.References.{held, one_if, reference_of}
 use Rattle.brc_model.specs.RowRule.{Numbers, InOwned, InSwapped, InMerged, IsLive}
 use Rattle.brc_model.specs.Accounts.{Accounts, extra, lacks, extra_of, lacks_of}
-use Rattle.brc_model.specs.Invariant.{numbers_of}
+use Rattle.brc_model.specs.Invariant.{AtDuty, numbers_of}
 use Rattle.brc_model.specs.Knowledge.{IsBacked}
 use Rattle.brc_model.proofs.Frame.Aside.{extra_held}
-use Rattle.brc_model.proofs.Objects.RowsAfterStep.{Doing, following, KeepsRow, RowStays, row_stays, Lives, row_lives}
+use Rattle.brc_model.proofs.Objects.RowsAfterStep.{following, KeepsRow, RowStays, row_stays, Lives, row_lives}
 use Rattle.brc_model.proofs.Objects.RowsAfterElsewhere.{AreApart, IsApart}
 
 pub own : (y : ℕ) → (y == y) ≡ true
@@ -36,10 +36,10 @@ written_here memory at word this = ap (λ (same : Bool). cond same word (memory 
 
 -- what a duty gives up is there
 pub gives_up : {p : Accounts} {n : ℕ} {m : Machine} {t : ℕ} {a : Actor} {d : Duty} {rest : List Duty}
-    → Doing p n m t a d rest → (k : Holding) (object : ℕ) → extra d k object ≡ true → lacks d k object ≡ false
+    → AtDuty p n m t a d rest → (k : Holding) (object : ℕ) → extra d k object ≡ true → lacks d k object ≡ false
     → 0 < held (reference_of t k object) m.plain.references
 gives_up {p = p} {m = m} {t = t} {a = a} s k object more less =
-    let fits = s.rule.each t a s.actor in
+    let fits = s.rule.each t a s.found in
     extra_held m.plain.references t (p t) a.agenda a.aside k object fits.0.holds (fits.2.apart object)
     (ap (λ (ds : List Duty). extra_of ds k object) s.agenda ∙ more)
     (ap (λ (ds : List Duty). lacks_of ds k object) s.agenda ∙ less)
@@ -63,7 +63,7 @@ is_lost bag r some =
 -- ---- the row lives
 
 pub lives_so : {p : Accounts} {n : ℕ} {m : Machine} {t : ℕ} {a : Actor} {d : Duty} {rest : List Duty}
-    → Doing p n m t a d rest → (y : ℕ) → 0 < y
+    → AtDuty p n m t a d rest → (y : ℕ) → 0 < y
     → 1 ≤ (numbers_of m y).references + (numbers_of m y).mark + (numbers_of m y).waiting + (numbers_of m y).merging
     + (numbers_of m y).deciding
     → Lives (block_of m.rows y) (m.life y) (numbers_of m y)
@@ -71,7 +71,7 @@ lives_so {m = m} s y some counted =
     row_lives (block_of m.rows y) (m.life y) (numbers_of m y) (s.rule.rows y some) counted
 
 pub lives_backed : {p : Accounts} {n : ℕ} {m : Machine} {t : ℕ} {a : Actor} {d : Duty} {rest : List Duty}
-    → Doing p n m t a d rest → (y : ℕ) → 0 < y → IsBacked m t y
+    → AtDuty p n m t a d rest → (y : ℕ) → 0 < y → IsBacked m t y
     → Lives (block_of m.rows y) (m.life y) (numbers_of m y)
 lives_backed {m = m} {t = t} s y some backed =
     lives_so s y some (omega (
@@ -99,7 +99,7 @@ pub record KeepsWords (m after : Machine) (x : ℕ) : Type 0 where
   pub references : references_to x m.plain.references ≡ references_to x after.plain.references
 
 pub row_apart : {p : Accounts} {n : ℕ} {m : Machine} {t : ℕ} {a : Actor} {d : Duty} {rest : List Duty}
-    → Doing p n m t a d rest → (x : ℕ) → 0 < x → IsApart x d → AreApart x (following m t a d)
+    → AtDuty p n m t a d rest → (x : ℕ) → 0 < x → IsApart x d → AreApart x (following m t a d)
     → ((life : ℕ → Life) (state : Life) → with_life (with_life life (ended_row d) state) (born_row d) Live x ≡ life x)
     → KeepsWords m (done_by m t a d rest) x → KeepsRow m t a d rest x
 row_apart {m = m} {t = t} {a = a} {d = d} {rest = rest} s x some this next ends words =

@@ -16,10 +16,10 @@ use Rattle.brc_model.specs.Machine.{Live, Dying, Actor, Machine, written, lose, 
 use Rattle.brc_model.specs.References.{reference_of}
 use Rattle.brc_model.specs.RowRule.{waits}
 use Rattle.brc_model.specs.Accounts.{Accounts}
-use Rattle.brc_model.specs.Invariant.{numbers_of}
+use Rattle.brc_model.specs.Invariant.{AtDuty, numbers_of}
 use Rattle.brc_model.proofs.Objects.RowSteps.{shared_queued, shared_lost, shared_dies}
 use Rattle.brc_model.proofs.Objects.RowMerges.{handed_lost, handed_dies}
-use Rattle.brc_model.proofs.Objects.RowsAfterStep.{Doing, head_fits_of, KeepsRow, weighed, row_becomes, row_stays}
+use Rattle.brc_model.proofs.Objects.RowsAfterStep.{head_fits_of, KeepsRow, weighed, row_becomes, row_stays}
 use Rattle.brc_model.proofs.Objects.RowsAfterOwn.{own, one_own, written_here, gives_up, is_lost, lives_so}
 
 -- a load and an exchange weigh the same
@@ -29,7 +29,7 @@ same_waits x y Handed w = refl
 
 pub row_after_shared_load : {p : Accounts} {n : ℕ} {m : Machine} {t : ℕ} {a : Actor} {y : ℕ} {r : Reason}
     {rest : List Duty}
-    → 0 < y → Doing p n m t a (SharedLoad y r) rest → KeepsRow m t a (SharedLoad y r) rest y
+    → 0 < y → AtDuty p n m t a (SharedLoad y r) rest → KeepsRow m t a (SharedLoad y r) rest y
 row_after_shared_load {m = m} {y = y} {r = r} some s =
     let found = m.memory (Shared y) in
     row_stays {next = SharedExchange y r found ∷ []} {x = y} s some (record {
@@ -65,7 +65,7 @@ exchange_moves memory t y Handed w found p e = refl
 -- another thread was faster: it loads anew
 row_after_lost_exchange : {p : Accounts} {n : ℕ} {m : Machine} {t : ℕ} {a : Actor} {y : ℕ} {r : Reason} {w : ℕ}
     {rest : List Duty}
-    → 0 < y → Doing p n m t a (SharedExchange y r w) rest
+    → 0 < y → AtDuty p n m t a (SharedExchange y r w) rest
     → (m.memory (Shared y) == w) ≡ false → KeepsRow m t a (SharedExchange y r w) rest y
 row_after_lost_exchange {m = m} {t = t} {y = y} {r = r} {w = w} some s other =
     row_stays {next = SharedLoad y r ∷ []} {x = y} s some (record {
@@ -90,7 +90,7 @@ own_moves : (memory : Address → ℕ) (t y w found : ℕ) (p : Plain) → (foun
 own_moves memory t y w found p e = ap (λ (b : Bool). references_to y (moved p (cond b (lose t y) [])).references) e
 
 own_queues : {p : Accounts} {n : ℕ} {m : Machine} {t : ℕ} {a : Actor} {y w : ℕ} {rest : List Duty}
-    → Doing p n m t a (SharedExchange y Own w) rest
+    → AtDuty p n m t a (SharedExchange y Own w) rest
     → (m.memory (Shared y) == w) ≡ true → m.memory (Shared y) ≡ w → (w == fresh_word) ≡ true → w ≡ fresh_word
     → KeepsRow m t a (SharedExchange y Own w) rest y
 own_queues {m = m} {t = t} {a = a} {y = y} {w = w} {rest = rest} s test same is_fresh fresh =
@@ -114,7 +114,7 @@ own_queues {m = m} {t = t} {a = a} {y = y} {w = w} {rest = rest} s test same is_
     }) (shared_queued (block_of m.rows y) k lives.rule (same ∙ fresh) lost.before)
 
 own_dies : {p : Accounts} {n : ℕ} {m : Machine} {t : ℕ} {a : Actor} {y w : ℕ} {rest : List Duty}
-    → Doing p n m t a (SharedExchange y Own w) rest
+    → AtDuty p n m t a (SharedExchange y Own w) rest
     → (m.memory (Shared y) == w) ≡ true → m.memory (Shared y) ≡ w → (w == fresh_word) ≡ false
     → (w - 4 == dead_word) ≡ true → w - 4 ≡ dead_word → KeepsRow m t a (SharedExchange y Own w) rest y
 own_dies {m = m} {t = t} {a = a} {y = y} {w = w} {rest = rest} s test same other is_dead dead =
@@ -138,7 +138,7 @@ own_dies {m = m} {t = t} {a = a} {y = y} {w = w} {rest = rest} s test same other
     }) (shared_dies (block_of m.rows y) k lives.rule (omega (arith, same, dead)) lost.before)
 
 own_loses : {p : Accounts} {n : ℕ} {m : Machine} {t : ℕ} {a : Actor} {y w : ℕ} {rest : List Duty}
-    → Doing p n m t a (SharedExchange y Own w) rest
+    → AtDuty p n m t a (SharedExchange y Own w) rest
     → (m.memory (Shared y) == w) ≡ true → m.memory (Shared y) ≡ w → (w == fresh_word) ≡ false → w ≢ fresh_word
     → (w - 4 == dead_word) ≡ false → w - 4 ≢ dead_word
     → KeepsRow m t a (SharedExchange y Own w) rest y
@@ -163,7 +163,7 @@ own_loses {m = m} {t = t} {a = a} {y = y} {w = w} {rest = rest} s test same othe
     (λ e. isnt_dead (ap (λ (v : ℕ). v - 4) (sym same) ∙ e)) lost.before)
 
 pub row_after_own_exchange : {p : Accounts} {n : ℕ} {m : Machine} {t : ℕ} {a : Actor} {y w : ℕ} {rest : List Duty}
-    → Doing p n m t a (SharedExchange y Own w) rest → KeepsRow m t a (SharedExchange y Own w) rest y
+    → AtDuty p n m t a (SharedExchange y Own w) rest → KeepsRow m t a (SharedExchange y Own w) rest y
 row_after_own_exchange {m = m} {y = y} {w = w} s =
     elim (eqb_tells (m.memory (Shared y)) w) [
       | inr other ↦ row_after_lost_exchange (head_fits_of s) s other.0
@@ -179,7 +179,7 @@ row_after_own_exchange {m = m} {y = y} {w = w} s =
 -- ---- the handed reference of a claimed mark
 
 handed_ends : {p : Accounts} {n : ℕ} {m : Machine} {t : ℕ} {a : Actor} {y w : ℕ} {rest : List Duty}
-    → Doing p n m t a (SharedExchange y Handed w) rest
+    → AtDuty p n m t a (SharedExchange y Handed w) rest
     → (m.memory (Shared y) == w) ≡ true → m.memory (Shared y) ≡ w → (w == fresh_word) ≡ false
     → (w - 4 == dead_word) ≡ true → w - 4 ≡ dead_word → KeepsRow m t a (SharedExchange y Handed w) rest y
 handed_ends {m = m} {t = t} {a = a} {y = y} {w = w} {rest = rest} s test same other is_dead dead =
@@ -204,7 +204,7 @@ handed_ends {m = m} {t = t} {a = a} {y = y} {w = w} {rest = rest} s test same ot
     }) (handed_dies (block_of m.rows y) k lives.rule (omega (arith, same, dead)) awaits)
 
 handed_stays : {p : Accounts} {n : ℕ} {m : Machine} {t : ℕ} {a : Actor} {y w : ℕ} {rest : List Duty}
-    → Doing p n m t a (SharedExchange y Handed w) rest
+    → AtDuty p n m t a (SharedExchange y Handed w) rest
     → (m.memory (Shared y) == w) ≡ true → m.memory (Shared y) ≡ w → (w == fresh_word) ≡ false
     → (w - 4 == dead_word) ≡ false → w - 4 ≢ dead_word → KeepsRow m t a (SharedExchange y Handed w) rest y
 handed_stays {m = m} {t = t} {a = a} {y = y} {w = w} {rest = rest} s test same other alive isnt_dead =
@@ -229,7 +229,7 @@ handed_stays {m = m} {t = t} {a = a} {y = y} {w = w} {rest = rest} s test same o
     awaits)
 
 pub row_after_handed_exchange : {p : Accounts} {n : ℕ} {m : Machine} {t : ℕ} {a : Actor} {y w : ℕ} {rest : List Duty}
-    → Doing p n m t a (SharedExchange y Handed w) rest → KeepsRow m t a (SharedExchange y Handed w) rest y
+    → AtDuty p n m t a (SharedExchange y Handed w) rest → KeepsRow m t a (SharedExchange y Handed w) rest y
 row_after_handed_exchange {m = m} {y = y} {w = w} s =
     let fits = head_fits_of s in
     elim (eqb_tells (m.memory (Shared y)) w) [

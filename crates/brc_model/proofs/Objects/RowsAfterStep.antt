@@ -1,6 +1,6 @@
 -- A thread's step, and what one row's numbers and its life come to.
-use Rattle.std.proofs.Common.{◌≡◌, ℕ, ◌+◌, ◌<◌, ◌≤◌, List, ◌∷◌, Some, refl, sym, ap, ◌∙◌, subst, arith}
-use Rattle.std.specs.Prelude.{sum_by, slice_get}
+use Rattle.std.proofs.Common.{◌≡◌, ℕ, ◌+◌, ◌<◌, ◌≤◌, List, refl, sym, ap, ◌∙◌, subst, arith}
+use Rattle.std.specs.Prelude.{sum_by}
 use Rattle.brc_model.specs.Plain.{references_to}
 use Rattle.brc_model.specs.declared.duty.Duty.{Duty}
 use Rattle.brc_model.specs.declared.address.Address.TheVariants.{Local, Shared, Mark}
@@ -8,20 +8,14 @@ use Rattle.brc_model.specs.Duties.{block_of, address_of, next_by}
 use Rattle.brc_model.specs.Machine.{Life, Unborn, Live, Dying, Closed, Actor, Machine, is_running, life_by, done_by}
 use Rattle.brc_model.specs.RowRule.{waits, carries, merges, decides, Numbers, IsLive, RowRule}
 use Rattle.brc_model.specs.Accounts.{Accounts}
-use Rattle.brc_model.specs.Invariant.{Rule, numbers_of}
+use Rattle.brc_model.specs.Invariant.{AtDuty, numbers_of}
 use Rattle.brc_model.specs.Knowledge.{HeadFits, HeadOf}
 use Rattle.brc_model.proofs.Objects.Weights.{Weighed, weighed_after}
 
--- a thread is about to do the first duty of its agenda
-pub record Doing (p : Accounts) (n : ℕ) (m : Machine) (t : ℕ) (a : Actor) (d : Duty) (rest : List Duty) : Type 0 where
-  pub rule : Rule p n m
-  pub actor : slice_get m.actors t ≡ Some a
-  pub agenda : a.agenda ≡ d ∷ rest
-
 pub head_fits_of : {p : Accounts} {n : ℕ} {m : Machine} {t : ℕ} {a : Actor} {d : Duty} {rest : List Duty}
-    → Doing p n m t a d rest → HeadFits m t a d rest
+    → AtDuty p n m t a d rest → HeadFits m t a d rest
 head_fits_of {m = m} {t = t} {a = a} s =
-    subst (λ (ds : List Duty). HeadOf m t a ds) s.agenda (s.rule.each t a s.actor).0.head_fits
+    subst (λ (ds : List Duty). HeadOf m t a ds) s.agenda (s.rule.each t a s.found).0.head_fits
 
 -- the word that the duty finds, and the duties that follow it
 abbrev pub found_by : Machine → ℕ → Actor → Duty → ℕ
@@ -36,10 +30,10 @@ KeepsRow m t a d rest x =
     RowRule (block_of m.rows x) ((done_by m t a d rest).life x) (numbers_of (done_by m t a d rest) x)
 
 pub weighed : {p : Accounts} {n : ℕ} {m : Machine} {t : ℕ} {a : Actor} {d : Duty} {rest : List Duty}
-    → Doing p n m t a d rest → (next : List Duty) → following m t a d ≡ next → (x : ℕ)
+    → AtDuty p n m t a d rest → (next : List Duty) → following m t a d ≡ next → (x : ℕ)
     → Weighed m (done_by m t a d rest) x d next
 weighed {m = m} {t = t} {a = a} {d = d} {rest = rest} s next follows x =
-    weighed_after m t a d rest next s.actor s.agenda follows x
+    weighed_after m t a d rest next s.found s.agenda follows x
 
 -- ---- the numbers afterwards
 
@@ -92,7 +86,7 @@ pub record RowStays (m : Machine) (t : ℕ) (a : Actor) (d : Duty) (rest : List 
     pub deciding : sum_by (decides x) next ≡ decides x d
 
 pub row_stays : {p : Accounts} {n : ℕ} {m : Machine} {t : ℕ} {a : Actor} {d : Duty} {rest next : List Duty} {x : ℕ}
-    → Doing p n m t a d rest → 0 < x → RowStays m t a d rest x next → KeepsRow m t a d rest x
+    → AtDuty p n m t a d rest → 0 < x → RowStays m t a d rest x next → KeepsRow m t a d rest x
 row_stays {m = m} {t = t} {a = a} {d = d} {rest = rest} {next = next} {x = x} s some q =
     let w = weighed s next q.follows x in
     row_becomes m t a d rest x next q.follows (m.life x) q.lives (numbers_of m x) (record {

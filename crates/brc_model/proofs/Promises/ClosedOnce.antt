@@ -14,10 +14,10 @@ use Rattle.brc_model.specs.References.{one_if}
 use Rattle.brc_model.specs.Accounts.{Accounts}
 use Rattle.brc_model.proofs.Objects.Closing.{GoesOn, BeginsToDie, IsClosed, life_step, SameClosed, OneMore, closed_step, IsBorn}
 use Rattle.brc_model.proofs.Objects.ClosedAfter.{live_not_closed, dying_not_closed, among_more, unborn_not_closed}
-use Rattle.brc_model.proofs.Frame.Leaves.{AtDuty}
 use Rattle.brc_model.proofs.Keeping.Whole.{Whole}
 use Rattle.brc_model.proofs.Promises.StepCases.{ShowsSteps, at_duty, event_shows}
 use Rattle.brc_model.proofs.Keeping.Quiets.{quiet_closed}
+use Rattle.brc_model.specs.Invariant.{AtDuty}
 
 -- ---- what is closed stays closed
 

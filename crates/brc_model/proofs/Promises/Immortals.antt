@@ -13,9 +13,9 @@ use Rattle.brc_model.specs.Machine.{Actor, Life, Unborn, Live, Dying, Closed, Ma
 use Rattle.brc_model.specs.Progress.{StaysAt, ImmortalsStay}
 use Rattle.brc_model.specs.RowRule.{Numbers, InOwned, InSwapped, InMerged, RowRule}
 use Rattle.brc_model.specs.Accounts.{Accounts}
-use Rattle.brc_model.specs.Invariant.{numbers_of, Rule}
+use Rattle.brc_model.specs.Invariant.{AtDuty, numbers_of, Rule}
 use Rattle.brc_model.proofs.Basics.Written.{written_apart, written_load, apart_shared, apart_gate}
-use Rattle.brc_model.proofs.Frame.Leaves.{AtDuty, head_of}
+use Rattle.brc_model.proofs.Frame.Leaves.{head_of}
 use Rattle.brc_model.proofs.Stepping.Neutral.{memory_by}
 use Rattle.brc_model.proofs.Keeping.Whole.{Whole}
 use Rattle.brc_model.proofs.Keeping.WholeEvents.{event_keeps}
@@ -152,11 +152,13 @@ none_stays p n m event whole =
       kind = words.kind;
       slot = words.slot;
       resource = words.resource;
-      mark = none_mark new.accounts n (next_machine m event) new.kept.rule ∙ sym (none_mark whole.accounts n m whole.kept.rule);
+      mark = none_mark new.accounts n (next_machine m event) new.kept.rule
+          ∙ sym (none_mark whole.accounts n m whole.kept.rule);
       cells = λ i. new.kept.rule.cells 0 i ∙ sym (whole.kept.rule.cells 0 i);
     }
 
 pub immortals_stay : (p : Module) (n : ℕ) (m : Machine) (event : ℕ × Choice) → Whole p n m → ImmortalsStay m event
 immortals_stay p n m event whole =
-    λ x is. subst (λ (z : ℕ). StaysAt m (next_machine m event) z) (sym (immortal_is_none whole.accounts n m x whole.kept.rule is))
+    λ x is. subst (λ (z : ℕ). StaysAt m (next_machine m event) z) (sym
+    (immortal_is_none whole.accounts n m x whole.kept.rule is))
     (none_stays p n m event whole)

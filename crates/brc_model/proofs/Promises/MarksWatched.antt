@@ -41,7 +41,8 @@ status_runs Gone e = absurd (omega (arith, e))
 by_running : (p : Module) (n : ℕ) (m : Machine) (x : ℕ) → Whole p n m → m.memory (Mark x) ≡ 1
     → m.memory (ThreadWord (block_of m.rows x)) ≡ 1 → IsWatched m x
 by_running p n m x whole marked word =
-    let used = born_used whole.accounts n m x whole.kept.rule (marked_born whole.accounts n m x whole.kept.rule marked) in
+    let used = born_used whole.accounts n m x whole.kept.rule
+    (marked_born whole.accounts n m x whole.kept.rule marked) in
     let fits = (whole.kept.rule.each (block_of m.rows x) used.by used.found).0 in
     ByRunning (used.by, used.found, status_runs used.by.status (sym fits.word ∙ word))
 

@@ -14,7 +14,7 @@ use Rattle.brc_model.specs.Machine.{Actor, Machine, written, with_actor, done_by
 use Rattle.brc_model.specs.Progress.{Runs, OnlyOwnersCount, OwnersStay}
 use Rattle.brc_model.proofs.Basics.Lists.{some_is, slice_get-set_same, slice_get-set_other}
 use Rattle.brc_model.proofs.Basics.Written.{written_here, written_apart, written_load, apart_local}
-use Rattle.brc_model.proofs.Frame.Leaves.{AtDuty, head_of, locals_left}
+use Rattle.brc_model.proofs.Frame.Leaves.{head_of, locals_left}
 use Rattle.brc_model.proofs.Stepping.Neutral.{memory_by}
 use Rattle.brc_model.proofs.Keeping.Sits.{sitting}
 use Rattle.brc_model.proofs.Keeping.Whole.{Whole}
@@ -23,6 +23,7 @@ use Rattle.brc_model.proofs.Promises.Immortals.{counted_low}
 use Rattle.brc_model.proofs.Basics.Blocks.{next_unborn}
 use Rattle.brc_model.proofs.Stepping.Nones.{none_local}
 use Rattle.brc_model.specs.Accounts.{Accounts}
+use Rattle.brc_model.specs.Invariant.{AtDuty}
 
 -- ---- others leave a running owner's count
 

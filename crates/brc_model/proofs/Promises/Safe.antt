@@ -184,11 +184,15 @@ safe_now p n m whole some = record {
   closed_once = whole.kept.rule.once;
   closed_at_end = λ done x. (
     λ closed.
-        let was = closed_born whole.accounts n m x whole.kept.rule (whole.kept.rule.closed_is x closed) in
-        (whole.kept.rule.born_has x was.0 was.1, ap (references_to x) (none_left whole.accounts n m whole.kept.rule done)),
+        let was = closed_born whole.accounts n m x whole.kept.rule (whole.kept.rule.closed_is x closed) in (
+          whole.kept.rule.born_has x was.0 was.1,
+          ap (references_to x)
+              (none_left whole.accounts n m whole.kept.rule done),
+        ),
     λ born.
         let was = whole.kept.rule.born_is x born.0 in
-        whole.kept.rule.closed_has x (born_closed whole.accounts n m x (m.life x) whole.kept.rule done was.0 born.1 was.1 refl),
+        whole.kept.rule.closed_has x (born_closed whole.accounts n m x
+        (m.life x) whole.kept.rule done was.0 born.1 was.1 refl),
   );
   none_left = λ done. none_left whole.accounts n m whole.kept.rule done;
   left_in_lists = λ done.

@@ -12,11 +12,12 @@ use Rattle.brc_model.specs.Machine.{Actor, Machine, written}
 use Rattle.brc_model.specs.Progress.{StatesRise}
 use Rattle.brc_model.proofs.Objects.RowSteps.{shared_range, shared_up, shared_down, shared_merged}
 use Rattle.brc_model.proofs.Basics.Written.{written_here, written_apart, apart_shared}
-use Rattle.brc_model.proofs.Frame.Leaves.{AtDuty, exchange_alive}
+use Rattle.brc_model.proofs.Frame.Leaves.{exchange_alive}
 use Rattle.brc_model.proofs.Stepping.Neutral.{memory_by}
 use Rattle.brc_model.proofs.Keeping.Whole.{Whole}
 use Rattle.brc_model.proofs.Promises.StepCases.{ShowsSteps, at_duty, event_shows}
 use Rattle.brc_model.specs.Accounts.{Accounts}
+use Rattle.brc_model.specs.Invariant.{AtDuty}
 
 -- ---- what a word's state is after an exchange
 

@@ -11,9 +11,8 @@ use Rattle.brc_model.specs.Machine.{Actor, Machine, Action, Skip, Stuck, Silent,
 use Rattle.brc_model.proofs.Dispatch.Begins.{QuietMoves}
 use Rattle.brc_model.proofs.Keeping.Sits.{sitting, taken_up_step}
 use Rattle.brc_model.proofs.Keeping.Replaced.{with_account}
-use Rattle.brc_model.proofs.Frame.Leaves.{AtDuty}
 use Rattle.brc_model.specs.Accounts.{Accounts}
-use Rattle.brc_model.specs.Invariant.{Kept}
+use Rattle.brc_model.specs.Invariant.{AtDuty, Kept}
 use Rattle.brc_model.proofs.Keeping.Kept.{Doing}
 use Rattle.brc_model.proofs.Keeping.Whole.{Whole}
 use Rattle.brc_model.proofs.Dispatch.Actions.{ActionFits, action_fits}

@@ -12,8 +12,7 @@ use Rattle.brc_model.specs.References.{one_if}
 use Rattle.brc_model.specs.Accounts.{Accounts, HoldsAt}
 use Rattle.brc_model.specs.Knowledge.{HeadOf, status_word}
 use Rattle.brc_model.specs.OpenWork.{Agenda, hand_of, dies_by, ChainFits, AgendaFits}
-use Rattle.brc_model.specs.Invariant.{ActorFits}
-use Rattle.brc_model.proofs.Frame.Leaves.{AtDuty}
+use Rattle.brc_model.specs.Invariant.{AtDuty, ActorFits}
 use Rattle.brc_model.proofs.Frame.Lives.{next_of}
 use Rattle.brc_model.proofs.Stepping.Own.{HeldStep, holds_step, ChainSame, chain_same}
 use Rattle.brc_model.specs.declared.duty.Duty.TheVariants.{BirthLocal}

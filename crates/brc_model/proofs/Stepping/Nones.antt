@@ -15,10 +15,10 @@ use Rattle.brc_model.proofs.Basics.Bag.{held_has, same-refl}
 use Rattle.brc_model.specs.References.{held, reference_of}
 use Rattle.brc_model.specs.Accounts.{Accounts}
 use Rattle.brc_model.specs.Knowledge.{IsNext}
-use Rattle.brc_model.specs.Invariant.{Rule}
+use Rattle.brc_model.specs.Invariant.{AtDuty, Rule}
 use Rattle.brc_model.proofs.Basics.Written.{written_apart, written_load, apart_local}
 use Rattle.brc_model.proofs.Basics.Blocks.{next_above}
-use Rattle.brc_model.proofs.Frame.Leaves.{AtDuty, head_of}
+use Rattle.brc_model.proofs.Frame.Leaves.{head_of}
 use Rattle.brc_model.proofs.Stepping.Own.{HeldStep}
 use Rattle.brc_model.proofs.Stepping.Neutral.{OwnFits, found_by, bag_by, memory_by, agenda_here}
 use Rattle.brc_model.proofs.Stepping.OwnCounts.{held_gained, held_lost}

@@ -16,7 +16,7 @@ use Rattle.brc_model.proofs.Basics.Written.{written_here}
 use Rattle.brc_model.specs.declared.address.Address.TheVariants.{KindOf}
 use Rattle.brc_model.specs.Kinds.{kind_of_word, is_counted_kind}
 use Rattle.brc_model.proofs.Basics.Blocks.{next_unborn}
-use Rattle.brc_model.proofs.Frame.Leaves.{AtDuty, head_of}
+use Rattle.brc_model.proofs.Frame.Leaves.{head_of}
 use Rattle.brc_model.proofs.Stepping.Own.{chain_same}
 use Rattle.brc_model.proofs.Stepping.Neutral.{OwnFits, found_by, agenda_here, agenda_out}
 use Rattle.brc_model.proofs.Stepping.OwnCounts.{held_same, held_gained}
@@ -25,6 +25,7 @@ use Rattle.brc_model.proofs.Stepping.OwnSteps.{own_keeps}
 use Rattle.brc_model.proofs.Stepping.OwnShown.{own_shown}
 use Rattle.brc_model.proofs.Stepping.OwnChains.{chain_here}
 use Rattle.brc_model.proofs.Stepping.Settled.{ready_none}
+use Rattle.brc_model.specs.Invariant.{AtDuty}
 
 -- the row is still the next one
 still_next : (m new : Machine) (t : ℕ) (a b : Actor) (x : ℕ) → new.rows ≡ m.rows → b.status ≡ a.status → b.used ≡ a.used

@@ -15,10 +15,10 @@ use Rattle.brc_model.specs.References.{one_if}
 use Rattle.brc_model.specs.Accounts.{Accounts}
 use Rattle.brc_model.specs.Knowledge.{IsDyingWord}
 use Rattle.brc_model.specs.OpenWork.{Linked, hand_of, dies_by, ChainFits}
-use Rattle.brc_model.specs.Invariant.{Rule}
+use Rattle.brc_model.specs.Invariant.{AtDuty, Rule}
 use Rattle.brc_model.proofs.Basics.Written.{written_here, written_apart, written_load, apart_gate}
 use Rattle.brc_model.proofs.Frame.Others.{is_dying, linked_kept}
-use Rattle.brc_model.proofs.Frame.Leaves.{AtDuty, head_of}
+use Rattle.brc_model.proofs.Frame.Leaves.{head_of}
 use Rattle.brc_model.proofs.Stepping.Own.{ready_is}
 use Rattle.brc_model.proofs.Stepping.Neutral.{OwnFits, found_by, agenda_here}
 use Rattle.brc_model.proofs.Stepping.OwnCounts.{held_same}
@@ -158,7 +158,8 @@ first_by m t a rest (x ∷ xs) some linked once =
       dies = is_dying (m.life x) t (one_if_some _ (omega (arith, each x, here)));
     }
 
-first_chained : (p : Accounts) (n : ℕ) (m : Machine) (t : ℕ) (a : Actor) (rest : List Duty) → AtDuty p n m t a Settle rest
+first_chained : (p : Accounts) (n : ℕ) (m : Machine) (t : ℕ) (a : Actor) (rest : List Duty)
+    → AtDuty p n m t a Settle rest
     → FirstChained m t a rest
 first_chained p n m t a rest here =
     let old = chain_here p n m t a Settle rest here in

@@ -16,8 +16,9 @@ use Rattle.brc_model.specs.References.{one_if, reference_of}
 use Rattle.brc_model.specs.RowRule.{InOwned, InSwapped, InMerged}
 use Rattle.brc_model.specs.Accounts.{Accounts, extra_of, lacks_of}
 use Rattle.brc_model.proofs.Frame.Alive.{alive_backed}
-use Rattle.brc_model.proofs.Frame.Leaves.{AtDuty, head_of}
+use Rattle.brc_model.proofs.Frame.Leaves.{head_of}
 use Rattle.brc_model.proofs.Stepping.Own.{HeldStep}
+use Rattle.brc_model.specs.Invariant.{AtDuty}
 
 -- ---- the bag
 

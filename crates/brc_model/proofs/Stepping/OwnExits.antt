@@ -13,10 +13,10 @@ use Rattle.brc_model.specs.Machine.{Actor, Life, Machine, status_by, dies_next, 
 use Rattle.brc_model.specs.References.{one_if}
 use Rattle.brc_model.specs.Accounts.{Accounts, extra_of, lacks_of}
 use Rattle.brc_model.specs.OpenWork.{Later, hand_of, dies_by, ChainFits}
-use Rattle.brc_model.specs.Invariant.{numbers_of, Rule}
+use Rattle.brc_model.specs.Invariant.{AtDuty, numbers_of, Rule}
 use Rattle.brc_model.specs.RowRule.{RowRule}
 use Rattle.brc_model.proofs.Basics.Written.{written_here}
-use Rattle.brc_model.proofs.Frame.Leaves.{AtDuty, head_of}
+use Rattle.brc_model.proofs.Frame.Leaves.{head_of}
 use Rattle.brc_model.proofs.Frame.Lives.{next_of}
 use Rattle.brc_model.proofs.Stepping.Own.{HeldStep, ready_is, chain_same}
 use Rattle.brc_model.proofs.Stepping.Neutral.{OwnFits, found_by, bag_by, memory_by, agenda_here, own_neutral}

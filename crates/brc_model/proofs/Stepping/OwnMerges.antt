@@ -18,12 +18,13 @@ use Rattle.brc_model.specs.Knowledge.{MayCarry}
 use Rattle.brc_model.proofs.Objects.RowSteps.{shared_merged}
 use Rattle.brc_model.proofs.Frame.Alive.{first_weighs, Alive, alive_deciding}
 use Rattle.brc_model.proofs.Basics.Written.{written_here}
-use Rattle.brc_model.proofs.Frame.Leaves.{AtDuty, head_of, merge_alive}
+use Rattle.brc_model.proofs.Frame.Leaves.{head_of, merge_alive}
 use Rattle.brc_model.proofs.Frame.Lives.{leaves_others}
 use Rattle.brc_model.proofs.Stepping.Neutral.{OwnFits, found_by, agenda_here}
 use Rattle.brc_model.proofs.Stepping.OwnCounts.{held_same}
 use Rattle.brc_model.proofs.Stepping.OwnSteps.{own_done, own_next, own_dying}
 use Rattle.brc_model.proofs.Work.MergesOnce.{swapped_apart}
+use Rattle.brc_model.specs.Invariant.{AtDuty}
 
 -- ---- a mark is set, and looked after
 

@@ -23,13 +23,14 @@ use Rattle.brc_model.proofs.Objects.RowSteps.{owner_down}
 use Rattle.brc_model.proofs.Frame.Aside.{extra_held}
 use Rattle.brc_model.proofs.Frame.Alive.{Alive, alive_referenced}
 use Rattle.brc_model.proofs.Basics.Written.{written_here}
-use Rattle.brc_model.proofs.Frame.Leaves.{AtDuty, head_of, decide_alive}
+use Rattle.brc_model.proofs.Frame.Leaves.{head_of, decide_alive}
 use Rattle.brc_model.proofs.Frame.Lives.{next_of}
 use Rattle.brc_model.proofs.Stepping.Own.{HeldStep}
 use Rattle.brc_model.proofs.Stepping.Neutral.{OwnFits, found_by, bag_by, agenda_here}
 use Rattle.brc_model.proofs.Stepping.OwnCounts.{same_is, held_same, held_gained, held_lost}
 use Rattle.brc_model.proofs.Stepping.OwnRetains.{counts_owner, count_above, weight_here}
 use Rattle.brc_model.proofs.Stepping.OwnSteps.{own_done, own_next, own_dying}
+use Rattle.brc_model.specs.Invariant.{AtDuty}
 
 -- ---- a reference is made
 
@@ -56,7 +57,8 @@ own_retain_add p n m t a x h rest here alive =
 
 -- ---- a reference is taken to the hand
 
-extra_here : (p : Accounts) (n : ℕ) (m : Machine) (t : ℕ) (a : Actor) (d : Duty) (rest : List Duty) (h : Holding) (x : ℕ)
+extra_here : (p : Accounts) (n : ℕ) (m : Machine) (t : ℕ) (a : Actor) (d : Duty) (rest : List Duty) (h : Holding)
+    (x : ℕ)
     → AtDuty p n m t a d rest → extra_of (d ∷ rest) h x ≡ true → lacks_of (d ∷ rest) h x ≡ false
     → 0 < held (reference_of t h x) m.plain.references
 extra_here p n m t a d rest h x here more less =
@@ -156,7 +158,8 @@ own_release_counted p n m t a x h rest pos here alive =
       | true ↦ λ e.
           let owns = counts_owner m t a x e living in
           let some =
-          count_above p n m t x a here.rule here.found owns (weight_here p n m t x a d rest here (eq-eqb x x refl) refl) living
+          count_above p n m t x a here.rule here.found owns (weight_here p n m t x a d rest here
+          (eq-eqb x x refl) refl) living
           in
           let same_word : (done_by m t a d rest).memory (Local x) ≡ word = written_here m.memory (Local x) word in
           own_next p n m t a d (ReleaseStore x word) rest here alive refl refl refl

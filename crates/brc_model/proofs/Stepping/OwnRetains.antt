@@ -19,10 +19,10 @@ use Rattle.brc_model.specs.RowRule.{decides, agenda_weight, weight, InOwned, InS
 use Rattle.brc_model.specs.Accounts.{Accounts, extra_of, lacks_of}
 use Rattle.brc_model.specs.OpenWork.{is_about}
 use Rattle.brc_model.specs.Knowledge.{OwnsLocally, IsBacked}
-use Rattle.brc_model.specs.Invariant.{Rule}
+use Rattle.brc_model.specs.Invariant.{AtDuty, Rule}
 use Rattle.brc_model.proofs.Frame.Alive.{Alive, alive_backed}
 use Rattle.brc_model.proofs.Basics.Written.{written_here}
-use Rattle.brc_model.proofs.Frame.Leaves.{AtDuty, head_of}
+use Rattle.brc_model.proofs.Frame.Leaves.{head_of}
 use Rattle.brc_model.proofs.Stepping.Own.{HeldStep}
 use Rattle.brc_model.proofs.Stepping.Neutral.{OwnFits, found_by, bag_by, agenda_here, own_neutral}
 use Rattle.brc_model.proofs.Stepping.OwnCounts.{held_same, backed_not_immortal}
@@ -66,7 +66,8 @@ counts_owner m t a x counts alive =
     }
 
 -- where nobody decides, the running owner's count is above 0
-pub count_above : (p : Accounts) (n : ℕ) (m : Machine) (t x : ℕ) (a : Actor) → Rule p n m → slice_get m.actors t ≡ Some a
+pub count_above : (p : Accounts) (n : ℕ) (m : Machine) (t x : ℕ) (a : Actor) → Rule p n m
+    → slice_get m.actors t ≡ Some a
     → OwnsLocally m t a x → agenda_weight (decides x) a ≡ 0 → Alive m x → 1 ≤ local_part (m.memory (Local x))
 count_above p n m t x a rule found owns mine alive =
     let none : weight (decides x) m.actors ≡ 0 = nobody_decides p n m t x a rule found owns mine in
@@ -86,7 +87,8 @@ retain_bag : (m : Machine) (t : ℕ) (a : Actor) (x : ℕ) (h : Holding) → is_
 retain_bag m t a x h mortal = ap (λ (b : Bool). (moved m.plain (cond b (gain t h x) [])).references) mortal
 
 -- of a counted object
-pub own_retain_counted : (p : Accounts) (n : ℕ) (m : Machine) (t : ℕ) (a : Actor) (x : ℕ) (h : Holding) (rest : List Duty)
+pub own_retain_counted : (p : Accounts) (n : ℕ) (m : Machine) (t : ℕ) (a : Actor) (x : ℕ) (h : Holding)
+    (rest : List Duty)
     → 0 < x → AtDuty p n m t a (RetainLoad x h) rest → (a.status ≡ Gone → ⊥)
     → OwnFits p (done_by m t a (RetainLoad x h) rest) t
     (actor_by t a (RetainLoad x h) rest (found_by m t a (RetainLoad x h)))

@@ -15,13 +15,14 @@ use Rattle.brc_model.specs.Plain.{moved}
 use Rattle.brc_model.specs.Accounts.{Accounts, extra_of, lacks_of, extra, lacks}
 use Rattle.brc_model.specs.OpenWork.{Later, Agenda, hand_of, at_hand}
 use Rattle.brc_model.specs.Knowledge.{IsDyingWord, HeadFits}
-use Rattle.brc_model.proofs.Frame.Leaves.{AtDuty, head_of}
+use Rattle.brc_model.proofs.Frame.Leaves.{head_of}
 use Rattle.brc_model.proofs.Frame.Lives.{next_of}
 use Rattle.brc_model.proofs.Stepping.Own.{HeldStep}
 use Rattle.brc_model.proofs.Stepping.Neutral.{OwnFits, found_by, bag_by, memory_by, agenda_here, life_same, own_neutral}
 use Rattle.brc_model.proofs.Stepping.OwnCounts.{held_same}
 use Rattle.brc_model.proofs.Stepping.OwnRetains.{ready_first, is_passed}
 use Rattle.brc_model.specs.declared.actor.Place.{Place}
+use Rattle.brc_model.specs.Invariant.{AtDuty}
 
 -- ---- what follows a step
 

@@ -16,13 +16,14 @@ use Rattle.brc_model.specs.Machine.{Actor, Machine, lose, done_by, actor_by}
 use Rattle.brc_model.specs.References.{reference_of}
 use Rattle.brc_model.specs.Accounts.{Accounts, extra_of, lacks_of}
 use Rattle.brc_model.proofs.Basics.Written.{written_load}
-use Rattle.brc_model.proofs.Frame.Leaves.{AtDuty, head_of, exchange_alive}
+use Rattle.brc_model.proofs.Frame.Leaves.{head_of, exchange_alive}
 use Rattle.brc_model.proofs.Frame.Lives.{leaves_others}
 use Rattle.brc_model.proofs.Stepping.Own.{HeldStep}
 use Rattle.brc_model.proofs.Stepping.Neutral.{OwnFits, found_by, bag_by, agenda_here}
 use Rattle.brc_model.proofs.Stepping.OwnCounts.{held_same}
 use Rattle.brc_model.proofs.Stepping.OwnSteps.{own_done, own_next, own_dying}
 use Rattle.brc_model.proofs.Stepping.OwnReleases.{held_let_go}
+use Rattle.brc_model.specs.Invariant.{AtDuty}
 
 -- ---- the shared word
 

@@ -9,9 +9,9 @@ use Rattle.brc_model.specs.Machine.{Actor, Machine, status_by, actor_by, done_by
 use Rattle.brc_model.specs.Accounts.{Accounts, HoldsAt}
 use Rattle.brc_model.specs.Knowledge.{HeadOf, status_word}
 use Rattle.brc_model.specs.OpenWork.{Agenda, ChainFits, AgendaFits}
-use Rattle.brc_model.proofs.Frame.Leaves.{AtDuty}
 use Rattle.brc_model.proofs.Stepping.Own.{HeldStep, holds_step}
 use Rattle.brc_model.proofs.Stepping.Neutral.{OwnFits, found_by, bag_by, memory_by, agenda_out, uses_same}
+use Rattle.brc_model.specs.Invariant.{AtDuty}
 
 -- what a step has to show that changes the head of the chain, a row's life or the thread's status
 pub record ShownStep (m : Machine) (t : ℕ) (a : Actor) (d : Duty) (rest agenda : List Duty) (status : Status)

@@ -17,11 +17,11 @@ use Rattle.brc_model.specs.Knowledge.{HeadFits, HeadOf, status_word}
 use Rattle.brc_model.specs.OpenWork.{Later, Agenda, hand_of, dies_by, GateFits, ChainFits}
 use Rattle.brc_word.specs.Words.{free_word}
 use Rattle.brc_model.proofs.Basics.Written.{written_load}
-use Rattle.brc_model.proofs.Frame.Leaves.{AtDuty}
 use Rattle.brc_model.proofs.Frame.Lives.{next_of}
 use Rattle.brc_model.proofs.Stepping.Own.{HeldStep, holds_step, ready_is, ChainSame, chain_same}
 use Rattle.brc_model.proofs.Stepping.Neutral.{OwnFits, found_by, bag_by, memory_by, agenda_out, own_neutral, uses_same}
 use Rattle.brc_model.proofs.Stepping.OwnRetains.{is_passed, ready_first}
+use Rattle.brc_model.specs.Invariant.{AtDuty}
 
 -- ---- duties that keep lives
 

@@ -14,9 +14,10 @@ use Rattle.brc_model.specs.declared.actor.Place.{Place}
 use Rattle.brc_model.specs.Machine.{Actor, Machine, is_running, actor_by}
 use Rattle.brc_model.specs.Accounts.{Accounts}
 use Rattle.brc_model.specs.OpenWork.{Later, Agenda, Settles, IsSettled}
-use Rattle.brc_model.proofs.Frame.Leaves.{AtDuty, head_of}
+use Rattle.brc_model.proofs.Frame.Leaves.{head_of}
 use Rattle.brc_model.proofs.Frame.Lives.{next_of}
 use Rattle.brc_model.proofs.Stepping.Neutral.{found_by, agenda_here}
+use Rattle.brc_model.specs.Invariant.{AtDuty}
 
 -- ---- what is meant
 

@@ -18,12 +18,12 @@ use Rattle.brc_model.specs.Machine.{Actor, Life, Machine, first_row, moves_by}
 use Rattle.brc_model.specs.References.{one_if}
 use Rattle.brc_model.specs.RowRule.{waits, Numbers, IsDefault, IsQueued, InOwned, InSwapped, InMerged, Phased, RowRule}
 use Rattle.brc_model.specs.Accounts.{Accounts}
-use Rattle.brc_model.specs.Invariant.{numbers_of}
+use Rattle.brc_model.specs.Invariant.{AtDuty, numbers_of}
 use Rattle.brc_model.specs.Knowledge.{status_word, IsNext, IsDyingWord}
 use Rattle.brc_model.specs.OpenWork.{Agenda, AgendaFits}
 use Rattle.brc_model.proofs.Frame.Alive.{first_weighs, alive_waiting}
 use Rattle.brc_model.proofs.Basics.Blocks.{next_above, next_block, next_unborn}
-use Rattle.brc_model.proofs.Frame.Leaves.{AtDuty, head_of}
+use Rattle.brc_model.proofs.Frame.Leaves.{head_of}
 use Rattle.brc_model.proofs.Stepping.Neutral.{found_by}
 use Rattle.brc_model.proofs.Objects.BlanksAfter.{blanks_here}
 

@@ -14,10 +14,9 @@ use Rattle.brc_model.proofs.Basics.Lists.{some_is}
 use Rattle.brc_model.specs.References.{one_if}
 use Rattle.brc_model.specs.RowRule.{decides, agenda_weight, weight, IsLive, InOwned, InSwapped, InMerged}
 use Rattle.brc_model.specs.Accounts.{Accounts}
-use Rattle.brc_model.specs.Invariant.{numbers_of, Rule}
+use Rattle.brc_model.specs.Invariant.{AtDuty, numbers_of, Rule}
 use Rattle.brc_model.specs.Knowledge.{OwnsLocally, MayMerge, HeadFits, status_word}
 use Rattle.brc_model.proofs.Work.HasDuties.{some_weighs}
-use Rattle.brc_model.proofs.Frame.Leaves.{AtDuty}
 use Rattle.brc_model.proofs.Frame.Aside.{decides_of_row}
 use Rattle.brc_model.proofs.Work.Weighing.{own_weighs, weighing}
 
@@ -36,7 +35,8 @@ duty_owns m u x b (MergeSwap y Own) rest fits some =
     ]
 duty_owns m u x b _ rest fits some = absurd (omega (arith, some))
 
-pub decider_owns : (p : Accounts) (n : ℕ) (m : Machine) (u x : ℕ) (b : Actor) → Rule p n m → slice_get m.actors u ≡ Some b
+pub decider_owns : (p : Accounts) (n : ℕ) (m : Machine) (u x : ℕ) (b : Actor) → Rule p n m
+    → slice_get m.actors u ≡ Some b
     → 0 < agenda_weight (decides x) b → OwnsLocally m u b x
 decider_owns p n m u x b rule found some =
     let it = weighing p n m u x b (decides x) (decides_of_row x) rule found some in
@@ -93,7 +93,8 @@ none_decides p n m t a y rest here may live =
                 let which : it.which ≡ a =
                 some_is it.which a (sym it.found ∙ ap (slice_get m.actors) at ∙ here.found) in
                 let same = ap (agenda_weight (decides y)) which in
-                let own = own_weighs p n m t y a (MergeSwap y Handed) rest (decides y) here (decides_of_row y) (eq-eqb y y refl) in
+                let own = own_weighs p n m t y a (MergeSwap y Handed) rest (decides y) here (decides_of_row y)
+                (eq-eqb y y refl) in
                 absurd (omega (arith, it.some, same, own))
             | inr stopped ↦
                 absurd (stopped (ap (λ (u : ℕ). m.memory (ThreadWord u)) (sym owner)

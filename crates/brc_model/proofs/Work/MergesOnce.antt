@@ -17,11 +17,11 @@ use Rattle.brc_model.proofs.Basics.Lists.{some_is}
 use Rattle.brc_model.specs.References.{one_if}
 use Rattle.brc_model.specs.RowRule.{waits, carries, merges, agenda_weight, weight, Phased, IsDefault, IsQueued, InOwned, InSwapped, InMerged}
 use Rattle.brc_model.specs.Accounts.{Accounts}
-use Rattle.brc_model.specs.Invariant.{numbers_of, Rule}
+use Rattle.brc_model.specs.Invariant.{AtDuty, numbers_of, Rule}
 use Rattle.brc_model.specs.Knowledge.{MayCarry, HeadFits, status_word}
 use Rattle.brc_model.proofs.Work.HasDuties.{some_weighs}
 use Rattle.brc_model.proofs.Frame.Alive.{agenda_in, first_weighs}
-use Rattle.brc_model.proofs.Frame.Leaves.{AtDuty, head_of, claim_alive, merge_alive}
+use Rattle.brc_model.proofs.Frame.Leaves.{head_of, claim_alive, merge_alive}
 use Rattle.brc_model.proofs.Frame.Aside.{waits_of_row, carries_of_row, merges_of_row}
 use Rattle.brc_model.proofs.Work.Weighing.{own_weighs, weighing}
 

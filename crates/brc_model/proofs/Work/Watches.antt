@@ -20,10 +20,10 @@ use Rattle.brc_model.specs.References.{one_if}
 use Rattle.brc_model.specs.RowRule.{agenda_weight, weight}
 use Rattle.brc_model.specs.Accounts.{Accounts}
 use Rattle.brc_model.specs.OpenWork.{Later, Agenda, scans}
-use Rattle.brc_model.specs.Invariant.{looks, IsWatched, ByRunning, ByExit, ByLook, Rule}
+use Rattle.brc_model.specs.Invariant.{AtDuty, looks, IsWatched, ByRunning, ByExit, ByLook, Rule}
 use Rattle.brc_model.specs.Knowledge.{status_word}
 use Rattle.brc_model.proofs.Basics.Written.{written_here, written_apart, written_load, apart_mark}
-use Rattle.brc_model.proofs.Frame.Leaves.{AtDuty, head_of, words_left}
+use Rattle.brc_model.proofs.Frame.Leaves.{head_of, words_left}
 use Rattle.brc_model.proofs.Frame.Lives.{next_of}
 use Rattle.brc_model.proofs.Stepping.Neutral.{found_by, memory_by, agenda_here}
 use Rattle.brc_model.proofs.Stepping.OwnExits.{marked_born}

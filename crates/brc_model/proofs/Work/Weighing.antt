@@ -15,13 +15,13 @@ use Rattle.brc_model.specs.References.{one_if}
 use Rattle.brc_model.specs.Accounts.{Accounts}
 use Rattle.brc_model.specs.Knowledge.{HeadFits, HeadOf}
 use Rattle.brc_model.specs.OpenWork.{Later, Agenda, AgendaFits, is_about, about_of, AllWait}
-use Rattle.brc_model.specs.Invariant.{Rule}
+use Rattle.brc_model.specs.Invariant.{AtDuty, Rule}
 use Rattle.brc_model.proofs.Frame.Aside.{IsOfRow, aside_weighs}
-use Rattle.brc_model.proofs.Frame.Leaves.{AtDuty}
 
 -- ---- what is for later weighs nothing
 
-later_weighs : (x : ℕ) (f : Duty → ℕ) → IsOfRow x f → (rows t used : ℕ) (status : Status) (place : Place) (rest : List Duty)
+later_weighs : (x : ℕ) (f : Duty → ℕ) → IsOfRow x f
+    → (rows t used : ℕ) (status : Status) (place : Place) (rest : List Duty)
     → Later rows t used status place rest → sum_by f rest ≡ 0
 later_weighs x f of_row rows t used status place [] later = refl
 later_weighs x f of_row rows t used status place (Settle ∷ rest) later =
@@ -47,7 +47,8 @@ later_weighs x f of_row rows t used status place _ later = absurd later
 rest_weighs : (x : ℕ) (f : Duty → ℕ) → IsOfRow x f → (rows t used : ℕ) (status : Status) (place : Place) (d : Duty)
     (rest : List Duty)
     → Agenda rows t used status place (d ∷ rest) → sum_by f rest ≡ 0
-rest_weighs x f of_row rows t used status place Settle rest fits = later_weighs x f of_row rows t used status place rest fits
+rest_weighs x f of_row rows t used status place Settle rest fits = later_weighs x f of_row rows t used status place
+    rest fits
 rest_weighs x f of_row rows t used status place (Leave y k) [] fits = refl
 rest_weighs x f of_row rows t used status place (Leave y k) (e ∷ rest) fits = absurd fits
 rest_weighs x f of_row rows t used status place (Scan y k) rest fits =
@@ -57,7 +58,8 @@ rest_weighs x f of_row rows t used status place Finish (e ∷ rest) fits = absur
 rest_weighs x f of_row rows t used status place _ rest fits = later_weighs x f of_row rows t used status place rest fits
 
 -- behind the first duty of any thread's agenda
-behind_weighs : (x : ℕ) (f : Duty → ℕ) → IsOfRow x f → (rows t : ℕ) (a : Actor) (status : Status) (d : Duty) (rest : List Duty)
+behind_weighs : (x : ℕ) (f : Duty → ℕ) → IsOfRow x f
+    → (rows t : ℕ) (a : Actor) (status : Status) (d : Duty) (rest : List Duty)
     → AgendaFits rows t a status → a.agenda ≡ d ∷ rest → sum_by f rest ≡ 0
 behind_weighs x f of_row rows t a Running d rest fits is =
     rest_weighs x f of_row rows t a.used Running a.place d rest (subst (Agenda rows t a.used Running a.place) is fits)
