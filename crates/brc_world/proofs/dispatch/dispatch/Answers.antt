@@ -1,5 +1,5 @@
 -- An idle thread with calls left is at its next call's first instruction.
-use Rattle.std.proofs.Common.{◌≡◌, ◌-◌, ap, ◌∙◌, reverse}
+use Rattle.std.proofs.Common.{◌≡◌, ◌-◌, [], ap, ◌∙◌, reverse}
 use Rattle.std.specs.Prelude.{slice_get}
 use Rattle.brc_model.specs.declared.actor.Place.TheVariants.{Standing}
 use Rattle.brc_model.specs.Threads.{code_of}
