@@ -17,7 +17,7 @@ use Rattle.brc_model.specs.Invariant.{AtDuty, Kept}
 use Rattle.brc_model.specs.OpenWork.{IsSettled}
 use Rattle.brc_model.proofs.Stepping.Neutral.{OwnFits, found_by}
 use Rattle.brc_model.proofs.Stepping.OwnRetains.{own_retain_counted}
-use Rattle.brc_model.proofs.Stepping.OwnReleases.{own_retain_store, own_retain_add, own_release_counted, release_held, own_release_store, own_decide}
+use Rattle.brc_model.proofs.Stepping.OwnReleases.{own_retain_store, own_retain_add, own_release_counted, release_held, own_release_store, own_decide_at_zero}
 use Rattle.brc_model.proofs.Stepping.OwnShared.{own_shared_load, own_shared_exchange}
 use Rattle.brc_model.proofs.Stepping.OwnMerges.{own_set_mark, own_look, own_take_mark, own_merge_swap_own, own_merge_swap_handed, own_merge_load, own_merge_exchange}
 use Rattle.brc_model.proofs.Stepping.OwnChains.{own_die, own_settle, own_settle_end}
@@ -48,7 +48,7 @@ own_fits p n m t a (ReleaseLoad zero h) rest here alive settled =
 own_fits p n m t a (ReleaseLoad (suc x) h) rest here alive settled =
     own_release_counted p n m t a (suc x) h rest (omega arith) here alive
 own_fits p n m t a (ReleaseStore x w) rest here alive settled = own_release_store p n m t a x w rest here alive
-own_fits p n m t a (DecideAtZero x) rest here alive settled = own_decide p n m t a x rest here alive
+own_fits p n m t a (DecideAtZero x) rest here alive settled = own_decide_at_zero p n m t a x rest here alive
 own_fits p n m t a (SharedLoad x r) rest here alive settled = own_shared_load p n m t a x r rest here alive
 own_fits p n m t a (SharedExchange x r w) rest here alive settled = own_shared_exchange p n m t a x r w rest here alive
 own_fits p n m t a (SetMark x) rest here alive settled = own_set_mark p n m t a x rest here alive

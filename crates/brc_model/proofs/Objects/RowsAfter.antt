@@ -13,9 +13,9 @@ use Rattle.brc_model.specs.Accounts.{Accounts}
 use Rattle.brc_model.specs.Invariant.{AtDuty, Rule, numbers_of}
 use Rattle.brc_model.proofs.Objects.RowsAfterStep.{KeepsRow}
 use Rattle.brc_model.proofs.Objects.RowsAfterElsewhere.{subject, row_elsewhere}
-use Rattle.brc_model.proofs.Objects.RowsAfterLocal.{row_after_retain_load, row_after_retain_store, row_after_retain_add, row_after_release_load, row_after_release_store, row_after_decide}
+use Rattle.brc_model.proofs.Objects.RowsAfterLocal.{row_after_retain_load, row_after_retain_store, row_after_retain_add, row_after_release_load, row_after_release_store, row_after_decide_at_zero}
 use Rattle.brc_model.proofs.Objects.RowsAfterShared.{row_after_shared_load, row_after_own_exchange, row_after_handed_exchange}
-use Rattle.brc_model.proofs.Objects.RowsAfterMarks.{row_after_set_mark, row_after_look, row_after_take_mark, row_after_scan, row_after_claim, row_after_die, row_after_kind, row_after_cell, row_after_take_slot, row_after_close, row_after_end}
+use Rattle.brc_model.proofs.Objects.RowsAfterMarks.{row_after_set_mark, row_after_look, row_after_take_mark, row_after_scan, row_after_claim_mark, row_after_die, row_after_settle_kind, row_after_settle_cell, row_after_take_slot, row_after_close_resource, row_after_settle_end}
 use Rattle.brc_model.proofs.Objects.RowsAfterBirths.{row_after_birth_kind, row_after_birth_slot, row_after_birth_local}
 use Rattle.brc_model.proofs.Objects.RowsAfterMerge.{row_after_own_swap, row_after_handed_swap, row_after_merge_load, row_after_merge_exchange}
 
@@ -28,7 +28,7 @@ own_row p n m t a (RetainStore y h w) rest s some = row_after_retain_store s
 own_row p n m t a (RetainAdd y h) rest s some = row_after_retain_add s
 own_row p n m t a (ReleaseLoad y h) rest s some = row_after_release_load some s
 own_row p n m t a (ReleaseStore y w) rest s some = row_after_release_store s
-own_row p n m t a (DecideAtZero y) rest s some = row_after_decide s
+own_row p n m t a (DecideAtZero y) rest s some = row_after_decide_at_zero s
 own_row p n m t a (SharedLoad y r) rest s some = row_after_shared_load some s
 own_row p n m t a (SharedExchange y Own w) rest s some = row_after_own_exchange s
 own_row p n m t a (SharedExchange y Handed w) rest s some = row_after_handed_exchange s
@@ -41,15 +41,15 @@ own_row p n m t a (MergeLoad y c r) rest s some = row_after_merge_load s
 own_row p n m t a (MergeExchange y c w r) rest s some = row_after_merge_exchange s
 own_row p n m t a (Die y) rest s some = row_after_die some s
 own_row p n m t a Settle rest s some = absurd (omega (arith, some))
-own_row p n m t a (SettleKind y) rest s some = row_after_kind some s
-own_row p n m t a (SettleCell y i cells) rest s some = row_after_cell some s
+own_row p n m t a (SettleKind y) rest s some = row_after_settle_kind some s
+own_row p n m t a (SettleCell y i cells) rest s some = row_after_settle_cell some s
 own_row p n m t a (TakeSlot y) rest s some = row_after_take_slot some s
-own_row p n m t a (CloseResource y) rest s some = row_after_close some s
-own_row p n m t a (SettleEnd y) rest s some = row_after_end s
+own_row p n m t a (CloseResource y) rest s some = row_after_close_resource some s
+own_row p n m t a (SettleEnd y) rest s some = row_after_settle_end s
 own_row p n m t a (Leave y left) rest s some = absurd (omega (arith, some))
 own_row p n m t a (Scan y left) rest s some = row_after_scan some s
 own_row p n m t a Finish rest s some = absurd (omega (arith, some))
-own_row p n m t a (ClaimMark y) rest s some = row_after_claim some s
+own_row p n m t a (ClaimMark y) rest s some = row_after_claim_mark some s
 own_row p n m t a (BirthKind y h w) rest s some = row_after_birth_kind some s
 own_row p n m t a (BirthSlot y h) rest s some = row_after_birth_slot some s
 own_row p n m t a (BirthLocal y h) rest s some = row_after_birth_local s

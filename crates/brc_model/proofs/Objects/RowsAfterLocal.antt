@@ -187,9 +187,9 @@ row_after_release_store {m = m} {t = t} {a = a} {y = y} {w = w} {rest = rest} s 
 
 -- ---- the owner at zero
 
-pub row_after_decide : {p : Accounts} {n : ℕ} {m : Machine} {t : ℕ} {a : Actor} {y : ℕ} {rest : List Duty}
+pub row_after_decide_at_zero : {p : Accounts} {n : ℕ} {m : Machine} {t : ℕ} {a : Actor} {y : ℕ} {rest : List Duty}
     → AtDuty p n m t a (DecideAtZero y) rest → KeepsRow m t a (DecideAtZero y) rest y
-row_after_decide {m = m} {t = t} {a = a} {y = y} {rest = rest} s =
+row_after_decide_at_zero {m = m} {t = t} {a = a} {y = y} {rest = rest} s =
     let fits = head_fits_of s in
     let k = numbers_of m y in
     let word = written_here m.memory (Shared y) (m.memory (Shared y)) (own y) in

@@ -179,9 +179,9 @@ row_after_scan {m = m} {t = t} {a = a} {y = y} {left = left} {rest = rest} some 
     } in
     row_after_taking s some takes
 
-pub row_after_claim : {p : Accounts} {n : ℕ} {m : Machine} {t : ℕ} {a : Actor} {y : ℕ} {rest : List Duty} → 0 < y
+pub row_after_claim_mark : {p : Accounts} {n : ℕ} {m : Machine} {t : ℕ} {a : Actor} {y : ℕ} {rest : List Duty} → 0 < y
     → AtDuty p n m t a (ClaimMark y) rest → KeepsRow m t a (ClaimMark y) rest y
-row_after_claim {m = m} {t = t} {a = a} {y = y} {rest = rest} some s =
+row_after_claim_mark {m = m} {t = t} {a = a} {y = y} {rest = rest} some s =
     let takes : Takes m t a (ClaimMark y) rest y (Settle ∷ []) = record {
       follows = refl;
       this = record { waiting = refl; carried = refl; merging = refl; deciding = refl; lives = λ life state. refl };
@@ -213,9 +213,9 @@ row_after_die {y = y} some s =
       deciding = refl;
     })
 
-pub row_after_kind : {p : Accounts} {n : ℕ} {m : Machine} {t : ℕ} {a : Actor} {y : ℕ} {rest : List Duty} → 0 < y
+pub row_after_settle_kind : {p : Accounts} {n : ℕ} {m : Machine} {t : ℕ} {a : Actor} {y : ℕ} {rest : List Duty} → 0 < y
     → AtDuty p n m t a (SettleKind y) rest → KeepsRow m t a (SettleKind y) rest y
-row_after_kind {m = m} {y = y} some s =
+row_after_settle_kind {m = m} {y = y} some s =
     let word = m.memory (KindOf y) in
     let slot : IsApart y (TakeSlot y) =
     record { waiting = refl; carried = refl; merging = refl; deciding = refl; lives = λ life state. refl } in
@@ -223,9 +223,10 @@ row_after_kind {m = m} {y = y} some s =
     row_apart s y some (kind_apart y y) next (λ life state. refl)
     (record { local = refl; shared = refl; mark = refl; references = refl })
 
-pub row_after_cell : {p : Accounts} {n : ℕ} {m : Machine} {t : ℕ} {a : Actor} {y i cells : ℕ} {rest : List Duty} → 0 < y
+pub row_after_settle_cell : {p : Accounts} {n : ℕ} {m : Machine} {t : ℕ} {a : Actor} {y i cells : ℕ} {rest : List
+    Duty} → 0 < y
     → AtDuty p n m t a (SettleCell y i cells) rest → KeepsRow m t a (SettleCell y i cells) rest y
-row_after_cell {m = m} {t = t} {y = y} {i = i} {cells = cells} some s =
+row_after_settle_cell {m = m} {t = t} {y = y} {i = i} {cells = cells} some s =
     let this : IsApart y (SettleCell y i cells) =
     record { waiting = refl; carried = refl; merging = refl; deciding = refl; lives = λ life state. refl } in
     row_apart s y some this (released_apart y (m.memory (Cell y i)) (cells_from y (i + 1) cells)
@@ -255,9 +256,10 @@ row_after_take_slot {y = y} some s =
       deciding = refl;
     })
 
-pub row_after_close : {p : Accounts} {n : ℕ} {m : Machine} {t : ℕ} {a : Actor} {y : ℕ} {rest : List Duty} → 0 < y
+pub row_after_close_resource : {p : Accounts} {n : ℕ} {m : Machine} {t : ℕ} {a : Actor} {y : ℕ} {rest : List Duty}
+    → 0 < y
     → AtDuty p n m t a (CloseResource y) rest → KeepsRow m t a (CloseResource y) rest y
-row_after_close {y = y} some s =
+row_after_close_resource {y = y} some s =
     row_stays {next = SettleEnd y ∷ []} {x = y} s some
     (record {
       follows = refl;
@@ -273,9 +275,9 @@ row_after_close {y = y} some s =
     })
 
 -- a row that was dying is closed
-pub row_after_end : {p : Accounts} {n : ℕ} {m : Machine} {t : ℕ} {a : Actor} {y : ℕ} {rest : List Duty}
+pub row_after_settle_end : {p : Accounts} {n : ℕ} {m : Machine} {t : ℕ} {a : Actor} {y : ℕ} {rest : List Duty}
     → AtDuty p n m t a (SettleEnd y) rest → KeepsRow m t a (SettleEnd y) rest y
-row_after_end {m = m} {t = t} {a = a} {y = y} {rest = rest} s =
+row_after_settle_end {m = m} {t = t} {a = a} {y = y} {rest = rest} s =
     let fits = head_fits_of s in
     let k = numbers_of m y in
     let weights = weighed s [] refl y in

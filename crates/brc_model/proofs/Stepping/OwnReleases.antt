@@ -237,11 +237,11 @@ own_release_store p n m t a x w rest here alive =
 
 -- ---- the owner decides
 
-pub own_decide : (p : Accounts) (n : ℕ) (m : Machine) (t : ℕ) (a : Actor) (x : ℕ) (rest : List Duty)
+pub own_decide_at_zero : (p : Accounts) (n : ℕ) (m : Machine) (t : ℕ) (a : Actor) (x : ℕ) (rest : List Duty)
     → AtDuty p n m t a (DecideAtZero x) rest → (a.status ≡ Gone → ⊥)
     → OwnFits p (done_by m t a (DecideAtZero x) rest) t
     (actor_by t a (DecideAtZero x) rest (found_by m t a (DecideAtZero x)))
-own_decide p n m t a x rest here alive =
+own_decide_at_zero p n m t a x rest here alive =
     let word = m.memory (Shared x) in
     let d : Duty = DecideAtZero x in
     let fits = head_of p n m t a d rest here in
