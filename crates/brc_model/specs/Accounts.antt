@@ -8,6 +8,7 @@ use Rattle.brc_model.specs.declared.duty.Reason.TheVariants.{Own}
 use Rattle.brc_model.specs.declared.duty.Duty.{Duty}
 use Rattle.brc_model.specs.declared.duty.Duty.TheVariants.{RetainLoad, RetainStore, RetainAdd, ReleaseLoad, ReleaseStore, SharedLoad, SharedExchange, BirthKind, BirthSlot, BirthLocal}
 use Rattle.brc_model.specs.References.{held, one_if, reference_of}
+use Rattle.brc_word.specs.Words.{half}
 
 -- what is held beyond what the place says: a reference that is being given up
 abbrev pub extra : Duty → Holding → ℕ → Bool
@@ -61,7 +62,7 @@ pub record HoldsAt (bag : List Reference) (t : ℕ) (account : Account) (agenda 
 
 -- How many references a thread may hold: one by each of sixteen variables, and 2^32 as the caller that lends them.
 abbrev pub most_lent : ℕ
-most_lent = 4294967296
+most_lent = half
 
 pub record IsBounded (account : Account) : Type 0 where
   pub by_variable : (v object : ℕ) → account (ByVariable v) object ≤ 1

@@ -8,7 +8,7 @@ use Rattle.brc_model.specs.declared.duty.Duty.{Duty}
 use Rattle.brc_model.specs.declared.duty.Duty.TheVariants.{RetainLoad, RetainStore, RetainAdd, ReleaseLoad, ReleaseStore, DecideAtZero, SharedLoad, SharedExchange, SetMark, Look, TakeMark, MergeSwap, MergeLoad, MergeExchange, Die, Settle, SettleKind, SettleCell, TakeSlot, CloseResource, SettleEnd, Leave, Scan, Finish, ClaimMark, BirthKind, BirthSlot, BirthLocal}
 use Rattle.brc_model.specs.declared.address.Address.{Address}
 use Rattle.brc_model.specs.declared.address.Address.TheVariants.{Local, Shared, Gate, KindOf, Mark, Cell, Slot, Resource, ThreadWord}
-use Rattle.brc_word.specs.Words.{local_word, owner_part, local_part, is_immortal_word, fresh_word, dead_word, released_word, merged_word, dying_word, next_part, closed_word, kind_part, argument_part}
+use Rattle.brc_word.specs.Words.{most_local, local_word, owner_part, local_part, is_immortal_word, fresh_word, dead_word, released_word, merged_word, dying_word, next_part, closed_word, kind_part, argument_part}
 
 -- ---- the word of a step
 
@@ -124,7 +124,7 @@ release_found (suc y) = ReleaseLoad y InHand ∷ []
 abbrev pub next_by : ℕ → Bool → ℕ → Duty → ℕ → List Duty
 next_by t running head (RetainLoad x h) found =
     if is_immortal_word found then []
-    else if counts_locally t running found && nat_lt (local_part found) 4294967294 then RetainStore x h found ∷ []
+    else if counts_locally t running found && nat_lt (local_part found) most_local then RetainStore x h found ∷ []
     else RetainAdd x h ∷ []
 next_by t running head (RetainStore x h w) found = []
 next_by t running head (RetainAdd x h) found = []

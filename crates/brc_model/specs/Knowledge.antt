@@ -1,7 +1,7 @@
 -- What a thread's duty knows of memory, of its thread and of its row until it is done.
 use Rattle.std.specs.Prelude.{◌≡◌, ◌≢◌, ◌⊎◌, ℕ, ◌+◌, ◌<◌, ◌≤◌, true, List, [], ◌∷◌}
 use Rattle.brc_model.specs.declared.duty.Holding.{Holding}
-use Rattle.brc_word.specs.Words.{owner_part, local_part, phase_part, free_word, dying_word}
+use Rattle.brc_word.specs.Words.{half, immortal_local, most_local, owner_part, local_part, phase_part, free_word, dying_word}
 use Rattle.brc_model.specs.Kinds.{kind_of_word, is_counted_kind}
 use Rattle.brc_model.specs.declared.duty.Reason.{Reason}
 use Rattle.brc_model.specs.declared.duty.Reason.TheVariants.{Own, Handed}
@@ -24,7 +24,7 @@ status_word Gone = 3
 pub record OwnsLocally (m : Machine) (t : ℕ) (a : Actor) (x : ℕ) : Type 0 where
   pub running : a.status ≡ Running
   pub owner : owner_part (m.memory (Local x)) ≡ t + 1
-  pub low : local_part (m.memory (Local x)) < 4294967295
+  pub low : local_part (m.memory (Local x)) < immortal_local
 
 -- some reference of the thread's is held to the object
 pub record IsBacked (m : Machine) (t x : ℕ) : Type 0 where
@@ -53,13 +53,13 @@ HasCountedKind memory x = is_counted_kind (kind_of_word (memory (KindOf x))) ≡
 
 -- the gate of a row that the thread has chained: it names the thread and the next row of the chain
 abbrev pub IsDyingWord : ℕ → ℕ → Type 0
-IsDyingWord t word = (next : ℕ) × (word ≡ dying_word t next) × (next < 4294967296)
+IsDyingWord t word = (next : ℕ) × (word ≡ dying_word t next) × (next < half)
 
 abbrev pub HeadFits : Machine → ℕ → Actor → Duty → List Duty → Type 0
 HeadFits m t a (RetainLoad x h) rest = IsBacked m t x
 HeadFits m t a (RetainStore x h w) rest =
     (0 < x) × IsBacked m t x × OwnsLocally m t a x × (m.memory (Local x) ≡ w) × (1 ≤ local_part w)
-    × (local_part w < 4294967294)
+    × (local_part w < most_local)
 HeadFits m t a (RetainAdd x h) rest = (0 < x) × IsBacked m t x
 HeadFits m t a (ReleaseLoad x h) rest = Unit {0}
 HeadFits m t a (ReleaseStore x w) rest = (0 < x) × OwnsLocally m t a x × (m.memory (Local x) ≡ w) × (1 ≤ local_part w)
@@ -73,8 +73,8 @@ HeadFits m t a (Look x) rest = 0 < x
 HeadFits m t a (TakeMark x) rest = (0 < x) × (m.memory (ThreadWord (block_of m.rows x)) ≢ 1)
 HeadFits m t a (MergeSwap x Own) rest = (0 < x) × OwnsLocally m t a x × (local_part (m.memory (Local x)) ≡ 0)
 HeadFits m t a (MergeSwap x Handed) rest = (0 < x) × MayMerge m t x
-HeadFits m t a (MergeLoad x c r) rest = (0 < x) × (c < 4294967296) × MayCarry m t a x r
-HeadFits m t a (MergeExchange x c w r) rest = (0 < x) × (c < 4294967296) × MayCarry m t a x r
+HeadFits m t a (MergeLoad x c r) rest = (0 < x) × (c < half) × MayCarry m t a x r
+HeadFits m t a (MergeExchange x c w r) rest = (0 < x) × (c < half) × MayCarry m t a x r
 HeadFits m t a (Die x) rest = (0 < x) × (m.life x ≡ Dying t) × (m.memory (Gate x) ≡ free_word)
 HeadFits m t a Settle rest = 0 < a.head
 HeadFits m t a (SettleKind x) rest = (0 < x) × (m.life x ≡ Dying t) × IsDyingWord t (m.memory (Gate x))

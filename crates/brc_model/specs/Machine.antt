@@ -20,7 +20,7 @@ use Rattle.brc_lang.specs.declared.kind.Kind.TheVariants as kinds
 use Rattle.brc_model.specs.Kinds.{kind_of_word}
 use Rattle.brc_model.specs.Plain.{none_row, root_row, Reference, Plain, Move, Born, Gain, Lose, HandOn, Finalise, moved, ByThread, ByCell}
 use Rattle.brc_model.specs.Threads.{code_of, row_of, entry_variables}
-use Rattle.brc_word.specs.Words.{is_immortal_word, local_word, fresh_word}
+use Rattle.brc_word.specs.Words.{half, is_immortal_word, local_word, fresh_word}
 use Rattle.brc_model.specs.declared.duty.Reason.TheVariants.{Own}
 use Rattle.brc_model.specs.declared.duty.Duty.{Duty}
 use Rattle.brc_model.specs.declared.duty.Duty.TheVariants.{RetainLoad, RetainStore, RetainAdd, ReleaseLoad, ReleaseStore, SharedExchange, Die, Settle, SettleEnd, Leave, Finish, ClaimMark, BirthLocal, SettleCell, BirthKind}
@@ -116,7 +116,7 @@ has_room rows t used = nat_lt used (block_size rows t)
 
 -- the kind word of a number
 abbrev pub number_word : ℕ → ℕ
-number_word value = 2 * 4294967296 + value
+number_word value = 2 * half + value
 
 -- Returns what a thread does that is at an instruction and has used so many rows of its block.
 abbrev pub dispatch_instruction : ℕ → ℕ → ℕ → ℕ → ℕ → List (Option ℕ) → Option Instr → Action
@@ -363,8 +363,8 @@ first_memory workers (Local (suc zero)) = local_word 0 (1 + workers)
 first_memory workers (Local (suc (suc x))) = 0
 first_memory workers (Shared x) = fresh_word
 first_memory workers (Gate x) = 1
-first_memory workers (KindOf zero) = 4294967296
-first_memory workers (KindOf (suc zero)) = 3 * 4294967296 + 8
+first_memory workers (KindOf zero) = half
+first_memory workers (KindOf (suc zero)) = 3 * half + 8
 first_memory workers (KindOf (suc (suc x))) = 0
 first_memory workers (Mark x) = 0
 first_memory workers (Cell x i) = 0

@@ -1,6 +1,6 @@
 -- The order of a thread's agenda, the rows that it finalises, and the work that it has put aside.
 use Rattle.std.specs.Prelude.{◌≡◌, ◌≢◌, ◌⊎◌, ℕ, ◌+◌, ◌<◌, ◌≤◌, Bool, true, false, ◌==◌, nat_le, List, [], ◌∷◌, count_by}
-use Rattle.brc_word.specs.Words.{free_word, dying_word, closed_word}
+use Rattle.brc_word.specs.Words.{half, free_word, dying_word, closed_word}
 use Rattle.brc_model.specs.declared.duty.Duty.{Duty}
 use Rattle.brc_model.specs.declared.duty.Duty.TheVariants.{RetainLoad, RetainStore, RetainAdd, ReleaseLoad, ReleaseStore, DecideAtZero, SharedLoad, SharedExchange, SetMark, Look, TakeMark, MergeSwap, MergeLoad, MergeExchange, Die, Settle, SettleKind, SettleCell, TakeSlot, CloseResource, SettleEnd, Leave, Scan, Finish, ClaimMark, BirthKind, BirthSlot, BirthLocal}
 use Rattle.brc_model.specs.declared.address.Address.{Address}
@@ -74,7 +74,7 @@ IsSettled head (d ∷ rest) = Settles (d ∷ rest)
 abbrev pub Linked : (Address → ℕ) → ℕ → ℕ → List ℕ → Type 0
 Linked memory t head [] = head ≡ 0
 Linked memory t head (x ∷ xs) =
-    (head ≡ x + 1) × ((next : ℕ) × (memory (Gate x) ≡ dying_word t next) × (next < 4294967296)
+    (head ≡ x + 1) × ((next : ℕ) × (memory (Gate x) ≡ dying_word t next) × (next < half)
     × Linked memory t next xs)
 
 -- the row that is at hand between two steps of its finalising, or before its gate is stored

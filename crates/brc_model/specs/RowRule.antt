@@ -1,7 +1,7 @@
 -- What holds of one row's counts, whatever thread comes next: the numbers that the row's words, the references to it
 -- and the duties about it come to, and the rule that ties them together.
 use Rattle.std.specs.Prelude.{◌≡◌, ℕ, ◌+◌, ◌<◌, ◌≤◌, ◌==◌, if◌then◌else◌, List, sum_by}
-use Rattle.brc_word.specs.Words.{owner_part, local_part, biased_part, phase_part, bias, fresh_word}
+use Rattle.brc_word.specs.Words.{half, immortal_local, owner_part, local_part, biased_part, phase_part, bias, fresh_word}
 use Rattle.brc_model.specs.declared.duty.Reason.TheVariants.{Own, Handed}
 use Rattle.brc_model.specs.declared.duty.Duty.{Duty}
 use Rattle.brc_model.specs.declared.duty.Duty.TheVariants.{DecideAtZero, SharedLoad, SharedExchange, SetMark, MergeSwap, MergeLoad, MergeExchange}
@@ -71,7 +71,7 @@ pub data Decided (n : Numbers) : Type 0 where
 
 pub record IsOwned (owner : ℕ) (n : Numbers) : Type 0 where
   pub owned : owner_part n.local ≡ owner + 1
-  pub low : local_part n.local < 4294967295
+  pub low : local_part n.local < immortal_local
   pub merging : n.merging ≡ 0
   pub carried : n.carried ≡ 0
   pub decided : Decided n
@@ -81,7 +81,7 @@ pub record IsOwned (owner : ℕ) (n : Numbers) : Type 0 where
 pub record IsSwapped (n : Numbers) : Type 0 where
   pub local : n.local ≡ 0
   pub merging : n.merging ≡ 1
-  pub carried : n.carried < 4294967296
+  pub carried : n.carried < half
   pub deciding : n.deciding ≡ 0
   pub phased : Phased n
 

@@ -9,7 +9,7 @@ use Rattle.brc_model.specs.declared.duty.Duty.{Duty}
 use Rattle.brc_model.specs.declared.duty.Duty.TheVariants.{RetainLoad, RetainStore, RetainAdd, ReleaseLoad, ReleaseStore, DecideAtZero, SharedLoad, SharedExchange, SetMark, Look, TakeMark, MergeSwap, MergeLoad, MergeExchange, Die, Settle, SettleKind, SettleCell, TakeSlot, CloseResource, SettleEnd, Leave, Scan, Finish, ClaimMark, BirthKind, BirthSlot, BirthLocal}
 use Rattle.brc_model.specs.declared.address.Address.{Address}
 use Rattle.brc_model.specs.declared.address.Address.TheVariants.{KindOf}
-use Rattle.brc_word.specs.Words.{local_word, local_part, is_immortal_word, fresh_word, dead_word, merged_word, dying_word, closed_word}
+use Rattle.brc_word.specs.Words.{most_local, local_word, local_part, is_immortal_word, fresh_word, dead_word, merged_word, dying_word, closed_word}
 use Rattle.brc_model.specs.Kinds.{kind_of_word}
 use Rattle.brc_model.specs.Plain.{Move, Finalise}
 use Rattle.brc_model.specs.Duties.{left_by, next_by, counts_locally, once_merged, has_resource, cells_of, cells_from, release_found}
@@ -22,10 +22,6 @@ one_shared = 4
 -- from queued's two bits: (0, default) becomes (0, queued)
 abbrev pub queued_bits : ℕ
 queued_bits = 2
-
--- the owner counts no further than to this local count: one more would make the object immortal
-abbrev pub most_local : ℕ
-most_local = 4294967294
 
 -- a thread's own reference is lost; one that was handed to the queue was lost when its object was queued
 abbrev pub given_up : ℕ → Reason → ℕ → List Move

@@ -1,7 +1,7 @@
 -- What a step can rely on: the word that it asks for is there, and the words that it finds and leaves have the forms of
 -- a header's, below all bounds.
 use Rattle.std.specs.Prelude.{◌≡◌, ◌≢◌, ℕ, ◌+◌, ◌*◌, ◌<◌, ◌≤◌, Bool, true, List, length}
-use Rattle.brc_word.specs.Words.{owner_part, local_part, biased_part, phase_part, bias}
+use Rattle.brc_word.specs.Words.{half, most_local, owner_part, local_part, biased_part, phase_part, bias}
 use Rattle.brc_model.specs.declared.thread.Choice.{Choice}
 use Rattle.brc_model.specs.declared.actor.Place.{Place}
 use Rattle.brc_model.specs.declared.address.Address.{Address}
@@ -31,13 +31,13 @@ pub record IsShared (word : ℕ) : Type 0 where
 
 -- what the thread's duty can do with the word that it finds
 abbrev pub Suits : ℕ → Bool → ℕ → Duty → ℕ → Type 0
-Suits t running n (RetainStore x h w) found = local_part w < 4294967294
+Suits t running n (RetainStore x h w) found = local_part w < most_local
 Suits t running n (RetainAdd x h) found = IsShared found × (biased_part found + 1 < 2 * bias)
 Suits t running n (ReleaseLoad x h) found = running ≡ true → owner_part found ≡ t + 1 → 1 ≤ local_part found
 Suits t running n (ReleaseStore x w) found = 1 ≤ local_part w
 Suits t running n (SharedExchange x r w) found = found ≡ w → IsShared w × (1 ≤ biased_part w)
 Suits t running n (MergeExchange x c w r) found =
-    (c < 4294967296) × (found ≡ w → IsShared w × (biased_part w + c < 2 * bias))
+    (c < half) × (found ≡ w → IsShared w × (biased_part w + c < 2 * bias))
 Suits t running n (SettleCell x i k) found = found ≤ n
 Suits t running n _ found = Unit {0}
 

@@ -32,7 +32,7 @@ use Rattle.brc_model.proofs.Frame.Aside.{HoldsAlone}
 use Rattle.brc_model.proofs.Dispatch.Coded.{once_each, PlaceFits}
 use Rattle.brc_model.proofs.Dispatch.Begins.{holds_plain, holds_at_none, Gives, Takes, Nothing, Settles, Leaves, Taken, IsTaken, taken_with_row, standing_stays, inside_stays, newref_held, emptied_held, ended_says, Bears, Stays, QuietTaken, cleared_held}
 use Rattle.brc_model.specs.Duties.{cells_of}
-use Rattle.brc_word.specs.Words.{kind_part, argument_part}
+use Rattle.brc_word.specs.Words.{half, kind_part, argument_part}
 use Rattle.std.proofs.lemmas.Bool.{ltb-true, ne_eqb}
 use Rattle.brc_model.proofs.Dispatch.TakingQuiet.{none_taken, move_taken, goto_taken}
 
@@ -52,7 +52,7 @@ backed_slot bag t s rows v row (Caller k) is named some grounded holds =
 backed_slot bag t s rows v row (Locked k) is named some grounded holds = absurd grounded
 
 -- a number has no cells
-number_cells : (value : ℕ) → value < 4294967296 → cells_of (number_word value) ≤ 8
+number_cells : (value : ℕ) → value < half → cells_of (number_word value) ≤ 8
 number_cells value low =
     let kind : (kind_part (number_word value) == 3) ≡ false =
     ne_eqb (kind_part (number_word value)) 3 (λ e. absurd (omega (arith, low, e))) in
@@ -61,7 +61,7 @@ number_cells value low =
     omega (arith, none)
 
 -- and is an object that is counted
-number_counts : (value : ℕ) → value < 4294967296 → is_counted_kind (kind_of_word (number_word value)) ≡ true
+number_counts : (value : ℕ) → value < half → is_counted_kind (kind_of_word (number_word value)) ≡ true
 number_counts value low =
     let number : kind_part (number_word value) ≡ 2 = omega (arith, low) in
     ap (λ (k : ℕ). is_counted_kind (kind_numbered k)) number

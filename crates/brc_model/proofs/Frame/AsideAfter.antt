@@ -3,7 +3,7 @@
 use Rattle.std.proofs.Common.{◌≡◌, ℕ, zero, suc, ◌+◌, ◌≤◌, Bool, true, false, cond, List, [], ◌∷◌, ◌++◌, inl, inr, refl, sym, ap, subst, arith}
 use Rattle.std.specs.Prelude.{◌==◌, ◌&&◌, nat_lt, count_by}
 use Rattle.std.proofs.lemmas.List.Sums.{sum_by-cons}
-use Rattle.brc_word.specs.Words.{is_immortal_word, local_part, fresh_word, dead_word, released_word, merged_word}
+use Rattle.brc_word.specs.Words.{most_local, is_immortal_word, local_part, fresh_word, dead_word, released_word, merged_word}
 use Rattle.brc_model.specs.declared.duty.Reason.TheVariants.{Own, Handed}
 use Rattle.brc_model.specs.declared.duty.Duty.{Duty}
 use Rattle.brc_model.specs.declared.duty.Duty.TheVariants.{RetainLoad, RetainStore, RetainAdd, ReleaseLoad, ReleaseStore, DecideAtZero, SharedLoad, SharedExchange, SetMark, Look, TakeMark, MergeSwap, MergeLoad, MergeExchange, Die, Settle, Leave, Scan, Finish, BirthKind, BirthSlot, BirthLocal}
@@ -35,7 +35,7 @@ continues : (t head : ℕ) (running : Bool) (d : Duty) (found : ℕ) → is_piec
     → Continues d (next_by t running head d found)
 continues t head running (RetainLoad x h) found piece =
     either (RetainLoad x h) (is_immortal_word found) [] _ tt
-    (either (RetainLoad x h) (counts_locally t running found && nat_lt (local_part found) 4294967294) _ _
+    (either (RetainLoad x h) (counts_locally t running found && nat_lt (local_part found) most_local) _ _
     (refl, λ y. refl) (refl, λ y. refl))
 continues t head running (RetainStore x h w) found piece = tt
 continues t head running (RetainAdd x h) found piece = tt

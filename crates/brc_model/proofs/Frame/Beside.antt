@@ -3,7 +3,7 @@ use Rattle.std.proofs.Common.{◌≡◌, ◌≢◌, ℕ, ◌<◌, Bool, true, fa
 use Rattle.std.specs.Prelude.{◌==◌}
 use Rattle.std.specs.List.{AllByRecursion}
 use Rattle.std.proofs.lemmas.Bool.{eq-eqb, ne_eqb, eqb-false, and_right}
-use Rattle.brc_word.specs.Words.{is_immortal_word, owner_part, local_part, phase_part}
+use Rattle.brc_word.specs.Words.{immortal_local, is_immortal_word, owner_part, local_part, phase_part}
 use Rattle.brc_model.specs.declared.duty.Holding.{Holding}
 use Rattle.brc_model.specs.declared.duty.Holding.TheVariants.{ByVariable, AsCaller, InHand}
 use Rattle.brc_model.specs.declared.duty.Reason.{Reason}
@@ -55,7 +55,7 @@ module _ (m new : Machine) (t : ℕ) (a after : Actor) where
   owns_beside x leaves owns = record {
     running = leaves.status ∙ owns.running;
     owner = ap owner_part leaves.local ∙ owns.owner;
-    low = subst (λ (w : ℕ). local_part w < 4294967295) (sym leaves.local) owns.low;
+    low = subst (λ (w : ℕ). local_part w < immortal_local) (sym leaves.local) owns.low;
   }
 
   block_beside : (x : ℕ) → LeavesRow x → block_of m.rows x ≡ t → block_of new.rows x ≡ t

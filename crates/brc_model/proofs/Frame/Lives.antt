@@ -3,7 +3,7 @@ use Rattle.std.proofs.Common.{◌≡◌, ◌≢◌, ℕ, ◌+◌, Bool, true, fa
 use Rattle.std.specs.Prelude.{◌==◌, ◌&&◌, nat_lt}
 use Rattle.std.proofs.lemmas.Bool.{ne_eqb}
 use Rattle.std.proofs.lemmas.Bool.Decides.{eqb_tells}
-use Rattle.brc_word.specs.Words.{local_part, is_immortal_word, fresh_word, dead_word, released_word, merged_word}
+use Rattle.brc_word.specs.Words.{most_local, local_part, is_immortal_word, fresh_word, dead_word, released_word, merged_word}
 use Rattle.brc_model.specs.declared.duty.Reason.{Reason}
 use Rattle.brc_model.specs.declared.duty.Reason.TheVariants.{Own, Handed}
 use Rattle.brc_model.specs.declared.duty.Duty.{Duty}
@@ -81,7 +81,7 @@ pub next_dies : (t : ℕ) (running : Bool) (head : ℕ) (d : Duty) (found y : �
     → MayDie d y
 next_dies t running head (RetainLoad x h) found y cells e =
     either_none (is_immortal_word found) [] _ y (none_some y)
-    (either_none (counts_locally t running found && nat_lt (local_part found) 4294967294)
+    (either_none (counts_locally t running found && nat_lt (local_part found) most_local)
     (RetainStore x h found ∷ []) (RetainAdd x h ∷ []) y (none_some y) (none_some y)) e
 next_dies t running head (RetainStore x h w) found y cells e = none_some y e
 next_dies t running head (RetainAdd x h) found y cells e = none_some y e

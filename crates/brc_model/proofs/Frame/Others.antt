@@ -6,7 +6,7 @@ use Rattle.std.proofs.lemmas.Bool.Decides.{eqb_tells}
 use Rattle.std.proofs.lemmas.List.Sums.{sum_by-cons}
 use Rattle.std.proofs.lemmas.Option.{slice_get_within}
 use Rattle.brc_model.specs.declared.duty.Holding.{Holding}
-use Rattle.brc_word.specs.Words.{phase_part, local_part, owner_part}
+use Rattle.brc_word.specs.Words.{immortal_local, phase_part, local_part, owner_part}
 use Rattle.brc_model.specs.declared.duty.Reason.{Reason}
 use Rattle.brc_model.specs.declared.duty.Reason.TheVariants.{Own, Handed}
 use Rattle.brc_model.specs.declared.duty.Duty.{Duty}
@@ -53,7 +53,7 @@ owns_kept m new t u x b leaves ne found owns =
     record {
       running = owns.running;
       owner = ap owner_part same ∙ owns.owner;
-      low = subst (λ (w : ℕ). local_part w < 4294967295) (sym same) owns.low;
+      low = subst (λ (w : ℕ). local_part w < immortal_local) (sym same) owns.low;
     }
 
 may_merge_kept : (m new : Machine) (t u x : ℕ) → LeavesOthers m new t → MayMerge m u x → MayMerge new u x

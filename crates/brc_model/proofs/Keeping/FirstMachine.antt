@@ -30,7 +30,7 @@ use Rattle.brc_model.proofs.Frame.Aside.{alone_fits}
 use Rattle.brc_model.proofs.Dispatch.Coded.{once_each, root_bounded, InCode}
 use Rattle.brc_model.proofs.Basics.Blocks.{block_main}
 use Rattle.brc_model.proofs.Objects.UsesAfter.{one_at_most}
-use Rattle.brc_word.specs.Words.{kind_part}
+use Rattle.brc_word.specs.Words.{most_local, kind_part}
 use Rattle.brc_model.specs.Kinds.{kind_number}
 use Rattle.brc_model.specs.Plain.{root_row, is_among}
 
@@ -68,7 +68,7 @@ first_row_rule : (m : Module) (rows : ℕ) (calls : List Call) → AreCalls m ca
 first_row_rule m rows calls are_calls zero pos = absurd (omega arith)
 first_row_rule m rows calls are_calls (suc zero) pos =
     let w = 1 + length calls in
-    let few : w < 4294967294 = omega (arith, are_calls.most) in
+    let few : w < most_local = omega (arith, are_calls.most) in
     record {
       sum = omega (arith, few, root_references w, first_weight (waits 1) calls, first_weight (carries 1) calls);
       mode = InOwned (record {

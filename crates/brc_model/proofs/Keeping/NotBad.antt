@@ -7,7 +7,7 @@ use Rattle.std.proofs.lemmas.List.Sums.{sum_by-cons}
 use Rattle.brc_model.specs.declared.duty.Holding.{Holding}
 use Rattle.brc_model.specs.declared.duty.Holding.TheVariants.{ByVariable, AsCaller, InHand}
 use Rattle.brc_model.specs.Plain.{none_row, is_counted, is_among, Plain, same_holding, same, references_to, Move, Gain, Lose, HandOn, Finalise, is_allowed, are_allowed, Born, ByThread, holds_by_cells, move, without}
-use Rattle.brc_word.specs.Words.{local_part, is_immortal_word}
+use Rattle.brc_word.specs.Words.{immortal_local, local_part, is_immortal_word}
 use Rattle.brc_model.specs.declared.duty.Reason.TheVariants.{Own, Handed}
 use Rattle.brc_model.specs.declared.duty.Duty.{Duty}
 use Rattle.brc_model.specs.declared.duty.Duty.TheVariants.{RetainLoad, RetainStore, RetainAdd, ReleaseLoad, ReleaseStore, DecideAtZero, SharedLoad, SharedExchange, MergeSwap, MergeLoad, MergeExchange, Die, Settle, SettleKind, SettleCell, SettleEnd, TakeSlot, CloseResource, BirthKind, BirthSlot, BirthLocal}
@@ -179,7 +179,7 @@ given_in_bag p n m t a d rest k x here more less =
     held_has (reference_of t k x) m.plain.references (gives_held p n m t a d rest k x here more less)
 
 mortal_row : (m : Machine) (x : ℕ) → Alive m x → is_immortal_word (m.memory (Local x)) ≡ false
-mortal_row m x alive = ne_eqb (local_part (m.memory (Local x))) 4294967295 (elim alive.live.mode [
+mortal_row m x alive = ne_eqb (local_part (m.memory (Local x))) immortal_local (elim alive.live.mode [
   | InOwned o ↦ λ e. absurd (omega (arith, o.low, e))
   | InSwapped s ↦ λ e. absurd (omega (arith, s.local, e))
   | InMerged s ↦ λ e. absurd (omega (arith, s.local, e))

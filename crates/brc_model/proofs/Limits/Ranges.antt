@@ -3,7 +3,7 @@ use Rattle.std.proofs.Common.{◌≡◌, ℕ, zero, suc, ◌+◌, ◌<◌, ◌�
 use Rattle.std.specs.Prelude.{◌==◌, ◌&&◌, nat_lt, slice_get, count_by}
 use Rattle.std.proofs.lemmas.Bool.{eq-eqb, eqb-true}
 use Rattle.std.proofs.lemmas.List.Sums.{sum_by-cons}
-use Rattle.brc_word.specs.Words.{local_part, is_immortal_word, fresh_word, dead_word, released_word, merged_word}
+use Rattle.brc_word.specs.Words.{most_local, local_part, is_immortal_word, fresh_word, dead_word, released_word, merged_word}
 use Rattle.brc_model.specs.Plain.{references_to}
 use Rattle.brc_model.specs.declared.duty.Reason.{Reason}
 use Rattle.brc_model.specs.declared.duty.Reason.TheVariants.{Own, Handed}
@@ -105,7 +105,7 @@ next_small : (k : ℕ) (t : ℕ) (running : Bool) (head : ℕ) (d : Duty) (found
     → FindsSmall k head d found → AreSmall k (next_by t running head d found)
 next_small k t running head (RetainLoad x h) found small finds =
     if_small k (is_immortal_word found) [] _ (λ e. tt)
-    (if_small k (counts_locally t running found && nat_lt (local_part found) 4294967294) _ _ (λ e. (small, tt))
+    (if_small k (counts_locally t running found && nat_lt (local_part found) most_local) _ _ (λ e. (small, tt))
     (small, tt))
 next_small k t running head (RetainStore x h w) found small finds = tt
 next_small k t running head (RetainAdd x h) found small finds = tt

@@ -1,11 +1,11 @@
 -- Each step that changes a row's counts keeps the row's rule.
 use Rattle.std.proofs.Common.{◌≡◌, ◌≢◌, ℕ, ◌+◌, ◌-◌, ◌<◌, ◌≤◌, ◌∙◌, arith}
-use Rattle.brc_word.specs.Words.{owner_part, local_part, biased_part, phase_part, bias, fresh_word, dead_word, merged_word}
+use Rattle.brc_word.specs.Words.{most_local, owner_part, local_part, biased_part, phase_part, bias, fresh_word, dead_word, merged_word}
 use Rattle.brc_model.specs.RowRule.{Numbers, IsDefault, IsQueued, AtZero, AboveZero, InOwned, InSwapped, InMerged, IsLive, IsDead}
 
 -- ---- words
 
-pub owner_up : (w : ℕ) → local_part w < 4294967294
+pub owner_up : (w : ℕ) → local_part w < most_local
     → (owner_part (w + 1) ≡ owner_part w) × (local_part (w + 1) ≡ local_part w + 1)
 owner_up w low = (omega arith, omega arith)
 
@@ -25,7 +25,7 @@ shared_merged w c = (omega arith, omega arith)
 
 -- ---- the running owner's steps
 
-pub local_up : (owner : ℕ) (n : Numbers) → IsLive owner n → 1 ≤ local_part n.local → local_part n.local < 4294967294
+pub local_up : (owner : ℕ) (n : Numbers) → IsLive owner n → 1 ≤ local_part n.local → local_part n.local < most_local
     → IsLive owner (record n { local = n.local + 1; references = n.references + 1 })
 local_up owner n live some low = let up = owner_up n.local low in record {
   sum = omega (arith, live.sum, up.1);

@@ -2,7 +2,7 @@
 use Rattle.std.proofs.Common.{ℕ, ◌+◌, ◌<◌, Bool, cond, List, [], ◌∷◌, refl, sym, ap, subst, arith}
 use Rattle.std.proofs.lemmas.Option.{slice_get_within}
 use Rattle.brc_model.specs.declared.duty.Holding.{Holding}
-use Rattle.brc_word.specs.Words.{local_word}
+use Rattle.brc_word.specs.Words.{most_local, local_word}
 use Rattle.brc_model.specs.declared.duty.Duty.{Duty}
 use Rattle.brc_model.specs.declared.duty.Duty.TheVariants.{BirthKind, BirthSlot, BirthLocal}
 use Rattle.brc_model.specs.declared.address.Address.TheVariants.{Local}
@@ -55,7 +55,7 @@ row_after_birth_slot {y = y} {h = h} some s =
 -- ---- the object is counted
 
 -- one local reference of the owner's, and nothing else
-born_live : (owner : ℕ) (k : Numbers) → owner < 4294967294 → IsUnborn k
+born_live : (owner : ℕ) (k : Numbers) → owner < most_local → IsUnborn k
     → IsLive owner (record k { local = local_word owner 1; references = k.references + 1 })
 born_live owner k low unborn = record {
   sum = omega (arith, low, unborn.shared, unborn.mark, unborn.references, unborn.waiting, unborn.carried);

@@ -4,7 +4,7 @@ use Rattle.std.specs.Prelude.{◌==◌, ◌&&◌, nat_lt, if◌then◌else◌, s
 use Rattle.std.proofs.lemmas.List.Sums.{sum_by-cons}
 use Rattle.brc_model.specs.declared.duty.Holding.TheVariants.{ByVariable, AsCaller, InHand}
 use Rattle.brc_model.specs.Plain.{Reference, same, without, references_to, Plain, Move, Born, Gain, Lose, HandOn, Finalise, move, moved}
-use Rattle.brc_word.specs.Words.{is_immortal_word, local_part, fresh_word, dead_word, released_word, merged_word}
+use Rattle.brc_word.specs.Words.{most_local, is_immortal_word, local_part, fresh_word, dead_word, released_word, merged_word}
 use Rattle.brc_model.specs.declared.duty.Reason.{Reason}
 use Rattle.brc_model.specs.declared.duty.Reason.TheVariants.{Own, Handed}
 use Rattle.brc_model.specs.declared.duty.Duty.{Duty}
@@ -299,7 +299,7 @@ pub next_apart : (t : ℕ) (running : Bool) (head : ℕ) (d : Duty) (found x : �
     → AreApart x (next_by t running head d found)
 next_apart t running head (RetainLoad y h) found x e =
     apart_if (is_immortal_word found) (none_apart x)
-    (apart_if (counts_locally t running found && nat_lt (local_part found) 4294967294)
+    (apart_if (counts_locally t running found && nat_lt (local_part found) most_local)
     (one x (RetainStore y h found) e) (one x (RetainAdd y h) e))
 next_apart t running head (RetainStore y h w) found x e = none_apart x
 next_apart t running head (RetainAdd y h) found x e = none_apart x

@@ -5,7 +5,7 @@ use Rattle.std.proofs.lemmas.Bool.Decides.{eqb_tells}
 use Rattle.brc_model.specs.declared.duty.Holding.{Holding}
 use Rattle.brc_model.specs.declared.duty.Holding.TheVariants.{ByVariable, AsCaller, InHand}
 use Rattle.brc_model.specs.Plain.{without, references_to, Plain, moved}
-use Rattle.brc_word.specs.Words.{local_part, is_immortal_word, fresh_word}
+use Rattle.brc_word.specs.Words.{most_local, local_part, is_immortal_word, fresh_word}
 use Rattle.brc_model.specs.declared.duty.Reason.TheVariants.{Own}
 use Rattle.brc_model.specs.declared.duty.Duty.{Duty}
 use Rattle.brc_model.specs.declared.duty.Duty.TheVariants.{RetainLoad, RetainStore, RetainAdd, ReleaseLoad, ReleaseStore, DecideAtZero, SharedLoad, MergeSwap, Die}
@@ -42,7 +42,7 @@ row_after_retain_load {m = m} {t = t} {y = y} {h = h} some s =
     let parts = retain_apart y y h w in
     let next =
     apart_if (is_immortal_word w) (none_apart y)
-    (apart_if (counts_locally t _ w && nat_lt (local_part w) 4294967294) (one_apart y _ parts.1)
+    (apart_if (counts_locally t _ w && nat_lt (local_part w) most_local) (one_apart y _ parts.1)
     (one_apart y _ parts.2)) in
     row_apart s y some parts.0 next (λ life state. refl) (record {
       local = sym (written_here m.memory (Local y) w (own y));

@@ -5,7 +5,7 @@ use Rattle.std.specs.List.{list_any}
 use Rattle.std.proofs.lemmas.Bool.{eq-eqb, ne_eqb}
 use Rattle.brc_model.specs.declared.duty.Holding.{Holding}
 use Rattle.brc_model.specs.Plain.{Reference, same, without, references_to}
-use Rattle.brc_word.specs.Words.{local_part, is_immortal_word}
+use Rattle.brc_word.specs.Words.{immortal_local, local_part, is_immortal_word}
 use Rattle.brc_model.specs.declared.duty.Duty.{Duty}
 use Rattle.brc_model.specs.declared.address.Address.{Address}
 use Rattle.brc_model.specs.declared.address.Address.TheVariants.{Local, Shared, Mark}
@@ -83,7 +83,7 @@ lives_backed {m = m} {t = t} s y some backed =
 -- a row above 0 isn't immortal
 pub counted_word : (owner : ℕ) (n : Numbers) → IsLive owner n → is_immortal_word n.local ≡ false
 counted_word owner n live =
-    ne_eqb (local_part n.local) 4294967295 (λ (e : local_part n.local ≡ 4294967295).
+    ne_eqb (local_part n.local) immortal_local (λ (e : local_part n.local ≡ immortal_local).
     elim live.mode [
       | InOwned o ↦ absurd (omega (arith, o.low, e))
       | InSwapped w ↦ absurd (omega (arith, w.local, e))

@@ -1,7 +1,7 @@
 -- A thread's agenda is another after its first duty: what follows begins with another duty, or the agenda is shorter.
 use Rattle.std.proofs.Common.{◌≡◌, ◌≢◌, ℕ, zero, suc, ◌+◌, ◌-◌, ◌≤◌, Bool, true, false, cond, List, [], ◌∷◌, ◌++◌, length, refl, sym, ap, ◌∙◌, arith}
 use Rattle.std.specs.Prelude.{◌==◌, ◌&&◌, nat_lt}
-use Rattle.brc_word.specs.Words.{local_part, is_immortal_word, fresh_word, dead_word, released_word, merged_word}
+use Rattle.brc_word.specs.Words.{most_local, local_part, is_immortal_word, fresh_word, dead_word, released_word, merged_word}
 use Rattle.brc_model.specs.declared.duty.Reason.{Reason}
 use Rattle.brc_model.specs.declared.duty.Reason.TheVariants.{Own, Handed}
 use Rattle.brc_model.specs.declared.duty.Duty.{Duty}
@@ -114,7 +114,7 @@ pub agenda_moves : (t : ℕ) (running : Bool) (before head : ℕ) (d : Duty) (re
     → IsOther head d rest (next_by t running before d found)
 agenda_moves t running before head (RetainLoad x h) rest found =
     either_follows head _ rest (is_immortal_word found) [] _ (none_follows head _ rest)
-    (either_follows head _ rest (counts_locally t running found && nat_lt (local_part found) 4294967294)
+    (either_follows head _ rest (counts_locally t running found && nat_lt (local_part found) most_local)
     (RetainStore x h found ∷ []) (RetainAdd x h ∷ [])
     (other_follows head _ rest (RetainStore x h found) [] refl (λ e. cc))
     (other_follows head _ rest (RetainAdd x h) [] refl (λ e. cc)))

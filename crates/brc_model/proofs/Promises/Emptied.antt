@@ -4,7 +4,7 @@ use Rattle.std.specs.Prelude.{◌==◌, ◌&&◌, not, nat_lt, slice_get, slice_
 use Rattle.brc_lang.specs.declared.module.Instr.{Instr}
 use Rattle.brc_lang.specs.declared.module.Instr.TheVariants.{Num, NoneObject, Newref, Move as MoveReference, Drop, Goto, Ret, Fail}
 use Rattle.brc_lang.specs.declared.module.Module.{Module}
-use Rattle.brc_word.specs.Words.{local_part, is_immortal_word, fresh_word, dead_word, released_word, merged_word}
+use Rattle.brc_word.specs.Words.{most_local, local_part, is_immortal_word, fresh_word, dead_word, released_word, merged_word}
 use Rattle.brc_model.specs.declared.thread.Call.{Call}
 use Rattle.brc_model.specs.declared.thread.Choice.{Choice}
 use Rattle.brc_model.specs.declared.thread.Choice.TheVariants.{Ok, Fault, Claim}
@@ -111,7 +111,7 @@ next_empties : (t : ℕ) (running : Bool) (head : ℕ) (d : Duty) (rest : List D
     → MakesUp (some_chain (head_by head d found)) (next_by t running head d found) rest
 next_empties t running head (RetainLoad x h) rest found e =
     either_makes (some_chain head) rest (is_immortal_word found) [] _ e
-    (either_makes (some_chain head) rest (counts_locally t running found && nat_lt (local_part found) 4294967294)
+    (either_makes (some_chain head) rest (counts_locally t running found && nat_lt (local_part found) most_local)
     (RetainStore x h found ∷ []) (RetainAdd x h ∷ []) e e)
 next_empties t running head (RetainStore x h w) rest found e = e
 next_empties t running head (RetainAdd x h) rest found e = e

@@ -2,7 +2,7 @@
 use Rattle.std.proofs.Common.{◌≡◌, ℕ, zero, suc, ◌+◌, ◌-◌, ◌<◌, true, List, inl, inr, refl, sym, ◌∙◌, subst, arith}
 use Rattle.std.proofs.lemmas.Bool.{eqb-true, ne_eqb}
 use Rattle.brc_lang.specs.declared.module.Module.{Module}
-use Rattle.brc_word.specs.Words.{local_part, is_immortal_word, dying_word, closed_word}
+use Rattle.brc_word.specs.Words.{immortal_local, local_part, is_immortal_word, dying_word, closed_word}
 use Rattle.brc_model.specs.declared.thread.Choice.{Choice}
 use Rattle.brc_model.specs.declared.duty.Reason.TheVariants.{Own, Handed}
 use Rattle.brc_model.specs.declared.duty.Duty.{Duty}
@@ -24,7 +24,7 @@ use Rattle.brc_model.proofs.Stepping.Nones.{next_counted, none_local}
 
 -- ---- which rows are immortal
 
-low_by_life : (owner : ℕ) (life : Life) (n : Numbers) → RowRule owner life n → local_part n.local < 4294967295
+low_by_life : (owner : ℕ) (life : Life) (n : Numbers) → RowRule owner life n → local_part n.local < immortal_local
 low_by_life owner Unborn n row = omega (arith, row.local)
 low_by_life owner Live n row =
     elim row.mode [
@@ -36,7 +36,7 @@ low_by_life owner (Dying t) n row = omega (arith, row.local)
 low_by_life owner Closed n row = omega (arith, row.local)
 
 pub counted_low : (p : Accounts) (n : ℕ) (m : Machine) (x : ℕ) → Rule p n m → 0 < x
-    → local_part (m.memory (Local x)) < 4294967295
+    → local_part (m.memory (Local x)) < immortal_local
 counted_low p n m x rule pos = low_by_life (block_of m.rows x) (m.life x) (numbers_of m x) (rule.rows x pos)
 
 immortal_is_none : (p : Accounts) (n : ℕ) (m : Machine) (x : ℕ) → Rule p n m

@@ -3,14 +3,14 @@ use Rattle.std.proofs.Common.{◌≡◌, ◌≢◌, ℕ, suc, ◌-◌, ◌<◌, 
 use Rattle.std.specs.Prelude.{◌==◌, nat_lt}
 use Rattle.std.proofs.lemmas.Bool.Decides.{eqb_tells, leb_tells}
 use Rattle.std.proofs.lemmas.List.{append-nil}
-use Rattle.brc_word.specs.Words.{local_part, is_immortal_word, fresh_word, dead_word, merged_word}
+use Rattle.brc_word.specs.Words.{most_local, local_part, is_immortal_word, fresh_word, dead_word, merged_word}
 use Rattle.brc_model.specs.declared.duty.Holding.{Holding}
 use Rattle.brc_model.specs.declared.duty.Reason.{Reason}
 use Rattle.brc_model.specs.declared.duty.Reason.TheVariants.{Own, Handed}
 use Rattle.brc_model.specs.declared.duty.Duty.{Duty}
 use Rattle.brc_model.specs.declared.duty.Duty.TheVariants.{RetainLoad, RetainStore, RetainAdd, ReleaseLoad, ReleaseStore, DecideAtZero, SharedLoad, SharedExchange, SetMark, Look, TakeMark, MergeSwap, MergeLoad, MergeExchange, Die, Settle, SettleKind, SettleCell, TakeSlot, CloseResource, SettleEnd, Leave, Scan, Finish, ClaimMark, BirthKind, BirthSlot, BirthLocal}
 use Rattle.brc_model.specs.declared.address.Address.{Address}
-use Rattle.brc_model.specs.Rules.{Goes, IsComputed, given_up, most_local, one_shared}
+use Rattle.brc_model.specs.Rules.{Goes, IsComputed, given_up, one_shared}
 use Rattle.brc_model.specs.Rules as rules
 use Rattle.brc_model.specs.Duties.{left_by, next_by, counts_locally, has_resource}
 use Rattle.brc_model.specs.Machine.{moves_by, hand_on}

@@ -4,7 +4,7 @@ use Rattle.std.specs.Prelude.{◌&&◌, nat_lt}
 use Rattle.brc_model.specs.declared.duty.Holding.{Holding}
 use Rattle.brc_model.specs.declared.duty.Holding.TheVariants.{ByVariable, AsCaller, InHand}
 use Rattle.brc_model.specs.Plain.{Reference, Plain, without, moved}
-use Rattle.brc_word.specs.Words.{local_word, is_immortal_word, local_part}
+use Rattle.brc_word.specs.Words.{most_local, local_word, is_immortal_word, local_part}
 use Rattle.brc_model.specs.declared.duty.Reason.TheVariants.{Own, Handed}
 use Rattle.brc_model.specs.declared.duty.Duty.{Duty}
 use Rattle.brc_model.specs.declared.duty.Duty.TheVariants.{RetainLoad, RetainStore, ReleaseLoad, ReleaseStore, SharedLoad, RetainAdd, MergeSwap, BirthLocal}
@@ -69,7 +69,7 @@ own_retain_none p n m t a h rest here alive =
     let word = m.memory (Local 0) in
     let next : next_of m t a d ≡ [] =
     ap (λ (b : Bool). cond b [] (cond
-    (counts_locally t (is_running a.status) word && nat_lt (local_part word) 4294967294)
+    (counts_locally t (is_running a.status) word && nat_lt (local_part word) most_local)
     (RetainStore 0 h word ∷ []) (RetainAdd 0 h ∷ []))) immortal in
     own_done p n m t a d rest here alive refl next (agenda_here p n m t a d rest here alive)
     (subst (λ (l : List Reference). HeldStep m.plain.references l t (d ∷ rest) []) (sym bag)

@@ -4,7 +4,7 @@ use Rattle.std.specs.Prelude.{◌==◌, count_by}
 use Rattle.std.proofs.lemmas.Bool.{eq-eqb}
 use Rattle.std.proofs.lemmas.Bool.Decides.{eqb_tells}
 use Rattle.std.proofs.lemmas.List.Sums.{sum_by-cons}
-use Rattle.brc_word.specs.Words.{dying_word, next_part, closed_word}
+use Rattle.brc_word.specs.Words.{half, dying_word, next_part, closed_word}
 use Rattle.brc_model.specs.declared.duty.Duty.{Duty}
 use Rattle.brc_model.specs.declared.duty.Duty.TheVariants.{Die, Settle, SettleKind, SettleEnd}
 use Rattle.brc_model.specs.declared.address.Address.TheVariants.{Gate}
@@ -64,7 +64,7 @@ hand_not_chained m t head x agenda chain at =
 pub head_low : (p : Accounts) (n : ℕ) (m : Machine) (t head : ℕ) (agenda : List Duty) (chained : List ℕ) → Rule p n m
     → Linked m.memory t head chained
     → ((x : ℕ) → one_if (hand_of agenda x) + count_by (λ y. y == x) chained ≡ one_if (dies_by (m.life x) t))
-    → head < 4294967296
+    → head < half
 head_low p n m t head agenda [] rule linked once = omega (arith, linked)
 head_low p n m t head agenda (x ∷ xs) rule linked once =
     let here : one_if (x == x) ≡ 1 = ap one_if (eq-eqb x x refl) in
@@ -121,7 +121,7 @@ own_die p n m t a x rest here alive =
 
 -- ---- a row is taken from the chain
 
-next_of_dying : (word t next : ℕ) → word ≡ dying_word t next → next < 4294967296 → next_part word ≡ next
+next_of_dying : (word t next : ℕ) → word ≡ dying_word t next → next < half → next_part word ≡ next
 next_of_dying word t next is low = omega (arith, is, low)
 
 -- what is known of the first of the chain

@@ -6,7 +6,7 @@ use Rattle.std.proofs.lemmas.Bool.{eqb-true, eqb-false, eq-eqb, ne_eqb}
 use Rattle.brc_model.specs.declared.duty.Holding.{Holding}
 use Rattle.brc_model.specs.declared.duty.Holding.TheVariants.{ByVariable, AsCaller, InHand}
 use Rattle.brc_model.specs.Plain.{Reference, same_holding, same, without}
-use Rattle.brc_word.specs.Words.{local_part, is_immortal_word}
+use Rattle.brc_word.specs.Words.{immortal_local, local_part, is_immortal_word}
 use Rattle.brc_model.specs.declared.duty.Duty.{Duty}
 use Rattle.brc_model.specs.declared.duty.Duty.TheVariants.{RetainLoad}
 use Rattle.brc_model.specs.declared.address.Address.TheVariants.{Local}
@@ -111,7 +111,7 @@ pub backed_not_immortal : (p : Accounts) (n : ℕ) (m : Machine) (t : ℕ) (a : 
 backed_not_immortal p n m t a x h rest pos here =
     let fits = head_of p n m t a (RetainLoad x h) rest here in
     let alive = alive_backed p n m t x here.rule pos fits in
-    ne_eqb (local_part (m.memory (Local x))) 4294967295 (elim alive.live.mode [
+    ne_eqb (local_part (m.memory (Local x))) immortal_local (elim alive.live.mode [
       | InOwned o ↦ λ e. absurd (omega (arith, o.low, e))
       | InSwapped s ↦ λ e. absurd (omega (arith, s.local, e))
       | InMerged s ↦ λ e. absurd (omega (arith, s.local, e))

@@ -7,7 +7,7 @@ use Rattle.std.proofs.lemmas.Bool.{eqb-true, eq-eqb, ne_eqb}
 use Rattle.brc_model.specs.declared.duty.Holding.{Holding}
 use Rattle.brc_model.specs.declared.duty.Holding.TheVariants.{ByVariable, AsCaller, InHand}
 use Rattle.brc_model.specs.Plain.{Reference, same_holding, same, without, moved}
-use Rattle.brc_word.specs.Words.{owner_part, local_part, is_immortal_word, fresh_word}
+use Rattle.brc_word.specs.Words.{immortal_local, owner_part, local_part, is_immortal_word, fresh_word}
 use Rattle.brc_model.specs.declared.duty.Reason.TheVariants.{Own}
 use Rattle.brc_model.specs.declared.duty.Duty.{Duty}
 use Rattle.brc_model.specs.declared.duty.Duty.TheVariants.{RetainStore, RetainAdd, ReleaseLoad, ReleaseStore, DecideAtZero, SharedLoad, MergeSwap, Die}
@@ -85,7 +85,7 @@ release_alive p n m t a x h rest pos here =
 
 alive_mortal : (m : Machine) (x : ℕ) → Alive m x → is_immortal_word (m.memory (Local x)) ≡ false
 alive_mortal m x alive =
-    ne_eqb (local_part (m.memory (Local x))) 4294967295 (elim alive.live.mode [
+    ne_eqb (local_part (m.memory (Local x))) immortal_local (elim alive.live.mode [
       | InOwned o ↦ λ e. absurd (omega (arith, o.low, e))
       | InSwapped s ↦ λ e. absurd (omega (arith, s.local, e))
       | InMerged s ↦ λ e. absurd (omega (arith, s.local, e))
@@ -170,7 +170,7 @@ own_release_counted p n m t a x h rest pos here alive =
             record {
               running = status ∙ owns.running;
               owner = ap owner_part same_word ∙ owns.owner;
-              low = subst (λ (w : ℕ). local_part w < 4294967295) (sym same_word) owns.low;
+              low = subst (λ (w : ℕ). local_part w < immortal_local) (sym same_word) owns.low;
             },
             same_word,
             some,
@@ -226,7 +226,7 @@ own_release_store p n m t a x w rest here alive =
               running = status ∙ fits.1.running;
               owner = ap owner_part now ∙ owner;
               low =
-                  subst (λ (v : ℕ). local_part v < 4294967295) (sym now) (omega (arith, zero_left));
+                  subst (λ (v : ℕ). local_part v < immortal_local) (sym now) (omega (arith, zero_left));
             },
             ap local_part now ∙ zero_left,
           ))

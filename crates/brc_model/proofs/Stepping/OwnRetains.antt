@@ -5,7 +5,7 @@ use Rattle.std.specs.Prelude.{◌==◌, ◌&&◌, nat_lt, slice_get}
 use Rattle.std.proofs.lemmas.Bool.{eqb-true, ltb-true}
 use Rattle.brc_model.specs.declared.duty.Holding.{Holding}
 use Rattle.brc_model.specs.Plain.{Reference, same_holding, moved}
-use Rattle.brc_word.specs.Words.{owner_part, local_part, is_immortal_word}
+use Rattle.brc_word.specs.Words.{immortal_local, most_local, owner_part, local_part, is_immortal_word}
 use Rattle.brc_model.specs.declared.duty.Duty.{Duty}
 use Rattle.brc_model.specs.declared.duty.Duty.TheVariants.{RetainLoad, RetainStore, RetainAdd, Settle, Scan}
 use Rattle.brc_model.specs.declared.address.Address.TheVariants.{Local}
@@ -106,24 +106,24 @@ own_retain_counted p n m t a x h rest pos here alive =
           subst (λ (l : List Reference). 0 < held (reference_of t fits.by x) l) (sym bag) fits.held_so;
     } in
     let first : next_by t (is_running a.status) a.head (RetainLoad x h) word
-    ≡ cond (counts_locally t (is_running a.status) word && nat_lt (local_part word) 4294967294)
+    ≡ cond (counts_locally t (is_running a.status) word && nat_lt (local_part word) most_local)
     (RetainStore x h word ∷ []) (RetainAdd x h ∷ []) =
     ap (λ (b : Bool). cond b [] (cond
-    (counts_locally t (is_running a.status) word && nat_lt (local_part word) 4294967294)
+    (counts_locally t (is_running a.status) word && nat_lt (local_part word) most_local)
     (RetainStore x h word ∷ []) (RetainAdd x h ∷ []))) mortal in
     let keeps : (e : Duty) → ((k : Holding) (object : ℕ) → extra_of (e ∷ rest) k object ≡ false)
     → ((k : Holding) (object : ℕ) → lacks_of (e ∷ rest) k object ≡ (same_holding h k && (x == object)))
     → HeldStep m.plain.references (bag_by m t a (RetainLoad x h)) t (RetainLoad x h ∷ rest) (e ∷ rest) =
     λ e more less. subst (λ (l : List Reference). HeldStep m.plain.references l t (RetainLoad x h ∷ rest) (e ∷ rest))
     (sym bag) (held_same m.plain.references t (RetainLoad x h ∷ rest) (e ∷ rest) more less) in
-    let is_local = counts_locally t (is_running a.status) word && nat_lt (local_part word) 4294967294 in
+    let is_local = counts_locally t (is_running a.status) word && nat_lt (local_part word) most_local in
     elim is_local as (λ b. is_local ≡ b → OwnFits p new t (actor_by t a (RetainLoad x h) rest word)) [
       | true ↦ λ e.
           let counts =
-          and_first (counts_locally t (is_running a.status) word) (nat_lt (local_part word) 4294967294) e in
-          let low : local_part word < 4294967294 =
+          and_first (counts_locally t (is_running a.status) word) (nat_lt (local_part word) most_local) e in
+          let low : local_part word < most_local =
           ltb-true _ _ (and_second (counts_locally t (is_running a.status) word)
-          (nat_lt (local_part word) 4294967294) e) in
+          (nat_lt (local_part word) most_local) e) in
           let owns = counts_owner m t a x counts living in
           let some =
           count_above p n m t x a here.rule here.found owns
@@ -150,7 +150,7 @@ own_retain_counted p n m t a x h rest pos here alive =
                   record {
                     running = status ∙ owns.running;
                     owner = ap owner_part same ∙ owns.owner;
-                    low = subst (λ (w : ℕ). local_part w < 4294967295) (sym same) owns.low;
+                    low = subst (λ (w : ℕ). local_part w < immortal_local) (sym same) owns.low;
                   },
                   same,
                   some,

@@ -1,7 +1,7 @@
 -- A thread's chain is empty when it leaves, looks at a mark and is gone: it settles before each.
 use Rattle.std.proofs.Common.{◌≡◌, ℕ, zero, suc, ◌+◌, ◌-◌, Bool, true, false, cond, List, [], ◌∷◌, ◌++◌, refl, sym, subst, arith}
 use Rattle.std.specs.Prelude.{◌==◌, ◌&&◌, nat_lt}
-use Rattle.brc_word.specs.Words.{local_part, is_immortal_word, fresh_word, dead_word, released_word, merged_word}
+use Rattle.brc_word.specs.Words.{most_local, local_part, is_immortal_word, fresh_word, dead_word, released_word, merged_word}
 use Rattle.brc_model.specs.declared.duty.Reason.{Reason}
 use Rattle.brc_model.specs.declared.duty.Reason.TheVariants.{Own, Handed}
 use Rattle.brc_model.specs.declared.duty.Duty.{Duty}
@@ -117,7 +117,7 @@ next_inner : (t : ℕ) (running : Bool) (head : ℕ) (d : Duty) (found : ℕ) �
     → AreInner (next_by t running head d found)
 next_inner t running head (RetainLoad x h) found plain =
     either_inner (is_immortal_word found) [] _ tt
-    (either_inner (counts_locally t running found && nat_lt (local_part found) 4294967294)
+    (either_inner (counts_locally t running found && nat_lt (local_part found) most_local)
     (RetainStore x h found ∷ []) (RetainAdd x h ∷ []) (tt, tt) (tt, tt))
 next_inner t running head (ReleaseLoad x h) found plain =
     either_inner (is_immortal_word found) [] _ tt

@@ -4,7 +4,7 @@ use Rattle.std.specs.Prelude.{◌==◌, ◌&&◌, nat_lt, slice_get, sum_by}
 use Rattle.std.proofs.lemmas.Bool.{eqb-true, ne_eqb, leb-true, le-leb}
 use Rattle.std.proofs.lemmas.Bool.Decides.{eqb_tells}
 use Rattle.std.proofs.lemmas.List.Sums.{sum_by-cons, sum_by-append}
-use Rattle.brc_word.specs.Words.{local_part, is_immortal_word, fresh_word, dead_word, released_word, merged_word}
+use Rattle.brc_word.specs.Words.{most_local, local_part, is_immortal_word, fresh_word, dead_word, released_word, merged_word}
 use Rattle.brc_model.specs.declared.duty.Reason.{Reason}
 use Rattle.brc_model.specs.declared.duty.Reason.TheVariants.{Own, Handed}
 use Rattle.brc_model.specs.declared.duty.Duty.{Duty}
@@ -153,7 +153,7 @@ next_scanless : (t : ℕ) (running : Bool) (head : ℕ) (d : Duty) (found : ℕ)
     → Scanless (next_by t running head d found)
 next_scanless t running head (RetainLoad x h) found none =
     either_scanless (is_immortal_word found) [] _ tt
-    (either_scanless (counts_locally t running found && nat_lt (local_part found) 4294967294)
+    (either_scanless (counts_locally t running found && nat_lt (local_part found) most_local)
     (RetainStore x h found ∷ []) (RetainAdd x h ∷ []) tt tt)
 next_scanless t running head (ReleaseLoad x h) found none =
     either_scanless (is_immortal_word found) [] _ tt
