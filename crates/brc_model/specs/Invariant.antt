@@ -17,6 +17,7 @@ use Rattle.brc_model.specs.RowRule.{waits, carries, merges, decides, weight, Num
 use Rattle.brc_model.specs.Accounts.{Account, Accounts, HoldsAt, IsBounded, HoldsNone}
 use Rattle.brc_model.specs.Knowledge.{status_word, HeadOf}
 use Rattle.brc_model.specs.OpenWork.{scans, AgendaFits, IsSettled, GateFits, dies_by, ChainFits, AsideFits}
+use Rattle.brc_model.specs.Limits.{row_limit, thread_limit}
 
 -- ---- rows
 
@@ -91,8 +92,8 @@ pub record BlankFits (rows : ℕ) (memory : Address → ℕ) (t used : ℕ) (age
 pub record Rule (p : Accounts) (n : ℕ) (m : Machine) : Type 0 where
   pub threads : length m.actors ≡ n
   pub some_rows : 0 < m.rows
-  pub few_threads : n ≤ 33
-  pub few_rows : m.rows ≤ 1024
+  pub few_threads : n ≤ thread_limit
+  pub few_rows : m.rows ≤ row_limit
   pub rows : (x : ℕ) → 0 < x → RowRule (block_of m.rows x) (m.life x) (numbers_of m x)
   pub marks : (x : ℕ) → m.memory (Mark x) ≡ 0 ⊎ ((m.memory (Mark x) ≡ 1) × (0 < x) × IsWatched m x)
   pub each : (t : ℕ) (a : Actor) → slice_get m.actors t ≡ Some a → Fits (p t) m t a

@@ -1,3 +1,4 @@
+pub mod Limits
 pub mod Slots
 pub mod Walks
 pub mod Tables

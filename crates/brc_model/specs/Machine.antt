@@ -27,6 +27,7 @@ use Rattle.brc_model.specs.declared.duty.Duty.TheVariants.{RetainLoad, RetainSto
 use Rattle.brc_model.specs.declared.address.Address.{Address}
 use Rattle.brc_model.specs.declared.address.Address.TheVariants.{Local, Shared, Gate, KindOf, Mark, Cell, Slot, Resource, ThreadWord}
 use Rattle.brc_model.specs.Duties.{address_of, left_by, next_by, head_by, ready}
+use Rattle.brc_model.specs.Limits.{cell_limit}
 
 -- ---- the plain moves of a thread
 
@@ -364,7 +365,7 @@ first_memory workers (Local (suc (suc x))) = 0
 first_memory workers (Shared x) = fresh_word
 first_memory workers (Gate x) = 1
 first_memory workers (KindOf zero) = half
-first_memory workers (KindOf (suc zero)) = 3 * half + 8
+first_memory workers (KindOf (suc zero)) = 3 * half + cell_limit
 first_memory workers (KindOf (suc (suc x))) = 0
 first_memory workers (Mark x) = 0
 first_memory workers (Cell x i) = 0

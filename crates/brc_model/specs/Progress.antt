@@ -13,13 +13,14 @@ use Rattle.brc_model.specs.declared.address.Address.TheVariants.{Local, Shared, 
 use Rattle.brc_model.specs.Duties.{block_of}
 use Rattle.brc_model.specs.Machine.{Actor, Unborn, Machine, first_row, next_machine, first_machine, machine_after}
 use Rattle.brc_model.specs.World.{world_of, row_count}
+use Rattle.brc_model.specs.Limits.{row_limit}
 
 -- ---- what is promised of a module
 
 -- in each machine that the module's events lead to
 abbrev pub Always : (Machine → Type 0) → Module → Type 0
 Always P p =
-    (rows : ℕ) (calls : List Call) (events : List (ℕ × Choice)) → 0 < rows → rows ≤ 1024 → AreCalls p calls
+    (rows : ℕ) (calls : List Call) (events : List (ℕ × Choice)) → 0 < rows → rows ≤ row_limit → AreCalls p calls
     → P (machine_after (first_machine p rows calls) events)
 
 -- at each event, by any thread, in each such machine

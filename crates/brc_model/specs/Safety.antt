@@ -13,6 +13,7 @@ use Rattle.brc_model.specs.declared.address.Address.TheVariants.{KindOf}
 use Rattle.brc_model.specs.Machine.{Actor, Unborn, Live, Machine, first_machine, machine_after}
 use Rattle.brc_model.specs.Agreement.{AgreesAt, IsFreeOf}
 use Rattle.brc_model.specs.Events.{is_bad_event}
+use Rattle.brc_model.specs.Limits.{row_limit, worker_limit}
 
 -- 1 to 32 workers, each with one function of the module to call 1 to 1,000,000 times
 abbrev pub IsCall : Module → Call → Type 0
@@ -20,7 +21,7 @@ IsCall m c = (c.function < length m.functions) × (0 < c.times) × (c.times ≤ 
 
 pub record AreCalls (m : Module) (calls : List Call) : Type 0 where
   pub some : 0 < length calls
-  pub most : length calls ≤ 32
+  pub most : length calls ≤ worker_limit
   pub each : AllByRecursion (IsCall m) calls
 
 abbrev pub has_gone : Status → Bool
@@ -64,5 +65,5 @@ pub record IsSafeNow (m : Machine) : Type 0 where
 -- closed twice. Once all threads are gone, exactly what has no reference has been closed.
 abbrev pub Safe : Module → Type 0
 Safe m =
-    (rows : ℕ) (calls : List Call) (events : List (ℕ × Choice)) → 0 < rows → rows ≤ 1024 → AreCalls m calls
+    (rows : ℕ) (calls : List Call) (events : List (ℕ × Choice)) → 0 < rows → rows ≤ row_limit → AreCalls m calls
     → IsSafeNow (machine_after (first_machine m rows calls) events)

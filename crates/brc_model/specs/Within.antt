@@ -11,6 +11,7 @@ use Rattle.brc_model.specs.declared.duty.Duty.TheVariants.{RetainStore, RetainAd
 use Rattle.brc_model.specs.Duties.{address_of}
 use Rattle.brc_model.specs.Machine.{Actor, used_by, Does, action_of, is_running}
 use Rattle.brc_model.specs.World.{World, row_count}
+use Rattle.brc_model.specs.Limits.{cell_limit}
 
 -- the word at the address is there: so many rows and threads
 abbrev pub IsThere : ℕ → ℕ → Address → Type 0
@@ -19,7 +20,7 @@ IsThere n threads (Shared x) = x < n
 IsThere n threads (Gate x) = x < n
 IsThere n threads (KindOf x) = x < n
 IsThere n threads (Mark x) = x < n
-IsThere n threads (Cell x i) = (x < n) × (i < 8)
+IsThere n threads (Cell x i) = (x < n) × (i < cell_limit)
 IsThere n threads (Slot x) = x < n
 IsThere n threads (Resource x) = x < n
 IsThere n threads (ThreadWord t) = t < threads

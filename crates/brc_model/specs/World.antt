@@ -11,6 +11,7 @@ use Rattle.brc_lang.specs.declared.kind.Kind.TheVariants as kinds
 use Rattle.brc_model.specs.Walks.{IsAcceptable}
 use Rattle.brc_model.specs.Safety.{AreCalls}
 use Rattle.brc_model.specs.Machine.{Actor, Unborn, Machine, next_machine, first_machine, machine_after}
+use Rattle.brc_model.specs.Limits.{row_limit}
 
 pub record World : Type 0 where
   pub functions : List Function
@@ -53,6 +54,6 @@ pub record IsReachable (p : Module) (w : World) : Type 0 where
   pub calls : List Call
   pub events : List (ℕ × Choice)
   pub some_rows : 0 < rows
-  pub most_rows : rows ≤ 1024
+  pub most_rows : rows ≤ row_limit
   pub calls_fit : AreCalls p calls
   pub reached : w ≡ world_of (machine_after (first_machine p rows calls) events)

@@ -11,6 +11,7 @@ use Rattle.brc_model.specs.Accounts.{Accounts}
 use Rattle.brc_model.specs.Knowledge.{IsNext}
 use Rattle.brc_model.specs.Invariant.{Rule}
 use Rattle.std.proofs.lemmas.Option.{slice_get_within}
+use Rattle.brc_model.specs.Limits.{row_limit, worker_limit}
 
 -- ---- arithmetic
 
@@ -107,8 +108,8 @@ born_within p n m x rule born =
 pub born_low : (p : Accounts) (n : ℕ) (m : Machine) (x : ℕ) → Rule p n m → (m.life x ≢ Unborn) → x < 32770
 born_low p n m x rule born =
     let low = born_within p n m x rule born in
-    let most : (n - 1) * m.rows ≤ 32 * 1024 =
-    mul-le-mul {n₂ = 32} {m₂ = 1024} (omega (arith, rule.few_threads)) rule.few_rows in
+    let most : (n - 1) * m.rows ≤ worker_limit * row_limit =
+    mul-le-mul {n₂ = worker_limit} {m₂ = row_limit} (omega (arith, rule.few_threads)) rule.few_rows in
     omega (arith, low, most)
 
 -- ---- the row that is born next

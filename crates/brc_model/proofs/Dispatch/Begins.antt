@@ -28,6 +28,7 @@ use Rattle.brc_model.proofs.Dispatch.Coded.{once_each, PlaceFits}
 use Rattle.brc_model.specs.Duties.{cells_of}
 use Rattle.brc_lang.specs.declared.kind.Kind.TheVariants as kinds
 use Rattle.brc_model.specs.Kinds.{kind_of_word, is_counted_kind}
+use Rattle.brc_model.specs.Limits.{cell_limit}
 
 -- ---- nothing is at hand
 
@@ -48,7 +49,8 @@ pub data Starts (bag : List Reference) (rows t used : ℕ) : Duty → List Duty 
       → Starts bag rows t used (ReleaseLoad row h) rest
   Takes : (row : ℕ) (h by : Holding) (rest : List Duty) → 0 < held (reference_of t by row) bag
       → Starts bag rows t used (RetainLoad row h) rest
-  Bears : (h : Holding) (w : ℕ) → used < block_size rows t → cells_of w ≤ 8 → is_counted_kind (kind_of_word w) ≡ true
+  Bears : (h : Holding) (w : ℕ) → used < block_size rows t → cells_of w ≤ cell_limit → is_counted_kind
+  (kind_of_word w) ≡ true
       → Starts bag rows t used (BirthKind (next_row rows t used) h w) []
 
 -- the duties behind it settle, and leave where the thread is to leave

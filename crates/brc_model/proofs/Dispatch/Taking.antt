@@ -35,6 +35,7 @@ use Rattle.brc_model.specs.Duties.{cells_of}
 use Rattle.brc_word.specs.Words.{half, kind_part, argument_part}
 use Rattle.std.proofs.lemmas.Bool.{ltb-true, ne_eqb}
 use Rattle.brc_model.proofs.Dispatch.TakingQuiet.{none_taken, move_taken, goto_taken}
+use Rattle.brc_model.specs.Limits.{cell_limit}
 
 -- by which of its references a thread holds what a variable names
 backed_slot : (bag : List Reference) (t : ℕ) (s : State) (rows : List (Option ℕ)) (v row : ℕ) (slot : Slot)
@@ -52,7 +53,7 @@ backed_slot bag t s rows v row (Caller k) is named some grounded holds =
 backed_slot bag t s rows v row (Locked k) is named some grounded holds = absurd grounded
 
 -- a number has no cells
-number_cells : (value : ℕ) → value < half → cells_of (number_word value) ≤ 8
+number_cells : (value : ℕ) → value < half → cells_of (number_word value) ≤ cell_limit
 number_cells value low =
     let kind : (kind_part (number_word value) == 3) ≡ false =
     ne_eqb (kind_part (number_word value)) 3 (λ e. absurd (omega (arith, low, e))) in

@@ -22,6 +22,7 @@ use Rattle.brc_model.proofs.Stepping.OwnRetains.{counts_owner, count_above, weig
 use Rattle.brc_model.proofs.Stepping.OwnReleases.{release_alive}
 use Rattle.brc_model.proofs.Work.MergesOnce.{carried_is}
 use Rattle.brc_model.proofs.Limits.FewHeld.{most_each, references_few}
+use Rattle.brc_model.specs.Limits.{thread_limit}
 
 -- ---- a live row's shared word
 
@@ -39,11 +40,11 @@ live_few owner k live =
 
 -- few references are counted, so the count is near the bias
 record NearBias (m : Machine) (x : ℕ) : Type 0 where
-  high : biased_part (m.memory (Shared x)) + weight (carries x) m.actors ≤ bias + 33 * most_each + 1
+  high : biased_part (m.memory (Shared x)) + weight (carries x) m.actors ≤ bias + thread_limit * most_each + 1
   some : 1 ≤ biased_part (m.memory (Shared x))
   state : phase_part (m.memory (Shared x)) ≢ 1
 
-near_bias : (p : Accounts) (n : ℕ) (m : Machine) (x : ℕ) → Rule p n m → n ≤ 33 → Alive m x → NearBias m x
+near_bias : (p : Accounts) (n : ℕ) (m : Machine) (x : ℕ) → Rule p n m → n ≤ thread_limit → Alive m x → NearBias m x
 near_bias p n m x rule few alive =
     let says = live_few (block_of m.rows x) (numbers_of m x) alive.live in
     record {
@@ -68,7 +69,7 @@ release_suits p n m t a (suc y) h rest here alive runs owner =
     (weight_here p n m t x a (ReleaseLoad x h) rest here (eq-eqb x x refl) refl) living
 
 pub duty_suits : (p : Accounts) (n : ℕ) (m : Machine) (t : ℕ) (a : Actor) (d : Duty) (rest : List Duty) (count : ℕ)
-    → AtDuty p n m t a d rest → (a.status ≡ Gone → ⊥) → n ≤ 33
+    → AtDuty p n m t a d rest → (a.status ≡ Gone → ⊥) → n ≤ thread_limit
     → Suits t (is_running a.status) count d (m.memory (address_of m.rows t a.head d))
 duty_suits p n m t a (RetainStore x h w) rest count here alive few =
     let (pos, backed, owns, same, some, low) = head_of p n m t a (RetainStore x h w) rest here in low

@@ -21,6 +21,7 @@ use Rattle.brc_model.proofs.Basics.Written.{written_load}
 use Rattle.brc_model.proofs.Basics.Lists.{written_actor}
 use Rattle.brc_model.proofs.Basics.Blocks.{born_within}
 use Rattle.brc_model.proofs.Stepping.OwnExits.{marked_born}
+use Rattle.brc_model.specs.Limits.{cell_limit}
 
 -- ---- duties
 
@@ -43,7 +44,7 @@ IsSmall k (MergeExchange x c w r) = x < k
 IsSmall k (Die x) = x < k
 IsSmall k Settle = Unit {0}
 IsSmall k (SettleKind x) = x < k
-IsSmall k (SettleCell x i n) = (x < k) × (n ≤ 8)
+IsSmall k (SettleCell x i n) = (x < k) × (n ≤ cell_limit)
 IsSmall k (TakeSlot x) = x < k
 IsSmall k (CloseResource x) = x < k
 IsSmall k (SettleEnd x) = x < k
@@ -51,7 +52,7 @@ IsSmall k (Leave x n) = Unit {0}
 IsSmall k (Scan x n) = Unit {0}
 IsSmall k Finish = Unit {0}
 IsSmall k (ClaimMark x) = x < k
-IsSmall k (BirthKind x h w) = (x < k) × (cells_of w ≤ 8)
+IsSmall k (BirthKind x h w) = (x < k) × (cells_of w ≤ cell_limit)
 IsSmall k (BirthSlot x h) = x < k
 IsSmall k (BirthLocal x h) = x < k
 
@@ -62,7 +63,7 @@ AreSmall k (d ∷ rest) = IsSmall k d × AreSmall k rest
 -- what a step has to find, for its following duties to be small
 abbrev pub FindsSmall : ℕ → ℕ → Duty → ℕ → Type 0
 FindsSmall k head Settle found = head - 1 < k
-FindsSmall k head (SettleKind x) found = cells_of found ≤ 8
+FindsSmall k head (SettleKind x) found = cells_of found ≤ cell_limit
 FindsSmall k head (SettleCell x i n) found = found ≡ 0
 FindsSmall k head (Scan x n) found = found ≡ 1 → x < k
 FindsSmall k head _ found = Unit {0}
@@ -94,7 +95,7 @@ shared_small k x w small =
     if_small k (w == fresh_word) _ _ (λ e. (small, tt))
     (if_small k (released_word w == dead_word) _ [] (λ e. (small, tt)) tt)
 
-cells_small : (k : ℕ) (x i n : ℕ) → x < k → n ≤ 8 → AreSmall k (cells_from x i n)
+cells_small : (k : ℕ) (x i n : ℕ) → x < k → n ≤ cell_limit → AreSmall k (cells_from x i n)
 cells_small k x i n small few = if_small k (nat_lt i n) _ _ (λ e. ((small, few), tt)) (small, tt)
 
 released_small : (k : ℕ) (found : ℕ) → found ≡ 0 → AreSmall k (release_found found)
@@ -202,7 +203,7 @@ head_small p n m t a rule found =
 -- ---- machines
 
 pub record Ranges (n : ℕ) (m : Machine) : Type 0 where
-  pub kinds : (x : ℕ) → cells_of (m.memory (KindOf x)) ≤ 8
+  pub kinds : (x : ℕ) → cells_of (m.memory (KindOf x)) ≤ cell_limit
   pub each : (t : ℕ) (a : Actor) → slice_get m.actors t ≡ Some a → AreSmall (limit n m) a.agenda
 
 finds_small : (p : Accounts) (n : ℕ) (m : Machine) (t : ℕ) (a : Actor) (d : Duty) → Rule p n m → Ranges n m
@@ -215,13 +216,13 @@ finds_small p n m t a _ rule ranges head = tt
 
 -- what an object is stays so, or is said at its birth
 kinds_left : (m : Machine) (t : ℕ) (a : Actor) (d : Duty) (k : ℕ) (x : ℕ) → IsSmall k d
-    → cells_of (m.memory (KindOf x)) ≤ 8
+    → cells_of (m.memory (KindOf x)) ≤ cell_limit
     → cells_of (written m.memory (address_of m.rows t a.head d)
     (left_by t a.head d (m.memory (address_of m.rows t a.head d))) (KindOf x)) ≤ 8
 kinds_left m t a (SettleKind y) k x small was =
-    subst (λ (w : ℕ). cells_of w ≤ 8) (sym (written_load m.memory (KindOf y) (KindOf x))) was
+    subst (λ (w : ℕ). cells_of w ≤ cell_limit) (sym (written_load m.memory (KindOf y) (KindOf x))) was
 kinds_left m t a (BirthKind y h w) k x small was =
-    elim (y == x) as (λ b. cells_of (cond b w (m.memory (KindOf x))) ≤ 8) [
+    elim (y == x) as (λ b. cells_of (cond b w (m.memory (KindOf x))) ≤ cell_limit) [
       | true ↦ small.1
       | false ↦ was
     ]

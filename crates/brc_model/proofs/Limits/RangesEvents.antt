@@ -12,6 +12,7 @@ use Rattle.brc_model.proofs.Keeping.Whole.{Whole}
 use Rattle.brc_model.proofs.Dispatch.Actions.{ActionFits, action_fits}
 use Rattle.brc_model.proofs.Keeping.WholeEvents.{event_keeps}
 use Rattle.brc_model.proofs.Limits.Ranges.{limit, AreSmall, head_small, Ranges, duty_ranges}
+use Rattle.brc_model.specs.Limits.{cell_limit}
 
 action_ranges : (p : Module) (n : ℕ) (m : Machine) (t : ℕ) (a : Actor) (x : Action) → (whole : Whole p n m)
     → Ranges n m → slice_get m.actors t ≡ Some a → ActionFits p whole.accounts n m t a x
@@ -51,7 +52,7 @@ bounded_after p n m (e ∷ events) bounded = bounded_after p n (next_machine m e
 
 -- ---- the first machine
 
-first_kinds : (workers x : ℕ) → cells_of (first_memory workers (KindOf x)) ≤ 8
+first_kinds : (workers x : ℕ) → cells_of (first_memory workers (KindOf x)) ≤ cell_limit
 first_kinds workers zero = omega arith
 first_kinds workers (suc zero) = omega arith
 first_kinds workers (suc (suc x)) = omega arith

@@ -27,6 +27,7 @@ use Rattle.brc_model.specs.Accounts.{Accounts}
 use Rattle.brc_model.specs.Invariant.{AtDuty, Rule}
 use Rattle.brc_model.proofs.Objects.UsesAfter.{own_uses}
 use Rattle.std.proofs.Math.Nat.{mul-le-mul_right}
+use Rattle.brc_model.specs.Limits.{row_limit, thread_limit}
 
 -- ---- the word is there
 
@@ -89,7 +90,7 @@ duty_used p n m t a d rest here =
 -- ---- a duty
 
 duty_within : (p : Accounts) (n : ℕ) (m : Machine) (t : ℕ) (a : Actor) (d : Duty) (rest : List Duty)
-    → Doing p n m t a d rest → IsSmall (limit n m) d → n ≤ 33 → IsWithin (world_of m) t a d
+    → Doing p n m t a d rest → IsSmall (limit n m) d → n ≤ thread_limit → IsWithin (world_of m) t a d
 duty_within p n m t a d rest doing small few =
     let rule = doing.kept.rule in
     let here : AtDuty p n m t a d rest = record { rule = rule; found = doing.found; agenda = doing.agenda } in
@@ -108,7 +109,7 @@ duty_within p n m t a d rest doing small few =
 
 -- a duty that the thread does, by the thread that already has it in its agenda
 does_within : (p : Module) (n : ℕ) (m : Machine) (t : ℕ) (a : Actor) (d : Duty) (rest : List Duty) (place : Place)
-    → (bounded : Bounded p n m) → n ≤ 33 → slice_get m.actors t ≡ Some a
+    → (bounded : Bounded p n m) → n ≤ thread_limit → slice_get m.actors t ≡ Some a
     → DutyFits p bounded.whole.accounts n m t a d rest place
     → IsWithin (world_of m) t a d
 does_within p n m t a d rest place bounded few found fits =
@@ -126,7 +127,7 @@ does_within p n m t a d rest place bounded few found fits =
           (m.memory (address_of m.rows t a.head d))) long within.suits;
     }
 
-machine_within : (p : Module) (n : ℕ) (m : Machine) (t : ℕ) (a : Actor) → Bounded p n m → n ≤ 33
+machine_within : (p : Module) (n : ℕ) (m : Machine) (t : ℕ) (a : Actor) → Bounded p n m → n ≤ thread_limit
     → slice_get m.actors t ≡ Some a → StepsWithin (world_of m) t a
 machine_within p n m t a bounded few found choice d rest place is =
     does_within p n m t a d rest place bounded few found
@@ -160,7 +161,7 @@ threads_are p w r = ap (λ (v : World). length v.actors) r.reached ∙ (reached_
 pub some_threads : (p : Module) (w : World) → IsReachable p w → 1 < length w.actors
 some_threads p w r = omega (arith, threads_are p w r, r.calls_fit.some)
 
-pub few_threads : (p : Module) (w : World) → IsReachable p w → length w.actors ≤ 33
+pub few_threads : (p : Module) (w : World) → IsReachable p w → length w.actors ≤ thread_limit
 few_threads p w r = omega (arith, threads_are p w r, r.calls_fit.most)
 
 pub some_rows : (p : Module) (w : World) → IsReachable p w → 0 < w.rows
@@ -169,7 +170,7 @@ some_rows p w r =
     ap (λ (v : World). v.rows) r.reached in
     omega (arith, same, (reached_bounded p w r).whole.kept.rule.some_rows)
 
-pub few_rows : (p : Module) (w : World) → IsReachable p w → w.rows ≤ 1024
+pub few_rows : (p : Module) (w : World) → IsReachable p w → w.rows ≤ row_limit
 few_rows p w r =
     let same : w.rows ≡ (machine_after (first_machine p r.rows r.calls) r.events).rows =
     ap (λ (v : World). v.rows) r.reached in

@@ -23,11 +23,12 @@ use Rattle.brc_model.proofs.Frame.Others.{dying_is}
 use Rattle.brc_model.proofs.Keeping.Whole.{Whole}
 use Rattle.brc_model.proofs.Promises.RowLaws.{always}
 use Rattle.brc_model.proofs.Basics.Blocks.{born_used}
+use Rattle.brc_model.specs.Limits.{thread_limit}
 
 -- ---- the gate of a dying row
 
 -- a dying row's word is below the closed one, for threads and rows are few
-dying_low : (t gate : ℕ) → t < 33 → IsDyingWord t gate → gate ≢ closed_word
+dying_low : (t gate : ℕ) → t < thread_limit → IsDyingWord t gate → gate ≢ closed_word
 dying_low t gate few (next, is, low) e = absurd (omega (arith, few, low, is, e))
 
 -- at hand, its gate is free before its first step and a dying word after it

@@ -32,6 +32,7 @@ use Rattle.brc_model.proofs.Keeping.FirstMachine.{first_accounts, first_rule, fi
 use Rattle.brc_model.proofs.Keeping.Whole.{Whole}
 use Rattle.brc_model.proofs.Keeping.WholeEvents.{event_keeps, whole_after}
 use Rattle.brc_model.proofs.Basics.Blocks.{born_used}
+use Rattle.brc_model.specs.Limits.{row_limit}
 
 -- ---- when all threads are gone
 
@@ -208,7 +209,7 @@ first_settled calls (suc t) a is =
     subst (λ (b : Actor). IsSettled b.head b.agenda) call.is_image tt
 
 pub first_whole : (m : Module) (rows : ℕ) (calls : List Call) → IsModule m → IsAcceptable m → AreCalls m calls
-    → 0 < rows → rows ≤ 1024 → Whole m (1 + length calls) (first_machine m rows calls)
+    → 0 < rows → rows ≤ row_limit → Whole m (1 + length calls) (first_machine m rows calls)
 first_whole m rows calls fits accepted are_calls some few = record {
   accounts = first_accounts;
   kept = record { rule = first_rule m rows calls are_calls some few; settled = first_settled calls };

@@ -10,6 +10,7 @@ use Rattle.brc_model.specs.Walks.{IsAcceptable}
 use Rattle.brc_model.specs.Safety.{AreCalls}
 use Rattle.brc_model.specs.Machine.{Actor, Machine, Action, Skip, Stuck, Silent, Does, action_of, of_thread, machine_by, next_machine, first_machine, machine_after}
 use Rattle.brc_model.specs.World.{World, world_of, machine_of, first_world, step, IsReachable}
+use Rattle.brc_model.specs.Limits.{row_limit}
 
 -- ---- a step looks at nothing else
 
@@ -36,7 +37,8 @@ worlds_follow m event = thread_alike m event.0 event.1 (slice_get m.actors event
 
 -- ---- reachable worlds
 
-pub first_reachable : (p : Module) (rows : ℕ) (calls : List Call) → IsModule p → IsAcceptable p → 0 < rows → rows ≤ 1024
+pub first_reachable : (p : Module) (rows : ℕ) (calls : List Call) → IsModule p → IsAcceptable p → 0 < rows
+    → rows ≤ row_limit
     → AreCalls p calls → IsReachable p (first_world p rows calls)
 first_reachable p rows calls fits accepted some most calls_fit = record {
   fits = fits;
