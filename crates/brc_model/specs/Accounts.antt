@@ -1,5 +1,5 @@
--- What a thread holds: how many references to each object, by each way of holding one, and what its open work has more
--- or less just now.
+-- What a thread holds: how many references to each object, by each way of holding one. While a reference is being made
+-- or given up, the bag and the thread's account differ by it; the duty that does so says by how much.
 use Rattle.std.specs.Prelude.{◌≡◌, ℕ, ◌+◌, ◌≤◌, Bool, false, ◌==◌, ◌&&◌, List, [], ◌∷◌, count_by}
 use Rattle.brc_model.specs.declared.duty.Holding.{Holding}
 use Rattle.brc_model.specs.declared.duty.Holding.TheVariants.{ByVariable, AsCaller, InHand}
@@ -10,7 +10,7 @@ use Rattle.brc_model.specs.declared.duty.Duty.TheVariants.{RetainLoad, RetainSto
 use Rattle.brc_model.specs.References.{held, one_if, reference_of}
 use Rattle.brc_word.specs.Words.{half}
 
--- what is held beyond what the place says: a reference that is being given up
+-- Whether the duty gives up this reference: the bag still has it, and the account no longer does.
 abbrev pub extra : Duty → Holding → ℕ → Bool
 extra (ReleaseLoad x h) k object = same_holding h k && (x == object)
 extra (ReleaseStore x w) k object = same_holding InHand k && (x == object)
@@ -18,7 +18,7 @@ extra (SharedLoad x Own) k object = same_holding InHand k && (x == object)
 extra (SharedExchange x Own w) k object = same_holding InHand k && (x == object)
 extra _ k object = false
 
--- what the place says and isn't held yet: a reference that is being made
+-- Whether the duty makes this reference: the account has it already, and the bag doesn't yet.
 abbrev pub lacks : Duty → Holding → ℕ → Bool
 lacks (RetainLoad x h) k object = same_holding h k && (x == object)
 lacks (RetainStore x h w) k object = same_holding h k && (x == object)
@@ -28,6 +28,7 @@ lacks (BirthSlot x h) k object = same_holding h k && (x == object)
 lacks (BirthLocal x h) k object = same_holding h k && (x == object)
 lacks _ k object = false
 
+-- of the duty at hand, the first of the agenda
 abbrev pub extra_of : List Duty → Holding → ℕ → Bool
 extra_of [] k object = false
 extra_of (d ∷ rest) k object = extra d k object
@@ -41,18 +42,19 @@ lacks_of (d ∷ rest) k object = lacks d k object
 abbrev pub Account : Type 0
 Account = Holding → ℕ → ℕ
 
--- each thread's, by its number
+-- the accounts of all threads, by their numbers
 abbrev pub Accounts : Type 0
 Accounts = ℕ → Account
 
--- of the duties that are put aside: how many make or give up a reference just now
+-- Of the duties that are put aside: how many give up the reference, and how many make it.
 abbrev pub extra_aside : List Duty → Holding → ℕ → ℕ
 extra_aside aside k object = count_by (λ d. extra d k object) aside
 
 abbrev pub lacks_aside : List Duty → Holding → ℕ → ℕ
 lacks_aside aside k object = count_by (λ d. lacks d k object) aside
 
--- the bag has just what the thread's account says, with what its open work has more or less
+-- The bag has just the references of the thread's account, with those that its open work gives up and without those
+-- that it makes.
 pub record HoldsAt (bag : List Reference) (t : ℕ) (account : Account) (agenda aside : List Duty) : Type 0 where
   pub each : (k : Holding) (object : ℕ)
       → held (reference_of t k object) bag + one_if (lacks_of agenda k object) + lacks_aside aside k object
@@ -60,10 +62,12 @@ pub record HoldsAt (bag : List Reference) (t : ℕ) (account : Account) (agenda 
 
 -- ---- how much it may hold
 
--- How many references a thread may hold: one by each of sixteen variables, and 2^32 as the caller that lends them.
+-- how many references to one object a thread may hold as the caller that lends them
 abbrev pub most_lent : ℕ
 most_lent = half
 
+-- A thread holds at most one reference by each of its sixteen variables, and as a caller within its bound. In its hand
+-- is only what a duty gives up just now.
 pub record IsBounded (account : Account) : Type 0 where
   pub by_variable : (v object : ℕ) → account (ByVariable v) object ≤ 1
   pub sixteen : (v object : ℕ) → 16 ≤ v → account (ByVariable v) object ≡ 0

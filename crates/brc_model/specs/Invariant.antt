@@ -1,5 +1,5 @@
--- What holds of each machine that steps lead to, whatever its threads run: each row's rule, what each thread holds and
--- knows, that set marks are watched, and that the dying rows are at hand or chained.
+-- The invariant: what holds of each machine that steps lead to, whatever its threads run. It takes each thread's
+-- account of references, and never asks where a thread is in its code but for whether its exit is under way.
 use Rattle.std.specs.Prelude.{◌≡◌, ◌≢◌, ◌⊎◌, ℕ, ◌+◌, ◌<◌, ◌≤◌, Bool, true, false, ◌==◌, List, [], ◌∷◌, length, Some, slice_get, count_by, AllPairs}
 use Rattle.brc_model.specs.declared.duty.Holding.{Holding}
 use Rattle.brc_model.specs.Plain.{is_among, references_to}
@@ -21,6 +21,7 @@ use Rattle.brc_model.specs.Limits.{row_limit, thread_limit}
 
 -- ---- rows
 
+-- what a row's words, references and duties come to
 abbrev pub numbers_of : Machine → ℕ → Numbers
 numbers_of m x = record {
   local = m.memory (Local x);
@@ -35,6 +36,8 @@ numbers_of m x = record {
 
 -- ---- one thread
 
+-- The thread word says the thread's status, the bag has what its account says, its next duty knows what it needs, and
+-- its dying rows are its chain. A thread whose exit is under way holds nothing and has put nothing aside.
 pub record ActorFits (account : Account) (m : Machine) (t : ℕ) (a : Actor) : Type 0 where
   pub word : m.memory (ThreadWord t) ≡ status_word a.status
   pub holds : HoldsAt m.plain.references t account a.agenda a.aside
@@ -43,17 +46,19 @@ pub record ActorFits (account : Account) (m : Machine) (t : ℕ) (a : Actor) : T
   pub head_fits : HeadOf m t a a.agenda
   pub chain : ChainFits m t a.head a.agenda
 
--- all that is said of one thread
+-- what holds of each thread
 abbrev pub Fits : Account → Machine → ℕ → Actor → Type 0
 Fits account m t a = ActorFits account m t a × AgendaFits m.rows t a a.status × AsideFits m t a
 
 -- ---- marks that are set are watched
 
+-- Whether the duty looks at the row's mark: as a number, 1 or 0.
 abbrev pub looks : ℕ → Duty → ℕ
 looks x (Look y) = one_if (y == x)
 looks x (TakeMark y) = one_if (y == x)
 looks x _ = 0
 
+-- Some thread will look at the mark: the running owner, the owner's exit, or the thread that set it.
 pub data IsWatched (m : Machine) (x : ℕ) : Type 0 where
   ByRunning : m.memory (ThreadWord (block_of m.rows x)) ≡ 1 → IsWatched m x
   ByExit : (a : Actor) → slice_get m.actors (block_of m.rows x) ≡ Some a → scans x a.agenda ≡ true → IsWatched m x
@@ -61,26 +66,26 @@ pub data IsWatched (m : Machine) (x : ℕ) : Type 0 where
 
 -- ---- births
 
--- the rows of a thread's block that it has used are born, and the others aren't
+-- The rows of a thread's block that it has used are born, and the others aren't.
 pub record UsesFit (rows : ℕ) (life : ℕ → Life) (t used : ℕ) : Type 0 where
-  -- main uses none and the root; a worker has so many rows
+  -- main's rows are none and the root, and are used from the beginning
   pub main : t ≡ 0 → used ≡ 2
   pub few : 0 < t → used ≤ rows
   pub born : (x : ℕ) → first_row rows t ≤ x → x < first_row rows t + used → life x ≢ Unborn
   pub unborn : (x : ℕ) → block_of rows x ≡ t → first_row rows t + used ≤ x → life x ≡ Unborn
 
--- whether the thread's birth of the row has stored its kind word
+-- Whether the thread's birth of the row has stored the kind word.
 abbrev pub kind_stored : List Duty → ℕ → Bool
 kind_stored (BirthSlot y h ∷ rest) x = y == x
 kind_stored (BirthLocal y h ∷ rest) x = y == x
 kind_stored _ x = false
 
--- and whether it has stored its slot's word
+-- Whether it has put the resource into its slot.
 abbrev pub slot_stored : List Duty → ℕ → Bool
 slot_stored (BirthLocal y h ∷ rest) x = y == x
 slot_stored _ x = false
 
--- the unused rows of a thread's block are blank, apart from what the birth under way has stored
+-- The unused rows of a thread's block are blank, apart from what the birth under way has stored.
 pub record BlankFits (rows : ℕ) (memory : Address → ℕ) (t used : ℕ) (agenda : List Duty) : Type 0 where
   pub kinds : (x : ℕ) → block_of rows x ≡ t → first_row rows t + used ≤ x → kind_stored agenda x ≡ false
       → memory (KindOf x) ≡ 0
@@ -89,24 +94,34 @@ pub record BlankFits (rows : ℕ) (memory : Address → ℕ) (t used : ℕ) (age
 
 -- ---- the whole
 
+-- The invariant of `n` threads with these accounts, but for the ends of dying chains (`Kept`).
 pub record Rule (p : Accounts) (n : ℕ) (m : Machine) : Type 0 where
+  -- how large the machine is
   pub threads : length m.actors ≡ n
   pub some_rows : 0 < m.rows
   pub few_threads : n ≤ thread_limit
   pub few_rows : m.rows ≤ row_limit
+  -- each row's counts, state and life fit together
   pub rows : (x : ℕ) → 0 < x → RowRule (block_of m.rows x) (m.life x) (numbers_of m x)
+  -- a mark is set or not, and a set one is watched
   pub marks : (x : ℕ) → m.memory (Mark x) ≡ 0 ⊎ ((m.memory (Mark x) ≡ 1) × (0 < x) × IsWatched m x)
   pub each : (t : ℕ) (a : Actor) → slice_get m.actors t ≡ Some a → Fits (p t) m t a
+  -- there are no other threads: none holds a reference
   pub beyond : (t : ℕ) → n ≤ t → (k : Holding) (object : ℕ) → held (reference_of t k object) m.plain.references ≡ 0
+  -- a gate is free while its row isn't dying, and says at the end that it is closed
   pub gates : (x : ℕ) → GateFits (m.life x) (m.memory (Gate x))
+  -- only the threads that there are finalise rows
   pub dying : (x t : ℕ) → n ≤ t → dies_by (m.life x) t ≡ false
+  -- no instruction stores in a cell yet, so cells are empty and hold no reference
   pub cells : (x i : ℕ) → m.memory (Cell x i) ≡ 0
+  -- which rows each thread has used, and that the others of its block are unborn and blank
   pub uses : (t : ℕ) (a : Actor) → slice_get m.actors t ≡ Some a → UsesFit m.rows m.life t a.used
   pub blanks : (t : ℕ) (a : Actor) → slice_get m.actors t ≡ Some a → BlankFits m.rows m.memory t a.used a.agenda
+  -- a row of no thread's block is never born
   pub no_block : (x : ℕ) → n ≤ block_of m.rows x → m.life x ≡ Unborn
-  -- no instruction stores in a cell yet
   pub cells_hold : (x i object : ℕ) → held (cell_reference x i object) m.plain.references ≡ 0
   pub none_lives : m.life 0 ≡ Live
+  -- the lists of the born and the closed have just the rows whose lives say so, each once
   pub born_is : (x : ℕ) → is_among x m.plain.born ≡ true → (0 < x) × (m.life x ≢ Unborn)
   pub born_has : (x : ℕ) → 0 < x → m.life x ≢ Unborn → is_among x m.plain.born ≡ true
   pub born_once : (x : ℕ) → count_by (λ y. y == x) m.plain.born ≤ 1
@@ -114,15 +129,15 @@ pub record Rule (p : Accounts) (n : ℕ) (m : Machine) : Type 0 where
   pub closed_has : (x : ℕ) → m.life x ≡ Closed → is_among x m.plain.closed ≡ true
   pub once : AllPairs (λ x y. x ≢ y) m.plain.closed
   pub kinds : (x : ℕ) → m.life x ≢ Unborn → kind_part (m.memory (KindOf x)) ≡ kind_number (m.plain.kinds x)
-  -- none is immortal
+  -- none is immortal: its local word never changes
   pub none_word : m.memory (Local 0) ≡ 8589934591
 
--- What holds of each machine that steps lead to, whatever its threads run: the rule, and that no chain is left over.
+-- The whole invariant: besides, no thread leaves, looks through marks or is gone with a dying chain.
 pub record Kept (p : Accounts) (n : ℕ) (m : Machine) : Type 0 where
   pub rule : Rule p n m
   pub settled : (t : ℕ) (a : Actor) → slice_get m.actors t ≡ Some a → IsSettled a.head a.agenda
 
--- a thread at its first duty
+-- The premise of each lemma about one duty: the invariant holds, and the duty comes next in the thread's agenda.
 pub record AtDuty (p : Accounts) (n : ℕ) (m : Machine) (t : ℕ) (a : Actor) (d : Duty) (rest : List Duty) : Type 0 where
   pub rule : Rule p n m
   pub found : slice_get m.actors t ≡ Some a

@@ -15,39 +15,40 @@ use Rattle.brc_model.specs.declared.actor.Status.TheVariants.{Running, Leaving, 
 use Rattle.brc_model.specs.Machine.{Actor, Dying, Machine, first_row}
 use Rattle.brc_model.specs.References.{held, reference_of}
 
+-- the thread word that other threads read
 abbrev pub status_word : Status → ℕ
 status_word Running = 1
 status_word Leaving = 2
 status_word Gone = 3
 
--- the thread owns the row and is running
+-- The thread is running and owns the row. (PEP 703: only then it may change the local count without an atomic step.)
 pub record OwnsLocally (m : Machine) (t : ℕ) (a : Actor) (x : ℕ) : Type 0 where
   pub running : a.status ≡ Running
   pub owner : owner_part (m.memory (Local x)) ≡ t + 1
   pub low : local_part (m.memory (Local x)) < immortal_local
 
--- some reference of the thread's is held to the object
+-- The thread holds a reference to the object, so the object lives while the duty is done.
 pub record IsBacked (m : Machine) (t x : ℕ) : Type 0 where
   pub by : Holding
   pub held_so : 0 < held (reference_of t by x) m.plain.references
 
--- the claim of a mark is the owner's, or the owner no longer runs
+-- A thread merges an object that was queued if it is the owner, or if the owner no longer runs.
 abbrev pub MayMerge : Machine → ℕ → ℕ → Type 0
 MayMerge m t x = (block_of m.rows x ≡ t) ⊎ (m.memory (ThreadWord (block_of m.rows x)) ≢ 1)
 
--- a merge for the thread's own release is the running owner's
+-- A merge for the thread's own release is the running owner's; one for a claimed mark is any thread's that may merge.
 abbrev pub MayCarry : Machine → ℕ → Actor → ℕ → Reason → Type 0
 MayCarry m t a x Own = (a.status ≡ Running) × (block_of m.rows x ≡ t)
 MayCarry m t a x Handed = Unit {0}
 
--- the next row of a running worker's block: it is there, and not used yet
+-- The row is the next of a running worker's block: it is there, and not used yet.
 pub record IsNext (m : Machine) (t : ℕ) (a : Actor) (x : ℕ) : Type 0 where
   pub running : a.status ≡ Running
   pub worker : 0 < t
   pub row : x ≡ first_row m.rows t + a.used
   pub room : a.used < m.rows
 
--- the kind word says that the row's object is one that is counted
+-- The kind word names a kind whose objects are counted.
 abbrev pub HasCountedKind : (Address → ℕ) → ℕ → Type 0
 HasCountedKind memory x = is_counted_kind (kind_of_word (memory (KindOf x))) ≡ true
 
@@ -55,6 +56,7 @@ HasCountedKind memory x = is_counted_kind (kind_of_word (memory (KindOf x))) ≡
 abbrev pub IsDyingWord : ℕ → ℕ → Type 0
 IsDyingWord t word = (next : ℕ) × (word ≡ dying_word t next) × (next < half)
 
+-- What the duty knows when it comes next. `rest` are the duties behind it.
 abbrev pub HeadFits : Machine → ℕ → Actor → Duty → List Duty → Type 0
 HeadFits m t a (RetainLoad x h) rest = IsBacked m t x
 HeadFits m t a (RetainStore x h w) rest =

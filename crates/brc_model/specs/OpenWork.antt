@@ -1,4 +1,4 @@
--- The order of a thread's agenda, the rows that it finalises, and the work that it has put aside.
+-- A thread's open work: the order of its agenda, the rows that it finalises, and the duties that it has put aside.
 use Rattle.std.specs.Prelude.{◌≡◌, ◌≢◌, ◌⊎◌, ℕ, ◌+◌, ◌<◌, ◌≤◌, Bool, true, false, ◌==◌, nat_le, List, [], ◌∷◌, count_by}
 use Rattle.brc_word.specs.Words.{half, free_word, dying_word, closed_word}
 use Rattle.brc_model.specs.declared.duty.Duty.{Duty}
@@ -15,8 +15,8 @@ use Rattle.brc_model.specs.Knowledge.{HeadFits}
 
 -- ---- what is for later
 
--- The agenda behind its first duty: it settles, and ends the thread's exit where that is taken up.
--- A leaving thread has still to look through the marks of its used rows from one on.
+-- What may be behind an agenda's first duty: settling, and the end of the thread's exit. A leaving thread has still to
+-- look through the marks of its used rows from `x` on.
 abbrev pub Later : ℕ → ℕ → ℕ → Status → Place → List Duty → Type 0
 Later rows t used status place [] = (place ≢ Departing) × (status ≡ Running)
 Later rows t used status place (Settle ∷ rest) = Later rows t used status place rest
@@ -28,7 +28,7 @@ Later rows t used status place (Scan x n ∷ rest) =
 Later rows t used status place (Finish ∷ []) = (status ≡ Leaving) × (place ≡ Departing)
 Later rows t used status place _ = ⊥
 
--- the first duty too, where it is of these
+-- a whole agenda: any duty, and behind it what may be there
 abbrev pub Agenda : ℕ → ℕ → ℕ → Status → Place → List Duty → Type 0
 Agenda rows t used status place [] = Later rows t used status place []
 Agenda rows t used status place (Settle ∷ rest) = Later rows t used status place (Settle ∷ rest)
@@ -37,7 +37,7 @@ Agenda rows t used status place (Scan x n ∷ rest) = Later rows t used status p
 Agenda rows t used status place (Finish ∷ rest) = Later rows t used status place (Finish ∷ rest)
 Agenda rows t used status place (d ∷ rest) = Later rows t used status place rest
 
--- whether a row's mark is still to be looked at by its thread's exit
+-- Whether the thread's exit has still to look at the row's mark.
 abbrev pub scans : ℕ → List Duty → Bool
 scans x [] = false
 scans x (Scan y n ∷ rest) = nat_le y x
@@ -51,7 +51,7 @@ AgendaFits rows t a Leaving = Agenda rows t a.used Leaving a.place a.agenda
 
 -- ---- when a chain is empty
 
--- the first duty of an exit stands behind a settling
+-- The agenda settles before it comes to a duty of the exit.
 abbrev pub Settles : List Duty → Type 0
 Settles [] = Unit {0}
 Settles (Settle ∷ rest) = Unit {0}
@@ -60,7 +60,7 @@ Settles (Scan x k ∷ rest) = ⊥
 Settles (Finish ∷ rest) = ⊥
 Settles (d ∷ rest) = Settles rest
 
--- where it is the first of all, the chain is empty
+-- Where a duty of the exit comes next, the chain is empty.
 abbrev pub IsSettled : ℕ → List Duty → Type 0
 IsSettled head [] = Unit {0}
 IsSettled head (Leave x k ∷ rest) = head ≡ 0
@@ -70,14 +70,14 @@ IsSettled head (d ∷ rest) = Settles (d ∷ rest)
 
 -- ---- dying rows
 
--- the rows that are chained from the head on, each by the gate word of the one before
+-- The rows are the thread's dying chain from its head on: each gate word names the next row.
 abbrev pub Linked : (Address → ℕ) → ℕ → ℕ → List ℕ → Type 0
 Linked memory t head [] = head ≡ 0
 Linked memory t head (x ∷ xs) =
     (head ≡ x + 1) × ((next : ℕ) × (memory (Gate x) ≡ dying_word t next) × (next < half)
     × Linked memory t next xs)
 
--- the row that is at hand between two steps of its finalising, or before its gate is stored
+-- Whether the duty finalises the row just now, or is about to chain it.
 abbrev pub at_hand : Duty → ℕ → Bool
 at_hand (Die y) x = y == x
 at_hand (SettleKind y) x = y == x
@@ -87,10 +87,12 @@ at_hand (CloseResource y) x = y == x
 at_hand (SettleEnd y) x = y == x
 at_hand _ x = false
 
+-- of the duty at hand, the first of the agenda
 abbrev pub hand_of : List Duty → ℕ → Bool
 hand_of [] x = false
 hand_of (d ∷ rest) x = at_hand d x
 
+-- Whether the row is dying, and the thread finalises it.
 abbrev pub dies_by : Life → ℕ → Bool
 dies_by (Dying u) t = u == t
 dies_by _ t = false
@@ -103,15 +105,16 @@ GateFits Live gate = gate ≡ free_word
 GateFits (Dying t) gate = Unit {0}
 GateFits Closed gate = gate ≡ closed_word
 
+-- The rows that the thread finalises are its dying chain, and the one at hand.
 pub record ChainFits (m : Machine) (t head : ℕ) (agenda : List Duty) : Type 0 where
   pub chained : List ℕ
   pub linked : Linked m.memory t head chained
-  -- each row that dies by the thread is at hand or chained, once
+  -- each of them is at hand or chained, and once
   pub once : (x : ℕ) → one_if (hand_of agenda x) + count_by (λ y. y == x) chained ≡ one_if (dies_by (m.life x) t)
 
 -- ---- work that is put aside
 
--- whether a duty is about the row
+-- Whether the duty is about the row.
 abbrev pub is_about : ℕ → Duty → Bool
 is_about x (RetainLoad y h) = y == x
 is_about x (RetainStore y h w) = y == x
@@ -142,6 +145,7 @@ is_about x (Leave y n) = false
 is_about x (Scan y n) = false
 is_about x Finish = false
 
+-- of the duty at hand
 abbrev pub about_of : ℕ → List Duty → Bool
 about_of x [] = false
 about_of x (d ∷ rest) = is_about x d
@@ -165,7 +169,7 @@ may_wait (MergeLoad x c r) = true
 may_wait (MergeExchange x c w r) = true
 may_wait _ = false
 
--- whether a duty may be at hand while others are put aside: these, a row that dies, and a birth
+-- Whether a duty may be at hand while others are put aside: one that may wait, a row that dies, or a birth.
 abbrev pub is_piece : Duty → Bool
 is_piece (Die x) = true
 is_piece (BirthKind x h w) = true
@@ -173,18 +177,18 @@ is_piece (BirthSlot x h) = true
 is_piece (BirthLocal x h) = true
 is_piece d = may_wait d
 
--- such a duty alone, or none
+-- The agenda is such a duty alone, or empty.
 abbrev pub IsPiece : List Duty → Type 0
 IsPiece [] = Unit {0}
 IsPiece (d ∷ []) = is_piece d ≡ true
 IsPiece _ = ⊥
 
--- what is put aside knows what it knows
+-- Each duty that is put aside knows what it knew at hand.
 abbrev pub AllWait : Machine → ℕ → Actor → List Duty → Type 0
 AllWait m t a [] = Unit {0}
 AllWait m t a (d ∷ rest) = (may_wait d ≡ true) × HeadFits m t a d [] × AllWait m t a rest
 
--- several pieces of work, each about another row
+-- A thread may have several pieces of work open, each about another row.
 pub record AsideFits (m : Machine) (t : ℕ) (a : Actor) : Type 0 where
   pub waits : AllWait m t a a.aside
   pub apart : (x : ℕ) → one_if (about_of x a.agenda) + count_by (is_about x) a.aside ≤ 1
