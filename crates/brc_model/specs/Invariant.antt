@@ -128,6 +128,7 @@ pub record Rule (p : Accounts) (n : ℕ) (m : Machine) : Type 0 where
   pub closed_is : (x : ℕ) → is_among x m.plain.closed ≡ true → m.life x ≡ Closed
   pub closed_has : (x : ℕ) → m.life x ≡ Closed → is_among x m.plain.closed ≡ true
   pub once : AllPairs (λ x y. x ≢ y) m.plain.closed
+  -- the kind word of what was born names its kind
   pub kinds : (x : ℕ) → m.life x ≢ Unborn → kind_part (m.memory (KindOf x)) ≡ kind_number (m.plain.kinds x)
   -- none is immortal: its local word never changes
   pub none_word : m.memory (Local 0) ≡ 8589934591

@@ -49,8 +49,8 @@ pub data Starts (bag : List Reference) (rows t used : ℕ) : Duty → List Duty 
       → Starts bag rows t used (ReleaseLoad row h) rest
   Takes : (row : ℕ) (h by : Holding) (rest : List Duty) → 0 < held (reference_of t by row) bag
       → Starts bag rows t used (RetainLoad row h) rest
-  Bears : (h : Holding) (w : ℕ) → used < block_size rows t → cells_of w ≤ cell_limit → is_counted_kind
-  (kind_of_word w) ≡ true
+  Bears : (h : Holding) (w : ℕ) → used < block_size rows t → cells_of w ≤ cell_limit
+      → is_counted_kind (kind_of_word w) ≡ true
       → Starts bag rows t used (BirthKind (next_row rows t used) h w) []
 
 -- the duties behind it settle, and leave where the thread is to leave
