@@ -68,7 +68,6 @@ pub mod Watches
 pub mod Kept
 pub mod Whole
 pub mod Claims
-pub mod Dispatching
 pub mod Actions
 pub mod WholeEvents
 pub mod Rearranging
