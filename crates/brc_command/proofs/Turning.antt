@@ -1,18 +1,17 @@
 -- Rounds of the workers, steps of main, and the world that they lead to.
 use Rattle.std.proofs.Common.{◌≡◌, ℕ, zero, suc, ◌+◌, ◌<◌, Bool, true, false, ◌&&◌, List, [], ◌∷◌, ◌++◌, length, get_or}
-use Rattle.std.proofs.Common.{take, Some, refl, sym, ap, ◌∙◌, arith, append_assoc, append-nil}
-use Rattle.std.specs.Prelude.{Result, Ok, Err, IfOk, replicate, slice_get}
+use Rattle.std.proofs.Common.{take, refl, sym, ap, ◌∙◌, arith, append_assoc, append-nil}
+use Rattle.std.specs.Prelude.{Result, Ok, Err, IfOk, replicate}
 use Rattle.std.specs.List.{list_all, repeat}
 use Rattle.std.proofs.lemmas.List.FromFn.{map-range_with_len_more}
 use Rattle.std.proofs.lemmas.List.Folds.{list_all_at, list_all_more}
 use Rattle.std.proofs.lemmas.List.Sums.{fold-append}
-use Rattle.std.proofs.lemmas.Option.{get_or_from_slice_get}
+use Rattle.std.proofs.lemmas.Option.{slice_get-get_or}
 use Rattle.brc_lang.specs.declared.module.Module.{Module}
 use Rattle.brc_model.specs.declared.thread.Call.{Call}
 use Rattle.brc_model.specs.declared.thread.Choice.{Choice}
 use Rattle.brc_model.specs.declared.thread.Choice.TheVariants.{Ok as Succeed}
-use Rattle.brc_model.proofs.Basics.Lists.{some_within}
-use Rattle.brc_model.specs.Machine.{Actor}
+use Rattle.brc_model.specs.Machine.{Actor, main_actor}
 use Rattle.brc_model.specs.Safety.{has_gone}
 use Rattle.brc_model.specs.World.{World, step, first_world}
 use Rattle.brc_report.specs.declared.tally.Tally.{Tally}
@@ -82,25 +81,21 @@ tally_of_last m rows calls planned events first last (Err e) same is led counted
 
 -- ---- who is gone
 
-has_gone_at : (w : World) (t : ℕ) (a : Actor) (b : Bool) → slice_get w.actors t ≡ Some a → b ≡ is_gone_at w t
-    → has_gone (get_or w.actors t a).status ≡ b
-has_gone_at w t a b there answer =
-    ap (λ (x : Actor). has_gone x.status) (get_or_from_slice_get w.actors t a a there) ∙ sym (answer ∙ ap is_gone there)
+has_gone_at : (w : World) (t : ℕ) (b : Bool) → t < length w.actors → b ≡ is_gone_at w t
+    → has_gone (get_or w.actors t main_actor).status ≡ b
+has_gone_at w t b inside answer = sym (answer ∙ ap is_gone (slice_get-get_or w.actors t main_actor inside))
 
 -- a thread that isn't gone
 pub one_runs : (w : World) (t : ℕ) → t < length w.actors → false ≡ is_gone_at w t
     → list_all (λ (a : Actor). has_gone a.status) w.actors ≡ false
 one_runs w t inside answer =
-    let there = some_within w.actors t inside in
-    list_all_at (λ (a : Actor). has_gone a.status) w.actors t there.0 inside
-    (has_gone_at w t there.0 false there.1 answer)
+    list_all_at (λ (a : Actor). has_gone a.status) w.actors t main_actor inside (has_gone_at w t false inside answer)
 
 -- one more that is
 pub gone_more : (w : World) (t : ℕ) → t < length w.actors → true ≡ is_gone_at w t
     → list_all (λ (a : Actor). has_gone a.status) (take t w.actors) ≡ true
     → list_all (λ (a : Actor). has_gone a.status) (take (t + 1) w.actors) ≡ true
 gone_more w t inside answer before =
-    let there = some_within w.actors t inside in
-    list_all_more (λ (a : Actor). has_gone a.status) w.actors t there.0 inside
-    ∙ ap (λ b. b && has_gone (get_or w.actors t there.0).status) before
-    ∙ has_gone_at w t there.0 true there.1 answer
+    list_all_more (λ (a : Actor). has_gone a.status) w.actors t main_actor inside
+    ∙ ap (λ b. b && has_gone (get_or w.actors t main_actor).status) before
+    ∙ has_gone_at w t true inside answer

@@ -7,4 +7,3 @@ pub mod Work
 pub mod Keeping
 pub mod Limits
 pub mod Promises
-pub mod Dispatching

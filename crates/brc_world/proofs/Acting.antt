@@ -7,7 +7,7 @@ use Rattle.brc_model.specs.declared.address.Address.{Address}
 use Rattle.brc_model.specs.declared.duty.Duty.{Duty}
 use Rattle.brc_model.specs.declared.duty.Duty.TheVariants.{ClaimMark}
 use Rattle.brc_model.specs.Machine.{Actor, Action, Skip, Stuck, Silent, Does, agenda_action, status_action}
-use Rattle.brc_model.proofs.Dispatching.{TakesStep, agenda_steps}
+use Rattle.brc_world.proofs.Dispatching.{TakesStep, agenda_steps}
 use Rattle.brc_world.specs.declared.did.Did.{Did}
 use Rattle.brc_world.specs.declared.did.Did.TheVariants as answers
 use Rattle.brc_world.specs.declared.dispatch.Start.{Start}

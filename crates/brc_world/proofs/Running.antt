@@ -1,7 +1,8 @@
 -- Lists of steps, one after another.
-use Rattle.std.proofs.Common.{◌≡◌, ◌≢◌, ℕ, zero, suc, ◌+◌, ◌-◌, ◌<◌, ◌≤◌, true, List, [], ◌∷◌, ◌++◌, Option, Some, None, slice_get, replicate, take, drop, length, get_or, refl, sym, ap, subst, ◌∙◌, append_assoc, arith}
+use Rattle.std.proofs.Common.{◌≡◌, ◌≢◌, ℕ, zero, suc, ◌+◌, ◌-◌, ◌<◌, ◌≤◌, true, false, List, [], ◌∷◌, ◌++◌, Option, Some, None, slice_get, replicate, take, drop, length, get_or, refl, sym, ap, subst, ◌∙◌, append_assoc, arith}
 use Rattle.std.specs.Prelude.{Result, Ok, Err, OnErr}
 use Rattle.std.proofs.Math.Seq.{split_at}
+use Rattle.std.proofs.lemmas.Bool.{and_left, and_right}
 use Rattle.std.proofs.lemmas.List.{replicate-append-replicate, take_more, take_all, append-nil}
 use Rattle.std.proofs.lemmas.List.Concat.{flat_map-append}
 use Rattle.std.proofs.lemmas.List.Sums.{fold-append}
@@ -10,13 +11,12 @@ use Rattle.brc_model.specs.declared.actor.Status.TheVariants.{Running, Leaving, 
 use Rattle.brc_model.specs.declared.thread.Choice.{Choice}
 use Rattle.brc_model.specs.declared.thread.Choice.TheVariants as choices
 use Rattle.brc_model.specs.Safety.{has_gone}
-use Rattle.brc_model.specs.Machine.{Actor, Machine, next_machine, machine_after}
+use Rattle.brc_model.specs.Machine.{Actor, Machine, is_standing, is_running, may_claim, next_machine, machine_after}
 use Rattle.brc_model.specs.World.{World, world_of, step}
 use Rattle.brc_schedule.specs.declared.schedule.Steps.{Steps}
 use Rattle.brc_world.specs.declared.did.Did.{Did}
 use Rattle.brc_world.specs.declared.did.Did.TheVariants as dids
 use Rattle.brc_world.specs.Answers.{is_gone, is_gone_at, IsAnswer}
-use Rattle.brc_model.proofs.Dispatch.Claims.{gone_claims_none}
 use Rattle.brc_world.proofs.Stepping.{after}
 use Rattle.brc_world.specs.Runs.{world_after, events_of_line, events_of, StandsWithin}
 
@@ -33,6 +33,10 @@ pub after_both : (w : World) (made more : List (ℕ × Choice))
 after_both w made more = fold-append (λ (v : World) (event : ℕ × Choice). step v event.0 event.1) w made more
 
 -- ---- a thread that is gone
+
+gone_claims_none : (rows t : ℕ) (a : Actor) (row : ℕ) → a.status ≡ Gone → may_claim rows t a row ≡ false
+gone_claims_none rows t a row gone =
+    and_left _ _ (and_left _ _ (and_left _ _ (and_right (is_standing a.place) _ (ap is_running gone))))
 
 gone_acts : (w : World) (t : ℕ) (choice : Choice) (a : Actor) → a.status ≡ Gone → after w t choice (Some a) ≡ w
 gone_acts w t choices.Ok a gone = rw gone refl

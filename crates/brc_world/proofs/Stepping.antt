@@ -1,9 +1,9 @@
 -- What a thread's step does to its words and to itself is the model's step of the world.
 use Rattle.std.proofs.Common.{◌≡◌, ◌≢◌, ℕ, Bool, true, false, cond, List, [], Option, Some, inl, inr, refl, sym, ap, ◌∙◌, None}
 use Rattle.std.specs.Prelude.{◌==◌, not, length, slice_get, slice_set}
-use Rattle.std.proofs.lemmas.Bool.{cases_Bool, and_parts}
+use Rattle.std.proofs.lemmas.Bool.{cases_Bool, and_parts, eqb-true}
 use Rattle.std.proofs.lemmas.Bool.Decides.{eqb_tells}
-use Rattle.std.proofs.lemmas.List.{set-get_or}
+use Rattle.std.proofs.lemmas.List.{set-get_or, nil_from_length}
 use Rattle.std.proofs.lemmas.Option.{get_or_from_slice_get}
 use Rattle.brc_lang.specs.declared.module.Module.{Module}
 use Rattle.brc_model.specs.declared.actor.Place.{Place}
@@ -16,7 +16,6 @@ use Rattle.brc_model.specs.declared.thread.Choice.TheVariants.{Ok, Claim, Fault}
 use Rattle.brc_model.specs.Machine.{Actor, Action, Skip, Stuck, Silent, Does, may_claim, status_action, action_of, of_thread, machine_by}
 use Rattle.brc_model.specs.World.{IsReachable, World, world_of, machine_of, step, row_count}
 use Rattle.brc_model.specs.Within.{IsWithin, StepsWithin}
-use Rattle.brc_model.proofs.Dispatch.Claims.{claimer}
 use Rattle.brc_world.specs.Actors.{memory_by, actor_by, finds_mark, memory_claimed, actor_claimed, CanDo, CanAct, CanClaim}
 
 -- the world with other words and another thread
@@ -70,12 +69,18 @@ pub misses_as : (w : World) (t : ℕ) (a : Actor) (row : ℕ) → slice_get w.ac
     (actor_claimed w.rows t w.memory a row)
 misses_as w t a row found none same = rw none (same ∙ sym (unchanged w t a found))
 
+-- a thread that may claim has nothing to do
+claims_at_rest : (rows t : ℕ) (a : Actor) (row : ℕ) → may_claim rows t a row ≡ true → a.agenda ≡ []
+claims_at_rest rows t a row may =
+    let rests = and_parts _ _ (and_parts _ _ (and_parts _ _ may).0).0 in
+    nil_from_length a.agenda (eqb-true _ _ rests.1)
+
 pub finds_as : (w : World) (t : ℕ) (a : Actor) (row : ℕ) → slice_get w.actors t ≡ Some a
     → may_claim w.rows t a row ≡ true → finds_mark w.rows t w.memory a row ≡ true
     → step w t (Claim row) ≡ with_words w t (memory_claimed w.rows t w.memory a row)
     (actor_claimed w.rows t w.memory a row)
 finds_as w t a row found may marked =
-    let rests = (claimer w.rows t a row may).agenda in
+    let rests = claims_at_rest w.rows t a row may in
     let set : not (w.memory (Mark row) == 0) ≡ true = (and_parts _ _ marked).1 in
     ap (after w t (Claim row)) found ∙ (rw (may, set, rests) refl)
 

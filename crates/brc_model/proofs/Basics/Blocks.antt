@@ -1,16 +1,15 @@
 -- The rows of each thread's block: which are used, born, or next to be born.
-use Rattle.std.proofs.Common.{◌≡◌, ◌≢◌, ℕ, zero, suc, ◌+◌, ◌-◌, ◌*◌, ◌<◌, ◌≤◌, Some, refl, sym, ap, ◌∙◌, subst, arith, inl, inr}
+use Rattle.std.proofs.Common.{◌≡◌, ◌≢◌, ℕ, zero, suc, ◌+◌, ◌-◌, ◌*◌, ◌<◌, ◌≤◌, Some, get_or, refl, sym, ap, ◌∙◌, subst, arith, inl, inr}
 use Rattle.std.specs.Prelude.{◌/◌, slice_get}
 use Rattle.std.proofs.Math.Nat.{div-mul-le_self, lt-div-mul-add, div-lt_iff_lt-mul, mul-le-mul, mul-le-mul_right}
 use Rattle.std.proofs.lemmas.Nat.{div-mul-add}
 use Rattle.std.proofs.lemmas.Bool.{cases_lt}
 use Rattle.brc_model.specs.Duties.{block_of}
-use Rattle.brc_model.specs.Machine.{Actor, Unborn, Machine, first_row, block_size, next_row}
-use Rattle.brc_model.proofs.Basics.Lists.{some_within}
+use Rattle.brc_model.specs.Machine.{Actor, Unborn, Machine, first_row, block_size, next_row, main_actor}
 use Rattle.brc_model.specs.Accounts.{Accounts}
 use Rattle.brc_model.specs.Knowledge.{IsNext}
 use Rattle.brc_model.specs.Invariant.{Rule}
-use Rattle.std.proofs.lemmas.Option.{slice_get_within}
+use Rattle.std.proofs.lemmas.Option.{slice_get_within, slice_get-get_or}
 use Rattle.brc_model.specs.Limits.{row_limit, worker_limit}
 
 -- ---- arithmetic
@@ -79,12 +78,12 @@ pub born_used : (p : Accounts) (n : ℕ) (m : Machine) (x : ℕ) → Rule p n m 
 born_used p n m x rule born =
     elim (cases_lt (block_of m.rows x) n) [
       | inl within ↦
-          let some = some_within m.actors (block_of m.rows x) (omega (arith, within, rule.threads)) in
-          elim (cases_lt x (first_row m.rows (block_of m.rows x) + some.0.used)) [
-            | inl high ↦
-                record { by = some.0; found = some.1; low = block_low m.rows (block_of m.rows x) x refl; high = high }
-            | inr past ↦
-                absurd (born ((rule.uses (block_of m.rows x) some.0 some.1).unborn x refl (omega (arith, past))))
+          let t = block_of m.rows x in
+          let a = get_or m.actors t main_actor in
+          let found = slice_get-get_or m.actors t main_actor (omega (arith, within, rule.threads)) in
+          elim (cases_lt x (first_row m.rows t + a.used)) [
+            | inl high ↦ record { by = a; found = found; low = block_low m.rows t x refl; high = high }
+            | inr past ↦ absurd (born ((rule.uses t a found).unborn x refl (omega (arith, past))))
           ]
       | inr past ↦ absurd (born (rule.no_block x (omega (arith, past))))
     ]

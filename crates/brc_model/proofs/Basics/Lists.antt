@@ -16,12 +16,6 @@ pub and_second : (a b : Bool) → (a && b) ≡ true → b ≡ true
 and_second true b e = e
 and_second false b e = absurd cc
 
--- a place within a list has an element
-pub some_within : {A : Type 0} (xs : List A) (i : ℕ) → i < length xs → (x : A) × (slice_get xs i ≡ Some x)
-some_within [] i h = absurd (omega arith)
-some_within (x ∷ xs) zero h = (x, refl)
-some_within (x ∷ xs) (suc i) h = some_within xs i (omega arith)
-
 pub slice_get-set_same : {A : Type 0} (xs : List A) (i : ℕ) (x : A) → i < length xs → slice_get (set xs i x) i ≡ Some x
 slice_get-set_same [] i x h = absurd (omega arith)
 slice_get-set_same (y ∷ ys) zero x h = refl

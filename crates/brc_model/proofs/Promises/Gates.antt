@@ -1,8 +1,9 @@
 -- A row's gate says that it is closed, just where it was finalised; and what is born is among the used rows.
-use Rattle.std.proofs.Common.{◌≡◌, ◌≢◌, ℕ, ◌<◌, true, false, cond, List, [], ◌∷◌, ◌⊎◌, inl, inr, refl, sym, ap, ◌∙◌, subst, arith}
+use Rattle.std.proofs.Common.{◌≡◌, ◌≢◌, ℕ, ◌<◌, true, false, cond, List, [], ◌∷◌, get_or, ◌⊎◌, inl, inr, refl, sym, ap, ◌∙◌, subst, arith}
 use Rattle.std.specs.Prelude.{◌==◌, count_by}
 use Rattle.std.proofs.lemmas.Bool.{eqb-true, cases_lt, false≢true}
 use Rattle.std.proofs.lemmas.List.Sums.{sum_by-cons}
+use Rattle.std.proofs.lemmas.Option.{slice_get-get_or}
 use Rattle.brc_lang.specs.declared.module.Module.{Module}
 use Rattle.brc_lang.specs.Grammar.{IsModule}
 use Rattle.brc_model.specs.Walks.{IsAcceptable}
@@ -11,9 +12,8 @@ use Rattle.brc_model.specs.declared.duty.Duty.{Duty}
 use Rattle.brc_model.specs.declared.duty.Duty.TheVariants.{Die, SettleKind, SettleCell, TakeSlot, CloseResource, SettleEnd}
 use Rattle.brc_model.specs.declared.address.Address.{Address}
 use Rattle.brc_model.specs.declared.address.Address.TheVariants.{Gate}
-use Rattle.brc_model.specs.Machine.{Actor, Life, Unborn, Live, Dying, Closed, Machine}
+use Rattle.brc_model.specs.Machine.{Actor, Life, Unborn, Live, Dying, Closed, Machine, main_actor}
 use Rattle.brc_model.specs.Progress.{Always, GatesTell, BornAreUsed}
-use Rattle.brc_model.proofs.Basics.Lists.{some_within}
 use Rattle.brc_model.specs.References.{one_if}
 use Rattle.brc_model.specs.Accounts.{Accounts}
 use Rattle.brc_model.specs.Knowledge.{IsDyingWord, HeadOf}
@@ -64,15 +64,16 @@ chained_gate memory t head (y ∷ ys) x linked some =
 dying_gate : (p : Accounts) (n : ℕ) (m : Machine) (t x : ℕ) → Rule p n m → t < n → m.life x ≡ Dying t
     → (m.memory (Gate x) ≡ free_word) ⊎ IsDyingWord t (m.memory (Gate x))
 dying_gate p n m t x rule within dies =
-    let some = some_within m.actors t (omega (arith, within, rule.threads)) in
-    let fits = (rule.each t some.0 some.1).0 in
-    elim (hand_of some.0.agenda x) as (λ b. hand_of some.0.agenda x ≡ b
+    let a = get_or m.actors t main_actor in
+    let found = slice_get-get_or m.actors t main_actor (omega (arith, within, rule.threads)) in
+    let fits = (rule.each t a found).0 in
+    elim (hand_of a.agenda x) as (λ b. hand_of a.agenda x ≡ b
     → (m.memory (Gate x) ≡ free_word) ⊎ IsDyingWord t (m.memory (Gate x))) [
-      | true ↦ λ at. hand_gate m t some.0 some.0.agenda x fits.head_fits at
+      | true ↦ λ at. hand_gate m t a a.agenda x fits.head_fits at
       | false ↦ λ off.
           let one : one_if (dies_by (m.life x) t) ≡ 1 = ap one_if (dying_is (m.life x) t dies) in
-          let none : one_if (hand_of some.0.agenda x) ≡ 0 = ap one_if off in
-          inr (chained_gate m.memory t some.0.head fits.chain.chained x fits.chain.linked
+          let none : one_if (hand_of a.agenda x) ≡ 0 = ap one_if off in
+          inr (chained_gate m.memory t a.head fits.chain.chained x fits.chain.linked
           (omega (arith, fits.chain.once x, one, none)))
     ] refl
 
