@@ -10,6 +10,14 @@ use Rattle.brc_model.specs.declared.duty.Holding.TheVariants.{ByVariable, AsCall
 use Rattle.brc_model.specs.Plain.{Holder, ByThread, ByCell, Reference, same_holding, same_holder, same, without, references_to, is_cell_of, holds_by_cells}
 use Rattle.brc_model.specs.References.{held, one_if, cell_reference}
 
+pub one_if_low : (b : Bool) → one_if b ≤ 1
+one_if_low true = omega arith
+one_if_low false = omega arith
+
+pub one_if_true : (b : Bool) → 0 < one_if b → b ≡ true
+one_if_true true some = refl
+one_if_true false some = absurd (omega (arith, some))
+
 pub same_holding-true : (h k : Holding) → same_holding h k ≡ true → h ≡ k
 same_holding-true (ByVariable v) (ByVariable w) e = ap ByVariable (eqb-true v w e)
 same_holding-true (ByVariable v) AsCaller e = absurd cc

@@ -1,6 +1,6 @@
 -- Where a thread of accepted code stands: its account is what its place says. The step world has this layer on top of
 -- what the rule says of any thread.
-use Rattle.std.proofs.Common.{◌≡◌, ℕ, ◌≤◌, Bool, true, false, List, [], Option, length, refl, sym, ap, subst, arith}
+use Rattle.std.proofs.Common.{◌≡◌, ℕ, ◌≤◌, Bool, false, List, [], Option, length, refl, sym, ap, subst, arith}
 use Rattle.std.specs.Prelude.{◌==◌, ◌&&◌, slice_get}
 use Rattle.std.proofs.lemmas.List.{get_or_past}
 use Rattle.brc_model.specs.declared.slot.Slot.TheVariants.{Empty}
@@ -23,6 +23,7 @@ use Rattle.brc_model.specs.Accounts.{Account, HoldsNone, IsBounded}
 use Rattle.brc_model.proofs.Dispatch.Holds.{nothing, the_root, of_variables}
 use Rattle.brc_model.proofs.Dispatch.Grounded.{IsInside, AreInstructions}
 use Rattle.brc_model.proofs.Frame.Aside.{HoldsAlone}
+use Rattle.brc_model.proofs.Basics.Bag.{one_if_low}
 
 -- the account of a thread that holds just these references, each once
 abbrev pub once_each : (Holding → ℕ → Bool) → Account
@@ -85,15 +86,11 @@ departed_none code Departing account says e k object = ap (λ (c : Account). c k
 
 -- ---- how much the thread holds
 
-one_at_most : (b : Bool) → one_if b ≤ 1
-one_at_most true = omega arith
-one_at_most false = omega arith
-
 pub root_bounded : IsBounded (once_each the_root)
 root_bounded = record {
   by_variable = λ v object. omega arith;
   sixteen = λ v object past. refl;
-  lent = λ object. omega (arith, one_at_most (object == root_row));
+  lent = λ object. omega (arith, one_if_low (object == root_row));
   in_hand = λ object. refl;
 }
 
@@ -112,10 +109,10 @@ past_owns_none s v slots past = ap is_owned (get_or_past s.slots v Empty (omega 
 variables_bounded : (s : State) (variables : List (Option ℕ)) → length s.slots ≡ 16
     → IsBounded (once_each (of_variables s variables))
 variables_bounded s variables slots = record {
-  by_variable = λ v object. one_at_most (is_owned (slot_of s v) && names (row_of variables v) object);
+  by_variable = λ v object. one_if_low (is_owned (slot_of s v) && names (row_of variables v) object);
   sixteen = λ v object past.
       ap (λ (b : Bool). one_if (b && names (row_of variables v) object)) (past_owns_none s v slots past);
-  lent = λ object. omega (arith, one_at_most (object == root_row));
+  lent = λ object. omega (arith, one_if_low (object == root_row));
   in_hand = λ object. refl;
 }
 

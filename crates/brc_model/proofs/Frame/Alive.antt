@@ -1,5 +1,5 @@
 -- A row that is referenced, awaited, decided about or merged is live; and what an agenda weighs, all agendas weigh.
-use Rattle.std.proofs.Common.{◌≡◌, ℕ, zero, suc, ◌+◌, ◌<◌, ◌≤◌, List, [], ◌∷◌, Some, refl, ap, ◌∙◌, subst, arith}
+use Rattle.std.proofs.Common.{◌≡◌, ℕ, ◌+◌, ◌<◌, ◌≤◌, List, ◌∷◌, Some, refl, ap, ◌∙◌, arith}
 use Rattle.std.specs.Prelude.{slice_get, sum_by}
 use Rattle.std.proofs.lemmas.List.Sums.{sum_by-cons}
 use Rattle.brc_model.specs.Plain.{references_to}
@@ -8,28 +8,20 @@ use Rattle.brc_model.specs.Duties.{block_of}
 use Rattle.brc_model.specs.Machine.{Life, Unborn, Live, Dying, Closed, Actor, Machine}
 use Rattle.brc_model.proofs.Basics.Bag.{held-le-references_to}
 use Rattle.brc_model.specs.References.{reference_of}
-use Rattle.brc_model.specs.RowRule.{waits, merges, decides, agenda_weight, weight, Numbers, IsLive, RowRule}
+use Rattle.brc_model.specs.RowRule.{waits, merges, decides, weight, Numbers, IsLive, RowRule}
 use Rattle.brc_model.specs.Accounts.{Accounts}
 use Rattle.brc_model.specs.Invariant.{numbers_of, Rule}
 use Rattle.brc_model.specs.Knowledge.{IsBacked}
+use Rattle.brc_model.proofs.Objects.Weights.{agenda_weight-le}
 
 -- ---- weights
-
-pub agenda_in : (f : Duty → ℕ) (actors : List Actor) (t : ℕ) (a : Actor) → slice_get actors t ≡ Some a
-    → agenda_weight f a ≤ weight f actors
-agenda_in f [] t a found = absurd cc
-agenda_in f (b ∷ rest) zero a found =
-    let P : Actor → Type 0 = λ x. agenda_weight f x ≤ weight f (b ∷ rest) in
-    let this : b ≡ a = cc in
-    subst P this (omega (arith, sum_by-cons (agenda_weight f) b rest))
-agenda_in f (b ∷ rest) (suc t) a found = omega (arith, sum_by-cons (agenda_weight f) b rest, agenda_in f rest t a found)
 
 -- the first duty's weight, and that of the others, is among all
 pub first_weighs : (f : Duty → ℕ) (actors : List Actor) (t : ℕ) (a : Actor) (d : Duty) (rest : List Duty)
     → slice_get actors t ≡ Some a → a.agenda ≡ d ∷ rest → f d + sum_by f rest ≤ weight f actors
 first_weighs f actors t a d rest found is =
     let here : sum_by f a.agenda ≡ f d + sum_by f rest = ap (sum_by f) is ∙ sum_by-cons f d rest in
-    omega (arith, here, agenda_in f actors t a found)
+    omega (arith, here, agenda_weight-le f actors t a found)
 
 -- ---- life
 

@@ -14,6 +14,7 @@ use Rattle.brc_model.specs.RowRule.{waits, carries, merges, decides}
 use Rattle.brc_model.specs.Accounts.{Account, extra, lacks, extra_of, lacks_of, extra_aside, lacks_aside, HoldsAt}
 use Rattle.brc_model.specs.OpenWork.{is_about, about_of, AsideFits}
 use Rattle.brc_model.specs.Invariant.{looks}
+use Rattle.brc_model.proofs.Basics.Bag.{one_if_low}
 
 -- ---- one duty
 
@@ -170,16 +171,12 @@ alone_holds bag t account agenda aside none holds =
     let now : HoldsAt bag t account agenda [] = subst (HoldsAt bag t account agenda) none holds in
     record { each = λ k object. omega (arith, now.each k object) }
 
-one_at_most : (b : Bool) → one_if b ≤ 1
-one_at_most true = omega arith
-one_at_most false = omega arith
-
 pub alone_fits : (m : Machine) (t : ℕ) (a : Actor) → a.aside ≡ [] → AsideFits m t a
 alone_fits m t a none =
     record {
       waits = subst (Rattle.brc_model.specs.OpenWork.AllWait m t a) (sym none) tt;
       apart = λ x.
           let zero_aside : count_by (is_about x) a.aside ≡ 0 = ap (count_by (is_about x)) none in
-          omega (arith, one_at_most (about_of x a.agenda), zero_aside);
+          omega (arith, one_if_low (about_of x a.agenda), zero_aside);
       pieces = inl none;
     }

@@ -1,5 +1,5 @@
 -- What a thread holds and knows stands through the steps of other threads.
-use Rattle.std.proofs.Common.{◌≡◌, ◌≢◌, ℕ, ◌+◌, ◌<◌, Bool, true, false, cond, List, [], ◌∷◌, inl, inr, Some, refl, sym, ap, ◌∙◌, subst, arith}
+use Rattle.std.proofs.Common.{◌≡◌, ◌≢◌, ℕ, ◌+◌, ◌<◌, true, cond, List, [], ◌∷◌, inl, inr, Some, refl, sym, ap, ◌∙◌, subst, arith}
 use Rattle.std.specs.Prelude.{◌==◌, slice_get, slice_set, count_by}
 use Rattle.std.proofs.lemmas.Bool.{eq-eqb, eqb-true}
 use Rattle.std.proofs.lemmas.Bool.Decides.{eqb_tells}
@@ -21,6 +21,7 @@ use Rattle.brc_model.specs.Invariant.{Fits, ActorFits}
 use Rattle.brc_model.specs.Accounts.{Accounts, HoldsAt, Account}
 use Rattle.brc_model.specs.Knowledge.{OwnsLocally, IsBacked, MayMerge, MayCarry, IsNext, HasCountedKind, HeadFits, HeadOf, IsDyingWord}
 use Rattle.brc_model.proofs.Basics.Lists.{some_is, slice_get-set_same, slice_get-set_other}
+use Rattle.brc_model.proofs.Basics.Bag.{one_if_true}
 
 -- what the others rely on
 pub record LeavesOthers (m new : Machine) (t : ℕ) : Type 0 where
@@ -184,10 +185,6 @@ linked_kept memory new t head (x ∷ xs) same linked =
             (λ z some. same z (omega (arith, sum_by-cons (λ y. cond (y == z) 1 0) x xs, some))) linked.1.3,
       ),
     )
-
-one_if_true : (b : Bool) → 0 < one_if b → b ≡ true
-one_if_true true h = refl
-one_if_true false h = absurd (omega arith)
 
 chain_kept : (m new : Machine) (t u head : ℕ) (agenda : List Duty) → LeavesOthers m new t → u ≢ t
     → ChainFits m u head agenda → ChainFits new u head agenda

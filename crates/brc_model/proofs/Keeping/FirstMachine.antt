@@ -29,11 +29,11 @@ use Rattle.brc_model.proofs.Dispatch.Holds.{the_root}
 use Rattle.brc_model.proofs.Frame.Aside.{alone_fits}
 use Rattle.brc_model.proofs.Dispatch.Coded.{once_each, root_bounded, InCode}
 use Rattle.brc_model.proofs.Basics.Blocks.{block_main}
-use Rattle.brc_model.proofs.Objects.UsesAfter.{one_at_most}
 use Rattle.brc_word.specs.Words.{most_local, kind_part}
 use Rattle.brc_model.specs.Kinds.{kind_number}
 use Rattle.brc_model.specs.Plain.{root_row, is_among}
 use Rattle.brc_model.specs.Limits.{row_limit}
+use Rattle.brc_model.proofs.Basics.Bag.{one_if_low}
 
 -- ---- the code of each function
 
@@ -264,7 +264,7 @@ first_kinds_said workers (suc zero) born = omega arith
 first_kinds_said workers (suc (suc x)) born = absurd (born refl)
 
 one_root : (x : ℕ) → count_by (λ y. y == x) (root_row ∷ []) ≤ 1
-one_root x = omega (arith, sum_by-cons (λ (y : ℕ). cond (y == x) 1 0) root_row [], one_at_most (root_row == x))
+one_root x = omega (arith, sum_by-cons (λ (y : ℕ). cond (y == x) 1 0) root_row [], one_if_low (root_row == x))
 
 pub first_rule : (m : Module) (rows : ℕ) (calls : List Call) → AreCalls m calls → 0 < rows → rows ≤ row_limit
     → Rule first_accounts (1 + length calls) (first_machine m rows calls)

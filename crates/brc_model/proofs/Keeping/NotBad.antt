@@ -17,7 +17,7 @@ use Rattle.brc_model.specs.declared.address.Address.TheVariants.{Local, KindOf}
 use Rattle.brc_model.specs.Duties.{address_of}
 use Rattle.brc_model.specs.Machine.{Actor, Unborn, Live, Dying, Closed, Machine, hand_on, gain, lose, moves_by, birth, take_out}
 use Rattle.brc_model.specs.Events.{touched_row, is_freed_for, touches_freed, is_bad_duty}
-use Rattle.brc_model.proofs.Basics.Bag.{same_holding-refl, held_has, held-le-references_to, no_cell_holds, same-refl}
+use Rattle.brc_model.proofs.Basics.Bag.{same_holding-refl, held_has, held-le-references_to, no_cell_holds, same-refl, one_if_true}
 use Rattle.brc_model.specs.References.{held, one_if, reference_of}
 use Rattle.brc_model.specs.RowRule.{waits, decides, merges, InOwned, InSwapped, InMerged}
 use Rattle.brc_model.specs.Accounts.{Accounts, extra_of, lacks_of}
@@ -66,10 +66,6 @@ dying_free m t x dying = ap (is_freed_for t) dying ∙ ap not (eq-eqb t t refl)
 
 one_at : (x : ℕ) → one_if (x == x) ≡ 1
 one_at x = ap one_if (eq-eqb x x refl)
-
-one_if_true : (b : Bool) → 0 < one_if b → b ≡ true
-one_if_true true h = refl
-one_if_true false h = absurd (omega arith)
 
 -- the head of the chain is dying
 pub chain_head_dies : (p : Accounts) (n : ℕ) (m : Machine) (t : ℕ) (a : Actor) (rest : List Duty)

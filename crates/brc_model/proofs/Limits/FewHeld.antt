@@ -13,7 +13,7 @@ use Rattle.brc_model.specs.declared.duty.Duty.{Duty}
 use Rattle.brc_model.specs.declared.duty.Duty.TheVariants.{ReleaseLoad, ReleaseStore, SharedLoad, SharedExchange}
 use Rattle.brc_model.specs.Plain.{Holder, ByThread, ByCell, Reference, same, references_to}
 use Rattle.brc_model.specs.Machine.{Actor, Machine}
-use Rattle.brc_model.proofs.Basics.Bag.{same_holding-true, same-true, same-refl, held-cons, references_to-cons}
+use Rattle.brc_model.proofs.Basics.Bag.{same_holding-true, same-true, same-refl, held-cons, references_to-cons, one_if_true}
 use Rattle.brc_model.specs.References.{held, one_if, reference_of}
 use Rattle.brc_model.specs.Accounts.{Account, Accounts, extra, extra_of, extra_aside, most_lent, IsBounded}
 use Rattle.brc_model.specs.OpenWork.{is_about, about_of}
@@ -219,10 +219,6 @@ among_all own r x t (suc n) low e =
 
 -- ---- what the rule says of one thread
 
-one_if_low : (b : Bool) → one_if b ≤ 1
-one_if_low true = omega arith
-one_if_low false = omega arith
-
 -- who holds an object by a variable does so by one of the sixteen
 account_low : (account : Account) (h : Holding) (object : ℕ) → IsBounded account → 0 < account h object → is_low h
 account_low account (ByVariable v) object bounded some = elim (cases_lt v 16) [
@@ -255,10 +251,6 @@ abbrev given_in : ℕ → List Duty → Holding
 given_in x [] = InHand
 given_in x (d ∷ rest) = if is_about x d then given_by d else given_in x rest
 
-is_true : (b : Bool) → 0 < one_if b → b ≡ true
-is_true true some = refl
-is_true false some = absurd (omega (arith, some))
-
 given_as : (x : ℕ) (ds : List Duty) (k : Holding) → count_by (is_about x) ds ≤ 1
     → 0 < count_by (λ d. extra d k x) ds → k ≡ given_in x ds
 given_as x [] k few some = absurd (omega (arith, some))
@@ -268,7 +260,7 @@ given_as x (d ∷ rest) k few some =
     elim (is_about x d) as (λ b. is_about x d ≡ b → k ≡ cond b (given_by d) (given_in x rest)) [
       | true ↦ λ e.
           let one : one_if (is_about x d) ≡ 1 = ap one_if e in
-          extra_given d k x (is_true (extra d k x) (omega (
+          extra_given d k x (one_if_true (extra d k x) (omega (
             arith,
             about,
             given,

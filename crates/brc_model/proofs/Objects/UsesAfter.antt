@@ -26,6 +26,7 @@ use Rattle.brc_model.proofs.Frame.Leaves.{head_of}
 use Rattle.brc_model.proofs.Stepping.Neutral.{found_by, uses_same}
 use Rattle.brc_model.proofs.Objects.Closing.{GoesOn, BeginsToDie, IsClosed, IsBorn, life_step}
 use Rattle.brc_model.proofs.Objects.ClosedAfter.{among_more, among_last, either_true, one_is}
+use Rattle.brc_model.proofs.Basics.Bag.{one_if_low}
 
 -- ---- lives
 
@@ -295,10 +296,6 @@ not_listed p n m x rule unborn =
       | false ↦ λ e. refl
     ] refl
 
-pub one_at_most : (b : Bool) → one_if b ≤ 1
-one_at_most true = omega arith
-one_at_most false = omega arith
-
 -- one more, that isn't in the list
 one_more : (x y : ℕ) (l : List ℕ) → count_by (λ z. z == x) l ≤ 1 → is_among y l ≡ false
     → count_by (λ z. z == x) (l ++ y ∷ []) ≤ 1
@@ -311,7 +308,7 @@ one_more x y l once none =
       | inl same ↦
           let zero_before : count_by (λ z. z == x) l ≡ 0 =
           none_counted x l (ap (λ (z : ℕ). is_among z l) (sym same.1) ∙ none) in
-          omega (arith, parts, zero_before, last, one_at_most (y == x))
+          omega (arith, parts, zero_before, last, one_if_low (y == x))
       | inr apart ↦
           let other : one_if (y == x) ≡ 0 = ap one_if apart.0 in
           omega (arith, parts, once, last, other)

@@ -1,7 +1,6 @@
 -- What the weights of the agendas come to after one thread's step.
-use Rattle.std.proofs.Common.{◌≡◌, ℕ, zero, suc, ◌+◌, ◌<◌, ◌≤◌, true, false, cond, List, [], ◌∷◌, ◌++◌, Some, get_or, refl, ap, ◌∙◌, arith, inl, inr}
+use Rattle.std.proofs.Common.{◌≡◌, ℕ, zero, suc, ◌+◌, ◌≤◌, true, false, cond, List, [], ◌∷◌, ◌++◌, Some, get_or, refl, ap, ◌∙◌, arith}
 use Rattle.std.specs.Prelude.{◌==◌, sum_by, slice_get, slice_set}
-use Rattle.std.proofs.lemmas.Bool.Decides.{eqb_tells}
 use Rattle.std.proofs.lemmas.Option.{slice_get_within, get_or_from_slice_get}
 use Rattle.std.proofs.lemmas.List.Sums.{sum_by-cons, sum_by-append, sum_by-set, get_or-le-sum_by}
 use Rattle.brc_model.specs.declared.duty.Duty.{Duty}
@@ -118,29 +117,14 @@ carries_none x (MergeLoad y c r) none = carried_if y x c none
 carries_none x (MergeExchange y c w r) none = carried_if y x c none
 carries_none x d none = refl
 
+pub carries_nothing : (x : ℕ) (a : Actor) → agenda_weight (merges x) a ≡ 0 → agenda_weight (carries x) a ≡ 0
+carries_nothing x a none =
+    omega (
+      arith,
+      sum_none (merges x) (carries x) (carries_none x) a.agenda (omega (arith, none)),
+      sum_none (merges x) (carries x) (carries_none x) a.aside (omega (arith, none)),
+    )
+
 pub none_carried : (x : ℕ) (actors : List Actor) → weight (merges x) actors ≡ 0 → weight (carries x) actors ≡ 0
 none_carried x actors none =
-    sum_none (agenda_weight (merges x)) (agenda_weight (carries x))
-    (λ (a : Actor) (e : agenda_weight (merges x) a ≡ 0).
-    let first = sum_none (merges x) (carries x) (carries_none x) a.agenda (omega (arith, e)) in
-    let second = sum_none (merges x) (carries x) (carries_none x) a.aside (omega (arith, e)) in
-    omega (arith, first, second)) actors none
-
--- ---- what weighs something is somewhere
-
-pub record IsHeavy {X : Type 0} (f : X → ℕ) (xs : List X) : Type 0 where
-  pub at : ℕ
-  pub found : X
-  pub is_there : slice_get xs at ≡ Some found
-  pub weighs : 0 < f found
-
-heavy_within : {X : Type 0} (f : X → ℕ) (x : X) (xs : List X) → IsHeavy f xs → IsHeavy f (x ∷ xs)
-heavy_within f x xs h = record { at = suc h.at; found = h.found; is_there = h.is_there; weighs = h.weighs }
-
-pub heavy_somewhere : {X : Type 0} (f : X → ℕ) (xs : List X) → 0 < sum_by f xs → IsHeavy f xs
-heavy_somewhere f [] some = absurd (omega arith)
-heavy_somewhere f (x ∷ xs) some =
-    elim (eqb_tells (f x) 0) [
-      | inl none ↦ heavy_within f x xs (heavy_somewhere f xs (omega (arith, sum_by-cons f x xs, none.1)))
-      | inr more ↦ record { at = 0; found = x; is_there = refl; weighs = omega (arith, more.1) }
-    ]
+    sum_none (agenda_weight (merges x)) (agenda_weight (carries x)) (carries_nothing x) actors none

@@ -1,5 +1,5 @@
 -- A thread after its own steps of its dying chain: a row is chained, taken from the chain, and closed.
-use Rattle.std.proofs.Common.{◌≡◌, ℕ, zero, suc, ◌+◌, ◌-◌, ◌<◌, ◌≤◌, Bool, true, false, cond, List, [], ◌∷◌, inl, inr, Some, refl, sym, ap, ◌∙◌, subst, arith, ◌≢◌}
+use Rattle.std.proofs.Common.{◌≡◌, ℕ, zero, suc, ◌+◌, ◌-◌, ◌<◌, Bool, true, false, cond, List, [], ◌∷◌, inl, inr, Some, refl, sym, ap, ◌∙◌, subst, arith, ◌≢◌}
 use Rattle.std.specs.Prelude.{◌==◌, count_by}
 use Rattle.std.proofs.lemmas.Bool.{eq-eqb}
 use Rattle.std.proofs.lemmas.Bool.Decides.{eqb_tells}
@@ -25,6 +25,7 @@ use Rattle.brc_model.proofs.Stepping.OwnCounts.{held_same}
 use Rattle.brc_model.proofs.Stepping.OwnRetains.{ready_first}
 use Rattle.brc_model.proofs.Basics.Blocks.{born_low}
 use Rattle.brc_model.proofs.Stepping.OwnShown.{ShownStep, own_shown, agenda_shown}
+use Rattle.brc_model.proofs.Basics.Bag.{one_if_low}
 
 -- ---- which rows die
 
@@ -33,10 +34,6 @@ pub chain_here : (p : Accounts) (n : ℕ) (m : Machine) (t : ℕ) (a : Actor) (d
     → AtDuty p n m t a d rest → ChainFits m t a.head (d ∷ rest)
 chain_here p n m t a d rest here =
     subst (λ (l : List Duty). ChainFits m t a.head l) here.agenda (here.rule.each t a here.found).0.chain
-
-one_if_low : (b : Bool) → one_if b ≤ 1
-one_if_low true = omega arith
-one_if_low false = omega arith
 
 pub one_if_some : (b : Bool) → 0 < one_if b → b ≡ true
 one_if_some true some = refl

@@ -1,6 +1,6 @@
 -- At most one thread merges a row, and a claimant that finds no owner finds the row merged.
-use Rattle.std.proofs.Common.{◌≡◌, ◌≢◌, ℕ, zero, suc, ◌+◌, ◌<◌, ◌≤◌, Bool, true, false, cond, List, [], ◌∷◌, ◌⊎◌, inl, inr, Some, refl, sym, ap, ◌∙◌, subst, arith}
-use Rattle.std.specs.Prelude.{◌==◌, slice_get, sum_by}
+use Rattle.std.proofs.Common.{◌≡◌, ◌≢◌, ℕ, zero, suc, ◌+◌, ◌<◌, ◌≤◌, Bool, false, cond, List, [], ◌∷◌, ◌⊎◌, inl, inr, Some, refl, sym, ap, ◌∙◌, subst, arith}
+use Rattle.std.specs.Prelude.{◌==◌, slice_get}
 use Rattle.std.proofs.lemmas.Bool.{eq-eqb}
 use Rattle.std.proofs.lemmas.Bool.Decides.{eqb_tells}
 use Rattle.std.proofs.lemmas.List.Sums.{sum_by-cons}
@@ -20,10 +20,11 @@ use Rattle.brc_model.specs.Accounts.{Accounts}
 use Rattle.brc_model.specs.Invariant.{AtDuty, numbers_of, Rule}
 use Rattle.brc_model.specs.Knowledge.{MayCarry, HeadFits, status_word}
 use Rattle.brc_model.proofs.Work.HasDuties.{some_weighs}
-use Rattle.brc_model.proofs.Frame.Alive.{agenda_in, first_weighs}
+use Rattle.brc_model.proofs.Frame.Alive.{first_weighs}
 use Rattle.brc_model.proofs.Frame.Leaves.{head_of, claim_alive, merge_alive}
 use Rattle.brc_model.proofs.Frame.Aside.{waits_of_row, carries_of_row, merges_of_row}
 use Rattle.brc_model.proofs.Work.Weighing.{own_weighs, weighing}
+use Rattle.brc_model.proofs.Objects.Weights.{agenda_weight-le, carries_nothing, none_carried}
 
 -- ---- weights of agendas
 
@@ -34,10 +35,10 @@ two_weigh f [] t u a b ne one two = absurd cc
 two_weigh f (c ∷ rest) zero zero a b ne one two = absurd (ne refl)
 two_weigh f (c ∷ rest) zero (suc u) a b ne one two =
     let this : agenda_weight f c ≡ agenda_weight f a = ap (agenda_weight f) (some_is c a one) in
-    omega (arith, sum_by-cons (agenda_weight f) c rest, agenda_in f rest u b two, this)
+    omega (arith, sum_by-cons (agenda_weight f) c rest, agenda_weight-le f rest u b two, this)
 two_weigh f (c ∷ rest) (suc t) zero a b ne one two =
     let this : agenda_weight f c ≡ agenda_weight f b = ap (agenda_weight f) (some_is c b two) in
-    omega (arith, sum_by-cons (agenda_weight f) c rest, agenda_in f rest t a one, this)
+    omega (arith, sum_by-cons (agenda_weight f) c rest, agenda_weight-le f rest t a one, this)
 two_weigh f (c ∷ rest) (suc t) (suc u) a b ne one two =
     omega (arith, sum_by-cons (agenda_weight f) c rest, two_weigh f rest t u a b (λ e. ne (ap suc e)) one two)
 
@@ -128,46 +129,6 @@ swapped_apart p n m t a x rest here none =
 
 -- ---- what is carried
 
-none_carried : (b : Bool) (c : ℕ) → one_if b ≡ 0 → cond b c 0 ≡ 0
-none_carried true c e = absurd (omega (arith, e))
-none_carried false c e = refl
-
-unmerged_carries : (x : ℕ) (d : Duty) → merges x d ≡ 0 → carries x d ≡ 0
-unmerged_carries x (MergeLoad y c r) e = none_carried (y == x) c e
-unmerged_carries x (MergeExchange y c w r) e = none_carried (y == x) c e
-unmerged_carries x _ e = refl
-
-agenda_carries : (x : ℕ) (agenda : List Duty) → sum_by (merges x) agenda ≡ 0 → sum_by (carries x) agenda ≡ 0
-agenda_carries x [] none = refl
-agenda_carries x (d ∷ rest) none =
-    let first : carries x d ≡ 0 = unmerged_carries x d (omega (arith, sum_by-cons (merges x) d rest, none)) in
-    omega (
-      arith,
-      sum_by-cons (carries x) d rest,
-      first,
-      agenda_carries x rest (omega (arith, sum_by-cons (merges x) d rest, none)),
-    )
-
-thread_carries : (x : ℕ) (b : Actor) → agenda_weight (merges x) b ≡ 0 → agenda_weight (carries x) b ≡ 0
-thread_carries x b none =
-    omega (
-      arith,
-      agenda_carries x b.agenda (omega (arith, none)),
-      agenda_carries x b.aside (omega (arith, none)),
-    )
-
-all_carry : (x : ℕ) (actors : List Actor) → weight (merges x) actors ≡ 0 → weight (carries x) actors ≡ 0
-all_carry x [] none = refl
-all_carry x (b ∷ rest) none =
-    let first : agenda_weight (carries x) b ≡ 0 =
-    thread_carries x b (omega (arith, sum_by-cons (agenda_weight (merges x)) b rest, none)) in
-    omega (
-      arith,
-      sum_by-cons (agenda_weight (carries x)) b rest,
-      first,
-      all_carry x rest (omega (arith, sum_by-cons (agenda_weight (merges x)) b rest, none)),
-    )
-
 -- where one thread alone merges, it alone carries
 one_carries : (x : ℕ) (actors : List Actor) (t : ℕ) (a : Actor) → slice_get actors t ≡ Some a
     → weight (merges x) actors ≡ agenda_weight (merges x) a → weight (carries x) actors ≡ agenda_weight (carries x) a
@@ -181,12 +142,12 @@ one_carries x (b ∷ rest) zero a found one =
       arith,
       sum_by-cons (agenda_weight (carries x)) b rest,
       also,
-      all_carry x rest (omega (arith, sum_by-cons (agenda_weight (merges x)) b rest, same, one)),
+      none_carried x rest (omega (arith, sum_by-cons (agenda_weight (merges x)) b rest, same, one)),
     )
 one_carries x (b ∷ rest) (suc t) a found one =
-    let others = agenda_in (merges x) rest t a found in
+    let others = agenda_weight-le (merges x) rest t a found in
     let first : agenda_weight (carries x) b ≡ 0 =
-    thread_carries x b (omega (arith, sum_by-cons (agenda_weight (merges x)) b rest, others, one)) in
+    carries_nothing x b (omega (arith, sum_by-cons (agenda_weight (merges x)) b rest, others, one)) in
     omega (
       arith,
       sum_by-cons (agenda_weight (carries x)) b rest,

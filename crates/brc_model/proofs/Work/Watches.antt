@@ -17,7 +17,7 @@ use Rattle.brc_model.specs.declared.actor.Place.{Place}
 use Rattle.brc_model.specs.Machine.{Actor, Machine, is_running, first_row, actor_by, done_by, written}
 use Rattle.brc_model.proofs.Basics.Lists.{some_is, slice_get-set_other}
 use Rattle.brc_model.specs.References.{one_if}
-use Rattle.brc_model.specs.RowRule.{agenda_weight, weight}
+use Rattle.brc_model.specs.RowRule.{weight}
 use Rattle.brc_model.specs.Accounts.{Accounts}
 use Rattle.brc_model.specs.OpenWork.{Later, Agenda, scans}
 use Rattle.brc_model.specs.Invariant.{AtDuty, looks, IsWatched, ByRunning, ByExit, ByLook, Rule}
@@ -28,6 +28,7 @@ use Rattle.brc_model.proofs.Frame.Lives.{next_of}
 use Rattle.brc_model.proofs.Stepping.Neutral.{found_by, memory_by, agenda_here}
 use Rattle.brc_model.proofs.Stepping.OwnExits.{marked_born}
 use Rattle.brc_model.proofs.Basics.Blocks.{born_used}
+use Rattle.brc_model.proofs.Objects.Weights.{weight-set}
 
 -- ---- actors
 
@@ -35,20 +36,6 @@ set_found : {A : Type 0} (xs : List A) (i : ℕ) (x y : A) → slice_get xs i �
 set_found [] i x y found = absurd cc
 set_found (z ∷ zs) zero x y found = refl
 set_found (z ∷ zs) (suc i) x y found = set_found zs i x y found
-
-weight_set : (f : Duty → ℕ) (actors : List Actor) (t : ℕ) (a b : Actor) → slice_get actors t ≡ Some a
-    → weight f (set actors t b) + agenda_weight f a ≡ weight f actors + agenda_weight f b
-weight_set f [] t a b found = absurd cc
-weight_set f (c ∷ rest) zero a b found =
-    let same : agenda_weight f c ≡ agenda_weight f a = ap (agenda_weight f) (some_is c a found) in
-    omega (arith, sum_by-cons (agenda_weight f) c rest, sum_by-cons (agenda_weight f) b rest, same)
-weight_set f (c ∷ rest) (suc t) a b found =
-    omega (
-      arith,
-      sum_by-cons (agenda_weight f) c rest,
-      sum_by-cons (agenda_weight f) c (set rest t b),
-      weight_set f rest t a b found,
-    )
 
 -- ---- what is passed over neither looks nor scans
 
@@ -249,7 +236,7 @@ looks_step m t a d rest x found is =
     let now : sum_by (looks x) after.agenda ≡ sum_by (looks x) (next_of m t a d) + sum_by (looks x) rest =
     looks_ready x (head_by a.head d (found_by m t a d)) (next_of m t a d ++ rest)
     ∙ sum_by-append (looks x) (next_of m t a d) rest in
-    omega (arith, weight_set (looks x) m.actors t a after found, before, now)
+    omega (arith, weight-set (looks x) m.actors t a after found, before, now)
 
 -- a duty that doesn't look at the row
 look_kept : (p : Accounts) (n : ℕ) (m : Machine) (t : ℕ) (a : Actor) (d : Duty) (rest : List Duty) (x : ℕ)
