@@ -25,7 +25,7 @@ impl Doer {
         }
     }
 
-    /// The resource is put into its slot.
+    /// The resource is put into its slot (`slot_left_empty`).
     #[inline(always)]
     pub(super) fn birth_slot(self, row: u32, holding: Holding) -> Effect
         ensures { (found : ℕ) → IsEffect self (duties.BirthSlot row holding) found result }

@@ -37,7 +37,8 @@ impl Doer {
         }
     }
 
-    /// What the object is decides what it gives back: a file or a socket its resource, a list its cells.
+    /// What the object is decides what it gives back: a file or a socket its resource, a list its cells, from
+    /// the first on (`first_cell_skipped`).
     #[inline(always)]
     pub(super) fn settle_kind(self, row: u32, found: u64) -> Effect
         ensures { IsEffect self (duties.SettleKind row) found result }
@@ -52,7 +53,7 @@ impl Doer {
         }
     }
 
-    /// The cell's reference is taken out by a swap and given up, before the next cell.
+    /// The cell's reference is taken out by a swap (`cell_keeps_its_reference`) and given up, before the next cell.
     #[inline(always)]
     pub(super) fn settle_cell(self, row: u32, cell: u32, cells: u32, found: u64) -> Effect
         requires cell { cell < 8 }

@@ -41,7 +41,7 @@ impl Doer {
         }
     }
 
-    /// The thread is gone.
+    /// The thread is gone (`finished_thread_isnt_gone`).
     #[inline(always)]
     pub(super) fn finish(self) -> Effect
         ensures { (found : ℕ) → IsEffect self duties.Finish found result }

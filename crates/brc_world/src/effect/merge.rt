@@ -48,9 +48,10 @@ impl Doer {
         )
     }
 
-    /// .. and exchanged if it is still the same; else the merge looks again. Count and state change in one step: from
-    /// then on nobody owns the object, and all references are in the shared count (`merge_drops_local`). At zero it
-    /// dies. A claimed mark's reference is still counted, and given up next.
+    /// .. and exchanged if it is still the same; else the merge looks again (`lost_merge_overwrites`). Count and state
+    /// change in one step: from then on nobody owns the object, and all references are in the shared count
+    /// (`merge_drops_local`). At zero it dies (`death_tested_before_merge`). A claimed mark's reference is still
+    /// counted, and given up next (`merge_forgets_the_handed_reference`).
     #[inline(always)]
     pub(super) fn merge_exchange(
         self,

@@ -19,7 +19,8 @@ use brc_word::{
 
 impl Doer {
     /// A release begins with a look at the local word, as a retain does: the running owner counts down there, and
-    /// everybody else in the shared word. (PEP 703, Biased Reference Counting: `Py_DECREF`.)
+    /// everybody else in the shared word: while the owner runs, only it may merge (`other_thread_merges`). (PEP 703,
+    /// Biased Reference Counting: `Py_DECREF`.)
     #[inline(always)]
     pub(super) fn release_load(self, row: u32, found: u64) -> Effect
         requires { is_running self.status ≡ true → owner_part found ≡ self.number + 1 → 1 ≤ local_part found }
@@ -41,7 +42,7 @@ impl Doer {
     }
 
     /// The running owner counts down by a plain store (`release_store_skipped`). At zero the shared word decides what
-    /// follows, since other threads may still count references there.
+    /// follows (`last_local_reference_missed`), since other threads may still count references there.
     #[inline(always)]
     pub(super) fn release_store(self, row: u32, word: u64) -> Effect
         requires { 1 ≤ local_part word }
@@ -55,8 +56,9 @@ impl Doer {
         }
     }
 
-    /// No local reference is left. Where the shared word says that nobody ever counted there, the object dies; any
-    /// other object is merged first, since its count may be above or below zero (`free_without_shared`).
+    /// No local reference is left. Where the shared word says that nobody ever counted there, the object dies
+    /// (`unshared_object_leaks`); any other object is merged first, since its count may be above or below zero
+    /// (`free_without_shared`).
     #[inline(always)]
     pub(super) fn decide_at_zero(self, row: u32, found: u64) -> Effect
         ensures { IsEffect self (duties.DecideAtZero row) found result }
@@ -89,9 +91,10 @@ impl Doer {
         )
     }
 
-    /// The compare-exchange of the release. Where another thread was first, the release looks again. From count 0,
-    /// default, the object is queued for its owner and keeps the reference (`release_below_zero`); from any other
-    /// state the count goes down by one, and a merged object that nobody counts any more dies.
+    /// The compare-exchange of the release. Where another thread was first, the release looks again
+    /// (`lost_exchange_forgotten`). From count 0, default, the object is queued for its owner and keeps the reference
+    /// (`release_below_zero`); from any other state the count goes down by one, and a merged object that nobody counts
+    /// any more dies (`death_tested_before_decrement`).
     #[inline(always)]
     pub(super) fn shared_exchange(self, row: u32, reason: Reason, word: u64, found: u64) -> Effect
         requires shared { found ≡ word → IsShared word }
