@@ -12,13 +12,13 @@ use Rattle.brc_model.specs.declared.slot.State.{State}
 use Rattle.brc_model.specs.declared.slot.Exit.{Exit}
 use Rattle.brc_model.specs.declared.slot.Exit.TheVariants.{Success, Fault}
 use Rattle.brc_model.specs.Slots.{entry}
-use Rattle.brc_model.specs.Walks.{Place, At, Ended, Meets, follow, MeetsCode}
+use Rattle.brc_model.specs.Paths.{PathEnd, At, Ended, Reports, follow, ReportsCode}
 use Rattle.brc_model.specs.Tables.{Reaches, StatesDifferAt, entry_at}
 use Rattle.brc_check.specs.Rows.{StaysOn, IsClosed, IsBlocked}
 use Rattle.brc_check.specs.Filling.{settled, settled_at, IsFilledTo, IsInferred}
 use Rattle.brc_check.specs.Refusal.{IsMet}
 use Rattle.brc_check.proofs.Steps.{arrives-At, ahead-At}
-use Rattle.brc_check.proofs.Walks.{begins, reaches-more, meets-more, closed-reached, closed-acceptable}
+use Rattle.brc_check.proofs.Paths.{begins, reaches-more, reports-more, closed-reached, closed-acceptable}
 
 -- ---- one entry
 
@@ -80,12 +80,12 @@ same_place : (k at : ℕ) (t s : State) → k ≡ at → t ≡ s → At k t ≡ 
 same_place k at t s e f = λ i. At (e i) (f i)
 
 -- what stands in a row after the state of a place is settled
-pub record Leads (old new : List (Option State)) (p : Place) : Type 0 where
+pub record Leads (old new : List (Option State)) (p : PathEnd) : Type 0 where
   pub same_length : length new ≡ length old
   pub kept : (k : ℕ) (t : State) → entry_at old k ≡ Some t → entry_at new k ≡ Some t
   pub fresh : (k : ℕ) (t : State) → entry_at new k ≡ Some t → (entry_at old k ≡ Some t) ⊎ (p ≡ At k t)
 
-leads-place : (row : List (Option State)) (p : Place) → ((k : ℕ) (t : State) → p ≡ At k t → k < length row)
+leads-place : (row : List (Option State)) (p : PathEnd) → ((k : ℕ) (t : State) → p ≡ At k t → k < length row)
     → Leads row (settled_at row p) p
 leads-place row (At at s) within =
     let there = settles row at s (within at s refl) in
@@ -98,7 +98,7 @@ leads-place row (At at s) within =
       ];
     }
 leads-place row Ended within = record { same_length = refl; kept = λ k t e. e; fresh = λ k t e. inl e }
-leads-place row (Meets at c) within = record { same_length = refl; kept = λ k t e. e; fresh = λ k t e. inl e }
+leads-place row (Reports at c) within = record { same_length = refl; kept = λ k t e. e; fresh = λ k t e. inl e }
 
 leads : (code : List Instr) (row : List (Option State)) (at : ℕ) (s : State) (exit : Exit) → length row ≡ length code
     → Leads row (settled_at row (follow code (At at s) exit)) (follow code (At at s) exit)
@@ -106,11 +106,11 @@ leads code row at s exit same =
     leads-place row (follow code (At at s) exit)
     (λ k t e. let within = (arrives-At code at k s t exit e).within in omega (arith, within, same))
 
-stays-kept : (old new : List (Option State)) (p : Place)
+stays-kept : (old new : List (Option State)) (p : PathEnd)
     → ((k : ℕ) (t : State) → entry_at old k ≡ Some t → entry_at new k ≡ Some t) → StaysOn old p → StaysOn new p
 stays-kept old new (At at s) kept on = kept at s on
 stays-kept old new Ended kept on = tt
-stays-kept old new (Meets at c) kept on = on
+stays-kept old new (Reports at c) kept on = on
 
 abbrev pub AllReached : List Instr → List (Option State) → Type 0
 AllReached code row = (k : ℕ) (s : State) → entry_at row k ≡ Some s → Reaches code k s
@@ -125,7 +125,7 @@ reached-led code row at s exit same reached here k t e =
     ]
 
 blocked-at : (code : List Instr) (row : List (Option State)) (at : ℕ) (s : State) (exit : Exit) (k : ℕ) (c : CheckCode)
-    (p : Place)
+    (p : PathEnd)
     → length row ≡ length code → AllReached code row → entry_at row at ≡ Some s → follow code (At at s) exit ≡ p
     → IsBlocked (settled_at row p) p k c → IsMet code k c
 blocked-at code row at s exit k c (At next t) same reached here leads_to blocked =
@@ -145,9 +145,9 @@ blocked-at code row at s exit k c (At next t) same reached here leads_to blocked
       )
     ]
 blocked-at code row at s exit k c Ended same reached here leads_to blocked = absurd blocked
-blocked-at code row at s exit k c (Meets point d) same reached here leads_to blocked =
-    let met : MeetsCode code point d = meets-more code at point s d exit (reached at s here) leads_to in
-    inl (subst (λ (e : CheckCode). MeetsCode code k e) blocked.1 (subst (λ (j : ℕ). MeetsCode code j d) blocked.0 met))
+blocked-at code row at s exit k c (Reports point d) same reached here leads_to blocked =
+    let reported : ReportsCode code point d = reports-more code at point s d exit (reached at s here) leads_to in
+    inl (subst (λ (e : CheckCode). ReportsCode code k e) blocked.1 (subst (λ (j : ℕ). ReportsCode code j d) blocked.0 reported))
 
 -- ---- both exits
 
@@ -224,7 +224,7 @@ filled_both code row at s forwards filled here on_success on_fault =
             let same : k ≡ at = omega arith in
             let state : t ≡ s =
             same_Some t s (sym (before_twice k t (omega arith) e) ∙ ap (entry_at row) same ∙ here) in
-            subst (λ (p : Place). StaysOn twice (follow code p exit)) (sym (same_place k at t s same state))
+            subst (λ (p : PathEnd). StaysOn twice (follow code p exit)) (sym (same_place k at t s same state))
             (here_on exit)
       ];
     }

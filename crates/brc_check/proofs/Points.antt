@@ -13,7 +13,7 @@ use Rattle.brc_model.specs.declared.slot.State.{State}
 use Rattle.brc_model.specs.declared.slot.Exit.{Exit}
 use Rattle.brc_model.specs.declared.slot.Exit.TheVariants.{Success, Fault}
 use Rattle.brc_model.specs.Slots.{entry}
-use Rattle.brc_model.specs.Walks.{At, Meets, follow}
+use Rattle.brc_model.specs.Paths.{At, Reports, follow}
 use Rattle.brc_model.specs.Tables.{HasShape, entry_at, row_of}
 use Rattle.brc_check.specs.declared.refused.Met as refused
 use Rattle.brc_check.specs.declared.refused.Refused.{Refused}
@@ -83,9 +83,9 @@ step_fault code row at s exit k c (Met d) here is blocked = inl (record {
   state = s;
   exit = exit;
   is_given = ap (entry_at row) (sym blocked.0) ∙ here;
-  meets =
-      ap (λ (n : ℕ). follow code (At n s) exit) (sym blocked.0) ∙ sym is ∙ ap (λ (n : ℕ). Meets n d) blocked.0
-      ∙ ap (Meets k) blocked.1;
+  reports =
+      ap (λ (n : ℕ). follow code (At n s) exit) (sym blocked.0) ∙ sym is ∙ ap (λ (n : ℕ). Reports n d) blocked.0
+      ∙ ap (Reports k) blocked.1;
 })
 
 pub point_fault : (code : List Instr) (row : List (Option State)) (at : ℕ) (s : State) (first second : Step)
@@ -140,7 +140,7 @@ row_fault functions rows number f row r at c shape lt is_f is_row is fault = rw 
   shape = shape;
   number = number;
   function = f;
-  stands = slice_get_read functions (length functions) number f refl lt is_f;
+  applies = slice_get_read functions (length functions) number f refl lt is_f;
   named = refl;
   fault =
       subst (λ (o : List (Option State)). IsFaultAt f.code o at c)

@@ -11,7 +11,7 @@ use Rattle.brc_model.specs.declared.slot.State.{State}
 use Rattle.brc_model.specs.declared.slot.Exit.{Exit}
 use Rattle.brc_model.specs.declared.slot.Exit.TheVariants.{Success, Fault}
 use Rattle.brc_model.specs.Slots.{lowest, after, target}
-use Rattle.brc_model.specs.Walks.{Place, At, Ended, Meets, arrives, unless_met, passes, follow}
+use Rattle.brc_model.specs.Paths.{PathEnd, At, Ended, Reports, arrives, unless_reported, passes, follow}
 
 -- an instruction leads to the next point, or to the target that it names
 forward : (i : Instr) (exit : Exit) (at next : ℕ) → ((to : ℕ) → jump i ≡ Some to → at < to)
@@ -34,19 +34,19 @@ pub record Arrives (code : List Instr) (at : ℕ) (exit : Exit) (next : ℕ) : T
   pub within : next < length code
 
 -- where a place is a point, the exit comes to it
-abbrev pub IsArrival : List Instr → ℕ → Exit → Place → Type 0
+abbrev pub IsArrival : List Instr → ℕ → Exit → PathEnd → Type 0
 IsArrival code n exit (At at s) = Arrives code n exit at
 IsArrival code n exit Ended = Unit {0}
-IsArrival code n exit (Meets at c) = Unit {0}
+IsArrival code n exit (Reports at c) = Unit {0}
 
-arrival-unless_met : (code : List Instr) (n at : ℕ) (exit : Exit) (o : Option CheckCode) (p : Place)
-    → IsArrival code n exit p → IsArrival code n exit (unless_met at o p)
-arrival-unless_met code n at exit None p h = h
-arrival-unless_met code n at exit (Some c) p h = tt
+arrival-unless_reported : (code : List Instr) (n at : ℕ) (exit : Exit) (o : Option CheckCode) (p : PathEnd)
+    → IsArrival code n exit p → IsArrival code n exit (unless_reported at o p)
+arrival-unless_reported code n at exit None p h = h
+arrival-unless_reported code n at exit (Some c) p h = tt
 
 arrival-cond : (code : List Instr) (n next : ℕ) (exit : Exit) (i : Instr) (s : State) (b : Bool)
     → slice_get code n ≡ Some i → target i exit n ≡ Some next → nat_lt next (length code) ≡ b
-    → IsArrival code n exit (cond b (At next s) (Meets n RunsOff))
+    → IsArrival code n exit (cond b (At next s) (Reports n RunsOff))
 arrival-cond code n next exit i s true found leads e =
     record { here = i; found = found; leads = leads; within = ltb-true next (length code) e }
 arrival-cond code n next exit i s false found leads e = tt
@@ -61,7 +61,7 @@ arrival-passes : (code : List Instr) (at : ℕ) (o : Option Instr) (exit : Exit)
     → IsArrival code at exit (passes code at o exit s)
 arrival-passes code at None exit s found = tt
 arrival-passes code at (Some i) exit s found =
-    arrival-unless_met code at at exit (lowest i s) (arrives code at (target i exit at) (after i exit s))
+    arrival-unless_reported code at at exit (lowest i s) (arrives code at (target i exit at) (after i exit s))
     (arrival-arrives code at exit i (target i exit at) (after i exit s) found refl)
 
 pub arrives-At : (code : List Instr) (at next : ℕ) (s t : State) (exit : Exit) → follow code (At at s) exit ≡ At next t

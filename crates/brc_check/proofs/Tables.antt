@@ -10,13 +10,13 @@ use Rattle.brc_lang.specs.declared.module.Module.{Module}
 use Rattle.brc_lang.specs.declared.module.Instr.{Instr}
 use Rattle.brc_model.specs.declared.code.CheckCode.{CheckCode}
 use Rattle.brc_model.specs.declared.slot.State.{State}
-use Rattle.brc_model.specs.Walks.{IsAcceptableCode, IsAcceptable}
+use Rattle.brc_model.specs.Paths.{IsAcceptableCode, IsAcceptable}
 use Rattle.brc_model.specs.Tables.{HasShape, IsTrueTable, IsTrueWhereReached, row_of}
 use Rattle.brc_check.specs.declared.refused.Refused.{Refused}
 use Rattle.brc_check.specs.Rows.{IsClosed}
 use Rattle.brc_check.specs.Filling.{IsInferred}
 use Rattle.brc_check.specs.Refusal.{IsMet, IsForMemory, IsRefusal, IsShapeFault, IsTableFault}
-use Rattle.brc_check.proofs.Walks.{closed-reached, closed-acceptable, no_fault}
+use Rattle.brc_check.proofs.Paths.{closed-reached, closed-acceptable, no_fault}
 
 -- what holds at each place holds of all
 all_from_places : (P : Function → Type 0) (fs : List Function)
@@ -101,8 +101,8 @@ no_table_fault m rows r accepted true_table fault =
     elim fault [
       | inl f ↦ f.other_shape true_table.shape
       | inr f ↦ no_fault f.function.code (row_of rows f.number) r.at r.code
-          (at_place (λ (g : Function). IsAcceptableCode g.code) m.functions f.number f.function accepted f.stands)
-          (λ k. true_table.entries f.number k f.function f.stands) f.fault
+          (at_place (λ (g : Function). IsAcceptableCode g.code) m.functions f.number f.function accepted f.applies)
+          (λ k. true_table.entries f.number k f.function f.applies) f.fault
     ]
 
 -- what a look at each row finds
@@ -154,13 +154,13 @@ pub refused_for : (functions : List Function) (number : ℕ) (f : Function) (r :
 refused_for functions number f r lt is refusal =
     elim refusal.1 [
       | inl memory ↦ inl memory
-      | inr met ↦ inr (record { function = f; stands = (number, lt, sym is); named = sym refusal.0; met = met })
+      | inr reported ↦ inr (record { function = f; applies = (number, lt, sym is); named = sym refusal.0; reported = reported })
     ]
 
 never_met : (code : List Instr) (at : ℕ) (c : CheckCode) → IsAcceptableCode code → IsMet code at c → ⊥
-never_met code at c accepted met =
-    elim met [
-      | inl m ↦ accepted.meets_none at c m
+never_met code at c accepted reported =
+    elim reported [
+      | inl m ↦ accepted.reports_none at c m
       | inr d ↦
           d.1.apart (accepted.states_agree d.1.first.exits d.1.second.exits at d.1.one d.1.other d.1.first.reaches
           d.1.second.reaches)
@@ -172,8 +172,8 @@ pub for_memory : (functions : List Function) (number : ℕ) (f : Function) (r : 
 for_memory functions number f r lt is refusal accepted =
     elim refusal.1 [
       | inl memory ↦ memory
-      | inr met ↦
+      | inr reported ↦
           absurd (never_met f.code r.at r.code
           (at_place (λ (g : Function). IsAcceptableCode g.code) functions number f accepted
-          (slice_get_read functions (length functions) number f refl lt is)) met)
+          (slice_get_read functions (length functions) number f refl lt is)) reported)
     ]

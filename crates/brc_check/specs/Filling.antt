@@ -3,7 +3,7 @@ use Rattle.std.specs.Prelude.{◌≡◌, ◌<◌, ℕ, List, length, Option, Som
 use Rattle.brc_lang.specs.declared.module.Instr.{Instr}
 use Rattle.brc_model.specs.declared.slot.State.{State}
 use Rattle.brc_model.specs.Slots.{entry}
-use Rattle.brc_model.specs.Walks.{Place, At, Ended, Meets, IsAcceptableCode}
+use Rattle.brc_model.specs.Paths.{PathEnd, At, Ended, Reports, IsAcceptableCode}
 use Rattle.brc_model.specs.Tables.{Reaches, IsTrueEntry, entry_at}
 use Rattle.brc_check.specs.Rows.{IsClosedAt}
 
@@ -11,12 +11,12 @@ use Rattle.brc_check.specs.Rows.{IsClosedAt}
 abbrev pub settled : List (Option State) → ℕ → State → List (Option State)
 settled row at s = if is_none (entry_at row at) then slice_set row at (Some s) else row
 
-abbrev pub settled_at : List (Option State) → Place → List (Option State)
+abbrev pub settled_at : List (Option State) → PathEnd → List (Option State)
 settled_at row (At at s) = settled row at s
 settled_at row Ended = row
-settled_at row (Meets at code) = row
+settled_at row (Reports at code) = row
 
--- each entry is the state of a walk, and the points before `at` are closed
+-- each entry is the state of a path, and the points before `at` are closed
 pub record IsFilledTo (code : List Instr) (row : List (Option State)) (at : ℕ) : Type 0 where
   pub same_length : length row ≡ length code
   pub begins : entry_at row 0 ≡ Some entry

@@ -5,21 +5,21 @@ use Rattle.brc_lang.specs.declared.module.Instr.{Instr}
 use Rattle.brc_model.specs.declared.code.CheckCode.{CheckCode}
 use Rattle.brc_model.specs.declared.code.CheckCode.TheVariants.{StatesDiffer, NoMemory}
 use Rattle.brc_model.specs.declared.slot.State.{State}
-use Rattle.brc_model.specs.Walks.{MeetsCode}
+use Rattle.brc_model.specs.Paths.{ReportsCode}
 use Rattle.brc_model.specs.Tables.{StatesDifferAt, HasShape, row_of}
 use Rattle.brc_check.specs.declared.refused.Refused.{Refused}
 use Rattle.brc_check.specs.Rows.{IsFaultAt}
 
--- a walk meets the code at the point, or two walks reach the point in different states
+-- a path meets the code at the point, or two paths reach the point in different states
 abbrev pub IsMet : List Instr → ℕ → CheckCode → Type 0
-IsMet code at met = MeetsCode code at met ⊎ ((met ≡ StatesDiffer) × StatesDifferAt code at)
+IsMet code at reported = ReportsCode code at reported ⊎ ((reported ≡ StatesDiffer) × StatesDifferAt code at)
 
 -- it names a function, and what is met in that function
 pub record IsRefusedFor (functions : List Function) (r : Refused) : Type 0 where
   pub function : Function
-  pub stands : Contains functions function
+  pub applies : Contains functions function
   pub named : function.name ≡ r.function
-  pub met : IsMet function.code r.at r.code
+  pub reported : IsMet function.code r.at r.code
 
 abbrev pub IsForMemory : Refused → Type 0
 IsForMemory r = r.code ≡ NoMemory
@@ -34,7 +34,7 @@ IsRefusal functions r = IsForMemory r ⊎ IsRefusedFor functions r
 pub record IsShapeFault (functions : List Function) (table : List (List (Option State))) (r : Refused) : Type 0 where
   pub other_shape : HasShape functions table → ⊥
   pub first : Function
-  pub stands : slice_get functions 0 ≡ Some first
+  pub applies : slice_get functions 0 ≡ Some first
   pub named : first.name ≡ r.function
   pub begins : r.at ≡ 0
   pub code : r.code ≡ StatesDiffer
@@ -44,7 +44,7 @@ pub record IsRowFault (functions : List Function) (table : List (List (Option St
   pub shape : HasShape functions table
   pub number : ℕ
   pub function : Function
-  pub stands : slice_get functions number ≡ Some function
+  pub applies : slice_get functions number ≡ Some function
   pub named : function.name ≡ r.function
   pub fault : IsFaultAt function.code (row_of table number) r.at r.code
 

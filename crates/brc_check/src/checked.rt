@@ -1,6 +1,6 @@
 ghost use Rattle.std.specs.Prelude.{◌≡◌};
 ghost use Rattle.brc_lang.specs.Grammar.{IsModule};
-ghost use Rattle.brc_model.specs.Walks.{IsAcceptable};
+ghost use Rattle.brc_model.specs.Paths.{IsAcceptable};
 ghost use Rattle.brc_model.specs.Tables.{IsTrueWhereReached};
 
 use crate::table::Table;
@@ -16,7 +16,7 @@ pub struct Checked {
 
 impl Model for Checked {
     ghost use Rattle.brc_lang.specs.Grammar.{IsModule};
-    ghost use Rattle.brc_model.specs.Walks.{IsAcceptable};
+    ghost use Rattle.brc_model.specs.Paths.{IsAcceptable};
     ghost use Rattle.brc_model.specs.Tables.{IsTrueWhereReached};
     ghost use Rattle.brc_check.specs.Accepted.{Accepted};
 

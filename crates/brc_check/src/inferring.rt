@@ -4,7 +4,7 @@
 ghost use Rattle.std.specs.Prelude.{◌≡◌, ◌⊎◌, ◌<◌, ◌+◌, ◌-◌, ◌∷◌, length, replicate, IfOk, OnOk, IfErr, MatchOption, MatchResult};
 ghost use Rattle.brc_lang.specs.Grammar.{IsModule, IsFunction, LeadsForward};
 ghost use Rattle.brc_model.specs.Slots.{entry};
-ghost use Rattle.brc_model.specs.Walks.{IsAcceptable, follow, At};
+ghost use Rattle.brc_model.specs.Paths.{IsAcceptable, follow, At};
 ghost use Rattle.brc_model.specs.Tables.{IsTrueTable};
 ghost use Rattle.brc_check.specs.Rows.{StaysOn, IsBlocked};
 ghost use Rattle.brc_check.specs.Filling.{settled, settled_at, IsFilledTo, IsInferred};
@@ -53,7 +53,7 @@ fn lead(
     requires within { at < length code.now }
     requires same_length { length row.old ≡ length code.now }
     ensures row { row.new ≡ settled_at row.old (follow code.now (At at state.now) exit) }
-    ensures met { MatchOption result (StaysOn row.new (follow code.now (At at state.now) exit))
+    ensures reported { MatchOption result (StaysOn row.new (follow code.now (At at state.now) exit))
         (λ m. IsBlocked row.new (follow code.now (At at state.now) exit) m.at m.code) }
 {
     let led = follow(code, at, state, exit);
@@ -63,7 +63,7 @@ fn lead(
     blocked(row.as_slice(), at, &led)
 }
 
-/// Follows both exits of a point, where a walk comes to it.
+/// Follows both exits of a point, where a path comes to it.
 fn lead_on(code: &[Instr], row: &mut Sequence<Option<State>>, at: usize) -> Option<Met>
     requires within { at < length code.now }
     requires forward { LeadsForward code.now }
@@ -73,8 +73,8 @@ fn lead_on(code: &[Instr], row: &mut Sequence<Option<State>>, at: usize) -> Opti
     let Some(state) = row.as_slice()[at] else {
         return None;
     };
-    if let Some(met) = lead(code, row, at, &state, Exit::Success) {
-        return Some(met);
+    if let Some(reported) = lead(code, row, at, &state, Exit::Success) {
+        return Some(reported);
     }
     lead(code, row, at, &state, Exit::Fault)
 }
@@ -86,8 +86,8 @@ fn fill(code: &[Instr], row: &mut Sequence<Option<State>>) -> Option<Met>
     ensures { MatchOption result (IsInferred code.now row.new) (λ m. IsMet code.now m.at m.code) }
 {
     for at in 0..code.len() {
-        if let Some(met) = lead_on(code, row, at) {
-            return Some(met);
+        if let Some(reported) = lead_on(code, row, at) {
+            return Some(reported);
         }
     }
     None
@@ -114,7 +114,7 @@ fn infer_row(alloc: Global, function: &Function) -> Result<Sequence<Option<State
         return Err(no_memory(function.name));
     };
     match fill(code, &mut row) {
-        Some(met) => Err(met.in_function(function.name)),
+        Some(reported) => Err(reported.in_function(function.name)),
         None => Ok(row),
     }
 }

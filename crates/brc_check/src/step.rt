@@ -1,8 +1,8 @@
-//! One step of a walk.
+//! One step of a path.
 
 ghost use Rattle.std.specs.Prelude.{◌≡◌, ◌<◌, length};
 ghost use Rattle.brc_model.specs.Slots.{after};
-ghost use Rattle.brc_model.specs.Walks.{At, follow};
+ghost use Rattle.brc_model.specs.Paths.{At, follow};
 ghost use Rattle.brc_check.specs.Rows.{place_of};
 
 use crate::instruction::{apply, refusal, target_of};
@@ -34,8 +34,8 @@ pub fn follow(code: &[Instr], at: usize, state: &State, exit: Exit) -> Step
     ensures { place_of at result ≡ follow code.now (At at state.now) exit }
 {
     let instr = &code[at];
-    if let Some(met) = refusal(*instr, state) {
-        return Step::Met(met);
+    if let Some(reported) = refusal(*instr, state) {
+        return Step::Met(reported);
     }
     let Some(next) = target_of(*instr, exit, at) else {
         return Step::Ends;

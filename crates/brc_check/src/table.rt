@@ -5,7 +5,7 @@ use brc_lang::Sequence;
 use brc_model::State;
 use std::marker::Model;
 
-/// What is known at each point of each function: a state, or nothing where no walk comes. A table is shown and may be
+/// What is known at each point of each function: a state, or nothing where no path comes. A table is shown and may be
 /// changed; it is never trusted.
 #[derive(Debug, Drop)]
 pub struct Table {

@@ -4,7 +4,7 @@ ghost use Rattle.std.specs.Prelude.{◌≡◌, ◌↔◌, ◌<◌, ℕ, length, 
 ghost use Rattle.std.specs.List.{AllByRecursion};
 ghost use Rattle.brc_lang.specs.declared.module.Function.{Function};
 ghost use Rattle.brc_lang.specs.Grammar.{IsModule, IsFunction};
-ghost use Rattle.brc_model.specs.Walks.{IsAcceptable};
+ghost use Rattle.brc_model.specs.Paths.{IsAcceptable};
 ghost use Rattle.brc_model.specs.Tables.{HasShape, IsTrueTable, IsTrueWhereReached, row_of};
 ghost use Rattle.brc_model.specs.Safety.{Safe};
 ghost use Rattle.brc_check.specs.Rows.{IsClosedAt, IsClosed, IsFaultAt};
@@ -28,8 +28,8 @@ fn point_fault(code: &[Instr], row: &[Option<State>], at: usize) -> Option<Met>
     let Some(state) = row[at] else {
         return None;
     };
-    if let Some(met) = blocked(row, at, &follow(code, at, &state, Exit::Success)) {
-        return Some(met);
+    if let Some(reported) = blocked(row, at, &follow(code, at, &state, Exit::Success)) {
+        return Some(reported);
     }
     blocked(row, at, &follow(code, at, &state, Exit::Fault))
 }
@@ -38,12 +38,12 @@ fn row_fault(code: &[Instr], row: &[Option<State>]) -> Option<Met>
     requires { length row.now ≡ length code.now }
     ensures { MatchOption result (IsClosed code.now row.now) (λ m. IsFaultAt code.now row.now m.at m.code) }
 {
-    if let Some(met) = blocked(row, 0, &Step::To(0, entry())) {
-        return Some(met);
+    if let Some(reported) = blocked(row, 0, &Step::To(0, entry())) {
+        return Some(reported);
     }
     for at in 0..code.len() {
-        if let Some(met) = point_fault(code, row, at) {
-            return Some(met);
+        if let Some(reported) = point_fault(code, row, at) {
+            return Some(reported);
         }
     }
     None
@@ -71,8 +71,8 @@ fn first_row_fault(functions: &[Function], rows: &[Sequence<Option<State>>]) -> 
         (λ r. IsRowFault functions.now rows.now r) }
 {
     for (number, function) in functions.iter().enumerate() {
-        if let Some(met) = row_fault(function.code.as_slice(), rows[number].as_slice()) {
-            return Some(met.in_function(function.name));
+        if let Some(reported) = row_fault(function.code.as_slice(), rows[number].as_slice()) {
+            return Some(reported.in_function(function.name));
         }
     }
     None

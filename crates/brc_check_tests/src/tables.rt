@@ -43,7 +43,7 @@ const TABLES: &[(&[u8], &[Option<Slots>])] = &[
             Some((Slot::Empty, Slot::Empty)),
         ],
     ),
-    // A point that no walk reaches asks nothing, and has no entry.
+    // A point that no path reaches asks nothing, and has no entry.
     (
         b"goto @2\ndrop v5\nfail\n",
         &[
@@ -215,7 +215,7 @@ fn is_guarded(alloc: Global, lines: &[u8], at: usize, slots: Slots) -> Result<bo
     Ok(true)
 }
 
-/// The first point that a walk reaches of which some change isn't refused, or whose true entry is.
+/// The first point that a path reaches of which some change isn't refused, or whose true entry is.
 fn first_unguarded(
     alloc: Global,
     lines: &[u8],

@@ -5,7 +5,7 @@ use Rattle.brc_lang.specs.declared.module.Module.{Module}
 use Rattle.brc_lang.specs.Grammar.{Spells}
 use Rattle.brc_lang.specs.Fault.{HasFault}
 use Rattle.brc_lang.specs.Written.{AppendsBeginning}
-use Rattle.brc_model.specs.Walks.{IsAcceptable}
+use Rattle.brc_model.specs.Paths.{IsAcceptable}
 use Rattle.brc_check.specs.Refusal.{IsRefusedFor}
 use Rattle.brc_report.specs.declared.tally.Tally.{Tally}
 use Rattle.brc_report.specs.Report.{tally_text}

@@ -5,7 +5,7 @@ use Rattle.brc_lang.specs.declared.module.Module.{Module}
 use Rattle.brc_lang.specs.Grammar as modules
 use Rattle.brc_lang.specs.Fault as module_faults
 use Rattle.brc_lang.specs.Written.{AppendsBeginning}
-use Rattle.brc_model.specs.Walks.{IsAcceptable}
+use Rattle.brc_model.specs.Paths.{IsAcceptable}
 use Rattle.brc_model.specs.Machine.{Machine, first_machine, machine_after}
 use Rattle.brc_model.specs.World.{World, first_world}
 use Rattle.brc_check.specs.Refusal.{IsRefusedFor}

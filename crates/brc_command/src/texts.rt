@@ -2,7 +2,7 @@
 
 ghost use Rattle.std.specs.Prelude.{◌≡◌, MatchResult};
 ghost use Rattle.brc_lang.specs.Grammar.{IsModule, Spells};
-ghost use Rattle.brc_model.specs.Walks.{IsAcceptable};
+ghost use Rattle.brc_model.specs.Paths.{IsAcceptable};
 ghost use Rattle.brc_schedule.specs.Text as schedules;
 ghost use Rattle.brc_command.specs.Texts.{IsTextFault, IsPlanFault, IsCheckFault};
 

@@ -96,7 +96,7 @@ fn accepts_paths_that_agree(rt: HostRuntime) {
             b"module 1\nfunc f\nnum v1 1 else @6\nnum v2 2 else @4\ndrop v1\ngoto @5\nmove v2 v1\nret v2\nnone v2\nret v2\nend\n",
             b"accepted 1 functions 8 instructions\n",
         ),
-        // no walk comes to the second instruction
+        // no path reaches the second instruction
         (
             b"module 1\nfunc f\ngoto @2\ndrop v5\nfail\nend\n",
             b"accepted 1 functions 3 instructions\n",

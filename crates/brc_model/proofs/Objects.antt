@@ -1,4 +1,4 @@
--- A thread's step keeps the rule of every row: `RowsAfter.rows_after`.
+-- A thread's step keeps every row's invariant: `RowsAfter.rows_after`.
 --
 -- In order: `RowSteps` and `RowMerges` (one row's numbers, by rule), `Weights` (what the duties of all threads weigh),
 -- `RowsAfterStep` and `RowsAfterElsewhere` (rows that the step isn't about), then duty by duty `RowsAfterOwn` to

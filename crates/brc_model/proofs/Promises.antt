@@ -2,7 +2,7 @@
 --
 -- In order: `Agreeing` and `Safe`; `StepCases`, which splits an event by its action, and over it `StatesRise` to
 -- `ClosedOnce`; `Gates`, `Births` and `MarksWatched`; `RowLaws`, which brings them to every list of events; then the
--- laws of the world: `Worlds`, `AgendaMoves`, `Emptied`, `StepsMove`, `Trail`. `Rules` proves the named rules to be the
+-- laws of the world: `Worlds`, `AgendaMoves`, `Emptied`, `StepsMove`, `Trace`. `Rules` proves the named rules to be the
 -- steps, and `Worked` runs three schedules.
 
 pub mod Agreeing
@@ -20,6 +20,6 @@ pub mod Worlds
 pub mod AgendaMoves
 pub mod Emptied
 pub mod StepsMove
-pub mod Trail
+pub mod Trace
 pub mod Rules
 pub mod Worked

@@ -2,8 +2,8 @@
 -- or given up, the bag and the thread's account differ by it; the duty that does so says by how much.
 use Rattle.std.specs.Prelude.{◌≡◌, ℕ, ◌+◌, ◌≤◌, Bool, false, ◌==◌, ◌&&◌, List, [], ◌∷◌, count_by}
 use Rattle.brc_model.specs.declared.duty.Holding.{Holding}
-use Rattle.brc_model.specs.declared.duty.Holding.TheVariants.{ByVariable, AsCaller, InHand}
-use Rattle.brc_model.specs.Plain.{Reference, same_holding}
+use Rattle.brc_model.specs.declared.duty.Holding.TheVariants.{ByVariable, AsCaller, InFlight}
+use Rattle.brc_model.specs.AbstractState.{Reference, same_holding}
 use Rattle.brc_model.specs.declared.duty.Reason.TheVariants.{Own}
 use Rattle.brc_model.specs.declared.duty.Duty.{Duty}
 use Rattle.brc_model.specs.declared.duty.Duty.TheVariants.{RetainLoad, RetainStore, RetainAdd, ReleaseLoad, ReleaseStore, SharedLoad, SharedExchange, BirthKind, BirthSlot, BirthLocal}
@@ -13,9 +13,9 @@ use Rattle.brc_word.specs.Words.{half}
 -- Whether the duty gives up this reference: the bag still has it, and the account no longer does.
 abbrev pub extra : Duty → Holding → ℕ → Bool
 extra (ReleaseLoad x h) k object = same_holding h k && (x == object)
-extra (ReleaseStore x w) k object = same_holding InHand k && (x == object)
-extra (SharedLoad x Own) k object = same_holding InHand k && (x == object)
-extra (SharedExchange x Own w) k object = same_holding InHand k && (x == object)
+extra (ReleaseStore x w) k object = same_holding InFlight k && (x == object)
+extra (SharedLoad x Own) k object = same_holding InFlight k && (x == object)
+extra (SharedExchange x Own w) k object = same_holding InFlight k && (x == object)
 extra _ k object = false
 
 -- Whether the duty makes this reference: the account has it already, and the bag doesn't yet.
@@ -72,7 +72,7 @@ pub record IsBounded (account : Account) : Type 0 where
   pub by_variable : (v object : ℕ) → account (ByVariable v) object ≤ 1
   pub sixteen : (v object : ℕ) → 16 ≤ v → account (ByVariable v) object ≡ 0
   pub lent : (object : ℕ) → account AsCaller object ≤ most_lent
-  pub in_hand : (object : ℕ) → account InHand object ≡ 0
+  pub in_flight : (object : ℕ) → account InFlight object ≡ 0
 
 -- a thread whose exit is under way or done holds no reference but the one that it gives up just now
 abbrev pub HoldsNone : Account → Type 0

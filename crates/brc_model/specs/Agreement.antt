@@ -2,7 +2,7 @@
 -- references are its local count and its shared count together; it is freed from default and merged alone.)
 use Rattle.std.specs.Prelude.{◌≡◌, ◌⊎◌, ℕ, ◌+◌, ◌<◌, ◌≤◌, Bool, true, false, ◌||◌, ◌==◌, if◌then◌else◌, Some, slice_get, sum_by}
 use Rattle.std.specs.List.{list_any}
-use Rattle.brc_model.specs.Plain.{references_to}
+use Rattle.brc_model.specs.AbstractState.{references_to}
 use Rattle.brc_word.specs.Words.{owner_part, local_part, biased_part, phase_part, bias}
 use Rattle.brc_model.specs.declared.duty.Reason.TheVariants.{Handed}
 use Rattle.brc_model.specs.declared.duty.Duty.{Duty}
@@ -91,7 +91,7 @@ awaiting m x = m.memory (Mark x) + weighed (awaits x) m
 
 pub record AgreesAt (m : Machine) (x : ℕ) : Type 0 where
   -- the counts add up to the references held and the decrements that await
-  pub total : biased_total m x ≡ references_to x m.plain.references + awaiting m x + bias
+  pub total : biased_total m x ≡ references_to x m.abstract.references + awaiting m x + bias
   pub default_none : m.life x ≡ Live → phase_part (m.memory (Shared x)) ≡ 0 → awaiting m x ≡ 0
   pub default_counts : m.life x ≡ Live → phase_part (m.memory (Shared x)) ≡ 0 → bias ≤ biased_part (m.memory (Shared x))
   pub queued_one : m.life x ≡ Live → phase_part (m.memory (Shared x)) ≡ 2 → awaiting m x ≡ 1
@@ -107,5 +107,5 @@ pub record AgreesAt (m : Machine) (x : ℕ) : Type 0 where
 
 -- a row that is dying or closed has no reference, and nothing awaits it
 pub record IsFreeOf (m : Machine) (x : ℕ) : Type 0 where
-  pub references : references_to x m.plain.references ≡ 0
+  pub references : references_to x m.abstract.references ≡ 0
   pub awaiting_none : awaiting m x ≡ 0

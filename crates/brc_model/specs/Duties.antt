@@ -1,7 +1,7 @@
 -- What a thread has still to do inside an instruction or its exit: an agenda of duties, each of which is one step on
 -- one word, and names the duties that follow it by what the step found.
 use Rattle.std.specs.Prelude.{ℕ, zero, suc, ◌+◌, ◌-◌, ◌/◌, Bool, ◌&&◌, ◌||◌, ◌==◌, nat_lt, if◌then◌else◌, List, [], ◌∷◌, ◌++◌}
-use Rattle.brc_model.specs.declared.duty.Holding.TheVariants.{InHand}
+use Rattle.brc_model.specs.declared.duty.Holding.TheVariants.{InFlight}
 use Rattle.brc_model.specs.declared.duty.Reason.{Reason}
 use Rattle.brc_model.specs.declared.duty.Reason.TheVariants.{Own, Handed}
 use Rattle.brc_model.specs.declared.duty.Duty.{Duty}
@@ -50,35 +50,35 @@ address_of rows t head (BirthSlot x h) = Slot x
 address_of rows t head (BirthLocal x h) = Local x
 
 -- what the step leaves in the word that it found so
-abbrev pub left_by : ℕ → ℕ → Duty → ℕ → ℕ
-left_by t head (RetainLoad x h) found = found
-left_by t head (RetainStore x h w) found = w + 1
-left_by t head (RetainAdd x h) found = found + 4
-left_by t head (ReleaseLoad x h) found = found
-left_by t head (ReleaseStore x w) found = w - 1
-left_by t head (DecideAtZero x) found = found
-left_by t head (SharedLoad x r) found = found
-left_by t head (SharedExchange x r w) found = if found == w then released_word w else found
-left_by t head (SetMark x) found = 1
-left_by t head (Look x) found = found
-left_by t head (TakeMark x) found = 0
-left_by t head (MergeSwap x r) found = 0
-left_by t head (MergeLoad x c r) found = found
-left_by t head (MergeExchange x c w r) found = if found == w then merged_word w c else found
-left_by t head (Die x) found = dying_word t head
-left_by t head Settle found = found
-left_by t head (SettleKind x) found = found
-left_by t head (SettleCell x i n) found = 0
-left_by t head (TakeSlot x) found = 0
-left_by t head (CloseResource x) found = 0
-left_by t head (SettleEnd x) found = closed_word
-left_by t head (Leave x n) found = 2
-left_by t head (Scan x n) found = 0
-left_by t head Finish found = 3
-left_by t head (ClaimMark x) found = 0
-left_by t head (BirthKind x h w) found = w
-left_by t head (BirthSlot x h) found = 1
-left_by t head (BirthLocal x h) found = local_word t 1
+abbrev pub new_word : ℕ → ℕ → Duty → ℕ → ℕ
+new_word t head (RetainLoad x h) found = found
+new_word t head (RetainStore x h w) found = w + 1
+new_word t head (RetainAdd x h) found = found + 4
+new_word t head (ReleaseLoad x h) found = found
+new_word t head (ReleaseStore x w) found = w - 1
+new_word t head (DecideAtZero x) found = found
+new_word t head (SharedLoad x r) found = found
+new_word t head (SharedExchange x r w) found = if found == w then released_word w else found
+new_word t head (SetMark x) found = 1
+new_word t head (Look x) found = found
+new_word t head (TakeMark x) found = 0
+new_word t head (MergeSwap x r) found = 0
+new_word t head (MergeLoad x c r) found = found
+new_word t head (MergeExchange x c w r) found = if found == w then merged_word w c else found
+new_word t head (Die x) found = dying_word t head
+new_word t head Settle found = found
+new_word t head (SettleKind x) found = found
+new_word t head (SettleCell x i n) found = 0
+new_word t head (TakeSlot x) found = 0
+new_word t head (CloseResource x) found = 0
+new_word t head (SettleEnd x) found = closed_word
+new_word t head (Leave x n) found = 2
+new_word t head (Scan x n) found = 0
+new_word t head Finish found = 3
+new_word t head (ClaimMark x) found = 0
+new_word t head (BirthKind x h w) found = w
+new_word t head (BirthSlot x h) found = 1
+new_word t head (BirthLocal x h) found = local_word t 1
 
 -- ---- what follows a step
 
@@ -117,54 +117,54 @@ cells_from x i n = if nat_lt i n then SettleCell x i n ∷ [] else SettleEnd x �
 
 abbrev pub release_found : ℕ → List Duty
 release_found zero = []
-release_found (suc y) = ReleaseLoad y InHand ∷ []
+release_found (suc y) = ReleaseLoad y InFlight ∷ []
 
 -- the duties that take the place of one whose step found so; a release under way leaves the rest of the agenda for
 -- later
-abbrev pub next_by : ℕ → Bool → ℕ → Duty → ℕ → List Duty
-next_by t running head (RetainLoad x h) found =
+abbrev pub continuation : ℕ → Bool → ℕ → Duty → ℕ → List Duty
+continuation t running head (RetainLoad x h) found =
     if is_immortal_word found then []
     else if counts_locally t running found && nat_lt (local_part found) most_local then RetainStore x h found ∷ []
     else RetainAdd x h ∷ []
-next_by t running head (RetainStore x h w) found = []
-next_by t running head (RetainAdd x h) found = []
-next_by t running head (ReleaseLoad x h) found =
+continuation t running head (RetainStore x h w) found = []
+continuation t running head (RetainAdd x h) found = []
+continuation t running head (ReleaseLoad x h) found =
     if is_immortal_word found then []
     else if counts_locally t running found then ReleaseStore x found ∷ []
     else SharedLoad x Own ∷ []
-next_by t running head (ReleaseStore x w) found = if local_part w == 1 then DecideAtZero x ∷ [] else []
-next_by t running head (DecideAtZero x) found = if found == fresh_word then Die x ∷ [] else MergeSwap x Own ∷ []
-next_by t running head (SharedLoad x r) found = SharedExchange x r found ∷ []
-next_by t running head (SharedExchange x r w) found = if found == w then shared_result x w else SharedLoad x r ∷ []
-next_by t running head (SetMark x) found = Look x ∷ []
-next_by t running head (Look x) found = if found == 1 then [] else TakeMark x ∷ []
-next_by t running head (TakeMark x) found = claimed x found
-next_by t running head (MergeSwap x r) found =
+continuation t running head (ReleaseStore x w) found = if local_part w == 1 then DecideAtZero x ∷ [] else []
+continuation t running head (DecideAtZero x) found = if found == fresh_word then Die x ∷ [] else MergeSwap x Own ∷ []
+continuation t running head (SharedLoad x r) found = SharedExchange x r found ∷ []
+continuation t running head (SharedExchange x r w) found = if found == w then shared_result x w else SharedLoad x r ∷ []
+continuation t running head (SetMark x) found = Look x ∷ []
+continuation t running head (Look x) found = if found == 1 then [] else TakeMark x ∷ []
+continuation t running head (TakeMark x) found = claimed x found
+continuation t running head (MergeSwap x r) found =
     if found == 0 then once_merged x r else MergeLoad x (local_part found) r ∷ []
-next_by t running head (MergeLoad x c r) found = MergeExchange x c found r ∷ []
-next_by t running head (MergeExchange x c w r) found =
+continuation t running head (MergeLoad x c r) found = MergeExchange x c found r ∷ []
+continuation t running head (MergeExchange x c w r) found =
     if found == w then merge_result x r (merged_word w c) else MergeLoad x c r ∷ []
-next_by t running head (Die x) found = []
-next_by t running head Settle found = SettleKind (head - 1) ∷ Settle ∷ []
-next_by t running head (SettleKind x) found =
+continuation t running head (Die x) found = []
+continuation t running head Settle found = SettleKind (head - 1) ∷ Settle ∷ []
+continuation t running head (SettleKind x) found =
     if has_resource found then TakeSlot x ∷ [] else cells_from x 0 (cells_of found)
-next_by t running head (SettleCell x i n) found = release_found found ++ cells_from x (i + 1) n
-next_by t running head (TakeSlot x) found = CloseResource x ∷ []
-next_by t running head (CloseResource x) found = SettleEnd x ∷ []
-next_by t running head (SettleEnd x) found = []
-next_by t running head (Leave x n) found = Scan x n ∷ Finish ∷ []
-next_by t running head (Scan x n) found = claimed x found ++ Settle ∷ Scan (x + 1) (n - 1) ∷ []
-next_by t running head Finish found = []
-next_by t running head (ClaimMark x) found = claimed x found ++ Settle ∷ []
-next_by t running head (BirthKind x h w) found = if has_resource w then BirthSlot x h ∷ [] else BirthLocal x h ∷ []
-next_by t running head (BirthSlot x h) found = BirthLocal x h ∷ []
-next_by t running head (BirthLocal x h) found = []
+continuation t running head (SettleCell x i n) found = release_found found ++ cells_from x (i + 1) n
+continuation t running head (TakeSlot x) found = CloseResource x ∷ []
+continuation t running head (CloseResource x) found = SettleEnd x ∷ []
+continuation t running head (SettleEnd x) found = []
+continuation t running head (Leave x n) found = Scan x n ∷ Finish ∷ []
+continuation t running head (Scan x n) found = claimed x found ++ Settle ∷ Scan (x + 1) (n - 1) ∷ []
+continuation t running head Finish found = []
+continuation t running head (ClaimMark x) found = claimed x found ++ Settle ∷ []
+continuation t running head (BirthKind x h w) found = if has_resource w then BirthSlot x h ∷ [] else BirthLocal x h ∷ []
+continuation t running head (BirthSlot x h) found = BirthLocal x h ∷ []
+continuation t running head (BirthLocal x h) found = []
 
 -- the head of the dying chain afterwards: 0, or a row and 1
-abbrev pub head_by : ℕ → Duty → ℕ → ℕ
-head_by head (Die x) found = x + 1
-head_by head Settle found = next_part found
-head_by head _ found = head
+abbrev pub new_head : ℕ → Duty → ℕ → ℕ
+new_head head (Die x) found = x + 1
+new_head head Settle found = next_part found
+new_head head _ found = head
 
 -- what needs no step is passed over: a chain that is empty, and marks of no rows
 abbrev pub ready : ℕ → List Duty → List Duty

@@ -2,7 +2,7 @@
 -- account of references, and never asks where a thread is in its code but for whether its exit is under way.
 use Rattle.std.specs.Prelude.{◌≡◌, ◌≢◌, ◌⊎◌, ℕ, ◌+◌, ◌<◌, ◌≤◌, Bool, true, false, ◌==◌, List, [], ◌∷◌, length, Some, slice_get, count_by, AllPairs}
 use Rattle.brc_model.specs.declared.duty.Holding.{Holding}
-use Rattle.brc_model.specs.Plain.{is_among, references_to}
+use Rattle.brc_model.specs.AbstractState.{is_among, references_to}
 use Rattle.brc_word.specs.Words.{kind_part}
 use Rattle.brc_model.specs.Kinds.{kind_number}
 use Rattle.brc_model.specs.declared.duty.Duty.{Duty}
@@ -10,10 +10,10 @@ use Rattle.brc_model.specs.declared.duty.Duty.TheVariants.{Look, TakeMark, Birth
 use Rattle.brc_model.specs.declared.address.Address.{Address}
 use Rattle.brc_model.specs.declared.address.Address.TheVariants.{Local, Shared, Gate, KindOf, Mark, Cell, Slot, ThreadWord}
 use Rattle.brc_model.specs.Duties.{block_of}
-use Rattle.brc_model.specs.declared.actor.Place.TheVariants.{Departing}
+use Rattle.brc_model.specs.declared.actor.Place.TheVariants.{Exiting}
 use Rattle.brc_model.specs.Machine.{Actor, Life, Unborn, Live, Closed, Machine, first_row}
 use Rattle.brc_model.specs.References.{held, one_if, reference_of, cell_reference}
-use Rattle.brc_model.specs.RowRule.{waits, carries, merges, decides, weight, Numbers, RowRule}
+use Rattle.brc_model.specs.RowInvariant.{waits, carries, merges, decides, weight, Numbers, RowInvariant}
 use Rattle.brc_model.specs.Accounts.{Account, Accounts, HoldsAt, IsBounded, HoldsNone}
 use Rattle.brc_model.specs.Knowledge.{status_word, HeadOf}
 use Rattle.brc_model.specs.OpenWork.{scans, AgendaFits, IsSettled, GateFits, dies_by, ChainFits, AsideFits}
@@ -27,7 +27,7 @@ numbers_of m x = record {
   local = m.memory (Local x);
   shared = m.memory (Shared x);
   mark = m.memory (Mark x);
-  references = references_to x m.plain.references;
+  references = references_to x m.abstract.references;
   waiting = weight (waits x) m.actors;
   carried = weight (carries x) m.actors;
   merging = weight (merges x) m.actors;
@@ -40,9 +40,9 @@ numbers_of m x = record {
 -- its dying rows are its chain. A thread whose exit is under way holds nothing and has put nothing aside.
 pub record ActorFits (account : Account) (m : Machine) (t : ℕ) (a : Actor) : Type 0 where
   pub word : m.memory (ThreadWord t) ≡ status_word a.status
-  pub holds : HoldsAt m.plain.references t account a.agenda a.aside
+  pub holds : HoldsAt m.abstract.references t account a.agenda a.aside
   pub bounded : IsBounded account
-  pub departed : a.place ≡ Departing → HoldsNone account × (a.aside ≡ [])
+  pub exited : a.place ≡ Exiting → HoldsNone account × (a.aside ≡ [])
   pub head_fits : HeadOf m t a a.agenda
   pub chain : ChainFits m t a.head a.agenda
 
@@ -94,20 +94,20 @@ pub record BlankFits (rows : ℕ) (memory : Address → ℕ) (t used : ℕ) (age
 
 -- ---- the whole
 
--- The invariant of `n` threads with these accounts, but for the ends of dying chains (`Kept`).
-pub record Rule (p : Accounts) (n : ℕ) (m : Machine) : Type 0 where
+-- The invariant of `n` threads with these accounts, but for the ends of dying chains (`Invariant`).
+pub record CoreInvariant (p : Accounts) (n : ℕ) (m : Machine) : Type 0 where
   -- how large the machine is
   pub threads : length m.actors ≡ n
   pub some_rows : 0 < m.rows
   pub few_threads : n ≤ thread_limit
   pub few_rows : m.rows ≤ row_limit
   -- each row's counts, state and life fit together
-  pub rows : (x : ℕ) → 0 < x → RowRule (block_of m.rows x) (m.life x) (numbers_of m x)
+  pub rows : (x : ℕ) → 0 < x → RowInvariant (block_of m.rows x) (m.life x) (numbers_of m x)
   -- a mark is set or not, and a set one is watched
   pub marks : (x : ℕ) → m.memory (Mark x) ≡ 0 ⊎ ((m.memory (Mark x) ≡ 1) × (0 < x) × IsWatched m x)
   pub each : (t : ℕ) (a : Actor) → slice_get m.actors t ≡ Some a → Fits (p t) m t a
   -- there are no other threads: none holds a reference
-  pub beyond : (t : ℕ) → n ≤ t → (k : Holding) (object : ℕ) → held (reference_of t k object) m.plain.references ≡ 0
+  pub beyond : (t : ℕ) → n ≤ t → (k : Holding) (object : ℕ) → held (reference_of t k object) m.abstract.references ≡ 0
   -- a gate is free while its row isn't dying, and says at the end that it is closed
   pub gates : (x : ℕ) → GateFits (m.life x) (m.memory (Gate x))
   -- only the threads that there are finalise rows
@@ -119,27 +119,27 @@ pub record Rule (p : Accounts) (n : ℕ) (m : Machine) : Type 0 where
   pub blanks : (t : ℕ) (a : Actor) → slice_get m.actors t ≡ Some a → BlankFits m.rows m.memory t a.used a.agenda
   -- a row of no thread's block is never born
   pub no_block : (x : ℕ) → n ≤ block_of m.rows x → m.life x ≡ Unborn
-  pub cells_hold : (x i object : ℕ) → held (cell_reference x i object) m.plain.references ≡ 0
+  pub cells_hold : (x i object : ℕ) → held (cell_reference x i object) m.abstract.references ≡ 0
   pub none_lives : m.life 0 ≡ Live
   -- the lists of the born and the closed have just the rows whose lives say so, each once
-  pub born_is : (x : ℕ) → is_among x m.plain.born ≡ true → (0 < x) × (m.life x ≢ Unborn)
-  pub born_has : (x : ℕ) → 0 < x → m.life x ≢ Unborn → is_among x m.plain.born ≡ true
-  pub born_once : (x : ℕ) → count_by (λ y. y == x) m.plain.born ≤ 1
-  pub closed_is : (x : ℕ) → is_among x m.plain.closed ≡ true → m.life x ≡ Closed
-  pub closed_has : (x : ℕ) → m.life x ≡ Closed → is_among x m.plain.closed ≡ true
-  pub once : AllPairs (λ x y. x ≢ y) m.plain.closed
+  pub born_is : (x : ℕ) → is_among x m.abstract.born ≡ true → (0 < x) × (m.life x ≢ Unborn)
+  pub born_has : (x : ℕ) → 0 < x → m.life x ≢ Unborn → is_among x m.abstract.born ≡ true
+  pub born_once : (x : ℕ) → count_by (λ y. y == x) m.abstract.born ≤ 1
+  pub closed_is : (x : ℕ) → is_among x m.abstract.closed ≡ true → m.life x ≡ Closed
+  pub closed_has : (x : ℕ) → m.life x ≡ Closed → is_among x m.abstract.closed ≡ true
+  pub once : AllPairs (λ x y. x ≢ y) m.abstract.closed
   -- the kind word of what was born names its kind
-  pub kinds : (x : ℕ) → m.life x ≢ Unborn → kind_part (m.memory (KindOf x)) ≡ kind_number (m.plain.kinds x)
+  pub kinds : (x : ℕ) → m.life x ≢ Unborn → kind_part (m.memory (KindOf x)) ≡ kind_number (m.abstract.kinds x)
   -- none is immortal: its local word never changes
   pub none_word : m.memory (Local 0) ≡ 8589934591
 
 -- The whole invariant: besides, no thread leaves, looks through marks or is gone with a dying chain.
-pub record Kept (p : Accounts) (n : ℕ) (m : Machine) : Type 0 where
-  pub rule : Rule p n m
+pub record Invariant (p : Accounts) (n : ℕ) (m : Machine) : Type 0 where
+  pub core : CoreInvariant p n m
   pub settled : (t : ℕ) (a : Actor) → slice_get m.actors t ≡ Some a → IsSettled a.head a.agenda
 
 -- The premise of each lemma about one duty: the invariant holds, and the duty comes next in the thread's agenda.
 pub record AtDuty (p : Accounts) (n : ℕ) (m : Machine) (t : ℕ) (a : Actor) (d : Duty) (rest : List Duty) : Type 0 where
-  pub rule : Rule p n m
+  pub core : CoreInvariant p n m
   pub found : slice_get m.actors t ≡ Some a
   pub agenda : a.agenda ≡ d ∷ rest

@@ -30,7 +30,7 @@ pub record OwnsLocally (m : Machine) (t : ℕ) (a : Actor) (x : ℕ) : Type 0 wh
 -- The thread holds a reference to the object, so the object lives while the duty is done.
 pub record IsBacked (m : Machine) (t x : ℕ) : Type 0 where
   pub by : Holding
-  pub held_so : 0 < held (reference_of t by x) m.plain.references
+  pub held_so : 0 < held (reference_of t by x) m.abstract.references
 
 -- A thread merges an object that was queued if it is the owner, or if the owner no longer runs.
 abbrev pub MayMerge : Machine → ℕ → ℕ → Type 0

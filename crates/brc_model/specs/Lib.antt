@@ -1,15 +1,15 @@
 pub mod Limits
 pub mod Slots
-pub mod Walks
+pub mod Paths
 pub mod Tables
 pub mod Kinds
-pub mod Plain
+pub mod AbstractState
 pub mod Threads
 pub mod Duties
 pub mod Machine
 pub mod Rules
 pub mod References
-pub mod RowRule
+pub mod RowInvariant
 pub mod Accounts
 pub mod Knowledge
 pub mod OpenWork
@@ -21,4 +21,4 @@ pub mod World
 pub mod Within
 pub mod Progress
 pub mod Watched
-pub mod Trail
+pub mod Trace

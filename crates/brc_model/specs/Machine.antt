@@ -1,4 +1,4 @@
--- The step world: memory, a word at each address; threads, each with an agenda; and beside them the plain world and the
+-- The step world: memory, a word at each address; threads, each with an agenda; and beside them the abstract state and the
 -- life of each row. At an event one thread acts: it does the first duty of its agenda, or dispatches its next
 -- instruction.
 use Rattle.std.specs.Prelude.{ℕ, zero, suc, ◌+◌, ◌*◌, Bool, true, false, ◌&&◌, ◌==◌, nat_lt, nat_le, if◌then◌else◌, List, [], ◌∷◌, ◌++◌, length, map, Option, None, Some, fold, slice_get, slice_set}
@@ -12,13 +12,13 @@ use Rattle.brc_model.specs.declared.thread.Choice.TheVariants.{Ok, Fault, Claim}
 use Rattle.brc_model.specs.declared.actor.Status.{Status}
 use Rattle.brc_model.specs.declared.actor.Status.TheVariants.{Running, Leaving, Gone}
 use Rattle.brc_model.specs.declared.actor.Place.{Place}
-use Rattle.brc_model.specs.declared.actor.Place.TheVariants.{Standing, Inside, Departing}
+use Rattle.brc_model.specs.declared.actor.Place.TheVariants.{Idle, InCall, Exiting}
 use Rattle.brc_model.specs.declared.duty.Holding.{Holding}
-use Rattle.brc_model.specs.declared.duty.Holding.TheVariants.{ByVariable, AsCaller, InHand}
+use Rattle.brc_model.specs.declared.duty.Holding.TheVariants.{ByVariable, AsCaller, InFlight}
 use Rattle.brc_lang.specs.declared.kind.Kind.{Kind}
 use Rattle.brc_lang.specs.declared.kind.Kind.TheVariants as kinds
 use Rattle.brc_model.specs.Kinds.{kind_of_word}
-use Rattle.brc_model.specs.Plain.{none_row, root_row, Reference, Plain, Move, Born, Gain, Lose, HandOn, Finalise, moved, ByThread, ByCell}
+use Rattle.brc_model.specs.AbstractState.{none_row, root_row, Reference, AbstractState, Move, Born, Gain, Lose, PassOn, Finalise, moved, ByThread, ByCell}
 use Rattle.brc_model.specs.Threads.{code_of, row_of, entry_variables}
 use Rattle.brc_word.specs.Words.{half, is_immortal_word, local_word, fresh_word}
 use Rattle.brc_model.specs.declared.duty.Reason.TheVariants.{Own}
@@ -26,33 +26,33 @@ use Rattle.brc_model.specs.declared.duty.Duty.{Duty}
 use Rattle.brc_model.specs.declared.duty.Duty.TheVariants.{RetainLoad, RetainStore, RetainAdd, ReleaseLoad, ReleaseStore, SharedExchange, Die, Settle, SettleEnd, Leave, Finish, ClaimMark, BirthLocal, SettleCell, BirthKind}
 use Rattle.brc_model.specs.declared.address.Address.{Address}
 use Rattle.brc_model.specs.declared.address.Address.TheVariants.{Local, Shared, Gate, KindOf, Mark, Cell, Slot, Resource, ThreadWord}
-use Rattle.brc_model.specs.Duties.{address_of, left_by, next_by, head_by, ready}
+use Rattle.brc_model.specs.Duties.{address_of, new_word, continuation, new_head, ready}
 use Rattle.brc_model.specs.Limits.{cell_limit}
 
--- ---- the plain moves of a thread
+-- ---- the moves of references of a thread
 
-abbrev pub hand_on : ℕ → Holding → ℕ → List Move
-hand_on t InHand x = []
-hand_on t (ByVariable v) x = HandOn (record { holder = ByThread t (ByVariable v); object = x }) (ByThread t InHand) ∷ []
-hand_on t AsCaller x = HandOn (record { holder = ByThread t AsCaller; object = x }) (ByThread t InHand) ∷ []
+abbrev pub put_in_flight : ℕ → Holding → ℕ → List Move
+put_in_flight t InFlight x = []
+put_in_flight t (ByVariable v) x = PassOn (record { holder = ByThread t (ByVariable v); object = x }) (ByThread t InFlight) ∷ []
+put_in_flight t AsCaller x = PassOn (record { holder = ByThread t AsCaller; object = x }) (ByThread t InFlight) ∷ []
 
 abbrev pub birth : ℕ → Holding → ℕ → Kind → List Move
 birth t h x kind = Born (record { holder = ByThread t h; object = x }) kind ∷ []
 
 -- from one of its holders to another
 abbrev pub pass_on : ℕ → Holding → Holding → ℕ → List Move
-pass_on t from to x = HandOn (record { holder = ByThread t from; object = x }) (ByThread t to) ∷ []
+pass_on t from to x = PassOn (record { holder = ByThread t from; object = x }) (ByThread t to) ∷ []
 
 abbrev pub gain : ℕ → Holding → ℕ → List Move
 gain t h x = Gain (record { holder = ByThread t h; object = x }) ∷ []
 
 abbrev pub lose : ℕ → ℕ → List Move
-lose t x = Lose (record { holder = ByThread t InHand; object = x }) ∷ []
+lose t x = Lose (record { holder = ByThread t InFlight; object = x }) ∷ []
 
 -- what an emptied cell held, a row and 1 or nothing, goes over into the thread's hand
 abbrev pub take_out : ℕ → ℕ → ℕ → ℕ → List Move
 take_out t x i zero = []
-take_out t x i (suc y) = HandOn (record { holder = ByCell x i; object = y }) (ByThread t InHand) ∷ []
+take_out t x i (suc y) = PassOn (record { holder = ByCell x i; object = y }) (ByThread t InFlight) ∷ []
 
 -- ---- threads
 
@@ -125,47 +125,47 @@ dispatch_instruction rows t used left at variables None = Stuck
 dispatch_instruction rows t used left at variables (Some (Num to value otherwise)) =
     if has_room rows t used
     then Does (BirthKind (next_row rows t used) (ByVariable to) (number_word value)) []
-    (Inside left (at + 1) (slice_set variables to (Some (next_row rows t used))))
-    else Silent [] (Inside left otherwise (slice_set variables to None))
+    (InCall left (at + 1) (slice_set variables to (Some (next_row rows t used))))
+    else Silent [] (InCall left otherwise (slice_set variables to None))
 dispatch_instruction rows t used left at variables (Some (NoneObject to)) =
-    Silent (gain t (ByVariable to) none_row) (Inside left (at + 1) (slice_set variables to (Some none_row)))
+    Silent (gain t (ByVariable to) none_row) (InCall left (at + 1) (slice_set variables to (Some none_row)))
 dispatch_instruction rows t used left at variables (Some (Newref to from)) =
     with_row (row_of variables from)
-    (λ row. Does (RetainLoad row (ByVariable to)) [] (Inside left (at + 1) (slice_set variables to (Some row))))
+    (λ row. Does (RetainLoad row (ByVariable to)) [] (InCall left (at + 1) (slice_set variables to (Some row))))
 dispatch_instruction rows t used left at variables (Some (MoveReference to from)) =
     with_row (row_of variables from)
     (λ row. Silent (pass_on t (ByVariable from) (ByVariable to) row)
-    (Inside left (at + 1) (slice_set (slice_set variables from None) to (Some row))))
+    (InCall left (at + 1) (slice_set (slice_set variables from None) to (Some row))))
 dispatch_instruction rows t used left at variables (Some (Drop from)) =
     with_row (row_of variables from)
     (λ row. Does (ReleaseLoad row (ByVariable from)) (Settle ∷ [])
-    (Inside left (at + 1) (slice_set variables from None)))
-dispatch_instruction rows t used left at variables (Some (Goto to)) = Silent [] (Inside left to variables)
+    (InCall left (at + 1) (slice_set variables from None)))
+dispatch_instruction rows t used left at variables (Some (Goto to)) = Silent [] (InCall left to variables)
 dispatch_instruction rows t used left at variables (Some (Ret from)) =
-    with_row (row_of variables from) (λ row. Does (ReleaseLoad row (ByVariable from)) (Settle ∷ []) (Standing left))
-dispatch_instruction rows t used left at variables (Some Fail) = Silent [] (Standing left)
+    with_row (row_of variables from) (λ row. Does (ReleaseLoad row (ByVariable from)) (Settle ∷ []) (Idle left))
+dispatch_instruction rows t used left at variables (Some Fail) = Silent [] (Idle left)
 
 -- Returns what a thread at rest does; with no call left it gives up its reference to the root, settles, and leaves.
 abbrev pub dispatch : ℕ → ℕ → ℕ → List Instr → Place → Action
-dispatch rows t used code Departing = Stuck
-dispatch rows t used code (Standing zero) =
-    Does (ReleaseLoad root_row AsCaller) (Settle ∷ Leave (first_row rows t) used ∷ []) Departing
-dispatch rows t used code (Standing (suc left)) =
+dispatch rows t used code Exiting = Stuck
+dispatch rows t used code (Idle zero) =
+    Does (ReleaseLoad root_row AsCaller) (Settle ∷ Leave (first_row rows t) used ∷ []) Exiting
+dispatch rows t used code (Idle (suc left)) =
     dispatch_instruction rows t used left 0 entry_variables (slice_get code 0)
-dispatch rows t used code (Inside left at variables) =
+dispatch rows t used code (InCall left at variables) =
     dispatch_instruction rows t used left at variables (slice_get code at)
 
 -- Says whether the place is outside all calls.
-abbrev pub is_standing : Place → Bool
-is_standing (Standing left) = true
-is_standing (Inside left at variables) = false
-is_standing Departing = false
+abbrev pub is_idle : Place → Bool
+is_idle (Idle left) = true
+is_idle (InCall left at variables) = false
+is_idle Exiting = false
 
 -- Says whether the thread may claim the row: it runs, stands outside its calls with nothing to do, and has used the row
 -- of its own block.
 abbrev pub may_claim : ℕ → ℕ → Actor → ℕ → Bool
 may_claim rows t a row =
-    is_standing a.place && is_running a.status && (length a.agenda == 0) && nat_le (first_row rows t) row
+    is_idle a.place && is_running a.status && (length a.agenda == 0) && nat_le (first_row rows t) row
     && nat_lt row (first_row rows t + a.used)
 
 -- Returns what a thread that isn't gone does: the first duty of its agenda, or what it dispatches.
@@ -204,7 +204,7 @@ pub record Machine : Type 0 where
   pub rows : ℕ
   pub memory : Address → ℕ
   pub actors : List Actor
-  pub plain : Plain
+  pub abstract : AbstractState
   pub life : ℕ → Life
 
 abbrev pub same_address : Address → Address → Bool
@@ -223,20 +223,20 @@ same_address _ _ = false
 abbrev pub written : (Address → ℕ) → Address → ℕ → Address → ℕ
 written memory a word b = if same_address a b then word else memory b
 
--- ---- the plain moves of a step
+-- ---- the moves of references of a step
 
 -- with a memory in which the kind of what is born stands
-abbrev pub moves_by : (Address → ℕ) → ℕ → Duty → ℕ → List Move
-moves_by memory t (RetainLoad x h) found = if is_immortal_word found then gain t h x else []
-moves_by memory t (RetainStore x h w) found = gain t h x
-moves_by memory t (RetainAdd x h) found = gain t h x
-moves_by memory t (ReleaseLoad x h) found = hand_on t h x ++ (if is_immortal_word found then lose t x else [])
-moves_by memory t (ReleaseStore x w) found = lose t x
-moves_by memory t (SharedExchange x Own w) found = if found == w then lose t x else []
-moves_by memory t (SettleCell x i n) found = take_out t x i found
-moves_by memory t (SettleEnd x) found = Finalise x ∷ []
-moves_by memory t (BirthLocal x h) found = birth t h x (kind_of_word (memory (KindOf x)))
-moves_by memory t _ found = []
+abbrev pub reference_effects : (Address → ℕ) → ℕ → Duty → ℕ → List Move
+reference_effects memory t (RetainLoad x h) found = if is_immortal_word found then gain t h x else []
+reference_effects memory t (RetainStore x h w) found = gain t h x
+reference_effects memory t (RetainAdd x h) found = gain t h x
+reference_effects memory t (ReleaseLoad x h) found = put_in_flight t h x ++ (if is_immortal_word found then lose t x else [])
+reference_effects memory t (ReleaseStore x w) found = lose t x
+reference_effects memory t (SharedExchange x Own w) found = if found == w then lose t x else []
+reference_effects memory t (SettleCell x i n) found = take_out t x i found
+reference_effects memory t (SettleEnd x) found = Finalise x ∷ []
+reference_effects memory t (BirthLocal x h) found = birth t h x (kind_of_word (memory (KindOf x)))
+reference_effects memory t _ found = []
 
 -- ---- life
 
@@ -269,9 +269,9 @@ actor_by t a d rest found = record {
   function = a.function;
   place = a.place;
   status = status_by a.status d;
-  agenda = ready (head_by a.head d found) (next_by t (is_running a.status) a.head d found ++ rest);
+  agenda = ready (new_head a.head d found) (continuation t (is_running a.status) a.head d found ++ rest);
   aside = a.aside;
-  head = head_by a.head d found;
+  head = new_head a.head d found;
   used = used_by a.used d;
 }
 
@@ -283,10 +283,10 @@ done_by m t a d rest =
     record {
       functions = m.functions;
       rows = m.rows;
-      memory = written m.memory address (left_by t a.head d found);
+      memory = written m.memory address (new_word t a.head d found);
       actors = slice_set m.actors t (actor_by t a d rest found);
-      plain = moved m.plain (moves_by m.memory t d found);
-      life = life_by m.life t d (next_by t (is_running a.status) a.head d found);
+      abstract = moved m.abstract (reference_effects m.memory t d found);
+      life = life_by m.life t d (continuation t (is_running a.status) a.head d found);
     }
 
 abbrev pub at_place : Actor → Place → Actor
@@ -308,11 +308,11 @@ with_actor m t a =
       rows = m.rows;
       memory = m.memory;
       actors = slice_set m.actors t a;
-      plain = m.plain;
+      abstract = m.abstract;
       life = m.life;
     }
 
--- the machine after so many moves of the plain world
+-- the machine after so many moves of the abstract state
 abbrev pub with_moves : Machine → List Move → Machine
 with_moves m moves =
     record {
@@ -320,7 +320,7 @@ with_moves m moves =
       rows = m.rows;
       memory = m.memory;
       actors = m.actors;
-      plain = moved m.plain moves;
+      abstract = moved m.abstract moves;
       life = m.life;
     }
 
@@ -343,13 +343,13 @@ machine_after m events = fold next_machine m events
 -- ---- the first state
 
 abbrev pub main_actor : Actor
-main_actor = record { function = 0; place = Standing 0; status = Running; agenda = []; aside = []; head = 0; used = 2 }
+main_actor = record { function = 0; place = Idle 0; status = Running; agenda = []; aside = []; head = 0; used = 2 }
 
 abbrev pub worker_actor : Call → Actor
 worker_actor c =
     record {
       function = c.function;
-      place = Standing c.times;
+      place = Idle c.times;
       status = Running;
       agenda = [];
       aside = [];
@@ -398,7 +398,7 @@ first_machine m rows calls = record {
   rows = rows;
   memory = first_memory (length calls);
   actors = main_actor ∷ map worker_actor calls;
-  plain = record {
+  abstract = record {
     references = callers_below (1 + length calls);
     born = root_row ∷ [];
     closed = [];

@@ -8,7 +8,7 @@ use Rattle.brc_model.specs.declared.address.Address.TheVariants.{Gate}
 use Rattle.brc_model.specs.declared.actor.Status.{Status}
 use Rattle.brc_model.specs.declared.actor.Status.TheVariants.{Running, Leaving, Gone}
 use Rattle.brc_model.specs.declared.actor.Place.{Place}
-use Rattle.brc_model.specs.declared.actor.Place.TheVariants.{Departing}
+use Rattle.brc_model.specs.declared.actor.Place.TheVariants.{Exiting}
 use Rattle.brc_model.specs.Machine.{Actor, Life, Unborn, Live, Dying, Closed, Machine, first_row}
 use Rattle.brc_model.specs.References.{one_if}
 use Rattle.brc_model.specs.Knowledge.{HeadFits}
@@ -18,14 +18,14 @@ use Rattle.brc_model.specs.Knowledge.{HeadFits}
 -- What may be behind an agenda's first duty: settling, and the end of the thread's exit. A leaving thread has still to
 -- look through the marks of its used rows from `x` on.
 abbrev pub Later : ℕ → ℕ → ℕ → Status → Place → List Duty → Type 0
-Later rows t used status place [] = (place ≢ Departing) × (status ≡ Running)
+Later rows t used status place [] = (place ≢ Exiting) × (status ≡ Running)
 Later rows t used status place (Settle ∷ rest) = Later rows t used status place rest
 Later rows t used status place (Leave x n ∷ []) =
-    (status ≡ Running) × (place ≡ Departing) × (x ≡ first_row rows t) × (n ≡ used)
+    (status ≡ Running) × (place ≡ Exiting) × (x ≡ first_row rows t) × (n ≡ used)
 Later rows t used status place (Scan x n ∷ rest) =
     (status ≡ Leaving) × (first_row rows t ≤ x) × (x + n ≡ first_row rows t + used)
     × Later rows t used status place rest
-Later rows t used status place (Finish ∷ []) = (status ≡ Leaving) × (place ≡ Departing)
+Later rows t used status place (Finish ∷ []) = (status ≡ Leaving) × (place ≡ Exiting)
 Later rows t used status place _ = ⊥
 
 -- a whole agenda: any duty, and behind it what may be there
@@ -45,7 +45,7 @@ scans x (d ∷ rest) = scans x rest
 
 -- a thread that is gone has nothing to do
 abbrev pub AgendaFits : ℕ → ℕ → Actor → Status → Type 0
-AgendaFits rows t a Gone = (a.agenda ≡ []) × (a.place ≡ Departing) × (a.head ≡ 0)
+AgendaFits rows t a Gone = (a.agenda ≡ []) × (a.place ≡ Exiting) × (a.head ≡ 0)
 AgendaFits rows t a Running = Agenda rows t a.used Running a.place a.agenda
 AgendaFits rows t a Leaving = Agenda rows t a.used Leaving a.place a.agenda
 
@@ -78,19 +78,19 @@ Linked memory t head (x ∷ xs) =
     × Linked memory t next xs)
 
 -- Whether the duty finalises the row just now, or is about to chain it.
-abbrev pub at_hand : Duty → ℕ → Bool
-at_hand (Die y) x = y == x
-at_hand (SettleKind y) x = y == x
-at_hand (SettleCell y i n) x = y == x
-at_hand (TakeSlot y) x = y == x
-at_hand (CloseResource y) x = y == x
-at_hand (SettleEnd y) x = y == x
-at_hand _ x = false
+abbrev pub is_finalising : Duty → ℕ → Bool
+is_finalising (Die y) x = y == x
+is_finalising (SettleKind y) x = y == x
+is_finalising (SettleCell y i n) x = y == x
+is_finalising (TakeSlot y) x = y == x
+is_finalising (CloseResource y) x = y == x
+is_finalising (SettleEnd y) x = y == x
+is_finalising _ x = false
 
 -- of the duty at hand, the first of the agenda
-abbrev pub hand_of : List Duty → ℕ → Bool
-hand_of [] x = false
-hand_of (d ∷ rest) x = at_hand d x
+abbrev pub finalised_now : List Duty → ℕ → Bool
+finalised_now [] x = false
+finalised_now (d ∷ rest) x = is_finalising d x
 
 -- Whether the row is dying, and the thread finalises it.
 abbrev pub dies_by : Life → ℕ → Bool
@@ -110,7 +110,7 @@ pub record ChainFits (m : Machine) (t head : ℕ) (agenda : List Duty) : Type 0 
   pub chained : List ℕ
   pub linked : Linked m.memory t head chained
   -- each of them is at hand or chained, and once
-  pub once : (x : ℕ) → one_if (hand_of agenda x) + count_by (λ y. y == x) chained ≡ one_if (dies_by (m.life x) t)
+  pub once : (x : ℕ) → one_if (finalised_now agenda x) + count_by (λ y. y == x) chained ≡ one_if (dies_by (m.life x) t)
 
 -- ---- work that is put aside
 

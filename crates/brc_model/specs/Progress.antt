@@ -5,7 +5,7 @@ use Rattle.std.specs.Prelude.{◌≡◌, ◌≢◌, ◌⊎◌, ℕ, ◌+◌, ◌
 use Rattle.brc_lang.specs.declared.module.Module.{Module}
 use Rattle.brc_model.specs.declared.thread.Call.{Call}
 use Rattle.brc_model.specs.declared.thread.Choice.{Choice}
-use Rattle.brc_model.specs.Plain.{is_among}
+use Rattle.brc_model.specs.AbstractState.{is_among}
 use Rattle.brc_model.specs.Safety.{AreCalls}
 use Rattle.brc_word.specs.Words.{owner_part, phase_part, is_immortal_word, closed_word}
 use Rattle.brc_model.specs.declared.actor.Status.TheVariants.{Running}
@@ -51,14 +51,14 @@ OwnersStay m event =
 
 -- what is closed stays closed
 abbrev pub ClosedStays : Machine → ℕ × Choice → Type 0
-ClosedStays m event = (x : ℕ) → is_among x m.plain.closed ≡ true → is_among x (next_machine m event).plain.closed ≡ true
+ClosedStays m event = (x : ℕ) → is_among x m.abstract.closed ≡ true → is_among x (next_machine m event).abstract.closed ≡ true
 
 -- an event finalises nothing, or one row that wasn't finalised before
 abbrev pub ClosesAnew : Machine → ℕ × Choice → Type 0
 ClosesAnew m event =
-    ((next_machine m event).plain.closed ≡ m.plain.closed)
-    ⊎ ((row : ℕ) × (is_among row m.plain.closed ≡ false)
-    × ((next_machine m event).plain.closed ≡ m.plain.closed ++ row ∷ []))
+    ((next_machine m event).abstract.closed ≡ m.abstract.closed)
+    ⊎ ((row : ℕ) × (is_among row m.abstract.closed ≡ false)
+    × ((next_machine m event).abstract.closed ≡ m.abstract.closed ++ row ∷ []))
 
 -- an immortal row's words stay as they are
 pub record StaysAt (m next : Machine) (x : ℕ) : Type 0 where
@@ -78,11 +78,11 @@ ImmortalsStay m event = (x : ℕ) → is_immortal_word (m.memory (Local x)) ≡ 
 
 -- no object is born twice
 abbrev pub BornOnce : Machine → Type 0
-BornOnce m = (x : ℕ) → count_by (λ y. y == x) m.plain.born ≤ 1
+BornOnce m = (x : ℕ) → count_by (λ y. y == x) m.abstract.born ≤ 1
 
 -- the born objects are the rows that aren't unborn, but for none
 abbrev pub BornListed : Machine → Type 0
-BornListed m = (x : ℕ) → (is_among x m.plain.born ≡ true) ↔ ((0 < x) × (m.life x ≢ Unborn))
+BornListed m = (x : ℕ) → (is_among x m.abstract.born ≡ true) ↔ ((0 < x) × (m.life x ≢ Unborn))
 
 -- a row that is born is one of those that there are
 abbrev pub BornAreThere : Machine → Type 0
@@ -97,15 +97,15 @@ UsedAreBorn m = (x : ℕ) (a : Actor) → slice_get m.actors (block_of m.rows x)
 
 -- what was closed was born
 abbrev pub ClosedWereBorn : Machine → Type 0
-ClosedWereBorn m = (x : ℕ) → is_among x m.plain.closed ≡ true → is_among x m.plain.born ≡ true
+ClosedWereBorn m = (x : ℕ) → is_among x m.abstract.closed ≡ true → is_among x m.abstract.born ≡ true
 
 -- no row has been finalised twice
 abbrev pub ClosedOnce : Machine → Type 0
-ClosedOnce m = (x : ℕ) → count_by (λ y. y == x) m.plain.closed ≤ 1
+ClosedOnce m = (x : ℕ) → count_by (λ y. y == x) m.abstract.closed ≤ 1
 
 -- a row's gate says that it is closed, just where it was finalised
 abbrev pub GatesTell : Machine → Type 0
-GatesTell m = (x : ℕ) → (m.memory (Gate x) ≡ closed_word) ↔ (is_among x m.plain.closed ≡ true)
+GatesTell m = (x : ℕ) → (m.memory (Gate x) ≡ closed_word) ↔ (is_among x m.abstract.closed ≡ true)
 
 -- each row that is born is among the used rows of its thread's block
 abbrev pub BornAreUsed : Machine → Type 0

@@ -1,7 +1,7 @@
 -- Counting the references in the bag.
 use Rattle.std.specs.Prelude.{ℕ, Bool, if◌then◌else◌, List, count_by}
 use Rattle.brc_model.specs.declared.duty.Holding.{Holding}
-use Rattle.brc_model.specs.Plain.{ByThread, ByCell, Reference, same}
+use Rattle.brc_model.specs.AbstractState.{ByThread, ByCell, Reference, same}
 
 -- how many such references the bag has
 abbrev pub held : Reference → List Reference → ℕ

@@ -11,9 +11,9 @@ use Rattle.brc_model.specs.declared.address.Address.{Address}
 use Rattle.brc_model.specs.declared.address.Address.TheVariants.{KindOf}
 use Rattle.brc_word.specs.Words.{most_local, local_word, local_part, is_immortal_word, fresh_word, dead_word, merged_word, dying_word, closed_word}
 use Rattle.brc_model.specs.Kinds.{kind_of_word}
-use Rattle.brc_model.specs.Plain.{Move, Finalise}
-use Rattle.brc_model.specs.Duties.{left_by, next_by, counts_locally, once_merged, has_resource, cells_of, cells_from, release_found}
-use Rattle.brc_model.specs.Machine.{moves_by, gain, lose, hand_on, take_out, birth}
+use Rattle.brc_model.specs.AbstractState.{Move, Finalise}
+use Rattle.brc_model.specs.Duties.{new_word, continuation, counts_locally, once_merged, has_resource, cells_of, cells_from, release_found}
+use Rattle.brc_model.specs.Machine.{reference_effects, gain, lose, put_in_flight, take_out, birth}
 
 -- the shared word counts one reference in its third bit
 abbrev pub one_shared : ℕ
@@ -67,13 +67,13 @@ module _ (memory : Address → ℕ) (t : ℕ) (running : Bool) (head : ℕ) wher
     -- ---- a reference is given up: from here on it is in flight
 
     ReleasesImmortal : (x : ℕ) (h : Holding) (found : ℕ) → is_immortal_word found ≡ true
-        → Goes (ReleaseLoad x h) found found [] (hand_on t h x ++ lose t x)
+        → Goes (ReleaseLoad x h) found found [] (put_in_flight t h x ++ lose t x)
     OwnerReleases : (x : ℕ) (h : Holding) (found : ℕ)
         → is_immortal_word found ≡ false → counts_locally t running found ≡ true
-        → Goes (ReleaseLoad x h) found found (ReleaseStore x found ∷ []) (hand_on t h x)
+        → Goes (ReleaseLoad x h) found found (ReleaseStore x found ∷ []) (put_in_flight t h x)
     OtherReleases : (x : ℕ) (h : Holding) (found : ℕ)
         → is_immortal_word found ≡ false → counts_locally t running found ≡ false
-        → Goes (ReleaseLoad x h) found found (SharedLoad x Own ∷ []) (hand_on t h x)
+        → Goes (ReleaseLoad x h) found found (SharedLoad x Own ∷ []) (put_in_flight t h x)
     -- ---- the owner's release
 
     LocalLowered : (x word found : ℕ) → local_part word ≢ 1
@@ -175,6 +175,6 @@ module _ (memory : Address → ℕ) (t : ℕ) (running : Bool) (head : ℕ) wher
 
   -- what a rule concludes is what the step of the duty computes
   pub record IsComputed (d : Duty) (found left : ℕ) (next : List Duty) (moves : List Move) : Type 0 where
-    pub left_is : left ≡ left_by t head d found
-    pub next_is : next ≡ next_by t running head d found
-    pub moves_are : moves ≡ moves_by memory t d found
+    pub left_is : left ≡ new_word t head d found
+    pub next_is : next ≡ continuation t running head d found
+    pub moves_are : moves ≡ reference_effects memory t d found

@@ -6,7 +6,7 @@ use Rattle.brc_model.specs.declared.thread.Call.{Call}
 use Rattle.brc_model.specs.declared.thread.Choice.{Choice}
 use Rattle.brc_model.specs.declared.actor.Status.{Status}
 use Rattle.brc_model.specs.declared.actor.Status.TheVariants.{Running, Leaving, Gone}
-use Rattle.brc_model.specs.Plain.{Reference, Plain, ByCell, is_among, references_to}
+use Rattle.brc_model.specs.AbstractState.{Reference, AbstractState, ByCell, is_among, references_to}
 use Rattle.brc_word.specs.Words.{kind_part}
 use Rattle.brc_model.specs.Kinds.{kind_number}
 use Rattle.brc_model.specs.declared.address.Address.TheVariants.{KindOf}
@@ -34,7 +34,7 @@ abbrev pub AllGone : Machine → Type 0
 AllGone m = list_all (λ (a : Actor). has_gone a.status) m.actors ≡ true
 
 -- a cell of a list that isn't closed holds the reference
-pub record IsHeldByOpenList (p : Plain) (r : Reference) : Type 0 where
+pub record IsHeldByOpenList (p : AbstractState) (r : Reference) : Type 0 where
   pub list : ℕ
   pub cell : ℕ
   pub holder : r.holder ≡ ByCell list cell
@@ -47,18 +47,18 @@ pub record IsSafeNow (m : Machine) : Type 0 where
   -- says
   pub agrees : (x : ℕ) → 0 < x → AgreesAt m x
   -- the kind word of what was born says its kind
-  pub kinds : (x : ℕ) → m.life x ≢ Unborn → kind_part (m.memory (KindOf x)) ≡ kind_number (m.plain.kinds x)
+  pub kinds : (x : ℕ) → m.life x ≢ Unborn → kind_part (m.memory (KindOf x)) ≡ kind_number (m.abstract.kinds x)
   -- what is dying or closed is free
   pub free : (x : ℕ) → 0 < x → m.life x ≢ Live → m.life x ≢ Unborn → IsFreeOf m x
-  pub closed_once : AllPairs (λ x y. x ≢ y) m.plain.closed
+  pub closed_once : AllPairs (λ x y. x ≢ y) m.abstract.closed
   -- once all threads are gone, exactly what is born, counted and without a reference is closed, and no reference is
   -- left
   pub closed_at_end : AllGone m → (x : ℕ)
-      → (is_among x m.plain.closed ≡ true)
-      ↔ ((is_among x m.plain.born ≡ true) × (references_to x m.plain.references ≡ 0))
-  pub none_left : AllGone m → m.plain.references ≡ []
+      → (is_among x m.abstract.closed ≡ true)
+      ↔ ((is_among x m.abstract.born ≡ true) × (references_to x m.abstract.references ≡ 0))
+  pub none_left : AllGone m → m.abstract.references ≡ []
   -- and each reference that is left is held by a list that is
-  pub left_in_lists : AllGone m → All (IsHeldByOpenList m.plain) m.plain.references
+  pub left_in_lists : AllGone m → All (IsHeldByOpenList m.abstract) m.abstract.references
 
 -- For every number of workers and rows, every list of calls and every list of steps and choices, stopped anywhere: no
 -- event is bad, the counts of each row add up to the references held and the decrements that await, and nothing is

@@ -81,8 +81,8 @@ conditions_of (Goto to) = []
 conditions_of (Ret from) = Give from ∷ NothingOwnedBut from ∷ NothingLocked ∷ []
 conditions_of Fail = NothingOwned ∷ NothingLocked ∷ []
 
-abbrev pub stands : Instr → State → CheckCode → Bool
-stands i s code = list_any (breaks s code) (conditions_of i)
+abbrev pub applies : Instr → State → CheckCode → Bool
+applies i s code = list_any (breaks s code) (conditions_of i)
 
 -- what conditions can break by, lowest first
 abbrev pub rising : List CheckCode
@@ -91,7 +91,7 @@ rising =
 
 -- the lowest code that stands
 abbrev pub lowest : Instr → State → Option CheckCode
-lowest i s = find (stands i s) rising
+lowest i s = find (applies i s) rising
 
 -- ---- exits
 

@@ -1,4 +1,4 @@
--- Tables: for each function, for each point its state, or none where no walk comes.
+-- Tables: for each function, for each point its state, or none where no path comes.
 use Rattle.std.specs.Prelude.{◌≡◌, ◌≢◌, ◌↔◌, ℕ, List, [], length, Option, None, Some, slice_get}
 use Rattle.std.specs.List.{slice_index_or}
 use Rattle.brc_lang.specs.declared.module.Instr.{Instr}
@@ -6,14 +6,14 @@ use Rattle.brc_lang.specs.declared.module.Function.{Function}
 use Rattle.brc_lang.specs.declared.module.Module.{Module}
 use Rattle.brc_model.specs.declared.slot.State.{State}
 use Rattle.brc_model.specs.declared.slot.Exit.{Exit}
-use Rattle.brc_model.specs.Walks.{At, walk}
+use Rattle.brc_model.specs.Paths.{At, path_end}
 
--- some walk reaches the point in the state
+-- some path reaches the point in the state
 pub record Reaches (code : List Instr) (at : ℕ) (s : State) : Type 0 where
   pub exits : List Exit
-  pub reaches : walk code exits ≡ At at s
+  pub reaches : path_end code exits ≡ At at s
 
--- two walks reach the point in different states
+-- two paths reach the point in different states
 pub record StatesDifferAt (code : List Instr) (at : ℕ) : Type 0 where
   pub one : State
   pub other : State
@@ -23,7 +23,7 @@ pub record StatesDifferAt (code : List Instr) (at : ℕ) : Type 0 where
 
 -- ---- entries
 
--- the entry is a state exactly where some walk reaches the point in it
+-- the entry is a state exactly where some path reaches the point in it
 abbrev pub IsTrueEntry : List Instr → ℕ → Option State → Type 0
 IsTrueEntry code at entry = (s : State) → (entry ≡ Some s) ↔ Reaches code at s
 
@@ -47,7 +47,7 @@ pub record IsTrueTable (m : Module) (table : List (List (Option State))) : Type 
   pub entries : (number at : ℕ) (f : Function) → slice_get m.functions number ≡ Some f
       → IsTrueEntry f.code at (entry_at (row_of table number) at)
 
--- each point that a walk reaches has the walk's state; of the others nothing is said
+-- each point that a path reaches has the path's state; of the others nothing is said
 pub record IsTrueWhereReached (m : Module) (table : List (List (Option State))) : Type 0 where
   pub shape : HasShape m.functions table
   pub entries : (number at : ℕ) (f : Function) (s : State) → slice_get m.functions number ≡ Some f → Reaches f.code at s

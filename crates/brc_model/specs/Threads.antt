@@ -3,7 +3,7 @@ use Rattle.std.specs.Prelude.{ℕ, List, [], ◌∷◌, Option, None, Some, repl
 use Rattle.std.specs.List.{slice_index_or}
 use Rattle.brc_lang.specs.declared.module.Instr.{Instr}
 use Rattle.brc_lang.specs.declared.module.Function.{Function}
-use Rattle.brc_model.specs.Plain.{root_row}
+use Rattle.brc_model.specs.AbstractState.{root_row}
 
 abbrev pub code_of : Option Function → List Instr
 code_of None = []

@@ -1,5 +1,5 @@
 -- What the threads of a machine see and change: the words, and the threads themselves. A step looks at nothing else:
--- the plain world and the lives of the rows stand beside it, for what is promised.
+-- the abstract state and the lives of the rows stand beside it, for what is promised.
 use Rattle.std.specs.Prelude.{◌≡◌, ℕ, ◌+◌, ◌*◌, ◌-◌, ◌<◌, ◌≤◌, List, [], length}
 use Rattle.brc_lang.specs.declared.module.Function.{Function}
 use Rattle.brc_lang.specs.declared.module.Module.{Module}
@@ -8,7 +8,7 @@ use Rattle.brc_model.specs.declared.address.Address.{Address}
 use Rattle.brc_model.specs.declared.thread.Call.{Call}
 use Rattle.brc_model.specs.declared.thread.Choice.{Choice}
 use Rattle.brc_lang.specs.declared.kind.Kind.TheVariants as kinds
-use Rattle.brc_model.specs.Walks.{IsAcceptable}
+use Rattle.brc_model.specs.Paths.{IsAcceptable}
 use Rattle.brc_model.specs.Safety.{AreCalls}
 use Rattle.brc_model.specs.Machine.{Actor, Unborn, Machine, next_machine, first_machine, machine_after}
 use Rattle.brc_model.specs.Limits.{row_limit}
@@ -31,7 +31,7 @@ machine_of w = record {
   rows = w.rows;
   memory = w.memory;
   actors = w.actors;
-  plain = record { references = []; born = []; closed = []; kinds = λ x. kinds.Any };
+  abstract = record { references = []; born = []; closed = []; kinds = λ x. kinds.Any };
   life = λ x. Unborn;
 }
 

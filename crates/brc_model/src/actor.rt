@@ -13,16 +13,16 @@ pub enum Status {
 #[derive(Clone, Copy, Debug)]
 pub enum Place {
     /// Before its first call, between two calls or after the last, with so many calls still to make.
-    Standing {
+    Idle {
         left: u32,
     },
     /// Before the instruction `at` of a call, with so many calls to make after this one; a variable names a row or
     /// none.
-    Inside {
+    InCall {
         left: u32,
         at: usize,
         variables: [Option<u32>; 16],
     },
     /// Its exit is dispatched.
-    Departing,
+    Exiting,
 }

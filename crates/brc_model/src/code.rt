@@ -1,6 +1,6 @@
 use std::fmt;
 
-/// Why a function isn't accepted: what a walk through it meets.
+/// Why a function isn't accepted: what a path through it meets.
 #[derive(Clone, Copy, Debug, PartialEq, Eq)]
 pub enum CheckCode {
     /// An empty variable is used.

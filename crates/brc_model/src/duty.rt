@@ -8,7 +8,7 @@ pub enum Holding {
     /// As the caller that lends the root.
     AsCaller,
     /// In its hand: the reference is being given up.
-    InHand,
+    InFlight,
 }
 
 /// Whose reference a release by the shared word gives up, and for whose release a merge is made.

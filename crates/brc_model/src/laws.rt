@@ -2,7 +2,7 @@
 
 ghost use Rattle.brc_lang.specs.declared.module.Module.{Module};
 ghost use Rattle.brc_lang.specs.Grammar.{IsModule};
-ghost use Rattle.brc_model.specs.Walks.{IsAcceptable};
+ghost use Rattle.brc_model.specs.Paths.{IsAcceptable};
 ghost use Rattle.brc_model.specs.Safety.{Safe};
 
 /// An accepted module is safe, for every number of workers and rows, every list of calls, and every list of steps and

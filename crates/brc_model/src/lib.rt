@@ -1,4 +1,4 @@
-//! What an accepted module promises: slot states, walks, the plain world, the step world, and the laws about them.
+//! What an accepted module promises: slot states, paths, the abstract state, the step world, and the laws about them.
 //!
 //! The crate runs nothing: it has the types that the definitions in specs/ speak of, and public functions with empty
 //! bodies whose contracts are the laws.
@@ -30,6 +30,6 @@ pub use rule_laws::steps_go_by_rules;
 pub use slot::{Exit, Slot, State};
 pub use thread::{Call, Choice};
 pub use world_laws::{
-    steps_are_within, steps_move, threads_make_their_trails, worlds_are_small,
+    steps_are_within, steps_move, threads_make_their_traces, worlds_are_small,
     worlds_follow_machines, worlds_lead_on,
 };

@@ -2,7 +2,7 @@
 
 ghost use Rattle.brc_lang.specs.declared.module.Module.{Module};
 ghost use Rattle.brc_lang.specs.Grammar.{IsModule};
-ghost use Rattle.brc_model.specs.Walks.{IsAcceptable};
+ghost use Rattle.brc_model.specs.Paths.{IsAcceptable};
 ghost use Rattle.brc_model.specs.Progress.{Always, AtEachEvent, StatesRise, OnlyOwnersCount, OwnersStay, ClosedStays, ClosesAnew, ImmortalsStay, ClosedOnce, GatesTell, BornAreUsed, BornOnce, BornListed, BornAreThere, UsedAreBorn, ClosedWereBorn};
 ghost use Rattle.brc_model.specs.Watched.{MarksWatched};
 

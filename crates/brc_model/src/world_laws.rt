@@ -4,7 +4,7 @@
 ghost use Rattle.std.specs.Prelude.{ℕ, ◌≡◌, ◌≢◌, ◌<◌, ◌≤◌, true, false, List, length, Some, slice_get};
 ghost use Rattle.brc_lang.specs.declared.module.Module.{Module};
 ghost use Rattle.brc_lang.specs.Grammar.{IsModule};
-ghost use Rattle.brc_model.specs.Walks.{IsAcceptable};
+ghost use Rattle.brc_model.specs.Paths.{IsAcceptable};
 ghost use Rattle.brc_model.specs.Safety.{AreCalls};
 ghost use Rattle.brc_model.specs.declared.thread.Call.{Call};
 ghost use Rattle.brc_model.specs.declared.thread.Choice.{Choice};
@@ -14,7 +14,7 @@ ghost use Rattle.brc_model.specs.declared.actor.Status.TheVariants.{Gone};
 ghost use Rattle.brc_model.specs.Machine.{Actor, Machine, may_claim, next_machine, machine_after};
 ghost use Rattle.brc_model.specs.World.{World, world_of, first_world, step, IsReachable};
 ghost use Rattle.brc_model.specs.Within.{StepsWithin};
-ghost use Rattle.brc_model.specs.Trail.{CanMake, events_on};
+ghost use Rattle.brc_model.specs.Trace.{CanMake, events_on};
 
 /// A machine's step is a step of the world that its threads see: a step looks at nothing else.
 pub fn worlds_follow_machines()
@@ -62,7 +62,7 @@ pub fn worlds_are_small()
 
 /// What a thread does with words along any events is what its automaton can make: its next step depends on what it
 /// finds, and on nothing else that others do.
-pub fn threads_make_their_trails()
+pub fn threads_make_their_traces()
     ensures { (m : Machine) (events : List (ℕ × Choice)) (t : ℕ) (a b : Actor) → slice_get m.actors t ≡ Some a
         → slice_get (machine_after m events).actors t ≡ Some b
         → CanMake m.functions m.rows t a (events_on t m events) b }

@@ -7,7 +7,7 @@ use Rattle.brc_lang.specs.declared.module.Function.{Function}
 use Rattle.brc_model.specs.Threads.{code_of, row_of, entry_variables}
 use Rattle.brc_model.specs.declared.duty.Duty.{Duty}
 use Rattle.brc_model.specs.declared.actor.Place.{Place}
-use Rattle.brc_model.specs.declared.actor.Place.TheVariants.{Standing, Inside, Departing}
+use Rattle.brc_model.specs.declared.actor.Place.TheVariants.{Idle, InCall, Exiting}
 use Rattle.brc_model.specs.Machine.{Actor, Action, Skip, with_row, has_room, dispatch_instruction, dispatch, agenda_action}
 
 abbrev pub TakesStep : Action → Type 0
@@ -38,11 +38,11 @@ instruction_steps rows t used left at variables (Some (Ret from)) = row_steps (r
 instruction_steps rows t used left at variables (Some Fail) = tt
 
 dispatch_steps : (rows t used : ℕ) (code : List Instr) (place : Place) → TakesStep (dispatch rows t used code place)
-dispatch_steps rows t used code Departing = tt
-dispatch_steps rows t used code (Standing zero) = tt
-dispatch_steps rows t used code (Standing (suc left)) =
+dispatch_steps rows t used code Exiting = tt
+dispatch_steps rows t used code (Idle zero) = tt
+dispatch_steps rows t used code (Idle (suc left)) =
     instruction_steps rows t used left 0 entry_variables (slice_get code 0)
-dispatch_steps rows t used code (Inside left at variables) =
+dispatch_steps rows t used code (InCall left at variables) =
     instruction_steps rows t used left at variables (slice_get code at)
 
 pub agenda_steps : (functions : List Function) (rows t : ℕ) (a : Actor) (agenda : List Duty)

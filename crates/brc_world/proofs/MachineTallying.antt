@@ -15,7 +15,7 @@ use Rattle.brc_word.specs.Words.{closed_word, kind_part}
 use Rattle.brc_model.specs.declared.address.Address.TheVariants.{Gate, KindOf}
 use Rattle.brc_model.specs.Duties.{block_of}
 use Rattle.brc_model.specs.Kinds.{kind_number, kind_numbered}
-use Rattle.brc_model.specs.Plain.{is_among}
+use Rattle.brc_model.specs.AbstractState.{is_among}
 use Rattle.brc_model.specs.Progress.{Always, BornOnce, BornListed, BornAreThere, BornAreUsed, UsedAreBorn}
 use Rattle.brc_model.specs.Progress.{ClosedWereBorn, ClosedOnce, GatesTell}
 use Rattle.brc_model.specs.Machine.{Unborn, Machine}
@@ -190,7 +190,7 @@ pub record Facts (m : Machine) : Type 0 where
   pub were_born : ClosedWereBorn m
   pub closed_once : ClosedOnce m
   pub gates : GatesTell m
-  pub kinds : (x : ℕ) → m.life x ≢ Unborn → kind_part (m.memory (KindOf x)) ≡ kind_number (m.plain.kinds x)
+  pub kinds : (x : ℕ) → m.life x ≢ Unborn → kind_part (m.memory (KindOf x)) ≡ kind_number (m.abstract.kinds x)
 
 -- what always is, is so of a machine that there is
 pub at_machine : (P : Machine → Type 0) (p : Module) (m : Machine) → IsMachineOf p m → Always P p → P m
@@ -217,7 +217,7 @@ others m = row_count (world_of m) - 1
 -- ---- what is born
 
 born_is_listed : (m : Machine) (x : ℕ) → Facts m → 0 < x → x < row_count (world_of m)
-    → is_born (world_of m) x ≡ true → is_among x m.plain.born ≡ true
+    → is_born (world_of m) x ≡ true → is_among x m.abstract.born ≡ true
 born_is_listed m x facts above within e =
     elim (slice_get_cases m.actors (block_of m.rows x)).1 [
       | inl found ↦
@@ -229,58 +229,58 @@ born_is_listed m x facts above within e =
           absurd (omega (arith, past.0, block, facts.some_threads))
     ]
 
-listed_is_born : (m : Machine) (x : ℕ) → Facts m → is_among x m.plain.born ≡ true → is_born (world_of m) x ≡ true
+listed_is_born : (m : Machine) (x : ℕ) → Facts m → is_among x m.abstract.born ≡ true → is_born (world_of m) x ≡ true
 listed_is_born m x facts listed =
     let used = facts.used x ((facts.listed x).0 listed).1 in
     let count : used_of (slice_get m.actors (block_of m.rows x)) ≡ used.0.used = ap used_of used.1 in
     lt-ltb _ _ (omega (arith, used.3, count))
 
 born_same : (m : Machine) → Facts m → (x : ℕ) → 1 ≤ x → x < 1 + others m
-    → is_born (world_of m) x ≡ is_among x m.plain.born
+    → is_born (world_of m) x ≡ is_among x m.abstract.born
 born_same m facts x above within =
-    same_test (is_born (world_of m) x) (is_among x m.plain.born)
+    same_test (is_born (world_of m) x) (is_among x m.abstract.born)
     (born_is_listed m x facts above (omega (arith, within)))
     (listed_is_born m x facts)
 
-born_within : (m : Machine) → Facts m → AreRows m.plain.born 1 (others m)
+born_within : (m : Machine) → Facts m → AreRows m.abstract.born 1 (others m)
 born_within m facts = λ x listed.
     let was = (facts.listed x).0 listed in
     let there = facts.there x was.1 in
     (was.0, omega (arith, there))
 
-created : (m : Machine) → Facts m → length (rows_born (world_of m)) ≡ length m.plain.born
+created : (m : Machine) → Facts m → length (rows_born (world_of m)) ≡ length m.abstract.born
 created m facts =
-    let born = picked_once (is_born (world_of m)) (λ x. is_among x m.plain.born) 1 (others m) (born_same m facts) in
+    let born = picked_once (is_born (world_of m)) (λ x. is_among x m.abstract.born) 1 (others m) (born_same m facts) in
     ap (λ (l : List ℕ). length l) born
-    ∙ as_long m.plain.born 1 (others m) facts.born_once (born_within m facts)
+    ∙ as_long m.abstract.born 1 (others m) facts.born_once (born_within m facts)
 
 -- ---- what is closed
 
-closed_test : (m : Machine) → Facts m → (x : ℕ) → is_closed_row (world_of m) x ≡ is_among x m.plain.closed
+closed_test : (m : Machine) → Facts m → (x : ℕ) → is_closed_row (world_of m) x ≡ is_among x m.abstract.closed
 closed_test m facts x =
-    same_test (is_closed_row (world_of m) x) (is_among x m.plain.closed)
+    same_test (is_closed_row (world_of m) x) (is_among x m.abstract.closed)
     (λ e. (facts.gates x).0 (eqb-true (m.memory (Gate x)) closed_word e))
     (λ e. eq-eqb (m.memory (Gate x)) closed_word ((facts.gates x).1 e))
 
 closed_same : (m : Machine) → Facts m → (x : ℕ) → 1 ≤ x → x < 1 + others m
-    → (is_born (world_of m) x && is_closed_row (world_of m) x) ≡ is_among x m.plain.closed
+    → (is_born (world_of m) x && is_closed_row (world_of m) x) ≡ is_among x m.abstract.closed
 closed_same m facts x above within =
-    same_test (is_born (world_of m) x && is_closed_row (world_of m) x) (is_among x m.plain.closed)
+    same_test (is_born (world_of m) x && is_closed_row (world_of m) x) (is_among x m.abstract.closed)
     (λ e. sym (closed_test m facts x) ∙ second_of (is_born (world_of m) x) (is_closed_row (world_of m) x) e)
     (λ e. both_of (is_born (world_of m) x) (is_closed_row (world_of m) x)
     (listed_is_born m x facts (facts.were_born x e)) (closed_test m facts x ∙ e))
 
-closed : (m : Machine) → Facts m → length (rows_closed (world_of m)) ≡ length m.plain.closed
+closed : (m : Machine) → Facts m → length (rows_closed (world_of m)) ≡ length m.abstract.closed
 closed m facts =
     let each : ℕ → ℕ = λ x. x in
-    let is_it : ℕ → Bool = λ x. is_among x m.plain.closed in
+    let is_it : ℕ → Bool = λ x. is_among x m.abstract.closed in
     let rows = picked each each (is_born (world_of m)) (is_closed_row (world_of m)) is_it 1 (others m)
     (closed_same m facts) (λ x e. refl) in
     let same = sym (map-id (rows_closed (world_of m))) ∙ rows ∙ map-id (filter is_it (range_with_len 1 (others m))) in
     ap (λ (l : List ℕ). length l) same
-    ∙ as_long m.plain.closed 1 (others m) facts.closed_once (λ x e. born_within m facts x (facts.were_born x e))
+    ∙ as_long m.abstract.closed 1 (others m) facts.closed_once (λ x e. born_within m facts x (facts.were_born x e))
 
-alive : (m : Machine) → Facts m → length (rows_left (world_of m)) ≡ length m.plain.born - length m.plain.closed
+alive : (m : Machine) → Facts m → length (rows_left (world_of m)) ≡ length m.abstract.born - length m.abstract.closed
 alive m facts =
     omega (arith, parts (is_closed_row (world_of m)) (rows_born (world_of m)), created m facts, closed m facts)
 
@@ -295,23 +295,23 @@ kind_back kinds.File = refl
 kind_back kinds.Sock = refl
 
 left_same : (m : Machine) → Facts m → (x : ℕ) → 1 ≤ x → x < 1 + others m
-    → (is_born (world_of m) x && not (is_closed_row (world_of m) x)) ≡ is_left m.plain x
+    → (is_born (world_of m) x && not (is_closed_row (world_of m) x)) ≡ is_left m.abstract x
 left_same m facts x above within = rw (born_same m facts x above within, closed_test m facts x) refl
 
-left_kind : (m : Machine) → Facts m → (x : ℕ) → is_left m.plain x ≡ true
-    → left_in (world_of m) x ≡ left_object m.plain x
+left_kind : (m : Machine) → Facts m → (x : ℕ) → is_left m.abstract x ≡ true
+    → left_in (world_of m) x ≡ left_object m.abstract x
 left_kind m facts x left =
-    let listed = first_of (is_among x m.plain.born) (not (is_among x m.plain.closed)) left in
+    let listed = first_of (is_among x m.abstract.born) (not (is_among x m.abstract.closed)) left in
     let was = (facts.listed x).0 listed in
-    let kind : kind_numbered (kind_part (m.memory (KindOf x))) ≡ m.plain.kinds x =
-    ap kind_numbered (facts.kinds x was.1) ∙ kind_back (m.plain.kinds x) in
+    let kind : kind_numbered (kind_part (m.memory (KindOf x))) ≡ m.abstract.kinds x =
+    ap kind_numbered (facts.kinds x was.1) ∙ kind_back (m.abstract.kinds x) in
     λ i. record { row = x; kind = kind i }
 
 left : (m : Machine) → Facts m
-    → map (left_in (world_of m)) (rows_left (world_of m)) ≡ map (left_object m.plain) (objects_left m)
+    → map (left_in (world_of m)) (rows_left (world_of m)) ≡ map (left_object m.abstract) (objects_left m)
 left m facts =
-    picked (left_in (world_of m)) (left_object m.plain) (is_born (world_of m)) (λ x. not (is_closed_row (world_of m) x))
-    (is_left m.plain) 1 (others m) (left_same m facts) (left_kind m facts)
+    picked (left_in (world_of m)) (left_object m.abstract) (is_born (world_of m)) (λ x. not (is_closed_row (world_of m) x))
+    (is_left m.abstract) 1 (others m) (left_same m facts) (left_kind m facts)
 
 -- ---- the tally
 

@@ -11,7 +11,7 @@ use Rattle.brc_model.specs.declared.actor.Status.TheVariants.{Running, Leaving, 
 use Rattle.brc_model.specs.declared.thread.Choice.{Choice}
 use Rattle.brc_model.specs.declared.thread.Choice.TheVariants as choices
 use Rattle.brc_model.specs.Safety.{has_gone}
-use Rattle.brc_model.specs.Machine.{Actor, Machine, is_standing, is_running, may_claim, next_machine, machine_after}
+use Rattle.brc_model.specs.Machine.{Actor, Machine, is_idle, is_running, may_claim, next_machine, machine_after}
 use Rattle.brc_model.specs.World.{World, world_of, step}
 use Rattle.brc_schedule.specs.declared.schedule.Steps.{Steps}
 use Rattle.brc_world.specs.declared.did.Did.{Did}
@@ -36,7 +36,7 @@ after_both w made more = fold-append (λ (v : World) (event : ℕ × Choice). st
 
 gone_claims_none : (rows t : ℕ) (a : Actor) (row : ℕ) → a.status ≡ Gone → may_claim rows t a row ≡ false
 gone_claims_none rows t a row gone =
-    and_left _ _ (and_left _ _ (and_left _ _ (and_right (is_standing a.place) _ (ap is_running gone))))
+    and_left _ _ (and_left _ _ (and_left _ _ (and_right (is_idle a.place) _ (ap is_running gone))))
 
 gone_acts : (w : World) (t : ℕ) (choice : Choice) (a : Actor) → a.status ≡ Gone → after w t choice (Some a) ≡ w
 gone_acts w t choices.Ok a gone = rw gone refl

@@ -8,9 +8,9 @@ use Rattle.brc_model.specs.declared.duty.Duty.{Duty}
 use Rattle.brc_model.specs.declared.duty.Duty.TheVariants.{ReleaseLoad, Settle, Leave, Scan, ClaimMark}
 use Rattle.brc_model.specs.declared.duty.Holding.TheVariants.{AsCaller}
 use Rattle.brc_model.specs.declared.actor.Place.{Place}
-use Rattle.brc_model.specs.declared.actor.Place.TheVariants.{Standing, Inside, Departing}
-use Rattle.brc_model.specs.Plain.{root_row}
-use Rattle.brc_model.specs.Duties.{address_of, left_by}
+use Rattle.brc_model.specs.declared.actor.Place.TheVariants.{Idle, InCall, Exiting}
+use Rattle.brc_model.specs.AbstractState.{root_row}
+use Rattle.brc_model.specs.Duties.{address_of, new_word}
 use Rattle.brc_model.specs.Within.{IsThere, Suits}
 use Rattle.brc_model.specs.Machine as model
 use Rattle.brc_model.specs.Machine.{Actor, Action, Skip, Stuck, Silent, Does, at_place}
@@ -19,14 +19,14 @@ use Rattle.brc_world.specs.declared.did.Did.TheVariants as answers
 use Rattle.brc_world.specs.declared.dispatch.Start.{Start}
 use Rattle.brc_world.specs.declared.dispatch.Start.TheVariants as starts
 use Rattle.brc_world.specs.declared.thread.Stage.{Stage}
-use Rattle.brc_world.specs.declared.thread.Stage.TheVariants.{Idle, InCall, Exiting}
+use Rattle.brc_world.specs.declared.thread.Stage.TheVariants as stages
 use Rattle.brc_world.specs.declared.thread.Thread.{Thread}
 
 -- an idle thread's instruction and variables say nothing
 abbrev pub place_of : Stage → ℕ → ℕ → List (Option ℕ) → Place
-place_of Idle left at variables = Standing left
-place_of InCall left at variables = Inside left at variables
-place_of Exiting left at variables = Departing
+place_of stages.Idle left at variables = Idle left
+place_of stages.InCall left at variables = InCall left at variables
+place_of stages.Exiting left at variables = Exiting
 
 -- the first duty of an agenda is the last of the code's
 abbrev pub actor_of : Thread → Actor
@@ -55,7 +55,7 @@ with_agenda a agenda =
 -- the exit: a thread with no call left gives up its reference to the root, settles, and leaves
 abbrev pub exit_action : ℕ → ℕ → ℕ → Action
 exit_action rows t used =
-    Does (ReleaseLoad root_row AsCaller) (Settle ∷ Leave (model.first_row rows t) used ∷ []) Departing
+    Does (ReleaseLoad root_row AsCaller) (Settle ∷ Leave (model.first_row rows t) used ∷ []) Exiting
 
 -- Returns what a step with the action starts with.
 abbrev pub start_by : Action → Start
@@ -85,7 +85,7 @@ found_by rows t memory a d = memory (address_of rows t a.head d)
 -- a duty that isn't in the agenda any more
 abbrev pub memory_done : ℕ → ℕ → (Address → ℕ) → Actor → Duty → Address → ℕ
 memory_done rows t memory a d =
-    model.written memory (address_of rows t a.head d) (left_by t a.head d (found_by rows t memory a d))
+    model.written memory (address_of rows t a.head d) (new_word t a.head d (found_by rows t memory a d))
 
 abbrev pub actor_done : ℕ → ℕ → (Address → ℕ) → Actor → Duty → Actor
 actor_done rows t memory a d = model.actor_by t a d a.agenda (found_by rows t memory a d)

@@ -2,8 +2,8 @@
 use Rattle.std.specs.Prelude.{◌≡◌, ℕ, ◌<◌, List, [], ◌∷◌}
 use Rattle.brc_model.specs.declared.duty.Duty.{Duty}
 use Rattle.brc_model.specs.declared.duty.Duty.TheVariants.{ReleaseLoad, Die, Scan, SettleCell}
-use Rattle.brc_model.specs.declared.duty.Holding.TheVariants.{InHand}
-use Rattle.brc_model.specs.Duties.{left_by, next_by, head_by}
+use Rattle.brc_model.specs.declared.duty.Holding.TheVariants.{InFlight}
+use Rattle.brc_model.specs.Duties.{new_word, continuation, new_head}
 use Rattle.brc_model.specs.Machine.{is_running, status_by, used_by}
 use Rattle.brc_world.specs.declared.effect.Doer.{Doer}
 use Rattle.brc_world.specs.declared.effect.Effect.{Effect}
@@ -14,7 +14,7 @@ abbrev pub duties_of : Next → List Duty
 duties_of Nothing = []
 duties_of (One a) = a ∷ []
 duties_of (Two a b) = a ∷ b ∷ []
-duties_of (Release x a) = ReleaseLoad x InHand ∷ a ∷ []
+duties_of (Release x a) = ReleaseLoad x InFlight ∷ a ∷ []
 duties_of (Three a b c) = a ∷ b ∷ c ∷ []
 
 -- the row and the cell of a duty that goes on to the next one are there, among n rows in all
@@ -27,10 +27,10 @@ IsNumbered n _ = Unit {0}
 -- the effect of a duty whose step found this word
 pub record IsEffect (by : Doer) (d : Duty) (found : ℕ) (e : Effect) : Type 0 where
   -- the new value of the word
-  pub word : e.word ≡ left_by by.number by.head d found
+  pub word : e.word ≡ new_word by.number by.head d found
   -- the duties that follow
-  pub next : duties_of e.next ≡ next_by by.number (is_running by.status) by.head d found
+  pub next : duties_of e.next ≡ continuation by.number (is_running by.status) by.head d found
   -- the thread
-  pub head : e.head ≡ head_by by.head d found
+  pub head : e.head ≡ new_head by.head d found
   pub status : e.status ≡ status_by by.status d
   pub used : e.used ≡ used_by by.used d

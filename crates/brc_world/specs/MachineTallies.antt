@@ -5,8 +5,8 @@ use Rattle.brc_lang.specs.declared.module.Module.{Module}
 use Rattle.brc_lang.specs.Grammar.{IsModule}
 use Rattle.brc_model.specs.declared.thread.Call.{Call}
 use Rattle.brc_model.specs.declared.thread.Choice.{Choice}
-use Rattle.brc_model.specs.Walks.{IsAcceptable}
-use Rattle.brc_model.specs.Plain.{Plain, is_among}
+use Rattle.brc_model.specs.Paths.{IsAcceptable}
+use Rattle.brc_model.specs.AbstractState.{AbstractState, is_among}
 use Rattle.brc_model.specs.Safety.{AreCalls}
 use Rattle.brc_model.specs.Machine.{Machine, first_machine, machine_after}
 use Rattle.brc_model.specs.World.{World, world_of, row_count}
@@ -27,14 +27,14 @@ pub record IsMachineOf (p : Module) (m : Machine) : Type 0 where
   pub reached : m ≡ machine_after (first_machine p rows calls) events
 
 -- born, and not closed
-abbrev pub is_left : Plain → ℕ → Bool
+abbrev pub is_left : AbstractState → ℕ → Bool
 is_left p row = is_among row p.born && not (is_among row p.closed)
 
 -- by rising row, of all rows that there are but none's
 abbrev pub objects_left : Machine → List ℕ
-objects_left m = filter (is_left m.plain) (range_with_len 1 (row_count (world_of m) - 1))
+objects_left m = filter (is_left m.abstract) (range_with_len 1 (row_count (world_of m) - 1))
 
-abbrev pub left_object : Plain → ℕ → Left
+abbrev pub left_object : AbstractState → ℕ → Left
 left_object p row = record { row = row; kind = p.kinds row }
 
 -- no step yet is a host call, so nothing faults
@@ -42,12 +42,12 @@ abbrev pub machine_tally : Machine → Tally
 machine_tally m = record {
   threads = length m.actors - 1;
   running = count_by still_runs m.actors;
-  created = length m.plain.born;
-  closed = length m.plain.closed;
-  alive = length m.plain.born - length m.plain.closed;
+  created = length m.abstract.born;
+  closed = length m.abstract.closed;
+  alive = length m.abstract.born - length m.abstract.closed;
   host_faults = 0;
   close_faults = 0;
-  left = map (left_object m.plain) (objects_left m);
+  left = map (left_object m.abstract) (objects_left m);
 }
 
 -- the tally of each machine whose world this is

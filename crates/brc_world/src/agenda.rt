@@ -25,7 +25,7 @@ pub fn push(agenda: &mut Vec<Duty>, next: Next)
             agenda.push_reserved(then);
             agenda.push_reserved(Duty::ReleaseLoad {
                 row,
-                holding: Holding::InHand,
+                holding: Holding::InFlight,
             });
         }
         Next::Three(a, b, c) => {

@@ -3,7 +3,7 @@
 ghost use Rattle.std.specs.Prelude.{◌≡◌, ◌≢◌, ◌+◌, ◌<◌, ◌≤◌, true, length, OnOk, OnErr, IfOk, IfErr};
 ghost use Rattle.std.specs.Prelude.{vec_len, vec_capacity};
 ghost use Rattle.brc_model.specs.declared.actor.Status.TheVariants.{Gone};
-ghost use Rattle.brc_model.specs.Duties.{address_of, left_by};
+ghost use Rattle.brc_model.specs.Duties.{address_of, new_word};
 ghost use Rattle.brc_model.specs.Machine.{is_running, used_by, may_claim, status_action};
 ghost use Rattle.brc_model.specs.Within.{IsThere, Suits};
 ghost use Rattle.brc_world.specs.Storage.{word_in, IsStored};
@@ -36,7 +36,7 @@ pub fn do_duty(memory: &mut Memory, rows: u16, number: u8, thread: &mut Thread, 
     requires uses { used_by thread.old.used duty.now ≤ length memory.old.local }
     requires room { vec_len thread.old.agenda + 4 ≤ vec_capacity thread.old.agenda }
     ensures word { IsStored memory.old (address_of rows number thread.old.head duty.now)
-        (left_by number thread.old.head duty.now
+        (new_word number thread.old.head duty.now
         (found_by rows number (word_in memory.old) (actor_of thread.old) duty.now)) memory.new }
     ensures actor { actor_of thread.new ≡ actor_done rows number (word_in memory.old) (actor_of thread.old) duty.now }
 {

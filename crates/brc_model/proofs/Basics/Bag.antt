@@ -6,8 +6,8 @@ use Rattle.std.proofs.lemmas.Bool.{eqb-true, eq-eqb, ne_eqb}
 use Rattle.std.proofs.lemmas.List.Sums.{sum_by-cons}
 use Rattle.brc_model.proofs.Basics.Lists.{and_first, and_second}
 use Rattle.brc_model.specs.declared.duty.Holding.{Holding}
-use Rattle.brc_model.specs.declared.duty.Holding.TheVariants.{ByVariable, AsCaller, InHand}
-use Rattle.brc_model.specs.Plain.{Holder, ByThread, ByCell, Reference, same_holding, same_holder, same, without, references_to, is_cell_of, holds_by_cells}
+use Rattle.brc_model.specs.declared.duty.Holding.TheVariants.{ByVariable, AsCaller, InFlight}
+use Rattle.brc_model.specs.AbstractState.{Holder, ByThread, ByCell, Reference, same_holding, same_holder, same, without, references_to, is_cell_of, holds_by_cells}
 use Rattle.brc_model.specs.References.{held, one_if, cell_reference}
 
 pub one_if_low : (b : Bool) → one_if b ≤ 1
@@ -23,16 +23,16 @@ same_holding-true (ByVariable v) (ByVariable w) e = ap ByVariable (eqb-true v w 
 same_holding-true (ByVariable v) AsCaller e = absurd cc
 same_holding-true AsCaller (ByVariable w) e = absurd cc
 same_holding-true AsCaller AsCaller e = refl
-same_holding-true (ByVariable v) InHand e = absurd cc
-same_holding-true AsCaller InHand e = absurd cc
-same_holding-true InHand (ByVariable w) e = absurd cc
-same_holding-true InHand AsCaller e = absurd cc
-same_holding-true InHand InHand e = refl
+same_holding-true (ByVariable v) InFlight e = absurd cc
+same_holding-true AsCaller InFlight e = absurd cc
+same_holding-true InFlight (ByVariable w) e = absurd cc
+same_holding-true InFlight AsCaller e = absurd cc
+same_holding-true InFlight InFlight e = refl
 
 pub same_holding-refl : (h : Holding) → same_holding h h ≡ true
 same_holding-refl (ByVariable v) = eq-eqb v v refl
 same_holding-refl AsCaller = refl
-same_holding-refl InHand = refl
+same_holding-refl InFlight = refl
 
 pub same_holder-true : (h k : Holder) → same_holder h k ≡ true → h ≡ k
 same_holder-true (ByThread t h) (ByThread u k) e =

@@ -8,7 +8,7 @@ use Rattle.brc_model.specs.Duties.{block_of}
 use Rattle.brc_model.specs.Machine.{Actor, Unborn, Machine, first_row, block_size, next_row, main_actor}
 use Rattle.brc_model.specs.Accounts.{Accounts}
 use Rattle.brc_model.specs.Knowledge.{IsNext}
-use Rattle.brc_model.specs.Invariant.{Rule}
+use Rattle.brc_model.specs.Invariant.{CoreInvariant}
 use Rattle.std.proofs.lemmas.Option.{slice_get_within, slice_get-get_or}
 use Rattle.brc_model.specs.Limits.{row_limit, worker_limit}
 
@@ -57,12 +57,12 @@ block_within rows n (suc (suc y)) some threads low =
 -- ---- used rows
 
 -- a used row is of its thread's block
-pub used_block : (p : Accounts) (n : ℕ) (m : Machine) (t : ℕ) (a : Actor) (x : ℕ) → Rule p n m
+pub used_block : (p : Accounts) (n : ℕ) (m : Machine) (t : ℕ) (a : Actor) (x : ℕ) → CoreInvariant p n m
     → slice_get m.actors t ≡ Some a → first_row m.rows t ≤ x → x < first_row m.rows t + a.used → block_of m.rows x ≡ t
-used_block p n m zero a x rule found low high =
-    main_block m.rows x (omega (arith, high, (rule.uses 0 a found).main refl))
-used_block p n m (suc t) a x rule found low high =
-    let few = (rule.uses (suc t) a found).few (omega arith) in
+used_block p n m zero a x core found low high =
+    main_block m.rows x (omega (arith, high, (core.uses 0 a found).main refl))
+used_block p n m (suc t) a x core found low high =
+    let few = (core.uses (suc t) a found).few (omega arith) in
     let shifted : first_row m.rows (suc t) + (x - first_row m.rows (suc t)) ≡ x = omega (arith, low) in
     ap (block_of m.rows) (sym shifted)
     ∙ block_at m.rows t (x - first_row m.rows (suc t)) (omega (arith, low, high, few))
@@ -74,41 +74,41 @@ pub record IsUsed (m : Machine) (x : ℕ) : Type 0 where
   pub low : first_row m.rows (block_of m.rows x) ≤ x
   pub high : x < first_row m.rows (block_of m.rows x) + by.used
 
-pub born_used : (p : Accounts) (n : ℕ) (m : Machine) (x : ℕ) → Rule p n m → (m.life x ≢ Unborn) → IsUsed m x
-born_used p n m x rule born =
+pub born_used : (p : Accounts) (n : ℕ) (m : Machine) (x : ℕ) → CoreInvariant p n m → (m.life x ≢ Unborn) → IsUsed m x
+born_used p n m x core born =
     elim (cases_lt (block_of m.rows x) n) [
       | inl within ↦
           let t = block_of m.rows x in
           let a = get_or m.actors t main_actor in
-          let found = slice_get-get_or m.actors t main_actor (omega (arith, within, rule.threads)) in
+          let found = slice_get-get_or m.actors t main_actor (omega (arith, within, core.threads)) in
           elim (cases_lt x (first_row m.rows t + a.used)) [
             | inl high ↦ record { by = a; found = found; low = block_low m.rows t x refl; high = high }
-            | inr past ↦ absurd (born ((rule.uses t a found).unborn x refl (omega (arith, past))))
+            | inr past ↦ absurd (born ((core.uses t a found).unborn x refl (omega (arith, past))))
           ]
-      | inr past ↦ absurd (born (rule.no_block x (omega (arith, past))))
+      | inr past ↦ absurd (born (core.no_block x (omega (arith, past))))
     ]
 
 -- how many rows there are, at most
-pub used_low : (p : Accounts) (n : ℕ) (m : Machine) (t : ℕ) (a : Actor) (x : ℕ) → Rule p n m
+pub used_low : (p : Accounts) (n : ℕ) (m : Machine) (t : ℕ) (a : Actor) (x : ℕ) → CoreInvariant p n m
     → slice_get m.actors t ≡ Some a → t < n → x < first_row m.rows t + a.used → x < 2 + (n - 1) * m.rows
-used_low p n m zero a x rule found within high = omega (arith, high, (rule.uses 0 a found).main refl)
-used_low p n m (suc t) a x rule found within high =
-    let few = (rule.uses (suc t) a found).few (omega arith) in
+used_low p n m zero a x core found within high = omega (arith, high, (core.uses 0 a found).main refl)
+used_low p n m (suc t) a x core found within high =
+    let few = (core.uses (suc t) a found).few (omega arith) in
     let more : suc t * m.rows ≤ (n - 1) * m.rows = mul-le-mul_right m.rows (omega (arith, within)) in
     omega (arith, few, high, more)
 
-pub born_within : (p : Accounts) (n : ℕ) (m : Machine) (x : ℕ) → Rule p n m → (m.life x ≢ Unborn)
+pub born_within : (p : Accounts) (n : ℕ) (m : Machine) (x : ℕ) → CoreInvariant p n m → (m.life x ≢ Unborn)
     → x < 2 + (n - 1) * m.rows
-born_within p n m x rule born =
-    let used = born_used p n m x rule born in
+born_within p n m x core born =
+    let used = born_used p n m x core born in
     let within = slice_get_within m.actors (block_of m.rows x) used.by used.found in
-    used_low p n m (block_of m.rows x) used.by x rule used.found (omega (arith, within, rule.threads)) used.high
+    used_low p n m (block_of m.rows x) used.by x core used.found (omega (arith, within, core.threads)) used.high
 
-pub born_low : (p : Accounts) (n : ℕ) (m : Machine) (x : ℕ) → Rule p n m → (m.life x ≢ Unborn) → x < 32770
-born_low p n m x rule born =
-    let low = born_within p n m x rule born in
+pub born_low : (p : Accounts) (n : ℕ) (m : Machine) (x : ℕ) → CoreInvariant p n m → (m.life x ≢ Unborn) → x < 32770
+born_low p n m x core born =
+    let low = born_within p n m x core born in
     let most : (n - 1) * m.rows ≤ worker_limit * row_limit =
-    mul-le-mul {n₂ = worker_limit} {m₂ = row_limit} (omega (arith, rule.few_threads)) rule.few_rows in
+    mul-le-mul {n₂ = worker_limit} {m₂ = row_limit} (omega (arith, core.few_threads)) core.few_rows in
     omega (arith, low, most)
 
 -- ---- the row that is born next
@@ -121,15 +121,15 @@ pub next_block : (m : Machine) (t : ℕ) (a : Actor) (x : ℕ) → IsNext m t a 
 next_block m zero a x next = absurd (omega (arith, next.worker))
 next_block m (suc t) a x next = ap (block_of m.rows) next.row ∙ block_at m.rows t a.used next.room
 
-pub next_unborn : (p : Accounts) (n : ℕ) (m : Machine) (t : ℕ) (a : Actor) (x : ℕ) → Rule p n m
+pub next_unborn : (p : Accounts) (n : ℕ) (m : Machine) (t : ℕ) (a : Actor) (x : ℕ) → CoreInvariant p n m
     → slice_get m.actors t ≡ Some a → IsNext m t a x → m.life x ≡ Unborn
-next_unborn p n m t a x rule found next =
-    (rule.uses t a found).unborn x (next_block m t a x next) (omega (arith, next.row))
+next_unborn p n m t a x core found next =
+    (core.uses t a found).unborn x (next_block m t a x next) (omega (arith, next.row))
 
-pub next_within : (p : Accounts) (n : ℕ) (m : Machine) (t : ℕ) (a : Actor) → Rule p n m → slice_get m.actors t ≡ Some a
+pub next_within : (p : Accounts) (n : ℕ) (m : Machine) (t : ℕ) (a : Actor) → CoreInvariant p n m → slice_get m.actors t ≡ Some a
     → a.used < block_size m.rows t → next_row m.rows t a.used < 2 + (n - 1) * m.rows
-next_within p n m zero a rule found room = absurd (omega (arith, room, (rule.uses 0 a found).main refl))
-next_within p n m (suc t) a rule found room =
-    let within : suc t < n = omega (arith, slice_get_within m.actors (suc t) a found, rule.threads) in
+next_within p n m zero a core found room = absurd (omega (arith, room, (core.uses 0 a found).main refl))
+next_within p n m (suc t) a core found room =
+    let within : suc t < n = omega (arith, slice_get_within m.actors (suc t) a found, core.threads) in
     let more : suc t * m.rows ≤ (n - 1) * m.rows = mul-le-mul_right m.rows (omega (arith, within)) in
     omega (arith, room, more)

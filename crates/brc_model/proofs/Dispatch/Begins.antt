@@ -10,19 +10,19 @@ use Rattle.brc_model.specs.declared.slot.Slot.TheVariants.{Empty}
 use Rattle.brc_model.specs.declared.slot.State.{State}
 use Rattle.brc_model.specs.Slots.{slot_of, is_owned, names, put}
 use Rattle.brc_model.specs.declared.duty.Holding.{Holding}
-use Rattle.brc_model.specs.declared.duty.Holding.TheVariants.{ByVariable, AsCaller, InHand}
-use Rattle.brc_model.specs.Plain.{Reference, same_holding, references_to, none_row, same, Move, moved}
+use Rattle.brc_model.specs.declared.duty.Holding.TheVariants.{ByVariable, AsCaller, InFlight}
+use Rattle.brc_model.specs.AbstractState.{Reference, same_holding, references_to, none_row, same, Move, moved}
 use Rattle.brc_model.specs.Threads.{row_of}
 use Rattle.brc_model.specs.declared.duty.Duty.{Duty}
 use Rattle.brc_model.specs.declared.duty.Duty.TheVariants.{RetainLoad, ReleaseLoad, Settle, Leave, BirthKind}
 use Rattle.brc_model.specs.declared.actor.Place.{Place}
-use Rattle.brc_model.specs.declared.actor.Place.TheVariants.{Standing, Inside, Departing}
+use Rattle.brc_model.specs.declared.actor.Place.TheVariants.{Idle, InCall, Exiting}
 use Rattle.brc_model.specs.Machine.{Action, Skip, Stuck, Silent, Does, with_row, first_row, block_size, next_row, gain, pass_on}
 use Rattle.brc_model.specs.References.{held, one_if, reference_of}
 use Rattle.brc_model.proofs.Basics.Lists.{none_at}
 use Rattle.brc_model.proofs.Dispatch.Holds.{the_root, of_variables, Holds}
 use Rattle.brc_model.proofs.Dispatch.Grounded.{slot_of-put_same, slot_of-put_other, row_of-set_same, row_of-set_other}
-use Rattle.brc_model.proofs.Stepping.OwnCounts.{flip_eqb}
+use Rattle.brc_model.proofs.Stepping.Counts.{flip_eqb}
 use Rattle.brc_model.proofs.Frame.Aside.{HoldsAlone}
 use Rattle.brc_model.proofs.Dispatch.Coded.{once_each, PlaceFits}
 use Rattle.brc_model.specs.Duties.{cells_of}
@@ -55,9 +55,9 @@ pub data Starts (bag : List Reference) (rows t used : ℕ) : Duty → List Duty 
 
 -- the duties behind it settle, and leave where the thread is to leave
 pub data Follows (rows t used : ℕ) (place : Place) : List Duty → Type 0 where
-  Nothing : (place ≢ Departing) → Follows rows t used place []
-  Settles : (place ≢ Departing) → Follows rows t used place (Settle ∷ [])
-  Leaves : (place ≡ Departing) → Follows rows t used place (Settle ∷ Leave (first_row rows t) used ∷ [])
+  Nothing : (place ≢ Exiting) → Follows rows t used place []
+  Settles : (place ≢ Exiting) → Follows rows t used place (Settle ∷ [])
+  Leaves : (place ≡ Exiting) → Follows rows t used place (Settle ∷ Leave (first_row rows t) used ∷ [])
 
 pub record Taken (code : List Instr) (bag : List Reference) (rows t used : ℕ) (place : Place) (d : Duty)
     (rest : List Duty) : Type 0 where
@@ -66,27 +66,27 @@ pub record Taken (code : List Instr) (bag : List Reference) (rows t used : ℕ) 
   pub follows : Follows rows t used place rest
 
 -- a quiet step moves nothing, gains a reference to none, or hands one on from one of the thread's holders to another
-pub data QuietMoves (bag : List Reference) (t : ℕ) : List Move → Type 0 where
-  Stays : QuietMoves bag t []
-  GainsNone : (h : Holding) → QuietMoves bag t (gain t h none_row)
-  HandsOn : (from to : Holding) (x : ℕ) → list_any (same (reference_of t from x)) bag ≡ true
-      → QuietMoves bag t (pass_on t from to x)
+pub data SilentMoves (bag : List Reference) (t : ℕ) : List Move → Type 0 where
+  Stays : SilentMoves bag t []
+  GainsNone : (h : Holding) → SilentMoves bag t (gain t h none_row)
+  PassesOn : (from to : Holding) (x : ℕ) → list_any (same (reference_of t from x)) bag ≡ true
+      → SilentMoves bag t (pass_on t from to x)
 
 -- the bag after the moves
 abbrev pub bag_after : List Reference → List Move → List Reference
 bag_after bag moves =
     (moved (record { references = bag; born = []; closed = []; kinds = λ x. kinds.Any }) moves).references
 
-pub record QuietTaken (code : List Instr) (bag : List Reference) (t : ℕ) (moves : List Move) (place : Place) : Type 0
+pub record SilentTaken (code : List Instr) (bag : List Reference) (t : ℕ) (moves : List Move) (place : Place) : Type 0
   where
-    pub moves_fit : QuietMoves bag t moves
+    pub moves_fit : SilentMoves bag t moves
     pub placed : PlaceFits code (bag_after bag moves) t [] place
-    pub stays : place ≢ Departing
+    pub stays : place ≢ Exiting
 
 abbrev pub IsTaken : List Instr → List Reference → ℕ → ℕ → ℕ → Action → Type 0
 IsTaken code bag rows t used Skip = ⊥
 IsTaken code bag rows t used Stuck = ⊥
-IsTaken code bag rows t used (Silent moves place) = QuietTaken code bag t moves place
+IsTaken code bag rows t used (Silent moves place) = SilentTaken code bag t moves place
 IsTaken code bag rows t used (Does d rest place) = Taken code bag rows t used place d rest
 
 pub taken_with_row : (code : List Instr) (bag : List Reference) (rows t used object : ℕ) (row : Option ℕ)
@@ -96,11 +96,11 @@ pub taken_with_row : (code : List Instr) (bag : List Reference) (rows t used obj
 taken_with_row code bag rows t used object row work is taken =
     subst (λ (o : Option ℕ). IsTaken code bag rows t used (with_row o work)) (sym is) taken
 
-pub standing_stays : (left : ℕ) → Standing left ≢ Departing
-standing_stays left e = cc
+pub idle_stays : (left : ℕ) → Idle left ≢ Exiting
+idle_stays left e = cc
 
-pub inside_stays : (left at : ℕ) (variables : List (Option ℕ)) → Inside left at variables ≢ Departing
-inside_stays left at variables e = cc
+pub in_call_stays : (left at : ℕ) (variables : List (Option ℕ)) → InCall left at variables ≢ Exiting
+in_call_stays left at variables e = cc
 
 -- ---- what is held, with one reference more or less
 
@@ -116,8 +116,8 @@ pub newref_held : (bag : List Reference) (t : ℕ) (s : State) (variables : List
     ≡ one_if (of_variables (put s to slot) (slice_set variables to (Some row)) k object) + 0
 newref_held bag t s variables to row slot in_slots in_rows free owned holds AsCaller object =
     omega (arith, holds.each AsCaller object)
-newref_held bag t s variables to row slot in_slots in_rows free owned holds InHand object =
-    omega (arith, holds.each InHand object)
+newref_held bag t s variables to row slot in_slots in_rows free owned holds InFlight object =
+    omega (arith, holds.each InFlight object)
 newref_held bag t s variables to row slot in_slots in_rows free owned holds (ByVariable v) object =
     elim (eqb_tells to v) [
       | inl this ↦
@@ -161,7 +161,7 @@ pub emptied_held : (bag : List Reference) (t : ℕ) (s : State) (variables : Lis
     + one_if (same_holding (ByVariable from) k && (row == object))
 emptied_held bag t s variables from row in_slots owned is holds AsCaller object =
     omega (arith, holds.each AsCaller object)
-emptied_held bag t s variables from row in_slots owned is holds InHand object = omega (arith, holds.each InHand object)
+emptied_held bag t s variables from row in_slots owned is holds InFlight object = omega (arith, holds.each InFlight object)
 emptied_held bag t s variables from row in_slots owned is holds (ByVariable v) object =
     elim (eqb_tells from v) [
       | inl this ↦
@@ -197,7 +197,7 @@ emptied_held bag t s variables from row in_slots owned is holds (ByVariable v) o
 pub ended_says : (s : State) (variables : List (Option ℕ)) (k : Holding) (object : ℕ)
     → list_any is_owned s.slots ≡ false → of_variables s variables k object ≡ the_root k object
 ended_says s variables AsCaller object none = refl
-ended_says s variables InHand object none = refl
+ended_says s variables InFlight object none = refl
 ended_says s variables (ByVariable v) object none =
     ap (λ (b : Bool). b && names (row_of variables v) object) (none_at is_owned s.slots v Empty none refl)
 
@@ -207,7 +207,7 @@ pub cleared_held : (bag : List Reference) (t : ℕ) (s : State) (variables : Lis
     → (k : Holding) (object : ℕ)
     → held (reference_of t k object) bag ≡ one_if (of_variables (put s to Empty) (slice_set variables to None) k object)
 cleared_held bag t s variables to in_slots free holds AsCaller object = holds.each AsCaller object
-cleared_held bag t s variables to in_slots free holds InHand object = holds.each InHand object
+cleared_held bag t s variables to in_slots free holds InFlight object = holds.each InFlight object
 cleared_held bag t s variables to in_slots free holds (ByVariable v) object =
     elim (eqb_tells to v) [
       | inl this ↦

@@ -5,18 +5,18 @@ use Rattle.std.specs.Prelude.{◌==◌, ◌&&◌, slice_get}
 use Rattle.std.proofs.lemmas.List.{get_or_past}
 use Rattle.brc_model.specs.declared.slot.Slot.TheVariants.{Empty}
 use Rattle.brc_model.specs.Slots.{slot_of, is_owned, names}
-use Rattle.brc_model.specs.Plain.{root_row}
+use Rattle.brc_model.specs.AbstractState.{root_row}
 use Rattle.brc_model.specs.Threads.{row_of}
 use Rattle.brc_lang.specs.declared.module.Instr.{Instr}
 use Rattle.brc_lang.specs.declared.module.Module.{Module}
 use Rattle.brc_model.specs.declared.slot.State.{State}
-use Rattle.brc_model.specs.Walks.{IsAcceptableCode}
+use Rattle.brc_model.specs.Paths.{IsAcceptableCode}
 use Rattle.brc_model.specs.declared.duty.Holding.{Holding}
-use Rattle.brc_model.specs.Plain.{Reference}
+use Rattle.brc_model.specs.AbstractState.{Reference}
 use Rattle.brc_model.specs.Threads.{code_of}
 use Rattle.brc_model.specs.declared.duty.Duty.{Duty}
 use Rattle.brc_model.specs.declared.actor.Place.{Place}
-use Rattle.brc_model.specs.declared.actor.Place.TheVariants.{Standing, Inside, Departing}
+use Rattle.brc_model.specs.declared.actor.Place.TheVariants.{Idle, InCall, Exiting}
 use Rattle.brc_model.specs.Machine.{Actor}
 use Rattle.brc_model.specs.References.{one_if}
 use Rattle.brc_model.specs.Accounts.{Account, HoldsNone, IsBounded}
@@ -31,10 +31,10 @@ once_each holds k object = one_if (holds k object)
 
 -- what the thread's account is where it stands when its agenda is done
 abbrev pub PlaceSays : List Instr → Place → Account → Type 0
-PlaceSays code (Standing left) account = account ≡ once_each the_root
-PlaceSays code (Inside left at variables) account =
+PlaceSays code (Idle left) account = account ≡ once_each the_root
+PlaceSays code (InCall left at variables) account =
     (s : State) × IsInside code at variables s × (account ≡ once_each (of_variables s variables))
-PlaceSays code Departing account = account ≡ once_each nothing
+PlaceSays code Exiting account = account ≡ once_each nothing
 
 pub record InCode (p : Module) (a : Actor) (account : Account) : Type 0 where
   -- code does one piece of work at a time
@@ -47,19 +47,19 @@ pub record InCode (p : Module) (a : Actor) (account : Account) : Type 0 where
 
 -- the bag has just what the place says
 abbrev pub PlaceFits : List Instr → List Reference → ℕ → List Duty → Place → Type 0
-PlaceFits code bag t agenda (Standing left) = HoldsAlone bag t (once_each the_root) agenda
-PlaceFits code bag t agenda (Inside left at variables) =
+PlaceFits code bag t agenda (Idle left) = HoldsAlone bag t (once_each the_root) agenda
+PlaceFits code bag t agenda (InCall left at variables) =
     (s : State) × IsInside code at variables s × HoldsAlone bag t (once_each (of_variables s variables)) agenda
-PlaceFits code bag t agenda Departing = HoldsAlone bag t (once_each nothing) agenda
+PlaceFits code bag t agenda Exiting = HoldsAlone bag t (once_each nothing) agenda
 
 pub place_fits : (code : List Instr) (bag : List Reference) (t : ℕ) (agenda : List Duty) (place : Place)
     (account : Account)
     → PlaceSays code place account → HoldsAlone bag t account agenda → PlaceFits code bag t agenda place
-place_fits code bag t agenda (Standing left) account says holds =
+place_fits code bag t agenda (Idle left) account says holds =
     subst (λ (c : Account). HoldsAlone bag t c agenda) says holds
-place_fits code bag t agenda (Inside left at variables) account says holds =
+place_fits code bag t agenda (InCall left at variables) account says holds =
     (says.0, says.1, subst (λ (c : Account). HoldsAlone bag t c agenda) says.2 holds)
-place_fits code bag t agenda Departing account says holds =
+place_fits code bag t agenda Exiting account says holds =
     subst (λ (c : Account). HoldsAlone bag t c agenda) says holds
 
 -- the account that a place gives
@@ -70,19 +70,19 @@ pub record Placed (code : List Instr) (bag : List Reference) (t : ℕ) (agenda :
 
 pub placed_by : (code : List Instr) (bag : List Reference) (t : ℕ) (agenda : List Duty) (place : Place)
     → PlaceFits code bag t agenda place → Placed code bag t agenda place
-placed_by code bag t agenda (Standing left) fits = record { account = once_each the_root; says = refl; holds = fits }
-placed_by code bag t agenda (Inside left at variables) fits =
+placed_by code bag t agenda (Idle left) fits = record { account = once_each the_root; says = refl; holds = fits }
+placed_by code bag t agenda (InCall left at variables) fits =
     record { account = once_each (of_variables fits.0 variables); says = (fits.0, fits.1, refl); holds = fits.2 }
-placed_by code bag t agenda Departing fits = record { account = once_each nothing; says = refl; holds = fits }
+placed_by code bag t agenda Exiting fits = record { account = once_each nothing; says = refl; holds = fits }
 
 -- who departs holds nothing
-pub departed_none : (code : List Instr) (place : Place) (account : Account) → PlaceSays code place account
-    → place ≡ Departing → HoldsNone account
-departed_none code (Standing left) account says e k object =
-    absurd (let wrong : Standing left ≡ Departing = e in cc)
-departed_none code (Inside left at variables) account says e k object =
-    absurd (let wrong : Inside left at variables ≡ Departing = e in cc)
-departed_none code Departing account says e k object = ap (λ (c : Account). c k object) says
+pub exited_none : (code : List Instr) (place : Place) (account : Account) → PlaceSays code place account
+    → place ≡ Exiting → HoldsNone account
+exited_none code (Idle left) account says e k object =
+    absurd (let wrong : Idle left ≡ Exiting = e in cc)
+exited_none code (InCall left at variables) account says e k object =
+    absurd (let wrong : InCall left at variables ≡ Exiting = e in cc)
+exited_none code Exiting account says e k object = ap (λ (c : Account). c k object) says
 
 -- ---- how much the thread holds
 
@@ -91,7 +91,7 @@ root_bounded = record {
   by_variable = λ v object. omega arith;
   sixteen = λ v object past. refl;
   lent = λ object. omega (arith, one_if_low (object == root_row));
-  in_hand = λ object. refl;
+  in_flight = λ object. refl;
 }
 
 nothing_bounded : IsBounded (once_each nothing)
@@ -99,7 +99,7 @@ nothing_bounded = record {
   by_variable = λ v object. omega arith;
   sixteen = λ v object past. refl;
   lent = λ object. omega arith;
-  in_hand = λ object. refl;
+  in_flight = λ object. refl;
 }
 
 -- only the sixteen variables own
@@ -113,12 +113,12 @@ variables_bounded s variables slots = record {
   sixteen = λ v object past.
       ap (λ (b : Bool). one_if (b && names (row_of variables v) object)) (past_owns_none s v slots past);
   lent = λ object. omega (arith, one_if_low (object == root_row));
-  in_hand = λ object. refl;
+  in_flight = λ object. refl;
 }
 
 pub says_bounded : (code : List Instr) (place : Place) (account : Account) → PlaceSays code place account
     → IsBounded account
-says_bounded code (Standing left) account says = subst IsBounded (sym says) root_bounded
-says_bounded code (Inside left at variables) account says =
+says_bounded code (Idle left) account says = subst IsBounded (sym says) root_bounded
+says_bounded code (InCall left at variables) account says =
     subst IsBounded (sym says.2) (variables_bounded says.0 variables says.1.slots)
-says_bounded code Departing account says = subst IsBounded (sym says) nothing_bounded
+says_bounded code Exiting account says = subst IsBounded (sym says) nothing_bounded

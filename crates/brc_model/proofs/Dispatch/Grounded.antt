@@ -1,4 +1,4 @@
--- Where a thread stands in a call: some walk comes to the point in a state, and what the state says of each variable is
+-- Where a thread stands in a call: some path comes to the point in a state, and what the state says of each variable is
 -- true of the row in it.
 use Rattle.std.proofs.Common.{◌≡◌, ◌≢◌, ℕ, zero, suc, ◌<◌, true, false, List, [], ◌∷◌, ◌++◌, length, Option, None, Some, refl, sym, ap, ◌∙◌, subst, arith, inl, inr, get_or-set_same, get_or-set_other}
 use Rattle.std.specs.Prelude.{slice_get, slice_set}
@@ -12,9 +12,9 @@ use Rattle.brc_model.specs.declared.slot.Slot.TheVariants.{Empty, Owned, Caller,
 use Rattle.brc_model.specs.declared.slot.State.{State}
 use Rattle.brc_model.specs.declared.slot.Exit.{Exit}
 use Rattle.brc_model.specs.Slots.{slot_of, is_empty, is_owned, is_borrowed, put, after, target, entry}
-use Rattle.brc_model.specs.Walks.{At, walk}
+use Rattle.brc_model.specs.Paths.{At, path_end}
 use Rattle.brc_model.specs.declared.duty.Holding.TheVariants.{ByVariable, AsCaller}
-use Rattle.brc_model.specs.Plain.{root_row, Reference, references_to}
+use Rattle.brc_model.specs.AbstractState.{root_row, Reference, references_to}
 use Rattle.brc_model.specs.Threads.{row_of, entry_variables}
 use Rattle.brc_model.proofs.Basics.Lists.{get_or-replicate_default}
 use Rattle.brc_model.proofs.Basics.Bag.{held-le-references_to}
@@ -29,10 +29,10 @@ IsGrounded (Owned k) row = (r : ℕ) × (row ≡ Some r)
 IsGrounded (Caller k) row = row ≡ Some root_row
 IsGrounded (Locked k) row = ⊥
 
--- some walk comes to the point in this state
+-- some path comes to the point in this state
 pub record IsInside (code : List Instr) (at : ℕ) (variables : List (Option ℕ)) (s : State) : Type 0 where
   pub exits : List Exit
-  pub walked : walk code exits ≡ At at s
+  pub walked : path_end code exits ≡ At at s
   pub slots : length s.slots ≡ 16
   pub rows : length variables ≡ 16
   pub grounded : (v : ℕ) → IsGrounded (slot_of s v) (row_of variables v)
@@ -130,9 +130,9 @@ pub record StandsAt (code : List Instr) (bag : List Reference) (t at : ℕ) (row
   pub inside : IsInside code at rows s
   pub holds : Holds bag t (of_variables s rows)
   pub variables : IsInstruction i
-  pub met : AreMet i s
+  pub reported : AreMet i s
   pub leads : (exit : Exit) (next : ℕ) → target i exit at ≡ Some next
-      → walk code (inside.exits ++ exit ∷ []) ≡ At next (after i exit s)
+      → path_end code (inside.exits ++ exit ∷ []) ≡ At next (after i exit s)
 
 entry_grounded : (v : ℕ) → IsGrounded (slot_of entry v) (row_of entry_variables v)
 entry_grounded zero = refl
@@ -140,5 +140,5 @@ entry_grounded (suc v) =
     subst (λ (slot : Slot). IsGrounded slot (row_of entry_variables (suc v)))
     (sym (get_or-replicate_default 15 v Empty)) tt
 
-pub entry_inside : (code : List Instr) → IsInside code 0 entry_variables entry
-entry_inside code = record { exits = []; walked = refl; slots = refl; rows = refl; grounded = entry_grounded }
+pub entry_in_call : (code : List Instr) → IsInside code 0 entry_variables entry
+entry_in_call code = record { exits = []; walked = refl; slots = refl; rows = refl; grounded = entry_grounded }

@@ -8,8 +8,8 @@ use Rattle.brc_model.specs.declared.slot.Slot.TheVariants.{Empty}
 use Rattle.brc_model.specs.declared.slot.State.{State}
 use Rattle.brc_model.specs.Slots.{slot_of, is_owned, names, entry}
 use Rattle.brc_model.specs.declared.duty.Holding.{Holding}
-use Rattle.brc_model.specs.declared.duty.Holding.TheVariants.{ByVariable, AsCaller, InHand}
-use Rattle.brc_model.specs.Plain.{root_row, Reference}
+use Rattle.brc_model.specs.declared.duty.Holding.TheVariants.{ByVariable, AsCaller, InFlight}
+use Rattle.brc_model.specs.AbstractState.{root_row, Reference}
 use Rattle.brc_model.specs.Threads.{row_of, entry_variables}
 use Rattle.brc_model.proofs.Basics.Lists.{none_at, get_or-replicate_default}
 use Rattle.brc_model.specs.References.{held, one_if, reference_of}
@@ -20,13 +20,13 @@ nothing h object = false
 abbrev pub the_root : Holding → ℕ → Bool
 the_root (ByVariable v) object = false
 the_root AsCaller object = object == root_row
-the_root InHand object = false
+the_root InFlight object = false
 
 -- what the variables that the state calls owned name, and the root
 abbrev pub of_variables : State → List (Option ℕ) → Holding → ℕ → Bool
 of_variables s variables (ByVariable v) object = is_owned (slot_of s v) && names (row_of variables v) object
 of_variables s variables AsCaller object = object == root_row
-of_variables s variables InHand object = false
+of_variables s variables InFlight object = false
 
 -- the thread holds just these references, each once
 pub record Holds (bag : List Reference) (t : ℕ) (holds : Holding → ℕ → Bool) : Type 0 where
@@ -54,7 +54,7 @@ entry_owns_none (suc v) = ap is_owned (get_or-replicate_default 15 v Empty)
 entered_each : (bag : List Reference) (t : ℕ) → Holds bag t the_root → (h : Holding) (object : ℕ)
     → held (reference_of t h object) bag ≡ one_if (of_variables entry entry_variables h object)
 entered_each bag t holds AsCaller object = holds.each AsCaller object
-entered_each bag t holds InHand object = holds.each InHand object
+entered_each bag t holds InFlight object = holds.each InFlight object
 entered_each bag t holds (ByVariable v) object =
     holds.each (ByVariable v) object
     ∙ sym (ap (λ (b : Bool). one_if (b && names (row_of entry_variables v) object)) (entry_owns_none v))
@@ -68,7 +68,7 @@ ended_each : (bag : List Reference) (t : ℕ) (s : State) (rows : List (Option �
     → ((v : ℕ) → is_owned (slot_of s v) ≡ false) → Holds bag t (of_variables s rows)
     → (h : Holding) (object : ℕ) → held (reference_of t h object) bag ≡ one_if (the_root h object)
 ended_each bag t s rows none holds AsCaller object = holds.each AsCaller object
-ended_each bag t s rows none holds InHand object = holds.each InHand object
+ended_each bag t s rows none holds InFlight object = holds.each InFlight object
 ended_each bag t s rows none holds (ByVariable v) object =
     holds.each (ByVariable v) object ∙ ap (λ (b : Bool). one_if (b && names (row_of rows v) object)) (none v)
 

@@ -1,4 +1,4 @@
--- In accepted code each point that a walk reaches has an instruction whose conditions are met, and the walk goes on.
+-- In accepted code each point that a path reaches has an instruction whose conditions are met, and the path goes on.
 use Rattle.std.proofs.Common.{◌≡◌, ℕ, Bool, true, false, cond, List, [], ◌∷◌, ◌++◌, length, drop, Option, None, Some, refl, sym, ap, ◌∙◌}
 use Rattle.std.specs.Prelude.{find, nat_lt, slice_get}
 use Rattle.std.proofs.lemmas.List.Sums.{fold-append}
@@ -8,16 +8,16 @@ use Rattle.brc_model.specs.declared.code.CheckCode.TheVariants.{EmptyUsed, Wrong
 use Rattle.brc_model.specs.declared.slot.State.{State}
 use Rattle.brc_model.specs.declared.slot.Exit.{Exit}
 use Rattle.brc_model.specs.declared.slot.Exit.TheVariants.{Success}
-use Rattle.brc_model.specs.Slots.{stands, rising, lowest, after, target, entry}
-use Rattle.brc_model.specs.Walks.{Place, At, Meets, arrives, unless_met, passes, follow, walk, IsAcceptableCode}
+use Rattle.brc_model.specs.Slots.{applies, rising, lowest, after, target, entry}
+use Rattle.brc_model.specs.Paths.{PathEnd, At, Reports, arrives, unless_reported, passes, follow, path_end, IsAcceptableCode}
 
 -- no condition of the instruction is broken
 pub record AreMet (i : Instr) (s : State) : Type 0 where
-  pub not_empty : stands i s EmptyUsed ≡ false
-  pub owned : stands i s NotOwned ≡ false
-  pub free : stands i s StillOwns ≡ false
-  pub none_left : stands i s LeftOwned ≡ false
-  pub unlocked : stands i s LockedChanged ≡ false
+  pub not_empty : applies i s EmptyUsed ≡ false
+  pub owned : applies i s NotOwned ≡ false
+  pub free : applies i s StillOwns ≡ false
+  pub none_left : applies i s LeftOwned ≡ false
+  pub unlocked : applies i s LockedChanged ≡ false
 
 find_none : {A : Type 0} (test : A → Bool) (x : A) (xs : List A) → find test (x ∷ xs) ≡ None
     → (test x ≡ false) × (find test xs ≡ None)
@@ -30,74 +30,74 @@ find_none test x xs e =
 
 pub are_met : (i : Instr) (s : State) → lowest i s ≡ None → AreMet i s
 are_met i s none =
-    let a = find_none (stands i s) EmptyUsed (drop 1 rising) none in
-    let b = find_none (stands i s) WrongKind (drop 2 rising) a.1 in
-    let c = find_none (stands i s) NotOwned (drop 3 rising) b.1 in
-    let d = find_none (stands i s) StillOwns (drop 4 rising) c.1 in
-    let e = find_none (stands i s) LeftOwned (drop 5 rising) d.1 in
-    let f = find_none (stands i s) LeftLocked (drop 6 rising) e.1 in
-    let g = find_none (stands i s) SecondLock (drop 7 rising) f.1 in
-    let h = find_none (stands i s) NotLocked (drop 8 rising) g.1 in
-    let k = find_none (stands i s) LockedChanged (drop 9 rising) h.1 in
+    let a = find_none (applies i s) EmptyUsed (drop 1 rising) none in
+    let b = find_none (applies i s) WrongKind (drop 2 rising) a.1 in
+    let c = find_none (applies i s) NotOwned (drop 3 rising) b.1 in
+    let d = find_none (applies i s) StillOwns (drop 4 rising) c.1 in
+    let e = find_none (applies i s) LeftOwned (drop 5 rising) d.1 in
+    let f = find_none (applies i s) LeftLocked (drop 6 rising) e.1 in
+    let g = find_none (applies i s) SecondLock (drop 7 rising) f.1 in
+    let h = find_none (applies i s) NotLocked (drop 8 rising) g.1 in
+    let k = find_none (applies i s) LockedChanged (drop 9 rising) h.1 in
     record { not_empty = a.0; owned = c.0; free = d.0; none_left = e.0; unlocked = k.0 }
 
 pub record PassesOn (code : List Instr) (exits : List Exit) (at : ℕ) (s : State) : Type 0 where
   pub here : Instr
   pub found : slice_get code at ≡ Some here
-  pub met : AreMet here s
+  pub reported : AreMet here s
   pub leads : (exit : Exit) (next : ℕ) → target here exit at ≡ Some next
-      → walk code (exits ++ exit ∷ []) ≡ At next (after here exit s)
+      → path_end code (exits ++ exit ∷ []) ≡ At next (after here exit s)
 
-walk-append : (code : List Instr) (exits : List Exit) (e : Exit)
-    → walk code (exits ++ e ∷ []) ≡ follow code (walk code exits) e
-walk-append code exits e = fold-append (follow code) (At 0 entry) exits (e ∷ [])
+path_end-append : (code : List Instr) (exits : List Exit) (e : Exit)
+    → path_end code (exits ++ e ∷ []) ≡ follow code (path_end code exits) e
+path_end-append code exits e = fold-append (follow code) (At 0 entry) exits (e ∷ [])
 
 arrives_at : (code : List Instr) (at next : ℕ) (s : State)
-    → ((met : CheckCode) → arrives code at (Some next) s ≡ Meets at met → ⊥) → arrives code at (Some next) s ≡ At next s
+    → ((reported : CheckCode) → arrives code at (Some next) s ≡ Reports at reported → ⊥) → arrives code at (Some next) s ≡ At next s
 arrives_at code at next s never =
     elim (nat_lt next (length code)) as
-    (λ b. nat_lt next (length code) ≡ b → cond b (At next s) (Meets at RunsOff) ≡ At next s) [
+    (λ b. nat_lt next (length code) ≡ b → cond b (At next s) (Reports at RunsOff) ≡ At next s) [
       | true ↦ λ e. refl
-      | false ↦ λ e. absurd (never RunsOff (ap (λ (b : Bool). cond b (At next s) (Meets at RunsOff)) e))
+      | false ↦ λ e. absurd (never RunsOff (ap (λ (b : Bool). cond b (At next s) (Reports at RunsOff)) e))
     ] refl
 
 -- by either exit
 leads_by : (code : List Instr) (exits : List Exit) (at : ℕ) (s : State) (i : Instr) (exit : Exit)
-    → IsAcceptableCode code → walk code exits ≡ At at s → slice_get code at ≡ Some i → lowest i s ≡ None
-    → (next : ℕ) → target i exit at ≡ Some next → walk code (exits ++ exit ∷ []) ≡ At next (after i exit s)
+    → IsAcceptableCode code → path_end code exits ≡ At at s → slice_get code at ≡ Some i → lowest i s ≡ None
+    → (next : ℕ) → target i exit at ≡ Some next → path_end code (exits ++ exit ∷ []) ≡ At next (after i exit s)
 leads_by code exits at s i exit accepted walked found none next t =
-    let one_more : walk code (exits ++ exit ∷ []) ≡ passes code at (slice_get code at) exit s =
-    walk-append code exits exit ∙ ap (λ (p : Place). follow code p exit) walked in
+    let one_more : path_end code (exits ++ exit ∷ []) ≡ passes code at (slice_get code at) exit s =
+    path_end-append code exits exit ∙ ap (λ (p : PathEnd). follow code p exit) walked in
     let on : passes code at (slice_get code at) exit s ≡ arrives code at (target i exit at) (after i exit s) =
     ap (λ (o : Option Instr). passes code at o exit s) found
-    ∙ ap (λ (o : Option CheckCode). unless_met at o (arrives code at (target i exit at) (after i exit s))) none in
+    ∙ ap (λ (o : Option CheckCode). unless_reported at o (arrives code at (target i exit at) (after i exit s))) none in
     let to = one_more ∙ on ∙ ap (λ (o : Option ℕ). arrives code at o (after i exit s)) t in
     to ∙ arrives_at code at next (after i exit s)
-    (λ met m. accepted.meets_none at met (record { exits = exits ++ exit ∷ []; meets = to ∙ m }))
+    (λ reported m. accepted.reports_none at reported (record { exits = exits ++ exit ∷ []; reports = to ∙ m }))
 
 pub passes_on : (code : List Instr) (exits : List Exit) (at : ℕ) (s : State) → IsAcceptableCode code
-    → walk code exits ≡ At at s → PassesOn code exits at s
+    → path_end code exits ≡ At at s → PassesOn code exits at s
 passes_on code exits at s accepted walked =
-    let one_more : walk code (exits ++ Success ∷ []) ≡ passes code at (slice_get code at) Success s =
-    walk-append code exits Success ∙ ap (λ (p : Place). follow code p Success) walked in
-    let never : (met : CheckCode) → passes code at (slice_get code at) Success s ≡ Meets at met
-    → ⊥ = λ met e. accepted.meets_none at met (record { exits = exits ++ Success ∷ []; meets = one_more ∙ e }) in
+    let one_more : path_end code (exits ++ Success ∷ []) ≡ passes code at (slice_get code at) Success s =
+    path_end-append code exits Success ∙ ap (λ (p : PathEnd). follow code p Success) walked in
+    let never : (reported : CheckCode) → passes code at (slice_get code at) Success s ≡ Reports at reported
+    → ⊥ = λ reported e. accepted.reports_none at reported (record { exits = exits ++ Success ∷ []; reports = one_more ∙ e }) in
     elim (slice_get code at) as (λ o. slice_get code at ≡ o → PassesOn code exits at s) [
       | None ↦ λ e. absurd (never RunsOff (ap (λ (o : Option Instr). passes code at o Success s) e))
       | Some i ↦ λ e.
           let there : passes code at (slice_get code at) Success s
-          ≡ unless_met at (lowest i s) (arrives code at (target i Success at) (after i Success s)) =
+          ≡ unless_reported at (lowest i s) (arrives code at (target i Success at) (after i Success s)) =
           ap (λ (o : Option Instr). passes code at o Success s) e in
           elim (lowest i s) as (λ o. lowest i s ≡ o → PassesOn code exits at s) [
-            | Some met ↦
-                λ l. absurd (never met (there ∙ ap
-                (λ (o : Option CheckCode). unless_met at o
+            | Some reported ↦
+                λ l. absurd (never reported (there ∙ ap
+                (λ (o : Option CheckCode). unless_reported at o
                 (arrives code at (target i Success at) (after i Success s))) l))
             | None ↦
                 λ l. record {
                   here = i;
                   found = e;
-                  met = are_met i s l;
+                  reported = are_met i s l;
                   leads = λ exit. leads_by code exits at s i exit accepted walked e l;
                 }
           ] refl

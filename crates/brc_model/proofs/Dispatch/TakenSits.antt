@@ -11,15 +11,15 @@ use Rattle.brc_model.specs.Duties.{block_of}
 use Rattle.brc_model.specs.declared.actor.Status.{Status}
 use Rattle.brc_model.specs.declared.actor.Status.TheVariants.{Running, Leaving, Gone}
 use Rattle.brc_model.specs.declared.actor.Place.{Place}
-use Rattle.brc_model.specs.declared.actor.Place.TheVariants.{Standing, Departing}
+use Rattle.brc_model.specs.declared.actor.Place.TheVariants.{Idle, Exiting}
 use Rattle.brc_model.specs.Machine.{Actor, Machine, first_row, dispatch, agenda_action, with_actor, block_size, next_row}
-use Rattle.brc_model.specs.RowRule.{waits, carries, merges, decides}
+use Rattle.brc_model.specs.RowInvariant.{waits, carries, merges, decides}
 use Rattle.brc_model.specs.Accounts.{Account, Accounts, HoldsAt, HoldsNone, IsBounded}
 use Rattle.brc_model.specs.OpenWork.{Later, Agenda, AgendaFits}
-use Rattle.brc_model.specs.Invariant.{looks, Rule}
+use Rattle.brc_model.specs.Invariant.{looks, CoreInvariant}
 use Rattle.brc_model.specs.Knowledge.{IsNext}
 use Rattle.brc_model.proofs.Frame.Aside.{HoldsAlone, holds_alone, alone_holds, alone_fits}
-use Rattle.brc_model.proofs.Dispatch.Coded.{PlaceSays, InCode, place_fits, placed_by, departed_none, says_bounded}
+use Rattle.brc_model.proofs.Dispatch.Coded.{PlaceSays, InCode, place_fits, placed_by, exited_none, says_bounded}
 use Rattle.brc_model.proofs.Dispatch.Begins.{Starts, Gives, Takes, Follows, Nothing, Settles, Leaves, Taken, IsTaken, Bears}
 use Rattle.brc_model.proofs.Dispatch.Taking.{dispatch_taken}
 use Rattle.brc_model.proofs.Keeping.Sits.{Sits, AtRest, sitting}
@@ -29,7 +29,7 @@ next_is : (p : Accounts) (n : ℕ) (m : Machine) (t : ℕ) (a : Actor) (place : 
     → AtRest p n m t a
     → a.used < block_size m.rows t
     → IsNext (with_actor m t (sitting a place agenda)) t (sitting a place agenda) (next_row m.rows t a.used)
-next_is p n m zero a place agenda at room = absurd (omega (arith, room, (at.rule.uses 0 a at.found).main refl))
+next_is p n m zero a place agenda at room = absurd (omega (arith, room, (at.core.uses 0 a at.found).main refl))
 next_is p n m (suc t) a place agenda at room =
     record { running = at.running; worker = omega arith; row = refl; room = room }
 
@@ -50,18 +50,18 @@ follows_weigh rows t used place rest f settle leave (Leaves leaves) =
 
 pub starts_sit : (p : Accounts) (n : ℕ) (m : Machine) (t : ℕ) (a : Actor) (place : Place) (d : Duty) (rest : List Duty)
     (account : Account)
-    → AtRest p n m t a → a.aside ≡ [] → HoldsAlone m.plain.references t account (d ∷ rest) → IsBounded account
-    → (place ≡ Departing → HoldsNone account)
-    → Starts m.plain.references m.rows t a.used d rest → Follows m.rows t a.used place rest
+    → AtRest p n m t a → a.aside ≡ [] → HoldsAlone m.abstract.references t account (d ∷ rest) → IsBounded account
+    → (place ≡ Exiting → HoldsNone account)
+    → Starts m.abstract.references m.rows t a.used d rest → Follows m.rows t a.used place rest
     → Sits m t a place (d ∷ rest) account
-starts_sit p n m t a place d rest account at alone holds bounded departed (Gives row h behind some) follows =
+starts_sit p n m t a place d rest account at alone holds bounded exited (Gives row h behind some) follows =
     let weigh =
     λ (f : Duty → ℕ) (settle : f Settle ≡ 0) (leave : (x k : ℕ) → f (Leave x k) ≡ 0). follows_weigh m.rows t a.used
     place rest f settle leave follows in
     record {
-      holds = holds_alone m.plain.references t account (d ∷ rest) a.aside alone holds;
+      holds = holds_alone m.abstract.references t account (d ∷ rest) a.aside alone holds;
       bounded = bounded;
-      departed = λ e. (departed e, alone);
+      exited = λ e. (exited e, alone);
       aside = alone_fits (with_actor m t (sitting a place (d ∷ rest))) t (sitting a place (d ∷ rest)) alone;
       knows = tt;
       fits = later_follows m.rows t a.used place rest follows;
@@ -75,14 +75,14 @@ starts_sit p n m t a place d rest account at alone holds bounded departed (Gives
           λ x. omega (arith, sum_by-cons (decides x) (ReleaseLoad row h) rest, weigh (decides x) refl (λ y k. refl));
       no_looks = λ x. omega (arith, sum_by-cons (looks x) (ReleaseLoad row h) rest, weigh (looks x) refl (λ y k. refl));
     }
-starts_sit p n m t a place d rest account at alone holds bounded departed (Takes row h by behind some) follows =
+starts_sit p n m t a place d rest account at alone holds bounded exited (Takes row h by behind some) follows =
     let weigh =
     λ (f : Duty → ℕ) (settle : f Settle ≡ 0) (leave : (x k : ℕ) → f (Leave x k) ≡ 0). follows_weigh m.rows t a.used
     place rest f settle leave follows in
     record {
-      holds = holds_alone m.plain.references t account (d ∷ rest) a.aside alone holds;
+      holds = holds_alone m.abstract.references t account (d ∷ rest) a.aside alone holds;
       bounded = bounded;
-      departed = λ e. (departed e, alone);
+      exited = λ e. (exited e, alone);
       aside = alone_fits (with_actor m t (sitting a place (d ∷ rest))) t (sitting a place (d ∷ rest)) alone;
       knows = record { by = by; held_so = some };
       fits = later_follows m.rows t a.used place rest follows;
@@ -96,12 +96,12 @@ starts_sit p n m t a place d rest account at alone holds bounded departed (Takes
           λ x. omega (arith, sum_by-cons (decides x) (RetainLoad row h) rest, weigh (decides x) refl (λ y k. refl));
       no_looks = λ x. omega (arith, sum_by-cons (looks x) (RetainLoad row h) rest, weigh (looks x) refl (λ y k. refl));
     }
-starts_sit p n m t a place d rest account at alone holds bounded departed (Bears h w room few said) follows =
+starts_sit p n m t a place d rest account at alone holds bounded exited (Bears h w room few said) follows =
     let row = next_row m.rows t a.used in
     record {
-      holds = holds_alone m.plain.references t account (d ∷ rest) a.aside alone holds;
+      holds = holds_alone m.abstract.references t account (d ∷ rest) a.aside alone holds;
       bounded = bounded;
-      departed = λ e. (departed e, alone);
+      exited = λ e. (exited e, alone);
       aside = alone_fits (with_actor m t (sitting a place (d ∷ rest))) t (sitting a place (d ∷ rest)) alone;
       knows = (next_is p n m t a place (BirthKind row h w ∷ []) at room, refl, said);
       fits = later_follows m.rows t a.used place [] follows;
@@ -122,35 +122,35 @@ pub record TakenSits (p : Module) (m : Machine) (t : ℕ) (a : Actor) (place : P
 pub taken_sits : (p : Module) (c : Accounts) (n : ℕ) (m : Machine) (t : ℕ) (a : Actor) (place : Place) (d : Duty)
     (rest : List Duty)
     → AtRest c n m t a → a.aside ≡ []
-    → Taken (code_of (slice_get p.functions a.function)) m.plain.references m.rows t a.used place d rest
+    → Taken (code_of (slice_get p.functions a.function)) m.abstract.references m.rows t a.used place d rest
     → TakenSits p m t a place (d ∷ rest)
 taken_sits p c n m t a place d rest at alone taken =
     let code = code_of (slice_get p.functions a.function) in
-    let placed = placed_by code m.plain.references t (d ∷ rest) place taken.placed in
+    let placed = placed_by code m.abstract.references t (d ∷ rest) place taken.placed in
     record {
       account = placed.account;
       says = placed.says;
       sits =
           starts_sit c n m t a place d rest placed.account at alone placed.holds
           (says_bounded code place placed.account placed.says)
-          (departed_none code place placed.account placed.says) taken.starts taken.follows;
+          (exited_none code place placed.account placed.says) taken.starts taken.follows;
     }
 
 -- the claim of a row of the thread's own block
 pub claim_sits : (p : Accounts) (n : ℕ) (m : Machine) (t : ℕ) (a : Actor) (left row : ℕ) → AtRest p n m t a
-    → a.aside ≡ [] → block_of m.rows row ≡ t → Sits m t a (Standing left) (ClaimMark row ∷ []) (p t)
+    → a.aside ≡ [] → block_of m.rows row ≡ t → Sits m t a (Idle left) (ClaimMark row ∷ []) (p t)
 claim_sits p n m t a left row at alone mine =
-    let old = (at.rule.each t a at.found).0 in
-    let holds : HoldsAt m.plain.references t (p t) [] a.aside =
-    subst (λ (l : List Duty). HoldsAt m.plain.references t (p t) l a.aside) at.agenda old.holds in
-    let now = sitting a (Standing left) (ClaimMark row ∷ []) in
+    let old = (at.core.each t a at.found).0 in
+    let holds : HoldsAt m.abstract.references t (p t) [] a.aside =
+    subst (λ (l : List Duty). HoldsAt m.abstract.references t (p t) l a.aside) at.agenda old.holds in
+    let now = sitting a (Idle left) (ClaimMark row ∷ []) in
     record {
       holds = record { each = holds.each };
       aside = alone_fits (with_actor m t now) t now alone;
       bounded = old.bounded;
-      departed = λ e. absurd (let wrong : Standing left ≡ Departing = e in cc);
+      exited = λ e. absurd (let wrong : Idle left ≡ Exiting = e in cc);
       knows = mine;
-      fits = ((let e : Standing left ≢ Departing = λ q. cc in e), refl);
+      fits = ((let e : Idle left ≢ Exiting = λ q. cc in e), refl);
       hands = λ x. refl;
       no_waits = λ x. sum_by-cons (waits x) (ClaimMark row) [];
       no_carries = λ x. sum_by-cons (carries x) (ClaimMark row) [];
@@ -162,7 +162,7 @@ claim_sits p n m t a left row at alone mine =
 -- ---- what a thread at rest takes up
 
 agenda_rests : (rows t used : ℕ) (a : Actor) (status : Status) → (status ≡ Gone → ⊥) → a.agenda ≡ []
-    → AgendaFits rows t a status → (a.place ≢ Departing) × (status ≡ Running)
+    → AgendaFits rows t a status → (a.place ≢ Exiting) × (status ≡ Running)
 agenda_rests rows t used a Gone alive none fits = absurd (alive refl)
 agenda_rests rows t used a Running alive none fits =
     subst (λ (l : List Duty). Agenda rows t a.used Running a.place l) none fits
@@ -170,22 +170,22 @@ agenda_rests rows t used a Leaving alive none fits =
     subst (λ (l : List Duty). Agenda rows t a.used Leaving a.place l) none fits
 
 -- a thread without an agenda that isn't gone runs, and its exit isn't taken up
-pub rests : (p : Accounts) (n : ℕ) (m : Machine) (t : ℕ) (a : Actor) → Rule p n m → slice_get m.actors t ≡ Some a
-    → (a.status ≡ Gone → ⊥) → a.agenda ≡ [] → (a.place ≢ Departing) × (a.status ≡ Running)
-rests p n m t a rule found alive none = agenda_rests m.rows t a.used a a.status alive none (rule.each t a found).1
+pub rests : (p : Accounts) (n : ℕ) (m : Machine) (t : ℕ) (a : Actor) → CoreInvariant p n m → slice_get m.actors t ≡ Some a
+    → (a.status ≡ Gone → ⊥) → a.agenda ≡ [] → (a.place ≢ Exiting) × (a.status ≡ Running)
+rests p n m t a core found alive none = agenda_rests m.rows t a.used a a.status alive none (core.each t a found).1
 
 pub dispatch_fits : (p : Module) (c : Accounts) (n : ℕ) (m : Machine) (t : ℕ) (a : Actor) → AtRest c n m t a
-    → m.functions ≡ p.functions → InCode p a (c t) → (a.place ≢ Departing)
-    → IsTaken (code_of (slice_get p.functions a.function)) m.plain.references m.rows t a.used
+    → m.functions ≡ p.functions → InCode p a (c t) → (a.place ≢ Exiting)
+    → IsTaken (code_of (slice_get p.functions a.function)) m.abstract.references m.rows t a.used
     (agenda_action m.functions m.rows t a [])
 dispatch_fits p c n m t a at functions coded stays =
     let code = code_of (slice_get p.functions a.function) in
-    let holds : HoldsAlone m.plain.references t (c t) [] =
-    alone_holds m.plain.references t (c t) [] a.aside coded.alone
-    (subst (λ (l : List Duty). HoldsAt m.plain.references t (c t) l a.aside) at.agenda
-    (at.rule.each t a at.found).0.holds) in
-    let here : IsTaken code m.plain.references m.rows t a.used (dispatch m.rows t a.used code a.place) =
-    dispatch_taken code m.plain.references m.rows t a.used a.place coded.accepted coded.instructions stays
-    (place_fits code m.plain.references t [] a.place (c t) coded.says holds) in
-    subst (λ (fs : List Function). IsTaken code m.plain.references m.rows t a.used
+    let holds : HoldsAlone m.abstract.references t (c t) [] =
+    alone_holds m.abstract.references t (c t) [] a.aside coded.alone
+    (subst (λ (l : List Duty). HoldsAt m.abstract.references t (c t) l a.aside) at.agenda
+    (at.core.each t a at.found).0.holds) in
+    let here : IsTaken code m.abstract.references m.rows t a.used (dispatch m.rows t a.used code a.place) =
+    dispatch_taken code m.abstract.references m.rows t a.used a.place coded.accepted coded.instructions stays
+    (place_fits code m.abstract.references t [] a.place (c t) coded.says holds) in
+    subst (λ (fs : List Function). IsTaken code m.abstract.references m.rows t a.used
     (dispatch m.rows t a.used (code_of (slice_get fs a.function)) a.place)) (sym functions) here

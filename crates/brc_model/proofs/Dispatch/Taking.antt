@@ -11,30 +11,30 @@ use Rattle.brc_model.specs.declared.slot.Slot.TheVariants.{Empty, Owned, Caller,
 use Rattle.brc_model.specs.declared.slot.State.{State}
 use Rattle.brc_model.specs.declared.slot.Exit.TheVariants.{Success, Fault}
 use Rattle.brc_model.specs.Slots.{slot_of, is_empty, is_owned, kind_of, put, entry}
-use Rattle.brc_model.specs.Walks.{IsAcceptableCode}
+use Rattle.brc_model.specs.Paths.{IsAcceptableCode}
 use Rattle.brc_model.specs.declared.duty.Holding.{Holding}
-use Rattle.brc_model.specs.declared.duty.Holding.TheVariants.{ByVariable, AsCaller, InHand}
-use Rattle.brc_model.specs.Plain.{root_row, Reference, same_holding, references_to}
+use Rattle.brc_model.specs.declared.duty.Holding.TheVariants.{ByVariable, AsCaller, InFlight}
+use Rattle.brc_model.specs.AbstractState.{root_row, Reference, same_holding, references_to}
 use Rattle.brc_model.specs.Threads.{row_of, entry_variables}
 use Rattle.brc_model.specs.declared.duty.Duty.TheVariants.{RetainLoad, ReleaseLoad, Settle, BirthKind, Leave}
 use Rattle.brc_model.specs.Kinds.{kind_numbered, kind_of_word, is_counted_kind}
 use Rattle.brc_model.specs.declared.actor.Place.{Place}
-use Rattle.brc_model.specs.declared.actor.Place.TheVariants.{Standing, Inside, Departing}
+use Rattle.brc_model.specs.declared.actor.Place.TheVariants.{Idle, InCall, Exiting}
 use Rattle.brc_model.specs.Machine.{Action, Does, dispatch_instruction, dispatch, first_row, has_room, next_row, block_size, number_word}
 use Rattle.brc_model.proofs.Basics.Bag.{held-le-references_to}
 use Rattle.brc_model.specs.References.{held, one_if, reference_of}
 use Rattle.brc_model.proofs.Basics.Lists.{first_false}
 use Rattle.brc_model.proofs.Dispatch.Holds.{the_root, of_variables, Holds, owned_has, caller_has, holds-ended, holds-entered}
-use Rattle.brc_model.proofs.Dispatch.Grounded.{IsGrounded, IsInside, AreInstructions, live_slot, owned_slot, owned_row, grounded-put, StandsAt, entry_inside}
+use Rattle.brc_model.proofs.Dispatch.Grounded.{IsGrounded, IsInside, AreInstructions, live_slot, owned_slot, owned_row, grounded-put, StandsAt, entry_in_call}
 use Rattle.brc_model.proofs.Dispatch.Passing.{passes_on}
-use Rattle.brc_model.proofs.Stepping.OwnCounts.{flip_eqb}
+use Rattle.brc_model.proofs.Stepping.Counts.{flip_eqb}
 use Rattle.brc_model.proofs.Frame.Aside.{HoldsAlone}
 use Rattle.brc_model.proofs.Dispatch.Coded.{once_each, PlaceFits}
-use Rattle.brc_model.proofs.Dispatch.Begins.{holds_plain, holds_at_none, Gives, Takes, Nothing, Settles, Leaves, Taken, IsTaken, taken_with_row, standing_stays, inside_stays, newref_held, emptied_held, ended_says, Bears, Stays, QuietTaken, cleared_held}
+use Rattle.brc_model.proofs.Dispatch.Begins.{holds_plain, holds_at_none, Gives, Takes, Nothing, Settles, Leaves, Taken, IsTaken, taken_with_row, idle_stays, in_call_stays, newref_held, emptied_held, ended_says, Bears, Stays, SilentTaken, cleared_held}
 use Rattle.brc_model.specs.Duties.{cells_of}
 use Rattle.brc_word.specs.Words.{half, kind_part, argument_part}
 use Rattle.std.proofs.lemmas.Bool.{ltb-true, ne_eqb}
-use Rattle.brc_model.proofs.Dispatch.TakingQuiet.{none_taken, move_taken, goto_taken}
+use Rattle.brc_model.proofs.Dispatch.TakingSilent.{none_taken, move_taken, goto_taken}
 use Rattle.brc_model.specs.Limits.{cell_limit}
 
 -- by which of its references a thread holds what a variable names
@@ -72,8 +72,8 @@ newref_taken : (code : List Instr) (bag : List Reference) (rows t used left at :
     → StandsAt code bag t at variables s (Newref to from)
     → IsTaken code bag rows t used (dispatch_instruction rows t used left at variables (Some (Newref to from)))
 newref_taken code bag rows t used left at variables s to from here =
-    let some : is_empty (slot_of s from) ≡ false = first_false _ _ here.met.not_empty in
-    let free : is_owned (slot_of s to) ≡ false = first_false _ _ here.met.free in
+    let some : is_empty (slot_of s from) ≡ false = first_false _ _ here.reported.not_empty in
+    let free : is_owned (slot_of s to) ≡ false = first_false _ _ here.reported.free in
     let live = live_slot bag t s variables from (slot_of s from) refl some (here.inside.grounded from) here.holds in
     let backed =
     backed_slot bag t s variables from live.object (slot_of s from) refl live.is_row some
@@ -93,14 +93,14 @@ newref_taken code bag rows t used left at variables s to from here =
     (Some live.object))))
     (RetainLoad live.object (ByVariable to) ∷ []) =
     record { each = newref_held bag t s variables to live.object slot in_slots in_rows free refl here.holds } in
-    let taken : Taken code bag rows t used (Inside left (at + 1) (slice_set variables to (Some live.object)))
+    let taken : Taken code bag rows t used (InCall left (at + 1) (slice_set variables to (Some live.object)))
     (RetainLoad live.object (ByVariable to)) [] = record {
       placed = (put s to slot, next, held_now);
       starts = Takes live.object (ByVariable to) backed.0 [] backed.1;
-      follows = Nothing (inside_stays left (at + 1) (slice_set variables to (Some live.object)));
+      follows = Nothing (in_call_stays left (at + 1) (slice_set variables to (Some live.object)));
     } in
     taken_with_row code bag rows t used live.object (row_of variables from)
-    (λ row. Does (RetainLoad row (ByVariable to)) [] (Inside left (at + 1) (slice_set variables to (Some row))))
+    (λ row. Does (RetainLoad row (ByVariable to)) [] (InCall left (at + 1) (slice_set variables to (Some row))))
     live.is_row taken
 
 given_referenced : (bag : List Reference) (t : ℕ) (s : State) (variables : List (Option ℕ)) (from row : ℕ)
@@ -116,7 +116,7 @@ drop_taken : (code : List Instr) (bag : List Reference) (rows t used left at : �
     → StandsAt code bag t at variables s (Drop from)
     → IsTaken code bag rows t used (dispatch_instruction rows t used left at variables (Some (Drop from)))
 drop_taken code bag rows t used left at variables s from here =
-    let owned = owned_slot (slot_of s from) (first_false _ _ here.met.not_empty) (first_false _ _ here.met.owned) in
+    let owned = owned_slot (slot_of s from) (first_false _ _ here.reported.not_empty) (first_false _ _ here.reported.owned) in
     let row = owned_row (slot_of s from) (row_of variables from) owned (here.inside.grounded from) in
     let in_slots : from < length s.slots = omega (arith, here.variables, here.inside.slots) in
     let in_rows : from < length variables = omega (arith, here.variables, here.inside.rows) in
@@ -130,27 +130,27 @@ drop_taken code bag rows t used left at variables s from here =
     let held_now : HoldsAlone bag t (once_each (of_variables (put s from Empty) (slice_set variables from None)))
     (ReleaseLoad row.0 (ByVariable from) ∷ Settle ∷ []) =
     record { each = emptied_held bag t s variables from row.0 in_slots owned row.1 here.holds } in
-    let taken : Taken code bag rows t used (Inside left (at + 1) (slice_set variables from None))
+    let taken : Taken code bag rows t used (InCall left (at + 1) (slice_set variables from None))
     (ReleaseLoad row.0 (ByVariable from)) (Settle ∷ []) = record {
       placed = (put s from Empty, next, held_now);
       starts =
           Gives row.0 (ByVariable from) (Settle ∷ [])
           (given_referenced bag t s variables from row.0 owned row.1 here.holds);
-      follows = Settles (inside_stays left (at + 1) (slice_set variables from None));
+      follows = Settles (in_call_stays left (at + 1) (slice_set variables from None));
     } in
     taken_with_row code bag rows t used row.0 (row_of variables from)
     (λ r. Does (ReleaseLoad r (ByVariable from)) (Settle ∷ [])
-    (Inside left (at + 1) (slice_set variables from None))) row.1 taken
+    (InCall left (at + 1) (slice_set variables from None))) row.1 taken
 
 ret_taken : (code : List Instr) (bag : List Reference) (rows t used left at : ℕ) (variables : List (Option ℕ))
     (s : State) (from : ℕ)
     → StandsAt code bag t at variables s (Ret from)
     → IsTaken code bag rows t used (dispatch_instruction rows t used left at variables (Some (Ret from)))
 ret_taken code bag rows t used left at variables s from here =
-    let owned = owned_slot (slot_of s from) (first_false _ _ here.met.not_empty) (first_false _ _ here.met.owned) in
+    let owned = owned_slot (slot_of s from) (first_false _ _ here.reported.not_empty) (first_false _ _ here.reported.owned) in
     let row = owned_row (slot_of s from) (row_of variables from) owned (here.inside.grounded from) in
     let in_slots : from < length s.slots = omega (arith, here.variables, here.inside.slots) in
-    let none : list_any is_owned (put s from Empty).slots ≡ false = first_false _ _ here.met.none_left in
+    let none : list_any is_owned (put s from Empty).slots ≡ false = first_false _ _ here.reported.none_left in
     let held_now : HoldsAlone bag t (once_each the_root) (ReleaseLoad row.0 (ByVariable from) ∷ Settle ∷ []) = record {
       each = λ k object.
           let said : one_if (of_variables (put s from Empty) (slice_set variables from None) k object)
@@ -158,28 +158,28 @@ ret_taken code bag rows t used left at variables s from here =
           ap one_if (ended_says (put s from Empty) (slice_set variables from None) k object none) in
           omega (arith, emptied_held bag t s variables from row.0 in_slots owned row.1 here.holds k object, said);
     } in
-    let taken : Taken code bag rows t used (Standing left) (ReleaseLoad row.0 (ByVariable from)) (Settle ∷ []) =
+    let taken : Taken code bag rows t used (Idle left) (ReleaseLoad row.0 (ByVariable from)) (Settle ∷ []) =
     record {
       placed = held_now;
       starts =
           Gives row.0 (ByVariable from) (Settle ∷ [])
           (given_referenced bag t s variables from row.0 owned row.1 here.holds);
-      follows = Settles (standing_stays left);
+      follows = Settles (idle_stays left);
     } in
     taken_with_row code bag rows t used row.0 (row_of variables from)
-    (λ r. Does (ReleaseLoad r (ByVariable from)) (Settle ∷ []) (Standing left)) row.1 taken
+    (λ r. Does (ReleaseLoad r (ByVariable from)) (Settle ∷ []) (Idle left)) row.1 taken
 
 -- ---- a new number
 
 num_born : (code : List Instr) (bag : List Reference) (rows t used left at : ℕ) (variables : List (Option ℕ))
     (s : State) (to value otherwise : ℕ)
     → StandsAt code bag t at variables s (Num to value otherwise) → has_room rows t used ≡ true
-    → Taken code bag rows t used (Inside left (at + 1) (slice_set variables to (Some (next_row rows t used))))
+    → Taken code bag rows t used (InCall left (at + 1) (slice_set variables to (Some (next_row rows t used))))
     (BirthKind (next_row rows t used) (ByVariable to) (number_word value)) []
 num_born code bag rows t used left at variables s to value otherwise here room =
     let row = next_row rows t used in
     let slot : Slot = Owned kinds.Num in
-    let free : is_owned (slot_of s to) ≡ false = first_false _ _ here.met.free in
+    let free : is_owned (slot_of s to) ≡ false = first_false _ _ here.reported.free in
     let in_slots : to < length s.slots = omega (arith, here.variables.0, here.inside.slots) in
     let in_rows : to < length variables = omega (arith, here.variables.0, here.inside.rows) in
     let next : IsInside code (at + 1) (slice_set variables to (Some row)) (put s to slot) = record {
@@ -196,16 +196,16 @@ num_born code bag rows t used left at variables s to value otherwise here room =
       placed = (put s to slot, next, held_now);
       starts = Bears (ByVariable to) (number_word value) (ltb-true used (block_size rows t) room)
           (number_cells value here.variables.1) (number_counts value here.variables.1);
-      follows = Nothing (inside_stays left (at + 1) (slice_set variables to (Some row)));
+      follows = Nothing (in_call_stays left (at + 1) (slice_set variables to (Some row)));
     }
 
 -- without room the variable is emptied, and the fault exit taken
 num_fails : (code : List Instr) (bag : List Reference) (t left at : ℕ) (variables : List (Option ℕ)) (s : State)
     (to value otherwise : ℕ)
     → StandsAt code bag t at variables s (Num to value otherwise)
-    → QuietTaken code bag t [] (Inside left otherwise (slice_set variables to None))
+    → SilentTaken code bag t [] (InCall left otherwise (slice_set variables to None))
 num_fails code bag t left at variables s to value otherwise here =
-    let free : is_owned (slot_of s to) ≡ false = first_false _ _ here.met.free in
+    let free : is_owned (slot_of s to) ≡ false = first_false _ _ here.reported.free in
     let in_slots : to < length s.slots = omega (arith, here.variables.0, here.inside.slots) in
     let in_rows : to < length variables = omega (arith, here.variables.0, here.inside.rows) in
     let next : IsInside code otherwise (slice_set variables to None) (put s to Empty) = record {
@@ -220,7 +220,7 @@ num_fails code bag t left at variables s to value otherwise here =
     record {
       moves_fit = Stays;
       placed = (put s to Empty, next, holds_at_none bag t _ holds);
-      stays = inside_stays left otherwise (slice_set variables to None);
+      stays = in_call_stays left otherwise (slice_set variables to None);
     }
 
 either_taken : (code : List Instr) (bag : List Reference) (rows t used : ℕ) (b : Bool) (one two : Action)
@@ -259,27 +259,27 @@ instruction_taken code bag rows t used left at variables s (Ret from) here =
 instruction_taken code bag rows t used left at variables s (Goto to) here =
     goto_taken code bag rows t used left at variables s to here
 instruction_taken code bag rows t used left at variables s Fail here =
-    let taken : QuietTaken code bag t [] (Standing left) = record {
+    let taken : SilentTaken code bag t [] (Idle left) = record {
       moves_fit = Stays;
       placed =
-          holds_at_none bag t the_root (holds-ended bag t s variables (first_false _ _ here.met.none_left) here.holds);
-      stays = standing_stays left;
+          holds_at_none bag t the_root (holds-ended bag t s variables (first_false _ _ here.reported.none_left) here.holds);
+      stays = idle_stays left;
     } in
     taken
 
-inside_taken : (code : List Instr) (bag : List Reference) (rows t used left at : ℕ) (variables : List (Option ℕ))
+in_call_taken : (code : List Instr) (bag : List Reference) (rows t used left at : ℕ) (variables : List (Option ℕ))
     (s : State)
     → IsAcceptableCode code → AreInstructions code → IsInside code at variables s
     → Holds bag t (of_variables s variables)
     → IsTaken code bag rows t used (dispatch_instruction rows t used left at variables (slice_get code at))
-inside_taken code bag rows t used left at variables s accepted instructions inside holds =
+in_call_taken code bag rows t used left at variables s accepted instructions inside holds =
     let on = passes_on code inside.exits at s accepted inside.walked in
     let here : StandsAt code bag t at variables s on.here =
     record {
       inside = inside;
       holds = holds;
       variables = instructions.each at on.here on.found;
-      met = on.met;
+      reported = on.reported;
       leads = on.leads;
     } in
     subst (λ (o : Option Instr). IsTaken code bag rows t used (dispatch_instruction rows t used left at variables o))
@@ -291,15 +291,15 @@ exit_held : (bag : List Reference) (t : ℕ) → Holds bag t the_root → (k : H
 exit_held bag t holds AsCaller object =
     let flipped : one_if (object == root_row) ≡ one_if (root_row == object) = ap one_if (flip_eqb object root_row) in
     omega (arith, holds.each AsCaller object, flipped)
-exit_held bag t holds InHand object = omega (arith, holds.each InHand object)
+exit_held bag t holds InFlight object = omega (arith, holds.each InFlight object)
 exit_held bag t holds (ByVariable v) object = omega (arith, holds.each (ByVariable v) object)
 
 -- whatever a thread at rest takes up is fit
 pub dispatch_taken : (code : List Instr) (bag : List Reference) (rows t used : ℕ) (place : Place)
-    → IsAcceptableCode code → AreInstructions code → (place ≢ Departing) → PlaceFits code bag t [] place
+    → IsAcceptableCode code → AreInstructions code → (place ≢ Exiting) → PlaceFits code bag t [] place
     → IsTaken code bag rows t used (dispatch rows t used code place)
-dispatch_taken code bag rows t used Departing accepted instructions stays fits = absurd (stays refl)
-dispatch_taken code bag rows t used (Standing zero) accepted instructions stays fits =
+dispatch_taken code bag rows t used Exiting accepted instructions stays fits = absurd (stays refl)
+dispatch_taken code bag rows t used (Idle zero) accepted instructions stays fits =
     let holds = holds_plain bag t the_root fits in
     let one : held (reference_of t AsCaller root_row) bag ≡ 1 = holds.each AsCaller root_row in
     record {
@@ -309,9 +309,9 @@ dispatch_taken code bag rows t used (Standing zero) accepted instructions stays 
           (omega (arith, one, held-le-references_to (reference_of t AsCaller root_row) bag));
       follows = Leaves refl;
     }
-dispatch_taken code bag rows t used (Standing (suc left)) accepted instructions stays fits =
-    inside_taken code bag rows t used left 0 entry_variables entry accepted instructions (entry_inside code)
+dispatch_taken code bag rows t used (Idle (suc left)) accepted instructions stays fits =
+    in_call_taken code bag rows t used left 0 entry_variables entry accepted instructions (entry_in_call code)
     (holds-entered bag t (holds_plain bag t the_root fits))
-dispatch_taken code bag rows t used (Inside left at variables) accepted instructions stays fits =
-    inside_taken code bag rows t used left at variables fits.0 accepted instructions fits.1
+dispatch_taken code bag rows t used (InCall left at variables) accepted instructions stays fits =
+    in_call_taken code bag rows t used left at variables fits.0 accepted instructions fits.1
     (holds_plain bag t (of_variables fits.0 variables) fits.2)

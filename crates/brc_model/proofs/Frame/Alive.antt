@@ -2,15 +2,15 @@
 use Rattle.std.proofs.Common.{◌≡◌, ℕ, ◌+◌, ◌<◌, ◌≤◌, List, ◌∷◌, Some, refl, ap, ◌∙◌, arith}
 use Rattle.std.specs.Prelude.{slice_get, sum_by}
 use Rattle.std.proofs.lemmas.List.Sums.{sum_by-cons}
-use Rattle.brc_model.specs.Plain.{references_to}
+use Rattle.brc_model.specs.AbstractState.{references_to}
 use Rattle.brc_model.specs.declared.duty.Duty.{Duty}
 use Rattle.brc_model.specs.Duties.{block_of}
 use Rattle.brc_model.specs.Machine.{Life, Unborn, Live, Dying, Closed, Actor, Machine}
 use Rattle.brc_model.proofs.Basics.Bag.{held-le-references_to}
 use Rattle.brc_model.specs.References.{reference_of}
-use Rattle.brc_model.specs.RowRule.{waits, merges, decides, weight, Numbers, IsLive, RowRule}
+use Rattle.brc_model.specs.RowInvariant.{waits, merges, decides, weight, Numbers, IsLive, RowInvariant}
 use Rattle.brc_model.specs.Accounts.{Accounts}
-use Rattle.brc_model.specs.Invariant.{numbers_of, Rule}
+use Rattle.brc_model.specs.Invariant.{numbers_of, CoreInvariant}
 use Rattle.brc_model.specs.Knowledge.{IsBacked}
 use Rattle.brc_model.proofs.Objects.Weights.{agenda_weight-le}
 
@@ -30,7 +30,7 @@ pub record IsAlive (owner : ℕ) (l : Life) (n : Numbers) : Type 0 where
   pub life : l ≡ Live
   pub live : IsLive owner n
 
-alive_by : (owner : ℕ) (l : Life) (n : Numbers) → RowRule owner l n
+alive_by : (owner : ℕ) (l : Life) (n : Numbers) → RowInvariant owner l n
     → 0 < n.references + n.mark + n.waiting + n.deciding + n.merging → IsAlive owner l n
 alive_by owner Unborn n row some =
     absurd (omega (arith, row.mark, row.references, row.waiting, row.merging, row.deciding, some))
@@ -43,27 +43,27 @@ alive_by owner Closed n row some =
 abbrev pub Alive : Machine → ℕ → Type 0
 Alive m x = IsAlive (block_of m.rows x) (m.life x) (numbers_of m x)
 
-pub alive_referenced : (p : Accounts) (n : ℕ) (m : Machine) (x : ℕ) → Rule p n m → 0 < x
-    → 0 < references_to x m.plain.references → Alive m x
-alive_referenced p n m x rule pos some =
-    alive_by (block_of m.rows x) (m.life x) (numbers_of m x) (rule.rows x pos) (omega (arith, some))
+pub alive_referenced : (p : Accounts) (n : ℕ) (m : Machine) (x : ℕ) → CoreInvariant p n m → 0 < x
+    → 0 < references_to x m.abstract.references → Alive m x
+alive_referenced p n m x core pos some =
+    alive_by (block_of m.rows x) (m.life x) (numbers_of m x) (core.rows x pos) (omega (arith, some))
 
-pub alive_waiting : (p : Accounts) (n : ℕ) (m : Machine) (x : ℕ) → Rule p n m → 0 < x → 0 < weight (waits x) m.actors
+pub alive_waiting : (p : Accounts) (n : ℕ) (m : Machine) (x : ℕ) → CoreInvariant p n m → 0 < x → 0 < weight (waits x) m.actors
     → Alive m x
-alive_waiting p n m x rule pos some =
-    alive_by (block_of m.rows x) (m.life x) (numbers_of m x) (rule.rows x pos) (omega (arith, some))
+alive_waiting p n m x core pos some =
+    alive_by (block_of m.rows x) (m.life x) (numbers_of m x) (core.rows x pos) (omega (arith, some))
 
-pub alive_deciding : (p : Accounts) (n : ℕ) (m : Machine) (x : ℕ) → Rule p n m → 0 < x → 0 < weight (decides x) m.actors
+pub alive_deciding : (p : Accounts) (n : ℕ) (m : Machine) (x : ℕ) → CoreInvariant p n m → 0 < x → 0 < weight (decides x) m.actors
     → Alive m x
-alive_deciding p n m x rule pos some =
-    alive_by (block_of m.rows x) (m.life x) (numbers_of m x) (rule.rows x pos) (omega (arith, some))
+alive_deciding p n m x core pos some =
+    alive_by (block_of m.rows x) (m.life x) (numbers_of m x) (core.rows x pos) (omega (arith, some))
 
-pub alive_merging : (p : Accounts) (n : ℕ) (m : Machine) (x : ℕ) → Rule p n m → 0 < x → 0 < weight (merges x) m.actors
+pub alive_merging : (p : Accounts) (n : ℕ) (m : Machine) (x : ℕ) → CoreInvariant p n m → 0 < x → 0 < weight (merges x) m.actors
     → Alive m x
-alive_merging p n m x rule pos some =
-    alive_by (block_of m.rows x) (m.life x) (numbers_of m x) (rule.rows x pos) (omega (arith, some))
+alive_merging p n m x core pos some =
+    alive_by (block_of m.rows x) (m.life x) (numbers_of m x) (core.rows x pos) (omega (arith, some))
 
-pub alive_backed : (p : Accounts) (n : ℕ) (m : Machine) (t x : ℕ) → Rule p n m → 0 < x → IsBacked m t x → Alive m x
-alive_backed p n m t x rule pos backed =
-    alive_referenced p n m x rule pos
-    (omega (arith, backed.held_so, held-le-references_to (reference_of t backed.by x) m.plain.references))
+pub alive_backed : (p : Accounts) (n : ℕ) (m : Machine) (t x : ℕ) → CoreInvariant p n m → 0 < x → IsBacked m t x → Alive m x
+alive_backed p n m t x core pos backed =
+    alive_referenced p n m x core pos
+    (omega (arith, backed.held_so, held-le-references_to (reference_of t backed.by x) m.abstract.references))

@@ -3,14 +3,14 @@ use Rattle.std.proofs.Common.{◌≡◌, ℕ, ◌+◌, ◌<◌, ◌≤◌, Bool,
 use Rattle.std.specs.Prelude.{◌==◌, ◌&&◌, count_by, sum_by}
 use Rattle.std.proofs.lemmas.List.Sums.{sum_by-cons}
 use Rattle.brc_model.specs.declared.duty.Holding.{Holding}
-use Rattle.brc_model.specs.declared.duty.Holding.TheVariants.{InHand}
+use Rattle.brc_model.specs.declared.duty.Holding.TheVariants.{InFlight}
 use Rattle.brc_model.specs.declared.duty.Reason.TheVariants.{Own, Handed}
 use Rattle.brc_model.specs.declared.duty.Duty.{Duty}
 use Rattle.brc_model.specs.declared.duty.Duty.TheVariants.{RetainLoad, RetainStore, RetainAdd, ReleaseLoad, ReleaseStore, DecideAtZero, SharedLoad, SharedExchange, SetMark, Look, TakeMark, MergeSwap, MergeLoad, MergeExchange, BirthKind, BirthSlot, BirthLocal}
-use Rattle.brc_model.specs.Plain.{Reference, same_holding}
+use Rattle.brc_model.specs.AbstractState.{Reference, same_holding}
 use Rattle.brc_model.specs.Machine.{Actor, Machine}
 use Rattle.brc_model.specs.References.{held, one_if, reference_of}
-use Rattle.brc_model.specs.RowRule.{waits, carries, merges, decides}
+use Rattle.brc_model.specs.RowInvariant.{waits, carries, merges, decides}
 use Rattle.brc_model.specs.Accounts.{Account, extra, lacks, extra_of, lacks_of, extra_aside, lacks_aside, HoldsAt}
 use Rattle.brc_model.specs.OpenWork.{is_about, about_of, AsideFits}
 use Rattle.brc_model.specs.Invariant.{looks}
@@ -49,9 +49,9 @@ lacks_about _ k x = omega arith
 -- who gives one up, too
 pub extra_about : (d : Duty) (k : Holding) (x : ℕ) → one_if (extra d k x) ≤ one_if (is_about x d)
 extra_about (ReleaseLoad y h) k x = and_at_most (same_holding h k) (y == x)
-extra_about (ReleaseStore y w) k x = and_at_most (same_holding InHand k) (y == x)
-extra_about (SharedLoad y Own) k x = and_at_most (same_holding InHand k) (y == x)
-extra_about (SharedExchange y Own w) k x = and_at_most (same_holding InHand k) (y == x)
+extra_about (ReleaseStore y w) k x = and_at_most (same_holding InFlight k) (y == x)
+extra_about (SharedLoad y Own) k x = and_at_most (same_holding InFlight k) (y == x)
+extra_about (SharedExchange y Own w) k x = and_at_most (same_holding InFlight k) (y == x)
 extra_about _ k x = omega arith
 
 -- A weight at a row: only duties about the row have one.

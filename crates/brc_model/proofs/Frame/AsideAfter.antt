@@ -7,7 +7,7 @@ use Rattle.brc_word.specs.Words.{most_local, is_immortal_word, local_part, fresh
 use Rattle.brc_model.specs.declared.duty.Reason.TheVariants.{Own, Handed}
 use Rattle.brc_model.specs.declared.duty.Duty.{Duty}
 use Rattle.brc_model.specs.declared.duty.Duty.TheVariants.{RetainLoad, RetainStore, RetainAdd, ReleaseLoad, ReleaseStore, DecideAtZero, SharedLoad, SharedExchange, SetMark, Look, TakeMark, MergeSwap, MergeLoad, MergeExchange, Die, Settle, Leave, Scan, Finish, BirthKind, BirthSlot, BirthLocal}
-use Rattle.brc_model.specs.Duties.{next_by, head_by, ready, counts_locally, has_resource}
+use Rattle.brc_model.specs.Duties.{continuation, new_head, ready, counts_locally, has_resource}
 use Rattle.brc_model.specs.declared.actor.Status.{Status}
 use Rattle.brc_model.specs.Machine.{Actor, Machine, is_running, status_by, actor_by, done_by}
 use Rattle.brc_model.specs.References.{one_if}
@@ -32,7 +32,7 @@ either d true one two first second = first
 either d false one two first second = second
 
 continues : (t head : ℕ) (running : Bool) (d : Duty) (found : ℕ) → is_piece d ≡ true
-    → Continues d (next_by t running head d found)
+    → Continues d (continuation t running head d found)
 continues t head running (RetainLoad x h) found piece =
     either (RetainLoad x h) (is_immortal_word found) [] _ tt
     (either (RetainLoad x h) (counts_locally t running found && nat_lt (local_part found) most_local) _ _
@@ -134,10 +134,10 @@ pieces_after : (p : Accounts) (n : ℕ) (m : Machine) (t : ℕ) (a : Actor) (d :
     → AtDuty p n m t a d rest → IsPiece (d ∷ rest)
     → AsideFits (done_by m t a d rest) t (actor_by t a d rest (found_by m t a d))
 pieces_after p n m t a d [] here piece =
-    let fits = (here.rule.each t a here.found).2 in
+    let fits = (here.core.each t a here.found).2 in
     let found = found_by m t a d in
-    let next = next_by t (is_running a.status) a.head d found in
-    let on = goes_on (head_by a.head d found) d next (continues t a.head (is_running a.status) d found piece) in
+    let next = continuation t (is_running a.status) a.head d found in
+    let on = goes_on (new_head a.head d found) d next (continues t a.head (is_running a.status) d found piece) in
     let apart : (x : ℕ) → one_if (is_about x d) + count_by (is_about x) a.aside ≤ 1 =
     λ x. subst (λ (l : List Duty). one_if (about_of x l) + count_by (is_about x) a.aside ≤ 1) here.agenda
     (fits.apart x) in
@@ -154,7 +154,7 @@ pub aside_after : (p : Accounts) (n : ℕ) (m : Machine) (t : ℕ) (a : Actor) (
     → AtDuty p n m t a d rest
     → AsideFits (done_by m t a d rest) t (actor_by t a d rest (found_by m t a d))
 aside_after p n m t a d rest here =
-    elim (here.rule.each t a here.found).2.pieces [
+    elim (here.core.each t a here.found).2.pieces [
       | inl none ↦ alone_fits (done_by m t a d rest) t (actor_by t a d rest (found_by m t a d)) none
       | inr piece ↦ pieces_after p n m t a d rest here (subst IsPiece here.agenda piece)
     ]

@@ -5,16 +5,16 @@ use Rattle.std.specs.List.{AllByRecursion}
 use Rattle.std.proofs.lemmas.Bool.{eq-eqb, ne_eqb, eqb-false, and_right}
 use Rattle.brc_word.specs.Words.{immortal_local, is_immortal_word, owner_part, local_part, phase_part}
 use Rattle.brc_model.specs.declared.duty.Holding.{Holding}
-use Rattle.brc_model.specs.declared.duty.Holding.TheVariants.{ByVariable, AsCaller, InHand}
+use Rattle.brc_model.specs.declared.duty.Holding.TheVariants.{ByVariable, AsCaller, InFlight}
 use Rattle.brc_model.specs.declared.duty.Reason.{Reason}
 use Rattle.brc_model.specs.declared.duty.Reason.TheVariants.{Own, Handed}
 use Rattle.brc_model.specs.declared.duty.Duty.{Duty}
 use Rattle.brc_model.specs.declared.duty.Duty.TheVariants.{RetainLoad, RetainStore, RetainAdd, ReleaseLoad, ReleaseStore, DecideAtZero, SharedLoad, SharedExchange, SetMark, Look, TakeMark, MergeSwap, MergeLoad, MergeExchange, SettleCell, SettleEnd, BirthLocal}
 use Rattle.brc_model.specs.declared.address.Address.{Address}
 use Rattle.brc_model.specs.declared.address.Address.TheVariants.{Local, Shared, ThreadWord}
-use Rattle.brc_model.specs.Plain.{Reference, Plain, same, same_holder, without, Move, Born, Gain, Lose, HandOn, Finalise, move, moved}
+use Rattle.brc_model.specs.AbstractState.{Reference, AbstractState, same, same_holder, without, Move, Born, Gain, Lose, PassOn, Finalise, move, moved}
 use Rattle.brc_model.specs.Duties.{block_of}
-use Rattle.brc_model.specs.Machine.{Actor, Machine, status_by, lose, gain, take_out, moves_by, actor_by, done_by}
+use Rattle.brc_model.specs.Machine.{Actor, Machine, status_by, lose, gain, take_out, reference_effects, actor_by, done_by}
 use Rattle.brc_model.proofs.Basics.Bag.{held-cons}
 use Rattle.brc_model.specs.References.{held, one_if, reference_of}
 use Rattle.brc_model.specs.Accounts.{Accounts}
@@ -35,7 +35,7 @@ pub record LeavesBeside (m new : Machine) (t : ℕ) (a after : Actor) (x : ℕ) 
   pub local : new.memory (Local x) ≡ m.memory (Local x)
   pub shared : new.memory (Shared x) ≡ m.memory (Shared x)
   pub references : (k : Holding)
-      → held (reference_of t k x) new.plain.references ≡ held (reference_of t k x) m.plain.references
+      → held (reference_of t k x) new.abstract.references ≡ held (reference_of t k x) m.abstract.references
   pub stopped : (u : ℕ) → m.memory (ThreadWord u) ≢ 1 → new.memory (ThreadWord u) ≢ 1
 
 -- ---- a duty keeps what it knows
@@ -120,7 +120,7 @@ abbrev IsElsewhere : ℕ → Move → Type 0
 IsElsewhere x (Born r kind) = r.object ≢ x
 IsElsewhere x (Gain r) = r.object ≢ x
 IsElsewhere x (Lose r) = r.object ≢ x
-IsElsewhere x (HandOn r h) = r.object ≢ x
+IsElsewhere x (PassOn r h) = r.object ≢ x
 IsElsewhere x (Finalise y) = Unit {0}
 
 other_object : (q r : Reference) → r.object ≢ q.object → same q r ≡ false
@@ -131,17 +131,17 @@ one_more_elsewhere : (q r : Reference) (bag : List Reference) → r.object ≢ q
 one_more_elsewhere q r bag ne =
     let none : one_if (same q r) ≡ 0 = ap one_if (other_object q r ne) in omega (arith, held-cons q r bag, none)
 
-move_elsewhere : (p : Plain) (q : Reference) (mv : Move) → IsElsewhere q.object mv
+move_elsewhere : (p : AbstractState) (q : Reference) (mv : Move) → IsElsewhere q.object mv
     → held q (move p mv).references ≡ held q p.references
 move_elsewhere p q (Born r kind) ne = one_more_elsewhere q r p.references ne
 move_elsewhere p q (Gain r) ne = one_more_elsewhere q r p.references ne
 move_elsewhere p q (Lose r) ne = held-without_apart q r p.references (other_object q r ne)
-move_elsewhere p q (HandOn r h) ne =
+move_elsewhere p q (PassOn r h) ne =
     one_more_elsewhere q (record { holder = h; object = r.object }) (without r p.references) ne
     ∙ held-without_apart q r p.references (other_object q r ne)
 move_elsewhere p q (Finalise y) ne = refl
 
-moved_elsewhere : (p : Plain) (q : Reference) (mvs : List Move) → AllByRecursion (IsElsewhere q.object) mvs
+moved_elsewhere : (p : AbstractState) (q : Reference) (mvs : List Move) → AllByRecursion (IsElsewhere q.object) mvs
     → held q (moved p mvs).references ≡ held q p.references
 moved_elsewhere p q [] all = refl
 moved_elsewhere p q (mv ∷ mvs) all = moved_elsewhere (move p mv) q mvs all.1 ∙ move_elsewhere p q mv all.0
@@ -153,7 +153,7 @@ either_elsewhere x false mvs others f g = g
 
 -- Shows that a step moves references to its duty's object alone, where it finds no cell full.
 moves_elsewhere : (memory : Address → ℕ) (t : ℕ) (d : Duty) (found x : ℕ) → is_about x d ≡ false
-    → ((y i n : ℕ) → d ≡ SettleCell y i n → found ≡ 0) → AllByRecursion (IsElsewhere x) (moves_by memory t d found)
+    → ((y i n : ℕ) → d ≡ SettleCell y i n → found ≡ 0) → AllByRecursion (IsElsewhere x) (reference_effects memory t d found)
 moves_elsewhere memory t (RetainLoad y h) found x apart empty =
     either_elsewhere x (is_immortal_word found) (gain t h y) [] (eqb-false y x apart, tt) tt
 moves_elsewhere memory t (RetainStore y h w) found x apart empty = (eqb-false y x apart, tt)
@@ -162,7 +162,7 @@ moves_elsewhere memory t (ReleaseLoad y (ByVariable v)) found x apart empty =
     (eqb-false y x apart, either_elsewhere x (is_immortal_word found) (lose t y) [] (eqb-false y x apart, tt) tt)
 moves_elsewhere memory t (ReleaseLoad y AsCaller) found x apart empty =
     (eqb-false y x apart, either_elsewhere x (is_immortal_word found) (lose t y) [] (eqb-false y x apart, tt) tt)
-moves_elsewhere memory t (ReleaseLoad y InHand) found x apart empty =
+moves_elsewhere memory t (ReleaseLoad y InFlight) found x apart empty =
     either_elsewhere x (is_immortal_word found) (lose t y) [] (eqb-false y x apart, tt) tt
 moves_elsewhere memory t (ReleaseStore y w) found x apart empty = (eqb-false y x apart, tt)
 moves_elsewhere memory t (SharedExchange y Own w) found x apart empty =
@@ -204,8 +204,8 @@ module _ (p : Accounts) (n : ℕ) (m : Machine) (t : ℕ) (a : Actor) where
     local = local_beside d x apart;
     shared = shared_beside d x apart;
     references = λ k.
-        moved_elsewhere m.plain (reference_of t k x) _
-        (moves_elsewhere m.memory t d (found_by m t a d) x apart (cell_found p n m t a d here.rule));
+        moved_elsewhere m.abstract (reference_of t k x) _
+        (moves_elsewhere m.memory t d (found_by m t a d) x apart (cell_found p n m t a d here.core));
     stopped = λ u was. stopped_left m t a d u was;
   }
 

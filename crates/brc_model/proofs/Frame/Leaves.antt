@@ -3,22 +3,22 @@ use Rattle.std.proofs.Common.{◌≡◌, ◌≢◌, ℕ, ◌+◌, ◌-◌, ◌<�
 use Rattle.std.specs.Prelude.{◌==◌, slice_get}
 use Rattle.std.proofs.lemmas.Bool.{eqb-true, eq-eqb, ne_eqb}
 use Rattle.std.proofs.lemmas.Bool.Decides.{eqb_tells}
-use Rattle.brc_model.specs.declared.duty.Holding.TheVariants.{InHand}
+use Rattle.brc_model.specs.declared.duty.Holding.TheVariants.{InFlight}
 use Rattle.brc_word.specs.Words.{owner_part, biased_part, phase_part, fresh_word, released_word, merged_word, local_word}
 use Rattle.brc_model.specs.declared.duty.Reason.{Reason}
 use Rattle.brc_model.specs.declared.duty.Reason.TheVariants.{Own, Handed}
 use Rattle.brc_model.specs.declared.duty.Duty.{Duty}
 use Rattle.brc_model.specs.declared.duty.Duty.TheVariants.{RetainLoad, RetainStore, RetainAdd, ReleaseLoad, ReleaseStore, DecideAtZero, SharedLoad, SharedExchange, Look, MergeSwap, MergeLoad, MergeExchange, Die, Settle, SettleEnd, Leave, Finish, BirthLocal}
 use Rattle.brc_model.specs.declared.address.Address.TheVariants.{Local, Shared, Gate, ThreadWord}
-use Rattle.brc_model.specs.Duties.{block_of, address_of, left_by}
+use Rattle.brc_model.specs.Duties.{block_of, address_of, new_word}
 use Rattle.brc_model.specs.Machine.{Actor, Dying, Machine, written, Unborn, Life}
 use Rattle.brc_model.proofs.Basics.Bag.{held-le-references_to}
 use Rattle.brc_model.specs.References.{held, one_if, reference_of}
-use Rattle.brc_model.specs.RowRule.{waits, decides, merges, InOwned, InSwapped, InMerged, RowRule}
+use Rattle.brc_model.specs.RowInvariant.{waits, decides, merges, InOwned, InSwapped, InMerged, RowInvariant}
 use Rattle.brc_model.specs.Accounts.{Accounts, extra_of, lacks_of}
 use Rattle.brc_model.specs.Knowledge.{OwnsLocally, HeadFits, HeadOf, status_word}
 use Rattle.brc_model.specs.OpenWork.{dies_by}
-use Rattle.brc_model.specs.Invariant.{AtDuty, Rule, numbers_of}
+use Rattle.brc_model.specs.Invariant.{AtDuty, CoreInvariant, numbers_of}
 use Rattle.brc_model.proofs.Objects.RowSteps.{shared_range, shared_up, shared_down, shared_merged}
 use Rattle.brc_model.proofs.Frame.Aside.{extra_held}
 use Rattle.brc_model.proofs.Frame.Alive.{first_weighs, Alive, alive_referenced, alive_waiting, alive_deciding, alive_merging}
@@ -29,21 +29,21 @@ use Rattle.brc_model.proofs.Basics.Blocks.{next_above, next_unborn}
 pub head_of : (p : Accounts) (n : ℕ) (m : Machine) (t : ℕ) (a : Actor) (d : Duty) (rest : List Duty)
     → AtDuty p n m t a d rest → HeadFits m t a d rest
 head_of p n m t a d rest here =
-    subst (λ (l : List Duty). HeadOf m t a l) here.agenda (here.rule.each t a here.found).0.head_fits
+    subst (λ (l : List Duty). HeadOf m t a l) here.agenda (here.core.each t a here.found).0.head_fits
 
 -- ---- which rows are alive at a duty
 
 own_alive : (p : Accounts) (n : ℕ) (m : Machine) (t : ℕ) (a : Actor) (d : Duty) (rest : List Duty) (x : ℕ)
-    → AtDuty p n m t a d rest → 0 < x → extra_of (d ∷ rest) InHand x ≡ true
-    → lacks_of (d ∷ rest) InHand x ≡ false → Alive m x
+    → AtDuty p n m t a d rest → 0 < x → extra_of (d ∷ rest) InFlight x ≡ true
+    → lacks_of (d ∷ rest) InFlight x ≡ false → Alive m x
 own_alive p n m t a d rest x here pos more less =
-    let fits = here.rule.each t a here.found in
-    let some : 0 < held (reference_of t InHand x) m.plain.references =
-    extra_held m.plain.references t (p t) a.agenda a.aside InHand x fits.0.holds (fits.2.apart x)
-    (ap (λ (l : List Duty). extra_of l InHand x) here.agenda ∙ more)
-    (ap (λ (l : List Duty). lacks_of l InHand x) here.agenda ∙ less) in
-    alive_referenced p n m x here.rule pos
-    (omega (arith, some, held-le-references_to (reference_of t InHand x) m.plain.references))
+    let fits = here.core.each t a here.found in
+    let some : 0 < held (reference_of t InFlight x) m.abstract.references =
+    extra_held m.abstract.references t (p t) a.agenda a.aside InFlight x fits.0.holds (fits.2.apart x)
+    (ap (λ (l : List Duty). extra_of l InFlight x) here.agenda ∙ more)
+    (ap (λ (l : List Duty). lacks_of l InFlight x) here.agenda ∙ less) in
+    alive_referenced p n m x here.core pos
+    (omega (arith, some, held-le-references_to (reference_of t InFlight x) m.abstract.references))
 
 pub exchange_alive : (p : Accounts) (n : ℕ) (m : Machine) (t : ℕ) (a : Actor) (x w : ℕ) (r : Reason) (rest : List Duty)
     → AtDuty p n m t a (SharedExchange x r w) rest → Alive m x
@@ -52,7 +52,7 @@ exchange_alive p n m t a x w Own rest here =
     (eq-eqb x x refl) refl
 exchange_alive p n m t a x w Handed rest here =
     let one : one_if (x == x) ≡ 1 = ap one_if (eq-eqb x x refl) in
-    alive_waiting p n m x here.rule (head_of p n m t a (SharedExchange x Handed w) rest here).0
+    alive_waiting p n m x here.core (head_of p n m t a (SharedExchange x Handed w) rest here).0
     (omega (
       arith,
       first_weighs (waits x) m.actors t a (SharedExchange x Handed w) rest here.found here.agenda,
@@ -63,21 +63,21 @@ pub decide_alive : (p : Accounts) (n : ℕ) (m : Machine) (t : ℕ) (a : Actor) 
     → AtDuty p n m t a (DecideAtZero x) rest → Alive m x
 decide_alive p n m t a x rest here =
     let one : one_if (x == x) ≡ 1 = ap one_if (eq-eqb x x refl) in
-    alive_deciding p n m x here.rule (head_of p n m t a (DecideAtZero x) rest here).0
+    alive_deciding p n m x here.core (head_of p n m t a (DecideAtZero x) rest here).0
     (omega (arith, first_weighs (decides x) m.actors t a (DecideAtZero x) rest here.found here.agenda, one))
 
 pub merge_alive : (p : Accounts) (n : ℕ) (m : Machine) (t : ℕ) (a : Actor) (x c w : ℕ) (r : Reason) (rest : List Duty)
     → AtDuty p n m t a (MergeExchange x c w r) rest → Alive m x
 merge_alive p n m t a x c w r rest here =
     let one : one_if (x == x) ≡ 1 = ap one_if (eq-eqb x x refl) in
-    alive_merging p n m x here.rule (head_of p n m t a (MergeExchange x c w r) rest here).0
+    alive_merging p n m x here.core (head_of p n m t a (MergeExchange x c w r) rest here).0
     (omega (arith, first_weighs (merges x) m.actors t a (MergeExchange x c w r) rest here.found here.agenda, one))
 
 pub claim_alive : (p : Accounts) (n : ℕ) (m : Machine) (t : ℕ) (a : Actor) (x : ℕ) (rest : List Duty)
     → AtDuty p n m t a (MergeSwap x Handed) rest → Alive m x
 claim_alive p n m t a x rest here =
     let one : one_if (x == x) ≡ 1 = ap one_if (eq-eqb x x refl) in
-    alive_waiting p n m x here.rule (head_of p n m t a (MergeSwap x Handed) rest here).0
+    alive_waiting p n m x here.core (head_of p n m t a (MergeSwap x Handed) rest here).0
     (omega (arith, first_weighs (waits x) m.actors t a (MergeSwap x Handed) rest here.found here.agenda, one))
 
 -- ---- local words
@@ -103,19 +103,19 @@ claim_clash p n m t u x y a b rest here ne found other same =
     elim (head_of p n m t a (MergeSwap y Handed) rest here).1 [
       | inl mine ↦ ne (block ∙ mine)
       | inr stopped ↦
-          stopped (ap (λ (z : ℕ). m.memory (ThreadWord z)) (sym block) ∙ (here.rule.each u b found).0.word
+          stopped (ap (λ (z : ℕ). m.memory (ThreadWord z)) (sym block) ∙ (here.core.each u b found).0.word
           ∙ ap status_word other.running)
     ]
 
 -- nobody owns what isn't born
-unowned_clash : (p : Accounts) (n : ℕ) (m : Machine) (u x y : ℕ) (b : Actor) → Rule p n m → 1 < y → m.life y ≡ Unborn
+unowned_clash : (p : Accounts) (n : ℕ) (m : Machine) (u x y : ℕ) (b : Actor) → CoreInvariant p n m → 1 < y → m.life y ≡ Unborn
     → OwnsLocally m u b x → y ≡ x → ⊥
-unowned_clash p n m u x y b rule above unborn other same =
+unowned_clash p n m u x y b core above unborn other same =
     let theirs : owner_part (m.memory (Local y)) ≡ u + 1 =
     ap (λ (z : ℕ). owner_part (m.memory (Local z))) same ∙ other.owner in
     let row =
-    subst (λ (l : Life). RowRule (block_of m.rows y) l (numbers_of m y)) unborn
-    (rule.rows y (omega (arith, above))) in
+    subst (λ (l : Life). RowInvariant (block_of m.rows y) l (numbers_of m y)) unborn
+    (core.rows y (omega (arith, above))) in
     omega (arith, theirs, row.local)
 
 local_kept : (m : Machine) (y x v : ℕ) → (y ≡ x → ⊥) → written m.memory (Local y) v (Local x) ≡ m.memory (Local x)
@@ -123,7 +123,7 @@ local_kept m y x v ne = written_apart m.memory (Local y) (Local x) v (apart_loca
 
 pub locals_left : (p : Accounts) (n : ℕ) (m : Machine) (t : ℕ) (a : Actor) (d : Duty) (rest : List Duty)
     → AtDuty p n m t a d rest → (u x : ℕ) (b : Actor) → u ≢ t → slice_get m.actors u ≡ Some b → OwnsLocally m u b x
-    → written m.memory (address_of m.rows t a.head d) (left_by t a.head d (m.memory (address_of m.rows t a.head d)))
+    → written m.memory (address_of m.rows t a.head d) (new_word t a.head d (m.memory (address_of m.rows t a.head d)))
     (Local x) ≡ m.memory (Local x)
 locals_left p n m t a (RetainLoad y h) rest here u x b ne found other = written_load m.memory (Local y) (Local x)
 locals_left p n m t a (ReleaseLoad y h) rest here u x b ne found other = written_load m.memory (Local y) (Local x)
@@ -135,8 +135,8 @@ locals_left p n m t a (MergeSwap y Own) rest here u x b ne found other =
     local_kept m y x 0 (owners_clash m t u x y a b ne (head_of p n m t a (MergeSwap y Own) rest here).1 other)
 locals_left p n m t a (BirthLocal y h) rest here u x b ne found other =
     local_kept m y x (local_word t 1)
-    (unowned_clash p n m u x y b here.rule (next_above m t a y (head_of p n m t a (BirthLocal y h) rest here).0)
-    (next_unborn p n m t a y here.rule here.found (head_of p n m t a (BirthLocal y h) rest here).0) other)
+    (unowned_clash p n m u x y b here.core (next_above m t a y (head_of p n m t a (BirthLocal y h) rest here).0)
+    (next_unborn p n m t a y here.core here.found (head_of p n m t a (BirthLocal y h) rest here).0) other)
 locals_left p n m t a (MergeSwap y Handed) rest here u x b ne found other =
     local_kept m y x 0 (claim_clash p n m t u x y a b rest here ne found other)
 locals_left p n m t a _ rest here u x b ne found other = refl
@@ -169,7 +169,7 @@ exchanged false x y z P win lose = lose
 pub merged_left : (p : Accounts) (n : ℕ) (m : Machine) (t : ℕ) (a : Actor) (d : Duty) (rest : List Duty)
     → AtDuty p n m t a d rest → (x : ℕ) → phase_part (m.memory (Shared x)) ≡ 3
     → phase_part (written m.memory (address_of m.rows t a.head d)
-    (left_by t a.head d (m.memory (address_of m.rows t a.head d))) (Shared x)) ≡ 3
+    (new_word t a.head d (m.memory (address_of m.rows t a.head d))) (Shared x)) ≡ 3
 merged_left p n m t a (RetainAdd y h) rest here x was =
     phase_written m y (m.memory (Shared y) + 4) x (λ w. (shared_up (m.memory (Shared y))).1 ∙ w) was
 merged_left p n m t a (DecideAtZero y) rest here x was =
@@ -206,7 +206,7 @@ thread_written m t u v other was =
     ]
 
 pub stopped_left : (m : Machine) (t : ℕ) (a : Actor) (d : Duty) (u : ℕ) → m.memory (ThreadWord u) ≢ 1
-    → written m.memory (address_of m.rows t a.head d) (left_by t a.head d (m.memory (address_of m.rows t a.head d)))
+    → written m.memory (address_of m.rows t a.head d) (new_word t a.head d (m.memory (address_of m.rows t a.head d)))
     (ThreadWord u) ≢ 1
 stopped_left m t a (Look y) u was =
     λ e. was (sym (written_load m.memory (ThreadWord (block_of m.rows y)) (ThreadWord u)) ∙ e)
@@ -215,7 +215,7 @@ stopped_left m t a Finish u was = thread_written m t u 3 (λ e. absurd (omega (a
 stopped_left m t a _ u was = was
 
 pub words_left : (m : Machine) (t : ℕ) (a : Actor) (d : Duty) (u : ℕ) → u ≢ t
-    → written m.memory (address_of m.rows t a.head d) (left_by t a.head d (m.memory (address_of m.rows t a.head d)))
+    → written m.memory (address_of m.rows t a.head d) (new_word t a.head d (m.memory (address_of m.rows t a.head d)))
     (ThreadWord u) ≡ m.memory (ThreadWord u)
 words_left m t a (Look y) u ne = written_load m.memory (ThreadWord (block_of m.rows y)) (ThreadWord u)
 words_left m t a (Leave y k) u ne =
@@ -233,7 +233,7 @@ gate_clash m t u x y ne mine other same =
 
 pub gates_left : (p : Accounts) (n : ℕ) (m : Machine) (t : ℕ) (a : Actor) (d : Duty) (rest : List Duty)
     → AtDuty p n m t a d rest → (u x : ℕ) → u ≢ t → dies_by (m.life x) u ≡ true
-    → written m.memory (address_of m.rows t a.head d) (left_by t a.head d (m.memory (address_of m.rows t a.head d)))
+    → written m.memory (address_of m.rows t a.head d) (new_word t a.head d (m.memory (address_of m.rows t a.head d)))
     (Gate x) ≡ m.memory (Gate x)
 gates_left p n m t a (Die y) rest here u x ne dies =
     written_apart m.memory (Gate y) (Gate x) _

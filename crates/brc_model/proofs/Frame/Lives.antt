@@ -8,13 +8,13 @@ use Rattle.brc_model.specs.declared.duty.Reason.{Reason}
 use Rattle.brc_model.specs.declared.duty.Reason.TheVariants.{Own, Handed}
 use Rattle.brc_model.specs.declared.duty.Duty.{Duty}
 use Rattle.brc_model.specs.declared.duty.Duty.TheVariants.{RetainLoad, RetainStore, RetainAdd, ReleaseLoad, ReleaseStore, DecideAtZero, SharedLoad, SharedExchange, SetMark, Look, TakeMark, MergeSwap, MergeLoad, MergeExchange, Die, Settle, SettleKind, SettleCell, TakeSlot, CloseResource, SettleEnd, Leave, Scan, Finish, ClaimMark, BirthKind, BirthSlot, BirthLocal}
-use Rattle.brc_model.specs.Duties.{address_of, next_by, counts_locally, once_merged, merge_result, shared_result, has_resource, cells_of, cells_from, release_found}
+use Rattle.brc_model.specs.Duties.{address_of, continuation, counts_locally, once_merged, merge_result, shared_result, has_resource, cells_of, cells_from, release_found}
 use Rattle.brc_model.specs.Machine.{Actor, Life, Unborn, Live, Dying, Closed, Machine, is_running, dies_next, ended_row, born_row, with_life, life_by, done_by}
 use Rattle.brc_model.proofs.Basics.Lists.{some_is}
 use Rattle.brc_model.specs.Accounts.{Accounts}
 use Rattle.brc_model.specs.OpenWork.{dies_by}
 use Rattle.brc_model.specs.Knowledge.{HasCountedKind}
-use Rattle.brc_model.specs.Invariant.{AtDuty, Rule}
+use Rattle.brc_model.specs.Invariant.{AtDuty, CoreInvariant}
 use Rattle.brc_model.proofs.Basics.Written.{written_load}
 use Rattle.brc_model.specs.declared.address.Address.TheVariants.{KindOf}
 use Rattle.brc_model.specs.Kinds.{kind_of_word, is_counted_kind}
@@ -77,7 +77,7 @@ cells_none true x i n y e = none_some y e
 cells_none false x i n y e = none_some y e
 
 pub next_dies : (t : ℕ) (running : Bool) (head : ℕ) (d : Duty) (found y : ℕ)
-    → ((x i n : ℕ) → d ≡ SettleCell x i n → found ≡ 0) → dies_next (next_by t running head d found) ≡ Some y
+    → ((x i n : ℕ) → d ≡ SettleCell x i n → found ≡ 0) → dies_next (continuation t running head d found) ≡ Some y
     → MayDie d y
 next_dies t running head (RetainLoad x h) found y cells e =
     either_none (is_immortal_word found) [] _ y (none_some y)
@@ -137,11 +137,11 @@ may_die_alive p n m t a (MergeExchange x c w r) rest y here is =
 may_die_alive p n m t a _ rest y here is = absurd is
 
 abbrev pub next_of : Machine → ℕ → Actor → Duty → List Duty
-next_of m t a d = next_by t (is_running a.status) a.head d (m.memory (address_of m.rows t a.head d))
+next_of m t a d = continuation t (is_running a.status) a.head d (m.memory (address_of m.rows t a.head d))
 
-pub cell_found : (p : Accounts) (n : ℕ) (m : Machine) (t : ℕ) (a : Actor) (d : Duty) → Rule p n m → (x i k : ℕ)
+pub cell_found : (p : Accounts) (n : ℕ) (m : Machine) (t : ℕ) (a : Actor) (d : Duty) → CoreInvariant p n m → (x i k : ℕ)
     → d ≡ SettleCell x i k → m.memory (address_of m.rows t a.head d) ≡ 0
-cell_found p n m t a d rule x i k is = ap (λ (e : Duty). m.memory (address_of m.rows t a.head e)) is ∙ rule.cells x i
+cell_found p n m t a d core x i k is = ap (λ (e : Duty). m.memory (address_of m.rows t a.head e)) is ∙ core.cells x i
 
 -- what a step lets die was alive
 pub dying_was_alive : (p : Accounts) (n : ℕ) (m : Machine) (t : ℕ) (a : Actor) (d : Duty) (rest : List Duty) (y : ℕ)
@@ -149,7 +149,7 @@ pub dying_was_alive : (p : Accounts) (n : ℕ) (m : Machine) (t : ℕ) (a : Acto
 dying_was_alive p n m t a d rest y here e =
     may_die_alive p n m t a d rest y here
     (next_dies t (is_running a.status) a.head d (m.memory (address_of m.rows t a.head d)) y
-    (cell_found p n m t a d here.rule) e)
+    (cell_found p n m t a d here.core) e)
 
 -- ---- life after a step
 
@@ -202,7 +202,7 @@ born_was : (p : Accounts) (n : ℕ) (m : Machine) (t : ℕ) (a : Actor) (d : Dut
     → AtDuty p n m t a d rest → born_row d ≡ Some y → m.life y ≡ Unborn
 born_was p n m t a (BirthLocal x h) rest y here e =
     ap m.life (sym (some_is x y e))
-    ∙ next_unborn p n m t a x here.rule here.found (head_of p n m t a (BirthLocal x h) rest here).0
+    ∙ next_unborn p n m t a x here.core here.found (head_of p n m t a (BirthLocal x h) rest here).0
 born_was p n m t a _ rest y here e = absurd (none_some y e)
 
 lives_left : (p : Accounts) (n : ℕ) (m : Machine) (t : ℕ) (a : Actor) (d : Duty) (rest : List Duty)
@@ -240,7 +240,7 @@ pub leaves_others : (p : Accounts) (n : ℕ) (m : Machine) (t : ℕ) (a : Actor)
     → AtDuty p n m t a d rest → LeavesOthers m (done_by m t a d rest) t
 leaves_others p n m t a d rest here = record {
   rows = refl;
-  bag = λ u k object ne. moves_apart m.memory m.plain u t k object d (m.memory (address_of m.rows t a.head d)) ne;
+  bag = λ u k object ne. moves_apart m.memory m.abstract u t k object d (m.memory (address_of m.rows t a.head d)) ne;
   locals = λ u x b ne found owns. locals_left p n m t a d rest here u x b ne found owns;
   merged = λ x was. merged_left p n m t a d rest here x was;
   stopped = λ u was. stopped_left m t a d u was;

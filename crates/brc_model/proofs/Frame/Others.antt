@@ -27,7 +27,7 @@ use Rattle.brc_model.proofs.Basics.Bag.{one_if_true}
 pub record LeavesOthers (m new : Machine) (t : ℕ) : Type 0 where
   pub rows : new.rows ≡ m.rows
   pub bag : (u : ℕ) (k : Holding) (object : ℕ) → u ≢ t
-      → held (reference_of u k object) new.plain.references ≡ held (reference_of u k object) m.plain.references
+      → held (reference_of u k object) new.abstract.references ≡ held (reference_of u k object) m.abstract.references
   pub locals : (u x : ℕ) (b : Actor) → u ≢ t → slice_get m.actors u ≡ Some b → OwnsLocally m u b x
       → new.memory (Local x) ≡ m.memory (Local x)
   pub merged : (x : ℕ) → phase_part (m.memory (Shared x)) ≡ 3 → phase_part (new.memory (Shared x)) ≡ 3
@@ -39,7 +39,7 @@ pub record LeavesOthers (m new : Machine) (t : ℕ) : Type 0 where
   pub lives : (u x : ℕ) → u ≢ t → dies_by (new.life x) u ≡ dies_by (m.life x) u
 
 holds_kept : (m new : Machine) (t u : ℕ) (account : Account) (agenda aside : List Duty) → LeavesOthers m new t → u ≢ t
-    → HoldsAt m.plain.references u account agenda aside → HoldsAt new.plain.references u account agenda aside
+    → HoldsAt m.abstract.references u account agenda aside → HoldsAt new.abstract.references u account agenda aside
 holds_kept m new t u account agenda aside leaves ne holds =
     record { each = λ k object. omega (arith, leaves.bag u k object ne, holds.each k object) }
 
@@ -202,7 +202,7 @@ others_fit account m new t u b leaves ne found fits = record {
   word = leaves.words u ne ∙ fits.word;
   holds = holds_kept m new t u account b.agenda b.aside leaves ne fits.holds;
   bounded = fits.bounded;
-  departed = fits.departed;
+  exited = fits.exited;
   head_fits = head_of_kept m new t u b b.agenda leaves ne found fits.head_fits;
   chain = chain_kept m new t u b.head b.agenda leaves ne fits.chain;
 }

@@ -4,8 +4,8 @@ use Rattle.std.specs.Prelude.{◌==◌}
 use Rattle.std.proofs.lemmas.Bool.{eq-eqb}
 use Rattle.std.proofs.lemmas.Bool.Decides.{eqb_tells}
 use Rattle.brc_model.specs.declared.duty.Holding.{Holding}
-use Rattle.brc_model.specs.declared.duty.Holding.TheVariants.{ByVariable, AsCaller, InHand}
-use Rattle.brc_model.specs.Plain.{root_row, same, references_to}
+use Rattle.brc_model.specs.declared.duty.Holding.TheVariants.{ByVariable, AsCaller, InFlight}
+use Rattle.brc_model.specs.AbstractState.{root_row, same, references_to}
 use Rattle.brc_model.specs.Machine.{caller_reference, callers_below}
 use Rattle.brc_model.proofs.Basics.Bag.{other_thread, same-other_holder, held-cons, references_to-cons}
 use Rattle.brc_model.specs.References.{held, one_if, cell_reference, reference_of}
@@ -39,8 +39,8 @@ its_caller : (n : ℕ) (h : Holding) (object : ℕ)
 its_caller n (ByVariable v) object =
     ap one_if (same-other_holder (reference_of n (ByVariable v) object) (caller_reference n)
     (rw (eq-eqb n n refl) refl))
-its_caller n InHand object =
-    ap one_if (same-other_holder (reference_of n InHand object) (caller_reference n) (rw (eq-eqb n n refl) refl))
+its_caller n InFlight object =
+    ap one_if (same-other_holder (reference_of n InFlight object) (caller_reference n) (rw (eq-eqb n n refl) refl))
 its_caller n AsCaller object = ap one_if (same-one_caller n object root_row)
 
 pub callers_hold : (n t : ℕ) (h : Holding) (object : ℕ) → t < n

@@ -9,18 +9,18 @@ use Rattle.brc_lang.specs.declared.module.Module.{Module}
 use Rattle.brc_lang.specs.declared.module.Function.{Function}
 use Rattle.brc_lang.specs.Grammar.{IsInstruction, IsFunction, IsModule}
 use Rattle.brc_model.specs.declared.thread.Call.{Call}
-use Rattle.brc_model.specs.Walks.{IsAcceptableCode, IsAcceptable}
+use Rattle.brc_model.specs.Paths.{IsAcceptableCode, IsAcceptable}
 use Rattle.brc_model.specs.Threads.{code_of}
 use Rattle.brc_model.specs.Machine.{callers_below, Actor, Unborn, Closed, main_actor, worker_actor, first_memory, first_life, first_kinds, first_machine, Live}
 use Rattle.brc_model.specs.Safety.{IsCall, AreCalls}
 use Rattle.brc_model.specs.declared.duty.Duty.{Duty}
 use Rattle.brc_model.specs.declared.address.Address.TheVariants.{Gate, KindOf, Slot, ThreadWord}
 use Rattle.brc_model.specs.Duties.{block_of}
-use Rattle.brc_model.specs.declared.actor.Place.TheVariants.{Standing, Departing}
+use Rattle.brc_model.specs.declared.actor.Place.TheVariants.{Idle, Exiting}
 use Rattle.brc_model.specs.References.{one_if}
-use Rattle.brc_model.specs.RowRule.{waits, carries, merges, decides, agenda_weight, weight, IsDefault, AboveZero, InOwned, RowRule}
+use Rattle.brc_model.specs.RowInvariant.{waits, carries, merges, decides, agenda_weight, weight, IsDefault, AboveZero, InOwned, RowInvariant}
 use Rattle.brc_model.specs.Accounts.{Accounts, HoldsAt}
-use Rattle.brc_model.specs.Invariant.{numbers_of, Fits, Rule, UsesFit, BlankFits}
+use Rattle.brc_model.specs.Invariant.{numbers_of, Fits, CoreInvariant, UsesFit, BlankFits}
 use Rattle.brc_model.specs.OpenWork.{ChainFits, dies_by, GateFits}
 use Rattle.brc_model.proofs.Basics.Lists.{some_is, all_at, all_of_found, slice_get-map}
 use Rattle.brc_model.proofs.Keeping.Callers.{callers_beyond, callers_off_cells, callers_hold, root_references, other_references}
@@ -31,7 +31,7 @@ use Rattle.brc_model.proofs.Dispatch.Coded.{once_each, root_bounded, InCode}
 use Rattle.brc_model.proofs.Basics.Blocks.{block_main}
 use Rattle.brc_word.specs.Words.{most_local, kind_part}
 use Rattle.brc_model.specs.Kinds.{kind_number}
-use Rattle.brc_model.specs.Plain.{root_row, is_among}
+use Rattle.brc_model.specs.AbstractState.{root_row, is_among}
 use Rattle.brc_model.specs.Limits.{row_limit}
 use Rattle.brc_model.proofs.Basics.Bag.{one_if_low}
 
@@ -64,10 +64,10 @@ first_weight : (f : Duty → ℕ) (calls : List Call) → weight f (main_actor �
 first_weight f calls =
     omega (arith, sum_by-cons (agenda_weight f) main_actor (map worker_actor calls), no_weight f calls)
 
-first_row_rule : (m : Module) (rows : ℕ) (calls : List Call) → AreCalls m calls → (x : ℕ) → 0 < x
-    → RowRule (block_of rows x) (first_life x) (numbers_of (first_machine m rows calls) x)
-first_row_rule m rows calls are_calls zero pos = absurd (omega arith)
-first_row_rule m rows calls are_calls (suc zero) pos =
+first_row_invariant : (m : Module) (rows : ℕ) (calls : List Call) → AreCalls m calls → (x : ℕ) → 0 < x
+    → RowInvariant (block_of rows x) (first_life x) (numbers_of (first_machine m rows calls) x)
+first_row_invariant m rows calls are_calls zero pos = absurd (omega arith)
+first_row_invariant m rows calls are_calls (suc zero) pos =
     let w = 1 + length calls in
     let few : w < most_local = omega (arith, are_calls.most) in
     record {
@@ -81,7 +81,7 @@ first_row_rule m rows calls are_calls (suc zero) pos =
         phased = IsDefault (omega arith) (omega (arith, first_weight (waits 1) calls)) (omega arith);
       });
     }
-first_row_rule m rows calls are_calls (suc (suc x)) pos = record {
+first_row_invariant m rows calls are_calls (suc (suc x)) pos = record {
   local = refl;
   shared = refl;
   mark = refl;
@@ -112,8 +112,8 @@ caller_holds calls t below =
 thread_word : (workers t : ℕ) → t ≤ workers → first_memory workers (ThreadWord t) ≡ 1
 thread_word workers t le = ap (λ (b : Bool). cond b 1 0) (Rattle.std.proofs.lemmas.Bool.le-leb t workers le)
 
-standing_stays : (left : ℕ) → Standing left ≢ Departing
-standing_stays left e = cc
+idle_stays : (left : ℕ) → Idle left ≢ Exiting
+idle_stays left e = cc
 
 first_fits : (m : Module) (rows : ℕ) (calls : List Call) (t : ℕ) (a : Actor)
     → slice_get (main_actor ∷ map worker_actor calls) t ≡ Some a
@@ -124,11 +124,11 @@ first_fits m rows calls zero a is =
         word = thread_word (length calls) 0 (omega arith);
         holds = caller_holds calls 0 (omega arith);
         bounded = root_bounded;
-        departed = λ e. absurd (standing_stays 0 e);
+        exited = λ e. absurd (idle_stays 0 e);
         head_fits = tt;
         chain = first_chain m rows calls 0;
       },
-      (standing_stays 0, refl),
+      (idle_stays 0, refl),
       alone_fits (first_machine m rows calls) 0 main_actor refl,
     )
 first_fits m rows calls (suc t) a is =
@@ -139,11 +139,11 @@ first_fits m rows calls (suc t) a is =
         word = thread_word (length calls) (suc t) (omega (arith, within));
         holds = caller_holds calls (suc t) (omega (arith, within));
         bounded = root_bounded;
-        departed = λ e. absurd (standing_stays call.source.times e);
+        exited = λ e. absurd (idle_stays call.source.times e);
         head_fits = tt;
         chain = first_chain m rows calls (suc t);
       },
-      (standing_stays call.source.times, refl),
+      (idle_stays call.source.times, refl),
       alone_fits (first_machine m rows calls) (suc t) (worker_actor call.source) refl,
     )
 
@@ -266,14 +266,14 @@ first_kinds_said workers (suc (suc x)) born = absurd (born refl)
 one_root : (x : ℕ) → count_by (λ y. y == x) (root_row ∷ []) ≤ 1
 one_root x = omega (arith, sum_by-cons (λ (y : ℕ). cond (y == x) 1 0) root_row [], one_if_low (root_row == x))
 
-pub first_rule : (m : Module) (rows : ℕ) (calls : List Call) → AreCalls m calls → 0 < rows → rows ≤ row_limit
-    → Rule first_accounts (1 + length calls) (first_machine m rows calls)
-first_rule m rows calls are_calls some_rows few_rows = record {
+pub first_core : (m : Module) (rows : ℕ) (calls : List Call) → AreCalls m calls → 0 < rows → rows ≤ row_limit
+    → CoreInvariant first_accounts (1 + length calls) (first_machine m rows calls)
+first_core m rows calls are_calls some_rows few_rows = record {
   threads = omega (arith, length-map calls worker_actor);
   some_rows = some_rows;
   few_threads = omega (arith, are_calls.most);
   few_rows = few_rows;
-  rows = first_row_rule m rows calls are_calls;
+  rows = first_row_invariant m rows calls are_calls;
   marks = λ x. inl refl;
   each = first_fits m rows calls;
   beyond = λ t past k object. callers_beyond (1 + length calls) t k object past;

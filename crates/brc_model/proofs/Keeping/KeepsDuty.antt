@@ -11,11 +11,11 @@ use Rattle.brc_model.specs.Machine.{Actor, Machine, actor_by, done_by, same_addr
 use Rattle.brc_model.proofs.Frame.AsideAfter.{aside_after}
 use Rattle.brc_model.specs.OpenWork.{AsideFits}
 use Rattle.brc_model.specs.Accounts.{Accounts}
-use Rattle.brc_model.specs.Invariant.{AtDuty, Fits, IsWatched, Rule}
+use Rattle.brc_model.specs.Invariant.{AtDuty, Fits, IsWatched, CoreInvariant}
 use Rattle.brc_model.proofs.Frame.Others.{each_fits}
 use Rattle.brc_model.proofs.Basics.MovesApart.{moves_apart, moves_off_cells}
 use Rattle.brc_model.proofs.Frame.Lives.{cell_found, leaves_others}
-use Rattle.brc_model.proofs.Stepping.Neutral.{OwnFits, found_by, memory_by}
+use Rattle.brc_model.proofs.Stepping.Neutral.{ThreadFits, found_by, memory_by}
 use Rattle.brc_model.proofs.Objects.RowsAfter.{rows_after}
 use Rattle.brc_model.proofs.Objects.ClosedAfter.{closed_is_after, closed_has_after, closed_once_after, none_lives_after, dying_after}
 use Rattle.brc_model.proofs.Objects.UsesAfter.{uses_after, no_block_after, born_is_after, born_has_after, born_once_after}
@@ -35,38 +35,38 @@ cells_left m t a _ x i empty = empty
 -- ---- all threads
 
 others_and_own : (p : Accounts) (n : ℕ) (m : Machine) (t : ℕ) (a : Actor) (d : Duty) (rest : List Duty)
-    → AtDuty p n m t a d rest → OwnFits p (done_by m t a d rest) t (actor_by t a d rest (found_by m t a d))
+    → AtDuty p n m t a d rest → ThreadFits p (done_by m t a d rest) t (actor_by t a d rest (found_by m t a d))
     → AsideFits (done_by m t a d rest) t (actor_by t a d rest (found_by m t a d))
     → (u : ℕ) (b : Actor) → slice_get (slice_set m.actors t (actor_by t a d rest (found_by m t a d))) u ≡ Some b
     → Fits (p u) (done_by m t a d rest) u b
 others_and_own p n m t a d rest here own aside =
     each_fits p p m (done_by m t a d rest) t a (actor_by t a d rest (found_by m t a d)) here.found
-    (leaves_others p n m t a d rest here) (λ u ne. refl) (own.actor, own.agenda, aside) here.rule.each
+    (leaves_others p n m t a d rest here) (λ u ne. refl) (own.actor, own.agenda, aside) here.core.each
 
 -- ---- the whole rule
 
 pub keeps_by : (p : Accounts) (n : ℕ) (m : Machine) (t : ℕ) (a : Actor) (d : Duty) (rest : List Duty)
     → AtDuty p n m t a d rest → (a.status ≡ Gone → ⊥)
-    → OwnFits p (done_by m t a d rest) t (actor_by t a d rest (found_by m t a d))
+    → ThreadFits p (done_by m t a d rest) t (actor_by t a d rest (found_by m t a d))
     → ((x : ℕ) → ((done_by m t a d rest).memory (Mark x) ≡ 0)
     ⊎ (((done_by m t a d rest).memory (Mark x) ≡ 1) × (0 < x) × IsWatched (done_by m t a d rest) x))
-    → Rule p n (done_by m t a d rest)
+    → CoreInvariant p n (done_by m t a d rest)
 keeps_by p n m t a d rest here alive own marks =
-    let within : t < n = omega (arith, slice_get_within m.actors t a here.found, here.rule.threads) in
+    let within : t < n = omega (arith, slice_get_within m.actors t a here.found, here.core.threads) in
     record {
-      threads = length-set m.actors t (actor_by t a d rest (found_by m t a d)) ∙ here.rule.threads;
-      some_rows = here.rule.some_rows;
-      few_threads = here.rule.few_threads;
-      few_rows = here.rule.few_rows;
-      rows = λ x pos. rows_after p n m t a d rest here.rule here.found here.agenda alive x pos;
+      threads = length-set m.actors t (actor_by t a d rest (found_by m t a d)) ∙ here.core.threads;
+      some_rows = here.core.some_rows;
+      few_threads = here.core.few_threads;
+      few_rows = here.core.few_rows;
+      rows = λ x pos. rows_after p n m t a d rest here.core here.found here.agenda alive x pos;
       marks = marks;
       each = others_and_own p n m t a d rest here own (aside_after p n m t a d rest here);
       beyond =
-          λ u past k object. moves_apart m.memory m.plain u t k object d (found_by m t a d)
-          (λ e. absurd (omega (arith, within, past, e))) ∙ here.rule.beyond u past k object;
+          λ u past k object. moves_apart m.memory m.abstract u t k object d (found_by m t a d)
+          (λ e. absurd (omega (arith, within, past, e))) ∙ here.core.beyond u past k object;
       gates = λ x. gates_after p n m t a d rest here x;
       dying = λ x u past. dying_after p n m t a d rest x u here past;
-      cells = λ x i. cells_left m t a d x i (here.rule.cells x i);
+      cells = λ x i. cells_left m t a d x i (here.core.cells x i);
       uses = λ u b is. uses_after p n m t a d rest here u b is;
       blanks = λ u b is. blanks_after p n m t a d rest here u b is;
       no_block = λ x past. no_block_after p n m t a d rest here x past;
@@ -74,12 +74,12 @@ keeps_by p n m t a d rest here alive own marks =
       born_has = λ x above is. born_has_after p n m t a d rest here x above is;
       born_once = λ x. born_once_after p n m t a d rest here x;
       cells_hold =
-          λ x i object. moves_off_cells m.memory m.plain x i object t d (found_by m t a d)
-          (cell_found p n m t a d here.rule) ∙ here.rule.cells_hold x i object;
+          λ x i object. moves_off_cells m.memory m.abstract x i object t d (found_by m t a d)
+          (cell_found p n m t a d here.core) ∙ here.core.cells_hold x i object;
       none_lives = none_lives_after p n m t a d rest here;
       closed_is = λ x is. closed_is_after p n m t a d rest x here is;
       closed_has = λ x is. closed_has_after p n m t a d rest x here is;
       once = closed_once_after p n m t a d rest here;
       kinds = λ x born. kinds_after p n m t a d rest here x born;
-      none_word = none_local p n m t a d rest here ∙ here.rule.none_word;
+      none_word = none_local p n m t a d rest here ∙ here.core.none_word;
     }

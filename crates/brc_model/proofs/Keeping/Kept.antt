@@ -3,7 +3,7 @@
 use Rattle.std.proofs.Common.{◌≡◌, ℕ, zero, suc, false, List, ◌∷◌, Some, refl, sym, ◌∙◌, subst, arith}
 use Rattle.std.specs.Prelude.{slice_get}
 use Rattle.std.proofs.lemmas.Option.{slice_get_within}
-use Rattle.brc_model.specs.Plain.{Reference}
+use Rattle.brc_model.specs.AbstractState.{Reference}
 use Rattle.brc_model.specs.declared.duty.Reason.TheVariants.{Own, Handed}
 use Rattle.brc_model.specs.declared.duty.Duty.{Duty}
 use Rattle.brc_model.specs.declared.duty.Duty.TheVariants.{RetainLoad, RetainStore, RetainAdd, ReleaseLoad, ReleaseStore, DecideAtZero, SharedLoad, SharedExchange, SetMark, Look, TakeMark, MergeSwap, MergeLoad, MergeExchange, Die, Settle, SettleKind, SettleCell, TakeSlot, CloseResource, SettleEnd, Leave, Scan, Finish, ClaimMark, BirthKind, BirthSlot, BirthLocal}
@@ -13,86 +13,86 @@ use Rattle.brc_model.specs.Machine.{Actor, Machine, actor_by, done_by, at_place,
 use Rattle.brc_model.specs.Events.{is_bad_duty}
 use Rattle.brc_model.proofs.Basics.Lists.{slice_get-set_same, written_actor}
 use Rattle.brc_model.specs.Accounts.{Account, Accounts}
-use Rattle.brc_model.specs.Invariant.{AtDuty, Kept}
+use Rattle.brc_model.specs.Invariant.{AtDuty, Invariant}
 use Rattle.brc_model.specs.OpenWork.{IsSettled}
-use Rattle.brc_model.proofs.Stepping.Neutral.{OwnFits, found_by}
-use Rattle.brc_model.proofs.Stepping.OwnRetains.{own_retain_counted}
-use Rattle.brc_model.proofs.Stepping.OwnReleases.{own_retain_store, own_retain_add, own_release_counted, release_held, own_release_store, own_decide_at_zero}
-use Rattle.brc_model.proofs.Stepping.OwnShared.{own_shared_load, own_shared_exchange}
-use Rattle.brc_model.proofs.Stepping.OwnMerges.{own_set_mark, own_look, own_take_mark, own_merge_swap_own, own_merge_swap_handed, own_merge_load, own_merge_exchange}
-use Rattle.brc_model.proofs.Stepping.OwnChains.{own_die, own_settle, own_settle_end}
-use Rattle.brc_model.proofs.Stepping.OwnSettles.{own_settle_kind, own_settle_cell, own_take_slot, own_close_resource}
-use Rattle.brc_model.proofs.Stepping.OwnExits.{own_leave, own_scan, own_finish, own_claim_mark}
+use Rattle.brc_model.proofs.Stepping.Neutral.{ThreadFits, found_by}
+use Rattle.brc_model.proofs.Stepping.Retains.{thread_after_retain_counted}
+use Rattle.brc_model.proofs.Stepping.Releases.{thread_after_retain_store, thread_after_retain_add, thread_after_release_counted, release_held, thread_after_release_store, thread_after_decide_at_zero}
+use Rattle.brc_model.proofs.Stepping.SharedWords.{thread_after_shared_load, thread_after_shared_exchange}
+use Rattle.brc_model.proofs.Stepping.Merges.{thread_after_set_mark, thread_after_look, thread_after_take_mark, thread_after_merge_swap_own, thread_after_merge_swap_handed, thread_after_merge_load, thread_after_merge_exchange}
+use Rattle.brc_model.proofs.Stepping.Chains.{thread_after_die, thread_after_settle, thread_after_settle_end}
+use Rattle.brc_model.proofs.Stepping.Settling.{thread_after_settle_kind, thread_after_settle_cell, thread_after_take_slot, thread_after_close_resource}
+use Rattle.brc_model.proofs.Stepping.Exits.{thread_after_leave, thread_after_scan, thread_after_finish, thread_after_claim_mark}
 use Rattle.brc_model.proofs.Stepping.Settled.{settled_after}
 use Rattle.brc_model.proofs.Work.Watches.{marks_after}
 use Rattle.brc_model.proofs.Keeping.KeepsDuty.{keeps_by}
 use Rattle.brc_model.proofs.Keeping.NotBad.{duty_not_bad}
 use Rattle.brc_model.proofs.Dispatch.Begins.{Starts, Gives, Takes, Follows, Nothing, Settles as SettlesFirst, Leaves, Bears}
-use Rattle.brc_model.proofs.Keeping.Sits.{sitting, Sits, AtRest, sits_rule, taken_up_step}
+use Rattle.brc_model.proofs.Keeping.Sits.{sitting, Sits, AtRest, sits_core, taken_up_step}
 use Rattle.brc_model.proofs.Keeping.Replaced.{with_account}
-use Rattle.brc_model.proofs.Stepping.OwnBirths.{own_birth_kind, own_birth_slot, own_birth_local}
-use Rattle.brc_model.proofs.Stepping.Nones.{own_retain_none, own_release_none}
+use Rattle.brc_model.proofs.Stepping.Births.{thread_after_birth_kind, thread_after_birth_slot, thread_after_birth_local}
+use Rattle.brc_model.proofs.Stepping.Nones.{thread_after_retain_none, thread_after_release_none}
 
 -- ---- a duty
 
-own_fits : (p : Accounts) (n : ℕ) (m : Machine) (t : ℕ) (a : Actor) (d : Duty) (rest : List Duty)
+thread_after_duty : (p : Accounts) (n : ℕ) (m : Machine) (t : ℕ) (a : Actor) (d : Duty) (rest : List Duty)
     → AtDuty p n m t a d rest → (a.status ≡ Gone → ⊥) → IsSettled a.head (d ∷ rest)
-    → OwnFits p (done_by m t a d rest) t (actor_by t a d rest (found_by m t a d))
-own_fits p n m t a (RetainLoad zero h) rest here alive settled = own_retain_none p n m t a h rest here alive
-own_fits p n m t a (RetainLoad (suc x) h) rest here alive settled =
-    own_retain_counted p n m t a (suc x) h rest (omega arith) here alive
-own_fits p n m t a (RetainStore x h w) rest here alive settled = own_retain_store p n m t a x h w rest here alive
-own_fits p n m t a (RetainAdd x h) rest here alive settled = own_retain_add p n m t a x h rest here alive
-own_fits p n m t a (ReleaseLoad zero h) rest here alive settled =
-    own_release_none p n m t a h rest here alive (release_held p n m t a 0 h rest here)
-own_fits p n m t a (ReleaseLoad (suc x) h) rest here alive settled =
-    own_release_counted p n m t a (suc x) h rest (omega arith) here alive
-own_fits p n m t a (ReleaseStore x w) rest here alive settled = own_release_store p n m t a x w rest here alive
-own_fits p n m t a (DecideAtZero x) rest here alive settled = own_decide_at_zero p n m t a x rest here alive
-own_fits p n m t a (SharedLoad x r) rest here alive settled = own_shared_load p n m t a x r rest here alive
-own_fits p n m t a (SharedExchange x r w) rest here alive settled = own_shared_exchange p n m t a x r w rest here alive
-own_fits p n m t a (SetMark x) rest here alive settled = own_set_mark p n m t a x rest here alive
-own_fits p n m t a (Look x) rest here alive settled = own_look p n m t a x rest here alive
-own_fits p n m t a (TakeMark x) rest here alive settled = own_take_mark p n m t a x rest here alive
-own_fits p n m t a (MergeSwap x Own) rest here alive settled = own_merge_swap_own p n m t a x rest here alive
-own_fits p n m t a (MergeSwap x Handed) rest here alive settled = own_merge_swap_handed p n m t a x rest here alive
-own_fits p n m t a (MergeLoad x c r) rest here alive settled = own_merge_load p n m t a x c r rest here alive
-own_fits p n m t a (MergeExchange x c w r) rest here alive settled =
-    own_merge_exchange p n m t a x c w r rest here alive
-own_fits p n m t a (Die x) rest here alive settled = own_die p n m t a x rest here alive
-own_fits p n m t a Settle rest here alive settled = own_settle p n m t a rest here alive
-own_fits p n m t a (SettleKind x) rest here alive settled = own_settle_kind p n m t a x rest here alive
-own_fits p n m t a (SettleCell x i k) rest here alive settled = own_settle_cell p n m t a x i k rest here alive
-own_fits p n m t a (TakeSlot x) rest here alive settled = own_take_slot p n m t a x rest here alive
-own_fits p n m t a (CloseResource x) rest here alive settled = own_close_resource p n m t a x rest here alive
-own_fits p n m t a (SettleEnd x) rest here alive settled = own_settle_end p n m t a x rest here alive
-own_fits p n m t a (Leave x k) rest here alive settled = own_leave p n m t a x k rest here alive
-own_fits p n m t a (Scan x k) rest here alive settled = own_scan p n m t a x k rest here alive
-own_fits p n m t a Finish rest here alive settled = own_finish p n m t a rest here alive settled
-own_fits p n m t a (ClaimMark x) rest here alive settled = own_claim_mark p n m t a x rest here alive
-own_fits p n m t a (BirthKind x h w) rest here alive settled = own_birth_kind p n m t a x h w rest here alive
-own_fits p n m t a (BirthSlot x h) rest here alive settled = own_birth_slot p n m t a x h rest here alive
-own_fits p n m t a (BirthLocal x h) rest here alive settled = own_birth_local p n m t a x h rest here alive
+    → ThreadFits p (done_by m t a d rest) t (actor_by t a d rest (found_by m t a d))
+thread_after_duty p n m t a (RetainLoad zero h) rest here alive settled = thread_after_retain_none p n m t a h rest here alive
+thread_after_duty p n m t a (RetainLoad (suc x) h) rest here alive settled =
+    thread_after_retain_counted p n m t a (suc x) h rest (omega arith) here alive
+thread_after_duty p n m t a (RetainStore x h w) rest here alive settled = thread_after_retain_store p n m t a x h w rest here alive
+thread_after_duty p n m t a (RetainAdd x h) rest here alive settled = thread_after_retain_add p n m t a x h rest here alive
+thread_after_duty p n m t a (ReleaseLoad zero h) rest here alive settled =
+    thread_after_release_none p n m t a h rest here alive (release_held p n m t a 0 h rest here)
+thread_after_duty p n m t a (ReleaseLoad (suc x) h) rest here alive settled =
+    thread_after_release_counted p n m t a (suc x) h rest (omega arith) here alive
+thread_after_duty p n m t a (ReleaseStore x w) rest here alive settled = thread_after_release_store p n m t a x w rest here alive
+thread_after_duty p n m t a (DecideAtZero x) rest here alive settled = thread_after_decide_at_zero p n m t a x rest here alive
+thread_after_duty p n m t a (SharedLoad x r) rest here alive settled = thread_after_shared_load p n m t a x r rest here alive
+thread_after_duty p n m t a (SharedExchange x r w) rest here alive settled = thread_after_shared_exchange p n m t a x r w rest here alive
+thread_after_duty p n m t a (SetMark x) rest here alive settled = thread_after_set_mark p n m t a x rest here alive
+thread_after_duty p n m t a (Look x) rest here alive settled = thread_after_look p n m t a x rest here alive
+thread_after_duty p n m t a (TakeMark x) rest here alive settled = thread_after_take_mark p n m t a x rest here alive
+thread_after_duty p n m t a (MergeSwap x Own) rest here alive settled = thread_after_merge_swap_own p n m t a x rest here alive
+thread_after_duty p n m t a (MergeSwap x Handed) rest here alive settled = thread_after_merge_swap_handed p n m t a x rest here alive
+thread_after_duty p n m t a (MergeLoad x c r) rest here alive settled = thread_after_merge_load p n m t a x c r rest here alive
+thread_after_duty p n m t a (MergeExchange x c w r) rest here alive settled =
+    thread_after_merge_exchange p n m t a x c w r rest here alive
+thread_after_duty p n m t a (Die x) rest here alive settled = thread_after_die p n m t a x rest here alive
+thread_after_duty p n m t a Settle rest here alive settled = thread_after_settle p n m t a rest here alive
+thread_after_duty p n m t a (SettleKind x) rest here alive settled = thread_after_settle_kind p n m t a x rest here alive
+thread_after_duty p n m t a (SettleCell x i k) rest here alive settled = thread_after_settle_cell p n m t a x i k rest here alive
+thread_after_duty p n m t a (TakeSlot x) rest here alive settled = thread_after_take_slot p n m t a x rest here alive
+thread_after_duty p n m t a (CloseResource x) rest here alive settled = thread_after_close_resource p n m t a x rest here alive
+thread_after_duty p n m t a (SettleEnd x) rest here alive settled = thread_after_settle_end p n m t a x rest here alive
+thread_after_duty p n m t a (Leave x k) rest here alive settled = thread_after_leave p n m t a x k rest here alive
+thread_after_duty p n m t a (Scan x k) rest here alive settled = thread_after_scan p n m t a x k rest here alive
+thread_after_duty p n m t a Finish rest here alive settled = thread_after_finish p n m t a rest here alive settled
+thread_after_duty p n m t a (ClaimMark x) rest here alive settled = thread_after_claim_mark p n m t a x rest here alive
+thread_after_duty p n m t a (BirthKind x h w) rest here alive settled = thread_after_birth_kind p n m t a x h w rest here alive
+thread_after_duty p n m t a (BirthSlot x h) rest here alive settled = thread_after_birth_slot p n m t a x h rest here alive
+thread_after_duty p n m t a (BirthLocal x h) rest here alive settled = thread_after_birth_local p n m t a x h rest here alive
 
 -- a thread at its first duty
 pub record Doing (p : Accounts) (n : ℕ) (m : Machine) (t : ℕ) (a : Actor) (d : Duty) (rest : List Duty) : Type 0 where
-  pub kept : Kept p n m
+  pub kept : Invariant p n m
   pub found : slice_get m.actors t ≡ Some a
   pub agenda : a.agenda ≡ d ∷ rest
   pub alive : a.status ≡ Gone → ⊥
 
 -- The first part of the theorem: a thread's next duty isn't bad, and doing it keeps the invariant.
 pub duty_kept : (p : Accounts) (n : ℕ) (m : Machine) (t : ℕ) (a : Actor) (d : Duty) (rest : List Duty)
-    → Doing p n m t a d rest → (is_bad_duty m t a d ≡ false) × Kept p n (done_by m t a d rest)
+    → Doing p n m t a d rest → (is_bad_duty m t a d ≡ false) × Invariant p n (done_by m t a d rest)
 duty_kept p n m t a d rest doing =
     let here : AtDuty p n m t a d rest =
-    record { rule = doing.kept.rule; found = doing.found; agenda = doing.agenda } in
+    record { core = doing.kept.core; found = doing.found; agenda = doing.agenda } in
     let settled : IsSettled a.head (d ∷ rest) =
     subst (IsSettled a.head) doing.agenda (doing.kept.settled t a doing.found) in (
       duty_not_bad p n m t a d rest here,
       record {
-        rule =
-            keeps_by p n m t a d rest here doing.alive (own_fits p n m t a d rest here doing.alive settled)
+        core =
+            keeps_by p n m t a d rest here doing.alive (thread_after_duty p n m t a d rest here doing.alive settled)
             (λ x. marks_after p n m t a d rest here doing.alive x);
         settled =
             λ u b is. written_actor (λ w c. IsSettled c.head c.agenda) m.actors t a
@@ -106,10 +106,10 @@ duty_kept p n m t a d rest doing =
 -- The second part: taking work up under its condition keeps the invariant.
 pub kept_sits : (p : Accounts) (n : ℕ) (m : Machine) (t : ℕ) (a : Actor) (place : Place) (agenda : List Duty)
     (account : Account)
-    → Kept p n m → AtRest p n m t a → Sits m t a place agenda account → IsSettled a.head agenda
-    → Kept (with_account p t account) n (with_actor m t (sitting a place agenda))
+    → Invariant p n m → AtRest p n m t a → Sits m t a place agenda account → IsSettled a.head agenda
+    → Invariant (with_account p t account) n (with_actor m t (sitting a place agenda))
 kept_sits p n m t a place agenda account kept rest sits settled = record {
-  rule = sits_rule p n m t a place agenda account rest sits;
+  core = sits_core p n m t a place agenda account rest sits;
   settled =
       λ u b is. written_actor (λ w c. IsSettled c.head c.agenda) m.actors t a (sitting a place agenda) rest.found
       settled kept.settled u b is;
@@ -118,7 +118,7 @@ kept_sits p n m t a place agenda account kept rest sits settled = record {
 -- the thread that has taken duties up stands at the first of them
 pub sits_down : (p : Accounts) (n : ℕ) (m : Machine) (t : ℕ) (a : Actor) (place : Place) (d : Duty) (rest : List Duty)
     (account : Account)
-    → Kept p n m → AtRest p n m t a → Sits m t a place (d ∷ rest) account → IsSettled a.head (d ∷ rest)
+    → Invariant p n m → AtRest p n m t a → Sits m t a place (d ∷ rest) account → IsSettled a.head (d ∷ rest)
     → Doing (with_account p t account) n (with_actor m t (sitting a place (d ∷ rest))) t (sitting a place (d ∷ rest)) d
     rest
 sits_down p n m t a place d rest account kept at sits settled = record {
@@ -131,14 +131,14 @@ sits_down p n m t a place d rest account kept at sits settled = record {
 -- a duty that is taken up and done at once
 pub taken_up : (p : Accounts) (n : ℕ) (m : Machine) (t : ℕ) (a : Actor) (place : Place) (d : Duty) (rest : List Duty)
     (account : Account)
-    → Kept p n m → AtRest p n m t a → Sits m t a place (d ∷ rest) account → IsSettled a.head (d ∷ rest)
-    → (is_bad_duty m t a d ≡ false) × Kept (with_account p t account) n (done_by m t (at_place a place) d rest)
+    → Invariant p n m → AtRest p n m t a → Sits m t a place (d ∷ rest) account → IsSettled a.head (d ∷ rest)
+    → (is_bad_duty m t a d ≡ false) × Invariant (with_account p t account) n (done_by m t (at_place a place) d rest)
 taken_up p n m t a place d rest account kept at sits settled =
     let now = sitting a place (d ∷ rest) in
     let done =
     duty_kept (with_account p t account) n (with_actor m t now) t now d rest
     (sits_down p n m t a place d rest account kept at sits settled) in
-    (done.0, subst (Kept (with_account p t account) n) (taken_up_step m t a place d rest) done.1)
+    (done.0, subst (Invariant (with_account p t account) n) (taken_up_step m t a place d rest) done.1)
 
 pub starts_settled : (bag : List Reference) (rows t used head : ℕ) (place : Place) (d : Duty) (rest : List Duty)
     → Starts bag rows t used d rest → Follows rows t used place rest → IsSettled head (d ∷ rest)

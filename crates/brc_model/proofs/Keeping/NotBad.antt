@@ -5,8 +5,8 @@ use Rattle.std.specs.List.{list_any}
 use Rattle.std.proofs.lemmas.Bool.{eq-eqb, ne_eqb, lt-ltb}
 use Rattle.std.proofs.lemmas.List.Sums.{sum_by-cons}
 use Rattle.brc_model.specs.declared.duty.Holding.{Holding}
-use Rattle.brc_model.specs.declared.duty.Holding.TheVariants.{ByVariable, AsCaller, InHand}
-use Rattle.brc_model.specs.Plain.{none_row, is_counted, is_among, Plain, same_holding, same, references_to, Move, Gain, Lose, HandOn, Finalise, is_allowed, are_allowed, Born, ByThread, holds_by_cells, move, without}
+use Rattle.brc_model.specs.declared.duty.Holding.TheVariants.{ByVariable, AsCaller, InFlight}
+use Rattle.brc_model.specs.AbstractState.{none_row, is_counted, is_among, AbstractState, same_holding, same, references_to, Move, Gain, Lose, PassOn, Finalise, is_allowed, are_allowed, Born, ByThread, holds_by_cells, move, without}
 use Rattle.brc_word.specs.Words.{immortal_local, local_part, is_immortal_word}
 use Rattle.brc_model.specs.declared.duty.Reason.TheVariants.{Own, Handed}
 use Rattle.brc_model.specs.declared.duty.Duty.{Duty}
@@ -15,15 +15,15 @@ use Rattle.brc_lang.specs.declared.kind.Kind.{Kind}
 use Rattle.brc_model.specs.Kinds.{kind_of_word, is_counted_kind}
 use Rattle.brc_model.specs.declared.address.Address.TheVariants.{Local, KindOf}
 use Rattle.brc_model.specs.Duties.{address_of}
-use Rattle.brc_model.specs.Machine.{Actor, Unborn, Live, Dying, Closed, Machine, hand_on, gain, lose, moves_by, birth, take_out}
+use Rattle.brc_model.specs.Machine.{Actor, Unborn, Live, Dying, Closed, Machine, put_in_flight, gain, lose, reference_effects, birth, take_out}
 use Rattle.brc_model.specs.Events.{touched_row, is_freed_for, touches_freed, is_bad_duty}
 use Rattle.brc_model.proofs.Basics.Bag.{same_holding-refl, held_has, held-le-references_to, no_cell_holds, same-refl, one_if_true}
 use Rattle.brc_model.specs.References.{held, one_if, reference_of}
-use Rattle.brc_model.specs.RowRule.{waits, decides, merges, InOwned, InSwapped, InMerged}
+use Rattle.brc_model.specs.RowInvariant.{waits, decides, merges, InOwned, InSwapped, InMerged}
 use Rattle.brc_model.specs.Accounts.{Accounts, extra_of, lacks_of}
 use Rattle.brc_model.specs.Knowledge.{IsBacked, IsNext}
 use Rattle.brc_model.specs.OpenWork.{Linked, dies_by}
-use Rattle.brc_model.specs.Invariant.{AtDuty, Rule}
+use Rattle.brc_model.specs.Invariant.{AtDuty, CoreInvariant}
 use Rattle.brc_model.proofs.Promises.Agreeing.{is_free_of}
 use Rattle.brc_model.proofs.Frame.Aside.{extra_held}
 use Rattle.brc_model.proofs.Frame.Alive.{Alive, first_weighs, alive_referenced, alive_waiting, alive_deciding, alive_merging, alive_backed}
@@ -38,10 +38,10 @@ use Rattle.brc_model.proofs.Stepping.Nones.{none_immortal}
 pub gives_held : (p : Accounts) (n : ℕ) (m : Machine) (t : ℕ) (a : Actor) (d : Duty) (rest : List Duty) (k : Holding)
     (x : ℕ)
     → AtDuty p n m t a d rest → extra_of (d ∷ rest) k x ≡ true → lacks_of (d ∷ rest) k x ≡ false
-    → 0 < held (reference_of t k x) m.plain.references
+    → 0 < held (reference_of t k x) m.abstract.references
 gives_held p n m t a d rest k x here more less =
-    let fits = here.rule.each t a here.found in
-    extra_held m.plain.references t (p t) a.agenda a.aside k x fits.0.holds (fits.2.apart x)
+    let fits = here.core.each t a here.found in
+    extra_held m.abstract.references t (p t) a.agenda a.aside k x fits.0.holds (fits.2.apart x)
     (ap (λ (l : List Duty). extra_of l k x) here.agenda ∙ more)
     (ap (λ (l : List Duty). lacks_of l k x) here.agenda ∙ less)
 
@@ -53,8 +53,8 @@ given_alive : (p : Accounts) (n : ℕ) (m : Machine) (t : ℕ) (a : Actor) (d : 
     → AtDuty p n m t a d rest → 0 < x → extra_of (d ∷ rest) k x ≡ true → lacks_of (d ∷ rest) k x ≡ false → Alive m x
 given_alive p n m t a d rest k x here pos more less =
     let some = gives_held p n m t a d rest k x here more less in
-    alive_referenced p n m x here.rule pos
-    (omega (arith, some, held-le-references_to (reference_of t k x) m.plain.references))
+    alive_referenced p n m x here.core pos
+    (omega (arith, some, held-le-references_to (reference_of t k x) m.abstract.references))
 
 -- ---- no freed row is touched
 
@@ -71,7 +71,7 @@ one_at x = ap one_if (eq-eqb x x refl)
 pub chain_head_dies : (p : Accounts) (n : ℕ) (m : Machine) (t : ℕ) (a : Actor) (rest : List Duty)
     → AtDuty p n m t a Settle rest → m.life (a.head - 1) ≡ Dying t
 chain_head_dies p n m t a rest here =
-    let chain = (here.rule.each t a here.found).0.chain in
+    let chain = (here.core.each t a here.found).0.chain in
     let some : 0 < a.head = head_of p n m t a Settle rest here in
     elim chain.chained as (λ l. chain.chained ≡ l → Linked m.memory t a.head l → m.life (a.head - 1) ≡ Dying t) [
       | [] ↦ λ e linked. absurd (omega (arith, some, linked))
@@ -86,36 +86,36 @@ chain_head_dies p n m t a rest here =
     ] refl chain.linked
 
 -- nor is what isn't born yet
-next_free : (p : Accounts) (n : ℕ) (m : Machine) (t : ℕ) (a : Actor) (x : ℕ) → Rule p n m
+next_free : (p : Accounts) (n : ℕ) (m : Machine) (t : ℕ) (a : Actor) (x : ℕ) → CoreInvariant p n m
     → slice_get m.actors t ≡ Some a
     → IsNext m t a x → touches_freed m t (Some x) ≡ false
-next_free p n m t a x rule found next = ap (is_freed_for t) (next_unborn p n m t a x rule found next)
+next_free p n m t a x core found next = ap (is_freed_for t) (next_unborn p n m t a x core found next)
 
 touches_none : (p : Accounts) (n : ℕ) (m : Machine) (t : ℕ) (a : Actor) (d : Duty) (rest : List Duty)
     → AtDuty p n m t a d rest → touches_freed m t (touched_row (address_of m.rows t a.head d)) ≡ false
-touches_none p n m t a (RetainLoad zero h) rest here = ap (is_freed_for t) here.rule.none_lives
+touches_none p n m t a (RetainLoad zero h) rest here = ap (is_freed_for t) here.core.none_lives
 touches_none p n m t a (RetainLoad (suc x) h) rest here =
-    alive_free m t (suc x) (alive_backed p n m t (suc x) here.rule (omega arith)
+    alive_free m t (suc x) (alive_backed p n m t (suc x) here.core (omega arith)
     (head_of p n m t a (RetainLoad (suc x) h) rest here))
 touches_none p n m t a (RetainStore x h w) rest here =
     let fits = head_of p n m t a (RetainStore x h w) rest here in
-    alive_free m t x (alive_backed p n m t x here.rule fits.0 fits.1)
+    alive_free m t x (alive_backed p n m t x here.core fits.0 fits.1)
 touches_none p n m t a (RetainAdd x h) rest here =
     let fits = head_of p n m t a (RetainAdd x h) rest here in
-    alive_free m t x (alive_backed p n m t x here.rule fits.0 fits.1)
-touches_none p n m t a (ReleaseLoad zero h) rest here = ap (is_freed_for t) here.rule.none_lives
+    alive_free m t x (alive_backed p n m t x here.core fits.0 fits.1)
+touches_none p n m t a (ReleaseLoad zero h) rest here = ap (is_freed_for t) here.core.none_lives
 touches_none p n m t a (ReleaseLoad (suc x) h) rest here =
     alive_free m t (suc x) (given_alive p n m t a (ReleaseLoad (suc x) h) rest h (suc x) here (omega arith)
     (holder_same h (suc x)) refl)
 touches_none p n m t a (ReleaseStore x w) rest here =
-    alive_free m t x (given_alive p n m t a (ReleaseStore x w) rest InHand x here
-    (head_of p n m t a (ReleaseStore x w) rest here).0 (holder_same InHand x) refl)
+    alive_free m t x (given_alive p n m t a (ReleaseStore x w) rest InFlight x here
+    (head_of p n m t a (ReleaseStore x w) rest here).0 (holder_same InFlight x) refl)
 touches_none p n m t a (DecideAtZero x) rest here = alive_free m t x (decide_alive p n m t a x rest here)
 touches_none p n m t a (SharedLoad x Own) rest here =
-    alive_free m t x (given_alive p n m t a (SharedLoad x Own) rest InHand x here
-    (head_of p n m t a (SharedLoad x Own) rest here) (holder_same InHand x) refl)
+    alive_free m t x (given_alive p n m t a (SharedLoad x Own) rest InFlight x here
+    (head_of p n m t a (SharedLoad x Own) rest here) (holder_same InFlight x) refl)
 touches_none p n m t a (SharedLoad x Handed) rest here =
-    alive_free m t x (alive_waiting p n m x here.rule (head_of p n m t a (SharedLoad x Handed) rest here).0
+    alive_free m t x (alive_waiting p n m x here.core (head_of p n m t a (SharedLoad x Handed) rest here).0
     (omega (
       arith,
       first_weighs (waits x) m.actors t a (SharedLoad x Handed) rest here.found here.agenda,
@@ -123,11 +123,11 @@ touches_none p n m t a (SharedLoad x Handed) rest here =
     )))
 touches_none p n m t a (SharedExchange x r w) rest here = alive_free m t x (exchange_alive p n m t a x w r rest here)
 touches_none p n m t a (MergeSwap x Own) rest here =
-    alive_free m t x (alive_deciding p n m x here.rule (head_of p n m t a (MergeSwap x Own) rest here).0
+    alive_free m t x (alive_deciding p n m x here.core (head_of p n m t a (MergeSwap x Own) rest here).0
     (omega (arith, first_weighs (decides x) m.actors t a (MergeSwap x Own) rest here.found here.agenda, one_at x)))
 touches_none p n m t a (MergeSwap x Handed) rest here = alive_free m t x (claim_alive p n m t a x rest here)
 touches_none p n m t a (MergeLoad x c r) rest here =
-    alive_free m t x (alive_merging p n m x here.rule (head_of p n m t a (MergeLoad x c r) rest here).0
+    alive_free m t x (alive_merging p n m x here.core (head_of p n m t a (MergeLoad x c r) rest here).0
     (omega (arith, first_weighs (merges x) m.actors t a (MergeLoad x c r) rest here.found here.agenda, one_at x)))
 touches_none p n m t a (MergeExchange x c w r) rest here = alive_free m t x (merge_alive p n m t a x c w r rest here)
 touches_none p n m t a (Die x) rest here = dying_free m t x (head_of p n m t a (Die x) rest here).1
@@ -138,20 +138,20 @@ touches_none p n m t a (SettleCell x i k) rest here =
 touches_none p n m t a (TakeSlot x) rest here = dying_free m t x (head_of p n m t a (TakeSlot x) rest here).1
 touches_none p n m t a (CloseResource x) rest here = dying_free m t x (head_of p n m t a (CloseResource x) rest here).1
 touches_none p n m t a (BirthKind x h w) rest here =
-    next_free p n m t a x here.rule here.found (head_of p n m t a (BirthKind x h w) rest here).0
+    next_free p n m t a x here.core here.found (head_of p n m t a (BirthKind x h w) rest here).0
 touches_none p n m t a (BirthSlot x h) rest here =
-    next_free p n m t a x here.rule here.found (head_of p n m t a (BirthSlot x h) rest here).0
+    next_free p n m t a x here.core here.found (head_of p n m t a (BirthSlot x h) rest here).0
 touches_none p n m t a (BirthLocal x h) rest here =
-    next_free p n m t a x here.rule here.found (head_of p n m t a (BirthLocal x h) rest here).0
+    next_free p n m t a x here.core here.found (head_of p n m t a (BirthLocal x h) rest here).0
 touches_none p n m t a (SettleEnd x) rest here = dying_free m t x (head_of p n m t a (SettleEnd x) rest here).1
 touches_none p n m t a _ rest here = refl
 
 -- ---- the moves are allowed
 
-one_allowed : (p : Plain) (mv : Move) → is_allowed p mv ≡ true → are_allowed p (mv ∷ []) ≡ true
+one_allowed : (p : AbstractState) (mv : Move) → is_allowed p mv ≡ true → are_allowed p (mv ∷ []) ≡ true
 one_allowed p mv e = ap (λ (b : Bool). b && true) e
 
-if_allowed : (p : Plain) (b : Bool) (mvs : List Move) → (b ≡ true → are_allowed p mvs ≡ true)
+if_allowed : (p : AbstractState) (b : Bool) (mvs : List Move) → (b ≡ true → are_allowed p mvs ≡ true)
     → are_allowed p (cond b mvs []) ≡ true
 if_allowed p true mvs e = e refl
 if_allowed p false mvs e = refl
@@ -160,19 +160,19 @@ or_true : (a : Bool) → (a || true) ≡ true
 or_true true = refl
 or_true false = refl
 
-backed_gain : (m : Machine) (t x : ℕ) (h : Holding) → IsBacked m t x → are_allowed m.plain (gain t h x) ≡ true
+backed_gain : (m : Machine) (t x : ℕ) (h : Holding) → IsBacked m t x → are_allowed m.abstract (gain t h x) ≡ true
 backed_gain m t x h backed =
-    let some : 0 < references_to x m.plain.references =
-    omega (arith, backed.held_so, held-le-references_to (reference_of t backed.by x) m.plain.references) in
-    one_allowed m.plain (Gain (reference_of t h x))
+    let some : 0 < references_to x m.abstract.references =
+    omega (arith, backed.held_so, held-le-references_to (reference_of t backed.by x) m.abstract.references) in
+    one_allowed m.abstract (Gain (reference_of t h x))
     (ap (λ (b : Bool). (x == none_row) || b) (lt-ltb 0 _ some) ∙ or_true (x == none_row))
 
 given_in_bag : (p : Accounts) (n : ℕ) (m : Machine) (t : ℕ) (a : Actor) (d : Duty) (rest : List Duty) (k : Holding)
     (x : ℕ)
     → AtDuty p n m t a d rest → extra_of (d ∷ rest) k x ≡ true → lacks_of (d ∷ rest) k x ≡ false
-    → list_any (same (reference_of t k x)) m.plain.references ≡ true
+    → list_any (same (reference_of t k x)) m.abstract.references ≡ true
 given_in_bag p n m t a d rest k x here more less =
-    held_has (reference_of t k x) m.plain.references (gives_held p n m t a d rest k x here more less)
+    held_has (reference_of t k x) m.abstract.references (gives_held p n m t a d rest k x here more less)
 
 mortal_row : (m : Machine) (x : ℕ) → Alive m x → is_immortal_word (m.memory (Local x)) ≡ false
 mortal_row m x alive = ne_eqb (local_part (m.memory (Local x))) immortal_local (elim alive.live.mode [
@@ -182,27 +182,27 @@ mortal_row m x alive = ne_eqb (local_part (m.memory (Local x))) immortal_local (
 ])
 
 -- the holder's reference is handed on, and the object isn't immortal
-hand_on_allowed : (p : Plain) (t x : ℕ) (h : Holding) → list_any (same (reference_of t h x)) p.references ≡ true
-    → are_allowed p (hand_on t h x ++ []) ≡ true
-hand_on_allowed p t x (ByVariable v) has =
-    one_allowed p (HandOn (reference_of t (ByVariable v) x) (ByThread t InHand)) has
-hand_on_allowed p t x AsCaller has = one_allowed p (HandOn (reference_of t AsCaller x) (ByThread t InHand)) has
-hand_on_allowed p t x InHand has = refl
+put_in_flight_allowed : (p : AbstractState) (t x : ℕ) (h : Holding) → list_any (same (reference_of t h x)) p.references ≡ true
+    → are_allowed p (put_in_flight t h x ++ []) ≡ true
+put_in_flight_allowed p t x (ByVariable v) has =
+    one_allowed p (PassOn (reference_of t (ByVariable v) x) (ByThread t InFlight)) has
+put_in_flight_allowed p t x AsCaller has = one_allowed p (PassOn (reference_of t AsCaller x) (ByThread t InFlight)) has
+put_in_flight_allowed p t x InFlight has = refl
 
 -- and lost from the hand at once, where the object isn't counted
-both_allowed : (p : Plain) (t x : ℕ) (h : Holding) → list_any (same (reference_of t h x)) p.references ≡ true
-    → are_allowed p (HandOn (reference_of t h x) (ByThread t InHand) ∷ lose t x) ≡ true
+both_allowed : (p : AbstractState) (t x : ℕ) (h : Holding) → list_any (same (reference_of t h x)) p.references ≡ true
+    → are_allowed p (PassOn (reference_of t h x) (ByThread t InFlight) ∷ lose t x) ≡ true
 both_allowed p t x h has =
-    let r = reference_of t InHand x in
-    ap (λ (b : Bool). b && are_allowed (move p (HandOn (reference_of t h x) (ByThread t InHand))) (lose t x)) has
-    ∙ one_allowed (move p (HandOn (reference_of t h x) (ByThread t InHand))) (Lose r)
+    let r = reference_of t InFlight x in
+    ap (λ (b : Bool). b && are_allowed (move p (PassOn (reference_of t h x) (ByThread t InFlight))) (lose t x)) has
+    ∙ one_allowed (move p (PassOn (reference_of t h x) (ByThread t InFlight))) (Lose r)
     (ap (λ (b : Bool). b || list_any (same r) (without (reference_of t h x) p.references)) (same-refl r))
 
-let_go_allowed : (p : Plain) (t x : ℕ) (h : Holding) → list_any (same (reference_of t h x)) p.references ≡ true
-    → are_allowed p (hand_on t h x ++ lose t x) ≡ true
+let_go_allowed : (p : AbstractState) (t x : ℕ) (h : Holding) → list_any (same (reference_of t h x)) p.references ≡ true
+    → are_allowed p (put_in_flight t h x ++ lose t x) ≡ true
 let_go_allowed p t x (ByVariable v) has = both_allowed p t x (ByVariable v) has
 let_go_allowed p t x AsCaller has = both_allowed p t x AsCaller has
-let_go_allowed p t x InHand has = one_allowed p (Lose (reference_of t InHand x)) has
+let_go_allowed p t x InFlight has = one_allowed p (Lose (reference_of t InFlight x)) has
 
 dying_is_not_live : (m : Machine) (t x : ℕ) → m.life x ≡ Dying t → (m.life x ≡ Live → ⊥)
 dying_is_not_live m t x dying e = let wrong : Dying t ≡ Live = sym dying ∙ e in cc
@@ -211,71 +211,71 @@ dying_is_not_unborn : (m : Machine) (t x : ℕ) → m.life x ≡ Dying t → (m.
 dying_is_not_unborn m t x dying e = let wrong : Dying t ≡ Unborn = sym dying ∙ e in cc
 
 -- a dying row has no reference, its cells hold none, and it wasn't closed
-finalise_allowed : (p : Accounts) (n : ℕ) (m : Machine) (t x : ℕ) → Rule p n m → 0 < x → m.life x ≡ Dying t
-    → are_allowed m.plain (Finalise x ∷ []) ≡ true
-finalise_allowed p n m t x rule pos dying =
-    let free = is_free_of p n m x rule pos (dying_is_not_live m t x dying) (dying_is_not_unborn m t x dying) in
+finalise_allowed : (p : Accounts) (n : ℕ) (m : Machine) (t x : ℕ) → CoreInvariant p n m → 0 < x → m.life x ≡ Dying t
+    → are_allowed m.abstract (Finalise x ∷ []) ≡ true
+finalise_allowed p n m t x core pos dying =
+    let free = is_free_of p n m x core pos (dying_is_not_live m t x dying) (dying_is_not_unborn m t x dying) in
     let counted : is_counted x ≡ true = lt-ltb 0 x pos in
-    let none : (references_to x m.plain.references == 0) ≡ true = eq-eqb _ _ free.references in
-    let open_still : is_among x m.plain.closed ≡ false =
-    elim (is_among x m.plain.closed) as (λ b. is_among x m.plain.closed ≡ b → b ≡ false) [
-      | true ↦ λ e. absurd (let wrong : Dying t ≡ Closed = sym dying ∙ rule.closed_is x e in cc)
+    let none : (references_to x m.abstract.references == 0) ≡ true = eq-eqb _ _ free.references in
+    let open_still : is_among x m.abstract.closed ≡ false =
+    elim (is_among x m.abstract.closed) as (λ b. is_among x m.abstract.closed ≡ b → b ≡ false) [
+      | true ↦ λ e. absurd (let wrong : Dying t ≡ Closed = sym dying ∙ core.closed_is x e in cc)
       | false ↦ λ e. refl
     ] refl in
-    let empty : holds_by_cells x m.plain.references ≡ false = no_cell_holds x m.plain.references (rule.cells_hold x) in
-    one_allowed m.plain (Finalise x) (rw (counted, none, open_still, empty) refl)
+    let empty : holds_by_cells x m.abstract.references ≡ false = no_cell_holds x m.abstract.references (core.cells_hold x) in
+    one_allowed m.abstract (Finalise x) (rw (counted, none, open_still, empty) refl)
 
 -- what is born now wasn't born before
 birth_allowed : (p : Accounts) (n : ℕ) (m : Machine) (t : ℕ) (a : Actor) (x : ℕ) (h : Holding) (kind : Kind)
-    → Rule p n m → slice_get m.actors t ≡ Some a → IsNext m t a x
-    → is_counted_kind kind ≡ true → are_allowed m.plain (birth t h x kind) ≡ true
-birth_allowed p n m t a x h kind rule found next counts =
+    → CoreInvariant p n m → slice_get m.actors t ≡ Some a → IsNext m t a x
+    → is_counted_kind kind ≡ true → are_allowed m.abstract (birth t h x kind) ≡ true
+birth_allowed p n m t a x h kind core found next counts =
     let above = next_above m t a x next in
     let counted : is_counted x ≡ true = lt-ltb 0 x (omega (arith, above)) in
-    let new : is_among x m.plain.born ≡ false =
-    elim (is_among x m.plain.born) as (λ b. is_among x m.plain.born ≡ b → b ≡ false) [
-      | true ↦ λ e. absurd ((rule.born_is x e).1 (next_unborn p n m t a x rule found next))
+    let new : is_among x m.abstract.born ≡ false =
+    elim (is_among x m.abstract.born) as (λ b. is_among x m.abstract.born ≡ b → b ≡ false) [
+      | true ↦ λ e. absurd ((core.born_is x e).1 (next_unborn p n m t a x core found next))
       | false ↦ λ e. refl
     ] refl in
-    one_allowed m.plain (Born (reference_of t h x) kind) (rw (counted, counts, new) refl)
+    one_allowed m.abstract (Born (reference_of t h x) kind) (rw (counted, counts, new) refl)
 
 moves_allowed : (p : Accounts) (n : ℕ) (m : Machine) (t : ℕ) (a : Actor) (d : Duty) (rest : List Duty)
     → AtDuty p n m t a d rest
-    → are_allowed m.plain (moves_by m.memory t d (m.memory (address_of m.rows t a.head d))) ≡ true
+    → are_allowed m.abstract (reference_effects m.memory t d (m.memory (address_of m.rows t a.head d))) ≡ true
 moves_allowed p n m t a (RetainLoad x h) rest here =
-    if_allowed m.plain (is_immortal_word (m.memory (Local x))) (gain t h x)
+    if_allowed m.abstract (is_immortal_word (m.memory (Local x))) (gain t h x)
     (λ e. backed_gain m t x h (head_of p n m t a (RetainLoad x h) rest here))
 moves_allowed p n m t a (RetainStore x h w) rest here =
     backed_gain m t x h (head_of p n m t a (RetainStore x h w) rest here).1
 moves_allowed p n m t a (RetainAdd x h) rest here = backed_gain m t x h (head_of p n m t a (RetainAdd x h) rest here).1
 moves_allowed p n m t a (ReleaseLoad zero h) rest here =
-    ap (λ (b : Bool). are_allowed m.plain (hand_on t h 0 ++ cond b (lose t 0) [])) (none_immortal p n m here.rule)
-    ∙ let_go_allowed m.plain t 0 h (given_in_bag p n m t a (ReleaseLoad 0 h) rest h 0 here (holder_same h 0) refl)
+    ap (λ (b : Bool). are_allowed m.abstract (put_in_flight t h 0 ++ cond b (lose t 0) [])) (none_immortal p n m here.core)
+    ∙ let_go_allowed m.abstract t 0 h (given_in_bag p n m t a (ReleaseLoad 0 h) rest h 0 here (holder_same h 0) refl)
 moves_allowed p n m t a (ReleaseLoad (suc x) h) rest here =
     let alive =
     given_alive p n m t a (ReleaseLoad (suc x) h) rest h (suc x) here (omega arith) (holder_same h (suc x)) refl in
-    ap (λ (b : Bool). are_allowed m.plain (hand_on t h (suc x) ++ cond b (lose t (suc x)) []))
+    ap (λ (b : Bool). are_allowed m.abstract (put_in_flight t h (suc x) ++ cond b (lose t (suc x)) []))
     (mortal_row m (suc x) alive)
-    ∙ hand_on_allowed m.plain t (suc x) h
+    ∙ put_in_flight_allowed m.abstract t (suc x) h
     (given_in_bag p n m t a (ReleaseLoad (suc x) h) rest h (suc x) here (holder_same h (suc x)) refl)
 moves_allowed p n m t a (ReleaseStore x w) rest here =
-    one_allowed m.plain (Lose (reference_of t InHand x))
-    (given_in_bag p n m t a (ReleaseStore x w) rest InHand x here (holder_same InHand x) refl)
+    one_allowed m.abstract (Lose (reference_of t InFlight x))
+    (given_in_bag p n m t a (ReleaseStore x w) rest InFlight x here (holder_same InFlight x) refl)
 moves_allowed p n m t a (SharedExchange x Own w) rest here =
-    if_allowed m.plain _ (lose t x)
-    (λ e. one_allowed m.plain (Lose (reference_of t InHand x))
-    (given_in_bag p n m t a (SharedExchange x Own w) rest InHand x here (holder_same InHand x) refl))
+    if_allowed m.abstract _ (lose t x)
+    (λ e. one_allowed m.abstract (Lose (reference_of t InFlight x))
+    (given_in_bag p n m t a (SharedExchange x Own w) rest InFlight x here (holder_same InFlight x) refl))
 moves_allowed p n m t a (SettleCell x i k) rest here =
-    ap (λ (w : ℕ). are_allowed m.plain (take_out t x i w)) (here.rule.cells x i)
+    ap (λ (w : ℕ). are_allowed m.abstract (take_out t x i w)) (here.core.cells x i)
 moves_allowed p n m t a (SettleEnd x) rest here =
-    let fits = head_of p n m t a (SettleEnd x) rest here in finalise_allowed p n m t x here.rule fits.0 fits.1
+    let fits = head_of p n m t a (SettleEnd x) rest here in finalise_allowed p n m t x here.core fits.0 fits.1
 moves_allowed p n m t a (BirthLocal x h) rest here =
     let fits = head_of p n m t a (BirthLocal x h) rest here in
-    birth_allowed p n m t a x h (kind_of_word (m.memory (KindOf x))) here.rule here.found fits.0 fits.2
+    birth_allowed p n m t a x h (kind_of_word (m.memory (KindOf x))) here.core here.found fits.0 fits.2
 moves_allowed p n m t a _ rest here = refl
 
 pub duty_not_bad : (p : Accounts) (n : ℕ) (m : Machine) (t : ℕ) (a : Actor) (d : Duty) (rest : List Duty)
     → AtDuty p n m t a d rest → is_bad_duty m t a d ≡ false
 duty_not_bad p n m t a d rest here =
-    ap (λ (b : Bool). b || not (are_allowed m.plain (moves_by m.memory t d (m.memory (address_of m.rows t a.head d)))))
+    ap (λ (b : Bool). b || not (are_allowed m.abstract (reference_effects m.memory t d (m.memory (address_of m.rows t a.head d)))))
     (touches_none p n m t a d rest here) ∙ ap not (moves_allowed p n m t a d rest here)

@@ -10,17 +10,17 @@ use Rattle.brc_model.specs.declared.duty.Duty.TheVariants.{Die, Settle, SettleKi
 use Rattle.brc_model.specs.declared.actor.Status.{Status}
 use Rattle.brc_model.specs.declared.actor.Status.TheVariants.{Running, Leaving, Gone}
 use Rattle.brc_model.specs.declared.actor.Place.{Place}
-use Rattle.brc_model.specs.declared.actor.Place.TheVariants.{Departing}
+use Rattle.brc_model.specs.declared.actor.Place.TheVariants.{Exiting}
 use Rattle.brc_model.specs.Machine.{Actor, Machine, with_actor}
 use Rattle.brc_model.specs.References.{one_if}
-use Rattle.brc_model.specs.RowRule.{waits, carries, merges, decides, agenda_weight}
+use Rattle.brc_model.specs.RowInvariant.{waits, carries, merges, decides, agenda_weight}
 use Rattle.brc_model.specs.Accounts.{Accounts, extra, lacks, extra_of, lacks_of, extra_aside, lacks_aside}
 use Rattle.brc_model.specs.Knowledge.{HeadFits, HeadOf}
-use Rattle.brc_model.specs.OpenWork.{Later, Agenda, AgendaFits, is_about, about_of, at_hand, hand_of, scans, may_wait, is_piece, AllWait, AsideFits, IsSettled}
-use Rattle.brc_model.specs.Invariant.{looks, kind_stored, slot_stored, BlankFits, Rule, Kept}
+use Rattle.brc_model.specs.OpenWork.{Later, Agenda, AgendaFits, is_about, about_of, is_finalising, finalised_now, scans, may_wait, is_piece, AllWait, AsideFits, IsSettled}
+use Rattle.brc_model.specs.Invariant.{looks, kind_stored, slot_stored, BlankFits, CoreInvariant, Invariant}
 use Rattle.brc_model.proofs.Basics.Lists.{written_actor}
 use Rattle.brc_model.proofs.Frame.Beside.{LeavesBeside, known_beside}
-use Rattle.brc_model.proofs.Keeping.Replaced.{with_account, with_account_itself, replaced_rule}
+use Rattle.brc_model.proofs.Keeping.Replaced.{with_account, with_account_itself, replaced_core}
 
 -- the thread with other not_departing work
 abbrev pub working : Actor → List Duty → List Duty → Actor
@@ -53,7 +53,7 @@ later_waiting rows t used status place (Scan x n) waits fits = absurd cc
 later_waiting rows t used status place Finish waits fits = absurd cc
 later_waiting rows t used status place _ waits fits = fits
 
-waiting_hand : (d : Duty) (x : ℕ) → may_wait d ≡ true → at_hand d x ≡ false
+waiting_hand : (d : Duty) (x : ℕ) → may_wait d ≡ true → is_finalising d x ≡ false
 waiting_hand (Die y) x waits = absurd cc
 waiting_hand (SettleKind y) x waits = absurd cc
 waiting_hand (SettleCell y i n) x waits = absurd cc
@@ -117,13 +117,13 @@ still_wait m t a agenda aside (d ∷ ds) waits =
 
 -- Work is arranged otherwise: each weight, and whatever else is counted, is what it was.
 pub record Rearranges (m : Machine) (t : ℕ) (a : Actor) (agenda aside : List Duty) : Type 0 where
-  pub stays : (a.place ≢ Departing) × (a.status ≡ Running)
+  pub stays : (a.place ≢ Exiting) × (a.status ≡ Running)
   pub weighs : (f : Duty → ℕ) → sum_by f agenda + sum_by f aside ≡ agenda_weight f a
   pub lacks_same : (k : Holding) (x : ℕ) → one_if (lacks_of agenda k x) + lacks_aside aside k x
       ≡ one_if (lacks_of a.agenda k x) + lacks_aside a.aside k x
   pub extra_same : (k : Holding) (x : ℕ) → one_if (extra_of agenda k x) + extra_aside aside k x
       ≡ one_if (extra_of a.agenda k x) + extra_aside a.aside k x
-  pub hands : (x : ℕ) → hand_of agenda x ≡ hand_of a.agenda x
+  pub hands : (x : ℕ) → finalised_now agenda x ≡ finalised_now a.agenda x
   pub knows : HeadOf (with_actor m t (working a agenda aside)) t (working a agenda aside) agenda
   pub fits : Agenda m.rows t a.used Running a.place agenda
   pub others : AsideFits (with_actor m t (working a agenda aside)) t (working a agenda aside)
@@ -131,14 +131,14 @@ pub record Rearranges (m : Machine) (t : ℕ) (a : Actor) (agenda aside : List D
   pub scans_on : (x : ℕ) → scans x a.agenda ≡ true → scans x agenda ≡ true
   pub settled : IsSettled a.head agenda
 
-pub rearranged : (p : Accounts) (n : ℕ) (m : Machine) (t : ℕ) (a : Actor) (agenda aside : List Duty) → Kept p n m
+pub rearranged : (p : Accounts) (n : ℕ) (m : Machine) (t : ℕ) (a : Actor) (agenda aside : List Duty) → Invariant p n m
     → slice_get m.actors t ≡ Some a → Rearranges m t a agenda aside
-    → Kept p n (with_actor m t (working a agenda aside))
+    → Invariant p n (with_actor m t (working a agenda aside))
 rearranged p n m t a agenda aside kept found new =
     let b = working a agenda aside in
-    let old = (kept.rule.each t a found).0 in
-    let rule : Rule (with_account p t (p t)) n (with_actor m t b) =
-    replaced_rule p n m t a b (p t) kept.rule found (record {
+    let old = (kept.core.each t a found).0 in
+    let core : CoreInvariant (with_account p t (p t)) n (with_actor m t b) =
+    replaced_core p n m t a b (p t) kept.core found (record {
       fits = (
         record {
           word = old.word;
@@ -146,13 +146,13 @@ rearranged p n m t a agenda aside kept found new =
             each = λ k x. omega (arith, old.holds.each k x, new.lacks_same k x, new.extra_same k x);
           };
           bounded = old.bounded;
-          departed = λ e. absurd (new.stays.0 e);
+          exited = λ e. absurd (new.stays.0 e);
           head_fits = new.knows;
           chain = record {
             chained = old.chain.chained;
             linked = old.chain.linked;
             once = λ x.
-                let hand : one_if (hand_of agenda x) ≡ one_if (hand_of a.agenda x) = ap one_if (new.hands x) in
+                let hand : one_if (finalised_now agenda x) ≡ one_if (finalised_now a.agenda x) = ap one_if (new.hands x) in
                 omega (arith, old.chain.once x, hand);
           };
         },
@@ -169,7 +169,7 @@ rearranged p n m t a agenda aside kept found new =
       scans = new.scans_on;
     }) in
     record {
-      rule = subst (λ (q : Accounts). Rule q n (with_actor m t b)) (with_account_itself p t) rule;
+      core = subst (λ (q : Accounts). CoreInvariant q n (with_actor m t b)) (with_account_itself p t) core;
       settled =
           λ u c is. written_actor (λ w q. IsSettled q.head q.agenda) m.actors t a b found new.settled kept.settled u c
           is;
@@ -178,7 +178,7 @@ rearranged p n m t a agenda aside kept found new =
 -- ---- a duty is put aside
 
 alone_stays : (rows t : ℕ) (a : Actor) (status : Status) (d : Duty) → may_wait d ≡ true → a.agenda ≡ d ∷ []
-    → AgendaFits rows t a status → (a.place ≢ Departing) × (status ≡ Running)
+    → AgendaFits rows t a status → (a.place ≢ Exiting) × (status ≡ Running)
 alone_stays rows t a Gone d waits is fits = absurd (let wrong : [] ≡ d ∷ [] = sym fits.0 ∙ is in cc)
 alone_stays rows t a Running d waits is fits =
     waiting_later rows t a.used Running a.place d waits (subst (Agenda rows t a.used Running a.place) is fits)
@@ -186,15 +186,15 @@ alone_stays rows t a Leaving d waits is fits =
     waiting_later rows t a.used Leaving a.place d waits (subst (Agenda rows t a.used Leaving a.place) is fits)
 
 -- A thread puts the only duty of its agenda aside, where that may wait.
-pub put_aside : (p : Accounts) (n : ℕ) (m : Machine) (t : ℕ) (a : Actor) (d : Duty) → Kept p n m
+pub put_aside : (p : Accounts) (n : ℕ) (m : Machine) (t : ℕ) (a : Actor) (d : Duty) → Invariant p n m
     → slice_get m.actors t ≡ Some a → a.agenda ≡ d ∷ [] → may_wait d ≡ true
-    → Kept p n (with_actor m t (working a [] (d ∷ a.aside)))
+    → Invariant p n (with_actor m t (working a [] (d ∷ a.aside)))
 put_aside p n m t a d kept found is waits =
-    let fits = kept.rule.each t a found in
+    let fits = kept.core.each t a found in
     let stays = alone_stays m.rows t a a.status d waits is fits.1 in
     let knows : HeadFits m t a d [] = subst (HeadOf m t a) is fits.0.head_fits in
     let blanks : BlankFits m.rows m.memory t a.used (d ∷ []) =
-    subst (BlankFits m.rows m.memory t a.used) is (kept.rule.blanks t a found) in
+    subst (BlankFits m.rows m.memory t a.used) is (kept.core.blanks t a found) in
     rearranged p n m t a [] (d ∷ a.aside) kept found (record {
       stays = stays;
       weighs = λ f.
@@ -208,7 +208,7 @@ put_aside p n m t a d kept found is waits =
           let old : one_if (extra_of a.agenda k x) ≡ one_if (extra d k x) =
           ap (λ (l : List Duty). one_if (extra_of l k x)) is in
           omega (arith, old, sum_by-cons (λ (e : Duty). cond (extra e k x) 1 0) d a.aside);
-      hands = λ x. sym (ap (λ (l : List Duty). hand_of l x) is ∙ waiting_hand d x waits);
+      hands = λ x. sym (ap (λ (l : List Duty). finalised_now l x) is ∙ waiting_hand d x waits);
       knows = tt;
       fits = (stays.0, refl);
       others = record {
@@ -258,27 +258,27 @@ split_off m t a (e ∷ before) after d all =
     let rest = split_off m t a before after d all.2 in
     record { waits = rest.waits; knows = rest.knows; stay = (all.0, all.1, rest.stay) }
 
-idle_stays : (rows t : ℕ) (a : Actor) (status : Status) → (a.place ≡ Departing → ⊥) → a.agenda ≡ []
-    → AgendaFits rows t a status → (a.place ≢ Departing) × (status ≡ Running)
-idle_stays rows t a Gone not_departing none fits = absurd (not_departing fits.1)
-idle_stays rows t a Running not_departing none fits = subst (Agenda rows t a.used Running a.place) none fits
-idle_stays rows t a Leaving not_departing none fits = subst (Agenda rows t a.used Leaving a.place) none fits
+idle_stays : (rows t : ℕ) (a : Actor) (status : Status) → (a.place ≡ Exiting → ⊥) → a.agenda ≡ []
+    → AgendaFits rows t a status → (a.place ≢ Exiting) × (status ≡ Running)
+idle_stays rows t a Gone not_exiting none fits = absurd (not_exiting fits.1)
+idle_stays rows t a Running not_exiting none fits = subst (Agenda rows t a.used Running a.place) none fits
+idle_stays rows t a Leaving not_exiting none fits = subst (Agenda rows t a.used Leaving a.place) none fits
 
 -- A thread with nothing at hand takes one of the duties back that it has put aside.
 pub take_back : (p : Accounts) (n : ℕ) (m : Machine) (t : ℕ) (a : Actor) (before after : List Duty) (d : Duty)
-    → Kept p n m → slice_get m.actors t ≡ Some a → a.agenda ≡ [] → a.aside ≡ before ++ d ∷ after
-    → Kept p n (with_actor m t (working a (d ∷ []) (before ++ after)))
+    → Invariant p n m → slice_get m.actors t ≡ Some a → a.agenda ≡ [] → a.aside ≡ before ++ d ∷ after
+    → Invariant p n (with_actor m t (working a (d ∷ []) (before ++ after)))
 take_back p n m t a before after d kept found none is =
-    let fits = kept.rule.each t a found in
+    let fits = kept.core.each t a found in
     let others = before ++ after in
     let it = split_off m t a before after d (subst (AllWait m t a) is fits.2.waits) in
     let one : sum_by (λ (e : Duty). 1) a.aside ≡ 1 + sum_by (λ (e : Duty). 1) others =
     ap (sum_by (λ (e : Duty). 1)) is ∙ sum_split (λ (e : Duty). 1) before after d in
-    let not_departing : a.place ≡ Departing
+    let not_exiting : a.place ≡ Exiting
     → ⊥ = λ e.
-    let empty : sum_by (λ (e : Duty). 1) a.aside ≡ 0 = ap (sum_by (λ (e : Duty). 1)) (fits.0.departed e).1 in
+    let empty : sum_by (λ (e : Duty). 1) a.aside ≡ 0 = ap (sum_by (λ (e : Duty). 1)) (fits.0.exited e).1 in
     absurd (omega (arith, empty, one)) in
-    let stays = idle_stays m.rows t a a.status not_departing none fits.1 in
+    let stays = idle_stays m.rows t a a.status not_exiting none fits.1 in
     rearranged p n m t a (d ∷ []) others kept found (record {
       stays = stays;
       weighs = λ f.
@@ -297,7 +297,7 @@ take_back p n m t a before after d kept found none is =
           ap (λ (l : List Duty). extra_aside l k x) is
           ∙ sum_split (λ (e : Duty). cond (extra e k x) 1 0) before after d in
           omega (arith, old, all);
-      hands = λ x. waiting_hand d x it.waits ∙ sym (ap (λ (l : List Duty). hand_of l x) none);
+      hands = λ x. waiting_hand d x it.waits ∙ sym (ap (λ (l : List Duty). finalised_now l x) none);
       knows = still_known m t a (d ∷ []) others d it.waits it.knows;
       fits = later_waiting m.rows t a.used Running a.place d it.waits (stays.0, refl);
       others = record {
@@ -309,7 +309,7 @@ take_back p n m t a before after d kept found none is =
         pieces = inr (waiting_piece d it.waits);
       };
       blanks =
-          let old = subst (BlankFits m.rows m.memory t a.used) none (kept.rule.blanks t a found) in
+          let old = subst (BlankFits m.rows m.memory t a.used) none (kept.core.blanks t a found) in
           record {
             kinds = λ x block past stored. old.kinds x block past refl;
             slots = λ x block past stored. old.slots x block past refl;

@@ -12,9 +12,9 @@ use Rattle.brc_model.specs.Duties.{block_of}
 use Rattle.brc_model.specs.Machine.{Actor, Machine, with_actor}
 use Rattle.brc_model.proofs.Basics.Lists.{some_is, slice_get-set_same, slice_get-set_other, written_actor}
 use Rattle.brc_model.proofs.Objects.Weights.{weight-set}
-use Rattle.brc_model.specs.RowRule.{waits, carries, merges, decides, agenda_weight, weight, Numbers, RowRule}
+use Rattle.brc_model.specs.RowInvariant.{waits, carries, merges, decides, agenda_weight, weight, Numbers, RowInvariant}
 use Rattle.brc_model.specs.Accounts.{Account, Accounts}
-use Rattle.brc_model.specs.Invariant.{numbers_of, Fits, looks, IsWatched, ByRunning, ByExit, ByLook, Rule, UsesFit, BlankFits}
+use Rattle.brc_model.specs.Invariant.{numbers_of, Fits, looks, IsWatched, ByRunning, ByExit, ByLook, CoreInvariant, UsesFit, BlankFits}
 use Rattle.brc_model.specs.OpenWork.{scans}
 use Rattle.brc_model.proofs.Frame.Others.{LeavesOthers, each_fits}
 
@@ -103,44 +103,44 @@ nothing_changes m t b = record {
   lives = λ u x ne. refl;
 }
 
-pub replaced_rule : (p : Accounts) (n : ℕ) (m : Machine) (t : ℕ) (a b : Actor) (account : Account) → Rule p n m
+pub replaced_core : (p : Accounts) (n : ℕ) (m : Machine) (t : ℕ) (a b : Actor) (account : Account) → CoreInvariant p n m
     → slice_get m.actors t ≡ Some a → Replaces m t a b account
-    → Rule (with_account p t account) n (with_actor m t b)
-replaced_rule p n m t a b account rule found new = record {
-  threads = length-set m.actors t b ∙ rule.threads;
-  some_rows = rule.some_rows;
-  few_threads = rule.few_threads;
-  few_rows = rule.few_rows;
+    → CoreInvariant (with_account p t account) n (with_actor m t b)
+replaced_core p n m t a b account core found new = record {
+  threads = length-set m.actors t b ∙ core.threads;
+  some_rows = core.some_rows;
+  few_threads = core.few_threads;
+  few_rows = core.few_rows;
   rows =
-      λ x pos. subst (λ (k : Numbers). RowRule (block_of m.rows x) (m.life x) k)
-      (same_numbers m t a b account x found new) (rule.rows x pos);
-  marks = λ x. elim (rule.marks x) [
+      λ x pos. subst (λ (k : Numbers). RowInvariant (block_of m.rows x) (m.life x) k)
+      (same_numbers m t a b account x found new) (core.rows x pos);
+  marks = λ x. elim (core.marks x) [
     | inl none ↦ inl none
     | inr set ↦ inr (set.0, set.1, still_watched m t a b account x found new set.2)
   ];
   each =
       each_fits p (with_account p t account) m (with_actor m t b) t a b found (nothing_changes m t b)
       (with_account_other p t account)
-      (subst (λ (c : Account). Fits c (with_actor m t b) t b) (with_account_same p t account) new.fits) rule.each;
-  beyond = rule.beyond;
-  gates = rule.gates;
-  dying = rule.dying;
-  cells = rule.cells;
+      (subst (λ (c : Account). Fits c (with_actor m t b) t b) (with_account_same p t account) new.fits) core.each;
+  beyond = core.beyond;
+  gates = core.gates;
+  dying = core.dying;
+  cells = core.cells;
   uses =
       λ u c is. written_actor (λ w q. UsesFit m.rows m.life w q.used) m.actors t a b found
-      (subst (UsesFit m.rows m.life t) (sym new.used) (rule.uses t a found)) rule.uses u c is;
+      (subst (UsesFit m.rows m.life t) (sym new.used) (core.uses t a found)) core.uses u c is;
   blanks =
       λ u c is. written_actor (λ w q. BlankFits m.rows m.memory w q.used q.agenda) m.actors t a b found new.blanks
-      rule.blanks u c is;
-  no_block = rule.no_block;
-  cells_hold = rule.cells_hold;
-  none_lives = rule.none_lives;
-  born_is = rule.born_is;
-  born_has = rule.born_has;
-  born_once = rule.born_once;
-  closed_is = rule.closed_is;
-  closed_has = rule.closed_has;
-  once = rule.once;
-  kinds = rule.kinds;
-  none_word = rule.none_word;
+      core.blanks u c is;
+  no_block = core.no_block;
+  cells_hold = core.cells_hold;
+  none_lives = core.none_lives;
+  born_is = core.born_is;
+  born_has = core.born_has;
+  born_once = core.born_once;
+  closed_is = core.closed_is;
+  closed_has = core.closed_has;
+  once = core.once;
+  kinds = core.kinds;
+  none_word = core.none_word;
 }

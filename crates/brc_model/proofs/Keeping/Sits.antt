@@ -8,16 +8,16 @@ use Rattle.brc_model.specs.Duties.{address_of}
 use Rattle.brc_model.specs.declared.actor.Status.{Status}
 use Rattle.brc_model.specs.declared.actor.Status.TheVariants.{Running}
 use Rattle.brc_model.specs.declared.actor.Place.{Place}
-use Rattle.brc_model.specs.declared.actor.Place.TheVariants.{Departing}
+use Rattle.brc_model.specs.declared.actor.Place.TheVariants.{Exiting}
 use Rattle.brc_model.specs.Machine.{Actor, Machine, at_place, with_actor, actor_by, done_by}
 use Rattle.brc_model.specs.References.{one_if}
-use Rattle.brc_model.specs.RowRule.{waits, carries, merges, decides, agenda_weight, weight}
+use Rattle.brc_model.specs.RowInvariant.{waits, carries, merges, decides, agenda_weight, weight}
 use Rattle.brc_model.specs.Accounts.{Account, Accounts, HoldsAt, HoldsNone, IsBounded}
-use Rattle.brc_model.specs.OpenWork.{AsideFits, Agenda, scans, hand_of, AgendaFits}
-use Rattle.brc_model.specs.Invariant.{Fits, looks, Rule, BlankFits}
+use Rattle.brc_model.specs.OpenWork.{AsideFits, Agenda, scans, finalised_now, AgendaFits}
+use Rattle.brc_model.specs.Invariant.{Fits, looks, CoreInvariant, BlankFits}
 use Rattle.brc_model.specs.Knowledge.{HeadOf}
 use Rattle.brc_model.proofs.Objects.Weights.{weight-set}
-use Rattle.brc_model.proofs.Keeping.Replaced.{with_account, replaced_rule}
+use Rattle.brc_model.proofs.Keeping.Replaced.{with_account, replaced_core}
 
 -- the thread with another place and agenda
 abbrev pub sitting : Actor → Place → List Duty → Actor
@@ -35,13 +35,13 @@ sitting a place agenda =
 -- What a thread has to show to take up work: its account is then that of the place where it will stand.
 pub record Sits (m : Machine) (t : ℕ) (a : Actor) (place : Place) (agenda : List Duty) (account : Account)
     : Type 0 where
-  pub holds : HoldsAt m.plain.references t account agenda a.aside
+  pub holds : HoldsAt m.abstract.references t account agenda a.aside
   pub bounded : IsBounded account
-  pub departed : place ≡ Departing → HoldsNone account × (a.aside ≡ [])
+  pub exited : place ≡ Exiting → HoldsNone account × (a.aside ≡ [])
   pub aside : AsideFits (with_actor m t (sitting a place agenda)) t (sitting a place agenda)
   pub knows : HeadOf (with_actor m t (sitting a place agenda)) t (sitting a place agenda) agenda
   pub fits : Agenda m.rows t a.used Running place agenda
-  pub hands : (x : ℕ) → hand_of agenda x ≡ false
+  pub hands : (x : ℕ) → finalised_now agenda x ≡ false
   pub no_waits : (x : ℕ) → sum_by (waits x) agenda ≡ 0
   pub no_carries : (x : ℕ) → sum_by (carries x) agenda ≡ 0
   pub no_merges : (x : ℕ) → sum_by (merges x) agenda ≡ 0
@@ -50,7 +50,7 @@ pub record Sits (m : Machine) (t : ℕ) (a : Actor) (place : Place) (agenda : Li
 
 -- a thread that has nothing to do
 pub record AtRest (p : Accounts) (n : ℕ) (m : Machine) (t : ℕ) (a : Actor) : Type 0 where
-  pub rule : Rule p n m
+  pub core : CoreInvariant p n m
   pub found : slice_get m.actors t ≡ Some a
   pub agenda : a.agenda ≡ []
   pub running : a.status ≡ Running
@@ -67,15 +67,15 @@ sitting_fits : (p : Accounts) (n : ℕ) (m : Machine) (t : ℕ) (a : Actor) (pla
     → AtRest p n m t a → Sits m t a place agenda account
     → Fits account (with_actor m t (sitting a place agenda)) t (sitting a place agenda)
 sitting_fits p n m t a place agenda account rest sits =
-    let old = (rest.rule.each t a rest.found).0 in
+    let old = (rest.core.each t a rest.found).0 in
     let none : (x : ℕ)
-    → one_if (hand_of a.agenda x) ≡ one_if (hand_of agenda x) =
-    λ x. ap one_if (ap (λ (l : List Duty). hand_of l x) rest.agenda ∙ sym (sits.hands x)) in (
+    → one_if (finalised_now a.agenda x) ≡ one_if (finalised_now agenda x) =
+    λ x. ap one_if (ap (λ (l : List Duty). finalised_now l x) rest.agenda ∙ sym (sits.hands x)) in (
       record {
         word = old.word;
         holds = sits.holds;
         bounded = sits.bounded;
-        departed = sits.departed;
+        exited = sits.exited;
         head_fits = sits.knows;
         chain =
             record {
@@ -93,7 +93,7 @@ pub rest_blanks : (p : Accounts) (n : ℕ) (m : Machine) (t : ℕ) (a : Actor) (
     → AtRest p n m t a → BlankFits m.rows m.memory t a.used agenda
 rest_blanks p n m t a agenda rest =
     let old : BlankFits m.rows m.memory t a.used [] =
-    subst (λ (l : List Duty). BlankFits m.rows m.memory t a.used l) rest.agenda (rest.rule.blanks t a rest.found) in
+    subst (λ (l : List Duty). BlankFits m.rows m.memory t a.used l) rest.agenda (rest.core.blanks t a rest.found) in
     record {
       kinds = λ x block past none. old.kinds x block past refl;
       slots = λ x block past none. old.slots x block past refl;
@@ -106,12 +106,12 @@ taken_weight f a place agenda none weightless =
     let before : sum_by f a.agenda ≡ 0 = ap (sum_by f) none in omega (arith, before, weightless)
 
 -- Taking work up under its condition keeps the rule.
-pub sits_rule : (p : Accounts) (n : ℕ) (m : Machine) (t : ℕ) (a : Actor) (place : Place) (agenda : List Duty)
+pub sits_core : (p : Accounts) (n : ℕ) (m : Machine) (t : ℕ) (a : Actor) (place : Place) (agenda : List Duty)
     (account : Account)
     → AtRest p n m t a → Sits m t a place agenda account
-    → Rule (with_account p t account) n (with_actor m t (sitting a place agenda))
-sits_rule p n m t a place agenda account rest sits =
-    replaced_rule p n m t a (sitting a place agenda) account rest.rule rest.found (record {
+    → CoreInvariant (with_account p t account) n (with_actor m t (sitting a place agenda))
+sits_core p n m t a place agenda account rest sits =
+    replaced_core p n m t a (sitting a place agenda) account rest.core rest.found (record {
       fits = sitting_fits p n m t a place agenda account rest sits;
       used = refl;
       blanks = rest_blanks p n m t a agenda rest;
@@ -136,6 +136,6 @@ taken_up_step m t a place d rest =
       rows = new.rows;
       memory = new.memory;
       actors = set-set m.actors t (sitting a place (d ∷ rest)) after i;
-      plain = new.plain;
+      abstract = new.abstract;
       life = new.life;
     }

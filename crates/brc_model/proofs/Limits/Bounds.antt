@@ -12,14 +12,14 @@ use Rattle.brc_model.specs.Duties.{address_of, block_of, counts_locally}
 use Rattle.brc_model.specs.declared.actor.Status.TheVariants.{Gone}
 use Rattle.brc_model.specs.Machine.{Actor, Machine, is_running}
 use Rattle.brc_model.specs.Within.{Suits}
-use Rattle.brc_model.specs.RowRule.{carries, weight, Numbers, Phased, IsDefault, IsQueued, InOwned, InSwapped, InMerged, IsLive}
+use Rattle.brc_model.specs.RowInvariant.{carries, weight, Numbers, Phased, IsDefault, IsQueued, InOwned, InSwapped, InMerged, IsLive}
 use Rattle.brc_model.specs.Accounts.{Accounts}
-use Rattle.brc_model.specs.Invariant.{AtDuty, numbers_of, Rule}
+use Rattle.brc_model.specs.Invariant.{AtDuty, numbers_of, CoreInvariant}
 use Rattle.brc_model.proofs.Objects.RowSteps.{shared_range}
 use Rattle.brc_model.proofs.Frame.Alive.{Alive, alive_backed}
 use Rattle.brc_model.proofs.Frame.Leaves.{head_of, exchange_alive, merge_alive}
-use Rattle.brc_model.proofs.Stepping.OwnRetains.{counts_owner, count_above, weight_here}
-use Rattle.brc_model.proofs.Stepping.OwnReleases.{release_alive}
+use Rattle.brc_model.proofs.Stepping.Retains.{counts_owner, count_above, weight_here}
+use Rattle.brc_model.proofs.Stepping.Releases.{release_alive}
 use Rattle.brc_model.proofs.Work.MergesOnce.{carried_is}
 use Rattle.brc_model.proofs.Limits.FewHeld.{most_each, references_few}
 use Rattle.brc_model.specs.Limits.{thread_limit}
@@ -44,11 +44,11 @@ record NearBias (m : Machine) (x : ℕ) : Type 0 where
   some : 1 ≤ biased_part (m.memory (Shared x))
   state : phase_part (m.memory (Shared x)) ≢ 1
 
-near_bias : (p : Accounts) (n : ℕ) (m : Machine) (x : ℕ) → Rule p n m → n ≤ thread_limit → Alive m x → NearBias m x
-near_bias p n m x rule few alive =
+near_bias : (p : Accounts) (n : ℕ) (m : Machine) (x : ℕ) → CoreInvariant p n m → n ≤ thread_limit → Alive m x → NearBias m x
+near_bias p n m x core few alive =
     let says = live_few (block_of m.rows x) (numbers_of m x) alive.live in
     record {
-      high = omega (arith, alive.live.sum, says.0, references_few p n m x rule, few);
+      high = omega (arith, alive.live.sum, says.0, references_few p n m x core, few);
       some = shared_range (block_of m.rows x) (numbers_of m x) alive.live;
       state = says.1;
     }
@@ -58,14 +58,14 @@ near_bias p n m x rule few alive =
 release_suits : (p : Accounts) (n : ℕ) (m : Machine) (t : ℕ) (a : Actor) (x : ℕ) (h : Holding) (rest : List Duty)
     → AtDuty p n m t a (ReleaseLoad x h) rest → (a.status ≡ Gone → ⊥)
     → is_running a.status ≡ true → owner_part (m.memory (Local x)) ≡ t + 1 → 1 ≤ local_part (m.memory (Local x))
-release_suits p n m t a zero h rest here alive runs owner = omega (arith, here.rule.none_word)
+release_suits p n m t a zero h rest here alive runs owner = omega (arith, here.core.none_word)
 release_suits p n m t a (suc y) h rest here alive runs owner =
     let x = suc y in
     let living = release_alive p n m t a x h rest (omega arith) here in
     let counts : counts_locally t (is_running a.status) (m.memory (Local x)) ≡ true =
     ap (λ (b : Bool). b && (owner_part (m.memory (Local x)) == t + 1)) runs
     ∙ eq-eqb (owner_part (m.memory (Local x))) (t + 1) owner in
-    count_above p n m t x a here.rule here.found (counts_owner m t a x counts living)
+    count_above p n m t x a here.core here.found (counts_owner m t a x counts living)
     (weight_here p n m t x a (ReleaseLoad x h) rest here (eq-eqb x x refl) refl) living
 
 pub duty_suits : (p : Accounts) (n : ℕ) (m : Machine) (t : ℕ) (a : Actor) (d : Duty) (rest : List Duty) (count : ℕ)
@@ -75,12 +75,12 @@ duty_suits p n m t a (RetainStore x h w) rest count here alive few =
     let (pos, backed, owns, same, some, low) = head_of p n m t a (RetainStore x h w) rest here in low
 duty_suits p n m t a (RetainAdd x h) rest count here alive few =
     let fits = head_of p n m t a (RetainAdd x h) rest here in
-    let near = near_bias p n m x here.rule few (alive_backed p n m t x here.rule fits.0 fits.1) in
+    let near = near_bias p n m x here.core few (alive_backed p n m t x here.core fits.0 fits.1) in
     (record { low = omega (arith, near.high); state = near.state }, omega (arith, near.high))
 duty_suits p n m t a (ReleaseLoad x h) rest count here alive few = release_suits p n m t a x h rest here alive
 duty_suits p n m t a (ReleaseStore x w) rest count here alive few = (head_of p n m t a (ReleaseStore x w) rest here).3
 duty_suits p n m t a (SharedExchange x r w) rest count here alive few = λ same.
-    let near = near_bias p n m x here.rule few (exchange_alive p n m t a x w r rest here) in
+    let near = near_bias p n m x here.core few (exchange_alive p n m t a x w r rest here) in
     let word : biased_part (m.memory (Shared x)) ≡ biased_part w = ap biased_part same in (
       record { low = omega (arith, near.high, word); state = λ e. near.state (ap phase_part same ∙ e) },
       omega (arith, near.some, word),
@@ -88,11 +88,11 @@ duty_suits p n m t a (SharedExchange x r w) rest count here alive few = λ same.
 duty_suits p n m t a (MergeExchange x c w r) rest count here alive few = (
   (head_of p n m t a (MergeExchange x c w r) rest here).1,
   λ same.
-      let near = near_bias p n m x here.rule few (merge_alive p n m t a x c w r rest here) in
+      let near = near_bias p n m x here.core few (merge_alive p n m t a x c w r rest here) in
       let word : biased_part (m.memory (Shared x)) ≡ biased_part w = ap biased_part same in (
         record { low = omega (arith, near.high, word); state = λ e. near.state (ap phase_part same ∙ e) },
         omega (arith, near.high, word, carried_is p n m t a x c w r rest here),
       ),
 )
-duty_suits p n m t a (SettleCell x i k) rest count here alive few = omega (arith, here.rule.cells x i)
+duty_suits p n m t a (SettleCell x i k) rest count here alive few = omega (arith, here.core.cells x i)
 duty_suits p n m t a _ rest count here alive few = tt

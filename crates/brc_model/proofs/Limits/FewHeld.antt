@@ -7,17 +7,17 @@ use Rattle.std.proofs.lemmas.Bool.Decides.{eqb_tells}
 use Rattle.std.proofs.lemmas.Option.{slice_get_cases}
 use Rattle.std.proofs.lemmas.List.Sums.{sum_by-cons}
 use Rattle.brc_model.specs.declared.duty.Holding.{Holding}
-use Rattle.brc_model.specs.declared.duty.Holding.TheVariants.{ByVariable, AsCaller, InHand}
+use Rattle.brc_model.specs.declared.duty.Holding.TheVariants.{ByVariable, AsCaller, InFlight}
 use Rattle.brc_model.specs.declared.duty.Reason.TheVariants.{Own}
 use Rattle.brc_model.specs.declared.duty.Duty.{Duty}
 use Rattle.brc_model.specs.declared.duty.Duty.TheVariants.{ReleaseLoad, ReleaseStore, SharedLoad, SharedExchange}
-use Rattle.brc_model.specs.Plain.{Holder, ByThread, ByCell, Reference, same, references_to}
+use Rattle.brc_model.specs.AbstractState.{Holder, ByThread, ByCell, Reference, same, references_to}
 use Rattle.brc_model.specs.Machine.{Actor, Machine}
 use Rattle.brc_model.proofs.Basics.Bag.{same_holding-true, same-true, same-refl, held-cons, references_to-cons, one_if_true}
 use Rattle.brc_model.specs.References.{held, one_if, reference_of}
 use Rattle.brc_model.specs.Accounts.{Account, Accounts, extra, extra_of, extra_aside, most_lent, IsBounded}
 use Rattle.brc_model.specs.OpenWork.{is_about, about_of}
-use Rattle.brc_model.specs.Invariant.{Rule}
+use Rattle.brc_model.specs.Invariant.{CoreInvariant}
 use Rattle.brc_model.proofs.Basics.Lists.{and_first}
 use Rattle.brc_model.proofs.Frame.Aside.{extra_about, extra_counted}
 
@@ -84,7 +84,7 @@ covered keys (q ∷ bag) x covers =
 abbrev most_by : Holder → ℕ
 most_by (ByThread t AsCaller) = most_lent + 1
 most_by (ByThread t (ByVariable v)) = 2
-most_by (ByThread t InHand) = 2
+most_by (ByThread t InFlight) = 2
 most_by (ByCell x i) = 2
 
 abbrev most_held : Reference → ℕ
@@ -107,7 +107,7 @@ variables_of t x (suc v) tail = reference_of t (ByVariable v) x ∷ variables_of
 abbrev ways : (ℕ → Holding) → ℕ → ℕ → List Reference
 ways own x zero = []
 ways own x (suc t) =
-    reference_of t (own t) x ∷ reference_of t InHand x ∷ reference_of t AsCaller x ∷ variables_of t x 16 (ways own x t)
+    reference_of t (own t) x ∷ reference_of t InFlight x ∷ reference_of t AsCaller x ∷ variables_of t x 16 (ways own x t)
 
 -- as often as one thread may hold an object in all
 abbrev pub most_each : ℕ
@@ -116,7 +116,7 @@ most_each = 2 * most_lent + 36
 most_of_one : (t : ℕ) (h : Holding) → most_by (ByThread t h) ≤ most_lent + 1
 most_of_one t (ByVariable v) = omega arith
 most_of_one t AsCaller = omega arith
-most_of_one t InHand = omega arith
+most_of_one t InFlight = omega arith
 
 most_of_variables : (t x v : ℕ) (tail : List Reference)
     → sum_by most_held (variables_of t x v tail) ≡ 2 * v + sum_by most_held tail
@@ -135,11 +135,11 @@ most_of_ways own x (suc t) =
     let later = ways own x t in
     let variables = variables_of t x 16 later in
     let called = reference_of t AsCaller x ∷ variables in
-    let in_hand = reference_of t InHand x ∷ called in
+    let in_flight = reference_of t InFlight x ∷ called in
     omega (
       arith,
-      sum_by-cons most_held (reference_of t (own t) x) in_hand,
-      sum_by-cons most_held (reference_of t InHand x) called,
+      sum_by-cons most_held (reference_of t (own t) x) in_flight,
+      sum_by-cons most_held (reference_of t InFlight x) called,
       sum_by-cons most_held (reference_of t AsCaller x) variables,
       most_of_one t (own t),
       most_of_variables t x 16 later,
@@ -174,7 +174,7 @@ among_later : (own : ℕ → Holding) (r : Reference) (x t : ℕ) → list_any (
 among_later own r x t e =
     let rest = among_tail r t x 16 (ways own x t) e in
     or_second (same r (reference_of t (own t) x)) _
-    (or_second (same r (reference_of t InHand x)) _ (or_second (same r (reference_of t AsCaller x)) _ rest))
+    (or_second (same r (reference_of t InFlight x)) _ (or_second (same r (reference_of t AsCaller x)) _ rest))
 
 among_own : (own : ℕ → Holding) (x t : ℕ) (h : Holding) → h ≡ own t
     → list_any (same (reference_of t h x)) (ways own x (suc t)) ≡ true
@@ -186,22 +186,22 @@ among_own own x t h e =
 abbrev is_low : Holding → Type 0
 is_low (ByVariable v) = v < 16
 is_low AsCaller = Unit {0}
-is_low InHand = Unit {0}
+is_low InFlight = Unit {0}
 
 among_low : (own : ℕ → Holding) (x t : ℕ) (h : Holding) → is_low h
     → list_any (same (reference_of t h x)) (ways own x (suc t)) ≡ true
 among_low own x t (ByVariable v) low =
     let r = reference_of t (ByVariable v) x in
     or_second (same r (reference_of t (own t) x)) _
-    (or_second (same r (reference_of t InHand x)) _
+    (or_second (same r (reference_of t InFlight x)) _
     (or_second (same r (reference_of t AsCaller x)) _ (among_variables t x 16 v (ways own x t) low)))
 among_low own x t AsCaller low =
     let r = reference_of t AsCaller x in
     or_second (same r (reference_of t (own t) x)) _
-    (or_second (same r (reference_of t InHand x)) _ (or_first (same r (reference_of t AsCaller x)) _ (same-refl r)))
-among_low own x t InHand low =
-    let r = reference_of t InHand x in
-    or_second (same r (reference_of t (own t) x)) _ (or_first (same r (reference_of t InHand x)) _ (same-refl r))
+    (or_second (same r (reference_of t InFlight x)) _ (or_first (same r (reference_of t AsCaller x)) _ (same-refl r)))
+among_low own x t InFlight low =
+    let r = reference_of t InFlight x in
+    or_second (same r (reference_of t (own t) x)) _ (or_first (same r (reference_of t InFlight x)) _ (same-refl r))
 
 among_all : (own : ℕ → Holding) (r : Reference) (x t n : ℕ) → t < n → list_any (same r) (ways own x (suc t)) ≡ true
     → list_any (same r) (ways own x n) ≡ true
@@ -226,29 +226,29 @@ account_low account (ByVariable v) object bounded some = elim (cases_lt v 16) [
   | inr past ↦ absurd (omega (arith, some, bounded.sixteen v object past))
 ]
 account_low account AsCaller object bounded some = tt
-account_low account InHand object bounded some = tt
+account_low account InFlight object bounded some = tt
 
 account_most : (account : Account) (t : ℕ) (h : Holding) (object : ℕ) → IsBounded account
     → account h object + 1 ≤ most_by (ByThread t h)
 account_most account t (ByVariable v) object bounded = omega (arith, bounded.by_variable v object)
 account_most account t AsCaller object bounded = omega (arith, bounded.lent object)
-account_most account t InHand object bounded = omega (arith, bounded.in_hand object)
+account_most account t InFlight object bounded = omega (arith, bounded.in_flight object)
 
 -- how a thread holds what a duty gives up
 abbrev given_by : Duty → Holding
 given_by (ReleaseLoad x h) = h
-given_by _ = InHand
+given_by _ = InFlight
 
 extra_given : (d : Duty) (k : Holding) (object : ℕ) → extra d k object ≡ true → k ≡ given_by d
 extra_given (ReleaseLoad x h) k object e = sym (same_holding-true h k (and_first _ _ e))
-extra_given (ReleaseStore x w) k object e = sym (same_holding-true InHand k (and_first _ _ e))
-extra_given (SharedLoad x Own) k object e = sym (same_holding-true InHand k (and_first _ _ e))
-extra_given (SharedExchange x Own w) k object e = sym (same_holding-true InHand k (and_first _ _ e))
+extra_given (ReleaseStore x w) k object e = sym (same_holding-true InFlight k (and_first _ _ e))
+extra_given (SharedLoad x Own) k object e = sym (same_holding-true InFlight k (and_first _ _ e))
+extra_given (SharedExchange x Own w) k object e = sym (same_holding-true InFlight k (and_first _ _ e))
 extra_given _ k object e = absurd cc
 
 -- what the one duty about the object gives up
 abbrev given_in : ℕ → List Duty → Holding
-given_in x [] = InHand
+given_in x [] = InFlight
 given_in x (d ∷ rest) = if is_about x d then given_by d else given_in x rest
 
 given_as : (x : ℕ) (ds : List Duty) (k : Holding) → count_by (is_about x) ds ≤ 1
@@ -296,14 +296,14 @@ opened_by _ = []
 abbrev own_way : Machine → ℕ → ℕ → Holding
 own_way m x t = given_in x (opened_by (slice_get m.actors t))
 
-within_most : (p : Accounts) (n : ℕ) (m : Machine) (h : Holder) (object : ℕ) → Rule p n m
-    → held (record { holder = h; object = object }) m.plain.references ≤ most_by h
-within_most p n m (ByCell x i) object rule = omega (arith, rule.cells_hold x i object)
-within_most p n m (ByThread t k) object rule =
+within_most : (p : Accounts) (n : ℕ) (m : Machine) (h : Holder) (object : ℕ) → CoreInvariant p n m
+    → held (record { holder = h; object = object }) m.abstract.references ≤ most_by h
+within_most p n m (ByCell x i) object core = omega (arith, core.cells_hold x i object)
+within_most p n m (ByThread t k) object core =
     elim (slice_get_cases m.actors t).1 [
       | inl found ↦
           let a = found.0 in
-          let fits = rule.each t a found.2 in
+          let fits = core.each t a found.2 in
           let extra = extra_counted (opened a.agenda a.aside) k object in
           omega (
             arith,
@@ -314,20 +314,20 @@ within_most p n m (ByThread t k) object rule =
             fits.2.apart object,
             account_most (p t) t k object fits.0.bounded,
           )
-      | inr past ↦ omega (arith, rule.beyond t (omega (arith, past.0, rule.threads)) k object)
+      | inr past ↦ omega (arith, core.beyond t (omega (arith, past.0, core.threads)) k object)
     ]
 
-held_way : (p : Accounts) (n : ℕ) (m : Machine) (h : Holder) (object : ℕ) → Rule p n m
-    → 0 < held (record { holder = h; object = object }) m.plain.references
+held_way : (p : Accounts) (n : ℕ) (m : Machine) (h : Holder) (object : ℕ) → CoreInvariant p n m
+    → 0 < held (record { holder = h; object = object }) m.abstract.references
     → list_any (same (record { holder = h; object = object })) (ways (own_way m object) object n) ≡ true
-held_way p n m (ByCell x i) object rule some = absurd (omega (arith, rule.cells_hold x i object, some))
-held_way p n m (ByThread t k) object rule some =
+held_way p n m (ByCell x i) object core some = absurd (omega (arith, core.cells_hold x i object, some))
+held_way p n m (ByThread t k) object core some =
     let r = reference_of t k object in
     elim (slice_get_cases m.actors t).1 [
       | inl found ↦
           let a = found.0 in
-          let fits = rule.each t a found.2 in
-          let within : t < n = omega (arith, found.1, rule.threads) in
+          let fits = core.each t a found.2 in
+          let within : t < n = omega (arith, found.1, core.threads) in
           let all = opened a.agenda a.aside in
           let about = opened_about object a.agenda a.aside in
           let extra = opened_extra object k a.agenda a.aside in
@@ -343,24 +343,24 @@ held_way p n m (ByThread t k) object rule some =
                 (given_as object all k (omega (arith, about, fits.2.apart object)) (omega (arith, more.1)) ∙ sym own)
           ] in
           among_all (own_way m object) r object t n within at_thread
-      | inr past ↦ absurd (omega (arith, rule.beyond t (omega (arith, past.0, rule.threads)) k object, some))
+      | inr past ↦ absurd (omega (arith, core.beyond t (omega (arith, past.0, core.threads)) k object, some))
     ]
 
 -- ---- all references to an object
 
-pub references_few : (p : Accounts) (n : ℕ) (m : Machine) (x : ℕ) → Rule p n m
-    → references_to x m.plain.references ≤ most_each * n
-references_few p n m x rule =
+pub references_few : (p : Accounts) (n : ℕ) (m : Machine) (x : ℕ) → CoreInvariant p n m
+    → references_to x m.abstract.references ≤ most_each * n
+references_few p n m x core =
     let keys = ways (own_way m x) x n in
-    let covers : Covers keys m.plain.references x =
+    let covers : Covers keys m.abstract.references x =
     record {
       each = λ r is some. subst (λ (y : ℕ). list_any (same r) (ways (own_way m y) y n) ≡ true) is
-          (held_way p n m r.holder r.object rule some);
+          (held_way p n m r.holder r.object core some);
     } in
     omega (
       arith,
-      covered keys m.plain.references x covers,
-      sum_below (λ (r : Reference). held r m.plain.references) most_held keys
-          (λ r. within_most p n m r.holder r.object rule),
+      covered keys m.abstract.references x covers,
+      sum_below (λ (r : Reference). held r m.abstract.references) most_held keys
+          (λ r. within_most p n m r.holder r.object core),
       most_of_ways (own_way m x) x n,
     )

@@ -4,23 +4,23 @@ use Rattle.std.specs.Prelude.{◌==◌, ◌&&◌, nat_lt, slice_get, count_by}
 use Rattle.std.proofs.lemmas.Bool.{eq-eqb, eqb-true}
 use Rattle.std.proofs.lemmas.List.Sums.{sum_by-cons}
 use Rattle.brc_word.specs.Words.{most_local, local_part, is_immortal_word, fresh_word, dead_word, released_word, merged_word}
-use Rattle.brc_model.specs.Plain.{references_to}
+use Rattle.brc_model.specs.AbstractState.{references_to}
 use Rattle.brc_model.specs.declared.duty.Reason.{Reason}
 use Rattle.brc_model.specs.declared.duty.Reason.TheVariants.{Own, Handed}
 use Rattle.brc_model.specs.declared.duty.Duty.{Duty}
 use Rattle.brc_model.specs.declared.duty.Duty.TheVariants.{RetainLoad, RetainStore, RetainAdd, ReleaseLoad, ReleaseStore, DecideAtZero, SharedLoad, SharedExchange, SetMark, Look, TakeMark, MergeSwap, MergeLoad, MergeExchange, Die, Settle, SettleKind, SettleCell, TakeSlot, CloseResource, SettleEnd, Leave, Scan, Finish, ClaimMark, BirthKind, BirthSlot, BirthLocal}
 use Rattle.brc_model.specs.declared.address.Address.TheVariants.{KindOf, Mark}
-use Rattle.brc_model.specs.Duties.{address_of, left_by, next_by, ready, counts_locally, once_merged, merge_result, claimed, shared_result, cells_of, cells_from, release_found, block_of, has_resource}
+use Rattle.brc_model.specs.Duties.{address_of, new_word, continuation, ready, counts_locally, once_merged, merge_result, claimed, shared_result, cells_of, cells_from, release_found, block_of, has_resource}
 use Rattle.brc_model.specs.Machine.{Actor, Life, Unborn, Machine, written, is_running, actor_by, done_by}
 use Rattle.brc_model.specs.References.{one_if}
-use Rattle.brc_model.specs.RowRule.{RowRule}
+use Rattle.brc_model.specs.RowInvariant.{RowInvariant}
 use Rattle.brc_model.specs.Accounts.{Accounts}
-use Rattle.brc_model.specs.Invariant.{numbers_of, Rule}
+use Rattle.brc_model.specs.Invariant.{numbers_of, CoreInvariant}
 use Rattle.brc_model.specs.OpenWork.{Linked, dies_by}
 use Rattle.brc_model.proofs.Basics.Written.{written_load}
 use Rattle.brc_model.proofs.Basics.Lists.{written_actor}
 use Rattle.brc_model.proofs.Basics.Blocks.{born_within}
-use Rattle.brc_model.proofs.Stepping.OwnExits.{marked_born}
+use Rattle.brc_model.proofs.Stepping.Exits.{marked_born}
 use Rattle.brc_model.specs.Limits.{cell_limit}
 
 -- ---- duties
@@ -103,7 +103,7 @@ released_small k zero e = tt
 released_small k (suc y) e = absurd (omega (arith, e))
 
 next_small : (k : ℕ) (t : ℕ) (running : Bool) (head : ℕ) (d : Duty) (found : ℕ) → IsSmall k d
-    → FindsSmall k head d found → AreSmall k (next_by t running head d found)
+    → FindsSmall k head d found → AreSmall k (continuation t running head d found)
 next_small k t running head (RetainLoad x h) found small finds =
     if_small k (is_immortal_word found) [] _ (λ e. tt)
     (if_small k (counts_locally t running found && nat_lt (local_part found) most_local) _ _ (λ e. (small, tt))
@@ -170,24 +170,24 @@ ready_small k head (d ∷ rest) small = ready_step k head d rest small (ready_sm
 abbrev pub limit : ℕ → Machine → ℕ
 limit n m = 2 + (n - 1) * m.rows
 
-pub referenced_small : (p : Accounts) (n : ℕ) (m : Machine) (x : ℕ) → Rule p n m
-    → 0 < references_to x m.plain.references
+pub referenced_small : (p : Accounts) (n : ℕ) (m : Machine) (x : ℕ) → CoreInvariant p n m
+    → 0 < references_to x m.abstract.references
     → x < limit n m
-referenced_small p n m zero rule some = omega arith
-referenced_small p n m (suc x) rule some = born_within p n m (suc x) rule (λ unborn.
+referenced_small p n m zero core some = omega arith
+referenced_small p n m (suc x) core some = born_within p n m (suc x) core (λ unborn.
     let row =
-    subst (λ (l : Life). RowRule (block_of m.rows (suc x)) l (numbers_of m (suc x))) unborn
-    (rule.rows (suc x) (omega arith)) in
+    subst (λ (l : Life). RowInvariant (block_of m.rows (suc x)) l (numbers_of m (suc x))) unborn
+    (core.rows (suc x) (omega arith)) in
     absurd (omega (arith, row.references, some)))
 
-pub marked_small : (p : Accounts) (n : ℕ) (m : Machine) (x : ℕ) → Rule p n m → m.memory (Mark x) ≡ 1 → x < limit n m
-marked_small p n m x rule set = born_within p n m x rule (marked_born p n m x rule set)
+pub marked_small : (p : Accounts) (n : ℕ) (m : Machine) (x : ℕ) → CoreInvariant p n m → m.memory (Mark x) ≡ 1 → x < limit n m
+marked_small p n m x core set = born_within p n m x core (marked_born p n m x core set)
 
 -- the head of a chain is of a row that dies
-pub head_small : (p : Accounts) (n : ℕ) (m : Machine) (t : ℕ) (a : Actor) → Rule p n m → slice_get m.actors t ≡ Some a
+pub head_small : (p : Accounts) (n : ℕ) (m : Machine) (t : ℕ) (a : Actor) → CoreInvariant p n m → slice_get m.actors t ≡ Some a
     → a.head ≤ limit n m
-head_small p n m t a rule found =
-    let chain = (rule.each t a found).0.chain in
+head_small p n m t a core found =
+    let chain = (core.each t a found).0.chain in
     elim chain.chained as (λ l. chain.chained ≡ l → Linked m.memory t a.head l → a.head ≤ limit n m) [
       | [] ↦ λ e linked. omega (arith, linked)
       | x ∷ xs ↦ λ e linked.
@@ -197,7 +197,7 @@ head_small p n m t a rule found =
           let born : m.life x ≡ Unborn → ⊥ = λ unborn.
           let none : one_if (dies_by (m.life x) t) ≡ 0 = ap (λ (l : Life). one_if (dies_by l t)) unborn in
           absurd (omega (arith, chain.once x, here, count, none)) in
-          omega (arith, linked.0, born_within p n m x rule born)
+          omega (arith, linked.0, born_within p n m x core born)
     ] refl chain.linked
 
 -- ---- machines
@@ -206,19 +206,19 @@ pub record Ranges (n : ℕ) (m : Machine) : Type 0 where
   pub kinds : (x : ℕ) → cells_of (m.memory (KindOf x)) ≤ cell_limit
   pub each : (t : ℕ) (a : Actor) → slice_get m.actors t ≡ Some a → AreSmall (limit n m) a.agenda
 
-finds_small : (p : Accounts) (n : ℕ) (m : Machine) (t : ℕ) (a : Actor) (d : Duty) → Rule p n m → Ranges n m
+finds_small : (p : Accounts) (n : ℕ) (m : Machine) (t : ℕ) (a : Actor) (d : Duty) → CoreInvariant p n m → Ranges n m
     → a.head ≤ limit n m → FindsSmall (limit n m) a.head d (m.memory (address_of m.rows t a.head d))
-finds_small p n m t a Settle rule ranges head = omega (arith, head)
-finds_small p n m t a (SettleKind x) rule ranges head = ranges.kinds x
-finds_small p n m t a (SettleCell x i k) rule ranges head = rule.cells x i
-finds_small p n m t a (Scan x k) rule ranges head = λ set. marked_small p n m x rule set
-finds_small p n m t a _ rule ranges head = tt
+finds_small p n m t a Settle core ranges head = omega (arith, head)
+finds_small p n m t a (SettleKind x) core ranges head = ranges.kinds x
+finds_small p n m t a (SettleCell x i k) core ranges head = core.cells x i
+finds_small p n m t a (Scan x k) core ranges head = λ set. marked_small p n m x core set
+finds_small p n m t a _ core ranges head = tt
 
 -- what an object is stays so, or is said at its birth
 kinds_left : (m : Machine) (t : ℕ) (a : Actor) (d : Duty) (k : ℕ) (x : ℕ) → IsSmall k d
     → cells_of (m.memory (KindOf x)) ≤ cell_limit
     → cells_of (written m.memory (address_of m.rows t a.head d)
-    (left_by t a.head d (m.memory (address_of m.rows t a.head d))) (KindOf x)) ≤ 8
+    (new_word t a.head d (m.memory (address_of m.rows t a.head d))) (KindOf x)) ≤ 8
 kinds_left m t a (SettleKind y) k x small was =
     subst (λ (w : ℕ). cells_of w ≤ cell_limit) (sym (written_load m.memory (KindOf y) (KindOf x))) was
 kinds_left m t a (BirthKind y h w) k x small was =
@@ -229,17 +229,17 @@ kinds_left m t a (BirthKind y h w) k x small was =
 kinds_left m t a _ k x small was = was
 
 -- a duty that is small, done by a thread in whose place another stood
-pub duty_ranges : (p : Accounts) (n : ℕ) (m : Machine) (t : ℕ) (b a : Actor) (d : Duty) (rest : List Duty) → Rule p n m
+pub duty_ranges : (p : Accounts) (n : ℕ) (m : Machine) (t : ℕ) (b a : Actor) (d : Duty) (rest : List Duty) → CoreInvariant p n m
     → Ranges n m → slice_get m.actors t ≡ Some b → a.head ≤ limit n m
     → AreSmall (limit n m) (d ∷ rest) → Ranges n (done_by m t a d rest)
-duty_ranges p n m t b a d rest rule ranges found head small =
+duty_ranges p n m t b a d rest core ranges found head small =
     let word = m.memory (address_of m.rows t a.head d) in
     let next =
-    next_small (limit n m) t (is_running a.status) a.head d word small.0 (finds_small p n m t a d rule ranges head)
+    next_small (limit n m) t (is_running a.status) a.head d word small.0 (finds_small p n m t a d core ranges head)
     in
     record {
       kinds = λ x. kinds_left m t a d (limit n m) x small.0 (ranges.kinds x);
       each = written_actor (λ u c. AreSmall (limit n m) c.agenda) m.actors t b (actor_by t a d rest word) found
-          (ready_small (limit n m) _ (next_by t (is_running a.status) a.head d word ++ rest)
-          (both_small (limit n m) (next_by t (is_running a.status) a.head d word) rest next small.1)) ranges.each;
+          (ready_small (limit n m) _ (continuation t (is_running a.status) a.head d word ++ rest)
+          (both_small (limit n m) (continuation t (is_running a.status) a.head d word) rest next small.1)) ranges.each;
     }

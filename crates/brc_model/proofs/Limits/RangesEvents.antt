@@ -8,13 +8,13 @@ use Rattle.brc_model.specs.declared.address.Address.TheVariants.{KindOf}
 use Rattle.brc_model.specs.Duties.{cells_of}
 use Rattle.brc_model.specs.Machine.{Actor, Machine, Action, Skip, Stuck, Silent, Does, action_of, of_thread, at_place, machine_by, next_machine, machine_after, main_actor, worker_actor, first_machine, first_memory}
 use Rattle.brc_model.proofs.Basics.Lists.{some_is, slice_get-map, written_actor}
-use Rattle.brc_model.proofs.Keeping.Whole.{Whole}
+use Rattle.brc_model.proofs.Keeping.CodeInvariant.{CodeInvariant}
 use Rattle.brc_model.proofs.Dispatch.Actions.{ActionFits, action_fits}
-use Rattle.brc_model.proofs.Keeping.WholeEvents.{event_keeps}
+use Rattle.brc_model.proofs.Keeping.CodeEvents.{event_keeps}
 use Rattle.brc_model.proofs.Limits.Ranges.{limit, AreSmall, head_small, Ranges, duty_ranges}
 use Rattle.brc_model.specs.Limits.{cell_limit}
 
-action_ranges : (p : Module) (n : ℕ) (m : Machine) (t : ℕ) (a : Actor) (x : Action) → (whole : Whole p n m)
+action_ranges : (p : Module) (n : ℕ) (m : Machine) (t : ℕ) (a : Actor) (x : Action) → (whole : CodeInvariant p n m)
     → Ranges n m → slice_get m.actors t ≡ Some a → ActionFits p whole.accounts n m t a x
     → Ranges n (machine_by m t a x)
 action_ranges p n m t a Skip whole ranges found fits = ranges
@@ -26,10 +26,10 @@ action_ranges p n m t a (Silent moves place) whole ranges found fits = record {
       (ranges.each t a found) ranges.each;
 }
 action_ranges p n m t a (Does d rest place) whole ranges found fits =
-    duty_ranges whole.accounts n m t a (at_place a place) d rest whole.kept.rule ranges found
-    (head_small whole.accounts n m t a whole.kept.rule found) (fits.small (ranges.each t a found))
+    duty_ranges whole.accounts n m t a (at_place a place) d rest whole.kept.core ranges found
+    (head_small whole.accounts n m t a whole.kept.core found) (fits.small (ranges.each t a found))
 
-thread_ranges : (p : Module) (n : ℕ) (m : Machine) (t : ℕ) (choice : Choice) (o : Option Actor) → Whole p n m
+thread_ranges : (p : Module) (n : ℕ) (m : Machine) (t : ℕ) (choice : Choice) (o : Option Actor) → CodeInvariant p n m
     → Ranges n m → slice_get m.actors t ≡ o
     → Ranges n (of_thread m (λ a. machine_by m t a (action_of m.functions m.rows t a choice)) o)
 thread_ranges p n m t choice None whole ranges found = ranges
@@ -39,7 +39,7 @@ thread_ranges p n m t choice (Some a) whole ranges found =
 
 -- both invariants, of each machine that steps lead to
 pub record Bounded (p : Module) (n : ℕ) (m : Machine) : Type 0 where
-  pub whole : Whole p n m
+  pub whole : CodeInvariant p n m
   pub ranges : Ranges n m
 
 pub bounded_after : (p : Module) (n : ℕ) (m : Machine) (events : List (ℕ × Choice)) → Bounded p n m

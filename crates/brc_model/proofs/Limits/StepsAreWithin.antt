@@ -18,13 +18,13 @@ use Rattle.brc_model.proofs.Keeping.Sits.{sitting}
 use Rattle.brc_model.proofs.Keeping.Replaced.{with_account}
 use Rattle.brc_model.proofs.Keeping.Kept.{Doing}
 use Rattle.brc_model.proofs.Dispatch.Actions.{DutyFits, ActionFits, action_fits}
-use Rattle.brc_model.proofs.Promises.Safe.{first_whole}
+use Rattle.brc_model.proofs.Promises.Safe.{first_code_invariant}
 use Rattle.brc_model.proofs.Limits.Ranges.{limit, IsSmall, head_small}
 use Rattle.brc_model.proofs.Limits.RangesEvents.{Bounded, bounded_after, first_ranges}
 use Rattle.brc_model.proofs.Limits.Bounds.{duty_suits}
 use Rattle.brc_model.proofs.Basics.Blocks.{used_low, block_within}
 use Rattle.brc_model.specs.Accounts.{Accounts}
-use Rattle.brc_model.specs.Invariant.{AtDuty, Rule}
+use Rattle.brc_model.specs.Invariant.{AtDuty, CoreInvariant}
 use Rattle.brc_model.proofs.Objects.UsesAfter.{own_uses}
 use Rattle.std.proofs.Math.Nat.{mul-le-mul_right}
 use Rattle.brc_model.specs.Limits.{row_limit, thread_limit}
@@ -44,14 +44,14 @@ duty_there p n m t a (SharedLoad x r) rest here alive small = small
 duty_there p n m t a (SharedExchange x r w) rest here alive small = small
 duty_there p n m t a (SetMark x) rest here alive small = small
 duty_there p n m t a (Look x) rest here alive small =
-    let within : t < n = omega (arith, slice_get_within m.actors t a here.found, here.rule.threads) in
-    omega (arith, block_within m.rows n x here.rule.some_rows (omega (arith, within)) small, here.rule.threads)
+    let within : t < n = omega (arith, slice_get_within m.actors t a here.found, here.core.threads) in
+    omega (arith, block_within m.rows n x here.core.some_rows (omega (arith, within)) small, here.core.threads)
 duty_there p n m t a (TakeMark x) rest here alive small = small
 duty_there p n m t a (MergeSwap x r) rest here alive small = small
 duty_there p n m t a (MergeLoad x c r) rest here alive small = small
 duty_there p n m t a (MergeExchange x c w r) rest here alive small = small
 duty_there p n m t a (Die x) rest here alive small = small
-duty_there p n m t a Settle rest here alive small = omega (arith, head_small p n m t a here.rule here.found)
+duty_there p n m t a Settle rest here alive small = omega (arith, head_small p n m t a here.core here.found)
 duty_there p n m t a (SettleKind x) rest here alive small = small
 duty_there p n m t a (SettleCell x i c) rest here alive small =
     let (pos, dies, more, gate) = head_of p n m t a (SettleCell x i c) rest here in
@@ -63,8 +63,8 @@ duty_there p n m t a (Leave x c) rest here alive small = slice_get_within m.acto
 duty_there p n m t a (Scan x c) rest here alive small =
     let fits = agenda_here p n m t a (Scan x c) rest here alive in
     let some = head_of p n m t a (Scan x c) rest here in
-    used_low p n m t a x here.rule here.found
-    (omega (arith, slice_get_within m.actors t a here.found, here.rule.threads)) (omega (arith, fits.2, some))
+    used_low p n m t a x here.core here.found
+    (omega (arith, slice_get_within m.actors t a here.found, here.core.threads)) (omega (arith, fits.2, some))
 duty_there p n m t a Finish rest here alive small = slice_get_within m.actors t a here.found
 duty_there p n m t a (ClaimMark x) rest here alive small = small
 duty_there p n m t a (BirthKind x h w) rest here alive small = small.0
@@ -73,11 +73,11 @@ duty_there p n m t a (BirthLocal x h) rest here alive small = small
 
 -- ---- the thread has no more rows than there are
 
-used_within : (p : Accounts) (n : ℕ) (m : Machine) (t : ℕ) (a : Actor) (used : ℕ) → Rule p n m
+used_within : (p : Accounts) (n : ℕ) (m : Machine) (t : ℕ) (a : Actor) (used : ℕ) → CoreInvariant p n m
     → slice_get m.actors t ≡ Some a → (0 < t → used ≤ m.rows) → (t ≡ 0 → used ≡ 2) → used ≤ limit n m
-used_within p n m zero a used rule found few main = omega (arith, main refl)
-used_within p n m (suc t) a used rule found few main =
-    let within : suc t < n = omega (arith, slice_get_within m.actors (suc t) a found, rule.threads) in
+used_within p n m zero a used core found few main = omega (arith, main refl)
+used_within p n m (suc t) a used core found few main =
+    let within : suc t < n = omega (arith, slice_get_within m.actors (suc t) a found, core.threads) in
     let more : 1 * m.rows ≤ (n - 1) * m.rows = mul-le-mul_right m.rows (omega (arith, within)) in
     omega (arith, few (omega arith), more)
 
@@ -85,24 +85,24 @@ duty_used : (p : Accounts) (n : ℕ) (m : Machine) (t : ℕ) (a : Actor) (d : Du
     → AtDuty p n m t a d rest → used_by a.used d ≤ limit n m
 duty_used p n m t a d rest here =
     let after = own_uses p n m t a d rest here in
-    used_within p n m t a (used_by a.used d) here.rule here.found after.few after.main
+    used_within p n m t a (used_by a.used d) here.core here.found after.few after.main
 
 -- ---- a duty
 
 duty_within : (p : Accounts) (n : ℕ) (m : Machine) (t : ℕ) (a : Actor) (d : Duty) (rest : List Duty)
     → Doing p n m t a d rest → IsSmall (limit n m) d → n ≤ thread_limit → IsWithin (world_of m) t a d
 duty_within p n m t a d rest doing small few =
-    let rule = doing.kept.rule in
-    let here : AtDuty p n m t a d rest = record { rule = rule; found = doing.found; agenda = doing.agenda } in
+    let core = doing.kept.core in
+    let here : AtDuty p n m t a d rest = record { core = core; found = doing.found; agenda = doing.agenda } in
     record {
       there =
           subst (λ (l : ℕ). IsThere (2 + (l - 1) * m.rows) (length m.actors) (address_of m.rows t a.head d))
-          (sym rule.threads) (duty_there p n m t a d rest here doing.alive small);
+          (sym core.threads) (duty_there p n m t a d rest here doing.alive small);
       head =
-          subst (λ (l : ℕ). a.head ≤ 2 + (l - 1) * m.rows) (sym rule.threads)
-          (head_small p n m t a rule doing.found);
+          subst (λ (l : ℕ). a.head ≤ 2 + (l - 1) * m.rows) (sym core.threads)
+          (head_small p n m t a core doing.found);
       used =
-          subst (λ (l : ℕ). used_by a.used d ≤ 2 + (l - 1) * m.rows) (sym rule.threads)
+          subst (λ (l : ℕ). used_by a.used d ≤ 2 + (l - 1) * m.rows) (sym core.threads)
           (duty_used p n m t a d rest here);
       suits = duty_suits p n m t a d rest (row_count (world_of m)) here doing.alive few;
     }
@@ -138,7 +138,7 @@ machine_within p n m t a bounded few found choice d rest place is =
 reached_bounded : (p : Module) (w : World) (r : IsReachable p w)
     → Bounded p (1 + length r.calls) (machine_after (first_machine p r.rows r.calls) r.events)
 reached_bounded p w r = bounded_after p (1 + length r.calls) (first_machine p r.rows r.calls) r.events (record {
-  whole = first_whole p r.rows r.calls r.fits r.accepted r.calls_fit r.some_rows r.most_rows;
+  whole = first_code_invariant p r.rows r.calls r.fits r.accepted r.calls_fit r.some_rows r.most_rows;
   ranges = first_ranges p r.rows r.calls;
 })
 
@@ -156,7 +156,7 @@ pub same_functions : (p : Module) (w : World) → IsReachable p w → w.function
 same_functions p w r = ap (λ (v : World). v.functions) r.reached ∙ (reached_bounded p w r).whole.functions
 
 threads_are : (p : Module) (w : World) (r : IsReachable p w) → length w.actors ≡ 1 + length r.calls
-threads_are p w r = ap (λ (v : World). length v.actors) r.reached ∙ (reached_bounded p w r).whole.kept.rule.threads
+threads_are p w r = ap (λ (v : World). length v.actors) r.reached ∙ (reached_bounded p w r).whole.kept.core.threads
 
 pub some_threads : (p : Module) (w : World) → IsReachable p w → 1 < length w.actors
 some_threads p w r = omega (arith, threads_are p w r, r.calls_fit.some)
@@ -168,10 +168,10 @@ pub some_rows : (p : Module) (w : World) → IsReachable p w → 0 < w.rows
 some_rows p w r =
     let same : w.rows ≡ (machine_after (first_machine p r.rows r.calls) r.events).rows =
     ap (λ (v : World). v.rows) r.reached in
-    omega (arith, same, (reached_bounded p w r).whole.kept.rule.some_rows)
+    omega (arith, same, (reached_bounded p w r).whole.kept.core.some_rows)
 
 pub few_rows : (p : Module) (w : World) → IsReachable p w → w.rows ≤ row_limit
 few_rows p w r =
     let same : w.rows ≡ (machine_after (first_machine p r.rows r.calls) r.events).rows =
     ap (λ (v : World). v.rows) r.reached in
-    omega (arith, same, (reached_bounded p w r).whole.kept.rule.few_rows)
+    omega (arith, same, (reached_bounded p w r).whole.kept.core.few_rows)

@@ -51,7 +51,7 @@ slot_stored_after_slot (suc head) y h rest x = refl
 pub blanks_here : (p : Accounts) (n : ℕ) (m : Machine) (t : ℕ) (a : Actor) (d : Duty) (rest : List Duty)
     → AtDuty p n m t a d rest → BlankFits m.rows m.memory t a.used (d ∷ rest)
 blanks_here p n m t a d rest here =
-    subst (λ (l : List Duty). BlankFits m.rows m.memory t a.used l) here.agenda (here.rule.blanks t a here.found)
+    subst (λ (l : List Duty). BlankFits m.rows m.memory t a.used l) here.agenda (here.core.blanks t a here.found)
 
 -- the row that was born isn't one of the unused any more
 born_apart : (m : Machine) (t : ℕ) (a : Actor) (y x : ℕ) → IsNext m t a y → first_row m.rows t + (a.used + 1) ≤ x
@@ -118,7 +118,7 @@ others_blanks : (p : Accounts) (n : ℕ) (m : Machine) (t : ℕ) (a : Actor) (d 
     → AtDuty p n m t a d rest → u ≢ t → slice_get m.actors u ≡ Some b
     → BlankFits m.rows (memory_by m t a d) u b.used b.agenda
 others_blanks p n m t a (BirthKind y h w) rest u b here ne found =
-    let old = here.rule.blanks u b found in
+    let old = here.core.blanks u b found in
     let next = (head_of p n m t a (BirthKind y h w) rest here).0 in
     record {
       kinds = λ x block past none.
@@ -127,7 +127,7 @@ others_blanks p n m t a (BirthKind y h w) rest u b here ne found =
       slots = old.slots;
     }
 others_blanks p n m t a (BirthSlot y h) rest u b here ne found =
-    let old = here.rule.blanks u b found in
+    let old = here.core.blanks u b found in
     let next = (head_of p n m t a (BirthSlot y h) rest here).0 in
     record {
       kinds = old.kinds;
@@ -136,19 +136,19 @@ others_blanks p n m t a (BirthSlot y h) rest u b here ne found =
           (old.slots x block past none);
     }
 others_blanks p n m t a (SettleKind y) rest u b here ne found =
-    let old = here.rule.blanks u b found in
+    let old = here.core.blanks u b found in
     record {
       kinds = λ x block past none. written_load m.memory (KindOf y) (KindOf x) ∙ old.kinds x block past none;
       slots = old.slots;
     }
 others_blanks p n m t a (TakeSlot y) rest u b here ne found =
-    let old = here.rule.blanks u b found in
+    let old = here.core.blanks u b found in
     record {
       kinds = old.kinds;
       slots = λ x block past none. zero_written (y == x) (m.memory (Slot x)) (old.slots x block past none);
     }
 others_blanks p n m t a _ rest u b here ne found =
-    let old = here.rule.blanks u b found in
+    let old = here.core.blanks u b found in
     record { kinds = old.kinds; slots = old.slots }
 
 pub blanks_after : (p : Accounts) (n : ℕ) (m : Machine) (t : ℕ) (a : Actor) (d : Duty) (rest : List Duty)

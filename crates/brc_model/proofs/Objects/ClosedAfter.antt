@@ -6,7 +6,7 @@ use Rattle.std.proofs.lemmas.List.{get_or_default}
 use Rattle.std.proofs.lemmas.List.Folds.{list_any-append, list_any-from_Any}
 use Rattle.std.proofs.lemmas.List.Quantifiers.{all_pairs_push}
 use Rattle.std.proofs.lemmas.Option.{slice_get_within}
-use Rattle.brc_model.specs.Plain.{is_among}
+use Rattle.brc_model.specs.AbstractState.{is_among}
 use Rattle.brc_model.specs.declared.duty.Duty.{Duty}
 use Rattle.brc_model.specs.Duties.{address_of}
 use Rattle.brc_model.specs.Machine.{Actor, Life, Unborn, Live, Dying, Closed, Machine, done_by}
@@ -44,16 +44,16 @@ closed_stays p n m t a d rest x here was =
     ]
 
 pub closed_is_after : (p : Accounts) (n : ℕ) (m : Machine) (t : ℕ) (a : Actor) (d : Duty) (rest : List Duty) (x : ℕ)
-    → AtDuty p n m t a d rest → is_among x (done_by m t a d rest).plain.closed ≡ true
+    → AtDuty p n m t a d rest → is_among x (done_by m t a d rest).abstract.closed ≡ true
     → (done_by m t a d rest).life x ≡ Closed
 closed_is_after p n m t a d rest x here is =
     elim (closed_step m t d (m.memory (address_of m.rows t a.head d))) [
       | SameClosed none same ↦
-          closed_stays p n m t a d rest x here (here.rule.closed_is x (sym (ap (is_among x) same) ∙ is))
+          closed_stays p n m t a d rest x here (here.core.closed_is x (sym (ap (is_among x) same) ∙ is))
       | OneMore y ended more ↦
-          elim (either_true (is_among x m.plain.closed) (is_among x (y ∷ []))
-          (sym (ap (is_among x) more ∙ list_any-append (λ z. z == x) m.plain.closed (y ∷ [])) ∙ is)) [
-            | inl old ↦ closed_stays p n m t a d rest x here (here.rule.closed_is x old)
+          elim (either_true (is_among x m.abstract.closed) (is_among x (y ∷ []))
+          (sym (ap (is_among x) more ∙ list_any-append (λ z. z == x) m.abstract.closed (y ∷ [])) ∙ is)) [
+            | inl old ↦ closed_stays p n m t a d rest x here (here.core.closed_is x old)
             | inr new ↦
                 elim (life_step p n m t a d rest x here) [
                   | GoesOn same other ↦ absurd (other (ended ∙ ap Some (one_is x y new)))
@@ -76,44 +76,44 @@ among_last x xs =
 
 pub closed_has_after : (p : Accounts) (n : ℕ) (m : Machine) (t : ℕ) (a : Actor) (d : Duty) (rest : List Duty) (x : ℕ)
     → AtDuty p n m t a d rest → (done_by m t a d rest).life x ≡ Closed
-    → is_among x (done_by m t a d rest).plain.closed ≡ true
+    → is_among x (done_by m t a d rest).abstract.closed ≡ true
 closed_has_after p n m t a d rest x here is =
     let Q : List ℕ → Type 0 = λ l. is_among x l ≡ true in
     elim (closed_step m t d (m.memory (address_of m.rows t a.head d))) [
       | SameClosed none same ↦
           subst Q (sym same) (elim (life_step p n m t a d rest x here) [
-            | GoesOn now other ↦ here.rule.closed_has x (sym now ∙ is)
+            | GoesOn now other ↦ here.core.closed_has x (sym now ∙ is)
             | BeginsToDie now alive positive e ↦ absurd (dying_not_closed t (sym now ∙ is))
             | IsClosed now dying positive ended ↦ absurd (let wrong : None ≡ Some x = sym none ∙ ended in cc)
             | IsBorn now unborn above born e ↦ absurd (live_not_closed (sym now ∙ is))
           ])
       | OneMore y ended more ↦
           subst Q (sym more) (elim (life_step p n m t a d rest x here) [
-            | GoesOn now other ↦ among_more x m.plain.closed (y ∷ []) (here.rule.closed_has x (sym now ∙ is))
+            | GoesOn now other ↦ among_more x m.abstract.closed (y ∷ []) (here.core.closed_has x (sym now ∙ is))
             | BeginsToDie now alive positive e ↦ absurd (dying_not_closed t (sym now ∙ is))
             | IsClosed now dying positive e ↦
-                subst (λ (z : ℕ). is_among x (m.plain.closed ++ z ∷ []) ≡ true) (some_is x y (sym e ∙ ended))
-                (among_last x m.plain.closed)
+                subst (λ (z : ℕ). is_among x (m.abstract.closed ++ z ∷ []) ≡ true) (some_is x y (sym e ∙ ended))
+                (among_last x m.abstract.closed)
             | IsBorn now unborn above born e ↦ absurd (live_not_closed (sym now ∙ is))
           ])
     ]
 
 pub closed_once_after : (p : Accounts) (n : ℕ) (m : Machine) (t : ℕ) (a : Actor) (d : Duty) (rest : List Duty)
-    → AtDuty p n m t a d rest → AllPairs (λ x y. x ≢ y) (done_by m t a d rest).plain.closed
+    → AtDuty p n m t a d rest → AllPairs (λ x y. x ≢ y) (done_by m t a d rest).abstract.closed
 closed_once_after p n m t a d rest here =
     let Q : List ℕ → Type 0 = λ l. AllPairs (λ x y. x ≢ y) l in
     elim (closed_step m t d (m.memory (address_of m.rows t a.head d))) [
-      | SameClosed none same ↦ subst Q (sym same) here.rule.once
+      | SameClosed none same ↦ subst Q (sym same) here.core.once
       | OneMore y ended more ↦
-          subst Q (sym more) (all_pairs_push (λ x z. x ≢ z) m.plain.closed y here.rule.once (λ k e lt same.
-          let found : is_among y m.plain.closed ≡ true =
-          list_any-from_Any (λ z. z == y) m.plain.closed
-          (k, y, lt, get_or_default m.plain.closed k y e lt ∙ same, eq-eqb y y refl) in
+          subst Q (sym more) (all_pairs_push (λ x z. x ≢ z) m.abstract.closed y here.core.once (λ k e lt same.
+          let found : is_among y m.abstract.closed ≡ true =
+          list_any-from_Any (λ z. z == y) m.abstract.closed
+          (k, y, lt, get_or_default m.abstract.closed k y e lt ∙ same, eq-eqb y y refl) in
           elim (life_step p n m t a d rest y here) [
             | GoesOn now other ↦ absurd (other ended)
-            | BeginsToDie now alive positive none ↦ absurd (live_not_closed (sym alive ∙ here.rule.closed_is y found))
-            | IsClosed now dying positive last ↦ absurd (dying_not_closed t (sym dying ∙ here.rule.closed_is y found))
-            | IsBorn now unborn above born none ↦ absurd (unborn_not_closed (sym unborn ∙ here.rule.closed_is y found))
+            | BeginsToDie now alive positive none ↦ absurd (live_not_closed (sym alive ∙ here.core.closed_is y found))
+            | IsClosed now dying positive last ↦ absurd (dying_not_closed t (sym dying ∙ here.core.closed_is y found))
+            | IsBorn now unborn above born none ↦ absurd (unborn_not_closed (sym unborn ∙ here.core.closed_is y found))
           ]))
     ]
 
@@ -123,7 +123,7 @@ pub none_lives_after : (p : Accounts) (n : ℕ) (m : Machine) (t : ℕ) (a : Act
     → AtDuty p n m t a d rest → (done_by m t a d rest).life 0 ≡ Live
 none_lives_after p n m t a d rest here =
     elim (life_step p n m t a d rest 0 here) [
-      | GoesOn now other ↦ now ∙ here.rule.none_lives
+      | GoesOn now other ↦ now ∙ here.core.none_lives
       | BeginsToDie now alive positive none ↦ absurd (omega (arith, positive))
       | IsClosed now dying positive ended ↦ absurd (omega (arith, positive))
       | IsBorn now unborn above born none ↦ absurd (omega (arith, above))
@@ -132,9 +132,9 @@ none_lives_after p n m t a d rest here =
 pub dying_after : (p : Accounts) (n : ℕ) (m : Machine) (t : ℕ) (a : Actor) (d : Duty) (rest : List Duty) (x u : ℕ)
     → AtDuty p n m t a d rest → n ≤ u → dies_by ((done_by m t a d rest).life x) u ≡ false
 dying_after p n m t a d rest x u here past =
-    let within : t < n = omega (arith, slice_get_within m.actors t a here.found, here.rule.threads) in
+    let within : t < n = omega (arith, slice_get_within m.actors t a here.found, here.core.threads) in
     elim (life_step p n m t a d rest x here) [
-      | GoesOn now other ↦ ap (λ (l : Life). dies_by l u) now ∙ here.rule.dying x u past
+      | GoesOn now other ↦ ap (λ (l : Life). dies_by l u) now ∙ here.core.dying x u past
       | BeginsToDie now alive positive none ↦
           ap (λ (l : Life). dies_by l u) now ∙ ne_eqb t u (λ e. absurd (omega (arith, within, past, e)))
       | IsClosed now dying positive ended ↦ ap (λ (l : Life). dies_by l u) now

@@ -3,15 +3,15 @@ use Rattle.std.proofs.Common.{◌≡◌, ℕ, zero, suc, ◌<◌, Bool, true, fa
 use Rattle.std.specs.Prelude.{◌==◌}
 use Rattle.std.proofs.lemmas.Bool.Decides.{eqb_tells}
 use Rattle.brc_model.specs.declared.duty.Holding.{Holding}
-use Rattle.brc_model.specs.declared.duty.Holding.TheVariants.{ByVariable, AsCaller, InHand}
-use Rattle.brc_model.specs.Plain.{Plain, Move, Born, Gain, Lose, HandOn, Finalise, move, moved}
+use Rattle.brc_model.specs.declared.duty.Holding.TheVariants.{ByVariable, AsCaller, InFlight}
+use Rattle.brc_model.specs.AbstractState.{AbstractState, Move, Born, Gain, Lose, PassOn, Finalise, move, moved}
 use Rattle.brc_word.specs.Words.{is_immortal_word}
 use Rattle.brc_model.specs.declared.duty.Reason.TheVariants.{Own, Handed}
 use Rattle.brc_model.specs.declared.duty.Duty.{Duty}
 use Rattle.brc_model.specs.declared.duty.Duty.TheVariants.{RetainLoad, RetainStore, RetainAdd, ReleaseLoad, ReleaseStore, DecideAtZero, SharedExchange, MergeExchange, SettleEnd, BirthLocal, SettleCell}
 use Rattle.brc_model.specs.declared.address.Address.{Address}
 use Rattle.brc_model.specs.Duties.{address_of}
-use Rattle.brc_model.specs.Machine.{Actor, Life, Unborn, Live, Dying, Closed, Machine, hand_on, gain, lose, moves_by, dies_next, ended_row, born_row, with_life, done_by, take_out}
+use Rattle.brc_model.specs.Machine.{Actor, Life, Unborn, Live, Dying, Closed, Machine, put_in_flight, gain, lose, reference_effects, dies_next, ended_row, born_row, with_life, done_by, take_out}
 use Rattle.brc_model.proofs.Basics.Lists.{some_is}
 use Rattle.brc_model.specs.Accounts.{Accounts}
 use Rattle.brc_model.specs.Knowledge.{IsNext}
@@ -26,19 +26,19 @@ abbrev KeepsClosed : Move → Type 0
 KeepsClosed (Born r kind) = Unit {0}
 KeepsClosed (Gain r) = Unit {0}
 KeepsClosed (Lose r) = Unit {0}
-KeepsClosed (HandOn r h) = Unit {0}
+KeepsClosed (PassOn r h) = Unit {0}
 KeepsClosed (Finalise x) = ⊥
 
 abbrev AllKeepClosed : List Move → Type 0
 AllKeepClosed [] = Unit {0}
 AllKeepClosed (mv ∷ mvs) = KeepsClosed mv × AllKeepClosed mvs
 
-moved_closed : (p : Plain) (mvs : List Move) → AllKeepClosed mvs → (moved p mvs).closed ≡ p.closed
+moved_closed : (p : AbstractState) (mvs : List Move) → AllKeepClosed mvs → (moved p mvs).closed ≡ p.closed
 moved_closed p [] keep = refl
 moved_closed p (Born r kind ∷ mvs) keep = moved_closed (move p (Born r kind)) mvs keep.1
 moved_closed p (Gain r ∷ mvs) keep = moved_closed (move p (Gain r)) mvs keep.1
 moved_closed p (Lose r ∷ mvs) keep = moved_closed (move p (Lose r)) mvs keep.1
-moved_closed p (HandOn r h ∷ mvs) keep = moved_closed (move p (HandOn r h)) mvs keep.1
+moved_closed p (PassOn r h ∷ mvs) keep = moved_closed (move p (PassOn r h)) mvs keep.1
 moved_closed p (Finalise x ∷ mvs) keep = absurd keep.0
 
 either_keep : (b : Bool) (mvs others : List Move) → AllKeepClosed mvs → AllKeepClosed others
@@ -50,10 +50,10 @@ append_keep : (mvs others : List Move) → AllKeepClosed mvs → AllKeepClosed o
 append_keep [] others f g = g
 append_keep (mv ∷ mvs) others f g = (f.0, append_keep mvs others f.1 g)
 
-hand_on_keeps : (t : ℕ) (h : Holding) (x : ℕ) → AllKeepClosed (hand_on t h x)
-hand_on_keeps t (ByVariable v) x = (tt, tt)
-hand_on_keeps t AsCaller x = (tt, tt)
-hand_on_keeps t InHand x = tt
+put_in_flight_keeps : (t : ℕ) (h : Holding) (x : ℕ) → AllKeepClosed (put_in_flight t h x)
+put_in_flight_keeps t (ByVariable v) x = (tt, tt)
+put_in_flight_keeps t AsCaller x = (tt, tt)
+put_in_flight_keeps t InFlight x = tt
 
 take_out_keeps : (t x i found : ℕ) → AllKeepClosed (take_out t x i found)
 take_out_keeps t x i zero = tt
@@ -61,12 +61,12 @@ take_out_keeps t x i (suc y) = (tt, tt)
 
 -- only the end of a settling closes
 moves_keep : (memory : Address → ℕ) (t : ℕ) (d : Duty) (found : ℕ) → ended_row d ≡ None
-    → AllKeepClosed (moves_by memory t d found)
+    → AllKeepClosed (reference_effects memory t d found)
 moves_keep memory t (RetainLoad x h) found e = either_keep (is_immortal_word found) (gain t h x) [] (tt, tt) tt
 moves_keep memory t (RetainStore x h w) found e = (tt, tt)
 moves_keep memory t (RetainAdd x h) found e = (tt, tt)
 moves_keep memory t (ReleaseLoad x h) found e =
-    append_keep (hand_on t h x) (cond (is_immortal_word found) (lose t x) []) (hand_on_keeps t h x)
+    append_keep (put_in_flight t h x) (cond (is_immortal_word found) (lose t x) []) (put_in_flight_keeps t h x)
     (either_keep (is_immortal_word found) (lose t x) [] (tt, tt) tt)
 moves_keep memory t (ReleaseStore x w) found e = (tt, tt)
 moves_keep memory t (SharedExchange x Own w) found e = either_keep (found == w) (lose t x) [] (tt, tt) tt
@@ -135,7 +135,7 @@ life_with p n m t a d rest x (Some y) None here dies ended =
           let positive =
           may_die_positive p n m t a d rest y here
           (next_dies t _ a.head d (m.memory (address_of m.rows t a.head d)) y
-          (cell_found p n m t a d here.rule) dies) in
+          (cell_found p n m t a d here.core) dies) in
           BeginsToDie (ap (λ (b : Bool). cond b (Dying t) (m.life x)) same.0) (ap m.life (sym same.1) ∙ alive.life)
           (subst (λ (z : ℕ). 0 < z) same.1 positive) ended
       | inr other ↦ GoesOn (ap (λ (b : Bool). cond b (Dying t) (m.life x)) other.0) (λ e. none_is_not x (sym ended ∙ e))
@@ -150,7 +150,7 @@ life_step p n m t a (BirthLocal y h) rest x here =
     elim (eqb_tells y x) [
       | inl same ↦
           IsBorn (ap (λ (b : Bool). cond b Live (m.life x)) same.0)
-          (ap m.life (sym same.1) ∙ next_unborn p n m t a y here.rule here.found next)
+          (ap m.life (sym same.1) ∙ next_unborn p n m t a y here.core here.found next)
           (subst (λ (z : ℕ). 1 < z) same.1 (next_above m t a y next)) (ap Some same.1) refl
       | inr other ↦ GoesOn (ap (λ (b : Bool). cond b Live (m.life x)) other.0) (λ e. none_is_not x e)
     ]
@@ -161,12 +161,12 @@ life_step p n m t a d rest x here =
 
 -- the closed rows grow by the one that ends
 pub data ClosedStep (m : Machine) (t : ℕ) (d : Duty) (found : ℕ) : Type 0 where
-  SameClosed : ended_row d ≡ None → (moved m.plain (moves_by m.memory t d found)).closed ≡ m.plain.closed
+  SameClosed : ended_row d ≡ None → (moved m.abstract (reference_effects m.memory t d found)).closed ≡ m.abstract.closed
       → ClosedStep m t d found
   OneMore : (y : ℕ) → ended_row d ≡ Some y
-      → (moved m.plain (moves_by m.memory t d found)).closed ≡ m.plain.closed ++ y ∷ [] → ClosedStep m t d found
+      → (moved m.abstract (reference_effects m.memory t d found)).closed ≡ m.abstract.closed ++ y ∷ [] → ClosedStep m t d found
 
 pub closed_step : (m : Machine) (t : ℕ) (d : Duty) (found : ℕ) → ClosedStep m t d found
 closed_step m t (SettleEnd x) found = OneMore x refl refl
 closed_step m t d found =
-    SameClosed refl (moved_closed m.plain (moves_by m.memory t d found) (moves_keep m.memory t d found refl))
+    SameClosed refl (moved_closed m.abstract (reference_effects m.memory t d found) (moves_keep m.memory t d found refl))

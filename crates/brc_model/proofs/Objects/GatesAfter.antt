@@ -50,10 +50,10 @@ gates_after p n m t a d rest here x =
     let Fits : Life → Type 0 = λ l. GateFits l (memory_by m t a d (Gate x)) in
     elim (life_step p n m t a d rest x here) [
       | GoesOn now other ↦
-          subst Fits (sym now) (gate_goes_on p n m t a d rest x (m.life x) here refl (here.rule.gates x))
+          subst Fits (sym now) (gate_goes_on p n m t a d rest x (m.life x) here refl (here.core.gates x))
       | BeginsToDie now alive positive none ↦ subst Fits (sym now) tt
       | IsClosed now dying positive ended ↦ subst Fits (sym now) (ended_gate m t a d x ended)
       | IsBorn now unborn above born none ↦
           subst Fits (sym now) (gate_goes_on p n m t a d rest x Unborn here unborn
-          (subst (λ (l : Life). GateFits l (m.memory (Gate x))) unborn (here.rule.gates x)))
+          (subst (λ (l : Life). GateFits l (m.memory (Gate x))) unborn (here.core.gates x)))
     ]

@@ -7,11 +7,11 @@ use Rattle.brc_lang.specs.declared.kind.Kind.{Kind}
 use Rattle.brc_lang.specs.declared.kind.Kind.TheVariants as kinds
 use Rattle.brc_word.specs.Words.{kind_part}
 use Rattle.brc_model.specs.Kinds.{kind_number, kind_numbered, kind_of_word, is_counted_kind}
-use Rattle.brc_model.specs.Plain.{Plain, Move, Born, Gain, Lose, HandOn, Finalise, move, moved}
+use Rattle.brc_model.specs.AbstractState.{AbstractState, Move, Born, Gain, Lose, PassOn, Finalise, move, moved}
 use Rattle.brc_model.specs.declared.duty.Duty.{Duty}
 use Rattle.brc_model.specs.declared.duty.Duty.TheVariants.{SettleKind, BirthKind, BirthLocal}
 use Rattle.brc_model.specs.declared.address.Address.TheVariants.{KindOf}
-use Rattle.brc_model.specs.Machine.{Actor, Unborn, Machine, moves_by, born_row, done_by}
+use Rattle.brc_model.specs.Machine.{Actor, Unborn, Machine, reference_effects, born_row, done_by}
 use Rattle.brc_model.proofs.Basics.Written.{written_apart, written_load}
 use Rattle.brc_model.proofs.Basics.Blocks.{next_unborn}
 use Rattle.brc_model.proofs.Frame.Leaves.{head_of}
@@ -48,17 +48,17 @@ counted_number n counts =
 
 -- ---- the kinds after a step
 
-moved_kinds : (p : Plain) (mvs : List Move) → AllBearNone mvs → (moved p mvs).kinds ≡ p.kinds
+moved_kinds : (p : AbstractState) (mvs : List Move) → AllBearNone mvs → (moved p mvs).kinds ≡ p.kinds
 moved_kinds p [] none = refl
 moved_kinds p (Born r kind ∷ mvs) none = absurd none.0
 moved_kinds p (Gain r ∷ mvs) none = moved_kinds (move p (Gain r)) mvs none.1
 moved_kinds p (Lose r ∷ mvs) none = moved_kinds (move p (Lose r)) mvs none.1
-moved_kinds p (HandOn r h ∷ mvs) none = moved_kinds (move p (HandOn r h)) mvs none.1
+moved_kinds p (PassOn r h ∷ mvs) none = moved_kinds (move p (PassOn r h)) mvs none.1
 moved_kinds p (Finalise x ∷ mvs) none = moved_kinds (move p (Finalise x)) mvs none.1
 
 same_kinds : (m : Machine) (t : ℕ) (d : Duty) (found : ℕ) → born_row d ≡ None
-    → (moved m.plain (moves_by m.memory t d found)).kinds ≡ m.plain.kinds
-same_kinds m t d found none = moved_kinds m.plain (moves_by m.memory t d found) (moves_none m.memory t d found none)
+    → (moved m.abstract (reference_effects m.memory t d found)).kinds ≡ m.abstract.kinds
+same_kinds m t d found none = moved_kinds m.abstract (reference_effects m.memory t d found) (moves_none m.memory t d found none)
 
 -- the kind word of what was born is left as it is
 word_stays : (p : Accounts) (n : ℕ) (m : Machine) (t : ℕ) (a : Actor) (d : Duty) (rest : List Duty) (x : ℕ)
@@ -66,29 +66,29 @@ word_stays : (p : Accounts) (n : ℕ) (m : Machine) (t : ℕ) (a : Actor) (d : D
 word_stays p n m t a (SettleKind y) rest x here born = written_load m.memory (KindOf y) (KindOf x)
 word_stays p n m t a (BirthKind y h w) rest x here born =
     let next = (head_of p n m t a (BirthKind y h w) rest here).0 in
-    let apart : y ≡ x → ⊥ = λ e. born (ap m.life (sym e) ∙ next_unborn p n m t a y here.rule here.found next) in
+    let apart : y ≡ x → ⊥ = λ e. born (ap m.life (sym e) ∙ next_unborn p n m t a y here.core here.found next) in
     written_apart m.memory (KindOf y) (KindOf x) w (ne_eqb y x apart)
 word_stays p n m t a _ rest x here born = refl
 
 -- and so is its kind
 kind_stays : (p : Accounts) (n : ℕ) (m : Machine) (t : ℕ) (a : Actor) (d : Duty) (rest : List Duty) (x : ℕ)
-    → AtDuty p n m t a d rest → m.life x ≢ Unborn → (done_by m t a d rest).plain.kinds x ≡ m.plain.kinds x
+    → AtDuty p n m t a d rest → m.life x ≢ Unborn → (done_by m t a d rest).abstract.kinds x ≡ m.abstract.kinds x
 kind_stays p n m t a (BirthLocal y h) rest x here born =
     let next = (head_of p n m t a (BirthLocal y h) rest here).0 in
-    let apart : y ≡ x → ⊥ = λ e. born (ap m.life (sym e) ∙ next_unborn p n m t a y here.rule here.found next) in
-    ap (λ (b : Bool). cond b (kind_of_word (m.memory (KindOf y))) (m.plain.kinds x)) (ne_eqb y x apart)
+    let apart : y ≡ x → ⊥ = λ e. born (ap m.life (sym e) ∙ next_unborn p n m t a y here.core here.found next) in
+    ap (λ (b : Bool). cond b (kind_of_word (m.memory (KindOf y))) (m.abstract.kinds x)) (ne_eqb y x apart)
 kind_stays p n m t a d rest x here born = ap (λ (k : ℕ → Kind). k x) (same_kinds m t d (found_by m t a d) refl)
 
 -- what is born now is of the kind that its word says
 kind_is_said : (p : Accounts) (n : ℕ) (m : Machine) (t : ℕ) (a : Actor) (d : Duty) (rest : List Duty) (x : ℕ)
     → AtDuty p n m t a d rest → born_row d ≡ Some x
-    → kind_part (memory_by m t a d (KindOf x)) ≡ kind_number ((done_by m t a d rest).plain.kinds x)
+    → kind_part (memory_by m t a d (KindOf x)) ≡ kind_number ((done_by m t a d rest).abstract.kinds x)
 kind_is_said p n m t a (BirthLocal y h) rest x here is =
     let same : y ≡ x = some_is y x is in
     let said = (head_of p n m t a (BirthLocal y h) rest here).2 in
     let word : ℕ = m.memory (KindOf y) in
-    let kind : (done_by m t a (BirthLocal y h) rest).plain.kinds x ≡ kind_of_word word =
-    ap (λ (b : Bool). cond b (kind_of_word word) (m.plain.kinds x)) (eq-eqb y x same) in
+    let kind : (done_by m t a (BirthLocal y h) rest).abstract.kinds x ≡ kind_of_word word =
+    ap (λ (b : Bool). cond b (kind_of_word word) (m.abstract.kinds x)) (eq-eqb y x same) in
     ap (λ (z : ℕ). kind_part (m.memory (KindOf z))) (sym same)
     ∙ counted_number (kind_part word) said
     ∙ ap kind_number (sym kind)
@@ -96,12 +96,12 @@ kind_is_said p n m t a _ rest x here is = absurd (let wrong : None ≡ Some x = 
 
 pub kinds_after : (p : Accounts) (n : ℕ) (m : Machine) (t : ℕ) (a : Actor) (d : Duty) (rest : List Duty)
     → AtDuty p n m t a d rest → (x : ℕ) → (done_by m t a d rest).life x ≢ Unborn
-    → kind_part ((done_by m t a d rest).memory (KindOf x)) ≡ kind_number ((done_by m t a d rest).plain.kinds x)
+    → kind_part ((done_by m t a d rest).memory (KindOf x)) ≡ kind_number ((done_by m t a d rest).abstract.kinds x)
 kinds_after p n m t a d rest here x born =
     elim (before_or_now p n m t a d rest x here born) [
       | inl was ↦
           ap kind_part (word_stays p n m t a d rest x here was)
-          ∙ here.rule.kinds x was
+          ∙ here.core.kinds x was
           ∙ ap kind_number (sym (kind_stays p n m t a d rest x here was))
       | inr now ↦ kind_is_said p n m t a d rest x here now
     ]

@@ -1,7 +1,7 @@
 -- What becomes of a row's numbers in the steps about its mark and in a merge.
 use Rattle.std.proofs.Common.{◌≡◌, ◌≢◌, ℕ, ◌+◌, ◌-◌, ◌≤◌, refl, ◌∙◌, arith}
 use Rattle.brc_word.specs.Words.{local_part, biased_part, phase_part, bias, dead_word, merged_word}
-use Rattle.brc_model.specs.RowRule.{Numbers, IsDefault, IsQueued, AtZero, AboveZero, InOwned, InSwapped, InMerged, IsLive, IsDead}
+use Rattle.brc_model.specs.RowInvariant.{Numbers, IsDefault, IsQueued, AtZero, AboveZero, InOwned, InSwapped, InMerged, IsLive, IsDead}
 use Rattle.brc_model.proofs.Objects.RowSteps.{shared_down, shared_merged, shared_range}
 
 -- ---- the handed reference of a claimed mark, once the object is merged

@@ -1,7 +1,7 @@
--- Each step that changes a row's counts keeps the row's rule.
+-- Each step that changes a row's counts keeps the row's invariant.
 use Rattle.std.proofs.Common.{◌≡◌, ◌≢◌, ℕ, ◌+◌, ◌-◌, ◌<◌, ◌≤◌, ◌∙◌, arith}
 use Rattle.brc_word.specs.Words.{most_local, owner_part, local_part, biased_part, phase_part, bias, fresh_word, dead_word, merged_word}
-use Rattle.brc_model.specs.RowRule.{Numbers, IsDefault, IsQueued, AtZero, AboveZero, InOwned, InSwapped, InMerged, IsLive, IsDead}
+use Rattle.brc_model.specs.RowInvariant.{Numbers, IsDefault, IsQueued, AtZero, AboveZero, InOwned, InSwapped, InMerged, IsLive, IsDead}
 
 -- ---- words
 

@@ -1,4 +1,4 @@
--- Each duty keeps each row's rule.
+-- Each duty keeps each row's invariant.
 use Rattle.std.proofs.Common.{◌≡◌, ℕ, ◌<◌, List, ◌∷◌, Some, arith, subst, inl, inr}
 use Rattle.std.specs.Prelude.{slice_get}
 use Rattle.std.proofs.lemmas.Bool.Decides.{eqb_tells}
@@ -8,9 +8,9 @@ use Rattle.brc_model.specs.declared.duty.Duty.TheVariants.{RetainLoad, RetainSto
 use Rattle.brc_model.specs.Duties.{block_of}
 use Rattle.brc_model.specs.declared.actor.Status.TheVariants.{Gone}
 use Rattle.brc_model.specs.Machine.{Actor, Machine, done_by}
-use Rattle.brc_model.specs.RowRule.{RowRule}
+use Rattle.brc_model.specs.RowInvariant.{RowInvariant}
 use Rattle.brc_model.specs.Accounts.{Accounts}
-use Rattle.brc_model.specs.Invariant.{AtDuty, Rule, numbers_of}
+use Rattle.brc_model.specs.Invariant.{AtDuty, CoreInvariant, numbers_of}
 use Rattle.brc_model.proofs.Objects.RowsAfterStep.{KeepsRow}
 use Rattle.brc_model.proofs.Objects.RowsAfterElsewhere.{subject, row_elsewhere}
 use Rattle.brc_model.proofs.Objects.RowsAfterLocal.{row_after_retain_load, row_after_retain_store, row_after_retain_add, row_after_release_load, row_after_release_store, row_after_decide_at_zero}
@@ -54,12 +54,12 @@ own_row p n m t a (BirthKind y h w) rest s some = row_after_birth_kind some s
 own_row p n m t a (BirthSlot y h) rest s some = row_after_birth_slot some s
 own_row p n m t a (BirthLocal y h) rest s some = row_after_birth_local s
 
-pub rows_after : (p : Accounts) (n : ℕ) (m : Machine) (t : ℕ) (a : Actor) (d : Duty) (rest : List Duty) → Rule p n m
+pub rows_after : (p : Accounts) (n : ℕ) (m : Machine) (t : ℕ) (a : Actor) (d : Duty) (rest : List Duty) → CoreInvariant p n m
     → slice_get m.actors t ≡ Some a → a.agenda ≡ d ∷ rest → (a.status ≡ Gone → ⊥)
     → (x : ℕ) → 0 < x
-    → RowRule (block_of m.rows x) ((done_by m t a d rest).life x) (numbers_of (done_by m t a d rest) x)
-rows_after p n m t a d rest rule actor agenda runs x some =
-    let s : AtDuty p n m t a d rest = record { rule = rule; found = actor; agenda = agenda } in
+    → RowInvariant (block_of m.rows x) ((done_by m t a d rest).life x) (numbers_of (done_by m t a d rest) x)
+rows_after p n m t a d rest core actor agenda runs x some =
+    let s : AtDuty p n m t a d rest = record { core = core; found = actor; agenda = agenda } in
     elim (eqb_tells (subject d) x) [
       | inl same ↦
           subst (λ (z : ℕ). KeepsRow m t a d rest z) same.1 (own_row p n m t a d rest s (omega (arith, some, same.1)))

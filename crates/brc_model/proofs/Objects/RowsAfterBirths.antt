@@ -1,4 +1,4 @@
--- A birth keeps the rule of the row that is born.
+-- A birth keeps the row's invariant that is born.
 use Rattle.std.proofs.Common.{ℕ, ◌+◌, ◌<◌, Bool, cond, List, [], ◌∷◌, refl, sym, ap, subst, arith}
 use Rattle.std.proofs.lemmas.Option.{slice_get_within}
 use Rattle.brc_model.specs.declared.duty.Holding.{Holding}
@@ -10,7 +10,7 @@ use Rattle.brc_model.specs.Duties.{block_of, has_resource}
 use Rattle.brc_model.specs.Machine.{Actor, Life, Live, Machine}
 use Rattle.brc_model.proofs.Basics.Bag.{references_to-cons}
 use Rattle.brc_model.specs.References.{reference_of}
-use Rattle.brc_model.specs.RowRule.{Numbers, IsDefault, AboveZero, InOwned, IsLive, IsUnborn, RowRule}
+use Rattle.brc_model.specs.RowInvariant.{Numbers, IsDefault, AboveZero, InOwned, IsLive, IsUnborn, RowInvariant}
 use Rattle.brc_model.specs.Accounts.{Accounts}
 use Rattle.brc_model.specs.Knowledge.{IsNext}
 use Rattle.brc_model.specs.Invariant.{AtDuty, numbers_of}
@@ -83,17 +83,17 @@ row_after_birth_local {p = p} {n = n} {m = m} {t = t} {a = a} {y = y} {h = h} {r
     let block = next_block m t a y next in
     let within = slice_get_within m.actors t a s.found in
     let unborn : IsUnborn k =
-    subst (λ (l : Life). RowRule (block_of m.rows y) l k) (next_unborn p n m t a y s.rule s.found next)
-    (s.rule.rows y (omega (arith, above))) in
+    subst (λ (l : Life). RowInvariant (block_of m.rows y) l k) (next_unborn p n m t a y s.core s.found next)
+    (s.core.rows y (omega (arith, above))) in
     row_becomes m t a (BirthLocal y h) rest y [] refl Live (ap (λ (b : Bool). cond b Live (m.life y)) (own y))
     (record k { local = local_word t 1; references = k.references + 1 }) (record {
       local = sym (written_here m.memory (Local y) (local_word t 1) (own y));
       shared = refl;
       mark = refl;
-      references = omega (arith, references_to-cons y (reference_of t h y) m.plain.references, one);
+      references = omega (arith, references_to-cons y (reference_of t h y) m.abstract.references, one);
       waiting = omega (arith, weights.waiting);
       carried = omega (arith, weights.carried);
       merging = omega (arith, weights.merging);
       deciding = omega (arith, weights.deciding);
     }) (subst (λ (o : ℕ). IsLive o (record k { local = local_word t 1; references = k.references + 1 })) (sym block)
-    (born_live t k (omega (arith, within, s.rule.threads, s.rule.few_threads)) unborn))
+    (born_live t k (omega (arith, within, s.core.threads, s.core.few_threads)) unborn))

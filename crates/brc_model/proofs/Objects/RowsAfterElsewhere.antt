@@ -2,8 +2,8 @@
 use Rattle.std.proofs.Common.{◌≡◌, ℕ, zero, suc, ◌+◌, ◌-◌, ◌<◌, Bool, true, false, cond, List, [], ◌∷◌, ◌++◌, refl, sym, ap, ◌∙◌, subst, arith}
 use Rattle.std.specs.Prelude.{◌==◌, ◌&&◌, nat_lt, if◌then◌else◌, sum_by}
 use Rattle.std.proofs.lemmas.List.Sums.{sum_by-cons}
-use Rattle.brc_model.specs.declared.duty.Holding.TheVariants.{ByVariable, AsCaller, InHand}
-use Rattle.brc_model.specs.Plain.{Reference, same, without, references_to, Plain, Move, Born, Gain, Lose, HandOn, Finalise, move, moved}
+use Rattle.brc_model.specs.declared.duty.Holding.TheVariants.{ByVariable, AsCaller, InFlight}
+use Rattle.brc_model.specs.AbstractState.{Reference, same, without, references_to, AbstractState, Move, Born, Gain, Lose, PassOn, Finalise, move, moved}
 use Rattle.brc_word.specs.Words.{most_local, is_immortal_word, local_part, fresh_word, dead_word, released_word, merged_word}
 use Rattle.brc_model.specs.declared.duty.Reason.{Reason}
 use Rattle.brc_model.specs.declared.duty.Reason.TheVariants.{Own, Handed}
@@ -11,11 +11,11 @@ use Rattle.brc_model.specs.declared.duty.Duty.{Duty}
 use Rattle.brc_model.specs.declared.duty.Duty.TheVariants.{RetainLoad, RetainStore, RetainAdd, ReleaseLoad, ReleaseStore, DecideAtZero, SharedLoad, SharedExchange, SetMark, Look, TakeMark, MergeSwap, MergeLoad, MergeExchange, Die, Settle, SettleKind, SettleCell, TakeSlot, CloseResource, SettleEnd, Leave, Scan, Finish, ClaimMark, BirthKind, BirthSlot, BirthLocal}
 use Rattle.brc_model.specs.declared.address.Address.{Address}
 use Rattle.brc_model.specs.declared.address.Address.TheVariants.{Local, Shared, Mark}
-use Rattle.brc_model.specs.Duties.{address_of, left_by, counts_locally, once_merged, merge_result, claimed, has_resource, cells_of, cells_from, release_found, next_by}
-use Rattle.brc_model.specs.Machine.{Life, Actor, Machine, is_running, same_address, written, moves_by, dies_next, with_life, ended_row, born_row, take_out}
+use Rattle.brc_model.specs.Duties.{address_of, new_word, counts_locally, once_merged, merge_result, claimed, has_resource, cells_of, cells_from, release_found, continuation}
+use Rattle.brc_model.specs.Machine.{Life, Actor, Machine, is_running, same_address, written, reference_effects, dies_next, with_life, ended_row, born_row, take_out}
 use Rattle.brc_model.proofs.Basics.Bag.{references_to-cons, same-true}
 use Rattle.brc_model.specs.References.{one_if}
-use Rattle.brc_model.specs.RowRule.{waits, carries, merges, decides}
+use Rattle.brc_model.specs.RowInvariant.{waits, carries, merges, decides}
 use Rattle.brc_model.specs.Accounts.{Accounts}
 use Rattle.brc_model.proofs.Frame.Lives.{cell_found}
 use Rattle.brc_model.proofs.Objects.RowsAfterStep.{found_by, following, KeepsRow, RowStays, row_stays}
@@ -111,21 +111,21 @@ abbrev object_of : Move → ℕ
 object_of (Born r kind) = r.object
 object_of (Gain r) = r.object
 object_of (Lose r) = r.object
-object_of (HandOn r h) = r.object
+object_of (PassOn r h) = r.object
 object_of (Finalise x) = x
 
 abbrev AreElsewhere : ℕ → List Move → Type 0
 AreElsewhere x [] = Unit {0}
 AreElsewhere x (mv ∷ ms) = ((object_of mv == x) ≡ false) × AreElsewhere x ms
 
-move_elsewhere : (x : ℕ) (p : Plain) (mv : Move) → (object_of mv == x) ≡ false
+move_elsewhere : (x : ℕ) (p : AbstractState) (mv : Move) → (object_of mv == x) ≡ false
     → references_to x p.references ≡ references_to x (move p mv).references
 move_elsewhere x p (Born r kind) other =
     let none : one_if (r.object == x) ≡ 0 = ap one_if other in omega (arith, references_to-cons x r p.references, none)
 move_elsewhere x p (Gain r) other =
     let none : one_if (r.object == x) ≡ 0 = ap one_if other in omega (arith, references_to-cons x r p.references, none)
 move_elsewhere x p (Lose r) other = sym (without_elsewhere x r p.references other)
-move_elsewhere x p (HandOn r h) other =
+move_elsewhere x p (PassOn r h) other =
     let none : one_if (r.object == x) ≡ 0 = ap one_if other in
     omega (
       arith,
@@ -135,7 +135,7 @@ move_elsewhere x p (HandOn r h) other =
     )
 move_elsewhere x p (Finalise y) other = refl
 
-moved_elsewhere : (x : ℕ) (p : Plain) (ms : List Move) → AreElsewhere x ms
+moved_elsewhere : (x : ℕ) (p : AbstractState) (ms : List Move) → AreElsewhere x ms
     → references_to x p.references ≡ references_to x (moved p ms).references
 moved_elsewhere x p [] others = refl
 moved_elsewhere x p (mv ∷ ms) others = move_elsewhere x p mv others.0 ∙ moved_elsewhere x (move p mv) ms others.1
@@ -146,11 +146,11 @@ elsewhere_if x true ms ks first second = first
 elsewhere_if x false ms ks first second = second
 
 moves_elsewhere : (memory : Address → ℕ) (x t : ℕ) (d : Duty) (found : ℕ) → (subject d == x) ≡ false
-    → ((y i n : ℕ) → d ≡ SettleCell y i n → found ≡ 0) → AreElsewhere x (moves_by memory t d found)
+    → ((y i n : ℕ) → d ≡ SettleCell y i n → found ≡ 0) → AreElsewhere x (reference_effects memory t d found)
 moves_elsewhere memory x t (RetainLoad y h) found e empty = elsewhere_if x (is_immortal_word found) _ _ (e, tt) tt
 moves_elsewhere memory x t (RetainStore y h w) found e empty = (e, tt)
 moves_elsewhere memory x t (RetainAdd y h) found e empty = (e, tt)
-moves_elsewhere memory x t (ReleaseLoad y InHand) found e empty = elsewhere_if x (is_immortal_word found) _ _ (e, tt) tt
+moves_elsewhere memory x t (ReleaseLoad y InFlight) found e empty = elsewhere_if x (is_immortal_word found) _ _ (e, tt) tt
 moves_elsewhere memory x t (ReleaseLoad y AsCaller) found e empty =
     (e, elsewhere_if x (is_immortal_word found) _ _ (e, tt) tt)
 moves_elsewhere memory x t (ReleaseLoad y (ByVariable v)) found e empty =
@@ -260,7 +260,7 @@ finish_apart x = record { waiting = refl; carried = refl; merging = refl; decidi
 pub kind_apart : (x y : ℕ) → IsApart x (SettleKind y)
 kind_apart x y = record { waiting = refl; carried = refl; merging = refl; deciding = refl; lives = λ life state. refl }
 
-release_apart : (x y : ℕ) → IsApart x (ReleaseLoad y InHand)
+release_apart : (x y : ℕ) → IsApart x (ReleaseLoad y InFlight)
 release_apart x y =
     record { waiting = refl; carried = refl; merging = refl; deciding = refl; lives = λ life state. refl }
 
@@ -285,7 +285,7 @@ cells_apart x y i n =
 
 pub released_apart : (x found : ℕ) (ds : List Duty) → AreApart x ds → AreApart x (release_found found ++ ds)
 released_apart x zero ds others = others
-released_apart x (suc y) ds others = more_apart x (ReleaseLoad y InHand) ds (release_apart x y) others
+released_apart x (suc y) ds others = more_apart x (ReleaseLoad y InFlight) ds (release_apart x y) others
 
 merged_apart : (x y : ℕ) (r : Reason) → (y == x) ≡ false → AreApart x (once_merged y r)
 merged_apart x y Own e = none_apart x
@@ -296,7 +296,7 @@ result_apart x y Own word e = apart_if (word == dead_word) (one x (Die y) e) (no
 result_apart x y Handed word e = one x (SharedLoad y Handed) e
 
 pub next_apart : (t : ℕ) (running : Bool) (head : ℕ) (d : Duty) (found x : ℕ) → (subject d == x) ≡ false
-    → AreApart x (next_by t running head d found)
+    → AreApart x (continuation t running head d found)
 next_apart t running head (RetainLoad y h) found x e =
     apart_if (is_immortal_word found) (none_apart x)
     (apart_if (counts_locally t running found && nat_lt (local_part found) most_local)
@@ -363,7 +363,7 @@ pub row_elsewhere : {p : Accounts} {n : ℕ} {m : Machine} {t : ℕ} {a : Actor}
 row_elsewhere {p = p} {n = n} {m = m} {t = t} {a = a} {d = d} {rest = rest} s x some e =
     let found = found_by m t a d in
     let at = address_of m.rows t a.head d in
-    let left = left_by t a.head d found in
+    let left = new_word t a.head d found in
     let next = next_apart t (is_running a.status) a.head d found x e in
     let this = other_apart x d e in
     let q : RowStays m t a d rest x (following m t a d) = record {
@@ -373,8 +373,8 @@ row_elsewhere {p = p} {n = n} {m = m} {t = t} {a = a} {d = d} {rest = rest} s x 
       shared = written_elsewhere m.memory at left (Shared x) (other_shared m.rows t a.head d x e);
       mark = written_elsewhere m.memory at left (Mark x) (other_mark m.rows t a.head d x e);
       references =
-          moved_elsewhere x m.plain (moves_by m.memory t d found)
-          (moves_elsewhere m.memory x t d found e (cell_found p n m t a d s.rule));
+          moved_elsewhere x m.abstract (reference_effects m.memory t d found)
+          (moves_elsewhere m.memory x t d found e (cell_found p n m t a d s.core));
       waiting = next.waiting ∙ sym this.waiting;
       carried = next.carried ∙ sym this.carried;
       merging = next.merging ∙ sym this.merging;

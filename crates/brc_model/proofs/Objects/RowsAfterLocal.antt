@@ -1,17 +1,17 @@
--- Retaining and releasing by the local word keep the row's rule.
+-- Retaining and releasing by the local word keep the row's invariant.
 use Rattle.std.proofs.Common.{◌≡◌, ℕ, ◌+◌, ◌-◌, ◌<◌, ◌≤◌, Bool, false, cond, List, [], ◌∷◌, ◌++◌, refl, sym, ap, ◌∙◌, arith, inl, inr}
 use Rattle.std.specs.Prelude.{◌&&◌, nat_lt}
 use Rattle.std.proofs.lemmas.Bool.Decides.{eqb_tells}
 use Rattle.brc_model.specs.declared.duty.Holding.{Holding}
-use Rattle.brc_model.specs.declared.duty.Holding.TheVariants.{ByVariable, AsCaller, InHand}
-use Rattle.brc_model.specs.Plain.{without, references_to, Plain, moved}
+use Rattle.brc_model.specs.declared.duty.Holding.TheVariants.{ByVariable, AsCaller, InFlight}
+use Rattle.brc_model.specs.AbstractState.{without, references_to, AbstractState, moved}
 use Rattle.brc_word.specs.Words.{most_local, local_part, is_immortal_word, fresh_word}
 use Rattle.brc_model.specs.declared.duty.Reason.TheVariants.{Own}
 use Rattle.brc_model.specs.declared.duty.Duty.{Duty}
 use Rattle.brc_model.specs.declared.duty.Duty.TheVariants.{RetainLoad, RetainStore, RetainAdd, ReleaseLoad, ReleaseStore, DecideAtZero, SharedLoad, MergeSwap, Die}
 use Rattle.brc_model.specs.declared.address.Address.TheVariants.{Local, Shared}
 use Rattle.brc_model.specs.Duties.{block_of, counts_locally}
-use Rattle.brc_model.specs.Machine.{Live, Dying, Actor, Machine, gain, lose, hand_on}
+use Rattle.brc_model.specs.Machine.{Live, Dying, Actor, Machine, gain, lose, put_in_flight}
 use Rattle.brc_model.proofs.Basics.Bag.{references_to-cons, same_holding-refl}
 use Rattle.brc_model.specs.References.{reference_of}
 use Rattle.brc_model.specs.Accounts.{Accounts}
@@ -38,7 +38,7 @@ row_after_retain_load {m = m} {t = t} {y = y} {h = h} some s =
     let fits = head_fits_of s in
     let w = m.memory (Local y) in
     let lives = lives_backed s y some fits in
-    let counted : is_immortal_word w ≡ false = counted_word (block_of m.rows y) (numbers_of m y) lives.rule in
+    let counted : is_immortal_word w ≡ false = counted_word (block_of m.rows y) (numbers_of m y) lives.invariant in
     let parts = retain_apart y y h w in
     let next =
     apart_if (is_immortal_word w) (none_apart y)
@@ -48,7 +48,7 @@ row_after_retain_load {m = m} {t = t} {y = y} {h = h} some s =
       local = sym (written_here m.memory (Local y) w (own y));
       shared = refl;
       mark = refl;
-      references = sym (ap (λ (b : Bool). references_to y (moved m.plain (cond b (gain t h y) [])).references) counted);
+      references = sym (ap (λ (b : Bool). references_to y (moved m.abstract (cond b (gain t h y) [])).references) counted);
     })
 
 pub row_after_retain_store : {p : Accounts} {n : ℕ} {m : Machine} {t : ℕ} {a : Actor} {y : ℕ} {h : Holding} {w : ℕ}
@@ -66,12 +66,12 @@ row_after_retain_store {m = m} {t = t} {a = a} {y = y} {h = h} {w = w} {rest = r
       local = omega (arith, written_here m.memory (Local y) (w + 1) (own y), fits.3);
       shared = refl;
       mark = refl;
-      references = omega (arith, references_to-cons y (reference_of t h y) m.plain.references, one);
+      references = omega (arith, references_to-cons y (reference_of t h y) m.abstract.references, one);
       waiting = omega (arith, weights.waiting);
       carried = omega (arith, weights.carried);
       merging = omega (arith, weights.merging);
       deciding = omega (arith, weights.deciding);
-    }) (local_up (block_of m.rows y) k lives.rule (omega (arith, low, fits.4)) (omega (arith, low, fits.5)))
+    }) (local_up (block_of m.rows y) k lives.invariant (omega (arith, low, fits.4)) (omega (arith, low, fits.5)))
 
 pub row_after_retain_add : {p : Accounts} {n : ℕ} {m : Machine} {t : ℕ} {a : Actor} {y : ℕ} {h : Holding}
     {rest : List Duty}
@@ -87,32 +87,32 @@ row_after_retain_add {m = m} {t = t} {a = a} {y = y} {h = h} {rest = rest} s =
       local = refl;
       shared = sym (written_here m.memory (Shared y) (m.memory (Shared y) + 4) (own y));
       mark = refl;
-      references = omega (arith, references_to-cons y (reference_of t h y) m.plain.references, one);
+      references = omega (arith, references_to-cons y (reference_of t h y) m.abstract.references, one);
       waiting = omega (arith, weights.waiting);
       carried = omega (arith, weights.carried);
       merging = omega (arith, weights.merging);
       deciding = omega (arith, weights.deciding);
-    }) (shared_gained (block_of m.rows y) k lives.rule)
+    }) (shared_gained (block_of m.rows y) k lives.invariant)
 
 -- ---- releasing
 
 -- a reference that is taken into the hand is one reference still
-handed_on : (t y : ℕ) (h : Holding) (p : Plain) → IsLost p.references (reference_of t h y)
-    → references_to y p.references ≡ references_to y (moved p (hand_on t h y ++ [])).references
-handed_on t y InHand p lost = refl
-handed_on t y AsCaller p lost =
+passed_on : (t y : ℕ) (h : Holding) (p : AbstractState) → IsLost p.references (reference_of t h y)
+    → references_to y p.references ≡ references_to y (moved p (put_in_flight t h y ++ [])).references
+passed_on t y InFlight p lost = refl
+passed_on t y AsCaller p lost =
     let one = one_own y in
     omega (
       arith,
-      references_to-cons y (reference_of t InHand y) (without (reference_of t AsCaller y) p.references),
+      references_to-cons y (reference_of t InFlight y) (without (reference_of t AsCaller y) p.references),
       lost.less,
       one,
     )
-handed_on t y (ByVariable v) p lost =
+passed_on t y (ByVariable v) p lost =
     let one = one_own y in
     omega (
       arith,
-      references_to-cons y (reference_of t InHand y)
+      references_to-cons y (reference_of t InFlight y)
           (without (reference_of t (ByVariable v) y) p.references),
       lost.less,
       one,
@@ -124,9 +124,9 @@ pub row_after_release_load : {p : Accounts} {n : ℕ} {m : Machine} {t : ℕ} {a
 row_after_release_load {m = m} {t = t} {y = y} {h = h} some s =
     let w = m.memory (Local y) in
     let lost =
-    is_lost m.plain.references (reference_of t h y) (gives_up s h y (rw (same_holding-refl h, own y) refl) refl) in
+    is_lost m.abstract.references (reference_of t h y) (gives_up s h y (rw (same_holding-refl h, own y) refl) refl) in
     let lives = lives_so s y some (omega (arith, lost.before)) in
-    let counted : is_immortal_word w ≡ false = counted_word (block_of m.rows y) (numbers_of m y) lives.rule in
+    let counted : is_immortal_word w ≡ false = counted_word (block_of m.rows y) (numbers_of m y) lives.invariant in
     let load : IsApart y (ReleaseLoad y h) =
     record { waiting = refl; carried = refl; merging = refl; deciding = refl; lives = λ life state. refl } in
     let store : IsApart y (ReleaseStore y w) =
@@ -141,8 +141,8 @@ row_after_release_load {m = m} {t = t} {y = y} {h = h} some s =
       shared = refl;
       mark = refl;
       references =
-          handed_on t y h m.plain lost ∙ sym
-          (ap (λ (b : Bool). references_to y (moved m.plain (hand_on t h y ++ cond b (lose t y) [])).references)
+          passed_on t y h m.abstract lost ∙ sym
+          (ap (λ (b : Bool). references_to y (moved m.abstract (put_in_flight t h y ++ cond b (lose t y) [])).references)
           counted);
     })
 
@@ -151,7 +151,7 @@ pub row_after_release_store : {p : Accounts} {n : ℕ} {m : Machine} {t : ℕ} {
 row_after_release_store {m = m} {t = t} {a = a} {y = y} {w = w} {rest = rest} s =
     let fits = head_fits_of s in
     let k = numbers_of m y in
-    let lost = is_lost m.plain.references (reference_of t InHand y) (gives_up s InHand y (rw (own y) refl) refl) in
+    let lost = is_lost m.abstract.references (reference_of t InFlight y) (gives_up s InFlight y (rw (own y) refl) refl) in
     let lives = lives_so s y fits.0 (omega (arith, lost.before)) in
     let word = written_here m.memory (Local y) (w - 1) (own y) in
     let low : local_part (m.memory (Local y)) ≡ local_part w = ap local_part fits.2 in
@@ -169,7 +169,7 @@ row_after_release_store {m = m} {t = t} {a = a} {y = y} {w = w} {rest = rest} s 
             carried = omega (arith, weights.carried);
             merging = omega (arith, weights.merging);
             deciding = omega (arith, weights.deciding, one);
-          }) (local_to_zero (block_of m.rows y) k lives.rule (low ∙ last.1) lost.before)
+          }) (local_to_zero (block_of m.rows y) k lives.invariant (low ∙ last.1) lost.before)
       | inr more ↦
           let weights = weighed s [] (rw more.0 refl) y in
           row_becomes m t a (ReleaseStore y w) rest y [] (rw more.0 refl) Live lives.is_live
@@ -182,7 +182,7 @@ row_after_release_store {m = m} {t = t} {a = a} {y = y} {w = w} {rest = rest} s 
             carried = omega (arith, weights.carried);
             merging = omega (arith, weights.merging);
             deciding = omega (arith, weights.deciding);
-          }) (local_down (block_of m.rows y) k lives.rule (omega (arith, low, fits.3, more.1)) lost.before)
+          }) (local_down (block_of m.rows y) k lives.invariant (omega (arith, low, fits.3, more.1)) lost.before)
     ]
 
 -- ---- the owner at zero
@@ -210,7 +210,7 @@ row_after_decide_at_zero {m = m} {t = t} {a = a} {y = y} {rest = rest} s =
             carried = omega (arith, weights.carried);
             merging = omega (arith, weights.merging);
             deciding = omega (arith, weights.deciding, one);
-          }) (zero_dies (block_of m.rows y) k lives.rule fits.2 decided fresh.1)
+          }) (zero_dies (block_of m.rows y) k lives.invariant fits.2 decided fresh.1)
       | inr other ↦
           row_stays {next = MergeSwap y Own ∷ []} {x = y} s fits.0 (record {
             follows = rw other.0 refl;

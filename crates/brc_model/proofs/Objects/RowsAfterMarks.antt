@@ -1,15 +1,15 @@
--- Setting, taking and looking at marks, and what finalises or leaves, keep the row's rule.
+-- Setting, taking and looking at marks, and what finalises or leaves, keep the row's invariant.
 use Rattle.std.proofs.Common.{◌≡◌, ℕ, ◌+◌, ◌-◌, ◌<◌, ◌≤◌, Bool, true, false, cond, List, [], ◌∷◌, ◌++◌, refl, sym, ap, ◌∙◌, subst, arith, inl, inr}
 use Rattle.std.specs.Prelude.{◌==◌}
 use Rattle.std.proofs.lemmas.List.Sums.{sum_by-append}
-use Rattle.brc_model.specs.Plain.{references_to, moved}
+use Rattle.brc_model.specs.AbstractState.{references_to, moved}
 use Rattle.brc_model.specs.declared.duty.Reason.TheVariants.{Handed}
 use Rattle.brc_model.specs.declared.duty.Duty.{Duty}
 use Rattle.brc_model.specs.declared.duty.Duty.TheVariants.{SetMark, Look, TakeMark, MergeSwap, Die, Settle, SettleKind, SettleCell, TakeSlot, CloseResource, SettleEnd, Scan, ClaimMark}
 use Rattle.brc_model.specs.declared.address.Address.TheVariants.{Local, Shared, Mark, Cell, KindOf}
 use Rattle.brc_model.specs.Duties.{block_of, claimed, has_resource, cells_of, cells_from}
 use Rattle.brc_model.specs.Machine.{Life, Live, Dying, Closed, Actor, Machine, with_life, dies_next, life_by, done_by, take_out}
-use Rattle.brc_model.specs.RowRule.{waits, carries, merges, decides, RowRule}
+use Rattle.brc_model.specs.RowInvariant.{waits, carries, merges, decides, RowInvariant}
 use Rattle.brc_model.specs.Accounts.{Accounts}
 use Rattle.brc_model.specs.Invariant.{AtDuty, numbers_of}
 use Rattle.brc_model.proofs.Objects.RowMerges.{mark_set, mark_taken}
@@ -38,7 +38,7 @@ row_after_set_mark {m = m} {t = t} {a = a} {y = y} {rest = rest} s =
       carried = omega (arith, weights.carried);
       merging = omega (arith, weights.merging);
       deciding = omega (arith, weights.deciding);
-    }) (mark_set (block_of m.rows y) k lives.rule awaits)
+    }) (mark_set (block_of m.rows y) k lives.invariant awaits)
 
 pub row_after_look : {p : Accounts} {n : ℕ} {m : Machine} {t : ℕ} {a : Actor} {y : ℕ} {rest : List Duty}
     → AtDuty p n m t a (Look y) rest → KeepsRow m t a (Look y) rest y
@@ -63,7 +63,7 @@ pub record Takes (m : Machine) (t : ℕ) (a : Actor) (d : Duty) (rest : List Dut
     pub local : m.memory (Local y) ≡ (done_by m t a d rest).memory (Local y)
     pub shared : m.memory (Shared y) ≡ (done_by m t a d rest).memory (Shared y)
     pub mark : (done_by m t a d rest).memory (Mark y) ≡ 0
-    pub references : references_to y m.plain.references ≡ references_to y (done_by m t a d rest).plain.references
+    pub references : references_to y m.abstract.references ≡ references_to y (done_by m t a d rest).abstract.references
 
 -- none was set
 takes_none : {p : Accounts} {n : ℕ} {m : Machine} {t : ℕ} {a : Actor} {d : Duty} {rest tail : List Duty} {y : ℕ}
@@ -136,12 +136,12 @@ takes_one {m = m} {t = t} {a = a} {d = d} {rest = rest} {tail = tail} {y = y} s 
             takes.others.deciding,
             sum_by-append (decides y) (hands y) tail,
           );
-    }) (mark_taken (block_of m.rows y) k lives.rule set)
+    }) (mark_taken (block_of m.rows y) k lives.invariant set)
 
 row_after_taking : {p : Accounts} {n : ℕ} {m : Machine} {t : ℕ} {a : Actor} {d : Duty} {rest tail : List Duty} {y : ℕ}
     → AtDuty p n m t a d rest → 0 < y → Takes m t a d rest y tail → KeepsRow m t a d rest y
 row_after_taking {y = y} s some takes =
-    elim (s.rule.marks y) [
+    elim (s.core.marks y) [
       | inl unset ↦ takes_none s some takes unset
       | inr set ↦ takes_one s some takes set.0
     ]
@@ -236,7 +236,7 @@ row_after_settle_cell {m = m} {t = t} {y = y} {i = i} {cells = cells} some s =
       shared = refl;
       mark = refl;
       references =
-          ap (λ (w : ℕ). references_to y (moved m.plain (take_out t y i w)).references) (sym (s.rule.cells y i));
+          ap (λ (w : ℕ). references_to y (moved m.abstract (take_out t y i w)).references) (sym (s.core.cells y i));
     })
 
 pub row_after_take_slot : {p : Accounts} {n : ℕ} {m : Machine} {t : ℕ} {a : Actor} {y : ℕ} {rest : List Duty} → 0 < y
@@ -281,8 +281,8 @@ row_after_settle_end {m = m} {t = t} {a = a} {y = y} {rest = rest} s =
     let fits = head_fits_of s in
     let k = numbers_of m y in
     let weights = weighed s [] refl y in
-    let dead : RowRule (block_of m.rows y) (Dying t) k =
-    subst (λ (l : Life). RowRule (block_of m.rows y) l k) fits.1 (s.rule.rows y fits.0) in
+    let dead : RowInvariant (block_of m.rows y) (Dying t) k =
+    subst (λ (l : Life). RowInvariant (block_of m.rows y) l k) fits.1 (s.core.rows y fits.0) in
     row_becomes m t a (SettleEnd y) rest y [] refl Closed (ap (λ (b : Bool). cond b Closed (m.life y)) (own y)) k
     (record {
       local = refl;

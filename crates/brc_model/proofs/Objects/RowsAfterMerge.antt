@@ -1,4 +1,4 @@
--- Taking the local count over to the shared one keeps the row's rule.
+-- Taking the local count over to the shared one keeps the row's invariant.
 use Rattle.std.proofs.Common.{◌≡◌, ◌≢◌, ℕ, ◌+◌, ◌-◌, ◌≤◌, Bool, true, false, cond, List, [], ◌∷◌, refl, sym, ap, ◌∙◌, arith, inl, inr}
 use Rattle.std.specs.Prelude.{◌==◌, sum_by}
 use Rattle.std.proofs.lemmas.Bool.{ne_eqb}
@@ -13,7 +13,7 @@ use Rattle.brc_model.specs.declared.address.Address.{Address}
 use Rattle.brc_model.specs.declared.address.Address.TheVariants.{Local, Shared}
 use Rattle.brc_model.specs.Duties.{block_of, once_merged}
 use Rattle.brc_model.specs.Machine.{Live, Dying, Actor, Machine, written, life_by, done_by}
-use Rattle.brc_model.specs.RowRule.{waits, carries, merges, decides, weight, IsLive, InOwned, InSwapped, InMerged}
+use Rattle.brc_model.specs.RowInvariant.{waits, carries, merges, decides, weight, IsLive, InOwned, InSwapped, InMerged}
 use Rattle.brc_model.specs.Accounts.{Accounts}
 use Rattle.brc_model.specs.Invariant.{AtDuty, numbers_of}
 use Rattle.brc_model.proofs.Objects.RowMerges.{swapped_own, swapped_claimed, merged_live, merged_dies}
@@ -49,7 +49,7 @@ row_after_own_swap {m = m} {t = t} {a = a} {y = y} {rest = rest} s =
       carried = omega (arith, weights.carried, carried_own y c, fits.2);
       merging = omega (arith, weights.merging, one);
       deciding = omega (arith, weights.deciding, one);
-    }) (swapped_own (block_of m.rows y) k lives.rule fits.2 decided)
+    }) (swapped_own (block_of m.rows y) k lives.invariant fits.2 decided)
 
 -- the decrement of the duty at hand is among those that await
 head_awaits : {p : Accounts} {n : ℕ} {m : Machine} {t : ℕ} {a : Actor} {d : Duty} {rest : List Duty} (y : ℕ)
@@ -79,7 +79,7 @@ claims_some {p = p} {n = n} {m = m} {t = t} {a = a} {y = y} {rest = rest} s test
       carried = omega (arith, weights.carried, carried_own y c);
       merging = omega (arith, weights.merging, one);
       deciding = omega (arith, weights.deciding);
-    }) (swapped_claimed (block_of m.rows y) k lives.rule found (none_decides p n m t a y rest s fits.1 lives.rule))
+    }) (swapped_claimed (block_of m.rows y) k lives.invariant found (none_decides p n m t a y rest s fits.1 lives.invariant))
 
 pub row_after_handed_swap : {p : Accounts} {n : ℕ} {m : Machine} {t : ℕ} {a : Actor} {y : ℕ} {rest : List Duty}
     → AtDuty p n m t a (MergeSwap y Handed) rest → KeepsRow m t a (MergeSwap y Handed) rest y
@@ -163,7 +163,7 @@ merge_ends {m = m} {t = t} {a = a} {y = y} {c = c} {w = w} {rest = rest} s test 
     let one = one_own y in
     let some : 1 ≤ k.merging = omega (arith, weights.merging, one) in
     let lives = lives_so s y (head_fits_of s).0 (omega (arith, some)) in
-    let none = carried_here (block_of m.rows y) s lives.rule (omega (arith, weights.merging, one)) in
+    let none = carried_here (block_of m.rows y) s lives.invariant (omega (arith, weights.merging, one)) in
     let carried : k.carried ≡ c = omega (arith, weights.carried, carried_own y c, none) in
     let word : merged_word (m.memory (Shared y)) c ≡ merged_word w c = ap (λ (v : ℕ). merged_word v c) same in
     row_becomes m t a (MergeExchange y c w Own) rest y (Die y ∷ []) (rw (test, is_dead) refl) (Dying t)
@@ -177,7 +177,7 @@ merge_ends {m = m} {t = t} {a = a} {y = y} {c = c} {w = w} {rest = rest} s test 
       carried = sym none;
       merging = omega (arith, weights.merging, one);
       deciding = omega (arith, weights.deciding);
-    }) (merged_dies (block_of m.rows y) k c lives.rule some carried (word ∙ dead))
+    }) (merged_dies (block_of m.rows y) k c lives.invariant some carried (word ∙ dead))
 
 -- what a merge was made for awaits as the merge did, and neither merges nor decides
 record Releases (m : Machine) (t : ℕ) (y c w : ℕ) (r : Reason) : Type 0 where
@@ -207,7 +207,7 @@ merge_stays {m = m} {t = t} {a = a} {y = y} {c = c} {w = w} {r = r} {rest = rest
     let one = one_own y in
     let some : 1 ≤ k.merging = omega (arith, weights.merging, one, next.merging) in
     let lives = lives_so s y (head_fits_of s).0 (omega (arith, some)) in
-    let none = carried_here (block_of m.rows y) s lives.rule (omega (arith, weights.merging, one, next.merging)) in
+    let none = carried_here (block_of m.rows y) s lives.invariant (omega (arith, weights.merging, one, next.merging)) in
     let carried : k.carried ≡ c = omega (arith, weights.carried, carried_own y c, none, next.carried) in
     let word : merged_word (m.memory (Shared y)) c ≡ merged_word w c = ap (λ (v : ℕ). merged_word v c) same in
     row_becomes m t a (MergeExchange y c w r) rest y (once_merged y r) follows Live (next.lives ∙ lives.is_live)
@@ -220,7 +220,7 @@ merge_stays {m = m} {t = t} {a = a} {y = y} {c = c} {w = w} {r = r} {rest = rest
       carried = sym none;
       merging = omega (arith, weights.merging, one, next.merging);
       deciding = omega (arith, weights.deciding, next.deciding);
-    }) (merged_live (block_of m.rows y) k c lives.rule some carried (alive lives.rule some carried))
+    }) (merged_live (block_of m.rows y) k c lives.invariant some carried (alive lives.invariant some carried))
 
 merge_won : {p : Accounts} {n : ℕ} {m : Machine} {t : ℕ} {a : Actor} {y c w : ℕ} {rest : List Duty} (r : Reason)
     → AtDuty p n m t a (MergeExchange y c w r) rest

@@ -4,7 +4,7 @@ use Rattle.std.specs.Prelude.{◌==◌}
 use Rattle.std.specs.List.{list_any}
 use Rattle.std.proofs.lemmas.Bool.{eq-eqb, ne_eqb}
 use Rattle.brc_model.specs.declared.duty.Holding.{Holding}
-use Rattle.brc_model.specs.Plain.{Reference, same, without, references_to}
+use Rattle.brc_model.specs.AbstractState.{Reference, same, without, references_to}
 use Rattle.brc_word.specs.Words.{immortal_local, local_part, is_immortal_word}
 use Rattle.brc_model.specs.declared.duty.Duty.{Duty}
 use Rattle.brc_model.specs.declared.address.Address.{Address}
@@ -13,7 +13,7 @@ use Rattle.brc_model.specs.Duties.{block_of}
 use Rattle.brc_model.specs.Machine.{Life, Live, Actor, Machine, written, same_address, with_life, ended_row, born_row, done_by}
 use Rattle.brc_model.proofs.Basics.Bag.{held_has, held-le-references_to, references_to-without}
 use Rattle.brc_model.specs.References.{held, one_if, reference_of}
-use Rattle.brc_model.specs.RowRule.{Numbers, InOwned, InSwapped, InMerged, IsLive}
+use Rattle.brc_model.specs.RowInvariant.{Numbers, InOwned, InSwapped, InMerged, IsLive}
 use Rattle.brc_model.specs.Accounts.{Accounts, extra, lacks, extra_of, lacks_of}
 use Rattle.brc_model.specs.Invariant.{AtDuty, numbers_of}
 use Rattle.brc_model.specs.Knowledge.{IsBacked}
@@ -37,10 +37,10 @@ written_here memory at word this = ap (λ (same : Bool). cond same word (memory 
 -- what a duty gives up is there
 pub gives_up : {p : Accounts} {n : ℕ} {m : Machine} {t : ℕ} {a : Actor} {d : Duty} {rest : List Duty}
     → AtDuty p n m t a d rest → (k : Holding) (object : ℕ) → extra d k object ≡ true → lacks d k object ≡ false
-    → 0 < held (reference_of t k object) m.plain.references
+    → 0 < held (reference_of t k object) m.abstract.references
 gives_up {p = p} {m = m} {t = t} {a = a} s k object more less =
-    let fits = s.rule.each t a s.found in
-    extra_held m.plain.references t (p t) a.agenda a.aside k object fits.0.holds (fits.2.apart object)
+    let fits = s.core.each t a s.found in
+    extra_held m.abstract.references t (p t) a.agenda a.aside k object fits.0.holds (fits.2.apart object)
     (ap (λ (ds : List Duty). extra_of ds k object) s.agenda ∙ more)
     (ap (λ (ds : List Duty). lacks_of ds k object) s.agenda ∙ less)
 
@@ -68,7 +68,7 @@ pub lives_so : {p : Accounts} {n : ℕ} {m : Machine} {t : ℕ} {a : Actor} {d :
     + (numbers_of m y).deciding
     → Lives (block_of m.rows y) (m.life y) (numbers_of m y)
 lives_so {m = m} s y some counted =
-    row_lives (block_of m.rows y) (m.life y) (numbers_of m y) (s.rule.rows y some) counted
+    row_lives (block_of m.rows y) (m.life y) (numbers_of m y) (s.core.rows y some) counted
 
 pub lives_backed : {p : Accounts} {n : ℕ} {m : Machine} {t : ℕ} {a : Actor} {d : Duty} {rest : List Duty}
     → AtDuty p n m t a d rest → (y : ℕ) → 0 < y → IsBacked m t y
@@ -76,7 +76,7 @@ pub lives_backed : {p : Accounts} {n : ℕ} {m : Machine} {t : ℕ} {a : Actor} 
 lives_backed {m = m} {t = t} s y some backed =
     lives_so s y some (omega (
       arith,
-      held-le-references_to (reference_of t backed.by y) m.plain.references,
+      held-le-references_to (reference_of t backed.by y) m.abstract.references,
       backed.held_so,
     ))
 
@@ -96,7 +96,7 @@ pub record KeepsWords (m after : Machine) (x : ℕ) : Type 0 where
   pub local : m.memory (Local x) ≡ after.memory (Local x)
   pub shared : m.memory (Shared x) ≡ after.memory (Shared x)
   pub mark : m.memory (Mark x) ≡ after.memory (Mark x)
-  pub references : references_to x m.plain.references ≡ references_to x after.plain.references
+  pub references : references_to x m.abstract.references ≡ references_to x after.abstract.references
 
 pub row_apart : {p : Accounts} {n : ℕ} {m : Machine} {t : ℕ} {a : Actor} {d : Duty} {rest : List Duty}
     → AtDuty p n m t a d rest → (x : ℕ) → 0 < x → IsApart x d → AreApart x (following m t a d)

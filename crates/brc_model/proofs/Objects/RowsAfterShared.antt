@@ -1,9 +1,9 @@
--- Releasing by the shared word keeps the row's rule.
+-- Releasing by the shared word keeps the row's invariant.
 use Rattle.std.proofs.Common.{◌≡◌, ◌≢◌, ℕ, ◌+◌, ◌-◌, ◌<◌, ◌≤◌, Bool, true, false, cond, List, [], ◌∷◌, refl, sym, ap, ◌∙◌, arith, inl, inr}
 use Rattle.std.specs.Prelude.{◌==◌}
 use Rattle.std.proofs.lemmas.Bool.Decides.{eqb_tells}
-use Rattle.brc_model.specs.declared.duty.Holding.TheVariants.{InHand}
-use Rattle.brc_model.specs.Plain.{references_to, Plain, moved}
+use Rattle.brc_model.specs.declared.duty.Holding.TheVariants.{InFlight}
+use Rattle.brc_model.specs.AbstractState.{references_to, AbstractState, moved}
 use Rattle.brc_word.specs.Words.{fresh_word, dead_word, released_word}
 use Rattle.brc_model.specs.declared.duty.Reason.{Reason}
 use Rattle.brc_model.specs.declared.duty.Reason.TheVariants.{Own, Handed}
@@ -12,9 +12,9 @@ use Rattle.brc_model.specs.declared.duty.Duty.TheVariants.{SharedLoad, SharedExc
 use Rattle.brc_model.specs.declared.address.Address.{Address}
 use Rattle.brc_model.specs.declared.address.Address.TheVariants.{Shared}
 use Rattle.brc_model.specs.Duties.{block_of}
-use Rattle.brc_model.specs.Machine.{Live, Dying, Actor, Machine, written, lose, moves_by}
+use Rattle.brc_model.specs.Machine.{Live, Dying, Actor, Machine, written, lose, reference_effects}
 use Rattle.brc_model.specs.References.{reference_of}
-use Rattle.brc_model.specs.RowRule.{waits}
+use Rattle.brc_model.specs.RowInvariant.{waits}
 use Rattle.brc_model.specs.Accounts.{Accounts}
 use Rattle.brc_model.specs.Invariant.{AtDuty, numbers_of}
 use Rattle.brc_model.proofs.Objects.RowSteps.{shared_queued, shared_lost, shared_dies}
@@ -55,9 +55,9 @@ exchanged memory y w b e =
     written_here memory (Shared y) _ (own y) ∙ ap (λ (c : Bool). cond c (released_word w) (memory (Shared y))) e
 
 -- the references, by its test
-exchange_moves : (memory : Address → ℕ) (t y : ℕ) (r : Reason) (w found : ℕ) (p : Plain) → (found == w) ≡ false
+exchange_moves : (memory : Address → ℕ) (t y : ℕ) (r : Reason) (w found : ℕ) (p : AbstractState) → (found == w) ≡ false
     → references_to y p.references
-    ≡ references_to y (moved p (moves_by memory t (SharedExchange y r w) found)).references
+    ≡ references_to y (moved p (reference_effects memory t (SharedExchange y r w) found)).references
 exchange_moves memory t y Own w found p e =
     sym (ap (λ (b : Bool). references_to y (moved p (cond b (lose t y) [])).references) e)
 exchange_moves memory t y Handed w found p e = refl
@@ -74,7 +74,7 @@ row_after_lost_exchange {m = m} {t = t} {y = y} {r = r} {w = w} some s other =
       local = refl;
       shared = sym (exchanged m.memory y w false other);
       mark = refl;
-      references = exchange_moves m.memory t y r w (m.memory (Shared y)) m.plain other;
+      references = exchange_moves m.memory t y r w (m.memory (Shared y)) m.abstract other;
       waiting = omega (arith, same_waits y y r w);
       carried = refl;
       merging = refl;
@@ -84,8 +84,8 @@ row_after_lost_exchange {m = m} {t = t} {y = y} {r = r} {w = w} some s other =
 -- ---- a reference of the thread's own
 
 -- the references are one fewer
-own_moves : (memory : Address → ℕ) (t y w found : ℕ) (p : Plain) → (found == w) ≡ true
-    → references_to y (moved p (moves_by memory t (SharedExchange y Own w) found)).references
+own_moves : (memory : Address → ℕ) (t y w found : ℕ) (p : AbstractState) → (found == w) ≡ true
+    → references_to y (moved p (reference_effects memory t (SharedExchange y Own w) found)).references
     ≡ references_to y (moved p (lose t y)).references
 own_moves memory t y w found p e = ap (λ (b : Bool). references_to y (moved p (cond b (lose t y) [])).references) e
 
@@ -96,7 +96,7 @@ own_queues : {p : Accounts} {n : ℕ} {m : Machine} {t : ℕ} {a : Actor} {y w :
 own_queues {m = m} {t = t} {a = a} {y = y} {w = w} {rest = rest} s test same is_fresh fresh =
     let some : 0 < y = head_fits_of s in
     let k = numbers_of m y in
-    let lost = is_lost m.plain.references (reference_of t InHand y) (gives_up s InHand y (rw (own y) refl) refl) in
+    let lost = is_lost m.abstract.references (reference_of t InFlight y) (gives_up s InFlight y (rw (own y) refl) refl) in
     let lives = lives_so s y some (omega (arith, lost.before)) in
     let weights = weighed s (SetMark y ∷ []) (rw (test, is_fresh) refl) y in
     let left : released_word w ≡ w + 2 = ap (λ (b : Bool). cond b (w + 2) (w - 4)) is_fresh in
@@ -106,12 +106,12 @@ own_queues {m = m} {t = t} {a = a} {y = y} {w = w} {rest = rest} s test same is_
       local = refl;
       shared = omega (arith, exchanged m.memory y w true test, left, same);
       mark = refl;
-      references = omega (arith, own_moves m.memory t y w (m.memory (Shared y)) m.plain test, lost.less);
+      references = omega (arith, own_moves m.memory t y w (m.memory (Shared y)) m.abstract test, lost.less);
       waiting = omega (arith, weights.waiting, one);
       carried = omega (arith, weights.carried);
       merging = omega (arith, weights.merging);
       deciding = omega (arith, weights.deciding);
-    }) (shared_queued (block_of m.rows y) k lives.rule (same ∙ fresh) lost.before)
+    }) (shared_queued (block_of m.rows y) k lives.invariant (same ∙ fresh) lost.before)
 
 own_dies : {p : Accounts} {n : ℕ} {m : Machine} {t : ℕ} {a : Actor} {y w : ℕ} {rest : List Duty}
     → AtDuty p n m t a (SharedExchange y Own w) rest
@@ -120,7 +120,7 @@ own_dies : {p : Accounts} {n : ℕ} {m : Machine} {t : ℕ} {a : Actor} {y w : �
 own_dies {m = m} {t = t} {a = a} {y = y} {w = w} {rest = rest} s test same other is_dead dead =
     let some : 0 < y = head_fits_of s in
     let k = numbers_of m y in
-    let lost = is_lost m.plain.references (reference_of t InHand y) (gives_up s InHand y (rw (own y) refl) refl) in
+    let lost = is_lost m.abstract.references (reference_of t InFlight y) (gives_up s InFlight y (rw (own y) refl) refl) in
     let lives = lives_so s y some (omega (arith, lost.before)) in
     let weights = weighed s (Die y ∷ []) (rw (test, other, is_dead) refl) y in
     let left : released_word w ≡ w - 4 = ap (λ (b : Bool). cond b (w + 2) (w - 4)) other in
@@ -130,12 +130,12 @@ own_dies {m = m} {t = t} {a = a} {y = y} {w = w} {rest = rest} s test same other
       local = refl;
       shared = omega (arith, exchanged m.memory y w true test, left, same);
       mark = refl;
-      references = omega (arith, own_moves m.memory t y w (m.memory (Shared y)) m.plain test, lost.less);
+      references = omega (arith, own_moves m.memory t y w (m.memory (Shared y)) m.abstract test, lost.less);
       waiting = omega (arith, weights.waiting);
       carried = omega (arith, weights.carried);
       merging = omega (arith, weights.merging);
       deciding = omega (arith, weights.deciding);
-    }) (shared_dies (block_of m.rows y) k lives.rule (omega (arith, same, dead)) lost.before)
+    }) (shared_dies (block_of m.rows y) k lives.invariant (omega (arith, same, dead)) lost.before)
 
 own_loses : {p : Accounts} {n : ℕ} {m : Machine} {t : ℕ} {a : Actor} {y w : ℕ} {rest : List Duty}
     → AtDuty p n m t a (SharedExchange y Own w) rest
@@ -145,7 +145,7 @@ own_loses : {p : Accounts} {n : ℕ} {m : Machine} {t : ℕ} {a : Actor} {y w : 
 own_loses {m = m} {t = t} {a = a} {y = y} {w = w} {rest = rest} s test same other isnt_fresh alive isnt_dead =
     let some : 0 < y = head_fits_of s in
     let k = numbers_of m y in
-    let lost = is_lost m.plain.references (reference_of t InHand y) (gives_up s InHand y (rw (own y) refl) refl) in
+    let lost = is_lost m.abstract.references (reference_of t InFlight y) (gives_up s InFlight y (rw (own y) refl) refl) in
     let lives = lives_so s y some (omega (arith, lost.before)) in
     let weights = weighed s [] (rw (test, other, alive) refl) y in
     let left : released_word w ≡ w - 4 = ap (λ (b : Bool). cond b (w + 2) (w - 4)) other in
@@ -154,12 +154,12 @@ own_loses {m = m} {t = t} {a = a} {y = y} {w = w} {rest = rest} s test same othe
       local = refl;
       shared = omega (arith, exchanged m.memory y w true test, left, same);
       mark = refl;
-      references = omega (arith, own_moves m.memory t y w (m.memory (Shared y)) m.plain test, lost.less);
+      references = omega (arith, own_moves m.memory t y w (m.memory (Shared y)) m.abstract test, lost.less);
       waiting = omega (arith, weights.waiting);
       carried = omega (arith, weights.carried);
       merging = omega (arith, weights.merging);
       deciding = omega (arith, weights.deciding);
-    }) (shared_lost (block_of m.rows y) k lives.rule (λ e. isnt_fresh (sym same ∙ e))
+    }) (shared_lost (block_of m.rows y) k lives.invariant (λ e. isnt_fresh (sym same ∙ e))
     (λ e. isnt_dead (ap (λ (v : ℕ). v - 4) (sym same) ∙ e)) lost.before)
 
 pub row_after_own_exchange : {p : Accounts} {n : ℕ} {m : Machine} {t : ℕ} {a : Actor} {y w : ℕ} {rest : List Duty}
@@ -201,7 +201,7 @@ handed_ends {m = m} {t = t} {a = a} {y = y} {w = w} {rest = rest} s test same ot
       carried = omega (arith, weights.carried);
       merging = omega (arith, weights.merging);
       deciding = omega (arith, weights.deciding);
-    }) (handed_dies (block_of m.rows y) k lives.rule (omega (arith, same, dead)) awaits)
+    }) (handed_dies (block_of m.rows y) k lives.invariant (omega (arith, same, dead)) awaits)
 
 handed_stays : {p : Accounts} {n : ℕ} {m : Machine} {t : ℕ} {a : Actor} {y w : ℕ} {rest : List Duty}
     → AtDuty p n m t a (SharedExchange y Handed w) rest
@@ -225,7 +225,7 @@ handed_stays {m = m} {t = t} {a = a} {y = y} {w = w} {rest = rest} s test same o
       carried = omega (arith, weights.carried);
       merging = omega (arith, weights.merging);
       deciding = omega (arith, weights.deciding);
-    }) (handed_lost (block_of m.rows y) k lives.rule fits.1 (λ e. isnt_dead (ap (λ (v : ℕ). v - 4) (sym same) ∙ e))
+    }) (handed_lost (block_of m.rows y) k lives.invariant fits.1 (λ e. isnt_dead (ap (λ (v : ℕ). v - 4) (sym same) ∙ e))
     awaits)
 
 pub row_after_handed_exchange : {p : Accounts} {n : ℕ} {m : Machine} {t : ℕ} {a : Actor} {y w : ℕ} {rest : List Duty}

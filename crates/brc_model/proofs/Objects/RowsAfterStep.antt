@@ -1,12 +1,12 @@
 -- A thread's step, and what one row's numbers and its life come to.
 use Rattle.std.proofs.Common.{◌≡◌, ℕ, ◌+◌, ◌<◌, ◌≤◌, List, refl, sym, ap, ◌∙◌, subst, arith}
 use Rattle.std.specs.Prelude.{sum_by}
-use Rattle.brc_model.specs.Plain.{references_to}
+use Rattle.brc_model.specs.AbstractState.{references_to}
 use Rattle.brc_model.specs.declared.duty.Duty.{Duty}
 use Rattle.brc_model.specs.declared.address.Address.TheVariants.{Local, Shared, Mark}
-use Rattle.brc_model.specs.Duties.{block_of, address_of, next_by}
+use Rattle.brc_model.specs.Duties.{block_of, address_of, continuation}
 use Rattle.brc_model.specs.Machine.{Life, Unborn, Live, Dying, Closed, Actor, Machine, is_running, life_by, done_by}
-use Rattle.brc_model.specs.RowRule.{waits, carries, merges, decides, Numbers, IsLive, RowRule}
+use Rattle.brc_model.specs.RowInvariant.{waits, carries, merges, decides, Numbers, IsLive, RowInvariant}
 use Rattle.brc_model.specs.Accounts.{Accounts}
 use Rattle.brc_model.specs.Invariant.{AtDuty, numbers_of}
 use Rattle.brc_model.specs.Knowledge.{HeadFits, HeadOf}
@@ -15,19 +15,19 @@ use Rattle.brc_model.proofs.Objects.Weights.{Weighed, weighed_after}
 pub head_fits_of : {p : Accounts} {n : ℕ} {m : Machine} {t : ℕ} {a : Actor} {d : Duty} {rest : List Duty}
     → AtDuty p n m t a d rest → HeadFits m t a d rest
 head_fits_of {m = m} {t = t} {a = a} s =
-    subst (λ (ds : List Duty). HeadOf m t a ds) s.agenda (s.rule.each t a s.found).0.head_fits
+    subst (λ (ds : List Duty). HeadOf m t a ds) s.agenda (s.core.each t a s.found).0.head_fits
 
 -- the word that the duty finds, and the duties that follow it
 abbrev pub found_by : Machine → ℕ → Actor → Duty → ℕ
 found_by m t a d = m.memory (address_of m.rows t a.head d)
 
 abbrev pub following : Machine → ℕ → Actor → Duty → List Duty
-following m t a d = next_by t (is_running a.status) a.head d (found_by m t a d)
+following m t a d = continuation t (is_running a.status) a.head d (found_by m t a d)
 
--- the row's rule after the step
+-- the row's invariant after the step
 abbrev pub KeepsRow : Machine → ℕ → Actor → Duty → List Duty → ℕ → Type 0
 KeepsRow m t a d rest x =
-    RowRule (block_of m.rows x) ((done_by m t a d rest).life x) (numbers_of (done_by m t a d rest) x)
+    RowInvariant (block_of m.rows x) ((done_by m t a d rest).life x) (numbers_of (done_by m t a d rest) x)
 
 pub weighed : {p : Accounts} {n : ℕ} {m : Machine} {t : ℕ} {a : Actor} {d : Duty} {rest : List Duty}
     → AtDuty p n m t a d rest → (next : List Duty) → following m t a d ≡ next → (x : ℕ)
@@ -62,13 +62,13 @@ same_numbers n k s =
 
 pub row_becomes : (m : Machine) (t : ℕ) (a : Actor) (d : Duty) (rest : List Duty) (x : ℕ) (next : List Duty)
     → following m t a d ≡ next → (life : Life) → life_by m.life t d next x ≡ life
-    → (k : Numbers) → IsSame k (numbers_of (done_by m t a d rest) x) → RowRule (block_of m.rows x) life k
+    → (k : Numbers) → IsSame k (numbers_of (done_by m t a d rest) x) → RowInvariant (block_of m.rows x) life k
     → KeepsRow m t a d rest x
 row_becomes m t a d rest x next follows life lives k same holds =
     let now : (done_by m t a d rest).life x ≡ life = ap (λ (ds : List Duty). life_by m.life t d ds x) follows ∙ lives in
     let numbers : k ≡ numbers_of (done_by m t a d rest) x = same_numbers k (numbers_of (done_by m t a d rest) x) same in
-    subst (λ (l : Life). RowRule (block_of m.rows x) l (numbers_of (done_by m t a d rest) x)) (sym now)
-    (subst (λ (k : Numbers). RowRule (block_of m.rows x) life k) numbers holds)
+    subst (λ (l : Life). RowInvariant (block_of m.rows x) l (numbers_of (done_by m t a d rest) x)) (sym now)
+    (subst (λ (k : Numbers). RowInvariant (block_of m.rows x) life k) numbers holds)
 
 -- ---- a step that changes nothing about the row
 
@@ -79,7 +79,7 @@ pub record RowStays (m : Machine) (t : ℕ) (a : Actor) (d : Duty) (rest : List 
     pub local : m.memory (Local x) ≡ (done_by m t a d rest).memory (Local x)
     pub shared : m.memory (Shared x) ≡ (done_by m t a d rest).memory (Shared x)
     pub mark : m.memory (Mark x) ≡ (done_by m t a d rest).memory (Mark x)
-    pub references : references_to x m.plain.references ≡ references_to x (done_by m t a d rest).plain.references
+    pub references : references_to x m.abstract.references ≡ references_to x (done_by m t a d rest).abstract.references
     pub waiting : sum_by (waits x) next ≡ waits x d
     pub carried : sum_by (carries x) next ≡ carries x d
     pub merging : sum_by (merges x) next ≡ merges x d
@@ -98,18 +98,18 @@ row_stays {m = m} {t = t} {a = a} {d = d} {rest = rest} {next = next} {x = x} s 
       carried = omega (arith, w.carried, q.carried);
       merging = omega (arith, w.merging, q.merging);
       deciding = omega (arith, w.deciding, q.deciding);
-    }) (s.rule.rows x some)
+    }) (s.core.rows x some)
 
 -- ---- a row that something counts lives
 
 pub record Lives (owner : ℕ) (life : Life) (n : Numbers) : Type 0 where
   pub is_live : life ≡ Live
-  pub rule : IsLive owner n
+  pub invariant : IsLive owner n
 
-pub row_lives : (owner : ℕ) (life : Life) (n : Numbers) → RowRule owner life n
+pub row_lives : (owner : ℕ) (life : Life) (n : Numbers) → RowInvariant owner life n
     → 1 ≤ n.references + n.mark + n.waiting + n.merging + n.deciding → Lives owner life n
 row_lives owner Unborn n r some = absurd (omega (arith, r.references, r.mark, r.waiting, r.merging, r.deciding, some))
-row_lives owner Live n r some = record { is_live = refl; rule = r }
+row_lives owner Live n r some = record { is_live = refl; invariant = r }
 row_lives owner (Dying t) n r some =
     absurd (omega (arith, r.references, r.mark, r.waiting, r.merging, r.deciding, some))
 row_lives owner Closed n r some = absurd (omega (arith, r.references, r.mark, r.waiting, r.merging, r.deciding, some))

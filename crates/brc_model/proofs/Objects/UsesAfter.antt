@@ -5,21 +5,21 @@ use Rattle.std.proofs.lemmas.List.Sums.{sum_by-cons, sum_by-append}
 use Rattle.brc_model.specs.References.{one_if}
 use Rattle.brc_model.specs.Accounts.{Accounts}
 use Rattle.brc_model.specs.Knowledge.{IsNext}
-use Rattle.brc_model.specs.Invariant.{AtDuty, UsesFit, Rule}
+use Rattle.brc_model.specs.Invariant.{AtDuty, UsesFit, CoreInvariant}
 use Rattle.std.proofs.lemmas.Bool.{eq-eqb, cases_lt}
 use Rattle.std.proofs.lemmas.Bool.Decides.{eqb_tells}
 use Rattle.std.proofs.lemmas.List.Folds.{list_any-append}
 use Rattle.std.proofs.lemmas.Option.{slice_get_within}
 use Rattle.brc_model.specs.declared.duty.Holding.{Holding}
-use Rattle.brc_model.specs.declared.duty.Holding.TheVariants.{ByVariable, AsCaller, InHand}
-use Rattle.brc_model.specs.Plain.{is_among, Plain, Move, Born, Gain, Lose, HandOn, Finalise, move, moved}
+use Rattle.brc_model.specs.declared.duty.Holding.TheVariants.{ByVariable, AsCaller, InFlight}
+use Rattle.brc_model.specs.AbstractState.{is_among, AbstractState, Move, Born, Gain, Lose, PassOn, Finalise, move, moved}
 use Rattle.brc_word.specs.Words.{is_immortal_word}
 use Rattle.brc_model.specs.declared.duty.Reason.TheVariants.{Own}
 use Rattle.brc_model.specs.declared.duty.Duty.{Duty}
 use Rattle.brc_model.specs.declared.duty.Duty.TheVariants.{RetainLoad, RetainStore, RetainAdd, ReleaseLoad, ReleaseStore, SharedExchange, SettleEnd, BirthLocal, SettleCell}
 use Rattle.brc_model.specs.declared.address.Address.{Address}
 use Rattle.brc_model.specs.Duties.{block_of, address_of}
-use Rattle.brc_model.specs.Machine.{Actor, Unborn, Live, Dying, Closed, Machine, first_row, used_by, hand_on, gain, lose, moves_by, born_row, actor_by, done_by, take_out}
+use Rattle.brc_model.specs.Machine.{Actor, Unborn, Live, Dying, Closed, Machine, first_row, used_by, put_in_flight, gain, lose, reference_effects, born_row, actor_by, done_by, take_out}
 use Rattle.brc_model.proofs.Basics.Lists.{some_is, slice_get-set_same, slice_get-set_other}
 use Rattle.brc_model.proofs.Basics.Blocks.{next_above, next_block, next_unborn}
 use Rattle.brc_model.proofs.Frame.Leaves.{head_of}
@@ -87,7 +87,7 @@ either_born _ = inl refl
 pub own_uses : (p : Accounts) (n : ℕ) (m : Machine) (t : ℕ) (a : Actor) (d : Duty) (rest : List Duty)
     → AtDuty p n m t a d rest → UsesFit m.rows (done_by m t a d rest).life t (used_by a.used d)
 own_uses p n m t a d rest here =
-    let old = here.rule.uses t a here.found in
+    let old = here.core.uses t a here.found in
     elim (either_born d) [
       | inl none ↦
           let same = uses_same a.used d none in
@@ -124,7 +124,7 @@ others_uses : (p : Accounts) (n : ℕ) (m : Machine) (t : ℕ) (a : Actor) (d : 
     → AtDuty p n m t a d rest → u ≢ t → slice_get m.actors u ≡ Some b
     → UsesFit m.rows (done_by m t a d rest).life u b.used
 others_uses p n m t a d rest u b here ne found =
-    let old = here.rule.uses u b found in
+    let old = here.core.uses u b found in
     record {
       main = old.main;
       few = old.few;
@@ -155,8 +155,8 @@ uses_after p n m t a d rest here u b is =
 pub no_block_after : (p : Accounts) (n : ℕ) (m : Machine) (t : ℕ) (a : Actor) (d : Duty) (rest : List Duty)
     → AtDuty p n m t a d rest → (x : ℕ) → n ≤ block_of m.rows x → (done_by m t a d rest).life x ≡ Unborn
 no_block_after p n m t a d rest here x past =
-    let within : t < n = omega (arith, slice_get_within m.actors t a here.found, here.rule.threads) in
-    stays_unborn p n m t a d rest x here (here.rule.no_block x past)
+    let within : t < n = omega (arith, slice_get_within m.actors t a here.found, here.core.threads) in
+    stays_unborn p n m t a d rest x here (here.core.no_block x past)
     (λ e. let block = next_block m t a x (born_next p n m t a d rest x here e).0 in absurd
     (omega (arith, block, within, past)))
 
@@ -166,19 +166,19 @@ abbrev pub BearsNone : Move → Type 0
 BearsNone (Born r kind) = ⊥
 BearsNone (Gain r) = Unit {0}
 BearsNone (Lose r) = Unit {0}
-BearsNone (HandOn r h) = Unit {0}
+BearsNone (PassOn r h) = Unit {0}
 BearsNone (Finalise x) = Unit {0}
 
 abbrev pub AllBearNone : List Move → Type 0
 AllBearNone [] = Unit {0}
 AllBearNone (mv ∷ mvs) = BearsNone mv × AllBearNone mvs
 
-moved_born : (p : Plain) (mvs : List Move) → AllBearNone mvs → (moved p mvs).born ≡ p.born
+moved_born : (p : AbstractState) (mvs : List Move) → AllBearNone mvs → (moved p mvs).born ≡ p.born
 moved_born p [] none = refl
 moved_born p (Born r kind ∷ mvs) none = absurd none.0
 moved_born p (Gain r ∷ mvs) none = moved_born (move p (Gain r)) mvs none.1
 moved_born p (Lose r ∷ mvs) none = moved_born (move p (Lose r)) mvs none.1
-moved_born p (HandOn r h ∷ mvs) none = moved_born (move p (HandOn r h)) mvs none.1
+moved_born p (PassOn r h ∷ mvs) none = moved_born (move p (PassOn r h)) mvs none.1
 moved_born p (Finalise x ∷ mvs) none = moved_born (move p (Finalise x)) mvs none.1
 
 either_none : (b : Bool) (mvs others : List Move) → AllBearNone mvs → AllBearNone others
@@ -190,22 +190,22 @@ append_none : (mvs others : List Move) → AllBearNone mvs → AllBearNone other
 append_none [] others f g = g
 append_none (mv ∷ mvs) others f g = (f.0, append_none mvs others f.1 g)
 
-hand_on_none : (t : ℕ) (h : Holding) (x : ℕ) → AllBearNone (hand_on t h x)
-hand_on_none t (ByVariable v) x = (tt, tt)
-hand_on_none t AsCaller x = (tt, tt)
-hand_on_none t InHand x = tt
+put_in_flight_none : (t : ℕ) (h : Holding) (x : ℕ) → AllBearNone (put_in_flight t h x)
+put_in_flight_none t (ByVariable v) x = (tt, tt)
+put_in_flight_none t AsCaller x = (tt, tt)
+put_in_flight_none t InFlight x = tt
 
 take_out_none : (t x i found : ℕ) → AllBearNone (take_out t x i found)
 take_out_none t x i zero = tt
 take_out_none t x i (suc y) = (tt, tt)
 
 pub moves_none : (memory : Address → ℕ) (t : ℕ) (d : Duty) (found : ℕ) → born_row d ≡ None
-    → AllBearNone (moves_by memory t d found)
+    → AllBearNone (reference_effects memory t d found)
 moves_none memory t (RetainLoad x h) found e = either_none (is_immortal_word found) (gain t h x) [] (tt, tt) tt
 moves_none memory t (RetainStore x h w) found e = (tt, tt)
 moves_none memory t (RetainAdd x h) found e = (tt, tt)
 moves_none memory t (ReleaseLoad x h) found e =
-    append_none (hand_on t h x) (cond (is_immortal_word found) (lose t x) []) (hand_on_none t h x)
+    append_none (put_in_flight t h x) (cond (is_immortal_word found) (lose t x) []) (put_in_flight_none t h x)
     (either_none (is_immortal_word found) (lose t x) [] (tt, tt) tt)
 moves_none memory t (ReleaseStore x w) found e = (tt, tt)
 moves_none memory t (SharedExchange x Own w) found e = either_none (found == w) (lose t x) [] (tt, tt) tt
@@ -215,28 +215,28 @@ moves_none memory t (BirthLocal x h) found e = absurd (let wrong : Some x ≡ No
 moves_none memory t _ found e = tt
 
 data BornStep (m : Machine) (t : ℕ) (d : Duty) (found : ℕ) : Type 0 where
-  SameBorn : born_row d ≡ None → (moved m.plain (moves_by m.memory t d found)).born ≡ m.plain.born
+  SameBorn : born_row d ≡ None → (moved m.abstract (reference_effects m.memory t d found)).born ≡ m.abstract.born
       → BornStep m t d found
-  OneBorn : (y : ℕ) → born_row d ≡ Some y → (moved m.plain (moves_by m.memory t d found)).born ≡ m.plain.born ++ y ∷ []
+  OneBorn : (y : ℕ) → born_row d ≡ Some y → (moved m.abstract (reference_effects m.memory t d found)).born ≡ m.abstract.born ++ y ∷ []
       → BornStep m t d found
 
 born_step : (m : Machine) (t : ℕ) (d : Duty) (found : ℕ) → BornStep m t d found
 born_step m t (BirthLocal x h) found = OneBorn x refl refl
 born_step m t d found =
-    SameBorn refl (moved_born m.plain (moves_by m.memory t d found) (moves_none m.memory t d found refl))
+    SameBorn refl (moved_born m.abstract (reference_effects m.memory t d found) (moves_none m.memory t d found refl))
 
 pub born_is_after : (p : Accounts) (n : ℕ) (m : Machine) (t : ℕ) (a : Actor) (d : Duty) (rest : List Duty)
-    → AtDuty p n m t a d rest → (x : ℕ) → is_among x (done_by m t a d rest).plain.born ≡ true
+    → AtDuty p n m t a d rest → (x : ℕ) → is_among x (done_by m t a d rest).abstract.born ≡ true
     → (0 < x) × ((done_by m t a d rest).life x ≢ Unborn)
 born_is_after p n m t a d rest here x is =
     elim (born_step m t d (m.memory (address_of m.rows t a.head d))) [
       | SameBorn none same ↦
-          let old = here.rule.born_is x (sym (ap (is_among x) same) ∙ is) in
+          let old = here.core.born_is x (sym (ap (is_among x) same) ∙ is) in
           (old.0, stays_born p n m t a d rest x here old.1)
       | OneBorn y born more ↦
-          elim (either_true (is_among x m.plain.born) (is_among x (y ∷ []))
-          (sym (ap (is_among x) more ∙ list_any-append (λ z. z == x) m.plain.born (y ∷ [])) ∙ is)) [
-            | inl was ↦ let old = here.rule.born_is x was in (old.0, stays_born p n m t a d rest x here old.1)
+          elim (either_true (is_among x m.abstract.born) (is_among x (y ∷ []))
+          (sym (ap (is_among x) more ∙ list_any-append (λ z. z == x) m.abstract.born (y ∷ [])) ∙ is)) [
+            | inl was ↦ let old = here.core.born_is x was in (old.0, stays_born p n m t a d rest x here old.1)
             | inr new ↦
                 let this : y ≡ x = one_is x y new in
                 let bears : born_row d ≡ Some x = born ∙ ap Some this in
@@ -258,21 +258,21 @@ before_or_now p n m t a d rest x here born =
 
 pub born_has_after : (p : Accounts) (n : ℕ) (m : Machine) (t : ℕ) (a : Actor) (d : Duty) (rest : List Duty)
     → AtDuty p n m t a d rest → (x : ℕ) → 0 < x → (done_by m t a d rest).life x ≢ Unborn
-    → is_among x (done_by m t a d rest).plain.born ≡ true
+    → is_among x (done_by m t a d rest).abstract.born ≡ true
 born_has_after p n m t a d rest here x above born =
     let Q : List ℕ → Type 0 = λ l. is_among x l ≡ true in
     elim (born_step m t d (m.memory (address_of m.rows t a.head d))) [
       | SameBorn none same ↦
           subst Q (sym same) (elim (before_or_now p n m t a d rest x here born) [
-            | inl was ↦ here.rule.born_has x above was
+            | inl was ↦ here.core.born_has x above was
             | inr this ↦ absurd (none_is_not x (sym none ∙ this))
           ])
       | OneBorn y bears more ↦
           subst Q (sym more) (elim (before_or_now p n m t a d rest x here born) [
-            | inl was ↦ among_more x m.plain.born (y ∷ []) (here.rule.born_has x above was)
+            | inl was ↦ among_more x m.abstract.born (y ∷ []) (here.core.born_has x above was)
             | inr this ↦
-                subst (λ (z : ℕ). is_among x (m.plain.born ++ z ∷ []) ≡ true) (some_is x y (sym this ∙ bears))
-                (among_last x m.plain.born)
+                subst (λ (z : ℕ). is_among x (m.abstract.born ++ z ∷ []) ≡ true) (some_is x y (sym this ∙ bears))
+                (among_last x m.abstract.born)
           ])
     ]
 
@@ -288,11 +288,11 @@ none_counted x (y ∷ ys) none =
           omega (arith, sum_by-cons (λ (z : ℕ). cond (z == x) 1 0) y ys, apart, none_counted x ys later)
     ] refl none
 
-not_listed : (p : Accounts) (n : ℕ) (m : Machine) (x : ℕ) → Rule p n m → m.life x ≡ Unborn
-    → is_among x m.plain.born ≡ false
-not_listed p n m x rule unborn =
-    elim (is_among x m.plain.born) as (λ b. is_among x m.plain.born ≡ b → b ≡ false) [
-      | true ↦ λ e. absurd ((rule.born_is x e).1 unborn)
+not_listed : (p : Accounts) (n : ℕ) (m : Machine) (x : ℕ) → CoreInvariant p n m → m.life x ≡ Unborn
+    → is_among x m.abstract.born ≡ false
+not_listed p n m x core unborn =
+    elim (is_among x m.abstract.born) as (λ b. is_among x m.abstract.born ≡ b → b ≡ false) [
+      | true ↦ λ e. absurd ((core.born_is x e).1 unborn)
       | false ↦ λ e. refl
     ] refl
 
@@ -315,13 +315,13 @@ one_more x y l once none =
     ]
 
 pub born_once_after : (p : Accounts) (n : ℕ) (m : Machine) (t : ℕ) (a : Actor) (d : Duty) (rest : List Duty)
-    → AtDuty p n m t a d rest → (x : ℕ) → count_by (λ y. y == x) (done_by m t a d rest).plain.born ≤ 1
+    → AtDuty p n m t a d rest → (x : ℕ) → count_by (λ y. y == x) (done_by m t a d rest).abstract.born ≤ 1
 born_once_after p n m t a d rest here x =
     let Q : List ℕ → Type 0 = λ l. count_by (λ y. y == x) l ≤ 1 in
     elim (born_step m t d (m.memory (address_of m.rows t a.head d))) [
-      | SameBorn none same ↦ subst Q (sym same) (here.rule.born_once x)
+      | SameBorn none same ↦ subst Q (sym same) (here.core.born_once x)
       | OneBorn y bears more ↦
           let next = (born_next p n m t a d rest y here bears).0 in
-          let unborn = next_unborn p n m t a y here.rule here.found next in
-          subst Q (sym more) (one_more x y m.plain.born (here.rule.born_once x) (not_listed p n m y here.rule unborn))
+          let unborn = next_unborn p n m t a y here.core here.found next in
+          subst Q (sym more) (one_more x y m.abstract.born (here.core.born_once x) (not_listed p n m y here.core unborn))
     ]

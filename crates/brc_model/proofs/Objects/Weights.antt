@@ -5,10 +5,10 @@ use Rattle.std.proofs.lemmas.Option.{slice_get_within, get_or_from_slice_get}
 use Rattle.std.proofs.lemmas.List.Sums.{sum_by-cons, sum_by-append, sum_by-set, get_or-le-sum_by}
 use Rattle.brc_model.specs.declared.duty.Duty.{Duty}
 use Rattle.brc_model.specs.declared.duty.Duty.TheVariants.{MergeLoad, MergeExchange, Settle, Scan}
-use Rattle.brc_model.specs.Duties.{address_of, next_by, head_by, ready}
+use Rattle.brc_model.specs.Duties.{address_of, continuation, new_head, ready}
 use Rattle.brc_model.specs.Machine.{Actor, Machine, is_running, done_by}
 use Rattle.brc_model.specs.References.{one_if}
-use Rattle.brc_model.specs.RowRule.{waits, carries, merges, decides, agenda_weight, weight}
+use Rattle.brc_model.specs.RowInvariant.{waits, carries, merges, decides, agenda_weight, weight}
 
 -- ---- what is passed over weighs nothing
 
@@ -73,12 +73,12 @@ light f settle scan = record { settle = settle; scan = scan }
 
 pub weighed_after : (m : Machine) (t : ℕ) (a : Actor) (d : Duty) (rest next : List Duty) → slice_get m.actors t ≡ Some a
     → a.agenda ≡ d ∷ rest
-    → next_by t (is_running a.status) a.head d (m.memory (address_of m.rows t a.head d)) ≡ next → (x : ℕ)
+    → continuation t (is_running a.status) a.head d (m.memory (address_of m.rows t a.head d)) ≡ next → (x : ℕ)
     → Weighed m (done_by m t a d rest) x d next
 weighed_after m t a d rest next is agenda follows x =
     let found = m.memory (address_of m.rows t a.head d) in
-    let head = head_by a.head d found in
-    let now : ready head (next_by t (is_running a.status) a.head d found ++ rest) ≡ ready head (next ++ rest) =
+    let head = new_head a.head d found in
+    let now : ready head (continuation t (is_running a.status) a.head d found ++ rest) ≡ ready head (next ++ rest) =
     ap (λ (ds : List Duty). ready head (ds ++ rest)) follows in
     record {
       waiting =

@@ -6,8 +6,8 @@ use Rattle.brc_model.specs.declared.duty.Reason.{Reason}
 use Rattle.brc_model.specs.declared.duty.Reason.TheVariants.{Own, Handed}
 use Rattle.brc_model.specs.declared.duty.Duty.{Duty}
 use Rattle.brc_model.specs.declared.duty.Duty.TheVariants.{RetainLoad, RetainStore, RetainAdd, ReleaseLoad, ReleaseStore, DecideAtZero, SharedLoad, SharedExchange, SetMark, Look, TakeMark, MergeSwap, MergeLoad, MergeExchange, Die, Settle, SettleKind, SettleCell, TakeSlot, CloseResource, SettleEnd, Leave, Scan, Finish, ClaimMark, BirthKind, BirthSlot, BirthLocal}
-use Rattle.brc_model.specs.Duties.{next_by, counts_locally, once_merged, merge_result, shared_result, cells_of, cells_from, release_found, ready, has_resource}
-use Rattle.brc_model.proofs.Stepping.OwnRetains.{is_passed, ready_first}
+use Rattle.brc_model.specs.Duties.{continuation, counts_locally, once_merged, merge_result, shared_result, cells_of, cells_from, release_found, ready, has_resource}
+use Rattle.brc_model.proofs.Stepping.Retains.{is_passed, ready_first}
 
 -- what is passed over makes the agenda no longer
 ready_length : (head : ℕ) (agenda : List Duty) → length (ready head agenda) ≤ length agenda
@@ -111,7 +111,7 @@ result_follows head d rest x Own word dies apart =
 result_follows head d rest x Handed word dies apart = other_follows head d rest (SharedLoad x Handed) [] refl apart
 
 pub agenda_moves : (t : ℕ) (running : Bool) (before head : ℕ) (d : Duty) (rest : List Duty) (found : ℕ)
-    → IsOther head d rest (next_by t running before d found)
+    → IsOther head d rest (continuation t running before d found)
 agenda_moves t running before head (RetainLoad x h) rest found =
     either_follows head _ rest (is_immortal_word found) [] _ (none_follows head _ rest)
     (either_follows head _ rest (counts_locally t running found && nat_lt (local_part found) most_local)

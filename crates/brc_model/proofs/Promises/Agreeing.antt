@@ -9,9 +9,9 @@ use Rattle.brc_model.specs.Duties.{block_of}
 use Rattle.brc_model.specs.Machine.{Life, Unborn, Live, Dying, Closed, Machine}
 use Rattle.brc_model.specs.Agreement.{has_swapped, is_merging, decides_or_merges, HasDuty, SomeThreadHas, OwnerHas, IsCountedLocally, IsPhase, AgreesAt, IsFreeOf}
 use Rattle.brc_model.specs.References.{one_if}
-use Rattle.brc_model.specs.RowRule.{decides, merges, weight, Numbers, Phased, IsDefault, IsQueued, Decided, AtZero, AboveZero, Mode, InOwned, InSwapped, InMerged, IsLive, IsDead, RowRule}
+use Rattle.brc_model.specs.RowInvariant.{decides, merges, weight, Numbers, Phased, IsDefault, IsQueued, Decided, AtZero, AboveZero, Mode, InOwned, InSwapped, InMerged, IsLive, IsDead, RowInvariant}
 use Rattle.brc_model.specs.Accounts.{Accounts}
-use Rattle.brc_model.specs.Invariant.{numbers_of, Rule}
+use Rattle.brc_model.specs.Invariant.{numbers_of, CoreInvariant}
 use Rattle.brc_model.proofs.Work.HasDuties.{Weighs, some_weighs, is_open}
 use Rattle.brc_model.proofs.Work.Deciders.{decider_owns}
 
@@ -81,7 +81,7 @@ record RowSays (owner : ℕ) (l : Life) (n : Numbers) : Type 0 where
   total : local_part n.local + biased_part n.shared + n.carried ≡ n.references + n.mark + n.waiting + bias
   live : l ≡ Live → LiveSays owner n
 
-row_says : (owner : ℕ) (l : Life) (n : Numbers) → RowRule owner l n → RowSays owner l n
+row_says : (owner : ℕ) (l : Life) (n : Numbers) → RowInvariant owner l n → RowSays owner l n
 row_says owner Unborn n row =
     record {
       total = omega (arith, row.local, row.shared, row.mark, row.references, row.waiting, row.carried);
@@ -123,35 +123,35 @@ has_duty m f is_such only it =
     record { actor = it.which; found = it.found; listed = is_open f is_such only it.which it.some }
 
 -- who decides about a row is its owner
-owner_decides : (p : Accounts) (n : ℕ) (m : Machine) (x : ℕ) → Rule p n m → weight (decides x) m.actors ≡ 1
+owner_decides : (p : Accounts) (n : ℕ) (m : Machine) (x : ℕ) → CoreInvariant p n m → weight (decides x) m.actors ≡ 1
     → OwnerHas m x (decides_or_merges x)
-owner_decides p n m x rule one =
+owner_decides p n m x core one =
     let it = some_weighs (decides x) m.actors (omega (arith, one)) in
-    let owns = decider_owns p n m it.who x it.which rule it.found it.some in
+    let owns = decider_owns p n m it.who x it.which core it.found it.some in
     (it.who, owns.owner, has_duty m (decides x) (decides_or_merges x) (decides_only x) it)
 
-default_local : (p : Accounts) (n : ℕ) (m : Machine) (x : ℕ) → Rule p n m
+default_local : (p : Accounts) (n : ℕ) (m : Machine) (x : ℕ) → CoreInvariant p n m
     → LocalSays (block_of m.rows x) (numbers_of m x) → IsCountedLocally m x ⊎ SomeThreadHas m (decides_or_merges x)
-default_local p n m x rule (IsCounted owned some) = inl (record { owner = owned; counted = some })
-default_local p n m x rule (IsDecided one) = let owner = owner_decides p n m x rule one in inr (owner.0, owner.2)
-default_local p n m x rule (IsCarried one) =
+default_local p n m x core (IsCounted owned some) = inl (record { owner = owned; counted = some })
+default_local p n m x core (IsDecided one) = let owner = owner_decides p n m x core one in inr (owner.0, owner.2)
+default_local p n m x core (IsCarried one) =
     let it = some_weighs (merges x) m.actors (omega (arith, one)) in
     inr (it.who, has_duty m (merges x) (decides_or_merges x) (merges_only x) it)
 
-queued_local : (p : Accounts) (n : ℕ) (m : Machine) (x : ℕ) → Rule p n m
+queued_local : (p : Accounts) (n : ℕ) (m : Machine) (x : ℕ) → CoreInvariant p n m
     → LocalSays (block_of m.rows x) (numbers_of m x)
     → IsCountedLocally m x ⊎ OwnerHas m x (decides_or_merges x) ⊎ SomeThreadHas m (has_swapped x)
-queued_local p n m x rule (IsCounted owned some) = inl (record { owner = owned; counted = some })
-queued_local p n m x rule (IsDecided one) = inr (inl (owner_decides p n m x rule one))
-queued_local p n m x rule (IsCarried one) =
+queued_local p n m x core (IsCounted owned some) = inl (record { owner = owned; counted = some })
+queued_local p n m x core (IsDecided one) = inr (inl (owner_decides p n m x core one))
+queued_local p n m x core (IsCarried one) =
     let it = some_weighs (merges x) m.actors (omega (arith, one)) in
     inr (inr (it.who, has_duty m (merges x) (has_swapped x) (swaps_only x) it))
 
 -- ---- every row
 
-pub agrees_at : (p : Accounts) (n : ℕ) (m : Machine) (x : ℕ) → Rule p n m → 0 < x → AgreesAt m x
-agrees_at p n m x rule pos =
-    let says = row_says (block_of m.rows x) (m.life x) (numbers_of m x) (rule.rows x pos) in
+pub agrees_at : (p : Accounts) (n : ℕ) (m : Machine) (x : ℕ) → CoreInvariant p n m → 0 < x → AgreesAt m x
+agrees_at p n m x core pos =
+    let says = row_says (block_of m.rows x) (m.life x) (numbers_of m x) (core.rows x pos) in
     record {
       total = omega (arith, says.total);
       default_none = λ live e. (says.live live).default_none e;
@@ -161,20 +161,20 @@ agrees_at p n m x rule pos =
       merged_counts = λ live e. (says.live live).merged_counts e;
       phase = λ live. (says.live live).phase;
       default_local = λ live e.
-          default_local p n m x rule ((says.live live).local (λ three. absurd (omega (arith, e, three))));
+          default_local p n m x core ((says.live live).local (λ three. absurd (omega (arith, e, three))));
       queued_local = λ live e.
-          queued_local p n m x rule ((says.live live).local (λ three. absurd (omega (arith, e, three))));
+          queued_local p n m x core ((says.live live).local (λ three. absurd (omega (arith, e, three))));
     }
 
-free_row : (owner : ℕ) (l : Life) (n : Numbers) → RowRule owner l n → (l ≡ Live → ⊥) → (l ≡ Unborn → ⊥) → IsDead n
+free_row : (owner : ℕ) (l : Life) (n : Numbers) → RowInvariant owner l n → (l ≡ Live → ⊥) → (l ≡ Unborn → ⊥) → IsDead n
 free_row owner Unborn n row alive born = absurd (born refl)
 free_row owner Live n row alive born = absurd (alive refl)
 free_row owner (Dying t) n row alive born = row
 free_row owner Closed n row alive born = row
 
 -- what is dying or closed is free of references
-pub is_free_of : (p : Accounts) (n : ℕ) (m : Machine) (x : ℕ) → Rule p n m → 0 < x → (m.life x ≡ Live → ⊥)
+pub is_free_of : (p : Accounts) (n : ℕ) (m : Machine) (x : ℕ) → CoreInvariant p n m → 0 < x → (m.life x ≡ Live → ⊥)
     → (m.life x ≡ Unborn → ⊥) → IsFreeOf m x
-is_free_of p n m x rule pos alive born =
-    let dead = free_row (block_of m.rows x) (m.life x) (numbers_of m x) (rule.rows x pos) alive born in
+is_free_of p n m x core pos alive born =
+    let dead = free_row (block_of m.rows x) (m.life x) (numbers_of m x) (core.rows x pos) alive born in
     record { references = dead.references; awaiting_none = omega (arith, dead.mark, dead.waiting) }

@@ -4,7 +4,7 @@ use Rattle.std.specs.Prelude.{◌==◌, count_by, get_or, AllPairs}
 use Rattle.std.proofs.lemmas.Bool.Decides.{eqb_tells}
 use Rattle.std.proofs.lemmas.List.Sums.{sum_by-cons}
 use Rattle.brc_lang.specs.declared.module.Module.{Module}
-use Rattle.brc_model.specs.Plain.{is_among}
+use Rattle.brc_model.specs.AbstractState.{is_among}
 use Rattle.brc_model.specs.declared.thread.Choice.{Choice}
 use Rattle.brc_model.specs.declared.duty.Duty.{Duty}
 use Rattle.brc_model.specs.Duties.{address_of}
@@ -14,32 +14,32 @@ use Rattle.brc_model.specs.References.{one_if}
 use Rattle.brc_model.specs.Accounts.{Accounts}
 use Rattle.brc_model.proofs.Objects.Closing.{GoesOn, BeginsToDie, IsClosed, life_step, SameClosed, OneMore, closed_step, IsBorn}
 use Rattle.brc_model.proofs.Objects.ClosedAfter.{live_not_closed, dying_not_closed, among_more, unborn_not_closed}
-use Rattle.brc_model.proofs.Keeping.Whole.{Whole}
+use Rattle.brc_model.proofs.Keeping.CodeInvariant.{CodeInvariant}
 use Rattle.brc_model.proofs.Promises.StepCases.{ShowsSteps, at_duty, event_shows}
-use Rattle.brc_model.proofs.Keeping.Quiets.{quiet_closed}
+use Rattle.brc_model.proofs.Keeping.SilentSteps.{silent_closed}
 use Rattle.brc_model.specs.Invariant.{AtDuty}
 
 -- ---- what is closed stays closed
 
 abbrev StaysAmong : Machine → Machine → Type 0
-StaysAmong m new = (x : ℕ) → is_among x m.plain.closed ≡ true → is_among x new.plain.closed ≡ true
+StaysAmong m new = (x : ℕ) → is_among x m.abstract.closed ≡ true → is_among x new.abstract.closed ≡ true
 
 stays_among : (m : Machine) (t : ℕ) (a : Actor) (d : Duty) (rest : List Duty) → StaysAmong m (done_by m t a d rest)
 stays_among m t a d rest = λ x was.
     elim (closed_step m t d (m.memory (address_of m.rows t a.head d))) [
       | SameClosed none same ↦ ap (is_among x) same ∙ was
-      | OneMore y ended more ↦ ap (is_among x) more ∙ among_more x m.plain.closed (y ∷ []) was
+      | OneMore y ended more ↦ ap (is_among x) more ∙ among_more x m.abstract.closed (y ∷ []) was
     ]
 
 closed_shown : (n : ℕ) → ShowsSteps (λ t m new. StaysAmong m new) n
 closed_shown n = record {
   stays = λ p t m kept x was. was;
   sits = λ t m new a place agenda found shown. shown;
-  moves = λ p t m a moves place kept found quiet x was. ap (is_among x) (quiet_closed m.plain t moves quiet) ∙ was;
+  moves = λ p t m a moves place kept found silent x was. ap (is_among x) (silent_closed m.abstract t moves silent) ∙ was;
   does = λ p t m a d rest doing. stays_among m t a d rest;
 }
 
-pub closed_stays : (p : Module) (n : ℕ) (m : Machine) (event : ℕ × Choice) → Whole p n m → ClosedStays m event
+pub closed_stays : (p : Module) (n : ℕ) (m : Machine) (event : ℕ × Choice) → CodeInvariant p n m → ClosedStays m event
 closed_stays p n m event whole = event_shows (closed_shown n) m event whole
 
 -- ---- what is closed anew wasn't closed
@@ -50,17 +50,17 @@ ne_true false wrong = refl
 
 abbrev ClosesSo : Machine → Machine → Type 0
 ClosesSo m new =
-    (new.plain.closed ≡ m.plain.closed)
-    ⊎ ((row : ℕ) × (is_among row m.plain.closed ≡ false) × (new.plain.closed ≡ m.plain.closed ++ row ∷ []))
+    (new.abstract.closed ≡ m.abstract.closed)
+    ⊎ ((row : ℕ) × (is_among row m.abstract.closed ≡ false) × (new.abstract.closed ≡ m.abstract.closed ++ row ∷ []))
 
 ends_open : (p : Accounts) (n : ℕ) (m : Machine) (t : ℕ) (a : Actor) (d : Duty) (rest : List Duty) (row : ℕ)
-    → AtDuty p n m t a d rest → ended_row d ≡ Some row → is_among row m.plain.closed ≡ true → ⊥
+    → AtDuty p n m t a d rest → ended_row d ≡ Some row → is_among row m.abstract.closed ≡ true → ⊥
 ends_open p n m t a d rest row here ended was =
     elim (life_step p n m t a d rest row here) [
       | GoesOn now other ↦ other ended
-      | BeginsToDie now alive positive none ↦ live_not_closed (sym alive ∙ here.rule.closed_is row was)
-      | IsClosed now dying positive last ↦ dying_not_closed t (sym dying ∙ here.rule.closed_is row was)
-      | IsBorn now unborn above born none ↦ unborn_not_closed (sym unborn ∙ here.rule.closed_is row was)
+      | BeginsToDie now alive positive none ↦ live_not_closed (sym alive ∙ here.core.closed_is row was)
+      | IsClosed now dying positive last ↦ dying_not_closed t (sym dying ∙ here.core.closed_is row was)
+      | IsBorn now unborn above born none ↦ unborn_not_closed (sym unborn ∙ here.core.closed_is row was)
     ]
 
 closes_at_duty : (p : Accounts) (n : ℕ) (m : Machine) (t : ℕ) (a : Actor) (d : Duty) (rest : List Duty)
@@ -75,11 +75,11 @@ closes_shown : (n : ℕ) → ShowsSteps (λ t m new. ClosesSo m new) n
 closes_shown n = record {
   stays = λ p t m kept. inl refl;
   sits = λ t m new a place agenda found shown. shown;
-  moves = λ p t m a moves place kept found quiet. inl (quiet_closed m.plain t moves quiet);
+  moves = λ p t m a moves place kept found silent. inl (silent_closed m.abstract t moves silent);
   does = λ p t m a d rest doing. closes_at_duty p n m t a d rest (at_duty doing);
 }
 
-pub closes_anew : (p : Module) (n : ℕ) (m : Machine) (event : ℕ × Choice) → Whole p n m → ClosesAnew m event
+pub closes_anew : (p : Module) (n : ℕ) (m : Machine) (event : ℕ × Choice) → CodeInvariant p n m → ClosesAnew m event
 closes_anew p n m event whole = event_shows (closes_shown n) m event whole
 
 -- ---- it is closed once
@@ -125,5 +125,5 @@ once_counted x (y ∷ ys) once =
           )
     ]
 
-pub closed_once : (p : Module) (n : ℕ) (m : Machine) → Whole p n m → ClosedOnce m
-closed_once p n m whole = λ x. once_counted x m.plain.closed whole.kept.rule.once
+pub closed_once : (p : Module) (n : ℕ) (m : Machine) → CodeInvariant p n m → ClosedOnce m
+closed_once p n m whole = λ x. once_counted x m.abstract.closed whole.kept.core.once

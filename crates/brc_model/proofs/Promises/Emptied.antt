@@ -13,11 +13,11 @@ use Rattle.brc_model.specs.declared.duty.Reason.{Reason}
 use Rattle.brc_model.specs.declared.duty.Reason.TheVariants.{Own, Handed}
 use Rattle.brc_model.specs.declared.duty.Duty.{Duty}
 use Rattle.brc_model.specs.declared.duty.Duty.TheVariants.{RetainLoad, RetainStore, RetainAdd, ReleaseLoad, ReleaseStore, DecideAtZero, SharedLoad, SharedExchange, SetMark, Look, TakeMark, MergeSwap, MergeLoad, MergeExchange, Die, Settle, SettleKind, SettleCell, TakeSlot, CloseResource, SettleEnd, Leave, Scan, Finish, ClaimMark, BirthKind, BirthSlot, BirthLocal}
-use Rattle.brc_model.specs.Duties.{address_of, next_by, counts_locally, once_merged, merge_result, shared_result, cells_of, head_by, ready, has_resource, cells_from}
+use Rattle.brc_model.specs.Duties.{address_of, continuation, counts_locally, once_merged, merge_result, shared_result, cells_of, new_head, ready, has_resource, cells_from}
 use Rattle.brc_model.specs.declared.actor.Status.{Status}
 use Rattle.brc_model.specs.declared.actor.Status.TheVariants.{Running, Leaving, Gone}
 use Rattle.brc_model.specs.declared.actor.Place.{Place}
-use Rattle.brc_model.specs.declared.actor.Place.TheVariants.{Standing, Inside, Departing}
+use Rattle.brc_model.specs.declared.actor.Place.TheVariants.{Idle, InCall, Exiting}
 use Rattle.brc_model.specs.Machine.{Actor, Machine, Action, Skip, Stuck, Silent, Does, with_row, dispatch_instruction, dispatch, is_running, actor_by, done_by, at_place, may_claim, agenda_action, status_action, action_of, of_thread, machine_by, next_machine, machine_after, main_actor, worker_actor, first_machine, has_room}
 use Rattle.brc_lang.specs.declared.module.Function.{Function}
 use Rattle.brc_model.proofs.Basics.Lists.{some_is, slice_get-map, written_actor}
@@ -108,7 +108,7 @@ result_makes full rest x Own word e =
 result_makes full rest x Handed word e = e
 
 next_empties : (t : ℕ) (running : Bool) (head : ℕ) (d : Duty) (rest : List Duty) (found : ℕ) → Empties head (d ∷ rest)
-    → MakesUp (some_chain (head_by head d found)) (next_by t running head d found) rest
+    → MakesUp (some_chain (new_head head d found)) (continuation t running head d found) rest
 next_empties t running head (RetainLoad x h) rest found e =
     either_makes (some_chain head) rest (is_immortal_word found) [] _ e
     (either_makes (some_chain head) rest (counts_locally t running found && nat_lt (local_part found) most_local)
@@ -186,7 +186,7 @@ duty_emptied : (m : Machine) (t : ℕ) (a b : Actor) (d : Duty) (rest : List Dut
 duty_emptied m t a b d rest are found e =
     let word = m.memory (address_of m.rows t b.head d) in
     sets_emptied m.actors t a (actor_by t b d rest word) found
-    (ready_empties (head_by b.head d word) (next_by t (is_running b.status) b.head d word ++ rest)
+    (ready_empties (new_head b.head d word) (continuation t (is_running b.status) b.head d word ++ rest)
     (next_empties t (is_running b.status) b.head d rest word e)) are
 
 -- ---- what a thread does
@@ -228,11 +228,11 @@ instruction_empties rows t used left at variables (Some Fail) = tt
 
 dispatch_empties : (rows t used : ℕ) (code : List Instr) (place : Place)
     → ActionEmpties 0 (dispatch rows t used code place)
-dispatch_empties rows t used code Departing = tt
-dispatch_empties rows t used code (Standing zero) = refl
-dispatch_empties rows t used code (Standing (suc left)) =
+dispatch_empties rows t used code Exiting = tt
+dispatch_empties rows t used code (Idle zero) = refl
+dispatch_empties rows t used code (Idle (suc left)) =
     instruction_empties rows t used left 0 entry_variables (slice_get code 0)
-dispatch_empties rows t used code (Inside left at variables) =
+dispatch_empties rows t used code (InCall left at variables) =
     instruction_empties rows t used left at variables (slice_get code at)
 
 no_chain : (head : ℕ) → Empties head [] → head ≡ 0

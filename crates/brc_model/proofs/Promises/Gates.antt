@@ -6,7 +6,7 @@ use Rattle.std.proofs.lemmas.List.Sums.{sum_by-cons}
 use Rattle.std.proofs.lemmas.Option.{slice_get-get_or}
 use Rattle.brc_lang.specs.declared.module.Module.{Module}
 use Rattle.brc_lang.specs.Grammar.{IsModule}
-use Rattle.brc_model.specs.Walks.{IsAcceptable}
+use Rattle.brc_model.specs.Paths.{IsAcceptable}
 use Rattle.brc_word.specs.Words.{free_word, closed_word}
 use Rattle.brc_model.specs.declared.duty.Duty.{Duty}
 use Rattle.brc_model.specs.declared.duty.Duty.TheVariants.{Die, SettleKind, SettleCell, TakeSlot, CloseResource, SettleEnd}
@@ -17,10 +17,10 @@ use Rattle.brc_model.specs.Progress.{Always, GatesTell, BornAreUsed}
 use Rattle.brc_model.specs.References.{one_if}
 use Rattle.brc_model.specs.Accounts.{Accounts}
 use Rattle.brc_model.specs.Knowledge.{IsDyingWord, HeadOf}
-use Rattle.brc_model.specs.OpenWork.{Linked, hand_of, dies_by, GateFits}
-use Rattle.brc_model.specs.Invariant.{Rule}
+use Rattle.brc_model.specs.OpenWork.{Linked, finalised_now, dies_by, GateFits}
+use Rattle.brc_model.specs.Invariant.{CoreInvariant}
 use Rattle.brc_model.proofs.Frame.Others.{dying_is}
-use Rattle.brc_model.proofs.Keeping.Whole.{Whole}
+use Rattle.brc_model.proofs.Keeping.CodeInvariant.{CodeInvariant}
 use Rattle.brc_model.proofs.Promises.RowLaws.{always}
 use Rattle.brc_model.proofs.Basics.Blocks.{born_used}
 use Rattle.brc_model.specs.Limits.{thread_limit}
@@ -33,7 +33,7 @@ dying_low t gate few (next, is, low) e = absurd (omega (arith, few, low, is, e))
 
 -- at hand, its gate is free before its first step and a dying word after it
 hand_gate : (m : Machine) (t : ℕ) (a : Actor) (agenda : List Duty) (x : ℕ) → HeadOf m t a agenda
-    → hand_of agenda x ≡ true → (m.memory (Gate x) ≡ free_word) ⊎ IsDyingWord t (m.memory (Gate x))
+    → finalised_now agenda x ≡ true → (m.memory (Gate x) ≡ free_word) ⊎ IsDyingWord t (m.memory (Gate x))
 hand_gate m t a (Die y ∷ rest) x fits at = inl (ap (λ (z : ℕ). m.memory (Gate z)) (sym (eqb-true y x at)) ∙ fits.2)
 hand_gate m t a (SettleKind y ∷ rest) x fits at =
     inr (subst (λ (z : ℕ). IsDyingWord t (m.memory (Gate z))) (eqb-true y x at) fits.2)
@@ -61,50 +61,50 @@ chained_gate memory t head (y ∷ ys) x linked some =
           (omega (arith, some, sum_by-cons (λ (z : ℕ). cond (z == x) 1 0) y ys, apart))
     ] refl
 
-dying_gate : (p : Accounts) (n : ℕ) (m : Machine) (t x : ℕ) → Rule p n m → t < n → m.life x ≡ Dying t
+dying_gate : (p : Accounts) (n : ℕ) (m : Machine) (t x : ℕ) → CoreInvariant p n m → t < n → m.life x ≡ Dying t
     → (m.memory (Gate x) ≡ free_word) ⊎ IsDyingWord t (m.memory (Gate x))
-dying_gate p n m t x rule within dies =
+dying_gate p n m t x core within dies =
     let a = get_or m.actors t main_actor in
-    let found = slice_get-get_or m.actors t main_actor (omega (arith, within, rule.threads)) in
-    let fits = (rule.each t a found).0 in
-    elim (hand_of a.agenda x) as (λ b. hand_of a.agenda x ≡ b
+    let found = slice_get-get_or m.actors t main_actor (omega (arith, within, core.threads)) in
+    let fits = (core.each t a found).0 in
+    elim (finalised_now a.agenda x) as (λ b. finalised_now a.agenda x ≡ b
     → (m.memory (Gate x) ≡ free_word) ⊎ IsDyingWord t (m.memory (Gate x))) [
       | true ↦ λ at. hand_gate m t a a.agenda x fits.head_fits at
       | false ↦ λ off.
           let one : one_if (dies_by (m.life x) t) ≡ 1 = ap one_if (dying_is (m.life x) t dies) in
-          let none : one_if (hand_of a.agenda x) ≡ 0 = ap one_if off in
+          let none : one_if (finalised_now a.agenda x) ≡ 0 = ap one_if off in
           inr (chained_gate m.memory t a.head fits.chain.chained x fits.chain.linked
           (omega (arith, fits.chain.once x, one, none)))
     ] refl
 
 -- ---- what a gate says
 
-dying_within : (p : Accounts) (n : ℕ) (m : Machine) (t x : ℕ) → Rule p n m → m.life x ≡ Dying t → t < n
-dying_within p n m t x rule dies =
+dying_within : (p : Accounts) (n : ℕ) (m : Machine) (t x : ℕ) → CoreInvariant p n m → m.life x ≡ Dying t → t < n
+dying_within p n m t x core dies =
     elim (cases_lt t n) [
       | inl within ↦ within
-      | inr past ↦ absurd (false≢true (sym (rule.dying x t (omega (arith, past))) ∙ dying_is (m.life x) t dies))
+      | inr past ↦ absurd (false≢true (sym (core.dying x t (omega (arith, past))) ∙ dying_is (m.life x) t dies))
     ]
 
 -- only a closed row's gate says so
-closed_by : (p : Accounts) (n : ℕ) (m : Machine) (x : ℕ) (l : Life) → Rule p n m → m.life x ≡ l
+closed_by : (p : Accounts) (n : ℕ) (m : Machine) (x : ℕ) (l : Life) → CoreInvariant p n m → m.life x ≡ l
     → GateFits l (m.memory (Gate x)) → m.memory (Gate x) ≡ closed_word → l ≡ Closed
-closed_by p n m x Unborn rule is fits e = absurd (omega (arith, fits, e))
-closed_by p n m x Live rule is fits e = absurd (omega (arith, fits, e))
-closed_by p n m x (Dying t) rule is fits e =
-    let within = dying_within p n m t x rule is in
-    elim (dying_gate p n m t x rule within is) [
+closed_by p n m x Unborn core is fits e = absurd (omega (arith, fits, e))
+closed_by p n m x Live core is fits e = absurd (omega (arith, fits, e))
+closed_by p n m x (Dying t) core is fits e =
+    let within = dying_within p n m t x core is in
+    elim (dying_gate p n m t x core within is) [
       | inl free ↦ absurd (omega (arith, free, e))
-      | inr word ↦ absurd (dying_low t (m.memory (Gate x)) (omega (arith, within, rule.few_threads)) word e)
+      | inr word ↦ absurd (dying_low t (m.memory (Gate x)) (omega (arith, within, core.few_threads)) word e)
     ]
-closed_by p n m x Closed rule is fits e = refl
+closed_by p n m x Closed core is fits e = refl
 
-tell_in : (p : Module) (n : ℕ) (m : Machine) → Whole p n m → GatesTell m
+tell_in : (p : Module) (n : ℕ) (m : Machine) → CodeInvariant p n m → GatesTell m
 tell_in p n m whole =
-    let rule = whole.kept.rule in
+    let core = whole.kept.core in
     λ x. (
-      λ e. rule.closed_has x (closed_by whole.accounts n m x (m.life x) rule refl (rule.gates x) e),
-      λ c. subst (λ (l : Life). GateFits l (m.memory (Gate x))) (rule.closed_is x c) (rule.gates x),
+      λ e. core.closed_has x (closed_by whole.accounts n m x (m.life x) core refl (core.gates x) e),
+      λ c. subst (λ (l : Life). GateFits l (m.memory (Gate x))) (core.closed_is x c) (core.gates x),
     )
 
 pub gates_tell : (p : Module) → IsModule p → IsAcceptable p → Always GatesTell p
@@ -112,9 +112,9 @@ gates_tell = always GatesTell tell_in
 
 -- ---- what is born
 
-used_in : (p : Module) (n : ℕ) (m : Machine) → Whole p n m → BornAreUsed m
+used_in : (p : Module) (n : ℕ) (m : Machine) → CodeInvariant p n m → BornAreUsed m
 used_in p n m whole = λ x born.
-    let used = born_used whole.accounts n m x whole.kept.rule born in (used.by, used.found, used.low, used.high)
+    let used = born_used whole.accounts n m x whole.kept.core born in (used.by, used.found, used.low, used.high)
 
 pub born_are_used : (p : Module) → IsModule p → IsAcceptable p → Always BornAreUsed p
 born_are_used = always BornAreUsed used_in

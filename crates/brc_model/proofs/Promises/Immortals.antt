@@ -11,20 +11,20 @@ use Rattle.brc_model.specs.declared.address.Address.TheVariants.{Local, Shared, 
 use Rattle.brc_model.specs.Duties.{block_of}
 use Rattle.brc_model.specs.Machine.{Actor, Life, Unborn, Live, Dying, Closed, Machine, written, next_machine}
 use Rattle.brc_model.specs.Progress.{StaysAt, ImmortalsStay}
-use Rattle.brc_model.specs.RowRule.{Numbers, InOwned, InSwapped, InMerged, RowRule}
+use Rattle.brc_model.specs.RowInvariant.{Numbers, InOwned, InSwapped, InMerged, RowInvariant}
 use Rattle.brc_model.specs.Accounts.{Accounts}
-use Rattle.brc_model.specs.Invariant.{AtDuty, numbers_of, Rule}
+use Rattle.brc_model.specs.Invariant.{AtDuty, numbers_of, CoreInvariant}
 use Rattle.brc_model.proofs.Basics.Written.{written_apart, written_load, apart_shared, apart_gate}
 use Rattle.brc_model.proofs.Frame.Leaves.{head_of}
 use Rattle.brc_model.proofs.Stepping.Neutral.{memory_by}
-use Rattle.brc_model.proofs.Keeping.Whole.{Whole}
-use Rattle.brc_model.proofs.Keeping.WholeEvents.{event_keeps}
+use Rattle.brc_model.proofs.Keeping.CodeInvariant.{CodeInvariant}
+use Rattle.brc_model.proofs.Keeping.CodeEvents.{event_keeps}
 use Rattle.brc_model.proofs.Promises.StepCases.{ShowsSteps, at_duty, event_shows}
 use Rattle.brc_model.proofs.Stepping.Nones.{next_counted, none_local}
 
 -- ---- which rows are immortal
 
-low_by_life : (owner : ℕ) (life : Life) (n : Numbers) → RowRule owner life n → local_part n.local < immortal_local
+low_by_life : (owner : ℕ) (life : Life) (n : Numbers) → RowInvariant owner life n → local_part n.local < immortal_local
 low_by_life owner Unborn n row = omega (arith, row.local)
 low_by_life owner Live n row =
     elim row.mode [
@@ -35,15 +35,15 @@ low_by_life owner Live n row =
 low_by_life owner (Dying t) n row = omega (arith, row.local)
 low_by_life owner Closed n row = omega (arith, row.local)
 
-pub counted_low : (p : Accounts) (n : ℕ) (m : Machine) (x : ℕ) → Rule p n m → 0 < x
+pub counted_low : (p : Accounts) (n : ℕ) (m : Machine) (x : ℕ) → CoreInvariant p n m → 0 < x
     → local_part (m.memory (Local x)) < immortal_local
-counted_low p n m x rule pos = low_by_life (block_of m.rows x) (m.life x) (numbers_of m x) (rule.rows x pos)
+counted_low p n m x core pos = low_by_life (block_of m.rows x) (m.life x) (numbers_of m x) (core.rows x pos)
 
-immortal_is_none : (p : Accounts) (n : ℕ) (m : Machine) (x : ℕ) → Rule p n m
+immortal_is_none : (p : Accounts) (n : ℕ) (m : Machine) (x : ℕ) → CoreInvariant p n m
     → is_immortal_word (m.memory (Local x)) ≡ true → x ≡ 0
-immortal_is_none p n m zero rule is = refl
-immortal_is_none p n m (suc x) rule is =
-    absurd (omega (arith, counted_low p n m (suc x) rule (omega arith), eqb-true _ _ is))
+immortal_is_none p n m zero core is = refl
+immortal_is_none p n m (suc x) core is =
+    absurd (omega (arith, counted_low p n m (suc x) core (omega arith), eqb-true _ _ is))
 
 -- ---- none's words after a duty
 
@@ -125,7 +125,7 @@ none_shown n = record {
         resource = shown.resource;
       };
   moves =
-      λ p t m a moves place kept found quiet. record
+      λ p t m a moves place kept found silent. record
       { local = refl; shared = refl; gate = refl; kind = refl; slot = refl; resource = refl };
   does = λ p t m a d rest doing. record {
     local = none_local p n m t a d rest (at_duty doing);
@@ -138,10 +138,10 @@ none_shown n = record {
 }
 
 -- none has no mark
-none_mark : (p : Accounts) (n : ℕ) (m : Machine) → Rule p n m → m.memory (Mark 0) ≡ 0
-none_mark p n m rule = elim (rule.marks 0) [ inl none ↦ none | inr set ↦ absurd (omega (arith, set.1)) ]
+none_mark : (p : Accounts) (n : ℕ) (m : Machine) → CoreInvariant p n m → m.memory (Mark 0) ≡ 0
+none_mark p n m core = elim (core.marks 0) [ inl none ↦ none | inr set ↦ absurd (omega (arith, set.1)) ]
 
-none_stays : (p : Module) (n : ℕ) (m : Machine) (event : ℕ × Choice) → Whole p n m → StaysAt m (next_machine m event) 0
+none_stays : (p : Module) (n : ℕ) (m : Machine) (event : ℕ × Choice) → CodeInvariant p n m → StaysAt m (next_machine m event) 0
 none_stays p n m event whole =
     let words = event_shows (none_shown n) m event whole in
     let new = (event_keeps p n m event whole).1 in
@@ -152,13 +152,13 @@ none_stays p n m event whole =
       kind = words.kind;
       slot = words.slot;
       resource = words.resource;
-      mark = none_mark new.accounts n (next_machine m event) new.kept.rule
-          ∙ sym (none_mark whole.accounts n m whole.kept.rule);
-      cells = λ i. new.kept.rule.cells 0 i ∙ sym (whole.kept.rule.cells 0 i);
+      mark = none_mark new.accounts n (next_machine m event) new.kept.core
+          ∙ sym (none_mark whole.accounts n m whole.kept.core);
+      cells = λ i. new.kept.core.cells 0 i ∙ sym (whole.kept.core.cells 0 i);
     }
 
-pub immortals_stay : (p : Module) (n : ℕ) (m : Machine) (event : ℕ × Choice) → Whole p n m → ImmortalsStay m event
+pub immortals_stay : (p : Module) (n : ℕ) (m : Machine) (event : ℕ × Choice) → CodeInvariant p n m → ImmortalsStay m event
 immortals_stay p n m event whole =
     λ x is. subst (λ (z : ℕ). StaysAt m (next_machine m event) z) (sym
-    (immortal_is_none whole.accounts n m x whole.kept.rule is))
+    (immortal_is_none whole.accounts n m x whole.kept.core is))
     (none_stays p n m event whole)

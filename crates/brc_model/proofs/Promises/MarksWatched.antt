@@ -5,7 +5,7 @@ use Rattle.std.specs.List.{list_any}
 use Rattle.std.proofs.lemmas.Bool.{lt-ltb}
 use Rattle.brc_lang.specs.declared.module.Module.{Module}
 use Rattle.brc_lang.specs.Grammar.{IsModule}
-use Rattle.brc_model.specs.Walks.{IsAcceptable}
+use Rattle.brc_model.specs.Paths.{IsAcceptable}
 use Rattle.brc_model.specs.declared.duty.Duty.{Duty}
 use Rattle.brc_model.specs.declared.duty.Duty.TheVariants.{Look, TakeMark, Settle, Leave, Scan, Finish}
 use Rattle.brc_model.specs.declared.address.Address.TheVariants.{Mark, ThreadWord}
@@ -17,17 +17,17 @@ use Rattle.brc_model.specs.Machine.{Actor, Machine, first_row, first_machine}
 use Rattle.brc_model.specs.Progress.{Always}
 use Rattle.brc_model.specs.Watched.{looks_at, scans_over, IsWatched, ByRunning, ByExit, ByLook, MarksWatched}
 use Rattle.brc_model.specs.References.{one_if}
-use Rattle.brc_model.specs.RowRule.{weight}
+use Rattle.brc_model.specs.RowInvariant.{weight}
 use Rattle.brc_model.specs.OpenWork.{Later, Agenda, AgendaFits, scans}
 use Rattle.brc_model.specs.Invariant.{looks}
 use Rattle.brc_model.specs.Knowledge.{status_word}
 use Rattle.brc_model.proofs.Work.HasDuties.{some_weighs, is_open}
-use Rattle.brc_model.specs.Invariant as rule
-use Rattle.brc_model.proofs.Stepping.OwnExits.{marked_born}
+use Rattle.brc_model.specs.Invariant as core
+use Rattle.brc_model.proofs.Stepping.Exits.{marked_born}
 use Rattle.brc_model.proofs.Work.Watches.{marked_within}
-use Rattle.brc_model.proofs.Keeping.Whole.{Whole}
-use Rattle.brc_model.proofs.Keeping.WholeEvents.{whole_after}
-use Rattle.brc_model.proofs.Promises.Safe.{first_whole}
+use Rattle.brc_model.proofs.Keeping.CodeInvariant.{CodeInvariant}
+use Rattle.brc_model.proofs.Keeping.CodeEvents.{code_invariant_after}
+use Rattle.brc_model.proofs.Promises.Safe.{first_code_invariant}
 use Rattle.brc_model.proofs.Basics.Blocks.{born_used}
 
 -- ---- by its running thread
@@ -38,12 +38,12 @@ status_runs Leaving e = absurd (omega (arith, e))
 status_runs Gone e = absurd (omega (arith, e))
 
 -- the marked row was born, so its block's thread is there
-by_running : (p : Module) (n : ℕ) (m : Machine) (x : ℕ) → Whole p n m → m.memory (Mark x) ≡ 1
+by_running : (p : Module) (n : ℕ) (m : Machine) (x : ℕ) → CodeInvariant p n m → m.memory (Mark x) ≡ 1
     → m.memory (ThreadWord (block_of m.rows x)) ≡ 1 → IsWatched m x
 by_running p n m x whole marked word =
-    let used = born_used whole.accounts n m x whole.kept.rule
-    (marked_born whole.accounts n m x whole.kept.rule marked) in
-    let fits = (whole.kept.rule.each (block_of m.rows x) used.by used.found).0 in
+    let used = born_used whole.accounts n m x whole.kept.core
+    (marked_born whole.accounts n m x whole.kept.core marked) in
+    let fits = (whole.kept.core.each (block_of m.rows x) used.by used.found).0 in
     ByRunning (used.by, used.found, status_runs used.by.status (sym fits.word ∙ word))
 
 -- ---- by an exit
@@ -90,12 +90,12 @@ exit_scans rows t a Gone x fits low e = let none : false ≡ true = ap (scans x)
 exit_scans rows t a Running x fits low e = agenda_scans rows t a.used Running a.place x a.agenda fits low e
 exit_scans rows t a Leaving x fits low e = agenda_scans rows t a.used Leaving a.place x a.agenda fits low e
 
-by_exit : (p : Module) (n : ℕ) (m : Machine) (x : ℕ) (a : Actor) → Whole p n m → m.memory (Mark x) ≡ 1
+by_exit : (p : Module) (n : ℕ) (m : Machine) (x : ℕ) (a : Actor) → CodeInvariant p n m → m.memory (Mark x) ≡ 1
     → slice_get m.actors (block_of m.rows x) ≡ Some a → scans x a.agenda ≡ true → IsWatched m x
 by_exit p n m x a whole marked found e =
     let t = block_of m.rows x in
-    let within = marked_within whole.accounts n m t a x whole.kept.rule found marked refl in
-    let shown = exit_scans m.rows t a a.status x (whole.kept.rule.each t a found).1 within.1 e in
+    let within = marked_within whole.accounts n m t a x whole.kept.core found marked refl in
+    let shown = exit_scans m.rows t a a.status x (whole.kept.core.each t a found).1 within.1 e in
     ByExit a found shown.0 shown.1
 
 -- ---- by a look
@@ -112,15 +112,15 @@ by_look m x weighs =
 
 -- ---- all marks
 
-watched_so : (p : Module) (n : ℕ) (m : Machine) (x : ℕ) → Whole p n m → m.memory (Mark x) ≡ 1 → rule.IsWatched m x
+watched_so : (p : Module) (n : ℕ) (m : Machine) (x : ℕ) → CodeInvariant p n m → m.memory (Mark x) ≡ 1 → core.IsWatched m x
     → IsWatched m x
-watched_so p n m x whole marked (rule.ByRunning word) = by_running p n m x whole marked word
-watched_so p n m x whole marked (rule.ByExit a found e) = by_exit p n m x a whole marked found e
-watched_so p n m x whole marked (rule.ByLook weighs) = by_look m x weighs
+watched_so p n m x whole marked (core.ByRunning word) = by_running p n m x whole marked word
+watched_so p n m x whole marked (core.ByExit a found e) = by_exit p n m x a whole marked found e
+watched_so p n m x whole marked (core.ByLook weighs) = by_look m x weighs
 
-all_watched : (p : Module) (n : ℕ) (m : Machine) → Whole p n m → MarksWatched m
+all_watched : (p : Module) (n : ℕ) (m : Machine) → CodeInvariant p n m → MarksWatched m
 all_watched p n m whole = λ x set.
-    elim (whole.kept.rule.marks x) [
+    elim (whole.kept.core.marks x) [
       | inl none ↦ absurd (set none)
       | inr marked ↦ watched_so p n m x whole marked.0 marked.2
     ]
@@ -128,5 +128,5 @@ all_watched p n m whole = λ x set.
 pub marks_watched : (p : Module) → IsModule p → IsAcceptable p → Always MarksWatched p
 marks_watched p fits accepted = λ rows calls events some most are_calls.
     let n = 1 + length calls in
-    all_watched p n _ (whole_after p n (first_machine p rows calls) events
-    (first_whole p rows calls fits accepted are_calls some most))
+    all_watched p n _ (code_invariant_after p n (first_machine p rows calls) events
+    (first_code_invariant p rows calls fits accepted are_calls some most))

@@ -17,7 +17,7 @@ use Rattle.brc_model.proofs.Basics.Written.{written_here, written_apart, written
 use Rattle.brc_model.proofs.Frame.Leaves.{head_of, locals_left}
 use Rattle.brc_model.proofs.Stepping.Neutral.{memory_by}
 use Rattle.brc_model.proofs.Keeping.Sits.{sitting}
-use Rattle.brc_model.proofs.Keeping.Whole.{Whole}
+use Rattle.brc_model.proofs.Keeping.CodeInvariant.{CodeInvariant}
 use Rattle.brc_model.proofs.Promises.StepCases.{ShowsSteps, at_duty, event_shows}
 use Rattle.brc_model.proofs.Promises.Immortals.{counted_low}
 use Rattle.brc_model.proofs.Basics.Blocks.{next_unborn}
@@ -49,7 +49,7 @@ local_left : (p : Accounts) (n : ℕ) (m : Machine) (t : ℕ) (a : Actor) (d : D
 local_left p n m t a d rest zero owner here ne owns runs = none_local p n m t a d rest here
 local_left p n m t a d rest (suc x) owner here ne owns runs =
     locals_left p n m t a d rest here owner (suc x) runs.0 ne runs.1
-    (record { running = runs.2; owner = owns; low = counted_low p n m (suc x) here.rule (omega arith) })
+    (record { running = runs.2; owner = owns; low = counted_low p n m (suc x) here.core (omega arith) })
 
 abbrev CountsSo : ℕ → Machine → Machine → Type 0
 CountsSo t m new =
@@ -70,11 +70,11 @@ counts_shown n = record {
   sits =
       λ t m new a place agenda found shown x owner owns runs changed. shown x owner owns
       (runs_still m t owner a place agenda found runs) changed;
-  moves = λ p t m a moves place kept found quiet x owner owns runs changed. absurd (changed refl);
+  moves = λ p t m a moves place kept found silent x owner owns runs changed. absurd (changed refl);
   does = λ p t m a d rest doing. counts_at_duty p n m t a d rest (at_duty doing);
 }
 
-pub only_owners_count : (p : Module) (n : ℕ) (m : Machine) (event : ℕ × Choice) → Whole p n m → OnlyOwnersCount m event
+pub only_owners_count : (p : Module) (n : ℕ) (m : Machine) (event : ℕ × Choice) → CodeInvariant p n m → OnlyOwnersCount m event
 only_owners_count p n m event whole = event_shows (counts_shown n) m event whole
 
 -- ---- owners
@@ -108,7 +108,7 @@ owned_after p n m t a (ReleaseStore y w) rest x here born =
 owned_after p n m t a (BirthLocal y h) rest x here born =
     let apart : y ≡ x
     → ⊥ = λ e. born (ap m.life (sym e)
-    ∙ next_unborn p n m t a y here.rule here.found (head_of p n m t a (BirthLocal y h) rest here).0) in
+    ∙ next_unborn p n m t a y here.core here.found (head_of p n m t a (BirthLocal y h) rest here).0) in
     inl (ap owner_part (written_apart m.memory (Local y) (Local x) (local_word t 1) (apart_local y x apart)))
 owned_after p n m t a (MergeSwap y r) rest x here born = owned_at m y 0 x (inr refl)
 owned_after p n m t a _ rest x here born = inl refl
@@ -118,9 +118,9 @@ owners_shown : (n : ℕ)
 owners_shown n = record {
   stays = λ p t m kept x born. inl refl;
   sits = λ t m new a place agenda found shown. shown;
-  moves = λ p t m a moves place kept found quiet x born. inl refl;
+  moves = λ p t m a moves place kept found silent x born. inl refl;
   does = λ p t m a d rest doing x born. owned_after p n m t a d rest x (at_duty doing) born;
 }
 
-pub owners_stay : (p : Module) (n : ℕ) (m : Machine) (event : ℕ × Choice) → Whole p n m → OwnersStay m event
+pub owners_stay : (p : Module) (n : ℕ) (m : Machine) (event : ℕ × Choice) → CodeInvariant p n m → OwnersStay m event
 owners_stay p n m event whole = event_shows (owners_shown n) m event whole

@@ -3,25 +3,25 @@ use Rattle.std.proofs.Common.{ℕ, ◌+◌, length}
 use Rattle.brc_lang.specs.declared.module.Module.{Module}
 use Rattle.brc_lang.specs.Grammar.{IsModule}
 use Rattle.brc_model.specs.declared.thread.Choice.{Choice}
-use Rattle.brc_model.specs.Walks.{IsAcceptable}
+use Rattle.brc_model.specs.Paths.{IsAcceptable}
 use Rattle.brc_model.specs.Machine.{Machine, first_machine}
 use Rattle.brc_model.specs.Progress.{Always, AtEachEvent, StatesRise, OnlyOwnersCount, OwnersStay, ClosedStays, ClosesAnew, ImmortalsStay, ClosedOnce}
-use Rattle.brc_model.proofs.Keeping.Whole.{Whole}
-use Rattle.brc_model.proofs.Keeping.WholeEvents.{whole_after}
-use Rattle.brc_model.proofs.Promises.Safe.{first_whole}
+use Rattle.brc_model.proofs.Keeping.CodeInvariant.{CodeInvariant}
+use Rattle.brc_model.proofs.Keeping.CodeEvents.{code_invariant_after}
+use Rattle.brc_model.proofs.Promises.Safe.{first_code_invariant}
 use Rattle.brc_model.proofs.Promises.StatesRise as states
 use Rattle.brc_model.proofs.Promises.Owners as owners
 use Rattle.brc_model.proofs.Promises.ClosedOnce as closed
 use Rattle.brc_model.proofs.Promises.Immortals as immortals
 
-pub always : (P : Machine → Type 0) → ((p : Module) (n : ℕ) (m : Machine) → Whole p n m → P m) → (p : Module)
+pub always : (P : Machine → Type 0) → ((p : Module) (n : ℕ) (m : Machine) → CodeInvariant p n m → P m) → (p : Module)
     → IsModule p → IsAcceptable p → Always P p
 always P holds p fits accepted = λ rows calls events some most are_calls.
-    holds p (1 + length calls) _ (whole_after p (1 + length calls) (first_machine p rows calls) events
-    (first_whole p rows calls fits accepted are_calls some most))
+    holds p (1 + length calls) _ (code_invariant_after p (1 + length calls) (first_machine p rows calls) events
+    (first_code_invariant p rows calls fits accepted are_calls some most))
 
 pub at_each_event : (P : Machine → ℕ × Choice → Type 0)
-    → ((p : Module) (n : ℕ) (m : Machine) (event : ℕ × Choice) → Whole p n m → P m event) → (p : Module) → IsModule p
+    → ((p : Module) (n : ℕ) (m : Machine) (event : ℕ × Choice) → CodeInvariant p n m → P m event) → (p : Module) → IsModule p
     → IsAcceptable p → AtEachEvent P p
 at_each_event P holds p fits accepted =
     λ event. always (λ m. P m event) (λ q n m whole. holds q n m event whole) p fits accepted

@@ -12,9 +12,9 @@ use Rattle.brc_model.specs.declared.duty.Duty.TheVariants.{RetainLoad, RetainSto
 use Rattle.brc_model.specs.declared.address.Address.{Address}
 use Rattle.brc_model.specs.Rules.{Goes, IsComputed, given_up, one_shared}
 use Rattle.brc_model.specs.Rules as rules
-use Rattle.brc_model.specs.Duties.{left_by, next_by, counts_locally, has_resource}
-use Rattle.brc_model.specs.Machine.{moves_by, hand_on}
-use Rattle.brc_model.specs.Plain.{Move}
+use Rattle.brc_model.specs.Duties.{new_word, continuation, counts_locally, has_resource}
+use Rattle.brc_model.specs.Machine.{reference_effects, put_in_flight}
+use Rattle.brc_model.specs.AbstractState.{Move}
 
 -- a test on two numbers, by its two answers
 by_test : (a b : ℕ) (P : Bool → Type 0) → (a ≡ b → P true) → (a ≢ b → P false) → P (a == b)
@@ -55,12 +55,12 @@ module _ (memory : Address → ℕ) (t : ℕ) (running : Bool) (head : ℕ) wher
   -- ---- a rule concludes what the step computes
 
   exchanged_moves : (x : ℕ) (reason : Reason) (word : ℕ)
-      → given_up t reason x ≡ moves_by memory t (SharedExchange x reason word) word
+      → given_up t reason x ≡ reference_effects memory t (SharedExchange x reason word) word
   exchanged_moves x Own word = rw (itself word) refl
   exchanged_moves x Handed word = refl
 
   lost_moves : (x : ℕ) (reason : Reason) (word f : ℕ) → f ≢ word
-      → [] ≡ moves_by memory t (SharedExchange x reason word) f
+      → [] ≡ reference_effects memory t (SharedExchange x reason word) f
   lost_moves x Own word f lost = rw (other_test f word lost) refl
   lost_moves x Handed word f lost = refl
 
@@ -90,10 +90,10 @@ module _ (memory : Address → ℕ) (t : ℕ) (running : Bool) (head : ℕ) wher
   computed d found left next moves (rules.ReleasesImmortal x h f is) =
       record { left_is = refl; next_is = rw is refl; moves_are = rw is refl }
   computed d found left next moves (rules.OwnerReleases x h f mortal counts) =
-      let none_lost = sym (append-nil (hand_on t h x)) in
+      let none_lost = sym (append-nil (put_in_flight t h x)) in
       record { left_is = refl; next_is = rw (mortal, counts) refl; moves_are = rw mortal none_lost }
   computed d found left next moves (rules.OtherReleases x h f mortal counts) =
-      let none_lost = sym (append-nil (hand_on t h x)) in
+      let none_lost = sym (append-nil (put_in_flight t h x)) in
       record { left_is = refl; next_is = rw (mortal, counts) refl; moves_are = rw mortal none_lost }
   computed d found left next moves (rules.LocalLowered x word f more) =
       record { left_is = refl; next_is = rw (other_test (local_part word) 1 more) refl; moves_are = refl }
@@ -179,15 +179,15 @@ module _ (memory : Address → ℕ) (t : ℕ) (running : Bool) (head : ℕ) wher
 
   -- a rule that applies is the step's, since it concludes what the step computes
   abbrev pub GoesByRule : Duty → ℕ → Type 0
-  GoesByRule d found = By d found (left_by t head d found) (next_by t running head d found) (moves_by memory t d found)
+  GoesByRule d found = By d found (new_word t head d found) (continuation t running head d found) (reference_effects memory t d found)
 
   applies : (d : Duty) (found left : ℕ) (next : List Duty) (moves : List Move) → By d found left next moves
       → GoesByRule d found
   applies d found left next moves rule =
       let c = computed d found left next moves rule in
       let word = subst (λ w. By d found w next moves) c.left_is rule in
-      let duties = subst (λ ds. By d found (left_by t head d found) ds moves) c.next_is word in
-      subst (By d found (left_by t head d found) (next_by t running head d found)) c.moves_are duties
+      let duties = subst (λ ds. By d found (new_word t head d found) ds moves) c.next_is word in
+      subst (By d found (new_word t head d found) (continuation t running head d found)) c.moves_are duties
 
   -- a Boolean test, with its answer
   told : (b : Bool) → (b ≡ true) ⊎ (b ≡ false)

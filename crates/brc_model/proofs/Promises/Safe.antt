@@ -7,30 +7,30 @@ use Rattle.std.proofs.lemmas.Option.{slice_get_cases, slice_get_within}
 use Rattle.brc_lang.specs.declared.module.Module.{Module}
 use Rattle.brc_lang.specs.Grammar.{IsModule}
 use Rattle.brc_model.specs.declared.thread.Call.{Call}
-use Rattle.brc_model.specs.Walks.{IsAcceptable}
+use Rattle.brc_model.specs.Paths.{IsAcceptable}
 use Rattle.brc_model.specs.declared.duty.Holding.{Holding}
-use Rattle.brc_model.specs.Plain.{Holder, ByThread, ByCell, references_to}
+use Rattle.brc_model.specs.AbstractState.{Holder, ByThread, ByCell, references_to}
 use Rattle.brc_model.specs.declared.duty.Duty.{Duty}
 use Rattle.brc_model.specs.declared.address.Address.TheVariants.{Mark, ThreadWord}
 use Rattle.brc_model.specs.Duties.{block_of}
 use Rattle.brc_model.specs.declared.actor.Status.{Status}
 use Rattle.brc_model.specs.declared.actor.Status.TheVariants.{Running, Leaving, Gone}
-use Rattle.brc_model.specs.declared.actor.Place.TheVariants.{Departing}
+use Rattle.brc_model.specs.declared.actor.Place.TheVariants.{Exiting}
 use Rattle.brc_model.specs.Machine.{Actor, Life, Unborn, Live, Dying, Closed, Machine, main_actor, worker_actor, first_machine}
 use Rattle.brc_model.specs.Safety.{AreCalls, has_gone, AllGone, IsHeldByOpenList, IsSafeNow, Safe}
 use Rattle.brc_model.proofs.Basics.Bag.{empty_bag}
 use Rattle.brc_model.specs.References.{held, one_if, reference_of}
-use Rattle.brc_model.specs.RowRule.{waits, carries, merges, decides, agenda_weight, weight, IsDefault, IsQueued, AtZero, AboveZero, InOwned, InSwapped, InMerged, IsLive, RowRule}
+use Rattle.brc_model.specs.RowInvariant.{waits, carries, merges, decides, agenda_weight, weight, IsDefault, IsQueued, AtZero, AboveZero, InOwned, InSwapped, InMerged, IsLive, RowInvariant}
 use Rattle.brc_model.specs.Accounts.{Accounts, HoldsAt}
-use Rattle.brc_model.specs.Invariant.{numbers_of, looks, ByRunning, ByExit, ByLook, Rule}
-use Rattle.brc_model.specs.OpenWork.{AgendaFits, scans, Linked, dies_by, hand_of, IsSettled}
+use Rattle.brc_model.specs.Invariant.{numbers_of, looks, ByRunning, ByExit, ByLook, CoreInvariant}
+use Rattle.brc_model.specs.OpenWork.{AgendaFits, scans, Linked, dies_by, finalised_now, IsSettled}
 use Rattle.brc_model.specs.Knowledge.{status_word}
 use Rattle.brc_model.proofs.Basics.Lists.{some_is, list_all_found, slice_get-map}
 use Rattle.brc_model.proofs.Promises.Agreeing.{agrees_at, is_free_of}
 use Rattle.brc_model.proofs.Work.Deciders.{sum_zero}
-use Rattle.brc_model.proofs.Keeping.FirstMachine.{first_accounts, first_rule, first_coded}
-use Rattle.brc_model.proofs.Keeping.Whole.{Whole}
-use Rattle.brc_model.proofs.Keeping.WholeEvents.{event_keeps, whole_after}
+use Rattle.brc_model.proofs.Keeping.FirstMachine.{first_accounts, first_core, first_coded}
+use Rattle.brc_model.proofs.Keeping.CodeInvariant.{CodeInvariant}
+use Rattle.brc_model.proofs.Keeping.CodeEvents.{event_keeps, code_invariant_after}
 use Rattle.brc_model.proofs.Basics.Blocks.{born_used}
 use Rattle.brc_model.specs.Limits.{row_limit}
 
@@ -44,84 +44,84 @@ gone_is Gone e = refl
 pub record IsGoneAt (m : Machine) (t : ℕ) (a : Actor) : Type 0 where
   pub status : a.status ≡ Gone
   pub agenda : a.agenda ≡ []
-  pub place : a.place ≡ Departing
+  pub place : a.place ≡ Exiting
   pub head : a.head ≡ 0
 
-gone_at : (p : Accounts) (n : ℕ) (m : Machine) (t : ℕ) (a : Actor) → Rule p n m → AllGone m
+gone_at : (p : Accounts) (n : ℕ) (m : Machine) (t : ℕ) (a : Actor) → CoreInvariant p n m → AllGone m
     → slice_get m.actors t ≡ Some a → IsGoneAt m t a
-gone_at p n m t a rule done found =
+gone_at p n m t a core done found =
     let status : a.status ≡ Gone =
     gone_is a.status (list_all_found (λ (b : Actor). has_gone b.status) m.actors t a done found) in
     let fits : AgendaFits m.rows t a Gone =
-    subst (λ (s : Status). AgendaFits m.rows t a s) status (rule.each t a found).1 in
+    subst (λ (s : Status). AgendaFits m.rows t a s) status (core.each t a found).1 in
     record { status = status; agenda = fits.0; place = fits.1; head = fits.2 }
 
-gone_holds : (p : Accounts) (n : ℕ) (m : Machine) (t : ℕ) (k : Holding) (object : ℕ) → Rule p n m → AllGone m
-    → held (reference_of t k object) m.plain.references ≡ 0
-gone_holds p n m t k object rule done =
+gone_holds : (p : Accounts) (n : ℕ) (m : Machine) (t : ℕ) (k : Holding) (object : ℕ) → CoreInvariant p n m → AllGone m
+    → held (reference_of t k object) m.abstract.references ≡ 0
+gone_holds p n m t k object core done =
     elim (slice_get_cases m.actors t).1 [
       | inl found ↦
           let a = found.0 in
-          let gone = gone_at p n m t a rule done found.2 in
-          let old = (rule.each t a found.2).0 in
-          let departed = old.departed gone.place in
-          let agenda : HoldsAt m.plain.references t (p t) [] a.aside =
-          subst (λ (l : List Duty). HoldsAt m.plain.references t (p t) l a.aside) gone.agenda old.holds in
-          let holds : HoldsAt m.plain.references t (p t) [] [] =
-          subst (HoldsAt m.plain.references t (p t) []) departed.1 agenda in
-          omega (arith, holds.each k object, departed.0 k object)
-      | inr past ↦ rule.beyond t (omega (arith, past.0, rule.threads)) k object
+          let gone = gone_at p n m t a core done found.2 in
+          let old = (core.each t a found.2).0 in
+          let exited = old.exited gone.place in
+          let agenda : HoldsAt m.abstract.references t (p t) [] a.aside =
+          subst (λ (l : List Duty). HoldsAt m.abstract.references t (p t) l a.aside) gone.agenda old.holds in
+          let holds : HoldsAt m.abstract.references t (p t) [] [] =
+          subst (HoldsAt m.abstract.references t (p t) []) exited.1 agenda in
+          omega (arith, holds.each k object, exited.0 k object)
+      | inr past ↦ core.beyond t (omega (arith, past.0, core.threads)) k object
     ]
 
-none_holds : (p : Accounts) (n : ℕ) (m : Machine) (h : Holder) (object : ℕ) → Rule p n m → AllGone m
-    → held (record { holder = h; object = object }) m.plain.references ≡ 0
-none_holds p n m (ByThread t k) object rule done = gone_holds p n m t k object rule done
-none_holds p n m (ByCell x i) object rule done = rule.cells_hold x i object
+none_holds : (p : Accounts) (n : ℕ) (m : Machine) (h : Holder) (object : ℕ) → CoreInvariant p n m → AllGone m
+    → held (record { holder = h; object = object }) m.abstract.references ≡ 0
+none_holds p n m (ByThread t k) object core done = gone_holds p n m t k object core done
+none_holds p n m (ByCell x i) object core done = core.cells_hold x i object
 
-pub none_left : (p : Accounts) (n : ℕ) (m : Machine) → Rule p n m → AllGone m → m.plain.references ≡ []
-none_left p n m rule done = empty_bag m.plain.references (λ r. none_holds p n m r.holder r.object rule done)
+pub none_left : (p : Accounts) (n : ℕ) (m : Machine) → CoreInvariant p n m → AllGone m → m.abstract.references ≡ []
+none_left p n m core done = empty_bag m.abstract.references (λ r. none_holds p n m r.holder r.object core done)
 
-no_weights : (p : Accounts) (n : ℕ) (m : Machine) (f : Duty → ℕ) → Rule p n m → AllGone m → weight f m.actors ≡ 0
-no_weights p n m f rule done =
+no_weights : (p : Accounts) (n : ℕ) (m : Machine) (f : Duty → ℕ) → CoreInvariant p n m → AllGone m → weight f m.actors ≡ 0
+no_weights p n m f core done =
     sum_zero (agenda_weight f) m.actors (λ t a found.
-    let gone = gone_at p n m t a rule done found in
+    let gone = gone_at p n m t a core done found in
     let agenda : sum_by f a.agenda ≡ 0 = ap (sum_by f) gone.agenda in
-    let aside : sum_by f a.aside ≡ 0 = ap (sum_by f) ((rule.each t a found).0.departed gone.place).1 in
+    let aside : sum_by f a.aside ≡ 0 = ap (sum_by f) ((core.each t a found).0.exited gone.place).1 in
     omega (arith, agenda, aside))
 
 -- no mark is left: nobody watches
-no_mark : (p : Accounts) (n : ℕ) (m : Machine) (x : ℕ) → Rule p n m → AllGone m → block_of m.rows x < n
+no_mark : (p : Accounts) (n : ℕ) (m : Machine) (x : ℕ) → CoreInvariant p n m → AllGone m → block_of m.rows x < n
     → m.memory (Mark x) ≡ 0
-no_mark p n m x rule done within =
-    elim (rule.marks x) [
+no_mark p n m x core done within =
+    elim (core.marks x) [
       | inl none ↦ none
       | inr set ↦
           elim set.2 [
             | ByRunning one ↦
                 elim (slice_get_cases m.actors (block_of m.rows x)).1 [
                   | inl found ↦
-                      let gone = gone_at p n m (block_of m.rows x) found.0 rule done found.2 in
+                      let gone = gone_at p n m (block_of m.rows x) found.0 core done found.2 in
                       let word : m.memory (ThreadWord (block_of m.rows x)) ≡ 3 =
-                      (rule.each (block_of m.rows x) found.0 found.2).0.word ∙ ap status_word gone.status in
+                      (core.each (block_of m.rows x) found.0 found.2).0.word ∙ ap status_word gone.status in
                       absurd (omega (arith, one, word))
-                  | inr past ↦ absurd (omega (arith, past.0, rule.threads, within))
+                  | inr past ↦ absurd (omega (arith, past.0, core.threads, within))
                 ]
             | ByExit b found scanned ↦
-                absurd (false≢true (sym (ap (scans x) (gone_at p n m (block_of m.rows x) b rule done found).agenda)
+                absurd (false≢true (sym (ap (scans x) (gone_at p n m (block_of m.rows x) b core done found).agenda)
                 ∙ scanned))
-            | ByLook some ↦ absurd (omega (arith, some, no_weights p n m (looks x) rule done))
+            | ByLook some ↦ absurd (omega (arith, some, no_weights p n m (looks x) core done))
           ]
     ]
 
 -- a live row has a reference
-live_referenced : (p : Accounts) (n : ℕ) (m : Machine) (x : ℕ) → Rule p n m → AllGone m → block_of m.rows x < n
-    → IsLive (block_of m.rows x) (numbers_of m x) → 0 < references_to x m.plain.references
-live_referenced p n m x rule done within live =
-    let mark = no_mark p n m x rule done within in
-    let waiting = no_weights p n m (waits x) rule done in
-    let carried = no_weights p n m (carries x) rule done in
-    let merging = no_weights p n m (merges x) rule done in
-    let deciding = no_weights p n m (decides x) rule done in
+live_referenced : (p : Accounts) (n : ℕ) (m : Machine) (x : ℕ) → CoreInvariant p n m → AllGone m → block_of m.rows x < n
+    → IsLive (block_of m.rows x) (numbers_of m x) → 0 < references_to x m.abstract.references
+live_referenced p n m x core done within live =
+    let mark = no_mark p n m x core done within in
+    let waiting = no_weights p n m (waits x) core done in
+    let carried = no_weights p n m (carries x) core done in
+    let merging = no_weights p n m (merges x) core done in
+    let deciding = no_weights p n m (decides x) core done in
     elim live.mode [
       | InOwned o ↦
           elim o.decided [
@@ -136,14 +136,14 @@ live_referenced p n m x rule done within live =
     ]
 
 -- no row is dying: every chain is empty
-none_dying : (p : Accounts) (n : ℕ) (m : Machine) (x t : ℕ) → Rule p n m → AllGone m → m.life x ≡ Dying t → ⊥
-none_dying p n m x t rule done dying =
+none_dying : (p : Accounts) (n : ℕ) (m : Machine) (x t : ℕ) → CoreInvariant p n m → AllGone m → m.life x ≡ Dying t → ⊥
+none_dying p n m x t core done dying =
     let dies : dies_by (m.life x) t ≡ true = ap (λ (l : Life). dies_by l t) dying ∙ eq-eqb t t refl in
     elim (slice_get_cases m.actors t).1 [
       | inl found ↦
-          let gone = gone_at p n m t found.0 rule done found.2 in
-          let chain = (rule.each t found.0 found.2).0.chain in
-          let hand : one_if (hand_of found.0.agenda x) ≡ 0 = ap (λ (l : List Duty). one_if (hand_of l x)) gone.agenda in
+          let gone = gone_at p n m t found.0 core done found.2 in
+          let chain = (core.each t found.0 found.2).0.chain in
+          let hand : one_if (finalised_now found.0.agenda x) ≡ 0 = ap (λ (l : List Duty). one_if (finalised_now l x)) gone.agenda in
           let one : one_if (dies_by (m.life x) t) ≡ 1 = ap one_if dies in
           elim chain.chained as (λ l. chain.chained ≡ l → Linked m.memory t found.0.head l → ⊥) [
             | [] ↦ λ e linked.
@@ -151,53 +151,53 @@ none_dying p n m x t rule done dying =
                 absurd (omega (arith, chain.once x, hand, one, none))
             | y ∷ ys ↦ λ e linked. absurd (omega (arith, linked.0, gone.head))
           ] refl chain.linked
-      | inr past ↦ false≢true (sym (rule.dying x t (omega (arith, past.0, rule.threads))) ∙ dies)
+      | inr past ↦ false≢true (sym (core.dying x t (omega (arith, past.0, core.threads))) ∙ dies)
     ]
 
 -- what was born and has no reference is closed
-born_closed : (p : Accounts) (n : ℕ) (m : Machine) (x : ℕ) (l : Life) → Rule p n m → AllGone m → 0 < x
-    → references_to x m.plain.references ≡ 0 → (m.life x ≢ Unborn) → m.life x ≡ l → m.life x ≡ Closed
-born_closed p n m x Unborn rule done pos none born is = absurd (born is)
-born_closed p n m x Live rule done pos none born is =
+born_closed : (p : Accounts) (n : ℕ) (m : Machine) (x : ℕ) (l : Life) → CoreInvariant p n m → AllGone m → 0 < x
+    → references_to x m.abstract.references ≡ 0 → (m.life x ≢ Unborn) → m.life x ≡ l → m.life x ≡ Closed
+born_closed p n m x Unborn core done pos none born is = absurd (born is)
+born_closed p n m x Live core done pos none born is =
     let live : IsLive (block_of m.rows x) (numbers_of m x) =
-    subst (λ (l : Life). RowRule (block_of m.rows x) l (numbers_of m x)) is (rule.rows x pos) in
-    let used = born_used p n m x rule born in
+    subst (λ (l : Life). RowInvariant (block_of m.rows x) l (numbers_of m x)) is (core.rows x pos) in
+    let used = born_used p n m x core born in
     let within : block_of m.rows x < n =
-    omega (arith, slice_get_within m.actors (block_of m.rows x) used.by used.found, rule.threads) in
-    absurd (omega (arith, live_referenced p n m x rule done within live, none))
-born_closed p n m x (Dying t) rule done pos none born is = absurd (none_dying p n m x t rule done is)
-born_closed p n m x Closed rule done pos none born is = is
+    omega (arith, slice_get_within m.actors (block_of m.rows x) used.by used.found, core.threads) in
+    absurd (omega (arith, live_referenced p n m x core done within live, none))
+born_closed p n m x (Dying t) core done pos none born is = absurd (none_dying p n m x t core done is)
+born_closed p n m x Closed core done pos none born is = is
 
 -- what is closed was born, and is counted
-pub closed_born : (p : Accounts) (n : ℕ) (m : Machine) (x : ℕ) → Rule p n m → m.life x ≡ Closed
+pub closed_born : (p : Accounts) (n : ℕ) (m : Machine) (x : ℕ) → CoreInvariant p n m → m.life x ≡ Closed
     → (0 < x) × (m.life x ≢ Unborn)
-closed_born p n m zero rule closed = absurd (let wrong : Live ≡ Closed = sym rule.none_lives ∙ closed in cc)
-closed_born p n m (suc x) rule closed = (omega arith, λ e. let wrong : Closed ≡ Unborn = sym closed ∙ e in cc)
+closed_born p n m zero core closed = absurd (let wrong : Live ≡ Closed = sym core.none_lives ∙ closed in cc)
+closed_born p n m (suc x) core closed = (omega arith, λ e. let wrong : Closed ≡ Unborn = sym closed ∙ e in cc)
 
 -- ---- the promise
 
-pub safe_now : (p : Module) (n : ℕ) (m : Machine) → Whole p n m → 0 < n → IsSafeNow m
+pub safe_now : (p : Module) (n : ℕ) (m : Machine) → CodeInvariant p n m → 0 < n → IsSafeNow m
 safe_now p n m whole some = record {
   none_bad = λ event. (event_keeps p n m event whole).0;
-  agrees = λ x pos. agrees_at whole.accounts n m x whole.kept.rule pos;
-  kinds = whole.kept.rule.kinds;
-  free = λ x pos alive born. is_free_of whole.accounts n m x whole.kept.rule pos alive born;
-  closed_once = whole.kept.rule.once;
+  agrees = λ x pos. agrees_at whole.accounts n m x whole.kept.core pos;
+  kinds = whole.kept.core.kinds;
+  free = λ x pos alive born. is_free_of whole.accounts n m x whole.kept.core pos alive born;
+  closed_once = whole.kept.core.once;
   closed_at_end = λ done x. (
     λ closed.
-        let was = closed_born whole.accounts n m x whole.kept.rule (whole.kept.rule.closed_is x closed) in (
-          whole.kept.rule.born_has x was.0 was.1,
+        let was = closed_born whole.accounts n m x whole.kept.core (whole.kept.core.closed_is x closed) in (
+          whole.kept.core.born_has x was.0 was.1,
           ap (references_to x)
-              (none_left whole.accounts n m whole.kept.rule done),
+              (none_left whole.accounts n m whole.kept.core done),
         ),
     λ born.
-        let was = whole.kept.rule.born_is x born.0 in
-        whole.kept.rule.closed_has x (born_closed whole.accounts n m x
-        (m.life x) whole.kept.rule done was.0 born.1 was.1 refl),
+        let was = whole.kept.core.born_is x born.0 in
+        whole.kept.core.closed_has x (born_closed whole.accounts n m x
+        (m.life x) whole.kept.core done was.0 born.1 was.1 refl),
   );
-  none_left = λ done. none_left whole.accounts n m whole.kept.rule done;
+  none_left = λ done. none_left whole.accounts n m whole.kept.core done;
   left_in_lists = λ done.
-      subst (All (IsHeldByOpenList m.plain)) (sym (none_left whole.accounts n m whole.kept.rule done))
+      subst (All (IsHeldByOpenList m.abstract)) (sym (none_left whole.accounts n m whole.kept.core done))
       (λ i d within. absurd (omega (arith, within)));
 }
 
@@ -208,11 +208,11 @@ first_settled calls (suc t) a is =
     let call = slice_get-map worker_actor calls t a is in
     subst (λ (b : Actor). IsSettled b.head b.agenda) call.is_image tt
 
-pub first_whole : (m : Module) (rows : ℕ) (calls : List Call) → IsModule m → IsAcceptable m → AreCalls m calls
-    → 0 < rows → rows ≤ row_limit → Whole m (1 + length calls) (first_machine m rows calls)
-first_whole m rows calls fits accepted are_calls some few = record {
+pub first_code_invariant : (m : Module) (rows : ℕ) (calls : List Call) → IsModule m → IsAcceptable m → AreCalls m calls
+    → 0 < rows → rows ≤ row_limit → CodeInvariant m (1 + length calls) (first_machine m rows calls)
+first_code_invariant m rows calls fits accepted are_calls some few = record {
   accounts = first_accounts;
-  kept = record { rule = first_rule m rows calls are_calls some few; settled = first_settled calls };
+  kept = record { core = first_core m rows calls are_calls some few; settled = first_settled calls };
   functions = refl;
   coded = λ t a is. first_coded m calls t a fits accepted are_calls is;
 }
@@ -220,5 +220,5 @@ first_whole m rows calls fits accepted are_calls some few = record {
 pub accepted_is_safe : (m : Module) → IsModule m → IsAcceptable m → Safe m
 accepted_is_safe m fits accepted = λ rows calls events some most are_calls.
     safe_now m (1 + length calls) _
-    (whole_after m (1 + length calls) (first_machine m rows calls) events
-    (first_whole m rows calls fits accepted are_calls some most)) (omega arith)
+    (code_invariant_after m (1 + length calls) (first_machine m rows calls) events
+    (first_code_invariant m rows calls fits accepted are_calls some most)) (omega arith)

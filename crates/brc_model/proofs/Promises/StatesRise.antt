@@ -14,7 +14,7 @@ use Rattle.brc_model.proofs.Objects.RowSteps.{shared_range, shared_up, shared_do
 use Rattle.brc_model.proofs.Basics.Written.{written_here, written_apart, apart_shared}
 use Rattle.brc_model.proofs.Frame.Leaves.{exchange_alive}
 use Rattle.brc_model.proofs.Stepping.Neutral.{memory_by}
-use Rattle.brc_model.proofs.Keeping.Whole.{Whole}
+use Rattle.brc_model.proofs.Keeping.CodeInvariant.{CodeInvariant}
 use Rattle.brc_model.proofs.Promises.StepCases.{ShowsSteps, at_duty, event_shows}
 use Rattle.brc_model.specs.Accounts.{Accounts}
 use Rattle.brc_model.specs.Invariant.{AtDuty}
@@ -96,9 +96,9 @@ states_shown : (n : ℕ)
 states_shown n = record {
   stays = λ p t m kept x. omega arith;
   sits = λ t m new a place agenda found shown. shown;
-  moves = λ p t m a moves place kept found quiet x. omega arith;
+  moves = λ p t m a moves place kept found silent x. omega arith;
   does = λ p t m a d rest doing x. rises p n m t a d rest x (at_duty doing);
 }
 
-pub states_rise : (p : Module) (n : ℕ) (m : Machine) (event : ℕ × Choice) → Whole p n m → StatesRise m event
+pub states_rise : (p : Module) (n : ℕ) (m : Machine) (event : ℕ × Choice) → CodeInvariant p n m → StatesRise m event
 states_rise p n m event whole = event_shows (states_shown n) m event whole

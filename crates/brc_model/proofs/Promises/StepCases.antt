@@ -3,30 +3,30 @@
 use Rattle.std.proofs.Common.{◌≡◌, ℕ, List, ◌∷◌, Option, None, Some, refl, subst}
 use Rattle.std.specs.Prelude.{slice_get}
 use Rattle.brc_lang.specs.declared.module.Module.{Module}
-use Rattle.brc_model.specs.Plain.{Move}
+use Rattle.brc_model.specs.AbstractState.{Move}
 use Rattle.brc_model.specs.declared.duty.Duty.{Duty}
 use Rattle.brc_model.specs.declared.actor.Place.{Place}
 use Rattle.brc_model.specs.declared.thread.Choice.{Choice}
 use Rattle.brc_model.specs.Machine.{Actor, Machine, Action, Skip, Stuck, Silent, Does, action_of, of_thread, done_by, at_place, with_actor, with_moves, machine_by, next_machine}
-use Rattle.brc_model.proofs.Dispatch.Begins.{QuietMoves}
+use Rattle.brc_model.proofs.Dispatch.Begins.{SilentMoves}
 use Rattle.brc_model.proofs.Keeping.Sits.{sitting, taken_up_step}
 use Rattle.brc_model.proofs.Keeping.Replaced.{with_account}
 use Rattle.brc_model.specs.Accounts.{Accounts}
-use Rattle.brc_model.specs.Invariant.{AtDuty, Kept}
+use Rattle.brc_model.specs.Invariant.{AtDuty, Invariant}
 use Rattle.brc_model.proofs.Keeping.Kept.{Doing}
-use Rattle.brc_model.proofs.Keeping.Whole.{Whole}
+use Rattle.brc_model.proofs.Keeping.CodeInvariant.{CodeInvariant}
 use Rattle.brc_model.proofs.Dispatch.Actions.{ActionFits, action_fits}
 
 -- what a property of a machine, of the thread that steps and of the machine afterwards has to show
 pub record ShowsSteps (Q : ℕ → Machine → Machine → Type 0) (n : ℕ) : Type 0 where
   -- nothing happens
-  pub stays : (p : Accounts) (t : ℕ) (m : Machine) → Kept p n m → Q t m m
+  pub stays : (p : Accounts) (t : ℕ) (m : Machine) → Invariant p n m → Q t m m
   -- it doesn't look at where the thread stands, nor at what it has to do
   pub sits : (t : ℕ) (m new : Machine) (a : Actor) (place : Place) (agenda : List Duty) → slice_get m.actors t ≡ Some a
       → Q t (with_actor m t (sitting a place agenda)) new → Q t m new
   -- the thread stands elsewhere, and some of its references move
-  pub moves : (p : Accounts) (t : ℕ) (m : Machine) (a : Actor) (moves : List Move) (place : Place) → Kept p n m
-      → slice_get m.actors t ≡ Some a → QuietMoves m.plain.references t moves
+  pub moves : (p : Accounts) (t : ℕ) (m : Machine) (a : Actor) (moves : List Move) (place : Place) → Invariant p n m
+      → slice_get m.actors t ≡ Some a → SilentMoves m.abstract.references t moves
       → Q t m (with_moves (with_actor m t (at_place a place)) moves)
   -- the thread does its first duty
   pub does : (p : Accounts) (t : ℕ) (m : Machine) (a : Actor) (d : Duty) (rest : List Duty) → Doing p n m t a d rest
@@ -35,10 +35,10 @@ pub record ShowsSteps (Q : ℕ → Machine → Machine → Type 0) (n : ℕ) : T
 -- the rule at the thread's first duty
 pub at_duty : {p : Accounts} {n : ℕ} {m : Machine} {t : ℕ} {a : Actor} {d : Duty} {rest : List Duty}
     → Doing p n m t a d rest → AtDuty p n m t a d rest
-at_duty doing = record { rule = doing.kept.rule; found = doing.found; agenda = doing.agenda }
+at_duty doing = record { core = doing.kept.core; found = doing.found; agenda = doing.agenda }
 
 action_shows : {Q : ℕ → Machine → Machine → Type 0} {p : Module} {n : ℕ} → ShowsSteps Q n
-    → (m : Machine) (t : ℕ) (a : Actor) (x : Action) → (whole : Whole p n m) → slice_get m.actors t ≡ Some a
+    → (m : Machine) (t : ℕ) (a : Actor) (x : Action) → (whole : CodeInvariant p n m) → slice_get m.actors t ≡ Some a
     → ActionFits p whole.accounts n m t a x
     → Q t m (machine_by m t a x)
 action_shows shows m t a Skip whole found fits = shows.stays whole.accounts t m whole.kept
@@ -53,7 +53,7 @@ action_shows {Q = Q} shows m t a (Does d rest place) whole found fits =
     (subst (Q t (with_actor m t now)) (taken_up_step m t a place d rest) done)
 
 thread_shows : {Q : ℕ → Machine → Machine → Type 0} {p : Module} {n : ℕ} → ShowsSteps Q n
-    → (m : Machine) (t : ℕ) (choice : Choice) (o : Option Actor) → Whole p n m → slice_get m.actors t ≡ o
+    → (m : Machine) (t : ℕ) (choice : Choice) (o : Option Actor) → CodeInvariant p n m → slice_get m.actors t ≡ o
     → Q t m (of_thread m (λ a. machine_by m t a (action_of m.functions m.rows t a choice)) o)
 thread_shows shows m t choice None whole found = shows.stays whole.accounts t m whole.kept
 thread_shows {p = p} {n = n} shows m t choice (Some a) whole found =
@@ -62,5 +62,5 @@ thread_shows {p = p} {n = n} shows m t choice (Some a) whole found =
 
 -- so it holds of each event
 pub event_shows : {Q : ℕ → Machine → Machine → Type 0} {p : Module} {n : ℕ} → ShowsSteps Q n
-    → (m : Machine) (event : ℕ × Choice) → Whole p n m → Q event.0 m (next_machine m event)
+    → (m : Machine) (event : ℕ × Choice) → CodeInvariant p n m → Q event.0 m (next_machine m event)
 event_shows shows m event whole = thread_shows shows m event.0 event.1 (slice_get m.actors event.0) whole refl

@@ -9,18 +9,18 @@ use Rattle.brc_lang.specs.declared.module.Instr.TheVariants.{Num, NoneObject, Ne
 use Rattle.brc_lang.specs.declared.module.Module.{Module}
 use Rattle.brc_model.specs.declared.thread.Choice.{Choice}
 use Rattle.brc_model.specs.declared.thread.Choice.TheVariants.{Ok, Fault, Claim}
-use Rattle.brc_model.specs.Plain.{none_row}
+use Rattle.brc_model.specs.AbstractState.{none_row}
 use Rattle.brc_model.specs.Threads.{row_of, entry_variables, code_of}
 use Rattle.brc_model.specs.declared.duty.Reason.TheVariants.{Handed}
 use Rattle.brc_model.specs.declared.duty.Duty.{Duty}
 use Rattle.brc_model.specs.declared.duty.Duty.TheVariants.{MergeSwap, Settle, ClaimMark}
 use Rattle.brc_model.specs.declared.address.Address.{Address}
 use Rattle.brc_model.specs.declared.address.Address.TheVariants.{Mark}
-use Rattle.brc_model.specs.Duties.{address_of, head_by, ready}
+use Rattle.brc_model.specs.Duties.{address_of, new_head, ready}
 use Rattle.brc_model.specs.declared.actor.Status.{Status}
 use Rattle.brc_model.specs.declared.actor.Status.TheVariants.{Running, Leaving, Gone}
 use Rattle.brc_model.specs.declared.actor.Place.{Place}
-use Rattle.brc_model.specs.declared.actor.Place.TheVariants.{Standing, Inside, Departing}
+use Rattle.brc_model.specs.declared.actor.Place.TheVariants.{Idle, InCall, Exiting}
 use Rattle.brc_model.specs.Machine.{Actor, Machine, Action, Skip, Stuck, Silent, Does, with_row, dispatch_instruction, dispatch, is_running, actor_by, done_by, at_place, may_claim, agenda_action, status_action, action_of, of_thread, machine_by, next_machine, first_machine, machine_after, written, has_room, next_row}
 use Rattle.brc_model.specs.World.{World, world_of, machine_of, step, IsReachable}
 use Rattle.brc_model.proofs.Basics.Lists.{some_is, slice_get-set_same, set_found}
@@ -28,9 +28,9 @@ use Rattle.brc_model.proofs.Basics.Written.{written_here, written_load}
 use Rattle.brc_model.proofs.Dispatch.Claims.{claimer, gone_claims_none}
 use Rattle.brc_model.proofs.Dispatch.Actions.{ActionFits, action_fits}
 use Rattle.brc_model.specs.Accounts.{Accounts}
-use Rattle.brc_model.proofs.Keeping.Whole.{Whole}
-use Rattle.brc_model.proofs.Keeping.WholeEvents.{whole_after}
-use Rattle.brc_model.proofs.Promises.Safe.{first_whole}
+use Rattle.brc_model.proofs.Keeping.CodeInvariant.{CodeInvariant}
+use Rattle.brc_model.proofs.Keeping.CodeEvents.{code_invariant_after}
+use Rattle.brc_model.proofs.Promises.Safe.{first_code_invariant}
 use Rattle.brc_model.proofs.Promises.Worlds.{worlds_follow}
 use Rattle.brc_model.proofs.Promises.AgendaMoves.{agenda_moves}
 use Rattle.brc_model.proofs.Promises.Emptied.{chain_empty}
@@ -67,7 +67,7 @@ room_elsewhere place false one two first second = second
 instruction_elsewhere : (place : Place) (rows t used left at : ℕ) (variables : List (Option ℕ)) (code : List Instr)
     (i : Option Instr)
     → LeadsForward code → slice_get code at ≡ i
-    → ((next : ℕ) (later : List (Option ℕ)) → at < next → Inside left next later ≢ place) → Standing left ≢ place
+    → ((next : ℕ) (later : List (Option ℕ)) → at < next → InCall left next later ≢ place) → Idle left ≢ place
     → IsElsewhere place (dispatch_instruction rows t used left at variables i)
 instruction_elsewhere place rows t used left at variables code None forward found inside ends = tt
 instruction_elsewhere place rows t used left at variables code (Some (Num to value otherwise)) forward found inside
@@ -92,22 +92,22 @@ instruction_elsewhere place rows t used left at variables code (Some (Ret from))
     row_elsewhere place (row_of variables from) _ (λ row. ends)
 instruction_elsewhere place rows t used left at variables code (Some Fail) forward found inside ends = ends
 
-one_call_less : (left : ℕ) → Standing left ≢ Standing (suc left)
+one_call_less : (left : ℕ) → Idle left ≢ Idle (suc left)
 one_call_less left e = (let same : left ≡ suc left = cc in omega (arith, same))
 
 one_point_on : (left at next : ℕ) (variables later : List (Option ℕ)) → at < next
-    → Inside left next later ≢ Inside left at variables
+    → InCall left next later ≢ InCall left at variables
 one_point_on left at next variables later on e = (let same : next ≡ at = cc in omega (arith, same, on))
 
 dispatch_elsewhere : (rows t used : ℕ) (code : List Instr) (place : Place) → LeadsForward code
     → IsElsewhere place (dispatch rows t used code place)
-dispatch_elsewhere rows t used code Departing forward = tt
-dispatch_elsewhere rows t used code (Standing zero) forward = λ e. cc
-dispatch_elsewhere rows t used code (Standing (suc left)) forward =
-    instruction_elsewhere (Standing (suc left)) rows t used left 0 entry_variables code (slice_get code 0) forward refl
+dispatch_elsewhere rows t used code Exiting forward = tt
+dispatch_elsewhere rows t used code (Idle zero) forward = λ e. cc
+dispatch_elsewhere rows t used code (Idle (suc left)) forward =
+    instruction_elsewhere (Idle (suc left)) rows t used left 0 entry_variables code (slice_get code 0) forward refl
     (λ next later on e. cc) (one_call_less left)
-dispatch_elsewhere rows t used code (Inside left at variables) forward =
-    instruction_elsewhere (Inside left at variables) rows t used left at variables code (slice_get code at) forward
+dispatch_elsewhere rows t used code (InCall left at variables) forward =
+    instruction_elsewhere (InCall left at variables) rows t used left at variables code (slice_get code at) forward
     refl (λ next later on e. one_point_on left at next variables later on e) (λ e. cc)
 
 -- the thread is elsewhere, or does the first duty of its agenda
@@ -149,7 +149,7 @@ action_moves p c n m t a (Does d rest place) found fits moves =
     (actor_by t (at_place a place) d rest word) found refl (λ e. elim moves [
       | inl elsewhere ↦ elsewhere (ap (λ (c : Actor). c.place) e)
       | inr is ↦
-          agenda_moves t (is_running a.status) a.head (head_by a.head d word) d rest word
+          agenda_moves t (is_running a.status) a.head (new_head a.head d word) d rest word
           (ap (λ (c : Actor). c.agenda) e ∙ is)
     ])
 
@@ -160,7 +160,7 @@ after m t choice o = of_thread m (λ a. machine_by m t a (action_of m.functions 
 abbrev BothMove : World → ℕ → Type 0
 BothMove w t = (step w t Ok ≢ w) × (step w t Fault ≢ w)
 
-machine_moves : (p : Module) (n : ℕ) (m : Machine) (t : ℕ) (a : Actor) → Whole p n m → slice_get m.actors t ≡ Some a
+machine_moves : (p : Module) (n : ℕ) (m : Machine) (t : ℕ) (a : Actor) → CodeInvariant p n m → slice_get m.actors t ≡ Some a
     → (a.status ≡ Gone → ⊥) → BothMove (world_of m) t
 machine_moves p n m t a whole found alive =
     let forward : LeadsForward (code_of (slice_get m.functions a.function)) =
@@ -180,9 +180,9 @@ pub going_on_moves : (p : Module) (w : World) (t : ℕ) (a : Actor) → IsReacha
 going_on_moves p w t a here found alive =
     let first = first_machine p here.rows here.calls in
     let n = 1 + length here.calls in
-    let whole : Whole p n (machine_after first here.events) =
-    whole_after p n first here.events
-    (first_whole p here.rows here.calls here.fits here.accepted here.calls_fit here.some_rows here.most_rows) in
+    let whole : CodeInvariant p n (machine_after first here.events) =
+    code_invariant_after p n first here.events
+    (first_code_invariant p here.rows here.calls here.fits here.accepted here.calls_fit here.some_rows here.most_rows) in
     let there : slice_get (machine_after first here.events).actors t ≡ Some a =
     ap (λ (v : World). slice_get v.actors t) (sym here.reached) ∙ found in
     subst (λ (v : World). BothMove v t) (sym here.reached)

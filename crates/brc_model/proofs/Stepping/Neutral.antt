@@ -1,24 +1,24 @@
 -- A thread after a step that lets no row die and finalises none.
 use Rattle.std.proofs.Common.{◌≡◌, ℕ, List, ◌∷◌, ◌++◌, Option, None, refl, sym, ap, ◌∙◌, subst, arith, Some}
-use Rattle.brc_model.specs.Plain.{Reference, moved}
+use Rattle.brc_model.specs.AbstractState.{Reference, moved}
 use Rattle.brc_model.specs.declared.duty.Duty.{Duty}
 use Rattle.brc_model.specs.declared.address.Address.{Address}
 use Rattle.brc_model.specs.declared.address.Address.TheVariants.{Gate, ThreadWord}
-use Rattle.brc_model.specs.Duties.{address_of, left_by, head_by, ready}
+use Rattle.brc_model.specs.Duties.{address_of, new_word, new_head, ready}
 use Rattle.brc_model.specs.declared.actor.Status.{Status}
 use Rattle.brc_model.specs.declared.actor.Status.TheVariants.{Running, Leaving, Gone}
-use Rattle.brc_model.specs.Machine.{Actor, Life, Dying, Closed, Machine, status_by, moves_by, dies_next, ended_row, with_life, life_by, actor_by, done_by, written, born_row, used_by, Live}
+use Rattle.brc_model.specs.Machine.{Actor, Life, Dying, Closed, Machine, status_by, reference_effects, dies_next, ended_row, with_life, life_by, actor_by, done_by, written, born_row, used_by, Live}
 use Rattle.brc_model.specs.References.{one_if}
 use Rattle.brc_model.specs.Accounts.{Accounts, HoldsAt}
 use Rattle.brc_model.specs.Knowledge.{HeadOf, status_word}
-use Rattle.brc_model.specs.OpenWork.{Agenda, hand_of, dies_by, ChainFits, AgendaFits}
+use Rattle.brc_model.specs.OpenWork.{Agenda, finalised_now, dies_by, ChainFits, AgendaFits}
 use Rattle.brc_model.specs.Invariant.{AtDuty, ActorFits}
 use Rattle.brc_model.proofs.Frame.Lives.{next_of}
 use Rattle.brc_model.proofs.Stepping.Own.{HeldStep, holds_step, ChainSame, chain_same}
 use Rattle.brc_model.specs.declared.duty.Duty.TheVariants.{BirthLocal}
 
 -- all that the rule says of one thread
-pub record OwnFits (p : Accounts) (m : Machine) (t : ℕ) (a : Actor) : Type 0 where
+pub record ThreadFits (p : Accounts) (m : Machine) (t : ℕ) (a : Actor) : Type 0 where
   pub actor : ActorFits (p t) m t a
   pub agenda : AgendaFits m.rows t a a.status
 
@@ -26,10 +26,10 @@ abbrev pub found_by : Machine → ℕ → Actor → Duty → ℕ
 found_by m t a d = m.memory (address_of m.rows t a.head d)
 
 abbrev pub bag_by : Machine → ℕ → Actor → Duty → List Reference
-bag_by m t a d = (moved m.plain (moves_by m.memory t d (found_by m t a d))).references
+bag_by m t a d = (moved m.abstract (reference_effects m.memory t d (found_by m t a d))).references
 
 abbrev pub memory_by : Machine → ℕ → Actor → Duty → Address → ℕ
-memory_by m t a d = written m.memory (address_of m.rows t a.head d) (left_by t a.head d (found_by m t a d))
+memory_by m t a d = written m.memory (address_of m.rows t a.head d) (new_word t a.head d (found_by m t a d))
 
 -- ---- agendas and statuses
 
@@ -50,7 +50,7 @@ pub agenda_here : (p : Accounts) (n : ℕ) (m : Machine) (t : ℕ) (a : Actor) (
     → AtDuty p n m t a d rest → (a.status ≡ Gone → ⊥) → Agenda m.rows t a.used a.status a.place (d ∷ rest)
 agenda_here p n m t a d rest here alive =
     subst (λ (l : List Duty). Agenda m.rows t a.used a.status a.place l) here.agenda
-    (agenda_in m.rows t a a.status alive (here.rule.each t a here.found).1)
+    (agenda_in m.rows t a a.status alive (here.core.each t a here.found).1)
 
 -- ---- the step
 
@@ -60,13 +60,13 @@ pub record NeutralStep (m : Machine) (t : ℕ) (a : Actor) (d : Duty) (rest next
   pub none_dies : dies_next next ≡ None
   pub none_ends : ended_row d ≡ None
   pub none_born : born_row d ≡ None
-  pub same_head : head_by a.head d (found_by m t a d) ≡ a.head
+  pub same_head : new_head a.head d (found_by m t a d) ≡ a.head
   pub same_status : status_by a.status d ≡ a.status
   pub agenda_is : ready a.head (next ++ rest) ≡ agenda
   pub gates : (x : ℕ) → memory_by m t a d (Gate x) ≡ m.memory (Gate x)
   pub word : memory_by m t a d (ThreadWord t) ≡ m.memory (ThreadWord t)
-  pub hands : (x : ℕ) → hand_of agenda x ≡ hand_of (d ∷ rest) x
-  pub held : HeldStep m.plain.references (bag_by m t a d) t (d ∷ rest) agenda
+  pub hands : (x : ℕ) → finalised_now agenda x ≡ finalised_now (d ∷ rest) x
+  pub held : HeldStep m.abstract.references (bag_by m t a d) t (d ∷ rest) agenda
   pub fits : Agenda m.rows t a.used a.status a.place agenda
   pub knows : (b : Actor) → b.status ≡ a.status → b.head ≡ a.head → b.used ≡ a.used
       → HeadOf (done_by m t a d rest) t b agenda
@@ -86,22 +86,22 @@ life_same m t a d next x is dies ends born =
 
 pub own_neutral : (p : Accounts) (n : ℕ) (m : Machine) (t : ℕ) (a : Actor) (d : Duty) (rest next agenda : List Duty)
     → AtDuty p n m t a d rest → (a.status ≡ Gone → ⊥) → NeutralStep m t a d rest next agenda
-    → OwnFits p (done_by m t a d rest) t (actor_by t a d rest (found_by m t a d))
+    → ThreadFits p (done_by m t a d rest) t (actor_by t a d rest (found_by m t a d))
 own_neutral p n m t a d rest next agenda here alive step =
-    let old = (here.rule.each t a here.found).0 in
+    let old = (here.core.each t a here.found).0 in
     let new = done_by m t a d rest in
     let after = actor_by t a d rest (found_by m t a d) in
     let whole : after.agenda ≡ agenda =
     ap (λ (h : ℕ). ready h (next_of m t a d ++ rest)) step.same_head
     ∙ ap (λ (l : List Duty). ready a.head (l ++ rest)) step.next_is ∙ step.agenda_is in
-    let holds : HoldsAt new.plain.references t (p t) agenda a.aside =
-    holds_step m.plain.references new.plain.references t (p t) (d ∷ rest) agenda a.aside step.held
-    (subst (λ (l : List Duty). HoldsAt m.plain.references t (p t) l a.aside) here.agenda old.holds) in
+    let holds : HoldsAt new.abstract.references t (p t) agenda a.aside =
+    holds_step m.abstract.references new.abstract.references t (p t) (d ∷ rest) agenda a.aside step.held
+    (subst (λ (l : List Duty). HoldsAt m.abstract.references t (p t) l a.aside) here.agenda old.holds) in
     let same : ChainSame m new t a.agenda agenda = record {
       gates = step.gates;
       hands = λ x.
-          let hands : one_if (hand_of agenda x) ≡ one_if (hand_of a.agenda x) =
-          ap one_if (step.hands x ∙ ap (λ (l : List Duty). hand_of l x) (sym here.agenda)) in
+          let hands : one_if (finalised_now agenda x) ≡ one_if (finalised_now a.agenda x) =
+          ap one_if (step.hands x ∙ ap (λ (l : List Duty). finalised_now l x) (sym here.agenda)) in
           let life : one_if (dies_by (new.life x) t) ≡ one_if (dies_by (m.life x) t) =
           ap (λ (l : Life). one_if (dies_by l t))
           (life_same m t a d next x step.next_is step.none_dies step.none_ends step.none_born) in
@@ -111,9 +111,9 @@ own_neutral p n m t a d rest next agenda here alive step =
     record {
       actor = record {
         word = step.word ∙ old.word ∙ ap status_word (sym step.same_status);
-        holds = subst (λ (l : List Duty). HoldsAt new.plain.references t (p t) l a.aside) (sym whole) holds;
+        holds = subst (λ (l : List Duty). HoldsAt new.abstract.references t (p t) l a.aside) (sym whole) holds;
         bounded = old.bounded;
-        departed = old.departed;
+        exited = old.exited;
         head_fits =
             subst (λ (l : List Duty). HeadOf new t after l) (sym whole)
             (step.knows after step.same_status step.same_head (uses_same a.used d step.none_born));

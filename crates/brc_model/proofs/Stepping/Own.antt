@@ -1,7 +1,7 @@
 -- A thread after its own step: what it holds, its chain and its agenda, put together from what the step changed.
 use Rattle.std.proofs.Common.{◌≡◌, ℕ, zero, suc, ◌+◌, false, List, [], ◌∷◌, refl, arith}
 use Rattle.brc_model.specs.declared.duty.Holding.{Holding}
-use Rattle.brc_model.specs.Plain.{Reference}
+use Rattle.brc_model.specs.AbstractState.{Reference}
 use Rattle.brc_model.specs.declared.duty.Duty.{Duty}
 use Rattle.brc_model.specs.declared.duty.Duty.TheVariants.{Settle, Leave, Scan, Finish}
 use Rattle.brc_model.specs.declared.address.Address.TheVariants.{Gate}
@@ -12,7 +12,7 @@ use Rattle.brc_model.specs.Machine.{Actor, Machine}
 use Rattle.brc_model.specs.References.{held, one_if, reference_of}
 use Rattle.brc_model.specs.Accounts.{extra_of, lacks_of, HoldsAt, Account}
 use Rattle.brc_model.specs.Knowledge.{HeadOf}
-use Rattle.brc_model.specs.OpenWork.{Later, Agenda, hand_of, dies_by, ChainFits}
+use Rattle.brc_model.specs.OpenWork.{Later, Agenda, finalised_now, dies_by, ChainFits}
 use Rattle.brc_model.proofs.Frame.Others.{linked_kept}
 
 -- ---- what is held
@@ -35,7 +35,7 @@ pub record IsReady (rows t used : ℕ) (status : Status) (place : Place) (head :
   pub fits : Agenda rows t used status place agenda
   pub more : (k : Holding) (object : ℕ) → extra_of agenda k object ≡ false
   pub less : (k : Holding) (object : ℕ) → lacks_of agenda k object ≡ false
-  pub at_hand : (x : ℕ) → hand_of agenda x ≡ false
+  pub is_finalising : (x : ℕ) → finalised_now agenda x ≡ false
   pub knows : (m : Machine) (a : Actor) → a.head ≡ head → HeadOf m t a agenda
 
 pub ready_is : (rows t used : ℕ) (status : Status) (place : Place) (head : ℕ) (rest : List Duty)
@@ -45,7 +45,7 @@ ready_is rows t used status place zero [] later =
       fits = later;
       more = λ k o. refl;
       less = λ k o. refl;
-      at_hand = λ x. refl;
+      is_finalising = λ x. refl;
       knows = λ m a h. tt;
     }
 ready_is rows t used status place (suc head) [] later =
@@ -53,7 +53,7 @@ ready_is rows t used status place (suc head) [] later =
       fits = later;
       more = λ k o. refl;
       less = λ k o. refl;
-      at_hand = λ x. refl;
+      is_finalising = λ x. refl;
       knows = λ m a h. tt;
     }
 ready_is rows t used status place zero (Settle ∷ rest) later =
@@ -63,7 +63,7 @@ ready_is rows t used status place (suc head) (Settle ∷ rest) later =
       fits = later;
       more = λ k o. refl;
       less = λ k o. refl;
-      at_hand = λ x. refl;
+      is_finalising = λ x. refl;
       knows = λ m a h. omega (arith, h);
     }
 ready_is rows t used status place zero (Leave x k ∷ []) later =
@@ -71,7 +71,7 @@ ready_is rows t used status place zero (Leave x k ∷ []) later =
       fits = later;
       more = λ k o. refl;
       less = λ k o. refl;
-      at_hand = λ x. refl;
+      is_finalising = λ x. refl;
       knows = λ m a h. tt;
     }
 ready_is rows t used status place (suc head) (Leave x k ∷ []) later =
@@ -79,7 +79,7 @@ ready_is rows t used status place (suc head) (Leave x k ∷ []) later =
       fits = later;
       more = λ k o. refl;
       less = λ k o. refl;
-      at_hand = λ x. refl;
+      is_finalising = λ x. refl;
       knows = λ m a h. tt;
     }
 ready_is rows t used status place zero (Scan x zero ∷ rest) later =
@@ -91,7 +91,7 @@ ready_is rows t used status place zero (Scan x (suc k) ∷ rest) later =
       fits = later;
       more = λ k o. refl;
       less = λ k o. refl;
-      at_hand = λ x. refl;
+      is_finalising = λ x. refl;
       knows = λ m a h. omega arith;
     }
 ready_is rows t used status place (suc head) (Scan x (suc k) ∷ rest) later =
@@ -99,7 +99,7 @@ ready_is rows t used status place (suc head) (Scan x (suc k) ∷ rest) later =
       fits = later;
       more = λ k o. refl;
       less = λ k o. refl;
-      at_hand = λ x. refl;
+      is_finalising = λ x. refl;
       knows = λ m a h. omega arith;
     }
 ready_is rows t used status place zero (Finish ∷ []) later =
@@ -107,7 +107,7 @@ ready_is rows t used status place zero (Finish ∷ []) later =
       fits = later;
       more = λ k o. refl;
       less = λ k o. refl;
-      at_hand = λ x. refl;
+      is_finalising = λ x. refl;
       knows = λ m a h. tt;
     }
 ready_is rows t used status place (suc head) (Finish ∷ []) later =
@@ -115,7 +115,7 @@ ready_is rows t used status place (suc head) (Finish ∷ []) later =
       fits = later;
       more = λ k o. refl;
       less = λ k o. refl;
-      at_hand = λ x. refl;
+      is_finalising = λ x. refl;
       knows = λ m a h. tt;
     }
 ready_is rows t used status place head _ later = absurd later
@@ -126,7 +126,7 @@ ready_is rows t used status place head _ later = absurd later
 pub record ChainSame (m new : Machine) (t : ℕ) (agenda later : List Duty) : Type 0 where
   pub gates : (x : ℕ) → new.memory (Gate x) ≡ m.memory (Gate x)
   pub hands : (x : ℕ)
-      → one_if (hand_of later x) + one_if (dies_by (m.life x) t) ≡ one_if (hand_of agenda x)
+      → one_if (finalised_now later x) + one_if (dies_by (m.life x) t) ≡ one_if (finalised_now agenda x)
       + one_if (dies_by (new.life x) t)
 
 pub chain_same : (m new : Machine) (t head : ℕ) (agenda later : List Duty) → ChainSame m new t agenda later

@@ -7,7 +7,7 @@ use Rattle.brc_model.specs.declared.duty.Reason.TheVariants.{Own, Handed}
 use Rattle.brc_model.specs.declared.duty.Duty.{Duty}
 use Rattle.brc_model.specs.declared.duty.Duty.TheVariants.{RetainLoad, RetainStore, RetainAdd, ReleaseLoad, ReleaseStore, DecideAtZero, SharedLoad, SharedExchange, SetMark, Look, TakeMark, MergeSwap, MergeLoad, MergeExchange, Die, Settle, SettleKind, SettleCell, TakeSlot, CloseResource, SettleEnd, Leave, Scan, Finish, ClaimMark, BirthKind, BirthSlot, BirthLocal}
 use Rattle.brc_model.specs.declared.address.Address.TheVariants.{Mark}
-use Rattle.brc_model.specs.Duties.{next_by, counts_locally, once_merged, merge_result, shared_result, cells_of, cells_from, release_found, head_by, ready, has_resource}
+use Rattle.brc_model.specs.Duties.{continuation, counts_locally, once_merged, merge_result, shared_result, cells_of, cells_from, release_found, new_head, ready, has_resource}
 use Rattle.brc_model.specs.declared.actor.Status.{Status}
 use Rattle.brc_model.specs.declared.actor.Status.TheVariants.{Leaving, Gone}
 use Rattle.brc_model.specs.declared.actor.Place.{Place}
@@ -114,67 +114,67 @@ result_inner x Own word = either_inner (word == dead_word) (Die x ∷ []) [] (tt
 result_inner x Handed word = (tt, tt)
 
 next_inner : (t : ℕ) (running : Bool) (head : ℕ) (d : Duty) (found : ℕ) → IsPlain d
-    → AreInner (next_by t running head d found)
-next_inner t running head (RetainLoad x h) found plain =
+    → AreInner (continuation t running head d found)
+next_inner t running head (RetainLoad x h) found abstract =
     either_inner (is_immortal_word found) [] _ tt
     (either_inner (counts_locally t running found && nat_lt (local_part found) most_local)
     (RetainStore x h found ∷ []) (RetainAdd x h ∷ []) (tt, tt) (tt, tt))
-next_inner t running head (ReleaseLoad x h) found plain =
+next_inner t running head (ReleaseLoad x h) found abstract =
     either_inner (is_immortal_word found) [] _ tt
     (either_inner (counts_locally t running found) (ReleaseStore x found ∷ []) (SharedLoad x Own ∷ []) (tt, tt)
     (tt, tt))
-next_inner t running head (ReleaseStore x w) found plain =
+next_inner t running head (ReleaseStore x w) found abstract =
     either_inner (local_part w == 1) (DecideAtZero x ∷ []) [] (tt, tt) tt
-next_inner t running head (DecideAtZero x) found plain =
+next_inner t running head (DecideAtZero x) found abstract =
     either_inner (found == fresh_word) (Die x ∷ []) (MergeSwap x Own ∷ []) (tt, tt) (tt, tt)
-next_inner t running head (SharedLoad x r) found plain = (tt, tt)
-next_inner t running head (SharedExchange x r w) found plain =
+next_inner t running head (SharedLoad x r) found abstract = (tt, tt)
+next_inner t running head (SharedExchange x r w) found abstract =
     either_inner (found == w) (shared_result x w) (SharedLoad x r ∷ [])
     (either_inner (w == fresh_word) (SetMark x ∷ []) _ (tt, tt)
     (either_inner (released_word w == dead_word) (Die x ∷ []) [] (tt, tt) tt)) (tt, tt)
-next_inner t running head (SetMark x) found plain = (tt, tt)
-next_inner t running head (Look x) found plain = either_inner (found == 1) [] (TakeMark x ∷ []) tt (tt, tt)
-next_inner t running head (TakeMark x) found plain =
+next_inner t running head (SetMark x) found abstract = (tt, tt)
+next_inner t running head (Look x) found abstract = either_inner (found == 1) [] (TakeMark x ∷ []) tt (tt, tt)
+next_inner t running head (TakeMark x) found abstract =
     either_inner (found == 1) (MergeSwap x Handed ∷ []) [] (tt, tt) tt
-next_inner t running head (MergeSwap x r) found plain =
+next_inner t running head (MergeSwap x r) found abstract =
     either_inner (found == 0) (once_merged x r) (MergeLoad x (local_part found) r ∷ []) (merged_inner x r) (tt, tt)
-next_inner t running head (MergeLoad x c r) found plain = (tt, tt)
-next_inner t running head (MergeExchange x c w r) found plain =
+next_inner t running head (MergeLoad x c r) found abstract = (tt, tt)
+next_inner t running head (MergeExchange x c w r) found abstract =
     either_inner (found == w) (merge_result x r (merged_word w c)) (MergeLoad x c r ∷ [])
     (result_inner x r (merged_word w c)) (tt, tt)
-next_inner t running head (SettleKind x) found plain =
+next_inner t running head (SettleKind x) found abstract =
     either_inner (has_resource found) (TakeSlot x ∷ []) (cells_from x 0 (cells_of found)) (tt, tt)
     (either_inner (nat_lt 0 (cells_of found)) (SettleCell x 0 (cells_of found) ∷ []) (SettleEnd x ∷ []) (tt, tt)
     (tt, tt))
-next_inner t running head (SettleCell x i n) found plain =
+next_inner t running head (SettleCell x i n) found abstract =
     append_inner (release_found found) (cells_from x (i + 1) n) (release_inner found)
     (either_inner (nat_lt (i + 1) n) (SettleCell x (i + 1) n ∷ []) (SettleEnd x ∷ []) (tt, tt) (tt, tt))
-next_inner t running head Settle found plain = absurd plain
-next_inner t running head (Leave x k) found plain = absurd plain
-next_inner t running head (Scan x k) found plain = absurd plain
-next_inner t running head Finish found plain = absurd plain
-next_inner t running head (ClaimMark x) found plain = absurd plain
-next_inner t running head (TakeSlot x) found plain = (tt, tt)
-next_inner t running head (CloseResource x) found plain = (tt, tt)
-next_inner t running head (BirthKind x h w) found plain =
+next_inner t running head Settle found abstract = absurd abstract
+next_inner t running head (Leave x k) found abstract = absurd abstract
+next_inner t running head (Scan x k) found abstract = absurd abstract
+next_inner t running head Finish found abstract = absurd abstract
+next_inner t running head (ClaimMark x) found abstract = absurd abstract
+next_inner t running head (TakeSlot x) found abstract = (tt, tt)
+next_inner t running head (CloseResource x) found abstract = (tt, tt)
+next_inner t running head (BirthKind x h w) found abstract =
     either_inner (has_resource w) (BirthSlot x h ∷ []) (BirthLocal x h ∷ []) (tt, tt) (tt, tt)
-next_inner t running head (BirthSlot x h) found plain = (tt, tt)
-next_inner t running head _ found plain = tt
+next_inner t running head (BirthSlot x h) found abstract = (tt, tt)
+next_inner t running head _ found abstract = tt
 
 plain_settles : (head : ℕ) (d : Duty) (rest : List Duty) → IsPlain d → IsSettled head (d ∷ rest) → Settles rest
-plain_settles head Settle rest plain settled = absurd plain
-plain_settles head (Leave x k) rest plain settled = absurd plain
-plain_settles head (Scan x k) rest plain settled = absurd plain
-plain_settles head Finish rest plain settled = absurd plain
-plain_settles head _ rest plain settled = settled
+plain_settles head Settle rest abstract settled = absurd abstract
+plain_settles head (Leave x k) rest abstract settled = absurd abstract
+plain_settles head (Scan x k) rest abstract settled = absurd abstract
+plain_settles head Finish rest abstract settled = absurd abstract
+plain_settles head _ rest abstract settled = settled
 
 plain_later : (rows t used : ℕ) (status : Status) (place : Place) (d : Duty) (rest : List Duty) → IsPlain d
     → Agenda rows t used status place (d ∷ rest) → Later rows t used status place rest
-plain_later rows t used status place Settle rest plain fits = absurd plain
-plain_later rows t used status place (Leave x k) rest plain fits = absurd plain
-plain_later rows t used status place (Scan x k) rest plain fits = absurd plain
-plain_later rows t used status place Finish rest plain fits = absurd plain
-plain_later rows t used status place _ rest plain fits = fits
+plain_later rows t used status place Settle rest abstract fits = absurd abstract
+plain_later rows t used status place (Leave x k) rest abstract fits = absurd abstract
+plain_later rows t used status place (Scan x k) rest abstract fits = absurd abstract
+plain_later rows t used status place Finish rest abstract fits = absurd abstract
+plain_later rows t used status place _ rest abstract fits = fits
 
 settled_next : (rows t used head : ℕ) (status : Status) (place : Place) (next rest : List Duty) → AreInner next
     → Later rows t used status place rest → Settles rest → IsSettled head (ready head (next ++ rest))
@@ -195,17 +195,17 @@ settled_claim rows t used head status place false x behind rest later =
 
 settled_plain : (p : Accounts) (n : ℕ) (m : Machine) (t : ℕ) (a : Actor) (d : Duty) (rest : List Duty)
     → AtDuty p n m t a d rest → (a.status ≡ Gone → ⊥) → IsPlain d → IsSettled a.head (d ∷ rest)
-    → IsSettled (head_by a.head d (found_by m t a d)) (actor_by t a d rest (found_by m t a d)).agenda
-settled_plain p n m t a d rest here alive plain settled =
-    settled_next m.rows t a.used (head_by a.head d (found_by m t a d)) a.status a.place (next_of m t a d) rest
-    (next_inner t (is_running a.status) a.head d (found_by m t a d) plain)
-    (plain_later m.rows t a.used a.status a.place d rest plain (agenda_here p n m t a d rest here alive))
-    (plain_settles a.head d rest plain settled)
+    → IsSettled (new_head a.head d (found_by m t a d)) (actor_by t a d rest (found_by m t a d)).agenda
+settled_plain p n m t a d rest here alive abstract settled =
+    settled_next m.rows t a.used (new_head a.head d (found_by m t a d)) a.status a.place (next_of m t a d) rest
+    (next_inner t (is_running a.status) a.head d (found_by m t a d) abstract)
+    (plain_later m.rows t a.used a.status a.place d rest abstract (agenda_here p n m t a d rest here alive))
+    (plain_settles a.head d rest abstract settled)
 
 -- a thread's step keeps it so
 pub settled_after : (p : Accounts) (n : ℕ) (m : Machine) (t : ℕ) (a : Actor) (d : Duty) (rest : List Duty)
     → AtDuty p n m t a d rest → (a.status ≡ Gone → ⊥) → IsSettled a.head (d ∷ rest)
-    → IsSettled (head_by a.head d (found_by m t a d)) (actor_by t a d rest (found_by m t a d)).agenda
+    → IsSettled (new_head a.head d (found_by m t a d)) (actor_by t a d rest (found_by m t a d)).agenda
 settled_after p n m t a Settle rest here alive settled = settled_inner _ (SettleKind (a.head - 1)) (Settle ∷ rest) tt tt
 settled_after p n m t a (Leave x k) [] here alive settled =
     let fits = agenda_here p n m t a (Leave x k) [] here alive in

@@ -13,10 +13,10 @@ use Rattle.brc_model.specs.declared.address.Address.{Address}
 use Rattle.brc_model.specs.declared.address.Address.TheVariants.{Local, Mark, ThreadWord}
 use Rattle.brc_model.specs.declared.actor.Status.{Status}
 use Rattle.brc_model.specs.declared.actor.Status.TheVariants.{Running, Leaving, Gone}
-use Rattle.brc_model.specs.Duties.{block_of, left_by, next_by, head_by}
-use Rattle.brc_model.specs.Machine.{Actor, Life, Machine, first_row, moves_by}
+use Rattle.brc_model.specs.Duties.{block_of, new_word, continuation, new_head}
+use Rattle.brc_model.specs.Machine.{Actor, Life, Machine, first_row, reference_effects}
 use Rattle.brc_model.specs.References.{one_if}
-use Rattle.brc_model.specs.RowRule.{waits, Numbers, IsDefault, IsQueued, InOwned, InSwapped, InMerged, Phased, RowRule}
+use Rattle.brc_model.specs.RowInvariant.{waits, Numbers, IsDefault, IsQueued, InOwned, InSwapped, InMerged, Phased, RowInvariant}
 use Rattle.brc_model.specs.Accounts.{Accounts}
 use Rattle.brc_model.specs.Invariant.{AtDuty, numbers_of}
 use Rattle.brc_model.specs.Knowledge.{status_word, IsNext, IsDyingWord}
@@ -46,10 +46,10 @@ is_store _ = false
 -- the duty does the same for both words found
 pub record StoresBlindly (memory : Address → ℕ) (t : ℕ) (running : Bool) (head : ℕ) (d : Duty) (found other : ℕ)
     : Type 0 where
-  pub left : left_by t head d found ≡ left_by t head d other
-  pub next : next_by t running head d found ≡ next_by t running head d other
-  pub head_after : head_by head d found ≡ head_by head d other
-  pub moves : moves_by memory t d found ≡ moves_by memory t d other
+  pub left : new_word t head d found ≡ new_word t head d other
+  pub next : continuation t running head d found ≡ continuation t running head d other
+  pub head_after : new_head head d found ≡ new_head head d other
+  pub moves : reference_effects memory t d found ≡ reference_effects memory t d other
 
 pub stores_blindly : (memory : Address → ℕ) (t : ℕ) (running : Bool) (head : ℕ) (d : Duty) (found other : ℕ)
     → is_store d ≡ true → StoresBlindly memory t running head d found other
@@ -104,7 +104,7 @@ mark_free p n m t a x rest here =
     let one : one_if (x == x) ≡ 1 = ap one_if (eq-eqb x x refl) in
     let weighs = first_weighs (waits x) m.actors t a (SetMark x) rest here.found here.agenda in
     let some : 0 < (numbers_of m x).waiting = omega (arith, weighs, one) in
-    let alive = alive_waiting p n m x here.rule (head_of p n m t a (SetMark x) rest here) some in
+    let alive = alive_waiting p n m x here.core (head_of p n m t a (SetMark x) rest here) some in
     elim alive.live.mode [
       | InOwned o ↦ phased_free (numbers_of m x) o.phased some
       | InSwapped s ↦ phased_free (numbers_of m x) s.phased some
@@ -115,7 +115,7 @@ mark_free p n m t a x rest here =
 
 word_is : (p : Accounts) (n : ℕ) (m : Machine) (t : ℕ) (a : Actor) (d : Duty) (rest : List Duty) (status : Status)
     → AtDuty p n m t a d rest → a.status ≡ status → m.memory (ThreadWord t) ≡ status_word status
-word_is p n m t a d rest status here is = (here.rule.each t a here.found).0.word ∙ ap status_word is
+word_is p n m t a d rest status here is = (here.core.each t a here.found).0.word ∙ ap status_word is
 
 -- a thread that is about to leave runs
 leaving_runs : (m : Machine) (t : ℕ) (a : Actor) (x k : ℕ) (rest : List Duty) (status : Status)
@@ -147,8 +147,8 @@ next_local : (p : Accounts) (n : ℕ) (m : Machine) (t : ℕ) (a : Actor) (d : D
     → AtDuty p n m t a d rest → IsNext m t a x → m.memory (Local x) ≡ 0
 next_local p n m t a d rest x here next =
     let above = next_above m t a x next in
-    (subst (λ (l : Life). RowRule (block_of m.rows x) l (numbers_of m x))
-    (next_unborn p n m t a x here.rule here.found next) (here.rule.rows x (omega (arith, above)))).local
+    (subst (λ (l : Life). RowInvariant (block_of m.rows x) l (numbers_of m x))
+    (next_unborn p n m t a x here.core here.found next) (here.core.rows x (omega (arith, above)))).local
 
 -- ---- all of them
 
@@ -162,10 +162,10 @@ overwritten p n m t a (Die x) rest here = (head_of p n m t a (Die x) rest here).
 overwritten p n m t a (SettleEnd x) rest here = (head_of p n m t a (SettleEnd x) rest here).2
 overwritten p n m t a (Leave x k) rest here =
     word_is p n m t a (Leave x k) rest Running here
-    (leaving_runs m t a x k rest a.status here.agenda (here.rule.each t a here.found).1)
+    (leaving_runs m t a x k rest a.status here.agenda (here.core.each t a here.found).1)
 overwritten p n m t a Finish rest here =
     word_is p n m t a Finish rest Leaving here
-    (finishing_leaves m t a rest a.status here.agenda (here.rule.each t a here.found).1)
+    (finishing_leaves m t a rest a.status here.agenda (here.core.each t a here.found).1)
 overwritten p n m t a (BirthKind x h w) rest here =
     let d : Duty = BirthKind x h w in
     let next = (head_of p n m t a d rest here).0 in

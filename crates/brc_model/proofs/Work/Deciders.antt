@@ -12,9 +12,9 @@ use Rattle.brc_model.specs.Duties.{block_of}
 use Rattle.brc_model.specs.Machine.{Actor, Machine}
 use Rattle.brc_model.proofs.Basics.Lists.{some_is}
 use Rattle.brc_model.specs.References.{one_if}
-use Rattle.brc_model.specs.RowRule.{decides, agenda_weight, weight, IsLive, InOwned, InSwapped, InMerged}
+use Rattle.brc_model.specs.RowInvariant.{decides, agenda_weight, weight, IsLive, InOwned, InSwapped, InMerged}
 use Rattle.brc_model.specs.Accounts.{Accounts}
-use Rattle.brc_model.specs.Invariant.{AtDuty, numbers_of, Rule}
+use Rattle.brc_model.specs.Invariant.{AtDuty, numbers_of, CoreInvariant}
 use Rattle.brc_model.specs.Knowledge.{OwnsLocally, MayMerge, HeadFits, status_word}
 use Rattle.brc_model.proofs.Work.HasDuties.{some_weighs}
 use Rattle.brc_model.proofs.Frame.Aside.{decides_of_row}
@@ -35,11 +35,11 @@ duty_owns m u x b (MergeSwap y Own) rest fits some =
     ]
 duty_owns m u x b _ rest fits some = absurd (omega (arith, some))
 
-pub decider_owns : (p : Accounts) (n : ℕ) (m : Machine) (u x : ℕ) (b : Actor) → Rule p n m
+pub decider_owns : (p : Accounts) (n : ℕ) (m : Machine) (u x : ℕ) (b : Actor) → CoreInvariant p n m
     → slice_get m.actors u ≡ Some b
     → 0 < agenda_weight (decides x) b → OwnsLocally m u b x
-decider_owns p n m u x b rule found some =
-    let it = weighing p n m u x b (decides x) (decides_of_row x) rule found some in
+decider_owns p n m u x b core found some =
+    let it = weighing p n m u x b (decides x) (decides_of_row x) core found some in
     duty_owns m u x b it.duty it.rest it.knows it.some
 
 pub sum_zero : (f : Actor → ℕ) (actors : List Actor) → ((u : ℕ) (b : Actor) → slice_get actors u ≡ Some b → f b ≡ 0)
@@ -49,15 +49,15 @@ sum_zero f (b ∷ rest) none =
     omega (arith, sum_by-cons f b rest, none 0 b refl, sum_zero f rest (λ u c is. none (suc u) c is))
 
 -- where the running owner is at a duty that decides about nothing, nobody decides
-pub nobody_decides : (p : Accounts) (n : ℕ) (m : Machine) (t x : ℕ) (a : Actor) → Rule p n m
+pub nobody_decides : (p : Accounts) (n : ℕ) (m : Machine) (t x : ℕ) (a : Actor) → CoreInvariant p n m
     → slice_get m.actors t ≡ Some a → OwnsLocally m t a x → agenda_weight (decides x) a ≡ 0
     → weight (decides x) m.actors ≡ 0
-nobody_decides p n m t x a rule found owns mine =
+nobody_decides p n m t x a core found owns mine =
     sum_zero (agenda_weight (decides x)) m.actors (λ u b is.
     elim (eqb_tells (agenda_weight (decides x) b) 0) [
       | inl none ↦ none.1
       | inr more ↦
-          let other = decider_owns p n m u x b rule is (omega (arith, more.1)) in
+          let other = decider_owns p n m u x b core is (omega (arith, more.1)) in
           let who : u ≡ t = omega (arith, other.owner, owns.owner) in
           let which : b ≡ a = some_is b a (sym is ∙ ap (slice_get m.actors) who ∙ found) in
           ap (agenda_weight (decides x)) which ∙ mine
@@ -85,7 +85,7 @@ none_decides p n m t a y rest here may live =
       | inr more ↦
           let some : 0 < weight (decides y) m.actors = omega (arith, more.1) in
           let it = some_weighs (decides y) m.actors some in
-          let owns = decider_owns p n m it.who y it.which here.rule it.found it.some in
+          let owns = decider_owns p n m it.who y it.which here.core it.found it.some in
           let owner = decider_is_owner m it.who it.which y owns live some in
           elim may [
             | inl mine ↦
@@ -98,6 +98,6 @@ none_decides p n m t a y rest here may live =
                 absurd (omega (arith, it.some, same, own))
             | inr stopped ↦
                 absurd (stopped (ap (λ (u : ℕ). m.memory (ThreadWord u)) (sym owner)
-                ∙ (here.rule.each it.who it.which it.found).0.word ∙ ap status_word owns.running))
+                ∙ (here.core.each it.who it.which it.found).0.word ∙ ap status_word owns.running))
           ]
     ]

@@ -6,7 +6,7 @@ use Rattle.std.specs.List.{list_any}
 use Rattle.std.proofs.lemmas.List.Sums.{sum_by-cons}
 use Rattle.brc_model.specs.declared.duty.Duty.{Duty}
 use Rattle.brc_model.specs.Machine.{Actor}
-use Rattle.brc_model.specs.RowRule.{agenda_weight, weight}
+use Rattle.brc_model.specs.RowInvariant.{agenda_weight, weight}
 
 -- some agenda weighs, where all together do
 pub record Weighs (f : Duty → ℕ) (actors : List Actor) : Type 0 where

@@ -15,9 +15,9 @@ use Rattle.brc_model.specs.declared.actor.Status.TheVariants.{Running}
 use Rattle.brc_model.specs.Machine.{Actor, Machine}
 use Rattle.brc_model.proofs.Basics.Lists.{some_is}
 use Rattle.brc_model.specs.References.{one_if}
-use Rattle.brc_model.specs.RowRule.{waits, carries, merges, agenda_weight, weight, Phased, IsDefault, IsQueued, InOwned, InSwapped, InMerged}
+use Rattle.brc_model.specs.RowInvariant.{waits, carries, merges, agenda_weight, weight, Phased, IsDefault, IsQueued, InOwned, InSwapped, InMerged}
 use Rattle.brc_model.specs.Accounts.{Accounts}
-use Rattle.brc_model.specs.Invariant.{AtDuty, numbers_of, Rule}
+use Rattle.brc_model.specs.Invariant.{AtDuty, numbers_of, CoreInvariant}
 use Rattle.brc_model.specs.Knowledge.{MayCarry, HeadFits, status_word}
 use Rattle.brc_model.proofs.Work.HasDuties.{some_weighs}
 use Rattle.brc_model.proofs.Frame.Alive.{first_weighs}
@@ -68,10 +68,10 @@ merger_knows m u x b (MergeLoad y c Handed) rest fits some = inr some
 merger_knows m u x b (MergeExchange y c w Handed) rest fits some = inr some
 merger_knows m u x b _ rest fits some = absurd (omega (arith, some))
 
-merger_of : (p : Accounts) (n : ℕ) (m : Machine) (u x : ℕ) (b : Actor) → Rule p n m → slice_get m.actors u ≡ Some b
+merger_of : (p : Accounts) (n : ℕ) (m : Machine) (u x : ℕ) (b : Actor) → CoreInvariant p n m → slice_get m.actors u ≡ Some b
     → 0 < agenda_weight (merges x) b → IsMerger m u b x
-merger_of p n m u x b rule found some =
-    let it = weighing p n m u x b (merges x) (merges_of_row x) rule found some in
+merger_of p n m u x b core found some =
+    let it = weighing p n m u x b (merges x) (merges_of_row x) core found some in
     elim (merger_knows m u x b it.duty it.rest it.knows it.some) [
       | inl own ↦ inl own
       | inr waiting ↦ inr (omega (arith, it.among (waits x), waiting))
@@ -88,7 +88,7 @@ claimants_clash p n m t u x a b rest here ne found merger phased =
       | inl own ↦ elim (head_of p n m t a (MergeSwap x Handed) rest here).1 [
         | inl mine ↦ ne (sym own.1 ∙ mine)
         | inr stopped ↦
-            stopped (ap (λ (z : ℕ). m.memory (ThreadWord z)) own.1 ∙ (here.rule.each u b found).0.word
+            stopped (ap (λ (z : ℕ). m.memory (ThreadWord z)) own.1 ∙ (here.core.each u b found).0.word
             ∙ ap status_word own.0)
       ]
       | inr theirs ↦
@@ -115,7 +115,7 @@ claimed_alone p n m t a x rest here some phased =
     (sym other.found ∙ ap (slice_get m.actors) same ∙ here.found)) in
     absurd (omega (arith, other.some, which, none)) in
     claimants_clash p n m t other.who x a other.which rest here ne other.found
-    (merger_of p n m other.who x other.which here.rule other.found other.some) phased
+    (merger_of p n m other.who x other.which here.core other.found other.some) phased
 
 -- a claimant that finds no owner finds the row merged
 pub swapped_apart : (p : Accounts) (n : ℕ) (m : Machine) (t : ℕ) (a : Actor) (x : ℕ) (rest : List Duty)

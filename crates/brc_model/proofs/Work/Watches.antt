@@ -10,23 +10,23 @@ use Rattle.brc_model.specs.declared.duty.Reason.TheVariants.{Own, Handed}
 use Rattle.brc_model.specs.declared.duty.Duty.{Duty}
 use Rattle.brc_model.specs.declared.duty.Duty.TheVariants.{RetainLoad, RetainStore, RetainAdd, ReleaseLoad, ReleaseStore, DecideAtZero, SharedLoad, SharedExchange, SetMark, Look, TakeMark, MergeSwap, MergeLoad, MergeExchange, Die, Settle, SettleKind, SettleCell, TakeSlot, SettleEnd, Leave, Scan, Finish, ClaimMark, BirthKind, BirthSlot, BirthLocal}
 use Rattle.brc_model.specs.declared.address.Address.TheVariants.{Mark, ThreadWord}
-use Rattle.brc_model.specs.Duties.{block_of, next_by, counts_locally, once_merged, merge_result, claimed, shared_result, cells_of, cells_from, release_found, head_by, ready, has_resource}
+use Rattle.brc_model.specs.Duties.{block_of, continuation, counts_locally, once_merged, merge_result, claimed, shared_result, cells_of, cells_from, release_found, new_head, ready, has_resource}
 use Rattle.brc_model.specs.declared.actor.Status.{Status}
 use Rattle.brc_model.specs.declared.actor.Status.TheVariants.{Gone}
 use Rattle.brc_model.specs.declared.actor.Place.{Place}
 use Rattle.brc_model.specs.Machine.{Actor, Machine, is_running, first_row, actor_by, done_by, written}
 use Rattle.brc_model.proofs.Basics.Lists.{some_is, slice_get-set_other}
 use Rattle.brc_model.specs.References.{one_if}
-use Rattle.brc_model.specs.RowRule.{weight}
+use Rattle.brc_model.specs.RowInvariant.{weight}
 use Rattle.brc_model.specs.Accounts.{Accounts}
 use Rattle.brc_model.specs.OpenWork.{Later, Agenda, scans}
-use Rattle.brc_model.specs.Invariant.{AtDuty, looks, IsWatched, ByRunning, ByExit, ByLook, Rule}
+use Rattle.brc_model.specs.Invariant.{AtDuty, looks, IsWatched, ByRunning, ByExit, ByLook, CoreInvariant}
 use Rattle.brc_model.specs.Knowledge.{status_word}
 use Rattle.brc_model.proofs.Basics.Written.{written_here, written_apart, written_load, apart_mark}
 use Rattle.brc_model.proofs.Frame.Leaves.{head_of, words_left}
 use Rattle.brc_model.proofs.Frame.Lives.{next_of}
 use Rattle.brc_model.proofs.Stepping.Neutral.{found_by, memory_by, agenda_here}
-use Rattle.brc_model.proofs.Stepping.OwnExits.{marked_born}
+use Rattle.brc_model.proofs.Stepping.Exits.{marked_born}
 use Rattle.brc_model.proofs.Basics.Blocks.{born_used}
 use Rattle.brc_model.proofs.Objects.Weights.{weight-set}
 
@@ -137,7 +137,7 @@ NoScan (Scan x k) = ⊥
 NoScan _ = Unit {0}
 
 next_scanless : (t : ℕ) (running : Bool) (head : ℕ) (d : Duty) (found : ℕ) → NoScan d
-    → Scanless (next_by t running head d found)
+    → Scanless (continuation t running head d found)
 next_scanless t running head (RetainLoad x h) found none =
     either_scanless (is_immortal_word found) [] _ tt
     (either_scanless (counts_locally t running found && nat_lt (local_part found) most_local)
@@ -201,7 +201,7 @@ other_scans : (m : Machine) (t : ℕ) (a : Actor) (d : Duty) (rest : List Duty) 
     → scans x (d ∷ rest) ≡ true → scans x (actor_by t a d rest (found_by m t a d)).agenda ≡ true
 other_scans m t a d rest x none reach e =
     let less = next_scanless t (is_running a.status) a.head d (found_by m t a d) none in
-    scans_ready x (head_by a.head d (found_by m t a d)) (next_of m t a d ++ rest)
+    scans_ready x (new_head a.head d (found_by m t a d)) (next_of m t a d ++ rest)
     (reaches_behind x (next_of m t a d) rest less reach)
     (scans_behind x (next_of m t a d) rest less ∙ sym (first_scans x d rest none) ∙ e)
 
@@ -234,7 +234,7 @@ looks_step m t a d rest x found is =
     let before : sum_by (looks x) a.agenda ≡ looks x d + sum_by (looks x) rest =
     ap (sum_by (looks x)) is ∙ sum_by-cons (looks x) d rest in
     let now : sum_by (looks x) after.agenda ≡ sum_by (looks x) (next_of m t a d) + sum_by (looks x) rest =
-    looks_ready x (head_by a.head d (found_by m t a d)) (next_of m t a d ++ rest)
+    looks_ready x (new_head a.head d (found_by m t a d)) (next_of m t a d ++ rest)
     ∙ sum_by-append (looks x) (next_of m t a d) rest in
     omega (arith, weight-set (looks x) m.actors t a after found, before, now)
 
@@ -268,11 +268,11 @@ look_after p n m t a _ rest x here spares some = look_kept p n m t a _ rest x he
 -- ---- the block's thread stays watchful
 
 -- the marked row is one of the used rows of its block's thread
-pub marked_within : (p : Accounts) (n : ℕ) (m : Machine) (t : ℕ) (a : Actor) (x : ℕ) → Rule p n m
+pub marked_within : (p : Accounts) (n : ℕ) (m : Machine) (t : ℕ) (a : Actor) (x : ℕ) → CoreInvariant p n m
     → slice_get m.actors t ≡ Some a → m.memory (Mark x) ≡ 1 → block_of m.rows x ≡ t
     → (first_row m.rows t ≤ x) × (x < first_row m.rows t + a.used)
-marked_within p n m t a x rule found marked block =
-    let used = born_used p n m x rule (marked_born p n m x rule marked) in
+marked_within p n m t a x core found marked block =
+    let used = born_used p n m x core (marked_born p n m x core marked) in
     let it : used.by ≡ a = some_is used.by a (sym used.found ∙ ap (slice_get m.actors) block ∙ found) in
     let low : first_row m.rows t ≤ x = subst (λ (u : ℕ). first_row m.rows u ≤ x) block used.low in
     let high : x < first_row m.rows t + used.by.used =
@@ -293,7 +293,7 @@ running_after p n m t a (Leave y k) [] x here alive marked runs =
     elim (eqb_tells (block_of m.rows x) t) [
       | inl same ↦
           let fits = agenda_here p n m t a (Leave y k) [] here alive in
-          let within = marked_within p n m t a x here.rule here.found marked same.1 in
+          let within = marked_within p n m t a x here.core here.found marked same.1 in
           mine_after m t a (Leave y k) [] x here.found same.1
           (scans_ready x a.head (Scan y k ∷ Finish ∷ []) (omega (arith, within.1, fits.2, fits.3), tt)
           (le-leb y x (omega (arith, within.0, fits.2))))
@@ -305,7 +305,7 @@ running_after p n m t a Finish [] x here alive marked runs =
     elim (eqb_tells (block_of m.rows x) t) [
       | inl same ↦
           let fits = agenda_here p n m t a Finish [] here alive in
-          let word : m.memory (ThreadWord t) ≡ 2 = (here.rule.each t a here.found).0.word ∙ ap status_word fits.0 in
+          let word : m.memory (ThreadWord t) ≡ 2 = (here.core.each t a here.found).0.word ∙ ap status_word fits.0 in
           let still : m.memory (ThreadWord t) ≡ 1 = ap (λ (z : ℕ). m.memory (ThreadWord z)) (sym same.1) ∙ runs in
           absurd (omega (arith, word, still))
       | inr other ↦ ByRunning (words_left m t a Finish (block_of m.rows x) other.1 ∙ runs)
@@ -327,7 +327,7 @@ exit_after p n m t a d rest x b here alive marked spares found e =
           ap (scans x) (sym here.agenda) ∙ ap (λ (c : Actor). scans x c.agenda) (sym it) ∙ e in
           mine_after m t a d rest x here.found same.1
           (agenda_scans p n m t a d rest x here alive
-          (marked_within p n m t a x here.rule here.found marked same.1).1 spares still)
+          (marked_within p n m t a x here.core here.found marked same.1).1 spares still)
       | inr other ↦
           ByExit b (slice_get-set_other m.actors t (block_of m.rows x) (actor_by t a d rest (found_by m t a d)) other.1
           ∙ found) e
@@ -351,7 +351,7 @@ mark_kept : (p : Accounts) (n : ℕ) (m : Machine) (t : ℕ) (a : Actor) (d : Du
     → AtDuty p n m t a d rest → (a.status ≡ Gone → ⊥) → Spares d x
     → memory_by m t a d (Mark x) ≡ m.memory (Mark x) → MarkFits (done_by m t a d rest) x
 mark_kept p n m t a d rest x here alive spares same =
-    elim (here.rule.marks x) [
+    elim (here.core.marks x) [
       | inl none ↦ inl (same ∙ none)
       | inr some ↦ inr (same ∙ some.0, some.1, watched_after p n m t a d rest x here alive some.0 spares some.2)
     ]

@@ -10,12 +10,12 @@ use Rattle.brc_model.specs.declared.actor.Status.{Status}
 use Rattle.brc_model.specs.declared.actor.Status.TheVariants.{Running, Leaving, Gone}
 use Rattle.brc_model.specs.declared.actor.Place.{Place}
 use Rattle.brc_model.specs.Machine.{Actor, Machine}
-use Rattle.brc_model.specs.RowRule.{agenda_weight}
+use Rattle.brc_model.specs.RowInvariant.{agenda_weight}
 use Rattle.brc_model.specs.References.{one_if}
 use Rattle.brc_model.specs.Accounts.{Accounts}
 use Rattle.brc_model.specs.Knowledge.{HeadFits, HeadOf}
 use Rattle.brc_model.specs.OpenWork.{Later, Agenda, AgendaFits, is_about, about_of, AllWait}
-use Rattle.brc_model.specs.Invariant.{AtDuty, Rule}
+use Rattle.brc_model.specs.Invariant.{AtDuty, CoreInvariant}
 use Rattle.brc_model.proofs.Frame.Aside.{IsOfRow, aside_weighs}
 
 -- ---- what is for later weighs nothing
@@ -72,7 +72,7 @@ pub own_weighs : (p : Accounts) (n : ℕ) (m : Machine) (t x : ℕ) (a : Actor) 
     (f : Duty → ℕ)
     → AtDuty p n m t a d rest → IsOfRow x f → is_about x d ≡ true → agenda_weight f a ≡ f d
 own_weighs p n m t x a d rest f here of_row this =
-    let fits = here.rule.each t a here.found in
+    let fits = here.core.each t a here.found in
     let none = behind_weighs x f of_row m.rows t a a.status d rest fits.1 here.agenda in
     let whole : sum_by f a.agenda ≡ f d + sum_by f rest = ap (sum_by f) here.agenda ∙ sum_by-cons f d rest in
     let one : one_if (about_of x a.agenda) ≡ 1 =
@@ -136,10 +136,10 @@ weighing_aside f m u b (d ∷ rest) waits some =
       }
     ]
 
-pub weighing : (p : Accounts) (n : ℕ) (m : Machine) (u x : ℕ) (b : Actor) (f : Duty → ℕ) → IsOfRow x f → Rule p n m
+pub weighing : (p : Accounts) (n : ℕ) (m : Machine) (u x : ℕ) (b : Actor) (f : Duty → ℕ) → IsOfRow x f → CoreInvariant p n m
     → slice_get m.actors u ≡ Some b → 0 < agenda_weight f b → Weighing f m u b
-weighing p n m u x b f of_row rule found some =
-    let fits = rule.each u b found in
+weighing p n m u x b f of_row core found some =
+    let fits = core.each u b found in
     elim (eqb_tells (sum_by f b.agenda) 0) [
       | inl none ↦
           let it = weighing_aside f m u b b.aside fits.2.waits (omega (arith, some, none.1)) in

@@ -5,7 +5,7 @@ use Rattle.std.proofs.lemmas.Option.{slice_get_read}
 use Rattle.std.proofs.lemmas.Result.{err_from_is_err_and}
 use Rattle.brc_lang.specs.declared.module.Function.{Function}
 use Rattle.brc_model.specs.declared.slot.State.{State}
-use Rattle.brc_model.specs.Walks.{IsAcceptableCode}
+use Rattle.brc_model.specs.Paths.{IsAcceptableCode}
 use Rattle.brc_check.specs.Refusal.{IsRefusal}
 use Rattle.brc_model.specs.Tables.{IsTrueTable}
 use Rattle.brc_check.proofs.Tables.{AreInferred, one_more_inferred, inferred_true, inferred_acceptable, refused_for, for_memory}
@@ -31,13 +31,13 @@ returns-in_err-row-clause-complete c =
 pub loop-function-preserved : goal.loop-function-preserved
 loop-function-preserved c =
     let functions = c.as_slice-function-items.result.now in
-    let stands =
+    let applies =
     slice_get_read functions (length functions) c.loop-function.function-index c.function-item.result refl
     c.loop-function-test.true c.function-item.is in
     subst (λ (rows : List (List (Option State))). AreInferred functions rows (c.loop-function.function-index + 1))
     (sym c.in_default.ensures.items)
     (one_more_inferred functions c.loop-function.rows.items c.loop-function.function-index c.function-item.result
-    c.in_ok-row.row c.loop-function.invariant stands c.in_ok-row.ensures)
+    c.in_ok-row.row c.loop-function.invariant applies c.in_ok-row.ensures)
 
 pub returns-clause-table : goal.returns-clause-table
 returns-clause-table c =

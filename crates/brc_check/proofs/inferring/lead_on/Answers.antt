@@ -7,8 +7,8 @@ returns-in-Some-lead c =
     let here =
     entry_read c.args.row.now c.as_slice.result.now c.args.at c.in-Some.state _ c.as_slice.ensures
     (let same = c.requires.filled.same_length in omega (arith, same, c.requires.within)) c.in-Some.is in
-    first_met c.args.code.now c.args.row.now c.lead.new.row c.args.at c.in-Some.state c.in-Some-lead.met.at
-    c.in-Some-lead.met.code c.requires.filled here c.in-Some-lead.ensures.row c.in-Some-lead.ensures.met
+    first_met c.args.code.now c.args.row.now c.lead.new.row c.args.at c.in-Some.state c.in-Some-lead.reported.at
+    c.in-Some-lead.reported.code c.requires.filled here c.in-Some-lead.ensures.row c.in-Some-lead.ensures.reported
 
 pub returns : goal.returns
 returns c =
@@ -16,5 +16,5 @@ returns c =
     entry_read c.args.row.now c.as_slice.result.now c.args.at c.in-Some.state _ c.as_slice.ensures
     (let same = c.requires.filled.same_length in omega (arith, same, c.requires.within)) c.in-Some.is in
     second_met c.args.code.now c.args.row.now c.lead.new.row c.lead-2.new.row c.args.at c.in-Some.state c.lead-2.result
-    c.requires.forward c.requires.filled here c.in_default-lead.ensures.row c.in_default-lead.ensures.met
-    c.lead-2.ensures.row c.lead-2.ensures.met
+    c.requires.forward c.requires.filled here c.in_default-lead.ensures.row c.in_default-lead.ensures.reported
+    c.lead-2.ensures.row c.lead-2.ensures.reported

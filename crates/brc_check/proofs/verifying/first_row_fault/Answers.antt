@@ -17,12 +17,12 @@ row_fault-requires c =
 pub returns-in-Some : goal.returns-in-Some
 returns-in-Some c =
     let fault =
-    subst (λ (code : List Instr). IsFaultAt code c.index-rows-number.result c.in-Some.met.at c.in-Some.met.code)
+    subst (λ (code : List Instr). IsFaultAt code c.index-rows-number.result c.in-Some.reported.at c.in-Some.reported.code)
     c.as_slice.ensures
-    (subst (λ (row : List (Option State)). IsFaultAt c.as_slice.result.now row c.in-Some.met.at c.in-Some.met.code)
+    (subst (λ (row : List (Option State)). IsFaultAt c.as_slice.result.now row c.in-Some.reported.at c.in-Some.reported.code)
     c.as_slice-in-loop-number.ensures c.in-Some.ensures) in
     row_fault c.args.functions.now c.args.rows.now c.loop-number.number c.index-functions-number.result
-    c.index-rows-number.result c.in_function.result c.in-Some.met.at c.in-Some.met.code
+    c.index-rows-number.result c.in_function.result c.in-Some.reported.at c.in-Some.reported.code
     c.requires c.loop-number-test.true c.index-functions-number.is c.index-rows-number.is c.in_function.ensures fault
 
 pub loop-number-preserved : goal.loop-number-preserved

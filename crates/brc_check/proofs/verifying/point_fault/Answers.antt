@@ -8,8 +8,8 @@ returns-in-Some-blocked c =
     let here =
     entry_read c.args.row.now c.args.row.now c.args.at c.in-Some.state _ refl
     (omega (arith, c.requires.same_length, c.requires.within)) c.in-Some.is in
-    step_fault c.args.code.now c.args.row.now c.args.at c.in-Some.state Success c.in-Some-blocked.met.at
-    c.in-Some-blocked.met.code c.follow.result here c.follow.ensures c.in-Some-blocked.ensures
+    step_fault c.args.code.now c.args.row.now c.args.at c.in-Some.state Success c.in-Some-blocked.reported.at
+    c.in-Some-blocked.reported.code c.follow.result here c.follow.ensures c.in-Some-blocked.ensures
 
 pub returns : goal.returns
 returns c =

@@ -1,12 +1,12 @@
 -- An idle thread with calls left is at its next call's first instruction.
 use Rattle.std.proofs.Common.{◌≡◌, ◌-◌, [], ap, ◌∙◌, reverse}
 use Rattle.std.specs.Prelude.{slice_get}
-use Rattle.brc_model.specs.declared.actor.Place.TheVariants.{Standing}
+use Rattle.brc_model.specs.declared.actor.Place.TheVariants.{Idle}
 use Rattle.brc_model.specs.Threads.{code_of}
 use Rattle.brc_model.specs.Machine as model
 use Rattle.brc_model.specs.Machine.{Actor}
 use Rattle.brc_world.specs.Actors.{start_by, started, place_of}
-use Rattle.brc_world.proofs.Calling.{standing_begins}
+use Rattle.brc_world.proofs.Calling.{idle_begins}
 use Rattle.brc_world.proofs.dispatch.dispatch.Goals as goal
 
 -- what the model's thread dispatches there
@@ -20,7 +20,7 @@ begins : (c : goal.After-next_instruction-in-Idle)
 begins c =
     let code = code_of (slice_get c.args.functions.now c.args.thread.now.function) in
     rw (c.entry_variables-thread.ensures, c.in-Idle.is)
-    (standing_begins c.args.rows c.args.number c.args.thread.now.used c.args.thread.now.left code
+    (idle_begins c.args.rows c.args.number c.args.thread.now.used c.args.thread.now.left code
     c.if-thread-eq0.false)
 
 pub returns-else-thread-eq0-clause-starts : goal.returns-else-thread-eq0-clause-starts
@@ -30,7 +30,7 @@ returns-else-thread-eq0-clause-starts c = c.next_instruction-in-Idle.ensures.sta
 abbrev idle : (c : goal.After-next_instruction-in-Idle) → Actor
 idle c = record {
   function = c.args.thread.now.function;
-  place = Standing c.args.thread.now.left;
+  place = Idle c.args.thread.now.left;
   status = c.args.thread.now.status;
   agenda = reverse c.args.thread.now.agenda.items;
   aside = [];

@@ -1,9 +1,9 @@
--- The plain world knows nothing of counts: it is the bag of all references, each with its holder and its object, the
+-- The abstract state knows nothing of counts: it is the bag of all references, each with its holder and its object, the
 -- lists of the objects that were born and of those that were closed, and what each object is. (Python/C API manual,
 -- Reference Count Details: a reference is owned by one holder.)
 use Rattle.std.specs.Prelude.{ℕ, Bool, true, false, ◌&&◌, ◌||◌, ◌==◌, not, nat_lt, if◌then◌else◌, List, [], ◌∷◌, ◌++◌, count_by}
 use Rattle.brc_model.specs.declared.duty.Holding.{Holding}
-use Rattle.brc_model.specs.declared.duty.Holding.TheVariants.{ByVariable, AsCaller, InHand}
+use Rattle.brc_model.specs.declared.duty.Holding.TheVariants.{ByVariable, AsCaller, InFlight}
 use Rattle.std.specs.List.{list_any}
 use Rattle.brc_lang.specs.declared.kind.Kind.{Kind}
 use Rattle.brc_model.specs.Kinds.{is_counted_kind}
@@ -28,7 +28,7 @@ pub record Reference : Type 0 where
   pub holder : Holder
   pub object : ℕ
 
-pub record Plain : Type 0 where
+pub record AbstractState : Type 0 where
   pub references : List Reference
   -- the counted objects, in the order of their births
   pub born : List ℕ
@@ -41,7 +41,7 @@ pub record Plain : Type 0 where
 abbrev pub same_holding : Holding → Holding → Bool
 same_holding (ByVariable v) (ByVariable w) = v == w
 same_holding AsCaller AsCaller = true
-same_holding InHand InHand = true
+same_holding InFlight InFlight = true
 same_holding _ _ = false
 
 abbrev pub same_holder : Holder → Holder → Bool
@@ -78,17 +78,17 @@ pub data Move : Type 0 where
   Born : Reference → Kind → Move
   Gain : Reference → Move
   Lose : Reference → Move
-  HandOn : Reference → Holder → Move
+  PassOn : Reference → Holder → Move
   Finalise : ℕ → Move
 
 -- What is born is a counted object that wasn't born before, of a kind that is counted; a reference is gained to none or
 -- to an object that is referenced already; one that is lost or handed on is there; and what is finalised is a counted
 -- object that nothing references, for the first time, and a list only when its cells hold no reference.
-abbrev pub is_allowed : Plain → Move → Bool
+abbrev pub is_allowed : AbstractState → Move → Bool
 is_allowed p (Born r kind) = is_counted r.object && is_counted_kind kind && not (is_among r.object p.born)
 is_allowed p (Gain r) = (r.object == none_row) || nat_lt 0 (references_to r.object p.references)
 is_allowed p (Lose r) = list_any (same r) p.references
-is_allowed p (HandOn r h) = list_any (same r) p.references
+is_allowed p (PassOn r h) = list_any (same r) p.references
 is_allowed p (Finalise x) =
     is_counted x && (references_to x p.references == 0) && not (is_among x p.closed)
     && not (holds_by_cells x p.references)
@@ -97,7 +97,7 @@ is_allowed p (Finalise x) =
 abbrev pub with_kind : (ℕ → Kind) → ℕ → Kind → ℕ → Kind
 with_kind kinds object kind x = if object == x then kind else kinds x
 
-abbrev pub move : Plain → Move → Plain
+abbrev pub move : AbstractState → Move → AbstractState
 move p (Born r kind) = record p {
   references = r ∷ p.references;
   born = p.born ++ r.object ∷ [];
@@ -105,14 +105,14 @@ move p (Born r kind) = record p {
 }
 move p (Gain r) = record p { references = r ∷ p.references }
 move p (Lose r) = record p { references = without r p.references }
-move p (HandOn r h) = record p { references = (record { holder = h; object = r.object }) ∷ without r p.references }
+move p (PassOn r h) = record p { references = (record { holder = h; object = r.object }) ∷ without r p.references }
 move p (Finalise x) = record p { closed = p.closed ++ x ∷ [] }
 
 -- the moves of one event, in order
-abbrev pub moved : Plain → List Move → Plain
+abbrev pub moved : AbstractState → List Move → AbstractState
 moved p [] = p
 moved p (m ∷ ms) = moved (move p m) ms
 
-abbrev pub are_allowed : Plain → List Move → Bool
+abbrev pub are_allowed : AbstractState → List Move → Bool
 are_allowed p [] = true
 are_allowed p (m ∷ ms) = is_allowed p m && are_allowed (move p m) ms

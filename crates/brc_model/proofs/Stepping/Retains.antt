@@ -4,28 +4,28 @@ use Rattle.std.proofs.lemmas.Bool.{eq-eqb}
 use Rattle.std.specs.Prelude.{◌==◌, ◌&&◌, nat_lt, slice_get}
 use Rattle.std.proofs.lemmas.Bool.{eqb-true, ltb-true}
 use Rattle.brc_model.specs.declared.duty.Holding.{Holding}
-use Rattle.brc_model.specs.Plain.{Reference, same_holding, moved}
+use Rattle.brc_model.specs.AbstractState.{Reference, same_holding, moved}
 use Rattle.brc_word.specs.Words.{immortal_local, most_local, owner_part, local_part, is_immortal_word}
 use Rattle.brc_model.specs.declared.duty.Duty.{Duty}
 use Rattle.brc_model.specs.declared.duty.Duty.TheVariants.{RetainLoad, RetainStore, RetainAdd, Settle, Scan}
 use Rattle.brc_model.specs.declared.address.Address.TheVariants.{Local}
-use Rattle.brc_model.specs.Duties.{next_by, counts_locally, ready}
+use Rattle.brc_model.specs.Duties.{continuation, counts_locally, ready}
 use Rattle.brc_model.specs.declared.actor.Status.{Status}
 use Rattle.brc_model.specs.declared.actor.Status.TheVariants.{Running, Leaving, Gone}
 use Rattle.brc_model.specs.Machine.{Actor, Machine, is_running, gain, done_by, actor_by}
 use Rattle.brc_model.proofs.Basics.Lists.{and_first, and_second}
 use Rattle.brc_model.specs.References.{held, reference_of}
-use Rattle.brc_model.specs.RowRule.{decides, agenda_weight, weight, InOwned, InSwapped, InMerged, AtZero, AboveZero}
+use Rattle.brc_model.specs.RowInvariant.{decides, agenda_weight, weight, InOwned, InSwapped, InMerged, AtZero, AboveZero}
 use Rattle.brc_model.specs.Accounts.{Accounts, extra_of, lacks_of}
 use Rattle.brc_model.specs.OpenWork.{is_about}
 use Rattle.brc_model.specs.Knowledge.{OwnsLocally, IsBacked}
-use Rattle.brc_model.specs.Invariant.{AtDuty, Rule}
+use Rattle.brc_model.specs.Invariant.{AtDuty, CoreInvariant}
 use Rattle.brc_model.proofs.Frame.Alive.{Alive, alive_backed}
 use Rattle.brc_model.proofs.Basics.Written.{written_here}
 use Rattle.brc_model.proofs.Frame.Leaves.{head_of}
 use Rattle.brc_model.proofs.Stepping.Own.{HeldStep}
-use Rattle.brc_model.proofs.Stepping.Neutral.{OwnFits, found_by, bag_by, agenda_here, own_neutral}
-use Rattle.brc_model.proofs.Stepping.OwnCounts.{held_same, backed_not_immortal}
+use Rattle.brc_model.proofs.Stepping.Neutral.{ThreadFits, found_by, bag_by, agenda_here, own_neutral}
+use Rattle.brc_model.proofs.Stepping.Counts.{held_same, backed_not_immortal}
 use Rattle.brc_model.proofs.Work.Weighing.{own_weighs}
 use Rattle.brc_model.proofs.Frame.Aside.{decides_of_row}
 use Rattle.brc_model.proofs.Work.Deciders.{nobody_decides}
@@ -66,11 +66,11 @@ counts_owner m t a x counts alive =
     }
 
 -- where nobody decides, the running owner's count is above 0
-pub count_above : (p : Accounts) (n : ℕ) (m : Machine) (t x : ℕ) (a : Actor) → Rule p n m
+pub count_above : (p : Accounts) (n : ℕ) (m : Machine) (t x : ℕ) (a : Actor) → CoreInvariant p n m
     → slice_get m.actors t ≡ Some a
     → OwnsLocally m t a x → agenda_weight (decides x) a ≡ 0 → Alive m x → 1 ≤ local_part (m.memory (Local x))
-count_above p n m t x a rule found owns mine alive =
-    let none : weight (decides x) m.actors ≡ 0 = nobody_decides p n m t x a rule found owns mine in
+count_above p n m t x a core found owns mine alive =
+    let none : weight (decides x) m.actors ≡ 0 = nobody_decides p n m t x a core found owns mine in
     elim alive.live.mode [
       | InOwned o ↦ elim o.decided [ AtZero z d ↦ absurd (omega (arith, none, d)) | AboveZero z d ↦ z ]
       | InSwapped s ↦ absurd (omega (arith, s.local, owns.owner))
@@ -83,20 +83,20 @@ weight_here p n m t x a d rest here this none =
     own_weighs p n m t x a d rest (decides x) here (decides_of_row x) this ∙ none
 
 retain_bag : (m : Machine) (t : ℕ) (a : Actor) (x : ℕ) (h : Holding) → is_immortal_word (m.memory (Local x)) ≡ false
-    → bag_by m t a (RetainLoad x h) ≡ m.plain.references
-retain_bag m t a x h mortal = ap (λ (b : Bool). (moved m.plain (cond b (gain t h x) [])).references) mortal
+    → bag_by m t a (RetainLoad x h) ≡ m.abstract.references
+retain_bag m t a x h mortal = ap (λ (b : Bool). (moved m.abstract (cond b (gain t h x) [])).references) mortal
 
 -- of a counted object
-pub own_retain_counted : (p : Accounts) (n : ℕ) (m : Machine) (t : ℕ) (a : Actor) (x : ℕ) (h : Holding)
+pub thread_after_retain_counted : (p : Accounts) (n : ℕ) (m : Machine) (t : ℕ) (a : Actor) (x : ℕ) (h : Holding)
     (rest : List Duty)
     → 0 < x → AtDuty p n m t a (RetainLoad x h) rest → (a.status ≡ Gone → ⊥)
-    → OwnFits p (done_by m t a (RetainLoad x h) rest) t
+    → ThreadFits p (done_by m t a (RetainLoad x h) rest) t
     (actor_by t a (RetainLoad x h) rest (found_by m t a (RetainLoad x h)))
-own_retain_counted p n m t a x h rest pos here alive =
+thread_after_retain_counted p n m t a x h rest pos here alive =
     let word = m.memory (Local x) in
     let fits = head_of p n m t a (RetainLoad x h) rest here in
     let mortal = backed_not_immortal p n m t a x h rest pos here in
-    let living = alive_backed p n m t x here.rule pos fits in
+    let living = alive_backed p n m t x here.core pos fits in
     let bag = retain_bag m t a x h mortal in
     let new = done_by m t a (RetainLoad x h) rest in
     let backed : IsBacked new t x =
@@ -105,7 +105,7 @@ own_retain_counted p n m t a x h rest pos here alive =
       held_so =
           subst (λ (l : List Reference). 0 < held (reference_of t fits.by x) l) (sym bag) fits.held_so;
     } in
-    let first : next_by t (is_running a.status) a.head (RetainLoad x h) word
+    let first : continuation t (is_running a.status) a.head (RetainLoad x h) word
     ≡ cond (counts_locally t (is_running a.status) word && nat_lt (local_part word) most_local)
     (RetainStore x h word ∷ []) (RetainAdd x h ∷ []) =
     ap (λ (b : Bool). cond b [] (cond
@@ -113,11 +113,11 @@ own_retain_counted p n m t a x h rest pos here alive =
     (RetainStore x h word ∷ []) (RetainAdd x h ∷ []))) mortal in
     let keeps : (e : Duty) → ((k : Holding) (object : ℕ) → extra_of (e ∷ rest) k object ≡ false)
     → ((k : Holding) (object : ℕ) → lacks_of (e ∷ rest) k object ≡ (same_holding h k && (x == object)))
-    → HeldStep m.plain.references (bag_by m t a (RetainLoad x h)) t (RetainLoad x h ∷ rest) (e ∷ rest) =
-    λ e more less. subst (λ (l : List Reference). HeldStep m.plain.references l t (RetainLoad x h ∷ rest) (e ∷ rest))
-    (sym bag) (held_same m.plain.references t (RetainLoad x h ∷ rest) (e ∷ rest) more less) in
+    → HeldStep m.abstract.references (bag_by m t a (RetainLoad x h)) t (RetainLoad x h ∷ rest) (e ∷ rest) =
+    λ e more less. subst (λ (l : List Reference). HeldStep m.abstract.references l t (RetainLoad x h ∷ rest) (e ∷ rest))
+    (sym bag) (held_same m.abstract.references t (RetainLoad x h ∷ rest) (e ∷ rest) more less) in
     let is_local = counts_locally t (is_running a.status) word && nat_lt (local_part word) most_local in
-    elim is_local as (λ b. is_local ≡ b → OwnFits p new t (actor_by t a (RetainLoad x h) rest word)) [
+    elim is_local as (λ b. is_local ≡ b → ThreadFits p new t (actor_by t a (RetainLoad x h) rest word)) [
       | true ↦ λ e.
           let counts =
           and_first (counts_locally t (is_running a.status) word) (nat_lt (local_part word) most_local) e in
@@ -126,7 +126,7 @@ own_retain_counted p n m t a x h rest pos here alive =
           (nat_lt (local_part word) most_local) e) in
           let owns = counts_owner m t a x counts living in
           let some =
-          count_above p n m t x a here.rule here.found owns
+          count_above p n m t x a here.core here.found owns
           (weight_here p n m t x a (RetainLoad x h) rest here (eq-eqb x x refl) refl) living in
           let same : new.memory (Local x) ≡ word = written_here m.memory (Local x) word in
           own_neutral p n m t a (RetainLoad x h) rest (RetainStore x h word ∷ []) (RetainStore x h word ∷ rest) here

@@ -7,7 +7,7 @@ use Rattle.std.proofs.lemmas.Option.{slice_get_within}
 use Rattle.brc_lang.specs.declared.module.Function.{Function}
 use Rattle.brc_model.specs.declared.thread.Choice.{Choice}
 use Rattle.brc_model.specs.Machine.{Actor, Machine, Action, Skip, Stuck, Silent, Does, action_of, of_thread, actor_by, at_place, machine_by, next_machine, machine_after}
-use Rattle.brc_model.specs.Trail.{WordEvent, MakesStep, GoesSilently, DoesDuty, CanMake, Nothing, Then, made_by, made_at, events_on}
+use Rattle.brc_model.specs.Trace.{WordEvent, MakesStep, GoesSilently, DoesDuty, CanMake, Nothing, Then, made_by, made_at, events_on}
 use Rattle.brc_model.proofs.Basics.Lists.{some_is, slice_get-set_same, slice_get-set_other}
 use Rattle.brc_model.proofs.Stepping.Neutral.{found_by}
 
@@ -25,16 +25,16 @@ record Goes (m new : Machine) (t : ℕ) (a : Actor) (made : List WordEvent) : Ty
   is_there : slice_get new.actors t ≡ Some after
   went : Went m.functions m.rows t a made after
 
-stands : (m : Machine) (t : ℕ) (a : Actor) → slice_get m.actors t ≡ Some a → Goes m m t a []
-stands m t a found = record { functions = refl; rows = refl; after = a; is_there = found; went = Stays refl refl }
+stays_there : (m : Machine) (t : ℕ) (a : Actor) → slice_get m.actors t ≡ Some a → Goes m m t a []
+stays_there m t a found = record { functions = refl; rows = refl; after = a; is_there = found; went = Stays refl refl }
 
 set_goes : (m : Machine) (t : ℕ) (a b : Actor) → slice_get m.actors t ≡ Some a → slice_get (set m.actors t b) t ≡ Some b
 set_goes m t a b found = slice_get-set_same m.actors t b (slice_get_within m.actors t a found)
 
 action_goes : (m : Machine) (t : ℕ) (a : Actor) (choice : Choice) (x : Action) → slice_get m.actors t ≡ Some a
     → action_of m.functions m.rows t a choice ≡ x → Goes m (machine_by m t a x) t a (made_by m t a x)
-action_goes m t a choice Skip found is = stands m t a found
-action_goes m t a choice Stuck found is = stands m t a found
+action_goes m t a choice Skip found is = stays_there m t a found
+action_goes m t a choice Stuck found is = stays_there m t a found
 action_goes m t a choice (Silent moves place) found is = record {
   functions = refl;
   rows = refl;
@@ -133,13 +133,13 @@ then_make functions rows t a b c made rest (Stays same none) can =
     subst (λ (l : List WordEvent). CanMake functions rows t a (l ++ rest) c) (sym none)
     (subst (λ (x : Actor). CanMake functions rows t x rest c) same can)
 
-pub trails_made : (m : Machine) (events : List (ℕ × Choice)) (t : ℕ) (a b : Actor) → slice_get m.actors t ≡ Some a
+pub traces_made : (m : Machine) (events : List (ℕ × Choice)) (t : ℕ) (a b : Actor) → slice_get m.actors t ≡ Some a
     → slice_get (machine_after m events).actors t ≡ Some b → CanMake m.functions m.rows t a (events_on t m events) b
-trails_made m [] t a b found ends =
+traces_made m [] t a b found ends =
     subst (λ (c : Actor). CanMake m.functions m.rows t a [] c) (some_is a b (sym found ∙ ends)) (Nothing a)
-trails_made m (event ∷ rest) t a b found ends =
+traces_made m (event ∷ rest) t a b found ends =
     let goes = event_goes m event t a found in
-    let behind = trails_made (next_machine m event) rest t goes.after b goes.is_there ends in
+    let behind = traces_made (next_machine m event) rest t goes.after b goes.is_there ends in
     let by_functions : CanMake m.functions (next_machine m event).rows t goes.after
     (events_on t (next_machine m event) rest) b =
     subst (λ (f : List Function). CanMake f (next_machine m event).rows t goes.after

@@ -4,8 +4,8 @@ use Rattle.std.specs.Prelude.{◌==◌, ◌&&◌}
 use Rattle.std.specs.List.{list_any}
 use Rattle.std.proofs.lemmas.Bool.{eqb-true, eqb-false, eq-eqb, ne_eqb}
 use Rattle.brc_model.specs.declared.duty.Holding.{Holding}
-use Rattle.brc_model.specs.declared.duty.Holding.TheVariants.{ByVariable, AsCaller, InHand}
-use Rattle.brc_model.specs.Plain.{Reference, same_holding, same, without}
+use Rattle.brc_model.specs.declared.duty.Holding.TheVariants.{ByVariable, AsCaller, InFlight}
+use Rattle.brc_model.specs.AbstractState.{Reference, same_holding, same, without}
 use Rattle.brc_word.specs.Words.{immortal_local, local_part, is_immortal_word}
 use Rattle.brc_model.specs.declared.duty.Duty.{Duty}
 use Rattle.brc_model.specs.declared.duty.Duty.TheVariants.{RetainLoad}
@@ -13,7 +13,7 @@ use Rattle.brc_model.specs.declared.address.Address.TheVariants.{Local}
 use Rattle.brc_model.specs.Machine.{Actor, Machine}
 use Rattle.brc_model.proofs.Basics.Bag.{held-cons, held-without}
 use Rattle.brc_model.specs.References.{one_if, reference_of}
-use Rattle.brc_model.specs.RowRule.{InOwned, InSwapped, InMerged}
+use Rattle.brc_model.specs.RowInvariant.{InOwned, InSwapped, InMerged}
 use Rattle.brc_model.specs.Accounts.{Accounts, extra_of, lacks_of}
 use Rattle.brc_model.proofs.Frame.Alive.{alive_backed}
 use Rattle.brc_model.proofs.Frame.Leaves.{head_of}
@@ -31,13 +31,13 @@ flip_eqb x y = elim (y == x) as (λ b. (y == x) ≡ b → (x == y) ≡ b) [
 flip_holding : (h k : Holding) → same_holding k h ≡ same_holding h k
 flip_holding (ByVariable v) (ByVariable w) = flip_eqb w v
 flip_holding (ByVariable v) AsCaller = refl
-flip_holding (ByVariable v) InHand = refl
+flip_holding (ByVariable v) InFlight = refl
 flip_holding AsCaller (ByVariable w) = refl
 flip_holding AsCaller AsCaller = refl
-flip_holding AsCaller InHand = refl
-flip_holding InHand (ByVariable w) = refl
-flip_holding InHand AsCaller = refl
-flip_holding InHand InHand = refl
+flip_holding AsCaller InFlight = refl
+flip_holding InFlight (ByVariable w) = refl
+flip_holding InFlight AsCaller = refl
+flip_holding InFlight InFlight = refl
 
 both_ways : (k h : Holding) (object x : ℕ) → (same_holding k h && (object == x)) ≡ (same_holding h k && (x == object))
 both_ways k h object x =
@@ -110,7 +110,7 @@ pub backed_not_immortal : (p : Accounts) (n : ℕ) (m : Machine) (t : ℕ) (a : 
     → 0 < x → AtDuty p n m t a (RetainLoad x h) rest → is_immortal_word (m.memory (Local x)) ≡ false
 backed_not_immortal p n m t a x h rest pos here =
     let fits = head_of p n m t a (RetainLoad x h) rest here in
-    let alive = alive_backed p n m t x here.rule pos fits in
+    let alive = alive_backed p n m t x here.core pos fits in
     ne_eqb (local_part (m.memory (Local x))) immortal_local (elim alive.live.mode [
       | InOwned o ↦ λ e. absurd (omega (arith, o.low, e))
       | InSwapped s ↦ λ e. absurd (omega (arith, s.local, e))

@@ -8,19 +8,19 @@ use Rattle.brc_model.specs.declared.code.CheckCode.{CheckCode}
 use Rattle.brc_model.specs.declared.slot.State.{State}
 use Rattle.brc_model.specs.declared.slot.Exit.{Exit}
 use Rattle.brc_model.specs.Slots.{entry}
-use Rattle.brc_model.specs.Walks.{Place, At, Ended, Meets, follow, walk, MeetsCode, IsAcceptableCode}
+use Rattle.brc_model.specs.Paths.{PathEnd, At, Ended, Reports, follow, path_end, ReportsCode, IsAcceptableCode}
 use Rattle.brc_model.specs.Tables.{Reaches, IsTrueEntry, entry_at}
 use Rattle.brc_check.specs.Rows.{StaysOn, IsClosed, IsFaultAt}
 
 -- ---- one step more
 
-walk-more : (code : List Instr) (exits : List Exit) (e : Exit)
-    → walk code (exits ++ e ∷ []) ≡ follow code (walk code exits) e
-walk-more code exits e = fold-append (follow code) (At 0 entry) exits (e ∷ [])
+path_end-more : (code : List Instr) (exits : List Exit) (e : Exit)
+    → path_end code (exits ++ e ∷ []) ≡ follow code (path_end code exits) e
+path_end-more code exits e = fold-append (follow code) (At 0 entry) exits (e ∷ [])
 
-walk-from : (code : List Instr) (at : ℕ) (s : State) (e : Exit) (p : Place) (r : Reaches code at s)
-    → follow code (At at s) e ≡ p → walk code (r.exits ++ e ∷ []) ≡ p
-walk-from code at s e p r h = walk-more code r.exits e ∙ ap (λ (q : Place). follow code q e) r.reaches ∙ h
+path_end-from : (code : List Instr) (at : ℕ) (s : State) (e : Exit) (p : PathEnd) (r : Reaches code at s)
+    → follow code (At at s) e ≡ p → path_end code (r.exits ++ e ∷ []) ≡ p
+path_end-from code at s e p r h = path_end-more code r.exits e ∙ ap (λ (q : PathEnd). follow code q e) r.reaches ∙ h
 
 pub begins : (code : List Instr) → Reaches code 0 entry
 begins code = record { exits = []; reaches = refl }
@@ -28,39 +28,39 @@ begins code = record { exits = []; reaches = refl }
 pub reaches-more : (code : List Instr) (at next : ℕ) (s t : State) (e : Exit) → Reaches code at s
     → follow code (At at s) e ≡ At next t → Reaches code next t
 reaches-more code at next s t e r h =
-    record { exits = r.exits ++ e ∷ []; reaches = walk-from code at s e (At next t) r h }
+    record { exits = r.exits ++ e ∷ []; reaches = path_end-from code at s e (At next t) r h }
 
-pub meets-more : (code : List Instr) (at point : ℕ) (s : State) (met : CheckCode) (e : Exit) → Reaches code at s
-    → follow code (At at s) e ≡ Meets point met → MeetsCode code point met
-meets-more code at point s met e r h =
-    record { exits = r.exits ++ e ∷ []; meets = walk-from code at s e (Meets point met) r h }
+pub reports-more : (code : List Instr) (at point : ℕ) (s : State) (reported : CheckCode) (e : Exit) → Reaches code at s
+    → follow code (At at s) e ≡ Reports point reported → ReportsCode code point reported
+reports-more code at point s reported e r h =
+    record { exits = r.exits ++ e ∷ []; reports = path_end-from code at s e (Reports point reported) r h }
 
 -- ---- closed rows
 
-stays-follow : (code : List Instr) (row : List (Option State)) → IsClosed code row → (p : Place) (e : Exit)
+stays-follow : (code : List Instr) (row : List (Option State)) → IsClosed code row → (p : PathEnd) (e : Exit)
     → StaysOn row p → StaysOn row (follow code p e)
 stays-follow code row closed (At at s) e on = closed.goes_on at s e on
 stays-follow code row closed Ended e on = tt
-stays-follow code row closed (Meets at c) e on = on
+stays-follow code row closed (Reports at c) e on = on
 
-stays-fold : (code : List Instr) (row : List (Option State)) → IsClosed code row → (exits : List Exit) (p : Place)
+stays-fold : (code : List Instr) (row : List (Option State)) → IsClosed code row → (exits : List Exit) (p : PathEnd)
     → StaysOn row p → StaysOn row (fold (follow code) p exits)
 stays-fold code row closed [] p on = on
 stays-fold code row closed (e ∷ es) p on =
     stays-fold code row closed es (follow code p e) (stays-follow code row closed p e on)
 
-stays : (code : List Instr) (row : List (Option State)) → IsClosed code row → (exits : List Exit) (p : Place)
-    → walk code exits ≡ p → StaysOn row p
+stays : (code : List Instr) (row : List (Option State)) → IsClosed code row → (exits : List Exit) (p : PathEnd)
+    → path_end code exits ≡ p → StaysOn row p
 stays code row closed exits p e = subst (StaysOn row) e (stays-fold code row closed exits (At 0 entry) closed.begins)
 
--- a closed row has the state of each walk
+-- a closed row has the state of each path
 pub closed-reached : (code : List Instr) (row : List (Option State)) → IsClosed code row → (at : ℕ) (s : State)
     → Reaches code at s → entry_at row at ≡ Some s
 closed-reached code row closed at s r = stays code row closed r.exits (At at s) r.reaches
 
 pub closed-acceptable : (code : List Instr) (row : List (Option State)) → IsClosed code row → IsAcceptableCode code
 closed-acceptable code row closed = record {
-  meets_none = λ at met m. stays code row closed m.exits (Meets at met) m.meets;
+  reports_none = λ at reported m. stays code row closed m.exits (Reports at reported) m.reports;
   states_agree =
       λ exits others at s t g h. same_Some s t
       (sym (stays code row closed exits (At at s) g) ∙ stays code row closed others (At at t) h);
@@ -69,13 +69,13 @@ closed-acceptable code row closed = record {
 -- ---- true rows
 
 -- the true row of acceptable code has no fault
-pub no_fault : (code : List Instr) (row : List (Option State)) (at : ℕ) (met : CheckCode) → IsAcceptableCode code
-    → ((k : ℕ) → IsTrueEntry code k (entry_at row k)) → IsFaultAt code row at met → ⊥
-no_fault code row at met accepted true_row fault =
+pub no_fault : (code : List Instr) (row : List (Option State)) (at : ℕ) (reported : CheckCode) → IsAcceptableCode code
+    → ((k : ℕ) → IsTrueEntry code k (entry_at row k)) → IsFaultAt code row at reported → ⊥
+no_fault code row at reported accepted true_row fault =
     elim fault [
       | inl m ↦
-          accepted.meets_none at met (meets-more code at at m.state met m.exit ((true_row at m.state).0 m.is_given)
-          m.meets)
+          accepted.reports_none at reported (reports-more code at at m.state reported m.exit ((true_row at m.state).0 m.is_given)
+          m.reports)
       | inr other ↦ elim other.1 [
         | inl d ↦
             d.apart ((true_row at d.arriving).1

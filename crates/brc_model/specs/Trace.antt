@@ -6,9 +6,9 @@ use Rattle.brc_model.specs.declared.thread.Choice.{Choice}
 use Rattle.brc_model.specs.declared.duty.Duty.{Duty}
 use Rattle.brc_model.specs.declared.address.Address.{Address}
 use Rattle.brc_model.specs.declared.actor.Place.{Place}
-use Rattle.brc_model.specs.Duties.{address_of, left_by}
+use Rattle.brc_model.specs.Duties.{address_of, new_word}
 use Rattle.brc_model.specs.Machine.{Actor, Action, Skip, Stuck, Silent, Does, action_of, of_thread, Machine, actor_by, at_place, next_machine}
-use Rattle.brc_model.specs.Plain.{Move}
+use Rattle.brc_model.specs.AbstractState.{Move}
 
 -- a word that a thread looked at, what it found there, and what it left
 pub record WordEvent : Type 0 where
@@ -21,7 +21,7 @@ pub record WordEvent : Type 0 where
 -- a duty on its word, whatever is found there
 abbrev pub event_of : ℕ → ℕ → Actor → Duty → ℕ → WordEvent
 event_of rows t a d found =
-    record { address = address_of rows t a.head d; found = found; left = left_by t a.head d found }
+    record { address = address_of rows t a.head d; found = found; left = new_word t a.head d found }
 
 -- one step of a thread, with the word events that it makes, and the thread afterwards
 pub data MakesStep (functions : List Function) (rows t : ℕ) (a : Actor) : List WordEvent → Actor → Type 0 where

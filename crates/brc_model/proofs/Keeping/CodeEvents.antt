@@ -11,14 +11,14 @@ use Rattle.brc_model.proofs.Stepping.Neutral.{found_by}
 use Rattle.brc_model.proofs.Keeping.Sits.{sitting, taken_up_step}
 use Rattle.brc_model.proofs.Keeping.Replaced.{with_account}
 use Rattle.brc_model.proofs.Keeping.Kept.{duty_kept}
-use Rattle.brc_model.specs.Invariant.{Kept}
+use Rattle.brc_model.specs.Invariant.{Invariant}
 use Rattle.brc_model.specs.OpenWork.{IsSettled}
-use Rattle.brc_model.proofs.Keeping.Whole.{Whole, KeepsOn, coded_set}
-use Rattle.brc_model.proofs.Keeping.Quiets.{quieted, quiet_rule, quiet_allowed}
+use Rattle.brc_model.proofs.Keeping.CodeInvariant.{CodeInvariant, KeepsOn, coded_set}
+use Rattle.brc_model.proofs.Keeping.SilentSteps.{silenced, silent_core, silent_allowed}
 use Rattle.brc_model.proofs.Dispatch.Actions.{ActionFits, action_fits}
 
 -- an action that fits its thread
-action_keeps : (p : Module) (n : ℕ) (m : Machine) (t : ℕ) (a : Actor) (x : Action) → (whole : Whole p n m)
+action_keeps : (p : Module) (n : ℕ) (m : Machine) (t : ℕ) (a : Actor) (x : Action) → (whole : CodeInvariant p n m)
     → slice_get m.actors t ≡ Some a → ActionFits p whole.accounts n m t a x
     → KeepsOn p n (is_bad_action m t a x) (machine_by m t a x)
 action_keeps p n m t a Skip whole found fits = (refl, whole)
@@ -26,10 +26,10 @@ action_keeps p n m t a Stuck whole found fits = absurd fits
 action_keeps p n m t a (Silent moves place) whole found fits =
     let c = whole.accounts in
     let own = whole.coded t a found in
-    let here : Whole p n (quieted m t a moves place) = record {
+    let here : CodeInvariant p n (silenced m t a moves place) = record {
       accounts = with_account c t fits.account;
       kept = record {
-        rule = quiet_rule c n m t a moves place fits.account fits.at fits.sits;
+        core = silent_core c n m t a moves place fits.account fits.at fits.sits;
         settled =
             λ u b is. written_actor (λ w x. IsSettled x.head x.agenda) m.actors t a (sitting a place []) found tt
             whole.kept.settled u b is;
@@ -40,9 +40,9 @@ action_keeps p n m t a (Silent moves place) whole found fits =
           (record { alone = own.alone; accepted = own.accepted; instructions = own.instructions; says = fits.says })
           whole.coded;
     } in
-    let same : quieted m t a moves place ≡ with_moves (with_actor m t (at_place a place)) moves =
+    let same : silenced m t a moves place ≡ with_moves (with_actor m t (at_place a place)) moves =
     ap (λ (l : List Duty). with_moves (with_actor m t (sitting a place l)) moves) (sym fits.at.agenda) in
-    (ap not (quiet_allowed m.plain t moves fits.sits.moves_fit), subst (Whole p n) same here)
+    (ap not (silent_allowed m.abstract t moves fits.sits.moves_fit), subst (CodeInvariant p n) same here)
 action_keeps p n m t a (Does d rest place) whole found fits =
     let c = whole.accounts in
     let now = sitting a place (d ∷ rest) in
@@ -51,7 +51,7 @@ action_keeps p n m t a (Does d rest place) whole found fits =
       done.0,
       record {
         accounts = with_account c t fits.account;
-        kept = subst (Kept (with_account c t fits.account) n) (taken_up_step m t a place d rest) done.1;
+        kept = subst (Invariant (with_account c t fits.account) n) (taken_up_step m t a place d rest) done.1;
         functions = whole.functions;
         coded =
             coded_set p c m.actors t a (actor_by t (at_place a place) d rest (found_by m t a d)) fits.account found
@@ -64,7 +64,7 @@ action_keeps p n m t a (Does d rest place) whole found fits =
       },
     )
 
-thread_keeps : (p : Module) (n : ℕ) (m : Machine) (t : ℕ) (choice : Choice) (o : Option Actor) → Whole p n m
+thread_keeps : (p : Module) (n : ℕ) (m : Machine) (t : ℕ) (choice : Choice) (o : Option Actor) → CodeInvariant p n m
     → slice_get m.actors t ≡ o
     → KeepsOn p n (of_thread false (λ a. is_bad_action m t a (action_of m.functions m.rows t a choice)) o)
     (of_thread m (λ a. machine_by m t a (action_of m.functions m.rows t a choice)) o)
@@ -73,11 +73,11 @@ thread_keeps p n m t choice (Some a) whole found =
     action_keeps p n m t a (action_of m.functions m.rows t a choice) whole found
     (action_fits p n m t a choice whole found)
 
-pub event_keeps : (p : Module) (n : ℕ) (m : Machine) (event : ℕ × Choice) → Whole p n m
+pub event_keeps : (p : Module) (n : ℕ) (m : Machine) (event : ℕ × Choice) → CodeInvariant p n m
     → KeepsOn p n (is_bad_event m event) (next_machine m event)
 event_keeps p n m event whole = thread_keeps p n m event.0 event.1 (slice_get m.actors event.0) whole refl
 
-pub whole_after : (p : Module) (n : ℕ) (m : Machine) (events : List (ℕ × Choice)) → Whole p n m
-    → Whole p n (machine_after m events)
-whole_after p n m [] whole = whole
-whole_after p n m (e ∷ events) whole = whole_after p n (next_machine m e) events (event_keeps p n m e whole).1
+pub code_invariant_after : (p : Module) (n : ℕ) (m : Machine) (events : List (ℕ × Choice)) → CodeInvariant p n m
+    → CodeInvariant p n (machine_after m events)
+code_invariant_after p n m [] whole = whole
+code_invariant_after p n m (e ∷ events) whole = code_invariant_after p n (next_machine m e) events (event_keeps p n m e whole).1

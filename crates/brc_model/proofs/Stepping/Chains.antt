@@ -14,17 +14,17 @@ use Rattle.brc_model.specs.Machine.{Actor, Unborn, Live, Dying, Closed, Machine,
 use Rattle.brc_model.specs.References.{one_if}
 use Rattle.brc_model.specs.Accounts.{Accounts}
 use Rattle.brc_model.specs.Knowledge.{IsDyingWord}
-use Rattle.brc_model.specs.OpenWork.{Linked, hand_of, dies_by, ChainFits}
-use Rattle.brc_model.specs.Invariant.{AtDuty, Rule}
+use Rattle.brc_model.specs.OpenWork.{Linked, finalised_now, dies_by, ChainFits}
+use Rattle.brc_model.specs.Invariant.{AtDuty, CoreInvariant}
 use Rattle.brc_model.proofs.Basics.Written.{written_here, written_apart, written_load, apart_gate}
 use Rattle.brc_model.proofs.Frame.Others.{is_dying, linked_kept}
 use Rattle.brc_model.proofs.Frame.Leaves.{head_of}
 use Rattle.brc_model.proofs.Stepping.Own.{ready_is}
-use Rattle.brc_model.proofs.Stepping.Neutral.{OwnFits, found_by, agenda_here}
-use Rattle.brc_model.proofs.Stepping.OwnCounts.{held_same}
-use Rattle.brc_model.proofs.Stepping.OwnRetains.{ready_first}
+use Rattle.brc_model.proofs.Stepping.Neutral.{ThreadFits, found_by, agenda_here}
+use Rattle.brc_model.proofs.Stepping.Counts.{held_same}
+use Rattle.brc_model.proofs.Stepping.Retains.{ready_first}
 use Rattle.brc_model.proofs.Basics.Blocks.{born_low}
-use Rattle.brc_model.proofs.Stepping.OwnShown.{ShownStep, own_shown, agenda_shown}
+use Rattle.brc_model.proofs.Stepping.Shown.{ShownStep, own_shown, agenda_shown}
 use Rattle.brc_model.proofs.Basics.Bag.{one_if_low}
 
 -- ---- which rows die
@@ -33,7 +33,7 @@ use Rattle.brc_model.proofs.Basics.Bag.{one_if_low}
 pub chain_here : (p : Accounts) (n : ℕ) (m : Machine) (t : ℕ) (a : Actor) (d : Duty) (rest : List Duty)
     → AtDuty p n m t a d rest → ChainFits m t a.head (d ∷ rest)
 chain_here p n m t a d rest here =
-    subst (λ (l : List Duty). ChainFits m t a.head l) here.agenda (here.rule.each t a here.found).0.chain
+    subst (λ (l : List Duty). ChainFits m t a.head l) here.agenda (here.core.each t a here.found).0.chain
 
 pub one_if_some : (b : Bool) → 0 < one_if b → b ≡ true
 one_if_some true some = refl
@@ -43,37 +43,37 @@ one_if_some false some = absurd (omega arith)
 pub dying_born : (m : Machine) (t x : ℕ) → m.life x ≡ Dying t → m.life x ≢ Unborn
 dying_born m t x dies unborn = let wrong : Unborn ≡ Dying t = sym unborn ∙ dies in cc
 
-pub dying_low : (p : Accounts) (n : ℕ) (m : Machine) (t x : ℕ) → Rule p n m → m.life x ≡ Dying t → x < 32770
-dying_low p n m t x rule dies = born_low p n m x rule (dying_born m t x dies)
+pub dying_low : (p : Accounts) (n : ℕ) (m : Machine) (t x : ℕ) → CoreInvariant p n m → m.life x ≡ Dying t → x < 32770
+dying_low p n m t x core dies = born_low p n m x core (dying_born m t x dies)
 
-pub dying_above : (p : Accounts) (n : ℕ) (m : Machine) (t x : ℕ) → Rule p n m → m.life x ≡ Dying t → 0 < x
-dying_above p n m t zero rule dies = absurd (let wrong : Live ≡ Dying t = sym rule.none_lives ∙ dies in cc)
-dying_above p n m t (suc x) rule dies = omega arith
+pub dying_above : (p : Accounts) (n : ℕ) (m : Machine) (t x : ℕ) → CoreInvariant p n m → m.life x ≡ Dying t → 0 < x
+dying_above p n m t zero core dies = absurd (let wrong : Live ≡ Dying t = sym core.none_lives ∙ dies in cc)
+dying_above p n m t (suc x) core dies = omega arith
 
 -- the row at hand isn't chained
 hand_not_chained : (m : Machine) (t head x : ℕ) (agenda : List Duty) (chain : ChainFits m t head agenda)
-    → hand_of agenda x ≡ true → count_by (λ y. y == x) chain.chained ≡ 0
+    → finalised_now agenda x ≡ true → count_by (λ y. y == x) chain.chained ≡ 0
 hand_not_chained m t head x agenda chain at =
-    let one : one_if (hand_of agenda x) ≡ 1 = ap one_if at in
+    let one : one_if (finalised_now agenda x) ≡ 1 = ap one_if at in
     omega (arith, one, chain.once x, one_if_low (dies_by (m.life x) t))
 
 -- the head is a dying row's
-pub head_low : (p : Accounts) (n : ℕ) (m : Machine) (t head : ℕ) (agenda : List Duty) (chained : List ℕ) → Rule p n m
+pub head_low : (p : Accounts) (n : ℕ) (m : Machine) (t head : ℕ) (agenda : List Duty) (chained : List ℕ) → CoreInvariant p n m
     → Linked m.memory t head chained
-    → ((x : ℕ) → one_if (hand_of agenda x) + count_by (λ y. y == x) chained ≡ one_if (dies_by (m.life x) t))
+    → ((x : ℕ) → one_if (finalised_now agenda x) + count_by (λ y. y == x) chained ≡ one_if (dies_by (m.life x) t))
     → head < half
-head_low p n m t head agenda [] rule linked once = omega (arith, linked)
-head_low p n m t head agenda (x ∷ xs) rule linked once =
+head_low p n m t head agenda [] core linked once = omega (arith, linked)
+head_low p n m t head agenda (x ∷ xs) core linked once =
     let here : one_if (x == x) ≡ 1 = ap one_if (eq-eqb x x refl) in
     let dies : m.life x ≡ Dying t =
     is_dying (m.life x) t (one_if_some _ (omega (arith, once x, sum_by-cons (λ y. cond (y == x) 1 0) x xs, here)))
     in
-    omega (arith, linked.0, dying_low p n m t x rule dies)
+    omega (arith, linked.0, dying_low p n m t x core dies)
 
 -- ---- a row is chained
 
 die_chain : (p : Accounts) (n : ℕ) (m : Machine) (t : ℕ) (a : Actor) (x : ℕ) (rest agenda : List Duty)
-    → AtDuty p n m t a (Die x) rest → ((y : ℕ) → hand_of agenda y ≡ false)
+    → AtDuty p n m t a (Die x) rest → ((y : ℕ) → finalised_now agenda y ≡ false)
     → ChainFits (done_by m t a (Die x) rest) t (x + 1) agenda
 die_chain p n m t a x rest agenda here none =
     let old = chain_here p n m t a (Die x) rest here in
@@ -86,7 +86,7 @@ die_chain p n m t a x rest agenda here none =
         (
           a.head,
           written_here m.memory (Gate x) (dying_word t a.head),
-          head_low p n m t a.head (Die x ∷ rest) old.chained here.rule old.linked old.once,
+          head_low p n m t a.head (Die x ∷ rest) old.chained here.core old.linked old.once,
           linked_kept m.memory new t a.head old.chained
               (λ y some. written_apart m.memory (Gate x) (Gate y) (dying_word t a.head)
               (apart_gate x y (λ e. absurd (omega
@@ -95,23 +95,23 @@ die_chain p n m t a x rest agenda here none =
         ),
       );
       once =
-          λ y. let hand : one_if (hand_of agenda y) ≡ 0 =
+          λ y. let hand : one_if (finalised_now agenda y) ≡ 0 =
           ap one_if (none y) in omega (arith, hand, old.once y, sum_by-cons (λ z. cond (z == y) 1 0) x old.chained);
     }
 
-pub own_die : (p : Accounts) (n : ℕ) (m : Machine) (t : ℕ) (a : Actor) (x : ℕ) (rest : List Duty)
+pub thread_after_die : (p : Accounts) (n : ℕ) (m : Machine) (t : ℕ) (a : Actor) (x : ℕ) (rest : List Duty)
     → AtDuty p n m t a (Die x) rest → (a.status ≡ Gone → ⊥)
-    → OwnFits p (done_by m t a (Die x) rest) t (actor_by t a (Die x) rest (found_by m t a (Die x)))
-own_die p n m t a x rest here alive =
+    → ThreadFits p (done_by m t a (Die x) rest) t (actor_by t a (Die x) rest (found_by m t a (Die x)))
+thread_after_die p n m t a x rest here alive =
     let ready_so =
     ready_is m.rows t a.used a.status a.place (x + 1) rest (agenda_here p n m t a (Die x) rest here alive) in
     own_shown p n m t a (Die x) rest (ready (x + 1) rest) a.status (x + 1) here (record {
       head_is = refl;
       status_is = refl;
       agenda_is = refl;
-      word = (here.rule.each t a here.found).0.word;
-      held = held_same m.plain.references t (Die x ∷ rest) (ready (x + 1) rest) ready_so.more ready_so.less;
-      chain = die_chain p n m t a x rest (ready (x + 1) rest) here ready_so.at_hand;
+      word = (here.core.each t a here.found).0.word;
+      held = held_same m.abstract.references t (Die x ∷ rest) (ready (x + 1) rest) ready_so.more ready_so.less;
+      chain = die_chain p n m t a x rest (ready (x + 1) rest) here ready_so.is_finalising;
       fits = agenda_shown m t a (Die x) rest (ready (x + 1) rest) a.status alive refl refl ready_so.fits;
       knows = λ b status head used. ready_so.knows (done_by m t a (Die x) rest) b head;
     })
@@ -135,7 +135,7 @@ record FirstChained (m : Machine) (t : ℕ) (a : Actor) (rest : List Duty) : Typ
 
 first_by : (m : Machine) (t : ℕ) (a : Actor) (rest : List Duty) (chained : List ℕ) → 0 < a.head
     → Linked m.memory t a.head chained
-    → ((x : ℕ) → one_if (hand_of (Settle ∷ rest) x) + count_by (λ y. y == x) chained ≡ one_if (dies_by (m.life x) t))
+    → ((x : ℕ) → one_if (finalised_now (Settle ∷ rest) x) + count_by (λ y. y == x) chained ≡ one_if (dies_by (m.life x) t))
     → FirstChained m t a rest
 first_by m t a rest [] some linked once = absurd (omega (arith, some, linked))
 first_by m t a rest (x ∷ xs) some linked once =
@@ -179,8 +179,8 @@ settle_shown p n m t a rest first here alive row_is =
       head_is = head;
       status_is = refl;
       agenda_is = front (next_part (m.memory (Gate (a.head - 1))));
-      word = (here.rule.each t a here.found).0.word;
-      held = held_same m.plain.references t (Settle ∷ rest) later (λ k o. refl) (λ k o. refl);
+      word = (here.core.each t a here.found).0.word;
+      held = held_same m.abstract.references t (Settle ∷ rest) later (λ k o. refl) (λ k o. refl);
       chain = record {
         chained = first.others;
         linked =
@@ -192,16 +192,16 @@ settle_shown p n m t a rest first here alive row_is =
           agenda_shown m t a Settle rest later a.status alive refl (front (next_part (m.memory (Gate (a.head - 1)))))
           (agenda_here p n m t a Settle rest here alive);
       knows = λ b status h used. (
-        dying_above p n m t first.row here.rule first.dies,
+        dying_above p n m t first.row here.core first.dies,
         first.dies,
         subst (IsDyingWord t) (sym (written_load m.memory (Gate (a.head - 1)) (Gate first.row))) first.gate,
       );
     }
 
-pub own_settle : (p : Accounts) (n : ℕ) (m : Machine) (t : ℕ) (a : Actor) (rest : List Duty)
+pub thread_after_settle : (p : Accounts) (n : ℕ) (m : Machine) (t : ℕ) (a : Actor) (rest : List Duty)
     → AtDuty p n m t a Settle rest → (a.status ≡ Gone → ⊥)
-    → OwnFits p (done_by m t a Settle rest) t (actor_by t a Settle rest (found_by m t a Settle))
-own_settle p n m t a rest here alive =
+    → ThreadFits p (done_by m t a Settle rest) t (actor_by t a Settle rest (found_by m t a Settle))
+thread_after_settle p n m t a rest here alive =
     let first = first_chained p n m t a rest here in
     own_shown p n m t a Settle rest (SettleKind first.row ∷ Settle ∷ rest) a.status first.next here
     (settle_shown p n m t a rest first here alive (omega (arith, first.head_is)))
@@ -209,7 +209,7 @@ own_settle p n m t a rest here alive =
 -- ---- the row is closed
 
 end_chain : (p : Accounts) (n : ℕ) (m : Machine) (t : ℕ) (a : Actor) (x : ℕ) (rest agenda : List Duty)
-    → AtDuty p n m t a (SettleEnd x) rest → ((y : ℕ) → hand_of agenda y ≡ false)
+    → AtDuty p n m t a (SettleEnd x) rest → ((y : ℕ) → finalised_now agenda y ≡ false)
     → ChainFits (done_by m t a (SettleEnd x) rest) t a.head agenda
 end_chain p n m t a x rest agenda here none =
     let old = chain_here p n m t a (SettleEnd x) rest here in
@@ -222,7 +222,7 @@ end_chain p n m t a x rest agenda here none =
           (apart_gate x y (λ e. absurd (omega
           (arith, subst (λ (z : ℕ). 0 < count_by (λ w. w == z) old.chained) (sym e) some, absent))))) old.linked;
       once = λ y.
-          let hand : one_if (hand_of agenda y) ≡ 0 = ap one_if (none y) in
+          let hand : one_if (finalised_now agenda y) ≡ 0 = ap one_if (none y) in
           elim (eqb_tells x y) [
             | inl same ↦
                 let gone : one_if (dies_by (with_life m.life (Some x) Closed y) t) ≡ 0 =
@@ -236,19 +236,19 @@ end_chain p n m t a x rest agenda here none =
           ];
     }
 
-pub own_settle_end : (p : Accounts) (n : ℕ) (m : Machine) (t : ℕ) (a : Actor) (x : ℕ) (rest : List Duty)
+pub thread_after_settle_end : (p : Accounts) (n : ℕ) (m : Machine) (t : ℕ) (a : Actor) (x : ℕ) (rest : List Duty)
     → AtDuty p n m t a (SettleEnd x) rest → (a.status ≡ Gone → ⊥)
-    → OwnFits p (done_by m t a (SettleEnd x) rest) t (actor_by t a (SettleEnd x) rest (found_by m t a (SettleEnd x)))
-own_settle_end p n m t a x rest here alive =
+    → ThreadFits p (done_by m t a (SettleEnd x) rest) t (actor_by t a (SettleEnd x) rest (found_by m t a (SettleEnd x)))
+thread_after_settle_end p n m t a x rest here alive =
     let ready_so =
     ready_is m.rows t a.used a.status a.place a.head rest (agenda_here p n m t a (SettleEnd x) rest here alive) in
     own_shown p n m t a (SettleEnd x) rest (ready a.head rest) a.status a.head here (record {
       head_is = refl;
       status_is = refl;
       agenda_is = refl;
-      word = (here.rule.each t a here.found).0.word;
-      held = held_same m.plain.references t (SettleEnd x ∷ rest) (ready a.head rest) ready_so.more ready_so.less;
-      chain = end_chain p n m t a x rest (ready a.head rest) here ready_so.at_hand;
+      word = (here.core.each t a here.found).0.word;
+      held = held_same m.abstract.references t (SettleEnd x ∷ rest) (ready a.head rest) ready_so.more ready_so.less;
+      chain = end_chain p n m t a x rest (ready a.head rest) here ready_so.is_finalising;
       fits = agenda_shown m t a (SettleEnd x) rest (ready a.head rest) a.status alive refl refl ready_so.fits;
       knows = λ b status head used. ready_so.knows (done_by m t a (SettleEnd x) rest) b head;
     })

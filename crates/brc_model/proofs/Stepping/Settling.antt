@@ -7,20 +7,20 @@ use Rattle.brc_model.specs.declared.duty.Holding.{Holding}
 use Rattle.brc_model.specs.declared.duty.Duty.{Duty}
 use Rattle.brc_model.specs.declared.duty.Duty.TheVariants.{SettleKind, SettleCell, SettleEnd, TakeSlot, CloseResource}
 use Rattle.brc_model.specs.declared.address.Address.TheVariants.{Gate, KindOf, Cell, ThreadWord}
-use Rattle.brc_model.specs.Duties.{head_by, cells_of, cells_from, release_found, has_resource}
+use Rattle.brc_model.specs.Duties.{new_head, cells_of, cells_from, release_found, has_resource}
 use Rattle.brc_model.specs.declared.actor.Status.{Status}
 use Rattle.brc_model.specs.declared.actor.Status.TheVariants.{Gone}
 use Rattle.brc_model.specs.Machine.{Actor, Dying, Machine, status_by, ended_row, actor_by, done_by, born_row, dies_next, take_out}
-use Rattle.brc_model.specs.Plain.{moved}
+use Rattle.brc_model.specs.AbstractState.{moved}
 use Rattle.brc_model.specs.Accounts.{Accounts, extra_of, lacks_of, extra, lacks}
-use Rattle.brc_model.specs.OpenWork.{Later, Agenda, hand_of, at_hand}
+use Rattle.brc_model.specs.OpenWork.{Later, Agenda, finalised_now, is_finalising}
 use Rattle.brc_model.specs.Knowledge.{IsDyingWord, HeadFits}
 use Rattle.brc_model.proofs.Frame.Leaves.{head_of}
 use Rattle.brc_model.proofs.Frame.Lives.{next_of}
 use Rattle.brc_model.proofs.Stepping.Own.{HeldStep}
-use Rattle.brc_model.proofs.Stepping.Neutral.{OwnFits, found_by, bag_by, memory_by, agenda_here, life_same, own_neutral}
-use Rattle.brc_model.proofs.Stepping.OwnCounts.{held_same}
-use Rattle.brc_model.proofs.Stepping.OwnRetains.{ready_first, is_passed}
+use Rattle.brc_model.proofs.Stepping.Neutral.{ThreadFits, found_by, bag_by, memory_by, agenda_here, life_same, own_neutral}
+use Rattle.brc_model.proofs.Stepping.Counts.{held_same}
+use Rattle.brc_model.proofs.Stepping.Retains.{ready_first, is_passed}
 use Rattle.brc_model.specs.declared.actor.Place.{Place}
 use Rattle.brc_model.specs.Invariant.{AtDuty}
 
@@ -33,19 +33,19 @@ record SettlingStep (m : Machine) (t : ℕ) (a : Actor) (d : Duty) (x : ℕ) (re
   gate : IsDyingWord t (m.memory (Gate x))
   none_ends : ended_row d ≡ None
   none_born : born_row d ≡ None
-  same_head : head_by a.head d (found_by m t a d) ≡ a.head
+  same_head : new_head a.head d (found_by m t a d) ≡ a.head
   same_status : status_by a.status d ≡ a.status
   gates : (y : ℕ) → memory_by m t a d (Gate y) ≡ m.memory (Gate y)
   word : memory_by m t a d (ThreadWord t) ≡ m.memory (ThreadWord t)
-  hands : (y : ℕ) → (x == y) ≡ hand_of (d ∷ rest) y
+  hands : (y : ℕ) → (x == y) ≡ finalised_now (d ∷ rest) y
   held : (e : Duty) → ((h : Holding) (object : ℕ) → extra_of (e ∷ rest) h object ≡ false)
       → ((h : Holding) (object : ℕ) → lacks_of (e ∷ rest) h object ≡ false)
-      → HeldStep m.plain.references (bag_by m t a d) t (d ∷ rest) (e ∷ rest)
+      → HeldStep m.abstract.references (bag_by m t a d) t (d ∷ rest) (e ∷ rest)
   later : Later m.rows t a.used a.status a.place rest
 
 -- what follows: a duty that keeps the row at hand
 record KeepsHand (e : Duty) (x : ℕ) : Type 0 where
-  hand : (y : ℕ) → at_hand e y ≡ (x == y)
+  hand : (y : ℕ) → is_finalising e y ≡ (x == y)
   lives : dies_next (e ∷ []) ≡ None
   stays : is_passed e ≡ false
   extra_none : (h : Holding) (object : ℕ) → extra e h object ≡ false
@@ -58,7 +58,7 @@ settles_on : (p : Accounts) (n : ℕ) (m : Machine) (t : ℕ) (a : Actor) (d e :
     → KeepsHand e x → next_of m t a d ≡ e ∷ []
     → ((done_by m t a d rest).life x ≡ Dying t → IsDyingWord t ((done_by m t a d rest).memory (Gate x)) → (b : Actor)
     → HeadFits (done_by m t a d rest) t b e rest)
-    → OwnFits p (done_by m t a d rest) t (actor_by t a d rest (found_by m t a d))
+    → ThreadFits p (done_by m t a d rest) t (actor_by t a d rest (found_by m t a d))
 settles_on p n m t a d e x rest here alive step keeps next knows =
     own_neutral p n m t a d rest (e ∷ []) (e ∷ rest) here alive (record {
       next_is = next;
@@ -125,10 +125,10 @@ keeps_close x =
 -- a cell or the end follows
 cells_step : (p : Accounts) (n : ℕ) (m : Machine) (t : ℕ) (a : Actor) (d : Duty) (x i k : ℕ) (rest : List Duty)
     → AtDuty p n m t a d rest → (a.status ≡ Gone → ⊥) → SettlingStep m t a d x rest → next_of m t a d ≡ cells_from x i k
-    → OwnFits p (done_by m t a d rest) t (actor_by t a d rest (found_by m t a d))
+    → ThreadFits p (done_by m t a d rest) t (actor_by t a d rest (found_by m t a d))
 cells_step p n m t a d x i k rest here alive step next_is =
     elim (nat_lt i k) as (λ b. nat_lt i k ≡ b
-    → OwnFits p (done_by m t a d rest) t (actor_by t a d rest (found_by m t a d))) [
+    → ThreadFits p (done_by m t a d rest) t (actor_by t a d rest (found_by m t a d))) [
       | true ↦ λ e.
           let next : next_of m t a d ≡ SettleCell x i k ∷ [] =
           next_is ∙ ap (λ (b : Bool). cond b (SettleCell x i k ∷ []) (SettleEnd x ∷ [])) e in
@@ -144,10 +144,10 @@ cells_step p n m t a d x i k rest here alive step next_is =
 -- ---- what the row is
 
 -- files and sockets give their resource back, and lists their cells
-pub own_settle_kind : (p : Accounts) (n : ℕ) (m : Machine) (t : ℕ) (a : Actor) (x : ℕ) (rest : List Duty)
+pub thread_after_settle_kind : (p : Accounts) (n : ℕ) (m : Machine) (t : ℕ) (a : Actor) (x : ℕ) (rest : List Duty)
     → AtDuty p n m t a (SettleKind x) rest → (a.status ≡ Gone → ⊥)
-    → OwnFits p (done_by m t a (SettleKind x) rest) t (actor_by t a (SettleKind x) rest (found_by m t a (SettleKind x)))
-own_settle_kind p n m t a x rest here alive =
+    → ThreadFits p (done_by m t a (SettleKind x) rest) t (actor_by t a (SettleKind x) rest (found_by m t a (SettleKind x)))
+thread_after_settle_kind p n m t a x rest here alive =
     let fits = head_of p n m t a (SettleKind x) rest here in
     let word = m.memory (KindOf x) in
     let step : SettlingStep m t a (SettleKind x) x rest = record {
@@ -161,11 +161,11 @@ own_settle_kind p n m t a x rest here alive =
       gates = λ y. refl;
       word = refl;
       hands = λ y. refl;
-      held = λ e more less. held_same m.plain.references t (SettleKind x ∷ rest) (e ∷ rest) more less;
+      held = λ e more less. held_same m.abstract.references t (SettleKind x ∷ rest) (e ∷ rest) more less;
       later = agenda_here p n m t a (SettleKind x) rest here alive;
     } in
     elim (has_resource word) as (λ b. has_resource word ≡ b
-    → OwnFits p (done_by m t a (SettleKind x) rest) t (actor_by t a (SettleKind x) rest word)) [
+    → ThreadFits p (done_by m t a (SettleKind x) rest) t (actor_by t a (SettleKind x) rest word)) [
       | true ↦
           λ e. settles_on p n m t a (SettleKind x) (TakeSlot x) x rest here alive step (keeps_slot x)
           (ap (λ (b : Bool). cond b (TakeSlot x ∷ []) (cells_from x 0 (cells_of word))) e)
@@ -178,13 +178,13 @@ own_settle_kind p n m t a x rest here alive =
 -- ---- the row's cells
 
 -- they are empty
-pub own_settle_cell : (p : Accounts) (n : ℕ) (m : Machine) (t : ℕ) (a : Actor) (x i k : ℕ) (rest : List Duty)
+pub thread_after_settle_cell : (p : Accounts) (n : ℕ) (m : Machine) (t : ℕ) (a : Actor) (x i k : ℕ) (rest : List Duty)
     → AtDuty p n m t a (SettleCell x i k) rest → (a.status ≡ Gone → ⊥)
-    → OwnFits p (done_by m t a (SettleCell x i k) rest) t
+    → ThreadFits p (done_by m t a (SettleCell x i k) rest) t
     (actor_by t a (SettleCell x i k) rest (found_by m t a (SettleCell x i k)))
-own_settle_cell p n m t a x i k rest here alive =
+thread_after_settle_cell p n m t a x i k rest here alive =
     let fits = head_of p n m t a (SettleCell x i k) rest here in
-    let empty : release_found (m.memory (Cell x i)) ≡ [] = ap release_found (here.rule.cells x i) in
+    let empty : release_found (m.memory (Cell x i)) ≡ [] = ap release_found (here.core.cells x i) in
     cells_step p n m t a (SettleCell x i k) x (i + 1) k rest here alive (record {
       above = fits.0;
       dies = fits.1;
@@ -197,18 +197,18 @@ own_settle_cell p n m t a x i k rest here alive =
       word = refl;
       hands = λ y. refl;
       held =
-          λ e more less. subst (λ (w : ℕ). HeldStep m.plain.references (moved m.plain (take_out t x i w)).references t
-          (SettleCell x i k ∷ rest) (e ∷ rest)) (sym (here.rule.cells x i))
-          (held_same m.plain.references t (SettleCell x i k ∷ rest) (e ∷ rest) more less);
+          λ e more less. subst (λ (w : ℕ). HeldStep m.abstract.references (moved m.abstract (take_out t x i w)).references t
+          (SettleCell x i k ∷ rest) (e ∷ rest)) (sym (here.core.cells x i))
+          (held_same m.abstract.references t (SettleCell x i k ∷ rest) (e ∷ rest) more less);
       later = agenda_here p n m t a (SettleCell x i k) rest here alive;
     }) (ap (λ (l : List Duty). l ++ cells_from x (i + 1) k) empty)
 
 -- ---- the row's resource
 
-pub own_take_slot : (p : Accounts) (n : ℕ) (m : Machine) (t : ℕ) (a : Actor) (x : ℕ) (rest : List Duty)
+pub thread_after_take_slot : (p : Accounts) (n : ℕ) (m : Machine) (t : ℕ) (a : Actor) (x : ℕ) (rest : List Duty)
     → AtDuty p n m t a (TakeSlot x) rest → (a.status ≡ Gone → ⊥)
-    → OwnFits p (done_by m t a (TakeSlot x) rest) t (actor_by t a (TakeSlot x) rest (found_by m t a (TakeSlot x)))
-own_take_slot p n m t a x rest here alive =
+    → ThreadFits p (done_by m t a (TakeSlot x) rest) t (actor_by t a (TakeSlot x) rest (found_by m t a (TakeSlot x)))
+thread_after_take_slot p n m t a x rest here alive =
     let fits = head_of p n m t a (TakeSlot x) rest here in
     settles_on p n m t a (TakeSlot x) (CloseResource x) x rest here alive (record {
       above = fits.0;
@@ -221,15 +221,15 @@ own_take_slot p n m t a x rest here alive =
       gates = λ y. refl;
       word = refl;
       hands = λ y. refl;
-      held = λ e more less. held_same m.plain.references t (TakeSlot x ∷ rest) (e ∷ rest) more less;
+      held = λ e more less. held_same m.abstract.references t (TakeSlot x ∷ rest) (e ∷ rest) more less;
       later = agenda_here p n m t a (TakeSlot x) rest here alive;
     }) (keeps_close x) refl (λ dies gate b. (fits.0, dies, gate))
 
-pub own_close_resource : (p : Accounts) (n : ℕ) (m : Machine) (t : ℕ) (a : Actor) (x : ℕ) (rest : List Duty)
+pub thread_after_close_resource : (p : Accounts) (n : ℕ) (m : Machine) (t : ℕ) (a : Actor) (x : ℕ) (rest : List Duty)
     → AtDuty p n m t a (CloseResource x) rest → (a.status ≡ Gone → ⊥)
-    → OwnFits p (done_by m t a (CloseResource x) rest) t
+    → ThreadFits p (done_by m t a (CloseResource x) rest) t
     (actor_by t a (CloseResource x) rest (found_by m t a (CloseResource x)))
-own_close_resource p n m t a x rest here alive =
+thread_after_close_resource p n m t a x rest here alive =
     let fits = head_of p n m t a (CloseResource x) rest here in
     settles_on p n m t a (CloseResource x) (SettleEnd x) x rest here alive (record {
       above = fits.0;
@@ -242,6 +242,6 @@ own_close_resource p n m t a x rest here alive =
       gates = λ y. refl;
       word = refl;
       hands = λ y. refl;
-      held = λ e more less. held_same m.plain.references t (CloseResource x ∷ rest) (e ∷ rest) more less;
+      held = λ e more less. held_same m.abstract.references t (CloseResource x ∷ rest) (e ∷ rest) more less;
       later = agenda_here p n m t a (CloseResource x) rest here alive;
     }) (keeps_end x) refl (λ dies gate b. (fits.0, dies, gate))

@@ -12,7 +12,7 @@ use Rattle.brc_model.specs.Duties.{block_of, merge_result}
 use Rattle.brc_model.specs.declared.actor.Status.TheVariants.{Gone}
 use Rattle.brc_model.specs.Machine.{Actor, Machine, done_by, actor_by}
 use Rattle.brc_model.specs.References.{one_if}
-use Rattle.brc_model.specs.RowRule.{decides, InOwned, InSwapped, InMerged}
+use Rattle.brc_model.specs.RowInvariant.{decides, InOwned, InSwapped, InMerged}
 use Rattle.brc_model.specs.Accounts.{Accounts}
 use Rattle.brc_model.specs.Knowledge.{MayCarry}
 use Rattle.brc_model.proofs.Objects.RowSteps.{shared_merged}
@@ -20,62 +20,62 @@ use Rattle.brc_model.proofs.Frame.Alive.{first_weighs, Alive, alive_deciding}
 use Rattle.brc_model.proofs.Basics.Written.{written_here}
 use Rattle.brc_model.proofs.Frame.Leaves.{head_of, merge_alive}
 use Rattle.brc_model.proofs.Frame.Lives.{leaves_others}
-use Rattle.brc_model.proofs.Stepping.Neutral.{OwnFits, found_by, agenda_here}
-use Rattle.brc_model.proofs.Stepping.OwnCounts.{held_same}
-use Rattle.brc_model.proofs.Stepping.OwnSteps.{own_done, own_next, own_dying}
+use Rattle.brc_model.proofs.Stepping.Neutral.{ThreadFits, found_by, agenda_here}
+use Rattle.brc_model.proofs.Stepping.Counts.{held_same}
+use Rattle.brc_model.proofs.Stepping.Steps.{own_done, own_next, own_dying}
 use Rattle.brc_model.proofs.Work.MergesOnce.{swapped_apart}
 use Rattle.brc_model.specs.Invariant.{AtDuty}
 
 -- ---- a mark is set, and looked after
 
-pub own_set_mark : (p : Accounts) (n : ℕ) (m : Machine) (t : ℕ) (a : Actor) (x : ℕ) (rest : List Duty)
+pub thread_after_set_mark : (p : Accounts) (n : ℕ) (m : Machine) (t : ℕ) (a : Actor) (x : ℕ) (rest : List Duty)
     → AtDuty p n m t a (SetMark x) rest → (a.status ≡ Gone → ⊥)
-    → OwnFits p (done_by m t a (SetMark x) rest) t (actor_by t a (SetMark x) rest (found_by m t a (SetMark x)))
-own_set_mark p n m t a x rest here alive =
+    → ThreadFits p (done_by m t a (SetMark x) rest) t (actor_by t a (SetMark x) rest (found_by m t a (SetMark x)))
+thread_after_set_mark p n m t a x rest here alive =
     let d : Duty = SetMark x in
     own_next p n m t a d (Look x) rest here alive refl refl refl refl
-    (held_same m.plain.references t (d ∷ rest) (Look x ∷ rest) (λ k o. refl) (λ k o. refl))
+    (held_same m.abstract.references t (d ∷ rest) (Look x ∷ rest) (λ k o. refl) (λ k o. refl))
     (agenda_here p n m t a d rest here alive)
     (λ b status head used. head_of p n m t a d rest here)
 
-pub own_look : (p : Accounts) (n : ℕ) (m : Machine) (t : ℕ) (a : Actor) (x : ℕ) (rest : List Duty)
+pub thread_after_look : (p : Accounts) (n : ℕ) (m : Machine) (t : ℕ) (a : Actor) (x : ℕ) (rest : List Duty)
     → AtDuty p n m t a (Look x) rest → (a.status ≡ Gone → ⊥)
-    → OwnFits p (done_by m t a (Look x) rest) t (actor_by t a (Look x) rest (found_by m t a (Look x)))
-own_look p n m t a x rest here alive =
+    → ThreadFits p (done_by m t a (Look x) rest) t (actor_by t a (Look x) rest (found_by m t a (Look x)))
+thread_after_look p n m t a x rest here alive =
     let d : Duty = Look x in
     let found = m.memory (ThreadWord (block_of m.rows x)) in
     let later = agenda_here p n m t a d rest here alive in
-    elim (found == 1) as (λ b. (found == 1) ≡ b → OwnFits p (done_by m t a d rest) t (actor_by t a d rest found)) [
+    elim (found == 1) as (λ b. (found == 1) ≡ b → ThreadFits p (done_by m t a d rest) t (actor_by t a d rest found)) [
       | true ↦ λ e.
           own_done p n m t a d rest here alive refl (ap (λ (b : Bool). cond b [] (TakeMark x ∷ [])) e) later
-          (held_same m.plain.references t (d ∷ rest) [] (λ k o. refl) (λ k o. refl))
+          (held_same m.abstract.references t (d ∷ rest) [] (λ k o. refl) (λ k o. refl))
       | false ↦ λ e.
           own_next p n m t a d (TakeMark x) rest here alive refl refl refl
           (ap (λ (b : Bool). cond b [] (TakeMark x ∷ [])) e)
-          (held_same m.plain.references t (d ∷ rest) (TakeMark x ∷ rest) (λ k o. refl) (λ k o. refl))
+          (held_same m.abstract.references t (d ∷ rest) (TakeMark x ∷ rest) (λ k o. refl) (λ k o. refl))
           later (λ b status head used. (
             head_of p n m t a d rest here,
             (leaves_others p n m t a d rest here).stopped (block_of m.rows x) (eqb-false found 1 e),
           ))
     ] refl
 
-pub own_take_mark : (p : Accounts) (n : ℕ) (m : Machine) (t : ℕ) (a : Actor) (x : ℕ) (rest : List Duty)
+pub thread_after_take_mark : (p : Accounts) (n : ℕ) (m : Machine) (t : ℕ) (a : Actor) (x : ℕ) (rest : List Duty)
     → AtDuty p n m t a (TakeMark x) rest → (a.status ≡ Gone → ⊥)
-    → OwnFits p (done_by m t a (TakeMark x) rest) t (actor_by t a (TakeMark x) rest (found_by m t a (TakeMark x)))
-own_take_mark p n m t a x rest here alive =
+    → ThreadFits p (done_by m t a (TakeMark x) rest) t (actor_by t a (TakeMark x) rest (found_by m t a (TakeMark x)))
+thread_after_take_mark p n m t a x rest here alive =
     let d : Duty = TakeMark x in
     let found = found_by m t a d in
     let fits = head_of p n m t a d rest here in
     let later = agenda_here p n m t a d rest here alive in
-    elim (found == 1) as (λ b. (found == 1) ≡ b → OwnFits p (done_by m t a d rest) t (actor_by t a d rest found)) [
+    elim (found == 1) as (λ b. (found == 1) ≡ b → ThreadFits p (done_by m t a d rest) t (actor_by t a d rest found)) [
       | true ↦ λ e.
           own_next p n m t a d (MergeSwap x Handed) rest here alive refl refl refl
           (ap (λ (b : Bool). cond b (MergeSwap x Handed ∷ []) []) e)
-          (held_same m.plain.references t (d ∷ rest) (MergeSwap x Handed ∷ rest) (λ k o. refl) (λ k o. refl))
+          (held_same m.abstract.references t (d ∷ rest) (MergeSwap x Handed ∷ rest) (λ k o. refl) (λ k o. refl))
           later (λ b status head used. (fits.0, inr fits.1))
       | false ↦ λ e.
           own_done p n m t a d rest here alive refl (ap (λ (b : Bool). cond b (MergeSwap x Handed ∷ []) []) e) later
-          (held_same m.plain.references t (d ∷ rest) [] (λ k o. refl) (λ k o. refl))
+          (held_same m.abstract.references t (d ∷ rest) [] (λ k o. refl) (λ k o. refl))
     ] refl
 
 -- ---- the local count is swapped out
@@ -84,7 +84,7 @@ swap_alive : (p : Accounts) (n : ℕ) (m : Machine) (t : ℕ) (a : Actor) (x : �
     → AtDuty p n m t a (MergeSwap x Own) rest → Alive m x
 swap_alive p n m t a x rest here =
     let one : one_if (x == x) ≡ 1 = ap one_if (eq-eqb x x refl) in
-    alive_deciding p n m x here.rule (head_of p n m t a (MergeSwap x Own) rest here).0
+    alive_deciding p n m x here.core (head_of p n m t a (MergeSwap x Own) rest here).0
     (omega (arith, first_weighs (decides x) m.actors t a (MergeSwap x Own) rest here.found here.agenda, one))
 
 -- the local word that the owner swaps isn't 0, and the row is of its block
@@ -98,18 +98,18 @@ swap_own p n m t a x rest here =
       | InMerged s ↦ absurd (omega (arith, s.local, owns.owner))
     ]
 
-pub own_merge_swap_own : (p : Accounts) (n : ℕ) (m : Machine) (t : ℕ) (a : Actor) (x : ℕ) (rest : List Duty)
+pub thread_after_merge_swap_own : (p : Accounts) (n : ℕ) (m : Machine) (t : ℕ) (a : Actor) (x : ℕ) (rest : List Duty)
     → AtDuty p n m t a (MergeSwap x Own) rest → (a.status ≡ Gone → ⊥)
-    → OwnFits p (done_by m t a (MergeSwap x Own) rest) t
+    → ThreadFits p (done_by m t a (MergeSwap x Own) rest) t
     (actor_by t a (MergeSwap x Own) rest (found_by m t a (MergeSwap x Own)))
-own_merge_swap_own p n m t a x rest here alive =
+thread_after_merge_swap_own p n m t a x rest here alive =
     let found = m.memory (Local x) in
     let d : Duty = MergeSwap x Own in
     let fits = head_of p n m t a d rest here in
     let e : Duty = MergeLoad x (local_part found) Own in
     let some : (found == 0) ≡ false = ne_eqb found 0 (λ q. absurd (omega (arith, q, fits.1.owner))) in
     own_next p n m t a d e rest here alive refl refl refl (ap (λ (b : Bool). cond b [] (e ∷ [])) some)
-    (held_same m.plain.references t (d ∷ rest) (e ∷ rest) (λ k o. refl) (λ k o. refl))
+    (held_same m.abstract.references t (d ∷ rest) (e ∷ rest) (λ k o. refl) (λ k o. refl))
     (agenda_here p n m t a d rest here alive)
     (λ b status head used. (
       fits.0,
@@ -117,28 +117,28 @@ own_merge_swap_own p n m t a x rest here alive =
       (status ∙ fits.1.running, swap_own p n m t a x rest here),
     ))
 
-pub own_merge_swap_handed : (p : Accounts) (n : ℕ) (m : Machine) (t : ℕ) (a : Actor) (x : ℕ) (rest : List Duty)
+pub thread_after_merge_swap_handed : (p : Accounts) (n : ℕ) (m : Machine) (t : ℕ) (a : Actor) (x : ℕ) (rest : List Duty)
     → AtDuty p n m t a (MergeSwap x Handed) rest → (a.status ≡ Gone → ⊥)
-    → OwnFits p (done_by m t a (MergeSwap x Handed) rest) t
+    → ThreadFits p (done_by m t a (MergeSwap x Handed) rest) t
     (actor_by t a (MergeSwap x Handed) rest (found_by m t a (MergeSwap x Handed)))
-own_merge_swap_handed p n m t a x rest here alive =
+thread_after_merge_swap_handed p n m t a x rest here alive =
     let found = m.memory (Local x) in
     let d : Duty = MergeSwap x Handed in
     let fits = head_of p n m t a d rest here in
     let e : Duty = MergeLoad x (local_part found) Handed in
     let gives : Duty = SharedLoad x Handed in
     let later = agenda_here p n m t a d rest here alive in
-    elim (found == 0) as (λ b. (found == 0) ≡ b → OwnFits p (done_by m t a d rest) t (actor_by t a d rest found)) [
+    elim (found == 0) as (λ b. (found == 0) ≡ b → ThreadFits p (done_by m t a d rest) t (actor_by t a d rest found)) [
       | true ↦ λ none.
           own_next p n m t a d gives rest here alive refl refl refl
           (ap (λ (b : Bool). cond b (gives ∷ []) (e ∷ [])) none)
-          (held_same m.plain.references t (d ∷ rest) (gives ∷ rest) (λ k o. refl) (λ k o. refl))
+          (held_same m.abstract.references t (d ∷ rest) (gives ∷ rest) (λ k o. refl) (λ k o. refl))
           later
           (λ b status head used. (fits.0, swapped_apart p n m t a x rest here (eqb-true found 0 none)))
       | false ↦ λ some.
           own_next p n m t a d e rest here alive refl refl refl
           (ap (λ (b : Bool). cond b (gives ∷ []) (e ∷ [])) some)
-          (held_same m.plain.references t (d ∷ rest) (e ∷ rest) (λ k o. refl) (λ k o. refl))
+          (held_same m.abstract.references t (d ∷ rest) (e ∷ rest) (λ k o. refl) (λ k o. refl))
           later (λ b status head used. (fits.0, omega arith, tt))
     ] refl
 
@@ -149,16 +149,16 @@ may_carry_stays : (m new : Machine) (t x : ℕ) (a b : Actor) (r : Reason) → n
 may_carry_stays m new t x a b Own rows status own = (status ∙ own.0, ap (λ (k : ℕ). block_of k x) rows ∙ own.1)
 may_carry_stays m new t x a b Handed rows status handed = tt
 
-pub own_merge_load : (p : Accounts) (n : ℕ) (m : Machine) (t : ℕ) (a : Actor) (x c : ℕ) (r : Reason) (rest : List Duty)
+pub thread_after_merge_load : (p : Accounts) (n : ℕ) (m : Machine) (t : ℕ) (a : Actor) (x c : ℕ) (r : Reason) (rest : List Duty)
     → AtDuty p n m t a (MergeLoad x c r) rest → (a.status ≡ Gone → ⊥)
-    → OwnFits p (done_by m t a (MergeLoad x c r) rest) t
+    → ThreadFits p (done_by m t a (MergeLoad x c r) rest) t
     (actor_by t a (MergeLoad x c r) rest (found_by m t a (MergeLoad x c r)))
-own_merge_load p n m t a x c r rest here alive =
+thread_after_merge_load p n m t a x c r rest here alive =
     let d : Duty = MergeLoad x c r in
     let fits = head_of p n m t a d rest here in
     let e : Duty = MergeExchange x c (m.memory (Shared x)) r in
     own_next p n m t a d e rest here alive refl refl refl refl
-    (held_same m.plain.references t (d ∷ rest) (e ∷ rest) (λ k o. refl) (λ k o. refl))
+    (held_same m.abstract.references t (d ∷ rest) (e ∷ rest) (λ k o. refl) (λ k o. refl))
     (agenda_here p n m t a d rest here alive)
     (λ b status head used. (
       fits.0,
@@ -176,25 +176,25 @@ merge_next x c w found dead won is_dead =
 -- the merge was made: the owner's object dies or lives on, and a handed reference is given up next
 merge_won : (p : Accounts) (n : ℕ) (m : Machine) (t : ℕ) (a : Actor) (x c w : ℕ) (r : Reason) (rest : List Duty)
     → AtDuty p n m t a (MergeExchange x c w r) rest → (a.status ≡ Gone → ⊥) → (m.memory (Shared x) == w) ≡ true
-    → OwnFits p (done_by m t a (MergeExchange x c w r) rest) t
+    → ThreadFits p (done_by m t a (MergeExchange x c w r) rest) t
     (actor_by t a (MergeExchange x c w r) rest (m.memory (Shared x)))
 merge_won p n m t a x c w Own rest here alive won =
     let found = m.memory (Shared x) in
     let d : Duty = MergeExchange x c w Own in
     let later = agenda_here p n m t a d rest here alive in
     elim (merged_word w c == dead_word) as
-    (λ b. (merged_word w c == dead_word) ≡ b → OwnFits p (done_by m t a d rest) t (actor_by t a d rest found)) [
+    (λ b. (merged_word w c == dead_word) ≡ b → ThreadFits p (done_by m t a d rest) t (actor_by t a d rest found)) [
       | true ↦ λ dead.
           own_dying p n m t a d rest x here alive refl (record {
             next_is = merge_next x c w found true won dead;
             counted = (head_of p n m t a d rest here).0;
             lived = (merge_alive p n m t a x c w Own rest here).life;
-            held = held_same m.plain.references t (d ∷ rest) (Die x ∷ rest) (λ k o. refl) (λ k o. refl);
+            held = held_same m.abstract.references t (d ∷ rest) (Die x ∷ rest) (λ k o. refl) (λ k o. refl);
             later = later;
           })
       | false ↦ λ some.
           own_done p n m t a d rest here alive refl (merge_next x c w found false won some) later
-          (held_same m.plain.references t (d ∷ rest) [] (λ k o. refl) (λ k o. refl))
+          (held_same m.abstract.references t (d ∷ rest) [] (λ k o. refl) (λ k o. refl))
     ] refl
 merge_won p n m t a x c w Handed rest here alive won =
     let found = m.memory (Shared x) in
@@ -205,29 +205,29 @@ merge_won p n m t a x c w Handed rest here alive won =
     ∙ ap (λ (b : Bool). cond b (merged_word w c) found) won in
     own_next p n m t a d gives rest here alive refl refl refl
     (ap (λ (b : Bool). cond b (gives ∷ []) (MergeLoad x c Handed ∷ [])) won)
-    (held_same m.plain.references t (d ∷ rest) (gives ∷ rest) (λ k o. refl) (λ k o. refl))
+    (held_same m.abstract.references t (d ∷ rest) (gives ∷ rest) (λ k o. refl) (λ k o. refl))
     (agenda_here p n m t a d rest here alive)
     (λ b status head used. (
       (head_of p n m t a d rest here).0,
       ap phase_part wrote ∙ (shared_merged w c).1,
     ))
 
-pub own_merge_exchange : (p : Accounts) (n : ℕ) (m : Machine) (t : ℕ) (a : Actor) (x c w : ℕ) (r : Reason)
+pub thread_after_merge_exchange : (p : Accounts) (n : ℕ) (m : Machine) (t : ℕ) (a : Actor) (x c w : ℕ) (r : Reason)
     (rest : List Duty)
     → AtDuty p n m t a (MergeExchange x c w r) rest → (a.status ≡ Gone → ⊥)
-    → OwnFits p (done_by m t a (MergeExchange x c w r) rest) t
+    → ThreadFits p (done_by m t a (MergeExchange x c w r) rest) t
     (actor_by t a (MergeExchange x c w r) rest (found_by m t a (MergeExchange x c w r)))
-own_merge_exchange p n m t a x c w r rest here alive =
+thread_after_merge_exchange p n m t a x c w r rest here alive =
     let found = m.memory (Shared x) in
     let d : Duty = MergeExchange x c w r in
     let fits = head_of p n m t a d rest here in
     let again : Duty = MergeLoad x c r in
-    elim (found == w) as (λ b. (found == w) ≡ b → OwnFits p (done_by m t a d rest) t (actor_by t a d rest found)) [
+    elim (found == w) as (λ b. (found == w) ≡ b → ThreadFits p (done_by m t a d rest) t (actor_by t a d rest found)) [
       | true ↦ λ won. merge_won p n m t a x c w r rest here alive won
       | false ↦ λ lost.
           own_next p n m t a d again rest here alive refl refl refl
           (ap (λ (b : Bool). cond b (merge_result x r (merged_word w c)) (again ∷ [])) lost)
-          (held_same m.plain.references t (d ∷ rest) (again ∷ rest) (λ k o. refl) (λ k o. refl))
+          (held_same m.abstract.references t (d ∷ rest) (again ∷ rest) (λ k o. refl) (λ k o. refl))
           (agenda_here p n m t a d rest here alive)
           (λ b status head used. (
             fits.0,

@@ -7,40 +7,40 @@ use Rattle.brc_model.specs.declared.duty.Reason.TheVariants.{Handed}
 use Rattle.brc_model.specs.declared.duty.Duty.{Duty}
 use Rattle.brc_model.specs.declared.duty.Duty.TheVariants.{MergeSwap, Settle, Leave, Scan, Finish, ClaimMark}
 use Rattle.brc_model.specs.declared.address.Address.TheVariants.{Gate, Mark, ThreadWord}
-use Rattle.brc_model.specs.Duties.{block_of, claimed, head_by, ready}
+use Rattle.brc_model.specs.Duties.{block_of, claimed, new_head, ready}
 use Rattle.brc_model.specs.declared.actor.Status.TheVariants.{Leaving, Gone}
 use Rattle.brc_model.specs.Machine.{Actor, Life, Machine, status_by, dies_next, ended_row, actor_by, done_by, born_row, Unborn}
 use Rattle.brc_model.specs.References.{one_if}
 use Rattle.brc_model.specs.Accounts.{Accounts, extra_of, lacks_of}
-use Rattle.brc_model.specs.OpenWork.{Later, hand_of, dies_by, ChainFits}
-use Rattle.brc_model.specs.Invariant.{AtDuty, numbers_of, Rule}
-use Rattle.brc_model.specs.RowRule.{RowRule}
+use Rattle.brc_model.specs.OpenWork.{Later, finalised_now, dies_by, ChainFits}
+use Rattle.brc_model.specs.Invariant.{AtDuty, numbers_of, CoreInvariant}
+use Rattle.brc_model.specs.RowInvariant.{RowInvariant}
 use Rattle.brc_model.proofs.Basics.Written.{written_here}
 use Rattle.brc_model.proofs.Frame.Leaves.{head_of}
 use Rattle.brc_model.proofs.Frame.Lives.{next_of}
 use Rattle.brc_model.proofs.Stepping.Own.{HeldStep, ready_is, chain_same}
-use Rattle.brc_model.proofs.Stepping.Neutral.{OwnFits, found_by, bag_by, memory_by, agenda_here, own_neutral}
-use Rattle.brc_model.proofs.Stepping.OwnCounts.{held_same}
-use Rattle.brc_model.proofs.Stepping.OwnRetains.{ready_first}
-use Rattle.brc_model.proofs.Stepping.OwnShown.{own_shown, agenda_shown}
-use Rattle.brc_model.proofs.Stepping.OwnChains.{chain_here}
+use Rattle.brc_model.proofs.Stepping.Neutral.{ThreadFits, found_by, bag_by, memory_by, agenda_here, own_neutral}
+use Rattle.brc_model.proofs.Stepping.Counts.{held_same}
+use Rattle.brc_model.proofs.Stepping.Retains.{ready_first}
+use Rattle.brc_model.proofs.Stepping.Shown.{own_shown, agenda_shown}
+use Rattle.brc_model.proofs.Stepping.Chains.{chain_here}
 use Rattle.brc_model.proofs.Basics.Blocks.{used_block}
 use Rattle.brc_model.proofs.Stepping.Settled.{ready_none}
 
 -- ---- marked rows
 
-pub mark_above : (p : Accounts) (n : ℕ) (m : Machine) (x : ℕ) → Rule p n m → m.memory (Mark x) ≡ 1 → 0 < x
-mark_above p n m x rule marked = elim (rule.marks x) [
+pub mark_above : (p : Accounts) (n : ℕ) (m : Machine) (x : ℕ) → CoreInvariant p n m → m.memory (Mark x) ≡ 1 → 0 < x
+mark_above p n m x core marked = elim (core.marks x) [
   | inl none ↦ absurd (omega (arith, none, marked))
   | inr some ↦ some.1
 ]
 
 -- what is marked was born
-pub marked_born : (p : Accounts) (n : ℕ) (m : Machine) (x : ℕ) → Rule p n m → m.memory (Mark x) ≡ 1 → m.life x ≢ Unborn
-marked_born p n m x rule marked = λ unborn.
+pub marked_born : (p : Accounts) (n : ℕ) (m : Machine) (x : ℕ) → CoreInvariant p n m → m.memory (Mark x) ≡ 1 → m.life x ≢ Unborn
+marked_born p n m x core marked = λ unborn.
     let row =
-    subst (λ (l : Life). RowRule (block_of m.rows x) l (numbers_of m x)) unborn
-    (rule.rows x (mark_above p n m x rule marked)) in
+    subst (λ (l : Life). RowInvariant (block_of m.rows x) l (numbers_of m x)) unborn
+    (core.rows x (mark_above p n m x core marked)) in
     absurd (omega (arith, row.mark, marked))
 
 -- ---- a mark is claimed
@@ -51,27 +51,27 @@ record ClaimStep (m : Machine) (t : ℕ) (a : Actor) (d : Duty) (x : ℕ) (rest 
   none_dies : dies_next behind ≡ None
   none_ends : ended_row d ≡ None
   none_born : born_row d ≡ None
-  same_head : head_by a.head d (found_by m t a d) ≡ a.head
+  same_head : new_head a.head d (found_by m t a d) ≡ a.head
   same_status : status_by a.status d ≡ a.status
   gates : (y : ℕ) → memory_by m t a d (Gate y) ≡ m.memory (Gate y)
   word : memory_by m t a d (ThreadWord t) ≡ m.memory (ThreadWord t)
-  hands : (y : ℕ) → hand_of (d ∷ rest) y ≡ false
+  hands : (y : ℕ) → finalised_now (d ∷ rest) y ≡ false
   held : (agenda : List Duty) → ((h : Holding) (object : ℕ) → extra_of agenda h object ≡ false)
       → ((h : Holding) (object : ℕ) → lacks_of agenda h object ≡ false)
-      → HeldStep m.plain.references (bag_by m t a d) t (d ∷ rest) agenda
+      → HeldStep m.abstract.references (bag_by m t a d) t (d ∷ rest) agenda
   block : m.memory (Mark x) ≡ 1 → block_of m.rows x ≡ t
   later : Later m.rows t a.used a.status a.place (behind ++ rest)
 
 claim_step : (p : Accounts) (n : ℕ) (m : Machine) (t : ℕ) (a : Actor) (d : Duty) (x : ℕ) (rest behind : List Duty)
     → AtDuty p n m t a d rest → (a.status ≡ Gone → ⊥) → ClaimStep m t a d x rest behind
-    → OwnFits p (done_by m t a d rest) t (actor_by t a d rest (found_by m t a d))
+    → ThreadFits p (done_by m t a d rest) t (actor_by t a d rest (found_by m t a d))
 claim_step p n m t a d x rest behind here alive step =
     elim (m.memory (Mark x) == 1) as
     (λ b. (m.memory (Mark x) == 1) ≡ b
-    → OwnFits p (done_by m t a d rest) t (actor_by t a d rest (found_by m t a d))) [
+    → ThreadFits p (done_by m t a d rest) t (actor_by t a d rest (found_by m t a d))) [
       | true ↦ λ e.
           let marked : m.memory (Mark x) ≡ 1 = eqb-true (m.memory (Mark x)) 1 e in
-          let above = mark_above p n m x here.rule marked in
+          let above = mark_above p n m x here.core marked in
           own_neutral p n m t a d rest (MergeSwap x Handed ∷ behind)
           (MergeSwap x Handed ∷ (behind ++ rest)) here alive (record {
             next_is = step.next_is ∙ ap (λ (b : Bool). cond b (MergeSwap x Handed ∷ []) [] ++ behind) e;
@@ -100,17 +100,17 @@ claim_step p n m t a d x rest behind here alive step =
             agenda_is = refl;
             gates = step.gates;
             word = step.word;
-            hands = λ y. ready_so.at_hand y ∙ sym (step.hands y);
+            hands = λ y. ready_so.is_finalising y ∙ sym (step.hands y);
             held = step.held (ready a.head (behind ++ rest)) ready_so.more ready_so.less;
             fits = ready_so.fits;
             knows = λ b status head used. ready_so.knows (done_by m t a d rest) b head;
           })
     ] refl
 
-pub own_scan : (p : Accounts) (n : ℕ) (m : Machine) (t : ℕ) (a : Actor) (x k : ℕ) (rest : List Duty)
+pub thread_after_scan : (p : Accounts) (n : ℕ) (m : Machine) (t : ℕ) (a : Actor) (x k : ℕ) (rest : List Duty)
     → AtDuty p n m t a (Scan x k) rest → (a.status ≡ Gone → ⊥)
-    → OwnFits p (done_by m t a (Scan x k) rest) t (actor_by t a (Scan x k) rest (found_by m t a (Scan x k)))
-own_scan p n m t a x k rest here alive =
+    → ThreadFits p (done_by m t a (Scan x k) rest) t (actor_by t a (Scan x k) rest (found_by m t a (Scan x k)))
+thread_after_scan p n m t a x k rest here alive =
     let some = head_of p n m t a (Scan x k) rest here in
     let fits = agenda_here p n m t a (Scan x k) rest here alive in
     claim_step p n m t a (Scan x k) x rest (Settle ∷ Scan (x + 1) (k - 1) ∷ []) here alive (record {
@@ -123,16 +123,16 @@ own_scan p n m t a x k rest here alive =
       gates = λ y. refl;
       word = refl;
       hands = λ y. refl;
-      held = λ agenda more less. held_same m.plain.references t (Scan x k ∷ rest) agenda more less;
-      block = λ marked. used_block p n m t a x here.rule here.found fits.1 (omega (arith, fits.2, some));
+      held = λ agenda more less. held_same m.abstract.references t (Scan x k ∷ rest) agenda more less;
+      block = λ marked. used_block p n m t a x here.core here.found fits.1 (omega (arith, fits.2, some));
       later = (fits.0, omega (arith, fits.1), omega (arith, fits.2, some), fits.3);
     })
 
 -- a running thread looks into its queue
-pub own_claim_mark : (p : Accounts) (n : ℕ) (m : Machine) (t : ℕ) (a : Actor) (x : ℕ) (rest : List Duty)
+pub thread_after_claim_mark : (p : Accounts) (n : ℕ) (m : Machine) (t : ℕ) (a : Actor) (x : ℕ) (rest : List Duty)
     → AtDuty p n m t a (ClaimMark x) rest → (a.status ≡ Gone → ⊥)
-    → OwnFits p (done_by m t a (ClaimMark x) rest) t (actor_by t a (ClaimMark x) rest (found_by m t a (ClaimMark x)))
-own_claim_mark p n m t a x rest here alive =
+    → ThreadFits p (done_by m t a (ClaimMark x) rest) t (actor_by t a (ClaimMark x) rest (found_by m t a (ClaimMark x)))
+thread_after_claim_mark p n m t a x rest here alive =
     claim_step p n m t a (ClaimMark x) x rest (Settle ∷ []) here alive (record {
       next_is = refl;
       none_dies = refl;
@@ -143,7 +143,7 @@ own_claim_mark p n m t a x rest here alive =
       gates = λ y. refl;
       word = refl;
       hands = λ y. refl;
-      held = λ agenda more less. held_same m.plain.references t (ClaimMark x ∷ rest) agenda more less;
+      held = λ agenda more less. held_same m.abstract.references t (ClaimMark x ∷ rest) agenda more less;
       block = λ marked. head_of p n m t a (ClaimMark x) rest here;
       later = agenda_here p n m t a (ClaimMark x) rest here alive;
     })
@@ -154,23 +154,23 @@ own_claim_mark p n m t a x rest here alive =
 exit_chain : (p : Accounts) (n : ℕ) (m : Machine) (t : ℕ) (a : Actor) (d : Duty) (rest agenda : List Duty)
     → AtDuty p n m t a d rest → ((y : ℕ) → memory_by m t a d (Gate y) ≡ m.memory (Gate y))
     → ((y : ℕ) → (done_by m t a d rest).life y ≡ m.life y)
-    → ((y : ℕ) → hand_of (d ∷ rest) y ≡ false) → ((y : ℕ) → hand_of agenda y ≡ false)
+    → ((y : ℕ) → finalised_now (d ∷ rest) y ≡ false) → ((y : ℕ) → finalised_now agenda y ≡ false)
     → ChainFits (done_by m t a d rest) t a.head agenda
 exit_chain p n m t a d rest agenda here gates lives before after =
     chain_same m (done_by m t a d rest) t a.head (d ∷ rest) agenda (record {
       gates = gates;
       hands = λ y.
-          let was : one_if (hand_of (d ∷ rest) y) ≡ 0 = ap one_if (before y) in
-          let now : one_if (hand_of agenda y) ≡ 0 = ap one_if (after y) in
+          let was : one_if (finalised_now (d ∷ rest) y) ≡ 0 = ap one_if (before y) in
+          let now : one_if (finalised_now agenda y) ≡ 0 = ap one_if (after y) in
           let life : one_if (dies_by ((done_by m t a d rest).life y) t) ≡ one_if (dies_by (m.life y) t) =
           ap (λ (l : Life). one_if (dies_by l t)) (lives y) in
           omega (arith, was, now, life);
     }) (chain_here p n m t a d rest here)
 
-pub own_leave : (p : Accounts) (n : ℕ) (m : Machine) (t : ℕ) (a : Actor) (x k : ℕ) (rest : List Duty)
+pub thread_after_leave : (p : Accounts) (n : ℕ) (m : Machine) (t : ℕ) (a : Actor) (x k : ℕ) (rest : List Duty)
     → AtDuty p n m t a (Leave x k) rest → (a.status ≡ Gone → ⊥)
-    → OwnFits p (done_by m t a (Leave x k) rest) t (actor_by t a (Leave x k) rest (found_by m t a (Leave x k)))
-own_leave p n m t a x k [] here alive =
+    → ThreadFits p (done_by m t a (Leave x k) rest) t (actor_by t a (Leave x k) rest (found_by m t a (Leave x k)))
+thread_after_leave p n m t a x k [] here alive =
     let fits = agenda_here p n m t a (Leave x k) [] here alive in
     let looks : List Duty = Scan x k ∷ Finish ∷ [] in
     let ready_so =
@@ -181,31 +181,31 @@ own_leave p n m t a x k [] here alive =
       status_is = refl;
       agenda_is = refl;
       word = written_here m.memory (ThreadWord t) 2;
-      held = held_same m.plain.references t (Leave x k ∷ []) (ready a.head looks) ready_so.more ready_so.less;
+      held = held_same m.abstract.references t (Leave x k ∷ []) (ready a.head looks) ready_so.more ready_so.less;
       chain =
           exit_chain p n m t a (Leave x k) [] (ready a.head looks) here (λ y. refl) (λ y. refl) (λ y. refl)
-          ready_so.at_hand;
+          ready_so.is_finalising;
       fits = agenda_shown m t a (Leave x k) [] (ready a.head looks) Leaving (λ e. cc) refl refl ready_so.fits;
       knows = λ b status head used. ready_so.knows (done_by m t a (Leave x k) []) b head;
     })
-own_leave p n m t a x k (e ∷ rest) here alive = absurd (agenda_here p n m t a (Leave x k) (e ∷ rest) here alive)
+thread_after_leave p n m t a x k (e ∷ rest) here alive = absurd (agenda_here p n m t a (Leave x k) (e ∷ rest) here alive)
 
 -- ---- the thread is gone
 
 -- its chain is empty by `IsSettled`: a thread settles before it leaves, and after each mark
-pub own_finish : (p : Accounts) (n : ℕ) (m : Machine) (t : ℕ) (a : Actor) (rest : List Duty)
+pub thread_after_finish : (p : Accounts) (n : ℕ) (m : Machine) (t : ℕ) (a : Actor) (rest : List Duty)
     → AtDuty p n m t a Finish rest → (a.status ≡ Gone → ⊥) → (empty : a.head ≡ 0)
-    → OwnFits p (done_by m t a Finish rest) t (actor_by t a Finish rest (found_by m t a Finish))
-own_finish p n m t a [] here alive empty =
+    → ThreadFits p (done_by m t a Finish rest) t (actor_by t a Finish rest (found_by m t a Finish))
+thread_after_finish p n m t a [] here alive empty =
     let fits = agenda_here p n m t a Finish [] here alive in
     own_shown p n m t a Finish [] [] Gone a.head here (record {
       head_is = refl;
       status_is = refl;
       agenda_is = ready_none a.head;
       word = written_here m.memory (ThreadWord t) 3;
-      held = held_same m.plain.references t (Finish ∷ []) [] (λ k o. refl) (λ k o. refl);
+      held = held_same m.abstract.references t (Finish ∷ []) [] (λ k o. refl) (λ k o. refl);
       chain = exit_chain p n m t a Finish [] [] here (λ y. refl) (λ y. refl) (λ y. refl) (λ y. refl);
       fits = (ready_none a.head, fits.1, empty);
       knows = λ b status head used. tt;
     })
-own_finish p n m t a (e ∷ rest) here alive empty = absurd (agenda_here p n m t a Finish (e ∷ rest) here alive)
+thread_after_finish p n m t a (e ∷ rest) here alive empty = absurd (agenda_here p n m t a Finish (e ∷ rest) here alive)

@@ -13,17 +13,17 @@ use Rattle.brc_model.specs.declared.slot.Exit.TheVariants.{Success}
 use Rattle.brc_model.specs.Slots.{slot_of, is_owned, kind_of, put}
 use Rattle.brc_model.specs.declared.duty.Holding.{Holding}
 use Rattle.brc_model.specs.declared.duty.Holding.TheVariants.{ByVariable}
-use Rattle.brc_model.specs.Plain.{Reference, same_holding, none_row, same, without}
+use Rattle.brc_model.specs.AbstractState.{Reference, same_holding, none_row, same, without}
 use Rattle.brc_model.specs.Threads.{row_of}
-use Rattle.brc_model.specs.declared.actor.Place.TheVariants.{Inside}
+use Rattle.brc_model.specs.declared.actor.Place.TheVariants.{InCall}
 use Rattle.brc_model.specs.Machine.{dispatch_instruction, Silent, gain, pass_on}
 use Rattle.brc_model.proofs.Basics.Bag.{held_has, held-without, held-cons}
 use Rattle.brc_model.specs.References.{held, one_if, reference_of}
 use Rattle.brc_model.proofs.Basics.Lists.{first_false}
 use Rattle.brc_model.proofs.Dispatch.Holds.{of_variables, Holds, owned_has}
 use Rattle.brc_model.proofs.Dispatch.Grounded.{IsInside, owned_slot, owned_row, grounded-put, StandsAt, slot_of-put_same, slot_of-put_other}
-use Rattle.brc_model.proofs.Stepping.OwnCounts.{same_is}
-use Rattle.brc_model.proofs.Dispatch.Begins.{holds_at_none, IsTaken, taken_with_row, inside_stays, newref_held, emptied_held, Stays, GainsNone, HandsOn, QuietTaken}
+use Rattle.brc_model.proofs.Stepping.Counts.{same_is}
+use Rattle.brc_model.proofs.Dispatch.Begins.{holds_at_none, IsTaken, taken_with_row, in_call_stays, newref_held, emptied_held, Stays, GainsNone, PassesOn, SilentTaken}
 use Rattle.std.proofs.lemmas.Bool.Decides.{eqb_tells}
 
 -- what lacked one reference has it
@@ -47,7 +47,7 @@ pub none_taken : (code : List Instr) (bag : List Reference) (rows t used left at
     → IsTaken code bag rows t used (dispatch_instruction rows t used left at variables (Some (NoneObject to)))
 none_taken code bag rows t used left at variables s to here =
     let slot : Slot = Owned kinds.None in
-    let free : is_owned (slot_of s to) ≡ false = first_false _ _ here.met.free in
+    let free : is_owned (slot_of s to) ≡ false = first_false _ _ here.reported.free in
     let in_slots : to < length s.slots = omega (arith, here.variables, here.inside.slots) in
     let in_rows : to < length variables = omega (arith, here.variables, here.inside.rows) in
     let next : IsInside code (at + 1) (slice_set variables to (Some none_row)) (put s to slot) = record {
@@ -64,12 +64,12 @@ none_taken code bag rows t used left at variables s to here =
       each = gained_holds bag t to none_row _
           (newref_held bag t s variables to none_row slot in_slots in_rows free refl here.holds);
     } in
-    let taken : QuietTaken code bag t (gain t (ByVariable to) none_row)
-    (Inside left (at + 1) (slice_set variables to (Some none_row))) =
+    let taken : SilentTaken code bag t (gain t (ByVariable to) none_row)
+    (InCall left (at + 1) (slice_set variables to (Some none_row))) =
     record {
       moves_fit = GainsNone (ByVariable to);
       placed = (put s to slot, next, holds_at_none _ t _ holds);
-      stays = inside_stays left (at + 1) (slice_set variables to (Some none_row));
+      stays = in_call_stays left (at + 1) (slice_set variables to (Some none_row));
     } in
     taken
 
@@ -111,8 +111,8 @@ pub move_taken : (code : List Instr) (bag : List Reference) (rows t used left at
     → StandsAt code bag t at variables s (MoveReference to from)
     → IsTaken code bag rows t used (dispatch_instruction rows t used left at variables (Some (MoveReference to from)))
 move_taken code bag rows t used left at variables s to from here =
-    let owned = owned_slot (slot_of s from) (first_false _ _ here.met.not_empty) (first_false _ _ here.met.owned) in
-    let free : is_owned (slot_of s to) ≡ false = first_false _ _ here.met.free in
+    let owned = owned_slot (slot_of s from) (first_false _ _ here.reported.not_empty) (first_false _ _ here.reported.owned) in
+    let free : is_owned (slot_of s to) ≡ false = first_false _ _ here.reported.free in
     let row = owned_row (slot_of s from) (row_of variables from) owned (here.inside.grounded from) in
     let slot : Slot = Owned (kind_of (slot_of s from)) in
     let s1 = put s from Empty in
@@ -141,15 +141,15 @@ move_taken code bag rows t used left at variables s to from here =
           (newref_held (without r bag) t s1 v1 to row.0 slot to_slots to_rows (still_free s from to in_slots free) refl
           fewer);
     } in
-    let taken : QuietTaken code bag t (pass_on t (ByVariable from) (ByVariable to) row.0)
-    (Inside left (at + 1) (slice_set v1 to (Some row.0))) =
+    let taken : SilentTaken code bag t (pass_on t (ByVariable from) (ByVariable to) row.0)
+    (InCall left (at + 1) (slice_set v1 to (Some row.0))) =
     record {
-      moves_fit = HandsOn (ByVariable from) (ByVariable to) row.0 has;
+      moves_fit = PassesOn (ByVariable from) (ByVariable to) row.0 has;
       placed = (put s1 to slot, next, holds_at_none _ t _ holds);
-      stays = inside_stays left (at + 1) (slice_set v1 to (Some row.0));
+      stays = in_call_stays left (at + 1) (slice_set v1 to (Some row.0));
     } in
     taken_with_row code bag rows t used row.0 (row_of variables from)
-    (λ x. Silent (pass_on t (ByVariable from) (ByVariable to) x) (Inside left (at + 1) (slice_set v1 to (Some x))))
+    (λ x. Silent (pass_on t (ByVariable from) (ByVariable to) x) (InCall left (at + 1) (slice_set v1 to (Some x))))
     row.1 taken
 
 -- ---- a jump
@@ -166,10 +166,10 @@ goto_taken code bag rows t used left at variables s to here =
       rows = here.inside.rows;
       grounded = here.inside.grounded;
     } in
-    let taken : QuietTaken code bag t [] (Inside left to variables) =
+    let taken : SilentTaken code bag t [] (InCall left to variables) =
     record {
       moves_fit = Stays;
       placed = (s, next, holds_at_none bag t _ here.holds);
-      stays = inside_stays left to variables;
+      stays = in_call_stays left to variables;
     } in
     taken

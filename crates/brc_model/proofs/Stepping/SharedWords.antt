@@ -2,8 +2,8 @@
 use Rattle.std.proofs.Common.{◌≡◌, ℕ, ◌<◌, Bool, true, false, cond, List, [], ◌∷◌, refl, sym, ap, ◌∙◌, subst}
 use Rattle.std.specs.Prelude.{◌==◌}
 use Rattle.brc_model.specs.declared.duty.Holding.{Holding}
-use Rattle.brc_model.specs.declared.duty.Holding.TheVariants.{InHand}
-use Rattle.brc_model.specs.Plain.{Reference, without, moved}
+use Rattle.brc_model.specs.declared.duty.Holding.TheVariants.{InFlight}
+use Rattle.brc_model.specs.AbstractState.{Reference, without, moved}
 use Rattle.brc_word.specs.Words.{phase_part, fresh_word, dead_word, released_word}
 use Rattle.brc_model.specs.declared.duty.Reason.{Reason}
 use Rattle.brc_model.specs.declared.duty.Reason.TheVariants.{Own, Handed}
@@ -19,30 +19,30 @@ use Rattle.brc_model.proofs.Basics.Written.{written_load}
 use Rattle.brc_model.proofs.Frame.Leaves.{head_of, exchange_alive}
 use Rattle.brc_model.proofs.Frame.Lives.{leaves_others}
 use Rattle.brc_model.proofs.Stepping.Own.{HeldStep}
-use Rattle.brc_model.proofs.Stepping.Neutral.{OwnFits, found_by, bag_by, agenda_here}
-use Rattle.brc_model.proofs.Stepping.OwnCounts.{held_same}
-use Rattle.brc_model.proofs.Stepping.OwnSteps.{own_done, own_next, own_dying}
-use Rattle.brc_model.proofs.Stepping.OwnReleases.{held_let_go}
+use Rattle.brc_model.proofs.Stepping.Neutral.{ThreadFits, found_by, bag_by, agenda_here}
+use Rattle.brc_model.proofs.Stepping.Counts.{held_same}
+use Rattle.brc_model.proofs.Stepping.Steps.{own_done, own_next, own_dying}
+use Rattle.brc_model.proofs.Stepping.Releases.{held_let_go}
 use Rattle.brc_model.specs.Invariant.{AtDuty}
 
 -- ---- the shared word
 
-pub own_shared_load : (p : Accounts) (n : ℕ) (m : Machine) (t : ℕ) (a : Actor) (x : ℕ) (r : Reason) (rest : List Duty)
+pub thread_after_shared_load : (p : Accounts) (n : ℕ) (m : Machine) (t : ℕ) (a : Actor) (x : ℕ) (r : Reason) (rest : List Duty)
     → AtDuty p n m t a (SharedLoad x r) rest → (a.status ≡ Gone → ⊥)
-    → OwnFits p (done_by m t a (SharedLoad x r) rest) t
+    → ThreadFits p (done_by m t a (SharedLoad x r) rest) t
     (actor_by t a (SharedLoad x r) rest (found_by m t a (SharedLoad x r)))
-own_shared_load p n m t a x Own rest here alive =
+thread_after_shared_load p n m t a x Own rest here alive =
     let d : Duty = SharedLoad x Own in
     own_next p n m t a d (SharedExchange x Own (m.memory (Shared x))) rest here alive refl refl refl refl
-    (held_same m.plain.references t (d ∷ rest) (SharedExchange x Own (m.memory (Shared x)) ∷ rest) (λ k o. refl)
+    (held_same m.abstract.references t (d ∷ rest) (SharedExchange x Own (m.memory (Shared x)) ∷ rest) (λ k o. refl)
     (λ k o. refl))
     (agenda_here p n m t a d rest here alive)
     (λ b status head used. head_of p n m t a d rest here)
-own_shared_load p n m t a x Handed rest here alive =
+thread_after_shared_load p n m t a x Handed rest here alive =
     let d : Duty = SharedLoad x Handed in
     let fits = head_of p n m t a d rest here in
     own_next p n m t a d (SharedExchange x Handed (m.memory (Shared x))) rest here alive refl refl refl refl
-    (held_same m.plain.references t (d ∷ rest) (SharedExchange x Handed (m.memory (Shared x)) ∷ rest) (λ k o. refl)
+    (held_same m.abstract.references t (d ∷ rest) (SharedExchange x Handed (m.memory (Shared x)) ∷ rest) (λ k o. refl)
     (λ k o. refl))
     (agenda_here p n m t a d rest here alive)
     (λ b status head used. (fits.0, ap phase_part (written_load m.memory (Shared x) (Shared x)) ∙ fits.1))
@@ -61,14 +61,14 @@ exchange_won : (p : Accounts) (n : ℕ) (m : Machine) (t : ℕ) (a : Actor) (x w
     → AtDuty p n m t a (SharedExchange x r w) rest → (a.status ≡ Gone → ⊥) → 0 < x → (m.memory (Shared x) == w) ≡ true
     → ((later : List Duty) → ((k : Holding) (object : ℕ) → extra_of later k object ≡ false)
     → ((k : Holding) (object : ℕ) → lacks_of later k object ≡ false)
-    → HeldStep m.plain.references (bag_by m t a (SharedExchange x r w)) t (SharedExchange x r w ∷ rest) later)
-    → OwnFits p (done_by m t a (SharedExchange x r w) rest) t
+    → HeldStep m.abstract.references (bag_by m t a (SharedExchange x r w)) t (SharedExchange x r w ∷ rest) later)
+    → ThreadFits p (done_by m t a (SharedExchange x r w) rest) t
     (actor_by t a (SharedExchange x r w) rest (m.memory (Shared x)))
 exchange_won p n m t a x w r rest here alive pos won moves =
     let d : Duty = SharedExchange x r w in
     let later = agenda_here p n m t a d rest here alive in
     elim (w == fresh_word) as (λ b. (w == fresh_word) ≡ b
-    → OwnFits p (done_by m t a d rest) t (actor_by t a d rest (m.memory (Shared x)))) [
+    → ThreadFits p (done_by m t a d rest) t (actor_by t a d rest (m.memory (Shared x)))) [
       | true ↦ λ fresh.
           own_next p n m t a d (SetMark x) rest here alive refl refl refl
           (exchange_next x w (m.memory (Shared x)) r true (released_word w == dead_word) won fresh refl)
@@ -76,7 +76,7 @@ exchange_won p n m t a x w r rest here alive pos won moves =
       | false ↦ λ other.
           elim (released_word w == dead_word) as
           (λ b. (released_word w == dead_word) ≡ b
-          → OwnFits p (done_by m t a d rest) t (actor_by t a d rest (m.memory (Shared x)))) [
+          → ThreadFits p (done_by m t a d rest) t (actor_by t a d rest (m.memory (Shared x)))) [
             | true ↦ λ dead.
                 own_dying p n m t a d rest x here alive refl (record {
                   next_is = exchange_next x w (m.memory (Shared x)) r false true won other dead;
@@ -92,44 +92,44 @@ exchange_won p n m t a x w r rest here alive pos won moves =
           ] refl
     ] refl
 
-pub own_shared_exchange : (p : Accounts) (n : ℕ) (m : Machine) (t : ℕ) (a : Actor) (x : ℕ) (r : Reason) (w : ℕ)
+pub thread_after_shared_exchange : (p : Accounts) (n : ℕ) (m : Machine) (t : ℕ) (a : Actor) (x : ℕ) (r : Reason) (w : ℕ)
     (rest : List Duty)
     → AtDuty p n m t a (SharedExchange x r w) rest → (a.status ≡ Gone → ⊥)
-    → OwnFits p (done_by m t a (SharedExchange x r w) rest) t
+    → ThreadFits p (done_by m t a (SharedExchange x r w) rest) t
     (actor_by t a (SharedExchange x r w) rest (found_by m t a (SharedExchange x r w)))
-own_shared_exchange p n m t a x Own w rest here alive =
+thread_after_shared_exchange p n m t a x Own w rest here alive =
     let found = m.memory (Shared x) in
     let d : Duty = SharedExchange x Own w in
     let pos = head_of p n m t a d rest here in
-    elim (found == w) as (λ b. (found == w) ≡ b → OwnFits p (done_by m t a d rest) t (actor_by t a d rest found)) [
+    elim (found == w) as (λ b. (found == w) ≡ b → ThreadFits p (done_by m t a d rest) t (actor_by t a d rest found)) [
       | true ↦ λ won.
-          let bag : bag_by m t a d ≡ without (reference_of t InHand x) m.plain.references =
-          ap (λ (b : Bool). (moved m.plain (cond b (lose t x) [])).references) won in
+          let bag : bag_by m t a d ≡ without (reference_of t InFlight x) m.abstract.references =
+          ap (λ (b : Bool). (moved m.abstract (cond b (lose t x) [])).references) won in
           exchange_won p n m t a x w Own rest here alive pos won
-          (λ later more less. subst (λ (l : List Reference). HeldStep m.plain.references l t (d ∷ rest) later)
+          (λ later more less. subst (λ (l : List Reference). HeldStep m.abstract.references l t (d ∷ rest) later)
           (sym bag) (held_let_go p n m t a d rest later x here (λ k o. refl) (λ k o. refl) more less))
       | false ↦ λ lost.
-          let bag : bag_by m t a d ≡ m.plain.references =
-          ap (λ (b : Bool). (moved m.plain (cond b (lose t x) [])).references) lost in
+          let bag : bag_by m t a d ≡ m.abstract.references =
+          ap (λ (b : Bool). (moved m.abstract (cond b (lose t x) [])).references) lost in
           own_next p n m t a d (SharedLoad x Own) rest here alive refl refl refl
           (ap (λ (b : Bool). cond b (shared_result x w) (SharedLoad x Own ∷ [])) lost)
-          (subst (λ (l : List Reference). HeldStep m.plain.references l t (d ∷ rest) (SharedLoad x Own ∷ rest))
-          (sym bag) (held_same m.plain.references t (d ∷ rest) (SharedLoad x Own ∷ rest) (λ k o. refl)
+          (subst (λ (l : List Reference). HeldStep m.abstract.references l t (d ∷ rest) (SharedLoad x Own ∷ rest))
+          (sym bag) (held_same m.abstract.references t (d ∷ rest) (SharedLoad x Own ∷ rest) (λ k o. refl)
           (λ k o. refl)))
           (agenda_here p n m t a d rest here alive) (λ b status head used. pos)
     ] refl
-own_shared_exchange p n m t a x Handed w rest here alive =
+thread_after_shared_exchange p n m t a x Handed w rest here alive =
     let found = m.memory (Shared x) in
     let d : Duty = SharedExchange x Handed w in
     let fits = head_of p n m t a d rest here in
-    elim (found == w) as (λ b. (found == w) ≡ b → OwnFits p (done_by m t a d rest) t (actor_by t a d rest found)) [
+    elim (found == w) as (λ b. (found == w) ≡ b → ThreadFits p (done_by m t a d rest) t (actor_by t a d rest found)) [
       | true ↦ λ won.
           exchange_won p n m t a x w Handed rest here alive fits.0 won
-          (λ later more less. held_same m.plain.references t (d ∷ rest) later more less)
+          (λ later more less. held_same m.abstract.references t (d ∷ rest) later more less)
       | false ↦ λ lost.
           own_next p n m t a d (SharedLoad x Handed) rest here alive refl refl refl
           (ap (λ (b : Bool). cond b (shared_result x w) (SharedLoad x Handed ∷ [])) lost)
-          (held_same m.plain.references t (d ∷ rest) (SharedLoad x Handed ∷ rest) (λ k o. refl) (λ k o. refl))
+          (held_same m.abstract.references t (d ∷ rest) (SharedLoad x Handed ∷ rest) (λ k o. refl) (λ k o. refl))
           (agenda_here p n m t a d rest here alive)
           (λ b status head used. (fits.0, (leaves_others p n m t a d rest here).merged x fits.1))
     ] refl

@@ -18,12 +18,12 @@ use Rattle.brc_model.specs.Kinds.{kind_of_word, is_counted_kind}
 use Rattle.brc_model.proofs.Basics.Blocks.{next_unborn}
 use Rattle.brc_model.proofs.Frame.Leaves.{head_of}
 use Rattle.brc_model.proofs.Stepping.Own.{chain_same}
-use Rattle.brc_model.proofs.Stepping.Neutral.{OwnFits, found_by, agenda_here, agenda_out}
-use Rattle.brc_model.proofs.Stepping.OwnCounts.{held_same, held_gained}
-use Rattle.brc_model.proofs.Stepping.OwnRetains.{ready_first}
-use Rattle.brc_model.proofs.Stepping.OwnSteps.{own_keeps}
-use Rattle.brc_model.proofs.Stepping.OwnShown.{own_shown}
-use Rattle.brc_model.proofs.Stepping.OwnChains.{chain_here}
+use Rattle.brc_model.proofs.Stepping.Neutral.{ThreadFits, found_by, agenda_here, agenda_out}
+use Rattle.brc_model.proofs.Stepping.Counts.{held_same, held_gained}
+use Rattle.brc_model.proofs.Stepping.Retains.{ready_first}
+use Rattle.brc_model.proofs.Stepping.Steps.{own_keeps}
+use Rattle.brc_model.proofs.Stepping.Shown.{own_shown}
+use Rattle.brc_model.proofs.Stepping.Chains.{chain_here}
 use Rattle.brc_model.proofs.Stepping.Settled.{ready_none}
 use Rattle.brc_model.specs.Invariant.{AtDuty}
 
@@ -38,25 +38,25 @@ still_next m new t a b x rows status used next = record {
   room = omega (arith, next.room, rows, used);
 }
 
-pub own_birth_kind : (p : Accounts) (n : ℕ) (m : Machine) (t : ℕ) (a : Actor) (x : ℕ) (h : Holding) (w : ℕ)
+pub thread_after_birth_kind : (p : Accounts) (n : ℕ) (m : Machine) (t : ℕ) (a : Actor) (x : ℕ) (h : Holding) (w : ℕ)
     (rest : List Duty)
     → AtDuty p n m t a (BirthKind x h w) rest → (a.status ≡ Gone → ⊥)
-    → OwnFits p (done_by m t a (BirthKind x h w) rest) t
+    → ThreadFits p (done_by m t a (BirthKind x h w) rest) t
     (actor_by t a (BirthKind x h w) rest (found_by m t a (BirthKind x h w)))
-own_birth_kind p n m t a x h w rest here alive =
+thread_after_birth_kind p n m t a x h w rest here alive =
     let d : Duty = BirthKind x h w in
     let fits = head_of p n m t a d rest here in
     let new = done_by m t a d rest in
     let said : HasCountedKind new.memory x =
     ap (λ (v : ℕ). is_counted_kind (kind_of_word v)) (written_here m.memory (KindOf x) w) ∙ fits.2 in
-    elim (has_resource w) as (λ b. has_resource w ≡ b → OwnFits p new t (actor_by t a d rest (found_by m t a d))) [
+    elim (has_resource w) as (λ b. has_resource w ≡ b → ThreadFits p new t (actor_by t a d rest (found_by m t a d))) [
       | true ↦ λ e.
           own_keeps p n m t a d rest (BirthSlot x h ∷ []) (BirthSlot x h ∷ rest) here alive refl (record {
             next_is = ap (λ (b : Bool). cond b (BirthSlot x h ∷ []) (BirthLocal x h ∷ [])) e;
             none_dies = refl;
             agenda_is = ready_first a.head (BirthSlot x h) rest refl;
             hands = λ y. refl;
-            held = held_same m.plain.references t (d ∷ rest) (BirthSlot x h ∷ rest) (λ k o. refl) (λ k o. refl);
+            held = held_same m.abstract.references t (d ∷ rest) (BirthSlot x h ∷ rest) (λ k o. refl) (λ k o. refl);
             fits = agenda_here p n m t a d rest here alive;
             knows = λ b status head used. (still_next m new t a b x refl status used fits.0, fits.1, said);
           })
@@ -66,17 +66,17 @@ own_birth_kind p n m t a x h w rest here alive =
             none_dies = refl;
             agenda_is = ready_first a.head (BirthLocal x h) rest refl;
             hands = λ y. refl;
-            held = held_same m.plain.references t (d ∷ rest) (BirthLocal x h ∷ rest) (λ k o. refl) (λ k o. refl);
+            held = held_same m.abstract.references t (d ∷ rest) (BirthLocal x h ∷ rest) (λ k o. refl) (λ k o. refl);
             fits = agenda_here p n m t a d rest here alive;
             knows = λ b status head used. (still_next m new t a b x refl status used fits.0, fits.1, said);
           })
     ] refl
 
-pub own_birth_slot : (p : Accounts) (n : ℕ) (m : Machine) (t : ℕ) (a : Actor) (x : ℕ) (h : Holding) (rest : List Duty)
+pub thread_after_birth_slot : (p : Accounts) (n : ℕ) (m : Machine) (t : ℕ) (a : Actor) (x : ℕ) (h : Holding) (rest : List Duty)
     → AtDuty p n m t a (BirthSlot x h) rest → (a.status ≡ Gone → ⊥)
-    → OwnFits p (done_by m t a (BirthSlot x h) rest) t
+    → ThreadFits p (done_by m t a (BirthSlot x h) rest) t
     (actor_by t a (BirthSlot x h) rest (found_by m t a (BirthSlot x h)))
-own_birth_slot p n m t a x h rest here alive =
+thread_after_birth_slot p n m t a x h rest here alive =
     let d : Duty = BirthSlot x h in
     let fits = head_of p n m t a d rest here in
     let new = done_by m t a d rest in
@@ -85,7 +85,7 @@ own_birth_slot p n m t a x h rest here alive =
       none_dies = refl;
       agenda_is = ready_first a.head (BirthLocal x h) rest refl;
       hands = λ y. refl;
-      held = held_same m.plain.references t (d ∷ rest) (BirthLocal x h ∷ rest) (λ k o. refl) (λ k o. refl);
+      held = held_same m.abstract.references t (d ∷ rest) (BirthLocal x h ∷ rest) (λ k o. refl) (λ k o. refl);
       fits = agenda_here p n m t a d rest here alive;
       knows = λ b status head used. (still_next m new t a b x refl status used fits.0, fits.1, fits.2);
     })
@@ -102,11 +102,11 @@ born_dies life t x y unborn =
     ]
 
 -- the object is born, and nothing is left to do
-pub own_birth_local : (p : Accounts) (n : ℕ) (m : Machine) (t : ℕ) (a : Actor) (x : ℕ) (h : Holding) (rest : List Duty)
+pub thread_after_birth_local : (p : Accounts) (n : ℕ) (m : Machine) (t : ℕ) (a : Actor) (x : ℕ) (h : Holding) (rest : List Duty)
     → AtDuty p n m t a (BirthLocal x h) rest → (a.status ≡ Gone → ⊥)
-    → OwnFits p (done_by m t a (BirthLocal x h) rest) t
+    → ThreadFits p (done_by m t a (BirthLocal x h) rest) t
     (actor_by t a (BirthLocal x h) rest (found_by m t a (BirthLocal x h)))
-own_birth_local p n m t a x h [] here alive =
+thread_after_birth_local p n m t a x h [] here alive =
     let d : Duty = BirthLocal x h in
     let fits = head_of p n m t a d [] here in
     let later = agenda_here p n m t a d [] here alive in
@@ -116,13 +116,13 @@ own_birth_local p n m t a x h [] here alive =
       head_is = refl;
       status_is = refl;
       agenda_is = ready_none a.head;
-      word = (here.rule.each t a here.found).0.word;
-      held = held_gained m.plain.references t x h (d ∷ []) [] (λ k o. refl) (λ k o. refl) (λ k o. refl) (λ k o. refl);
+      word = (here.core.each t a here.found).0.word;
+      held = held_gained m.abstract.references t x h (d ∷ []) [] (λ k o. refl) (λ k o. refl) (λ k o. refl) (λ k o. refl);
       chain = chain_same m new t a.head (d ∷ []) [] (record {
         gates = λ y. refl;
         hands =
             λ y. let life : one_if (dies_by (new.life y) t) ≡ one_if (dies_by (m.life y) t) =
-            ap one_if (born_dies m.life t x y (next_unborn p n m t a x here.rule here.found fits.0)) in omega
+            ap one_if (born_dies m.life t x y (next_unborn p n m t a x here.core here.found fits.0)) in omega
             (arith, life);
       }) (chain_here p n m t a d [] here);
       fits =
@@ -131,5 +131,5 @@ own_birth_local p n m t a x h [] here alive =
           later);
       knows = λ b status head used. tt;
     })
-own_birth_local p n m t a x h (e ∷ rest) here alive =
+thread_after_birth_local p n m t a x h (e ∷ rest) here alive =
     absurd (let wrong : (e ∷ rest) ≡ [] = (head_of p n m t a (BirthLocal x h) (e ∷ rest) here).1 in cc)

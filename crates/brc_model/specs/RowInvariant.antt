@@ -124,8 +124,8 @@ pub record IsUnborn (n : Numbers) : Type 0 where
   pub merging : n.merging ≡ 0
   pub deciding : n.deciding ≡ 0
 
-abbrev pub RowRule : ℕ → Life → Numbers → Type 0
-RowRule owner Unborn n = IsUnborn n
-RowRule owner Live n = IsLive owner n
-RowRule owner (Dying t) n = IsDead n
-RowRule owner Closed n = IsDead n
+abbrev pub RowInvariant : ℕ → Life → Numbers → Type 0
+RowInvariant owner Unborn n = IsUnborn n
+RowInvariant owner Live n = IsLive owner n
+RowInvariant owner (Dying t) n = IsDead n
+RowInvariant owner Closed n = IsDead n

@@ -8,18 +8,18 @@ use Rattle.brc_lang.specs.declared.module.Module.{Module}
 use Rattle.brc_model.specs.Machine.{Actor, Machine}
 use Rattle.brc_model.proofs.Basics.Lists.{some_is, slice_get-set_same, slice_get-set_other}
 use Rattle.brc_model.specs.Accounts.{Account, Accounts}
-use Rattle.brc_model.specs.Invariant.{Kept}
+use Rattle.brc_model.specs.Invariant.{Invariant}
 use Rattle.brc_model.proofs.Dispatch.Coded.{InCode}
 use Rattle.brc_model.proofs.Keeping.Replaced.{with_account, with_account_same, with_account_other}
 
-pub record Whole (p : Module) (n : ℕ) (m : Machine) : Type 0 where
+pub record CodeInvariant (p : Module) (n : ℕ) (m : Machine) : Type 0 where
   pub accounts : Accounts
-  pub kept : Kept accounts n m
+  pub kept : Invariant accounts n m
   pub functions : m.functions ≡ p.functions
   pub coded : (t : ℕ) (a : Actor) → slice_get m.actors t ≡ Some a → InCode p a (accounts t)
 
 abbrev pub KeepsOn : Module → ℕ → Bool → Machine → Type 0
-KeepsOn p n bad m = (bad ≡ false) × Whole p n m
+KeepsOn p n bad m = (bad ≡ false) × CodeInvariant p n m
 
 -- all threads stand in their code where one has moved, with its new account
 pub coded_set : (p : Module) (c : Accounts) (actors : List Actor) (t : ℕ) (a after : Actor) (account : Account)

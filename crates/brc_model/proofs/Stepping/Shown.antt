@@ -2,7 +2,7 @@
 use Rattle.std.proofs.Common.{◌≡◌, ℕ, List, ◌∷◌, None, refl, sym, ap, ◌∙◌, subst}
 use Rattle.brc_model.specs.declared.duty.Duty.{Duty}
 use Rattle.brc_model.specs.declared.address.Address.TheVariants.{ThreadWord}
-use Rattle.brc_model.specs.Duties.{head_by}
+use Rattle.brc_model.specs.Duties.{new_head}
 use Rattle.brc_model.specs.declared.actor.Status.{Status}
 use Rattle.brc_model.specs.declared.actor.Status.TheVariants.{Gone}
 use Rattle.brc_model.specs.Machine.{Actor, Machine, status_by, actor_by, done_by, born_row, used_by}
@@ -10,17 +10,17 @@ use Rattle.brc_model.specs.Accounts.{Accounts, HoldsAt}
 use Rattle.brc_model.specs.Knowledge.{HeadOf, status_word}
 use Rattle.brc_model.specs.OpenWork.{Agenda, ChainFits, AgendaFits}
 use Rattle.brc_model.proofs.Stepping.Own.{HeldStep, holds_step}
-use Rattle.brc_model.proofs.Stepping.Neutral.{OwnFits, found_by, bag_by, memory_by, agenda_out, uses_same}
+use Rattle.brc_model.proofs.Stepping.Neutral.{ThreadFits, found_by, bag_by, memory_by, agenda_out, uses_same}
 use Rattle.brc_model.specs.Invariant.{AtDuty}
 
 -- what a step has to show that changes the head of the chain, a row's life or the thread's status
 pub record ShownStep (m : Machine) (t : ℕ) (a : Actor) (d : Duty) (rest agenda : List Duty) (status : Status)
     (head : ℕ) : Type 0 where
-  pub head_is : head_by a.head d (found_by m t a d) ≡ head
+  pub head_is : new_head a.head d (found_by m t a d) ≡ head
   pub status_is : status_by a.status d ≡ status
   pub agenda_is : (actor_by t a d rest (found_by m t a d)).agenda ≡ agenda
   pub word : memory_by m t a d (ThreadWord t) ≡ status_word status
-  pub held : HeldStep m.plain.references (bag_by m t a d) t (d ∷ rest) agenda
+  pub held : HeldStep m.abstract.references (bag_by m t a d) t (d ∷ rest) agenda
   pub chain : ChainFits (done_by m t a d rest) t head agenda
   pub fits : AgendaFits m.rows t (actor_by t a d rest (found_by m t a d)) status
   pub knows : (b : Actor) → b.status ≡ status → b.head ≡ head → b.used ≡ used_by a.used d
@@ -29,20 +29,20 @@ pub record ShownStep (m : Machine) (t : ℕ) (a : Actor) (d : Duty) (rest agenda
 pub own_shown : (p : Accounts) (n : ℕ) (m : Machine) (t : ℕ) (a : Actor) (d : Duty) (rest agenda : List Duty)
     (status : Status) (head : ℕ)
     → AtDuty p n m t a d rest → ShownStep m t a d rest agenda status head
-    → OwnFits p (done_by m t a d rest) t (actor_by t a d rest (found_by m t a d))
+    → ThreadFits p (done_by m t a d rest) t (actor_by t a d rest (found_by m t a d))
 own_shown p n m t a d rest agenda status head here step =
-    let old = (here.rule.each t a here.found).0 in
+    let old = (here.core.each t a here.found).0 in
     let new = done_by m t a d rest in
     let after = actor_by t a d rest (found_by m t a d) in
-    let holds : HoldsAt new.plain.references t (p t) agenda a.aside =
-    holds_step m.plain.references new.plain.references t (p t) (d ∷ rest) agenda a.aside step.held
-    (subst (λ (l : List Duty). HoldsAt m.plain.references t (p t) l a.aside) here.agenda old.holds) in
+    let holds : HoldsAt new.abstract.references t (p t) agenda a.aside =
+    holds_step m.abstract.references new.abstract.references t (p t) (d ∷ rest) agenda a.aside step.held
+    (subst (λ (l : List Duty). HoldsAt m.abstract.references t (p t) l a.aside) here.agenda old.holds) in
     record {
       actor = record {
         word = step.word ∙ ap status_word (sym step.status_is);
-        holds = subst (λ (l : List Duty). HoldsAt new.plain.references t (p t) l a.aside) (sym step.agenda_is) holds;
+        holds = subst (λ (l : List Duty). HoldsAt new.abstract.references t (p t) l a.aside) (sym step.agenda_is) holds;
         bounded = old.bounded;
-        departed = old.departed;
+        exited = old.exited;
         head_fits =
             subst (λ (l : List Duty). HeadOf new t after l) (sym step.agenda_is)
             (step.knows after step.status_is step.head_is refl);

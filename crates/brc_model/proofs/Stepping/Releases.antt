@@ -5,8 +5,8 @@ use Rattle.std.specs.Prelude.{◌==◌, ◌&&◌}
 use Rattle.std.specs.List.{list_any}
 use Rattle.std.proofs.lemmas.Bool.{eqb-true, eq-eqb, ne_eqb}
 use Rattle.brc_model.specs.declared.duty.Holding.{Holding}
-use Rattle.brc_model.specs.declared.duty.Holding.TheVariants.{ByVariable, AsCaller, InHand}
-use Rattle.brc_model.specs.Plain.{Reference, same_holding, same, without, moved}
+use Rattle.brc_model.specs.declared.duty.Holding.TheVariants.{ByVariable, AsCaller, InFlight}
+use Rattle.brc_model.specs.AbstractState.{Reference, same_holding, same, without, moved}
 use Rattle.brc_word.specs.Words.{immortal_local, owner_part, local_part, is_immortal_word, fresh_word}
 use Rattle.brc_model.specs.declared.duty.Reason.TheVariants.{Own}
 use Rattle.brc_model.specs.declared.duty.Duty.{Duty}
@@ -14,10 +14,10 @@ use Rattle.brc_model.specs.declared.duty.Duty.TheVariants.{RetainStore, RetainAd
 use Rattle.brc_model.specs.declared.address.Address.TheVariants.{Local, Shared}
 use Rattle.brc_model.specs.Duties.{counts_locally}
 use Rattle.brc_model.specs.declared.actor.Status.TheVariants.{Gone}
-use Rattle.brc_model.specs.Machine.{Actor, Machine, is_running, lose, hand_on, done_by, actor_by}
+use Rattle.brc_model.specs.Machine.{Actor, Machine, is_running, lose, put_in_flight, done_by, actor_by}
 use Rattle.brc_model.proofs.Basics.Bag.{same_holding-refl, held-cons, held-without, held_has, held-le-references_to}
 use Rattle.brc_model.specs.References.{held, one_if, reference_of}
-use Rattle.brc_model.specs.RowRule.{InOwned, InSwapped, InMerged}
+use Rattle.brc_model.specs.RowInvariant.{InOwned, InSwapped, InMerged}
 use Rattle.brc_model.specs.Accounts.{Accounts, extra_of, lacks_of}
 use Rattle.brc_model.proofs.Objects.RowSteps.{owner_down}
 use Rattle.brc_model.proofs.Frame.Aside.{extra_held}
@@ -26,33 +26,33 @@ use Rattle.brc_model.proofs.Basics.Written.{written_here}
 use Rattle.brc_model.proofs.Frame.Leaves.{head_of, decide_alive}
 use Rattle.brc_model.proofs.Frame.Lives.{next_of}
 use Rattle.brc_model.proofs.Stepping.Own.{HeldStep}
-use Rattle.brc_model.proofs.Stepping.Neutral.{OwnFits, found_by, bag_by, agenda_here}
-use Rattle.brc_model.proofs.Stepping.OwnCounts.{same_is, held_same, held_gained, held_lost}
-use Rattle.brc_model.proofs.Stepping.OwnRetains.{counts_owner, count_above, weight_here}
-use Rattle.brc_model.proofs.Stepping.OwnSteps.{own_done, own_next, own_dying}
+use Rattle.brc_model.proofs.Stepping.Neutral.{ThreadFits, found_by, bag_by, agenda_here}
+use Rattle.brc_model.proofs.Stepping.Counts.{same_is, held_same, held_gained, held_lost}
+use Rattle.brc_model.proofs.Stepping.Retains.{counts_owner, count_above, weight_here}
+use Rattle.brc_model.proofs.Stepping.Steps.{own_done, own_next, own_dying}
 use Rattle.brc_model.specs.Invariant.{AtDuty}
 
 -- ---- a reference is made
 
-pub own_retain_store : (p : Accounts) (n : ℕ) (m : Machine) (t : ℕ) (a : Actor) (x : ℕ) (h : Holding) (w : ℕ)
+pub thread_after_retain_store : (p : Accounts) (n : ℕ) (m : Machine) (t : ℕ) (a : Actor) (x : ℕ) (h : Holding) (w : ℕ)
     (rest : List Duty)
     → AtDuty p n m t a (RetainStore x h w) rest → (a.status ≡ Gone → ⊥)
-    → OwnFits p (done_by m t a (RetainStore x h w) rest) t
+    → ThreadFits p (done_by m t a (RetainStore x h w) rest) t
     (actor_by t a (RetainStore x h w) rest (found_by m t a (RetainStore x h w)))
-own_retain_store p n m t a x h w rest here alive =
+thread_after_retain_store p n m t a x h w rest here alive =
     own_done p n m t a (RetainStore x h w) rest here alive refl refl
     (agenda_here p n m t a (RetainStore x h w) rest here alive)
-    (held_gained m.plain.references t x h (RetainStore x h w ∷ rest) [] (λ k o. refl) (λ k o. refl) (λ k o. refl)
+    (held_gained m.abstract.references t x h (RetainStore x h w ∷ rest) [] (λ k o. refl) (λ k o. refl) (λ k o. refl)
     (λ k o. refl))
 
-pub own_retain_add : (p : Accounts) (n : ℕ) (m : Machine) (t : ℕ) (a : Actor) (x : ℕ) (h : Holding) (rest : List Duty)
+pub thread_after_retain_add : (p : Accounts) (n : ℕ) (m : Machine) (t : ℕ) (a : Actor) (x : ℕ) (h : Holding) (rest : List Duty)
     → AtDuty p n m t a (RetainAdd x h) rest → (a.status ≡ Gone → ⊥)
-    → OwnFits p (done_by m t a (RetainAdd x h) rest) t
+    → ThreadFits p (done_by m t a (RetainAdd x h) rest) t
     (actor_by t a (RetainAdd x h) rest (found_by m t a (RetainAdd x h)))
-own_retain_add p n m t a x h rest here alive =
+thread_after_retain_add p n m t a x h rest here alive =
     own_done p n m t a (RetainAdd x h) rest here alive refl refl
     (agenda_here p n m t a (RetainAdd x h) rest here alive)
-    (held_gained m.plain.references t x h (RetainAdd x h ∷ rest) [] (λ k o. refl) (λ k o. refl) (λ k o. refl)
+    (held_gained m.abstract.references t x h (RetainAdd x h ∷ rest) [] (λ k o. refl) (λ k o. refl) (λ k o. refl)
     (λ k o. refl))
 
 -- ---- a reference is taken to the hand
@@ -60,15 +60,15 @@ own_retain_add p n m t a x h rest here alive =
 extra_here : (p : Accounts) (n : ℕ) (m : Machine) (t : ℕ) (a : Actor) (d : Duty) (rest : List Duty) (h : Holding)
     (x : ℕ)
     → AtDuty p n m t a d rest → extra_of (d ∷ rest) h x ≡ true → lacks_of (d ∷ rest) h x ≡ false
-    → 0 < held (reference_of t h x) m.plain.references
+    → 0 < held (reference_of t h x) m.abstract.references
 extra_here p n m t a d rest h x here more less =
-    let fits = here.rule.each t a here.found in
-    extra_held m.plain.references t (p t) a.agenda a.aside h x fits.0.holds (fits.2.apart x)
+    let fits = here.core.each t a here.found in
+    extra_held m.abstract.references t (p t) a.agenda a.aside h x fits.0.holds (fits.2.apart x)
     (ap (λ (l : List Duty). extra_of l h x) here.agenda ∙ more)
     (ap (λ (l : List Duty). lacks_of l h x) here.agenda ∙ less)
 
 pub release_held : (p : Accounts) (n : ℕ) (m : Machine) (t : ℕ) (a : Actor) (x : ℕ) (h : Holding) (rest : List Duty)
-    → AtDuty p n m t a (ReleaseLoad x h) rest → 0 < held (reference_of t h x) m.plain.references
+    → AtDuty p n m t a (ReleaseLoad x h) rest → 0 < held (reference_of t h x) m.abstract.references
 release_held p n m t a x h rest here =
     extra_here p n m t a (ReleaseLoad x h) rest h x here
     (ap (λ (b : Bool). b && (x == x)) (same_holding-refl h) ∙ eq-eqb x x refl) refl
@@ -76,11 +76,11 @@ release_held p n m t a x h rest here =
 pub release_alive : (p : Accounts) (n : ℕ) (m : Machine) (t : ℕ) (a : Actor) (x : ℕ) (h : Holding) (rest : List Duty)
     → 0 < x → AtDuty p n m t a (ReleaseLoad x h) rest → Alive m x
 release_alive p n m t a x h rest pos here =
-    alive_referenced p n m x here.rule pos
+    alive_referenced p n m x here.core pos
     (omega (
       arith,
       release_held p n m t a x h rest here,
-      held-le-references_to (reference_of t h x) m.plain.references,
+      held-le-references_to (reference_of t h x) m.abstract.references,
     ))
 
 alive_mortal : (m : Machine) (x : ℕ) → Alive m x → is_immortal_word (m.memory (Local x)) ≡ false
@@ -94,20 +94,20 @@ alive_mortal m x alive =
 -- the holder's reference becomes the hand's
 held_taken : (bag : List Reference) (t x : ℕ) (h : Holding) (rest later : List Duty)
     → list_any (same (reference_of t h x)) bag ≡ true
-    → ((k : Holding) (object : ℕ) → extra_of later k object ≡ (same_holding InHand k && (x == object)))
+    → ((k : Holding) (object : ℕ) → extra_of later k object ≡ (same_holding InFlight k && (x == object)))
     → ((k : Holding) (object : ℕ) → lacks_of later k object ≡ false)
-    → HeldStep bag (reference_of t InHand x ∷ without (reference_of t h x) bag) t (ReleaseLoad x h ∷ rest) later
+    → HeldStep bag (reference_of t InFlight x ∷ without (reference_of t h x) bag) t (ReleaseLoad x h ∷ rest) later
 held_taken bag t x h rest later has more less = record {
   each = λ k object.
       let r = reference_of t k object in
       let lost : one_if (same r (reference_of t h x)) ≡ one_if (extra_of (ReleaseLoad x h ∷ rest) k object) =
       ap one_if (same_is t x h k object) in
-      let gained : one_if (same r (reference_of t InHand x)) ≡ one_if (extra_of later k object) =
-      ap one_if (same_is t x InHand k object ∙ sym (more k object)) in
+      let gained : one_if (same r (reference_of t InFlight x)) ≡ one_if (extra_of later k object) =
+      ap one_if (same_is t x InFlight k object ∙ sym (more k object)) in
       let c : one_if (lacks_of later k object) ≡ 0 = ap one_if (less k object) in
       omega (
         arith,
-        held-cons r (reference_of t InHand x) (without (reference_of t h x) bag),
+        held-cons r (reference_of t InFlight x) (without (reference_of t h x) bag),
         held-without r (reference_of t h x) bag has,
         lost,
         gained,
@@ -115,50 +115,50 @@ held_taken bag t x h rest later has more less = record {
       );
 }
 
-held_handed_on : (m : Machine) (t x : ℕ) (h : Holding) (rest later : List Duty)
-    → list_any (same (reference_of t h x)) m.plain.references ≡ true
-    → ((k : Holding) (object : ℕ) → extra_of later k object ≡ (same_holding InHand k && (x == object)))
+held_passed_on : (m : Machine) (t x : ℕ) (h : Holding) (rest later : List Duty)
+    → list_any (same (reference_of t h x)) m.abstract.references ≡ true
+    → ((k : Holding) (object : ℕ) → extra_of later k object ≡ (same_holding InFlight k && (x == object)))
     → ((k : Holding) (object : ℕ) → lacks_of later k object ≡ false)
-    → HeldStep m.plain.references (moved m.plain (hand_on t h x ++ [])).references t (ReleaseLoad x h ∷ rest) later
-held_handed_on m t x (ByVariable v) rest later has more less =
-    held_taken m.plain.references t x (ByVariable v) rest later has more less
-held_handed_on m t x AsCaller rest later has more less =
-    held_taken m.plain.references t x AsCaller rest later has more less
-held_handed_on m t x InHand rest later has more less =
-    held_same m.plain.references t (ReleaseLoad x InHand ∷ rest) later more less
+    → HeldStep m.abstract.references (moved m.abstract (put_in_flight t h x ++ [])).references t (ReleaseLoad x h ∷ rest) later
+held_passed_on m t x (ByVariable v) rest later has more less =
+    held_taken m.abstract.references t x (ByVariable v) rest later has more less
+held_passed_on m t x AsCaller rest later has more less =
+    held_taken m.abstract.references t x AsCaller rest later has more less
+held_passed_on m t x InFlight rest later has more less =
+    held_same m.abstract.references t (ReleaseLoad x InFlight ∷ rest) later more less
 
 -- of a counted object
-pub own_release_counted : (p : Accounts) (n : ℕ) (m : Machine) (t : ℕ) (a : Actor) (x : ℕ) (h : Holding)
+pub thread_after_release_counted : (p : Accounts) (n : ℕ) (m : Machine) (t : ℕ) (a : Actor) (x : ℕ) (h : Holding)
     (rest : List Duty)
     → 0 < x → AtDuty p n m t a (ReleaseLoad x h) rest → (a.status ≡ Gone → ⊥)
-    → OwnFits p (done_by m t a (ReleaseLoad x h) rest) t
+    → ThreadFits p (done_by m t a (ReleaseLoad x h) rest) t
     (actor_by t a (ReleaseLoad x h) rest (found_by m t a (ReleaseLoad x h)))
-own_release_counted p n m t a x h rest pos here alive =
+thread_after_release_counted p n m t a x h rest pos here alive =
     let word = m.memory (Local x) in
     let d : Duty = ReleaseLoad x h in
     let living = release_alive p n m t a x h rest pos here in
     let mortal = alive_mortal m x living in
-    let has = held_has (reference_of t h x) m.plain.references (release_held p n m t a x h rest here) in
-    let bag : bag_by m t a d ≡ (moved m.plain (hand_on t h x ++ [])).references =
-    ap (λ (b : Bool). (moved m.plain (hand_on t h x ++ cond b (lose t x) [])).references) mortal in
+    let has = held_has (reference_of t h x) m.abstract.references (release_held p n m t a x h rest here) in
+    let bag : bag_by m t a d ≡ (moved m.abstract (put_in_flight t h x ++ [])).references =
+    ap (λ (b : Bool). (moved m.abstract (put_in_flight t h x ++ cond b (lose t x) [])).references) mortal in
     let first : next_of m t a d ≡ cond (counts_locally t (is_running a.status) word) (ReleaseStore x word ∷ [])
     (SharedLoad x Own ∷ []) =
     ap (λ (b : Bool). cond b [] (cond (counts_locally t (is_running a.status) word) (ReleaseStore x word ∷ [])
     (SharedLoad x Own ∷ []))) mortal in
     let keeps : (e : Duty)
-    → ((k : Holding) (object : ℕ) → extra_of (e ∷ rest) k object ≡ (same_holding InHand k && (x == object)))
+    → ((k : Holding) (object : ℕ) → extra_of (e ∷ rest) k object ≡ (same_holding InFlight k && (x == object)))
     → ((k : Holding) (object : ℕ) → lacks_of (e ∷ rest) k object ≡ false)
-    → HeldStep m.plain.references (bag_by m t a d) t (d ∷ rest) (e ∷ rest) =
-    λ e more less. subst (λ (l : List Reference). HeldStep m.plain.references l t (d ∷ rest) (e ∷ rest)) (sym bag)
-    (held_handed_on m t x h rest (e ∷ rest) has more less) in
+    → HeldStep m.abstract.references (bag_by m t a d) t (d ∷ rest) (e ∷ rest) =
+    λ e more less. subst (λ (l : List Reference). HeldStep m.abstract.references l t (d ∷ rest) (e ∷ rest)) (sym bag)
+    (held_passed_on m t x h rest (e ∷ rest) has more less) in
     let later = agenda_here p n m t a d rest here alive in
     elim (counts_locally t (is_running a.status) word) as
     (λ b. counts_locally t (is_running a.status) word ≡ b
-    → OwnFits p (done_by m t a d rest) t (actor_by t a d rest word)) [
+    → ThreadFits p (done_by m t a d rest) t (actor_by t a d rest word)) [
       | true ↦ λ e.
           let owns = counts_owner m t a x e living in
           let some =
-          count_above p n m t x a here.rule here.found owns (weight_here p n m t x a d rest here
+          count_above p n m t x a here.core here.found owns (weight_here p n m t x a d rest here
           (eq-eqb x x refl) refl) living
           in
           let same_word : (done_by m t a d rest).memory (Local x) ≡ word = written_here m.memory (Local x) word in
@@ -187,30 +187,30 @@ own_release_counted p n m t a x h rest pos here alive =
 -- its duty has the hand's reference more, and what comes next has nothing
 pub held_let_go : (p : Accounts) (n : ℕ) (m : Machine) (t : ℕ) (a : Actor) (d : Duty) (rest later : List Duty) (x : ℕ)
     → AtDuty p n m t a d rest
-    → ((k : Holding) (object : ℕ) → extra_of (d ∷ rest) k object ≡ (same_holding InHand k && (x == object)))
+    → ((k : Holding) (object : ℕ) → extra_of (d ∷ rest) k object ≡ (same_holding InFlight k && (x == object)))
     → ((k : Holding) (object : ℕ) → lacks_of (d ∷ rest) k object ≡ false)
     → ((k : Holding) (object : ℕ) → extra_of later k object ≡ false)
     → ((k : Holding) (object : ℕ) → lacks_of later k object ≡ false)
-    → HeldStep m.plain.references (without (reference_of t InHand x) m.plain.references) t (d ∷ rest) later
+    → HeldStep m.abstract.references (without (reference_of t InFlight x) m.abstract.references) t (d ∷ rest) later
 held_let_go p n m t a d rest later x here extra none more less =
-    let some = extra_here p n m t a d rest InHand x here (extra InHand x ∙ eq-eqb x x refl) (none InHand x) in
-    held_lost m.plain.references t x InHand (d ∷ rest) later
-    (held_has (reference_of t InHand x) m.plain.references some) extra none more less
+    let some = extra_here p n m t a d rest InFlight x here (extra InFlight x ∙ eq-eqb x x refl) (none InFlight x) in
+    held_lost m.abstract.references t x InFlight (d ∷ rest) later
+    (held_has (reference_of t InFlight x) m.abstract.references some) extra none more less
 
-pub own_release_store : (p : Accounts) (n : ℕ) (m : Machine) (t : ℕ) (a : Actor) (x w : ℕ) (rest : List Duty)
+pub thread_after_release_store : (p : Accounts) (n : ℕ) (m : Machine) (t : ℕ) (a : Actor) (x w : ℕ) (rest : List Duty)
     → AtDuty p n m t a (ReleaseStore x w) rest → (a.status ≡ Gone → ⊥)
-    → OwnFits p (done_by m t a (ReleaseStore x w) rest) t
+    → ThreadFits p (done_by m t a (ReleaseStore x w) rest) t
     (actor_by t a (ReleaseStore x w) rest (found_by m t a (ReleaseStore x w)))
-own_release_store p n m t a x w rest here alive =
+thread_after_release_store p n m t a x w rest here alive =
     let d : Duty = ReleaseStore x w in
     let fits = head_of p n m t a d rest here in
     let lost : (later : List Duty) → ((k : Holding) (object : ℕ) → extra_of later k object ≡ false)
     → ((k : Holding) (object : ℕ) → lacks_of later k object ≡ false)
-    → HeldStep m.plain.references (bag_by m t a d) t (d ∷ rest) later =
+    → HeldStep m.abstract.references (bag_by m t a d) t (d ∷ rest) later =
     λ later more less. held_let_go p n m t a d rest later x here (λ k o. refl) (λ k o. refl) more less in
     let later = agenda_here p n m t a d rest here alive in
     elim (local_part w == 1) as (λ b. (local_part w == 1) ≡ b
-    → OwnFits p (done_by m t a d rest) t (actor_by t a d rest (m.memory (Local x)))) [
+    → ThreadFits p (done_by m t a d rest) t (actor_by t a d rest (m.memory (Local x)))) [
       | true ↦ λ e.
           let one : local_part w ≡ 1 = eqb-true _ _ e in
           let down = owner_down w fits.3 in
@@ -237,29 +237,29 @@ own_release_store p n m t a x w rest here alive =
 
 -- ---- the owner decides
 
-pub own_decide_at_zero : (p : Accounts) (n : ℕ) (m : Machine) (t : ℕ) (a : Actor) (x : ℕ) (rest : List Duty)
+pub thread_after_decide_at_zero : (p : Accounts) (n : ℕ) (m : Machine) (t : ℕ) (a : Actor) (x : ℕ) (rest : List Duty)
     → AtDuty p n m t a (DecideAtZero x) rest → (a.status ≡ Gone → ⊥)
-    → OwnFits p (done_by m t a (DecideAtZero x) rest) t
+    → ThreadFits p (done_by m t a (DecideAtZero x) rest) t
     (actor_by t a (DecideAtZero x) rest (found_by m t a (DecideAtZero x)))
-own_decide_at_zero p n m t a x rest here alive =
+thread_after_decide_at_zero p n m t a x rest here alive =
     let word = m.memory (Shared x) in
     let d : Duty = DecideAtZero x in
     let fits = head_of p n m t a d rest here in
     let later = agenda_here p n m t a d rest here alive in
     elim (word == fresh_word) as (λ b. (word == fresh_word) ≡ b
-    → OwnFits p (done_by m t a d rest) t (actor_by t a d rest word)) [
+    → ThreadFits p (done_by m t a d rest) t (actor_by t a d rest word)) [
       | true ↦ λ e.
           own_dying p n m t a d rest x here alive refl (record {
             next_is = ap (λ (b : Bool). cond b (Die x ∷ []) (MergeSwap x Own ∷ [])) e;
             counted = fits.0;
             lived = (decide_alive p n m t a x rest here).life;
-            held = held_same m.plain.references t (d ∷ rest) (Die x ∷ rest) (λ k o. refl) (λ k o. refl);
+            held = held_same m.abstract.references t (d ∷ rest) (Die x ∷ rest) (λ k o. refl) (λ k o. refl);
             later = later;
           })
       | false ↦ λ e.
           own_next p n m t a d (MergeSwap x Own) rest here alive refl refl refl
           (ap (λ (b : Bool). cond b (Die x ∷ []) (MergeSwap x Own ∷ [])) e)
-          (held_same m.plain.references t (d ∷ rest) (MergeSwap x Own ∷ rest) (λ k o. refl) (λ k o. refl)) later
+          (held_same m.abstract.references t (d ∷ rest) (MergeSwap x Own ∷ rest) (λ k o. refl) (λ k o. refl)) later
           (λ b status head used. (
             fits.0,
             record { running = status ∙ fits.1.running; owner = fits.1.owner; low = fits.1.low },

@@ -7,20 +7,20 @@ use Rattle.std.proofs.lemmas.Bool.Decides.{eqb_tells}
 use Rattle.brc_model.specs.declared.duty.Duty.{Duty}
 use Rattle.brc_model.specs.declared.duty.Duty.TheVariants.{Look, Die, Settle, SettleKind, SettleCell, SettleEnd, Leave, Finish, TakeSlot, CloseResource, BirthLocal}
 use Rattle.brc_model.specs.declared.address.Address.TheVariants.{Gate, ThreadWord}
-use Rattle.brc_model.specs.Duties.{head_by, ready, block_of}
+use Rattle.brc_model.specs.Duties.{new_head, ready, block_of}
 use Rattle.brc_model.specs.declared.actor.Status.{Status}
 use Rattle.brc_model.specs.declared.actor.Status.TheVariants.{Gone}
 use Rattle.brc_model.specs.Machine.{Actor, Life, Live, Dying, Closed, Machine, status_by, dies_next, ended_row, with_life, life_by, actor_by, done_by, born_row}
 use Rattle.brc_model.specs.References.{one_if}
 use Rattle.brc_model.specs.Accounts.{Accounts, extra_of, lacks_of, HoldsAt}
 use Rattle.brc_model.specs.Knowledge.{HeadFits, HeadOf, status_word}
-use Rattle.brc_model.specs.OpenWork.{Later, Agenda, hand_of, dies_by, GateFits, ChainFits}
+use Rattle.brc_model.specs.OpenWork.{Later, Agenda, finalised_now, dies_by, GateFits, ChainFits}
 use Rattle.brc_word.specs.Words.{free_word}
 use Rattle.brc_model.proofs.Basics.Written.{written_load}
 use Rattle.brc_model.proofs.Frame.Lives.{next_of}
 use Rattle.brc_model.proofs.Stepping.Own.{HeldStep, holds_step, ready_is, ChainSame, chain_same}
-use Rattle.brc_model.proofs.Stepping.Neutral.{OwnFits, found_by, bag_by, memory_by, agenda_out, own_neutral, uses_same}
-use Rattle.brc_model.proofs.Stepping.OwnRetains.{is_passed, ready_first}
+use Rattle.brc_model.proofs.Stepping.Neutral.{ThreadFits, found_by, bag_by, memory_by, agenda_out, own_neutral, uses_same}
+use Rattle.brc_model.proofs.Stepping.Retains.{is_passed, ready_first}
 use Rattle.brc_model.specs.Invariant.{AtDuty}
 
 -- ---- duties that keep lives
@@ -46,7 +46,7 @@ keeping_born : (d : Duty) → keeps_lives d ≡ true → born_row d ≡ None
 keeping_born (BirthLocal x h) kept = absurd cc
 keeping_born _ kept = refl
 
-keeping_head : (head found : ℕ) (d : Duty) → keeps_lives d ≡ true → head_by head d found ≡ head
+keeping_head : (head found : ℕ) (d : Duty) → keeps_lives d ≡ true → new_head head d found ≡ head
 keeping_head head found (Die x) kept = absurd cc
 keeping_head head found Settle kept = absurd cc
 keeping_head head found _ kept = refl
@@ -70,7 +70,7 @@ keeping_word m t a (Leave y n) kept = absurd cc
 keeping_word m t a Finish kept = absurd cc
 keeping_word m t a _ kept = refl
 
-keeping_hand : (d : Duty) (rest : List Duty) (x : ℕ) → keeps_lives d ≡ true → hand_of (d ∷ rest) x ≡ false
+keeping_hand : (d : Duty) (rest : List Duty) (x : ℕ) → keeps_lives d ≡ true → finalised_now (d ∷ rest) x ≡ false
 keeping_hand (Die y) rest x kept = absurd cc
 keeping_hand (SettleKind y) rest x kept = absurd cc
 keeping_hand (SettleCell y i n) rest x kept = absurd cc
@@ -90,15 +90,15 @@ pub record KeepingStep (m : Machine) (t : ℕ) (a : Actor) (d : Duty) (rest next
   pub next_is : next_of m t a d ≡ next
   pub none_dies : dies_next next ≡ None
   pub agenda_is : ready a.head (next ++ rest) ≡ agenda
-  pub hands : (x : ℕ) → hand_of agenda x ≡ false
-  pub held : HeldStep m.plain.references (bag_by m t a d) t (d ∷ rest) agenda
+  pub hands : (x : ℕ) → finalised_now agenda x ≡ false
+  pub held : HeldStep m.abstract.references (bag_by m t a d) t (d ∷ rest) agenda
   pub fits : Agenda m.rows t a.used a.status a.place agenda
   pub knows : (b : Actor) → b.status ≡ a.status → b.head ≡ a.head → b.used ≡ a.used
       → HeadOf (done_by m t a d rest) t b agenda
 
 pub own_keeps : (p : Accounts) (n : ℕ) (m : Machine) (t : ℕ) (a : Actor) (d : Duty) (rest next agenda : List Duty)
     → AtDuty p n m t a d rest → (a.status ≡ Gone → ⊥) → keeps_lives d ≡ true → KeepingStep m t a d rest next agenda
-    → OwnFits p (done_by m t a d rest) t (actor_by t a d rest (found_by m t a d))
+    → ThreadFits p (done_by m t a d rest) t (actor_by t a d rest (found_by m t a d))
 own_keeps p n m t a d rest next agenda here alive kept step =
     own_neutral p n m t a d rest next agenda here alive (record {
       next_is = step.next_is;
@@ -120,15 +120,15 @@ own_keeps p n m t a d rest next agenda here alive kept step =
 pub own_done : (p : Accounts) (n : ℕ) (m : Machine) (t : ℕ) (a : Actor) (d : Duty) (rest : List Duty)
     → AtDuty p n m t a d rest → (a.status ≡ Gone → ⊥) → keeps_lives d ≡ true → next_of m t a d ≡ []
     → Later m.rows t a.used a.status a.place rest
-    → HeldStep m.plain.references (bag_by m t a d) t (d ∷ rest) []
-    → OwnFits p (done_by m t a d rest) t (actor_by t a d rest (found_by m t a d))
+    → HeldStep m.abstract.references (bag_by m t a d) t (d ∷ rest) []
+    → ThreadFits p (done_by m t a d rest) t (actor_by t a d rest (found_by m t a d))
 own_done p n m t a d rest here alive kept next later moves =
     let then = ready_is m.rows t a.used a.status a.place a.head rest later in
     own_keeps p n m t a d rest [] (ready a.head rest) here alive kept (record {
       next_is = next;
       none_dies = refl;
       agenda_is = refl;
-      hands = then.at_hand;
+      hands = then.is_finalising;
       held = record {
         each = λ k object.
             let more : one_if (extra_of (ready a.head rest) k object) ≡ 0 = ap one_if (then.more k object) in
@@ -143,11 +143,11 @@ own_done p n m t a d rest here alive kept next later moves =
 pub own_next : (p : Accounts) (n : ℕ) (m : Machine) (t : ℕ) (a : Actor) (d e : Duty) (rest : List Duty)
     → AtDuty p n m t a d rest → (a.status ≡ Gone → ⊥) → keeps_lives d ≡ true → keeps_lives e ≡ true
     → is_passed e ≡ false
-    → next_of m t a d ≡ e ∷ [] → HeldStep m.plain.references (bag_by m t a d) t (d ∷ rest) (e ∷ rest)
+    → next_of m t a d ≡ e ∷ [] → HeldStep m.abstract.references (bag_by m t a d) t (d ∷ rest) (e ∷ rest)
     → Agenda m.rows t a.used a.status a.place (e ∷ rest)
     → ((b : Actor) → b.status ≡ a.status → b.head ≡ a.head → b.used ≡ a.used
     → HeadFits (done_by m t a d rest) t b e rest)
-    → OwnFits p (done_by m t a d rest) t (actor_by t a d rest (found_by m t a d))
+    → ThreadFits p (done_by m t a d rest) t (actor_by t a d rest (found_by m t a d))
 own_next p n m t a d e rest here alive kept other stays next moves fits knows =
     own_keeps p n m t a d rest (e ∷ []) (e ∷ rest) here alive kept (record {
       next_is = next;
@@ -166,7 +166,7 @@ pub record DyingStep (m : Machine) (t : ℕ) (a : Actor) (d : Duty) (rest : List
   pub next_is : next_of m t a d ≡ Die x ∷ []
   pub counted : 0 < x
   pub lived : m.life x ≡ Live
-  pub held : HeldStep m.plain.references (bag_by m t a d) t (d ∷ rest) (Die x ∷ rest)
+  pub held : HeldStep m.abstract.references (bag_by m t a d) t (d ∷ rest) (Die x ∷ rest)
   pub later : Later m.rows t a.used a.status a.place rest
 
 dying_life : (m : Machine) (t : ℕ) (a : Actor) (d : Duty) (x y : ℕ) → next_of m t a d ≡ Die x ∷ [] → ended_row d ≡ None
@@ -198,26 +198,26 @@ dying_hands life t x y lived =
 
 pub own_dying : (p : Accounts) (n : ℕ) (m : Machine) (t : ℕ) (a : Actor) (d : Duty) (rest : List Duty) (x : ℕ)
     → AtDuty p n m t a d rest → (a.status ≡ Gone → ⊥) → keeps_lives d ≡ true → DyingStep m t a d rest x
-    → OwnFits p (done_by m t a d rest) t (actor_by t a d rest (found_by m t a d))
+    → ThreadFits p (done_by m t a d rest) t (actor_by t a d rest (found_by m t a d))
 own_dying p n m t a d rest x here alive kept step =
-    let old = (here.rule.each t a here.found).0 in
+    let old = (here.core.each t a here.found).0 in
     let new = done_by m t a d rest in
     let after = actor_by t a d rest (found_by m t a d) in
     let agenda : List Duty = Die x ∷ rest in
-    let same_head : head_by a.head d (found_by m t a d) ≡ a.head = keeping_head a.head (found_by m t a d) d kept in
+    let same_head : new_head a.head d (found_by m t a d) ≡ a.head = keeping_head a.head (found_by m t a d) d kept in
     let same_status : status_by a.status d ≡ a.status = keeping_status a.status d kept in
     let whole : after.agenda ≡ agenda =
     ap (λ (h : ℕ). ready h (next_of m t a d ++ rest)) same_head
     ∙ ap (λ (l : List Duty). ready a.head (l ++ rest)) step.next_is ∙ ready_first a.head (Die x) rest refl in
     let life = λ (y : ℕ). dying_life m t a d x y step.next_is (keeping_ends d kept) (keeping_born d kept) in
-    let holds : HoldsAt new.plain.references t (p t) agenda a.aside =
-    holds_step m.plain.references new.plain.references t (p t) (d ∷ rest) agenda a.aside step.held
-    (subst (λ (l : List Duty). HoldsAt m.plain.references t (p t) l a.aside) here.agenda old.holds) in
+    let holds : HoldsAt new.abstract.references t (p t) agenda a.aside =
+    holds_step m.abstract.references new.abstract.references t (p t) (d ∷ rest) agenda a.aside step.held
+    (subst (λ (l : List Duty). HoldsAt m.abstract.references t (p t) l a.aside) here.agenda old.holds) in
     let same : ChainSame m new t a.agenda agenda = record {
       gates = λ y. keeping_gates m t a d y kept;
       hands = λ y.
-          let before : one_if (hand_of a.agenda y) ≡ 0 =
-          ap one_if (ap (λ (l : List Duty). hand_of l y) here.agenda ∙ keeping_hand d rest y kept) in
+          let before : one_if (finalised_now a.agenda y) ≡ 0 =
+          ap one_if (ap (λ (l : List Duty). finalised_now l y) here.agenda ∙ keeping_hand d rest y kept) in
           let now : one_if (dies_by (new.life y) t) ≡ one_if (dies_by (cond (x == y) (Dying t) (m.life y)) t) =
           ap (λ (l : Life). one_if (dies_by l t)) (life y) in
           omega (arith, before, now, dying_hands m.life t x y step.lived);
@@ -225,14 +225,14 @@ own_dying p n m t a d rest x here alive kept step =
     let chain : ChainFits new t a.head agenda = chain_same m new t a.head a.agenda agenda same old.chain in
     let gate : new.memory (Gate x) ≡ free_word =
     keeping_gates m t a d x kept
-    ∙ subst (λ (l : Life). GateFits l (m.memory (Gate x))) step.lived (here.rule.gates x) in
+    ∙ subst (λ (l : Life). GateFits l (m.memory (Gate x))) step.lived (here.core.gates x) in
     let dies : new.life x ≡ Dying t = life x ∙ ap (λ (b : Bool). cond b (Dying t) (m.life x)) (eq-eqb x x refl) in
     record {
       actor = record {
         word = keeping_word m t a d kept ∙ old.word ∙ ap status_word (sym same_status);
-        holds = subst (λ (l : List Duty). HoldsAt new.plain.references t (p t) l a.aside) (sym whole) holds;
+        holds = subst (λ (l : List Duty). HoldsAt new.abstract.references t (p t) l a.aside) (sym whole) holds;
         bounded = old.bounded;
-        departed = old.departed;
+        exited = old.exited;
         head_fits = subst (λ (l : List Duty). HeadOf new t after l) (sym whole) (step.counted, dies, gate);
         chain =
             subst (λ (l : List Duty). ChainFits new t after.head l) (sym whole)

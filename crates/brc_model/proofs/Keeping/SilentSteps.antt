@@ -1,0 +1,233 @@
+-- A thread at rest stands elsewhere, and some of its references move: the moves are allowed, and the rule holds
+-- afterwards.
+use Rattle.std.proofs.Common.{◌≡◌, ◌≢◌, ℕ, ◌<◌, Bool, true, false, List, [], inl, inr, refl, sym, ap, ◌∙◌, subst, arith, ◌≤◌}
+use Rattle.std.specs.Prelude.{count_by, ◌==◌, ◌&&◌, slice_get, slice_set, AllPairs}
+use Rattle.std.proofs.lemmas.Bool.{ne_eqb, false≢true}
+use Rattle.std.proofs.lemmas.Bool.Decides.{eqb_tells}
+use Rattle.std.proofs.lemmas.List.{length-set}
+use Rattle.std.proofs.lemmas.Option.{slice_get_within}
+use Rattle.brc_model.specs.AbstractState.{none_row, Holder, ByThread, Reference, AbstractState, same, without, references_to, Move, are_allowed, moved, is_among}
+use Rattle.brc_model.specs.declared.duty.Duty.{Duty}
+use Rattle.brc_model.specs.Duties.{block_of}
+use Rattle.brc_model.specs.declared.actor.Status.{Status}
+use Rattle.brc_model.specs.declared.actor.Place.{Place}
+use Rattle.brc_model.specs.declared.actor.Place.TheVariants.{Exiting}
+use Rattle.brc_model.specs.Machine.{Actor, Machine, with_actor, with_moves}
+use Rattle.brc_model.proofs.Basics.Lists.{some_is, written_actor, slice_get-set_other}
+use Rattle.brc_model.proofs.Basics.Bag.{references_to-cons, references_to-without, other_thread}
+use Rattle.brc_model.specs.References.{one_if, cell_reference, reference_of}
+use Rattle.brc_model.specs.RowInvariant.{waits, carries, merges, decides, weight, Numbers, RowInvariant}
+use Rattle.brc_model.specs.Accounts.{Account, Accounts, HoldsAt, IsBounded}
+use Rattle.brc_model.specs.Invariant.{Fits, numbers_of, UsesFit, looks, IsWatched, ByRunning, ByExit, ByLook, CoreInvariant, BlankFits}
+use Rattle.brc_model.specs.OpenWork.{scans, AgendaFits, ChainFits}
+use Rattle.brc_model.proofs.Basics.MovesApart.{AreAside, IsNoWayOf, moved_aside}
+use Rattle.brc_model.proofs.Frame.Aside.{HoldsAlone, holds_alone, alone_fits}
+use Rattle.brc_lang.specs.declared.kind.Kind.{Kind}
+use Rattle.brc_model.specs.Kinds.{kind_number}
+use Rattle.brc_model.proofs.Frame.Others.{LeavesOthers, each_fits}
+use Rattle.brc_model.proofs.Dispatch.Begins.{SilentMoves, Stays, GainsNone, PassesOn, bag_after}
+use Rattle.brc_model.proofs.Keeping.Sits.{sitting, AtRest, rest_blanks, same_weight}
+use Rattle.brc_model.proofs.Keeping.Replaced.{with_account, with_account_same, with_account_other}
+
+-- ---- the moves
+
+pub silent_bag : (p : AbstractState) (t : ℕ) (moves : List Move) → SilentMoves p.references t moves
+    → (moved p moves).references ≡ bag_after p.references moves
+silent_bag p t [] Stays = refl
+silent_bag p t _ (GainsNone h) = refl
+silent_bag p t _ (PassesOn from to x has) = refl
+
+pub silent_closed : (p : AbstractState) (t : ℕ) (moves : List Move) → SilentMoves p.references t moves
+    → (moved p moves).closed ≡ p.closed
+silent_closed p t [] Stays = refl
+silent_closed p t _ (GainsNone h) = refl
+silent_closed p t _ (PassesOn from to x has) = refl
+
+silent_born : (p : AbstractState) (t : ℕ) (moves : List Move) → SilentMoves p.references t moves → (moved p moves).born ≡ p.born
+silent_born p t [] Stays = refl
+silent_born p t _ (GainsNone h) = refl
+silent_born p t _ (PassesOn from to x has) = refl
+
+silent_kinds : (p : AbstractState) (t : ℕ) (moves : List Move) → SilentMoves p.references t moves
+    → (moved p moves).kinds ≡ p.kinds
+silent_kinds p t [] Stays = refl
+silent_kinds p t _ (GainsNone h) = refl
+silent_kinds p t _ (PassesOn from to x has) = refl
+
+pub silent_allowed : (p : AbstractState) (t : ℕ) (moves : List Move) → SilentMoves p.references t moves
+    → are_allowed p moves ≡ true
+silent_allowed p t [] Stays = refl
+silent_allowed p t _ (GainsNone h) = refl
+silent_allowed p t _ (PassesOn from to x has) = ap (λ (b : Bool). b && true) has
+
+-- a counted object has as many references as before
+silent_references : (p : AbstractState) (t x : ℕ) (moves : List Move) → SilentMoves p.references t moves → 0 < x
+    → references_to x p.references ≡ references_to x (moved p moves).references
+silent_references p t x [] Stays pos = refl
+silent_references p t x _ (GainsNone h) pos =
+    let none : one_if (none_row == x) ≡ 0 = ap one_if (ne_eqb none_row x (λ e. absurd (omega (arith, pos, e)))) in
+    omega (arith, references_to-cons x (reference_of t h none_row) p.references, none)
+silent_references p t x _ (PassesOn from to y has) pos =
+    omega (
+      arith,
+      references_to-cons x (reference_of t to y) (without (reference_of t from y) p.references),
+      references_to-without x (reference_of t from y) p.references has,
+    )
+
+-- and no other holder has a part in them
+silent_aside : (bag : List Reference) (h : Holder) (t : ℕ) (moves : List Move) → SilentMoves bag t moves → IsNoWayOf t h
+    → AreAside h moves
+silent_aside bag h t [] Stays other = tt
+silent_aside bag h t _ (GainsNone k) other = (other k, tt)
+silent_aside bag h t _ (PassesOn from to x has) other = ((other from, other to), tt)
+
+-- ---- the machine afterwards
+
+abbrev pub silenced : Machine → ℕ → Actor → List Move → Place → Machine
+silenced m t a moves place = with_moves (with_actor m t (sitting a place [])) moves
+
+same_numbers : (p : Accounts) (n : ℕ) (m : Machine) (t : ℕ) (a : Actor) (moves : List Move) (place : Place) (x : ℕ)
+    → AtRest p n m t a → SilentMoves m.abstract.references t moves → 0 < x
+    → numbers_of m x ≡ numbers_of (silenced m t a moves place) x
+same_numbers p n m t a moves place x rest silent pos =
+    let r = silent_references m.abstract t x moves silent pos in
+    let w : weight (waits x) m.actors ≡ weight (waits x) (slice_set m.actors t (sitting a place [])) =
+    sym (same_weight (waits x) m.actors t a place [] rest.found rest.agenda refl) in
+    let c : weight (carries x) m.actors ≡ weight (carries x) (slice_set m.actors t (sitting a place [])) =
+    sym (same_weight (carries x) m.actors t a place [] rest.found rest.agenda refl) in
+    let g : weight (merges x) m.actors ≡ weight (merges x) (slice_set m.actors t (sitting a place [])) =
+    sym (same_weight (merges x) m.actors t a place [] rest.found rest.agenda refl) in
+    let d : weight (decides x) m.actors ≡ weight (decides x) (slice_set m.actors t (sitting a place [])) =
+    sym (same_weight (decides x) m.actors t a place [] rest.found rest.agenda refl) in
+    λ i. record {
+      local = (numbers_of m x).local;
+      shared = (numbers_of m x).shared;
+      mark = (numbers_of m x).mark;
+      references = r i;
+      waiting = w i;
+      carried = c i;
+      merging = g i;
+      deciding = d i;
+    }
+
+still_watched : (p : Accounts) (n : ℕ) (m : Machine) (t : ℕ) (a : Actor) (moves : List Move) (place : Place) (x : ℕ)
+    → AtRest p n m t a → IsWatched m x → IsWatched (silenced m t a moves place) x
+still_watched p n m t a moves place x rest (ByRunning one) = ByRunning one
+still_watched p n m t a moves place x rest (ByExit b found scanned) =
+    elim (eqb_tells (block_of m.rows x) t) [
+      | inl same ↦
+          let this : b ≡ a = some_is b a (sym found ∙ ap (slice_get m.actors) same.1 ∙ rest.found) in
+          let none : scans x b.agenda ≡ false = ap (λ (c : Actor). scans x c.agenda) this ∙ ap (scans x) rest.agenda in
+          absurd (false≢true (sym none ∙ scanned))
+      | inr apart ↦
+          ByExit b (slice_get-set_other m.actors t (block_of m.rows x) (sitting a place []) apart.1 ∙ found) scanned
+    ]
+still_watched p n m t a moves place x rest (ByLook some) =
+    ByLook (omega (arith, some, same_weight (looks x) m.actors t a place [] rest.found rest.agenda refl))
+
+leaves : (m : Machine) (t : ℕ) (a : Actor) (moves : List Move) (place : Place) → SilentMoves m.abstract.references t moves
+    → LeavesOthers m (silenced m t a moves place) t
+leaves m t a moves place silent = record {
+  rows = refl;
+  bag =
+      λ u k object ne. moved_aside m.abstract (reference_of u k object) moves
+      (silent_aside m.abstract.references (ByThread u k) t moves silent (λ h. other_thread u t k h ne));
+  locals = λ u x c ne found owns. refl;
+  merged = λ x was. was;
+  stopped = λ u was. was;
+  words = λ u ne. refl;
+  gates = λ u x ne dies. refl;
+  kinds = λ x was. was;
+  lives = λ u x ne. refl;
+}
+
+-- what a thread has to show to take a quiet step
+pub record SilentSits (m : Machine) (t : ℕ) (a : Actor) (moves : List Move) (place : Place) (account : Account)
+    : Type 0 where
+  pub alone : a.aside ≡ []
+  pub moves_fit : SilentMoves m.abstract.references t moves
+  pub holds : HoldsAlone (bag_after m.abstract.references moves) t account []
+  pub bounded : IsBounded account
+  pub stays : place ≢ Exiting
+
+thread_after_duty : (p : Accounts) (n : ℕ) (m : Machine) (t : ℕ) (a : Actor) (moves : List Move) (place : Place)
+    (account : Account)
+    → AtRest p n m t a → SilentSits m t a moves place account
+    → Fits account (silenced m t a moves place) t (sitting a place [])
+thread_after_duty p n m t a moves place account rest taken =
+    let old = (rest.core.each t a rest.found).0 in
+    let chain = subst (λ (l : List Duty). ChainFits m t a.head l) rest.agenda old.chain in (
+      record {
+        word = old.word;
+        holds =
+            subst (λ (l : List Reference). HoldsAt l t account [] a.aside)
+            (sym (silent_bag m.abstract t moves taken.moves_fit))
+            (holds_alone (bag_after m.abstract.references moves) t account [] a.aside taken.alone taken.holds);
+        bounded = taken.bounded;
+        exited = λ e. absurd (taken.stays e);
+        head_fits = tt;
+        chain = record { chained = chain.chained; linked = chain.linked; once = chain.once };
+      },
+      subst (λ (s : Status). AgendaFits m.rows t (sitting a place []) s) (sym rest.running) (taken.stays, refl),
+      alone_fits (silenced m t a moves place) t (sitting a place []) taken.alone,
+    )
+
+-- A quiet step under its condition keeps the rule.
+pub silent_core : (p : Accounts) (n : ℕ) (m : Machine) (t : ℕ) (a : Actor) (moves : List Move) (place : Place)
+    (account : Account)
+    → AtRest p n m t a → SilentSits m t a moves place account
+    → CoreInvariant (with_account p t account) n (silenced m t a moves place)
+silent_core p n m t a moves place account rest taken =
+    let silent = taken.moves_fit in
+    let within : t < n = omega (arith, slice_get_within m.actors t a rest.found, rest.core.threads) in
+    let born = silent_born m.abstract t moves silent in
+    let closed = silent_closed m.abstract t moves silent in
+    record {
+      threads = length-set m.actors t (sitting a place []) ∙ rest.core.threads;
+      some_rows = rest.core.some_rows;
+      few_threads = rest.core.few_threads;
+      few_rows = rest.core.few_rows;
+      rows =
+          λ x pos. subst (λ (k : Numbers). RowInvariant (block_of m.rows x) (m.life x) k)
+          (same_numbers p n m t a moves place x rest silent pos) (rest.core.rows x pos);
+      marks = λ x. elim (rest.core.marks x) [
+        | inl none ↦ inl none
+        | inr set ↦ inr (set.0, set.1, still_watched p n m t a moves place x rest set.2)
+      ];
+      each =
+          let now = sitting a place [] in
+          let own = thread_after_duty p n m t a moves place account rest taken in
+          each_fits p (with_account p t account) m (silenced m t a moves place) t a now rest.found
+          (leaves m t a moves place silent) (with_account_other p t account)
+          (subst (λ (c : Account). Fits c (silenced m t a moves place) t now) (with_account_same p t account) own)
+          rest.core.each;
+      beyond = λ u past k object.
+          moved_aside m.abstract (reference_of u k object) moves
+          (silent_aside m.abstract.references (ByThread u k) t moves silent
+          (λ h. other_thread u t k h (λ e. absurd (omega (arith, within, past, e)))))
+          ∙ rest.core.beyond u past k object;
+      gates = rest.core.gates;
+      dying = rest.core.dying;
+      cells = rest.core.cells;
+      cells_hold =
+          λ x i object. moved_aside m.abstract (cell_reference x i object) moves
+          (silent_aside m.abstract.references (cell_reference x i object).holder t moves silent (λ h. refl))
+          ∙ rest.core.cells_hold x i object;
+      uses =
+          λ u b is. written_actor (λ w c. UsesFit m.rows m.life w c.used) m.actors t a (sitting a place []) rest.found
+          (rest.core.uses t a rest.found) rest.core.uses u b is;
+      blanks =
+          λ u b is. written_actor (λ w c. BlankFits m.rows m.memory w c.used c.agenda) m.actors t a (sitting a place [])
+          rest.found (rest_blanks p n m t a [] rest) rest.core.blanks u b is;
+      no_block = rest.core.no_block;
+      none_lives = rest.core.none_lives;
+      born_is = λ x is. rest.core.born_is x (sym (ap (is_among x) born) ∙ is);
+      born_has = λ x above is. ap (is_among x) born ∙ rest.core.born_has x above is;
+      born_once = subst (λ (l : List ℕ). (x : ℕ) → count_by (λ y. y == x) l ≤ 1) (sym born) rest.core.born_once;
+      closed_is = λ x is. rest.core.closed_is x (sym (ap (is_among x) closed) ∙ is);
+      closed_has = λ x is. ap (is_among x) closed ∙ rest.core.closed_has x is;
+      once = subst (λ (l : List ℕ). AllPairs (λ x y. x ≢ y) l) (sym closed) rest.core.once;
+      kinds = λ x born.
+          rest.core.kinds x born ∙ ap (λ (k : ℕ → Kind). kind_number (k x)) (sym (silent_kinds m.abstract t moves silent));
+      none_word = rest.core.none_word;
+    }

@@ -1,0 +1,54 @@
+-- Walks through a function, and what the checker accepts: a function through which no path meets a code, and where any
+-- two paths to one point reach it in equal states.
+use Rattle.std.specs.Prelude.{◌≡◌, ℕ, nat_lt, if◌then◌else◌, List, length, Option, None, Some, slice_get, fold}
+use Rattle.std.specs.List.{AllByRecursion}
+use Rattle.brc_lang.specs.declared.module.Instr.{Instr}
+use Rattle.brc_lang.specs.declared.module.Function.{Function}
+use Rattle.brc_lang.specs.declared.module.Module.{Module}
+use Rattle.brc_model.specs.declared.code.CheckCode.{CheckCode}
+use Rattle.brc_model.specs.declared.code.CheckCode.TheVariants.{RunsOff}
+use Rattle.brc_model.specs.declared.slot.State.{State}
+use Rattle.brc_model.specs.declared.slot.Exit.{Exit}
+use Rattle.brc_model.specs.Slots.{lowest, after, target, entry}
+
+-- how far a path has come: to a point in a state, to the end of the call, or to a code that stands at a point
+pub data PathEnd : Type 0 where
+  At : ℕ → State → PathEnd
+  Ended : PathEnd
+  Reports : ℕ → CheckCode → PathEnd
+
+-- to a point, unless it lies past the last instruction
+abbrev pub arrives : List Instr → ℕ → Option ℕ → State → PathEnd
+arrives code at None s = Ended
+arrives code at (Some next) s = if nat_lt next (length code) then At next s else Reports at RunsOff
+
+abbrev pub unless_reported : ℕ → Option CheckCode → PathEnd → PathEnd
+unless_reported at None place = place
+unless_reported at (Some code) place = Reports at code
+
+-- one instruction by one exit
+abbrev pub passes : List Instr → ℕ → Option Instr → Exit → State → PathEnd
+passes code at None exit s = Reports at RunsOff
+passes code at (Some i) exit s = unless_reported at (lowest i s) (arrives code at (target i exit at) (after i exit s))
+
+abbrev pub follow : List Instr → PathEnd → Exit → PathEnd
+follow code (At at s) exit = passes code at (slice_get code at) exit s
+follow code Ended exit = Ended
+follow code (Reports at c) exit = Reports at c
+
+-- a path takes one exit after another from the function's entry
+abbrev pub path_end : List Instr → List Exit → PathEnd
+path_end code exits = fold (follow code) (At 0 entry) exits
+
+-- some path meets the code at the point
+pub record ReportsCode (code : List Instr) (at : ℕ) (reported : CheckCode) : Type 0 where
+  pub exits : List Exit
+  pub reports : path_end code exits ≡ Reports at reported
+
+pub record IsAcceptableCode (code : List Instr) : Type 0 where
+  pub reports_none : (at : ℕ) (reported : CheckCode) → ReportsCode code at reported → ⊥
+  pub states_agree : (exits others : List Exit) (at : ℕ) (s t : State) → path_end code exits ≡ At at s
+      → path_end code others ≡ At at t → s ≡ t
+
+abbrev pub IsAcceptable : Module → Type 0
+IsAcceptable m = AllByRecursion (λ (f : Function). IsAcceptableCode f.code) m.functions
