@@ -13,6 +13,7 @@ pub struct Disk<'r, R> {
 }
 
 impl<'r, R: Files + Input + AllocGlobal> Disk<'r, R> {
+    /// Returns the files of the system behind `rt`.
     pub fn new(rt: &'r R) -> Disk<'r, R> {
         Disk { rt }
     }
@@ -27,7 +28,7 @@ impl<'r, R: Files + Input + AllocGlobal> Disk<'r, R> {
     }
 }
 
-// Nothing is known of what files hold.
+// A contract can't say what files hold, so any bytes and any answer are possible.
 impl<R: Files + Input + AllocGlobal> Load for Disk<'_, R> {
     ghost may_give = { λ _ _ _. ⊤ };
 

@@ -28,7 +28,7 @@ fn words(rt: &HostRuntime) -> io::Result<Vec<String>> {
     Ok(std::env::args(rt)?.collect(rt.alloc())?)
 }
 
-// No word of the command line was read.
+/// Reports that the words of the command line can't be read, and returns the status.
 fn unreadable_words(rt: &impl Eprint, kind: ErrorKind) -> u8 {
     if kind == ErrorKind::OutOfMemory {
         let _ = eprintln!(rt; "no memory");

@@ -10,11 +10,13 @@ use std::convert::AsStr;
 use std::io::Write;
 use std::sync::Wait;
 
-// The status of a faulty command line, and of a call for help.
+/// The status of a wrong command line, and of a call for help.
 const USAGE: u8 = 2;
 
-/// Carries out a command line, whose first word is the program's own name, and returns the exit status. If it isn't 0,
-/// standard error says why; a fault of standard error changes nothing.
+/// Carries out a command line, whose first word is the program's own name, and returns the exit status.
+///
+/// The status is 2 for a wrong command line or a call for help, 3 if memory is refused, and otherwise that of
+/// `execute`. If it isn't 0, standard error has the reason. An error of standard error is ignored.
 pub fn act<R: Wait, S: AsStr, L: Load, W: Write, E: Write>(
     rt: &R,
     alloc: Global,
@@ -35,7 +37,7 @@ pub fn act<R: Wait, S: AsStr, L: Load, W: Write, E: Write>(
     }
 }
 
-// A fault of the command line, or a call for help.
+/// Writes the error of the command line, or the help that it asks for, and returns the status.
 fn refuse<E: Write>(error: &Error, err: &mut E) -> u8
     ensures { IsRefused (E.contents err.old) (E.contents err.new) result }
 {

@@ -7,7 +7,9 @@ use std::convert::AsStr;
 
 const SIGNED: &str = "invalid value for a number: a sign or a leading zero";
 
-/// Reads the words of a command line, of which the first is the program's own name. A call for help is an error too.
+/// Reads the words of a command line, of which the first is the program's own name.
+///
+/// Returns clap's error for a wrong command line and for a call for help.
 pub fn parse<'a, S: AsStr>(alloc: Global, words: &'a [S]) -> Result<Asked<'a>, Error> {
     let mut command = program(alloc)?;
     let matches = match command.try_get_matches_from_mut(words) {
@@ -111,7 +113,7 @@ fn asked_in<'a>(matches: &ArgMatches<'a>) -> Option<Asked<'a>> {
     run_of(matches.subcommand_matches("run")?)
 }
 
-// A number is written as those of a text are: clap takes a sign and leading zeros too.
+// Numbers have the same form as in texts; clap also takes signs and leading zeros.
 fn has_plain_numbers(matches: &ArgMatches) -> bool {
     match matches.subcommand_matches("run") {
         Some(run) => is_plain(run, "threads") && is_plain(run, "rows") && is_plain(run, "times"),
@@ -130,7 +132,7 @@ fn run_of<'a>(run: &ArgMatches<'a>) -> Option<Asked<'a>> {
     let threads = run.get_one("threads")?;
     let rows = run.get_one("rows")?;
     let times = run.get_one("times")?;
-    // The parser has seen to the ranges, but doesn't promise them of a subcommand's values.
+    // The parser checks the ranges, but its contract doesn't promise them for the values of a subcommand.
     if threads == 0 || threads > MOST_THREADS || times == 0 || times > MOST_TIMES {
         return None;
     }

@@ -1,4 +1,4 @@
-//! The words of a command line: what they ask for, and the exit status when it is carried out.
+//! The words of a command line, the request that they make, and its exit status.
 #![tactic(auto)]
 
 mod acting;

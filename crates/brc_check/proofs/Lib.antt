@@ -1,6 +1,6 @@
-pub mod Same
-pub mod Steps
-pub mod Paths
-pub mod Filling
-pub mod Points
-pub mod Tables
+mod Same
+mod Steps
+mod Paths
+mod Filling
+mod Points
+mod Tables

@@ -1,4 +1,4 @@
--- Walks, step by step, and rows that they stay on.
+-- Paths, step by step, and entries with which they agree.
 use Rattle.std.proofs.Common.{◌≡◌, ℕ, List, [], ◌∷◌, ◌++◌, Option, fold, refl, sym, ap, ◌∙◌, subst, inl, inr}
 use Rattle.std.specs.Prelude.{Some}
 use Rattle.std.proofs.lemmas.List.Sums.{fold-append}
@@ -10,7 +10,7 @@ use Rattle.brc_model.specs.declared.slot.Exit.{Exit}
 use Rattle.brc_model.specs.Slots.{entry}
 use Rattle.brc_model.specs.Paths.{PathEnd, At, Ended, Reports, follow, path_end, ReportsCode, IsAcceptableCode}
 use Rattle.brc_model.specs.Tables.{Reaches, IsTrueEntry, entry_at}
-use Rattle.brc_check.specs.Rows.{StaysOn, IsClosed, IsFaultAt}
+use Rattle.brc_check.specs.Entries.{StaysOn, IsClosed, IsErrorAt}
 
 -- ---- one step more
 
@@ -35,52 +35,57 @@ pub reports-more : (code : List Instr) (at point : ℕ) (s : State) (reported : 
 reports-more code at point s reported e r h =
     record { exits = r.exits ++ e ∷ []; reports = path_end-from code at s e (Reports point reported) r h }
 
--- ---- closed rows
+-- ---- closed entries
 
-stays-follow : (code : List Instr) (row : List (Option State)) → IsClosed code row → (p : PathEnd) (e : Exit)
-    → StaysOn row p → StaysOn row (follow code p e)
-stays-follow code row closed (At at s) e on = closed.goes_on at s e on
-stays-follow code row closed Ended e on = tt
-stays-follow code row closed (Reports at c) e on = on
+stays-follow : (code : List Instr) (entries : List (Option State)) → IsClosed code entries → (p : PathEnd) (e : Exit)
+    → StaysOn entries p → StaysOn entries (follow code p e)
+stays-follow code entries closed (At at s) e on = closed.goes_on at s e on
+stays-follow code entries closed Ended e on = tt
+stays-follow code entries closed (Reports at c) e on = on
 
-stays-fold : (code : List Instr) (row : List (Option State)) → IsClosed code row → (exits : List Exit) (p : PathEnd)
-    → StaysOn row p → StaysOn row (fold (follow code) p exits)
-stays-fold code row closed [] p on = on
-stays-fold code row closed (e ∷ es) p on =
-    stays-fold code row closed es (follow code p e) (stays-follow code row closed p e on)
+stays-fold : (code : List Instr) (entries : List (Option State)) → IsClosed code entries
+    → (exits : List Exit) (p : PathEnd)
+    → StaysOn entries p → StaysOn entries (fold (follow code) p exits)
+stays-fold code entries closed [] p on = on
+stays-fold code entries closed (e ∷ es) p on =
+    stays-fold code entries closed es (follow code p e) (stays-follow code entries closed p e on)
 
-stays : (code : List Instr) (row : List (Option State)) → IsClosed code row → (exits : List Exit) (p : PathEnd)
-    → path_end code exits ≡ p → StaysOn row p
-stays code row closed exits p e = subst (StaysOn row) e (stays-fold code row closed exits (At 0 entry) closed.begins)
+stays : (code : List Instr) (entries : List (Option State)) → IsClosed code entries → (exits : List Exit) (p : PathEnd)
+    → path_end code exits ≡ p → StaysOn entries p
+stays code entries closed exits p e = subst (StaysOn entries) e
+    (stays-fold code entries closed exits (At 0 entry) closed.begins)
 
--- a closed row has the state of each path
-pub closed-reached : (code : List Instr) (row : List (Option State)) → IsClosed code row → (at : ℕ) (s : State)
-    → Reaches code at s → entry_at row at ≡ Some s
-closed-reached code row closed at s r = stays code row closed r.exits (At at s) r.reaches
+-- closed entries have the state of each path
+pub closed-reached : (code : List Instr) (entries : List (Option State)) → IsClosed code entries → (at : ℕ) (s : State)
+    → Reaches code at s → entry_at entries at ≡ Some s
+closed-reached code entries closed at s r = stays code entries closed r.exits (At at s) r.reaches
 
-pub closed-acceptable : (code : List Instr) (row : List (Option State)) → IsClosed code row → IsAcceptableCode code
-closed-acceptable code row closed = record {
-  reports_none = λ at reported m. stays code row closed m.exits (Reports at reported) m.reports;
+pub closed-acceptable : (code : List Instr) (entries : List (Option State)) → IsClosed code entries
+    → IsAcceptableCode code
+closed-acceptable code entries closed = record {
+  reports_none = λ at reported m. stays code entries closed m.exits (Reports at reported) m.reports;
   states_agree =
       λ exits others at s t g h. same_Some s t
-      (sym (stays code row closed exits (At at s) g) ∙ stays code row closed others (At at t) h);
+      (sym (stays code entries closed exits (At at s) g) ∙ stays code entries closed others (At at t) h);
 }
 
--- ---- true rows
+-- ---- true entries
 
--- the true row of acceptable code has no fault
-pub no_fault : (code : List Instr) (row : List (Option State)) (at : ℕ) (reported : CheckCode) → IsAcceptableCode code
-    → ((k : ℕ) → IsTrueEntry code k (entry_at row k)) → IsFaultAt code row at reported → ⊥
-no_fault code row at reported accepted true_row fault =
-    elim fault [
+-- the true entries of acceptable code have no error
+pub no_error : (code : List Instr) (entries : List (Option State)) (at : ℕ) (reported : CheckCode)
+    → IsAcceptableCode code
+    → ((k : ℕ) → IsTrueEntry code k (entry_at entries k)) → IsErrorAt code entries at reported → ⊥
+no_error code entries at reported accepted true_entries error =
+    elim error [
       | inl m ↦
-          accepted.reports_none at reported (reports-more code at at m.state reported m.exit ((true_row at m.state).0 m.is_given)
+          accepted.reports_none at reported (reports-more code at at m.state reported m.exit
+          ((true_entries at m.state).0 m.is_given)
           m.reports)
       | inr other ↦ elim other.1 [
         | inl d ↦
-            d.apart ((true_row at d.arriving).1
-            (reaches-more code d.before at d.state d.arriving d.exit ((true_row d.before d.state).0 d.is_given)
+            d.apart ((true_entries at d.arriving).1
+            (reaches-more code d.before at d.state d.arriving d.exit ((true_entries d.before d.state).0 d.is_given)
             d.leads))
-        | inr d ↦ d.1 ((true_row 0 entry).1 (begins code))
+        | inr d ↦ d.1 ((true_entries 0 entry).1 (begins code))
       ]
     ]

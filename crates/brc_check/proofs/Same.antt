@@ -1,4 +1,4 @@
--- Whether two states are the same: what tells each two slots apart tells their lists apart.
+-- Equality of states: a test that decides equality of slots decides equality of their lists.
 use Rattle.std.proofs.Common.{◌≡◌, ◌↔◌, IsTrue, ℕ, ◌+◌, Bool, List, [], ◌∷◌, ◌++◌, refl, sym, ap, ◌∙◌}
 use Rattle.std.specs.Prelude.{◌==◌, map, replicate}
 use Rattle.std.specs.List.{slice_index_or}
@@ -48,7 +48,7 @@ slot_number (Locked k) = 18 + kind_number k
 abbrev pub all_kinds : List Kind
 all_kinds = kinds.None ∷ kinds.Num ∷ kinds.List ∷ kinds.File ∷ kinds.Sock ∷ kinds.Any ∷ []
 
--- by number: the first six all stand for the empty slot
+-- by number: the first six are all the empty slot
 abbrev pub all_slots : List Slot
 all_slots = replicate 6 Empty ++ map Owned all_kinds ++ map Caller all_kinds ++ map Locked all_kinds
 
@@ -71,8 +71,8 @@ pub same_slots : (E : Slot → Slot → Bool) (xs ys : List Slot) (result : Bool
     → ((x y : Slot) → E x y ≡ (slot_number x == slot_number y))
     → result ≡ pointwise E xs ys
     → IsTrue result ↔ (xs ≡ ys)
-same_slots E xs ys result told is =
-    let both = pointwise_decides (slot_decides E told) xs ys in
+same_slots E xs ys result decided is =
+    let both = pointwise_decides (slot_decides E decided) xs ys in
     (λ t. both.0 (sym is ∙ t), λ e. is ∙ both.1 e)
 
 pub same_fields : (one other : State) → one.slots ≡ other.slots → one.locked ≡ other.locked → one ≡ other

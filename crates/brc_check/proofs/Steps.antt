@@ -1,4 +1,4 @@
--- What one step leads to.
+-- The end of one step.
 use Rattle.std.proofs.Common.{◌≡◌, ℕ, ◌+◌, ◌<◌, Bool, true, false, cond, List, length, Option, refl, subst, arith}
 use Rattle.std.specs.Prelude.{None, Some, slice_get, nat_lt}
 use Rattle.std.proofs.lemmas.Bool.{ltb-true}
@@ -26,14 +26,14 @@ forward (Goto to) exit at next jumps e = jumps next e
 forward (Ret from) exit at next jumps e = absurd cc
 forward Fail exit at next jumps e = absurd cc
 
--- how an exit of a point comes to another: the instruction there leads to it, and it lies within the code
+-- an exit of a point leads to another point: the instruction leads there, and the code has that point
 pub record Arrives (code : List Instr) (at : ℕ) (exit : Exit) (next : ℕ) : Type 0 where
   pub here : Instr
   pub found : slice_get code at ≡ Some here
   pub leads : target here exit at ≡ Some next
   pub within : next < length code
 
--- where a place is a point, the exit comes to it
+-- if the path ends at a point, the exit leads there
 abbrev pub IsArrival : List Instr → ℕ → Exit → PathEnd → Type 0
 IsArrival code n exit (At at s) = Arrives code n exit at
 IsArrival code n exit Ended = Unit {0}
@@ -69,7 +69,7 @@ pub arrives-At : (code : List Instr) (at next : ℕ) (s t : State) (exit : Exit)
 arrives-At code at next s t exit e =
     subst (IsArrival code at exit) e (arrival-passes code at (slice_get code at) exit s refl)
 
--- where each target leads forward, each exit comes to a later point
+-- if each target leads forward, each exit leads to a later point
 pub ahead-At : (code : List Instr) (at next : ℕ) (s t : State) (exit : Exit) → LeadsForward code
     → follow code (At at s) exit ≡ At next t → at < next
 ahead-At code at next s t exit forwards e =

@@ -1,4 +1,4 @@
 pub mod Accepted
 pub mod Refusal
-pub mod Rows
+pub mod Entries
 pub mod Filling

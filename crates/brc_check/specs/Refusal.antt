@@ -1,4 +1,4 @@
--- What a refusal says.
+-- The meaning of a refusal.
 use Rattle.std.specs.Prelude.{◌≡◌, ◌⊎◌, ℕ, List, Contains, Option, Some, slice_get}
 use Rattle.brc_lang.specs.declared.module.Function.{Function}
 use Rattle.brc_lang.specs.declared.module.Instr.{Instr}
@@ -8,45 +8,45 @@ use Rattle.brc_model.specs.declared.slot.State.{State}
 use Rattle.brc_model.specs.Paths.{ReportsCode}
 use Rattle.brc_model.specs.Tables.{StatesDifferAt, HasShape, row_of}
 use Rattle.brc_check.specs.declared.refused.Refused.{Refused}
-use Rattle.brc_check.specs.Rows.{IsFaultAt}
+use Rattle.brc_check.specs.Entries.{IsErrorAt}
 
--- a path meets the code at the point, or two paths reach the point in different states
-abbrev pub IsMet : List Instr → ℕ → CheckCode → Type 0
-IsMet code at reported = ReportsCode code at reported ⊎ ((reported ≡ StatesDiffer) × StatesDifferAt code at)
+-- a path reports the code at the point, or two paths reach the point in different states
+abbrev pub IsReported : List Instr → ℕ → CheckCode → Type 0
+IsReported code at reported = ReportsCode code at reported ⊎ ((reported ≡ StatesDiffer) × StatesDifferAt code at)
 
--- it names a function, and what is met in that function
+-- it names a function, and what is reported in that function
 pub record IsRefusedFor (functions : List Function) (r : Refused) : Type 0 where
   pub function : Function
-  pub applies : Contains functions function
+  pub listed : Contains functions function
   pub named : function.name ≡ r.function
-  pub reported : IsMet function.code r.at r.code
+  pub reported : IsReported function.code r.at r.code
 
 abbrev pub IsForMemory : Refused → Type 0
 IsForMemory r = r.code ≡ NoMemory
 
--- want of memory, or what is met
+-- memory was refused, or a code is reported
 abbrev pub IsRefusal : List Function → Refused → Type 0
 IsRefusal functions r = IsForMemory r ⊎ IsRefusedFor functions r
 
 -- ---- tables
 
 -- it names the first function and its first point
-pub record IsShapeFault (functions : List Function) (table : List (List (Option State))) (r : Refused) : Type 0 where
+pub record IsShapeError (functions : List Function) (table : List (List (Option State))) (r : Refused) : Type 0 where
   pub other_shape : HasShape functions table → ⊥
   pub first : Function
-  pub applies : slice_get functions 0 ≡ Some first
+  pub listed : slice_get functions 0 ≡ Some first
   pub named : first.name ≡ r.function
   pub begins : r.at ≡ 0
   pub code : r.code ≡ StatesDiffer
 
--- the shape is right; it names a function, and what its row is refused for
-pub record IsRowFault (functions : List Function) (table : List (List (Option State))) (r : Refused) : Type 0 where
+-- the shape is right; it names a function, and the error in its entries
+pub record IsFunctionError (functions : List Function) (table : List (List (Option State))) (r : Refused) : Type 0 where
   pub shape : HasShape functions table
   pub number : ℕ
   pub function : Function
-  pub applies : slice_get functions number ≡ Some function
+  pub listed : slice_get functions number ≡ Some function
   pub named : function.name ≡ r.function
-  pub fault : IsFaultAt function.code (row_of table number) r.at r.code
+  pub error : IsErrorAt function.code (row_of table number) r.at r.code
 
-abbrev pub IsTableFault : List Function → List (List (Option State)) → Refused → Type 0
-IsTableFault functions table r = IsShapeFault functions table r ⊎ IsRowFault functions table r
+abbrev pub IsTableError : List Function → List (List (Option State)) → Refused → Type 0
+IsTableError functions table r = IsShapeError functions table r ⊎ IsFunctionError functions table r

@@ -7,7 +7,7 @@ use crate::table::Table;
 use brc_lang::Module;
 use std::marker::Model;
 
-/// A module that was accepted, with the table that shows it. Only the checker makes one.
+/// An accepted module with the table that shows why. Only the checker makes one.
 #[derive(Debug, Drop)]
 pub struct Checked {
     module: Module,
@@ -28,7 +28,7 @@ impl Model for Checked {
 }
 
 impl Checked {
-    /// The module as an accepted one.
+    /// Returns the module as an accepted one.
     pub(crate) fn new(accepted: Module, table: Table) -> Checked
         requires fits { IsModule accepted }
         requires acceptable { IsAcceptable accepted }
@@ -42,7 +42,7 @@ impl Checked {
         }
     }
 
-    /// The module.
+    /// Returns the module.
     pub fn module(&self) -> &Module
         ensures value { result.now ≡ self.now.module }
         ensures fits { IsModule self.now.module }
@@ -51,7 +51,7 @@ impl Checked {
         &self.module
     }
 
-    /// The table that shows why the module was accepted.
+    /// Returns the table that shows why the module was accepted.
     pub fn table(&self) -> &Table
         ensures value { result.now ≡ self.now.table }
         ensures truth { IsTrueWhereReached self.now.module result.now }

@@ -1,17 +1,18 @@
-//! A table from a module: one pass over the points of each function, by rising number. Every exit leads to a later
-//! point, so a point's entry is known once the pass comes to it.
+//! Infers the table of a module: one pass over the points of each function, by rising number. Every exit leads to a
+//! later point, so the entry of a point is known when the pass reaches it.
 
-ghost use Rattle.std.specs.Prelude.{◌≡◌, ◌⊎◌, ◌<◌, ◌+◌, ◌-◌, ◌∷◌, length, replicate, IfOk, OnOk, IfErr, MatchOption, MatchResult};
+ghost use Rattle.std.specs.Prelude.{◌≡◌, ◌⊎◌, ◌<◌, ◌+◌, ◌-◌, ◌∷◌, length, replicate, IfOk, OnOk, IfErr, MatchOption};
+ghost use Rattle.std.specs.Prelude.{MatchResult};
 ghost use Rattle.brc_lang.specs.Grammar.{IsModule, IsFunction, LeadsForward};
 ghost use Rattle.brc_model.specs.Slots.{entry};
 ghost use Rattle.brc_model.specs.Paths.{IsAcceptable, follow, At};
 ghost use Rattle.brc_model.specs.Tables.{IsTrueTable};
-ghost use Rattle.brc_check.specs.Rows.{StaysOn, IsBlocked};
+ghost use Rattle.brc_check.specs.Entries.{StaysOn, IsBlocked};
 ghost use Rattle.brc_check.specs.Filling.{settled, settled_at, IsFilledTo, IsInferred};
-ghost use Rattle.brc_check.specs.Refusal.{IsMet, IsForMemory, IsRefusal};
+ghost use Rattle.brc_check.specs.Refusal.{IsReported, IsForMemory, IsRefusal};
 
-use crate::refused::{Met, Refused};
-use crate::rows::blocked;
+use crate::entries::blocked;
+use crate::refused::{CodeAt, Refused};
 use crate::state::entry;
 use crate::step::{Step, follow};
 use crate::table::Table;
@@ -19,74 +20,74 @@ use brc_lang::{Function, Instr, Module, Name, Sequence};
 use brc_model::{CheckCode, Exit, State};
 use std::alloc::{AllocError, Global};
 
-/// The entries of so many points before any exit is followed: the first point's alone is known.
+/// Returns the entries of `count` points before any exit is followed: only that of the first point is known.
 fn first_entries(alloc: Global, count: usize) -> Result<Sequence<Option<State>>, AllocError>
     requires { 0 < count }
-    ensures { IfOk result (λ row. row ≡ Some entry ∷ replicate (count - 1) None) }
+    ensures { IfOk result (λ entries. entries ≡ Some entry ∷ replicate (count - 1) None) }
 {
-    let mut row = Sequence::new(alloc);
-    row.push(Some(entry()))?;
+    let mut entries = Sequence::new(alloc);
+    entries.push(Some(entry()))?;
     for _at in 1..count {
-        row.push(None)?;
+        entries.push(None)?;
     }
-    Ok(row)
+    Ok(entries)
 }
 
-/// Makes the state the entry of a point that has none.
-fn settle(row: &mut Sequence<Option<State>>, at: usize, state: State)
-    requires { at < length row.old }
-    ensures { row.new ≡ settled row.old at state }
+/// Makes the state the entry of a point that has no entry yet.
+fn settle(entries: &mut Sequence<Option<State>>, at: usize, state: State)
+    requires { at < length entries.old }
+    ensures { entries.new ≡ settled entries.old at state }
 {
-    if row.as_slice()[at].is_none() {
-        row.set(at, Some(state));
+    if entries.as_slice()[at].is_none() {
+        entries.set(at, Some(state));
     }
 }
 
-/// Follows one exit of a point in its state. What it leaves becomes the entry of its target, or has to be it.
+/// Follows one exit of a point. The state that it leaves becomes the entry of the target, or is compared with it.
 fn lead(
     code: &[Instr],
-    row: &mut Sequence<Option<State>>,
+    entries: &mut Sequence<Option<State>>,
     at: usize,
     state: &State,
     exit: Exit,
-) -> Option<Met>
+) -> Option<CodeAt>
     requires within { at < length code.now }
-    requires same_length { length row.old ≡ length code.now }
-    ensures row { row.new ≡ settled_at row.old (follow code.now (At at state.now) exit) }
-    ensures reported { MatchOption result (StaysOn row.new (follow code.now (At at state.now) exit))
-        (λ m. IsBlocked row.new (follow code.now (At at state.now) exit) m.at m.code) }
+    requires same_length { length entries.old ≡ length code.now }
+    ensures entries { entries.new ≡ settled_at entries.old (follow code.now (At at state.now) exit) }
+    ensures reported { MatchOption result (StaysOn entries.new (follow code.now (At at state.now) exit))
+        (λ m. IsBlocked entries.new (follow code.now (At at state.now) exit) m.at m.code) }
 {
     let led = follow(code, at, state, exit);
     if let Step::To(next, arriving) = &led {
-        settle(row, *next, *arriving);
+        settle(entries, *next, *arriving);
     }
-    blocked(row.as_slice(), at, &led)
+    blocked(entries.as_slice(), at, &led)
 }
 
-/// Follows both exits of a point, where a path comes to it.
-fn lead_on(code: &[Instr], row: &mut Sequence<Option<State>>, at: usize) -> Option<Met>
+/// Follows both exits of a point that some path reaches.
+fn lead_on(code: &[Instr], entries: &mut Sequence<Option<State>>, at: usize) -> Option<CodeAt>
     requires within { at < length code.now }
     requires forward { LeadsForward code.now }
-    requires filled { IsFilledTo code.now row.old at }
-    ensures { MatchOption result (IsFilledTo code.now row.new (at + 1)) (λ m. IsMet code.now m.at m.code) }
+    requires filled { IsFilledTo code.now entries.old at }
+    ensures { MatchOption result (IsFilledTo code.now entries.new (at + 1)) (λ m. IsReported code.now m.at m.code) }
 {
-    let Some(state) = row.as_slice()[at] else {
+    let Some(state) = entries.as_slice()[at] else {
         return None;
     };
-    if let Some(reported) = lead(code, row, at, &state, Exit::Success) {
+    if let Some(reported) = lead(code, entries, at, &state, Exit::Success) {
         return Some(reported);
     }
-    lead(code, row, at, &state, Exit::Fault)
+    lead(code, entries, at, &state, Exit::Fault)
 }
 
-fn fill(code: &[Instr], row: &mut Sequence<Option<State>>) -> Option<Met>
+fn fill(code: &[Instr], entries: &mut Sequence<Option<State>>) -> Option<CodeAt>
     requires some { 0 < length code.now }
     requires forward { LeadsForward code.now }
-    requires begun { row.old ≡ Some entry ∷ replicate (length code.now - 1) None }
-    ensures { MatchOption result (IsInferred code.now row.new) (λ m. IsMet code.now m.at m.code) }
+    requires begun { entries.old ≡ Some entry ∷ replicate (length code.now - 1) None }
+    ensures { MatchOption result (IsInferred code.now entries.new) (λ m. IsReported code.now m.at m.code) }
 {
     for at in 0..code.len() {
-        if let Some(reported) = lead_on(code, row, at) {
+        if let Some(reported) = lead_on(code, entries, at) {
             return Some(reported);
         }
     }
@@ -103,37 +104,37 @@ fn no_memory(function: Name) -> Refused
     }
 }
 
-fn infer_row(alloc: Global, function: &Function) -> Result<Sequence<Option<State>>, Refused>
+fn infer_function(alloc: Global, function: &Function) -> Result<Sequence<Option<State>>, Refused>
     requires { IsFunction function.now }
     ensures { MatchResult result
-        (λ row. IsInferred function.now.code row)
-        (λ r. (r.function ≡ function.now.name) × (IsForMemory r ⊎ IsMet function.now.code r.at r.code)) }
+        (λ entries. IsInferred function.now.code entries)
+        (λ r. (r.function ≡ function.now.name) × (IsForMemory r ⊎ IsReported function.now.code r.at r.code)) }
 {
     let code = function.code.as_slice();
-    let Ok(mut row) = first_entries(alloc, code.len()) else {
+    let Ok(mut entries) = first_entries(alloc, code.len()) else {
         return Err(no_memory(function.name));
     };
-    match fill(code, &mut row) {
+    match fill(code, &mut entries) {
         Some(reported) => Err(reported.in_function(function.name)),
-        None => Ok(row),
+        None => Ok(entries),
     }
 }
 
-/// The table of an acceptable module, or why the module isn't acceptable.
+/// Returns the table of an acceptable module, or the first error that it finds. Memory that is refused is `NoMemory`.
 pub fn infer(alloc: Global, module: &Module) -> Result<Table, Refused>
     requires { IsModule «module».now }
     ensures table { IfOk result (λ t. IsTrueTable «module».now t) }
     ensures acceptable { OnOk result (IsAcceptable «module».now) }
     ensures refused { IfErr result (λ r. IsRefusal «module».now.functions r) }
-    // An acceptable module is refused for want of memory alone.
+    // An acceptable module is refused only if memory is.
     ensures complete { IsAcceptable «module».now → IfErr result IsForMemory }
 {
-    let mut rows = Vec::new(alloc);
+    let mut lists = Vec::new(alloc);
     for function in module.functions.as_slice() {
-        let row = infer_row(alloc, function)?;
-        if let Err(_) = rows.push(row) {
+        let entries = infer_function(alloc, function)?;
+        if let Err(_) = lists.push(entries) {
             return Err(no_memory(function.name));
         }
     }
-    Ok(Table::new(rows))
+    Ok(Table::new(lists))
 }

@@ -1,4 +1,4 @@
-//! One instruction: what it asks of a state, and what it leaves.
+//! One instruction: the conditions that it has on a state, and the state that it leaves.
 
 ghost use Rattle.std.specs.Prelude.{◌≡◌, ◌+◌, ◌<◌, ◌^◌};
 ghost use Rattle.std.specs.List.{list_any};
@@ -37,7 +37,7 @@ fn any_owned(slots: &[Slot; 16]) -> bool
     slots.iter().any(|slot| matches!(slot, Slot::Owned(_)))
 }
 
-/// What `none` is refused for; `num` is refused for the same.
+/// Returns the lowest code that `none` or `num` reports in the state.
 fn into_refusal(state: &State, to: Variable) -> Option<CheckCode>
     ensures { result ≡ lowest (Instr.NoneObject to) state.now }
 {
@@ -107,7 +107,7 @@ fn fail_refusal(state: &State) -> Option<CheckCode>
     state.locked.is_some().then_some(CheckCode::LeftLocked)
 }
 
-/// The lowest code that stands before the instruction.
+/// Returns the lowest code that the instruction reports in the state, or `None`.
 pub fn refusal(instr: Instr, state: &State) -> Option<CheckCode>
     ensures { result ≡ lowest instr state.now }
 {
@@ -122,7 +122,7 @@ pub fn refusal(instr: Instr, state: &State) -> Option<CheckCode>
     }
 }
 
-/// What the instruction leaves in the variables where an exit of it leads on.
+/// Changes the state as an exit of the instruction does.
 pub fn apply(instr: Instr, exit: Exit, state: &mut State)
     ensures { state.new ≡ after instr exit state.old }
 {
@@ -148,7 +148,7 @@ pub fn apply(instr: Instr, exit: Exit, state: &mut State)
     }
 }
 
-/// The point that an exit of the instruction at a point leads to, or none where the call ends with it.
+/// Returns the point to which an exit of the instruction leads, or `None` if it ends the call.
 pub fn target_of(instr: Instr, exit: Exit, at: usize) -> Option<usize>
     requires { at + 1 < 2 ^ 64 }
     ensures { result ≡ target instr exit at }

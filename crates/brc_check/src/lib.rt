@@ -1,15 +1,15 @@
-//! The ownership checker: it accepts a module where every way through every function obeys the ownership rules.
+//! The ownership checker: it accepts a module if every path through every function obeys the ownership rules.
 //!
-//! It shows its work as a table of what it knows at each point. One function fills the table in, and a second one,
-//! which trusts no table, looks at each entry beside its neighbours.
+//! The checker has a table of the state of the variables at each point. `infer` fills the table, and `verify`, which
+//! trusts no table, compares each entry with its neighbours.
 #![tactic(auto)]
 
 mod checked;
 mod checker;
+mod entries;
 mod inferring;
 mod instruction;
 mod refused;
-mod rows;
 mod state;
 mod step;
 mod table;

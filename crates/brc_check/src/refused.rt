@@ -3,24 +3,25 @@ ghost use Rattle.std.specs.Prelude.{◌≡◌};
 use brc_lang::Name;
 use brc_model::CheckCode;
 
-/// Why a module or a table isn't accepted: a function, a point in it, and the code that stands there. At `NoMemory` the
-/// first two say nothing.
+/// Why a module or a table isn't accepted: a function, a point, and the code that is reported there. With the code
+/// `NoMemory` the function and the point have no meaning.
 #[derive(Clone, Copy, Debug)]
 pub struct Refused {
     pub function: Name,
-    /// The instruction, counted from 0.
+    /// The number of the instruction, from 0.
     pub at: usize,
     pub code: CheckCode,
 }
 
-/// The code that stands in a function, and at which instruction.
+/// A point of a function and the code that is reported there.
 #[derive(Clone, Copy)]
-pub struct Met {
+pub struct CodeAt {
     pub at: usize,
     pub code: CheckCode,
 }
 
-impl Met {
+impl CodeAt {
+    /// Returns the refusal for this code in the function.
     pub fn in_function(self, function: Name) -> Refused
         ensures { result ≡ record { function = function; at = self.at; code = self.code } }
     {

@@ -1,4 +1,4 @@
-//! States: the first one, and whether two are the same.
+//! States: the first one, and their comparison.
 
 ghost use Rattle.std.specs.Prelude.{◌≡◌, ◌↔◌, IsTrue};
 ghost use Rattle.brc_model.specs.Slots.{entry};
@@ -6,7 +6,7 @@ ghost use Rattle.brc_model.specs.Slots.{entry};
 use brc_lang::{Kind, Variable};
 use brc_model::{Slot, State};
 
-/// The state at a function's entry.
+/// Returns the state in which a function begins: v0 is the caller's list, and the other variables are empty.
 pub fn entry() -> State
     ensures { result ≡ entry }
 {
@@ -34,6 +34,7 @@ fn same_locked(one: Option<Variable>, other: Option<Variable>) -> bool
     }
 }
 
+/// Returns whether two states are equal.
 pub fn same_state(one: &State, other: &State) -> bool
     ensures { IsTrue result ↔ (one.now ≡ other.now) }
 {

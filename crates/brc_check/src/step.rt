@@ -3,21 +3,21 @@
 ghost use Rattle.std.specs.Prelude.{◌≡◌, ◌<◌, length};
 ghost use Rattle.brc_model.specs.Slots.{after};
 ghost use Rattle.brc_model.specs.Paths.{At, follow};
-ghost use Rattle.brc_check.specs.Rows.{place_of};
+ghost use Rattle.brc_check.specs.Entries.{end_of};
 
 use crate::instruction::{apply, refusal, target_of};
 use brc_lang::Instr;
 use brc_model::{CheckCode, Exit, State};
 
-/// Where a step leads.
+/// The end of a step.
 #[derive(Clone, Copy)]
 pub enum Step {
-    /// To a point, in a state.
+    /// A point, and the state in which the path reaches it.
     To(usize, State),
-    /// To the end of the call.
+    /// The end of the call.
     Ends,
-    /// To no point: the code stands where the step begins.
-    Met(CheckCode),
+    /// No point: the instruction where the step begins reports the code.
+    Error(CheckCode),
 }
 
 fn after(instr: Instr, exit: Exit, state: &State) -> State
@@ -28,20 +28,20 @@ fn after(instr: Instr, exit: Exit, state: &State) -> State
     arriving
 }
 
-/// The step from a point in a state by one exit of the instruction there.
+/// Returns the step from a point in a state by one exit of the instruction there.
 pub fn follow(code: &[Instr], at: usize, state: &State, exit: Exit) -> Step
     requires { at < length code.now }
-    ensures { place_of at result ≡ follow code.now (At at state.now) exit }
+    ensures { end_of at result ≡ follow code.now (At at state.now) exit }
 {
     let instr = &code[at];
     if let Some(reported) = refusal(*instr, state) {
-        return Step::Met(reported);
+        return Step::Error(reported);
     }
     let Some(next) = target_of(*instr, exit, at) else {
         return Step::Ends;
     };
     if next >= code.len() {
-        return Step::Met(CheckCode::RunsOff);
+        return Step::Error(CheckCode::RunsOff);
     }
     Step::To(next, after(*instr, exit, state))
 }

@@ -5,11 +5,12 @@ use brc_lang::Sequence;
 use brc_model::State;
 use std::marker::Model;
 
-/// What is known at each point of each function: a state, or nothing where no path comes. A table is shown and may be
-/// changed; it is never trusted.
+/// The entry of each point of each function: the state of the variables there, or `None` if no path reaches it.
+///
+/// A caller may read and change a table; the checker never trusts one.
 #[derive(Debug, Drop)]
 pub struct Table {
-    rows: Vec<Sequence<Option<State>>>,
+    lists: Vec<Sequence<Option<State>>>,
 }
 
 impl Model for Table {
@@ -18,49 +19,49 @@ impl Model for Table {
 
     ghost Value = { List (List (Option State)) };
 
-    ghost view = { λ t. t.rows.items };
+    ghost view = { λ t. t.lists.items };
 }
 
 impl Table {
-    pub(crate) fn new(rows: Vec<Sequence<Option<State>>>) -> Table
-        ensures { result ≡ rows.items }
+    pub(crate) fn new(lists: Vec<Sequence<Option<State>>>) -> Table
+        ensures { result ≡ lists.items }
     {
-        Table { rows }
+        Table { lists }
     }
 
-    /// The rows, one a function.
-    pub(crate) fn rows(&self) -> &[Sequence<Option<State>>]
+    /// Returns the lists of entries, one for each function.
+    pub(crate) fn lists(&self) -> &[Sequence<Option<State>>]
         ensures { result.now ≡ self.now }
     {
-        self.rows.as_slice()
+        self.lists.as_slice()
     }
 
-    /// The entry of a point, both counted from 0. Where there is no such point there is none.
+    /// Returns the entry of a point, or `None` if there is no such point. Functions and points count from 0.
     pub fn entry(&self, function: usize, at: usize) -> Option<State>
         ensures { result ≡ entry_at (row_of self.now function) at }
     {
-        if function >= self.rows.len() {
+        if function >= self.lists.len() {
             return None;
         }
-        let row = self.rows[function].as_slice();
-        if at >= row.len() {
+        let entries = self.lists[function].as_slice();
+        if at >= entries.len() {
             return None;
         }
-        row[at]
+        entries[at]
     }
 
-    /// Overwrites one entry. Where there is no such point it answers `false`, and nothing changes.
+    /// Overwrites one entry. Returns `false` and changes nothing if there is no such point.
     pub fn change(&mut self, function: usize, at: usize, entry: Option<State>) -> bool
         ensures answer { result ≡ nat_lt at (length (row_of self.old function)) }
         ensures changed { self.new ≡ (if result then slice_set self.old function
             (slice_set (row_of self.old function) at entry) else self.old) }
     {
-        if function >= self.rows.len() || at >= self.rows[function].len() {
+        if function >= self.lists.len() || at >= self.lists[function].len() {
             return false;
         }
         match entry {
-            None => self.rows[function].set(at, None),
-            Some(state) => self.rows[function].set(at, Some(state)),
+            None => self.lists[function].set(at, None),
+            Some(state) => self.lists[function].set(at, Some(state)),
         }
         true
     }

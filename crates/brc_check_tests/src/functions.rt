@@ -6,11 +6,11 @@ use brc_lang::{Module, read};
 use std::alloc::Global;
 use std::test::*;
 
-/// A point, and the code that is met there.
-type Met = (usize, CheckCode);
+/// A point, and the code that is reported there.
+type CodeAt = (usize, CheckCode);
 
 /// A function's lines, and where it is refused and for what, or `None` where it is accepted.
-type Case<'a> = (&'a [u8], Option<Met>);
+type Case<'a> = (&'a [u8], Option<CodeAt>);
 
 /// A number by one path and none by the other.
 const TWO_KINDS: &[u8] = b"num v1 1 else @2\ngoto @3\nnone v1\nret v1\n";
@@ -62,8 +62,8 @@ const REFUSED: &[Case] = &[
     (b"goto @1\nnone v1\n", Some((1, CheckCode::RunsOff))),
 ];
 
-/// By the success exit of a `num` its number is there, and by the fault exit nothing is, whatever was there before. A
-/// reference that was handed on is with its new variable alone, and nothing is put over one that is owned.
+/// The success exit of `num` leaves its number, and the fault exit leaves the variable empty. Only the new variable
+/// owns a moved reference, and no instruction overwrites a variable that owns one.
 const LEFT_BEHIND: &[Case] = &[
     (
         b"num v1 1 else @2\nfail\nfail\n",
@@ -120,14 +120,14 @@ pub fn function_of(alloc: Global, lines: &[u8]) -> Result<Module, Fail>
 }
 
 /// Where a function of these lines is refused and for what, or `None` where it is accepted.
-fn refusal_of(alloc: Global, lines: &[u8]) -> Result<Option<Met>, Fail> {
+fn refusal_of(alloc: Global, lines: &[u8]) -> Result<Option<CodeAt>, Fail> {
     let Some(refused) = check(alloc, function_of(alloc, lines)?).err() else {
         return Ok(None);
     };
     Ok(Some((refused.at, refused.code)))
 }
 
-/// The number of the first case that is answered otherwise.
+/// The number of the first case with another answer.
 fn first_other(alloc: Global, cases: &[Case]) -> Result<Option<usize>, Fail> {
     for (number, (lines, answer)) in cases.iter().enumerate() {
         if refusal_of(alloc, lines)? != *answer {
@@ -145,7 +145,7 @@ fn one_function(rt: HostRuntime) -> Result<(), Fail> {
     Ok(())
 }
 
-// Where the number is made it is left, and where it isn't the states differ: either may be named.
+// One path owns the number and the other doesn't: either code may be reported.
 #[test]
 fn paths_differ(rt: HostRuntime) -> Result<(), Fail> {
     let refusal = refusal_of(rt.alloc(), b"num v1 1 else @1\nfail\n")?;
@@ -159,7 +159,7 @@ fn paths_differ(rt: HostRuntime) -> Result<(), Fail> {
 }
 
 /// Whether the text is refused in the function of this name, and where and for what; `None` where it is accepted.
-fn refusal_in(alloc: Global, text: &[u8], name: &[u8]) -> Result<Option<(bool, Met)>, Fail> {
+fn refusal_in(alloc: Global, text: &[u8], name: &[u8]) -> Result<Option<(bool, CodeAt)>, Fail> {
     let Some(refused) = check(alloc, module_of(alloc, text)?).err() else {
         return Ok(None);
     };

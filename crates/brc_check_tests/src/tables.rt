@@ -1,4 +1,4 @@
-//! The tables that the checker shows, and tables that it is given.
+//! The tables that the checker infers, and tables that it is given.
 
 ghost use Rattle.brc_lang.specs.Grammar.{IsModule};
 
@@ -8,7 +8,7 @@ use brc_lang::{Kind, Module, Variable};
 use std::alloc::Global;
 use std::test::*;
 
-/// What v1 and v2 are at a point; v0 is the caller's list, and the others are empty.
+/// The slots of v1 and v2 at a point; v0 is the caller's list, and the others are empty.
 type Slots = (Slot, Slot);
 
 const NUMBER: Slot = Slot::Owned(Kind::Num);
@@ -19,10 +19,10 @@ const LIST: Slot = Slot::Owned(Kind::List);
 
 const TAKE_AND_DROP: &[u8] = b"newref v1 v0\ndrop v1\nfail\n";
 
-/// Where no row is left for a number, the function goes on behind the line that drops it.
+/// If no row is left for a number, the function goes on after the line that drops it.
 const TWO_NUMBERS: &[u8] = b"num v1 1 else @4\nnum v2 2 else @3\ndrop v2\ndrop v1\nfail\n";
 
-/// Lines, and what v1 and v2 are at each of their points, and past the last.
+/// Lines, and the slots of v1 and v2 at each of their points and past the last.
 const TABLES: &[(&[u8], &[Option<Slots>])] = &[
     (
         TAKE_AND_DROP,
@@ -43,7 +43,7 @@ const TABLES: &[(&[u8], &[Option<Slots>])] = &[
             Some((Slot::Empty, Slot::Empty)),
         ],
     ),
-    // A point that no path reaches asks nothing, and has no entry.
+    // A point that no path reaches has no entry.
     (
         b"goto @2\ndrop v5\nfail\n",
         &[
@@ -52,7 +52,7 @@ const TABLES: &[(&[u8], &[Option<Slots>])] = &[
             Some((Slot::Empty, Slot::Empty)),
         ],
     ),
-    // A reference to none is handed on, doubled and given back.
+    // A reference to none is moved, doubled and returned.
     (
         b"none v1\nmove v2 v1\nnewref v1 v2\ndrop v2\nret v1\n",
         &[
@@ -65,7 +65,7 @@ const TABLES: &[(&[u8], &[Option<Slots>])] = &[
     ),
 ];
 
-/// What entries are overwritten with.
+/// The slots that overwrite entries.
 const OVERWRITTEN: &[Slots] = &[
     (Slot::Empty, Slot::Empty),
     (Slot::Empty, NUMBER),
@@ -153,12 +153,12 @@ fn true_tables(rt: HostRuntime) -> Result<(), Fail> {
 fn answer_to_change(
     alloc: Global,
     lines: &[u8],
-    place: (usize, usize),
+    point: (usize, usize),
     entry: Option<State>,
 ) -> Result<(bool, Option<usize>), Fail> {
     let module = function_of(alloc, lines)?;
     let mut table = table_of(alloc, &module)?;
-    let is_there = table.change(place.0, place.1, entry);
+    let is_there = table.change(point.0, point.1, entry);
     let Some(refused) = verify(module, table).err() else {
         return Ok((is_there, None));
     };
@@ -173,7 +173,7 @@ fn same_slots(one: Slots, other: Slots) -> bool {
 }
 
 /// Whether a table whose entry is overwritten by these slots is refused there, just where they are others.
-fn is_seen(
+fn is_noticed(
     alloc: Global,
     lines: &[u8],
     at: usize,
@@ -208,14 +208,14 @@ fn is_guarded(alloc: Global, lines: &[u8], at: usize, slots: Slots) -> Result<bo
         return Ok(false);
     }
     for other in OVERWRITTEN {
-        if !is_seen(alloc, lines, at, slots, *other)? {
+        if !is_noticed(alloc, lines, at, slots, *other)? {
             return Ok(false);
         }
     }
     Ok(true)
 }
 
-/// The first point that a path reaches of which some change isn't refused, or whose true entry is.
+/// The first point on a path at which some change isn't refused, or the true entry is.
 fn first_unguarded(
     alloc: Global,
     lines: &[u8],
@@ -244,8 +244,8 @@ fn first_unguarded_table(alloc: Global) -> Result<Option<(usize, usize)>, Fail> 
 #[test]
 fn changed_entries(rt: HostRuntime) -> Result<(), Fail> {
     assert_eq!(rt; first_unguarded_table(rt.alloc())?, None);
-    for place in [(0, 3), (1, 0)] {
-        let answer = answer_to_change(rt.alloc(), TAKE_AND_DROP, place, None)?;
+    for point in [(0, 3), (1, 0)] {
+        let answer = answer_to_change(rt.alloc(), TAKE_AND_DROP, point, None)?;
         assert_eq!(rt; answer, (false, None));
     }
     Ok(())

@@ -1,22 +1,36 @@
--- The calls that a look-up by name finds.
+-- The look-up of the functions of calls by their names.
 use Rattle.std.proofs.Common.{◌≡◌, ℕ, ◌+◌, ◌<◌, ◌≤◌, List, [], ◌∷◌, ◌++◌, length, get_or, take, drop, refl, sym, ap}
-use Rattle.std.proofs.Common.{◌∙◌, subst, arith, Bool, true, false, Option, None, Some, take-append-drop}
+use Rattle.std.proofs.Common.{◌∙◌, subst, arith, Bool, true, false, Option, None, Some, ltb, inl, inr, take-append-drop}
 use Rattle.std.specs.Prelude.{IsTrue}
 use Rattle.std.specs.List.{AllByRecursion, list_any, position, position_or_len}
+use Rattle.std.proofs.lemmas.Bool.{cases_Bool, ltb-true, ltb-false}
 use Rattle.std.proofs.lemmas.List.{take_more, drop_more, map_more, length-map}
 use Rattle.std.proofs.lemmas.List.Sums.{passes_at_first, fails_before_first}
 use Rattle.std.proofs.lemmas.List.Recursion.{or_at, or_from_places}
 use Rattle.brc_lang.specs.declared.module.Function.{Function}
 use Rattle.brc_lang.specs.declared.module.Module.{Module}
-use Rattle.brc_lang.proofs.Cuts.{found_place, found_none}
 use Rattle.brc_model.specs.Safety.{AreCalls, IsCall}
 use Rattle.brc_model.specs.declared.thread.Call.{Call}
 use Rattle.brc_schedule.specs.declared.schedule.PlannedCall.{PlannedCall}
 use Rattle.brc_schedule.specs.declared.schedule.Schedule.{Schedule}
 use Rattle.brc_schedule.specs.Text.{IsPlannedCall, IsSchedule}
-use Rattle.brc_command.specs.Calls.{has_name, has_function, is_known, call_of, calls_of, AreKnown, IsFirstUnknown}
+use Rattle.brc_command.specs.Calls.{is_named, has_function, is_known, call_of, calls_of, AreKnown, IsFirstUnknown}
 
 -- ---- one look-up
+
+found_at : (p : Function → Bool) (fs : List Function) (i : ℕ) → position p fs ≡ Some i
+    → (position_or_len p fs < length fs) × (position_or_len p fs ≡ i)
+found_at p fs i e = elim (cases_Bool (ltb (position_or_len p fs) (length fs))) [
+  | inl passes ↦
+      (ltb-true _ _ passes, let s : Some (position_or_len p fs) ≡ Some i = sym (rw passes refl) ∙ e in cc)
+  | inr fails ↦ let n : None ≡ Some i = sym (rw fails refl) ∙ e in absurd cc
+]
+
+found_none : (p : Function → Bool) (fs : List Function) → position p fs ≡ None → length fs ≤ position_or_len p fs
+found_none p fs e = elim (cases_Bool (ltb (position_or_len p fs) (length fs))) [
+  | inl passes ↦ let n : Some (position_or_len p fs) ≡ None = sym (rw passes refl) ∙ e in absurd cc
+  | inr fails ↦ ltb-false _ _ fails
+]
 
 passes_any : (p : Function → Bool) (fs : List Function) → position_or_len p fs < length fs → list_any p fs ≡ true
 passes_any p [] h = absurd (omega arith)
@@ -28,40 +42,40 @@ passes_none p [] h = refl
 passes_none p (f ∷ fs) h = or_from_places (list_any p) p refl (λ _ _. refl) (f ∷ fs) f
     (λ i inside. fails_before_first p (f ∷ fs) i f (omega arith))
 
-pub known_there : (m : Module) (name : List ℕ) (i : ℕ) → position (has_name name) m.functions ≡ Some i
+pub known_there : (m : Module) (name : List ℕ) (i : ℕ) → position (is_named name) m.functions ≡ Some i
     → has_function m name ≡ true
-known_there m name i found = passes_any (has_name name) m.functions (found_place (has_name name) m.functions i found).0
+known_there m name i found = passes_any (is_named name) m.functions (found_at (is_named name) m.functions i found).0
 
-pub unknown_there : (m : Module) (name : List ℕ) → position (has_name name) m.functions ≡ None
+pub unknown_there : (m : Module) (name : List ℕ) → position (is_named name) m.functions ≡ None
     → has_function m name ≡ false
-unknown_there m name none = passes_none (has_name name) m.functions (found_none (has_name name) m.functions none)
+unknown_there m name none = passes_none (is_named name) m.functions (found_none (is_named name) m.functions none)
 
 -- the look-up as the code has it
 pub looked_up : (m : Module) (wanted : List ℕ) (fs : List Function) (name : List ℕ) (r : Option ℕ) → fs ≡ m.functions
     → name ≡ wanted
-    → r ≡ position (has_name name) fs → r ≡ position (has_name wanted) m.functions
+    → r ≡ position (is_named name) fs → r ≡ position (is_named wanted) m.functions
 looked_up m wanted fs name r same named found =
-    found ∙ ap (λ n. position (has_name n) fs) named ∙ ap (λ gs. position (has_name wanted) gs) same
+    found ∙ ap (λ n. position (is_named n) fs) named ∙ ap (λ gs. position (is_named wanted) gs) same
 
 -- a function that the module has lies inside it
 inside : (m : Module) (call : PlannedCall) → IsTrue (is_known m call) → (call_of m call).function < length m.functions
 inside m call known =
-    let p = has_name call.name in
+    let p = is_named call.name in
     elim (position p m.functions) as (λ v. position p m.functions ≡ v
     → position_or_len p m.functions < length m.functions) [
-      | Some i ↦ λ found. (found_place p m.functions i found).0
+      | Some i ↦ λ found. (found_at p m.functions i found).0
       | None ↦ λ none. let unknown = unknown_there m call.name none in absurd (cc (unknown, known))
     ] refl
 
--- what the code makes of it
-call_there : (m : Module) (call : PlannedCall) (i : ℕ) → position (has_name call.name) m.functions ≡ Some i
+-- the call that the code makes
+call_there : (m : Module) (call : PlannedCall) (i : ℕ) → position (is_named call.name) m.functions ≡ Some i
     → call_of m call ≡ record { function = i; times = call.times }
 call_there m call i found =
     let made : ℕ → Call = λ n. record { function = n; times = call.times } in
-    ap made (found_place (has_name call.name) m.functions i found).1
+    ap made (found_at (is_named call.name) m.functions i found).1
 
 pub made : (m : Module) (call : PlannedCall) (i : ℕ) (calls before : List Call)
-    → position (has_name call.name) m.functions ≡ Some i → calls ≡ before
+    → position (is_named call.name) m.functions ≡ Some i → calls ≡ before
     → calls ++ record { function = i; times = call.times } ∷ [] ≡ before ++ call_of m call ∷ []
 made m call i calls before found same = ap (λ l. l ++ record { function = i; times = call.times } ∷ []) same
     ∙ ap (λ c. before ++ c ∷ []) (sym (call_there m call i found))
@@ -102,7 +116,7 @@ calls_next m xs i call h here = sym (map_more (call_of m) xs i call h
 
 pub first_unknown : (m : Module) (xs : List PlannedCall) (i : ℕ) (call : PlannedCall) → i < length xs
     → get_or xs i call ≡ call → AreKnown m (take i xs)
-    → position (has_name call.name) m.functions ≡ None → IsFirstUnknown m xs call.name
+    → position (is_named call.name) m.functions ≡ None → IsFirstUnknown m xs call.name
 first_unknown m xs i call h here known none = record {
   above = take i xs;
   call = call;

@@ -1,5 +1,5 @@
 mod Accepting
 mod Calling
 mod Machines
-mod Telling
+mod Outputs
 mod Turning

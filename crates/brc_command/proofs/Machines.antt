@@ -2,7 +2,7 @@
 use Rattle.std.proofs.Common.{◌≡◌, ℕ, List, refl, sym, ap, ◌∙◌}
 use Rattle.brc_lang.specs.declared.module.Module.{Module}
 use Rattle.brc_model.specs.declared.thread.Choice.{Choice}
-use Rattle.brc_model.specs.Machine.{Machine, first_machine, machine_after}
+use Rattle.brc_model.specs.StepMachine.{StepMachine, first_machine, machine_after}
 use Rattle.brc_model.specs.World.{world_of}
 use Rattle.brc_schedule.specs.declared.schedule.Schedule.{Schedule}
 use Rattle.brc_world.specs.MachineTallies.{IsMachineOf, machine_tally}
@@ -30,9 +30,10 @@ is_machine module_text schedule_text m s ready =
 
 abbrev Follow : Type 0
 Follow =
-    (m : Machine) (events : List (ℕ × Choice)) → world_of (machine_after m events) ≡ world_after (world_of m) events
+    (m : StepMachine) (events : List (ℕ × Choice)) → world_of (machine_after m events) ≡ world_after (world_of m) events
 
-pub tally_of_machine : Follow → ((p : Module) (m : Machine) → IsMachineOf p m → tally_of (world_of m) ≡ machine_tally m)
+pub tally_of_machine : Follow
+    → ((p : Module) (m : StepMachine) → IsMachineOf p m → tally_of (world_of m) ≡ machine_tally m)
     → (module_text schedule_text : List ℕ) (m : Module) (s : Schedule) → IsReady module_text schedule_text m s
     → tally_of (last_world m s) ≡ machine_tally (last_machine m s)
 tally_of_machine follows tallies module_text schedule_text m s ready =

@@ -11,7 +11,8 @@ use Rattle.brc_lang.specs.declared.module.Module.{Module}
 use Rattle.brc_model.specs.declared.thread.Call.{Call}
 use Rattle.brc_model.specs.declared.thread.Choice.{Choice}
 use Rattle.brc_model.specs.declared.thread.Choice.TheVariants.{Ok as Succeed}
-use Rattle.brc_model.specs.Machine.{Actor, main_actor}
+use Rattle.brc_model.specs.Actions.{StepActor}
+use Rattle.brc_model.specs.StepMachine.{main_actor}
 use Rattle.brc_model.specs.Safety.{has_gone}
 use Rattle.brc_model.specs.World.{World, step, first_world}
 use Rattle.brc_report.specs.declared.tally.Tally.{Tally}
@@ -82,20 +83,21 @@ tally_of_last m rows calls planned events first last (Err e) same is led counted
 -- ---- who is gone
 
 has_gone_at : (w : World) (t : ℕ) (b : Bool) → t < length w.actors → b ≡ is_gone_at w t
-    → has_gone (get_or w.actors t main_actor).status ≡ b
+    → has_gone (get_or w.actors t main_actor).actor.status ≡ b
 has_gone_at w t b inside answer = sym (answer ∙ ap is_gone (slice_get-get_or w.actors t main_actor inside))
 
 -- a thread that isn't gone
 pub one_runs : (w : World) (t : ℕ) → t < length w.actors → false ≡ is_gone_at w t
-    → list_all (λ (a : Actor). has_gone a.status) w.actors ≡ false
+    → list_all (λ (a : StepActor). has_gone a.actor.status) w.actors ≡ false
 one_runs w t inside answer =
-    list_all_at (λ (a : Actor). has_gone a.status) w.actors t main_actor inside (has_gone_at w t false inside answer)
+    list_all_at (λ (a : StepActor). has_gone a.actor.status) w.actors t main_actor inside
+    (has_gone_at w t false inside answer)
 
 -- one more that is
 pub gone_more : (w : World) (t : ℕ) → t < length w.actors → true ≡ is_gone_at w t
-    → list_all (λ (a : Actor). has_gone a.status) (take t w.actors) ≡ true
-    → list_all (λ (a : Actor). has_gone a.status) (take (t + 1) w.actors) ≡ true
+    → list_all (λ (a : StepActor). has_gone a.actor.status) (take t w.actors) ≡ true
+    → list_all (λ (a : StepActor). has_gone a.actor.status) (take (t + 1) w.actors) ≡ true
 gone_more w t inside answer before =
-    list_all_more (λ (a : Actor). has_gone a.status) w.actors t main_actor inside
-    ∙ ap (λ b. b && has_gone (get_or w.actors t main_actor).status) before
+    list_all_more (λ (a : StepActor). has_gone a.actor.status) w.actors t main_actor inside
+    ∙ ap (λ b. b && has_gone (get_or w.actors t main_actor).actor.status) before
     ∙ has_gone_at w t true inside answer

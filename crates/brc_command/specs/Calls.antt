@@ -1,4 +1,4 @@
--- Which functions a schedule's calls name.
+-- The functions that a schedule's calls name.
 use Rattle.std.specs.Prelude.{◌≡◌, ℕ, Bool, false, IsTrue, List, ◌∷◌, ◌++◌, map}
 use Rattle.std.specs.List.{AllByRecursion, list_any, position_or_len}
 use Rattle.std.specs.Str.{bytes_eq}
@@ -7,16 +7,16 @@ use Rattle.brc_lang.specs.declared.module.Module.{Module}
 use Rattle.brc_model.specs.declared.thread.Call.{Call}
 use Rattle.brc_schedule.specs.declared.schedule.PlannedCall.{PlannedCall}
 
-abbrev pub has_name : List ℕ → Function → Bool
-has_name name f = bytes_eq f.name name
+abbrev pub is_named : List ℕ → Function → Bool
+is_named name f = bytes_eq f.name name
 
--- whether the module has a function of this name
+-- the module has a function of this name
 abbrev pub has_function : Module → List ℕ → Bool
-has_function m name = list_any (has_name name) m.functions
+has_function m name = list_any (is_named name) m.functions
 
 -- calls of the first function of this name
 abbrev pub calls_named : Module → List ℕ → ℕ → Call
-calls_named m name times = record { function = position_or_len (has_name name) m.functions; times = times }
+calls_named m name times = record { function = position_or_len (is_named name) m.functions; times = times }
 
 abbrev pub is_known : Module → PlannedCall → Bool
 is_known m call = has_function m call.name

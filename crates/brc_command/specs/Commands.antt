@@ -1,4 +1,4 @@
--- What each command writes over the files that a loader may give, and what may stand in its way.
+-- The report of each command over the files that a loader may give, and the reasons why it may stop.
 use Rattle.std.specs.Prelude.{◌≡◌, ◌≢◌, ◌⊎◌, ℕ, true, false, List, Option, codes}
 use Rattle.std.specs.Io.KnownBytes.{Appends}
 use Rattle.brc_lang.specs.declared.module.Module.{Module}
@@ -23,7 +23,7 @@ use Rattle.brc_command.specs.Lines.{stop_text, stop_status, version_text}
 use Rattle.brc_command.specs.Texts.{IsReady, IsFaultOfTexts, report}
 use Rattle.brc_command.specs.Turns.{IsTallyOfRun}
 
--- ---- the reports. `gives path bytes`: the loader may give these bytes for the path
+-- ---- the reports; `gives path bytes`: the loader may give these bytes for the path
 
 -- the text spells an accepted module
 pub record IsAccepted (text : List ℕ) (m : Module) : Type 0 where
@@ -37,7 +37,7 @@ pub record HasCheckReport (gives : List ℕ → List ℕ → Type 0) (file text 
   pub accepted : IsAccepted module_text m
   pub reported : text ≡ accepted_text m
 
--- a path that means standard input, which is read once
+-- the path that means standard input, which can be read only once
 abbrev pub IsStandardInput : List ℕ → Type 0
 IsStandardInput path = path ≡ codes "-"
 
@@ -72,8 +72,8 @@ HasReport gives (ToCheck file) text = HasCheckReport gives file.now text
 HasReport gives (ToStep file schedule) text = HasStepReport gives file.now schedule.now text
 HasReport gives Version text = text ≡ version_text
 
--- ---- what stands in the way. `lacks path`: the loader may answer that the path can't be read. Want of memory and a
--- writer that takes no more may stand in the way of anything
+-- ---- the reasons; `lacks path`: the loader may answer that the path can't be read. Refused memory and an error of the
+-- writer may stop any command
 
 -- the text spells no accepted module
 abbrev pub IsModuleFault : List ℕ → StepFault → Type 0
@@ -82,13 +82,13 @@ IsModuleFault text (Refused r) = (m : Module) × Spells text m × IsRefusedFor m
 IsModuleFault text NoMemory = Unit {0}
 IsModuleFault text _ = ⊥
 
--- no accepted module comes from the file
-abbrev pub StandsBeforeModule : (List ℕ → List ℕ → Type 0) → (List ℕ → Type 0) → List ℕ → Stop → Type 0
-StandsBeforeModule gives lacks file UnreadableFile = lacks file
-StandsBeforeModule gives lacks file (NoFunction name) = ⊥
-StandsBeforeModule gives lacks file (Fault NoMemory) = Unit {0}
-StandsBeforeModule gives lacks file (Fault Output) = Unit {0}
-StandsBeforeModule gives lacks file (Fault e) = (text : List ℕ) × gives file text × IsModuleFault text e
+-- the file gives no accepted module
+abbrev pub IsModuleReason : (List ℕ → List ℕ → Type 0) → (List ℕ → Type 0) → List ℕ → Stop → Type 0
+IsModuleReason gives lacks file UnreadableFile = lacks file
+IsModuleReason gives lacks file (NoFunction name) = ⊥
+IsModuleReason gives lacks file (Fault NoMemory) = Unit {0}
+IsModuleReason gives lacks file (Fault Output) = Unit {0}
+IsModuleReason gives lacks file (Fault e) = (text : List ℕ) × gives file text × IsModuleFault text e
 
 -- the accepted module has no function of the name
 pub record LacksFunction (gives : List ℕ → List ℕ → Type 0) (file name : List ℕ) : Type 0 where
@@ -98,12 +98,12 @@ pub record LacksFunction (gives : List ℕ → List ℕ → Type 0) (file name :
   pub accepted : IsAccepted module_text m
   pub unknown : has_function m name ≡ false
 
-abbrev pub StandsBeforeRun : (List ℕ → List ℕ → Type 0) → (List ℕ → Type 0) → Run → Stop → Type 0
-StandsBeforeRun gives lacks asked (NoFunction name) = (name ≡ asked.function)
+abbrev pub IsRunReason : (List ℕ → List ℕ → Type 0) → (List ℕ → Type 0) → Run → Stop → Type 0
+IsRunReason gives lacks asked (NoFunction name) = (name ≡ asked.function)
     × LacksFunction gives asked.file.now asked.function.now
-StandsBeforeRun gives lacks asked stop = StandsBeforeModule gives lacks asked.file.now stop
+IsRunReason gives lacks asked stop = IsModuleReason gives lacks asked.file.now stop
 
--- two texts that the files may have are at fault
+-- two texts that the files may have are faulty
 pub record AreAtFault (gives : List ℕ → List ℕ → Type 0) (file schedule : List ℕ) (e : StepFault) : Type 0 where
   pub module_text : List ℕ
   pub schedule_text : List ℕ
@@ -111,27 +111,27 @@ pub record AreAtFault (gives : List ℕ → List ℕ → Type 0) (file schedule 
   pub schedule_given : gives schedule schedule_text
   pub fault : IsFaultOfTexts module_text schedule_text e
 
-abbrev pub StandsBeforeSteps : (List ℕ → List ℕ → Type 0) → (List ℕ → Type 0) → List ℕ → List ℕ → Stop → Type 0
-StandsBeforeSteps gives lacks file schedule UnreadableFile = lacks file ⊎ lacks schedule
+abbrev pub IsStepReason : (List ℕ → List ℕ → Type 0) → (List ℕ → Type 0) → List ℕ → List ℕ → Stop → Type 0
+IsStepReason gives lacks file schedule UnreadableFile = lacks file ⊎ lacks schedule
     ⊎ (IsStandardInput file × IsStandardInput schedule)
-StandsBeforeSteps gives lacks file schedule (NoFunction name) = ⊥
-StandsBeforeSteps gives lacks file schedule (Fault NoMemory) = Unit {0}
-StandsBeforeSteps gives lacks file schedule (Fault Output) = Unit {0}
-StandsBeforeSteps gives lacks file schedule (Fault e) = AreAtFault gives file schedule e
+IsStepReason gives lacks file schedule (NoFunction name) = ⊥
+IsStepReason gives lacks file schedule (Fault NoMemory) = Unit {0}
+IsStepReason gives lacks file schedule (Fault Output) = Unit {0}
+IsStepReason gives lacks file schedule (Fault e) = AreAtFault gives file schedule e
 
-abbrev pub Stands : (List ℕ → List ℕ → Type 0) → (List ℕ → Type 0) → Asked → Stop → Type 0
-Stands gives lacks (ToRun asked) stop = StandsBeforeRun gives lacks asked stop
-Stands gives lacks (ToCheck file) stop = StandsBeforeModule gives lacks file.now stop
-Stands gives lacks (ToStep file schedule) stop = StandsBeforeSteps gives lacks file.now schedule.now stop
-Stands gives lacks Version stop = stop ≡ Fault Output
+abbrev pub IsReason : (List ℕ → List ℕ → Type 0) → (List ℕ → Type 0) → Asked → Stop → Type 0
+IsReason gives lacks (ToRun asked) stop = IsRunReason gives lacks asked stop
+IsReason gives lacks (ToCheck file) stop = IsModuleReason gives lacks file.now stop
+IsReason gives lacks (ToStep file schedule) stop = IsStepReason gives lacks file.now schedule.now stop
+IsReason gives lacks Version stop = stop ≡ Fault Output
 
--- ---- what is left on the outputs
+-- ---- the outputs afterwards
 
--- the report, whole
+-- the whole report
 abbrev pub Reports : (List ℕ → Type 0) → Option (List ℕ) → Option (List ℕ) → Type 0
 Reports is_report old new = (text : List ℕ) × is_report text × Appends old new text
 
--- a beginning of the report
+-- a prefix of the report
 abbrev pub BeginsReport : (List ℕ → Type 0) → Option (List ℕ) → Option (List ℕ) → Type 0
 BeginsReport is_report old new = (text : List ℕ) × is_report text × AppendsBeginning old new text
 
@@ -140,13 +140,13 @@ pub record IsDone (is_report : List ℕ → Type 0) (old new err_old err_new : O
   pub reported : Reports is_report old new
   pub silent : err_new ≡ err_old
 
--- one thing that stands in the way gives the status and the line, of which at least a beginning is on standard error.
--- Standard output is as it was, or has a beginning of the report where it took no more
-pub record IsStopped (is_report : List ℕ → Type 0) (stands : Stop → Type 0)
+-- one reason gives the status and the line, of which at least a prefix is on standard error. Standard output is as it
+-- was, or has a prefix of the report if its writer returned an error
+pub record IsStopped (is_report : List ℕ → Type 0) (is_reason : Stop → Type 0)
     (old new err_old err_new : Option (List ℕ)) (status : ℕ) : Type 0 where
   pub stop : Stop
-  pub reason : stands stop
+  pub reason : is_reason stop
   pub same_status : status ≡ stop_status stop
-  pub told : AppendsBeginning err_old err_new (stop_text stop)
+  pub line : AppendsBeginning err_old err_new (stop_text stop)
   pub unwritten : stop ≢ Fault Output → new ≡ old
   pub begun : stop ≡ Fault Output → BeginsReport is_report old new

@@ -1,4 +1,4 @@
--- The line about what stands in the way of a command, and the status that goes with it.
+-- The line and the status for each reason why a command stops.
 use Rattle.std.specs.Prelude.{ℕ, List, [], ◌++◌, codes, decimal}
 use Rattle.brc_lang.specs.Grammar.{line}
 use Rattle.brc_lang.specs.declared.fault.FaultCode.{FaultCode}
@@ -43,15 +43,15 @@ check_code checks.NoMemory = codes "C12"
 
 -- ---- lines
 
--- a word, whose it is, a number with its mark, and a code
-abbrev pub placed_text : List ℕ → List ℕ → List ℕ → List ℕ → List ℕ → List ℕ
-placed_text word whose mark number code = line (word ++ whose ++ mark ++ number ++ codes " " ++ code)
+-- a word, the name to which it belongs, a number after its mark, and a code
+abbrev pub located_text : List ℕ → List ℕ → List ℕ → List ℕ → List ℕ → List ℕ
+located_text word whose mark number code = line (word ++ whose ++ mark ++ number ++ codes " " ++ code)
 
 abbrev pub unreadable_text : List ℕ → ReadFault → List ℕ
-unreadable_text file e = placed_text (codes "unreadable ") file (codes "line ") (decimal e.line) (fault_code e.code)
+unreadable_text file e = located_text (codes "unreadable ") file (codes "line ") (decimal e.line) (fault_code e.code)
 
 abbrev pub refused_text : Refusal → List ℕ
-refused_text r = placed_text (codes "refused ") r.function (codes " @") (decimal r.at) (check_code r.code)
+refused_text r = located_text (codes "refused ") r.function (codes " @") (decimal r.at) (check_code r.code)
 
 abbrev pub unknown_text : List ℕ → List ℕ
 unknown_text name = line (codes "no function " ++ name)
@@ -74,7 +74,7 @@ version_text = line (codes "brc 0.1.0")
 
 -- ---- statuses
 
--- a refused module is 1, want of memory is 3, everything else is 2
+-- 1 for a refused module, 3 for refused memory, and 2 otherwise
 abbrev pub fault_status : StepFault → ℕ
 fault_status (Refused r) = 1
 fault_status NoMemory = 3
@@ -84,7 +84,7 @@ abbrev pub stop_status : Stop → ℕ
 stop_status (Fault e) = fault_status e
 stop_status _ = 2
 
--- ---- a file that isn't there
+-- ---- a file that can't be loaded
 
 abbrev pub stop_of : LoadError → Stop
 stop_of loads.Unreadable = UnreadableFile

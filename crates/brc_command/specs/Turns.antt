@@ -1,11 +1,11 @@
--- What workers come to that are stepped in turn.
+-- The tally of workers that are stepped in turn.
 use Rattle.std.specs.Prelude.{◌≡◌, ℕ, List, ◌++◌, map, replicate, true}
 use Rattle.std.specs.List.{list_all, range_with_len, repeat}
 use Rattle.brc_lang.specs.declared.module.Module.{Module}
 use Rattle.brc_model.specs.declared.thread.Call.{Call}
 use Rattle.brc_model.specs.declared.thread.Choice.{Choice}
 use Rattle.brc_model.specs.declared.thread.Choice.TheVariants.{Ok}
-use Rattle.brc_model.specs.Machine.{Actor}
+use Rattle.brc_model.specs.Actions.{StepActor}
 use Rattle.brc_model.specs.Safety.{has_gone}
 use Rattle.brc_model.specs.World.{World, first_world}
 use Rattle.brc_report.specs.declared.tally.Tally.{Tally}
@@ -24,10 +24,10 @@ steps_of_main n = replicate n (0, Ok)
 
 -- every thread is gone
 abbrev pub AreGone : World → Type 0
-AreGone w = list_all (λ (a : Actor). has_gone a.status) w.actors ≡ true
+AreGone w = list_all (λ (a : StepActor). has_gone a.actor.status) w.actors ≡ true
 
--- The tally of a world in which every thread is gone. From the first world, in which each worker is to make the call,
--- whole rounds of the workers lead there, and then steps of main alone.
+-- The tally of a world in which every thread is gone. Whole rounds of the workers and then steps of main alone lead
+-- there from the first world, in which each worker is to make the call.
 pub record IsTallyOfRun (m : Module) (rows workers : ℕ) (call : Call) (tally : Tally) : Type 0 where
   pub rounds : ℕ
   pub more : ℕ

@@ -1,9 +1,9 @@
-//! The functions that a schedule's calls name.
+//! The calls of a schedule, with the numbers of the functions that they name.
 
 ghost use Rattle.std.specs.Prelude.{◌≡◌, position, IfOk, OnOk, IfErr};
 ghost use Rattle.brc_model.specs.Safety.{AreCalls};
 ghost use Rattle.brc_schedule.specs.Text.{IsSchedule};
-ghost use Rattle.brc_command.specs.Calls.{has_name, calls_of, AreKnown};
+ghost use Rattle.brc_command.specs.Calls.{is_named, calls_of, AreKnown};
 ghost use Rattle.brc_command.specs.Texts.{IsCallFault};
 
 use crate::step_fault::StepFault;
@@ -12,14 +12,16 @@ use brc_model::Call;
 use brc_schedule::Schedule;
 use std::alloc::Global;
 
-/// The number of the first function of this name.
+/// Returns the number of the first function of this name, or `None`.
 pub fn number_of(functions: &[Function], name: &[u8]) -> Option<usize>
-    ensures { result ≡ position (has_name name.now) functions.now }
+    ensures { result ≡ position (is_named name.now) functions.now }
 {
     functions.iter().position(|f| f.name.as_bytes() == name)
 }
 
-/// The schedule's calls, each of the first function of its name.
+/// Returns the schedule's calls, each of the first function of its name.
+///
+/// Returns `NoFunction` for the first call whose function the module lacks, and `NoMemory`.
 pub fn calls_of(alloc: Global, module: &Module, schedule: &Schedule) -> Result<Vec<Call>, StepFault>
     requires { IsSchedule schedule.now }
     ensures found { IfOk result (λ calls. calls.items ≡ calls_of module.now schedule.now.calls) }

@@ -1,4 +1,4 @@
-//! What the commands do.
+//! The commands over a loader and writers.
 
 ghost use Rattle.std.specs.Prelude.{◌≡◌, ◌≢◌, ◌≤◌, true, false, IsSome, IsNone, IfSome, IfErr, OnOk, IsErrOf};
 ghost use Rattle.std.specs.Prelude.{MatchResult};
@@ -7,7 +7,7 @@ ghost use Rattle.brc_command.specs.declared.stop.Stop.TheVariants.{Fault};
 ghost use Rattle.brc_command.specs.declared.step_fault.StepFault.TheVariants.{Output};
 ghost use Rattle.brc_command.specs.Calls.{calls_named, has_function};
 ghost use Rattle.brc_command.specs.Commands.{Reports, BeginsReport, HasCheckReport, HasRunReport, HasStepReport};
-ghost use Rattle.brc_command.specs.Commands.{HasReport, StandsBeforeModule, StandsBeforeRun, StandsBeforeSteps, Stands};
+ghost use Rattle.brc_command.specs.Commands.{HasReport, IsModuleReason, IsRunReason, IsStepReason, IsReason};
 ghost use Rattle.brc_command.specs.Commands.{IsDone, IsStopped, IsAccepted, IsModuleFault};
 
 use crate::accepted::write_accepted;
@@ -28,8 +28,9 @@ use std::alloc::Global;
 use std::io::Write;
 use std::sync::Wait;
 
-/// Carries out what is asked and returns the exit status. If it isn't 0, a line on standard error says why; a fault of
-/// standard error changes nothing.
+/// Carries out the request and returns the exit status: 0, or that of `Stop::status`.
+///
+/// If the status isn't 0, a line on standard error gives the reason. An error of standard error is ignored.
 pub fn execute<R: Wait, L: Load, W: Write, E: Write>(
     rt: &R,
     alloc: Global,
@@ -42,7 +43,7 @@ pub fn execute<R: Wait, L: Load, W: Write, E: Write>(
     ensures done { result ≡ 0 → IsDone (HasReport (L.may_give load.old) asked.now) (W.contents out.old)
         (W.contents out.new) (E.contents err.old) (E.contents err.new) }
     ensures stopped { result ≢ 0 → IsStopped (HasReport (L.may_give load.old) asked.now)
-        (Stands (L.may_give load.old) (L.may_lack load.old) asked.now) (W.contents out.old) (W.contents out.new)
+        (IsReason (L.may_give load.old) (L.may_lack load.old) asked.now) (W.contents out.old) (W.contents out.new)
         (E.contents err.old) (E.contents err.new) result }
 {
     match carry_out(rt, alloc, asked, load, out) {
@@ -54,7 +55,9 @@ pub fn execute<R: Wait, L: Load, W: Write, E: Write>(
     }
 }
 
-/// Carries out what is asked, and writes its report.
+/// Carries out the request and writes its report.
+///
+/// Returns the first reason from the top why it can't: a file, the texts, the check, a function's name, memory, output.
 pub fn carry_out<'a, R: Wait, L: Load, W: Write>(
     rt: &R,
     alloc: Global,
@@ -64,7 +67,7 @@ pub fn carry_out<'a, R: Wait, L: Load, W: Write>(
 ) -> Result<(), Stop<'a>>
     ensures reported { OnOk result (Reports (HasReport (L.may_give load.old) asked.now) (W.contents out.old)
         (W.contents out.new)) }
-    ensures stopped { IfErr result (Stands (L.may_give load.old) (L.may_lack load.old) asked.now) }
+    ensures stopped { IfErr result (IsReason (L.may_give load.old) (L.may_lack load.old) asked.now) }
     ensures unwritten { IfErr result (λ e. e ≢ Fault Output → W.contents out.new ≡ W.contents out.old) }
     ensures begun { IsErrOf result (Fault Output) → BeginsReport (HasReport (L.may_give load.old) asked.now)
         (W.contents out.old) (W.contents out.new) }
@@ -89,7 +92,7 @@ fn run_file<'a, R: Wait, L: Load, W: Write>(
 ) -> Result<(), Stop<'a>>
     ensures reported { OnOk result (Reports (HasRunReport (L.may_give load.old) asked.now) (W.contents out.old)
         (W.contents out.new)) }
-    ensures stopped { IfErr result (StandsBeforeRun (L.may_give load.old) (L.may_lack load.old) asked.now) }
+    ensures stopped { IfErr result (IsRunReason (L.may_give load.old) (L.may_lack load.old) asked.now) }
     ensures unwritten { IfErr result (λ e. e ≢ Fault Output → W.contents out.new ≡ W.contents out.old) }
     ensures begun { IsErrOf result (Fault Output) → BeginsReport (HasRunReport (L.may_give load.old) asked.now)
         (W.contents out.old) (W.contents out.new) }
@@ -114,7 +117,7 @@ fn check_file<'a, L: Load, W: Write>(
 ) -> Result<(), Stop<'a>>
     ensures reported { OnOk result (Reports (HasCheckReport (L.may_give load.old) file.now) (W.contents out.old)
         (W.contents out.new)) }
-    ensures stopped { IfErr result (StandsBeforeModule (L.may_give load.old) (L.may_lack load.old) file.now) }
+    ensures stopped { IfErr result (IsModuleReason (L.may_give load.old) (L.may_lack load.old) file.now) }
     ensures unwritten { IfErr result (λ e. e ≢ Fault Output → W.contents out.new ≡ W.contents out.old) }
     ensures begun { IsErrOf result (Fault Output) → BeginsReport (HasCheckReport (L.may_give load.old) file.now)
         (W.contents out.old) (W.contents out.new) }
@@ -127,7 +130,7 @@ fn check_file<'a, L: Load, W: Write>(
     }
 }
 
-// Both files are loaded before either is read, and standard input, which is there once, isn't loaded twice.
+// Both files are loaded before either text is read. Standard input can be loaded only once, so it can't be both.
 fn step_files<'a, L: Load, W: Write>(
     alloc: Global,
     file: &'a str,
@@ -137,7 +140,7 @@ fn step_files<'a, L: Load, W: Write>(
 ) -> Result<(), Stop<'a>>
     ensures reported { OnOk result (Reports (HasStepReport (L.may_give load.old) file.now schedule.now)
         (W.contents out.old) (W.contents out.new)) }
-    ensures stopped { IfErr result (StandsBeforeSteps (L.may_give load.old)
+    ensures stopped { IfErr result (IsStepReason (L.may_give load.old)
         (L.may_lack load.old) file.now schedule.now) }
     ensures unwritten { IfErr result (λ e. e ≢ Fault Output → W.contents out.new ≡ W.contents out.old) }
     ensures begun { IsErrOf result (Fault Output) → BeginsReport
@@ -154,7 +157,7 @@ fn step_files<'a, L: Load, W: Write>(
     }
 }
 
-// The module of the text, read and accepted.
+/// Reads and checks the module of the text.
 fn checked(alloc: Global, bytes: &[u8]) -> Result<Checked, StepFault>
     ensures { MatchResult result (λ c. IsAccepted bytes.now c.module) (λ e. IsModuleFault bytes.now e) }
 {
@@ -162,7 +165,7 @@ fn checked(alloc: Global, bytes: &[u8]) -> Result<Checked, StepFault>
     accepted(alloc, module)
 }
 
-// The call that the command line asks for.
+/// Returns the call that the command line asks for, or `None` if the module lacks the function.
 fn call_of(module: &Module, asked: &Run) -> Option<Call>
     ensures found { IfSome result (λ call. call ≡ calls_named «module».now asked.now.function.now asked.now.times) }
     ensures known { IsSome result → has_function «module».now asked.now.function.now ≡ true }

@@ -1,4 +1,4 @@
-//! The commands over a module: what each writes, what each refuses, and with which status.
+//! The commands over a module: their reports, the reasons why they stop, and the exit statuses.
 #![tactic(auto)]
 
 mod accepted;

@@ -1,16 +1,15 @@
-//! The lines on standard error, each with the reason why a command isn't carried out.
+//! The lines on standard error, each with the reason why a command stops, and the version.
 
 ghost use Rattle.std.specs.Prelude.{◌≡◌, OnOk, OnErr};
-ghost use Rattle.std.specs.List.{flat_map};
 ghost use Rattle.std.specs.Io.KnownBytes.{Appends};
 ghost use Rattle.brc_lang.specs.Written.{AppendsBeginning};
-ghost use Rattle.brc_command.specs.Lines.{fault_code, check_code, placed_text, unreadable_text, refused_text};
+ghost use Rattle.brc_command.specs.Lines.{fault_code, check_code, located_text, unreadable_text, refused_text};
 ghost use Rattle.brc_command.specs.Lines.{unknown_text, fault_text, stop_text, version_text};
 
 use crate::step_fault::StepFault;
 use crate::stop::Stop;
 use brc_check::{CheckCode, Refused};
-use brc_lang::{FaultCode, ReadFault, write_bytes};
+use brc_lang::{FaultCode, ReadFault, write_bytes, write_pieces};
 use itoa::Buffer;
 use std::io;
 use std::io::Write;
@@ -18,7 +17,7 @@ use std::io::Write;
 /// The program's version.
 pub const VERSION: &str = "0.1.0";
 
-/// Writes the program's name and version, as `write_stop` does.
+/// Writes the program's name and version, with the errors of `brc_lang::write_bytes`.
 pub fn write_version<W: Write>(writer: &mut W) -> io::Result<()>
     ensures whole { OnOk result (Appends (W.contents writer.old) (W.contents writer.new) version_text) }
     ensures begun { OnErr result (AppendsBeginning (W.contents writer.old) (W.contents writer.new) version_text) }
@@ -26,8 +25,7 @@ pub fn write_version<W: Write>(writer: &mut W) -> io::Result<()>
     write_pieces(&[b"brc ", VERSION.as_bytes(), b"\n"], writer)
 }
 
-/// Writes the reason's line. A call of the writer that takes no byte or is interrupted is a fault too, and is not tried
-/// again.
+/// Writes the reason's line, with the errors of `brc_lang::write_bytes`.
 pub fn write_stop<W: Write>(stop: &Stop<'_>, writer: &mut W) -> io::Result<()>
     ensures whole { OnOk result (Appends (W.contents writer.old) (W.contents writer.new) (stop_text stop.now)) }
     ensures begun { OnErr result (AppendsBeginning (W.contents writer.old) (W.contents writer.new)
@@ -64,7 +62,7 @@ fn write_unreadable<W: Write>(file: &[u8], fault: &ReadFault, writer: &mut W) ->
     let mut digits = Buffer::new();
     let number = digits.format(fault.line).as_bytes();
     let code = fault_code(fault.code).as_bytes();
-    write_placed(b"unreadable ", file, b"line ", number, code, writer)
+    write_located(b"unreadable ", file, b"line ", number, code, writer)
 }
 
 fn write_refused<W: Write>(refused: &Refused, writer: &mut W) -> io::Result<()>
@@ -76,11 +74,11 @@ fn write_refused<W: Write>(refused: &Refused, writer: &mut W) -> io::Result<()>
     let name = refused.function.as_bytes();
     let number = digits.format(refused.at as u64).as_bytes();
     let code = check_code(refused.code).as_bytes();
-    write_placed(b"refused ", name, b" @", number, code, writer)
+    write_located(b"refused ", name, b" @", number, code, writer)
 }
 
-// A word, whose it is, a number with its mark, and a code.
-fn write_placed<'p, W: Write>(
+/// Writes a word, the name to which it belongs, a number after its mark, and a code.
+fn write_located<'p, W: Write>(
     word: &'p [u8],
     whose: &'p [u8],
     mark: &'p [u8],
@@ -89,9 +87,9 @@ fn write_placed<'p, W: Write>(
     writer: &mut W,
 ) -> io::Result<()>
     ensures whole { OnOk result (Appends (W.contents writer.old) (W.contents writer.new)
-        (placed_text word.now whose.now mark.now number.now code.now)) }
+        (located_text word.now whose.now mark.now number.now code.now)) }
     ensures begun { OnErr result (AppendsBeginning (W.contents writer.old) (W.contents writer.new)
-        (placed_text word.now whose.now mark.now number.now code.now)) }
+        (located_text word.now whose.now mark.now number.now code.now)) }
 {
     write_pieces(&[word, whose, mark, number, b" ", code, b"\n"], writer)
 }
@@ -102,18 +100,6 @@ fn write_unknown<W: Write>(name: &[u8], writer: &mut W) -> io::Result<()>
         (unknown_text name.now)) }
 {
     write_pieces(&[b"no function ", name, b"\n"], writer)
-}
-
-fn write_pieces<W: Write>(pieces: &[&[u8]], writer: &mut W) -> io::Result<()>
-    ensures whole { OnOk result (Appends (W.contents writer.old) (W.contents writer.new)
-        (flat_map (λ piece. piece.now) pieces.now)) }
-    ensures begun { OnErr result (AppendsBeginning (W.contents writer.old) (W.contents writer.new)
-        (flat_map (λ piece. piece.now) pieces.now)) }
-{
-    for piece in pieces {
-        write_bytes(piece, writer)?;
-    }
-    Ok(())
 }
 
 fn fault_code(code: FaultCode) -> &'static str

@@ -6,21 +6,24 @@ use std::alloc::Global;
 /// The path that means standard input.
 pub const STANDARD_INPUT: &str = "-";
 
-/// Why a file's bytes aren't there.
+/// Why a file can't be loaded.
 #[derive(Clone, Copy, Debug, PartialEq, Eq)]
 pub enum LoadError {
+    /// The file can't be read.
     Unreadable,
+    /// Memory was refused.
     NoMemory,
 }
 
-/// Gives a file's bytes.
+/// A source of the bytes of files.
 pub trait Load {
-    // Which bytes it may give for a path, now or later.
+    // The bytes that it may return for a path, now or later.
     ghost may_give: { Self → List ℕ → List ℕ → Type 0 };
 
-    // Whether it may answer, now or later, that the path can't be read.
+    // Whether it may return `Unreadable` for a path, now or later.
     ghost may_lack: { Self → List ℕ → Type 0 };
 
+    /// Returns the bytes of the file, `Unreadable` or `NoMemory`.
     fn load(&mut self, alloc: Global, path: &str) -> Result<Vec<u8>, LoadError>
         ensures given { IfOk result (λ bytes. may_give self.old path.now bytes.items) }
         ensures lacking { IsErrOf result Unreadable → may_lack self.old path.now }

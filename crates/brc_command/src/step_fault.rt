@@ -6,19 +6,20 @@ use brc_lang::{Name, ReadFault};
 use brc_world::NoMemory;
 use std::alloc::AllocFailed;
 
-/// Why a schedule isn't stepped.
+/// Why a schedule can't be stepped, or its report written.
 #[derive(Debug, Drop)]
 pub enum StepFault {
     /// The module's text is faulty.
     Text(ReadFault),
     /// The schedule's text is faulty.
     Plan(ReadFault),
-    /// The module isn't accepted.
+    /// The checker refuses the module.
     Refused(Refused),
-    /// The first call whose function the module lacks is of this name.
+    /// The module lacks the function of this name, which is that of the first such call.
     NoFunction(Name),
+    /// Memory was refused.
     NoMemory,
-    /// The writer takes no more.
+    /// The writer returned an error.
     Output,
 }
 

@@ -1,4 +1,4 @@
-//! A schedule's steps over a module, both from their texts.
+//! The steps of a schedule over a module, both given as texts.
 
 ghost use Rattle.std.specs.Prelude.{◌≡◌, ◌≢◌, ◌⊎◌, IfOk, IfErr, OnOk, IsErrOf, MatchResult};
 ghost use Rattle.brc_model.specs.Safety.{AreCalls};
@@ -19,7 +19,10 @@ use brc_world::{NoMemory, World, runs_follow_machines, tallies_follow_machines};
 use std::alloc::Global;
 use std::io::Write;
 
-/// Runs the schedule's steps over the module, and writes the report of what they come to.
+/// Makes the schedule's steps over the module and writes the report of the world afterwards.
+///
+/// Returns the first reason why it can't: the module's text, the schedule's text, the check, a function's name, memory,
+/// the writer. Nothing is written before the report.
 pub fn step_text<W: Write>(
     alloc: Global,
     module: &[u8],

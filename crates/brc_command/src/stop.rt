@@ -7,20 +7,19 @@ use crate::load::LoadError;
 use crate::step_fault::StepFault;
 use brc_world::NoMemory;
 
-/// Why a command isn't carried out.
+/// The reason why a command stops.
 #[derive(Debug, Drop)]
 pub enum Stop<'a> {
     /// A file can't be read.
     UnreadableFile,
-    /// The module has no function of this name, which the command line asks for.
+    /// The module lacks the function of this name, for which the command line asks.
     NoFunction(&'a str),
-    /// What a file says is at fault, or what came after it was read.
+    /// A text, the check, a schedule's call, memory or the output.
     Fault(StepFault),
 }
 
 impl Stop<'_> {
-    /// The status that the program exits with: 1 for a module that is refused, 3 for want of memory, and 2 for anything
-    /// else.
+    /// Returns the exit status: 1 if the checker refuses the module, 3 if memory is refused, and 2 otherwise.
     pub fn status(&self) -> u8
         ensures faulty { 0 < result }
         ensures known { result ≤ 3 }

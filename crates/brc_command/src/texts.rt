@@ -1,4 +1,4 @@
-//! A module and a schedule, each from its text.
+//! Modules and schedules from their texts.
 
 ghost use Rattle.std.specs.Prelude.{◌≡◌, MatchResult};
 ghost use Rattle.brc_lang.specs.Grammar.{IsModule, Spells};
@@ -12,7 +12,7 @@ use brc_lang::{FaultCode, Module, read};
 use brc_schedule::{Schedule, read_schedule};
 use std::alloc::Global;
 
-/// The module that the bytes spell.
+/// Reads the module that the bytes spell. Returns `Text` or `NoMemory`.
 pub fn module_of(alloc: Global, bytes: &[u8]) -> Result<Module, StepFault>
     ensures { MatchResult result (λ m. Spells bytes.now m) (λ e. IsTextFault bytes.now e) }
 {
@@ -25,7 +25,7 @@ pub fn module_of(alloc: Global, bytes: &[u8]) -> Result<Module, StepFault>
     }
 }
 
-/// The schedule that the bytes spell.
+/// Reads the schedule that the bytes spell. Returns `Plan` or `NoMemory`.
 pub fn schedule_of(alloc: Global, bytes: &[u8]) -> Result<Schedule, StepFault>
     ensures { MatchResult result (λ s. schedules.Spells bytes.now s) (λ e. IsPlanFault bytes.now e) }
 {
@@ -38,7 +38,7 @@ pub fn schedule_of(alloc: Global, bytes: &[u8]) -> Result<Schedule, StepFault>
     }
 }
 
-/// The module as an accepted one.
+/// Checks the module. Returns `Refused` or `NoMemory`.
 pub fn accepted(alloc: Global, module: Module) -> Result<Checked, StepFault>
     requires { IsModule «module» }
     ensures { MatchResult result (λ c. (c.module ≡ «module») × IsAcceptable «module») (λ e. IsCheckFault «module» e) }

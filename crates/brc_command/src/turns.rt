@@ -1,5 +1,6 @@
 ghost use Rattle.std.specs.Prelude.{◌≡◌, ◌+◌, ◌<◌, ◌≤◌, ℕ, length, IfOk, OnOk};
 ghost use Rattle.std.specs.List.{list_all};
+ghost use Rattle.brc_model.specs.Limits.{worker_limit, row_limit};
 ghost use Rattle.brc_model.specs.Safety.{IsCall, has_gone};
 ghost use Rattle.brc_world.specs.Runs.{world_after};
 ghost use Rattle.brc_world.specs.Worlds.{seen};
@@ -12,8 +13,10 @@ use brc_world::{Did, NoMemory, World};
 use std::alloc::Global;
 use std::sync::Wait;
 
-/// Runs 1 to 32 workers, each with 1 to 1024 rows, that each make the call: one step of each in turn until all are
-/// gone, and then steps of main. It returns only when every thread is gone.
+/// Runs 1 to 32 workers, each with 1 to 1024 rows, that each make the call, and returns the tally.
+///
+/// The workers make one step each in turn until all are gone; then main steps. The function returns only when every
+/// thread is gone, or memory is refused.
 pub fn run<R: Wait>(
     rt: &R,
     alloc: Global,
@@ -23,9 +26,9 @@ pub fn run<R: Wait>(
     call: Call,
 ) -> Result<Tally, NoMemory>
     requires some { 0 < workers }
-    requires most { workers ≤ 32 }
+    requires most { workers ≤ worker_limit }
     requires some_rows { 0 < rows }
-    requires most_rows { rows ≤ 1024 }
+    requires most_rows { rows ≤ row_limit }
     requires call { IsCall checked.now.module call }
     ensures { IfOk result (λ tally. IsTallyOfRun checked.now.module rows workers call tally) }
 {
@@ -37,7 +40,7 @@ pub fn run<R: Wait>(
     world.tally(alloc)
 }
 
-// The workers in turn, until all of them were gone before a round.
+/// Steps the workers in turn, until all of them were gone before a round.
 fn finish_workers<R: Wait>(rt: &R, workers: usize, world: &mut World) -> Result<(), NoMemory>
     requires { length world.old.actors ≡ 1 + workers }
     ensures stepped { OnOk result ((n : ℕ) × (seen world.new ≡ world_after (seen world.old) (turns n workers))) }
@@ -51,7 +54,7 @@ fn finish_workers<R: Wait>(rt: &R, workers: usize, world: &mut World) -> Result<
     unreachable!()
 }
 
-// One step of each worker, and whether all of them were gone.
+/// Makes one step of each worker, and returns whether all of them were gone.
 fn step_workers(workers: usize, world: &mut World) -> Result<bool, NoMemory>
     requires { length world.old.actors ≡ 1 + workers }
     ensures stepped { OnOk result (seen world.new ≡ world_after (seen world.old) (turn workers)) }
@@ -64,7 +67,7 @@ fn step_workers(workers: usize, world: &mut World) -> Result<bool, NoMemory>
     Ok(all_gone)
 }
 
-// Main, until every thread is gone.
+/// Steps main until every thread is gone.
 fn finish_main<R: Wait>(rt: &R, world: &mut World) -> Result<(), NoMemory>
     requires { 0 < length world.old.actors }
     ensures stepped { OnOk result ((n : ℕ) × (seen world.new ≡ world_after (seen world.old) (steps_of_main n))) }
@@ -79,8 +82,9 @@ fn finish_main<R: Wait>(rt: &R, world: &mut World) -> Result<(), NoMemory>
     unreachable!()
 }
 
+/// Returns whether every thread is gone.
 fn are_gone(world: &World) -> bool
-    ensures { result ≡ list_all (λ a. has_gone a.status) (seen world.now).actors }
+    ensures { result ≡ list_all (λ a. has_gone a.actor.status) (seen world.now).actors }
 {
     for thread in 0..world.threads() {
         if !world.is_gone(thread) {

@@ -1,5 +1,4 @@
-use crate::commands::{STEP, assert_told, both, to_run};
-use brc_command::Asked;
+use crate::commands::{STEP, assert_outputs, both, to_run};
 
 const TWO_NUMBERS: &[u8] =
     b"module 1\nfunc f\nnum v1 1 else @4\nnum v2 2 else @3\ndrop v2\ndrop v1\nfail\nend\n";
@@ -9,32 +8,17 @@ const ONE_NUMBER: &[u8] = b"module 1\nfunc f\nnum v1 7 else @2\ndrop v1\nfail\ne
 const MOVED: &[u8] = b"module 1\nfunc f\nnum v1 7 else @3\nmove v2 v1\nret v2\nfail\nend\n";
 
 const LATEST: &[u8] =
-    b"module 1\nfunc f\nnum v1 1 else @6\nnum v2 2 else @4\ndrop v1\ngoto @5\nmove v2 v1\nret v2\nnone v2\nret v2\nend\n";
+    b"module 1\nfunc f\nnum v1 1 else @6\nnum v2 2 else @4\ndrop v1\ngoto @5\nmove v2 v1\nret v2\nnone v2\n\
+      ret v2\nend\n";
 
-// With one row the second number isn't made. With three rows a worker's first call makes two numbers, its second one,
-// and its third none: two workers make six.
+// With three rows the first call of a worker makes two numbers, its second one, and its third none: two workers make
+// six.
 #[test]
 fn runs_out_of_rows(rt: HostRuntime) {
-    let cases: [(Asked<'_>, &'static [u8], &[u8]); 3] = [
-        (
-            to_run("f", 1, 1, 1),
-            TWO_NUMBERS,
-            b"threads 1\nrunning 0\ncreated 2\nclosed 2\nalive 0\nhost faults 0\nclose faults 0\n",
-        ),
-        (
-            to_run("f", 1, 1024, 1),
-            TWO_NUMBERS,
-            b"threads 1\nrunning 0\ncreated 3\nclosed 3\nalive 0\nhost faults 0\nclose faults 0\n",
-        ),
-        (
-            to_run("f", 2, 3, 3),
-            LATEST,
-            b"threads 2\nrunning 0\ncreated 7\nclosed 7\nalive 0\nhost faults 0\nclose faults 0\n",
-        ),
-    ];
-    for (asked, module, report) in cases {
-        assert_told(&rt, &asked, both(module, b""), (report, b"", 0));
-    }
+    let report: &[u8] =
+        b"threads 2\nrunning 0\ncreated 7\nclosed 7\nalive 0\nhost faults 0\nclose faults 0\n";
+    let asked = to_run("f", 2, 3, 3);
+    assert_outputs(&rt, &asked, both(LATEST, b""), (report, b"", 0));
 }
 
 // A birth is two steps, kind and local, and the number is there with the second. Its drop is a load and a store of the
@@ -71,7 +55,7 @@ fn counts_the_steps_of_a_number(rt: HostRuntime) {
         ),
     ];
     for (schedule, report) in cases {
-        assert_told(&rt, &STEP, both(ONE_NUMBER, schedule), (report, b"", 0));
+        assert_outputs(&rt, &STEP, both(ONE_NUMBER, schedule), (report, b"", 0));
     }
 }
 
@@ -98,7 +82,7 @@ fn a_moved_number_is_the_same(rt: HostRuntime) {
         ),
     ];
     for (schedule, report) in cases {
-        assert_told(&rt, &STEP, both(MOVED, schedule), (report, b"", 0));
+        assert_outputs(&rt, &STEP, both(MOVED, schedule), (report, b"", 0));
     }
 }
 
@@ -108,11 +92,13 @@ fn workers_have_rows_of_their_own(rt: HostRuntime) {
     let cases: [(&'static [u8], &[u8]); 3] = [
         (
             b"schedule 1\nworkers 2\nrows 4\ncall 1 f 1\ncall 2 f 1\nstep 1 ok 1\nstep 2 ok 2\n",
-            b"threads 2\nrunning 3\ncreated 2\nclosed 0\nalive 2\nhost faults 0\nclose faults 0\nleft 1 list\nleft 6 num\n",
+            b"threads 2\nrunning 3\ncreated 2\nclosed 0\nalive 2\nhost faults 0\nclose faults 0\nleft 1 list\n\
+              left 6 num\n",
         ),
         (
             b"schedule 1\nworkers 2\nrows 4\ncall 1 f 1\ncall 2 f 1\nstep 1 ok 3\nstep 2 ok 4\n",
-            b"threads 2\nrunning 3\ncreated 4\nclosed 0\nalive 4\nhost faults 0\nclose faults 0\nleft 1 list\nleft 2 num\nleft 6 num\nleft 7 num\n",
+            b"threads 2\nrunning 3\ncreated 4\nclosed 0\nalive 4\nhost faults 0\nclose faults 0\nleft 1 list\n\
+              left 2 num\nleft 6 num\nleft 7 num\n",
         ),
         (
             b"schedule 1\nworkers 2\nrows 4\ncall 1 f 1\ncall 2 f 1\nstep 0 ok 1000\nstep 2 ok 1000\nstep 1 ok 1000\n",
@@ -120,6 +106,6 @@ fn workers_have_rows_of_their_own(rt: HostRuntime) {
         ),
     ];
     for (schedule, report) in cases {
-        assert_told(&rt, &STEP, both(TWO_NUMBERS, schedule), (report, b"", 0));
+        assert_outputs(&rt, &STEP, both(TWO_NUMBERS, schedule), (report, b"", 0));
     }
 }

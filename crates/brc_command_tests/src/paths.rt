@@ -1,14 +1,9 @@
-use crate::commands::{CHECK, assert_told, both, told};
+use crate::commands::{CHECK, assert_outputs, both};
 
-// What each module is told on standard error, with its status.
+// The line on standard error for each module.
 #[test]
 fn refuses_paths(rt: HostRuntime) {
-    let cases: [(&'static [u8], &[u8]); 7] = [
-        (
-            b"module 1\nfunc f\nnum v1 1 else @2\ngoto @3\nnone v1\nret v1\nend\n",
-            b"refused f @3 C10\n",
-        ),
-        (b"module 1\nfunc f\nnone v1\nend\n", b"refused f @0 C11\n"),
+    let cases: [(&'static [u8], &[u8]); 5] = [
         (
             b"module 1\nfunc f\nnum v1 1 else @2\ndrop v1\ndrop v1\nfail\nend\n",
             b"refused f @2 C1\n",
@@ -31,37 +26,16 @@ fn refuses_paths(rt: HostRuntime) {
         ),
     ];
     for (text, line) in cases {
-        assert_told(&rt, &CHECK, both(text, b""), (b"", line, 1));
+        assert_outputs(&rt, &CHECK, both(text, b""), (b"", line, 1));
     }
-}
-
-// One path owns the number at `fail` and one doesn't: either fault may be named.
-#[test]
-fn refuses_a_leak_on_one_path(rt: HostRuntime) {
-    let module = b"module 1\nfunc f\nnum v1 1 else @1\nfail\nend\n";
-    let left_owned: &[u8] = b"refused f @1 C5\n";
-    let states_differ: &[u8] = b"refused f @1 C10\n";
-    let (out, err, status) = told(&rt, &CHECK, both(module, b""));
-    let line = err.as_slice();
-    assert!(rt; out.is_empty());
-    assert!(rt; line == left_owned || line == states_differ);
-    assert_eq!(rt; status, 1);
 }
 
 #[test]
 fn refuses_targets(rt: HostRuntime) {
-    let cases: [(&'static [u8], &[u8]); 6] = [
-        (
-            b"module 1\nfunc f\ngoto @0\nfail\nend\n",
-            b"unreadable line 5 L4\n",
-        ),
+    let cases: [(&'static [u8], &[u8]); 4] = [
         (
             b"module 1\nfunc f\nnum v1 1 else @2\nfail\nend\n",
             b"unreadable line 5 L4\n",
-        ),
-        (
-            b"module 1\nfunc f\nnum v16 1 else @1\nfail\nend\n",
-            b"unreadable line 3 L3\n",
         ),
         (
             b"module 1\nfunc f\nnum v1 4294967296 else @1\nfail\nend\n",
@@ -77,7 +51,7 @@ fn refuses_targets(rt: HostRuntime) {
         ),
     ];
     for (text, line) in cases {
-        assert_told(&rt, &CHECK, both(text, b""), (b"", line, 2));
+        assert_outputs(&rt, &CHECK, both(text, b""), (b"", line, 2));
     }
 }
 
@@ -93,7 +67,8 @@ fn accepts_paths_that_agree(rt: HostRuntime) {
             b"accepted 1 functions 4 instructions\n",
         ),
         (
-            b"module 1\nfunc f\nnum v1 1 else @6\nnum v2 2 else @4\ndrop v1\ngoto @5\nmove v2 v1\nret v2\nnone v2\nret v2\nend\n",
+            b"module 1\nfunc f\nnum v1 1 else @6\nnum v2 2 else @4\ndrop v1\ngoto @5\nmove v2 v1\nret v2\n\
+              none v2\nret v2\nend\n",
             b"accepted 1 functions 8 instructions\n",
         ),
         // no path reaches the second instruction
@@ -103,6 +78,6 @@ fn accepts_paths_that_agree(rt: HostRuntime) {
         ),
     ];
     for (text, report) in cases {
-        assert_told(&rt, &CHECK, both(text, b""), (report, b"", 0));
+        assert_outputs(&rt, &CHECK, both(text, b""), (report, b"", 0));
     }
 }

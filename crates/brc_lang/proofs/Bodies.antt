@@ -1,5 +1,6 @@
 -- Inside a function, line by line.
-use Rattle.std.proofs.Common.{◌≡◌, ℕ, ◌+◌, ◌<◌, true, false, List, [], ◌∷◌, ◌++◌, length, eqb, Some, None, Bor, Result, Ok, Err, refl, sym, ap, subst, ◌∙◌, append_assoc, arith, inl, inr}
+use Rattle.std.proofs.Common.{◌≡◌, ℕ, ◌+◌, ◌<◌, true, false, List, [], ◌∷◌, ◌++◌, length, eqb, Some, None, Bor, Result}
+use Rattle.std.proofs.Common.{Ok, Err, refl, sym, ap, subst, ◌∙◌, append_assoc, arith, inl, inr}
 use Rattle.std.specs.Prelude.{codes}
 use Rattle.std.specs.List.{AllByRecursion}
 use Rattle.std.specs.Str.{bytes_eq}
@@ -10,27 +11,29 @@ use Rattle.std.proofs.lemmas.Slice.Eq.{bytes_eq-Decides}
 use Rattle.brc_lang.specs.declared.module.Instr.{Instr}
 use Rattle.brc_lang.specs.declared.fault.FaultCode.{FaultCode}
 use Rattle.brc_lang.specs.declared.fault.FaultCode.TheVariants.{OverLimit, Target}
-use Rattle.brc_lang.specs.declared.place.Place.{Place}
+use Rattle.brc_lang.specs.declared.cursor.Cursor.{Cursor}
 use Rattle.brc_lang.specs.Grammar.{line, instruction, instructions, IsInstruction, LeadsForward}
-use Rattle.brc_lang.specs.Fault.{words, instruction_in, Beginning, IsOpen, leads_forward, end_fault_of, line_fault_of, next_instruction_fault_of, fault_of}
-use Rattle.brc_lang.specs.Progress.{IsFirstLineOf, Passes, IsLineFault, Appends, opened, Ends, HasFaultInside, IsFaultInside}
+use Rattle.brc_lang.specs.Fault.{words, instruction_in, Beginning, IsOpen, leads_forward, end_fault_of, line_fault_of}
+use Rattle.brc_lang.specs.Fault.{next_instruction_fault_of, fault_of}
+use Rattle.brc_lang.specs.Progress.{IsFirstLineOf, Passes, IsLineFault, Appends, opened, Ends, HasFaultInside}
+use Rattle.brc_lang.specs.Progress.{IsFaultInside}
 use Rattle.brc_lang.proofs.Lines.{line_any, line_before, line_count-append, line_count_one}
 use Rattle.brc_lang.proofs.Instructions.{chosen, instruction_spelled}
 use Rattle.brc_lang.proofs.Forward.{leads_means}
 
 -- ---- places
 
-abbrev pub at_place : Bor (List ℕ) → ℕ → Place
-at_place rest number = record { rest = rest; line = number }
+abbrev pub at_cursor : Bor (List ℕ) → ℕ → Cursor
+at_cursor rest number = record { rest = rest; line = number }
 
-pub passes_both : (a b : List ℕ) (p q r : Place) → Passes a p q → Passes b q r → Passes (a ++ b) p r
+pub passes_both : (a b : List ℕ) (p q r : Cursor) → Passes a p q → Passes b q r → Passes (a ++ b) p r
 passes_both a b p q r g h = record {
   parts = g.parts ∙ ap (λ (x : List ℕ). a ++ x) h.parts ∙ sym (append_assoc a b r.rest.now);
   count = omega (arith, g.count, h.count, line_count-append a b);
 }
 
-pub passes_line : (text : List ℕ) (p : Place) (rest : Bor (List ℕ)) → IsFirstLineOf p.rest.now text rest.now
-    → Passes (line text) p (at_place rest (p.line + 1))
+pub passes_line : (text : List ℕ) (p : Cursor) (rest : Bor (List ℕ)) → IsFirstLineOf p.rest.now text rest.now
+    → Passes (line text) p (at_cursor rest (p.line + 1))
 passes_line text p rest h =
     record { parts = h.parts; count = ap (λ (n : ℕ). p.line + n) (sym (line_count_one text h.plain)) }
 
@@ -42,7 +45,7 @@ fault_at b rest text below h = ap (fault_of b) h.parts ∙ rw (line_any text bel
 
 -- ---- a loop over the lines of a function
 
-pub record IsInside (name : List ℕ) (from : Place) (code : List Instr) (to : Place) : Type 0 where
+pub record IsInside (name : List ℕ) (from : Cursor) (code : List Instr) (to : Cursor) : Type 0 where
   pub open_fits : IsOpen (opened name code)
   pub passed : Passes (instructions code) from to
 
@@ -56,13 +59,13 @@ pub instructions_push : (code : List Instr) (i : Instr)
 instructions_push code i =
     flat_map-append _ code (i ∷ []) ∙ ap (λ (x : List ℕ). instructions code ++ x) (append-nil (line (instruction i)))
 
-pub goes_on : (name : List ℕ) (from at : Place) (code new : List Instr) (text : List ℕ) (rest : Bor (List ℕ))
+pub goes_on : (name : List ℕ) (from at : Cursor) (code new : List Instr) (text : List ℕ) (rest : Bor (List ℕ))
     → IsInside name from code at → IsFirstLineOf at.rest.now text rest.now → Appends code new text
-    → IsInside name from new (at_place rest (at.line + 1))
+    → IsInside name from new (at_cursor rest (at.line + 1))
 goes_on name from at code new text rest so_far first next =
     let spelled = instruction_spelled text next.instr next.read in
     let both =
-    passes_both (instructions code) (line text) from at (at_place rest (at.line + 1)) so_far.passed
+    passes_both (instructions code) (line text) from at (at_cursor rest (at.line + 1)) so_far.passed
     (passes_line text at rest first) in
     let lines : instructions code ++ line text ≡ instructions new =
     ap (λ (x : List ℕ). instructions code ++ line x) spelled.0 ∙ sym (instructions_push code next.instr)
@@ -74,7 +77,7 @@ goes_on name from at code new text rest so_far first next =
     } in
     record {
       open_fits = subst (λ (c : List Instr). IsOpen (opened name c)) (sym next.appended) more;
-      passed = subst (λ (x : List ℕ). Passes x from (at_place rest (at.line + 1))) lines both;
+      passed = subst (λ (x : List ℕ). Passes x from (at_cursor rest (at.line + 1))) lines both;
     }
 
 -- a line that ends it and has no fault
@@ -88,14 +91,14 @@ ends_well code fine =
       ]
     ]
 
-pub ends : (name : List ℕ) (from at : Place) (code : List Instr) (text : List ℕ) (rest : Bor (List ℕ))
+pub ends : (name : List ℕ) (from at : Cursor) (code : List Instr) (text : List ℕ) (rest : Bor (List ℕ))
     → IsInside name from code at → IsFirstLineOf at.rest.now text rest.now → bytes_eq text (codes "end") ≡ true
     → end_fault_of code ≡ None
-    → Ends name from (opened name code) (at_place rest (at.line + 1))
+    → Ends name from (opened name code) (at_cursor rest (at.line + 1))
 ends name from at code text rest so_far first last fine =
     let same : text ≡ codes "end" = (bytes_eq-Decides text (codes "end")).0 last in
     let both =
-    passes_both (instructions code) (line text) from at (at_place rest (at.line + 1)) so_far.passed
+    passes_both (instructions code) (line text) from at (at_cursor rest (at.line + 1)) so_far.passed
     (passes_line text at rest first) in
     let well = ends_well code fine in
     record {
@@ -110,12 +113,12 @@ ends name from at code text rest so_far first last fine =
             targets = well.1;
           };
       passed =
-          subst (λ (x : List ℕ). Passes (instructions code ++ line x) from (at_place rest (at.line + 1))) same both;
+          subst (λ (x : List ℕ). Passes (instructions code ++ line x) from (at_cursor rest (at.line + 1))) same both;
     }
 
 -- ---- its faults
 
-fault_inside : (name : List ℕ) (from at : Place) (code : List Instr) (e : FaultCode) → IsInside name from code at
+fault_inside : (name : List ℕ) (from at : Cursor) (code : List Instr) (e : FaultCode) → IsInside name from code at
     → fault_of (record { done = []; open_function = Some (opened name code) }) at.rest.now ≡ Some e
     → HasFaultInside name from (record { line = at.line; code = e })
 fault_inside name from at code e so_far h =
@@ -124,12 +127,12 @@ fault_inside name from at code e so_far h =
       rest = at.rest.now;
       open_fits = so_far.open_fits;
       parts = so_far.passed.parts;
-      place =
+      numbered =
           so_far.passed.count;
       fault = h;
     }
 
-pub end_fault : (name : List ℕ) (from at : Place) (code : List Instr) (text rest : List ℕ) (e : FaultCode)
+pub end_fault : (name : List ℕ) (from at : Cursor) (code : List Instr) (text rest : List ℕ) (e : FaultCode)
     → IsInside name from code at → IsFirstLineOf at.rest.now text rest → bytes_eq text (codes "end") ≡ true
     → end_fault_of code ≡ Some e → IsFaultInside name from (record { line = at.line; code = e })
 end_fault name from at code text rest e so_far first last h =
@@ -142,7 +145,7 @@ same_code : (name : List ℕ) (code : List Instr) (r : Result Instr FaultCode)
 same_code name code (Ok i) = refl
 same_code name code (Err e) = refl
 
-pub other_fault : (name : List ℕ) (from at : Place) (code : List Instr) (text rest : List ℕ) (e : FaultCode)
+pub other_fault : (name : List ℕ) (from at : Cursor) (code : List Instr) (text rest : List ℕ) (e : FaultCode)
     → IsInside name from code at → IsFirstLineOf at.rest.now text rest → bytes_eq text (codes "end") ≡ false
     → IsLineFault (next_instruction_fault_of (opened [] code) (instruction_in (words text))) e
     → IsFaultInside name from (record { line = at.line; code = e })

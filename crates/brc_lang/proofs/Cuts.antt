@@ -1,5 +1,6 @@
--- Where a list is cut at the first element that passes a test.
-use Rattle.std.proofs.Common.{◌≡◌, ℕ, ◌<◌, ◌≤◌, Bool, true, false, ltb, List, [], ◌∷◌, ◌++◌, length, take, Some, None, refl, sym, ap, ◌∙◌, arith, inl, inr}
+-- Cutting a list at the first element that passes a test.
+use Rattle.std.proofs.Common.{◌≡◌, ℕ, ◌<◌, ◌≤◌, Bool, true, false, ltb, List, [], ◌∷◌, ◌++◌, length, take, Some, None}
+use Rattle.std.proofs.Common.{refl, sym, ap, ◌∙◌, arith, inl, inr}
 use Rattle.std.specs.List.{list_any, slice_split, position, position_or_len, before_first, All, AllByRecursion}
 use Rattle.std.proofs.lemmas.Bool.{cases_Bool, ltb-true, ltb-false, or_parts, or_left, or_right}
 use Rattle.std.proofs.lemmas.List.{get_or-take, get_or_append_left, get_or_at, take_at, length-append, length-take}
@@ -10,9 +11,9 @@ use Rattle.std.proofs.lemmas.List.Elements.{All-from_recursion}
 
 -- ---- what a search found
 
-pub found_place : {X : Type 0} (p : X → Bool) (xs : List X) (i : ℕ) → position p xs ≡ Some i
+pub found_at : {X : Type 0} (p : X → Bool) (xs : List X) (i : ℕ) → position p xs ≡ Some i
     → (position_or_len p xs < length xs) × (position_or_len p xs ≡ i)
-found_place p xs i e =
+found_at p xs i e =
     elim (cases_Bool (ltb (position_or_len p xs) (length xs))) [
       | inl passes ↦
           (ltb-true _ _ passes, let s : Some (position_or_len p xs) ≡ Some i = sym (rw passes refl) ∙ e in cc)
@@ -66,9 +67,9 @@ pub first_part : {X : Type 0} (p : X → Bool) (xs : List X) (y : X) (ys : List 
     → slice_split p (xs ++ y ∷ ys) ≡ xs ∷ slice_split p ys
 first_part p xs y ys e f = slice_split_at p xs y ys (lacks_at p xs e) f
 
-cut_place : (p : ℕ → Bool) (xs : List ℕ) (y : ℕ) (ys : List ℕ) → list_any p xs ≡ false → p y ≡ true
+cut_at : (p : ℕ → Bool) (xs : List ℕ) (y : ℕ) (ys : List ℕ) → list_any p xs ≡ false → p y ≡ true
     → position_or_len p (xs ++ y ∷ ys) ≡ length xs
-cut_place p xs y ys e f =
+cut_at p xs y ys e f =
     position_or_len_is p (xs ++ y ∷ ys) (length xs) 0 (omega (arith, length-append xs (y ∷ ys)))
     (λ k lt. rw (get_or_append_left xs (y ∷ ys) 0 k lt) (lacks_at p xs e k 0 lt))
     (λ _. rw (get_or_at xs y ys 0 (length xs) refl) f)
@@ -76,7 +77,7 @@ cut_place p xs y ys e f =
 pub cut_before : (p : ℕ → Bool) (xs : List ℕ) (y : ℕ) (ys : List ℕ) → list_any p xs ≡ false → p y ≡ true
     → before_first p (xs ++ y ∷ ys) ≡ xs
 cut_before p xs y ys e f =
-    ap (λ (n : ℕ). take n (xs ++ y ∷ ys)) (cut_place p xs y ys e f) ∙ take_at xs (y ∷ ys) (length xs) refl
+    ap (λ (n : ℕ). take n (xs ++ y ∷ ys)) (cut_at p xs y ys e f) ∙ take_at xs (y ∷ ys) (length xs) refl
 
 -- some part is always there
 pub parts_some : {X : Type 0} (p : X → Bool) (xs : List X)

@@ -1,5 +1,4 @@
--- Each text spells a module or has a fault: from the top, each line is in fault or belongs to what stands above the
--- next.
+-- Each text spells a module or has a fault: from the top, each line is faulty or extends the text above the next line.
 use Rattle.std.proofs.Common.{◌≡◌, ℕ, ◌+◌, ◌<◌, true, false, leb, eqb, not, ◌&&◌, ◌⊎◌, List, [], ◌∷◌, ◌++◌, length}
 use Rattle.std.proofs.Common.{drop, Option, Some, None, Result, Ok, Err, refl, sym, ap, ◌∙◌, append_assoc, arith}
 use Rattle.std.proofs.Common.{inl, inr}
@@ -23,6 +22,7 @@ use Rattle.brc_lang.specs.Fault.{end_fault_of, next_instruction_fault_of, line_f
 use Rattle.brc_lang.specs.Fault.{fault_of, line_count, HasLaterFault}
 use Rattle.brc_lang.specs.Progress.{opened, closed}
 use Rattle.brc_lang.specs.EachText.{SpellsAModule, HasAFault}
+use Rattle.brc_lang.specs.Limits.{function_limit, instruction_limit}
 use Rattle.brc_lang.proofs.Cuts.{lacks_append}
 use Rattle.brc_lang.proofs.Lines.{line_at, line_any, line_before}
 use Rattle.brc_lang.proofs.Instructions.{chosen, same_text, instruction_spelled}
@@ -40,7 +40,7 @@ behind a e = ap (λ (x : List ℕ). a ++ x) e
 abbrev inside : List Function → Option Function → Beginning
 inside done o = record { done = done; open_function = o }
 
--- what stands above a line and the line itself, as what stands above the next one
+-- the text above a line and the line itself, as the text above the next line
 record Extends (b : Beginning) (text : List ℕ) : Type 0 where
   pub below : Beginning
   pub fits : IsBeginning below
@@ -51,13 +51,13 @@ opens_function : (done : List Function) (text w n : List ℕ) → IsBeginning (c
 opens_function done text w n fits is fine =
     elim (chosen (not (bytes_eq w (codes "func") && is_name n)) (Some UnknownWord) _ None fine) [
       | inl never ↦ let e = never.1 in absurd cc
-      | inr named ↦ elim (chosen (leb 64 (length done)) (Some OverLimit) _ None named.1) [
+      | inr named ↦ elim (chosen (leb function_limit (length done)) (Some OverLimit) _ None named.1) [
         | inl never ↦ let e = never.1 in absurd cc
         | inr room ↦ elim (chosen (has_name n done) (Some NameTwice) None None room.1) [
           | inl never ↦ let e = never.1 in absurd cc
           | inr new ↦
               let h = and_parts (bytes_eq w (codes "func")) (is_name n) (not-false _ named.0) in
-              let few : length done < 64 = omega (arith, leb-false 64 (length done) room.0) in
+              let few : length done < function_limit = omega (arith, leb-false function_limit (length done) room.0) in
               let opening = opens done text w n n is h.0 h.1 few new.0 refl in
               let f = opened n [] in
               let top = first_line ++ functions done in
@@ -122,11 +122,12 @@ instruction_goes : (done : List Function) (f : Function) (text : List ℕ) (r : 
     → Extends (inside done (Some f)) text
 instruction_goes done f text (Err code) fits read fine = absurd cc
 instruction_goes done f text (Ok i) fits read fine =
-    elim (chosen (leb 256 (length f.code)) (Some OverLimit) None None fine) [
+    elim (chosen (leb instruction_limit (length f.code)) (Some OverLimit) None None fine) [
       | inl never ↦ let e = never.1 in absurd cc
       | inr room ↦
           let spelled = instruction_spelled text i read in
-          let few : length f.code < 256 = omega (arith, leb-false 256 (length f.code) room.0) in
+          let few : length f.code < instruction_limit =
+          omega (arith, leb-false instruction_limit (length f.code) room.0) in
           let g = opened f.name (f.code ++ i ∷ []) in
           let others = (done_apart done (Some f) fits.names fits.most).0 in
           let top = first_line ++ functions done in
@@ -195,7 +196,7 @@ fault_here bytes b rest code fits parts fault =
       rest = rest;
       above_fits = fits;
       parts = parts;
-      place = refl;
+      numbered = refl;
       fault = fault;
     } in
     (line_count (beginning b) + 1, code, inr later)
@@ -219,7 +220,7 @@ option_cases : {A : Type 0} (o : Option A) → (o ≡ None) ⊎ ((x : A) × (o �
 option_cases None = inl refl
 option_cases (Some x) = inr (x, refl)
 
--- below the beginning b stand text, which is all of a line so far, and more
+-- the bytes are the beginning b, then text, which is all of a line so far, and then more
 from_here : (bytes : List ℕ) (b : Beginning) (text more : List ℕ) → IsBeginning b
     → bytes ≡ beginning b ++ (text ++ more) → list_any is_line_feed text ≡ false
     → SpellsAModule bytes ⊎ HasAFault bytes
@@ -259,5 +260,5 @@ each_text bytes = elim (cases_Bool (starts_with nat_eq bytes first_line)) [
   | inl starts ↦
       let same = starts_is Decides-eqb bytes first_line (starts_with nat_eq bytes first_line) refl in
       from_here bytes (closed []) [] (drop 9 bytes) first_fits (same.0 starts) refl
-  | inr other ↦ inr (1, FirstLine, inl (record { other = other; place = refl; fault = refl }))
+  | inr other ↦ inr (1, FirstLine, inl (record { other = other; numbered = refl; fault = refl }))
 ]

@@ -1,5 +1,6 @@
 -- The line that opens a function.
-use Rattle.std.proofs.Common.{◌≡◌, ◌≢◌, ℕ, ◌<◌, Bool, true, false, List, [], ◌∷◌, ◌++◌, length, get_or, Some, None, refl, sym, ap, ◌∙◌, arith}
+use Rattle.std.proofs.Common.{◌≡◌, ◌≢◌, ℕ, ◌<◌, Bool, true, false, List, [], ◌∷◌, ◌++◌, length, get_or, Some, None}
+use Rattle.std.proofs.Common.{refl, sym, ap, ◌∙◌, arith}
 use Rattle.std.specs.Prelude.{codes}
 use Rattle.std.specs.List.{list_any}
 use Rattle.std.specs.Str.{bytes_eq}
@@ -13,6 +14,7 @@ use Rattle.brc_lang.specs.declared.fault.FaultCode.TheVariants.{NameTwice}
 use Rattle.brc_lang.specs.Grammar.{line, is_name, AreNamedApart}
 use Rattle.brc_lang.specs.Fault.{words, heading_fault_of}
 use Rattle.brc_lang.specs.Progress.{Opens}
+use Rattle.brc_lang.specs.Limits.{function_limit}
 use Rattle.brc_lang.proofs.Cuts.{lacks_at}
 use Rattle.brc_lang.proofs.Words.{joined, one_word, first_word}
 use Rattle.brc_lang.proofs.Spelling.{name_no_space}
@@ -23,14 +25,15 @@ has_name name done = list_any (λ f. bytes_eq f.name name) done
 -- ---- which fault
 
 pub second_time : (done : List Function) (text w n : List ℕ) → words text ≡ w ∷ n ∷ []
-    → bytes_eq w (codes "func") ≡ true → is_name n ≡ true → length done < 64 → has_name n done ≡ true
+    → bytes_eq w (codes "func") ≡ true → is_name n ≡ true → length done < function_limit → has_name n done ≡ true
     → heading_fault_of done (words text) ≡ Some NameTwice
-second_time done text w n e f g room h = ap (heading_fault_of done) e ∙ rw (f, g, lt-leb 64 (length done) room, h) refl
+second_time done text w n e f g room h =
+    ap (heading_fault_of done) e ∙ rw (f, g, lt-leb function_limit (length done) room, h) refl
 
 -- ---- no fault
 
 pub opens : (done : List Function) (text w n name : List ℕ) → words text ≡ w ∷ n ∷ [] → bytes_eq w (codes "func") ≡ true
-    → is_name n ≡ true → length done < 64 → has_name n done ≡ false → name ≡ n → Opens done text name
+    → is_name n ≡ true → length done < function_limit → has_name n done ≡ false → name ≡ n → Opens done text name
 opens done text w n name e f g room h named =
     let spelled : text ≡ codes "func " ++ n =
     joined text (w ∷ n ∷ []) e ∙ ap (λ (x : List ℕ). x ++ 32 ∷ n) ((bytes_eq-Decides w (codes "func")).0 f) in
@@ -41,13 +44,13 @@ heading_words name e =
     first_word (codes "func") name refl
     ∙ ap (λ (ws : List (List ℕ)). codes "func" ∷ ws) (one_word name (name_no_space name e))
 
-pub heading_again : (done : List Function) (name : List ℕ) → is_name name ≡ true → length done < 64
+pub heading_again : (done : List Function) (name : List ℕ) → is_name name ≡ true → length done < function_limit
     → has_name name done ≡ false
     → (words (codes "func " ++ name) ≡ codes "func" ∷ name ∷ [])
     × (heading_fault_of done (words (codes "func " ++ name)) ≡ None)
 heading_again done name e room h =
     let ws = heading_words name e in
-    (ws, ap (heading_fault_of done) ws ∙ rw (e, lt-leb 64 (length done) room, h) refl)
+    (ws, ap (heading_fault_of done) ws ∙ rw (e, lt-leb function_limit (length done) room, h) refl)
 
 -- ---- names apart
 

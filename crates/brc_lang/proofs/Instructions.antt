@@ -1,5 +1,6 @@
 -- A line that is read as an instruction is its spelling, and the spelling is read again.
-use Rattle.std.proofs.Common.{◌≡◌, ℕ, ◌<◌, Bool, true, false, cond, List, [], ◌∷◌, Result, Ok, Err, refl, sym, ap, subst, ◌∙◌, arith, inl, inr}
+use Rattle.std.proofs.Common.{◌≡◌, ℕ, ◌<◌, Bool, true, false, cond, List, [], ◌∷◌, Result, Ok, Err, refl, sym, ap}
+use Rattle.std.proofs.Common.{subst, ◌∙◌, arith, inl, inr}
 use Rattle.std.specs.Prelude.{codes, ◌⊎◌}
 use Rattle.std.specs.List.{list_any}
 use Rattle.std.specs.Fmt.{decimal}
@@ -10,9 +11,12 @@ use Rattle.brc_lang.specs.declared.module.Instr.TheVariants.{Num, NoneObject, Ne
 use Rattle.brc_lang.specs.declared.fault.FaultCode.{FaultCode}
 use Rattle.brc_lang.specs.declared.fault.FaultCode.TheVariants.{UnknownWord}
 use Rattle.brc_lang.specs.Grammar.{variable, target, instruction_words, instruction, IsInstruction}
-use Rattle.brc_lang.specs.Fault.{words, variable_in, target_in, number_in, ◌>>=◌, one_variable_in, two_variables_in, one_target_in, num_in, fail_in, instruction_in, is_line_feed}
+use Rattle.brc_lang.specs.Fault.{words, variable_in, target_in, number_in, ◌>>=◌, one_variable_in, two_variables_in}
+use Rattle.brc_lang.specs.Fault.{one_target_in, num_in, fail_in, instruction_in, is_line_feed}
+use Rattle.brc_lang.specs.Limits.{variable_count, target_count, value_limit}
 use Rattle.brc_lang.proofs.Words.{joined, some_word, ArePlain, spaced_words, spaced_plain}
-use Rattle.brc_lang.proofs.Spelling.{number_spelled, number_again, number_plain, variable_spelled, variable_again, variable_plain, target_spelled, target_again, target_plain}
+use Rattle.brc_lang.proofs.Spelling.{number_spelled, number_again, number_plain, variable_spelled, variable_again}
+use Rattle.brc_lang.proofs.Spelling.{variable_plain, target_spelled, target_again, target_plain}
 
 -- the value of a step that did not fail
 pub bind_ok : {A B : Type 0} (r : Result A FaultCode) (f : A → Result B FaultCode) (y : B) → (r >>= f) ≡ Ok y
@@ -45,7 +49,8 @@ ok_is x y e = cc
 both_same : (v w : List ℕ) (vs ws : List (List ℕ)) → v ≡ w → vs ≡ ws → (v ∷ vs) ≡ (w ∷ ws)
 both_same v w vs ws e f = cc
 
-one_variable_spelled : (ws : List (List ℕ)) (n : ℕ) → one_variable_in ws ≡ Ok n → (ws ≡ variable n ∷ []) × (n < 16)
+one_variable_spelled : (ws : List (List ℕ)) (n : ℕ) → one_variable_in ws ≡ Ok n
+    → (ws ≡ variable n ∷ []) × (n < variable_count)
 one_variable_spelled [] n e = absurd cc
 one_variable_spelled (a ∷ []) n e =
     let v = variable_spelled a n e in
@@ -53,7 +58,7 @@ one_variable_spelled (a ∷ []) n e =
 one_variable_spelled (a ∷ b ∷ ws) n e = absurd cc
 
 abbrev AreVariables : List (List ℕ) → ℕ × ℕ → Type 0
-AreVariables ws v = (ws ≡ variable v.0 ∷ variable v.1 ∷ []) × (v.0 < 16) × (v.1 < 16)
+AreVariables ws v = (ws ≡ variable v.0 ∷ variable v.1 ∷ []) × (v.0 < variable_count) × (v.1 < variable_count)
 
 two_variables_spelled : (ws : List (List ℕ)) (v : ℕ × ℕ) → two_variables_in ws ≡ Ok v → AreVariables ws v
 two_variables_spelled [] v e = absurd cc
@@ -68,7 +73,7 @@ two_variables_spelled (a ∷ b ∷ []) v e =
     subst (AreVariables (a ∷ b ∷ [])) (ok_is (to.0, from.0) v from.2) (same, p.1, q.1)
 two_variables_spelled (a ∷ b ∷ c ∷ ws) v e = absurd cc
 
-one_target_spelled : (ws : List (List ℕ)) (n : ℕ) → one_target_in ws ≡ Ok n → (ws ≡ target n ∷ []) × (n < 256)
+one_target_spelled : (ws : List (List ℕ)) (n : ℕ) → one_target_in ws ≡ Ok n → (ws ≡ target n ∷ []) × (n < target_count)
 one_target_spelled [] n e = absurd cc
 one_target_spelled (a ∷ []) n e =
     let t = target_spelled a n e in
@@ -89,10 +94,10 @@ num_spelled w (a ∷ b ∷ c ∷ d ∷ []) i named e =
     either_way (bytes_eq c (codes "else")) _ (Err UnknownWord) (Ok i) e
     (λ same read.
     let to = bind_ok (variable_in a) _ i read in
-    let value = bind_ok (number_in 4294967295 b) _ i to.2 in
+    let value = bind_ok (number_in value_limit b) _ i to.2 in
     let otherwise = bind_ok (target_in d) _ i value.2 in
     let p = variable_spelled a to.0 to.1 in
-    let q = number_spelled 4294967295 b value.0 (omega arith) value.1 in
+    let q = number_spelled value_limit b value.0 (omega arith) value.1 in
     let r = target_spelled d otherwise.0 otherwise.1 in
     let last : (c ∷ d ∷ []) ≡ codes "else" ∷ target otherwise.0 ∷ [] =
     both_same c (codes "else") (d ∷ []) (target otherwise.0 ∷ []) (same_text c (codes "else") same)
@@ -108,7 +113,8 @@ num_spelled w (a ∷ b ∷ c ∷ d ∷ []) i named e =
 num_spelled w (a ∷ b ∷ c ∷ d ∷ f ∷ ws) i named e = absurd cc
 
 unary : (name : List ℕ) (make : ℕ → Instr) (w : List ℕ) (ws : List (List ℕ)) (i : Instr)
-    → ((n : ℕ) → instruction_words (make n) ≡ name ∷ variable n ∷ []) → ((n : ℕ) → n < 16 → IsInstruction (make n))
+    → ((n : ℕ) → instruction_words (make n) ≡ name ∷ variable n ∷ [])
+    → ((n : ℕ) → n < variable_count → IsInstruction (make n))
     → w ≡ name
     → (one_variable_in ws >>= λ n. Ok (make n)) ≡ Ok i → Spelled (w ∷ ws) i
 unary name make w ws i spelling fits named e =
@@ -119,7 +125,7 @@ unary name make w ws i spelling fits named e =
 
 binary : (name : List ℕ) (make : ℕ → ℕ → Instr) (w : List ℕ) (ws : List (List ℕ)) (i : Instr)
     → ((m n : ℕ) → instruction_words (make m n) ≡ name ∷ variable m ∷ variable n ∷ [])
-    → ((m n : ℕ) → m < 16 → n < 16 → IsInstruction (make m n)) → w ≡ name
+    → ((m n : ℕ) → m < variable_count → n < variable_count → IsInstruction (make m n)) → w ≡ name
     → (two_variables_in ws >>= λ v. Ok (make v.0 v.1)) ≡ Ok i → Spelled (w ∷ ws) i
 binary name make w ws i spelling fits named e =
     let b = bind_ok (two_variables_in ws) (λ v. Ok (make v.0 v.1)) i e in
@@ -184,7 +190,7 @@ words_again : (i : Instr) → IsInstruction i → instruction_in (instruction_wo
 words_again (Num to value otherwise) fits =
     rw (
       variable_again to fits.0,
-      number_again 4294967295 value (omega (arith, fits.1)) (omega (arith, fits.1)),
+      number_again value_limit value (omega (arith, fits.1)) (omega (arith, fits.1)),
       target_again otherwise fits.2,
     ) refl
 words_again (NoneObject to) fits = rw (variable_again to fits) refl

@@ -1,15 +1,16 @@
-pub mod Cuts
-pub mod Lines
-pub mod Numbers
-pub mod Words
-pub mod Spelling
-pub mod Instructions
-pub mod Forward
-pub mod Headings
-pub mod Machine
-pub mod Uniqueness
-pub mod Bodies
-pub mod Functions
-pub mod EachText
-pub mod OwnFaults
-pub mod Written
+mod Cuts
+mod Lines
+mod Numbers
+mod Words
+mod Spelling
+mod RoundTrips
+mod Instructions
+mod Forward
+mod Headings
+mod Machine
+mod Uniqueness
+mod Bodies
+mod Functions
+mod EachText
+mod OwnFaults
+mod Written

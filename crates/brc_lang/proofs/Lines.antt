@@ -1,22 +1,24 @@
--- The first line of a text and the first word of a line, as a search for the byte behind them finds them.
-use Rattle.std.proofs.Common.{◌≡◌, ℕ, ◌+◌, ◌-◌, Bool, true, false, eqb, List, [], ◌∷◌, ◌++◌, length, get_or, take, drop, Some, None, refl, sym, ap, ◌∙◌, append_assoc}
+-- The first line of a text and the first word of a line, found by a search for the byte after them.
+use Rattle.std.proofs.Common.{◌≡◌, ℕ, ◌+◌, ◌-◌, ◌<◌, Bool, true, false, eqb, inl, inr, List, [], ◌∷◌, ◌++◌, length}
+use Rattle.std.proofs.Common.{get_or, take, drop, Some, None, refl, sym, ap, ◌∙◌, append_assoc}
 use Rattle.std.specs.Prelude.{position}
-use Rattle.std.specs.List.{list_any, position_or_len, before_first, after_first}
-use Rattle.std.proofs.lemmas.Bool.{eqb-true, or_parts}
+use Rattle.std.specs.List.{list_any, slice_split, position_or_len, before_first, after_first}
+use Rattle.std.proofs.lemmas.Bool.{eqb-true, or_parts, cases_lt, both_ways}
 use Rattle.std.proofs.lemmas.List.{take_rest}
 use Rattle.std.proofs.lemmas.List.Sums.{passes_at_first, split_at_first, sum_by-append, sum_by-cons}
 use Rattle.std.proofs.lemmas.List.Splits.{slice_split_first}
 use Rattle.brc_lang.specs.Grammar.{line}
 use Rattle.brc_lang.specs.Fault.{words, is_line_feed, line_count}
 use Rattle.brc_lang.specs.Progress.{IsFirstLineOf}
-use Rattle.brc_lang.proofs.Cuts.{found_place, found_none, lacks_all, lacks_before, one_part, has_behind, cut_before}
+use Rattle.brc_lang.specs.RoundTrips.{is_space}
+use Rattle.brc_lang.proofs.Cuts.{found_at, found_none, lacks_all, lacks_before, one_part, has_behind, cut_before}
 
--- what stands before the byte, the byte, and what stands behind it
+-- the bytes before the byte, the byte, and those after it
 cut_parts : (p : ℕ → Bool) (xs : List ℕ) (i : ℕ) → position p xs ≡ Some i
     → (y : ℕ) × (p y ≡ true) × (xs ≡ take i xs ++ (y ∷ take (length xs - (i + 1)) (drop (i + 1) xs)))
     × (take i xs ≡ before_first p xs) × (take (length xs - (i + 1)) (drop (i + 1) xs) ≡ after_first p xs)
 cut_parts p xs i e =
-    let h = found_place p xs i e in
+    let h = found_at p xs i e in
     let front : take i xs ≡ before_first p xs = ap (λ (n : ℕ). take n xs) (sym h.1) in
     let rest : take (length xs - (i + 1)) (drop (i + 1) xs) ≡ after_first p xs =
     take_rest xs (i + 1) ∙ ap (λ (n : ℕ). drop (n + 1) xs) (sym h.1) in (
@@ -42,19 +44,16 @@ line_found text i e =
 pub line_missing : (text : List ℕ) → position is_line_feed text ≡ None → list_any is_line_feed text ≡ false
 line_missing text e = lacks_all is_line_feed text (found_none is_line_feed text e)
 
-abbrev is_space : ℕ → Bool
-is_space c = eqb c 32
-
 pub word_found : (text : List ℕ) (i : ℕ) → position (λ c. eqb c 32) text ≡ Some i
     → words text ≡ take i text ∷ words (take (length text - (i + 1)) (drop (i + 1) text))
 word_found text i e =
     let q = cut_parts is_space text i e in
-    slice_split_first is_space text 0 (found_place is_space text i e).0 ∙ rw (q.3, q.4) refl
+    slice_split_first is_space text 0 (found_at is_space text i e).0 ∙ rw (q.3, q.4) refl
 
 pub word_last : (text : List ℕ) → position (λ c. eqb c 32) text ≡ None → words text ≡ text ∷ []
 word_last text e = one_part is_space text (lacks_all is_space text (found_none is_space text e))
 
--- ---- a line and what stands below it
+-- ---- a line and the text below it
 
 pub line_at : (first rest : List ℕ) → line first ++ rest ≡ first ++ 10 ∷ rest
 line_at first rest = append_assoc first (10 ∷ []) rest
@@ -65,6 +64,18 @@ line_any first rest = rw (line_at first rest) (has_behind is_line_feed first 10 
 pub line_before : (first rest : List ℕ) → list_any is_line_feed first ≡ false
     → before_first is_line_feed (line first ++ rest) ≡ first
 line_before first rest plain = rw (line_at first rest) (cut_before is_line_feed first 10 rest plain refl)
+
+has_line : (text : List ℕ) → list_any is_line_feed text ≡ true → position_or_len is_line_feed text < length text
+has_line text e =
+    elim (cases_lt (position_or_len is_line_feed text) (length text)) [
+      | inl lt ↦ lt
+      | inr le ↦ absurd (both_ways _ (lacks_all is_line_feed text le) e)
+    ]
+
+pub line_cut : (text : List ℕ) → list_any is_line_feed text ≡ true
+    → slice_split is_line_feed text
+    ≡ before_first is_line_feed text ∷ slice_split is_line_feed (after_first is_line_feed text)
+line_cut text e = slice_split_first is_line_feed text 0 (has_line text e)
 
 pub line_count-append : (a b : List ℕ) → line_count (a ++ b) ≡ line_count a + line_count b
 line_count-append a b = sum_by-append _ a b

@@ -1,21 +1,25 @@
 -- Reading line by line, as a function of the text: what a text spells, and which fault it has, follows from it.
-use Rattle.std.proofs.Common.{◌≡◌, ℕ, ◌+◌, ◌<◌, ◌≤◌, true, false, cond, eqb, ◌&&◌, List, [], ◌∷◌, ◌++◌, length, drop, get_or, Option, Some, None, Result, Ok, Err, refl, sym, ap, ◌∙◌, append_assoc, add-zero, arith, inl, inr}
+use Rattle.std.proofs.Common.{◌≡◌, ℕ, ◌+◌, ◌<◌, ◌≤◌, true, false, cond, eqb, ◌&&◌, List, [], ◌∷◌, ◌++◌, length, drop}
+use Rattle.std.proofs.Common.{get_or, Option, Some, None, Result, Ok, Err, refl, sym, ap, ◌∙◌, append_assoc, add-zero}
+use Rattle.std.proofs.Common.{arith, inl, inr}
 use Rattle.std.specs.Prelude.{codes, nat_eq}
-use Rattle.std.specs.List.{list_any, slice_split, before_first, after_first, position_or_len, starts_with, AllByRecursion}
+use Rattle.std.specs.List.{list_any, slice_split, before_first, after_first, starts_with, AllByRecursion}
 use Rattle.std.specs.Str.{bytes_eq}
-use Rattle.std.proofs.lemmas.Bool.{cases_lt, lt-leb, ne_eqb, both_ways}
+use Rattle.std.proofs.lemmas.Bool.{lt-leb, ne_eqb}
 use Rattle.std.proofs.lemmas.List.{append-nil, length-append, get_or_append_left}
-use Rattle.std.proofs.lemmas.List.Splits.{slice_split_first}
 use Rattle.brc_lang.specs.declared.module.Module.{Module}
 use Rattle.brc_lang.specs.declared.module.Function.{Function}
 use Rattle.brc_lang.specs.declared.module.Instr.{Instr}
 use Rattle.brc_lang.specs.declared.fault.FaultCode.{FaultCode}
 use Rattle.brc_lang.specs.declared.fault.FaultCode.TheVariants.{FirstLine, CutOff}
-use Rattle.brc_lang.specs.Grammar.{line, instruction, instructions, heading, function, functions, first_line, is_name, IsInstruction, IsFunction, AreNamedApart}
-use Rattle.brc_lang.specs.Fault.{words, instruction_in, Beginning, beginning, open_text, named, IsBeginning, line_fault_of, is_whole, is_line_feed, fault_of, line_count}
+use Rattle.brc_lang.specs.Grammar.{line, instruction, instructions, heading, function, functions, first_line, is_name}
+use Rattle.brc_lang.specs.Grammar.{IsInstruction, IsFunction, AreNamedApart}
+use Rattle.brc_lang.specs.Fault.{words, instruction_in, Beginning, beginning, open_text, named, IsBeginning}
+use Rattle.brc_lang.specs.Fault.{line_fault_of, is_whole, is_line_feed, fault_of, line_count}
 use Rattle.brc_lang.specs.Progress.{opened, closed}
-use Rattle.brc_lang.proofs.Cuts.{first_part, one_part, parts_some, lacks_all}
-use Rattle.brc_lang.proofs.Lines.{line_at, line_count-append, line_count_one}
+use Rattle.brc_lang.specs.Limits.{function_limit, instruction_limit}
+use Rattle.brc_lang.proofs.Cuts.{first_part, one_part, parts_some}
+use Rattle.brc_lang.proofs.Lines.{line_at, line_cut, line_count-append, line_count_one}
 use Rattle.brc_lang.proofs.Spelling.{name_plain}
 use Rattle.brc_lang.proofs.Instructions.{chosen, instruction_again, instruction_plain, instruction_not_end}
 use Rattle.brc_lang.proofs.Forward.{means_leads}
@@ -37,7 +41,7 @@ with_instruction f (Err e) = f
 abbrev inside : List Function → List ℕ → List Instr → Beginning
 inside done name code = record { done = done; open_function = Some (opened name code) }
 
--- what stands above the next line, where this one has no fault
+-- the text above the next line, if this one has no fault
 abbrev after : List Function → Option Function → List ℕ → Beginning
 after done None text = inside done (second_word (words text)) []
 after done (Some f) text =
@@ -48,7 +52,7 @@ abbrev stop_or : Option FaultCode → ℕ → Answer → Answer
 stop_or None n answer = answer
 stop_or (Some code) n answer = Err (n, code)
 
--- from the line n on, where the last part isn't ended by a line feed
+-- from the line n on; the last part has no line feed at its end
 abbrev read_from : ℕ → Beginning → List ℕ → List (List ℕ) → Answer
 read_from n b first [] =
     cond (eqb (length first) 0 && is_whole b.done b.open_function) (Ok (record { functions = b.done }))
@@ -79,13 +83,6 @@ passes_line n b c text rest plain fine next =
     ∙ ap (λ (ls : List (List ℕ)). text ∷ ls) q.2 in
     ap (read_parts n b) parts ∙ rw (fine, next) refl ∙ sym (ap (read_parts (n + 1) c) q.2)
 
-has_line : (text : List ℕ) → list_any is_line_feed text ≡ true → position_or_len is_line_feed text < length text
-has_line text e =
-    elim (cases_lt (position_or_len is_line_feed text) (length text)) [
-      | inl lt ↦ lt
-      | inr le ↦ absurd (both_ways _ (lacks_all is_line_feed text le) e)
-    ]
-
 pub stops : (n : ℕ) (b : Beginning) (rest : List ℕ) (code : FaultCode) → fault_of b rest ≡ Some code
     → read_rest n b rest ≡ Err (n, code)
 stops n b rest code e =
@@ -94,7 +91,7 @@ stops n b rest code e =
       | inl ended ↦
           let q = parts_some is_line_feed (after_first is_line_feed rest) in
           let parts : slice_split is_line_feed rest ≡ before_first is_line_feed rest ∷ q.0 ∷ q.1 =
-          slice_split_first is_line_feed rest 0 (has_line rest ended.0)
+          line_cut rest ended.0
           ∙ ap (λ (ls : List (List ℕ)). before_first is_line_feed rest ∷ ls) q.2 in
           ap (read_parts n b) parts ∙ rw ended.1 refl
       | inr last ↦
@@ -113,7 +110,7 @@ then_more : (n : ℕ) (text rest : List ℕ) → list_any is_line_feed text ≡ 
 then_more n text rest plain = omega (arith, line_count-append (line text) rest, line_count_one text plain)
 
 instructions_pass : (n : ℕ) (done : List Function) (name : List ℕ) (front code : List Instr) (rest : List ℕ)
-    → AllByRecursion IsInstruction code → length front + length code ≤ 256
+    → AllByRecursion IsInstruction code → length front + length code ≤ instruction_limit
     → read_rest n (inside done name front) (instructions code ++ rest)
     ≡ read_rest (n + line_count (instructions code)) (inside done name (front ++ code)) rest
 instructions_pass n done name front [] rest fits few = rw (append-nil front, add-zero n) refl
@@ -122,7 +119,7 @@ instructions_pass n done name front (i ∷ code) rest fits few =
     let plain = instruction_plain i fits.0 in
     let again = instruction_again i fits.0 in
     let fine : line_fault_of done (Some (opened name front)) text ≡ None =
-    rw (instruction_not_end i, again, lt-leb 256 (length front) (omega arith)) refl in
+    rw (instruction_not_end i, again, lt-leb instruction_limit (length front) (omega arith)) refl in
     let next : after done (Some (opened name front)) text ≡ inside done name (front ++ i ∷ []) =
     rw (instruction_not_end i, again) refl in
     let others =
@@ -134,7 +131,8 @@ instructions_pass n done name front (i ∷ code) rest fits few =
     ∙ others
     ∙ rw (append_assoc front (i ∷ []) code, then_more n text (instructions code) plain) refl
 
-heading_passes : (n : ℕ) (done : List Function) (name rest : List ℕ) → is_name name ≡ true → length done < 64
+heading_passes : (n : ℕ) (done : List Function) (name rest : List ℕ) → is_name name ≡ true
+    → length done < function_limit
     → has_name name done ≡ false
     → read_rest n (closed done) (heading name ++ rest) ≡ read_rest (n + 1) (inside done name []) rest
 heading_passes n done name rest fits room new =
@@ -144,7 +142,8 @@ heading_passes n done name rest fits room new =
 
 -- an open function, as far as it goes
 open_passes : (n : ℕ) (done : List Function) (name : List ℕ) (code : List Instr) (rest : List ℕ) → is_name name ≡ true
-    → length done < 64 → has_name name done ≡ false → AllByRecursion IsInstruction code → length code ≤ 256
+    → length done < function_limit → has_name name done ≡ false → AllByRecursion IsInstruction code
+    → length code ≤ instruction_limit
     → read_rest n (closed done) ((heading name ++ instructions code) ++ rest)
     ≡ read_rest (n + line_count (heading name ++ instructions code)) (inside done name code) rest
 open_passes n done name code rest fits room new all few =
@@ -154,7 +153,8 @@ open_passes n done name code rest fits room new all few =
     ∙ ap (λ (k : ℕ). read_rest k (inside done name code) rest)
     (then_more n (codes "func " ++ name) (instructions code) (name_plain name fits))
 
-function_passes : (n : ℕ) (done : List Function) (f : Function) (rest : List ℕ) → IsFunction f → length done < 64
+function_passes : (n : ℕ) (done : List Function) (f : Function) (rest : List ℕ) → IsFunction f
+    → length done < function_limit
     → has_name f.name done ≡ false
     → read_rest n (closed done) (function f ++ rest)
     ≡ read_rest (n + line_count (function f)) (closed (done ++ f ∷ [])) rest
@@ -173,7 +173,7 @@ function_passes n done f rest fits room new =
     ∙ ap (λ (k : ℕ). read_rest k (closed (done ++ f ∷ [])) rest) count
 
 functions_pass : (n : ℕ) (done fs : List Function) (rest : List ℕ) → AllByRecursion IsFunction fs
-    → AreNamedApart (done ++ fs) → length done + length fs ≤ 64
+    → AreNamedApart (done ++ fs) → length done + length fs ≤ function_limit
     → read_rest n (closed done) (functions fs ++ rest)
     ≡ read_rest (n + line_count (functions fs)) (closed (done ++ fs)) rest
 functions_pass n done [] rest fits apart few = rw (append-nil done, add-zero n) refl
@@ -195,12 +195,12 @@ open_end : (n : ℕ) (done : List Function) (o : Option Function) (rest : List �
     ≡ read_rest (n + line_count (open_text o)) (record { done = done; open_function = o }) rest
 open_end n done None rest fits = rw (add-zero n) refl
 open_end n done (Some f) rest fits =
-    let room : length done < 64 = omega (arith, length-append done (f ∷ []), fits.most) in
+    let room : length done < function_limit = omega (arith, length-append done (f ∷ []), fits.most) in
     open_passes n done f.name f.code rest fits.open_fits.name room (new_name_from done f [] fits.names)
     fits.open_fits.code fits.open_fits.most
 
 pub done_apart : (done : List Function) (o : Option Function) → AreNamedApart (named done o)
-    → length (named done o) ≤ 64 → AreNamedApart done × (length done ≤ 64)
+    → length (named done o) ≤ function_limit → AreNamedApart done × (length done ≤ function_limit)
 done_apart done None apart few = (apart, few)
 done_apart done (Some f) apart few =
     let len = length-append done (f ∷ []) in (
@@ -213,7 +213,7 @@ done_apart done (Some f) apart few =
       omega arith,
     )
 
--- what stands above is read, and then the rest
+-- the text above is read, and then the rest
 pub beginning_passes : (b : Beginning) (rest : List ℕ) → IsBeginning b
     → reading (beginning b ++ rest) ≡ read_rest (line_count (beginning b) + 1) b rest
 beginning_passes b rest fits =

@@ -1,5 +1,6 @@
 -- Names, and numbers that are read digit by digit.
-use Rattle.std.proofs.Common.{◌≡◌, ℕ, ◌+◌, ◌-◌, ◌*◌, ◌<◌, ◌≤◌, true, cond, leb, ◌&&◌, List, [], ◌∷◌, length, get_or, take, drop, Result, Ok, Err, refl, sym, ap, ◌∙◌, arith}
+use Rattle.std.proofs.Common.{◌≡◌, ℕ, ◌+◌, ◌-◌, ◌*◌, ◌<◌, ◌≤◌, true, cond, leb, ◌&&◌, List, [], ◌∷◌, length, get_or}
+use Rattle.std.proofs.Common.{take, drop, Result, Ok, Err, refl, sym, ap, ◌∙◌, arith}
 use Rattle.std.specs.Int.{IsInRange}
 use Rattle.std.specs.List.{list_all}
 use Rattle.std.specs.Char.{is_ascii_digit}
@@ -13,6 +14,7 @@ use Rattle.std.proofs.lemmas.Str.Parse.{digits_value-take-le}
 use Rattle.brc_lang.specs.declared.fault.FaultCode.{FaultCode}
 use Rattle.brc_lang.specs.declared.fault.FaultCode.TheVariants.{Number}
 use Rattle.brc_lang.specs.Grammar.{is_name, is_letter, is_name_byte}
+use Rattle.brc_lang.specs.Limits.{name_rest_limit}
 
 pub digits_next : (ds : List ℕ) (i value digit : ℕ) → i < length ds → value ≡ digits_value 10 (take i ds)
     → IsInRange 48 57 (get_or ds i 0) → digit ≡ get_or ds i 0 - 48
@@ -39,11 +41,11 @@ too_high ds i high lt =
 
 name_by_cases : (word : List ℕ) → 1 ≤ length word
     → is_name word ≡ (is_letter (get_or word 0 0) && list_all is_name_byte (drop 1 word)
-    && leb (length (drop 1 word)) 15)
+    && leb (length (drop 1 word)) name_rest_limit)
 name_by_cases [] h = absurd (omega arith)
 name_by_cases (c ∷ cs) h = refl
 
 pub name_parts : (word : List ℕ) → 1 ≤ length word
     → (is_letter (get_or word 0 0) && list_all is_name_byte (take (length word - 1) (drop 1 word))
-    && leb (length (take (length word - 1) (drop 1 word))) 15) ≡ is_name word
+    && leb (length (take (length word - 1) (drop 1 word))) name_rest_limit) ≡ is_name word
 name_parts word h = rw (take_rest word 1) (sym (name_by_cases word h))

@@ -1,4 +1,4 @@
--- The fault of a text is never want of memory.
+-- The fault of a text is never `NoMemory`.
 use Rattle.std.proofs.Common.{◌≢◌, ℕ, Bool, true, false, cond, leb, eqb, not, ◌&&◌, List, [], ◌∷◌, length, Option}
 use Rattle.std.proofs.Common.{Some, None, Result, Ok, Err, sym, subst, inl, inr}
 use Rattle.std.specs.Prelude.{codes}
@@ -14,18 +14,11 @@ use Rattle.brc_lang.specs.Grammar.{is_name}
 use Rattle.brc_lang.specs.Fault.{words, is_numeral, number_in, variable_in, target_in, ◌>>=◌, one_variable_in}
 use Rattle.brc_lang.specs.Fault.{two_variables_in, one_target_in, num_in, fail_in, instruction_in, leads_forward}
 use Rattle.brc_lang.specs.Fault.{Beginning, heading_fault_of, end_fault_of, next_instruction_fault_of, line_fault_of}
-use Rattle.brc_lang.specs.Fault.{is_whole, is_line_feed, fault_of, HasFault}
+use Rattle.brc_lang.specs.Fault.{is_whole, is_line_feed, fault_of, HasFault, IsOwn, IsOwnFault}
+use Rattle.brc_lang.specs.Limits.{function_limit, instruction_limit, last_variable, last_target, value_limit}
 use Rattle.brc_lang.proofs.Headings.{has_name}
 
 -- ---- results and options whose fault, if any, is the text's own
-
-abbrev pub IsOwn : {A : Type 0} → Result A FaultCode → Type 0
-IsOwn (Ok x) = Unit {0}
-IsOwn (Err code) = code ≢ NoMemory
-
-abbrev pub IsOwnFault : Option FaultCode → Type 0
-IsOwnFault None = Unit {0}
-IsOwnFault (Some code) = code ≢ NoMemory
 
 pub own_then : {A B : Type 0} (r : Result A FaultCode) (f : A → Result B FaultCode) → IsOwn r
     → ((x : A) → IsOwn (f x)) → IsOwn (r >>= f)
@@ -70,11 +63,13 @@ number_own high word =
 
 variable_own : (word : List ℕ) → IsOwn (variable_in word)
 variable_own [] = own_word
-variable_own (c ∷ cs) = own_either (eqb c 118) (number_in 15 cs) (Err UnknownWord) (number_own 15 cs) own_word
+variable_own (c ∷ cs) = own_either (eqb c 118) (number_in last_variable cs) (Err UnknownWord)
+    (number_own last_variable cs) own_word
 
 target_own : (word : List ℕ) → IsOwn (target_in word)
 target_own [] = own_word
-target_own (c ∷ cs) = own_either (eqb c 64) (number_in 255 cs) (Err UnknownWord) (number_own 255 cs) own_word
+target_own (c ∷ cs) = own_either (eqb c 64) (number_in last_target cs) (Err UnknownWord) (number_own last_target cs)
+    own_word
 
 one_variable_own : (ws : List (List ℕ)) → IsOwn (one_variable_in ws)
 one_variable_own [] = own_word
@@ -94,10 +89,6 @@ one_target_own [] = own_word
 one_target_own (a ∷ []) = target_own a
 one_target_own (a ∷ b ∷ ws) = own_word
 
--- the greatest value of a number
-abbrev most_value : ℕ
-most_value = 4294967295
-
 num_own : (ws : List (List ℕ)) → IsOwn (num_in ws)
 num_own [] = own_word
 num_own (a ∷ []) = own_word
@@ -106,7 +97,7 @@ num_own (a ∷ b ∷ c ∷ []) = own_word
 num_own (a ∷ b ∷ c ∷ d ∷ []) =
     own_either (bytes_eq c (codes "else")) _ (Err UnknownWord)
     (own_then (variable_in a) _ (variable_own a) (λ to.
-    own_then (number_in most_value b) _ (number_own most_value b) (λ k.
+    own_then (number_in value_limit b) _ (number_own value_limit b) (λ k.
     own_then (target_in d) _ (target_own d) (λ l. tt)))) own_word
 num_own (a ∷ b ∷ c ∷ d ∷ x ∷ ws) = own_word
 
@@ -133,7 +124,7 @@ heading_own done [] = own_word
 heading_own done (w ∷ []) = own_word
 heading_own done (w ∷ n ∷ []) =
     own_fault_either (not (bytes_eq w (codes "func") && is_name n)) (Some UnknownWord) _ own_word
-    (own_fault_either (leb 64 (length done)) (Some OverLimit) _ own_limit
+    (own_fault_either (leb function_limit (length done)) (Some OverLimit) _ own_limit
     (own_fault_either (has_name n done) (Some NameTwice) None own_name tt))
 heading_own done (w ∷ n ∷ x ∷ ws) = own_word
 
@@ -143,7 +134,7 @@ end_own code =
     (own_fault_either (leads_forward code) None (Some Target) tt own_target)
 
 next_own : (f : Function) (r : Result Instr FaultCode) → IsOwn r → IsOwnFault (next_instruction_fault_of f r)
-next_own f (Ok i) here = own_fault_either (leb 256 (length f.code)) (Some OverLimit) None own_limit tt
+next_own f (Ok i) here = own_fault_either (leb instruction_limit (length f.code)) (Some OverLimit) None own_limit tt
 next_own f (Err code) here = here
 
 line_own : (done : List Function) (o : Option Function) (line : List ℕ) → IsOwnFault (line_fault_of done o line)

@@ -1,18 +1,23 @@
 -- The one spelling of a number, of a variable, of a target and of a name.
-use Rattle.std.proofs.Common.{◌≡◌, ℕ, zero, suc, ◌^◌, ◌<◌, ◌≤◌, Bool, true, false, cond, leb, eqb, not, ◌&&◌, ◌||◌, List, [], ◌∷◌, length, get_or, Result, Ok, Err, refl, sym, ap, ◌∙◌, arith, inl, inr}
+use Rattle.std.proofs.Common.{◌≡◌, ℕ, zero, suc, ◌^◌, ◌<◌, ◌≤◌, Bool, true, false, cond, leb, eqb, not, ◌&&◌, ◌||◌}
+use Rattle.std.proofs.Common.{List, [], ◌∷◌, length, get_or, Result, Ok, Err, refl, sym, ap, ◌∙◌, arith, inl, inr}
 use Rattle.std.specs.List.{list_all, list_any}
 use Rattle.std.specs.Char.{is_ascii_digit}
 use Rattle.std.specs.Fmt.{decimal}
 use Rattle.std.specs.Str.Parse.{digits_value}
-use Rattle.std.proofs.lemmas.Bool.{and_parts, and_from, or_cases, cases_Bool, leb-true, le-leb, eqb-true, eqb-false, ne_eqb, not-true, cases_eq}
+use Rattle.std.proofs.lemmas.Bool.{and_parts, and_from, or_cases, cases_Bool, leb-true, le-leb, eqb-true, eqb-false}
+use Rattle.std.proofs.lemmas.Bool.{ne_eqb, not-true, cases_eq}
 use Rattle.std.proofs.lemmas.Bool.Decides.{nat_tests}
-use Rattle.std.proofs.lemmas.Fmt.{decimal-digits_value, digits_decimal, digits_value-decimal, decimal_nonempty, decimal_digit, first_decimal}
+use Rattle.std.proofs.lemmas.Fmt.{decimal-digits_value, digits_decimal, digits_value-decimal, decimal_nonempty}
+use Rattle.std.proofs.lemmas.Fmt.{decimal_digit, first_decimal}
 use Rattle.std.proofs.lemmas.Str.Parse.{IsDigitsTest, IsNumeralModel, numerals_by_value}
 use Rattle.brc_lang.specs.declared.fault.FaultCode.{FaultCode}
 use Rattle.brc_lang.specs.declared.fault.FaultCode.TheVariants.{UnknownWord, Number}
 use Rattle.brc_lang.specs.Grammar.{variable, target, is_name, is_letter, is_name_byte}
 use Rattle.brc_lang.specs.Fault.{is_numeral, number_in, variable_in, target_in, is_line_feed}
-use Rattle.brc_lang.proofs.Words.{is_space, lacks_from_all, IsPlain}
+use Rattle.brc_lang.specs.RoundTrips.{is_space, IsPlain}
+use Rattle.brc_lang.specs.Limits.{variable_count, last_variable, target_count, last_target, name_rest_limit}
+use Rattle.brc_lang.proofs.Words.{lacks_from_all}
 
 -- ---- numbers
 
@@ -34,12 +39,12 @@ tells_digits = record {
 own : IsNumeralModel AreDigits (digits_value 10)
 own = numerals_by_value AreDigits tells_digits
 
--- a test that an if took to `Ok`
+-- a test that led to `Ok`
 pub guarded : {A : Type 0} (b : Bool) (d : FaultCode) (x y : A) → cond b (Ok x) (Err d) ≡ Ok y → (b ≡ true) × (x ≡ y)
 guarded true d x y e = (refl, cc)
 guarded false d x y e = absurd cc
 
--- no leading zero but in `0`
+-- no leading zero, `0` aside
 numeral_parts : (ds : List ℕ) → is_numeral ds ≡ true
     → AreDigits ds × (0 < length ds) × (get_or ds 0 0 ≡ 48 → length ds ≡ 1)
 numeral_parts [] e = absurd cc
@@ -97,23 +102,23 @@ marked_spelled mark high c cs n small e =
       | inr other ↦ let never : ◌≡◌ {A = Result ℕ FaultCode} (Err UnknownWord) (Ok n) = rw other at e in absurd cc
     ]
 
-pub variable_spelled : (word : List ℕ) (n : ℕ) → variable_in word ≡ Ok n → (word ≡ variable n) × (n < 16)
+pub variable_spelled : (word : List ℕ) (n : ℕ) → variable_in word ≡ Ok n → (word ≡ variable n) × (n < variable_count)
 variable_spelled [] n e = absurd cc
 variable_spelled (c ∷ cs) n e =
-    let s = marked_spelled 118 15 c cs n (omega arith) e in
+    let s = marked_spelled 118 last_variable c cs n (omega arith) e in
     (s.0, omega (arith, s.1))
 
-pub variable_again : (n : ℕ) → n < 16 → variable_in (variable n) ≡ Ok n
-variable_again n lt = number_again 15 n (omega arith) (omega arith)
+pub variable_again : (n : ℕ) → n < variable_count → variable_in (variable n) ≡ Ok n
+variable_again n lt = number_again last_variable n (omega arith) (omega arith)
 
-pub target_spelled : (word : List ℕ) (n : ℕ) → target_in word ≡ Ok n → (word ≡ target n) × (n < 256)
+pub target_spelled : (word : List ℕ) (n : ℕ) → target_in word ≡ Ok n → (word ≡ target n) × (n < target_count)
 target_spelled [] n e = absurd cc
 target_spelled (c ∷ cs) n e =
-    let s = marked_spelled 64 255 c cs n (omega arith) e in
+    let s = marked_spelled 64 last_target c cs n (omega arith) e in
     (s.0, omega (arith, s.1))
 
-pub target_again : (n : ℕ) → n < 256 → target_in (target n) ≡ Ok n
-target_again n lt = number_again 255 n (omega arith) (omega arith)
+pub target_again : (n : ℕ) → n < target_count → target_in (target n) ≡ Ok n
+target_again n lt = number_again last_target n (omega arith) (omega arith)
 
 -- ---- what these lack
 
@@ -133,10 +138,10 @@ decimal_plain n small = digit_lacks is_line_feed (λ c h. other_than 10 c (omega
 pub number_plain : (n : ℕ) → n < 2 ^ 64 → IsPlain (decimal n)
 number_plain n small = (decimal_no_space n small, decimal_plain n small)
 
-pub variable_plain : (n : ℕ) → n < 16 → IsPlain (variable n)
+pub variable_plain : (n : ℕ) → n < variable_count → IsPlain (variable n)
 variable_plain n lt = number_plain n (omega arith)
 
-pub target_plain : (n : ℕ) → n < 256 → IsPlain (target n)
+pub target_plain : (n : ℕ) → n < target_count → IsPlain (target n)
 target_plain n lt = number_plain n (omega arith)
 
 letter_from : (c : ℕ) → is_letter c ≡ true → 97 ≤ c
@@ -155,7 +160,7 @@ name_byte_from c e =
 name_lacks : (d : ℕ) → d < 48 → (name : List ℕ) → is_name name ≡ true → list_any (λ c. eqb c d) name ≡ false
 name_lacks d lt [] e = refl
 name_lacks d lt (c ∷ cs) e =
-    let h = and_parts (is_letter c && list_all is_name_byte cs) (leb (length cs) 15) e in
+    let h = and_parts (is_letter c && list_all is_name_byte cs) (leb (length cs) name_rest_limit) e in
     let k = and_parts (is_letter c) (list_all is_name_byte cs) h.0 in
     rw (ne_eqb c d (λ same. omega (arith, letter_from c k.0)))
     (lacks_from_all is_name_byte (λ c. eqb c d)

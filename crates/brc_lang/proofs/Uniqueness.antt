@@ -1,4 +1,4 @@
--- A text spells one module at most, or has one fault at most, and not both.
+-- Each text spells at most one module, or has at most one fault, and never both.
 use Rattle.std.proofs.Common.{◌≡◌, ℕ, ◌+◌, ◌<◌, List, [], ◌++◌, length, Result, Ok, Err, refl, sym, ap, ◌∙◌, inl, inr}
 use Rattle.std.specs.Prelude.{IfOk, IfErr, MatchResult}
 use Rattle.std.proofs.lemmas.Bool.{lt-ltb}
@@ -23,10 +23,10 @@ reads_spelled bytes m h =
     ∙ rw (lt-ltb 0 (length m.functions) some) refl
 
 reads_fault : (bytes : List ℕ) (n : ℕ) (code : FaultCode) → HasFault bytes n code → reading bytes ≡ Err (n, code)
-reads_fault bytes n code (inl h) = rw (h.other, h.place, h.fault) refl
+reads_fault bytes n code (inl h) = rw (h.other, h.numbered, h.fault) refl
 reads_fault bytes n code (inr h) =
     ap reading h.parts ∙ beginning_passes h.above h.rest h.above_fits
-    ∙ stops (line_count (beginning h.above) + 1) h.above h.rest code h.fault ∙ rw h.place refl
+    ∙ stops (line_count (beginning h.above) + 1) h.above h.rest code h.fault ∙ rw h.numbered refl
 
 -- ---- the laws
 

@@ -1,14 +1,12 @@
 -- A line is its words with single spaces between them.
-use Rattle.std.proofs.Common.{◌≡◌, ℕ, Bool, true, false, eqb, List, [], ◌∷◌, ◌++◌, length, refl, sym, ap, ◌∙◌, arith}
+use Rattle.std.proofs.Common.{◌≡◌, ℕ, Bool, true, false, List, [], ◌∷◌, ◌++◌, length, refl, sym, ap, ◌∙◌, arith}
 use Rattle.std.specs.List.{list_all, list_any, AllByRecursion}
 use Rattle.std.proofs.lemmas.Bool.{and_parts, or_from}
 use Rattle.std.proofs.lemmas.List.Splits.{join_with_byte-slice_split}
 use Rattle.brc_lang.specs.Grammar.{spaced}
 use Rattle.brc_lang.specs.Fault.{words, is_line_feed}
+use Rattle.brc_lang.specs.RoundTrips.{is_space, IsPlain}
 use Rattle.brc_lang.proofs.Cuts.{lacks_append, one_part, first_part, parts_some}
-
-abbrev pub is_space : ℕ → Bool
-is_space c = eqb c 32
 
 -- ---- from words to a line
 
@@ -37,17 +35,13 @@ more_than_one line rest first e one =
 
 -- ---- plain words
 
--- where each element passes one test, none passes another that excludes it
+-- if each element passes one test, none passes another test that excludes it
 pub lacks_from_all : (p q : ℕ → Bool) → ((c : ℕ) → p c ≡ true → q c ≡ false) → (xs : List ℕ) → list_all p xs ≡ true
     → list_any q xs ≡ false
 lacks_from_all p q apart [] e = refl
 lacks_from_all p q apart (x ∷ xs) e =
     let h = and_parts (p x) (list_all p xs) e in
     or_from (q x) (list_any q xs) (apart x h.0) (lacks_from_all p q apart xs h.1)
-
--- neither a space nor a line feed stands in it
-abbrev pub IsPlain : List ℕ → Type 0
-IsPlain word = (list_any is_space word ≡ false) × (list_any is_line_feed word ≡ false)
 
 -- one word or more
 abbrev pub ArePlain : List (List ℕ) → Type 0

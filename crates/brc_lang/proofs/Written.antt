@@ -1,5 +1,6 @@
--- Lemmas on writes that are whole, or stop at a fault.
-use Rattle.std.proofs.Common.{◌≡◌, ℕ, ◌-◌, ◌<◌, suc, get_or, drop-cons, ◌∙◌, List, ◌++◌, Option, Result, Ok, Err, sym, ap, append_assoc, take, drop, take-append-drop, length, subst, OnErr}
+-- Writes that are whole, or that stop at an error.
+use Rattle.std.proofs.Common.{◌≡◌, ℕ, ◌-◌, ◌<◌, suc, get_or, drop-cons, ◌∙◌, List, ◌++◌, Option, Result, Ok, Err, sym}
+use Rattle.std.proofs.Common.{ap, append_assoc, take, drop, take-append-drop, length, subst, OnErr}
 use Rattle.std.proofs.lemmas.List.{take_rest}
 use Rattle.std.specs.List.{flat_map}
 use Rattle.std.proofs.lemmas.Grind.{flat_map-append}
@@ -49,7 +50,7 @@ begins_late a b c xs ys first begun = record {
   appended = Appends-trans a b c xs begun.front first begun.appended;
 }
 
--- the first of two writes stopped at a fault, which is returned as r
+-- the first of two writes stopped at an error, which is returned as r
 pub stops_early : {X E : Type 0} (r : Result X E) (a b : Option (List ℕ)) (bytes xs ys : List ℕ) → bytes ≡ xs ++ ys
     → AppendsBeginning a b xs → OnErr r (AppendsBeginning a b bytes)
 stops_early (Ok x) a b bytes xs ys parts begun = tt

@@ -1,5 +1,7 @@
--- Which fault a text has: the one of the first line from the top in which any stands.
-use Rattle.std.specs.Prelude.{◌≡◌, ℕ, ◌+◌, ◌≤◌, Bool, true, false, ◌&&◌, ◌||◌, ◌==◌, not, nat_le, nat_lt, nat_eq, if◌then◌else◌, IsTrue, List, [], ◌∷◌, ◌++◌, length, Option, None, Some, Result, Ok, Err, count_by, codes, ◌⊎◌, MatchResult}
+-- The fault of a text: that of its first faulty line from the top.
+use Rattle.std.specs.Prelude.{◌≡◌, ◌≢◌, ℕ, ◌+◌, ◌≤◌, Bool, true, false, ◌&&◌, ◌||◌, ◌==◌, not, nat_le, nat_lt, nat_eq}
+use Rattle.std.specs.Prelude.{if◌then◌else◌, IsTrue, List, [], ◌∷◌, ◌++◌, length, Option, None, Some, Result, Ok, Err}
+use Rattle.std.specs.Prelude.{count_by, codes, ◌⊎◌, MatchResult}
 use Rattle.std.specs.List.{AllByRecursion, list_all, list_any, slice_split, before_first, starts_with}
 use Rattle.std.specs.Str.{bytes_eq}
 use Rattle.std.specs.Str.Parse.{digits_value}
@@ -8,18 +10,21 @@ use Rattle.brc_lang.specs.declared.module.Function.{Function}
 use Rattle.brc_lang.specs.declared.module.Instr.{Instr}
 use Rattle.brc_lang.specs.declared.module.Instr.TheVariants.{Num, NoneObject, Newref, Move, Drop, Goto, Ret, Fail}
 use Rattle.brc_lang.specs.declared.fault.FaultCode.{FaultCode}
-use Rattle.brc_lang.specs.declared.fault.FaultCode.TheVariants.{FirstLine, UnknownWord, Number, Target, NameTwice, OverLimit, CutOff, NoMemory}
+use Rattle.brc_lang.specs.declared.fault.FaultCode.TheVariants.{FirstLine, UnknownWord, Number, Target, NameTwice}
+use Rattle.brc_lang.specs.declared.fault.FaultCode.TheVariants.{OverLimit, CutOff, NoMemory}
 use Rattle.brc_lang.specs.declared.fault.ReadFault.{ReadFault}
 use Rattle.brc_lang.specs.declared.module.Module.{Module}
-use Rattle.brc_lang.specs.Grammar.{is_name, IsInstruction, jump, IsFunction, AreNamedApart, heading, instructions, functions, first_line}
+use Rattle.brc_lang.specs.Grammar.{is_name, IsInstruction, jump, IsFunction, AreNamedApart, heading, instructions}
+use Rattle.brc_lang.specs.Grammar.{functions, first_line}
+use Rattle.brc_lang.specs.Limits.{function_limit, instruction_limit, last_variable, last_target, value_limit}
 
 -- ---- one line
 
--- the words of a line: what single spaces part, so that two spaces have an empty word between them
+-- the words of a line, which single spaces separate: two spaces have an empty word between them
 abbrev pub words : List ℕ → List (List ℕ)
 words line = slice_split (λ c. c == 32) line
 
--- decimal digits, with no leading zero but in `0` itself
+-- decimal digits without a leading zero, `0` aside
 abbrev pub is_numeral : List ℕ → Bool
 is_numeral [] = false
 is_numeral (c ∷ cs) = list_all is_ascii_digit (c ∷ cs) && (not (c == 48) || (length cs == 0))
@@ -32,19 +37,19 @@ number_in high word =
 -- `v`, and a number below 16
 abbrev pub variable_in : List ℕ → Result ℕ FaultCode
 variable_in [] = Err UnknownWord
-variable_in (c ∷ cs) = if c == 118 then number_in 15 cs else Err UnknownWord
+variable_in (c ∷ cs) = if c == 118 then number_in last_variable cs else Err UnknownWord
 
 -- `@`, and a number below 256
 abbrev pub target_in : List ℕ → Result ℕ FaultCode
 target_in [] = Err UnknownWord
-target_in (c ∷ cs) = if c == 64 then number_in 255 cs else Err UnknownWord
+target_in (c ∷ cs) = if c == 64 then number_in last_target cs else Err UnknownWord
 
 infixl 10 ◌>>=◌
 abbrev pub ◌>>=◌ : {A B : Type 0} → Result A FaultCode → (A → Result B FaultCode) → Result B FaultCode
 (Ok x) >>= f = f x
 (Err e) >>= f = Err e
 
--- ---- the words behind the first
+-- ---- the words after the first
 
 abbrev pub one_variable_in : List (List ℕ) → Result ℕ FaultCode
 one_variable_in (word ∷ []) = variable_in word
@@ -58,11 +63,11 @@ abbrev pub one_target_in : List (List ℕ) → Result ℕ FaultCode
 one_target_in (word ∷ []) = target_in word
 one_target_in _ = Err UnknownWord
 
--- a variable, a number of 32 bits, `else` and a target; `else` is looked at first
+-- a variable, a number of 32 bits, `else` and a target; `else` is compared first
 abbrev pub num_in : List (List ℕ) → Result Instr FaultCode
 num_in (to ∷ value ∷ word ∷ otherwise ∷ []) =
     if bytes_eq word (codes "else")
-    then (variable_in to >>= λ d. number_in 4294967295 value >>= λ k. target_in otherwise >>= λ l. Ok (Num d k l))
+    then (variable_in to >>= λ d. number_in value_limit value >>= λ k. target_in otherwise >>= λ l. Ok (Num d k l))
     else Err UnknownWord
 num_in _ = Err UnknownWord
 
@@ -92,7 +97,7 @@ abbrev pub target_fits : ℕ → ℕ → Option ℕ → Bool
 target_fits at count None = true
 target_fits at count (Some target) = nat_lt at target && nat_lt target count
 
--- of so many instructions, those from this number on
+-- the targets of the instructions from the number `at` on, of `count` in all
 abbrev pub lead_forward_from : ℕ → ℕ → List Instr → Bool
 lead_forward_from at count [] = true
 lead_forward_from at count (i ∷ code) = target_fits at count (jump i) && lead_forward_from (at + 1) count code
@@ -102,7 +107,7 @@ leads_forward code = lead_forward_from 0 (length code) code
 
 -- ---- a line after those above it
 
--- what stands above a line: whole functions, and maybe one that is open
+-- the text above a line: whole functions, and maybe one that is open
 pub record Beginning : Type 0 where
   pub done : List Function
   pub open_function : Option Function
@@ -114,7 +119,7 @@ open_text (Some f) = heading f.name ++ instructions f.code
 abbrev pub beginning : Beginning → List ℕ
 beginning b = first_line ++ functions b.done ++ open_text b.open_function
 
--- the functions whose names stand above
+-- the functions whose names are above
 abbrev pub named : List Function → Option Function → List Function
 named done None = done
 named done (Some f) = done ++ f ∷ []
@@ -122,16 +127,16 @@ named done (Some f) = done ++ f ∷ []
 -- a function that isn't ended yet
 pub record IsOpen (f : Function) : Type 0 where
   pub name : IsTrue (is_name f.name)
-  pub most : length f.code ≤ 256
+  pub most : length f.code ≤ instruction_limit
   pub code : AllByRecursion IsInstruction f.code
 
 abbrev pub IfOpen : Option Function → Type 0
 IfOpen None = Unit {0}
 IfOpen (Some f) = IsOpen f
 
--- each line so far may stand where it stands
+-- each line so far is one that the grammar allows there
 pub record IsBeginning (b : Beginning) : Type 0 where
-  pub most : length (named b.done b.open_function) ≤ 64
+  pub most : length (named b.done b.open_function) ≤ function_limit
   pub done : AllByRecursion IsFunction b.done
   pub names : AreNamedApart (named b.done b.open_function)
   pub open_fits : IfOpen b.open_function
@@ -139,7 +144,7 @@ pub record IsBeginning (b : Beginning) : Type 0 where
 abbrev pub heading_fault_of : List Function → List (List ℕ) → Option FaultCode
 heading_fault_of done (w ∷ name ∷ []) =
     if not (bytes_eq w (codes "func") && is_name name) then Some UnknownWord
-    else if nat_le 64 (length done) then Some OverLimit
+    else if nat_le function_limit (length done) then Some OverLimit
     else if list_any (λ f. bytes_eq f.name name) done then Some NameTwice
     else None
 heading_fault_of done _ = Some UnknownWord
@@ -152,10 +157,9 @@ end_fault_of code =
 
 abbrev pub next_instruction_fault_of : Function → Result Instr FaultCode → Option FaultCode
 next_instruction_fault_of f (Err code) = Some code
-next_instruction_fault_of f (Ok i) = if nat_le 256 (length f.code) then Some OverLimit else None
+next_instruction_fault_of f (Ok i) = if nat_le instruction_limit (length f.code) then Some OverLimit else None
 
--- the fault of a line, where one stands: outside a function only its heading may stand, inside only instructions and
--- `end`
+-- the fault of a line: outside a function only a heading is allowed, inside one only instructions and `end`
 abbrev pub line_fault_of : List Function → Option Function → List ℕ → Option FaultCode
 line_fault_of done None line = heading_fault_of done (words line)
 line_fault_of done (Some f) line =
@@ -170,7 +174,7 @@ is_whole done (Some f) = false
 abbrev pub is_line_feed : ℕ → Bool
 is_line_feed c = c == 10
 
--- the fault of the line that begins with rest: that of the line; or it isn't ended, or missing
+-- the fault of the line with which rest begins; `CutOff` if that line has no line feed or is missing
 abbrev pub fault_of : Beginning → List ℕ → Option FaultCode
 fault_of b rest =
     if list_any is_line_feed rest then line_fault_of b.done b.open_function (before_first is_line_feed rest)
@@ -182,34 +186,44 @@ line_count bytes = count_by is_line_feed bytes
 
 -- ---- a text
 
--- below lines that may stand where they stand, the text goes on with a line in fault
+-- the first faulty line is below lines without a fault
 pub record HasLaterFault (bytes : List ℕ) (line : ℕ) (code : FaultCode) : Type 0 where
   pub above : Beginning
   pub rest : List ℕ
   pub above_fits : IsBeginning above
   pub parts : bytes ≡ beginning above ++ rest
-  pub place : line ≡ line_count (beginning above) + 1
+  pub numbered : line ≡ line_count (beginning above) + 1
   pub fault : fault_of above rest ≡ Some code
 
 pub record HasFirstLineFault (bytes : List ℕ) (line : ℕ) (code : FaultCode) : Type 0 where
   pub other : starts_with nat_eq bytes first_line ≡ false
-  pub place : line ≡ 1
+  pub numbered : line ≡ 1
   pub fault : code ≡ FirstLine
 
--- the first line in fault, counted from 1, and its fault
+-- the first faulty line, from 1, and its fault
 abbrev pub HasFault : List ℕ → ℕ → FaultCode → Type 0
 HasFault bytes line code = HasFirstLineFault bytes line code ⊎ HasLaterFault bytes line code
 
--- ---- what a reader may answer
+-- ---- faults other than `NoMemory`: those that texts have
 
--- want of memory, or the fault that the text has
+abbrev pub IsOwn : {A : Type 0} → Result A FaultCode → Type 0
+IsOwn (Ok x) = Unit {0}
+IsOwn (Err code) = code ≢ NoMemory
+
+abbrev pub IsOwnFault : Option FaultCode → Type 0
+IsOwnFault None = Unit {0}
+IsOwnFault (Some code) = code ≢ NoMemory
+
+-- ---- the answers of a reader
+
+-- memory was refused, or the text has this fault
 abbrev pub IsFaultOf : List ℕ → ReadFault → Type 0
 IsFaultOf bytes e = (e.code ≡ NoMemory) ⊎ HasFault bytes e.line e.code
 
--- the module, unless memory ran out
+-- the module, unless memory was refused
 abbrev pub ReadsAs : Result Module ReadFault → Module → Type 0
 ReadsAs result m = MatchResult result (λ found. found ≡ m) (λ e. e.code ≡ NoMemory)
 
--- the fault of this line, unless memory ran out
+-- the fault of this line, unless memory was refused
 abbrev pub Refuses : Result Module ReadFault → ℕ → FaultCode → Type 0
 Refuses result line code = MatchResult result (λ _. ⊥) (λ e. ((e.line ≡ line) × (e.code ≡ code)) ⊎ (e.code ≡ NoMemory))

@@ -1,15 +1,17 @@
--- The one spelling of a module: ASCII lines, each ended by a line feed, of words that single spaces part.
-use Rattle.std.specs.Prelude.{◌≡◌, ◌≢◌, ℕ, ◌<◌, ◌≤◌, Bool, false, ◌&&◌, ◌||◌, ◌==◌, nat_le, IsTrue, List, [], ◌∷◌, ◌++◌, length, Option, None, Some, slice_get, AllPairs, codes}
+-- The one spelling of a module: ASCII lines, each with a line feed at its end, of words that single spaces separate.
+use Rattle.std.specs.Prelude.{◌≡◌, ◌≢◌, ℕ, ◌<◌, ◌≤◌, ◌^◌, Bool, false, ◌&&◌, ◌||◌, ◌==◌, nat_le, IsTrue, List, [], ◌∷◌}
+use Rattle.std.specs.Prelude.{◌++◌, length, Option, None, Some, slice_get, AllPairs, codes}
 use Rattle.std.specs.List.{flat_map, join_with_byte, AllByRecursion, list_all}
 use Rattle.std.specs.Fmt.{decimal}
 use Rattle.brc_lang.specs.declared.module.Module.{Module}
 use Rattle.brc_lang.specs.declared.module.Function.{Function}
 use Rattle.brc_lang.specs.declared.module.Instr.{Instr}
 use Rattle.brc_lang.specs.declared.module.Instr.TheVariants.{Num, NoneObject, Newref, Move, Drop, Goto, Ret, Fail}
+use Rattle.brc_lang.specs.Limits.{function_limit, instruction_limit, variable_count, target_count, name_rest_limit}
 
 -- ---- spellings
 
--- a line is ended by a line feed
+-- a line has a line feed at its end
 abbrev pub line : List ℕ → List ℕ
 line text = text ++ 10 ∷ []
 
@@ -58,7 +60,7 @@ first_line = line (codes "module 1")
 abbrev pub text : Module → List ℕ
 text m = first_line ++ functions m.functions
 
--- ---- what has a spelling
+-- ---- the modules that have a spelling
 
 abbrev pub is_letter : ℕ → Bool
 is_letter c = nat_le 97 c && nat_le c 122
@@ -67,22 +69,22 @@ is_letter c = nat_le 97 c && nat_le c 122
 abbrev pub is_name_byte : ℕ → Bool
 is_name_byte c = is_letter c || (nat_le 48 c && nat_le c 57) || (c == 95)
 
--- a letter a to z, then 0 to 15 of letters, digits and `_`
+-- a letter a to z, then 0 to 15 letters, digits and `_`
 abbrev pub is_name : List ℕ → Bool
 is_name [] = false
-is_name (c ∷ cs) = is_letter c && list_all is_name_byte cs && nat_le (length cs) 15
+is_name (c ∷ cs) = is_letter c && list_all is_name_byte cs && nat_le (length cs) name_rest_limit
 
 abbrev pub IsInstruction : Instr → Type 0
-IsInstruction (Num to value otherwise) = (to < 16) × (value < 4294967296) × (otherwise < 256)
-IsInstruction (NoneObject to) = to < 16
-IsInstruction (Newref to from) = (to < 16) × (from < 16)
-IsInstruction (Move to from) = (to < 16) × (from < 16)
-IsInstruction (Drop from) = from < 16
-IsInstruction (Goto to) = to < 256
-IsInstruction (Ret from) = from < 16
+IsInstruction (Num to value otherwise) = (to < variable_count) × (value < 2 ^ 32) × (otherwise < target_count)
+IsInstruction (NoneObject to) = to < variable_count
+IsInstruction (Newref to from) = (to < variable_count) × (from < variable_count)
+IsInstruction (Move to from) = (to < variable_count) × (from < variable_count)
+IsInstruction (Drop from) = from < variable_count
+IsInstruction (Goto to) = to < target_count
+IsInstruction (Ret from) = from < variable_count
 IsInstruction Fail = Unit {0}
 
--- the target that an instruction names, if it names one
+-- the target that an instruction names
 abbrev pub jump : Instr → Option ℕ
 jump (Num to value otherwise) = Some otherwise
 jump (NoneObject to) = None
@@ -103,18 +105,18 @@ LeadsForward code =
 pub record IsFunction (f : Function) : Type 0 where
   pub name : IsTrue (is_name f.name)
   pub some : 0 < length f.code
-  pub most : length f.code ≤ 256
+  pub most : length f.code ≤ instruction_limit
   pub code : AllByRecursion IsInstruction f.code
   pub targets : LeadsForward f.code
 
--- no name stands twice
+-- no two functions have the same name
 abbrev pub AreNamedApart : List Function → Type 0
 AreNamedApart fs = AllPairs (λ f g. f.name ≢ g.name) fs
 
 -- 1 to 64 functions
 pub record IsModule (m : Module) : Type 0 where
   pub some : 0 < length m.functions
-  pub most : length m.functions ≤ 64
+  pub most : length m.functions ≤ function_limit
   pub functions : AllByRecursion IsFunction m.functions
   pub names : AreNamedApart m.functions
 

@@ -1,8 +1,8 @@
--- What a write that stopped at a fault left behind.
+-- What has been written when a write stops at an error.
 use Rattle.std.specs.Prelude.{◌≡◌, ℕ, List, ◌++◌, Option}
 use Rattle.std.specs.Io.KnownBytes.{Appends}
 
--- known bytes grow by a beginning of the bytes, which may be none or all of them
+-- known bytes have grown by a prefix of the bytes, which may be empty or all of them
 pub record AppendsBeginning (old new : Option (List ℕ)) (bytes : List ℕ) : Type 0 where
   pub front : List ℕ
   pub rest : List ℕ

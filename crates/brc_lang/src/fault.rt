@@ -5,24 +5,24 @@ use std::alloc::AllocError;
 use std::fmt;
 use thiserror::Error;
 
-/// What is wrong with a line of a text.
+/// What is wrong with a line of a text, by the codes L1 to L8.
 #[derive(Clone, Copy, Debug, PartialEq, Eq)]
 pub enum FaultCode {
-    /// The first line is missing, isn't ended or is another.
+    /// L1: the first line is missing, has no line feed, or is another.
     FirstLine,
-    /// A word, a form of words or a line stands where it can't.
+    /// L2: a word or a line that the grammar doesn't allow there, or a wrong number of words.
     UnknownWord,
-    /// A number has another form, or is out of range.
+    /// L3: a number out of range or in another form, as with a leading zero.
     Number,
-    /// A target lies outside the function, or leads the wrong way.
+    /// L4: a target outside the function, or one that doesn't lead forward.
     Target,
-    /// A function's name stood before.
+    /// L5: the name of an earlier function.
     NameTwice,
-    /// There are more functions or instructions than a module may have, or a function has none.
+    /// L6: too many functions or instructions, or a function without instructions.
     OverLimit,
-    /// The text ends before the module does, or a line isn't ended.
+    /// L7: the text ends too early, or its last line has no line feed.
     CutOff,
-    /// Memory was refused.
+    /// L8: memory was refused.
     NoMemory,
 }
 
@@ -50,10 +50,11 @@ impl From<AllocError> for FaultCode {
     }
 }
 
-/// Why a text isn't read: the first line from the top in which a fault stands, counted from 1, and the fault.
+/// Why a text isn't read: its first faulty line, and the fault.
 #[derive(Clone, Copy, Debug, PartialEq, Eq, Error)]
 #[error("line {line} {code}")]
 pub struct ReadFault {
+    /// The line's number, from 1.
     pub line: u64,
     pub code: FaultCode,
 }

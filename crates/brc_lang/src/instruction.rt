@@ -10,7 +10,10 @@ use crate::lexing::{
 use crate::module::Instr;
 use crate::variable::Variable;
 
-/// The instruction that a line spells, or its first fault.
+/// Reads the instruction of a line.
+///
+/// Returns the line's first fault: the first word, the number of words and `else` come first (`UnknownWord`), then the
+/// operands from left to right.
 pub(crate) fn instruction(line: &[u8]) -> Result<Instr, FaultCode>
     ensures { result ≡ instruction_in (words line.now) }
 {
@@ -31,7 +34,7 @@ fn plain_instruction(word: &[u8]) -> Result<Instr, FaultCode>
     }
 }
 
-/// The instruction of this name, with the words behind it.
+/// Reads the instruction of this name with the words after it.
 fn instruction_with(word: &[u8], operands: &[u8]) -> Result<Instr, FaultCode>
     ensures { result ≡ instruction_in (word.now ∷ words operands.now) }
 {
@@ -60,7 +63,7 @@ fn instruction_with(word: &[u8], operands: &[u8]) -> Result<Instr, FaultCode>
     }
 }
 
-/// `num` of a variable, a number, `else` and a target.
+/// Reads the operands of `num`: a variable, a number, `else` and a target.
 fn num(operands: &[u8]) -> Result<Instr, FaultCode>
     ensures { result ≡ num_in (words operands.now) }
 {

@@ -1,12 +1,12 @@
-/// What an object is, as the language names it: `none`, `num`, `list`, `file` and `sock`.
+/// The kind of an object: `none`, `num`, `list`, `file` or `sock` in the language.
 #[derive(Clone, Copy, Debug, PartialEq, Eq)]
 pub enum Kind {
-    /// The one immortal object.
+    /// The object none, the only immortal one (`Py_None`).
     None,
     Num,
     List,
     File,
     Sock,
-    /// What isn't known before an `as` has asked, as of an item of a list.
+    /// A kind that isn't known yet, as that of an item of a list before `as` asks for it.
     Any,
 }

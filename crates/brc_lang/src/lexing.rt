@@ -1,6 +1,7 @@
-//! Lines and words, and what single words say.
+//! Lines, words, and the values of single words.
 
-ghost use Rattle.std.specs.Prelude.{◌≡◌, ◌≢◌, ◌∷◌, [], length, ◌&&◌, ◌==◌, false, nat_le, position, MatchOption, Ok, Err, if◌then◌else◌};
+ghost use Rattle.std.specs.Prelude.{◌≡◌, ◌≢◌, ◌∷◌, [], length, ◌&&◌, ◌==◌, false, nat_le, position, MatchOption, Ok};
+ghost use Rattle.std.specs.Prelude.{Err, if◌then◌else◌};
 ghost use Rattle.std.specs.List.{list_any, list_all};
 ghost use Rattle.std.specs.Char.{is_ascii_digit};
 ghost use Rattle.std.specs.Str.Parse.{digits_value};
@@ -13,27 +14,31 @@ ghost use Rattle.brc_lang.specs.Progress.{IsFirstLineOf};
 use crate::fault::FaultCode;
 use crate::variable::Variable;
 
-/// The first line without its line feed, and what stands below it; nothing where no line is ended.
+const LAST_VARIABLE: u32 = 15;
+
+const LAST_TARGET: u32 = 255;
+
+/// Returns the first line without its line feed and the text below it, or `None` if the text has no line feed.
 pub fn split_line(text: &[u8]) -> Option<(&[u8], &[u8])>
     ensures { MatchOption result (list_any is_line_feed text.now ≡ false)
         (λ parts. IsFirstLineOf text.now parts.0.now parts.1.now) }
 {
-    let end = place_of(b'\n', text)?;
+    let end = position_of(b'\n', text)?;
     Some((&text[..end], &text[end + 1..]))
 }
 
-/// The first word of a line, and what stands behind the space after it.
+/// Returns the first word of a line and the text after its space, or `None` for the latter if the line is one word.
 pub fn split_word(line: &[u8]) -> (&[u8], Option<&[u8]>)
     ensures { MatchOption result.1 (words line.now ≡ result.0.now ∷ [])
         (λ rest. words line.now ≡ result.0.now ∷ words rest.now) }
 {
-    match place_of(b' ', line) {
+    match position_of(b' ', line) {
         Some(end) => (&line[..end], Some(&line[end + 1..])),
         None => (line, None),
     }
 }
 
-/// The word of a line of one.
+/// Returns the only word of the line, or `None`.
 pub fn one_word(line: &[u8]) -> Option<&[u8]>
     ensures { MatchOption result (length (words line.now) ≢ 1) (λ w. words line.now ≡ w.now ∷ []) }
 {
@@ -44,7 +49,7 @@ pub fn one_word(line: &[u8]) -> Option<&[u8]>
     }
 }
 
-/// The words of a line of two.
+/// Returns the two words of the line, or `None` if it has another number of words.
 pub fn two_words(line: &[u8]) -> Option<(&[u8], &[u8])>
     ensures { MatchOption result (length (words line.now) ≢ 2) (λ w. words line.now ≡ w.0.now ∷ w.1.now ∷ []) }
 {
@@ -53,7 +58,7 @@ pub fn two_words(line: &[u8]) -> Option<(&[u8], &[u8])>
     Some((first, second))
 }
 
-/// The words of a line of three.
+/// Returns the three words of the line, or `None` if it has another number of words.
 pub fn three_words(line: &[u8]) -> Option<(&[u8], &[u8], &[u8])>
     ensures { MatchOption result (length (words line.now) ≢ 3)
         (λ w. words line.now ≡ w.0.now ∷ w.1.now ∷ w.2.now ∷ []) }
@@ -65,7 +70,7 @@ pub fn three_words(line: &[u8]) -> Option<(&[u8], &[u8], &[u8])>
 
 type FourWords<'a> = (&'a [u8], &'a [u8], &'a [u8], &'a [u8]);
 
-/// The words of a line of four.
+/// Returns the four words of the line, or `None` if it has another number of words.
 pub fn four_words(line: &[u8]) -> Option<FourWords<'_>>
     ensures { MatchOption result (length (words line.now) ≢ 4)
         (λ w. words line.now ≡ w.0.now ∷ w.1.now ∷ w.2.now ∷ w.3.now ∷ []) }
@@ -75,20 +80,20 @@ pub fn four_words(line: &[u8]) -> Option<FourWords<'_>>
     Some((first, second, third, fourth))
 }
 
-fn place_of(wanted: u8, text: &[u8]) -> Option<usize>
+fn position_of(wanted: u8, text: &[u8]) -> Option<usize>
     ensures { result ≡ position (λ byte. byte == wanted) text.now }
 {
     text.iter().position(|byte| *byte == wanted)
 }
 
-/// Whether the word is this text.
+/// Returns whether the word is equal to the text.
 pub fn is_word(word: &[u8], text: &[u8]) -> bool
     ensures { result ≡ bytes_eq word.now text.now }
 {
     word == text
 }
 
-/// Whether the word is a name: a letter `a` to `z`, then 0 to 15 of letters, digits and `_`.
+/// Returns whether the word is a name: a letter `a` to `z`, then 0 to 15 letters, digits and `_`.
 pub fn is_name(word: &[u8]) -> bool
     ensures { result ≡ is_name word.now }
 {
@@ -112,7 +117,9 @@ fn is_name_byte(byte: u8) -> bool
     byte.is_ascii_lowercase() || byte.is_ascii_digit() || byte == b'_'
 }
 
-/// The number that the word spells, from 0 to `high`: decimal digits, with no leading zero but in `0` itself.
+/// Reads a number from 0 to `high`: decimal digits without a leading zero, `0` aside.
+///
+/// Returns `Number` if the word has another form or the number is greater.
 pub fn number(high: u32, word: &[u8]) -> Result<u32, FaultCode>
     ensures { result ≡ number_in high word.now }
 {
@@ -139,22 +146,22 @@ fn numeral(high: u32, digits: &[u8]) -> Result<u32, FaultCode>
     Ok(value as u32)
 }
 
-/// `v`, and a number below 16.
+/// Reads a variable: `v` and a number below 16. Returns `UnknownWord` without the `v`, and `Number` for the rest.
 pub(crate) fn variable(word: &[u8]) -> Result<Variable, FaultCode>
     ensures { result ≡ variable_in word.now }
 {
     match word {
-        [b'v', digits @ ..] => Ok(Variable::new(number(15, digits)? as u8)),
+        [b'v', digits @ ..] => Ok(Variable::new(number(LAST_VARIABLE, digits)? as u8)),
         _ => Err(FaultCode::UnknownWord),
     }
 }
 
-/// `@`, and a number below 256.
+/// Reads a target: `@` and a number below 256. Returns `UnknownWord` without the `@`, and `Number` for the rest.
 pub(crate) fn target(word: &[u8]) -> Result<u8, FaultCode>
     ensures { result ≡ target_in word.now }
 {
     match word {
-        [b'@', digits @ ..] => Ok(number(255, digits)? as u8),
+        [b'@', digits @ ..] => Ok(number(LAST_TARGET, digits)? as u8),
         _ => Err(FaultCode::UnknownWord),
     }
 }

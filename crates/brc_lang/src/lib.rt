@@ -1,6 +1,7 @@
-//! The text of a native extension module: its types, its one spelling, and the reader and writer between the two.
+//! The text of a native extension module: its types, its one spelling, and the functions that read and write it.
 #![tactic(auto)]
 
+mod cursor;
 mod fault;
 mod instruction;
 mod kind;
@@ -9,23 +10,22 @@ mod lexing;
 mod module;
 mod name;
 mod output;
-mod place;
 mod reading;
 mod sequence;
 mod targets;
 mod variable;
 mod writing;
 
+pub use cursor::Cursor;
 pub use fault::{FaultCode, ReadFault};
 pub use kind::Kind;
-pub use laws::{each_text_reads, one_reading, one_text};
+pub use laws::{each_text_reads, one_reading, one_text, texts_round_trip};
 pub use lexing::{
     four_words, is_name, is_word, number, one_word, split_line, split_word, three_words, two_words,
 };
 pub use module::{Function, Instr, Module};
 pub use name::Name;
-pub use output::{write_bytes, write_number};
-pub use place::Place;
+pub use output::{write_bytes, write_number, write_pieces};
 pub use reading::read;
 pub use sequence::Sequence;
 pub use variable::Variable;

@@ -5,61 +5,63 @@ use crate::name::Name;
 use crate::sequence::Sequence;
 use crate::variable::Variable;
 
-/// A module: its functions, in the order of the text.
+/// A module: 1 to 64 functions with names of their own, in the order of the text.
 #[derive(Debug, Drop)]
 pub struct Module {
     pub functions: Sequence<Function>,
 }
 
-/// A function: its name, and its instructions, which are numbered from 0.
+/// A function: its name and its 1 to 256 instructions, which are numbered from 0.
 #[derive(Debug, Drop)]
 pub struct Function {
     pub name: Name,
     pub code: Sequence<Instr>,
 }
 
-/// An instruction, with its operands in the text's order. A target is the number of a later instruction of the
-/// function.
+/// An instruction, with its operands in the order of the text.
+///
+/// References follow the ownership rules of the Python/C API (Introduction, Reference Count Details). A target is the
+/// number of a later instruction of the function.
 #[derive(Clone, Copy, Debug, PartialEq, Eq)]
 pub enum Instr {
-    /// `num vD K else @L`: a new number, whose value is K; goes on at L where no row is left.
+    /// `num vD K else @L`: makes a number of the value K and owns it in vD; goes on at L if the worker has no row left.
     Num {
         to: Variable,
         value: u32,
         otherwise: u8,
     },
-    /// `none vD`: the object none.
+    /// `none vD`: owns a reference to none in vD.
     NoneObject {
         to: Variable,
     },
-    /// `newref vD vS`: a new strong reference to what `vS` names (`Py_NewRef`).
+    /// `newref vD vS`: owns a new strong reference in vD to the object that vS names (`Py_NewRef`).
     Newref {
         to: Variable,
         from: Variable,
     },
-    /// `move vD vS`: hands the reference on.
+    /// `move vD vS`: moves the reference from vS to vD; vS is empty afterwards.
     Move {
         to: Variable,
         from: Variable,
     },
-    /// `drop vS`: gives the reference up (`Py_DECREF`).
+    /// `drop vS`: releases the reference in vS (`Py_DECREF`).
     Drop {
         from: Variable,
     },
-    /// `goto @L`: goes on at L.
+    /// `goto @L`: goes on at the instruction L.
     Goto {
         target: u8,
     },
-    /// `ret vS`: the end of the call, with the reference handed to the caller.
+    /// `ret vS`: ends the call and returns the reference in vS to the caller, who owns it.
     Ret {
         from: Variable,
     },
-    /// `fail`: the end of the call, with a fault.
+    /// `fail`: ends the call with an error and returns no reference.
     Fail,
 }
 
 impl Instr {
-    /// The target that the instruction's text names, if it names one.
+    /// Returns the target that the instruction names, or `None`.
     pub fn jump(self) -> Option<u8>
         ensures { result ≡ jump self }
     {

@@ -1,4 +1,5 @@
 ghost use Rattle.std.specs.Prelude.{OnOk, OnErr, decimal};
+ghost use Rattle.std.specs.List.{flat_map};
 ghost use Rattle.std.specs.Io.KnownBytes.{Appends};
 ghost use Rattle.brc_lang.specs.Written.{AppendsBeginning};
 
@@ -6,7 +7,10 @@ use itoa::Buffer;
 use std::io;
 use std::io::{ErrorKind, Write};
 
-/// Writes the bytes. A call of the writer that takes no byte or is interrupted is a fault too, and is not tried again.
+/// Writes the bytes.
+///
+/// Returns the writer's error, and `WriteZero` if a call takes no byte. An interrupted call is an error too and isn't
+/// repeated. After an error a prefix of the bytes has been written.
 pub fn write_bytes<W: Write>(bytes: &[u8], writer: &mut W) -> io::Result<()>
     ensures whole { OnOk result (Appends (W.contents writer.old) (W.contents writer.new) bytes.now) }
     ensures begun { OnErr result (AppendsBeginning (W.contents writer.old) (W.contents writer.new) bytes.now) }
@@ -22,7 +26,20 @@ pub fn write_bytes<W: Write>(bytes: &[u8], writer: &mut W) -> io::Result<()>
     Ok(())
 }
 
-/// Writes the number's decimal digits, as `write_bytes` does.
+/// Writes the pieces one after another, with the errors of `write_bytes`.
+pub fn write_pieces<W: Write>(pieces: &[&[u8]], writer: &mut W) -> io::Result<()>
+    ensures whole { OnOk result (Appends (W.contents writer.old) (W.contents writer.new)
+        (flat_map (λ piece. piece.now) pieces.now)) }
+    ensures begun { OnErr result (AppendsBeginning (W.contents writer.old) (W.contents writer.new)
+        (flat_map (λ piece. piece.now) pieces.now)) }
+{
+    for piece in pieces {
+        write_bytes(piece, writer)?;
+    }
+    Ok(())
+}
+
+/// Writes the number's decimal digits, with the errors of `write_bytes`.
 pub fn write_number<W: Write>(number: u64, writer: &mut W) -> io::Result<()>
     ensures whole { OnOk result (Appends (W.contents writer.old) (W.contents writer.new) (decimal number)) }
     ensures begun { OnErr result (AppendsBeginning (W.contents writer.old) (W.contents writer.new) (decimal number)) }

@@ -1,20 +1,23 @@
 //! From bytes to a module, line by line.
 
-ghost use Rattle.std.specs.Prelude.{◌≡◌, ◌∷◌, ◌++◌, [], ℕ, ◌+◌, ◌<◌, ◌^◌, length, Some, OnOk, IfOk, IfErr, MatchResult, IsTrue};
+ghost use Rattle.std.specs.Prelude.{◌≡◌, ◌∷◌, ◌++◌, [], ℕ, ◌+◌, ◌<◌, ◌^◌, length, Some, OnOk, IfOk, IfErr, MatchResult};
+ghost use Rattle.std.specs.Prelude.{IsTrue};
 ghost use Rattle.std.specs.List.{list_any};
 ghost use Rattle.std.specs.Str.{bytes_eq};
 ghost use Rattle.brc_lang.specs.declared.fault.FaultCode.{FaultCode};
 ghost use Rattle.brc_lang.specs.declared.module.Module.{Module};
 ghost use Rattle.brc_lang.specs.Grammar.{Spells, is_name};
-ghost use Rattle.brc_lang.specs.Fault.{words, instruction_in, heading_fault_of, end_fault_of, next_instruction_fault_of, HasFault, IsFaultOf, ReadsAs, Refuses, IsBeginning};
-ghost use Rattle.brc_lang.specs.Progress.{IsLineFault, Opens, Appends, Ends, IsFaultInside, ReadsFunction, IsFaultBelow, opened, closed};
+ghost use Rattle.brc_lang.specs.Fault.{words, instruction_in, heading_fault_of, end_fault_of};
+ghost use Rattle.brc_lang.specs.Fault.{next_instruction_fault_of, HasFault, IsFaultOf, ReadsAs, Refuses, IsBeginning};
+ghost use Rattle.brc_lang.specs.Progress.{IsLineFault, Opens, Appends, Ends, IsFaultInside, ReadsFunction};
+ghost use Rattle.brc_lang.specs.Progress.{IsFaultBelow, opened, closed};
 
+use crate::cursor::Cursor;
 use crate::fault::{FaultCode, ReadFault};
 use crate::instruction::instruction;
 use crate::lexing::{is_name, is_word, split_line, two_words};
 use crate::module::{Function, Instr, Module};
 use crate::name::Name;
-use crate::place::Place;
 use crate::sequence::Sequence;
 use crate::targets::leads_forward;
 use std::alloc::Global;
@@ -25,15 +28,17 @@ const MOST_FUNCTIONS: usize = 64;
 
 const MOST_INSTRUCTIONS: usize = 256;
 
-/// The module that the bytes spell.
+/// Reads the module that the bytes spell.
+///
+/// Returns the first faulty line from the top and its fault, or `NoMemory` if memory was refused.
 pub fn read(alloc: Global, bytes: &[u8]) -> Result<Module, ReadFault>
-    // What is read is spelled so.
+    // The bytes are the module's one text.
     ensures found { IfOk result (λ m. Spells bytes.now m) }
-    // A fault is want of memory, or the one that the text has.
+    // A refusal is `NoMemory`, or names the one fault that the text has.
     ensures fault { IfErr result (λ e. IsFaultOf bytes.now e) }
-    // What is spelled so is read, unless memory runs out.
+    // The text of a module is read as that module, unless memory is refused.
     ensures only { (m : Module) → Spells bytes.now m → ReadsAs result m }
-    // A text with a fault is refused for it, unless memory runs out.
+    // A text with a fault is refused for it, unless memory is refused.
     ensures refused { (line : ℕ) (code : FaultCode) → HasFault bytes.now line code → Refuses result line code }
 {
     read_module(alloc, bytes)
@@ -49,36 +54,36 @@ fn read_module(alloc: Global, bytes: &[u8]) -> Result<Module, ReadFault>
         });
     }
     let mut functions = Sequence::new(alloc);
-    let mut place = Place {
+    let mut cursor = Cursor {
         rest: &bytes[FIRST_LINE.len()..],
         line: 2,
     };
-    while !place.rest.is_empty() {
-        place = read_function(alloc, &mut functions, place)?;
+    while !cursor.rest.is_empty() {
+        cursor = read_function(alloc, &mut functions, cursor)?;
     }
     if functions.len() == 0 {
         return Err(ReadFault {
-            line: place.line,
+            line: cursor.line,
             code: FaultCode::CutOff,
         });
     }
     Ok(Module { functions })
 }
 
-/// Puts the next function behind the others, and says where it ends.
+/// Reads the next function, appends it, and returns the position below it.
 fn read_function<'a>(
     alloc: Global,
     functions: &mut Sequence<Function>,
-    place: Place<'a>,
-) -> Result<Place<'a>, ReadFault>
-    requires some { 0 < length place.rest.now }
+    cursor: Cursor<'a>,
+) -> Result<Cursor<'a>, ReadFault>
+    requires some { 0 < length cursor.rest.now }
     requires fits { IsBeginning (closed functions.old) }
-    requires lines { place.line + length place.rest.now < 2 ^ 64 }
-    ensures ok { IfOk result (λ after. ReadsFunction functions.old functions.new place.entry after) }
-    ensures err { IfErr result (λ e. IsFaultBelow functions.old place.entry e) }
+    requires lines { cursor.line + length cursor.rest.now < 2 ^ 64 }
+    ensures ok { IfOk result (λ after. ReadsFunction functions.old functions.new cursor.entry after) }
+    ensures err { IfErr result (λ e. IsFaultBelow functions.old cursor.entry e) }
 {
-    let line = place.line;
-    let Some((text, rest)) = split_line(place.rest) else {
+    let line = cursor.line;
+    let Some((text, rest)) = split_line(cursor.rest) else {
         return Err(ReadFault {
             line,
             code: FaultCode::CutOff,
@@ -88,7 +93,7 @@ fn read_function<'a>(
         Ok(name) => name,
         Err(code) => return Err(ReadFault { line, code }),
     };
-    let below = Place {
+    let below = Cursor {
         rest,
         line: line + 1,
     };
@@ -102,7 +107,7 @@ fn read_function<'a>(
     }
 }
 
-/// The name in the line that opens a function.
+/// Returns the name in the line that opens a function. Its faults are `UnknownWord`, `OverLimit` and `NameTwice`.
 fn heading(functions: &Sequence<Function>, text: &[u8]) -> Result<Name, FaultCode>
     ensures ok { IfOk result (λ name. Opens functions.now text.now name) }
     ensures err { IfErr result (λ code. heading_fault_of functions.now (words text.now) ≡ Some code) }
@@ -130,22 +135,22 @@ fn has_name(functions: &[Function], name: &[u8]) -> bool
         .any(|function| is_word(function.name.as_bytes(), name))
 }
 
-/// The function whose first line stands above the place, and the place below its last line.
+/// Reads the function below its first line, and returns the position below its last line.
 fn read_body<'a>(
     alloc: Global,
     name: Name,
-    start: Place<'a>,
-) -> Result<(Function, Place<'a>), ReadFault>
+    start: Cursor<'a>,
+) -> Result<(Function, Cursor<'a>), ReadFault>
     requires named { IsTrue (is_name name) }
     requires lines { start.line + length start.rest.now < 2 ^ 64 }
     ensures ok { IfOk result (λ read. Ends name start.entry read.0 read.1) }
     ensures err { IfErr result (λ e. IsFaultInside name start.entry e) }
 {
     let mut code = Sequence::new(alloc);
-    let mut place = start;
-    while let Some((text, rest)) = split_line(place.rest) {
-        let line = place.line;
-        let below = Place {
+    let mut cursor = start;
+    while let Some((text, rest)) = split_line(cursor.rest) {
+        let line = cursor.line;
+        let below = Cursor {
             rest,
             line: line + 1,
         };
@@ -158,15 +163,15 @@ fn read_body<'a>(
         if let Err(code) = read_instruction(&mut code, text) {
             return Err(ReadFault { line, code });
         }
-        place = below;
+        cursor = below;
     }
     Err(ReadFault {
-        line: place.line,
+        line: cursor.line,
         code: FaultCode::CutOff,
     })
 }
 
-/// The fault of the line that ends a function of this code, where one stands.
+/// Returns the fault of the line that ends a function of this code, or `None`.
 fn end_fault(code: &[Instr]) -> Option<FaultCode>
     ensures { result ≡ end_fault_of code.now }
 {
@@ -179,7 +184,7 @@ fn end_fault(code: &[Instr]) -> Option<FaultCode>
     }
 }
 
-/// Puts the instruction of a line behind the others of its function.
+/// Reads the instruction of a line and appends it to its function.
 fn read_instruction(code: &mut Sequence<Instr>, text: &[u8]) -> Result<(), FaultCode>
     ensures ok { OnOk result (Appends code.old code.new text.now) }
     ensures err { IfErr result (λ fault. IsLineFault

@@ -3,7 +3,7 @@ ghost use Rattle.std.specs.Prelude.{◌≡◌, ◌<◌, ◌++◌, ◌∷◌, [],
 use std::alloc::{AllocError, Global};
 use std::marker::Model;
 
-/// A list that grows at its end, and that contracts see as a list.
+/// A vector that contracts see as the list of its items.
 #[derive(Debug, Drop)]
 pub struct Sequence<T> {
     items: Vec<T>,
@@ -18,7 +18,7 @@ impl<T> Model for Sequence<T> {
 }
 
 impl<T> Sequence<T> {
-    /// The empty list; it takes no memory.
+    /// Returns an empty sequence, which takes no memory.
     pub fn new(alloc: Global) -> Sequence<T>
         ensures { result ≡ [] }
     {
@@ -27,14 +27,14 @@ impl<T> Sequence<T> {
         }
     }
 
-    /// How many items there are.
+    /// Returns the number of items.
     pub fn len(&self) -> usize
         ensures { result ≡ length self.now }
     {
         self.items.len()
     }
 
-    /// The items, in order.
+    /// Returns the items in order.
     pub fn as_slice(&self) -> &[T]
         ensures { result.now ≡ self.now }
     {
@@ -43,7 +43,7 @@ impl<T> Sequence<T> {
 }
 
 impl<T: Drop> Sequence<T> {
-    /// Puts the item at the end. Where memory is refused, nothing changes and the item is dropped.
+    /// Appends the item. If memory is refused, the sequence is unchanged and the item is dropped.
     pub fn push(&mut self, item: T) -> Result<(), AllocError>
         ensures ok { OnOk result (self.new ≡ self.old ++ item ∷ []) }
         ensures err { OnErr result (self.new ≡ self.old) }
@@ -52,7 +52,7 @@ impl<T: Drop> Sequence<T> {
         Ok(())
     }
 
-    /// Puts the item in the place of another, which is dropped.
+    /// Replaces the item at the index, which is below the length, and drops the old one.
     pub fn set(&mut self, index: usize, item: T)
         requires { index < length self.old }
         ensures { self.new ≡ slice_set self.old index item }

@@ -5,7 +5,7 @@ ghost use Rattle.brc_lang.specs.Fault.{leads_forward};
 
 use crate::module::Instr;
 
-/// Whether each target is the number of a later instruction of the code.
+/// Returns whether each target is the number of a later instruction of the code.
 pub(crate) fn leads_forward(code: &[Instr]) -> bool
     ensures { result ≡ leads_forward code.now }
 {

@@ -1,8 +1,9 @@
 ghost use Rattle.std.specs.Prelude.{◌≡◌, ◌<◌};
+ghost use Rattle.brc_lang.specs.Limits.{variable_count};
 
 use std::marker::Model;
 
-/// One of the sixteen variables of a function, `v0` to `v15`.
+/// A variable of a function: `v0` to `v15`.
 #[derive(Clone, Copy, Debug, PartialEq, Eq)]
 pub struct Variable {
     number: u8,
@@ -10,32 +11,33 @@ pub struct Variable {
 
 impl Model for Variable {
     ghost use Rattle.std.specs.Prelude.{ℕ, ◌<◌};
+    ghost use Rattle.brc_lang.specs.Limits.{variable_count};
 
     ghost Value = { ℕ };
 
     ghost view = { λ v. v.number };
 
-    ghost invariant = { λ v. v.number < 16 };
+    ghost invariant = { λ v. v.number < variable_count };
 
     ghost inverse = { λ n. record { number = n } };
 }
 
 impl Variable {
-    /// How many variables a function has.
+    /// The number of variables of a function.
     pub const COUNT: usize = 16;
 
-    /// The variable of this number, below 16.
+    /// Returns the variable of this number, which is below `COUNT`.
     pub fn new(number: u8) -> Variable
-        requires { number < 16 }
+        requires { number < variable_count }
         ensures { result ≡ number }
     {
         Variable { number }
     }
 
-    /// The number behind the `v`, below 16.
+    /// Returns the number behind the `v`, which is below `COUNT`.
     pub fn number(self) -> u8
         ensures value { result ≡ self }
-        ensures in_range { self < 16 }
+        ensures in_range { self < variable_count }
     {
         self.number
     }

@@ -2,7 +2,9 @@ ghost use Rattle.std.specs.Prelude.{[], ◌∷◌, ◌++◌, OnOk, OnErr, decima
 ghost use Rattle.std.specs.Io.KnownBytes.{Appends};
 ghost use Rattle.brc_lang.specs.Written.{AppendsBeginning};
 ghost use Rattle.brc_lang.specs.declared.module.Instr.TheVariants.{Num};
-ghost use Rattle.brc_lang.specs.Grammar.{spaced, variable as variable_text, instruction as instruction_text, instructions as instructions_text, line as line_text, heading as heading_text, function as function_text, text as module_text};
+ghost use Rattle.brc_lang.specs.Grammar.{spaced, variable as variable_text, instruction as instruction_text};
+ghost use Rattle.brc_lang.specs.Grammar.{instructions as instructions_text, line as line_text, heading as heading_text};
+ghost use Rattle.brc_lang.specs.Grammar.{function as function_text, text as module_text};
 
 use crate::module::{Function, Instr, Module};
 use crate::output::{write_bytes, write_number};
@@ -10,7 +12,7 @@ use crate::variable::Variable;
 use std::io;
 use std::io::Write;
 
-/// Writes the module's one text, as `write_bytes` does. It takes no memory.
+/// Writes the module's one text, with the errors of `write_bytes`. It takes no memory.
 pub fn write<W: Write>(module: &Module, writer: &mut W) -> io::Result<()>
     ensures whole { OnOk result (Appends (W.contents writer.old) (W.contents writer.new) (module_text «module».now)) }
     ensures begun { OnErr result (AppendsBeginning (W.contents writer.old) (W.contents writer.new)
@@ -96,7 +98,7 @@ fn write_num<W: Write>(to: Variable, value: u32, otherwise: u8, writer: &mut W) 
     write_numeral(b" else @", u64::from(otherwise), writer)
 }
 
-// What stands before two variables, and these.
+/// Writes the bytes and then the two variables.
 fn write_operands<W: Write>(
     before: &[u8],
     to: Variable,
@@ -112,7 +114,7 @@ fn write_operands<W: Write>(
     write_operand(b" ", from, writer)
 }
 
-// What stands before the variable, and the variable.
+/// Writes the bytes and then the variable.
 fn write_operand<W: Write>(before: &[u8], variable: Variable, writer: &mut W) -> io::Result<()>
     ensures whole { OnOk result (Appends (W.contents writer.old) (W.contents writer.new)
         (before.now ++ variable_text variable)) }
@@ -123,7 +125,7 @@ fn write_operand<W: Write>(before: &[u8], variable: Variable, writer: &mut W) ->
     write_numeral(b"v", u64::from(variable.number()), writer)
 }
 
-// What stands before the number, and its digits.
+/// Writes the bytes and then the digits of the number.
 fn write_numeral<W: Write>(before: &[u8], number: u64, writer: &mut W) -> io::Result<()>
     ensures whole { OnOk result (Appends (W.contents writer.old) (W.contents writer.new)
         (before.now ++ decimal number)) }

@@ -1,10 +1,13 @@
--- Lists, the bag of references, and the blocks of rows: what the other folders count with.
+-- Lists, the bag of references, memory and the blocks of rows: lemmas that all other folders use.
 --
--- `Lists` and `Bag` have lemmas about lists and about counting references in the bag; `Blocks` says which block a row
--- is of; `Written` which words a write leaves, and `MovesApart` which references a move leaves.
+-- `Lists` and `Bag` are about lists and about counting references in the bag. `Blocks` gives each row its block.
+-- `Written` has what a write does to memory, and `MovesApart` which references a move leaves unchanged. `Moves` has the
+-- sorts of moves that a step makes, and `Continuation` the shapes of what follows it.
 
 pub mod Lists
 pub mod Bag
 pub mod Blocks
 pub mod Written
+pub mod Moves
 pub mod MovesApart
+pub mod Continuation

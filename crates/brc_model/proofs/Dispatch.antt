@@ -1,8 +1,8 @@
 -- What a thread of accepted code does next fits it: `Actions.action_fits`.
 --
--- In order: `Holds`, `Passing` and `Grounded` (what a thread's variables hold at a point that a path comes to), `Coded`
--- (its account is what its place says), `Begins`, `Taking` and `TakingSilent` (instruction by instruction), `TakenSits`,
--- `Claims`, and `Actions`, which puts them together.
+-- In order: `Holds`, `Passing` and `Grounded` (what a thread's variables hold at a point that a path reaches), `Coded`
+-- (a thread's account is the one that its place gives), `Begins`, `Taking` and `TakingSilent` (instruction by
+-- instruction), `TakenSits`, `Claims`, `Counting` (the counting machine below), and `Actions`, which has the theorem.
 
 pub mod Holds
 pub mod Passing
@@ -13,4 +13,5 @@ pub mod Taking
 pub mod TakingSilent
 pub mod TakenSits
 pub mod Claims
+pub mod Counting
 pub mod Actions

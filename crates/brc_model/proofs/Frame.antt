@@ -1,10 +1,12 @@
--- What a step leaves to all others: to other threads (`Others.each_fits`) and to the thread's own work that is put
+-- What a step leaves unchanged: for other threads (`Others.each_fits`), and for the duties that its own thread has put
 -- aside (`AsideAfter.aside_after`).
 --
--- In order: `Alive` (whatever is counted is live), `Others` (what others rely on), `Leaves` and `Lives` (that a step
--- leaves it), `Aside` (duties about other rows), `Beside` and `AsideAfter` (what they know stays).
+-- In order: `Alive` (every counted row is live), `Known` (what a duty knows stays, where a step leaves what it relies
+-- on), `Others` (what other threads rely on), `Leaves` and `Lives` (a step leaves it), `Aside` (duties about other
+-- rows), `Beside` and `AsideAfter` (such duties keep what they know).
 
 pub mod Alive
+pub mod Known
 pub mod Others
 pub mod Leaves
 pub mod Lives

@@ -1,7 +1,7 @@
 -- Words and numbers stay below their bounds: `StepsAreWithin.steps_within`.
 --
--- In order: `FewHeld` (an object has few references), `Ranges` and `RangesEvents` (rows of duties are rows that there
--- are), `Bounds` (words), `StepsAreWithin`.
+-- In order: `FewHeld` (an object has few references), `Ranges` and `RangesEvents` (the rows that duties name exist),
+-- `Bounds` (words), `StepsAreWithin`.
 
 pub mod FewHeld
 pub mod Ranges

@@ -1,9 +1,9 @@
 -- A thread's step keeps every row's invariant: `RowsAfter.rows_after`.
 --
--- In order: `RowSteps` and `RowMerges` (one row's numbers, by rule), `Weights` (what the duties of all threads weigh),
--- `RowsAfterStep` and `RowsAfterElsewhere` (rows that the step isn't about), then duty by duty `RowsAfterOwn` to
--- `RowsAfterBirths`. `Closing` and `ClosedAfter` follow lives, `UsesAfter` and `BlanksAfter` the rows that are used and
--- not, `KindsAfter` kind words and `GatesAfter` gates.
+-- In order: `RowSteps` and `RowMerges` (one row's numbers, rule by rule), `Weights` (what the duties of all threads
+-- weigh), `RowsAfterStep` and `RowsAfterElsewhere` (rows that the step isn't about), then duty by duty `RowsAfterOwn`
+-- to `RowsAfterBirths`. `Closing` and `ClosedAfter` are about the lives of rows, `UsesAfter` and `BlanksAfter` about
+-- used and unused rows, `KindsAfter` about kind words, and `GatesAfter` about gates.
 
 pub mod RowSteps
 pub mod RowMerges

@@ -1,10 +1,12 @@
 -- The thread that steps fits afterwards: the lemmas `thread_after_*`, duty by duty.
 --
--- In order: `Own`, `Neutral`, `Steps` and `Shown` put together what a step has to show; `Retains` to
--- `Births` show it, in the order of an object's life; `Nones` does for none. `Settled`: the chain is empty where a
--- thread leaves. `Stores`: a duty that stores knows the word that it overwrites.
+-- In order: `UnderWay` (no step changes whether the thread's exit is under way). `Own`, `Neutral`, `Counts`, `Steps`
+-- and `Shown` put together what each step has to show. `Retains` to `Births` show it, in the order of an object's life,
+-- and `Nones` shows it for none. `Settled`: a thread's chain is empty when it leaves. `Stores`: a duty that stores
+-- knows the word that it overwrites.
 
 pub mod Own
+pub mod UnderWay
 pub mod Neutral
 pub mod Counts
 pub mod Steps

@@ -1,7 +1,7 @@
--- Who decides about a row, who merges it and who looks at its mark.
+-- Which thread decides about a row, which one merges it, and which one looks at its mark.
 --
--- In order: `HasDuties` and `Weighing` (who weighs something at a row knows it), `Deciders` (only the running owner
--- decides), `MergesOnce` (one thread merges), `Watches` (a set mark is watched).
+-- In order: `HasDuties` and `Weighing` (a thread that weighs something at a row knows the row), `Deciders` (only the
+-- running owner decides), `MergesOnce` (one thread merges), `Watches` (a set mark is watched).
 
 pub mod HasDuties
 pub mod Weighing

@@ -1,5 +1,5 @@
--- What a thread holds: how many references to each object, by each way of holding one. While a reference is being made
--- or given up, the bag and the thread's account differ by it; the duty that does so says by how much.
+-- Accounts. A thread's account says how many references it holds to each object, by each holding. While the thread
+-- makes a reference or gives one up, bag and account differ by it, and the duty says by how much.
 use Rattle.std.specs.Prelude.{◌≡◌, ℕ, ◌+◌, ◌≤◌, Bool, false, ◌==◌, ◌&&◌, List, [], ◌∷◌, count_by}
 use Rattle.brc_model.specs.declared.duty.Holding.{Holding}
 use Rattle.brc_model.specs.declared.duty.Holding.TheVariants.{ByVariable, AsCaller, InFlight}
@@ -10,7 +10,7 @@ use Rattle.brc_model.specs.declared.duty.Duty.TheVariants.{RetainLoad, RetainSto
 use Rattle.brc_model.specs.References.{held, one_if, reference_of}
 use Rattle.brc_word.specs.Words.{half}
 
--- Whether the duty gives up this reference: the bag still has it, and the account no longer does.
+-- Says whether the duty gives up this reference: the bag still has it, and the account no longer does.
 abbrev pub extra : Duty → Holding → ℕ → Bool
 extra (ReleaseLoad x h) k object = same_holding h k && (x == object)
 extra (ReleaseStore x w) k object = same_holding InFlight k && (x == object)
@@ -18,7 +18,7 @@ extra (SharedLoad x Own) k object = same_holding InFlight k && (x == object)
 extra (SharedExchange x Own w) k object = same_holding InFlight k && (x == object)
 extra _ k object = false
 
--- Whether the duty makes this reference: the account has it already, and the bag doesn't yet.
+-- Says whether the duty makes this reference: the account has it already, and the bag doesn't yet.
 abbrev pub lacks : Duty → Holding → ℕ → Bool
 lacks (RetainLoad x h) k object = same_holding h k && (x == object)
 lacks (RetainStore x h w) k object = same_holding h k && (x == object)
@@ -28,7 +28,7 @@ lacks (BirthSlot x h) k object = same_holding h k && (x == object)
 lacks (BirthLocal x h) k object = same_holding h k && (x == object)
 lacks _ k object = false
 
--- of the duty at hand, the first of the agenda
+-- the same of an agenda's first duty
 abbrev pub extra_of : List Duty → Holding → ℕ → Bool
 extra_of [] k object = false
 extra_of (d ∷ rest) k object = extra d k object
@@ -37,24 +37,23 @@ abbrev pub lacks_of : List Duty → Holding → ℕ → Bool
 lacks_of [] k object = false
 lacks_of (d ∷ rest) k object = lacks d k object
 
--- A thread's account: how many references it holds to each object, by each way of holding one, apart from those that
--- its work makes or gives up just now.
+-- A thread's account: by holding and object, how many references it holds.
 abbrev pub Account : Type 0
 Account = Holding → ℕ → ℕ
 
--- the accounts of all threads, by their numbers
+-- the accounts of all threads, by the thread's number
 abbrev pub Accounts : Type 0
 Accounts = ℕ → Account
 
--- Of the duties that are put aside: how many give up the reference, and how many make it.
+-- how many of the duties put aside give up the reference, and how many make it
 abbrev pub extra_aside : List Duty → Holding → ℕ → ℕ
 extra_aside aside k object = count_by (λ d. extra d k object) aside
 
 abbrev pub lacks_aside : List Duty → Holding → ℕ → ℕ
 lacks_aside aside k object = count_by (λ d. lacks d k object) aside
 
--- The bag has just the references of the thread's account, with those that its open work gives up and without those
--- that it makes.
+-- Of the thread's references the bag has those of its account, with those that its open work gives up, and without
+-- those that its open work makes.
 pub record HoldsAt (bag : List Reference) (t : ℕ) (account : Account) (agenda aside : List Duty) : Type 0 where
   pub each : (k : Holding) (object : ℕ)
       → held (reference_of t k object) bag + one_if (lacks_of agenda k object) + lacks_aside aside k object
@@ -62,18 +61,18 @@ pub record HoldsAt (bag : List Reference) (t : ℕ) (account : Account) (agenda 
 
 -- ---- how much it may hold
 
--- how many references to one object a thread may hold as the caller that lends them
+-- the most references to one object that a thread may hold as the caller
 abbrev pub most_lent : ℕ
 most_lent = half
 
--- A thread holds at most one reference by each of its sixteen variables, and as a caller within its bound. In its hand
--- is only what a duty gives up just now.
+-- A thread holds at most one reference by each of its sixteen variables, and as the caller at most `most_lent` to one
+-- object. A reference in flight is part of no account.
 pub record IsBounded (account : Account) : Type 0 where
   pub by_variable : (v object : ℕ) → account (ByVariable v) object ≤ 1
   pub sixteen : (v object : ℕ) → 16 ≤ v → account (ByVariable v) object ≡ 0
   pub lent : (object : ℕ) → account AsCaller object ≤ most_lent
   pub in_flight : (object : ℕ) → account InFlight object ≡ 0
 
--- a thread whose exit is under way or done holds no reference but the one that it gives up just now
+-- The account is empty, as that of a thread whose exit is under way or done.
 abbrev pub HoldsNone : Account → Type 0
 HoldsNone account = (k : Holding) (object : ℕ) → account k object ≡ 0

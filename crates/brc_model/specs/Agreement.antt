@@ -1,5 +1,6 @@
--- What the counts of a row add up to, and what each phase implies. (PEP 703, Biased Reference Counting: an object's
--- references are its local count and its shared count together; it is freed from default and merged alone.)
+-- What a row's counts add up to, and what each state of it implies. (PEP 703, Biased Reference Counting: an object has
+-- as many references as its local and its shared count say together; it is freed only in the states default and
+-- merged.)
 use Rattle.std.specs.Prelude.{◌≡◌, ◌⊎◌, ℕ, ◌+◌, ◌<◌, ◌≤◌, Bool, true, false, ◌||◌, ◌==◌, if◌then◌else◌, Some, slice_get, sum_by}
 use Rattle.std.specs.List.{list_any}
 use Rattle.brc_model.specs.AbstractState.{references_to}
@@ -8,16 +9,16 @@ use Rattle.brc_model.specs.declared.duty.Reason.TheVariants.{Handed}
 use Rattle.brc_model.specs.declared.duty.Duty.{Duty}
 use Rattle.brc_model.specs.declared.duty.Duty.TheVariants.{DecideAtZero, SharedLoad, SharedExchange, SetMark, MergeSwap, MergeLoad, MergeExchange}
 use Rattle.brc_model.specs.declared.address.Address.TheVariants.{Local, Shared, Mark}
-use Rattle.brc_model.specs.Duties.{block_of}
 use Rattle.brc_model.specs.Machine.{Live, Actor, Machine}
+use Rattle.brc_model.specs.Layout.{block_of}
 
 -- ---- weights of a duty at a row
 
 abbrev pub at_row : ℕ → ℕ → ℕ
 at_row x y = if y == x then 1 else 0
 
--- a decrement that awaits: a mark to be set, or a claimed mark whose reference isn't given up yet, before its merge and
--- after it
+-- a pending decrement: a mark that the thread is about to set, or a claimed mark whose reference the thread hasn't
+-- given up yet, before the merge or after it
 abbrev pub awaits : ℕ → Duty → ℕ
 awaits x (SetMark y) = at_row x y
 awaits x (SharedLoad y Handed) = at_row x y
@@ -27,30 +28,30 @@ awaits x (MergeLoad y c Handed) = at_row x y
 awaits x (MergeExchange y c w Handed) = at_row x y
 awaits x _ = 0
 
--- a local count that is swapped out and not yet added
+-- a local count that a merge has swapped out and not yet added to the shared word
 abbrev pub carries : ℕ → Duty → ℕ
 carries x (MergeLoad y c r) = if y == x then c else 0
 carries x (MergeExchange y c w r) = if y == x then c else 0
 carries x _ = 0
 
--- over the duties of all threads
+-- the sum of a weight over the duties of all threads
 abbrev pub weighed : (Duty → ℕ) → Machine → ℕ
 weighed f m = sum_by (λ (a : Actor). sum_by f a.agenda + sum_by f a.aside) m.actors
 
--- ---- who has a duty about a row
+-- ---- duties about a row
 
--- to decide what becomes of the row, for its local count is zero
+-- a duty to decide what becomes of the row, because its local count is zero
 abbrev pub is_deciding : ℕ → Duty → Bool
 is_deciding x (DecideAtZero y) = y == x
 is_deciding x _ = false
 
--- to add the local count to the shared word: it is swapped out of the local word
+-- a duty to add the local count to the shared word, once a merge has swapped it out
 abbrev pub has_swapped : ℕ → Duty → Bool
 has_swapped x (MergeLoad y c r) = y == x
 has_swapped x (MergeExchange y c w r) = y == x
 has_swapped x _ = false
 
--- to swap the local count out, or to add what was swapped out
+-- a duty to swap the local count out, or to add it to the shared word
 abbrev pub is_merging : ℕ → Duty → Bool
 is_merging x (MergeSwap y r) = y == x
 is_merging x d = has_swapped x d
@@ -58,7 +59,7 @@ is_merging x d = has_swapped x d
 abbrev pub decides_or_merges : ℕ → Duty → Bool
 decides_or_merges x d = is_deciding x d || is_merging x d
 
--- the thread has such a duty in its agenda, or put aside
+-- the thread has such a duty, in its agenda or put aside
 pub record HasDuty (m : Machine) (t : ℕ) (is_such : Duty → Bool) : Type 0 where
   pub actor : Actor
   pub found : slice_get m.actors t ≡ Some actor
@@ -71,26 +72,27 @@ SomeThreadHas m is_such = (t : ℕ) × HasDuty m t is_such
 abbrev pub OwnerHas : Machine → ℕ → (Duty → Bool) → Type 0
 OwnerHas m x is_such = (t : ℕ) × (owner_part (m.memory (Local x)) ≡ t + 1) × HasDuty m t is_such
 
--- the thread whose block the row is of owns it, and counts it at least once in the local word
+-- the thread of the row's block owns the row, and its local count is at least 1
 pub record IsCountedLocally (m : Machine) (x : ℕ) : Type 0 where
-  pub owner : owner_part (m.memory (Local x)) ≡ block_of m.rows x + 1
+  pub owner : owner_part (m.memory (Local x)) ≡ block_of m.layout x + 1
   pub counted : 1 ≤ local_part (m.memory (Local x))
 
 -- ---- agreement
 
--- default, queued and merged: there is no other phase
+-- the state is default, queued or merged
 abbrev pub IsPhase : ℕ → Type 0
 IsPhase phase = (phase ≡ 0) ⊎ (phase ≡ 2) ⊎ (phase ≡ 3)
 
--- the counts of a row, and the bias of its shared word
+-- the row's local, shared and carried counts together, with the bias of its shared word
 abbrev pub biased_total : Machine → ℕ → ℕ
 biased_total m x = local_part (m.memory (Local x)) + biased_part (m.memory (Shared x)) + weighed (carries x) m
 
+-- the number of the row's pending decrements: a set mark is one, and the threads' duties have the others
 abbrev pub awaiting : Machine → ℕ → ℕ
 awaiting m x = m.memory (Mark x) + weighed (awaits x) m
 
 pub record AgreesAt (m : Machine) (x : ℕ) : Type 0 where
-  -- the counts add up to the references held and the decrements that await
+  -- the counts add up to the references that are held and the pending decrements
   pub total : biased_total m x ≡ references_to x m.abstract.references + awaiting m x + bias
   pub default_none : m.life x ≡ Live → phase_part (m.memory (Shared x)) ≡ 0 → awaiting m x ≡ 0
   pub default_counts : m.life x ≡ Live → phase_part (m.memory (Shared x)) ≡ 0 → bias ≤ biased_part (m.memory (Shared x))
@@ -98,14 +100,15 @@ pub record AgreesAt (m : Machine) (x : ℕ) : Type 0 where
   pub merged_free : m.life x ≡ Live → phase_part (m.memory (Shared x)) ≡ 3 → m.memory (Local x) ≡ 0
   pub merged_counts : m.life x ≡ Live → phase_part (m.memory (Shared x)) ≡ 3 → bias < biased_part (m.memory (Shared x))
   pub phase : m.life x ≡ Live → IsPhase (phase_part (m.memory (Shared x)))
-  -- the owner counts the row, unless a thread has found its last local reference gone, or merges it
+  -- the owner counts the row locally, unless a thread has found its last local reference gone, or merges it
   pub default_local : m.life x ≡ Live → phase_part (m.memory (Shared x)) ≡ 0
       → IsCountedLocally m x ⊎ SomeThreadHas m (decides_or_merges x)
-  -- unless the owner has, or a thread has swapped the local count out and not yet added it
+  -- the owner counts the row locally, unless the owner decides about it or merges it, or a thread has swapped the local
+  -- count out
   pub queued_local : m.life x ≡ Live → phase_part (m.memory (Shared x)) ≡ 2
       → IsCountedLocally m x ⊎ OwnerHas m x (decides_or_merges x) ⊎ SomeThreadHas m (has_swapped x)
 
--- a row that is dying or closed has no reference, and nothing awaits it
+-- the row has no reference and no pending decrement, as each dying or closed row
 pub record IsFreeOf (m : Machine) (x : ℕ) : Type 0 where
   pub references : references_to x m.abstract.references ≡ 0
   pub awaiting_none : awaiting m x ≡ 0

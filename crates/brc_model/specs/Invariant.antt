@@ -1,27 +1,27 @@
--- The invariant: what holds of each machine that steps lead to, whatever its threads run. It takes each thread's
--- account of references, and never asks where a thread is in its code but for whether its exit is under way.
-use Rattle.std.specs.Prelude.{◌≡◌, ◌≢◌, ◌⊎◌, ℕ, ◌+◌, ◌<◌, ◌≤◌, Bool, true, false, ◌==◌, List, [], ◌∷◌, length, Some, slice_get, count_by, AllPairs}
+-- The invariant holds of each reachable machine, whatever code its threads run. It takes each thread's account of
+-- references, and never asks where a thread is in its code: status and agenda say whether its exit is under way.
+use Rattle.std.specs.Prelude.{◌≡◌, ◌≢◌, ◌⊎◌, ℕ, ◌+◌, ◌<◌, ◌≤◌, Bool, true, false, ◌==◌, List, [], ◌∷◌, length, None, Some, slice_get, count_by, AllPairs}
 use Rattle.brc_model.specs.declared.duty.Holding.{Holding}
 use Rattle.brc_model.specs.AbstractState.{is_among, references_to}
-use Rattle.brc_word.specs.Words.{kind_part}
+use Rattle.brc_word.specs.Words.{immortal_local, local_word, kind_part}
 use Rattle.brc_model.specs.Kinds.{kind_number}
 use Rattle.brc_model.specs.declared.duty.Duty.{Duty}
 use Rattle.brc_model.specs.declared.duty.Duty.TheVariants.{Look, TakeMark, BirthSlot, BirthLocal}
 use Rattle.brc_model.specs.declared.address.Address.{Address}
 use Rattle.brc_model.specs.declared.address.Address.TheVariants.{Local, Shared, Gate, KindOf, Mark, Cell, Slot, ThreadWord}
-use Rattle.brc_model.specs.Duties.{block_of}
-use Rattle.brc_model.specs.declared.actor.Place.TheVariants.{Exiting}
-use Rattle.brc_model.specs.Machine.{Actor, Life, Unborn, Live, Closed, Machine, first_row}
+use Rattle.brc_model.specs.Machine.{Actor, Life, Unborn, Live, Closed, Machine}
 use Rattle.brc_model.specs.References.{held, one_if, reference_of, cell_reference}
 use Rattle.brc_model.specs.RowInvariant.{waits, carries, merges, decides, weight, Numbers, RowInvariant}
 use Rattle.brc_model.specs.Accounts.{Account, Accounts, HoldsAt, IsBounded, HoldsNone}
 use Rattle.brc_model.specs.Knowledge.{status_word, HeadOf}
-use Rattle.brc_model.specs.OpenWork.{scans, AgendaFits, IsSettled, GateFits, dies_by, ChainFits, AsideFits}
-use Rattle.brc_model.specs.Limits.{row_limit, thread_limit}
+use Rattle.brc_model.specs.OpenWork.{exits, scans, AgendaFits, IsSettled, GateFits, dies_by, ChainFits, AsideFits}
+use Rattle.brc_model.specs.Limits.{row_limit, immortal_limit, thread_limit, cell_limit}
+use Rattle.brc_model.specs.declared.layout.Layout.{Layout}
+use Rattle.brc_model.specs.Layout.{block_of, block_size, index_of, is_immortal_row, IsCounted}
 
 -- ---- rows
 
--- what a row's words, references and duties come to
+-- a row's words, references and duties as numbers
 abbrev pub numbers_of : Machine → ℕ → Numbers
 numbers_of m x = record {
   local = m.memory (Local x);
@@ -36,23 +36,26 @@ numbers_of m x = record {
 
 -- ---- one thread
 
--- The thread word says the thread's status, the bag has what its account says, its next duty knows what it needs, and
--- its dying rows are its chain. A thread whose exit is under way holds nothing and has put nothing aside.
+-- The thread word says the thread's status, the bag has what the account says, the thread's next duty knows what it
+-- needs, and its dying rows are its chain. A thread whose exit is under way holds nothing and has put nothing aside. No
+-- instruction locks or lends yet.
 pub record ActorFits (account : Account) (m : Machine) (t : ℕ) (a : Actor) : Type 0 where
   pub word : m.memory (ThreadWord t) ≡ status_word a.status
   pub holds : HoldsAt m.abstract.references t account a.agenda a.aside
   pub bounded : IsBounded account
-  pub exited : a.place ≡ Exiting → HoldsNone account × (a.aside ≡ [])
+  pub exited : exits a.status a.agenda ≡ true → HoldsNone account × (a.aside ≡ [])
   pub head_fits : HeadOf m t a a.agenda
   pub chain : ChainFits m t a.head a.agenda
+  pub unlocked : a.locked ≡ None
+  pub unlent : a.lent ≡ None
 
 -- what holds of each thread
 abbrev pub Fits : Account → Machine → ℕ → Actor → Type 0
-Fits account m t a = ActorFits account m t a × AgendaFits m.rows t a a.status × AsideFits m t a
+Fits account m t a = ActorFits account m t a × AgendaFits a a.status × AsideFits m t a
 
 -- ---- marks that are set are watched
 
--- Whether the duty looks at the row's mark: as a number, 1 or 0.
+-- 1 if the duty looks at the row's mark, else 0.
 abbrev pub looks : ℕ → Duty → ℕ
 looks x (Look y) = one_if (y == x)
 looks x (TakeMark y) = one_if (y == x)
@@ -60,85 +63,88 @@ looks x _ = 0
 
 -- Some thread will look at the mark: the running owner, the owner's exit, or the thread that set it.
 pub data IsWatched (m : Machine) (x : ℕ) : Type 0 where
-  ByRunning : m.memory (ThreadWord (block_of m.rows x)) ≡ 1 → IsWatched m x
-  ByExit : (a : Actor) → slice_get m.actors (block_of m.rows x) ≡ Some a → scans x a.agenda ≡ true → IsWatched m x
+  ByRunning : m.memory (ThreadWord (block_of m.layout x)) ≡ 1 → IsWatched m x
+  ByExit : (a : Actor) → slice_get m.actors (block_of m.layout x) ≡ Some a
+      → scans (index_of m.layout (block_of m.layout x) x) a.agenda ≡ true → IsWatched m x
   ByLook : 0 < weight (looks x) m.actors → IsWatched m x
 
 -- ---- births
 
 -- The rows of a thread's block that it has used are born, and the others aren't.
-pub record UsesFit (rows : ℕ) (life : ℕ → Life) (t used : ℕ) : Type 0 where
-  -- main's rows are none and the root, and are used from the beginning
-  pub main : t ≡ 0 → used ≡ 2
-  pub few : 0 < t → used ≤ rows
-  pub born : (x : ℕ) → first_row rows t ≤ x → x < first_row rows t + used → life x ≢ Unborn
-  pub unborn : (x : ℕ) → block_of rows x ≡ t → first_row rows t + used ≤ x → life x ≡ Unborn
+pub record UsesFit (layout : Layout) (life : ℕ → Life) (t used : ℕ) : Type 0 where
+  -- main's rows are used from the start
+  pub main : t ≡ 0 → used ≡ block_size layout t
+  pub few : used ≤ block_size layout t
+  pub born : (x : ℕ) → block_of layout x ≡ t → index_of layout t x < used → life x ≢ Unborn
+  pub unborn : (x : ℕ) → block_of layout x ≡ t → used ≤ index_of layout t x → life x ≡ Unborn
 
--- Whether the thread's birth of the row has stored the kind word.
+-- Says whether the thread's birth of the row has stored the kind word.
 abbrev pub kind_stored : List Duty → ℕ → Bool
 kind_stored (BirthSlot y h ∷ rest) x = y == x
 kind_stored (BirthLocal y h ∷ rest) x = y == x
 kind_stored _ x = false
 
--- Whether it has put the resource into its slot.
+-- Says whether the birth has put the resource into its slot.
 abbrev pub slot_stored : List Duty → ℕ → Bool
 slot_stored (BirthLocal y h ∷ rest) x = y == x
 slot_stored _ x = false
 
--- The unused rows of a thread's block are blank, apart from what the birth under way has stored.
-pub record BlankFits (rows : ℕ) (memory : Address → ℕ) (t used : ℕ) (agenda : List Duty) : Type 0 where
-  pub kinds : (x : ℕ) → block_of rows x ≡ t → first_row rows t + used ≤ x → kind_stored agenda x ≡ false
+-- The unused rows of a thread's block are blank, but for what the birth under way has stored.
+pub record BlankFits (layout : Layout) (memory : Address → ℕ) (t used : ℕ) (agenda : List Duty) : Type 0 where
+  pub kinds : (x : ℕ) → block_of layout x ≡ t → used ≤ index_of layout t x → kind_stored agenda x ≡ false
       → memory (KindOf x) ≡ 0
-  pub slots : (x : ℕ) → block_of rows x ≡ t → first_row rows t + used ≤ x → slot_stored agenda x ≡ false
+  pub slots : (x : ℕ) → block_of layout x ≡ t → used ≤ index_of layout t x → slot_stored agenda x ≡ false
       → memory (Slot x) ≡ 0
 
 -- ---- the whole
 
--- The invariant of `n` threads with these accounts, but for the ends of dying chains (`Invariant`).
+-- The invariant of `n` threads with these accounts, without what `Invariant` adds about dying chains.
 pub record CoreInvariant (p : Accounts) (n : ℕ) (m : Machine) : Type 0 where
-  -- how large the machine is
+  -- the size of the machine
   pub threads : length m.actors ≡ n
-  pub some_rows : 0 < m.rows
+  pub workers : n ≡ 1 + m.layout.workers
+  pub some_rows : 0 < m.layout.rows
   pub few_threads : n ≤ thread_limit
-  pub few_rows : m.rows ≤ row_limit
+  pub few_rows : m.layout.rows ≤ row_limit
+  pub few_cells : m.layout.cells ≤ cell_limit
+  pub few_immortals : m.layout.immortal_lists ≤ immortal_limit
   -- each row's counts, state and life fit together
-  pub rows : (x : ℕ) → 0 < x → RowInvariant (block_of m.rows x) (m.life x) (numbers_of m x)
-  -- a mark is set or not, and a set one is watched
-  pub marks : (x : ℕ) → m.memory (Mark x) ≡ 0 ⊎ ((m.memory (Mark x) ≡ 1) × (0 < x) × IsWatched m x)
+  pub rows : (x : ℕ) → IsCounted m.layout x → RowInvariant (block_of m.layout x) (m.life x) (numbers_of m x)
+  -- a mark is set or not, and a mark that is set is watched
+  pub marks : (x : ℕ) → m.memory (Mark x) ≡ 0 ⊎ ((m.memory (Mark x) ≡ 1) × (IsCounted m.layout x) × IsWatched m x)
   pub each : (t : ℕ) (a : Actor) → slice_get m.actors t ≡ Some a → Fits (p t) m t a
-  -- there are no other threads: none holds a reference
+  -- no other thread holds a reference
   pub beyond : (t : ℕ) → n ≤ t → (k : Holding) (object : ℕ) → held (reference_of t k object) m.abstract.references ≡ 0
   -- a gate is free while its row isn't dying, and says at the end that it is closed
   pub gates : (x : ℕ) → GateFits (m.life x) (m.memory (Gate x))
-  -- only the threads that there are finalise rows
+  -- no other thread finalises a row
   pub dying : (x t : ℕ) → n ≤ t → dies_by (m.life x) t ≡ false
   -- no instruction stores in a cell yet, so cells are empty and hold no reference
   pub cells : (x i : ℕ) → m.memory (Cell x i) ≡ 0
-  -- which rows each thread has used, and that the others of its block are unborn and blank
-  pub uses : (t : ℕ) (a : Actor) → slice_get m.actors t ≡ Some a → UsesFit m.rows m.life t a.used
-  pub blanks : (t : ℕ) (a : Actor) → slice_get m.actors t ≡ Some a → BlankFits m.rows m.memory t a.used a.agenda
-  -- a row of no thread's block is never born
-  pub no_block : (x : ℕ) → n ≤ block_of m.rows x → m.life x ≡ Unborn
+  -- the rows that a thread has used are born; the others of its block are unborn and blank
+  pub uses : (t : ℕ) (a : Actor) → slice_get m.actors t ≡ Some a → UsesFit m.layout m.life t a.used
+  pub blanks : (t : ℕ) (a : Actor) → slice_get m.actors t ≡ Some a → BlankFits m.layout m.memory t a.used a.agenda
   pub cells_hold : (x i object : ℕ) → held (cell_reference x i object) m.abstract.references ≡ 0
-  pub none_lives : m.life 0 ≡ Live
-  -- the lists of the born and the closed have just the rows whose lives say so, each once
-  pub born_is : (x : ℕ) → is_among x m.abstract.born ≡ true → (0 < x) × (m.life x ≢ Unborn)
-  pub born_has : (x : ℕ) → 0 < x → m.life x ≢ Unborn → is_among x m.abstract.born ≡ true
+  -- immortal objects live
+  pub immortals_live : (x : ℕ) → is_immortal_row m.layout x ≡ true → m.life x ≡ Live
+  -- the lists of the born and the closed have exactly the rows whose lives say so, each once
+  pub born_is : (x : ℕ) → is_among x m.abstract.born ≡ true → (IsCounted m.layout x) × (m.life x ≢ Unborn)
+  pub born_has : (x : ℕ) → IsCounted m.layout x → m.life x ≢ Unborn → is_among x m.abstract.born ≡ true
   pub born_once : (x : ℕ) → count_by (λ y. y == x) m.abstract.born ≤ 1
   pub closed_is : (x : ℕ) → is_among x m.abstract.closed ≡ true → m.life x ≡ Closed
   pub closed_has : (x : ℕ) → m.life x ≡ Closed → is_among x m.abstract.closed ≡ true
   pub once : AllPairs (λ x y. x ≢ y) m.abstract.closed
-  -- the kind word of what was born names its kind
+  -- the kind word of a row that was born names its kind
   pub kinds : (x : ℕ) → m.life x ≢ Unborn → kind_part (m.memory (KindOf x)) ≡ kind_number (m.abstract.kinds x)
-  -- none is immortal: its local word never changes
-  pub none_word : m.memory (Local 0) ≡ 8589934591
+  -- and their local word stays the immortal one
+  pub immortal_words : (x : ℕ) → is_immortal_row m.layout x ≡ true → m.memory (Local x) ≡ local_word 0 immortal_local
 
--- The whole invariant: besides, no thread leaves, looks through marks or is gone with a dying chain.
+-- The whole invariant: besides, the dying chain of a thread that leaves, scans or is gone is empty.
 pub record Invariant (p : Accounts) (n : ℕ) (m : Machine) : Type 0 where
   pub core : CoreInvariant p n m
   pub settled : (t : ℕ) (a : Actor) → slice_get m.actors t ≡ Some a → IsSettled a.head a.agenda
 
--- The premise of each lemma about one duty: the invariant holds, and the duty comes next in the thread's agenda.
+-- The premise of each lemma about one duty: the core invariant holds, and the duty comes next in the thread's agenda.
 pub record AtDuty (p : Accounts) (n : ℕ) (m : Machine) (t : ℕ) (a : Actor) (d : Duty) (rest : List Duty) : Type 0 where
   pub core : CoreInvariant p n m
   pub found : slice_get m.actors t ≡ Some a

@@ -4,7 +4,7 @@ use Rattle.brc_word.specs.Words.{kind_part}
 use Rattle.brc_lang.specs.declared.kind.Kind.{Kind}
 use Rattle.brc_lang.specs.declared.kind.Kind.TheVariants as kinds
 
--- a word that no birth has stored has the number 0
+-- the kind's number in kind words; a word that no birth has stored has the number 0
 abbrev pub kind_number : Kind → ℕ
 kind_number kinds.Any = 0
 kind_number kinds.None = 1
@@ -13,6 +13,7 @@ kind_number kinds.List = 3
 kind_number kinds.File = 4
 kind_number kinds.Sock = 5
 
+-- the kind that has the number, or `Any` if no kind has it
 abbrev pub kind_numbered : ℕ → Kind
 kind_numbered n =
     if n == 1 then kinds.None
@@ -22,7 +23,7 @@ kind_numbered n =
     else if n == 5 then kinds.Sock
     else kinds.Any
 
--- what a kind word says that the object is
+-- the kind that a kind word names
 abbrev pub kind_of_word : ℕ → Kind
 kind_of_word word = kind_numbered (kind_part word)
 

@@ -1,4 +1,4 @@
--- What a thread's duty knows of memory, of its thread and of its row until it is done.
+-- What a thread's duty knows of memory, of its thread and of its row, until its step.
 use Rattle.std.specs.Prelude.{◌≡◌, ◌≢◌, ◌⊎◌, ℕ, ◌+◌, ◌<◌, ◌≤◌, true, List, [], ◌∷◌}
 use Rattle.brc_model.specs.declared.duty.Holding.{Holding}
 use Rattle.brc_word.specs.Words.{half, immortal_local, most_local, owner_part, local_part, phase_part, free_word, dying_word}
@@ -9,19 +9,19 @@ use Rattle.brc_model.specs.declared.duty.Duty.{Duty}
 use Rattle.brc_model.specs.declared.duty.Duty.TheVariants.{RetainLoad, RetainStore, RetainAdd, ReleaseLoad, ReleaseStore, DecideAtZero, SharedLoad, SharedExchange, SetMark, Look, TakeMark, MergeSwap, MergeLoad, MergeExchange, Die, Settle, SettleKind, SettleCell, TakeSlot, CloseResource, SettleEnd, Leave, Scan, Finish, ClaimMark, BirthKind, BirthSlot, BirthLocal}
 use Rattle.brc_model.specs.declared.address.Address.{Address}
 use Rattle.brc_model.specs.declared.address.Address.TheVariants.{Local, Shared, Gate, KindOf, ThreadWord}
-use Rattle.brc_model.specs.Duties.{block_of}
 use Rattle.brc_model.specs.declared.actor.Status.{Status}
 use Rattle.brc_model.specs.declared.actor.Status.TheVariants.{Running, Leaving, Gone}
-use Rattle.brc_model.specs.Machine.{Actor, Dying, Machine, first_row}
+use Rattle.brc_model.specs.Machine.{Actor, Dying, Machine}
 use Rattle.brc_model.specs.References.{held, reference_of}
+use Rattle.brc_model.specs.Layout.{block_of, block_size, row_at, IsCounted}
 
--- the thread word that other threads read
+-- the thread word of a status
 abbrev pub status_word : Status → ℕ
 status_word Running = 1
 status_word Leaving = 2
 status_word Gone = 3
 
--- The thread is running and owns the row. (PEP 703: only then it may change the local count without an atomic step.)
+-- The thread is running and owns the row. (PEP 703: only then may it change the local count without an atomic step.)
 pub record OwnsLocally (m : Machine) (t : ℕ) (a : Actor) (x : ℕ) : Type 0 where
   pub running : a.status ≡ Running
   pub owner : owner_part (m.memory (Local x)) ≡ t + 1
@@ -34,25 +34,26 @@ pub record IsBacked (m : Machine) (t x : ℕ) : Type 0 where
 
 -- A thread merges an object that was queued if it is the owner, or if the owner no longer runs.
 abbrev pub MayMerge : Machine → ℕ → ℕ → Type 0
-MayMerge m t x = (block_of m.rows x ≡ t) ⊎ (m.memory (ThreadWord (block_of m.rows x)) ≢ 1)
+MayMerge m t x = (block_of m.layout x ≡ t) ⊎ (m.memory (ThreadWord (block_of m.layout x)) ≢ 1)
 
--- A merge for the thread's own release is the running owner's; one for a claimed mark is any thread's that may merge.
+-- Only the running owner merges for its own release. Any thread that may merge does so for a claimed mark.
 abbrev pub MayCarry : Machine → ℕ → Actor → ℕ → Reason → Type 0
-MayCarry m t a x Own = (a.status ≡ Running) × (block_of m.rows x ≡ t)
+MayCarry m t a x Own = (a.status ≡ Running) × (block_of m.layout x ≡ t)
 MayCarry m t a x Handed = Unit {0}
 
--- The row is the next of a running worker's block: it is there, and not used yet.
+-- The row is the next unused one of a running worker's block.
 pub record IsNext (m : Machine) (t : ℕ) (a : Actor) (x : ℕ) : Type 0 where
   pub running : a.status ≡ Running
   pub worker : 0 < t
-  pub row : x ≡ first_row m.rows t + a.used
-  pub room : a.used < m.rows
+  pub there : t ≤ m.layout.workers
+  pub row : x ≡ row_at m.layout t a.used
+  pub room : a.used < block_size m.layout t
 
 -- The kind word names a kind whose objects are counted.
 abbrev pub HasCountedKind : (Address → ℕ) → ℕ → Type 0
 HasCountedKind memory x = is_counted_kind (kind_of_word (memory (KindOf x))) ≡ true
 
--- the gate of a row that the thread has chained: it names the thread and the next row of the chain
+-- the gate word of a row that the thread has chained: it names the thread and the next row of the chain
 abbrev pub IsDyingWord : ℕ → ℕ → Type 0
 IsDyingWord t word = (next : ℕ) × (word ≡ dying_word t next) × (next < half)
 
@@ -60,35 +61,39 @@ IsDyingWord t word = (next : ℕ) × (word ≡ dying_word t next) × (next < hal
 abbrev pub HeadFits : Machine → ℕ → Actor → Duty → List Duty → Type 0
 HeadFits m t a (RetainLoad x h) rest = IsBacked m t x
 HeadFits m t a (RetainStore x h w) rest =
-    (0 < x) × IsBacked m t x × OwnsLocally m t a x × (m.memory (Local x) ≡ w) × (1 ≤ local_part w)
+    (IsCounted m.layout x) × IsBacked m t x × OwnsLocally m t a x × (m.memory (Local x) ≡ w) × (1 ≤ local_part w)
     × (local_part w < most_local)
-HeadFits m t a (RetainAdd x h) rest = (0 < x) × IsBacked m t x
+HeadFits m t a (RetainAdd x h) rest = (IsCounted m.layout x) × IsBacked m t x
 HeadFits m t a (ReleaseLoad x h) rest = Unit {0}
-HeadFits m t a (ReleaseStore x w) rest = (0 < x) × OwnsLocally m t a x × (m.memory (Local x) ≡ w) × (1 ≤ local_part w)
-HeadFits m t a (DecideAtZero x) rest = (0 < x) × OwnsLocally m t a x × (local_part (m.memory (Local x)) ≡ 0)
-HeadFits m t a (SharedLoad x Own) rest = 0 < x
-HeadFits m t a (SharedLoad x Handed) rest = (0 < x) × (phase_part (m.memory (Shared x)) ≡ 3)
-HeadFits m t a (SharedExchange x Own w) rest = 0 < x
-HeadFits m t a (SharedExchange x Handed w) rest = (0 < x) × (phase_part (m.memory (Shared x)) ≡ 3)
-HeadFits m t a (SetMark x) rest = 0 < x
-HeadFits m t a (Look x) rest = 0 < x
-HeadFits m t a (TakeMark x) rest = (0 < x) × (m.memory (ThreadWord (block_of m.rows x)) ≢ 1)
-HeadFits m t a (MergeSwap x Own) rest = (0 < x) × OwnsLocally m t a x × (local_part (m.memory (Local x)) ≡ 0)
-HeadFits m t a (MergeSwap x Handed) rest = (0 < x) × MayMerge m t x
-HeadFits m t a (MergeLoad x c r) rest = (0 < x) × (c < half) × MayCarry m t a x r
-HeadFits m t a (MergeExchange x c w r) rest = (0 < x) × (c < half) × MayCarry m t a x r
-HeadFits m t a (Die x) rest = (0 < x) × (m.life x ≡ Dying t) × (m.memory (Gate x) ≡ free_word)
+HeadFits m t a (ReleaseStore x w) rest =
+    (IsCounted m.layout x) × OwnsLocally m t a x × (m.memory (Local x) ≡ w) × (1 ≤ local_part w)
+HeadFits m t a (DecideAtZero x) rest =
+    (IsCounted m.layout x) × OwnsLocally m t a x × (local_part (m.memory (Local x)) ≡ 0)
+HeadFits m t a (SharedLoad x Own) rest = IsCounted m.layout x
+HeadFits m t a (SharedLoad x Handed) rest = (IsCounted m.layout x) × (phase_part (m.memory (Shared x)) ≡ 3)
+HeadFits m t a (SharedExchange x Own w) rest = IsCounted m.layout x
+HeadFits m t a (SharedExchange x Handed w) rest = (IsCounted m.layout x) × (phase_part (m.memory (Shared x)) ≡ 3)
+HeadFits m t a (SetMark x) rest = IsCounted m.layout x
+HeadFits m t a (Look x) rest = IsCounted m.layout x
+HeadFits m t a (TakeMark x) rest = (IsCounted m.layout x) × (m.memory (ThreadWord (block_of m.layout x)) ≢ 1)
+HeadFits m t a (MergeSwap x Own) rest =
+    (IsCounted m.layout x) × OwnsLocally m t a x × (local_part (m.memory (Local x)) ≡ 0)
+HeadFits m t a (MergeSwap x Handed) rest = (IsCounted m.layout x) × MayMerge m t x
+HeadFits m t a (MergeLoad x c r) rest = (IsCounted m.layout x) × (c < half) × MayCarry m t a x r
+HeadFits m t a (MergeExchange x c w r) rest = (IsCounted m.layout x) × (c < half) × MayCarry m t a x r
+HeadFits m t a (Die x) rest = (IsCounted m.layout x) × (m.life x ≡ Dying t) × (m.memory (Gate x) ≡ free_word)
 HeadFits m t a Settle rest = 0 < a.head
-HeadFits m t a (SettleKind x) rest = (0 < x) × (m.life x ≡ Dying t) × IsDyingWord t (m.memory (Gate x))
+HeadFits m t a (SettleKind x) rest = (IsCounted m.layout x) × (m.life x ≡ Dying t) × IsDyingWord t (m.memory (Gate x))
 HeadFits m t a (SettleCell x i n) rest =
-    (0 < x) × (m.life x ≡ Dying t) × (i < n) × IsDyingWord t (m.memory (Gate x))
-HeadFits m t a (TakeSlot x) rest = (0 < x) × (m.life x ≡ Dying t) × IsDyingWord t (m.memory (Gate x))
-HeadFits m t a (CloseResource x) rest = (0 < x) × (m.life x ≡ Dying t) × IsDyingWord t (m.memory (Gate x))
-HeadFits m t a (SettleEnd x) rest = (0 < x) × (m.life x ≡ Dying t) × IsDyingWord t (m.memory (Gate x))
-HeadFits m t a (Leave x n) rest = Unit {0}
-HeadFits m t a (Scan x n) rest = 0 < n
+    (IsCounted m.layout x) × (m.life x ≡ Dying t) × (i < n) × IsDyingWord t (m.memory (Gate x))
+HeadFits m t a (TakeSlot x) rest = (IsCounted m.layout x) × (m.life x ≡ Dying t) × IsDyingWord t (m.memory (Gate x))
+HeadFits m t a (CloseResource x) rest =
+    (IsCounted m.layout x) × (m.life x ≡ Dying t) × IsDyingWord t (m.memory (Gate x))
+HeadFits m t a (SettleEnd x) rest = (IsCounted m.layout x) × (m.life x ≡ Dying t) × IsDyingWord t (m.memory (Gate x))
+HeadFits m t a (Leave i n) rest = Unit {0}
+HeadFits m t a (Scan i n) rest = 0 < n
 HeadFits m t a Finish rest = Unit {0}
-HeadFits m t a (ClaimMark x) rest = block_of m.rows x ≡ t
+HeadFits m t a (ClaimMark x) rest = block_of m.layout x ≡ t
 HeadFits m t a (BirthKind x h w) rest = IsNext m t a x × (rest ≡ []) × (is_counted_kind (kind_of_word w) ≡ true)
 HeadFits m t a (BirthSlot x h) rest = IsNext m t a x × (rest ≡ []) × HasCountedKind m.memory x
 HeadFits m t a (BirthLocal x h) rest = IsNext m t a x × (rest ≡ []) × HasCountedKind m.memory x

@@ -1,4 +1,5 @@
 pub mod Limits
+pub mod Layout
 pub mod Slots
 pub mod Paths
 pub mod Tables
@@ -6,7 +7,10 @@ pub mod Kinds
 pub mod AbstractState
 pub mod Threads
 pub mod Duties
+pub mod Moves
 pub mod Machine
+pub mod Actions
+pub mod StepMachine
 pub mod Rules
 pub mod References
 pub mod RowInvariant
@@ -15,6 +19,7 @@ pub mod Knowledge
 pub mod OpenWork
 pub mod Invariant
 pub mod Agreement
+pub mod BadDuties
 pub mod Events
 pub mod Safety
 pub mod World

@@ -1,17 +1,30 @@
--- How large a machine may be.
-use Rattle.std.specs.Prelude.{ℕ}
+-- The limits of a machine.
+use Rattle.std.specs.Prelude.{ℕ, ◌+◌, ◌*◌}
+use Rattle.brc_model.specs.Layout.{front_rows}
 
 abbrev pub worker_limit : ℕ
 worker_limit = 32
 
--- main is a thread too
+-- the most threads: main and the workers
 abbrev pub thread_limit : ℕ
-thread_limit = 33
+thread_limit = 1 + worker_limit
 
--- rows of each worker
+-- the most rows of each worker
 abbrev pub row_limit : ℕ
 row_limit = 1024
 
--- cells of a list
+-- the most immortal lists
+abbrev pub immortal_limit : ℕ
+immortal_limit = 16
+
+-- the most rows in all
+abbrev pub total_limit : ℕ
+total_limit = front_rows + worker_limit * row_limit + immortal_limit
+
+-- the most calls that one worker makes
+abbrev pub times_limit : ℕ
+times_limit = 1000000
+
+-- the most cells of a list
 abbrev pub cell_limit : ℕ
 cell_limit = 8

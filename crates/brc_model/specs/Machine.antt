@@ -1,72 +1,39 @@
--- The step world: memory, a word at each address; threads, each with an agenda; and beside them the abstract state and the
--- life of each row. At an event one thread acts: it does the first duty of its agenda, or dispatches its next
--- instruction.
-use Rattle.std.specs.Prelude.{ℕ, zero, suc, ◌+◌, ◌*◌, Bool, true, false, ◌&&◌, ◌==◌, nat_lt, nat_le, if◌then◌else◌, List, [], ◌∷◌, ◌++◌, length, map, Option, None, Some, fold, slice_get, slice_set}
-use Rattle.brc_lang.specs.declared.module.Instr.{Instr}
-use Rattle.brc_lang.specs.declared.module.Instr.TheVariants.{Num, NoneObject, Newref, Move as MoveReference, Drop, Goto, Ret, Fail}
-use Rattle.brc_lang.specs.declared.module.Function.{Function}
-use Rattle.brc_lang.specs.declared.module.Module.{Module}
-use Rattle.brc_model.specs.declared.thread.Call.{Call}
-use Rattle.brc_model.specs.declared.thread.Choice.{Choice}
-use Rattle.brc_model.specs.declared.thread.Choice.TheVariants.{Ok, Fault, Claim}
+-- The counting machine: the memory, with a word at each address; the threads, each with an agenda; and beside them the
+-- abstract state and the life of each row. A step is a thread's first duty. The machine knows no code.
+use Rattle.std.specs.Prelude.{ℕ, ◌+◌, Bool, true, false, ◌&&◌, ◌==◌, nat_lt, if◌then◌else◌, List, [], ◌∷◌, ◌++◌, Option, None, Some, slice_set}
 use Rattle.brc_model.specs.declared.actor.Status.{Status}
 use Rattle.brc_model.specs.declared.actor.Status.TheVariants.{Running, Leaving, Gone}
-use Rattle.brc_model.specs.declared.actor.Place.{Place}
-use Rattle.brc_model.specs.declared.actor.Place.TheVariants.{Idle, InCall, Exiting}
-use Rattle.brc_model.specs.declared.duty.Holding.{Holding}
-use Rattle.brc_model.specs.declared.duty.Holding.TheVariants.{ByVariable, AsCaller, InFlight}
-use Rattle.brc_lang.specs.declared.kind.Kind.{Kind}
-use Rattle.brc_lang.specs.declared.kind.Kind.TheVariants as kinds
-use Rattle.brc_model.specs.Kinds.{kind_of_word}
-use Rattle.brc_model.specs.AbstractState.{none_row, root_row, Reference, AbstractState, Move, Born, Gain, Lose, PassOn, Finalise, moved, ByThread, ByCell}
-use Rattle.brc_model.specs.Threads.{code_of, row_of, entry_variables}
-use Rattle.brc_word.specs.Words.{half, is_immortal_word, local_word, fresh_word}
-use Rattle.brc_model.specs.declared.duty.Reason.TheVariants.{Own}
 use Rattle.brc_model.specs.declared.duty.Duty.{Duty}
-use Rattle.brc_model.specs.declared.duty.Duty.TheVariants.{RetainLoad, RetainStore, RetainAdd, ReleaseLoad, ReleaseStore, SharedExchange, Die, Settle, SettleEnd, Leave, Finish, ClaimMark, BirthLocal, SettleCell, BirthKind}
+use Rattle.brc_model.specs.declared.duty.Duty.TheVariants.{Die, SettleEnd, Leave, Finish, BirthLocal}
 use Rattle.brc_model.specs.declared.address.Address.{Address}
+use Rattle.brc_model.specs.declared.layout.Layout.{Layout}
 use Rattle.brc_model.specs.declared.address.Address.TheVariants.{Local, Shared, Gate, KindOf, Mark, Cell, Slot, Resource, ThreadWord}
+use Rattle.brc_model.specs.AbstractState.{AbstractState, Move, moved}
 use Rattle.brc_model.specs.Duties.{address_of, new_word, continuation, new_head, ready}
-use Rattle.brc_model.specs.Limits.{cell_limit}
-
--- ---- the moves of references of a thread
-
-abbrev pub put_in_flight : ℕ → Holding → ℕ → List Move
-put_in_flight t InFlight x = []
-put_in_flight t (ByVariable v) x = PassOn (record { holder = ByThread t (ByVariable v); object = x }) (ByThread t InFlight) ∷ []
-put_in_flight t AsCaller x = PassOn (record { holder = ByThread t AsCaller; object = x }) (ByThread t InFlight) ∷ []
-
-abbrev pub birth : ℕ → Holding → ℕ → Kind → List Move
-birth t h x kind = Born (record { holder = ByThread t h; object = x }) kind ∷ []
-
--- from one of its holders to another
-abbrev pub pass_on : ℕ → Holding → Holding → ℕ → List Move
-pass_on t from to x = PassOn (record { holder = ByThread t from; object = x }) (ByThread t to) ∷ []
-
-abbrev pub gain : ℕ → Holding → ℕ → List Move
-gain t h x = Gain (record { holder = ByThread t h; object = x }) ∷ []
-
-abbrev pub lose : ℕ → ℕ → List Move
-lose t x = Lose (record { holder = ByThread t InFlight; object = x }) ∷ []
-
--- what an emptied cell held, a row and 1 or nothing, goes over into the thread's hand
-abbrev pub take_out : ℕ → ℕ → ℕ → ℕ → List Move
-take_out t x i zero = []
-take_out t x i (suc y) = PassOn (record { holder = ByCell x i; object = y }) (ByThread t InFlight) ∷ []
+use Rattle.brc_model.specs.Layout.{block_size}
+use Rattle.brc_model.specs.Moves.{reference_effects}
 
 -- ---- threads
 
+-- A thread, as what it counts with. Which references it holds is said by its account (`Accounts`).
 pub record Actor : Type 0 where
-  pub function : ℕ
-  pub place : Place
   pub status : Status
   pub agenda : List Duty
-  -- other work that is open: duties that are put aside, each about another row (in code there are none)
+  -- duties that the thread has put aside, each about another row (a thread in code has none)
   pub aside : List Duty
-  -- the head of its dying chain: 0, or a row and 1
+  -- the head of its dying chain: 0 if the chain is empty, else a row plus 1
   pub head : ℕ
-  -- how many rows of its block are used
+  -- the number of rows of its block that it has used
   pub used : ℕ
+  -- the row of the list that it has locked, and the resource that it has lent to a call (no instruction locks or lends
+  -- yet)
+  pub locked : Option ℕ
+  pub lent : Option ℕ
+
+-- a running thread with nothing to do, which has used `used` rows
+abbrev pub idle_actor : ℕ → Actor
+idle_actor used =
+    record { status = Running; agenda = []; aside = []; head = 0; used = used; locked = None; lent = None }
 
 abbrev pub is_running : Status → Bool
 is_running Running = true
@@ -74,7 +41,7 @@ is_running Leaving = false
 is_running Gone = false
 
 abbrev pub status_by : Status → Duty → Status
-status_by status (Leave x n) = Leaving
+status_by status (Leave i n) = Leaving
 status_by status Finish = Gone
 status_by status _ = status
 
@@ -83,114 +50,13 @@ abbrev pub used_by : ℕ → Duty → ℕ
 used_by used (BirthLocal x h) = used + 1
 used_by used _ = used
 
--- What a thread does at an event.
-pub data Action : Type 0 where
-  -- it takes no step
-  Skip : Action
-  -- it can't go on
-  Stuck : Action
-  -- it takes a step on no word: which of its references move, and where it then is
-  Silent : List Move → Place → Action
-  -- it does a duty: the duties behind it, and where it is from then on
-  Does : Duty → List Duty → Place → Action
+-- ---- the rows of a thread
 
-abbrev pub with_row : Option ℕ → (ℕ → Action) → Action
-with_row None work = Stuck
-with_row (Some row) work = work row
+-- Whether the thread has a row left for its next birth.
+abbrev pub has_room : Layout → ℕ → ℕ → Bool
+has_room layout t used = nat_lt used (block_size layout t)
 
--- the first row of a thread's block
-abbrev pub first_row : ℕ → ℕ → ℕ
-first_row rows zero = 0
-first_row rows (suc t) = 2 + t * rows
-
--- how many rows the block has: main's none and the root, and so many of each worker
-abbrev pub block_size : ℕ → ℕ → ℕ
-block_size rows zero = 2
-block_size rows (suc t) = rows
-
--- the row of the thread's next birth, if there is room for it
-abbrev pub next_row : ℕ → ℕ → ℕ → ℕ
-next_row rows t used = first_row rows t + used
-
-abbrev pub has_room : ℕ → ℕ → ℕ → Bool
-has_room rows t used = nat_lt used (block_size rows t)
-
--- the kind word of a number
-abbrev pub number_word : ℕ → ℕ
-number_word value = 2 * half + value
-
--- Returns what a thread does that is at an instruction and has used so many rows of its block.
-abbrev pub dispatch_instruction : ℕ → ℕ → ℕ → ℕ → ℕ → List (Option ℕ) → Option Instr → Action
-dispatch_instruction rows t used left at variables None = Stuck
-dispatch_instruction rows t used left at variables (Some (Num to value otherwise)) =
-    if has_room rows t used
-    then Does (BirthKind (next_row rows t used) (ByVariable to) (number_word value)) []
-    (InCall left (at + 1) (slice_set variables to (Some (next_row rows t used))))
-    else Silent [] (InCall left otherwise (slice_set variables to None))
-dispatch_instruction rows t used left at variables (Some (NoneObject to)) =
-    Silent (gain t (ByVariable to) none_row) (InCall left (at + 1) (slice_set variables to (Some none_row)))
-dispatch_instruction rows t used left at variables (Some (Newref to from)) =
-    with_row (row_of variables from)
-    (λ row. Does (RetainLoad row (ByVariable to)) [] (InCall left (at + 1) (slice_set variables to (Some row))))
-dispatch_instruction rows t used left at variables (Some (MoveReference to from)) =
-    with_row (row_of variables from)
-    (λ row. Silent (pass_on t (ByVariable from) (ByVariable to) row)
-    (InCall left (at + 1) (slice_set (slice_set variables from None) to (Some row))))
-dispatch_instruction rows t used left at variables (Some (Drop from)) =
-    with_row (row_of variables from)
-    (λ row. Does (ReleaseLoad row (ByVariable from)) (Settle ∷ [])
-    (InCall left (at + 1) (slice_set variables from None)))
-dispatch_instruction rows t used left at variables (Some (Goto to)) = Silent [] (InCall left to variables)
-dispatch_instruction rows t used left at variables (Some (Ret from)) =
-    with_row (row_of variables from) (λ row. Does (ReleaseLoad row (ByVariable from)) (Settle ∷ []) (Idle left))
-dispatch_instruction rows t used left at variables (Some Fail) = Silent [] (Idle left)
-
--- Returns what a thread at rest does; with no call left it gives up its reference to the root, settles, and leaves.
-abbrev pub dispatch : ℕ → ℕ → ℕ → List Instr → Place → Action
-dispatch rows t used code Exiting = Stuck
-dispatch rows t used code (Idle zero) =
-    Does (ReleaseLoad root_row AsCaller) (Settle ∷ Leave (first_row rows t) used ∷ []) Exiting
-dispatch rows t used code (Idle (suc left)) =
-    dispatch_instruction rows t used left 0 entry_variables (slice_get code 0)
-dispatch rows t used code (InCall left at variables) =
-    dispatch_instruction rows t used left at variables (slice_get code at)
-
--- Says whether the place is outside all calls.
-abbrev pub is_idle : Place → Bool
-is_idle (Idle left) = true
-is_idle (InCall left at variables) = false
-is_idle Exiting = false
-
--- Says whether the thread may claim the row: it runs, stands outside its calls with nothing to do, and has used the row
--- of its own block.
-abbrev pub may_claim : ℕ → ℕ → Actor → ℕ → Bool
-may_claim rows t a row =
-    is_idle a.place && is_running a.status && (length a.agenda == 0) && nat_le (first_row rows t) row
-    && nat_lt row (first_row rows t + a.used)
-
--- Returns what a thread that isn't gone does: the first duty of its agenda, or what it dispatches.
-abbrev pub agenda_action : List Function → ℕ → ℕ → Actor → List Duty → Action
-agenda_action functions rows t a [] = dispatch rows t a.used (code_of (slice_get functions a.function)) a.place
-agenda_action functions rows t a (d ∷ rest) = Does d rest a.place
-
--- Returns what a thread of the status does: one that is gone takes no step.
-abbrev pub status_action : List Function → ℕ → ℕ → Actor → Status → Action
-status_action functions rows t a Gone = Skip
-status_action functions rows t a Running = agenda_action functions rows t a a.agenda
-status_action functions rows t a Leaving = agenda_action functions rows t a a.agenda
-
--- Returns what the thread does at an event with the choice; no step is a host call, so a fault is no other choice.
-abbrev pub action_of : List Function → ℕ → ℕ → Actor → Choice → Action
-action_of functions rows t a Ok = status_action functions rows t a a.status
-action_of functions rows t a Fault = status_action functions rows t a a.status
-action_of functions rows t a (Claim row) = if may_claim rows t a row then Does (ClaimMark row) [] a.place else Skip
-
--- Applies a function to the thread of an event, if there is such a thread.
-abbrev pub of_thread : {A : Type 0} → A → (Actor → A) → Option Actor → A
-of_thread otherwise of_actor None = otherwise
-of_thread otherwise of_actor (Some a) = of_actor a
-
--- ---- the world
+-- ---- the machine
 
 pub data Life : Type 0 where
   Unborn : Life
@@ -199,9 +65,7 @@ pub data Life : Type 0 where
   Closed : Life
 
 pub record Machine : Type 0 where
-  pub functions : List Function
-  -- rows of each worker
-  pub rows : ℕ
+  pub layout : Layout
   pub memory : Address → ℕ
   pub actors : List Actor
   pub abstract : AbstractState
@@ -223,24 +87,9 @@ same_address _ _ = false
 abbrev pub written : (Address → ℕ) → Address → ℕ → Address → ℕ
 written memory a word b = if same_address a b then word else memory b
 
--- ---- the moves of references of a step
-
--- with a memory in which the kind of what is born stands
-abbrev pub reference_effects : (Address → ℕ) → ℕ → Duty → ℕ → List Move
-reference_effects memory t (RetainLoad x h) found = if is_immortal_word found then gain t h x else []
-reference_effects memory t (RetainStore x h w) found = gain t h x
-reference_effects memory t (RetainAdd x h) found = gain t h x
-reference_effects memory t (ReleaseLoad x h) found = put_in_flight t h x ++ (if is_immortal_word found then lose t x else [])
-reference_effects memory t (ReleaseStore x w) found = lose t x
-reference_effects memory t (SharedExchange x Own w) found = if found == w then lose t x else []
-reference_effects memory t (SettleCell x i n) found = take_out t x i found
-reference_effects memory t (SettleEnd x) found = Finalise x ∷ []
-reference_effects memory t (BirthLocal x h) found = birth t h x (kind_of_word (memory (KindOf x)))
-reference_effects memory t _ found = []
-
 -- ---- life
 
--- the row that a step leads to dying, if any: its first following duty says so
+-- the row whose object dies by the step, if any: the first duty that follows says so
 abbrev pub dies_next : List Duty → Option ℕ
 dies_next (Die x ∷ rest) = Some x
 dies_next _ = None
@@ -263,146 +112,48 @@ life_by life t d next =
 
 -- ---- one step
 
--- the actor after its first duty
-abbrev pub actor_by : ℕ → Actor → Duty → List Duty → ℕ → Actor
-actor_by t a d rest found = record {
-  function = a.function;
-  place = a.place;
+-- the thread after its first duty
+abbrev pub actor_by : Layout → ℕ → Actor → Duty → List Duty → ℕ → Actor
+actor_by layout t a d rest found = record {
   status = status_by a.status d;
-  agenda = ready (new_head a.head d found) (continuation t (is_running a.status) a.head d found ++ rest);
+  agenda = ready (new_head a.head d found) (continuation layout t (is_running a.status) a.head d found ++ rest);
   aside = a.aside;
   head = new_head a.head d found;
   used = used_by a.used d;
+  locked = a.locked;
+  lent = a.lent;
 }
 
--- one duty on one word
+-- Returns the machine after the duty of thread t, which is one step on one word. `rest` are the duties behind it.
 abbrev pub done_by : Machine → ℕ → Actor → Duty → List Duty → Machine
 done_by m t a d rest =
-    let address = address_of m.rows t a.head d in
+    let address = address_of m.layout t a.head d in
     let found = m.memory address in
     record {
-      functions = m.functions;
-      rows = m.rows;
+      layout = m.layout;
       memory = written m.memory address (new_word t a.head d found);
-      actors = slice_set m.actors t (actor_by t a d rest found);
+      actors = slice_set m.actors t (actor_by m.layout t a d rest found);
       abstract = moved m.abstract (reference_effects m.memory t d found);
-      life = life_by m.life t d (continuation t (is_running a.status) a.head d found);
-    }
-
-abbrev pub at_place : Actor → Place → Actor
-at_place a place =
-    record {
-      function = a.function;
-      place = place;
-      status = a.status;
-      agenda = a.agenda;
-      aside = a.aside;
-      head = a.head;
-      used = a.used;
+      life = life_by m.life t d (continuation m.layout t (is_running a.status) a.head d found);
     }
 
 abbrev pub with_actor : Machine → ℕ → Actor → Machine
 with_actor m t a =
     record {
-      functions = m.functions;
-      rows = m.rows;
+      layout = m.layout;
       memory = m.memory;
       actors = slice_set m.actors t a;
       abstract = m.abstract;
       life = m.life;
     }
 
--- the machine after so many moves of the abstract state
+-- the machine after moves of references
 abbrev pub with_moves : Machine → List Move → Machine
 with_moves m moves =
     record {
-      functions = m.functions;
-      rows = m.rows;
+      layout = m.layout;
       memory = m.memory;
       actors = m.actors;
       abstract = moved m.abstract moves;
       life = m.life;
     }
-
--- Returns the machine after the thread's action.
-abbrev pub machine_by : Machine → ℕ → Actor → Action → Machine
-machine_by m t a Skip = m
-machine_by m t a Stuck = m
-machine_by m t a (Silent moves place) = with_moves (with_actor m t (at_place a place)) moves
-machine_by m t a (Does d rest place) = done_by m t (at_place a place) d rest
-
--- Returns the machine after the event; where there is no such thread, it stays as it is.
-abbrev pub next_machine : Machine → ℕ × Choice → Machine
-next_machine m event =
-    of_thread m (λ a. machine_by m event.0 a (action_of m.functions m.rows event.0 a event.1))
-    (slice_get m.actors event.0)
-
-abbrev pub machine_after : Machine → List (ℕ × Choice) → Machine
-machine_after m events = fold next_machine m events
-
--- ---- the first state
-
-abbrev pub main_actor : Actor
-main_actor = record { function = 0; place = Idle 0; status = Running; agenda = []; aside = []; head = 0; used = 2 }
-
-abbrev pub worker_actor : Call → Actor
-worker_actor c =
-    record {
-      function = c.function;
-      place = Idle c.times;
-      status = Running;
-      agenda = [];
-      aside = [];
-      head = 0;
-      used = 0;
-    }
-
--- none is immortal, the root is a list of eight cells that main owns, with a count for main and each worker
-abbrev pub first_memory : ℕ → Address → ℕ
-first_memory workers (Local zero) = 8589934591
-first_memory workers (Local (suc zero)) = local_word 0 (1 + workers)
-first_memory workers (Local (suc (suc x))) = 0
-first_memory workers (Shared x) = fresh_word
-first_memory workers (Gate x) = 1
-first_memory workers (KindOf zero) = half
-first_memory workers (KindOf (suc zero)) = 3 * half + cell_limit
-first_memory workers (KindOf (suc (suc x))) = 0
-first_memory workers (Mark x) = 0
-first_memory workers (Cell x i) = 0
-first_memory workers (Slot x) = 0
-first_memory workers (Resource x) = 0
-first_memory workers (ThreadWord t) = if nat_le t workers then 1 else 0
-
-abbrev pub first_life : ℕ → Life
-first_life zero = Live
-first_life (suc zero) = Live
-first_life (suc (suc x)) = Unborn
-
--- none is none, the root is a list, and what isn't born has no kind yet
-abbrev pub first_kinds : ℕ → Kind
-first_kinds zero = kinds.None
-first_kinds (suc zero) = kinds.List
-first_kinds (suc (suc x)) = kinds.Any
-
-abbrev pub caller_reference : ℕ → Reference
-caller_reference t = record { holder = ByThread t AsCaller; object = root_row }
-
--- the callers of the threads below n
-abbrev pub callers_below : ℕ → List Reference
-callers_below zero = []
-callers_below (suc n) = caller_reference n ∷ callers_below n
-
-abbrev pub first_machine : Module → ℕ → List Call → Machine
-first_machine m rows calls = record {
-  functions = m.functions;
-  rows = rows;
-  memory = first_memory (length calls);
-  actors = main_actor ∷ map worker_actor calls;
-  abstract = record {
-    references = callers_below (1 + length calls);
-    born = root_row ∷ [];
-    closed = [];
-    kinds = first_kinds;
-  };
-  life = first_life;
-}

@@ -1,5 +1,5 @@
 -- A thread's open work: the order of its agenda, the rows that it finalises, and the duties that it has put aside.
-use Rattle.std.specs.Prelude.{◌≡◌, ◌≢◌, ◌⊎◌, ℕ, ◌+◌, ◌<◌, ◌≤◌, Bool, true, false, ◌==◌, nat_le, List, [], ◌∷◌, count_by}
+use Rattle.std.specs.Prelude.{◌≡◌, ◌⊎◌, ℕ, ◌+◌, ◌<◌, ◌≤◌, Bool, true, false, ◌==◌, nat_le, List, [], ◌∷◌, count_by}
 use Rattle.brc_word.specs.Words.{half, free_word, dying_word, closed_word}
 use Rattle.brc_model.specs.declared.duty.Duty.{Duty}
 use Rattle.brc_model.specs.declared.duty.Duty.TheVariants.{RetainLoad, RetainStore, RetainAdd, ReleaseLoad, ReleaseStore, DecideAtZero, SharedLoad, SharedExchange, SetMark, Look, TakeMark, MergeSwap, MergeLoad, MergeExchange, Die, Settle, SettleKind, SettleCell, TakeSlot, CloseResource, SettleEnd, Leave, Scan, Finish, ClaimMark, BirthKind, BirthSlot, BirthLocal}
@@ -7,47 +7,56 @@ use Rattle.brc_model.specs.declared.address.Address.{Address}
 use Rattle.brc_model.specs.declared.address.Address.TheVariants.{Gate}
 use Rattle.brc_model.specs.declared.actor.Status.{Status}
 use Rattle.brc_model.specs.declared.actor.Status.TheVariants.{Running, Leaving, Gone}
-use Rattle.brc_model.specs.declared.actor.Place.{Place}
-use Rattle.brc_model.specs.declared.actor.Place.TheVariants.{Exiting}
-use Rattle.brc_model.specs.Machine.{Actor, Life, Unborn, Live, Dying, Closed, Machine, first_row}
+use Rattle.brc_model.specs.Machine.{Actor, Life, Unborn, Live, Dying, Closed, Machine}
 use Rattle.brc_model.specs.References.{one_if}
 use Rattle.brc_model.specs.Knowledge.{HeadFits}
 
 -- ---- what is for later
 
--- What may be behind an agenda's first duty: settling, and the end of the thread's exit. A leaving thread has still to
--- look through the marks of its used rows from `x` on.
-abbrev pub Later : ℕ → ℕ → ℕ → Status → Place → List Duty → Type 0
-Later rows t used status place [] = (place ≢ Exiting) × (status ≡ Running)
-Later rows t used status place (Settle ∷ rest) = Later rows t used status place rest
-Later rows t used status place (Leave x n ∷ []) =
-    (status ≡ Running) × (place ≡ Exiting) × (x ≡ first_row rows t) × (n ≡ used)
-Later rows t used status place (Scan x n ∷ rest) =
-    (status ≡ Leaving) × (first_row rows t ≤ x) × (x + n ≡ first_row rows t + used)
-    × Later rows t used status place rest
-Later rows t used status place (Finish ∷ []) = (status ≡ Leaving) × (place ≡ Exiting)
-Later rows t used status place _ = ⊥
+-- What may be behind an agenda's first duty: settling, and the end of the thread's exit. A leaving thread still has to
+-- scan the marks of its used rows, from the index `i` on.
+abbrev pub Later : ℕ → Status → List Duty → Type 0
+Later used status [] = status ≡ Running
+Later used status (Settle ∷ rest) = Later used status rest
+Later used status (Leave i n ∷ []) =
+    (status ≡ Running) × (i ≡ 0) × (n ≡ used)
+Later used status (Scan i n ∷ rest) =
+    (status ≡ Leaving) × (i + n ≡ used) × Later used status rest
+Later used status (Finish ∷ []) = status ≡ Leaving
+Later used status _ = ⊥
 
--- a whole agenda: any duty, and behind it what may be there
-abbrev pub Agenda : ℕ → ℕ → ℕ → Status → Place → List Duty → Type 0
-Agenda rows t used status place [] = Later rows t used status place []
-Agenda rows t used status place (Settle ∷ rest) = Later rows t used status place (Settle ∷ rest)
-Agenda rows t used status place (Leave x n ∷ rest) = Later rows t used status place (Leave x n ∷ rest)
-Agenda rows t used status place (Scan x n ∷ rest) = Later rows t used status place (Scan x n ∷ rest)
-Agenda rows t used status place (Finish ∷ rest) = Later rows t used status place (Finish ∷ rest)
-Agenda rows t used status place (d ∷ rest) = Later rows t used status place rest
+-- A whole agenda: any duty first, and behind it what may be there.
+abbrev pub Agenda : ℕ → Status → List Duty → Type 0
+Agenda used status [] = Later used status []
+Agenda used status (Settle ∷ rest) = Later used status (Settle ∷ rest)
+Agenda used status (Leave i n ∷ rest) = Later used status (Leave i n ∷ rest)
+Agenda used status (Scan i n ∷ rest) = Later used status (Scan i n ∷ rest)
+Agenda used status (Finish ∷ rest) = Later used status (Finish ∷ rest)
+Agenda used status (d ∷ rest) = Later used status rest
 
--- Whether the thread's exit has still to look at the row's mark.
+-- Says whether the agenda ends with the duty to leave.
+abbrev pub has_leave : List Duty → Bool
+has_leave [] = false
+has_leave (Leave x n ∷ rest) = true
+has_leave (d ∷ rest) = has_leave rest
+
+-- Says whether the thread's exit is under way or done: the thread has said that it leaves, or will by its agenda.
+abbrev pub exits : Status → List Duty → Bool
+exits Running agenda = has_leave agenda
+exits Leaving agenda = true
+exits Gone agenda = true
+
+-- Says whether the thread's exit still has to look at the mark of its row with the index.
 abbrev pub scans : ℕ → List Duty → Bool
-scans x [] = false
-scans x (Scan y n ∷ rest) = nat_le y x
-scans x (d ∷ rest) = scans x rest
+scans i [] = false
+scans i (Scan j n ∷ rest) = nat_le j i
+scans i (d ∷ rest) = scans i rest
 
 -- a thread that is gone has nothing to do
-abbrev pub AgendaFits : ℕ → ℕ → Actor → Status → Type 0
-AgendaFits rows t a Gone = (a.agenda ≡ []) × (a.place ≡ Exiting) × (a.head ≡ 0)
-AgendaFits rows t a Running = Agenda rows t a.used Running a.place a.agenda
-AgendaFits rows t a Leaving = Agenda rows t a.used Leaving a.place a.agenda
+abbrev pub AgendaFits : Actor → Status → Type 0
+AgendaFits a Gone = (a.agenda ≡ []) × (a.head ≡ 0)
+AgendaFits a Running = Agenda a.used Running a.agenda
+AgendaFits a Leaving = Agenda a.used Leaving a.agenda
 
 -- ---- when a chain is empty
 
@@ -60,7 +69,7 @@ Settles (Scan x k ∷ rest) = ⊥
 Settles (Finish ∷ rest) = ⊥
 Settles (d ∷ rest) = Settles rest
 
--- Where a duty of the exit comes next, the chain is empty.
+-- If a duty of the exit comes next, the chain is empty.
 abbrev pub IsSettled : ℕ → List Duty → Type 0
 IsSettled head [] = Unit {0}
 IsSettled head (Leave x k ∷ rest) = head ≡ 0
@@ -77,7 +86,7 @@ Linked memory t head (x ∷ xs) =
     (head ≡ x + 1) × ((next : ℕ) × (memory (Gate x) ≡ dying_word t next) × (next < half)
     × Linked memory t next xs)
 
--- Whether the duty finalises the row just now, or is about to chain it.
+-- Says whether the duty finalises the row just now, or is about to chain it.
 abbrev pub is_finalising : Duty → ℕ → Bool
 is_finalising (Die y) x = y == x
 is_finalising (SettleKind y) x = y == x
@@ -87,34 +96,34 @@ is_finalising (CloseResource y) x = y == x
 is_finalising (SettleEnd y) x = y == x
 is_finalising _ x = false
 
--- of the duty at hand, the first of the agenda
+-- the same of an agenda's first duty
 abbrev pub finalised_now : List Duty → ℕ → Bool
 finalised_now [] x = false
 finalised_now (d ∷ rest) x = is_finalising d x
 
--- Whether the row is dying, and the thread finalises it.
+-- Says whether the row is dying and the thread finalises it.
 abbrev pub dies_by : Life → ℕ → Bool
 dies_by (Dying u) t = u == t
 dies_by _ t = false
 
--- A row's gate is free while the row lives, and says in the end that the row is closed. In between, the thread that
--- closes the row knows the gate by `HeadFits` and by its chain.
+-- A row's gate is free while the row lives, and says closed at the end. While the row is dying, its thread knows the
+-- gate by `HeadFits` and by its chain.
 abbrev pub GateFits : Life → ℕ → Type 0
 GateFits Unborn gate = gate ≡ free_word
 GateFits Live gate = gate ≡ free_word
 GateFits (Dying t) gate = Unit {0}
 GateFits Closed gate = gate ≡ closed_word
 
--- The rows that the thread finalises are its dying chain, and the one at hand.
+-- The rows that the thread finalises are its dying chain, and the row that its first duty finalises.
 pub record ChainFits (m : Machine) (t head : ℕ) (agenda : List Duty) : Type 0 where
   pub chained : List ℕ
   pub linked : Linked m.memory t head chained
-  -- each of them is at hand or chained, and once
+  -- each of them is finalised now or chained, once
   pub once : (x : ℕ) → one_if (finalised_now agenda x) + count_by (λ y. y == x) chained ≡ one_if (dies_by (m.life x) t)
 
 -- ---- work that is put aside
 
--- Whether the duty is about the row.
+-- Says whether the duty is about the row.
 abbrev pub is_about : ℕ → Duty → Bool
 is_about x (RetainLoad y h) = y == x
 is_about x (RetainStore y h w) = y == x
@@ -145,13 +154,13 @@ is_about x (Leave y n) = false
 is_about x (Scan y n) = false
 is_about x Finish = false
 
--- of the duty at hand
+-- the same of an agenda's first duty
 abbrev pub about_of : ℕ → List Duty → Bool
 about_of x [] = false
 about_of x (d ∷ rest) = is_about x d
 
--- Whether a duty may be put aside: it retains, releases, queues or merges. What settles, claims, exits or gives birth
--- is done in one go.
+-- Says whether a duty may be put aside: a retain, a release, a queueing or a merge may. A thread settles, claims, exits
+-- and gives birth in one go.
 abbrev pub may_wait : Duty → Bool
 may_wait (RetainLoad x h) = true
 may_wait (RetainStore x h w) = true
@@ -169,7 +178,7 @@ may_wait (MergeLoad x c r) = true
 may_wait (MergeExchange x c w r) = true
 may_wait _ = false
 
--- Whether a duty may be at hand while others are put aside: one that may wait, a row that dies, or a birth.
+-- Says whether a duty may come next while others are aside: one that may wait, a death, or a birth.
 abbrev pub is_piece : Duty → Bool
 is_piece (Die x) = true
 is_piece (BirthKind x h w) = true
@@ -177,13 +186,13 @@ is_piece (BirthSlot x h) = true
 is_piece (BirthLocal x h) = true
 is_piece d = may_wait d
 
--- The agenda is such a duty alone, or empty.
+-- The agenda is empty, or one such duty.
 abbrev pub IsPiece : List Duty → Type 0
 IsPiece [] = Unit {0}
 IsPiece (d ∷ []) = is_piece d ≡ true
 IsPiece _ = ⊥
 
--- Each duty that is put aside knows what it knew at hand.
+-- Each duty that is put aside knows what it knew when it came next.
 abbrev pub AllWait : Machine → ℕ → Actor → List Duty → Type 0
 AllWait m t a [] = Unit {0}
 AllWait m t a (d ∷ rest) = (may_wait d ≡ true) × HeadFits m t a d [] × AllWait m t a rest

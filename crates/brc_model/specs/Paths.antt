@@ -1,5 +1,5 @@
--- Walks through a function, and what the checker accepts: a function through which no path meets a code, and where any
--- two paths to one point reach it in equal states.
+-- Paths through a function, and what the checker accepts: a function in which no path reports an error, and any two
+-- paths to one point reach it in equal states.
 use Rattle.std.specs.Prelude.{◌≡◌, ℕ, nat_lt, if◌then◌else◌, List, length, Option, None, Some, slice_get, fold}
 use Rattle.std.specs.List.{AllByRecursion}
 use Rattle.brc_lang.specs.declared.module.Instr.{Instr}
@@ -11,40 +11,43 @@ use Rattle.brc_model.specs.declared.slot.State.{State}
 use Rattle.brc_model.specs.declared.slot.Exit.{Exit}
 use Rattle.brc_model.specs.Slots.{lowest, after, target, entry}
 
--- how far a path has come: to a point in a state, to the end of the call, or to a code that stands at a point
+-- the end of a path: a point in a state, the end of the call, or an error code that applies at a point
 pub data PathEnd : Type 0 where
   At : ℕ → State → PathEnd
   Ended : PathEnd
   Reports : ℕ → CheckCode → PathEnd
 
--- to a point, unless it lies past the last instruction
+-- the path goes on to the next point, ends, or runs off past the last instruction
 abbrev pub arrives : List Instr → ℕ → Option ℕ → State → PathEnd
 arrives code at None s = Ended
 arrives code at (Some next) s = if nat_lt next (length code) then At next s else Reports at RunsOff
 
+-- the path reports the code at the point, if there is one
 abbrev pub unless_reported : ℕ → Option CheckCode → PathEnd → PathEnd
 unless_reported at None place = place
 unless_reported at (Some code) place = Reports at code
 
--- one instruction by one exit
+-- the path takes one instruction, by one of its exits
 abbrev pub passes : List Instr → ℕ → Option Instr → Exit → State → PathEnd
 passes code at None exit s = Reports at RunsOff
 passes code at (Some i) exit s = unless_reported at (lowest i s) (arrives code at (target i exit at) (after i exit s))
 
+-- the path goes on by one exit; a path that has ended, or has reported a code, stays where it is
 abbrev pub follow : List Instr → PathEnd → Exit → PathEnd
 follow code (At at s) exit = passes code at (slice_get code at) exit s
 follow code Ended exit = Ended
 follow code (Reports at c) exit = Reports at c
 
--- a path takes one exit after another from the function's entry
+-- the end of the path that takes these exits, one after another, from the function's entry
 abbrev pub path_end : List Instr → List Exit → PathEnd
 path_end code exits = fold (follow code) (At 0 entry) exits
 
--- some path meets the code at the point
+-- some path reports the code at the point
 pub record ReportsCode (code : List Instr) (at : ℕ) (reported : CheckCode) : Type 0 where
   pub exits : List Exit
   pub reports : path_end code exits ≡ Reports at reported
 
+-- no path reports an error, and any two paths to one point reach it in equal states
 pub record IsAcceptableCode (code : List Instr) : Type 0 where
   pub reports_none : (at : ℕ) (reported : CheckCode) → ReportsCode code at reported → ⊥
   pub states_agree : (exits others : List Exit) (at : ℕ) (s t : State) → path_end code exits ≡ At at s

@@ -1,9 +1,9 @@
--- Counting the references in the bag.
+-- Counts of references in the bag.
 use Rattle.std.specs.Prelude.{ℕ, Bool, if◌then◌else◌, List, count_by}
 use Rattle.brc_model.specs.declared.duty.Holding.{Holding}
 use Rattle.brc_model.specs.AbstractState.{ByThread, ByCell, Reference, same}
 
--- how many such references the bag has
+-- how often the bag has the reference
 abbrev pub held : Reference → List Reference → ℕ
 held r bag = count_by (same r) bag
 

@@ -1,5 +1,5 @@
 -- The step relation: each way in which a step on a word can go is a rule with a name. A rule names the duty, the value
--- that the step found, the value that it leaves, the duties that follow, and the references that move. The rules are in
+-- that the step finds, the value that it leaves, the duties that follow, and the moves of references. The rules are in
 -- the order of an object's life. (PEP 703, Biased Reference Counting and Immortalization.)
 use Rattle.std.specs.Prelude.{◌≡◌, ◌≢◌, ℕ, ◌+◌, ◌-◌, ◌<◌, ◌≤◌, Bool, true, false, List, [], ◌∷◌, ◌++◌}
 use Rattle.brc_model.specs.declared.duty.Holding.{Holding}
@@ -13,25 +13,28 @@ use Rattle.brc_word.specs.Words.{most_local, local_word, local_part, is_immortal
 use Rattle.brc_model.specs.Kinds.{kind_of_word}
 use Rattle.brc_model.specs.AbstractState.{Move, Finalise}
 use Rattle.brc_model.specs.Duties.{new_word, continuation, counts_locally, once_merged, has_resource, cells_of, cells_from, release_found}
-use Rattle.brc_model.specs.Machine.{reference_effects, gain, lose, put_in_flight, take_out, birth}
+use Rattle.brc_model.specs.declared.layout.Layout.{Layout}
+use Rattle.brc_model.specs.Layout.{row_at}
+use Rattle.brc_model.specs.Moves.{reference_effects, gain, lose, put_in_flight, take_out, birth}
 
--- the shared word counts one reference in its third bit
+-- one reference in the shared word, whose two lowest bits are the state
 abbrev pub one_shared : ℕ
 one_shared = 4
 
--- from queued's two bits: (0, default) becomes (0, queued)
+-- the state bits of queued: (0, default) becomes (0, queued)
 abbrev pub queued_bits : ℕ
 queued_bits = 2
 
--- a thread's own reference is lost; one that was handed to the queue was lost when its object was queued
+-- A release loses the thread's own reference. A reference that the queue held was lost when its object was queued.
 abbrev pub given_up : ℕ → Reason → ℕ → List Move
 given_up t Own x = lose t x
 given_up t Handed x = []
 
--- Thread t takes a step, running or not, with the head of its dying chain. A birth reads the object's kind from memory.
-module _ (memory : Address → ℕ) (t : ℕ) (running : Bool) (head : ℕ) where
+-- Thread t takes the step. `running` says whether it runs, and `head` is the head of its dying chain. A birth reads the
+-- object's kind from `memory`.
+module _ (memory : Address → ℕ) (layout : Layout) (t : ℕ) (running : Bool) (head : ℕ) where
   pub data Goes : (duty : Duty) → (found left : ℕ) → (next : List Duty) → (moves : List Move) → Type 0 where
-    -- ---- an object is born: its kind first, and last its owner with one reference
+    -- ---- a birth: the kind first, and last the owner with one reference
 
     -- a file or a socket: its resource comes next
     KindOfResource : (x : ℕ) (h : Holding) (word found : ℕ) → has_resource word ≡ true
@@ -48,15 +51,16 @@ module _ (memory : Address → ℕ) (t : ℕ) (running : Bool) (head : ℕ) wher
     -- an immortal object is never counted
     RetainsImmortal : (x : ℕ) (h : Holding) (found : ℕ) → is_immortal_word found ≡ true
         → Goes (RetainLoad x h) found found [] (gain t h x)
-    -- the owner will count it by itself
+    -- the running owner counts the reference in the local word next
     OwnerRetains : (x : ℕ) (h : Holding) (found : ℕ)
         → is_immortal_word found ≡ false → counts_locally t running found ≡ true → local_part found < most_local
         → Goes (RetainLoad x h) found found (RetainStore x h found ∷ []) []
-    -- the owner at its greatest count takes the shared path, so that nothing becomes immortal by counting
+    -- an owner at the greatest local count counts in the shared word next, so that no object becomes immortal by
+    -- counting
     FullOwnerRetains : (x : ℕ) (h : Holding) (found : ℕ)
         → is_immortal_word found ≡ false → counts_locally t running found ≡ true → most_local ≤ local_part found
         → Goes (RetainLoad x h) found found (RetainAdd x h ∷ []) []
-    -- any other thread, or an owner that leaves, will add to the shared count
+    -- any other thread, or an owner that no longer runs, counts in the shared word next
     OtherRetains : (x : ℕ) (h : Holding) (found : ℕ)
         → is_immortal_word found ≡ false → counts_locally t running found ≡ false
         → Goes (RetainLoad x h) found found (RetainAdd x h ∷ []) []
@@ -64,7 +68,7 @@ module _ (memory : Address → ℕ) (t : ℕ) (running : Bool) (head : ℕ) wher
         → Goes (RetainStore x h word) found (word + 1) [] (gain t h x)
     SharedRaised : (x : ℕ) (h : Holding) (found : ℕ)
         → Goes (RetainAdd x h) found (found + one_shared) [] (gain t h x)
-    -- ---- a reference is given up: from here on it is in flight
+    -- ---- the start of a release: from here on the reference is in flight
 
     ReleasesImmortal : (x : ℕ) (h : Holding) (found : ℕ) → is_immortal_word found ≡ true
         → Goes (ReleaseLoad x h) found found [] (put_in_flight t h x ++ lose t x)
@@ -81,17 +85,17 @@ module _ (memory : Address → ℕ) (t : ℕ) (running : Bool) (head : ℕ) wher
     -- the last local reference: the shared word decides what becomes of the object
     LocalReachesZero : (x word found : ℕ) → local_part word ≡ 1
         → Goes (ReleaseStore x word) found (word - 1) (DecideAtZero x ∷ []) (lose t x)
-    -- count 0 and default: nobody else holds a reference, and the owner deallocates at once
+    -- (0, default): no other thread holds a reference, and the owner deallocates the object at once
     NeverShared : (x found : ℕ) → found ≡ fresh_word
         → Goes (DecideAtZero x) found found (Die x ∷ []) []
-    -- other threads counted the object: the counts are merged
+    -- in any other state the owner merges the counts first
     WasShared : (x found : ℕ) → found ≢ fresh_word
         → Goes (DecideAtZero x) found found (MergeSwap x Own ∷ []) []
     -- ---- another thread's release
 
     SharedRead : (x : ℕ) (reason : Reason) (found : ℕ)
         → Goes (SharedLoad x reason) found found (SharedExchange x reason found ∷ []) []
-    -- (0, default): the thread asks the owner to merge, and hands its own reference over to the queue
+    -- (0, default): the thread hands its reference to the owner's queue, and so asks the owner to merge
     Queues : (x : ℕ) (reason : Reason) (word : ℕ) → word ≡ fresh_word
         → Goes (SharedExchange x reason word) word (word + queued_bits) (SetMark x ∷ []) (given_up t reason x)
     Decrements : (x : ℕ) (reason : Reason) (word : ℕ) → word ≢ fresh_word → word - one_shared ≢ dead_word
@@ -99,7 +103,7 @@ module _ (memory : Address → ℕ) (t : ℕ) (running : Bool) (head : ℕ) wher
     -- merged, and the last reference of all: this thread deallocates the object
     DecrementsToZero : (x : ℕ) (reason : Reason) (word : ℕ) → word ≢ fresh_word → word - one_shared ≡ dead_word
         → Goes (SharedExchange x reason word) word (word - one_shared) (Die x ∷ []) (given_up t reason x)
-    -- another thread changed the word in between: the compare-exchange fails, and the thread reads again
+    -- the compare-exchange fails, because another thread has changed the word: the thread retries
     ExchangeLost : (x : ℕ) (reason : Reason) (word found : ℕ) → found ≢ word
         → Goes (SharedExchange x reason word) found found (SharedLoad x reason ∷ []) []
     -- ---- the queue of objects to be merged
@@ -114,16 +118,16 @@ module _ (memory : Address → ℕ) (t : ℕ) (running : Bool) (head : ℕ) wher
         → Goes (Look x) found found (TakeMark x ∷ []) []
     MarkTakenBack : (x found : ℕ) → found ≡ 1
         → Goes (TakeMark x) found 0 (MergeSwap x Handed ∷ []) []
-    -- the owner's exit was faster
+    -- the owner has taken the mark first
     MarkGone : (x found : ℕ) → found ≢ 1
         → Goes (TakeMark x) found 0 [] []
     MarkClaimed : (x found : ℕ) → found ≡ 1
         → Goes (ClaimMark x) found 0 (MergeSwap x Handed ∷ Settle ∷ []) []
     NothingToClaim : (x found : ℕ) → found ≢ 1
         → Goes (ClaimMark x) found 0 (Settle ∷ []) []
-    -- ---- a merge: the local count goes over into the shared word, and nobody owns the object any more
+    -- ---- a merge: the local count moves into the shared word, and nobody owns the object any more
 
-    -- it is merged already: what it was to be merged for comes next
+    -- the object is merged already: the thread does what it wanted the merge for
     NobodysCount : (x : ℕ) (reason : Reason) (found : ℕ) → found ≡ 0
         → Goes (MergeSwap x reason) found 0 (once_merged x reason) []
     LocalTakenOut : (x : ℕ) (reason : Reason) (found : ℕ) → found ≢ 0
@@ -134,14 +138,14 @@ module _ (memory : Address → ℕ) (t : ℕ) (running : Bool) (head : ℕ) wher
         → Goes (MergeExchange x carried word Own) word (merged_word word carried) [] []
     MergesToZero : (x carried word : ℕ) → merged_word word carried ≡ dead_word
         → Goes (MergeExchange x carried word Own) word (merged_word word carried) (Die x ∷ []) []
-    -- the handed reference is still counted: it is given up next
+    -- the count still has the reference that the queue held: the thread releases it next
     MergesForHanded : (x carried word : ℕ)
         → Goes (MergeExchange x carried word Handed) word (merged_word word carried) (SharedLoad x Handed ∷ []) []
     MergeLost : (x carried word : ℕ) (reason : Reason) (found : ℕ) → found ≢ word
         → Goes (MergeExchange x carried word reason) found found (MergeLoad x carried reason ∷ []) []
     -- ---- deallocation
 
-    -- the dying object becomes the head of its thread's chain
+    -- the dying object becomes the head of the thread's dying chain
     Chained : (x found : ℕ)
         → Goes (Die x) found (dying_word t head) [] []
     ChainRead : (found : ℕ)
@@ -149,7 +153,7 @@ module _ (memory : Address → ℕ) (t : ℕ) (running : Bool) (head : ℕ) wher
     -- a file or a socket has a resource to close
     DyingResource : (x found : ℕ) → has_resource found ≡ true
         → Goes (SettleKind x) found found (TakeSlot x ∷ []) []
-    -- a list's cells are emptied first; what has none is closed next
+    -- a list's cells are emptied first; an object without cells is closed next
     DyingCells : (x found : ℕ) → has_resource found ≡ false
         → Goes (SettleKind x) found found (cells_from x 0 (cells_of found)) []
     -- the cell's reference is released before the next cell is emptied
@@ -162,19 +166,20 @@ module _ (memory : Address → ℕ) (t : ℕ) (running : Bool) (head : ℕ) wher
         → Goes (CloseResource x) found 0 (SettleEnd x ∷ []) []
     Closes : (x found : ℕ)
         → Goes (SettleEnd x) found closed_word [] (Finalise x ∷ [])
-    -- ---- a thread's exit: it says that it leaves, and only then looks through its marks
+    -- ---- a thread's exit: it announces the exit, and only then scans its marks
 
     SaysLeaving : (first rows found : ℕ)
         → Goes (Leave first rows) found 2 (Scan first rows ∷ Finish ∷ []) []
-    ScanFindsMark : (x rows found : ℕ) → found ≡ 1
-        → Goes (Scan x rows) found 0 (MergeSwap x Handed ∷ Settle ∷ Scan (x + 1) (rows - 1) ∷ []) []
-    ScanFindsNone : (x rows found : ℕ) → found ≢ 1
-        → Goes (Scan x rows) found 0 (Settle ∷ Scan (x + 1) (rows - 1) ∷ []) []
+    ScanFindsMark : (index rows found : ℕ) → found ≡ 1
+        → Goes (Scan index rows) found 0
+        (MergeSwap (row_at layout t index) Handed ∷ Settle ∷ Scan (index + 1) (rows - 1) ∷ []) []
+    ScanFindsNone : (index rows found : ℕ) → found ≢ 1
+        → Goes (Scan index rows) found 0 (Settle ∷ Scan (index + 1) (rows - 1) ∷ []) []
     SaysGone : (found : ℕ)
         → Goes Finish found 3 [] []
 
-  -- what a rule concludes is what the step of the duty computes
+  -- the conclusion of a rule is what the step of the duty computes
   pub record IsComputed (d : Duty) (found left : ℕ) (next : List Duty) (moves : List Move) : Type 0 where
     pub left_is : left ≡ new_word t head d found
-    pub next_is : next ≡ continuation t running head d found
+    pub next_is : next ≡ continuation layout t running head d found
     pub moves_are : moves ≡ reference_effects memory t d found

@@ -1,4 +1,4 @@
--- What an accepted module promises.
+-- The safety of an accepted module.
 use Rattle.std.specs.Prelude.{◌≡◌, ◌≢◌, ℕ, ◌<◌, ◌≤◌, Bool, true, false, List, [], length, AllPairs, ◌↔◌}
 use Rattle.std.specs.List.{All, AllByRecursion, list_all}
 use Rattle.brc_lang.specs.declared.module.Module.{Module}
@@ -10,15 +10,18 @@ use Rattle.brc_model.specs.AbstractState.{Reference, AbstractState, ByCell, is_a
 use Rattle.brc_word.specs.Words.{kind_part}
 use Rattle.brc_model.specs.Kinds.{kind_number}
 use Rattle.brc_model.specs.declared.address.Address.TheVariants.{KindOf}
-use Rattle.brc_model.specs.Machine.{Actor, Unborn, Live, Machine, first_machine, machine_after}
+use Rattle.brc_model.specs.Machine.{Actor, Unborn, Live, Machine}
+use Rattle.brc_model.specs.StepMachine.{StepMachine, counting, first_machine, machine_after}
 use Rattle.brc_model.specs.Agreement.{AgreesAt, IsFreeOf}
 use Rattle.brc_model.specs.Events.{is_bad_event}
-use Rattle.brc_model.specs.Limits.{row_limit, worker_limit}
+use Rattle.brc_model.specs.Limits.{row_limit, worker_limit, times_limit}
+use Rattle.brc_model.specs.Layout.{IsCounted}
 
--- 1 to 32 workers, each with one function of the module to call 1 to 1,000,000 times
+-- the calls of one worker: 1 to 1,000,000 calls of one function of the module
 abbrev pub IsCall : Module → Call → Type 0
-IsCall m c = (c.function < length m.functions) × (0 < c.times) × (c.times ≤ 1000000)
+IsCall m c = (c.function < length m.functions) × (0 < c.times) × (c.times ≤ times_limit)
 
+-- the calls of 1 to 32 workers
 pub record AreCalls (m : Module) (calls : List Call) : Type 0 where
   pub some : 0 < length calls
   pub most : length calls ≤ worker_limit
@@ -29,7 +32,7 @@ has_gone Gone = true
 has_gone Running = false
 has_gone Leaving = false
 
--- every thread is gone
+-- all threads are gone
 abbrev pub AllGone : Machine → Type 0
 AllGone m = list_all (λ (a : Actor). has_gone a.status) m.actors ≡ true
 
@@ -40,29 +43,31 @@ pub record IsHeldByOpenList (p : AbstractState) (r : Reference) : Type 0 where
   pub holder : r.holder ≡ ByCell list cell
   pub not_closed : is_among list p.closed ≡ false
 
-pub record IsSafeNow (m : Machine) : Type 0 where
+-- what holds at each moment of a safe module's runs
+pub record IsSafeNow (m : StepMachine) : Type 0 where
   -- no event that can come next is bad
   pub none_bad : (event : ℕ × Choice) → is_bad_event m event ≡ false
-  -- the counts of each row add up to the references held and the decrements that await, and each phase says what it
-  -- says
-  pub agrees : (x : ℕ) → 0 < x → AgreesAt m x
-  -- the kind word of what was born says its kind
+  -- each counted row's counts and state agree with the references that are held and the pending decrements
+  pub agrees : (x : ℕ) → IsCounted m.layout x → AgreesAt (counting m) x
+  -- the kind word of each born row names its object's kind
   pub kinds : (x : ℕ) → m.life x ≢ Unborn → kind_part (m.memory (KindOf x)) ≡ kind_number (m.abstract.kinds x)
-  -- what is dying or closed is free
-  pub free : (x : ℕ) → 0 < x → m.life x ≢ Live → m.life x ≢ Unborn → IsFreeOf m x
+  -- a dying or closed row has no reference and no pending decrement
+  pub free : (x : ℕ) → IsCounted m.layout x → m.life x ≢ Live → m.life x ≢ Unborn → IsFreeOf (counting m) x
+  -- no row is closed twice
   pub closed_once : AllPairs (λ x y. x ≢ y) m.abstract.closed
-  -- once all threads are gone, exactly what is born, counted and without a reference is closed, and no reference is
-  -- left
-  pub closed_at_end : AllGone m → (x : ℕ)
+  -- once all threads are gone, exactly the born objects to which no reference is left are closed
+  pub closed_at_end : AllGone (counting m) → (x : ℕ)
       → (is_among x m.abstract.closed ≡ true)
       ↔ ((is_among x m.abstract.born ≡ true) × (references_to x m.abstract.references ≡ 0))
-  pub none_left : AllGone m → m.abstract.references ≡ []
-  -- and each reference that is left is held by a list that is
-  pub left_in_lists : AllGone m → All (IsHeldByOpenList m.abstract) m.abstract.references
+  -- once all threads are gone, no reference is left
+  pub none_left : AllGone (counting m) → m.abstract.references ≡ []
+  -- once all threads are gone, a cell of an open list holds each reference that is left
+  pub left_in_lists : AllGone (counting m) → All (IsHeldByOpenList m.abstract) m.abstract.references
 
--- For every number of workers and rows, every list of calls and every list of steps and choices, stopped anywhere: no
--- event is bad, the counts of each row add up to the references held and the decrements that await, and nothing is
--- closed twice. Once all threads are gone, exactly what has no reference has been closed.
+-- The module is safe, for every number of workers and rows, every list of calls and every list of steps and choices,
+-- wherever the list stops: no event is bad, the counts of each row add up to the references that are held and the
+-- pending decrements, and nothing is closed twice. Once all threads are gone, no reference is left, and exactly the
+-- objects to which none is left have been closed.
 abbrev pub Safe : Module → Type 0
 Safe m =
     (rows : ℕ) (calls : List Call) (events : List (ℕ × Choice)) → 0 < rows → rows ≤ row_limit → AreCalls m calls

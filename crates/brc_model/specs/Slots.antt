@@ -1,6 +1,6 @@
 -- Slot states: what each instruction asks of the variables, and what it leaves in them. (Python/C API manual, Reference
--- Count Details; Extending manual, Ownership Rules: a reference that is owned is given up once, by a decrement or by
--- handing it on; a borrowed one isn't given up; what is returned is owned.)
+-- Count Details; Extending manual, Ownership Rules: the owner of a reference gives it up once, by a decrement or by
+-- passing it on; a borrower doesn't give it up; a call returns an owned reference.)
 use Rattle.std.specs.Prelude.{ℕ, ◌+◌, Bool, true, false, ◌==◌, List, [], ◌∷◌, Option, None, Some, is_some, find, slice_set, replicate}
 use Rattle.std.specs.List.{list_any, slice_index_or}
 use Rattle.brc_lang.specs.declared.kind.Kind.{Kind}
@@ -43,22 +43,28 @@ abbrev pub names : Option ℕ → ℕ → Bool
 names None x = false
 names (Some y) x = x == y
 
--- the state with x as given
+-- the state with the slot of variable x replaced
 abbrev pub put : State → ℕ → Slot → State
 put s x slot = record { slots = slice_set s.slots x slot; locked = s.locked }
 
 -- ---- conditions
 
--- what an instruction asks of the state before it
+-- a condition that an instruction puts on the state before it
 pub data Condition : Type 0 where
+  -- the variable isn't empty
   Use : ℕ → Condition
+  -- the variable owns its reference, and isn't the locked one
   Give : ℕ → Condition
+  -- the variable owns no reference, and isn't the locked one
   Into : ℕ → Condition
+  -- no variable owns a reference
   NothingOwned : Condition
+  -- no variable but this one owns a reference
   NothingOwnedBut : ℕ → Condition
+  -- no list is locked
   NothingLocked : Condition
 
--- whether the condition is broken in the way that the code says
+-- says whether the state breaks the condition in the way that the code names
 abbrev pub breaks : State → CheckCode → Condition → Bool
 breaks s EmptyUsed (Use x) = is_empty (slot_of s x)
 breaks s EmptyUsed (Give x) = is_empty (slot_of s x)
@@ -81,21 +87,22 @@ conditions_of (Goto to) = []
 conditions_of (Ret from) = Give from ∷ NothingOwnedBut from ∷ NothingLocked ∷ []
 conditions_of Fail = NothingOwned ∷ NothingLocked ∷ []
 
+-- says whether the code applies: the state breaks one of the instruction's conditions in that way
 abbrev pub applies : Instr → State → CheckCode → Bool
 applies i s code = list_any (breaks s code) (conditions_of i)
 
--- what conditions can break by, lowest first
+-- the codes of broken conditions, lowest first
 abbrev pub rising : List CheckCode
 rising =
     EmptyUsed ∷ WrongKind ∷ NotOwned ∷ StillOwns ∷ LeftOwned ∷ LeftLocked ∷ SecondLock ∷ NotLocked ∷ LockedChanged ∷ []
 
--- the lowest code that stands
+-- the lowest code that applies, if any does
 abbrev pub lowest : Instr → State → Option CheckCode
 lowest i s = find (applies i s) rising
 
 -- ---- exits
 
--- the state after an instruction that leads on
+-- the state after an exit of the instruction
 abbrev pub after : Instr → Exit → State → State
 after (Num to value otherwise) Success s = put s to (Owned kinds.Num)
 after (Num to value otherwise) Fault s = put s to Empty
@@ -107,7 +114,7 @@ after (Goto to) exit s = s
 after (Ret from) exit s = s
 after Fail exit s = s
 
--- the point that an exit of the instruction at a point leads to, or none where it ends the call
+-- the point to which an exit of the instruction at the point `at` leads, or none if the exit ends the call
 abbrev pub target : Instr → Exit → ℕ → Option ℕ
 target (Num to value otherwise) Success at = Some (at + 1)
 target (Num to value otherwise) Fault at = Some otherwise
@@ -119,6 +126,6 @@ target (Goto to) exit at = Some to
 target (Ret from) exit at = None
 target Fail exit at = None
 
--- at the entry the caller lends the root in v0
+-- the state at a function's entry: the caller lends the root in v0, and the other variables are empty
 abbrev pub entry : State
 entry = record { slots = Caller kinds.List ∷ replicate 15 Empty; locked = None }

@@ -1,4 +1,4 @@
--- Tables: for each function, for each point its state, or none where no path comes.
+-- Tables: for each point of each function its state, or none if no path reaches the point.
 use Rattle.std.specs.Prelude.{◌≡◌, ◌≢◌, ◌↔◌, ℕ, List, [], length, Option, None, Some, slice_get}
 use Rattle.std.specs.List.{slice_index_or}
 use Rattle.brc_lang.specs.declared.module.Instr.{Instr}
@@ -23,31 +23,33 @@ pub record StatesDifferAt (code : List Instr) (at : ℕ) : Type 0 where
 
 -- ---- entries
 
--- the entry is a state exactly where some path reaches the point in it
+-- the entry is a state exactly if some path reaches the point in that state
 abbrev pub IsTrueEntry : List Instr → ℕ → Option State → Type 0
 IsTrueEntry code at entry = (s : State) → (entry ≡ Some s) ↔ Reaches code at s
 
--- the entries of a function, and the entry of a point among them: none past the last
+-- the entries of a function
 abbrev pub row_of : List (List (Option State)) → ℕ → List (Option State)
 row_of table function = slice_index_or table function []
 
+-- the entry of a point, or none past the last point
 abbrev pub entry_at : List (Option State) → ℕ → Option State
 entry_at row at = slice_index_or row at None
 
 -- ---- tables
 
--- a row for each function, an entry for each of its points
+-- the table has a list of entries for each function, and the list has an entry for each of the function's points
 pub record HasShape (functions : List Function) (table : List (List (Option State))) : Type 0 where
   pub rows : length table ≡ length functions
   pub points : (number : ℕ) (f : Function) → slice_get functions number ≡ Some f
       → length (row_of table number) ≡ length f.code
 
+-- each entry of the table is true
 pub record IsTrueTable (m : Module) (table : List (List (Option State))) : Type 0 where
   pub shape : HasShape m.functions table
   pub entries : (number at : ℕ) (f : Function) → slice_get m.functions number ≡ Some f
       → IsTrueEntry f.code at (entry_at (row_of table number) at)
 
--- each point that a path reaches has the path's state; of the others nothing is said
+-- each point that a path reaches has the path's state; any other point may have any entry
 pub record IsTrueWhereReached (m : Module) (table : List (List (Option State))) : Type 0 where
   pub shape : HasShape m.functions table
   pub entries : (number at : ℕ) (f : Function) (s : State) → slice_get m.functions number ≡ Some f → Reaches f.code at s

@@ -1,5 +1,4 @@
--- What a step can rely on: the word that it asks for is there, and the words that it finds and leaves have the forms of
--- a header's, below all bounds.
+-- What a step can rely on: its word is there, and the values that it finds and leaves are a header's, below all bounds.
 use Rattle.std.specs.Prelude.{◌≡◌, ◌≢◌, ℕ, ◌+◌, ◌*◌, ◌<◌, ◌≤◌, Bool, true, List, length}
 use Rattle.brc_word.specs.Words.{half, most_local, owner_part, local_part, biased_part, phase_part, bias}
 use Rattle.brc_model.specs.declared.thread.Choice.{Choice}
@@ -9,11 +8,13 @@ use Rattle.brc_model.specs.declared.address.Address.TheVariants.{Local, Shared, 
 use Rattle.brc_model.specs.declared.duty.Duty.{Duty}
 use Rattle.brc_model.specs.declared.duty.Duty.TheVariants.{RetainStore, RetainAdd, ReleaseLoad, ReleaseStore, SharedExchange, MergeExchange, SettleCell}
 use Rattle.brc_model.specs.Duties.{address_of}
-use Rattle.brc_model.specs.Machine.{Actor, used_by, Does, action_of, is_running}
-use Rattle.brc_model.specs.World.{World, row_count}
+use Rattle.brc_model.specs.Machine.{Actor, used_by, is_running}
+use Rattle.brc_model.specs.World.{World}
+use Rattle.brc_model.specs.Actions.{StepActor, Does, action_of}
 use Rattle.brc_model.specs.Limits.{cell_limit}
+use Rattle.brc_model.specs.Layout.{row_count}
 
--- the word at the address is there: so many rows and threads
+-- the address has a word, in a world of n rows and `threads` threads
 abbrev pub IsThere : ℕ → ℕ → Address → Type 0
 IsThere n threads (Local x) = x < n
 IsThere n threads (Shared x) = x < n
@@ -25,12 +26,12 @@ IsThere n threads (Slot x) = x < n
 IsThere n threads (Resource x) = x < n
 IsThere n threads (ThreadWord t) = t < threads
 
--- a shared word that a header can have: its count is from -2^40 to 2^40 - 1, and its state isn't the unused one
+-- a shared word of a header: its count is from -2^40 to 2^40 - 1, and its state isn't the unused one
 pub record IsShared (word : ℕ) : Type 0 where
   pub low : biased_part word < 2 * bias
   pub state : phase_part word ≢ 1
 
--- what the thread's duty can do with the word that it finds
+-- the value that the duty finds suits what the duty does with it, in a world of n rows
 abbrev pub Suits : ℕ → Bool → ℕ → Duty → ℕ → Type 0
 Suits t running n (RetainStore x h w) found = local_part w < most_local
 Suits t running n (RetainAdd x h) found = IsShared found × (biased_part found + 1 < 2 * bias)
@@ -42,14 +43,15 @@ Suits t running n (MergeExchange x c w r) found =
 Suits t running n (SettleCell x i k) found = found ≤ n
 Suits t running n _ found = Unit {0}
 
+-- the thread's step of the duty is within all bounds
 pub record IsWithin (w : World) (t : ℕ) (a : Actor) (d : Duty) : Type 0 where
-  pub there : IsThere (row_count w) (length w.actors) (address_of w.rows t a.head d)
-  pub head : a.head ≤ row_count w
-  pub used : used_by a.used d ≤ row_count w
-  pub suits : Suits t (is_running a.status) (row_count w) d (w.memory (address_of w.rows t a.head d))
+  pub there : IsThere (row_count w.layout) (length w.actors) (address_of w.layout t a.head d)
+  pub head : a.head ≤ row_count w.layout
+  pub used : used_by a.used d ≤ row_count w.layout
+  pub suits : Suits t (is_running a.status) (row_count w.layout) d (w.memory (address_of w.layout t a.head d))
 
--- Each duty that the thread may do at its next event is within.
-abbrev pub StepsWithin : World → ℕ → Actor → Type 0
+-- each duty that the thread may do at its next event is within all bounds
+abbrev pub StepsWithin : World → ℕ → StepActor → Type 0
 StepsWithin w t a =
     (choice : Choice) (d : Duty) (rest : List Duty) (place : Place)
-    → action_of w.functions w.rows t a choice ≡ Does d rest place → IsWithin w t a d
+    → action_of w.functions w.layout t a choice ≡ Does d rest place → IsWithin w t a.actor d

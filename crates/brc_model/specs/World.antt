@@ -1,34 +1,36 @@
--- What the threads of a machine see and change: the words, and the threads themselves. A step looks at nothing else:
--- the abstract state and the lives of the rows stand beside it, for what is promised.
-use Rattle.std.specs.Prelude.{◌≡◌, ℕ, ◌+◌, ◌*◌, ◌-◌, ◌<◌, ◌≤◌, List, [], length}
+-- Worlds. A world is what the threads of a machine see and change: the words, and the threads themselves. A step looks
+-- at nothing else. The abstract state and the lives of the rows are beside it, for what is promised.
+use Rattle.std.specs.Prelude.{◌≡◌, ℕ, ◌<◌, ◌≤◌, List, []}
 use Rattle.brc_lang.specs.declared.module.Function.{Function}
 use Rattle.brc_lang.specs.declared.module.Module.{Module}
 use Rattle.brc_lang.specs.Grammar.{IsModule}
 use Rattle.brc_model.specs.declared.address.Address.{Address}
+use Rattle.brc_model.specs.declared.layout.Layout.{Layout}
 use Rattle.brc_model.specs.declared.thread.Call.{Call}
 use Rattle.brc_model.specs.declared.thread.Choice.{Choice}
 use Rattle.brc_lang.specs.declared.kind.Kind.TheVariants as kinds
 use Rattle.brc_model.specs.Paths.{IsAcceptable}
 use Rattle.brc_model.specs.Safety.{AreCalls}
-use Rattle.brc_model.specs.Machine.{Actor, Unborn, Machine, next_machine, first_machine, machine_after}
+use Rattle.brc_model.specs.Machine.{Unborn}
+use Rattle.brc_model.specs.Actions.{StepActor}
+use Rattle.brc_model.specs.StepMachine.{StepMachine, next_machine, first_machine, machine_after}
 use Rattle.brc_model.specs.Limits.{row_limit}
 
 pub record World : Type 0 where
   pub functions : List Function
-  -- rows of each worker
-  pub rows : ℕ
+  pub layout : Layout
   pub memory : Address → ℕ
   -- by the thread's number: main is 0, the workers 1, 2, ..
-  pub actors : List Actor
+  pub actors : List StepActor
 
-abbrev pub world_of : Machine → World
-world_of m = record { functions = m.functions; rows = m.rows; memory = m.memory; actors = m.actors }
+abbrev pub world_of : StepMachine → World
+world_of m = record { functions = m.functions; layout = m.layout; memory = m.memory; actors = m.actors }
 
--- a machine with nothing beside
-abbrev pub machine_of : World → Machine
+-- the machine with this world, an empty abstract state and no born row
+abbrev pub machine_of : World → StepMachine
 machine_of w = record {
   functions = w.functions;
-  rows = w.rows;
+  layout = w.layout;
   memory = w.memory;
   actors = w.actors;
   abstract = record { references = []; born = []; closed = []; kinds = λ x. kinds.Any };
@@ -42,11 +44,7 @@ first_world m rows calls = world_of (first_machine m rows calls)
 abbrev pub step : World → ℕ → Choice → World
 step w t choice = world_of (next_machine (machine_of w) (t, choice))
 
--- none, the root, and each worker's rows
-abbrev pub row_count : World → ℕ
-row_count w = 2 + (length w.actors - 1) * w.rows
-
--- the worlds that there are: those that some list of steps leads to from a first one
+-- A world is reachable if some list of events leads to it from a first world of an acceptable module.
 pub record IsReachable (p : Module) (w : World) : Type 0 where
   pub fits : IsModule p
   pub accepted : IsAcceptable p

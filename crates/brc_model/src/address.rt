@@ -1,22 +1,23 @@
-/// A word that threads share. A `row` is an object's.
+/// The address of a word that threads share. `row` is the row of the word's object.
 #[derive(Clone, Copy, Debug)]
 pub enum Address {
-    /// The owner and its local count.
+    /// The object's owner, and the owner's local count.
     Local { row: u32 },
-    /// The shared count, and how far the merge has come.
+    /// The shared count, and the object's state: default, queued or merged.
     Shared { row: u32 },
-    /// Whether the object is free, dying or closed.
+    /// Whether the object is dying, closed or neither.
     Gate { row: u32 },
-    /// What the object is.
+    /// The object's kind, and a number's value or a list's number of cells.
     KindOf { row: u32 },
-    /// Whether the object waits in its owner's queue.
+    /// Whether the object is in its owner's queue.
     Mark { row: u32 },
-    /// A list's cell, 0 to 7.
+    /// A cell of a list, 0 to 7. The word is the row of the object that the cell references, plus 1, or 0 if it is
+    /// empty.
     Cell { row: u32, cell: u32 },
-    /// Whether the file's or socket's resource is in its place.
+    /// Whether the resource of a file or a socket is in its slot.
     Slot { row: u32 },
-    /// Whether the host has the row's resource open.
+    /// Whether the host has the object's resource open.
     Resource { row: u32 },
-    /// Whether the thread runs, leaves or is gone.
+    /// Whether the thread runs, is leaving or is gone.
     ThreadWord { thread: u32 },
 }

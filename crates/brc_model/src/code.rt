@@ -1,31 +1,31 @@
 use std::fmt;
 
-/// Why a function isn't accepted: what a path through it meets.
+/// Why the checker doesn't accept a function: the error that a path through it reports, or refused memory.
 #[derive(Clone, Copy, Debug, PartialEq, Eq)]
 pub enum CheckCode {
-    /// An empty variable is used.
+    /// The instruction uses an empty variable.
     EmptyUsed,
-    /// A variable is of another kind than the instruction wants.
+    /// The variable's object is of another kind than the instruction wants.
     WrongKind,
-    /// A reference is given up that the variable only borrows.
+    /// The instruction gives up a reference that the variable only borrows.
     NotOwned,
     /// The destination still owns a reference.
     StillOwns,
-    /// A reference is left at the end of the call.
+    /// A variable still owns a reference at the end of the call.
     LeftOwned,
-    /// A lock is left at the end of the call.
+    /// A list is still locked at the end of the call.
     LeftLocked,
-    /// A lock is taken while another is held.
+    /// The instruction locks a list while another is locked.
     SecondLock,
     /// The variable isn't the locked one.
     NotLocked,
-    /// The locked variable is changed.
+    /// The instruction changes the locked variable.
     LockedChanged,
     /// Two paths reach a point in different states.
     StatesDiffer,
     /// The function runs off its end.
     RunsOff,
-    /// Memory was refused.
+    /// The allocator refused memory.
     NoMemory,
 }
 

@@ -7,151 +7,153 @@ pub enum Holding {
     ByVariable(Variable),
     /// As the caller that lends the root.
     AsCaller,
-    /// In its hand: the reference is being given up.
+    /// In flight: the thread is giving the reference up.
     InFlight,
 }
 
-/// Whose reference a release by the shared word gives up, and for whose release a merge is made.
+/// Whose reference a release through the shared word gives up, and for whose release a thread merges.
 #[derive(Clone, Copy, Debug)]
 pub enum Reason {
     /// The thread's own.
     Own,
-    /// The one that was handed to the owner's queue.
+    /// The one that another thread handed to the owner's queue.
     Handed,
 }
 
-/// What a thread has to do next: each is one step on one word. A `row` is the object's; a `word` is what an earlier
-/// step found, which a later one relies on.
+/// What a thread still has to do: one step on one word. `row` is the row of the duty's object, and `index` that of a
+/// row in the thread's own block. `word` is the value that an earlier step found, on which this step relies; of a birth
+/// it is the kind word.
 #[derive(Clone, Copy, Debug)]
 pub enum Duty {
-    /// A new reference for the holder: the local word is looked at.
+    /// Loads the local word, to make a new reference for the holder.
     RetainLoad {
         row: u32,
         holding: Holding,
     },
-    /// The owner counts it in the local word.
+    /// Counts the new reference in the local word, as the owner.
     RetainStore {
         row: u32,
         holding: Holding,
         word: u64,
     },
-    /// It is counted in the shared word.
+    /// Counts the new reference in the shared word.
     RetainAdd {
         row: u32,
         holding: Holding,
     },
-    /// The holder gives a reference up: the local word is looked at.
+    /// Loads the local word, to give up the holder's reference.
     ReleaseLoad {
         row: u32,
         holding: Holding,
     },
-    /// The owner counts it down in the local word.
+    /// Counts the reference down in the local word, as the owner.
     ReleaseStore {
         row: u32,
         word: u64,
     },
-    /// No local reference is left: the shared word is looked at.
+    /// Loads the shared word, because no local reference is left.
     DecideAtZero {
         row: u32,
     },
-    /// A reference is given up by the shared word, which is looked at.
+    /// Loads the shared word, to give up a reference there.
     SharedLoad {
         row: u32,
         reason: Reason,
     },
-    /// The shared word is exchanged for one with a reference less, if it is still as it was found.
+    /// Compare-exchanges the shared word: if it is still `word`, queues the object or counts the reference down.
     SharedExchange {
         row: u32,
         reason: Reason,
         word: u64,
     },
-    /// The object is put into its owner's queue: its mark is set.
+    /// Sets the object's mark, which puts the object into its owner's queue.
     SetMark {
         row: u32,
     },
-    /// Whether the owner still runs is looked at.
+    /// Looks whether the owner still runs.
     Look {
         row: u32,
     },
-    /// The mark is taken, for the owner runs no longer.
+    /// Takes the mark back, because the owner no longer runs.
     TakeMark {
         row: u32,
     },
-    /// A merge begins: the local word is swapped for that of nobody. The owner merges an object when it gives its last
-    /// local reference up; a thread that claims a mark merges it before it gives the handed reference up.
+    /// Begins a merge: swaps the local word for nobody's. The owner merges an object once it has given up its last
+    /// local reference. A thread that has claimed a mark merges the object before it gives up the reference that the
+    /// queue held.
     MergeSwap {
         row: u32,
         reason: Reason,
     },
-    /// The shared word is looked at: the `carried` local references are to be added to it.
+    /// Loads the shared word, to which the `carried` local references are to be added.
     MergeLoad {
         row: u32,
         carried: u32,
         reason: Reason,
     },
-    /// The shared word is exchanged for the merged one, if it is still as it was found.
+    /// Compare-exchanges the shared word: if it is still `word`, stores the merged one.
     MergeExchange {
         row: u32,
         carried: u32,
         word: u64,
         reason: Reason,
     },
-    /// The object dies: it is put in front of the thread's dying chain.
+    /// Puts the object, which has no reference left, at the head of the thread's dying chain.
     Die {
         row: u32,
     },
-    /// The first of the dying chain is taken from it.
+    /// Takes the first object off the thread's dying chain, to deallocate it.
     Settle,
-    /// It is looked at what the dying object is.
+    /// Loads the dying object's kind word.
     SettleKind {
         row: u32,
     },
-    /// The dying list's cell is emptied.
+    /// Empties a cell of the dying list, which has `cells` cells.
     SettleCell {
         row: u32,
         cell: u32,
         cells: u32,
     },
-    /// The dying file's or socket's resource is taken out of its slot.
+    /// Takes the resource of the dying file or socket out of its slot.
     TakeSlot {
         row: u32,
     },
-    /// The host closes the resource.
+    /// Lets the host close the resource.
     CloseResource {
         row: u32,
     },
-    /// The dying object is closed.
+    /// Closes the dying object.
     SettleEnd {
         row: u32,
     },
-    /// The thread says that it leaves; it has so many marks to look through from the row on.
+    /// Announces the thread's exit. The thread then scans the marks of `rows` rows of its block, from `index` on.
     Leave {
-        row: u32,
+        index: u32,
         rows: u32,
     },
-    /// The row's mark is taken, with so many to look through from it on.
+    /// Takes the mark of the thread's row with the index. `rows` rows are still to be scanned, this one included.
     Scan {
-        row: u32,
+        index: u32,
         rows: u32,
     },
-    /// The thread says that it is gone.
+    /// Says that the thread is gone.
     Finish,
-    /// The mark of a row of the thread's own is taken, while it runs.
+    /// Takes the mark of a row of the thread's own block, while the thread runs.
     ClaimMark {
         row: u32,
     },
-    /// A new object for the holder: it is said what the object is.
+    /// Stores the kind word of a new object for the holder.
     BirthKind {
         row: u32,
         holding: Holding,
         word: u64,
     },
-    /// The new file's or socket's resource is put into its slot.
+    /// Puts the resource of the new file or socket into its slot.
     BirthSlot {
         row: u32,
         holding: Holding,
     },
-    /// The new object is counted once, by its owner: it is born.
+    /// Stores the new object's owner and its first local reference: the object is born.
     BirthLocal {
         row: u32,
         holding: Holding,

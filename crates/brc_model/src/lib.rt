@@ -1,7 +1,8 @@
-//! What an accepted module promises: slot states, paths, the abstract state, the step world, and the laws about them.
+//! The model of accepted modules: slot states, paths, the abstract state of references, the step world, and the laws
+//! about them.
 //!
-//! The crate runs nothing: it has the types that the definitions in specs/ speak of, and public functions with empty
-//! bodies whose contracts are the laws.
+//! The crate runs nothing. It has the types that the definitions in specs/ use, and public functions with empty bodies,
+//! whose contracts are the laws.
 #![tactic(auto)]
 
 mod actor;
@@ -9,6 +10,7 @@ mod address;
 mod code;
 mod duty;
 mod laws;
+mod layout;
 mod row_laws;
 mod rule_laws;
 mod slot;
@@ -20,6 +22,7 @@ pub use address::Address;
 pub use code::CheckCode;
 pub use duty::{Duty, Holding, Reason};
 pub use laws::accepted_is_safe;
+pub use layout::Layout;
 pub use row_laws::{
     a_row_is_finalised_once, an_event_closes_one_row_anew, an_object_is_born_once,
     born_rows_are_listed, born_rows_are_there, born_rows_are_used, closed_rows_stay_closed,

@@ -1,4 +1,4 @@
-//! What the events of an accepted module's threads keep in the words of a row, and in the list of what was closed.
+//! Laws of an accepted module's rows: of their words, and of the lists of what was born and closed.
 
 ghost use Rattle.brc_lang.specs.declared.module.Module.{Module};
 ghost use Rattle.brc_lang.specs.Grammar.{IsModule};
@@ -6,78 +6,78 @@ ghost use Rattle.brc_model.specs.Paths.{IsAcceptable};
 ghost use Rattle.brc_model.specs.Progress.{Always, AtEachEvent, StatesRise, OnlyOwnersCount, OwnersStay, ClosedStays, ClosesAnew, ImmortalsStay, ClosedOnce, GatesTell, BornAreUsed, BornOnce, BornListed, BornAreThere, UsedAreBorn, ClosedWereBorn};
 ghost use Rattle.brc_model.specs.Watched.{MarksWatched};
 
-/// A row's state never falls: from default by queued to merged, and never back.
+/// States that no event lowers a row's state, in the order default, queued, merged.
 pub fn states_only_rise()
     ensures { (m : Module) → IsModule m → IsAcceptable m → AtEachEvent StatesRise m }
 {}
 
-/// While its owner runs, a row's local word is changed by the owner's events alone.
+/// States that, while a row's owner runs, only the owner's events change the row's local word.
 pub fn only_a_running_owner_counts()
     ensures { (m : Module) → IsModule m → IsAcceptable m → AtEachEvent OnlyOwnersCount m }
 {}
 
-/// A row that was born keeps its owner, or nobody owns it any more.
+/// States that no thread becomes the owner of a born row: the row keeps its owner, or nobody owns it any more.
 pub fn nobody_takes_a_row_over()
     ensures { (m : Module) → IsModule m → IsAcceptable m → AtEachEvent OwnersStay m }
 {}
 
-/// The words of an immortal row stay as they are: none's, for no other row is immortal.
+/// States that no event changes the words of an immortal row. Only none's row is immortal today.
 pub fn immortal_words_stay()
     ensures { (m : Module) → IsModule m → IsAcceptable m → AtEachEvent ImmortalsStay m }
 {}
 
-/// What is closed stays closed.
+/// States that a closed row stays closed.
 pub fn closed_rows_stay_closed()
     ensures { (m : Module) → IsModule m → IsAcceptable m → AtEachEvent ClosedStays m }
 {}
 
-/// An event finalises nothing, or one row that wasn't finalised before.
+/// States that an event closes nothing, or one row that wasn't closed before.
 pub fn an_event_closes_one_row_anew()
     ensures { (m : Module) → IsModule m → IsAcceptable m → AtEachEvent ClosesAnew m }
 {}
 
-/// No row is finalised twice, over all events.
+/// States that no row is closed twice, over all events.
 pub fn a_row_is_finalised_once()
     ensures { (m : Module) → IsModule m → IsAcceptable m → Always ClosedOnce m }
 {}
 
-/// A row's gate says that it is closed, just where it was finalised.
+/// States that a row's gate has the closed word exactly if the abstract state lists the row as closed.
 pub fn gates_tell_what_is_closed()
     ensures { (m : Module) → IsModule m → IsAcceptable m → Always GatesTell m }
 {}
 
-/// Each row that is born is among the used rows of its thread's block.
+/// States that each born row is among the rows that the thread of its block has used.
 pub fn born_rows_are_used()
     ensures { (m : Module) → IsModule m → IsAcceptable m → Always BornAreUsed m }
 {}
 
-/// Each row that its block's thread has used is born.
+/// States that each row that the thread of its block has used is born.
 pub fn used_rows_are_born()
     ensures { (m : Module) → IsModule m → IsAcceptable m → Always UsedAreBorn m }
 {}
 
-/// No object is born twice.
+/// States that no object is born twice.
 pub fn an_object_is_born_once()
     ensures { (m : Module) → IsModule m → IsAcceptable m → Always BornOnce m }
 {}
 
-/// The list of the born objects has just the rows that aren't unborn, but for none.
+/// States that the list of the born objects has exactly the born rows, without none's.
 pub fn born_rows_are_listed()
     ensures { (m : Module) → IsModule m → IsAcceptable m → Always BornListed m }
 {}
 
-/// A row that is born is one of those that there are.
+/// States that each born row is one of the machine's rows.
 pub fn born_rows_are_there()
     ensures { (m : Module) → IsModule m → IsAcceptable m → Always BornAreThere m }
 {}
 
-/// What was closed was born.
+/// States that each closed row was born.
 pub fn closed_rows_were_born()
     ensures { (m : Module) → IsModule m → IsAcceptable m → Always ClosedWereBorn m }
 {}
 
-/// Each mark that is set is watched: by its block's running thread, by that thread's exit, or by a thread that will
-/// look.
+/// States that each set mark is watched: by the running thread of its block, by that thread's exit, or by a thread that
+/// will look.
 pub fn marks_are_watched()
     ensures { (m : Module) → IsModule m → IsAcceptable m → Always MarksWatched m }
 {}

@@ -1,18 +1,19 @@
-/// What a worker is to do: so many calls of one function, given by its number from 0.
+/// The work of a worker: one function, called a number of times.
 #[derive(Clone, Copy, Debug, PartialEq, Eq)]
 pub struct Call {
+    /// The function's number, from 0.
     pub function: usize,
-    /// 1 to 1,000,000.
+    /// The number of calls, 1 to 1,000,000.
     pub times: u32,
 }
 
-/// What a step is to do.
+/// What a schedule chooses for a step.
 #[derive(Clone, Copy, Debug, PartialEq, Eq)]
 pub enum Choice {
-    /// The thread goes on. Where that is a host call, it succeeds.
+    /// The thread takes its next step. If that is a host call, the call succeeds.
     Ok,
-    /// The thread goes on. Where that is a host call, it faults.
+    /// The thread takes its next step. If that is a host call, the call faults.
     Fault,
-    /// The thread looks whether the object of the row waits in its queue.
+    /// The thread takes the row's mark, if the object is in its queue.
     Claim { row: u32 },
 }

@@ -1,4 +1,4 @@
--- The report of a run: ASCII lines, each ended by a line feed.
+-- The report of a run: ASCII lines, each with a line feed at its end.
 use Rattle.std.specs.Prelude.{ℕ, List, [], ◌∷◌, ◌++◌, codes, decimal}
 use Rattle.std.specs.List.{flat_map}
 use Rattle.brc_lang.specs.Grammar.{line}
@@ -7,11 +7,11 @@ use Rattle.brc_lang.specs.declared.kind.Kind.TheVariants.{None, Num, List as Lis
 use Rattle.brc_report.specs.declared.tally.Tally.{Tally}
 use Rattle.brc_report.specs.declared.tally.Left.{Left}
 
--- a word, or words, and a number behind them
+-- one word or more, and a number
 abbrev pub entry : List ℕ → ℕ → List ℕ
 entry label number = label ++ codes " " ++ decimal number
 
--- what is counted
+-- the counts with their labels
 abbrev pub counts : Tally → List (List ℕ × ℕ)
 counts t =
     (codes "threads", t.threads)
@@ -26,17 +26,17 @@ counts t =
 abbrev pub counts_text : Tally → List ℕ
 counts_text t = flat_map (λ c. line (entry c.0 c.1)) (counts t)
 
-abbrev pub kind_word : Kind → List ℕ
-kind_word None = codes "none"
-kind_word Num = codes "num"
-kind_word ListKind = codes "list"
-kind_word File = codes "file"
-kind_word Sock = codes "sock"
-kind_word Any = codes "any"
+abbrev pub kind_name : Kind → List ℕ
+kind_name None = codes "none"
+kind_name Num = codes "num"
+kind_name ListKind = codes "list"
+kind_name File = codes "file"
+kind_name Sock = codes "sock"
+kind_name Any = codes "any"
 
 -- an object that is alive: its row and its kind
 abbrev pub left_text : Left → List ℕ
-left_text l = line (entry (codes "left") l.row ++ codes " " ++ kind_word l.kind)
+left_text l = line (entry (codes "left") l.row ++ codes " " ++ kind_name l.kind)
 
 abbrev pub tally_text : Tally → List ℕ
 tally_text t = counts_text t ++ flat_map left_text t.left

@@ -1,4 +1,4 @@
-//! What a run is told by: its tally, and the report that is the tally's one text.
+//! The tally of a run, and the report: the tally's one text.
 #![tactic(auto)]
 
 mod report;

@@ -1,18 +1,18 @@
-//! The bytes of a tally.
+//! The report of a tally, as bytes.
 
 ghost use Rattle.std.specs.Prelude.{◌≡◌, OnOk, OnErr};
 ghost use Rattle.std.specs.List.{flat_map};
 ghost use Rattle.std.specs.Io.KnownBytes.{Appends};
 ghost use Rattle.brc_lang.specs.Grammar.{line};
 ghost use Rattle.brc_lang.specs.Written.{AppendsBeginning};
-ghost use Rattle.brc_report.specs.Report.{entry, kind_word as kind_text, left_text, tally_text};
+ghost use Rattle.brc_report.specs.Report.{entry, kind_name as kind_name_text, left_text, tally_text};
 
 use crate::tally::{Left, Tally};
 use brc_lang::{Kind, write_bytes, write_number};
 use std::io;
 use std::io::Write;
 
-/// Writes the report. A call of the writer that takes no byte or is interrupted is a fault too, and is not tried again.
+/// Writes the report of the tally, with the errors of `brc_lang::write_bytes`.
 pub fn write_tally<W: Write>(tally: &Tally, writer: &mut W) -> io::Result<()>
     ensures whole { OnOk result (Appends (W.contents writer.old) (W.contents writer.new) (tally_text tally.now)) }
     ensures begun { OnErr result (AppendsBeginning (W.contents writer.old) (W.contents writer.new)
@@ -72,11 +72,11 @@ fn write_left<W: Write>(left: &Left, writer: &mut W) -> io::Result<()>
 {
     write_entry(b"left", u64::from(left.row), writer)?;
     write_bytes(b" ", writer)?;
-    write_bytes(kind_word(left.kind).as_bytes(), writer)?;
+    write_bytes(kind_name(left.kind).as_bytes(), writer)?;
     write_bytes(b"\n", writer)
 }
 
-/// Writes the label, a space and the number, as `write_tally` does.
+/// Writes the label, a space and the number, with the errors of `brc_lang::write_bytes`.
 pub fn write_entry<W: Write>(label: &[u8], number: u64, writer: &mut W) -> io::Result<()>
     ensures whole { OnOk result (Appends (W.contents writer.old) (W.contents writer.new) (entry label.now number)) }
     ensures begun { OnErr result (AppendsBeginning (W.contents writer.old) (W.contents writer.new)
@@ -87,8 +87,8 @@ pub fn write_entry<W: Write>(label: &[u8], number: u64, writer: &mut W) -> io::R
     write_number(number, writer)
 }
 
-fn kind_word(kind: Kind) -> &'static str
-    ensures { result.now ≡ kind_text kind }
+fn kind_name(kind: Kind) -> &'static str
+    ensures { result.now ≡ kind_name_text kind }
 {
     match kind {
         Kind::None => "none",

@@ -1,27 +1,31 @@
 use brc_lang::{Kind, Sequence};
 
-/// What a world comes to: its threads and its objects.
+/// The counts of a world: its threads and its objects.
 #[derive(Debug, Drop)]
 pub struct Tally {
-    /// The workers.
+    /// The number of workers.
     pub threads: u64,
-    /// The threads that aren't gone, main too.
+    /// The threads that haven't finished, main included.
     pub running: u64,
-    /// The counted objects that were born.
+    /// The objects created so far, without the immortal one.
     pub created: u64,
-    /// Created, and closed.
+    /// The created objects that have been deallocated.
     pub closed: u64,
-    /// Created, and not closed.
+    /// The created objects that haven't been deallocated.
     pub alive: u64,
+    /// The calls of the host that failed.
     pub host_faults: u64,
+    /// The calls of the host to close a resource that failed.
     pub close_faults: u64,
-    /// What is alive, by rising row.
+    /// The objects that are alive, by rising row.
     pub left: Sequence<Left>,
 }
 
-/// An object that is born, counted and not closed.
+/// An object that is alive.
 #[derive(Clone, Copy, Debug, PartialEq, Eq)]
 pub struct Left {
+    /// The object's row.
     pub row: u32,
+    /// The object's kind.
     pub kind: Kind,
 }

@@ -1,7 +1,8 @@
-pub mod Words
-pub mod Lines
-pub mod Machine
-pub mod LineToLine
-pub mod Uniqueness
-pub mod EachText
-pub mod OwnFaults
+mod Results
+mod Words
+mod Lines
+mod Machine
+mod LineToLine
+mod Uniqueness
+mod EachText
+mod OwnFaults

@@ -1,57 +1,37 @@
 -- From line to line of a schedule's text.
-use Rattle.std.proofs.Common.{◌≡◌, ℕ, ◌+◌, ◌^◌, ◌<◌, true, false, eqb, ◌&&◌, ◌⊎◌, List, [], ◌∷◌, ◌++◌, length, Some, Bor, Ok, Err, refl, sym, ap, subst, ◌∙◌, append_assoc, arith, inl, inr}
+use Rattle.std.proofs.Common.{◌≡◌, ℕ, ◌+◌, ◌^◌, ◌<◌, true, false, eqb, ◌&&◌, ◌⊎◌, List, [], ◌∷◌, ◌++◌, length, Some}
+use Rattle.std.proofs.Common.{Bor, Ok, Err, refl, sym, ap, subst, ◌∙◌, append_assoc, arith, inl, inr}
 use Rattle.std.specs.List.{list_any}
 use Rattle.std.proofs.lemmas.Bool.{leb-true}
-use Rattle.std.proofs.lemmas.List.{append-nil, length-append}
+use Rattle.std.proofs.lemmas.List.{append-nil, length-append, nil_from_length}
 use Rattle.brc_lang.specs.declared.fault.FaultCode.{FaultCode}
 use Rattle.brc_lang.specs.declared.fault.FaultCode.TheVariants.{CutOff, NoMemory}
-use Rattle.brc_lang.specs.declared.place.Place.{Place}
+use Rattle.brc_lang.specs.declared.cursor.Cursor.{Cursor}
 use Rattle.brc_lang.specs.Grammar.{line}
 use Rattle.brc_lang.specs.Fault.{words, is_line_feed, line_count}
 use Rattle.brc_lang.specs.Progress.{IsFirstLineOf}
-use Rattle.brc_lang.proofs.Lines.{line_any, line_before, line_count-append, line_count_one}
-use Rattle.brc_lang.proofs.Bodies.{at_place}
+use Rattle.brc_lang.specs.RoundTrips.{TextsRoundTrip}
 use Rattle.brc_schedule.specs.declared.beginning.Beginning.{Beginning}
 use Rattle.brc_schedule.specs.declared.beginning.Beginning.TheVariants.{Planned}
 use Rattle.brc_schedule.specs.declared.schedule.Schedule.{Schedule}
 use Rattle.brc_schedule.specs.Text.{text, IsSchedule, Spells}
 use Rattle.brc_schedule.specs.Fault.{next_of, is_whole, fault_in, fault_of, beginning, IsPlan, IsBeginning, IsFaultOf}
 use Rattle.brc_schedule.proofs.Lines.{next_spelled}
+use Rattle.brc_schedule.proofs.Results.{line_count-append}
 
-pub record IsReadTo (bytes : List ℕ) (b : Beginning) (p : Place) : Type 0 where
+-- ---- places
+
+abbrev pub at_cursor : Bor (List ℕ) → ℕ → Cursor
+at_cursor rest number = record { rest = rest; line = number }
+
+pub record IsReadTo (bytes : List ℕ) (b : Beginning) (p : Cursor) : Type 0 where
   pub fits : IsBeginning b
   pub parts : bytes ≡ beginning b ++ p.rest.now
-  pub place : p.line ≡ line_count (beginning b) + 1
-
-pub goes_on : (bytes : List ℕ) (b c : Beginning) (p : Place) (first : List ℕ) (rest : Bor (List ℕ)) → IsReadTo bytes b p
-    → IsFirstLineOf p.rest.now first rest.now → next_of b (words first) ≡ Ok c
-    → IsReadTo bytes c (at_place rest (p.line + 1))
-goes_on bytes b c p first rest so_far h e =
-    let next = next_spelled b c first so_far.fits e in
-    record {
-      fits = next.1;
-      parts =
-          so_far.parts ∙ ap (λ (x : List ℕ). beginning b ++ x) h.parts
-          ∙ sym (append_assoc (beginning b) (line first) rest.now)
-          ∙ ap (λ (x : List ℕ). x ++ rest.now) (sym next.0);
-      place =
-          omega (
-            arith,
-            so_far.place,
-            ap line_count next.0,
-            line_count-append (beginning b) (line first),
-            line_count_one first h.plain,
-          );
-    }
+  pub numbered : p.line ≡ line_count (beginning b) + 1
 
 -- ---- faults
 
-fault_at : (b : Beginning) (rest first below : List ℕ) → IsFirstLineOf rest first below
-    → fault_of b rest ≡ fault_in (next_of b (words first))
-fault_at b rest first below h =
-    ap (fault_of b) h.parts ∙ rw (line_any first below, line_before first below h.plain) refl
-
-fault_below : (bytes : List ℕ) (b : Beginning) (p : Place) (code : FaultCode) → IsReadTo bytes b p
+fault_below : (bytes : List ℕ) (b : Beginning) (p : Cursor) (code : FaultCode) → IsReadTo bytes b p
     → fault_of b p.rest.now ≡ Some code → IsFaultOf bytes (record { line = p.line; code = code })
 fault_below bytes b p code so_far h =
     inr (inr (record {
@@ -59,31 +39,19 @@ fault_below bytes b p code so_far h =
       rest = p.rest.now;
       above_fits = so_far.fits;
       parts = so_far.parts;
-      place =
-          so_far.place;
+      numbered =
+          so_far.numbered;
       fault = h;
     }))
 
-pub line_fault : (bytes : List ℕ) (b : Beginning) (p : Place) (first below : List ℕ) (code : FaultCode)
-    → IsReadTo bytes b p → IsFirstLineOf p.rest.now first below
-    → (code ≡ NoMemory) ⊎ (next_of b (words first) ≡ Err code)
-    → IsFaultOf bytes (record { line = p.line; code = code })
-line_fault bytes b p first below code so_far h (inl memory) = inl memory
-line_fault bytes b p first below code so_far h (inr e) =
-    fault_below bytes b p code so_far (fault_at b p.rest.now first below h ∙ ap fault_in e)
-
-pub cut_off : (bytes : List ℕ) (b : Beginning) (p : Place) → IsReadTo bytes b p
+pub cut_off : (bytes : List ℕ) (b : Beginning) (p : Cursor) → IsReadTo bytes b p
     → list_any is_line_feed p.rest.now ≡ false → (eqb (length p.rest.now) 0 && is_whole b) ≡ false
     → IsFaultOf bytes (record { line = p.line; code = CutOff })
 cut_off bytes b p so_far unended more = fault_below bytes b p CutOff so_far (rw (unended, more) refl)
 
 -- ---- the end
 
-none_left : (rest : List ℕ) → length rest ≡ 0 → rest ≡ []
-none_left [] e = refl
-none_left (c ∷ cs) e = absurd (omega arith)
-
-planned_end : (bytes : List ℕ) (s : Schedule) (p : Place) → IsReadTo bytes (Planned s) p → is_whole (Planned s) ≡ true
+planned_end : (bytes : List ℕ) (s : Schedule) (p : Cursor) → IsReadTo bytes (Planned s) p → is_whole (Planned s) ≡ true
     → length p.rest.now ≡ 0 → Spells bytes s
 planned_end bytes s p so_far whole end =
     let plan : IsPlan s = so_far.fits in
@@ -99,10 +67,10 @@ planned_end bytes s p so_far whole end =
     record {
       schedule_fits = fits;
       spelled =
-          so_far.parts ∙ ap (λ (x : List ℕ). text s ++ x) (none_left p.rest.now end) ∙ append-nil (text s);
+          so_far.parts ∙ ap (λ (x : List ℕ). text s ++ x) (nil_from_length p.rest.now end) ∙ append-nil (text s);
     }
 
-pub ends : (bytes : List ℕ) (b : Beginning) (s : Schedule) (p : Place) → IsReadTo bytes b p → b ≡ Planned s
+pub ends : (bytes : List ℕ) (b : Beginning) (s : Schedule) (p : Cursor) → IsReadTo bytes b p → b ≡ Planned s
     → is_whole b ≡ true → length p.rest.now ≡ 0 → Spells bytes s
 ends bytes b s p so_far is whole end =
     planned_end bytes s p (subst (λ (x : Beginning). IsReadTo bytes x p) is so_far) (ap is_whole (sym is) ∙ whole) end
@@ -114,3 +82,41 @@ pub line_room : (number : ℕ) (whole first below : List ℕ) → IsFirstLineOf 
 line_room number whole first below h room =
     let len : length whole ≡ length (line first ++ below) = ap length h.parts in
     omega (arith, length-append (line first) below, length-append first (10 ∷ []))
+
+-- ---- one line more
+
+module _ (laws : TextsRoundTrip) where
+  pub goes_on : (bytes : List ℕ) (b c : Beginning) (p : Cursor) (first : List ℕ) (rest : Bor (List ℕ))
+      → IsReadTo bytes b p
+      → IsFirstLineOf p.rest.now first rest.now → next_of b (words first) ≡ Ok c
+      → IsReadTo bytes c (at_cursor rest (p.line + 1))
+  goes_on bytes b c p first rest so_far h e =
+      let next = next_spelled laws b c first so_far.fits e in
+      record {
+        fits = next.1;
+        parts =
+            so_far.parts ∙ ap (λ (x : List ℕ). beginning b ++ x) h.parts
+            ∙ sym (append_assoc (beginning b) (line first) rest.now)
+            ∙ ap (λ (x : List ℕ). x ++ rest.now) (sym next.0);
+        numbered =
+            omega (
+              arith,
+              so_far.numbered,
+              ap line_count next.0,
+              line_count-append (beginning b) (line first),
+              laws.line_laws.counted first h.plain,
+            );
+      }
+
+  fault_at : (b : Beginning) (rest first below : List ℕ) → IsFirstLineOf rest first below
+      → fault_of b rest ≡ fault_in (next_of b (words first))
+  fault_at b rest first below h =
+      ap (fault_of b) h.parts ∙ rw (laws.line_laws.ended first below, laws.line_laws.first first below h.plain) refl
+
+  pub line_fault : (bytes : List ℕ) (b : Beginning) (p : Cursor) (first below : List ℕ) (code : FaultCode)
+      → IsReadTo bytes b p → IsFirstLineOf p.rest.now first below
+      → (code ≡ NoMemory) ⊎ (next_of b (words first) ≡ Err code)
+      → IsFaultOf bytes (record { line = p.line; code = code })
+  line_fault bytes b p first below code so_far h (inl memory) = inl memory
+  line_fault bytes b p first below code so_far h (inr e) =
+      fault_below bytes b p code so_far (fault_at b p.rest.now first below h ∙ ap fault_in e)

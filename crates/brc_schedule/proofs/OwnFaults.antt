@@ -1,21 +1,36 @@
--- The fault of a schedule's text is never want of memory.
+-- The fault of a schedule's text is never `NoMemory`.
 use Rattle.std.proofs.Common.{◌≢◌, ℕ, ◌+◌, ltb, leb, eqb, ◌&&◌, List, [], ◌∷◌, length, Some, None, Result, Ok, Err}
 use Rattle.std.proofs.Common.{sym, subst, inl, inr}
 use Rattle.std.specs.Prelude.{codes}
 use Rattle.std.specs.List.{list_any, before_first}
 use Rattle.std.specs.Str.{bytes_eq}
 use Rattle.brc_lang.specs.declared.fault.FaultCode.{FaultCode}
-use Rattle.brc_lang.specs.declared.fault.FaultCode.TheVariants.{UnknownWord, Number, CutOff, NoMemory}
+use Rattle.brc_lang.specs.declared.fault.FaultCode.TheVariants.{FirstLine, UnknownWord, Number, CutOff, NoMemory}
 use Rattle.brc_lang.specs.Grammar.{is_name}
-use Rattle.brc_lang.specs.Fault.{words, number_in, is_line_feed}
-use Rattle.brc_lang.proofs.OwnFaults.{IsOwn, IsOwnFault, own_then, own_either, own_fault_either, own_word, own_number}
-use Rattle.brc_lang.proofs.OwnFaults.{own_cut, own_first, number_own}
+use Rattle.brc_lang.specs.Fault.{words, number_in, is_line_feed, IsOwn, IsOwnFault}
 use Rattle.brc_model.specs.declared.thread.Choice.TheVariants as choices
+use Rattle.brc_model.specs.Limits.{worker_limit, row_limit, times_limit}
+use Rattle.brc_schedule.specs.Limits.{last_row}
 use Rattle.brc_schedule.specs.declared.beginning.Beginning.{Beginning}
 use Rattle.brc_schedule.specs.declared.beginning.Beginning.TheVariants.{Opened, Staffed, Planned}
 use Rattle.brc_schedule.specs.declared.schedule.Schedule.{Schedule}
 use Rattle.brc_schedule.specs.Fault.{number_between, size_in, name_in, call_in, choice_in, steps_in, planned_in}
 use Rattle.brc_schedule.specs.Fault.{next_of, is_whole, fault_in, fault_of, HasFault}
+use Rattle.brc_schedule.proofs.Results.{own_then, own_either, own_fault_either, number_own}
+
+-- ---- the faults that a schedule's text can have
+
+own_word : UnknownWord ≢ NoMemory
+own_word e = cc
+
+own_number : Number ≢ NoMemory
+own_number e = cc
+
+own_cut : CutOff ≢ NoMemory
+own_cut e = cc
+
+own_first : FirstLine ≢ NoMemory
+own_first e = cc
 
 -- ---- words
 
@@ -47,7 +62,7 @@ call_own worker (w ∷ turn ∷ name ∷ times ∷ []) =
     own_either (bytes_eq w (codes "call")) _ (Err UnknownWord)
     (own_then (number_between worker worker turn) _ (between_own worker worker turn) (λ t.
     own_then (name_in name) _ (name_own name) (λ n.
-    own_then (number_between 1 1000000 times) _ (between_own 1 1000000 times) (λ k. tt)))) own_word
+    own_then (number_between 1 times_limit times) _ (between_own 1 times_limit times) (λ k. tt)))) own_word
 call_own worker (w ∷ turn ∷ name ∷ times ∷ x ∷ ws) = own_word
 
 steps_own : (workers : ℕ) (ws : List (List ℕ)) → IsOwn (steps_in workers ws)
@@ -57,12 +72,12 @@ steps_own workers (w ∷ thread ∷ []) = own_word
 steps_own workers (w ∷ thread ∷ row ∷ []) =
     own_either (bytes_eq w (codes "claim")) _ (Err UnknownWord)
     (own_then (number_between 0 workers thread) _ (between_own 0 workers thread) (λ t.
-    own_then (number_between 0 32769 row) _ (between_own 0 32769 row) (λ r. tt))) own_word
+    own_then (number_between 0 last_row row) _ (between_own 0 last_row row) (λ r. tt))) own_word
 steps_own workers (w ∷ thread ∷ choice ∷ times ∷ []) =
     own_either (bytes_eq w (codes "step")) _ (Err UnknownWord)
     (own_then (number_between 0 workers thread) _ (between_own 0 workers thread) (λ t.
     own_then (choice_in choice) _ (choice_own choice) (λ c.
-    own_then (number_between 1 1000000 times) _ (between_own 1 1000000 times) (λ k. tt)))) own_word
+    own_then (number_between 1 times_limit times) _ (between_own 1 times_limit times) (λ k. tt)))) own_word
 steps_own workers (w ∷ thread ∷ choice ∷ times ∷ x ∷ ws) = own_word
 
 -- ---- lines
@@ -74,9 +89,10 @@ planned_own s ws =
     (own_then (steps_in s.workers ws) _ (steps_own s.workers ws) (λ steps. tt))
 
 next_own : (b : Beginning) (ws : List (List ℕ)) → IsOwn (next_of b ws)
-next_own Opened ws = own_then (size_in (codes "workers") 32 ws) _ (size_own (codes "workers") 32 ws) (λ workers. tt)
+next_own Opened ws = own_then (size_in (codes "workers") worker_limit ws) _
+    (size_own (codes "workers") worker_limit ws) (λ workers. tt)
 next_own (Staffed workers) ws =
-    own_then (size_in (codes "rows") 1024 ws) _ (size_own (codes "rows") 1024 ws) (λ rows. tt)
+    own_then (size_in (codes "rows") row_limit ws) _ (size_own (codes "rows") row_limit ws) (λ rows. tt)
 next_own (Planned s) ws = own_then (planned_in s ws) _ (planned_own s ws) (λ t. tt)
 
 line_own : (r : Result Beginning FaultCode) → IsOwn r → IsOwnFault (fault_in r)

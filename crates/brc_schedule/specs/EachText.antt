@@ -1,4 +1,4 @@
--- What a text is: a schedule's, or one with a fault.
+-- Each text spells a schedule or has a fault.
 use Rattle.std.specs.Prelude.{ℕ, List}
 use Rattle.brc_lang.specs.declared.fault.FaultCode.{FaultCode}
 use Rattle.brc_schedule.specs.declared.schedule.Schedule.{Schedule}

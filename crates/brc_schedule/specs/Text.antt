@@ -1,10 +1,12 @@
--- The one spelling of a schedule: ASCII lines, each ended by a line feed, of words that single spaces part.
+-- The one spelling of a schedule: ASCII lines, each with a line feed at its end, of words that single spaces separate.
 use Rattle.std.specs.Prelude.{◌≡◌, ℕ, ◌+◌, ◌<◌, ◌≤◌, IsTrue, List, [], ◌∷◌, ◌++◌, length, codes}
 use Rattle.std.specs.List.{flat_map, AllByRecursion}
 use Rattle.std.specs.Fmt.{decimal}
 use Rattle.brc_lang.specs.Grammar.{line, spaced, is_name}
 use Rattle.brc_model.specs.declared.thread.Choice.{Choice}
 use Rattle.brc_model.specs.declared.thread.Choice.TheVariants as choices
+use Rattle.brc_model.specs.Limits.{worker_limit, row_limit, times_limit}
+use Rattle.brc_schedule.specs.Limits.{last_row}
 use Rattle.brc_schedule.specs.declared.schedule.PlannedCall.{PlannedCall}
 use Rattle.brc_schedule.specs.declared.schedule.Schedule.{Schedule}
 use Rattle.brc_schedule.specs.declared.schedule.Steps.{Steps}
@@ -21,7 +23,7 @@ size_words name size = name ∷ decimal size ∷ []
 abbrev pub call_words : ℕ → PlannedCall → List (List ℕ)
 call_words worker call = codes "call" ∷ decimal worker ∷ call.name ∷ decimal call.times ∷ []
 
--- so many steps of a thread, by their choice
+-- some steps of a thread, by their choice
 abbrev pub words_of : ℕ → ℕ → Choice → List (List ℕ)
 words_of thread times choices.Ok = codes "step" ∷ decimal thread ∷ codes "ok" ∷ decimal times ∷ []
 words_of thread times choices.Fault = codes "step" ∷ decimal thread ∷ codes "fault" ∷ decimal times ∷ []
@@ -55,28 +57,27 @@ text s = first_line ++ workers_line s.workers ++ rows_line s.rows ++ calls_from 
 pub record IsPlannedCall (call : PlannedCall) : Type 0 where
   pub name : IsTrue (is_name call.name)
   pub some : 0 < call.times
-  pub most : call.times ≤ 1000000
+  pub most : call.times ≤ times_limit
 
--- a claim is one step, since its line says no number of times, of a row of the largest world: two rows, and 1024 for
--- each of 32 workers
+-- a claim is one step, since its line gives no number of times, at a row of the largest world
 abbrev pub IsChoiceOf : ℕ → Choice → Type 0
 IsChoiceOf times choices.Ok = Unit {0}
 IsChoiceOf times choices.Fault = Unit {0}
-IsChoiceOf times (choices.Claim row) = (times ≡ 1) × (row ≤ 32769)
+IsChoiceOf times (choices.Claim row) = (times ≡ 1) × (row ≤ last_row)
 
 -- steps of main or of a worker
 pub record AreSteps (workers : ℕ) (steps : Steps) : Type 0 where
   pub thread : steps.thread ≤ workers
   pub some : 0 < steps.times
-  pub most : steps.times ≤ 1000000
+  pub most : steps.times ≤ times_limit
   pub choice : IsChoiceOf steps.times steps.choice
 
 -- 1 to 32 workers, 1 to 1024 rows
 pub record AreSizes (workers rows : ℕ) : Type 0 where
   pub some_workers : 0 < workers
-  pub most_workers : workers ≤ 32
+  pub most_workers : workers ≤ worker_limit
   pub some_rows : 0 < rows
-  pub most_rows : rows ≤ 1024
+  pub most_rows : rows ≤ row_limit
 
 pub record IsSchedule (s : Schedule) : Type 0 where
   pub sizes : AreSizes s.workers s.rows

@@ -1,12 +1,12 @@
 use crate::schedule::Schedule;
 
-/// What stands above a line of a schedule's text.
+/// The text above a line of a schedule's text, as far as it has been read.
 #[derive(Debug, Drop)]
 pub enum Beginning {
-    /// The first line.
+    /// The first line alone.
     Opened,
-    /// The number of workers too.
+    /// The first line and the number of workers.
     Staffed { workers: u8 },
-    /// The number of rows too, and maybe calls and steps.
+    /// The numbers of workers and rows, and maybe calls and steps.
     Planned(Schedule),
 }

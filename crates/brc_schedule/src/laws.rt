@@ -1,4 +1,4 @@
-//! What holds of all schedules.
+//! Laws of all schedules. A function here does nothing: a call of it brings its law into a proof.
 
 ghost use Rattle.std.specs.Prelude.{◌≡◌, ◌≢◌, ◌⊎◌, ℕ, List};
 ghost use Rattle.brc_lang.specs.declared.fault.FaultCode.{FaultCode};
@@ -8,17 +8,23 @@ ghost use Rattle.brc_schedule.specs.Text.{Spells};
 ghost use Rattle.brc_schedule.specs.Fault.{HasFault};
 ghost use Rattle.brc_schedule.specs.EachText.{SpellsASchedule, HasAFault};
 
-/// A text spells one schedule at most, or has one fault at most, and not both.
+use brc_lang::texts_round_trip;
+
+/// Each text spells at most one schedule, or has at most one fault, and never both.
 pub fn one_schedule()
     ensures one_schedule { (bytes : List ℕ) (s t : Schedule) → Spells bytes s → Spells bytes t → s ≡ t }
     ensures one_fault { (bytes : List ℕ) (k l : ℕ) (c d : FaultCode) → HasFault bytes k c → HasFault bytes l d
         → (k ≡ l) × (c ≡ d) }
     ensures apart { (bytes : List ℕ) (s : Schedule) (line : ℕ) (code : FaultCode) → Spells bytes s
         → HasFault bytes line code → ⊥ }
-{}
+{
+    texts_round_trip();
+}
 
-/// Each text spells a schedule or has a fault. No fault of a text is want of memory.
+/// Each text spells a schedule or has a fault. A text's own fault is never `NoMemory`.
 pub fn each_text_reads()
     ensures a_schedule_or_a_fault { (bytes : List ℕ) → SpellsASchedule bytes ⊎ HasAFault bytes }
     ensures own_fault { (bytes : List ℕ) (line : ℕ) (code : FaultCode) → HasFault bytes line code → code ≢ NoMemory }
-{}
+{
+    texts_round_trip();
+}

@@ -1,4 +1,4 @@
-//! Schedules: the text that lists the workers of a world, their calls, and its single steps, one after another.
+//! Schedules: a text lists the workers of a world, their calls, and the world's single steps in order.
 #![tactic(auto)]
 
 mod beginning;

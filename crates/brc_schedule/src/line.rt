@@ -1,4 +1,4 @@
-//! What a single line of a schedule's text says.
+//! Single lines of a schedule's text.
 
 ghost use Rattle.std.specs.Prelude.{◌≡◌, ◌∷◌, [], ◌≤◌};
 ghost use Rattle.brc_lang.specs.Fault.{words};
@@ -8,13 +8,13 @@ use crate::schedule::{PlannedCall, Steps};
 use brc_lang::{FaultCode, Name, four_words, is_name, is_word, number, three_words, two_words};
 use brc_model::Choice;
 
-/// The most calls or steps that one line asks for.
+/// The greatest number of calls or steps of one line.
 const MOST_TIMES: u32 = 1_000_000;
 
-/// The last row of the largest world: two rows, and then 1024 for each of 32 workers.
+/// The last row of the largest world: row 0 is none, row 1 the root, and each of 32 workers has 1024 rows.
 const LAST_ROW: u32 = 32_769;
 
-/// The number behind this name, from 1 on.
+/// Reads a line of this name and a number from 1 to `most`. Returns `UnknownWord` or `Number`.
 pub fn size(name: &[u8], most: u32, text: &[u8]) -> Result<u32, FaultCode>
     ensures { result ≡ size_in name.now most (words text.now) }
 {
@@ -27,7 +27,7 @@ pub fn size(name: &[u8], most: u32, text: &[u8]) -> Result<u32, FaultCode>
     number_between(1, most, size)
 }
 
-/// The call of the worker whose turn it is.
+/// Reads the call of the worker whose turn it is, from 1. Returns `UnknownWord` or `Number`.
 pub fn planned_call(worker: u32, text: &[u8]) -> Result<PlannedCall, FaultCode>
     ensures { result ≡ call_in worker (words text.now) }
 {
@@ -48,7 +48,7 @@ pub fn planned_call(worker: u32, text: &[u8]) -> Result<PlannedCall, FaultCode>
     })
 }
 
-/// Steps of main or of one of the workers, or a claim of one of them.
+/// Reads the steps of a thread, or its claim. Returns `UnknownWord` or `Number`.
 pub fn steps(workers: u8, text: &[u8]) -> Result<Steps, FaultCode>
     ensures { result ≡ steps_in workers (words text.now) }
 {
@@ -71,7 +71,7 @@ pub fn steps(workers: u8, text: &[u8]) -> Result<Steps, FaultCode>
     })
 }
 
-/// One step, which looks whether the object of the row waits.
+/// Reads a claim: one step in which the thread tests and clears the mark of the row (PEP 703, merging queued objects).
 fn claim(workers: u8, word: &[u8], thread: &[u8], row: &[u8]) -> Result<Steps, FaultCode>
     ensures { result ≡ steps_in workers (word.now ∷ thread.now ∷ row.now ∷ []) }
 {
@@ -87,7 +87,7 @@ fn claim(workers: u8, word: &[u8], thread: &[u8], row: &[u8]) -> Result<Steps, F
     })
 }
 
-/// Main or a worker.
+/// Reads the number of a thread: 0 is main, and the workers follow.
 fn thread_of(workers: u8, thread: &[u8]) -> Result<u8, FaultCode>
     ensures { result ≡ number_between 0 workers thread.now }
 {

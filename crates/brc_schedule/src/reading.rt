@@ -12,7 +12,7 @@ ghost use Rattle.brc_schedule.specs.Fault.{next_of, planned_in, is_whole, HasFau
 use crate::beginning::Beginning;
 use crate::line::{planned_call, size, steps};
 use crate::schedule::Schedule;
-use brc_lang::{FaultCode, Place, ReadFault, Sequence, split_line};
+use brc_lang::{Cursor, FaultCode, ReadFault, Sequence, split_line, texts_round_trip};
 use std::alloc::Global;
 
 const FIRST_LINE: &[u8] = b"schedule 1\n";
@@ -21,23 +21,29 @@ const MOST_WORKERS: u32 = 32;
 
 const MOST_ROWS: u32 = 1024;
 
-/// The schedule that the bytes spell.
+/// Reads the schedule that the bytes spell.
+///
+/// Returns the first faulty line from the top and its fault, or `NoMemory` if memory was refused.
 pub fn read_schedule(alloc: Global, bytes: &[u8]) -> Result<Schedule, ReadFault>
-    // What is read is spelled so.
+    // The bytes are the schedule's one text.
     ensures found { IfOk result (λ s. Spells bytes.now s) }
-    // A fault is want of memory, or the one that the text has.
+    // A refusal is `NoMemory`, or names the one fault that the text has.
     ensures fault { IfErr result (λ e. IsFaultOf bytes.now e) }
-    // What is spelled so is read, unless memory runs out.
+    // The text of a schedule is read as that schedule, unless memory is refused.
     ensures only { (s : Schedule) → Spells bytes.now s → ReadsAs result s }
-    // A text with a fault is refused for it, unless memory runs out.
+    // A text with a fault is refused for it, unless memory is refused.
     ensures refused { (line : ℕ) (code : FaultCode) → HasFault bytes.now line code → Refuses result line code }
 {
+    // The call does nothing: it brings the law into the proof.
+    texts_round_trip();
     read_lines(alloc, bytes)
 }
 
 fn read_lines(alloc: Global, bytes: &[u8]) -> Result<Schedule, ReadFault>
     ensures { MatchResult result (λ s. Spells bytes.now s) (λ e. IsFaultOf bytes.now e) }
 {
+    // The call does nothing: it brings the law into the proof.
+    texts_round_trip();
     if !bytes.starts_with(FIRST_LINE) {
         return Err(ReadFault {
             line: 1,
@@ -45,26 +51,26 @@ fn read_lines(alloc: Global, bytes: &[u8]) -> Result<Schedule, ReadFault>
         });
     }
     let mut above = Beginning::Opened;
-    let mut place = Place {
+    let mut cursor = Cursor {
         rest: &bytes[FIRST_LINE.len()..],
         line: 2,
     };
-    while let Some((text, rest)) = split_line(place.rest) {
-        let line = place.line;
+    while let Some((text, rest)) = split_line(cursor.rest) {
+        let line = cursor.line;
         above = match next(alloc, above, text) {
             Ok(below) => below,
             Err(code) => return Err(ReadFault { line, code }),
         };
-        place = Place {
+        cursor = Cursor {
             rest,
             line: line + 1,
         };
     }
     let cut_off = ReadFault {
-        line: place.line,
+        line: cursor.line,
         code: FaultCode::CutOff,
     };
-    if !place.rest.is_empty() {
+    if !cursor.rest.is_empty() {
         return Err(cut_off);
     }
     match whole(above) {
@@ -73,7 +79,7 @@ fn read_lines(alloc: Global, bytes: &[u8]) -> Result<Schedule, ReadFault>
     }
 }
 
-/// What stands above the line below this one.
+/// Reads one line, and returns the text above the next line.
 fn next(alloc: Global, above: Beginning, text: &[u8]) -> Result<Beginning, FaultCode>
     ensures ok { IfOk result (λ below. next_of above (words text.now) ≡ Ok below) }
     ensures err { IfErr result (λ code. (code ≡ NoMemory) ⊎ (next_of above (words text.now) ≡ Err code)) }
@@ -101,7 +107,7 @@ fn next(alloc: Global, above: Beginning, text: &[u8]) -> Result<Beginning, Fault
     }
 }
 
-/// Puts the call or the steps of a line behind the others: first a call for each worker in turn, and then steps.
+/// Reads the call or the steps of a line and appends them: first a call for each worker in turn, and then steps.
 fn add_line(schedule: &mut Schedule, text: &[u8]) -> Result<(), FaultCode>
     ensures ok { OnOk result (planned_in schedule.old (words text.now) ≡ Ok schedule.new) }
     ensures err { IfErr result (λ code. (code ≡ NoMemory) ⊎ (planned_in schedule.old (words text.now) ≡ Err code)) }
@@ -115,7 +121,7 @@ fn add_line(schedule: &mut Schedule, text: &[u8]) -> Result<(), FaultCode>
     Ok(())
 }
 
-/// The schedule, where no call is missing.
+/// Returns the schedule if it has a call for each worker.
 fn whole(above: Beginning) -> Option<Schedule>
     ensures { MatchOption result (is_whole above ≡ false) (λ s. (above ≡ Planned s) × (is_whole above ≡ true)) }
 {

@@ -1,33 +1,34 @@
 use brc_lang::{Name, Sequence};
 use brc_model::Choice;
 
-/// A list of single steps over a module, with the workers that take them.
+/// The workers of a world, their calls, and the steps that the world takes in order.
 #[derive(Debug, Drop)]
 pub struct Schedule {
-    /// 1 to 32.
+    /// The number of workers, 1 to 32.
     pub workers: u8,
-    /// 1 to 1024 rows, for each worker.
+    /// The number of rows of each worker, 1 to 1024.
     pub rows: u16,
-    /// A call for each worker, in turn.
+    /// One call for each worker, in the order of the workers.
     pub calls: Sequence<PlannedCall>,
     /// The steps and claims, in order.
     pub steps: Sequence<Steps>,
 }
 
-/// What a worker is to do: so many calls of the function of this name.
+/// The calls of a worker: the function's name, and how often the worker calls it.
 #[derive(Clone, Copy, Debug)]
 pub struct PlannedCall {
     pub name: Name,
-    /// 1 to 1,000,000.
+    /// How often, 1 to 1,000,000.
     pub times: u32,
 }
 
-/// So many steps of one thread, with one choice: main is 0, the workers 1, 2, ..
+/// Several steps of one thread with the same choice.
 #[derive(Clone, Copy, Debug)]
 pub struct Steps {
+    /// Main is 0, the workers are 1, 2, ..
     pub thread: u8,
-    /// The row of a claim is 0 to 32769, as far as the largest world's rows go.
+    /// The choice of each step; the row of a claim is 0 to 32769, the last row of the largest world.
     pub choice: Choice,
-    /// 1 to 1,000,000; of a claim 1.
+    /// How many steps, 1 to 1,000,000; a claim is one step.
     pub times: u32,
 }

@@ -1,4 +1,4 @@
-//! Cases of single lines: each is the third of a text, above `fail`.
+//! Cases of single lines: each is the third line of a text, above `fail`.
 
 // Lines that are read.
 pub const READ: &str = "\

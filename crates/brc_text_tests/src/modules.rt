@@ -6,7 +6,7 @@ use std::test::Fail;
 
 const SMALLEST: &[u8; 25] = b"module 1\nfunc f\nfail\nend\n";
 
-// What is answered to a text: that it is read, or its fault as it prints.
+// The answer to a text: `read`, or its fault as it prints.
 fn answer(alloc: Global, text: &[u8]) -> Result<String, AllocError> {
     match read(alloc, text) {
         Ok(_) => format!(in alloc; "read"),
@@ -16,10 +16,10 @@ fn answer(alloc: Global, text: &[u8]) -> Result<String, AllocError> {
 
 const HEAD: &[u8] = b"module 1\nfunc f\n";
 
-// A line that stands above `fail`.
+// The lines below a case.
 const BELOW: &[u8] = b"\nfail\nend\n";
 
-// What stands above the cases, the cases, and what stands below them.
+// The text above the cases, the cases, and the text below them.
 const TABLES: [(&[u8], &str, &[u8]); 10] = [
     (b"", MODULES, b""),
     (HEAD, READ, BELOW),
@@ -33,8 +33,8 @@ const TABLES: [(&[u8], &str, &[u8]); 10] = [
     (HEAD, EARLIER, b""),
 ];
 
-// The first case that is answered otherwise. A case is the answer, a colon and a part of a text, with a bar for each
-// line feed; the whole text has the front above it and the back below.
+// The first case with another answer. A case is the answer, a colon and a part of a text, with a bar for each line
+// feed; the whole text has the front above it and the back below.
 fn first_other<'a>(
     alloc: Global,
     front: &[u8],
@@ -95,7 +95,7 @@ line 5 L7: module 1|func f|fail|end|func f
 ";
 
 #[test]
-fn answers_to_texts(rt: HostRuntime) -> Result<(), Fail> {
+fn faults_of_texts(rt: HostRuntime) -> Result<(), Fail> {
     for (front, cases, back) in TABLES {
         assert_eq!(rt; first_other(rt.alloc(), front, cases, back)?, None);
     }
@@ -158,7 +158,7 @@ fn reads_each_instruction(rt: HostRuntime) {
     }
 }
 
-// The first front of the smallest text that isn't refused where it is cut.
+// The length of the first prefix of the smallest text with another answer.
 fn first_other_front(alloc: Global) -> Result<Option<usize>, AllocError> {
     for len in 0..SMALLEST.len() {
         let wanted = match len {
@@ -174,7 +174,7 @@ fn first_other_front(alloc: Global) -> Result<Option<usize>, AllocError> {
     Ok(None)
 }
 
-// Functions named `f00`, `f01` and so on, each of this first line and so many times `fail`, and what stands below them.
+// Functions named `f00`, `f01` and so on, each with this first line and then `fails` times `fail`, and the text below.
 fn many(
     alloc: Global,
     functions: u8,
@@ -206,7 +206,7 @@ fn many(
     Ok(text)
 }
 
-// How many functions, the first line of each, how many times `fail`, what stands below them, and the answer.
+// The number of functions, the first line of each, how often `fail` follows, the text below them, and the answer.
 type Size = (u8, &'static [u8], usize, &'static [u8], &'static str);
 
 const SIZES: [Size; 8] = [
@@ -220,7 +220,7 @@ const SIZES: [Size; 8] = [
     (1, b"goto @0\n", 256, b"", "line 259 L6"),
 ];
 
-// The first size that is answered otherwise.
+// The first size with another answer.
 fn first_other_size(alloc: Global) -> Result<Option<(u8, usize)>, AllocError> {
     for (functions, first, fails, below, wanted) in SIZES {
         let text = many(alloc, functions, first, fails, below)?;
@@ -249,7 +249,7 @@ fn reads_and_writes_the_largest_module(rt: HostRuntime) -> Result<(), Fail> {
     Ok(())
 }
 
-// How many items a list has after so many were put at its end.
+// The number of items of a list to which `count` items were appended.
 fn pushed(alloc: Global, count: u32) -> Result<usize, AllocError> {
     let mut items = Sequence::new(alloc);
     for item in 0..count {

@@ -59,7 +59,7 @@ fn reports_what_is_left(rt: HostRuntime) -> Result<(), Fail> {
     Ok(())
 }
 
-// A writer that takes all gets the greatest numbers too.
+// The greatest numbers are written too.
 #[test]
 fn reports_the_greatest_numbers(rt: HostRuntime) -> Result<(), Fail> {
     let left = [Left {

@@ -7,7 +7,7 @@ use std::test::*;
 /// Two workers and their calls.
 const TWO_WORKERS: &[u8] = b"schedule 1\nworkers 2\nrows 4\ncall 1 f 1\ncall 2 f 1\n";
 
-// What is answered to a text: that it is read, or its fault as it prints.
+// The answer to a text: `read`, or its fault as it prints.
 fn answer(alloc: Global, text: &[u8]) -> Result<String, AllocError> {
     match read_schedule(alloc, text) {
         Ok(_) => format!(in alloc; "read"),
@@ -15,8 +15,8 @@ fn answer(alloc: Global, text: &[u8]) -> Result<String, AllocError> {
     }
 }
 
-// The first case that is answered otherwise. A case is the answer, a colon and what stands below the front, with a bar
-// for each line feed.
+// The first case with another answer. A case is the answer, a colon and the text below the front, with a bar for each
+// line feed.
 fn first_other<'a>(
     alloc: Global,
     front: &[u8],
@@ -37,7 +37,7 @@ fn first_other<'a>(
     Ok(None)
 }
 
-// Sizes and calls. No claim stands above the last call.
+// Sizes and calls. No claim is above the last call.
 const TOP: &str = "\
 line 1 L1: schedule 1
 line 1 L1: schedule 2|
@@ -148,7 +148,7 @@ fn reads_each_line(rt: HostRuntime) {
     assert!(rt; reads_as(rt.alloc(), two, (2, 4), &calls, &steps));
 }
 
-// The most workers and rows, and so many times two lines below the calls.
+// The most workers and rows, and two lines below the calls that are repeated `times` times.
 fn largest(alloc: Global, times: usize) -> Result<Vec<u8>, Fail> {
     let mut text = Vec::from_slice(alloc, b"schedule 1\nworkers 32\nrows 1024\n")?;
     for worker in 1..=32 {
@@ -162,7 +162,7 @@ fn largest(alloc: Global, times: usize) -> Result<Vec<u8>, Fail> {
     Ok(text)
 }
 
-// How many calls and lines of steps a text is read as.
+// The numbers of calls and of lines of steps in a text.
 fn lengths(alloc: Global, text: &[u8]) -> Option<(usize, usize)> {
     let schedule = read_schedule(alloc, text).ok()?;
     Some((schedule.calls.len(), schedule.steps.len()))

@@ -22,7 +22,7 @@ line 5 L4: num v1 1 else @2|fail|end|
 line 9 L4: goto @1|fail|end|func g|fail|goto @255|end|end|
 ";
 
-// Targets are looked at where a function ends, below every other line of it.
+// Targets are checked at the end of a function, after every other line of it.
 pub const EARLIER: &str = "\
 line 4 L2: goto @0|drop|end|
 line 4 L3: goto @9|num v16 1 else @1|end|

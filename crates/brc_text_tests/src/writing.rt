@@ -4,7 +4,7 @@ use std::io;
 use std::io::{ErrorKind, Write};
 use std::test::Fail;
 
-// What a writer answers once it takes no more.
+// The answer of a writer that takes no more bytes.
 #[derive(Clone, Copy, Debug)]
 enum Stop {
     TakesNone,
@@ -60,7 +60,7 @@ fn written(alloc: Global, table: &[(&[u8], &[Instr])]) -> Result<Vec<u8>, Fail> 
 }
 
 #[test]
-fn gives_each_instruction(rt: HostRuntime) -> Result<(), Fail> {
+fn writes_each_instruction(rt: HostRuntime) -> Result<(), Fail> {
     let (low, high) = (Variable::new(0), Variable::new(15));
     let counted = [
         Instr::Newref {
@@ -100,7 +100,7 @@ fn gives_each_instruction(rt: HostRuntime) -> Result<(), Fail> {
     Ok(())
 }
 
-// Whether the smallest module is written over a writer that takes so many bytes, and what it takes.
+// Whether the smallest module is written over a writer that takes `left` bytes, and the bytes that it takes.
 fn over_narrow(alloc: Global, stop: Stop, left: usize) -> Result<(bool, Vec<u8>), AllocError> {
     let mut functions = Sequence::new(alloc);
     functions.push(function(alloc, b"f", &[Instr::Fail])?)?;
@@ -114,7 +114,7 @@ fn over_narrow(alloc: Global, stop: Stop, left: usize) -> Result<(bool, Vec<u8>)
 }
 
 #[test]
-fn stops_at_the_first_fault(rt: HostRuntime) -> Result<(), Fail> {
+fn stops_at_the_first_error(rt: HostRuntime) -> Result<(), Fail> {
     let text = b"module 1\nfunc f\nfail\nend\n";
     for stop in [Stop::TakesNone, Stop::Interrupts] {
         for most in 0..=text.len() {
@@ -130,7 +130,7 @@ fn stops_at_the_first_fault(rt: HostRuntime) -> Result<(), Fail> {
 }
 
 #[test]
-fn gives_numbers(rt: HostRuntime) -> Result<(), Fail> {
+fn writes_numbers(rt: HostRuntime) -> Result<(), Fail> {
     let cases = [
         (0, "0"),
         (15, "15"),

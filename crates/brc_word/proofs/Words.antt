@@ -1,5 +1,6 @@
--- Words are those of one header, and headers have words.
-use Rattle.std.proofs.Common.{◌≡◌, ◌≢◌, ℕ, zero, suc, ◌+◌, ◌-◌, ◌*◌, ◌/◌, ◌%◌, ◌^◌, ◌<◌, inl, inr, Option, None, Some, refl, arith, ap, ◌∙◌, lit<}
+-- Each word is that of one header, and each header has a word.
+use Rattle.std.proofs.Common.{◌≡◌, ◌≢◌, ℕ, zero, suc, ◌+◌, ◌-◌, ◌*◌, ◌/◌, ◌%◌, ◌^◌, ◌<◌, inl, inr, Option, None, Some}
+use Rattle.std.proofs.Common.{refl, arith, ap, ◌∙◌, lit<}
 use Rattle.std.specs.Prelude.{ℤ, pos, negsuc, ◌+ℤ◌, ◌-ℤ◌, ◌*ℤ◌}
 use Rattle.std.proofs.lemmas.Int.{ints}
 use Rattle.brc_word.specs.declared.shared.Phase.{Phase}

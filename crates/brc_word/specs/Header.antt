@@ -1,5 +1,6 @@
 -- The header of a counted object: its owner and the local count in one word, the shared count and the phase in another.
-use Rattle.std.specs.Prelude.{◌≡◌, ℕ, ◌+◌, ◌-◌, ◌*◌, ◌^◌, ◌<◌, ◌≤◌, ◌⊎◌, Bool, true, false, IsTrue, Option, None, Some, ℤ, pos, neg_ℤ, ◌+ℤ◌, ◌-ℤ◌, ◌*ℤ◌, ◌≤ℤ◌, ◌<ℤ◌}
+use Rattle.std.specs.Prelude.{◌≡◌, ℕ, ◌+◌, ◌-◌, ◌*◌, ◌^◌, ◌<◌, ◌≤◌, ◌⊎◌, Bool, true, false, IsTrue, Option, None, Some}
+use Rattle.std.specs.Prelude.{ℤ, pos, neg_ℤ, ◌+ℤ◌, ◌-ℤ◌, ◌*ℤ◌, ◌≤ℤ◌, ◌<ℤ◌}
 use Rattle.brc_word.specs.declared.choice.LocalChoice.{LocalChoice}
 use Rattle.brc_word.specs.declared.choice.LocalChoice.TheVariants.{Store}
 use Rattle.brc_word.specs.declared.shared.Phase.{Phase}
@@ -15,7 +16,7 @@ abbrev pub IsLocal : Option ℕ → ℕ → Type 0
 IsLocal None local = local ≡ 0
 IsLocal (Some thread) local = (thread ≤ 32) × (local < 2 ^ 32)
 
--- nobody is 0, and a thread stands above the local count, one up
+-- nobody is 0; the number of a thread, plus 1, is above the local count
 abbrev pub word_of : Option ℕ → ℕ → ℕ
 word_of None local = 0
 word_of (Some thread) local = (thread + 1) * 2 ^ 32 + local
@@ -36,11 +37,11 @@ abbrev pub owned : Option ℕ → ℕ → Option (ℕ × ℕ)
 owned None local = None
 owned (Some thread) local = Some (thread, local)
 
--- an object that is never counted, and lives for ever
+-- an immortal object
 abbrev pub IsImmortal : ℕ → Type 0
 IsImmortal local = local ≡ 2 ^ 32 - 1
 
--- a word of no object that is immortal
+-- the word of an object that isn't immortal
 abbrev pub IsMortalWord : ℕ → Type 0
 IsMortalWord word = OfHeader word (λ owner local. ¬ IsImmortal local)
 
@@ -56,13 +57,13 @@ state_of Merged = 3
 abbrev pub IsCount : ℤ → Type 0
 IsCount count = (neg_ℤ (pos (2 ^ 40)) ≤ℤ count) × (count <ℤ pos (2 ^ 40))
 
--- the count, raised so that it isn't below zero, stands above the state
+-- the count, raised so that it isn't negative, is above the state
 abbrev pub IsSharedWord : ℕ → Shared → Type 0
 IsSharedWord word shared = pos word ≡ (shared.count +ℤ pos (2 ^ 40)) *ℤ pos 4 +ℤ pos (state_of shared.phase)
 
 -- ---- both
 
--- how many references a header counts
+-- the number of references that a header counts
 abbrev pub total : ℕ → ℤ → ℤ
 total local count = pos local +ℤ count
 
@@ -71,7 +72,7 @@ abbrev pub MovesTotal : ℕ → ℕ → ℤ → Type 0
 MovesTotal word next step = OfHeader word (λ owner local. OfHeader next (λ owner' local'.
     (owner' ≡ owner) × ((count : ℤ) → total local' count ≡ total local count +ℤ step)))
 
--- ---- what a change of a count does
+-- ---- changes of a count
 
 -- the thread is the owner and runs, so that it may change the local count
 abbrev pub MayCount : Option ℕ → ℕ → Bool → Type 0
@@ -85,12 +86,12 @@ abbrev pub is_store : LocalChoice → Bool
 is_store (Store next) = true
 is_store _ = false
 
--- a fact about the word that is stored, where one is
+-- a fact about the word that is stored, if one is
 abbrev pub IfStored : LocalChoice → (ℕ → Type 0) → Type 0
 IfStored (Store next) P = P next
 IfStored _ P = Unit {0}
 
--- the shared field has nothing to give back, and its owner wasn't asked yet to merge the counts
+-- the shared count is 0, and nobody has queued the object
 abbrev pub at_zero : Shared
 at_zero = record { count = pos 0; phase = Default }
 

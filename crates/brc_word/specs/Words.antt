@@ -1,20 +1,20 @@
 -- The words of a header. (PEP 703, Biased Reference Counting: an owning thread, a local count that only the owner
 -- changes, and a shared field of a count and a state in its two lowest bits.)
-use Rattle.std.specs.Prelude.{ℕ, ◌+◌, ◌-◌, ◌*◌, ◌/◌, ◌%◌, Bool, ◌==◌, if◌then◌else◌}
+use Rattle.std.specs.Prelude.{ℕ, ◌+◌, ◌-◌, ◌*◌, ◌/◌, ◌%◌, ◌^◌, Bool, ◌==◌, if◌then◌else◌}
 
--- 2^32: half a word has as many values
+-- the number of values of half a word
 abbrev pub half : ℕ
-half = 4294967296
+half = 2 ^ 32
 
--- the highest local count: an immortal object's
+-- the local count of an immortal object, which is the greatest
 abbrev pub immortal_local : ℕ
-immortal_local = 4294967295
+immortal_local = 2 ^ 32 - 1
 
--- an owner counts locally below this, so that its count never becomes the immortal one
+-- below this the owner counts locally, so that no object becomes immortal by counting
 abbrev pub most_local : ℕ
-most_local = 4294967294
+most_local = 2 ^ 32 - 2
 
--- 0 where nobody owns the object, else the owner's number and 1
+-- 0 if nobody owns the object, and otherwise 1 more than the owner's number
 abbrev pub owner_part : ℕ → ℕ
 owner_part word = word / half
 
@@ -24,11 +24,11 @@ local_part word = word % half
 abbrev pub local_word : ℕ → ℕ → ℕ
 local_word owner local = (owner + 1) * half + local
 
--- an immortal object's local count is the highest: it is never changed
+-- an immortal object has the greatest local count, which no thread changes
 abbrev pub is_immortal_word : ℕ → Bool
 is_immortal_word word = local_part word == immortal_local
 
--- the shared count with 2^40 added, so that it is no negative number
+-- the shared count plus 2^40, so that it isn't negative
 abbrev pub biased_part : ℕ → ℕ
 biased_part word = word / 4
 
@@ -36,19 +36,19 @@ biased_part word = word / 4
 abbrev pub phase_part : ℕ → ℕ
 phase_part word = word % 4
 
--- the biased count that stands for 0
+-- the biased count of the shared count 0
 abbrev pub bias : ℕ
-bias = 1099511627776
+bias = 2 ^ 40
 
 -- count 0, default
 abbrev pub fresh_word : ℕ
-fresh_word = 4398046511104
+fresh_word = bias * 4
 
--- count 0, merged: nobody counts the object any more
+-- count 0, merged: no reference is left
 abbrev pub dead_word : ℕ
-dead_word = 4398046511107
+dead_word = bias * 4 + 3
 
--- a release by another than the running owner: (0, default) is queued, any other loses one
+-- a release by a thread that isn't the running owner: (0, default) is queued, and otherwise one is subtracted
 abbrev pub released_word : ℕ → ℕ
 released_word word = if word == fresh_word then word + 2 else word - 4
 
@@ -65,12 +65,12 @@ free_word = 1
 abbrev pub dying_word : ℕ → ℕ → ℕ
 dying_word thread next = (thread + 1) * half + next
 
--- the next of the chain: its row and 1, or 0 at the end
+-- the next object of the chain: 1 more than its row, or 0 at the end
 abbrev pub next_part : ℕ → ℕ
 next_part word = word % half
 
 abbrev pub closed_word : ℕ
-closed_word = 9223372036854775808
+closed_word = 2 ^ 63
 
 abbrev pub kind_part : ℕ → ℕ
 kind_part word = word / half

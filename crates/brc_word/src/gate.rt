@@ -1,15 +1,15 @@
-//! The gate of an object, which says how far its close has come.
+//! The gate of an object: free, dying in the chain of a thread, or closed.
 
 ghost use Rattle.std.specs.Prelude.{◌≡◌, ◌≢◌, ◌==◌};
 ghost use Rattle.brc_word.specs.Words.{dying_word, next_part, closed_word};
 
-/// The thread of a dying object stands above the next object of its chain.
+/// In the gate of a dying object the thread is above the next object of its chain.
 const CHAINED: u64 = 1 << 32;
-/// The gate of an object that is closed.
+/// The gate of a closed object.
 const CLOSED: u64 = 1 << 63;
 
-/// The gate of an object that dies, in the chain of the thread that closes it: `next` is the row of the next object of
-/// the chain and 1, or 0 at its end.
+/// Returns the gate of a dying object, in the chain of the thread that deallocates it. `next` is 1 more than the row of
+/// the next object of the chain, or 0 at its end.
 pub fn dying(thread: u8, next: u32) -> u64
     ensures word { result ≡ dying_word thread next }
     ensures chain { next_part result ≡ next }
@@ -18,21 +18,21 @@ pub fn dying(thread: u8, next: u32) -> u64
     (u64::from(thread) + 1) * CHAINED + u64::from(next)
 }
 
-/// The next object of the chain, by the gate of a dying one: its row and 1, or 0 at the end.
+/// Returns the next object of the chain from the gate of a dying object: 1 more than its row, or 0 at the end.
 pub fn next_of_dying(word: u64) -> u32
     ensures { result ≡ next_part word }
 {
     (word % CHAINED) as u32
 }
 
-/// The gate of an object that is closed.
+/// Returns the gate of a closed object.
 pub fn closed() -> u64
     ensures { result ≡ closed_word }
 {
     CLOSED
 }
 
-/// Whether the gate is that of an object that is closed.
+/// Returns whether the gate is that of a closed object.
 pub fn is_closed(word: u64) -> bool
     ensures { result ≡ (word == closed_word) }
 {

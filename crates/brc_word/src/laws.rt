@@ -1,13 +1,16 @@
-//! What holds of all words, whatever is done with them.
+//! Laws of all words. A function here does nothing: a call of it brings its law into a proof.
 
-ghost use Rattle.std.specs.Prelude.{◌≡◌, ◌≢◌, ℕ, ◌+◌, ◌^◌, ◌%◌, ◌≤◌, ◌<◌, ◌↔◌, ◌==◌, ◌&&◌, nat_lt, pos, ◌+ℤ◌, Bool, Option, None, IsTrue};
+ghost use Rattle.std.specs.Prelude.{◌≡◌, ◌≢◌, ℕ, ◌+◌, ◌^◌, ◌%◌, ◌≤◌, ◌<◌, ◌↔◌, ◌==◌, ◌&&◌, nat_lt, pos, ◌+ℤ◌, Bool};
+ghost use Rattle.std.specs.Prelude.{Option, None, IsTrue};
 ghost use Rattle.brc_word.specs.declared.shared.Shared.{Shared};
-ghost use Rattle.brc_word.specs.Header.{IsLocalWord, IsHeaderWord, OfHeader, IsImmortal, MayCount, HasRoom, IsCount, IsSharedWord, state_of, total, at_zero, at_end, after_choice};
-ghost use Rattle.brc_word.specs.Words.{owner_part, local_part, local_word, is_immortal_word, biased_part, phase_part, fresh_word, dead_word, released_word, merged_word};
+ghost use Rattle.brc_word.specs.Header.{IsLocalWord, IsHeaderWord, OfHeader, IsImmortal, MayCount, HasRoom, IsCount};
+ghost use Rattle.brc_word.specs.Header.{IsSharedWord, state_of, total, at_zero, at_end, after_choice};
+ghost use Rattle.brc_word.specs.Words.{owner_part, local_part, local_word, is_immortal_word, most_local, biased_part};
+ghost use Rattle.brc_word.specs.Words.{phase_part, fresh_word, dead_word, released_word, merged_word};
 
 use crate::shared::{Phase, SharedChoice};
 
-/// A local word is that of one owner and one local count, and each word of a header is one.
+/// Each local word has one owner and one local count, and each word of a header is a local word.
 pub fn header_words()
     ensures spelled { (word : ℕ) → IsHeaderWord word
         → (owner : Option ℕ) × (local : ℕ) × IsLocalWord word owner local }
@@ -18,8 +21,8 @@ pub fn header_words()
         → (owner ≡ owner') × (local ≡ local') }
 {}
 
-/// Packing and unpacking undo each other: a word below 2^43 whose state is not the unused one is the word of one shared
-/// field, each shared field has such a word, and no other word is that of a shared field.
+/// Packing and unpacking are inverse: each shared field has one word, below 2^43 and not of the unused state, and each
+/// such word is that of one shared field.
 pub fn pack_and_unpack()
     ensures packed { (shared : Shared) → IsCount shared.count
         → (word : ℕ) × IsSharedWord word shared }
@@ -31,7 +34,7 @@ pub fn pack_and_unpack()
         → IsSharedWord word shared → IsSharedWord word other → shared ≡ other }
 {}
 
-/// The parts of a local word, and the tests of them, are those of the header that the word is of.
+/// The parts of a local word, and the tests of them, are those of its header.
 pub fn local_words_are_headers()
     ensures spelled { (thread local : ℕ) → thread ≤ 32 → local < 2 ^ 32
         → IsLocalWord (local_word thread local) (Some thread) local }
@@ -44,11 +47,10 @@ pub fn local_words_are_headers()
     ensures counts { (word thread : ℕ) (running : Bool) → OfHeader word (λ owner local.
         IsTrue (running && (owner_part word == thread + 1)) ↔ MayCount owner thread running) }
     ensures room { (word : ℕ) → OfHeader word (λ owner local.
-        IsTrue (nat_lt (local_part word) 4294967294) ↔ HasRoom local) }
+        IsTrue (nat_lt (local_part word) most_local) ↔ HasRoom local) }
 {}
 
-/// The parts of a shared word, and what a release and a merge make of it, are those of the shared field that the word
-/// is of.
+/// The parts of a shared word, and its changes by a release and a merge, are those of its shared field.
 pub fn shared_words_are_headers()
     ensures count { (word : ℕ) (shared : Shared) → IsCount shared.count → IsSharedWord word shared
         → pos (biased_part word) ≡ shared.count +ℤ pos (2 ^ 40) }

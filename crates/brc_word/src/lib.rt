@@ -1,8 +1,9 @@
-//! The two words of a biased reference count, and what a count that goes up or down does to them.
+//! The two words of a biased reference count (PEP 703, Biased Reference Counting), and how retains, releases and merges
+//! change them.
 //!
-//! An object has an owner, which is a thread or nobody, and a local count that the owner alone changes: the local word.
-//! Every thread may change the shared field: a count, and how far the merge of the two counts has come. How many
-//! references there are is the sum of the two counts; the shared one alone may be below zero.
+//! The local word has the object's owner, a thread or nobody, and the local count, which only the owner changes. Every
+//! thread may change the shared word, which has the shared count and the state: default, queued or merged. The sum of
+//! the two counts is the number of references; the shared count alone may be negative.
 #![tactic(auto)]
 
 mod choice;

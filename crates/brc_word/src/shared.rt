@@ -2,39 +2,39 @@ ghost use Rattle.std.specs.Prelude.{◌≡◌, ◌≢◌, ◌^◌, ◌%◌, ◌�
 ghost use Rattle.brc_word.specs.declared.shared.Shared.{Shared};
 ghost use Rattle.brc_word.specs.Header.{IsCount, IsSharedWord, total, at_zero, after_choice};
 
-/// How far the merge of the owner's count into the shared one has come.
+/// The state of an object's shared field (PEP 703, Biased Reference Counting). States only rise.
 #[derive(Clone, Copy, Debug, PartialEq, Eq)]
 pub enum Phase {
-    /// The owner counts in the local word, and nobody asked it to merge.
+    /// The owner counts in the local word, and nobody has queued the object.
     Default,
-    /// The object waits in its owner's queue to be merged.
+    /// The object is in its owner's queue of objects to be merged.
     Queued,
-    /// Nobody owns the object any longer: all references are in the shared count.
+    /// Nobody owns the object: the shared count has all references.
     Merged,
 }
 
-/// The shared field. Its count may be below zero while the local count is above.
+/// The shared field. Its count may be negative while the local count is positive.
 #[derive(Clone, Copy, Debug, PartialEq, Eq)]
 pub struct Shared {
     pub count: i64,
     pub phase: Phase,
 }
 
-/// What giving up a shared reference does to the shared field.
+/// The change of the shared field by a release.
 #[derive(Clone, Copy, Debug, PartialEq, Eq)]
 pub enum SharedChoice {
-    /// The count goes down by one.
+    /// Subtract one from the count.
     Subtract,
-    /// The phase becomes `Queued`, and the reference goes to the owner's queue.
+    /// Set the state to `Queued`: the reference goes to the owner's queue, and the owner will merge.
     Queue,
 }
 
-/// What is added to a count, so that none is below zero.
+/// Added to the count, so that the word's count is never negative.
 const RAISED: i64 = 1 << 40;
-/// One more than the largest word.
+/// One more than the greatest word.
 const WORDS: u64 = 1 << 43;
 
-/// The word of the shared field.
+/// Returns the word of the shared field, whose count is from -2^40 to 2^40 - 1.
 pub fn pack(shared: Shared) -> u64
     requires { IsCount shared.count }
     ensures word { IsSharedWord result shared }
@@ -48,7 +48,7 @@ pub fn pack(shared: Shared) -> u64
     (shared.count + RAISED) as u64 * 4 + state
 }
 
-/// The shared field of a word, or `None` where the word is that of no shared field.
+/// Returns the shared field of a word, or `None` for the unused state and for words of 2^43 and more.
 pub fn unpack(word: u64) -> Option<Shared>
     ensures some { IsSome result
         ↔ ((shared : Shared) × IsCount shared.count × IsSharedWord word shared) }
@@ -70,7 +70,8 @@ pub fn unpack(word: u64) -> Option<Shared>
     Some(Shared { count, phase })
 }
 
-/// What giving up a shared reference does.
+/// Returns how a release by a thread that isn't the running owner changes the shared field: at count 0 and state
+/// default the object is queued, and otherwise one is subtracted (PEP 703, Biased Reference Counting).
 pub fn release_choice(shared: Shared) -> SharedChoice
     ensures queue { (result ≡ SharedChoice.Queue) ↔ (shared ≡ at_zero) }
     ensures subtract { (result ≡ SharedChoice.Subtract) ↔ (shared ≢ at_zero) }
@@ -86,7 +87,7 @@ pub fn release_choice(shared: Shared) -> SharedChoice
     }
 }
 
-/// The shared field once nobody owns the object, which had so many local references.
+/// Returns the merged shared field, to whose count the local count is added (PEP 703, Biased Reference Counting).
 pub fn merge_word(shared: Shared, local: u32) -> Shared
     requires { IsCount (total local shared.count) }
     ensures kept { total 0 result.count ≡ total local shared.count }

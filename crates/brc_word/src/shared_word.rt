@@ -1,21 +1,22 @@
-//! What each change and each test of the shared word finds and leaves.
+//! The changes and the tests of the shared word.
 
 ghost use Rattle.std.specs.Prelude.{◌≡◌, ◌≢◌, ◌+◌, ◌*◌, ◌≤◌, ◌<◌, ◌==◌, ◌↔◌, pos, ◌+ℤ◌, IsTrue};
 ghost use Rattle.brc_word.specs.declared.shared.Shared.{Shared};
 ghost use Rattle.brc_word.specs.Header.{IsCount, IsSharedWord, total, at_zero, at_end, after_choice};
-ghost use Rattle.brc_word.specs.Words.{biased_part, phase_part, bias, fresh_word, dead_word, released_word, merged_word};
+ghost use Rattle.brc_word.specs.Words.{biased_part, phase_part, bias, fresh_word, dead_word, released_word};
+ghost use Rattle.brc_word.specs.Words.{merged_word};
 
 use crate::shared::{Phase, Shared, SharedChoice, merge_word, pack, release_choice, unpack};
 
-/// What a count of one adds to the word: the state has the two bits below.
+/// A count of one in the word: the state has the two bits below.
 const ONE_COUNT: u64 = 4;
-/// The word of count 0 and the default phase.
+/// The word of count 0 and state default.
 const FRESH: u64 = 1 << 42;
-/// The word of count 0 and the merged phase.
+/// The word of count 0 and state merged.
 const DEAD: u64 = FRESH + 3;
 
-/// The shared word after a reference more, as an atomic add leaves it: the phase stays.
-/// (PEP 703, Biased Reference Counting.)
+/// Returns the shared word after a shared retain: an atomic add, which keeps the state (PEP 703, Biased Reference
+/// Counting).
 pub fn shared_with_one_more(word: u64) -> u64
     requires { biased_part word + 1 < 2 * bias }
     ensures word { result ≡ word + 4 }
@@ -25,9 +26,8 @@ pub fn shared_with_one_more(word: u64) -> u64
     word + ONE_COUNT
 }
 
-/// The shared word after a release that is not counted by the running owner: an object that its owner still counts,
-/// with nothing to give back, is queued for the owner to merge, and any other count goes down by one. (PEP 703, Biased
-/// Reference Counting.)
+/// Returns the shared word after a release by a thread that isn't the running owner: at count 0 and state default the
+/// object is queued for its owner to merge, and otherwise one is subtracted (PEP 703, Biased Reference Counting).
 pub fn released(word: u64) -> u64
     requires fits { biased_part word < 2 * bias }
     requires used { phase_part word ≢ 1 }
@@ -51,8 +51,8 @@ pub fn released(word: u64) -> u64
     }
 }
 
-/// The shared word once nobody owns the object, which had so many local references to carry over.
-/// (PEP 703, Biased Reference Counting.)
+/// Returns the shared word after a merge, which adds the local count `carried` and sets the state to merged (PEP 703,
+/// Biased Reference Counting).
 pub fn merged(word: u64, carried: u32) -> u64
     requires fits { biased_part word < 2 * bias }
     requires used { phase_part word ≢ 1 }
@@ -65,7 +65,7 @@ pub fn merged(word: u64, carried: u32) -> u64
     pack(merge_word(shared, carried))
 }
 
-/// Whether the shared word is that of a new object: count 0, and the default phase.
+/// Returns whether the shared word is that of a new object: count 0 and state default.
 pub fn is_fresh(word: u64) -> bool
     ensures word { result ≡ (word == fresh_word) }
     ensures header { IsTrue result ↔ IsSharedWord word at_zero }
@@ -73,7 +73,7 @@ pub fn is_fresh(word: u64) -> bool
     word == FRESH
 }
 
-/// Whether nobody counts the object any more: count 0, and merged.
+/// Returns whether no reference is left and nobody owns the object: count 0 and state merged.
 pub fn is_dead(word: u64) -> bool
     ensures word { result ≡ (word == dead_word) }
     ensures header { IsTrue result ↔ IsSharedWord word at_end }

@@ -5,39 +5,41 @@ use Rattle.brc_model.specs.declared.actor.Status.{Status}
 use Rattle.brc_model.specs.declared.actor.Status.TheVariants.{Running, Leaving, Gone}
 use Rattle.brc_model.specs.declared.thread.Choice.TheVariants.{Ok, Claim}
 use Rattle.brc_model.specs.Safety.{has_gone}
-use Rattle.brc_model.specs.Machine.{Actor, Action, Skip, Stuck, Silent, Does, status_action}
+use Rattle.brc_model.specs.Actions.{StepActor, Action, Skip, Stuck, Silent, Does, status_action}
 use Rattle.brc_model.specs.World.{World, step}
 use Rattle.brc_world.specs.declared.did.Did.TheVariants as answers
 use Rattle.brc_world.specs.Actors.{memory_by, actor_by, did_by, finds_mark, did_claim}
 use Rattle.brc_world.specs.Answers.{is_gone, is_gone_at, IsAnswer}
 use Rattle.brc_world.proofs.Stepping.{with_words, unchanged}
 
-gone_is : (w : World) (t : ℕ) (a : Actor) (s : Status) → slice_get w.actors t ≡ Some a → a.status ≡ s
+gone_is : (w : World) (t : ℕ) (a : StepActor) (s : Status) → slice_get w.actors t ≡ Some a → a.actor.status ≡ s
     → is_gone_at w t ≡ has_gone s
 gone_is w t a s found is = ap is_gone found ∙ ap has_gone is
 
--- ---- going on
+-- ---- next steps
 
-action_answers : (w : World) (t : ℕ) (a : Actor) (x : Action) → slice_get w.actors t ≡ Some a
+action_answers : (w : World) (t : ℕ) (a : StepActor) (x : Action) → slice_get w.actors t ≡ Some a
     → is_gone_at w t ≡ false → step w t Ok ≢ w
-    → step w t Ok ≡ with_words w t (memory_by w.rows t w.memory a x) (actor_by w.rows t w.memory a x)
+    → step w t Ok ≡ with_words w t (memory_by w.layout t w.memory a x) (actor_by w.layout t w.memory a x)
     → IsAnswer w t (step w t Ok) (did_by x)
 action_answers w t a Skip found here moves is = absurd (moves (is ∙ unchanged w t a found))
 action_answers w t a Stuck found here moves is = (here, is ∙ unchanged w t a found)
 action_answers w t a (Silent refs place) found here moves is = (here, moves)
 action_answers w t a (Does d rest place) found here moves is = (here, moves)
 
-pub going_answers : (w : World) (t : ℕ) (a : Actor) (s : Status) → slice_get w.actors t ≡ Some a → a.status ≡ s
+-- The answer of a thread's next step says whether the step changed the world.
+pub going_answers : (w : World) (t : ℕ) (a : StepActor) (s : Status) → slice_get w.actors t ≡ Some a
+    → a.actor.status ≡ s
     → (s ≢ Gone → step w t Ok ≢ w)
-    → step w t Ok ≡ with_words w t (memory_by w.rows t w.memory a (status_action w.functions w.rows t a s))
-    (actor_by w.rows t w.memory a (status_action w.functions w.rows t a s))
-    → IsAnswer w t (step w t Ok) (did_by (status_action w.functions w.rows t a s))
+    → step w t Ok ≡ with_words w t (memory_by w.layout t w.memory a (status_action w.functions w.layout t a s))
+    (actor_by w.layout t w.memory a (status_action w.functions w.layout t a s))
+    → IsAnswer w t (step w t Ok) (did_by (status_action w.functions w.layout t a s))
 going_answers w t a Gone found at moves is = gone_is w t a Gone found at
 going_answers w t a Running found at moves is =
-    action_answers w t a (status_action w.functions w.rows t a Running) found (gone_is w t a Running found at)
+    action_answers w t a (status_action w.functions w.layout t a Running) found (gone_is w t a Running found at)
     (moves (λ e. cc)) is
 going_answers w t a Leaving found at moves is =
-    action_answers w t a (status_action w.functions w.rows t a Leaving) found (gone_is w t a Leaving found at)
+    action_answers w t a (status_action w.functions w.layout t a Leaving) found (gone_is w t a Leaving found at)
     (moves (λ e. cc)) is
 
 -- ---- claims
@@ -48,13 +50,14 @@ mark_answers : (w : World) (t row : ℕ) (b : Bool) → is_gone_at w t ≡ false
 mark_answers w t row true here moves stays = (here, moves refl)
 mark_answers w t row false here moves stays = (here, stays refl)
 
-pub claim_answers : (w : World) (t : ℕ) (a : Actor) (row : ℕ) (s : Status) → slice_get w.actors t ≡ Some a
-    → a.status ≡ s
-    → (finds_mark w.rows t w.memory a row ≡ true → step w t (Claim row) ≢ w)
-    → (finds_mark w.rows t w.memory a row ≡ false → step w t (Claim row) ≡ w)
-    → IsAnswer w t (step w t (Claim row)) (did_claim w.rows t w.memory a row s)
+-- The answer of a claim says whether the claim changed the world.
+pub claim_answers : (w : World) (t : ℕ) (a : StepActor) (row : ℕ) (s : Status) → slice_get w.actors t ≡ Some a
+    → a.actor.status ≡ s
+    → (finds_mark w.layout t w.memory a row ≡ true → step w t (Claim row) ≢ w)
+    → (finds_mark w.layout t w.memory a row ≡ false → step w t (Claim row) ≡ w)
+    → IsAnswer w t (step w t (Claim row)) (did_claim w.layout t w.memory a row s)
 claim_answers w t a row Gone found is moves stays = gone_is w t a Gone found is
 claim_answers w t a row Running found is moves stays =
-    mark_answers w t row (finds_mark w.rows t w.memory a row) (gone_is w t a Running found is) moves stays
+    mark_answers w t row (finds_mark w.layout t w.memory a row) (gone_is w t a Running found is) moves stays
 claim_answers w t a row Leaving found is moves stays =
-    mark_answers w t row (finds_mark w.rows t w.memory a row) (gone_is w t a Leaving found is) moves stays
+    mark_answers w t row (finds_mark w.layout t w.memory a row) (gone_is w t a Leaving found is) moves stays

@@ -1,4 +1,4 @@
--- A thread that isn't gone and claims nothing takes a step, or is stuck.
+-- The next action of a thread that isn't gone is never `Skip`: the thread takes a step, or is stuck.
 use Rattle.std.proofs.Common.{ℕ, zero, suc, Bool, true, false, cond, List, [], ◌∷◌, Option, None, Some}
 use Rattle.std.specs.Prelude.{slice_get}
 use Rattle.brc_lang.specs.declared.module.Instr.{Instr}
@@ -8,8 +8,11 @@ use Rattle.brc_model.specs.Threads.{code_of, row_of, entry_variables}
 use Rattle.brc_model.specs.declared.duty.Duty.{Duty}
 use Rattle.brc_model.specs.declared.actor.Place.{Place}
 use Rattle.brc_model.specs.declared.actor.Place.TheVariants.{Idle, InCall, Exiting}
-use Rattle.brc_model.specs.Machine.{Actor, Action, Skip, with_row, has_room, dispatch_instruction, dispatch, agenda_action}
+use Rattle.brc_model.specs.Machine.{has_room}
+use Rattle.brc_model.specs.declared.layout.Layout.{Layout}
+use Rattle.brc_model.specs.Actions.{StepActor, Action, Skip, with_row, dispatch_instruction, dispatch, agenda_action}
 
+-- the action isn't `Skip`
 abbrev pub TakesStep : Action → Type 0
 TakesStep Skip = ⊥
 TakesStep _ = Unit {0}
@@ -22,31 +25,33 @@ either_steps : (b : Bool) (one two : Action) → TakesStep one → TakesStep two
 either_steps true one two first second = first
 either_steps false one two first second = second
 
-instruction_steps : (rows t used left at : ℕ) (variables : List (Option ℕ)) (i : Option Instr)
-    → TakesStep (dispatch_instruction rows t used left at variables i)
-instruction_steps rows t used left at variables None = tt
-instruction_steps rows t used left at variables (Some (Num to value otherwise)) =
-    either_steps (has_room rows t used) _ _ tt tt
-instruction_steps rows t used left at variables (Some (NoneObject to)) = tt
-instruction_steps rows t used left at variables (Some (Newref to from)) =
+instruction_steps : (layout : Layout) (t used left at : ℕ) (variables : List (Option ℕ)) (i : Option Instr)
+    → TakesStep (dispatch_instruction layout t used left at variables i)
+instruction_steps layout t used left at variables None = tt
+instruction_steps layout t used left at variables (Some (Num to value otherwise)) =
+    either_steps (has_room layout t used) _ _ tt tt
+instruction_steps layout t used left at variables (Some (NoneObject to)) = tt
+instruction_steps layout t used left at variables (Some (Newref to from)) =
     row_steps (row_of variables from) _ (λ row. tt)
-instruction_steps rows t used left at variables (Some (MoveReference to from)) =
+instruction_steps layout t used left at variables (Some (MoveReference to from)) =
     row_steps (row_of variables from) _ (λ row. tt)
-instruction_steps rows t used left at variables (Some (Drop from)) = row_steps (row_of variables from) _ (λ row. tt)
-instruction_steps rows t used left at variables (Some (Goto to)) = tt
-instruction_steps rows t used left at variables (Some (Ret from)) = row_steps (row_of variables from) _ (λ row. tt)
-instruction_steps rows t used left at variables (Some Fail) = tt
+instruction_steps layout t used left at variables (Some (Drop from)) = row_steps (row_of variables from) _ (λ row. tt)
+instruction_steps layout t used left at variables (Some (Goto to)) = tt
+instruction_steps layout t used left at variables (Some (Ret from)) = row_steps (row_of variables from) _ (λ row. tt)
+instruction_steps layout t used left at variables (Some Fail) = tt
 
-dispatch_steps : (rows t used : ℕ) (code : List Instr) (place : Place) → TakesStep (dispatch rows t used code place)
-dispatch_steps rows t used code Exiting = tt
-dispatch_steps rows t used code (Idle zero) = tt
-dispatch_steps rows t used code (Idle (suc left)) =
-    instruction_steps rows t used left 0 entry_variables (slice_get code 0)
-dispatch_steps rows t used code (InCall left at variables) =
-    instruction_steps rows t used left at variables (slice_get code at)
+dispatch_steps : (layout : Layout) (t used : ℕ) (code : List Instr) (place : Place)
+    → TakesStep (dispatch layout t used code place)
+dispatch_steps layout t used code Exiting = tt
+dispatch_steps layout t used code (Idle zero) = tt
+dispatch_steps layout t used code (Idle (suc left)) =
+    instruction_steps layout t used left 0 entry_variables (slice_get code 0)
+dispatch_steps layout t used code (InCall left at variables) =
+    instruction_steps layout t used left at variables (slice_get code at)
 
-pub agenda_steps : (functions : List Function) (rows t : ℕ) (a : Actor) (agenda : List Duty)
-    → TakesStep (agenda_action functions rows t a agenda)
-agenda_steps functions rows t a [] =
-    dispatch_steps rows t a.used (code_of (slice_get functions a.function)) a.place
-agenda_steps functions rows t a (d ∷ rest) = tt
+-- Neither an agenda's first duty nor a dispatch is `Skip`.
+pub agenda_steps : (functions : List Function) (layout : Layout) (t : ℕ) (a : StepActor) (agenda : List Duty)
+    → TakesStep (agenda_action functions layout t a agenda)
+agenda_steps functions layout t a [] =
+    dispatch_steps layout t a.actor.used (code_of (slice_get functions a.function)) a.place
+agenda_steps functions layout t a (d ∷ rest) = tt

@@ -1,5 +1,6 @@
 pub mod Calling
 pub mod Storing
+pub mod Indices
 pub mod Dispatching
 pub mod Acting
 pub mod Stepping

@@ -1,7 +1,7 @@
--- The tally of a machine's world, which is read off words, is that of its abstract state.
+-- The tally of a machine's world, which is read from words, is the tally of the machine's abstract state.
 use Rattle.std.proofs.Common.{◌≡◌, ◌≢◌, ℕ, zero, suc, ◌+◌, ◌-◌, ◌<◌, ◌≤◌, Bool, true, false, cond, List, [], ◌∷◌}
 use Rattle.std.proofs.Common.{length, map, inl, inr, refl, sym, ap, ◌∙◌, subst, arith}
-use Rattle.std.specs.Prelude.{◌==◌, ◌&&◌, ◌||◌, not, slice_get, filter, count_by}
+use Rattle.std.specs.Prelude.{◌==◌, ◌&&◌, ◌||◌, not, nat_lt, slice_get, filter, count_by}
 use Rattle.std.specs.List.{range_with_len}
 use Rattle.std.proofs.lemmas.Bool.{cases_Bool, cases_lt, eq-eqb, eqb-true, lt-ltb, ltb-true}
 use Rattle.std.proofs.lemmas.Bool.Decides.{eqb_tells}
@@ -13,21 +13,23 @@ use Rattle.brc_lang.specs.declared.kind.Kind.TheVariants as kinds
 use Rattle.brc_lang.specs.declared.module.Module.{Module}
 use Rattle.brc_word.specs.Words.{closed_word, kind_part}
 use Rattle.brc_model.specs.declared.address.Address.TheVariants.{Gate, KindOf}
-use Rattle.brc_model.specs.Duties.{block_of}
 use Rattle.brc_model.specs.Kinds.{kind_number, kind_numbered}
 use Rattle.brc_model.specs.AbstractState.{is_among}
 use Rattle.brc_model.specs.Progress.{Always, BornOnce, BornListed, BornAreThere, BornAreUsed, UsedAreBorn}
 use Rattle.brc_model.specs.Progress.{ClosedWereBorn, ClosedOnce, GatesTell}
-use Rattle.brc_model.specs.Machine.{Unborn, Machine}
-use Rattle.brc_model.specs.World.{world_of, row_count, IsReachable}
+use Rattle.brc_model.specs.Machine.{Unborn}
+use Rattle.brc_model.specs.World.{world_of, IsReachable}
+use Rattle.brc_model.specs.StepMachine.{StepMachine}
 use Rattle.brc_world.specs.Tallies.{used_of, is_born, is_closed_row, rows_born, rows_closed, rows_left}
 use Rattle.brc_world.specs.Tallies.{left_in, tally_of}
 use Rattle.brc_world.specs.MachineTallies.{IsMachineOf, is_left, objects_left, left_object, machine_tally}
-use Rattle.brc_world.proofs.Tallying.{parts, block_there}
+use Rattle.brc_world.proofs.Tallying.{parts}
+use Rattle.brc_world.proofs.Indices.{block_there, counted_above}
+use Rattle.brc_model.specs.Layout.{row_count, block_of, index_of, is_immortal_row}
 
 -- ---- tests
 
--- two tests that hold alike are one
+-- Two tests that imply each other are equal.
 same_test : (b c : Bool) → (b ≡ true → c ≡ true) → (c ≡ true → b ≡ true) → b ≡ c
 same_test true true f g = refl
 same_test true false f g = sym (f refl)
@@ -37,6 +39,10 @@ same_test false false f g = refl
 second_of : (b c : Bool) → (b && c) ≡ true → c ≡ true
 second_of true c e = e
 second_of false c e = absurd cc
+
+not_so : (b : Bool) → not b ≡ true → b ≡ false
+not_so true e = absurd cc
+not_so false e = refl
 
 first_of : (b c : Bool) → (b && c) ≡ true → b ≡ true
 first_of true c e = refl
@@ -48,7 +54,7 @@ both_of false c e f = absurd cc
 
 -- ---- picking rows
 
--- what passes two tests, one after the other, is what passes a third, with what is said of it
+-- If p and q together pick the rows that r picks, and f and g agree on these, then both lists of values are the same.
 picked : {X : Type 0} (f g : ℕ → X) (p q r : ℕ → Bool) (a n : ℕ)
     → ((x : ℕ) → a ≤ x → x < a + n → (p x && q x) ≡ r x) → ((x : ℕ) → r x ≡ true → f x ≡ g x)
     → map f (filter q (filter p (range_with_len a n))) ≡ map g (filter r (range_with_len a n))
@@ -70,7 +76,7 @@ picked f g p q r a (suc n) same says =
           rw (fails, third, behind) refl
     ]
 
--- by one test
+-- Two tests that agree on the rows pick the same rows.
 picked_once : (p r : ℕ → Bool) (a n : ℕ) → ((x : ℕ) → a ≤ x → x < a + n → p x ≡ r x)
     → filter p (range_with_len a n) ≡ filter r (range_with_len a n)
 picked_once p r a zero same = refl
@@ -78,7 +84,7 @@ picked_once p r a (suc n) same =
     let behind = picked_once p r (a + 1) n (λ x low high. same x (omega (arith, low)) (omega (arith, high))) in
     rw (same a (omega arith) (omega arith), behind) refl
 
--- ---- a list without repetitions is as long as the rows that are among it
+-- ---- lists without repetitions
 
 abbrev times : List ℕ → ℕ → ℕ
 times xs row = count_by (λ y. y == row) xs
@@ -89,7 +95,7 @@ one_if b = cond b 1 0
 times-cons : (y : ℕ) (ys : List ℕ) (row : ℕ) → times (y ∷ ys) row ≡ one_if (y == row) + times ys row
 times-cons y ys row = sum_by-cons (λ (z : ℕ). cond (z == row) 1 0) y ys
 
--- how often it is in the list, for each of the rows
+-- the sum over the n rows from a on: how often each is in the list
 abbrev times_in : List ℕ → ℕ → ℕ → ℕ
 times_in xs a zero = 0
 times_in xs a (suc n) = times xs a + times_in xs (a + 1) n
@@ -138,7 +144,7 @@ head_among y ys = ap (λ (b : Bool). b || is_among y ys) (eq-eqb y y refl)
 tail_among : (x y : ℕ) (ys : List ℕ) → is_among x ys ≡ true → is_among x (y ∷ ys) ≡ true
 tail_among x y ys e = elim (y == x) as (λ b. (b || is_among x ys) ≡ true) [ true ↦ refl | false ↦ e ]
 
--- each of the list is one of the rows
+-- each element of the list is one of the n rows from a on
 abbrev AreRows : List ℕ → ℕ → ℕ → Type 0
 AreRows xs a n = (x : ℕ) → is_among x xs ≡ true → (a ≤ x) × (x < a + n)
 
@@ -149,7 +155,7 @@ all_counted (y ∷ ys) a n within =
     let behind = all_counted ys a n (λ x is. within x (tail_among x y ys is)) in
     omega (arith, times_more y ys a n, one_within y a n here.0 here.1, behind)
 
--- and is counted as often as it is in the list: once
+-- A row that is in the list once at most is counted once if it is among the list's elements, and else not.
 among_times : (x : ℕ) (xs : List ℕ) → times xs x ≤ 1 → one_if (is_among x xs) ≡ times xs x
 among_times x [] once = refl
 among_times x (y ∷ ys) once =
@@ -172,16 +178,18 @@ counted_in xs a (suc n) once =
     let first = count-cons (λ x. is_among x xs) a (range_with_len (a + 1) n) in
     omega (arith, first, among_times a xs (once a), counted_in xs (a + 1) n once)
 
+-- A list without repetitions is as long as the list of the rows that are among its elements.
 as_long : (xs : List ℕ) (a n : ℕ) → ((x : ℕ) → times xs x ≤ 1) → AreRows xs a n
     → length (filter (λ x. is_among x xs) (range_with_len a n)) ≡ length xs
 as_long xs a n once within =
     length-filter (λ x. is_among x xs) (range_with_len a n) ∙ counted_in xs a n once ∙ all_counted xs a n within
 
--- ---- what the laws say of a machine
+-- ---- the laws of a machine
 
-pub record Facts (m : Machine) : Type 0 where
-  pub some_rows : 0 < m.rows
-  pub some_threads : 0 < length m.actors
+-- what the model's laws say of a reachable machine
+pub record Facts (m : StepMachine) : Type 0 where
+  pub some_rows : 0 < m.layout.rows
+  pub workers : length m.actors ≡ 1 + m.layout.workers
   pub used : BornAreUsed m
   pub born : UsedAreBorn m
   pub listed : BornListed m
@@ -192,12 +200,13 @@ pub record Facts (m : Machine) : Type 0 where
   pub gates : GatesTell m
   pub kinds : (x : ℕ) → m.life x ≢ Unborn → kind_part (m.memory (KindOf x)) ≡ kind_number (m.abstract.kinds x)
 
--- what always is, is so of a machine that there is
-pub at_machine : (P : Machine → Type 0) (p : Module) (m : Machine) → IsMachineOf p m → Always P p → P m
+-- A law of each machine of a module holds of a reachable one.
+pub at_machine : (P : StepMachine → Type 0) (p : Module) (m : StepMachine) → IsMachineOf p m → Always P p → P m
 at_machine P p m of always =
     subst P (sym of.reached) (always of.rows of.calls of.events of.some_rows of.most_rows of.calls_fit)
 
-pub is_reachable : (p : Module) (m : Machine) → IsMachineOf p m → IsReachable p (world_of m)
+-- The world of a reachable machine is reachable.
+pub is_reachable : (p : Module) (m : StepMachine) → IsMachineOf p m → IsReachable p (world_of m)
 is_reachable p m of = record {
   fits = of.fits;
   accepted = of.accepted;
@@ -210,59 +219,64 @@ is_reachable p m of = record {
   reached = ap world_of of.reached;
 }
 
--- all rows but none's
-abbrev others : Machine → ℕ
-others m = row_count (world_of m) - 1
+-- the number of rows without none's
+abbrev others : StepMachine → ℕ
+others m = row_count m.layout - 1
 
--- ---- what is born
+-- ---- born rows
 
-born_is_listed : (m : Machine) (x : ℕ) → Facts m → 0 < x → x < row_count (world_of m)
-    → is_born (world_of m) x ≡ true → is_among x m.abstract.born ≡ true
-born_is_listed m x facts above within e =
-    elim (slice_get_cases m.actors (block_of m.rows x)).1 [
+born_is_listed : (m : StepMachine) (x : ℕ) → Facts m → is_born (world_of m) x ≡ true → is_among x m.abstract.born ≡ true
+born_is_listed m x facts e =
+    let t = block_of m.layout x in
+    let used = nat_lt (index_of m.layout t x) (used_of (slice_get m.actors t)) in
+    let counted = not_so (is_immortal_row m.layout x) (first_of (not (is_immortal_row m.layout x)) used e) in
+    elim (slice_get_cases m.actors t).1 [
       | inl found ↦
-          let count : used_of (slice_get m.actors (block_of m.rows x)) ≡ found.0.used = ap used_of found.2 in
-          let high = ltb-true _ _ e in
-          (facts.listed x).1 (above, facts.born x found.0 found.2 (omega (arith, high, count)))
+          let count : used_of (slice_get m.actors t) ≡ found.0.actor.used = ap used_of found.2 in
+          let high = ltb-true _ _ (second_of (not (is_immortal_row m.layout x)) used e) in
+          (facts.listed x).1 (counted, facts.born x found.0 found.2 (omega (arith, high, count)))
       | inr past ↦
-          let block = block_there m.rows (length m.actors - 1) x facts.some_rows within in
-          absurd (omega (arith, past.0, block, facts.some_threads))
+          let block = block_there m.layout x facts.some_rows in
+          absurd (omega (arith, past.0, block, facts.workers))
     ]
 
-listed_is_born : (m : Machine) (x : ℕ) → Facts m → is_among x m.abstract.born ≡ true → is_born (world_of m) x ≡ true
+listed_is_born : (m : StepMachine) (x : ℕ) → Facts m → is_among x m.abstract.born ≡ true → is_born (world_of m) x ≡ true
 listed_is_born m x facts listed =
-    let used = facts.used x ((facts.listed x).0 listed).1 in
-    let count : used_of (slice_get m.actors (block_of m.rows x)) ≡ used.0.used = ap used_of used.1 in
-    lt-ltb _ _ (omega (arith, used.3, count))
+    let was = (facts.listed x).0 listed in
+    let used = facts.used x was.1 in
+    let count : used_of (slice_get m.actors (block_of m.layout x)) ≡ used.0.actor.used = ap used_of used.1 in
+    both_of (not (is_immortal_row m.layout x)) _ (ap not was.0) (lt-ltb _ _ (omega (arith, used.2, count)))
 
-born_same : (m : Machine) → Facts m → (x : ℕ) → 1 ≤ x → x < 1 + others m
+-- The rows that a world counts as born are those that the abstract state lists as born.
+born_same : (m : StepMachine) → Facts m → (x : ℕ) → 1 ≤ x → x < 1 + others m
     → is_born (world_of m) x ≡ is_among x m.abstract.born
 born_same m facts x above within =
-    same_test (is_born (world_of m) x) (is_among x m.abstract.born)
-    (born_is_listed m x facts above (omega (arith, within)))
+    same_test (is_born (world_of m) x) (is_among x m.abstract.born) (born_is_listed m x facts)
     (listed_is_born m x facts)
 
-born_within : (m : Machine) → Facts m → AreRows m.abstract.born 1 (others m)
+born_within : (m : StepMachine) → Facts m → AreRows m.abstract.born 1 (others m)
 born_within m facts = λ x listed.
     let was = (facts.listed x).0 listed in
     let there = facts.there x was.1 in
-    (was.0, omega (arith, there))
+    (omega (arith, counted_above m.layout x was.0), omega (arith, there))
 
-created : (m : Machine) → Facts m → length (rows_born (world_of m)) ≡ length m.abstract.born
+-- The world counts as many born rows as the abstract state lists.
+created : (m : StepMachine) → Facts m → length (rows_born (world_of m)) ≡ length m.abstract.born
 created m facts =
     let born = picked_once (is_born (world_of m)) (λ x. is_among x m.abstract.born) 1 (others m) (born_same m facts) in
     ap (λ (l : List ℕ). length l) born
     ∙ as_long m.abstract.born 1 (others m) facts.born_once (born_within m facts)
 
--- ---- what is closed
+-- ---- closed rows
 
-closed_test : (m : Machine) → Facts m → (x : ℕ) → is_closed_row (world_of m) x ≡ is_among x m.abstract.closed
+-- A row's gate says that it is closed exactly if the abstract state lists the row as closed.
+closed_test : (m : StepMachine) → Facts m → (x : ℕ) → is_closed_row (world_of m) x ≡ is_among x m.abstract.closed
 closed_test m facts x =
     same_test (is_closed_row (world_of m) x) (is_among x m.abstract.closed)
     (λ e. (facts.gates x).0 (eqb-true (m.memory (Gate x)) closed_word e))
     (λ e. eq-eqb (m.memory (Gate x)) closed_word ((facts.gates x).1 e))
 
-closed_same : (m : Machine) → Facts m → (x : ℕ) → 1 ≤ x → x < 1 + others m
+closed_same : (m : StepMachine) → Facts m → (x : ℕ) → 1 ≤ x → x < 1 + others m
     → (is_born (world_of m) x && is_closed_row (world_of m) x) ≡ is_among x m.abstract.closed
 closed_same m facts x above within =
     same_test (is_born (world_of m) x && is_closed_row (world_of m) x) (is_among x m.abstract.closed)
@@ -270,7 +284,8 @@ closed_same m facts x above within =
     (λ e. both_of (is_born (world_of m) x) (is_closed_row (world_of m) x)
     (listed_is_born m x facts (facts.were_born x e)) (closed_test m facts x ∙ e))
 
-closed : (m : Machine) → Facts m → length (rows_closed (world_of m)) ≡ length m.abstract.closed
+-- The world counts as many closed rows as the abstract state lists.
+closed : (m : StepMachine) → Facts m → length (rows_closed (world_of m)) ≡ length m.abstract.closed
 closed m facts =
     let each : ℕ → ℕ = λ x. x in
     let is_it : ℕ → Bool = λ x. is_among x m.abstract.closed in
@@ -280,12 +295,15 @@ closed m facts =
     ap (λ (l : List ℕ). length l) same
     ∙ as_long m.abstract.closed 1 (others m) facts.closed_once (λ x e. born_within m facts x (facts.were_born x e))
 
-alive : (m : Machine) → Facts m → length (rows_left (world_of m)) ≡ length m.abstract.born - length m.abstract.closed
+-- The world counts as many rows that are left as the abstract state has.
+alive : (m : StepMachine) → Facts m
+    → length (rows_left (world_of m)) ≡ length m.abstract.born - length m.abstract.closed
 alive m facts =
     omega (arith, parts (is_closed_row (world_of m)) (rows_born (world_of m)), created m facts, closed m facts)
 
--- ---- what is left
+-- ---- rows that are left
 
+-- The kind of a kind's number is that kind.
 kind_back : (k : Kind) → kind_numbered (kind_number k) ≡ k
 kind_back kinds.Any = refl
 kind_back kinds.None = refl
@@ -294,11 +312,11 @@ kind_back kinds.List = refl
 kind_back kinds.File = refl
 kind_back kinds.Sock = refl
 
-left_same : (m : Machine) → Facts m → (x : ℕ) → 1 ≤ x → x < 1 + others m
+left_same : (m : StepMachine) → Facts m → (x : ℕ) → 1 ≤ x → x < 1 + others m
     → (is_born (world_of m) x && not (is_closed_row (world_of m) x)) ≡ is_left m.abstract x
 left_same m facts x above within = rw (born_same m facts x above within, closed_test m facts x) refl
 
-left_kind : (m : Machine) → Facts m → (x : ℕ) → is_left m.abstract x ≡ true
+left_kind : (m : StepMachine) → Facts m → (x : ℕ) → is_left m.abstract x ≡ true
     → left_in (world_of m) x ≡ left_object m.abstract x
 left_kind m facts x left =
     let listed = first_of (is_among x m.abstract.born) (not (is_among x m.abstract.closed)) left in
@@ -307,15 +325,18 @@ left_kind m facts x left =
     ap kind_numbered (facts.kinds x was.1) ∙ kind_back (m.abstract.kinds x) in
     λ i. record { row = x; kind = kind i }
 
-left : (m : Machine) → Facts m
+-- The world lists the rows that are left, and their kinds, as the abstract state does.
+left : (m : StepMachine) → Facts m
     → map (left_in (world_of m)) (rows_left (world_of m)) ≡ map (left_object m.abstract) (objects_left m)
 left m facts =
-    picked (left_in (world_of m)) (left_object m.abstract) (is_born (world_of m)) (λ x. not (is_closed_row (world_of m) x))
+    picked (left_in (world_of m)) (left_object m.abstract) (is_born (world_of m))
+    (λ x. not (is_closed_row (world_of m) x))
     (is_left m.abstract) 1 (others m) (left_same m facts) (left_kind m facts)
 
 -- ---- the tally
 
-pub tally_same : (m : Machine) → Facts m → tally_of (world_of m) ≡ machine_tally m
+-- The tally of a reachable machine's world is the tally of the machine.
+pub tally_same : (m : StepMachine) → Facts m → tally_of (world_of m) ≡ machine_tally m
 tally_same m facts = λ i. record {
   threads = length m.actors - 1;
   running = (machine_tally m).running;

@@ -1,4 +1,4 @@
--- What a thread's step does to its words and to itself is the model's step of the world.
+-- The words and the thread after a step of the code are those of the model's world after its step.
 use Rattle.std.proofs.Common.{◌≡◌, ◌≢◌, ℕ, Bool, true, false, cond, List, [], Option, Some, inl, inr, refl, sym, ap, ◌∙◌, None}
 use Rattle.std.specs.Prelude.{◌==◌, not, length, slice_get, slice_set}
 use Rattle.std.proofs.lemmas.Bool.{cases_Bool, and_parts, eqb-true}
@@ -13,83 +13,94 @@ use Rattle.brc_model.specs.declared.duty.Duty.{Duty}
 use Rattle.brc_model.specs.declared.duty.Duty.TheVariants.{ClaimMark}
 use Rattle.brc_model.specs.declared.thread.Choice.{Choice}
 use Rattle.brc_model.specs.declared.thread.Choice.TheVariants.{Ok, Claim, Fault}
-use Rattle.brc_model.specs.Machine.{Actor, Action, Skip, Stuck, Silent, Does, may_claim, status_action, action_of, of_thread, machine_by}
-use Rattle.brc_model.specs.World.{IsReachable, World, world_of, machine_of, step, row_count}
+use Rattle.brc_model.specs.World.{IsReachable, World, world_of, machine_of, step}
+use Rattle.brc_model.specs.Actions.{StepActor, Action, Skip, Stuck, Silent, Does, may_claim, status_action, action_of}
+use Rattle.brc_model.specs.StepMachine.{of_thread, machine_by}
 use Rattle.brc_model.specs.Within.{IsWithin, StepsWithin}
 use Rattle.brc_world.specs.Actors.{memory_by, actor_by, finds_mark, memory_claimed, actor_claimed, CanDo, CanAct, CanClaim}
+use Rattle.brc_model.specs.declared.layout.Layout.{Layout}
+use Rattle.brc_model.specs.Layout.{row_count}
 
--- the world with other words and another thread
-abbrev pub with_words : World → ℕ → (Address → ℕ) → Actor → World
+-- the world with other words, and with thread t replaced
+abbrev pub with_words : World → ℕ → (Address → ℕ) → StepActor → World
 with_words w t memory a =
-    record { functions = w.functions; rows = w.rows; memory = memory; actors = slice_set w.actors t a }
+    record { functions = w.functions; layout = w.layout; memory = memory; actors = slice_set w.actors t a }
 
--- the thread that is there already
-set_same : (actors : List Actor) (t : ℕ) (a : Actor) → slice_get actors t ≡ Some a → slice_set actors t a ≡ actors
+-- Storing the thread that is there already changes no thread.
+set_same : (actors : List StepActor) (t : ℕ) (a : StepActor) → slice_get actors t ≡ Some a
+    → slice_set actors t a ≡ actors
 set_same actors t a found =
     ap (slice_set actors t) (sym (get_or_from_slice_get actors t a a found)) ∙ set-get_or actors t a
 
-pub unchanged : (w : World) (t : ℕ) (a : Actor) → slice_get w.actors t ≡ Some a → with_words w t w.memory a ≡ w
+-- A world with its own words and its own thread is unchanged.
+pub unchanged : (w : World) (t : ℕ) (a : StepActor) → slice_get w.actors t ≡ Some a → with_words w t w.memory a ≡ w
 unchanged w t a found =
-    ap (λ (actors : List Actor). let v : World =
-    record { functions = w.functions; rows = w.rows; memory = w.memory; actors = actors } in v)
+    ap (λ (actors : List StepActor). let v : World =
+    record { functions = w.functions; layout = w.layout; memory = w.memory; actors = actors } in v)
     (set_same w.actors t a found)
 
--- ---- a thread goes on
+-- ---- the next step of a thread
 
--- the world after an event of the thread
-abbrev pub after : World → ℕ → Choice → Option Actor → World
+-- the world after an event of the thread, which is `o`
+abbrev pub after : World → ℕ → Choice → Option StepActor → World
 after w t choice o =
-    world_of (of_thread (machine_of w) (λ a. machine_by (machine_of w) t a (action_of w.functions w.rows t a choice)) o)
+    world_of (of_thread (machine_of w)
+    (λ a. machine_by (machine_of w) t a (action_of w.functions w.layout t a choice)) o)
 
-action_as : (w : World) (t : ℕ) (a : Actor) (x : Action) → slice_get w.actors t ≡ Some a
+-- The world after an action has the words and the thread that `memory_by` and `actor_by` give.
+action_as : (w : World) (t : ℕ) (a : StepActor) (x : Action) → slice_get w.actors t ≡ Some a
     → world_of (machine_by (machine_of w) t a x)
-    ≡ with_words w t (memory_by w.rows t w.memory a x) (actor_by w.rows t w.memory a x)
+    ≡ with_words w t (memory_by w.layout t w.memory a x) (actor_by w.layout t w.memory a x)
 action_as w t a Skip found = sym (unchanged w t a found)
 action_as w t a Stuck found = sym (unchanged w t a found)
 action_as w t a (Silent moves place) found = refl
 action_as w t a (Does d rest place) found = refl
 
-pub going_on : (w : World) (t : ℕ) (a : Actor) → slice_get w.actors t ≡ Some a
-    → step w t Ok ≡ with_words w t (memory_by w.rows t w.memory a (status_action w.functions w.rows t a a.status))
-    (actor_by w.rows t w.memory a (status_action w.functions w.rows t a a.status))
+-- The world after the thread's next step has the words and the thread of the thread's action.
+pub going_on : (w : World) (t : ℕ) (a : StepActor) → slice_get w.actors t ≡ Some a
+    → step w t Ok ≡ with_words w t
+    (memory_by w.layout t w.memory a (status_action w.functions w.layout t a a.actor.status))
+    (actor_by w.layout t w.memory a (status_action w.functions w.layout t a a.actor.status))
 going_on w t a found =
-    ap (after w t Ok) found ∙ action_as w t a (status_action w.functions w.rows t a a.status) found
+    ap (after w t Ok) found ∙ action_as w t a (status_action w.functions w.layout t a a.actor.status) found
 
--- no step is a host call, so a fault is as good
+-- No step is a host call, so the choices `Fault` and `Ok` lead to the same world.
 pub fault_goes_on : (w : World) (t : ℕ) → step w t Fault ≡ step w t Ok
 fault_goes_on w t =
     elim (slice_get w.actors t) as (λ o. after w t Fault o ≡ after w t Ok o) [ None ↦ refl | Some a ↦ refl ]
 
--- ---- a thread looks for a mark
+-- ---- claims
 
--- a claim that finds no mark, or isn't in place
-pub misses_as : (w : World) (t : ℕ) (a : Actor) (row : ℕ) → slice_get w.actors t ≡ Some a
-    → finds_mark w.rows t w.memory a row ≡ false → step w t (Claim row) ≡ w
-    → step w t (Claim row) ≡ with_words w t (memory_claimed w.rows t w.memory a row)
-    (actor_claimed w.rows t w.memory a row)
+-- A claim that finds no mark, or that the thread may not make, leaves the words and the thread as they are.
+pub misses_as : (w : World) (t : ℕ) (a : StepActor) (row : ℕ) → slice_get w.actors t ≡ Some a
+    → finds_mark w.layout t w.memory a row ≡ false → step w t (Claim row) ≡ w
+    → step w t (Claim row) ≡ with_words w t (memory_claimed w.layout t w.memory a row)
+    (actor_claimed w.layout t w.memory a row)
 misses_as w t a row found none same = rw none (same ∙ sym (unchanged w t a found))
 
--- a thread that may claim has nothing to do
-claims_at_rest : (rows t : ℕ) (a : Actor) (row : ℕ) → may_claim rows t a row ≡ true → a.agenda ≡ []
-claims_at_rest rows t a row may =
+-- A thread that may claim has an empty agenda.
+claims_at_rest : (layout : Layout) (t : ℕ) (a : StepActor) (row : ℕ) → may_claim layout t a row ≡ true
+    → a.actor.agenda ≡ []
+claims_at_rest layout t a row may =
     let rests = and_parts _ _ (and_parts _ _ (and_parts _ _ may).0).0 in
-    nil_from_length a.agenda (eqb-true _ _ rests.1)
+    nil_from_length a.actor.agenda (eqb-true _ _ rests.1)
 
-pub finds_as : (w : World) (t : ℕ) (a : Actor) (row : ℕ) → slice_get w.actors t ≡ Some a
-    → may_claim w.rows t a row ≡ true → finds_mark w.rows t w.memory a row ≡ true
-    → step w t (Claim row) ≡ with_words w t (memory_claimed w.rows t w.memory a row)
-    (actor_claimed w.rows t w.memory a row)
+-- The world after a claim that finds a mark has the words and the thread that the claim's duty leaves.
+pub finds_as : (w : World) (t : ℕ) (a : StepActor) (row : ℕ) → slice_get w.actors t ≡ Some a
+    → may_claim w.layout t a row ≡ true → finds_mark w.layout t w.memory a row ≡ true
+    → step w t (Claim row) ≡ with_words w t (memory_claimed w.layout t w.memory a row)
+    (actor_claimed w.layout t w.memory a row)
 finds_as w t a row found may marked =
-    let rests = claims_at_rest w.rows t a row may in
+    let rests = claims_at_rest w.layout t a row may in
     let set : not (w.memory (Mark row) == 0) ≡ true = (and_parts _ _ marked).1 in
     ap (after w t (Claim row)) found ∙ (rw (may, set, rests) refl)
 
--- what a claim misses with: no mark, or no place
-pub claim_stays : (w : World) (t : ℕ) (a : Actor) (row : ℕ) → finds_mark w.rows t w.memory a row ≡ false
-    → (may_claim w.rows t a row ≡ true → w.memory (Mark row) ≡ 0 → step w t (Claim row) ≡ w)
-    → (may_claim w.rows t a row ≡ false → step w t (Claim row) ≡ w) → step w t (Claim row) ≡ w
+-- A claim that finds no mark, or that the thread may not make, leaves the world as it is.
+pub claim_stays : (w : World) (t : ℕ) (a : StepActor) (row : ℕ) → finds_mark w.layout t w.memory a row ≡ false
+    → (may_claim w.layout t a row ≡ true → w.memory (Mark row) ≡ 0 → step w t (Claim row) ≡ w)
+    → (may_claim w.layout t a row ≡ false → step w t (Claim row) ≡ w) → step w t (Claim row) ≡ w
 claim_stays w t a row missed unmarked unplaced =
-    elim (cases_Bool (may_claim w.rows t a row)) [
+    elim (cases_Bool (may_claim w.layout t a row)) [
       | inl may ↦ elim (eqb_tells (w.memory (Mark row)) 0) [
         | inl none ↦ unmarked may none.1
         | inr some ↦ let wrong : true ≡ false = rw (may, some.0) at missed in absurd cc
@@ -97,49 +108,57 @@ claim_stays w t a row missed unmarked unplaced =
       | inr not_so ↦ unplaced not_so
     ]
 
-pub claim_moves : (w : World) (t : ℕ) (a : Actor) (row : ℕ) → finds_mark w.rows t w.memory a row ≡ true
-    → (may_claim w.rows t a row ≡ true → w.memory (Mark row) ≢ 0 → step w t (Claim row) ≢ w) → step w t (Claim row) ≢ w
+-- A claim that finds a mark changes the world.
+pub claim_moves : (w : World) (t : ℕ) (a : StepActor) (row : ℕ) → finds_mark w.layout t w.memory a row ≡ true
+    → (may_claim w.layout t a row ≡ true → w.memory (Mark row) ≢ 0 → step w t (Claim row) ≢ w)
+    → step w t (Claim row) ≢ w
 claim_moves w t a row marked moves =
-    let parts = and_parts (may_claim w.rows t a row) (not (w.memory (Mark row) == 0)) marked in
+    let parts = and_parts (may_claim w.layout t a row) (not (w.memory (Mark row) == 0)) marked in
     elim (eqb_tells (w.memory (Mark row)) 0) [
       | inl none ↦ let wrong : false ≡ true = rw none.0 at parts.1 in absurd cc
       | inr some ↦ moves parts.0 some.1
     ]
 
-pub claim_is : (p : Module) (w : World) (t : ℕ) (a : Actor) (row : ℕ) → IsReachable p w → slice_get w.actors t ≡ Some a
-    → (may_claim w.rows t a row ≡ true → w.memory (Mark row) ≡ 0 → step w t (Claim row) ≡ w)
-    → (may_claim w.rows t a row ≡ false → step w t (Claim row) ≡ w)
-    → step w t (Claim row) ≡ with_words w t (memory_claimed w.rows t w.memory a row)
-    (actor_claimed w.rows t w.memory a row)
+-- The world after any claim has the words and the thread that `memory_claimed` and `actor_claimed` give.
+pub claim_is : (p : Module) (w : World) (t : ℕ) (a : StepActor) (row : ℕ) → IsReachable p w
+    → slice_get w.actors t ≡ Some a
+    → (may_claim w.layout t a row ≡ true → w.memory (Mark row) ≡ 0 → step w t (Claim row) ≡ w)
+    → (may_claim w.layout t a row ≡ false → step w t (Claim row) ≡ w)
+    → step w t (Claim row) ≡ with_words w t (memory_claimed w.layout t w.memory a row)
+    (actor_claimed w.layout t w.memory a row)
 claim_is p w t a row reachable found unmarked unplaced =
-    elim (cases_Bool (finds_mark w.rows t w.memory a row)) [
+    elim (cases_Bool (finds_mark w.layout t w.memory a row)) [
       | inl marked ↦
-          finds_as w t a row found (and_parts (may_claim w.rows t a row) (not (w.memory (Mark row) == 0)) marked).0
+          finds_as w t a row found (and_parts (may_claim w.layout t a row) (not (w.memory (Mark row) == 0)) marked).0
           marked
       | inr missed ↦ misses_as w t a row found missed (claim_stays w t a row missed unmarked unplaced)
     ]
 
--- ---- what can be done
+-- ---- steps within bounds
 
-pub able : (w : World) (t : ℕ) (a : Actor) (d : Duty) → IsWithin w t a d
-    → CanDo w.rows t (row_count w) (length w.actors) w.memory a d
+-- The thread can do a duty that is within all bounds.
+pub able : (w : World) (t : ℕ) (a : StepActor) (d : Duty) → IsWithin w t a.actor d
+    → CanDo w.layout t (row_count w.layout) (length w.actors) w.memory a d
 able w t a d within = record { there = within.there; suits = within.suits; uses = within.used }
 
--- whatever the thread does
-can_act : (w : World) (t : ℕ) (a : Actor) (x : Action)
-    → ((d : Duty) (rest : List Duty) (place : Place) → x ≡ Does d rest place → IsWithin w t a d)
-    → CanAct w.rows t (row_count w) (length w.actors) w.memory a x
+-- The thread can do its action, if each duty that the action may be is within all bounds.
+can_act : (w : World) (t : ℕ) (a : StepActor) (x : Action)
+    → ((d : Duty) (rest : List Duty) (place : Place) → x ≡ Does d rest place → IsWithin w t a.actor d)
+    → CanAct w.layout t (row_count w.layout) (length w.actors) w.memory a x
 can_act w t a Skip within = tt
 can_act w t a Stuck within = tt
 can_act w t a (Silent moves place) within = tt
 can_act w t a (Does d rest place) within = able w t a d (within d rest place refl)
 
-pub can_go_on : (w : World) (t : ℕ) (a : Actor) → StepsWithin w t a
-    → CanAct w.rows t (row_count w) (length w.actors) w.memory a (status_action w.functions w.rows t a a.status)
-can_go_on w t a steps = can_act w t a (status_action w.functions w.rows t a a.status) (steps Ok)
+-- The thread can take its next step, if its steps are within all bounds.
+pub can_go_on : (w : World) (t : ℕ) (a : StepActor) → StepsWithin w t a
+    → CanAct w.layout t (row_count w.layout) (length w.actors) w.memory a
+    (status_action w.functions w.layout t a a.actor.status)
+can_go_on w t a steps = can_act w t a (status_action w.functions w.layout t a a.actor.status) (steps Ok)
 
-pub can_claim : (w : World) (t : ℕ) (a : Actor) (row : ℕ) → StepsWithin w t a
-    → CanClaim w.rows t (row_count w) (length w.actors) w.memory a row
+-- The thread can claim a row, if its steps are within all bounds.
+pub can_claim : (w : World) (t : ℕ) (a : StepActor) (row : ℕ) → StepsWithin w t a
+    → CanClaim w.layout t (row_count w.layout) (length w.actors) w.memory a row
 can_claim w t a row steps may =
     able w t a (ClaimMark row) (steps (Claim row) (ClaimMark row) [] a.place
     (ap (λ (b : Bool). cond b (Does (ClaimMark row) [] a.place) Skip) may))

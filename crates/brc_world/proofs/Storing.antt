@@ -1,4 +1,4 @@
--- One word stored among the columns is one word written, and the first columns have the first words.
+-- A word that is stored in a column is the word written at its address, and the first columns have the first words.
 use Rattle.std.proofs.Common.{◌≡◌, ℕ, zero, suc, ◌+◌, ◌*◌, ◌<◌, Bool, true, false, List, ◌∷◌, length, inl, inr, refl, sym, arith, get_or, get_or-set_same, replicate}
 use Rattle.std.specs.Prelude.{pos, nat_lt, nat_le, if◌then◌else◌}
 use Rattle.std.specs.List.{slice_set}
@@ -7,9 +7,11 @@ use Rattle.std.proofs.lemmas.Bool.Decides.{eqb_tells, leb_tells}
 use Rattle.std.proofs.lemmas.List.{get_or-replicate, get_or-set_other, get_or_past, length-replicate}
 use Rattle.brc_word.specs.declared.shared.Phase.TheVariants.{Default}
 use Rattle.brc_word.specs.Header.{IsSharedWord}
-use Rattle.brc_word.specs.Words.{fresh_word, local_word}
+use Rattle.brc_word.specs.Words.{half, immortal_local, fresh_word, local_word}
 use Rattle.brc_model.specs.declared.address.Address.TheVariants.{Local, Shared, Gate, KindOf, Mark, Cell, Slot, Resource, ThreadWord}
-use Rattle.brc_model.specs.Machine.{written, first_memory}
+use Rattle.brc_model.specs.Limits.{cell_limit}
+use Rattle.brc_model.specs.Machine.{written}
+use Rattle.brc_model.specs.StepMachine.{first_memory}
 use Rattle.brc_world.specs.Storage.{Columns, word_in, AreColumns, IsStored}
 
 -- ---- a cell
@@ -29,22 +31,24 @@ with_cells c cells =
       thread = c.thread;
     }
 
-cell_word : (c : Columns) (x i y j word : ℕ) → length c.cell ≡ 8 * length c.local → x < length c.local → i < 8
-    → word_in (with_cells c (slice_set c.cell (8 * x + i) word)) (Cell y j)
+cell_word : (c : Columns) (x i y j word : ℕ) → length c.cell ≡ cell_limit * length c.local → x < length c.local
+    → i < cell_limit
+    → word_in (with_cells c (slice_set c.cell (cell_limit * x + i) word)) (Cell y j)
     ≡ written (word_in c) (Cell x i) word (Cell y j)
 cell_word c x i y j word lengths there low =
-    elim (leb_tells (suc j) 8) [
+    elim (leb_tells (suc j) cell_limit) [
       | inl inside ↦ elim (eqb_tells x y) [
         | inl same ↦ elim (eqb_tells i j) [
           | inl here ↦
               rw (inside.0, same.0, here.0, sym same.1, sym here.1)
-              (get_or-set_same c.cell (8 * x + i) word 0 (omega (arith, lengths, there, low)))
+              (get_or-set_same c.cell (cell_limit * x + i) word 0 (omega (arith, lengths, there, low)))
           | inr other ↦
               rw (inside.0, same.0, other.0)
-              (get_or-set_other c.cell (8 * x + i) (8 * y + j) word 0 (λ e. other.1 (omega (arith, e, same.1))))
+              (get_or-set_other c.cell (cell_limit * x + i) (cell_limit * y + j) word 0
+              (λ e. other.1 (omega (arith, e, same.1))))
         ]
         | inr apart ↦
-            rw (inside.0, apart.0) (get_or-set_other c.cell (8 * x + i) (8 * y + j) word 0
+            rw (inside.0, apart.0) (get_or-set_other c.cell (cell_limit * x + i) (cell_limit * y + j) word 0
             (λ e. apart.1 (omega (arith, e, inside.1, low))))
       ]
       | inr outside ↦ elim (eqb_tells i j) [
@@ -56,13 +60,14 @@ cell_word c x i y j word lengths there low =
       ]
     ]
 
-pub stored_cell : (c : Columns) (x i word : ℕ) → AreColumns c → x < length c.local → i < 8
-    → IsStored c (Cell x i) word (with_cells c (slice_set c.cell (8 * x + i) word))
+-- A word stored in the column of cells is written at its cell's address, and nowhere else.
+pub stored_cell : (c : Columns) (x i word : ℕ) → AreColumns c → x < length c.local → i < cell_limit
+    → IsStored c (Cell x i) word (with_cells c (slice_set c.cell (cell_limit * x + i) word))
 stored_cell c x i word columns there low = record {
   rows = refl;
   threads = refl;
   words =
-      fun_ext (λ a. elim a as (λ b. word_in (with_cells c (slice_set c.cell (8 * x + i) word)) b
+      fun_ext (λ a. elim a as (λ b. word_in (with_cells c (slice_set c.cell (cell_limit * x + i) word)) b
       ≡ written (word_in c) (Cell x i) word b) [
         | Local y ↦ refl
         | Shared y ↦ refl
@@ -96,12 +101,12 @@ running_word workers t =
 
 abbrev first_columns : ℕ → ℕ → ℕ → Columns
 first_columns workers n more = record {
-  local = 8589934591 ∷ local_word 0 (1 + workers) ∷ replicate more 0;
+  local = local_word 0 immortal_local ∷ local_word 0 (1 + workers) ∷ replicate more 0;
   shared = replicate n fresh_word;
   gate = replicate n 1;
-  kind = 4294967296 ∷ (3 * 4294967296 + 8) ∷ replicate more 0;
+  kind = half ∷ (3 * half + cell_limit) ∷ replicate more 0;
   mark = replicate n 0;
-  cell = replicate (8 * n) 0;
+  cell = replicate (cell_limit * n) 0;
   slot = replicate n 0;
   resource = replicate n 0;
   thread = replicate (1 + workers) 1;
@@ -111,6 +116,7 @@ no_cell : (n i : ℕ) (b : Bool) → ◌≡◌ {A = ℕ} (if b then get_or (repl
 no_cell n i true = all_alike n i 0
 no_cell n i false = refl
 
+-- The first columns have the model's first words.
 first_words : (workers n more : ℕ) → word_in (first_columns workers n more) ≡ first_memory workers
 first_words workers n more =
     fun_ext (λ a. elim a as (λ b. word_in (first_columns workers n more) b ≡ first_memory workers b) [
@@ -123,23 +129,26 @@ first_words workers n more =
       | KindOf (suc zero) ↦ refl
       | KindOf (suc (suc x)) ↦ all_alike more x 0
       | Mark x ↦ all_alike n x 0
-      | Cell x i ↦ no_cell (8 * n) (8 * x + i) (nat_lt i 8)
+      | Cell x i ↦ no_cell (cell_limit * n) (cell_limit * x + i) (nat_lt i cell_limit)
       | Slot x ↦ all_alike n x 0
       | Resource x ↦ all_alike n x 0
       | ThreadWord t ↦ running_word workers t
     ])
 
--- a column of one value, with two set
+-- A column of equal values, in which the first two are replaced.
 two_set : (n more v a b : ℕ) → n ≡ suc (suc more)
     → slice_set (slice_set (replicate n v) 0 a) 1 b ≡ a ∷ b ∷ replicate more v
 two_set n more v a b e = rw e refl
 
+-- The columns that the code makes have the model's first words.
 pub words_as : (workers n more : ℕ) (local kind shared gate mark cell slot resource thread : List ℕ)
     (none root none_kind root_kind : ℕ)
     → n ≡ suc (suc more)
-    → local ≡ replicate n 0 → none ≡ 8589934591 → root ≡ local_word 0 (1 + workers) → kind ≡ replicate n 0
-    → none_kind ≡ 4294967296 → root_kind ≡ 3 * 4294967296 + 8
-    → shared ≡ replicate n fresh_word → gate ≡ replicate n 1 → mark ≡ replicate n 0 → cell ≡ replicate (8 * n) 0
+    → local ≡ replicate n 0 → none ≡ local_word 0 immortal_local → root ≡ local_word 0 (1 + workers)
+    → kind ≡ replicate n 0
+    → none_kind ≡ half → root_kind ≡ 3 * half + cell_limit
+    → shared ≡ replicate n fresh_word → gate ≡ replicate n 1 → mark ≡ replicate n 0
+    → cell ≡ replicate (cell_limit * n) 0
     → slot ≡ replicate n 0 → resource ≡ replicate n 0 → thread ≡ replicate (1 + workers) 1
     → word_in (record {
       local = slice_set (slice_set local 0 none) 1 root;
@@ -169,10 +178,10 @@ words_as workers n more local kind shared gate mark cell slot resource thread no
       o,
       p,
       t,
-      two_set n more 0 8589934591 (local_word 0 (1 + workers)) e,
-      two_set n more 0 4294967296 (3 * 4294967296 + 8) e,
+      two_set n more 0 (local_word 0 immortal_local) (local_word 0 (1 + workers)) e,
+      two_set n more 0 half (3 * half + cell_limit) e,
     ) (first_words workers n more)
 
--- the packed word of no count
+-- The packed word of count 0 and state default is the fresh word.
 pub fresh_is : (word : ℕ) → IsSharedWord word (record { count = pos 0; phase = Default }) → word ≡ fresh_word
 fresh_is word h = let e : pos word ≡ pos fresh_word = h in cc

@@ -1,5 +1,5 @@
--- The rows that are born, one after another, and how many of them are closed.
-use Rattle.std.proofs.Common.{◌≡◌, ℕ, zero, suc, ◌+◌, ◌-◌, ◌*◌, ◌/◌, ◌<◌, ◌≤◌, Bool, true, false, cond, List, [], ◌∷◌, ◌++◌, length, map, inl, inr, refl, sym, ap, ◌∙◌, subst, arith}
+-- The born rows of a world, row by row, and the number of closed ones among them.
+use Rattle.std.proofs.Common.{◌≡◌, ℕ, ◌+◌, ◌-◌, ◌<◌, ◌≤◌, Bool, true, false, cond, List, [], ◌∷◌, ◌++◌, length, map, inl, inr, refl, sym, ap, ◌∙◌, subst, arith}
 use Rattle.std.specs.Prelude.{filter, not, sum_by, count_by}
 use Rattle.std.specs.List.{All, range_with_len}
 use Rattle.std.proofs.lemmas.Bool.{cases_Bool}
@@ -7,12 +7,11 @@ use Rattle.std.proofs.lemmas.List.{map-id, append-nil, length-map}
 use Rattle.std.proofs.lemmas.List.FromFn.{map-range_with_len_more, length-range_with_len, get_or-range_with_len}
 use Rattle.std.proofs.lemmas.List.Elements.{filter-append, All-filter}
 use Rattle.std.proofs.lemmas.List.Sums.{sum_by-cons}
-use Rattle.std.proofs.lemmas.Nat.{div_below}
-use Rattle.brc_model.specs.Duties.{block_of}
-use Rattle.brc_model.specs.World.{World, row_count}
+use Rattle.brc_model.specs.World.{World}
 use Rattle.brc_report.specs.declared.tally.Tally.{Tally}
 use Rattle.brc_report.specs.declared.tally.Left.{Left}
 use Rattle.brc_world.specs.Tallies.{still_runs, is_born, is_closed_row, born_below, rows_born, rows_closed, rows_left, left_in, tally_of}
+use Rattle.brc_model.specs.Layout.{row_count}
 
 more_rows : (a n : ℕ) → range_with_len a (n + 1) ≡ range_with_len a n ++ (a + n) ∷ []
 more_rows a n =
@@ -29,17 +28,19 @@ born_more w row low =
     ∙ filter-append (is_born w) (range_with_len 1 (row - 1)) ((1 + (row - 1)) ∷ [])
     ∙ ap (λ (n : ℕ). born_below w (row - 1) ++ filter (is_born w) (n ∷ [])) here
 
+-- A born row is added to the born rows below it.
 pub born_here : (w : World) (row : ℕ) → 1 ≤ row → is_born w row ≡ true
     → born_below w (row + 1 - 1) ≡ born_below w (row - 1) ++ row ∷ []
 born_here w row low born = born_more w row low ∙ ap (λ (b : Bool). born_below w (row - 1) ++ cond b (row ∷ []) []) born
 
+-- An unborn row adds nothing to the born rows below it.
 pub unborn_here : (w : World) (row : ℕ) → 1 ≤ row → is_born w row ≡ false
     → born_below w (row + 1 - 1) ≡ born_below w (row - 1)
 unborn_here w row low unborn =
     born_more w row low ∙ ap (λ (b : Bool). born_below w (row - 1) ++ cond b (row ∷ []) []) unborn
     ∙ append-nil (born_below w (row - 1))
 
--- what passes a test and what doesn't are all
+-- The elements that pass a test and those that don't are together as many as all elements.
 pub parts : (p : ℕ → Bool) (xs : List ℕ) → length (filter p xs) + length (filter (λ x. not (p x)) xs) ≡ length xs
 parts p [] = refl
 parts p (x ∷ xs) = elim (cases_Bool (p x)) [
@@ -47,35 +48,26 @@ parts p (x ∷ xs) = elim (cases_Bool (p x)) [
   | inr e ↦ rw e (omega (arith, parts p xs))
 ]
 
+-- The elements that pass a test are as many as all elements less those that don't.
 pub passed : (p : ℕ → Bool) (xs : List ℕ) → length xs - length (filter (λ x. not (p x)) xs) ≡ length (filter p xs)
 passed p xs = omega (arith, parts p xs)
 
--- ---- rows are there
+-- ---- rows of the world
 
 rows_there : (a n : ℕ) → All (λ row. row < a + n) (range_with_len a n)
 rows_there a n k d lt =
     let within : k < n = subst (λ (m : ℕ). k < m) (length-range_with_len a n) lt in
     rw (get_or-range_with_len a n k d within) (omega (arith, within))
 
-pub born_there : (w : World) → 1 ≤ row_count w → All (λ row. row < row_count w) (rows_born w)
+-- Each born row is a row of the world.
+pub born_there : (w : World) → 1 ≤ row_count w.layout → All (λ row. row < row_count w.layout) (rows_born w)
 born_there w some =
-    let all : 1 + (row_count w - 1) ≡ row_count w = omega (arith, some) in
-    All-filter (is_born w) (λ row. row < row_count w) (range_with_len 1 (row_count w - 1))
-    (subst (λ (m : ℕ). All (λ row. row < m) (range_with_len 1 (row_count w - 1))) all
-    (rows_there 1 (row_count w - 1)))
+    let all : 1 + (row_count w.layout - 1) ≡ row_count w.layout = omega (arith, some) in
+    All-filter (is_born w) (λ row. row < row_count w.layout) (range_with_len 1 (row_count w.layout - 1))
+    (subst (λ (m : ℕ). All (λ row. row < m) (range_with_len 1 (row_count w.layout - 1))) all
+    (rows_there 1 (row_count w.layout - 1)))
 
--- ---- blocks
-
--- a row that is there is of main's block or of a worker's
-pub block_there : (rows workers row : ℕ) → 0 < rows → row < 2 + workers * rows → block_of rows row ≤ workers
-block_there rows workers zero some there = omega arith
-block_there rows workers (suc zero) some there = omega arith
-block_there rows workers (suc (suc x)) some there =
-    let within : x < workers * rows = omega (arith, there) in
-    let below : x / rows < workers = div_below x rows workers some within in
-    omega (arith, below)
-
--- ---- counts over a view
+-- ---- counts over a mapped list
 
 sum_over : {X Y : Type 0} (f : Y → ℕ) (g : X → Y) (xs : List X) → sum_by f (map g xs) ≡ sum_by (λ x. f (g x)) xs
 sum_over f g [] = refl
@@ -83,12 +75,14 @@ sum_over f g (x ∷ xs) =
     sum_by-cons f (g x) (map g xs) ∙ ap (λ (n : ℕ). f (g x) + n) (sum_over f g xs)
     ∙ sym (sum_by-cons (λ y. f (g y)) x xs)
 
+-- Counting the elements of a mapped list is counting the list's elements by the mapped test.
 pub count_over : {X Y : Type 0} (p : Y → Bool) (g : X → Y) (xs : List X)
     → count_by (λ x. p (g x)) xs ≡ count_by p (map g xs)
 count_over p g xs = sym (sum_over (λ y. cond (p y) 1 0) g xs)
 
--- ---- the report
+-- ---- the tally
 
+-- The tally that the code puts together is the tally of the world.
 pub tally_as : (w : World) (all running created closed alive : ℕ) (left : List Left) (born : List ℕ)
     → all ≡ length w.actors → running ≡ count_by still_runs w.actors → born ≡ rows_born w → created ≡ length born
     → left ≡ map (left_in w) (filter (λ row. not (is_closed_row w row)) born) → closed ≡ created - length left

@@ -1,5 +1,5 @@
--- The threads as the model has them, and what a step does to its thread and to the words, by the thread's action.
-use Rattle.std.specs.Prelude.{◌≡◌, ℕ, ◌≤◌, Bool, true, false, ◌==◌, ◌&&◌, not, if◌then◌else◌, List, [], ◌∷◌, reverse, Option}
+-- The model's view of a thread, and what a step changes in the words and in its thread, by the thread's action.
+use Rattle.std.specs.Prelude.{◌≡◌, ℕ, ◌≤◌, Bool, true, false, ◌==◌, ◌&&◌, not, if◌then◌else◌, List, [], ◌∷◌, reverse, Option, None}
 use Rattle.brc_model.specs.declared.actor.Status.{Status}
 use Rattle.brc_model.specs.declared.actor.Status.TheVariants.{Running, Leaving, Gone}
 use Rattle.brc_model.specs.declared.address.Address.{Address}
@@ -9,11 +9,11 @@ use Rattle.brc_model.specs.declared.duty.Duty.TheVariants.{ReleaseLoad, Settle, 
 use Rattle.brc_model.specs.declared.duty.Holding.TheVariants.{AsCaller}
 use Rattle.brc_model.specs.declared.actor.Place.{Place}
 use Rattle.brc_model.specs.declared.actor.Place.TheVariants.{Idle, InCall, Exiting}
-use Rattle.brc_model.specs.AbstractState.{root_row}
 use Rattle.brc_model.specs.Duties.{address_of, new_word}
 use Rattle.brc_model.specs.Within.{IsThere, Suits}
 use Rattle.brc_model.specs.Machine as model
-use Rattle.brc_model.specs.Machine.{Actor, Action, Skip, Stuck, Silent, Does, at_place}
+use Rattle.brc_model.specs.Actions.{StepActor, Action, Skip, Stuck, Silent, Does, may_claim}
+use Rattle.brc_model.specs.StepMachine.{at_place, step_actor}
 use Rattle.brc_world.specs.declared.did.Did.{Did}
 use Rattle.brc_world.specs.declared.did.Did.TheVariants as answers
 use Rattle.brc_world.specs.declared.dispatch.Start.{Start}
@@ -21,88 +21,99 @@ use Rattle.brc_world.specs.declared.dispatch.Start.TheVariants as starts
 use Rattle.brc_world.specs.declared.thread.Stage.{Stage}
 use Rattle.brc_world.specs.declared.thread.Stage.TheVariants as stages
 use Rattle.brc_world.specs.declared.thread.Thread.{Thread}
+use Rattle.brc_model.specs.declared.layout.Layout.{Layout}
+use Rattle.brc_model.specs.Layout.{root_row}
 
--- an idle thread's instruction and variables say nothing
+-- the model's place of a thread; only a call has an instruction and variables
 abbrev pub place_of : Stage → ℕ → ℕ → List (Option ℕ) → Place
 place_of stages.Idle left at variables = Idle left
 place_of stages.InCall left at variables = InCall left at variables
 place_of stages.Exiting left at variables = Exiting
 
--- the first duty of an agenda is the last of the code's
-abbrev pub actor_of : Thread → Actor
+-- the model's thread; the first duty of its agenda is the last one of the code's vector
+abbrev pub actor_of : Thread → StepActor
 actor_of t = record {
   function = t.function;
   place = place_of t.stage t.left t.at t.variables;
-  status = t.status;
-  agenda = reverse t.agenda.items;
-  aside = [];
-  head = t.head;
-  used = t.used;
+  actor = record {
+    status = t.status;
+    agenda = reverse t.agenda.items;
+    aside = [];
+    head = t.head;
+    used = t.used;
+    locked = None;
+    lent = None;
+  };
 }
 
-abbrev pub with_agenda : Actor → List Duty → Actor
+abbrev pub with_agenda : StepActor → List Duty → StepActor
 with_agenda a agenda =
     record {
       function = a.function;
       place = a.place;
-      status = a.status;
-      agenda = agenda;
-      aside = a.aside;
-      head = a.head;
-      used = a.used;
+      actor = record {
+        status = a.actor.status;
+        agenda = agenda;
+        aside = a.actor.aside;
+        head = a.actor.head;
+        used = a.actor.used;
+        locked = a.actor.locked;
+        lent = a.actor.lent;
+      };
     }
 
--- the exit: a thread with no call left gives up its reference to the root, settles, and leaves
-abbrev pub exit_action : ℕ → ℕ → ℕ → Action
-exit_action rows t used =
-    Does (ReleaseLoad root_row AsCaller) (Settle ∷ Leave (model.first_row rows t) used ∷ []) Exiting
+-- the exit of a thread with no call left: it releases its reference to the root, settles, and leaves
+abbrev pub exit_action : ℕ → Action
+exit_action used = Does (ReleaseLoad root_row AsCaller) (Settle ∷ Leave 0 used ∷ []) Exiting
 
--- Returns what a step with the action starts with.
+-- Returns the start of a step with the action.
 abbrev pub start_by : Action → Start
 start_by Skip = starts.Stuck
 start_by Stuck = starts.Stuck
 start_by (Silent moves place) = starts.Moved
 start_by (Does d rest place) = starts.Doing d
 
--- Returns the thread once its step has started: the duty that it does has left its agenda.
-abbrev pub started : Actor → Action → Actor
+-- Returns the thread once its step has started: the duty that it does is no longer in its agenda.
+abbrev pub started : StepActor → Action → StepActor
 started a Skip = a
 started a Stuck = a
 started a (Silent moves place) = at_place a place
 started a (Does d rest place) = with_agenda (at_place a place) rest
 
--- what needs no step: a chain that is empty, and marks of no rows
+-- a duty that needs no step: to settle an empty chain, or to scan no rows
 abbrev pub is_idle : ℕ → Duty → Bool
 is_idle head Settle = head == 0
 is_idle head (Scan x n) = n == 0
 is_idle head _ = false
 
--- ---- a step of one thread, as it changes the words and the thread
+-- ---- a step of one thread
 
-abbrev pub found_by : ℕ → ℕ → (Address → ℕ) → Actor → Duty → ℕ
-found_by rows t memory a d = memory (address_of rows t a.head d)
+-- the value that the duty finds in its word
+abbrev pub found_by : Layout → ℕ → (Address → ℕ) → StepActor → Duty → ℕ
+found_by layout t memory a d = memory (address_of layout t a.actor.head d)
 
--- a duty that isn't in the agenda any more
-abbrev pub memory_done : ℕ → ℕ → (Address → ℕ) → Actor → Duty → Address → ℕ
-memory_done rows t memory a d =
-    model.written memory (address_of rows t a.head d) (new_word t a.head d (found_by rows t memory a d))
+-- the words after a duty
+abbrev pub memory_done : Layout → ℕ → (Address → ℕ) → StepActor → Duty → Address → ℕ
+memory_done layout t memory a d =
+    model.written memory (address_of layout t a.actor.head d) (new_word t a.actor.head d (found_by layout t memory a d))
 
-abbrev pub actor_done : ℕ → ℕ → (Address → ℕ) → Actor → Duty → Actor
-actor_done rows t memory a d = model.actor_by t a d a.agenda (found_by rows t memory a d)
+-- the thread after a duty that was no longer in its agenda
+abbrev pub actor_done : Layout → ℕ → (Address → ℕ) → StepActor → Duty → StepActor
+actor_done layout t memory a d = step_actor layout t a d a.actor.agenda a.place (found_by layout t memory a d)
 
 -- Returns the words after the thread's action.
-abbrev pub memory_by : ℕ → ℕ → (Address → ℕ) → Actor → Action → Address → ℕ
-memory_by rows t memory a Skip = memory
-memory_by rows t memory a Stuck = memory
-memory_by rows t memory a (Silent moves place) = memory
-memory_by rows t memory a (Does d rest place) = memory_done rows t memory a d
+abbrev pub memory_by : Layout → ℕ → (Address → ℕ) → StepActor → Action → Address → ℕ
+memory_by layout t memory a Skip = memory
+memory_by layout t memory a Stuck = memory
+memory_by layout t memory a (Silent moves place) = memory
+memory_by layout t memory a (Does d rest place) = memory_done layout t memory a d
 
 -- Returns the thread after its action.
-abbrev pub actor_by : ℕ → ℕ → (Address → ℕ) → Actor → Action → Actor
-actor_by rows t memory a Skip = a
-actor_by rows t memory a Stuck = a
-actor_by rows t memory a (Silent moves place) = at_place a place
-actor_by rows t memory a (Does d rest place) = actor_done rows t memory (with_agenda (at_place a place) rest) d
+abbrev pub actor_by : Layout → ℕ → (Address → ℕ) → StepActor → Action → StepActor
+actor_by layout t memory a Skip = a
+actor_by layout t memory a Stuck = a
+actor_by layout t memory a (Silent moves place) = at_place a place
+actor_by layout t memory a (Does d rest place) = actor_done layout t memory (with_agenda (at_place a place) rest) d
 
 -- Returns the answer of a step with the action.
 abbrev pub did_by : Action → Did
@@ -111,40 +122,43 @@ did_by Stuck = answers.Same
 did_by (Silent moves place) = answers.Moved
 did_by (Does d rest place) = answers.Moved
 
--- the duty can be done: its word is there, among so many rows and threads, and suits it; and the thread uses no more
--- rows
-pub record CanDo (rows t n threads : ℕ) (memory : Address → ℕ) (a : Actor) (d : Duty) : Type 0 where
-  pub there : IsThere n threads (address_of rows t a.head d)
-  pub suits : Suits t (model.is_running a.status) n d (found_by rows t memory a d)
-  pub uses : model.used_by a.used d ≤ n
+-- the thread can do the duty, in a world of n rows: the duty's word is there, its value suits the duty, and the thread
+-- uses no more than n rows afterwards
+pub record CanDo (layout : Layout) (t n threads : ℕ) (memory : Address → ℕ) (a : StepActor) (d : Duty) : Type 0 where
+  pub there : IsThere n threads (address_of layout t a.actor.head d)
+  pub suits : Suits t (model.is_running a.actor.status) n d (found_by layout t memory a d)
+  pub uses : model.used_by a.actor.used d ≤ n
 
--- the duty that the thread does can be done
-abbrev pub CanAct : ℕ → ℕ → ℕ → ℕ → (Address → ℕ) → Actor → Action → Type 0
-CanAct rows t n threads memory a Skip = Unit {0}
-CanAct rows t n threads memory a Stuck = Unit {0}
-CanAct rows t n threads memory a (Silent moves place) = Unit {0}
-CanAct rows t n threads memory a (Does d rest place) = CanDo rows t n threads memory a d
+-- the thread can do its action's duty, if the action has one
+abbrev pub CanAct : Layout → ℕ → ℕ → ℕ → (Address → ℕ) → StepActor → Action → Type 0
+CanAct layout t n threads memory a Skip = Unit {0}
+CanAct layout t n threads memory a Stuck = Unit {0}
+CanAct layout t n threads memory a (Silent moves place) = Unit {0}
+CanAct layout t n threads memory a (Does d rest place) = CanDo layout t n threads memory a d
 
 -- ---- a claim
 
--- it finds a mark where it may look for one
-abbrev pub finds_mark : ℕ → ℕ → (Address → ℕ) → Actor → ℕ → Bool
-finds_mark rows t memory a row = model.may_claim rows t a row && not (memory (Mark row) == 0)
+-- the thread may claim the row, and finds its mark set
+abbrev pub finds_mark : Layout → ℕ → (Address → ℕ) → StepActor → ℕ → Bool
+finds_mark layout t memory a row = may_claim layout t a row && not (memory (Mark row) == 0)
 
-abbrev pub memory_claimed : ℕ → ℕ → (Address → ℕ) → Actor → ℕ → Address → ℕ
-memory_claimed rows t memory a row =
-    if finds_mark rows t memory a row then memory_done rows t memory a (ClaimMark row) else memory
+-- the words after the thread claims the row
+abbrev pub memory_claimed : Layout → ℕ → (Address → ℕ) → StepActor → ℕ → Address → ℕ
+memory_claimed layout t memory a row =
+    if finds_mark layout t memory a row then memory_done layout t memory a (ClaimMark row) else memory
 
-abbrev pub actor_claimed : ℕ → ℕ → (Address → ℕ) → Actor → ℕ → Actor
-actor_claimed rows t memory a row =
-    if finds_mark rows t memory a row then actor_done rows t memory a (ClaimMark row) else a
+-- the thread after it claims the row
+abbrev pub actor_claimed : Layout → ℕ → (Address → ℕ) → StepActor → ℕ → StepActor
+actor_claimed layout t memory a row =
+    if finds_mark layout t memory a row then actor_done layout t memory a (ClaimMark row) else a
 
-abbrev pub did_claim : ℕ → ℕ → (Address → ℕ) → Actor → ℕ → Status → Did
-did_claim rows t memory a row Gone = answers.Gone
-did_claim rows t memory a row Running = if finds_mark rows t memory a row then answers.Moved else answers.Same
-did_claim rows t memory a row Leaving = if finds_mark rows t memory a row then answers.Moved else answers.Same
+-- the answer of the claim
+abbrev pub did_claim : Layout → ℕ → (Address → ℕ) → StepActor → ℕ → Status → Did
+did_claim layout t memory a row Gone = answers.Gone
+did_claim layout t memory a row Running = if finds_mark layout t memory a row then answers.Moved else answers.Same
+did_claim layout t memory a row Leaving = if finds_mark layout t memory a row then answers.Moved else answers.Same
 
--- where it may look, it can
-abbrev pub CanClaim : ℕ → ℕ → ℕ → ℕ → (Address → ℕ) → Actor → ℕ → Type 0
-CanClaim rows t n threads memory a row =
-    model.may_claim rows t a row ≡ true → CanDo rows t n threads memory a (ClaimMark row)
+-- the thread can claim the row, if it may
+abbrev pub CanClaim : Layout → ℕ → ℕ → ℕ → (Address → ℕ) → StepActor → ℕ → Type 0
+CanClaim layout t n threads memory a row =
+    may_claim layout t a row ≡ true → CanDo layout t n threads memory a (ClaimMark row)

@@ -1,8 +1,9 @@
--- What a step's effect says: field by field what the model's step does.
-use Rattle.std.specs.Prelude.{◌≡◌, ℕ, ◌<◌, List, [], ◌∷◌}
+-- The effects of steps: field by field the model's.
+use Rattle.std.specs.Prelude.{◌≡◌, ℕ, ◌<◌, ◌^◌, List, [], ◌∷◌}
 use Rattle.brc_model.specs.declared.duty.Duty.{Duty}
 use Rattle.brc_model.specs.declared.duty.Duty.TheVariants.{ReleaseLoad, Die, Scan, SettleCell}
 use Rattle.brc_model.specs.declared.duty.Holding.TheVariants.{InFlight}
+use Rattle.brc_model.specs.Limits.{cell_limit}
 use Rattle.brc_model.specs.Duties.{new_word, continuation, new_head}
 use Rattle.brc_model.specs.Machine.{is_running, status_by, used_by}
 use Rattle.brc_world.specs.declared.effect.Doer.{Doer}
@@ -10,6 +11,7 @@ use Rattle.brc_world.specs.declared.effect.Effect.{Effect}
 use Rattle.brc_world.specs.declared.effect.Next.{Next}
 use Rattle.brc_world.specs.declared.effect.Next.TheVariants.{Nothing, One, Two, Release, Three}
 
+-- the duties, in the order in which the thread does them
 abbrev pub duties_of : Next → List Duty
 duties_of Nothing = []
 duties_of (One a) = a ∷ []
@@ -17,20 +19,24 @@ duties_of (Two a b) = a ∷ b ∷ []
 duties_of (Release x a) = ReleaseLoad x InFlight ∷ a ∷ []
 duties_of (Three a b c) = a ∷ b ∷ c ∷ []
 
--- the row and the cell of a duty that goes on to the next one are there, among n rows in all
+-- if the duty's effect adds 1 to a row or a cell, then the row is below n, the number of all rows, or the cell below 8
 abbrev pub IsNumbered : ℕ → Duty → Type 0
 IsNumbered n (Die x) = x < n
-IsNumbered n (Scan x k) = x < n
-IsNumbered n (SettleCell x i k) = i < 8
+IsNumbered n (SettleCell x i k) = i < cell_limit
 IsNumbered n _ = Unit {0}
 
--- the effect of a duty whose step found this word
+-- the index that a duty names is no large number
+abbrev pub IsIndexed : Duty → Type 0
+IsIndexed (Scan i k) = i < 2 ^ 31
+IsIndexed _ = Unit {0}
+
+-- the effect is the model's, for a duty whose step finds `found` in its word
 pub record IsEffect (by : Doer) (d : Duty) (found : ℕ) (e : Effect) : Type 0 where
   -- the new value of the word
   pub word : e.word ≡ new_word by.number by.head d found
   -- the duties that follow
-  pub next : duties_of e.next ≡ continuation by.number (is_running by.status) by.head d found
-  -- the thread
+  pub next : duties_of e.next ≡ continuation by.layout by.number (is_running by.status) by.head d found
+  -- the thread afterwards
   pub head : e.head ≡ new_head by.head d found
   pub status : e.status ≡ status_by by.status d
   pub used : e.used ≡ used_by by.used d

@@ -1,12 +1,13 @@
--- The words of a world, and what stands at each address.
+-- The words of a world in columns, and the word at each address.
 use Rattle.std.specs.Prelude.{◌≡◌, ℕ, ◌+◌, ◌*◌, nat_lt, if◌then◌else◌, List, length}
 use Rattle.std.specs.List.{slice_index_or}
 use Rattle.brc_word.specs.Words.{fresh_word}
+use Rattle.brc_model.specs.Limits.{cell_limit}
 use Rattle.brc_model.specs.Machine.{written}
 use Rattle.brc_model.specs.declared.address.Address.{Address}
 use Rattle.brc_model.specs.declared.address.Address.TheVariants.{Local, Shared, Gate, KindOf, Mark, Cell, Slot, Resource, ThreadWord}
 
--- the words by kind; the eight cells of a row stand side by side
+-- one list for each sort of word; the cells of a row are side by side
 pub record Columns : Type 0 where
   pub local : List ℕ
   pub shared : List ℕ
@@ -18,29 +19,29 @@ pub record Columns : Type 0 where
   pub resource : List ℕ
   pub thread : List ℕ
 
--- an address that there is no word for has the word that it would begin with
+-- the word at the address; an address without a word has the value that such a word has at first
 abbrev pub word_in : Columns → Address → ℕ
 word_in c (Local x) = slice_index_or c.local x 0
 word_in c (Shared x) = slice_index_or c.shared x fresh_word
 word_in c (Gate x) = slice_index_or c.gate x 1
 word_in c (KindOf x) = slice_index_or c.kind x 0
 word_in c (Mark x) = slice_index_or c.mark x 0
-word_in c (Cell x i) = if nat_lt i 8 then slice_index_or c.cell (8 * x + i) 0 else 0
+word_in c (Cell x i) = if nat_lt i cell_limit then slice_index_or c.cell (cell_limit * x + i) 0 else 0
 word_in c (Slot x) = slice_index_or c.slot x 0
 word_in c (Resource x) = slice_index_or c.resource x 0
 word_in c (ThreadWord t) = slice_index_or c.thread t 0
 
--- each row has its words
+-- each row has its words of each sort
 pub record AreColumns (c : Columns) : Type 0 where
   pub shared : length c.shared ≡ length c.local
   pub gate : length c.gate ≡ length c.local
   pub kind : length c.kind ≡ length c.local
   pub mark : length c.mark ≡ length c.local
-  pub cell : length c.cell ≡ 8 * length c.local
+  pub cell : length c.cell ≡ cell_limit * length c.local
   pub slot : length c.slot ≡ length c.local
   pub resource : length c.resource ≡ length c.local
 
--- as many rows and threads as before, and one word written
+-- the columns after one word is written; the numbers of rows and threads stay
 pub record IsStored (old : Columns) (address : Address) (word : ℕ) (new : Columns) : Type 0 where
   pub rows : length new.local ≡ length old.local
   pub threads : length new.thread ≡ length old.thread

@@ -1,45 +1,47 @@
--- The counts of a world, and what stands in it unclosed.
-use Rattle.std.specs.Prelude.{ℕ, ◌+◌, ◌-◌, Bool, ◌==◌, not, nat_lt, List, length, map, filter, count_by, Option, None, Some, slice_get}
+-- The tally of a world, read from its words and its threads: its counts, and the objects that are left in it.
+use Rattle.std.specs.Prelude.{ℕ, ◌-◌, Bool, ◌&&◌, ◌==◌, not, nat_lt, List, length, map, filter, count_by, Option, None, Some, slice_get}
 use Rattle.std.specs.List.{range_with_len}
 use Rattle.brc_word.specs.Words.{closed_word, kind_part}
 use Rattle.brc_model.specs.declared.address.Address.TheVariants.{Gate, KindOf}
 use Rattle.brc_model.specs.Kinds.{kind_numbered}
-use Rattle.brc_model.specs.Duties.{block_of}
 use Rattle.brc_model.specs.Safety.{has_gone}
-use Rattle.brc_model.specs.Machine.{Actor, first_row}
-use Rattle.brc_model.specs.World.{World, row_count}
+use Rattle.brc_model.specs.World.{World}
+use Rattle.brc_model.specs.Actions.{StepActor}
 use Rattle.brc_report.specs.declared.tally.Tally.{Tally}
 use Rattle.brc_report.specs.declared.tally.Left.{Left}
+use Rattle.brc_model.specs.Layout.{row_count, block_of, index_of, is_immortal_row}
 
 -- ---- threads
 
-abbrev pub still_runs : Actor → Bool
-still_runs a = not (has_gone a.status)
+abbrev pub still_runs : StepActor → Bool
+still_runs a = not (has_gone a.actor.status)
 
 -- ---- rows
 
-abbrev pub used_of : Option Actor → ℕ
+abbrev pub used_of : Option StepActor → ℕ
 used_of None = 0
-used_of (Some a) = a.used
+used_of (Some a) = a.actor.used
 
--- a row is born once its thread has used it
+-- says whether the row is born: it is counted, and the thread of its block has used it
 abbrev pub is_born : World → ℕ → Bool
-is_born w row = nat_lt row (first_row w.rows (block_of w.rows row) + used_of (slice_get w.actors (block_of w.rows row)))
+is_born w row =
+    not (is_immortal_row w.layout row)
+    && nat_lt (index_of w.layout (block_of w.layout row) row) (used_of (slice_get w.actors (block_of w.layout row)))
 
 abbrev pub is_closed_row : World → ℕ → Bool
 is_closed_row w row = w.memory (Gate row) == closed_word
 
--- so many rows from 1 on: what is born and counted, for only none isn't counted
+-- the born rows among the n rows from 1 on
 abbrev pub born_below : World → ℕ → List ℕ
 born_below w n = filter (is_born w) (range_with_len 1 n)
 
 abbrev pub rows_born : World → List ℕ
-rows_born w = born_below w (row_count w - 1)
+rows_born w = born_below w (row_count w.layout - 1)
 
 abbrev pub rows_closed : World → List ℕ
 rows_closed w = filter (is_closed_row w) (rows_born w)
 
--- by rising row
+-- the born rows that aren't closed, in rising order
 abbrev pub rows_left : World → List ℕ
 rows_left w = filter (λ row. not (is_closed_row w row)) (rows_born w)
 
@@ -48,7 +50,7 @@ left_in w row = record { row = row; kind = kind_numbered (kind_part (w.memory (K
 
 -- ---- the report
 
--- no step yet is a host call, so nothing faults
+-- the tally of the world; no step is a host call yet, so nothing faults
 abbrev pub tally_of : World → Tally
 tally_of w = record {
   threads = length w.actors - 1;

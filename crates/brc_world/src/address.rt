@@ -1,15 +1,18 @@
-//! The word that a duty is about.
+//! The word that a duty accesses.
 
 ghost use Rattle.std.specs.Prelude.{◌≡◌, ◌<◌};
-ghost use Rattle.brc_model.specs.Duties.{address_of, block_of};
+ghost use Rattle.brc_model.specs.Duties.{address_of};
+ghost use Rattle.brc_world.specs.Effects.{IsIndexed};
 
-use brc_model::{Address, Duty};
+use crate::rows::{block_of, row_at};
+use brc_model::{Address, Duty, Layout};
 
-/// The word that the thread's duty is about: each worker has so many rows, and the head is that of the thread's dying
-/// chain.
-pub fn address_of(rows: u16, thread: u8, head: u32, duty: Duty) -> Address
-    requires { 0 < rows }
-    ensures { result ≡ address_of rows thread head duty }
+/// Returns the address of the word that the thread's duty accesses. `head` is the head of the thread's dying chain: 0
+/// if it is empty, else a row plus 1.
+pub fn address_of(layout: Layout, thread: u8, head: u32, duty: Duty) -> Address
+    requires some_rows { 0 < layout.rows }
+    requires indexed { IsIndexed duty }
+    ensures { result ≡ address_of layout thread head duty }
 {
     match duty {
         Duty::RetainLoad { row, .. }
@@ -32,26 +35,17 @@ pub fn address_of(rows: u16, thread: u8, head: u32, duty: Duty) -> Address
         Duty::SettleCell { row, cell, .. } => Address::Cell { row, cell },
         Duty::TakeSlot { row } | Duty::BirthSlot { row, .. } => Address::Slot { row },
         Duty::CloseResource { row } => Address::Resource { row },
-        Duty::SetMark { row }
-        | Duty::TakeMark { row }
-        | Duty::Scan { row, .. }
-        | Duty::ClaimMark { row } => Address::Mark { row },
+        Duty::SetMark { row } | Duty::TakeMark { row } | Duty::ClaimMark { row } => Address::Mark {
+            row,
+        },
+        Duty::Scan { index, .. } => Address::Mark {
+            row: row_at(layout, thread, index),
+        },
         Duty::Look { row } => Address::ThreadWord {
-            thread: block_of(rows, row),
+            thread: block_of(layout, row),
         },
         Duty::Leave { .. } | Duty::Finish => Address::ThreadWord {
             thread: u32::from(thread),
         },
-    }
-}
-
-/// The thread of the row's block.
-pub fn block_of(rows: u16, row: u32) -> u32
-    requires { 0 < rows }
-    ensures { result ≡ block_of rows row }
-{
-    match row {
-        0 | 1 => 0,
-        _ => (row - 2) / u32::from(rows) + 1,
     }
 }

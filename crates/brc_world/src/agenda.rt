@@ -1,4 +1,4 @@
-//! The duties that a thread has still to do, of which the last of the list is done next.
+//! A thread's agenda: the duties that it still has to do. The last duty of the vector is done next.
 
 ghost use Rattle.std.specs.Prelude.{◌≡◌, ◌+◌, ◌≤◌, ◌++◌, ◌∷◌, reverse, vec_len, vec_capacity};
 ghost use Rattle.brc_model.specs.Duties.{ready};
@@ -8,7 +8,7 @@ ghost use Rattle.brc_world.specs.Effects.{duties_of};
 use crate::effect::Next;
 use brc_model::{Duty, Holding};
 
-/// Puts the duties in front of the agenda.
+/// Adds the duties to the agenda, to be done before those that are in it already.
 #[inline(always)]
 pub fn push(agenda: &mut Vec<Duty>, next: Next)
     requires room { vec_len agenda.old + 4 ≤ vec_capacity agenda.old }
@@ -36,7 +36,7 @@ pub fn push(agenda: &mut Vec<Duty>, next: Next)
     }
 }
 
-/// Passes over what needs no step: a chain that is empty, and marks of no rows.
+/// Removes the next duties for as long as they need no step: `Settle` with an empty chain, and `Scan` of no rows.
 #[inline(always)]
 pub fn pass_over(agenda: &mut Vec<Duty>, head: u32)
     ensures { reverse agenda.new.items ≡ ready head (reverse agenda.old.items) }

@@ -1,92 +1,89 @@
-//! What a thread's step begins with: the first duty of its agenda, or what its next instruction or its exit asks for.
+//! The start of a thread's step: the first duty of its agenda, or the dispatch of its next instruction or of its exit.
 
 ghost use Rattle.std.specs.Prelude.{◌≡◌, ◌+◌, ◌<◌, ◌≤◌, ◌^◌, if◌then◌else◌, slice_get, None, Some};
 ghost use Rattle.std.specs.Prelude.{[], ◌∷◌, reverse, vec_len, vec_capacity};
 ghost use Rattle.brc_model.specs.declared.duty.Duty.TheVariants.{ReleaseLoad, Settle};
 ghost use Rattle.brc_model.specs.declared.duty.Holding.TheVariants.{ByVariable};
 ghost use Rattle.brc_model.specs.Threads.{code_of, entry_variables};
-ghost use Rattle.brc_model.specs.Machine.{agenda_action, dispatch_instruction, first_row, has_room, next_row};
+ghost use Rattle.brc_model.specs.Actions.{agenda_action, dispatch_instruction};
+ghost use Rattle.brc_model.specs.Machine.{has_room};
 ghost use Rattle.brc_world.specs.Actors.{actor_of, with_agenda, exit_action, start_by, started};
+ghost use Rattle.brc_model.specs.Layout.{row_at};
 
+use crate::rows::{NONE_ROW, ROOT, block_size, row_at};
 use crate::states::NUM;
 use crate::thread::{Stage, Thread, Variables};
 use brc_lang::{Function, Instr, Variable};
-use brc_model::{Duty, Holding};
+use brc_model::{Duty, Holding, Layout};
 use brc_word::kind_word;
 
-/// What a thread's step begins with.
+/// The start of a thread's step.
 #[derive(Clone, Copy, Debug)]
 pub enum Start {
-    /// It can't go on.
+    /// The thread can't go on.
     Stuck,
-    /// It has gone on already: the step changes the thread alone.
+    /// The step is done already: it accesses no word, and changes the thread alone.
     Moved,
-    /// The duty is to be done. It isn't in the agenda any more.
+    /// The thread does this duty, which is no longer in its agenda.
     Doing(Duty),
 }
 
-/// The row of none.
-const NONE_ROW: u32 = 0;
-
-/// The row of the root.
-const ROOT: u32 = 1;
-
-/// Takes the first duty of the agenda, or dispatches the next instruction or the exit.
+/// Takes the first duty off the agenda or, if the agenda is empty, dispatches the next instruction or the exit.
 #[inline(always)]
-pub fn first_duty(functions: &[Function], rows: u16, number: u8, thread: &mut Thread) -> Start
+pub fn first_duty(functions: &[Function], layout: Layout, number: u8, thread: &mut Thread) -> Start
     requires room { vec_len thread.old.agenda + 8 ≤ vec_capacity thread.old.agenda }
-    ensures starts { result ≡ start_by (agenda_action functions.now rows number (actor_of thread.old)
+    ensures starts { result ≡ start_by (agenda_action functions.now layout number (actor_of thread.old)
         (reverse thread.old.agenda.items)) }
-    ensures actor { actor_of thread.new ≡ started (actor_of thread.old) (agenda_action functions.now rows number
+    ensures actor { actor_of thread.new ≡ started (actor_of thread.old) (agenda_action functions.now layout number
         (actor_of thread.old) (reverse thread.old.agenda.items)) }
     ensures room { vec_len thread.new.agenda + 4 ≤ vec_capacity thread.new.agenda }
 {
     match thread.agenda.pop() {
         Some(duty) => Start::Doing(duty),
-        None => dispatch(functions, rows, number, thread),
+        None => dispatch(functions, layout, number, thread),
     }
 }
 
-/// What follows an empty agenda. The first step of a call begins it as well: the variables of a thread that is idle
-/// are no part of the world.
+/// Dispatches the next instruction or the exit, once the agenda is empty. The dispatch of a call's first instruction
+/// also begins the call. That is no step of its own, because an idle thread's variables are no part of the world.
 #[inline(always)]
-fn dispatch(functions: &[Function], rows: u16, number: u8, thread: &mut Thread) -> Start
+fn dispatch(functions: &[Function], layout: Layout, number: u8, thread: &mut Thread) -> Start
     requires empty { thread.old.agenda.items ≡ [] }
     requires room { 8 ≤ vec_capacity thread.old.agenda }
-    ensures starts { result ≡ start_by (agenda_action functions.now rows number (actor_of thread.old) []) }
+    ensures starts { result ≡ start_by (agenda_action functions.now layout number (actor_of thread.old) []) }
     ensures actor { actor_of thread.new ≡ started (actor_of thread.old)
-        (agenda_action functions.now rows number (actor_of thread.old) []) }
+        (agenda_action functions.now layout number (actor_of thread.old) []) }
     ensures room { vec_len thread.new.agenda + 4 ≤ vec_capacity thread.new.agenda }
 {
     match thread.stage {
         Stage::Exiting => Start::Stuck,
         Stage::InCall => {
             let left = thread.left;
-            next_instruction(functions, rows, number, thread, left)
+            next_instruction(functions, layout, number, thread, left)
         }
         Stage::Idle => {
             if thread.left == 0 {
-                return exit(rows, number, thread);
+                return exit(thread);
             }
             thread.at = 0;
             thread.variables = entry_variables();
             let left = thread.left - 1;
-            next_instruction(functions, rows, number, thread, left)
+            next_instruction(functions, layout, number, thread, left)
         }
     }
 }
 
-/// The thread gives up its reference to the root, and leaves.
-fn exit(rows: u16, number: u8, thread: &mut Thread) -> Start
+/// Begins the exit: the thread releases its reference to the root, deallocates its dying chain, and then leaves.
+fn exit(thread: &mut Thread) -> Start
     requires empty { thread.old.agenda.items ≡ [] }
     requires room { 8 ≤ vec_capacity thread.old.agenda }
-    ensures starts { result ≡ start_by (exit_action rows number thread.old.used) }
-    ensures actor { actor_of thread.new ≡ started (actor_of thread.old) (exit_action rows number thread.old.used) }
+    ensures starts { result ≡ start_by (exit_action thread.old.used) }
+    ensures actor { actor_of thread.new ≡ started (actor_of thread.old) (exit_action thread.old.used) }
     ensures room { vec_len thread.new.agenda + 4 ≤ vec_capacity thread.new.agenda }
 {
     thread.stage = Stage::Exiting;
     thread.agenda.push_reserved(Duty::Leave {
-        row: first_row(rows, number),
+        index: 0,
         rows: thread.used,
     });
     thread.agenda.push_reserved(Duty::Settle);
@@ -96,32 +93,32 @@ fn exit(rows: u16, number: u8, thread: &mut Thread) -> Start
     })
 }
 
-/// The instruction that the thread is at, in a call with `left` calls behind it; past the last one the thread can't
-/// go on.
+/// Dispatches the instruction `thread.at` of a call after which `left` calls remain. Past the last instruction the
+/// thread is stuck.
 #[inline(always)]
 fn next_instruction(
     functions: &[Function],
-    rows: u16,
+    layout: Layout,
     number: u8,
     thread: &mut Thread,
     left: u32,
 ) -> Start
     requires empty { thread.old.agenda.items ≡ [] }
     requires room { 8 ≤ vec_capacity thread.old.agenda }
-    ensures starts { result ≡ start_by (dispatch_instruction rows number thread.old.used left thread.old.at
+    ensures starts { result ≡ start_by (dispatch_instruction layout number thread.old.used left thread.old.at
         thread.old.variables (slice_get (code_of (slice_get functions.now thread.old.function)) thread.old.at)) }
-    ensures actor { actor_of thread.new ≡ started (actor_of thread.old) (dispatch_instruction rows number
+    ensures actor { actor_of thread.new ≡ started (actor_of thread.old) (dispatch_instruction layout number
         thread.old.used left thread.old.at thread.old.variables
         (slice_get (code_of (slice_get functions.now thread.old.function)) thread.old.at)) }
     ensures room { vec_len thread.new.agenda + 4 ≤ vec_capacity thread.new.agenda }
 {
     match code_of(functions, thread.function).get(thread.at) {
-        Some(instr) => begin(*instr, rows, number, thread, left),
+        Some(instr) => begin(*instr, layout, number, thread, left),
         None => Start::Stuck,
     }
 }
 
-/// The function's instructions, or none where there is no such function.
+/// Returns the function's instructions, or none if there is no such function.
 fn code_of(functions: &[Function], function: usize) -> &[Instr]
     ensures { result.now ≡ code_of (slice_get functions.now function) }
 {
@@ -131,7 +128,7 @@ fn code_of(functions: &[Function], function: usize) -> &[Instr]
     }
 }
 
-/// The variables as a call begins: v0 is the root.
+/// Returns the variables at the start of a call: v0 names the root, and the others are empty.
 fn entry_variables() -> Variables
     ensures { result ≡ entry_variables }
 {
@@ -140,35 +137,21 @@ fn entry_variables() -> Variables
     variables
 }
 
-/// The first row of a thread's block.
-pub fn first_row(rows: u16, number: u8) -> u32
-    ensures { result ≡ first_row rows number }
+/// Returns the row of the thread's next birth, or `None` if its block is full, as main's always is.
+fn next_row(layout: Layout, number: u8, used: u32) -> Option<u32>
+    ensures { result ≡ (if has_room layout number used then Some (row_at layout number used) else None) }
 {
-    match number {
-        0 => 0,
-        _ => 2 + u32::from(number - 1) * u32::from(rows),
-    }
-}
-
-/// The row of the thread's next birth, if there is room for it: main has two rows.
-fn next_row(rows: u16, number: u8, used: u32) -> Option<u32>
-    ensures { result ≡ (if has_room rows number used then Some (next_row rows number used) else None) }
-{
-    let size = match number {
-        0 => 2,
-        _ => u32::from(rows),
-    };
-    (used < size).then(|| first_row(rows, number) + used)
+    (used < block_size(layout, number)).then(|| row_at(layout, number, used))
 }
 
 #[inline(always)]
-fn begin(instr: Instr, rows: u16, number: u8, thread: &mut Thread, left: u32) -> Start
+fn begin(instr: Instr, layout: Layout, number: u8, thread: &mut Thread, left: u32) -> Start
     requires empty { thread.old.agenda.items ≡ [] }
     requires room { 8 ≤ vec_capacity thread.old.agenda }
     requires next { thread.old.at + 1 < 2 ^ 64 }
-    ensures starts { result ≡ start_by (dispatch_instruction rows number thread.old.used left thread.old.at
+    ensures starts { result ≡ start_by (dispatch_instruction layout number thread.old.used left thread.old.at
         thread.old.variables (Some instr)) }
-    ensures actor { actor_of thread.new ≡ started (actor_of thread.old) (dispatch_instruction rows number
+    ensures actor { actor_of thread.new ≡ started (actor_of thread.old) (dispatch_instruction layout number
         thread.old.used left thread.old.at thread.old.variables (Some instr)) }
     ensures room { vec_len thread.new.agenda + 4 ≤ vec_capacity thread.new.agenda }
 {
@@ -178,7 +161,7 @@ fn begin(instr: Instr, rows: u16, number: u8, thread: &mut Thread, left: u32) ->
             to,
             value,
             otherwise,
-        } => match next_row(rows, number, thread.used) {
+        } => match next_row(layout, number, thread.used) {
             Some(row) => {
                 thread.set(to, Some(row));
                 thread.go_to(left, next);
@@ -245,7 +228,7 @@ fn begin(instr: Instr, rows: u16, number: u8, thread: &mut Thread, left: u32) ->
     }
 }
 
-/// The variable's reference to the object is given up; then the thread settles.
+/// Begins the release of the variable's reference to the row's object. The thread deallocates its dying chain next.
 fn release(thread: &mut Thread, row: u32, from: Variable) -> Start
     requires empty { thread.old.agenda.items ≡ [] }
     requires room { 8 ≤ vec_capacity thread.old.agenda }

@@ -1,10 +1,12 @@
-//! One step of one thread: the words that it changes, and the thread itself.
+//! One step of one thread: it changes a word, the thread, or both.
 
 ghost use Rattle.std.specs.Prelude.{◌≡◌, ◌≢◌, ◌+◌, ◌<◌, ◌≤◌, true, length, OnOk, OnErr, IfOk, IfErr};
 ghost use Rattle.std.specs.Prelude.{vec_len, vec_capacity};
 ghost use Rattle.brc_model.specs.declared.actor.Status.TheVariants.{Gone};
 ghost use Rattle.brc_model.specs.Duties.{address_of, new_word};
-ghost use Rattle.brc_model.specs.Machine.{is_running, used_by, may_claim, status_action};
+ghost use Rattle.brc_model.specs.Machine.{is_running, used_by};
+ghost use Rattle.brc_model.specs.Actions.{may_claim, status_action};
+ghost use Rattle.brc_model.specs.Limits.{worker_limit, total_limit};
 ghost use Rattle.brc_model.specs.Within.{IsThere, Suits};
 ghost use Rattle.brc_world.specs.Storage.{word_in, IsStored};
 ghost use Rattle.brc_world.specs.Actors.{actor_of, found_by, actor_done, memory_by, actor_by, did_by, CanAct, finds_mark, memory_claimed, actor_claimed, did_claim, CanClaim};
@@ -12,38 +14,39 @@ ghost use Rattle.brc_world.specs.Actors.{actor_of, found_by, actor_done, memory_
 use crate::address::address_of;
 use crate::agenda::{pass_over, push};
 use crate::did::Did;
-use crate::dispatch::{Start, first_duty, first_row};
+use crate::dispatch::{Start, first_duty};
 use crate::effect::Doer;
 use crate::memory::Memory;
 use crate::no_memory::NoMemory;
+use crate::rows::{block_of, index_of};
 use crate::thread::{Stage, Thread};
 use brc_lang::Function;
-use brc_model::{Address, Duty, Status};
+use brc_model::{Address, Duty, Layout, Status};
 
-/// How many duties a step puts into an agenda at most.
+/// The room in the agenda that a step reserves: four duties when it starts, and four when its duty is done.
 const ROOM: usize = 8;
 
-/// The thread's duty, which has left its agenda, is done on its word.
+/// Does the thread's duty, which is no longer in its agenda, on the duty's word.
 #[inline(always)]
-pub fn do_duty(memory: &mut Memory, rows: u16, number: u8, thread: &mut Thread, duty: &Duty)
-    requires some_rows { 0 < rows }
-    requires small { length memory.old.local ≤ 32770 }
-    requires known { number ≤ 32 }
+pub fn do_duty(memory: &mut Memory, layout: Layout, number: u8, thread: &mut Thread, duty: &Duty)
+    requires some_rows { 0 < layout.rows }
+    requires small { length memory.old.local ≤ total_limit }
+    requires known { number ≤ worker_limit }
     requires there { IsThere (length memory.old.local) (length memory.old.thread)
-        (address_of rows number thread.old.head duty.now) }
+        (address_of layout number thread.old.head duty.now) }
     requires suits { Suits number (is_running thread.old.status) (length memory.old.local) duty.now
-        (found_by rows number (word_in memory.old) (actor_of thread.old) duty.now) }
+        (found_by layout number (word_in memory.old) (actor_of thread.old) duty.now) }
     requires uses { used_by thread.old.used duty.now ≤ length memory.old.local }
     requires room { vec_len thread.old.agenda + 4 ≤ vec_capacity thread.old.agenda }
-    ensures word { IsStored memory.old (address_of rows number thread.old.head duty.now)
+    ensures word { IsStored memory.old (address_of layout number thread.old.head duty.now)
         (new_word number thread.old.head duty.now
-        (found_by rows number (word_in memory.old) (actor_of thread.old) duty.now)) memory.new }
-    ensures actor { actor_of thread.new ≡ actor_done rows number (word_in memory.old) (actor_of thread.old) duty.now }
+        (found_by layout number (word_in memory.old) (actor_of thread.old) duty.now)) memory.new }
+    ensures actor { actor_of thread.new ≡ actor_done layout number (word_in memory.old) (actor_of thread.old) duty.now }
 {
     let all = memory.rows() as u32;
-    let address = address_of(rows, number, thread.head, *duty);
+    let address = address_of(layout, number, thread.head, *duty);
     let found = memory.load(address);
-    let by = doer(thread, number, all);
+    let by = doer(layout, thread, number, all);
     let effect = by.effect(*duty, found);
     push(&mut thread.agenda, effect.next);
     thread.head = effect.head;
@@ -53,9 +56,11 @@ pub fn do_duty(memory: &mut Memory, rows: u16, number: u8, thread: &mut Thread, 
     pass_over(&mut thread.agenda, effect.head);
 }
 
-/// The thread as its duty sees it, with `rows` rows of all threads together.
-fn doer(thread: &Thread, number: u8, rows: u32) -> Doer
+/// Returns the parts of the thread that a duty's effect depends on. `rows` is the number of rows of all threads
+/// together.
+fn doer(layout: Layout, thread: &Thread, number: u8, rows: u32) -> Doer
     ensures { result ≡ record {
+      layout = layout;
       number = number;
       status = thread.now.status;
       head = thread.now.head;
@@ -64,6 +69,7 @@ fn doer(thread: &Thread, number: u8, rows: u32) -> Doer
     } }
 {
     Doer {
+        layout,
         number,
         status: thread.status,
         head: thread.head,
@@ -78,26 +84,27 @@ fn is_running(status: Status) -> bool
     matches!(status, Status::Running)
 }
 
-/// The thread goes on by one step. Where memory is refused, nothing changes.
+/// Takes the thread's next step, and returns what it did. Returns `NoMemory`, with nothing changed, if memory is
+/// refused.
 #[inline(always)]
 pub fn act(
     functions: &[Function],
     memory: &mut Memory,
-    rows: u16,
+    layout: Layout,
     number: u8,
     thread: &mut Thread,
 ) -> Result<Did, NoMemory>
-    requires some_rows { 0 < rows }
-    requires small { length memory.old.local ≤ 32770 }
-    requires known { number ≤ 32 }
-    requires can { CanAct rows number (length memory.old.local) (length memory.old.thread) (word_in memory.old)
-        (actor_of thread.old) (status_action functions.now rows number (actor_of thread.old) thread.old.status) }
+    requires some_rows { 0 < layout.rows }
+    requires small { length memory.old.local ≤ total_limit }
+    requires known { number ≤ worker_limit }
+    requires can { CanAct layout number (length memory.old.local) (length memory.old.thread) (word_in memory.old)
+        (actor_of thread.old) (status_action functions.now layout number (actor_of thread.old) thread.old.status) }
     ensures did { IfOk result (λ did. did
-        ≡ did_by (status_action functions.now rows number (actor_of thread.old) thread.old.status)) }
-    ensures words { OnOk result (word_in memory.new ≡ memory_by rows number (word_in memory.old) (actor_of thread.old)
-        (status_action functions.now rows number (actor_of thread.old) thread.old.status)) }
-    ensures actor { OnOk result (actor_of thread.new ≡ actor_by rows number (word_in memory.old) (actor_of thread.old)
-        (status_action functions.now rows number (actor_of thread.old) thread.old.status)) }
+        ≡ did_by (status_action functions.now layout number (actor_of thread.old) thread.old.status)) }
+    ensures words { OnOk result (word_in memory.new ≡ memory_by layout number (word_in memory.old) (actor_of thread.old)
+        (status_action functions.now layout number (actor_of thread.old) thread.old.status)) }
+    ensures actor { OnOk result (actor_of thread.new ≡ actor_by layout number (word_in memory.old) (actor_of thread.old)
+        (status_action functions.now layout number (actor_of thread.old) thread.old.status)) }
     ensures refused { IfErr result (λ _. thread.old.status ≢ Gone) }
     ensures same_words { OnErr result (memory.new ≡ memory.old) }
     ensures same_actor { OnErr result (actor_of thread.new ≡ actor_of thread.old) }
@@ -108,37 +115,39 @@ pub fn act(
         return Ok(Did::Gone);
     }
     thread.agenda.reserve(ROOM)?;
-    match first_duty(functions, rows, number, thread) {
+    match first_duty(functions, layout, number, thread) {
         Start::Stuck => Ok(Did::Same),
         Start::Moved => Ok(Did::Moved),
         Start::Doing(duty) => {
-            do_duty(memory, rows, number, thread, &duty);
+            do_duty(memory, layout, number, thread, &duty);
             Ok(Did::Moved)
         }
     }
 }
 
-/// The thread looks whether the row's mark is set, where it may. Where memory is refused, nothing changes.
+/// Takes the row's mark if the thread may claim the row and the mark is set, and returns what the step did. Returns
+/// `NoMemory`, with nothing changed, if memory is refused.
 #[inline(never)]
 pub fn claim(
     memory: &mut Memory,
-    rows: u16,
+    layout: Layout,
     number: u8,
     thread: &mut Thread,
     row: u32,
 ) -> Result<Did, NoMemory>
-    requires some_rows { 0 < rows }
-    requires small { length memory.old.local ≤ 32770 }
-    requires known { number ≤ 32 }
-    requires can { CanClaim rows number (length memory.old.local) (length memory.old.thread) (word_in memory.old)
+    requires some_rows { 0 < layout.rows }
+    requires small { length memory.old.local ≤ total_limit }
+    requires known { number ≤ worker_limit }
+    requires can { CanClaim layout number (length memory.old.local) (length memory.old.thread) (word_in memory.old)
         (actor_of thread.old) row }
-    ensures did { IfOk result (λ did. did ≡ did_claim rows number (word_in memory.old) (actor_of thread.old) row
+    ensures did { IfOk result (λ did. did ≡ did_claim layout number (word_in memory.old) (actor_of thread.old) row
         thread.old.status) }
     ensures words { OnOk result (word_in memory.new
-        ≡ memory_claimed rows number (word_in memory.old) (actor_of thread.old) row) }
+        ≡ memory_claimed layout number (word_in memory.old) (actor_of thread.old) row) }
     ensures actor { OnOk result (actor_of thread.new
-        ≡ actor_claimed rows number (word_in memory.old) (actor_of thread.old) row) }
-    ensures refused { IfErr result (λ _. finds_mark rows number (word_in memory.old) (actor_of thread.old) row ≡ true) }
+        ≡ actor_claimed layout number (word_in memory.old) (actor_of thread.old) row) }
+    ensures refused { IfErr result (λ _. finds_mark layout number (word_in memory.old) (actor_of thread.old) row
+        ≡ true) }
     ensures same_words { OnErr result (memory.new ≡ memory.old) }
     ensures same_actor { OnErr result (actor_of thread.new ≡ actor_of thread.old) }
     ensures as_many_rows { length memory.new.local ≡ length memory.old.local }
@@ -147,33 +156,36 @@ pub fn claim(
     if let Status::Gone = thread.status {
         return Ok(Did::Gone);
     }
-    if !finds_mark(memory, rows, number, thread, row) {
+    if !finds_mark(memory, layout, number, thread, row) {
         return Ok(Did::Same);
     }
     thread.agenda.reserve(ROOM)?;
-    do_duty(memory, rows, number, thread, &Duty::ClaimMark { row });
+    do_duty(memory, layout, number, thread, &Duty::ClaimMark { row });
     Ok(Did::Moved)
 }
 
-fn finds_mark(memory: &Memory, rows: u16, number: u8, thread: &Thread, row: u32) -> bool
-    requires { CanClaim rows number (length memory.now.local) (length memory.now.thread) (word_in memory.now)
+fn finds_mark(memory: &Memory, layout: Layout, number: u8, thread: &Thread, row: u32) -> bool
+    requires some_rows { 0 < layout.rows }
+    requires can { CanClaim layout number (length memory.now.local) (length memory.now.thread) (word_in memory.now)
         (actor_of thread.now) row }
-    ensures { result ≡ finds_mark rows number (word_in memory.now) (actor_of thread.now) row }
+    ensures { result ≡ finds_mark layout number (word_in memory.now) (actor_of thread.now) row }
 {
-    may_claim(rows, number, thread, row) && memory.load(Address::Mark { row }) != 0
+    may_claim(layout, number, thread, row) && memory.load(Address::Mark { row }) != 0
 }
 
-/// Whether the thread runs, stands outside its calls, and has used the row.
-fn may_claim(rows: u16, number: u8, thread: &Thread, row: u32) -> bool
-    ensures { result ≡ may_claim rows number (actor_of thread.now) row }
+/// Returns whether the thread may claim the row: it runs, is in no call, has nothing to do, and has used the row of its
+/// block. It may claim no other thread's row, because only the owner may merge an object while it runs
+/// (`claim_of_any_row`).
+fn may_claim(layout: Layout, number: u8, thread: &Thread, row: u32) -> bool
+    requires { 0 < layout.rows }
+    ensures { result ≡ may_claim layout number (actor_of thread.now) row }
 {
     match thread.stage {
         Stage::Idle => {
-            let first = first_row(rows, number);
             is_running(thread.status)
                 && thread.agenda.is_empty()
-                && first <= row
-                && row - first < thread.used
+                && block_of(layout, row) == u32::from(number)
+                && index_of(layout, number, row) < thread.used
         }
         Stage::InCall | Stage::Exiting => false,
     }

@@ -1,11 +1,12 @@
-//! What a step does, as one value: the new value of its word, the duties that follow, and what becomes of its thread.
+//! The effect of a step, as one value: the new value of its word, the duties that follow, and the thread afterwards.
 
 ghost use Rattle.std.specs.Prelude.{◌≡◌, ◌≤◌, ◌<◌, ◌^◌};
 ghost use Rattle.brc_model.specs.Machine.{is_running, used_by};
+ghost use Rattle.brc_model.specs.Limits.{worker_limit};
 ghost use Rattle.brc_model.specs.Within.{Suits};
-ghost use Rattle.brc_world.specs.Effects.{IsNumbered, IsEffect};
+ghost use Rattle.brc_world.specs.Effects.{IsIndexed, IsNumbered, IsEffect};
 
-use brc_model::{Duty, Status};
+use brc_model::{Duty, Layout, Status};
 
 mod birth;
 mod dying;
@@ -14,52 +15,54 @@ mod merge;
 mod release;
 mod retain;
 
-/// The duties that take the place of one that is done, in their order.
+/// The duties that replace a duty once it is done, in the order in which the thread does them.
 #[derive(Clone, Copy, Debug)]
 pub enum Next {
     Nothing,
     One(Duty),
     Two(Duty, Duty),
-    /// The reference in the thread's hand is given up first.
+    /// The thread releases the reference in flight to the row's object, and then does `then`.
     Release { row: u32, then: Duty },
     Three(Duty, Duty, Duty),
 }
 
-/// What a step does.
+/// The effect of a step.
 #[derive(Clone, Copy, Debug)]
 pub struct Effect {
     /// The new value of the accessed word.
     pub word: u64,
-    /// The duties that follow, in front of the rest of the agenda.
+    /// The duties that the thread does next, before the rest of its agenda.
     pub next: Next,
-    /// The head of the thread's dying chain: 0, or a row and 1.
+    /// The head of the thread's dying chain: 0 if it is empty, else a row plus 1.
     pub head: u32,
     pub status: Status,
-    /// How many rows of its block the thread has used.
+    /// The number of rows of its block that the thread has used.
     pub used: u32,
 }
 
-/// The thread that does a duty.
+/// The thread that does a duty: the parts of it that the duty's effect depends on.
 #[derive(Clone, Copy, Debug)]
 pub struct Doer {
+    pub layout: Layout,
     pub number: u8,
     pub status: Status,
-    /// The head of its dying chain: 0, or a row and 1.
+    /// The head of its dying chain: 0 if it is empty, else a row plus 1.
     pub head: u32,
-    /// How many rows of its block it has used.
+    /// The number of rows of its block that it has used.
     pub used: u32,
-    /// The rows of all threads together.
+    /// The number of rows of all threads together.
     pub rows: u32,
 }
 
 impl Doer {
-    /// The effect of the duty, where its step found `found`. Each duty is one of the rules below: the word it found
-    /// decides what follows, and no word is looked at again.
+    /// Returns the effect of the duty, whose step found `found` in its word. Each duty has a function of its own in the
+    /// modules below. The effect depends on the thread, the duty and `found` alone: no step reads a second word.
     #[inline(always)]
     pub fn effect(self, duty: Duty, found: u64) -> Effect
-        requires known { self.number ≤ 32 }
+        requires known { self.number ≤ worker_limit }
         requires suits { Suits self.number (is_running self.status) self.rows duty found }
         requires numbered { IsNumbered self.rows duty }
+        requires indexed { IsIndexed duty }
         requires uses { used_by self.used duty < 2 ^ 32 }
         ensures { IsEffect self duty found result }
     {
@@ -96,8 +99,8 @@ impl Doer {
             Duty::TakeSlot { row } => self.take_slot(row),
             Duty::CloseResource { row } => self.close_resource(row),
             Duty::SettleEnd { .. } => self.settle_end(),
-            Duty::Leave { row, rows } => self.leave(row, rows),
-            Duty::Scan { row, rows } => self.scan(row, rows, found),
+            Duty::Leave { index, rows } => self.leave(index, rows),
+            Duty::Scan { index, rows } => self.scan(index, rows, found),
             Duty::Finish => self.finish(),
             Duty::ClaimMark { row } => self.claim_mark(row, found),
             Duty::BirthKind { row, holding, word } => self.birth_kind(row, holding, word),
@@ -106,7 +109,7 @@ impl Doer {
         }
     }
 
-    /// The effect of a step that leaves the thread's head, status and rows as they are.
+    /// Returns an effect that keeps the thread's head, status and number of used rows.
     #[inline(always)]
     fn leaves(self, word: u64, next: Next) -> Effect
         ensures { result ≡ record {

@@ -1,13 +1,15 @@
 ghost use Rattle.std.specs.Prelude.{◌≡◌, ◌∷◌, map, IfOk};
-ghost use Rattle.brc_model.specs.Machine.{main_actor, worker_actor};
+ghost use Rattle.brc_model.specs.StepMachine.{main_actor, worker_actor};
 ghost use Rattle.brc_world.specs.Actors.{actor_of};
 
 use crate::no_memory::NoMemory;
+use crate::rows::FRONT_ROWS;
 use crate::thread::{Stage, Thread};
 use brc_model::{Call, Status};
 use std::alloc::Global;
 
-/// Main, and a worker for each of the calls. The rows that main uses are those of none and of the root.
+/// Returns main and one worker for each call, or `NoMemory` if memory is refused. Main has used its two rows, none's
+/// and the root's.
 pub fn first_threads(alloc: Global, calls: &[Call]) -> Result<Vec<Thread>, NoMemory>
     ensures { IfOk result (λ threads. map actor_of threads.items ≡ main_actor ∷ map worker_actor calls.now) }
 {
@@ -21,7 +23,7 @@ pub fn first_threads(alloc: Global, calls: &[Call]) -> Result<Vec<Thread>, NoMem
         status: Status::Running,
         agenda: Vec::new(alloc),
         head: 0,
-        used: 2,
+        used: FRONT_ROWS,
     })?;
     for call in calls {
         threads.push(Thread {

@@ -1,9 +1,9 @@
-//! What holds of all runs.
+//! Laws of all runs.
 
 ghost use Rattle.std.specs.Prelude.{◌≡◌, ℕ, List};
 ghost use Rattle.brc_model.specs.declared.thread.Choice.{Choice};
 ghost use Rattle.brc_lang.specs.declared.module.Module.{Module};
-ghost use Rattle.brc_model.specs.Machine.{Machine, machine_after};
+ghost use Rattle.brc_model.specs.StepMachine.{StepMachine, machine_after};
 ghost use Rattle.brc_model.specs.World.{world_of};
 ghost use Rattle.brc_world.specs.Runs.{world_after};
 ghost use Rattle.brc_world.specs.Tallies.{tally_of};
@@ -15,18 +15,19 @@ use brc_model::{
     used_rows_are_born, worlds_are_small, worlds_follow_machines,
 };
 
-/// A run goes through the worlds of the machines that a module's safety speaks of.
+/// States that the world after some events is the world of the machine after the same events. So a module's safety,
+/// which is a law of machines, holds along each run.
 pub fn runs_follow_machines()
-    ensures { (m : Machine) (events : List (ℕ × Choice)) → world_of (machine_after m events)
+    ensures { (m : StepMachine) (events : List (ℕ × Choice)) → world_of (machine_after m events)
         ≡ world_after (world_of m) events }
 {
     worlds_follow_machines();
 }
 
-/// The tally of a world is that of its machine: it counts what was born and closed in the abstract state, and lists
-/// what is left there with its kind.
+/// States that the tally of a world, which is read from words, is that of its machine: it counts the objects that were
+/// born and closed in the abstract state, and lists those that are left there with their kinds.
 pub fn tallies_follow_machines()
-    ensures { (p : Module) (m : Machine) → IsMachineOf p m → tally_of (world_of m) ≡ machine_tally m }
+    ensures { (p : Module) (m : StepMachine) → IsMachineOf p m → tally_of (world_of m) ≡ machine_tally m }
 {
     worlds_are_small();
     accepted_is_safe();

@@ -1,5 +1,5 @@
-//! The step world over biased headers: threads that take one step at a time over an accepted module, each step one
-//! event on one word at most.
+//! The step world: threads run an accepted module over biased reference counts, one step at a time. Each step accesses
+//! one word at most.
 #![tactic(auto)]
 
 mod address;
@@ -12,6 +12,7 @@ mod first;
 mod laws;
 mod memory;
 mod no_memory;
+mod rows;
 mod run;
 mod states;
 mod tally;

@@ -2,17 +2,21 @@
 
 ghost use Rattle.std.specs.Prelude.{◌≡◌, ◌+◌, ◌*◌, ◌≤◌, length, IfOk};
 ghost use Rattle.brc_model.specs.Within.{IsThere};
-ghost use Rattle.brc_model.specs.Machine.{first_memory};
+ghost use Rattle.brc_model.specs.Limits.{worker_limit};
+ghost use Rattle.brc_model.specs.StepMachine.{first_memory};
 ghost use Rattle.brc_world.specs.Storage.{word_in, IsStored};
+ghost use Rattle.brc_model.specs.Layout.{row_count};
 
 use crate::no_memory::NoMemory;
+use crate::rows::row_count;
 use crate::states::{FREE, LIST, NONE, RUNNING};
-use brc_model::Address;
+use brc_model::{Address, Layout};
 use brc_word::{Phase, Shared, kind_word, local_word, pack};
 use std::alloc::Global;
 use std::marker::Model;
 
-/// The words by kind: one for each row, eight cells for each row, and one for each thread.
+/// The words of a world, one column for each sort of word: each row has eight cells and one word of each other sort,
+/// and each thread has one word.
 #[derive(Debug, Drop)]
 pub struct Memory {
     local: Vec<u64>,
@@ -56,18 +60,18 @@ impl Model for Memory {
     }) };
 }
 
-/// The cells of a row.
-const CELLS: usize = 8;
+/// The number of cells of each row.
+pub const CELLS: usize = 8;
 
 impl Memory {
-    /// How many rows there are.
+    /// Returns the number of rows.
     pub fn rows(&self) -> usize
         ensures { result ≡ length self.now.local }
     {
         self.local.len()
     }
 
-    /// The word at the address.
+    /// Returns the word at the address.
     pub fn load(&self, address: Address) -> u64
         requires { IsThere (length self.now.local) (length self.now.thread) address }
         ensures { result ≡ word_in self.now address }
@@ -85,7 +89,7 @@ impl Memory {
         }
     }
 
-    /// The word at the address becomes this one.
+    /// Stores the word at the address.
     pub fn store(&mut self, address: Address, word: u64)
         requires { IsThere (length self.old.local) (length self.old.thread) address }
         ensures { IsStored self.old address word self.new }
@@ -104,15 +108,16 @@ impl Memory {
     }
 }
 
-/// The words before any step: none is immortal, and the root is a list of eight cells that main owns, with a reference
-/// of main's and one of each worker's. Each worker has so many rows.
-pub fn first_memory(alloc: Global, workers: usize, rows: u16) -> Result<Memory, NoMemory>
-    requires { workers ≤ 32 }
-    ensures words { IfOk result (λ memory. word_in memory ≡ first_memory workers) }
-    ensures rows { IfOk result (λ memory. length memory.local ≡ 2 + workers * rows) }
-    ensures threads { IfOk result (λ memory. length memory.thread ≡ 1 + workers) }
+/// Returns the words before any step, or `NoMemory` if memory is refused. None is immortal. The root is a list of eight
+/// cells; main owns it, and its local count is one for main and one for each worker.
+pub fn first_memory(alloc: Global, layout: Layout) -> Result<Memory, NoMemory>
+    requires { layout.workers ≤ worker_limit }
+    ensures words { IfOk result (λ memory. word_in memory ≡ first_memory layout.workers) }
+    ensures rows { IfOk result (λ memory. length memory.local ≡ row_count layout) }
+    ensures threads { IfOk result (λ memory. length memory.thread ≡ 1 + layout.workers) }
 {
-    let n = 2 + workers * usize::from(rows);
+    let workers = usize::from(layout.workers);
+    let n = row_count(layout);
     let fresh = pack(Shared {
         count: 0,
         phase: Phase::Default,

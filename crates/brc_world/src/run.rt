@@ -1,4 +1,4 @@
-//! A schedule's steps, one after another.
+//! The run of a schedule: its steps, in order.
 
 ghost use Rattle.std.specs.Prelude.{◌≡◌, ◌<◌, length, OnOk, OnErr};
 ghost use Rattle.std.specs.List.{All};
@@ -11,8 +11,9 @@ use crate::world::World;
 use brc_schedule::{Schedule, Steps};
 
 impl World<'_> {
-    /// The steps of the schedule in order; its calls are those that the world began with. Where memory is refused, the
-    /// world stands after the steps made so far, and before one that would change it.
+    /// Takes the schedule's steps in order. It doesn't read the schedule's calls, with which the world has begun
+    /// already. Returns `NoMemory` at the first step that is refused memory: the steps before it have been taken, and
+    /// it would have changed the world.
     pub fn run(&mut self, schedule: &Schedule) -> Result<(), NoMemory>
         requires { All (λ line. line.thread < length self.old.actors) schedule.now.steps }
         ensures done { OnOk result (seen self.new ≡ world_after (seen self.old) (events_of schedule.now.steps)) }

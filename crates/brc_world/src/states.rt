@@ -1,21 +1,21 @@
-//! What the words of threads, marks, gates, slots and kinds say.
+//! The values of thread words, marks, gates and slots, and the kinds' numbers.
 
-/// A thread that runs.
+/// The thread word of a running thread.
 pub const RUNNING: u64 = 1;
 
-/// A thread that leaves.
+/// The thread word of a thread that has announced its exit.
 pub const LEAVING: u64 = 2;
 
-/// A thread that is gone.
+/// The thread word of a thread that is gone.
 pub const GONE: u64 = 3;
 
-/// A mark that is set.
+/// A set mark: the object is in its owner's queue.
 pub const SET: u64 = 1;
 
-/// A gate that is free.
+/// The gate of an object that is neither dying nor closed.
 pub const FREE: u64 = 1;
 
-/// A slot that a file's or a socket's resource is in.
+/// The slot of a file or a socket whose resource is in it.
 pub const FULL: u64 = 1;
 
 /// The number of the kind none.

@@ -1,4 +1,4 @@
-//! What a tally counts.
+//! The parts of a tally: the running threads, and kinds by their numbers.
 
 ghost use Rattle.std.specs.Prelude.{◌≡◌, count_by};
 ghost use Rattle.brc_world.specs.Actors.{actor_of};
@@ -9,7 +9,7 @@ use crate::thread::Thread;
 use brc_lang::Kind;
 use brc_model::Status;
 
-/// How many threads aren't gone.
+/// Returns the number of threads that aren't gone.
 pub fn running_in(threads: &[Thread]) -> usize
     ensures { result ≡ count_by (λ thread. still_runs (actor_of thread)) threads.now }
 {
@@ -19,7 +19,7 @@ pub fn running_in(threads: &[Thread]) -> usize
         .count()
 }
 
-/// The kind of this number in a kind word.
+/// Returns the kind that has this number in a kind word, or `Any` if no kind has it.
 pub fn kind_numbered(number: u32) -> Kind
     ensures { result ≡ kind_numbered number }
 {

@@ -7,10 +7,10 @@ use brc_lang::Variable;
 use brc_model::{Duty, Status};
 use std::fmt;
 
-/// What each variable names: a row, or nothing.
+/// The row that each variable names, or `None` for an empty variable.
 pub type Variables = [Option<u32>; Variable::COUNT];
 
-/// Where a thread is with its calls.
+/// Whether a thread is in a call, between calls or exiting.
 #[derive(Clone, Copy, Debug)]
 pub enum Stage {
     /// Before its first call, between two calls or after the last.
@@ -21,43 +21,43 @@ pub enum Stage {
     Exiting,
 }
 
-/// Where a thread is, and what it has still to do.
+/// A thread: where it is in its calls, and the duties that it still has to do.
 #[derive(Drop)]
 pub struct Thread {
-    /// The function that it calls, by number.
+    /// The number of the function that it calls.
     pub function: usize,
     pub stage: Stage,
-    /// The calls that it makes after the current one.
+    /// The number of calls that it still has to make, without the current one.
     pub left: u32,
     /// In a call, the number of the next instruction.
     pub at: usize,
-    /// In a call, what its variables name.
+    /// In a call, the rows that its variables name.
     pub variables: Variables,
     pub status: Status,
-    /// The last is done next: a step takes duties from the end and puts others there.
+    /// The duties to do. The last is done next: a step takes it from the end, and adds there the duties that follow it.
     pub agenda: Vec<Duty>,
-    /// The head of its dying chain: 0, or a row and 1.
+    /// The head of its dying chain: 0 if it is empty, else a row plus 1.
     pub head: u32,
-    /// How many rows of its block are used.
+    /// The number of rows of its block that it has used.
     pub used: u32,
 }
 
 impl Thread {
-    /// The row that the variable names, if any.
+    /// Returns the row that the variable names, or `None` if the variable is empty.
     pub fn row_of(&self, variable: Variable) -> Option<u32>
         ensures { result ≡ row_of self.now.variables variable }
     {
         self.variables[usize::from(variable.number())]
     }
 
-    /// The variable names the row from now on, or nothing.
+    /// Makes the variable name the row, or empties it.
     pub fn set(&mut self, variable: Variable, row: Option<u32>)
         ensures { self.new ≡ record self.old { variables = slice_set self.old.variables variable row } }
     {
         self.variables[usize::from(variable.number())] = row;
     }
 
-    /// The thread is in a call, at this instruction, with `left` calls behind it.
+    /// Puts the thread at the instruction `at` of a call after which `left` calls remain.
     pub fn go_to(&mut self, left: u32, at: usize)
         ensures { self.new ≡ record self.old { stage = Stage.InCall; left = left; at = at } }
     {
@@ -66,7 +66,7 @@ impl Thread {
         self.at = at;
     }
 
-    /// The call has ended, with `left` calls still to make.
+    /// Ends the call, with `left` calls still to make.
     pub fn rest(&mut self, left: u32)
         ensures { self.new ≡ record self.old { stage = Stage.Idle; left = left } }
     {
@@ -75,7 +75,8 @@ impl Thread {
     }
 }
 
-/// Writes what is part of the world: of a thread that is in no call no instruction and no variables.
+/// Writes the fields that are part of the world. An instruction and variables are part of it only while the thread is
+/// in a call.
 impl fmt::Debug for Thread {
     fn fmt<W: fmt::Write>(&self, f: &mut fmt::Formatter<W>) -> fmt::Result {
         let Thread {

@@ -2,40 +2,41 @@ ghost use Rattle.std.specs.Prelude.{◌≡◌, ◌≢◌, ◌<◌, ◌≤◌, no
 ghost use Rattle.std.specs.List.{All};
 ghost use Rattle.brc_model.specs.declared.thread.Choice.TheVariants.{Ok as goes_on, Claim as claims};
 ghost use Rattle.brc_model.specs.Safety.{AreCalls};
-ghost use Rattle.brc_model.specs.World.{first_world, row_count, step};
+ghost use Rattle.brc_model.specs.Limits.{row_limit};
+ghost use Rattle.brc_model.specs.World.{first_world, step};
 ghost use Rattle.brc_world.specs.Worlds.{seen};
 ghost use Rattle.brc_world.specs.Tallies.{used_of, is_born, is_closed_row, rows_born, left_in, tally_of};
 ghost use Rattle.brc_world.specs.MachineTallies.{IsMachineTally};
 ghost use Rattle.brc_world.specs.Answers.{is_gone_at, IsAnswer};
+ghost use Rattle.brc_model.specs.Layout.{row_count};
 
-use crate::address::block_of;
 use crate::did::Did;
-use crate::dispatch::first_row;
 use crate::doing::{act, claim};
 use crate::first::first_threads;
 use crate::laws::tallies_follow_machines;
-use crate::memory::{Memory, first_memory};
+use crate::memory::{CELLS, Memory, first_memory};
 use crate::no_memory::NoMemory;
+use crate::rows::{block_of, index_of, is_immortal_row};
 use crate::tally::{kind_numbered, running_in};
 use crate::thread::Thread;
 use brc_check::Checked;
 use brc_lang::{Module, Sequence};
 use brc_model::{
-    Address, Call, Choice, Status, steps_are_within, steps_move, worlds_are_small, worlds_lead_on,
+    Address, Call, Choice, Layout, Status, steps_are_within, steps_move, worlds_are_small,
+    worlds_lead_on,
 };
 use brc_report::{Left, Tally};
 use brc_word::{is_closed, kind_number};
 use std::alloc::Global;
 use std::marker::Model;
 
-/// A world that can be: steps lead to it from the first one.
+/// A reachable world: some list of steps leads to it from the first world.
 #[derive(Debug, Drop)]
 pub struct World<'a> {
     accepted: &'a Module,
-    /// Of each worker.
-    rows: u16,
+    layout: Layout,
     memory: Memory,
-    /// By their number: main is 0, the workers 1, 2, ..
+    /// By thread number: main is 0, the workers are 1, 2, ..
     threads: Vec<Thread>,
 }
 
@@ -48,7 +49,7 @@ impl<'a> Model for World<'a> {
 
     ghost view = { λ w. record {
       functions = w.accepted.now.functions;
-      rows = w.rows;
+      layout = w.layout;
       words = w.memory;
       actors = map actor_of w.threads.items;
     } };
@@ -56,14 +57,15 @@ impl<'a> Model for World<'a> {
     ghost invariant = { λ w. IsWorld w.accepted.now
         (record {
           functions = w.accepted.now.functions;
-          rows = w.rows;
+          layout = w.layout;
           words = w.memory;
           actors = map actor_of w.threads.items;
         }) };
 }
 
 impl<'a> World<'a> {
-    /// The world before any step: main and a worker for each of the calls, each with so many rows of its own.
+    /// Returns the world before any step, with main and one worker for each of the 1 to 32 calls. Each worker has
+    /// `rows` rows of its own, 1 to 1024. Returns `NoMemory` if memory is refused.
     pub fn new(
         alloc: Global,
         checked: &'a Checked,
@@ -73,20 +75,26 @@ impl<'a> World<'a> {
     ) -> Result<World<'a>, NoMemory>
         requires one_each { length calls.now ≡ workers }
         requires some_rows { 0 < rows }
-        requires most_rows { rows ≤ 1024 }
+        requires most_rows { rows ≤ row_limit }
         requires calls_fit { AreCalls checked.now.module calls.now }
         ensures { IfOk result (λ w. seen w ≡ first_world checked.now.module rows calls.now) }
     {
         worlds_lead_on();
+        let layout = Layout {
+            workers: workers as u8,
+            rows,
+            cells: CELLS as u8,
+            immortal_lists: 0,
+        };
         Ok(World {
             accepted: checked.module(),
-            rows,
-            memory: first_memory(alloc, workers, rows)?,
+            layout,
+            memory: first_memory(alloc, layout)?,
             threads: first_threads(alloc, calls)?,
         })
     }
 
-    /// How many threads there are, main too.
+    /// Returns the number of threads, main included.
     pub fn threads(&self) -> usize
         ensures value { result ≡ length self.now.actors }
         ensures some { 0 < result }
@@ -95,7 +103,7 @@ impl<'a> World<'a> {
         self.threads.len()
     }
 
-    /// Whether the thread takes no further step.
+    /// Returns whether the thread is gone: it takes no further step.
     pub fn is_gone(&self, thread: usize) -> bool
         requires { thread < length self.now.actors }
         ensures { result ≡ is_gone_at (seen self.now) thread }
@@ -103,7 +111,8 @@ impl<'a> World<'a> {
         matches!(self.threads[thread].status, Status::Gone)
     }
 
-    /// What the world comes to.
+    /// Returns the tally of the world: how many threads run, how many objects were created and closed, and which are
+    /// left. Returns `NoMemory` if memory is refused.
     pub fn tally(&self, alloc: Global) -> Result<Tally, NoMemory>
         ensures counted { IfOk result (λ tally. tally ≡ tally_of (seen self.now)) }
         ensures machine { IfOk result (IsMachineTally (seen self.now)) }
@@ -124,7 +133,7 @@ impl<'a> World<'a> {
         })
     }
 
-    /// The counted rows that are born, by rising number.
+    /// Returns the rows of all counted objects that have been born, in rising order.
     fn rows_born(&self, alloc: Global) -> Result<Vec<u32>, NoMemory>
         ensures { IfOk result (λ born. born.items ≡ rows_born (seen self.now)) }
     {
@@ -138,9 +147,9 @@ impl<'a> World<'a> {
         Ok(born)
     }
 
-    /// Those of the rows that aren't closed, with their kinds.
+    /// Returns the rows of `born` whose objects aren't closed, with the objects' kinds.
     fn left_of(&self, alloc: Global, born: &[u32]) -> Result<Sequence<Left>, NoMemory>
-        requires { All (λ row. row < row_count (seen self.now)) born.now }
+        requires { All (λ row. row < row_count self.now.layout) born.now }
         ensures { IfOk result (λ left. left ≡ map (left_in (seen self.now))
             (filter (λ row. not (is_closed_row (seen self.now) row)) born.now)) }
     {
@@ -154,24 +163,24 @@ impl<'a> World<'a> {
     }
 
     fn is_closed(&self, row: u32) -> bool
-        requires { row < row_count (seen self.now) }
+        requires { row < row_count self.now.layout }
         ensures { result ≡ is_closed_row (seen self.now) row }
     {
         is_closed(self.memory.load(Address::Gate { row }))
     }
 
-    /// Whether the row's thread has used it.
+    /// Returns whether an object has been born in the row: the row is counted, and the thread of its block has used it.
     fn is_born(&self, row: u32) -> bool
-        requires { row < row_count (seen self.now) }
+        requires { row < row_count self.now.layout }
         ensures { result ≡ is_born (seen self.now) row }
     {
         worlds_are_small();
-        let block = block_of(self.rows, row);
-        let first = first_row(self.rows, block as u8);
-        u64::from(row) < u64::from(first) + u64::from(self.used_in(block))
+        let block = block_of(self.layout, row);
+        let index = index_of(self.layout, block as u8, row);
+        !is_immortal_row(self.layout, row) && index < self.used_in(block)
     }
 
-    /// How many rows of its block the thread has used, or 0 where there is no such thread.
+    /// Returns how many rows of its block the thread has used, or 0 if there is no such thread.
     fn used_in(&self, block: u32) -> u32
         ensures { result ≡ used_of (slice_get self.now.actors block) }
     {
@@ -182,7 +191,7 @@ impl<'a> World<'a> {
     }
 
     fn left_in(&self, row: u32) -> Left
-        requires { row < row_count (seen self.now) }
+        requires { row < row_count self.now.layout }
         ensures { result ≡ left_in (seen self.now) row }
     {
         Left {
@@ -191,8 +200,9 @@ impl<'a> World<'a> {
         }
     }
 
-    /// One step of the thread: one event, on one word at most. Where memory is refused, nothing changes; a step that
-    /// would change nothing takes none. No step is a host call yet, so `Ok` and `Fault` mean the same.
+    /// Takes one step of the thread, which accesses one word at most, and returns what the step did. Returns
+    /// `NoMemory`, with nothing changed, if memory is refused; a step that changes nothing is never refused. No step is
+    /// a host call yet, so the choices `Ok` and `Fault` mean the same.
     #[inline]
     pub fn step(&mut self, thread: usize, choice: Choice) -> Result<Did, NoMemory>
         requires { thread < length self.old.actors }
@@ -224,7 +234,7 @@ impl<'a> World<'a> {
         act(
             self.accepted.functions.as_slice(),
             &mut self.memory,
-            self.rows,
+            self.layout,
             thread as u8,
             &mut self.threads[thread],
         )
@@ -244,7 +254,7 @@ impl<'a> World<'a> {
         steps_move();
         claim(
             &mut self.memory,
-            self.rows,
+            self.layout,
             thread as u8,
             &mut self.threads[thread],
             row,

@@ -1,5 +1,6 @@
--- Births and deaths by the definitions that the code's contracts name: thread 3 has used four rows, and row 7 is the
--- object's. Of these objects the instructions make numbers alone, so no run of a module shows the others.
+-- Births and deallocations, computed by the definitions that the code's contracts cite. Today's instructions make
+-- numbers alone, so no run of a module shows the other kinds. The object is in row 7, and thread 3, which has used four
+-- rows, makes and deallocates it.
 use Rattle.std.proofs.Common.{◌≡◌, ℕ, List, [], ◌∷◌, true, map, refl}
 use Rattle.brc_model.specs.declared.duty.Duty.{Duty}
 use Rattle.brc_model.specs.declared.duty.Duty.TheVariants.{
@@ -15,8 +16,13 @@ use Rattle.brc_model.specs.declared.duty.Duty.TheVariants.{
 use Rattle.brc_model.specs.declared.duty.Holding.TheVariants.{InFlight}
 use Rattle.brc_model.specs.declared.address.Address.{Address}
 use Rattle.brc_model.specs.declared.address.Address.TheVariants.{KindOf, Slot, Local, Resource}
+use Rattle.brc_model.specs.declared.layout.Layout.{Layout}
 use Rattle.brc_model.specs.Duties.{address_of, new_word, continuation}
 use Rattle.brc_model.specs.Machine.{used_by}
+
+-- four workers of four rows
+four : Layout
+four = record { workers = 4; rows = 4; cells = 8; immortal_lists = 0 }
 
 -- the kind words of the number 7, a list of one cell, a file and a socket
 number : ℕ
@@ -35,37 +41,43 @@ births : List Duty
 births = BirthKind 7 InFlight number ∷ BirthKind 7 InFlight list ∷ BirthKind 7 InFlight file ∷ BirthKind 7 InFlight sock
     ∷ BirthSlot 7 InFlight ∷ BirthLocal 7 InFlight ∷ []
 
+-- the words that the steps of a birth store
 births-leave : map (λ (d : Duty). new_word 3 0 d 0) births ≡ number ∷ list ∷ file ∷ sock ∷ 1 ∷ 17179869185 ∷ []
 unfolding number list file sock births
 births-leave = refl
 
-births-lead_to : map (λ (d : Duty). continuation 3 true 0 d 0) births
-    ≡ (BirthLocal 7 InFlight ∷ []) ∷ (BirthLocal 7 InFlight ∷ []) ∷ (BirthSlot 7 InFlight ∷ []) ∷ (BirthSlot 7 InFlight ∷ [])
+-- the duties that follow each of these steps
+births-lead_to : map (λ (d : Duty). continuation four 3 true 0 d 0) births
+    ≡ (BirthLocal 7 InFlight ∷ []) ∷ (BirthLocal 7 InFlight ∷ []) ∷ (BirthSlot 7 InFlight ∷ []) ∷
+    (BirthSlot 7 InFlight ∷ [])
     ∷ (BirthLocal 7 InFlight ∷ []) ∷ [] ∷ []
 unfolding number list file sock births
 births-lead_to = refl
 
+-- the number of rows that the thread has used after each step
 births-use : map (λ (d : Duty). used_by 4 d) births ≡ 4 ∷ 4 ∷ 4 ∷ 4 ∷ 4 ∷ 5 ∷ []
 unfolding number list file sock births
 births-use = refl
 
-births-are_at : map (λ (d : Duty). address_of 4 3 0 d) births
+-- the word of each step
+births-are_at : map (λ (d : Duty). address_of four 3 0 d) births
     ≡ KindOf 7 ∷ KindOf 7 ∷ KindOf 7 ∷ KindOf 7 ∷ Slot 7 ∷ Local 7 ∷ []
 unfolding number list file sock births
 births-are_at = refl
 
--- what a dying object has, by its kind word
-deaths-begin : map (λ (w : ℕ). continuation 3 true 0 (SettleKind 7) w) (number ∷ list ∷ file ∷ sock ∷ [])
+-- the duty that follows the load of a dying object's kind word
+deaths-begin : map (λ (w : ℕ). continuation four 3 true 0 (SettleKind 7) w) (number ∷ list ∷ file ∷ sock ∷ [])
     ≡ (SettleEnd 7 ∷ []) ∷ (SettleCell 7 0 1 ∷ []) ∷ (TakeSlot 7 ∷ []) ∷ (TakeSlot 7 ∷ []) ∷ []
 unfolding number list file sock
 deaths-begin = refl
 
-deaths-go_on : map (λ (d : Duty). continuation 3 true 0 d 1) (TakeSlot 7 ∷ CloseResource 7 ∷ [])
+-- the duties that close a resource
+deaths-go_on : map (λ (d : Duty). continuation four 3 true 0 d 1) (TakeSlot 7 ∷ CloseResource 7 ∷ [])
     ≡ (CloseResource 7 ∷ []) ∷ (SettleEnd 7 ∷ []) ∷ []
 deaths-go_on = refl
 
 deaths-leave : map (λ (d : Duty). new_word 3 0 d 1) (TakeSlot 7 ∷ CloseResource 7 ∷ []) ≡ 0 ∷ 0 ∷ []
 deaths-leave = refl
 
-deaths-are_at : map (λ (d : Duty). address_of 4 3 0 d) (TakeSlot 7 ∷ CloseResource 7 ∷ []) ≡ Slot 7 ∷ Resource 7 ∷ []
+deaths-are_at : map (λ (d : Duty). address_of four 3 0 d) (TakeSlot 7 ∷ CloseResource 7 ∷ []) ≡ Slot 7 ∷ Resource 7 ∷ []
 deaths-are_at = refl

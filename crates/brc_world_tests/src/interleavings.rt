@@ -8,13 +8,13 @@ use std::alloc::{AllocError, Global};
 use std::collections::BTreeSet;
 use std::test::*;
 
-/// The most states that the search goes through.
+/// The most states that the search visits.
 const MOST_STATES: usize = 100_000;
 
-/// What can happen next: a step of main or of a worker, or main looks for the root's mark.
+/// The number of moves: a step of main, a step of either worker, and a claim of the root's mark by main.
 const MOVES: u8 = 4;
 
-/// Two workers that call the function once.
+/// Returns a world with two workers, each of which calls the function once.
 fn first(alloc: Global, checked: &Checked) -> Result<World<'_>, NoMemory>
     requires { 0 < length checked.now.module.functions }
 {
@@ -25,7 +25,7 @@ fn first(alloc: Global, checked: &Checked) -> Result<World<'_>, NoMemory>
     World::new(alloc, checked, 2, 1, &[call, call])
 }
 
-/// The world after the moves, one after another.
+/// Returns the world after the moves.
 fn after<'a>(alloc: Global, checked: &'a Checked, moves: &[u8]) -> Result<World<'a>, NoMemory>
     requires { 0 < length checked.now.module.functions }
 {
@@ -52,7 +52,8 @@ fn one_move_more(alloc: Global, moves: &[u8], turn: u8) -> Result<Vec<u8>, Alloc
     Ok(more)
 }
 
-/// Whether all threads are gone. What was created is closed or alive, and at the end it is closed.
+/// Returns whether all threads are gone. Fails if what was created is neither closed nor alive, or isn't closed at the
+/// end.
 fn is_last(tally: [u64; 7]) -> Result<bool, Fail> {
     let [_, running, created, closed, alive, _, _] = tally;
     if closed.checked_add(alive) != Some(created) {
@@ -67,7 +68,7 @@ fn is_last(tally: [u64; 7]) -> Result<bool, Fail> {
     Ok(true)
 }
 
-/// The state after the moves is looked at where it is a new one; says whether it is new and the last.
+/// Visits the state after the moves, if it is a new one. Returns whether it is new and all its threads are gone.
 fn visit(
     alloc: Global,
     checked: &Checked,
@@ -87,7 +88,7 @@ fn visit(
     Ok(last)
 }
 
-/// The states that the moves lead to, the first one before any, and how many of them are last ones.
+/// Visits each state that moves lead to. Returns how many there are, and in how many of them all threads are gone.
 fn search(alloc: Global, checked: &Checked) -> Result<(usize, usize), Fail>
     requires { 0 < length checked.now.module.functions }
 {
@@ -109,8 +110,8 @@ fn search(alloc: Global, checked: &Checked) -> Result<(usize, usize), Fail>
     Ok((paths.len(), last))
 }
 
-/// Every interleaving of two workers and main, where each worker takes a reference, drops it and fails, and main looks
-/// for the root's mark at any time.
+/// Visits every interleaving of main and two workers. Each worker takes a reference, drops it and fails, and main
+/// claims the root's mark at any time.
 #[test]
 fn every_interleaving(rt: HostRuntime) -> Result<(), Fail> {
     let checked = accepted(rt.alloc(), TAKE_AND_DROP)?;

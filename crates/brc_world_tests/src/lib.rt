@@ -1,4 +1,4 @@
-//! Tests of the words of headers, and of the step world over them.
+//! Tests of header words, and of the step world.
 #![tactic(auto)]
 
 #[cfg(test)]

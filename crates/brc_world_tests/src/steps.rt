@@ -7,10 +7,10 @@ use brc_world::{Did, Left, NoMemory, Tally, World};
 use std::alloc::Global;
 use std::test::*;
 
-/// The most rounds that any of these worlds takes.
+/// Enough rounds for each world of these tests to end.
 const ROUNDS: u32 = 50_000;
 
-/// The accepted module of a function `f` of these lines.
+/// Reads and checks the module with one function `f` of these lines.
 pub fn accepted(alloc: Global, lines: &[u8]) -> Result<Checked, Fail>
     ensures { IfOk result (λ checked. 0 < length checked.module.functions) }
 {
@@ -39,7 +39,7 @@ fn finish(world: &mut World<'_>) -> Result<(), NoMemory> {
     Ok(())
 }
 
-/// One step, where there is such a thread.
+/// Takes one step, if there is such a thread.
 pub fn step(world: &mut World<'_>, thread: usize, choice: Choice) -> Result<Option<Did>, NoMemory> {
     if thread < world.threads() {
         Ok(Some(world.step(thread, choice)?))
@@ -67,24 +67,25 @@ fn numbers(tally: &Tally) -> [u64; 7] {
 /// The numbers of a tally, and the object that it lists as left, if any.
 pub type Told = ([u64; 7], Option<Left>);
 
-/// The root.
+/// The root, as a tally lists it.
 pub const ROOT: Left = Left {
     row: 1,
     kind: Kind::List,
 };
 
-/// What the tally of the world tells.
+/// Returns what the tally of the world reports.
 pub fn told(alloc: Global, world: &World<'_>) -> Result<Told, NoMemory> {
     let tally = tally(alloc, world)?;
     Ok((numbers(&tally), only(tally.left.as_slice())))
 }
 
-/// The tally, of which nothing is known: what its contract says would make every later line slow to prove.
+/// Returns the tally. This function has no contract, because `World::tally`'s would make each later line slow to prove.
 fn tally(alloc: Global, world: &World<'_>) -> Result<Tally, NoMemory> {
     world.tally(alloc)
 }
 
-/// The one object of the list; none's row, which is never left, stands for several.
+/// Returns the only object of the list, or `None` if the list is empty. A list of several gives none's row, which no
+/// tally lists.
 fn only(left: &[Left]) -> Option<Left> {
     match left {
         [] => None,
@@ -96,7 +97,7 @@ fn only(left: &[Left]) -> Option<Left> {
     }
 }
 
-/// A worker that calls the function once.
+/// Returns a world with one worker, which calls the function once.
 fn one_worker(alloc: Global, checked: &Checked) -> Result<World<'_>, NoMemory>
     requires { 0 < length checked.now.module.functions }
 {
@@ -107,7 +108,7 @@ fn one_worker(alloc: Global, checked: &Checked) -> Result<World<'_>, NoMemory>
     World::new(alloc, checked, 1, 4, &[call])
 }
 
-/// What a step of a worker that is gone answers, and the report then.
+/// Returns whether the worker is gone at the end, what one more step of it answers, and the tally afterwards.
 fn step_of_the_gone(alloc: Global) -> Result<(bool, Option<Did>, Told), Fail> {
     let checked = accepted(alloc, b"fail\n")?;
     let mut world = one_worker(alloc, &checked)?;
@@ -126,10 +127,10 @@ fn gone_for_good(rt: HostRuntime) -> Result<(), Fail> {
     Ok(())
 }
 
-/// A reference to the root is made and given up.
+/// The lines of a function that makes a reference to the root and gives it up.
 pub const TAKE_AND_DROP: &[u8] = b"newref v1 v0\ndrop v1\nfail\n";
 
-/// How many threads there are with two workers, what the first step answers, and what there is then.
+/// Returns the number of threads of a world with two workers, the answer of its first step, and the tally afterwards.
 fn first_step(alloc: Global) -> Result<(usize, Option<Did>, Told), Fail> {
     let checked = accepted(alloc, TAKE_AND_DROP)?;
     let call = Call {

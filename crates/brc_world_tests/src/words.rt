@@ -15,19 +15,32 @@ fn shared(count: i64, phase: Phase) -> Shared
 }
 
 #[test]
-fn shared_words(rt: HostRuntime) {
+fn word_values(rt: HostRuntime) {
     let packed = [
         pack(shared(0, Phase::Default)),
         pack(shared(-1, Phase::Queued)),
         pack(shared(2, Phase::Merged)),
     ];
     assert_eq!(rt; packed, [4398046511104, 4398046511102, 4398046511115]);
-    let unpacked = [
-        unpack(4398046511102),
-        unpack(4398046511105),
-        unpack(8796093022208),
+    assert_eq!(rt; unpack(4398046511105), None);
+    assert_eq!(rt; local_word(Some(3), 2), 17179869186);
+    let choices = [
+        retain_choice(8589934590, 0, true),
+        retain_choice(8589934591, 0, true),
+        retain_choice(4294967297, 0, true),
     ];
-    assert_eq!(rt; unpacked, [Some(shared(-1, Phase::Queued)), None, None]);
+    let expected = [
+        LocalChoice::Share,
+        LocalChoice::Skip,
+        LocalChoice::Store(4294967298),
+    ];
+    assert_eq!(rt; choices, expected);
+}
+
+#[test]
+fn unpacked_words(rt: HostRuntime) {
+    let unpacked = [unpack(4398046511102), unpack(8796093022208)];
+    assert_eq!(rt; unpacked, [Some(shared(-1, Phase::Queued)), None]);
 }
 
 #[test]
@@ -38,7 +51,7 @@ fn shared_steps(rt: HostRuntime) {
     ];
     assert_eq!(rt; more, [4398046511108, 4398046511106]);
 
-    // A new object is queued, and any other loses one.
+    // At count 0 and state default the object is queued; otherwise one is subtracted.
     let less = [
         released(4398046511104),
         released(4398046511106),
@@ -48,7 +61,7 @@ fn shared_steps(rt: HostRuntime) {
     let expected = [4398046511106, 4398046511102, 4398046511104, 4398046511107];
     assert_eq!(rt; less, expected);
 
-    // One is owed to the queue, and three are carried.
+    // The shared count -1 and three local references; then a new object and none.
     let together = [merged(4398046511102, 3), merged(4398046511104, 0)];
     assert_eq!(rt; together, [4398046511115, 4398046511107]);
 
@@ -65,21 +78,13 @@ fn shared_steps(rt: HostRuntime) {
 #[test]
 fn local_words(rt: HostRuntime) {
     let words = [
-        local_word(Some(3), 2),
         local_word(None, 0),
         local_with_one_more(4294967297),
         local_with_one_more(8589934590),
         local_with_one_less(4294967298),
         local_with_one_less(4294967297),
     ];
-    let expected = [
-        17179869186,
-        0,
-        4294967298,
-        8589934591,
-        4294967297,
-        4294967296,
-    ];
+    let expected = [0, 4294967298, 8589934591, 4294967297, 4294967296];
     assert_eq!(rt; words, expected);
     let counts = [
         local_count(17179869186),
@@ -96,19 +101,10 @@ fn local_words(rt: HostRuntime) {
 #[test]
 fn choices(rt: HostRuntime) {
     let local = [
-        retain_choice(8589934590, 0, true),
-        retain_choice(8589934591, 0, true),
-        retain_choice(4294967297, 0, true),
         release_choice_local(4294967298, 0, true),
         release_choice_local(4294967298, 1, true),
     ];
-    let expected = [
-        LocalChoice::Share,
-        LocalChoice::Skip,
-        LocalChoice::Store(4294967298),
-        LocalChoice::Store(4294967297),
-        LocalChoice::Share,
-    ];
+    let expected = [LocalChoice::Store(4294967297), LocalChoice::Share];
     assert_eq!(rt; local, expected);
     let released = [
         release_choice(shared(0, Phase::Default)),

@@ -1,4 +1,4 @@
--- How many references of each sort are in the bag, before and after a move.
+-- How often a reference is in the bag of references, before and after a move.
 use Rattle.std.proofs.Common.{◌≡◌, ◌≢◌, ℕ, ◌+◌, ◌<◌, ◌≤◌, Bool, true, false, cond, List, [], ◌∷◌, refl, sym, ap, ◌∙◌, subst, arith}
 use Rattle.std.specs.Prelude.{◌==◌, ◌&&◌, ◌||◌, count_by}
 use Rattle.std.specs.List.{list_any}
@@ -50,7 +50,7 @@ pub same_holder-refl : (h : Holder) → same_holder h h ≡ true
 same_holder-refl (ByThread t h) = rw (eq-eqb t t refl, same_holding-refl h) refl
 same_holder-refl (ByCell x i) = rw (eq-eqb x x refl, eq-eqb i i refl) refl
 
--- another thread is another holder
+-- Different threads are different holders.
 pub other_thread : (t u : ℕ) (h k : Holding) → t ≢ u → same_holder (ByThread t h) (ByThread u k) ≡ false
 other_thread t u h k ne = ap (λ (b : Bool). b && same_holding h k) (ne_eqb t u ne)
 
@@ -65,11 +65,11 @@ same-true r q e =
 pub same-refl : (r : Reference) → same r r ≡ true
 same-refl r = rw (same_holder-refl r.holder, eq-eqb r.object r.object refl) refl
 
--- a reference of another holder is another reference
+-- References with different holders are different.
 pub same-other_holder : (r q : Reference) → same_holder r.holder q.holder ≡ false → same r q ≡ false
 same-other_holder r q other = ap (λ (b : Bool). b && (r.object == q.object)) other
 
--- ---- a reference is there, or isn't
+-- ---- counting in the bag
 
 count_by-cons : (p : Reference → Bool) (q : Reference) (bag : List Reference)
     → count_by p (q ∷ bag) ≡ one_if (p q) + count_by p bag
@@ -108,9 +108,9 @@ held-le-references_to r (q ∷ qs) =
           omega (arith, left, references_to-cons r.object q qs, held-le-references_to r qs)
     ] refl
 
--- ---- a reference is lost
+-- ---- one reference less
 
--- by a test that can't tell equal references apart
+-- Removing one reference from the bag lowers the count of any test that the reference passes by one.
 count-without : (p : Reference → Bool) (q : Reference) (bag : List Reference) → list_any (same q) bag ≡ true
     → count_by p (without q bag) + one_if (p q) ≡ count_by p bag
 count-without p q [] has = absurd cc
@@ -140,7 +140,7 @@ pub references_to-without : (object : ℕ) (q : Reference) (bag : List Reference
     → references_to object (without q bag) + one_if (q.object == object) ≡ references_to object bag
 references_to-without object q bag has = count-without (λ (r : Reference). r.object == object) q bag has
 
--- ---- an empty bag
+-- ---- the empty bag
 
 held_itself : (q : Reference) (bag : List Reference) → held q (q ∷ bag) ≡ 1 + held q bag
 held_itself q bag = held-cons q q bag ∙ ap (λ (b : Bool). one_if b + held q bag) (same-refl q)

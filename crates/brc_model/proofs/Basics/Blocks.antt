@@ -1,135 +1,351 @@
--- The rows of each thread's block: which are used, born, or next to be born.
-use Rattle.std.proofs.Common.{◌≡◌, ◌≢◌, ℕ, zero, suc, ◌+◌, ◌-◌, ◌*◌, ◌<◌, ◌≤◌, Some, get_or, refl, sym, ap, ◌∙◌, subst, arith, inl, inr}
-use Rattle.std.specs.Prelude.{◌/◌, slice_get}
+-- The rows of each thread's block: where they are, which of them the thread has used, which are born, and which is born
+-- next. No other file depends on how the rows of a block are numbered.
+use Rattle.std.proofs.Common.{◌≡◌, ◌≢◌, ◌⊎◌, ℕ, zero, suc, ◌+◌, ◌-◌, ◌*◌, ◌<◌, ◌≤◌, Bool, true, false, cond, Some, get_or, refl, sym, ap, ◌∙◌, subst, arith, inl, inr}
+use Rattle.std.specs.Prelude.{◌/◌, ◌&&◌, ◌||◌, ◌==◌, nat_le, nat_lt, slice_get}
 use Rattle.std.proofs.Math.Nat.{div-mul-le_self, lt-div-mul-add, div-lt_iff_lt-mul, mul-le-mul, mul-le-mul_right}
 use Rattle.std.proofs.lemmas.Nat.{div-mul-add}
-use Rattle.std.proofs.lemmas.Bool.{cases_lt}
-use Rattle.brc_model.specs.Duties.{block_of}
-use Rattle.brc_model.specs.Machine.{Actor, Unborn, Machine, first_row, block_size, next_row, main_actor}
+use Rattle.std.proofs.lemmas.Bool.{cases_Bool, cases_lt, and_parts, eqb-true, leb-true, ltb-true, lt-ltb, le-ltb, le-leb, false≢true}
+use Rattle.std.proofs.lemmas.Bool.Decides.{leb_tells}
+use Rattle.std.proofs.lemmas.Option.{slice_get_within, slice_get-get_or}
+use Rattle.brc_model.specs.declared.layout.Layout.{Layout}
+use Rattle.brc_model.specs.Limits.{row_limit, worker_limit, total_limit}
+use Rattle.brc_model.specs.Machine.{Actor, Unborn, Machine, idle_actor}
 use Rattle.brc_model.specs.Accounts.{Accounts}
 use Rattle.brc_model.specs.Knowledge.{IsNext}
 use Rattle.brc_model.specs.Invariant.{CoreInvariant}
-use Rattle.std.proofs.lemmas.Option.{slice_get_within, slice_get-get_or}
-use Rattle.brc_model.specs.Limits.{row_limit, worker_limit}
+use Rattle.brc_model.specs.Layout.{none_row, root_row, front_rows, worker_rows, row_count, is_worker_row, block_of, block_size, row_at, index_of, first_immortal_list, is_immortal_row, IsCounted}
 
--- ---- arithmetic
+-- ---- main's rows and the workers'
 
-pub block_at : (rows t k : ℕ) → k < rows → block_of rows (first_row rows (suc t) + k) ≡ suc t
-block_at rows t k within =
-    let shifted : first_row rows (suc t) + k ≡ suc (suc (t * rows + k)) = omega arith in
-    ap (block_of rows) shifted ∙ (let quotient = div-mul-add t rows k within in omega (arith, quotient))
+-- The block of a row, by whether the row is a worker's.
+abbrev block_if : Layout → ℕ → Bool → ℕ
+block_if layout x b = cond b ((x - front_rows) / layout.rows + 1) 0
 
-pub block_low : (rows t x : ℕ) → block_of rows x ≡ t → first_row rows t ≤ x
-block_low rows zero x is = omega arith
-block_low rows (suc t) zero is = absurd (omega (arith, is))
-block_low rows (suc t) (suc zero) is = absurd (omega (arith, is))
-block_low rows (suc t) (suc (suc y)) is =
-    let quotient : y / rows ≡ t = omega (arith, is) in
-    let below : t * rows ≤ y = subst (λ (q : ℕ). q * rows ≤ y) quotient (div-mul-le_self y rows) in
-    omega (arith, below)
+and_false : (b c : Bool) → c ≡ false → (b && c) ≡ false
+and_false true c e = e
+and_false false c e = refl
 
-pub block_high : (rows t x : ℕ) → 0 < rows → block_of rows x ≡ suc t → x < first_row rows (suc t) + rows
-block_high rows t zero some is = absurd (omega (arith, is))
-block_high rows t (suc zero) some is = absurd (omega (arith, is))
-block_high rows t (suc (suc y)) some is =
-    let quotient : y / rows ≡ t = omega (arith, is) in
-    let above : y < t * rows + rows = subst (λ (q : ℕ). y < q * rows + rows) quotient (lt-div-mul-add some) in
-    omega (arith, above)
+-- Main's rows are in front of the workers' and behind them.
+pub data IsMains (layout : Layout) (x : ℕ) : Type 0 where
+  InFront : x < front_rows → IsMains layout x
+  InRear : front_rows + worker_rows layout ≤ x → IsMains layout x
 
-pub block_main : (rows x : ℕ) → block_of rows x ≡ 0 → x ≤ 1
-block_main rows zero is = omega arith
-block_main rows (suc zero) is = omega arith
-block_main rows (suc (suc y)) is = absurd (omega (arith, is))
+pub record IsWorkers (layout : Layout) (x : ℕ) : Type 0 where
+  pub low : front_rows ≤ x
+  pub high : x < front_rows + worker_rows layout
 
-pub main_block : (rows x : ℕ) → x ≤ 1 → block_of rows x ≡ 0
-main_block rows zero low = refl
-main_block rows (suc zero) low = refl
-main_block rows (suc (suc y)) low = absurd (omega (arith, low))
+row_place : (layout : Layout) (x : ℕ) → IsMains layout x ⊎ IsWorkers layout x
+row_place layout x =
+    elim (cases_lt x front_rows) [
+      | inl front ↦ inl (InFront front)
+      | inr low ↦
+          elim (cases_lt x (front_rows + worker_rows layout)) [
+            | inl high ↦ inr (record { low = low; high = high })
+            | inr rear ↦ inl (InRear rear)
+          ]
+    ]
 
--- a row that there is has a thread
-pub block_within : (rows n x : ℕ) → 0 < rows → 0 < n → x < 2 + (n - 1) * rows → block_of rows x < n
-block_within rows n zero some threads low = threads
-block_within rows n (suc zero) some threads low = threads
-block_within rows n (suc (suc y)) some threads low =
-    let below : y / rows < n - 1 = (div-lt_iff_lt-mul some).1 (omega (arith, low)) in
-    omega (arith, below)
+mains_block : (layout : Layout) (x : ℕ) → IsMains layout x → block_of layout x ≡ 0
+mains_block layout x (InFront front) =
+    let no : is_worker_row layout x ≡ false =
+    ap (λ (b : Bool). b && nat_lt x (front_rows + worker_rows layout))
+    (le-ltb 1 x (omega (arith, front))) in
+    ap (block_if layout x) no
+mains_block layout x (InRear rear) =
+    let no : is_worker_row layout x ≡ false =
+    and_false _ _ (le-ltb x (front_rows + worker_rows layout) rear) in
+    ap (block_if layout x) no
+
+workers_block : (layout : Layout) (x : ℕ) → IsWorkers layout x
+    → block_of layout x ≡ (x - front_rows) / layout.rows + 1
+workers_block layout x worker =
+    let yes : is_worker_row layout x ≡ true =
+    ap (λ (b : Bool). b && nat_lt x (front_rows + worker_rows layout))
+    (le-leb front_rows x worker.low)
+    ∙ lt-ltb x (front_rows + worker_rows layout) worker.high in
+    ap (block_if layout x) yes
+
+-- ---- a thread's rows by their indices
+
+-- Main's row at an index, in front and behind.
+front_row : (layout : Layout) (i : ℕ) → i < front_rows → row_at layout 0 i ≡ i
+front_row layout i front = ap (λ (b : Bool). cond b i (worker_rows layout + i)) (lt-ltb i front_rows front)
+
+rear_row : (layout : Layout) (i : ℕ) → front_rows ≤ i → row_at layout 0 i ≡ worker_rows layout + i
+rear_row layout i rear = ap (λ (b : Bool). cond b i (worker_rows layout + i)) (le-ltb i front_rows rear)
+
+-- The index of a row of main's, in front and behind.
+front_index : (layout : Layout) (x : ℕ) → x < front_rows → index_of layout 0 x ≡ x
+front_index layout x front = ap (λ (b : Bool). cond b x (x - worker_rows layout)) (lt-ltb x front_rows front)
+
+rear_index : (layout : Layout) (x : ℕ) → front_rows ≤ x → index_of layout 0 x ≡ x - worker_rows layout
+rear_index layout x rear = ap (λ (b : Bool). cond b x (x - worker_rows layout)) (le-ltb x front_rows rear)
+
+-- The row at an index of a thread's block is in that block.
+pub block_at : (layout : Layout) (t i : ℕ) → t ≤ layout.workers → i < block_size layout t
+    → block_of layout (row_at layout t i) ≡ t
+block_at layout zero i there within =
+    elim (cases_lt i front_rows) [
+      | inl front ↦ ap (block_of layout) (front_row layout i front) ∙ mains_block layout i (InFront front)
+      | inr rear ↦
+          ap (block_of layout) (rear_row layout i rear)
+          ∙ mains_block layout (worker_rows layout + i) (InRear (omega (arith, rear)))
+    ]
+block_at layout (suc t) i there within =
+    let x = row_at layout (suc t) i in
+    let more : suc t * layout.rows ≤ layout.workers * layout.rows = mul-le-mul_right layout.rows there in
+    let shifted : x - front_rows ≡ t * layout.rows + i = omega arith in
+    let quotient = div-mul-add t layout.rows i within in
+    workers_block layout x (record { low = omega arith; high = omega (arith, within, more) })
+    ∙ ap (λ (y : ℕ). y / layout.rows + 1) shifted ∙ omega (arith, quotient)
+
+-- The row at an index has that index.
+pub index_at : (layout : Layout) (t i : ℕ) → index_of layout t (row_at layout t i) ≡ i
+index_at layout zero i =
+    elim (cases_lt i front_rows) [
+      | inl front ↦ ap (index_of layout 0) (front_row layout i front) ∙ front_index layout i front
+      | inr rear ↦
+          ap (index_of layout 0) (rear_row layout i rear)
+          ∙ rear_index layout (worker_rows layout + i) (omega (arith, rear)) ∙ omega arith
+    ]
+index_at layout (suc t) i = omega arith
+
+workers_quotient : (layout : Layout) (t x : ℕ) → block_of layout x ≡ suc t → IsWorkers layout x
+    → (x - front_rows) / layout.rows ≡ t
+workers_quotient layout t x is worker = omega (arith, is, workers_block layout x worker)
+
+-- The row at a row's index is that row.
+pub row_back : (layout : Layout) (t x : ℕ) → block_of layout x ≡ t → row_at layout t (index_of layout t x) ≡ x
+row_back layout zero x is =
+    elim (row_place layout x) [
+      | inl (InFront front) ↦
+          let same = front_index layout x front in
+          ap (row_at layout 0) same ∙ front_row layout x front
+      | inl (InRear rear) ↦
+          let same = rear_index layout x (omega (arith, rear)) in
+          ap (row_at layout 0) same ∙ rear_row layout (x - worker_rows layout) (omega (arith, rear))
+          ∙ omega (arith, rear)
+      | inr worker ↦ absurd (omega (arith, is, workers_block layout x worker))
+    ]
+row_back layout (suc t) x is =
+    elim (row_place layout x) [
+      | inl mains ↦ absurd (omega (arith, is, mains_block layout x mains))
+      | inr worker ↦
+          let below : t * layout.rows ≤ x - front_rows =
+          subst (λ (q : ℕ). q * layout.rows ≤ x - front_rows) (workers_quotient layout t x is worker)
+          (div-mul-le_self (x - front_rows) layout.rows) in
+          omega (arith, below, worker.low)
+    ]
+
+-- The index of an existing row is below the size of its block.
+pub index_within : (layout : Layout) (t x : ℕ) → 0 < layout.rows → block_of layout x ≡ t → x < row_count layout
+    → index_of layout t x < block_size layout t
+index_within layout zero x some is low =
+    elim (row_place layout x) [
+      | inl (InFront front) ↦ let same = front_index layout x front in omega (arith, same, front)
+      | inl (InRear rear) ↦
+          let same = rear_index layout x (omega (arith, rear)) in
+          omega (arith, same, rear, low)
+      | inr worker ↦ absurd (omega (arith, is, workers_block layout x worker))
+    ]
+index_within layout (suc t) x some is low =
+    elim (row_place layout x) [
+      | inl mains ↦ absurd (omega (arith, is, mains_block layout x mains))
+      | inr worker ↦
+          let above : x - front_rows < t * layout.rows + layout.rows =
+          subst (λ (q : ℕ). x - front_rows < q * layout.rows + layout.rows) (workers_quotient layout t x is worker)
+          (lt-div-mul-add some) in
+          omega (arith, above, worker.low, some)
+    ]
+
+-- Each row of a block exists.
+pub row_within : (layout : Layout) (t i : ℕ) → t ≤ layout.workers → i < block_size layout t
+    → row_at layout t i < row_count layout
+row_within layout zero i there within =
+    elim (cases_lt i front_rows) [
+      | inl front ↦ let same = front_row layout i front in omega (arith, same, front)
+      | inr rear ↦ let same = rear_row layout i rear in omega (arith, same, within)
+    ]
+row_within layout (suc t) i there within =
+    let more : suc t * layout.rows ≤ layout.workers * layout.rows = mul-le-mul_right layout.rows there in
+    omega (arith, within, more)
+
+-- A block has at most as many rows as exist.
+pub size_within : (layout : Layout) (t : ℕ) → t ≤ layout.workers → block_size layout t ≤ row_count layout
+size_within layout zero there = omega arith
+size_within layout (suc t) there =
+    let more : suc t * layout.rows ≤ layout.workers * layout.rows = mul-le-mul_right layout.rows there in
+    omega (arith, more)
+
+-- The block of each row is the block of an existing thread.
+pub block_within : (layout : Layout) (x : ℕ) → 0 < layout.rows → block_of layout x ≤ layout.workers
+block_within layout x some =
+    elim (row_place layout x) [
+      | inl mains ↦ omega (arith, mains_block layout x mains)
+      | inr worker ↦
+          let below : (x - front_rows) / layout.rows < layout.workers =
+          (div-lt_iff_lt-mul some).1 (omega (arith, worker.low, worker.high)) in
+          omega (arith, below, workers_block layout x worker)
+    ]
+
+-- The rows in front are main's, at indices that are their own numbers.
+pub front_block : (layout : Layout) (x : ℕ) → x < front_rows → block_of layout x ≡ 0
+front_block layout x front = mains_block layout x (InFront front)
+
+pub front_is_index : (layout : Layout) (x : ℕ) → x < front_rows → index_of layout 0 x ≡ x
+front_is_index layout x front = front_index layout x front
+
+pub mains_low : (layout : Layout) (x : ℕ) → block_of layout x ≡ 0 → index_of layout 0 x < front_rows → x < front_rows
+mains_low layout x block low =
+    elim (row_place layout x) [
+      | inl (InFront front) ↦ front
+      | inl (InRear rear) ↦ let same =
+          rear_index layout x (omega (arith, rear)) in absurd (omega (arith, same, rear, low))
+      | inr worker ↦ absurd (omega (arith, block, workers_block layout x worker))
+    ]
+
+-- ---- immortal rows
+
+either_true : (b c : Bool) → (b || c) ≡ true → (b ≡ true) ⊎ (c ≡ true)
+either_true true c e = inl refl
+either_true false c e = inr e
+
+-- immortal rows are main's
+pub immortal_block : (layout : Layout) (x : ℕ) → is_immortal_row layout x ≡ true → block_of layout x ≡ 0
+immortal_block layout x immortal =
+    elim (either_true (x == none_row) _ immortal) [
+      | inl none ↦
+          let same : x ≡ none_row = eqb-true x none_row none in
+          mains_block layout x (InFront (omega (arith, same)))
+      | inr list ↦
+          let first =
+          leb-true (first_immortal_list layout) x
+          (and_parts (nat_le (first_immortal_list layout) x)
+          (nat_lt x (first_immortal_list layout + layout.immortal_lists)) list).0 in
+          mains_block layout x (InRear (omega (arith, first)))
+    ]
+
+-- what is counted isn't none
+pub counted_above : (layout : Layout) (x : ℕ) → IsCounted layout x → 0 < x
+counted_above layout zero counted = absurd cc
+counted_above layout (suc x) counted = omega arith
+
+-- the root is counted
+pub root_counted : (layout : Layout) → IsCounted layout root_row
+root_counted layout =
+    elim (leb_tells (first_immortal_list layout) root_row) [
+      | inl low ↦ absurd (omega (arith, low.1))
+      | inr past ↦
+          ap (λ (b : Bool). b && nat_lt root_row (first_immortal_list layout + layout.immortal_lists)) past.0
+    ]
+
+-- a counted row is no immortal one
+pub immortal_apart : (layout : Layout) (y x : ℕ) → IsCounted layout y → is_immortal_row layout x ≡ true → y ≡ x → ⊥
+immortal_apart layout y x counted immortal e =
+    absurd (false≢true (sym counted ∙ ap (is_immortal_row layout) e ∙ immortal))
+
+-- where there are no immortal lists, only none is immortal
+pub only_none : (layout : Layout) (x : ℕ) → layout.immortal_lists ≡ 0 → is_immortal_row layout x ≡ true → x ≡ none_row
+only_none layout x no_lists immortal =
+    elim (either_true (x == none_row) _ immortal) [
+      | inl none ↦ eqb-true x none_row none
+      | inr list ↦
+          let parts =
+          and_parts (nat_le (first_immortal_list layout) x)
+          (nat_lt x (first_immortal_list layout + layout.immortal_lists)) list in
+          let first = leb-true (first_immortal_list layout) x parts.0 in
+          let last = ltb-true x (first_immortal_list layout + layout.immortal_lists) parts.1 in
+          absurd (omega (arith, first, last, no_lists))
+    ]
 
 -- ---- used rows
 
--- a used row is of its thread's block
-pub used_block : (p : Accounts) (n : ℕ) (m : Machine) (t : ℕ) (a : Actor) (x : ℕ) → CoreInvariant p n m
-    → slice_get m.actors t ≡ Some a → first_row m.rows t ≤ x → x < first_row m.rows t + a.used → block_of m.rows x ≡ t
-used_block p n m zero a x core found low high =
-    main_block m.rows x (omega (arith, high, (core.uses 0 a found).main refl))
-used_block p n m (suc t) a x core found low high =
-    let few = (core.uses (suc t) a found).few (omega arith) in
-    let shifted : first_row m.rows (suc t) + (x - first_row m.rows (suc t)) ≡ x = omega (arith, low) in
-    ap (block_of m.rows) (sym shifted)
-    ∙ block_at m.rows t (x - first_row m.rows (suc t)) (omega (arith, low, high, few))
+-- An actor's number is main's or a worker's.
+pub thread_there : (p : Accounts) (n : ℕ) (m : Machine) (t : ℕ) (a : Actor) → CoreInvariant p n m
+    → slice_get m.actors t ≡ Some a → t ≤ m.layout.workers
+thread_there p n m t a core found =
+    omega (arith, slice_get_within m.actors t a found, core.threads, core.workers)
 
--- a row that is born is used by its block's thread
+-- A row that a thread has used is in that thread's block.
+pub used_block : (p : Accounts) (n : ℕ) (m : Machine) (t : ℕ) (a : Actor) (i : ℕ) → CoreInvariant p n m
+    → slice_get m.actors t ≡ Some a → i < a.used → block_of m.layout (row_at m.layout t i) ≡ t
+used_block p n m t a i core found low =
+    let few = (core.uses t a found).few in
+    block_at m.layout t i (thread_there p n m t a core found) (omega (arith, low, few))
+
+-- The thread of the row's block exists and has used the row. `born_used` shows this of each born row.
 pub record IsUsed (m : Machine) (x : ℕ) : Type 0 where
   pub by : Actor
-  pub found : slice_get m.actors (block_of m.rows x) ≡ Some by
-  pub low : first_row m.rows (block_of m.rows x) ≤ x
-  pub high : x < first_row m.rows (block_of m.rows x) + by.used
+  pub found : slice_get m.actors (block_of m.layout x) ≡ Some by
+  pub low : index_of m.layout (block_of m.layout x) x < by.used
 
 pub born_used : (p : Accounts) (n : ℕ) (m : Machine) (x : ℕ) → CoreInvariant p n m → (m.life x ≢ Unborn) → IsUsed m x
 born_used p n m x core born =
-    elim (cases_lt (block_of m.rows x) n) [
-      | inl within ↦
-          let t = block_of m.rows x in
-          let a = get_or m.actors t main_actor in
-          let found = slice_get-get_or m.actors t main_actor (omega (arith, within, core.threads)) in
-          elim (cases_lt x (first_row m.rows t + a.used)) [
-            | inl high ↦ record { by = a; found = found; low = block_low m.rows t x refl; high = high }
-            | inr past ↦ absurd (born ((core.uses t a found).unborn x refl (omega (arith, past))))
-          ]
-      | inr past ↦ absurd (born (core.no_block x (omega (arith, past))))
+    let t = block_of m.layout x in
+    let within = block_within m.layout x core.some_rows in
+    let a = get_or m.actors t (idle_actor 0) in
+    let found = slice_get-get_or m.actors t (idle_actor 0) (omega (arith, within, core.threads, core.workers)) in
+    elim (cases_lt (index_of m.layout t x) a.used) [
+      | inl low ↦ record { by = a; found = found; low = low }
+      | inr past ↦ absurd (born ((core.uses t a found).unborn x refl past))
     ]
 
--- how many rows there are, at most
-pub used_low : (p : Accounts) (n : ℕ) (m : Machine) (t : ℕ) (a : Actor) (x : ℕ) → CoreInvariant p n m
-    → slice_get m.actors t ≡ Some a → t < n → x < first_row m.rows t + a.used → x < 2 + (n - 1) * m.rows
-used_low p n m zero a x core found within high = omega (arith, high, (core.uses 0 a found).main refl)
-used_low p n m (suc t) a x core found within high =
-    let few = (core.uses (suc t) a found).few (omega arith) in
-    let more : suc t * m.rows ≤ (n - 1) * m.rows = mul-le-mul_right m.rows (omega (arith, within)) in
-    omega (arith, few, high, more)
+-- A row that a thread has used exists. The row is given by its index.
+pub used_low : (p : Accounts) (n : ℕ) (m : Machine) (t : ℕ) (a : Actor) (i : ℕ) → CoreInvariant p n m
+    → slice_get m.actors t ≡ Some a → i < a.used → row_at m.layout t i < row_count m.layout
+used_low p n m t a i core found low =
+    let few = (core.uses t a found).few in
+    row_within m.layout t i (thread_there p n m t a core found) (omega (arith, low, few))
+
+-- A row that a thread has used exists. The row is given by its number.
+pub used_row : (p : Accounts) (n : ℕ) (m : Machine) (t : ℕ) (a : Actor) (x : ℕ) → CoreInvariant p n m
+    → slice_get m.actors t ≡ Some a → block_of m.layout x ≡ t → index_of m.layout t x < a.used
+    → x < row_count m.layout
+used_row p n m t a x core found block low =
+    subst (λ (y : ℕ). y < row_count m.layout) (row_back m.layout t x block)
+    (used_low p n m t a (index_of m.layout t x) core found low)
 
 pub born_within : (p : Accounts) (n : ℕ) (m : Machine) (x : ℕ) → CoreInvariant p n m → (m.life x ≢ Unborn)
-    → x < 2 + (n - 1) * m.rows
+    → x < row_count m.layout
 born_within p n m x core born =
     let used = born_used p n m x core born in
-    let within = slice_get_within m.actors (block_of m.rows x) used.by used.found in
-    used_low p n m (block_of m.rows x) used.by x core used.found (omega (arith, within, core.threads)) used.high
+    let t = block_of m.layout x in
+    used_row p n m t used.by x core used.found refl used.low
 
-pub born_low : (p : Accounts) (n : ℕ) (m : Machine) (x : ℕ) → CoreInvariant p n m → (m.life x ≢ Unborn) → x < 32770
-born_low p n m x core born =
-    let low = born_within p n m x core born in
-    let most : (n - 1) * m.rows ≤ worker_limit * row_limit =
-    mul-le-mul {n₂ = worker_limit} {m₂ = row_limit} (omega (arith, core.few_threads)) core.few_rows in
-    omega (arith, low, most)
+-- A bound on the number of all rows.
+pub rows_low : (p : Accounts) (n : ℕ) (m : Machine) → CoreInvariant p n m → row_count m.layout ≤ total_limit
+rows_low p n m core =
+    let most : m.layout.workers * m.layout.rows ≤ worker_limit * row_limit =
+    mul-le-mul {n₂ = worker_limit} {m₂ = row_limit} (omega (arith, core.few_threads, core.workers)) core.few_rows in
+    omega (arith, most, core.few_immortals)
+
+pub born_low : (p : Accounts) (n : ℕ) (m : Machine) (x : ℕ) → CoreInvariant p n m → (m.life x ≢ Unborn)
+    → x < total_limit
+born_low p n m x core born = omega (arith, born_within p n m x core born, rows_low p n m core)
 
 -- ---- the row that is born next
 
-pub next_above : (m : Machine) (t : ℕ) (a : Actor) (x : ℕ) → IsNext m t a x → 1 < x
-next_above m zero a x next = absurd (omega (arith, next.worker))
-next_above m (suc t) a x next = omega (arith, next.row)
+pub next_block : (m : Machine) (t : ℕ) (a : Actor) (x : ℕ) → IsNext m t a x → block_of m.layout x ≡ t
+next_block m t a x next = ap (block_of m.layout) next.row ∙ block_at m.layout t a.used next.there next.room
 
-pub next_block : (m : Machine) (t : ℕ) (a : Actor) (x : ℕ) → IsNext m t a x → block_of m.rows x ≡ t
-next_block m zero a x next = absurd (omega (arith, next.worker))
-next_block m (suc t) a x next = ap (block_of m.rows) next.row ∙ block_at m.rows t a.used next.room
+pub next_counted : (m : Machine) (t : ℕ) (a : Actor) (x : ℕ) → IsNext m t a x → IsCounted m.layout x
+next_counted m t a x next =
+    elim (cases_Bool (is_immortal_row m.layout x)) [
+      | inl immortal ↦
+          absurd (omega (arith, immortal_block m.layout x immortal, next_block m t a x next, next.worker))
+      | inr counted ↦ counted
+    ]
+
+pub next_index : (m : Machine) (t : ℕ) (a : Actor) (x : ℕ) → IsNext m t a x → index_of m.layout t x ≡ a.used
+next_index m t a x next = ap (index_of m.layout t) next.row ∙ index_at m.layout t a.used
 
 pub next_unborn : (p : Accounts) (n : ℕ) (m : Machine) (t : ℕ) (a : Actor) (x : ℕ) → CoreInvariant p n m
     → slice_get m.actors t ≡ Some a → IsNext m t a x → m.life x ≡ Unborn
 next_unborn p n m t a x core found next =
-    (core.uses t a found).unborn x (next_block m t a x next) (omega (arith, next.row))
+    (core.uses t a found).unborn x (next_block m t a x next) (omega (arith, next_index m t a x next))
 
-pub next_within : (p : Accounts) (n : ℕ) (m : Machine) (t : ℕ) (a : Actor) → CoreInvariant p n m → slice_get m.actors t ≡ Some a
-    → a.used < block_size m.rows t → next_row m.rows t a.used < 2 + (n - 1) * m.rows
-next_within p n m zero a core found room = absurd (omega (arith, room, (core.uses 0 a found).main refl))
-next_within p n m (suc t) a core found room =
-    let within : suc t < n = omega (arith, slice_get_within m.actors (suc t) a found, core.threads) in
-    let more : suc t * m.rows ≤ (n - 1) * m.rows = mul-le-mul_right m.rows (omega (arith, within)) in
-    omega (arith, room, more)
+pub next_within : (p : Accounts) (n : ℕ) (m : Machine) (t : ℕ) (a : Actor) → CoreInvariant p n m
+    → slice_get m.actors t ≡ Some a
+    → a.used < block_size m.layout t → row_at m.layout t a.used < row_count m.layout
+next_within p n m t a core found room =
+    row_within m.layout t a.used (thread_there p n m t a core found) room

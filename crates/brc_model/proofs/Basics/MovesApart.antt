@@ -1,20 +1,19 @@
--- The moves of a thread's step leave the references of who has no part in them: of other threads, and of cells that it
--- doesn't find full.
-use Rattle.std.proofs.Common.{◌≡◌, ◌≢◌, ℕ, zero, suc, Bool, true, false, cond, List, [], ◌∷◌, ◌++◌, ◌⊎◌, inl, inr, refl, sym, ap, ◌∙◌, arith}
-use Rattle.std.specs.Prelude.{◌==◌}
+-- A step moves references of its own thread alone. The references of other threads don't change, nor do those of cells,
+-- except for a cell that the step finds full.
+use Rattle.std.proofs.Common.{◌≡◌, ◌≢◌, ℕ, true, false, cond, List, [], ◌∷◌, ◌⊎◌, inl, inr, refl, sym, ap, ◌∙◌, arith}
 use Rattle.brc_model.specs.declared.duty.Holding.{Holding}
-use Rattle.brc_model.specs.declared.duty.Holding.TheVariants.{ByVariable, AsCaller, InFlight}
+use Rattle.brc_model.specs.declared.duty.Holding.TheVariants.{InFlight}
 use Rattle.brc_model.specs.AbstractState.{Reference, AbstractState, same, without, Move, Born, Gain, Lose, PassOn, Finalise, move, moved, Holder, ByThread, ByCell, same_holder}
-use Rattle.brc_word.specs.Words.{is_immortal_word}
-use Rattle.brc_model.specs.declared.duty.Reason.TheVariants.{Own}
 use Rattle.brc_model.specs.declared.duty.Duty.{Duty}
-use Rattle.brc_model.specs.declared.duty.Duty.TheVariants.{RetainLoad, RetainStore, RetainAdd, ReleaseLoad, ReleaseStore, SharedExchange, SettleEnd, BirthLocal, SettleCell}
+use Rattle.brc_model.specs.declared.duty.Duty.TheVariants.{SettleCell}
 use Rattle.brc_model.specs.declared.address.Address.{Address}
-use Rattle.brc_model.specs.Machine.{put_in_flight, gain, lose, reference_effects, take_out}
+use Rattle.brc_model.specs.Moves.{reference_effects}
+use Rattle.std.specs.List.{AllByRecursion}
+use Rattle.brc_model.proofs.Basics.Moves.{MoveOf, Gains, PutsInFlight, Loses, TakesOut, Finalises, Bears, each_effect, moved_keeps}
 use Rattle.brc_model.proofs.Basics.Bag.{same-true, held-cons, same-other_holder, other_thread}
 use Rattle.brc_model.specs.References.{held, one_if, cell_reference, reference_of}
 
--- what another reference's loss leaves
+-- Removing another reference doesn't change how often this one is in the bag.
 pub held-without_apart : (x r : Reference) (bag : List Reference) → same x r ≡ false
     → held x (without r bag) ≡ held x bag
 held-without_apart x r [] apart = refl
@@ -30,7 +29,7 @@ held-cons_apart : (x r : Reference) (bag : List Reference) → same x r ≡ fals
 held-cons_apart x r bag apart =
     let none : one_if (same x r) ≡ 0 = ap one_if apart in omega (arith, held-cons x r bag, none)
 
--- the holder has no part in the move
+-- The move changes no reference of the holder.
 abbrev pub IsAside : Holder → Move → Type 0
 IsAside h (Born r kind) = same_holder h r.holder ≡ false
 IsAside h (Gain r) = same_holder h r.holder ≡ false
@@ -39,8 +38,7 @@ IsAside h (PassOn r k) = (same_holder h r.holder ≡ false) × (same_holder h k 
 IsAside h (Finalise x) = Unit {0}
 
 abbrev pub AreAside : Holder → List Move → Type 0
-AreAside h [] = Unit {0}
-AreAside h (mv ∷ mvs) = IsAside h mv × AreAside h mvs
+AreAside h mvs = AllByRecursion (IsAside h) mvs
 
 move_aside : (p : AbstractState) (x : Reference) (mv : Move) → IsAside x.holder mv
     → held x (move p mv).references ≡ held x p.references
@@ -55,60 +53,43 @@ move_aside p x (Finalise y) aside = refl
 
 pub moved_aside : (p : AbstractState) (x : Reference) (mvs : List Move) → AreAside x.holder mvs
     → held x (moved p mvs).references ≡ held x p.references
-moved_aside p x [] aside = refl
-moved_aside p x (mv ∷ mvs) aside = moved_aside (move p mv) x mvs aside.1 ∙ move_aside p x mv aside.0
+moved_aside p x mvs aside =
+    moved_keeps (λ q. held x q.references) (IsAside x.holder) (λ q mv. move_aside q x mv) p mvs aside
 
-either_aside : (h : Holder) (b : Bool) (mvs others : List Move) → AreAside h mvs → AreAside h others
-    → AreAside h (cond b mvs others)
-either_aside h true mvs others f g = f
-either_aside h false mvs others f g = g
-
-append_aside : (h : Holder) (mvs others : List Move) → AreAside h mvs → AreAside h others → AreAside h (mvs ++ others)
-append_aside h [] others f g = g
-append_aside h (mv ∷ mvs) others f g = (f.0, append_aside h mvs others f.1 g)
-
--- a holder that is none of the thread's
+-- The holder isn't the thread, in any of the thread's ways of holding a reference.
 abbrev pub IsNoWayOf : ℕ → Holder → Type 0
 IsNoWayOf t h = (k : Holding) → same_holder h (ByThread t k) ≡ false
 
-put_in_flight_aside : (h : Holder) (t : ℕ) (k : Holding) (x : ℕ) → IsNoWayOf t h → AreAside h (put_in_flight t k x)
-put_in_flight_aside h t (ByVariable v) x other = ((other (ByVariable v), other InFlight), tt)
-put_in_flight_aside h t AsCaller x other = ((other AsCaller, other InFlight), tt)
-put_in_flight_aside h t InFlight x other = tt
+effect_aside : {t found : ℕ} (d : Duty) (h : Holder) (mv : Move) → IsNoWayOf t h
+    → ((x i n : ℕ) → d ≡ SettleCell x i n → (found ≡ 0) ⊎ (same_holder h (ByCell x i) ≡ false))
+    → MoveOf t found d mv → IsAside h mv
+effect_aside d h mv other cell (Gains x k of) = other k
+effect_aside d h mv other cell (PutsInFlight x k of) = (other k, other InFlight)
+effect_aside d h mv other cell (Loses x of) = other InFlight
+effect_aside d h mv other cell (TakesOut x i n y is some) =
+    elim (cell x i n is) [
+      | inl none ↦ absurd (omega (arith, none, some))
+      | inr apart ↦ (apart, other InFlight)
+    ]
+effect_aside d h mv other cell (Finalises x of ended) = tt
+effect_aside d h mv other cell (Bears x k kind of born) = other k
 
-take_out_aside : (h : Holder) (t x i found : ℕ) → IsNoWayOf t h → (found ≡ 0) ⊎ (same_holder h (ByCell x i) ≡ false)
-    → AreAside h (take_out t x i found)
-take_out_aside h t x i zero other cell = tt
-take_out_aside h t x i (suc y) other (inl none) = absurd (omega (arith, none))
-take_out_aside h t x i (suc y) other (inr apart) = ((apart, other InFlight), tt)
-
--- who is no way of the thread's, and no cell that its duty finds full, has no part in the step
+-- A step changes no reference of a holder that isn't its thread and isn't a cell that the step finds full.
 pub moves_aside : (memory : Address → ℕ) (h : Holder) (t : ℕ) (d : Duty) (found : ℕ) → IsNoWayOf t h
     → ((x i n : ℕ) → d ≡ SettleCell x i n → (found ≡ 0) ⊎ (same_holder h (ByCell x i) ≡ false))
     → AreAside h (reference_effects memory t d found)
-moves_aside memory h t (RetainLoad x k) found other cell =
-    either_aside h (is_immortal_word found) (gain t k x) [] (other k, tt) tt
-moves_aside memory h t (RetainStore x k w) found other cell = (other k, tt)
-moves_aside memory h t (RetainAdd x k) found other cell = (other k, tt)
-moves_aside memory h t (ReleaseLoad x k) found other cell =
-    append_aside h (put_in_flight t k x) (cond (is_immortal_word found) (lose t x) []) (put_in_flight_aside h t k x other)
-    (either_aside h (is_immortal_word found) (lose t x) [] (other InFlight, tt) tt)
-moves_aside memory h t (ReleaseStore x w) found other cell = (other InFlight, tt)
-moves_aside memory h t (SharedExchange x Own w) found other cell =
-    either_aside h (found == w) (lose t x) [] (other InFlight, tt) tt
-moves_aside memory h t (SettleCell x i n) found other cell = take_out_aside h t x i found other (cell x i n refl)
-moves_aside memory h t (SettleEnd x) found other cell = (tt, tt)
-moves_aside memory h t (BirthLocal x k) found other cell = (other k, tt)
-moves_aside memory h t _ found other cell = tt
+moves_aside memory h t d found other cell =
+    each_effect (IsAside h) memory t d found (λ mv sort. effect_aside d h mv other cell sort)
 
-pub moves_apart : (memory : Address → ℕ) (p : AbstractState) (u t : ℕ) (k : Holding) (object : ℕ) (d : Duty) (found : ℕ) → u ≢ t
+pub moves_apart : (memory : Address → ℕ) (p : AbstractState) (u t : ℕ) (k : Holding) (object : ℕ) (d : Duty)
+    (found : ℕ) → u ≢ t
     → held (reference_of u k object) (moved p (reference_effects memory t d found)).references
     ≡ held (reference_of u k object) p.references
 moves_apart memory p u t k object d found ne =
     moved_aside p (reference_of u k object) (reference_effects memory t d found)
     (moves_aside memory (ByThread u k) t d found (λ h. other_thread u t k h ne) (λ x i n is. inr refl))
 
--- a cell's references stay, where the thread's duty finds no cell full
+-- A step that finds no cell full changes no reference of any cell.
 pub moves_off_cells : (memory : Address → ℕ) (p : AbstractState) (x i object t : ℕ) (d : Duty) (found : ℕ)
     → ((y j n : ℕ) → d ≡ SettleCell y j n → found ≡ 0)
     → held (cell_reference x i object) (moved p (reference_effects memory t d found)).references

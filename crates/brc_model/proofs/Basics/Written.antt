@@ -1,9 +1,14 @@
--- One word is written, and the others stay.
+-- Writing one word of memory leaves all other words unchanged.
 use Rattle.std.proofs.Common.{◌≡◌, ℕ, Bool, true, false, cond, refl, ap, ◌∙◌}
 use Rattle.std.specs.Prelude.{◌==◌, ◌&&◌}
 use Rattle.std.proofs.lemmas.Bool.{eqb-true, eq-eqb, ne_eqb}
 use Rattle.brc_model.specs.declared.address.Address.{Address}
 use Rattle.brc_model.specs.declared.address.Address.TheVariants.{Local, Shared, Gate, KindOf, Mark, Cell, Slot, Resource, ThreadWord}
+use Rattle.brc_model.specs.declared.duty.Duty.{Duty}
+use Rattle.brc_model.specs.declared.duty.Duty.TheVariants.{RetainLoad, RetainStore, RetainAdd, ReleaseLoad, ReleaseStore, DecideAtZero, SharedLoad, SharedExchange, MergeSwap, MergeLoad, MergeExchange, BirthLocal}
+use Rattle.brc_model.specs.declared.layout.Layout.{Layout}
+use Rattle.brc_model.specs.Duties.{address_of}
+use Rattle.brc_model.specs.OpenWork.{is_about}
 use Rattle.brc_model.specs.Machine.{same_address, written}
 use Rattle.brc_model.proofs.Basics.Lists.{and_first, and_second}
 
@@ -38,7 +43,7 @@ pub written_apart : (memory : Address → ℕ) (a b : Address) (v : ℕ) → sam
     → written memory a v b ≡ memory b
 written_apart memory a b v apart = ap (λ (t : Bool). cond t v (memory b)) apart
 
--- a load writes what it found
+-- A load writes the word that it found, so memory is unchanged.
 pub written_load : (memory : Address → ℕ) (a b : Address) → written memory a (memory a) b ≡ memory b
 written_load memory a b =
     elim (same_address a b) as (λ t. same_address a b ≡ t → cond t (memory a) (memory b) ≡ memory b) [
@@ -60,3 +65,25 @@ apart_mark x y ne = ne_eqb x y ne
 
 pub apart_thread : (x y : ℕ) → (x ≡ y → ⊥) → same_address (ThreadWord x) (ThreadWord y) ≡ false
 apart_thread x y ne = ne_eqb x y ne
+
+-- ---- a duty about another row asks for another local word, and for another shared one
+
+pub other_local : (layout : Layout) (t head : ℕ) (d : Duty) (x : ℕ) → is_about x d ≡ false
+    → same_address (address_of layout t head d) (Local x) ≡ false
+other_local layout t head (RetainLoad y h) x e = e
+other_local layout t head (RetainStore y h w) x e = e
+other_local layout t head (ReleaseLoad y h) x e = e
+other_local layout t head (ReleaseStore y w) x e = e
+other_local layout t head (MergeSwap y r) x e = e
+other_local layout t head (BirthLocal y h) x e = e
+other_local layout t head d x e = refl
+
+pub other_shared : (layout : Layout) (t head : ℕ) (d : Duty) (x : ℕ) → is_about x d ≡ false
+    → same_address (address_of layout t head d) (Shared x) ≡ false
+other_shared layout t head (RetainAdd y h) x e = e
+other_shared layout t head (DecideAtZero y) x e = e
+other_shared layout t head (SharedLoad y r) x e = e
+other_shared layout t head (SharedExchange y r w) x e = e
+other_shared layout t head (MergeLoad y c r) x e = e
+other_shared layout t head (MergeExchange y c w r) x e = e
+other_shared layout t head d x e = refl

@@ -1,4 +1,4 @@
--- What a thread takes up with its next step: its agenda then fits the place where it will stand.
+-- The condition under which a thread takes up work: its new agenda fits the place where it then is.
 use Rattle.std.proofs.Common.{◌≡◌, ◌≢◌, ℕ, ◌+◌, ◌<◌, Bool, true, false, List, [], ◌∷◌, inl, inr, length, Option, None, Some, refl, sym, ap, ◌∙◌, subst, arith, ◌≤◌}
 use Rattle.std.specs.Prelude.{◌==◌, ◌&&◌, slice_set}
 use Rattle.std.specs.List.{list_any}
@@ -11,26 +11,28 @@ use Rattle.brc_model.specs.declared.slot.State.{State}
 use Rattle.brc_model.specs.Slots.{slot_of, is_owned, names, put}
 use Rattle.brc_model.specs.declared.duty.Holding.{Holding}
 use Rattle.brc_model.specs.declared.duty.Holding.TheVariants.{ByVariable, AsCaller, InFlight}
-use Rattle.brc_model.specs.AbstractState.{Reference, same_holding, references_to, none_row, same, Move, moved}
+use Rattle.brc_model.specs.AbstractState.{Reference, same_holding, references_to, Move}
 use Rattle.brc_model.specs.Threads.{row_of}
 use Rattle.brc_model.specs.declared.duty.Duty.{Duty}
 use Rattle.brc_model.specs.declared.duty.Duty.TheVariants.{RetainLoad, ReleaseLoad, Settle, Leave, BirthKind}
 use Rattle.brc_model.specs.declared.actor.Place.{Place}
 use Rattle.brc_model.specs.declared.actor.Place.TheVariants.{Idle, InCall, Exiting}
-use Rattle.brc_model.specs.Machine.{Action, Skip, Stuck, Silent, Does, with_row, first_row, block_size, next_row, gain, pass_on}
+use Rattle.brc_model.specs.Actions.{Action, Skip, Stuck, Silent, Does, with_row}
 use Rattle.brc_model.specs.References.{held, one_if, reference_of}
 use Rattle.brc_model.proofs.Basics.Lists.{none_at}
 use Rattle.brc_model.proofs.Dispatch.Holds.{the_root, of_variables, Holds}
 use Rattle.brc_model.proofs.Dispatch.Grounded.{slot_of-put_same, slot_of-put_other, row_of-set_same, row_of-set_other}
 use Rattle.brc_model.proofs.Stepping.Counts.{flip_eqb}
 use Rattle.brc_model.proofs.Frame.Aside.{HoldsAlone}
+use Rattle.brc_model.proofs.Keeping.SilentMoves.{SilentMoves, bag_after}
 use Rattle.brc_model.proofs.Dispatch.Coded.{once_each, PlaceFits}
 use Rattle.brc_model.specs.Duties.{cells_of}
-use Rattle.brc_lang.specs.declared.kind.Kind.TheVariants as kinds
 use Rattle.brc_model.specs.Kinds.{kind_of_word, is_counted_kind}
 use Rattle.brc_model.specs.Limits.{cell_limit}
+use Rattle.brc_model.specs.declared.layout.Layout.{Layout}
+use Rattle.brc_model.specs.Layout.{block_size, row_at}
 
--- ---- nothing is at hand
+-- ---- an empty agenda
 
 pub holds_plain : (bag : List Reference) (t : ℕ) (says : Holding → ℕ → Bool) → HoldsAlone bag t (once_each says) []
     → Holds bag t says
@@ -40,42 +42,30 @@ pub holds_at_none : (bag : List Reference) (t : ℕ) (says : Holding → ℕ →
     → HoldsAlone bag t (once_each says) []
 holds_at_none bag t says holds = record { each = λ k object. omega (arith, holds.each k object) }
 
--- ---- what is taken up
+-- ---- work that a thread takes up
 
--- the first duty gives up a reference that is held, makes one of an object that is referenced, or begins the next row's
--- birth
-pub data Starts (bag : List Reference) (rows t used : ℕ) : Duty → List Duty → Type 0 where
+-- The first duty gives up a reference of an object that has one, makes a reference to an object that the thread holds,
+-- or begins the birth of the next row.
+pub data Starts (bag : List Reference) (layout : Layout) (t used : ℕ) : Duty → List Duty → Type 0 where
   Gives : (row : ℕ) (h : Holding) (rest : List Duty) → 0 < references_to row bag
-      → Starts bag rows t used (ReleaseLoad row h) rest
+      → Starts bag layout t used (ReleaseLoad row h) rest
   Takes : (row : ℕ) (h by : Holding) (rest : List Duty) → 0 < held (reference_of t by row) bag
-      → Starts bag rows t used (RetainLoad row h) rest
-  Bears : (h : Holding) (w : ℕ) → used < block_size rows t → cells_of w ≤ cell_limit
+      → Starts bag layout t used (RetainLoad row h) rest
+  Bears : (h : Holding) (w : ℕ) → used < block_size layout t → cells_of w ≤ cell_limit
       → is_counted_kind (kind_of_word w) ≡ true
-      → Starts bag rows t used (BirthKind (next_row rows t used) h w) []
+      → Starts bag layout t used (BirthKind (row_at layout t used) h w) []
 
--- the duties behind it settle, and leave where the thread is to leave
-pub data Follows (rows t used : ℕ) (place : Place) : List Duty → Type 0 where
-  Nothing : (place ≢ Exiting) → Follows rows t used place []
-  Settles : (place ≢ Exiting) → Follows rows t used place (Settle ∷ [])
-  Leaves : (place ≡ Exiting) → Follows rows t used place (Settle ∷ Leave (first_row rows t) used ∷ [])
+-- The duties behind the first one settle, and leave if the thread is to leave.
+pub data Follows (layout : Layout) (t used : ℕ) (place : Place) : List Duty → Type 0 where
+  Nothing : (place ≢ Exiting) → Follows layout t used place []
+  Settles : (place ≢ Exiting) → Follows layout t used place (Settle ∷ [])
+  Leaves : (place ≡ Exiting) → Follows layout t used place (Settle ∷ Leave 0 used ∷ [])
 
-pub record Taken (code : List Instr) (bag : List Reference) (rows t used : ℕ) (place : Place) (d : Duty)
+pub record Taken (code : List Instr) (bag : List Reference) (layout : Layout) (t used : ℕ) (place : Place) (d : Duty)
     (rest : List Duty) : Type 0 where
   pub placed : PlaceFits code bag t (d ∷ rest) place
-  pub starts : Starts bag rows t used d rest
-  pub follows : Follows rows t used place rest
-
--- a quiet step moves nothing, gains a reference to none, or hands one on from one of the thread's holders to another
-pub data SilentMoves (bag : List Reference) (t : ℕ) : List Move → Type 0 where
-  Stays : SilentMoves bag t []
-  GainsNone : (h : Holding) → SilentMoves bag t (gain t h none_row)
-  PassesOn : (from to : Holding) (x : ℕ) → list_any (same (reference_of t from x)) bag ≡ true
-      → SilentMoves bag t (pass_on t from to x)
-
--- the bag after the moves
-abbrev pub bag_after : List Reference → List Move → List Reference
-bag_after bag moves =
-    (moved (record { references = bag; born = []; closed = []; kinds = λ x. kinds.Any }) moves).references
+  pub starts : Starts bag layout t used d rest
+  pub follows : Follows layout t used place rest
 
 pub record SilentTaken (code : List Instr) (bag : List Reference) (t : ℕ) (moves : List Move) (place : Place) : Type 0
   where
@@ -83,18 +73,18 @@ pub record SilentTaken (code : List Instr) (bag : List Reference) (t : ℕ) (mov
     pub placed : PlaceFits code (bag_after bag moves) t [] place
     pub stays : place ≢ Exiting
 
-abbrev pub IsTaken : List Instr → List Reference → ℕ → ℕ → ℕ → Action → Type 0
-IsTaken code bag rows t used Skip = ⊥
-IsTaken code bag rows t used Stuck = ⊥
-IsTaken code bag rows t used (Silent moves place) = SilentTaken code bag t moves place
-IsTaken code bag rows t used (Does d rest place) = Taken code bag rows t used place d rest
+abbrev pub IsTaken : List Instr → List Reference → Layout → ℕ → ℕ → Action → Type 0
+IsTaken code bag layout t used Skip = ⊥
+IsTaken code bag layout t used Stuck = ⊥
+IsTaken code bag layout t used (Silent moves place) = SilentTaken code bag t moves place
+IsTaken code bag layout t used (Does d rest place) = Taken code bag layout t used place d rest
 
-pub taken_with_row : (code : List Instr) (bag : List Reference) (rows t used object : ℕ) (row : Option ℕ)
+pub taken_with_row : (code : List Instr) (bag : List Reference) (layout : Layout) (t used object : ℕ) (row : Option ℕ)
     (work : ℕ → Action)
-    → row ≡ Some object → IsTaken code bag rows t used (work object)
-    → IsTaken code bag rows t used (with_row row work)
-taken_with_row code bag rows t used object row work is taken =
-    subst (λ (o : Option ℕ). IsTaken code bag rows t used (with_row o work)) (sym is) taken
+    → row ≡ Some object → IsTaken code bag layout t used (work object)
+    → IsTaken code bag layout t used (with_row row work)
+taken_with_row code bag layout t used object row work is taken =
+    subst (λ (o : Option ℕ). IsTaken code bag layout t used (with_row o work)) (sym is) taken
 
 pub idle_stays : (left : ℕ) → Idle left ≢ Exiting
 idle_stays left e = cc
@@ -102,12 +92,12 @@ idle_stays left e = cc
 pub in_call_stays : (left at : ℕ) (variables : List (Option ℕ)) → InCall left at variables ≢ Exiting
 in_call_stays left at variables e = cc
 
--- ---- what is held, with one reference more or less
+-- ---- one reference more or less
 
 abbrev by_variable : Slot → Option ℕ → ℕ → ℕ
 by_variable slot row object = one_if (is_owned slot && names row object)
 
--- the destination lacks its new reference
+-- Naming an object by an owning variable adds one reference to what the thread is to hold. The bag doesn't have it yet.
 pub newref_held : (bag : List Reference) (t : ℕ) (s : State) (variables : List (Option ℕ)) (to row : ℕ) (slot : Slot)
     → to < length s.slots → to < length variables → is_owned (slot_of s to) ≡ false
     → is_owned slot ≡ true → Holds bag t (of_variables s variables)
@@ -151,7 +141,7 @@ newref_held bag t s variables to row slot in_slots in_rows free owned holds (ByV
           omega (arith, holds.each (ByVariable v) object, none, said)
     ]
 
--- the variable that is emptied has its reference more than the place says
+-- Emptying an owning variable takes one reference from what the thread is to hold. The bag still has it.
 pub emptied_held : (bag : List Reference) (t : ℕ) (s : State) (variables : List (Option ℕ)) (from row : ℕ)
     → from < length s.slots → is_owned (slot_of s from) ≡ true → row_of variables from ≡ Some row
     → Holds bag t (of_variables s variables)
@@ -161,7 +151,8 @@ pub emptied_held : (bag : List Reference) (t : ℕ) (s : State) (variables : Lis
     + one_if (same_holding (ByVariable from) k && (row == object))
 emptied_held bag t s variables from row in_slots owned is holds AsCaller object =
     omega (arith, holds.each AsCaller object)
-emptied_held bag t s variables from row in_slots owned is holds InFlight object = omega (arith, holds.each InFlight object)
+emptied_held bag t s variables from row in_slots owned is holds InFlight object =
+    omega (arith, holds.each InFlight object)
 emptied_held bag t s variables from row in_slots owned is holds (ByVariable v) object =
     elim (eqb_tells from v) [
       | inl this ↦
@@ -193,7 +184,7 @@ emptied_held bag t s variables from row in_slots owned is holds (ByVariable v) o
           omega (arith, holds.each (ByVariable v) object, none, said)
     ]
 
--- where no slot owns but the one that is emptied, the call is over
+-- If no slot owns a reference, the thread is to hold the root alone, as after a call.
 pub ended_says : (s : State) (variables : List (Option ℕ)) (k : Holding) (object : ℕ)
     → list_any is_owned s.slots ≡ false → of_variables s variables k object ≡ the_root k object
 ended_says s variables AsCaller object none = refl
@@ -201,7 +192,7 @@ ended_says s variables InFlight object none = refl
 ended_says s variables (ByVariable v) object none =
     ap (λ (b : Bool). b && names (row_of variables v) object) (none_at is_owned s.slots v Empty none refl)
 
--- a variable that owns nothing holds nothing once it is emptied either
+-- Emptying a variable that owns nothing doesn't change what the thread is to hold.
 pub cleared_held : (bag : List Reference) (t : ℕ) (s : State) (variables : List (Option ℕ)) (to : ℕ)
     → to < length s.slots → is_owned (slot_of s to) ≡ false → Holds bag t (of_variables s variables)
     → (k : Holding) (object : ℕ)

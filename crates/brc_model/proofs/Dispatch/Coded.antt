@@ -1,11 +1,10 @@
--- Where a thread of accepted code stands: its account is what its place says. The step world has this layer on top of
--- what the rule says of any thread.
-use Rattle.std.proofs.Common.{◌≡◌, ℕ, ◌≤◌, Bool, false, List, [], Option, length, refl, sym, ap, subst, arith}
+-- The account of a thread of accepted code is the one that its place gives, and its place says whether its exit is
+-- under way. The step world has this layer of the invariant on top of what holds of any thread.
+use Rattle.std.proofs.Common.{◌≡◌, ◌≢◌, ℕ, ◌≤◌, Bool, true, false, List, [], Option, length, refl, sym, ap, subst, arith}
 use Rattle.std.specs.Prelude.{◌==◌, ◌&&◌, slice_get}
 use Rattle.std.proofs.lemmas.List.{get_or_past}
 use Rattle.brc_model.specs.declared.slot.Slot.TheVariants.{Empty}
 use Rattle.brc_model.specs.Slots.{slot_of, is_owned, names}
-use Rattle.brc_model.specs.AbstractState.{root_row}
 use Rattle.brc_model.specs.Threads.{row_of}
 use Rattle.brc_lang.specs.declared.module.Instr.{Instr}
 use Rattle.brc_lang.specs.declared.module.Module.{Module}
@@ -17,35 +16,54 @@ use Rattle.brc_model.specs.Threads.{code_of}
 use Rattle.brc_model.specs.declared.duty.Duty.{Duty}
 use Rattle.brc_model.specs.declared.actor.Place.{Place}
 use Rattle.brc_model.specs.declared.actor.Place.TheVariants.{Idle, InCall, Exiting}
-use Rattle.brc_model.specs.Machine.{Actor}
+use Rattle.brc_model.specs.Actions.{StepActor}
 use Rattle.brc_model.specs.References.{one_if}
 use Rattle.brc_model.specs.Accounts.{Account, HoldsNone, IsBounded}
+use Rattle.brc_model.specs.OpenWork.{exits}
 use Rattle.brc_model.proofs.Dispatch.Holds.{nothing, the_root, of_variables}
 use Rattle.brc_model.proofs.Dispatch.Grounded.{IsInside, AreInstructions}
 use Rattle.brc_model.proofs.Frame.Aside.{HoldsAlone}
 use Rattle.brc_model.proofs.Basics.Bag.{one_if_low}
+use Rattle.brc_model.specs.Layout.{root_row}
 
--- the account of a thread that holds just these references, each once
+-- The account of a thread that holds just these references, each once.
 abbrev pub once_each : (Holding → ℕ → Bool) → Account
 once_each holds k object = one_if (holds k object)
 
--- what the thread's account is where it stands when its agenda is done
+-- The account that the place gives a thread, which the thread has once its agenda is done.
 abbrev pub PlaceSays : List Instr → Place → Account → Type 0
 PlaceSays code (Idle left) account = account ≡ once_each the_root
 PlaceSays code (InCall left at variables) account =
     (s : State) × IsInside code at variables s × (account ≡ once_each (of_variables s variables))
 PlaceSays code Exiting account = account ≡ once_each nothing
 
-pub record InCode (p : Module) (a : Actor) (account : Account) : Type 0 where
-  -- code does one piece of work at a time
-  pub alone : a.aside ≡ []
+-- Says whether the place is that of a thread whose exit is under way or done.
+abbrev pub is_departing : Place → Bool
+is_departing (Idle left) = false
+is_departing (InCall left at variables) = false
+is_departing Exiting = true
+
+pub departing_is : (place : Place) → is_departing place ≡ true → place ≡ Exiting
+departing_is (Idle left) e = absurd cc
+departing_is (InCall left at variables) e = absurd cc
+departing_is Exiting e = refl
+
+pub stays_elsewhere : (place : Place) → place ≢ Exiting → is_departing place ≡ false
+stays_elsewhere (Idle left) stays = refl
+stays_elsewhere (InCall left at variables) stays = refl
+stays_elsewhere Exiting stays = absurd (stays refl)
+
+pub record InCode (p : Module) (a : StepActor) (account : Account) : Type 0 where
+  -- Code does one piece of work at a time.
+  pub alone : a.actor.aside ≡ []
   pub accepted : IsAcceptableCode (code_of (slice_get p.functions a.function))
   pub instructions : AreInstructions (code_of (slice_get p.functions a.function))
   pub says : PlaceSays (code_of (slice_get p.functions a.function)) a.place account
+  pub departs : exits a.actor.status a.actor.agenda ≡ is_departing a.place
 
 -- ---- what the thread holds
 
--- the bag has just what the place says
+-- The bag has just the references that the place gives the thread, but for what the first duty makes or gives up.
 abbrev pub PlaceFits : List Instr → List Reference → ℕ → List Duty → Place → Type 0
 PlaceFits code bag t agenda (Idle left) = HoldsAlone bag t (once_each the_root) agenda
 PlaceFits code bag t agenda (InCall left at variables) =
@@ -62,7 +80,7 @@ place_fits code bag t agenda (InCall left at variables) account says holds =
 place_fits code bag t agenda Exiting account says holds =
     subst (λ (c : Account). HoldsAlone bag t c agenda) says holds
 
--- the account that a place gives
+-- The account that the place gives, with the bag that it fits.
 pub record Placed (code : List Instr) (bag : List Reference) (t : ℕ) (agenda : List Duty) (place : Place) : Type 0 where
   pub account : Account
   pub says : PlaceSays code place account
@@ -75,7 +93,7 @@ placed_by code bag t agenda (InCall left at variables) fits =
     record { account = once_each (of_variables fits.0 variables); says = (fits.0, fits.1, refl); holds = fits.2 }
 placed_by code bag t agenda Exiting fits = record { account = once_each nothing; says = refl; holds = fits }
 
--- who departs holds nothing
+-- A thread whose exit is under way holds nothing.
 pub exited_none : (code : List Instr) (place : Place) (account : Account) → PlaceSays code place account
     → place ≡ Exiting → HoldsNone account
 exited_none code (Idle left) account says e k object =
@@ -102,7 +120,7 @@ nothing_bounded = record {
   in_flight = λ object. refl;
 }
 
--- only the sixteen variables own
+-- A variable past the sixteenth owns nothing.
 past_owns_none : (s : State) (v : ℕ) → length s.slots ≡ 16 → 16 ≤ v → is_owned (slot_of s v) ≡ false
 past_owns_none s v slots past = ap is_owned (get_or_past s.slots v Empty (omega (arith, slots, past)))
 

@@ -1,5 +1,5 @@
--- Where a thread stands in a call: some path comes to the point in a state, and what the state says of each variable is
--- true of the row in it.
+-- A thread in a call is at a point that some path reaches, and what the path's state says of each variable is true of
+-- the row in that variable.
 use Rattle.std.proofs.Common.{◌≡◌, ◌≢◌, ℕ, zero, suc, ◌<◌, true, false, List, [], ◌∷◌, ◌++◌, length, Option, None, Some, refl, sym, ap, ◌∙◌, subst, arith, inl, inr, get_or-set_same, get_or-set_other}
 use Rattle.std.specs.Prelude.{slice_get, slice_set}
 use Rattle.std.proofs.lemmas.Bool.{cases_lt}
@@ -14,22 +14,23 @@ use Rattle.brc_model.specs.declared.slot.Exit.{Exit}
 use Rattle.brc_model.specs.Slots.{slot_of, is_empty, is_owned, is_borrowed, put, after, target, entry}
 use Rattle.brc_model.specs.Paths.{At, path_end}
 use Rattle.brc_model.specs.declared.duty.Holding.TheVariants.{ByVariable, AsCaller}
-use Rattle.brc_model.specs.AbstractState.{root_row, Reference, references_to}
+use Rattle.brc_model.specs.AbstractState.{Reference, references_to}
 use Rattle.brc_model.specs.Threads.{row_of, entry_variables}
 use Rattle.brc_model.proofs.Basics.Lists.{get_or-replicate_default}
 use Rattle.brc_model.proofs.Basics.Bag.{held-le-references_to}
 use Rattle.brc_model.specs.References.{held, reference_of}
 use Rattle.brc_model.proofs.Dispatch.Holds.{of_variables, Holds, owned_has, caller_has}
 use Rattle.brc_model.proofs.Dispatch.Passing.{AreMet}
+use Rattle.brc_model.specs.Layout.{root_row}
 
--- what a slot says of the row in the variable
+-- What a slot says of the row in its variable.
 abbrev pub IsGrounded : Slot → Option ℕ → Type 0
 IsGrounded Empty row = Unit {0}
 IsGrounded (Owned k) row = (r : ℕ) × (row ≡ Some r)
 IsGrounded (Caller k) row = row ≡ Some root_row
 IsGrounded (Locked k) row = ⊥
 
--- some path comes to the point in this state
+-- Some path reaches the point in this state, and the state is true of the variables.
 pub record IsInside (code : List Instr) (at : ℕ) (variables : List (Option ℕ)) (s : State) : Type 0 where
   pub exits : List Exit
   pub walked : path_end code exits ≡ At at s
@@ -41,7 +42,7 @@ pub record AreInstructions (code : List Instr) : Type 0 where
   pub forward : LeadsForward code
   pub each : (at : ℕ) (i : Instr) → slice_get code at ≡ Some i → IsInstruction i
 
--- ---- a variable is changed
+-- ---- a variable changes
 
 pub slot_of-put_same : (s : State) (x : ℕ) (slot : Slot) → x < length s.slots → slot_of (put s x slot) x ≡ slot
 slot_of-put_same s x slot h = get_or-set_same s.slots x slot Empty h
@@ -78,7 +79,7 @@ grounded-put s rows x slot row in_slots in_rows new old v =
 
 -- ---- what a slot says
 
--- only the sixteen variables own
+-- A variable that owns a reference is one of the sixteen.
 pub owned_low : (s : State) (v : ℕ) → length s.slots ≡ 16 → is_owned (slot_of s v) ≡ true → v < 16
 owned_low s v slots owned =
     elim (cases_lt v 16) [
@@ -89,7 +90,7 @@ owned_low s v slots owned =
           absurd cc
     ]
 
--- a variable that isn't empty names an object that is referenced
+-- The variable names an object that has a reference.
 pub record NamesLive (bag : List Reference) (row : Option ℕ) : Type 0 where
   pub object : ℕ
   pub is_row : row ≡ Some object
@@ -109,7 +110,7 @@ live_slot bag t s rows v (Caller k) is some grounded holds =
     record { object = root_row; is_row = grounded; live = omega (arith, one, held-le-references_to r bag) }
 live_slot bag t s rows v (Locked k) is some grounded holds = absurd grounded
 
--- what may be given up is owned
+-- A slot that is neither empty nor borrowed owns its reference.
 pub owned_slot : (slot : Slot) → is_empty slot ≡ false → is_borrowed slot ≡ false → is_owned slot ≡ true
 owned_slot Empty e b = absurd cc
 owned_slot (Owned k) e b = refl
@@ -122,15 +123,16 @@ owned_row (Owned k) row owned grounded = grounded
 owned_row (Caller k) row owned grounded = absurd cc
 owned_row (Locked k) row owned grounded = absurd grounded
 
--- ---- where a thread stands
+-- ---- a thread at an instruction
 
--- what is known where an instruction stands whose conditions are met
+-- A thread at an instruction whose conditions are met: some path reaches the point and goes on from it, and the thread
+-- holds what the path's state says.
 pub record StandsAt (code : List Instr) (bag : List Reference) (t at : ℕ) (rows : List (Option ℕ)) (s : State)
     (i : Instr) : Type 0 where
   pub inside : IsInside code at rows s
   pub holds : Holds bag t (of_variables s rows)
   pub variables : IsInstruction i
-  pub reported : AreMet i s
+  pub met : AreMet i s
   pub leads : (exit : Exit) (next : ℕ) → target i exit at ≡ Some next
       → path_end code (inside.exits ++ exit ∷ []) ≡ At next (after i exit s)
 

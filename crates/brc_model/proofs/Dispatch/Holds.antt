@@ -1,5 +1,5 @@
--- What a thread holds where it stands, each reference once: in a call what the variables name that the state calls
--- owned, and the root as the caller.
+-- What a thread holds by its place, each reference once: the root as the caller that lends it, and in a call what the
+-- variables name that own a reference in the path's state.
 use Rattle.std.proofs.Common.{◌≡◌, ℕ, zero, suc, Bool, true, false, List, Option, Some, refl, sym, ap, ◌∙◌}
 use Rattle.std.specs.Prelude.{◌==◌, ◌&&◌}
 use Rattle.std.specs.List.{list_any}
@@ -9,10 +9,11 @@ use Rattle.brc_model.specs.declared.slot.State.{State}
 use Rattle.brc_model.specs.Slots.{slot_of, is_owned, names, entry}
 use Rattle.brc_model.specs.declared.duty.Holding.{Holding}
 use Rattle.brc_model.specs.declared.duty.Holding.TheVariants.{ByVariable, AsCaller, InFlight}
-use Rattle.brc_model.specs.AbstractState.{root_row, Reference}
+use Rattle.brc_model.specs.AbstractState.{Reference}
 use Rattle.brc_model.specs.Threads.{row_of, entry_variables}
 use Rattle.brc_model.proofs.Basics.Lists.{none_at, get_or-replicate_default}
 use Rattle.brc_model.specs.References.{held, one_if, reference_of}
+use Rattle.brc_model.specs.Layout.{root_row}
 
 abbrev pub nothing : Holding → ℕ → Bool
 nothing h object = false
@@ -22,17 +23,17 @@ the_root (ByVariable v) object = false
 the_root AsCaller object = object == root_row
 the_root InFlight object = false
 
--- what the variables that the state calls owned name, and the root
+-- The references of a thread in a call: what its owning variables name, and the root.
 abbrev pub of_variables : State → List (Option ℕ) → Holding → ℕ → Bool
 of_variables s variables (ByVariable v) object = is_owned (slot_of s v) && names (row_of variables v) object
 of_variables s variables AsCaller object = object == root_row
 of_variables s variables InFlight object = false
 
--- the thread holds just these references, each once
+-- The thread holds just these references, each once.
 pub record Holds (bag : List Reference) (t : ℕ) (holds : Holding → ℕ → Bool) : Type 0 where
   pub each : (h : Holding) (object : ℕ) → held (reference_of t h object) bag ≡ one_if (holds h object)
 
--- ---- by its variables, and as the caller
+-- ---- single references
 
 pub owned_has : (bag : List Reference) (t : ℕ) (s : State) (rows : List (Option ℕ)) (from row : ℕ)
     → is_owned (slot_of s from) ≡ true → row_of rows from ≡ Some row
@@ -63,7 +64,7 @@ pub holds-entered : (bag : List Reference) (t : ℕ) → Holds bag t the_root
     → Holds bag t (of_variables entry entry_variables)
 holds-entered bag t holds = record { each = entered_each bag t holds }
 
--- where no slot owns, the variables hold nothing
+-- If no slot owns a reference, the thread holds the root alone.
 ended_each : (bag : List Reference) (t : ℕ) (s : State) (rows : List (Option ℕ))
     → ((v : ℕ) → is_owned (slot_of s v) ≡ false) → Holds bag t (of_variables s rows)
     → (h : Holding) (object : ℕ) → held (reference_of t h object) bag ≡ one_if (the_root h object)

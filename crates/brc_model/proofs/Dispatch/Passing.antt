@@ -11,7 +11,7 @@ use Rattle.brc_model.specs.declared.slot.Exit.TheVariants.{Success}
 use Rattle.brc_model.specs.Slots.{applies, rising, lowest, after, target, entry}
 use Rattle.brc_model.specs.Paths.{PathEnd, At, Reports, arrives, unless_reported, passes, follow, path_end, IsAcceptableCode}
 
--- no condition of the instruction is broken
+-- The instruction breaks no condition.
 pub record AreMet (i : Instr) (s : State) : Type 0 where
   pub not_empty : applies i s EmptyUsed ≡ false
   pub owned : applies i s NotOwned ≡ false
@@ -44,7 +44,7 @@ are_met i s none =
 pub record PassesOn (code : List Instr) (exits : List Exit) (at : ℕ) (s : State) : Type 0 where
   pub here : Instr
   pub found : slice_get code at ≡ Some here
-  pub reported : AreMet here s
+  pub met : AreMet here s
   pub leads : (exit : Exit) (next : ℕ) → target here exit at ≡ Some next
       → path_end code (exits ++ exit ∷ []) ≡ At next (after here exit s)
 
@@ -53,7 +53,8 @@ path_end-append : (code : List Instr) (exits : List Exit) (e : Exit)
 path_end-append code exits e = fold-append (follow code) (At 0 entry) exits (e ∷ [])
 
 arrives_at : (code : List Instr) (at next : ℕ) (s : State)
-    → ((reported : CheckCode) → arrives code at (Some next) s ≡ Reports at reported → ⊥) → arrives code at (Some next) s ≡ At next s
+    → ((reported : CheckCode) → arrives code at (Some next) s ≡ Reports at reported → ⊥)
+    → arrives code at (Some next) s ≡ At next s
 arrives_at code at next s never =
     elim (nat_lt next (length code)) as
     (λ b. nat_lt next (length code) ≡ b → cond b (At next s) (Reports at RunsOff) ≡ At next s) [
@@ -61,7 +62,7 @@ arrives_at code at next s never =
       | false ↦ λ e. absurd (never RunsOff (ap (λ (b : Bool). cond b (At next s) (Reports at RunsOff)) e))
     ] refl
 
--- by either exit
+-- The path goes on by each exit of the instruction.
 leads_by : (code : List Instr) (exits : List Exit) (at : ℕ) (s : State) (i : Instr) (exit : Exit)
     → IsAcceptableCode code → path_end code exits ≡ At at s → slice_get code at ≡ Some i → lowest i s ≡ None
     → (next : ℕ) → target i exit at ≡ Some next → path_end code (exits ++ exit ∷ []) ≡ At next (after i exit s)
@@ -81,7 +82,8 @@ passes_on code exits at s accepted walked =
     let one_more : path_end code (exits ++ Success ∷ []) ≡ passes code at (slice_get code at) Success s =
     path_end-append code exits Success ∙ ap (λ (p : PathEnd). follow code p Success) walked in
     let never : (reported : CheckCode) → passes code at (slice_get code at) Success s ≡ Reports at reported
-    → ⊥ = λ reported e. accepted.reports_none at reported (record { exits = exits ++ Success ∷ []; reports = one_more ∙ e }) in
+    → ⊥ = λ reported e. accepted.reports_none at reported
+    (record { exits = exits ++ Success ∷ []; reports = one_more ∙ e }) in
     elim (slice_get code at) as (λ o. slice_get code at ≡ o → PassesOn code exits at s) [
       | None ↦ λ e. absurd (never RunsOff (ap (λ (o : Option Instr). passes code at o Success s) e))
       | Some i ↦ λ e.
@@ -97,7 +99,7 @@ passes_on code exits at s accepted walked =
                 λ l. record {
                   here = i;
                   found = e;
-                  reported = are_met i s l;
+                  met = are_met i s l;
                   leads = λ exit. leads_by code exits at s i exit accepted walked e l;
                 }
           ] refl

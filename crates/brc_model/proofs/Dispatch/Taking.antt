@@ -1,4 +1,4 @@
--- In accepted code each instruction that a thread takes up is fit to be begun.
+-- What a thread of accepted code takes up at each instruction meets its condition.
 use Rattle.std.proofs.Common.{◌≡◌, ◌≢◌, ℕ, zero, suc, ◌+◌, ◌<◌, true, false, List, [], ◌∷◌, ◌++◌, length, Option, None, Some, refl, sym, ap, ◌∙◌, subst, arith, ◌≤◌, Bool, cond}
 use Rattle.std.specs.Prelude.{◌==◌, ◌&&◌, slice_get, slice_set}
 use Rattle.std.specs.List.{list_any}
@@ -14,30 +14,34 @@ use Rattle.brc_model.specs.Slots.{slot_of, is_empty, is_owned, kind_of, put, ent
 use Rattle.brc_model.specs.Paths.{IsAcceptableCode}
 use Rattle.brc_model.specs.declared.duty.Holding.{Holding}
 use Rattle.brc_model.specs.declared.duty.Holding.TheVariants.{ByVariable, AsCaller, InFlight}
-use Rattle.brc_model.specs.AbstractState.{root_row, Reference, same_holding, references_to}
+use Rattle.brc_model.specs.AbstractState.{Reference, same_holding, references_to}
 use Rattle.brc_model.specs.Threads.{row_of, entry_variables}
 use Rattle.brc_model.specs.declared.duty.Duty.TheVariants.{RetainLoad, ReleaseLoad, Settle, BirthKind, Leave}
 use Rattle.brc_model.specs.Kinds.{kind_numbered, kind_of_word, is_counted_kind}
 use Rattle.brc_model.specs.declared.actor.Place.{Place}
 use Rattle.brc_model.specs.declared.actor.Place.TheVariants.{Idle, InCall, Exiting}
-use Rattle.brc_model.specs.Machine.{Action, Does, dispatch_instruction, dispatch, first_row, has_room, next_row, block_size, number_word}
+use Rattle.brc_model.specs.Machine.{has_room}
+use Rattle.brc_model.specs.Actions.{Does, dispatch_instruction, dispatch, number_word}
 use Rattle.brc_model.proofs.Basics.Bag.{held-le-references_to}
 use Rattle.brc_model.specs.References.{held, one_if, reference_of}
-use Rattle.brc_model.proofs.Basics.Lists.{first_false}
+use Rattle.brc_model.proofs.Basics.Lists.{either, first_false}
 use Rattle.brc_model.proofs.Dispatch.Holds.{the_root, of_variables, Holds, owned_has, caller_has, holds-ended, holds-entered}
 use Rattle.brc_model.proofs.Dispatch.Grounded.{IsGrounded, IsInside, AreInstructions, live_slot, owned_slot, owned_row, grounded-put, StandsAt, entry_in_call}
 use Rattle.brc_model.proofs.Dispatch.Passing.{passes_on}
 use Rattle.brc_model.proofs.Stepping.Counts.{flip_eqb}
 use Rattle.brc_model.proofs.Frame.Aside.{HoldsAlone}
 use Rattle.brc_model.proofs.Dispatch.Coded.{once_each, PlaceFits}
-use Rattle.brc_model.proofs.Dispatch.Begins.{holds_plain, holds_at_none, Gives, Takes, Nothing, Settles, Leaves, Taken, IsTaken, taken_with_row, idle_stays, in_call_stays, newref_held, emptied_held, ended_says, Bears, Stays, SilentTaken, cleared_held}
+use Rattle.brc_model.proofs.Dispatch.Begins.{holds_plain, holds_at_none, Gives, Takes, Nothing, Settles, Leaves, Taken, IsTaken, taken_with_row, idle_stays, in_call_stays, newref_held, emptied_held, ended_says, Bears, SilentTaken, cleared_held}
+use Rattle.brc_model.proofs.Keeping.SilentMoves.{Stays}
 use Rattle.brc_model.specs.Duties.{cells_of}
 use Rattle.brc_word.specs.Words.{half, kind_part, argument_part}
 use Rattle.std.proofs.lemmas.Bool.{ltb-true, ne_eqb}
 use Rattle.brc_model.proofs.Dispatch.TakingSilent.{none_taken, move_taken, goto_taken}
 use Rattle.brc_model.specs.Limits.{cell_limit}
+use Rattle.brc_model.specs.declared.layout.Layout.{Layout}
+use Rattle.brc_model.specs.Layout.{root_row, block_size, row_at}
 
--- by which of its references a thread holds what a variable names
+-- How the thread holds the object that a variable names.
 backed_slot : (bag : List Reference) (t : ℕ) (s : State) (rows : List (Option ℕ)) (v row : ℕ) (slot : Slot)
     → slot_of s v ≡ slot → row_of rows v ≡ Some row → is_empty slot ≡ false → IsGrounded slot (row_of rows v)
     → Holds bag t (of_variables s rows) → (by : Holding) × (0 < held (reference_of t by row) bag)
@@ -52,7 +56,7 @@ backed_slot bag t s rows v row (Caller k) is named some grounded holds =
     (AsCaller, subst (λ (x : ℕ). 0 < held (reference_of t AsCaller x) bag) (sym this) (omega (arith, one)))
 backed_slot bag t s rows v row (Locked k) is named some grounded holds = absurd grounded
 
--- a number has no cells
+-- A number has no cells.
 number_cells : (value : ℕ) → value < half → cells_of (number_word value) ≤ cell_limit
 number_cells value low =
     let kind : (kind_part (number_word value) == 3) ≡ false =
@@ -61,19 +65,20 @@ number_cells value low =
     ap (λ (b : Bool). cond b (argument_part (number_word value)) 0) kind in
     omega (arith, none)
 
--- and is an object that is counted
+-- A number is an object of a counted kind.
 number_counts : (value : ℕ) → value < half → is_counted_kind (kind_of_word (number_word value)) ≡ true
 number_counts value low =
     let number : kind_part (number_word value) ≡ 2 = omega (arith, low) in
     ap (λ (k : ℕ). is_counted_kind (kind_numbered k)) number
 
-newref_taken : (code : List Instr) (bag : List Reference) (rows t used left at : ℕ) (variables : List (Option ℕ))
+newref_taken : (code : List Instr) (bag : List Reference) (layout : Layout) (t used left at : ℕ)
+    (variables : List (Option ℕ))
     (s : State) (to from : ℕ)
     → StandsAt code bag t at variables s (Newref to from)
-    → IsTaken code bag rows t used (dispatch_instruction rows t used left at variables (Some (Newref to from)))
-newref_taken code bag rows t used left at variables s to from here =
-    let some : is_empty (slot_of s from) ≡ false = first_false _ _ here.reported.not_empty in
-    let free : is_owned (slot_of s to) ≡ false = first_false _ _ here.reported.free in
+    → IsTaken code bag layout t used (dispatch_instruction layout t used left at variables (Some (Newref to from)))
+newref_taken code bag layout t used left at variables s to from here =
+    let some : is_empty (slot_of s from) ≡ false = first_false _ _ here.met.not_empty in
+    let free : is_owned (slot_of s to) ≡ false = first_false _ _ here.met.free in
     let live = live_slot bag t s variables from (slot_of s from) refl some (here.inside.grounded from) here.holds in
     let backed =
     backed_slot bag t s variables from live.object (slot_of s from) refl live.is_row some
@@ -93,13 +98,13 @@ newref_taken code bag rows t used left at variables s to from here =
     (Some live.object))))
     (RetainLoad live.object (ByVariable to) ∷ []) =
     record { each = newref_held bag t s variables to live.object slot in_slots in_rows free refl here.holds } in
-    let taken : Taken code bag rows t used (InCall left (at + 1) (slice_set variables to (Some live.object)))
+    let taken : Taken code bag layout t used (InCall left (at + 1) (slice_set variables to (Some live.object)))
     (RetainLoad live.object (ByVariable to)) [] = record {
       placed = (put s to slot, next, held_now);
       starts = Takes live.object (ByVariable to) backed.0 [] backed.1;
       follows = Nothing (in_call_stays left (at + 1) (slice_set variables to (Some live.object)));
     } in
-    taken_with_row code bag rows t used live.object (row_of variables from)
+    taken_with_row code bag layout t used live.object (row_of variables from)
     (λ row. Does (RetainLoad row (ByVariable to)) [] (InCall left (at + 1) (slice_set variables to (Some row))))
     live.is_row taken
 
@@ -111,12 +116,13 @@ given_referenced bag t s variables from row owned is holds =
     owned_has bag t s variables from row owned is holds in
     omega (arith, one, held-le-references_to (reference_of t (ByVariable from) row) bag)
 
-drop_taken : (code : List Instr) (bag : List Reference) (rows t used left at : ℕ) (variables : List (Option ℕ))
+drop_taken : (code : List Instr) (bag : List Reference) (layout : Layout) (t used left at : ℕ)
+    (variables : List (Option ℕ))
     (s : State) (from : ℕ)
     → StandsAt code bag t at variables s (Drop from)
-    → IsTaken code bag rows t used (dispatch_instruction rows t used left at variables (Some (Drop from)))
-drop_taken code bag rows t used left at variables s from here =
-    let owned = owned_slot (slot_of s from) (first_false _ _ here.reported.not_empty) (first_false _ _ here.reported.owned) in
+    → IsTaken code bag layout t used (dispatch_instruction layout t used left at variables (Some (Drop from)))
+drop_taken code bag layout t used left at variables s from here =
+    let owned = owned_slot (slot_of s from) (first_false _ _ here.met.not_empty) (first_false _ _ here.met.owned) in
     let row = owned_row (slot_of s from) (row_of variables from) owned (here.inside.grounded from) in
     let in_slots : from < length s.slots = omega (arith, here.variables, here.inside.slots) in
     let in_rows : from < length variables = omega (arith, here.variables, here.inside.rows) in
@@ -130,7 +136,7 @@ drop_taken code bag rows t used left at variables s from here =
     let held_now : HoldsAlone bag t (once_each (of_variables (put s from Empty) (slice_set variables from None)))
     (ReleaseLoad row.0 (ByVariable from) ∷ Settle ∷ []) =
     record { each = emptied_held bag t s variables from row.0 in_slots owned row.1 here.holds } in
-    let taken : Taken code bag rows t used (InCall left (at + 1) (slice_set variables from None))
+    let taken : Taken code bag layout t used (InCall left (at + 1) (slice_set variables from None))
     (ReleaseLoad row.0 (ByVariable from)) (Settle ∷ []) = record {
       placed = (put s from Empty, next, held_now);
       starts =
@@ -138,19 +144,20 @@ drop_taken code bag rows t used left at variables s from here =
           (given_referenced bag t s variables from row.0 owned row.1 here.holds);
       follows = Settles (in_call_stays left (at + 1) (slice_set variables from None));
     } in
-    taken_with_row code bag rows t used row.0 (row_of variables from)
+    taken_with_row code bag layout t used row.0 (row_of variables from)
     (λ r. Does (ReleaseLoad r (ByVariable from)) (Settle ∷ [])
     (InCall left (at + 1) (slice_set variables from None))) row.1 taken
 
-ret_taken : (code : List Instr) (bag : List Reference) (rows t used left at : ℕ) (variables : List (Option ℕ))
+ret_taken : (code : List Instr) (bag : List Reference) (layout : Layout) (t used left at : ℕ)
+    (variables : List (Option ℕ))
     (s : State) (from : ℕ)
     → StandsAt code bag t at variables s (Ret from)
-    → IsTaken code bag rows t used (dispatch_instruction rows t used left at variables (Some (Ret from)))
-ret_taken code bag rows t used left at variables s from here =
-    let owned = owned_slot (slot_of s from) (first_false _ _ here.reported.not_empty) (first_false _ _ here.reported.owned) in
+    → IsTaken code bag layout t used (dispatch_instruction layout t used left at variables (Some (Ret from)))
+ret_taken code bag layout t used left at variables s from here =
+    let owned = owned_slot (slot_of s from) (first_false _ _ here.met.not_empty) (first_false _ _ here.met.owned) in
     let row = owned_row (slot_of s from) (row_of variables from) owned (here.inside.grounded from) in
     let in_slots : from < length s.slots = omega (arith, here.variables, here.inside.slots) in
-    let none : list_any is_owned (put s from Empty).slots ≡ false = first_false _ _ here.reported.none_left in
+    let none : list_any is_owned (put s from Empty).slots ≡ false = first_false _ _ here.met.none_left in
     let held_now : HoldsAlone bag t (once_each the_root) (ReleaseLoad row.0 (ByVariable from) ∷ Settle ∷ []) = record {
       each = λ k object.
           let said : one_if (of_variables (put s from Empty) (slice_set variables from None) k object)
@@ -158,7 +165,7 @@ ret_taken code bag rows t used left at variables s from here =
           ap one_if (ended_says (put s from Empty) (slice_set variables from None) k object none) in
           omega (arith, emptied_held bag t s variables from row.0 in_slots owned row.1 here.holds k object, said);
     } in
-    let taken : Taken code bag rows t used (Idle left) (ReleaseLoad row.0 (ByVariable from)) (Settle ∷ []) =
+    let taken : Taken code bag layout t used (Idle left) (ReleaseLoad row.0 (ByVariable from)) (Settle ∷ []) =
     record {
       placed = held_now;
       starts =
@@ -166,20 +173,21 @@ ret_taken code bag rows t used left at variables s from here =
           (given_referenced bag t s variables from row.0 owned row.1 here.holds);
       follows = Settles (idle_stays left);
     } in
-    taken_with_row code bag rows t used row.0 (row_of variables from)
+    taken_with_row code bag layout t used row.0 (row_of variables from)
     (λ r. Does (ReleaseLoad r (ByVariable from)) (Settle ∷ []) (Idle left)) row.1 taken
 
 -- ---- a new number
 
-num_born : (code : List Instr) (bag : List Reference) (rows t used left at : ℕ) (variables : List (Option ℕ))
+num_born : (code : List Instr) (bag : List Reference) (layout : Layout) (t used left at : ℕ)
+    (variables : List (Option ℕ))
     (s : State) (to value otherwise : ℕ)
-    → StandsAt code bag t at variables s (Num to value otherwise) → has_room rows t used ≡ true
-    → Taken code bag rows t used (InCall left (at + 1) (slice_set variables to (Some (next_row rows t used))))
-    (BirthKind (next_row rows t used) (ByVariable to) (number_word value)) []
-num_born code bag rows t used left at variables s to value otherwise here room =
-    let row = next_row rows t used in
+    → StandsAt code bag t at variables s (Num to value otherwise) → has_room layout t used ≡ true
+    → Taken code bag layout t used (InCall left (at + 1) (slice_set variables to (Some (row_at layout t used))))
+    (BirthKind (row_at layout t used) (ByVariable to) (number_word value)) []
+num_born code bag layout t used left at variables s to value otherwise here room =
+    let row = row_at layout t used in
     let slot : Slot = Owned kinds.Num in
-    let free : is_owned (slot_of s to) ≡ false = first_false _ _ here.reported.free in
+    let free : is_owned (slot_of s to) ≡ false = first_false _ _ here.met.free in
     let in_slots : to < length s.slots = omega (arith, here.variables.0, here.inside.slots) in
     let in_rows : to < length variables = omega (arith, here.variables.0, here.inside.rows) in
     let next : IsInside code (at + 1) (slice_set variables to (Some row)) (put s to slot) = record {
@@ -194,18 +202,18 @@ num_born code bag rows t used left at variables s to value otherwise here room =
     record { each = newref_held bag t s variables to row slot in_slots in_rows free refl here.holds } in
     record {
       placed = (put s to slot, next, held_now);
-      starts = Bears (ByVariable to) (number_word value) (ltb-true used (block_size rows t) room)
+      starts = Bears (ByVariable to) (number_word value) (ltb-true used (block_size layout t) room)
           (number_cells value here.variables.1) (number_counts value here.variables.1);
       follows = Nothing (in_call_stays left (at + 1) (slice_set variables to (Some row)));
     }
 
--- without room the variable is emptied, and the fault exit taken
+-- If the thread has no room for a row, `num` empties its variable and goes on at its fault exit.
 num_fails : (code : List Instr) (bag : List Reference) (t left at : ℕ) (variables : List (Option ℕ)) (s : State)
     (to value otherwise : ℕ)
     → StandsAt code bag t at variables s (Num to value otherwise)
     → SilentTaken code bag t [] (InCall left otherwise (slice_set variables to None))
 num_fails code bag t left at variables s to value otherwise here =
-    let free : is_owned (slot_of s to) ≡ false = first_false _ _ here.reported.free in
+    let free : is_owned (slot_of s to) ≡ false = first_false _ _ here.met.free in
     let in_slots : to < length s.slots = omega (arith, here.variables.0, here.inside.slots) in
     let in_rows : to < length variables = omega (arith, here.variables.0, here.inside.rows) in
     let next : IsInside code otherwise (slice_set variables to None) (put s to Empty) = record {
@@ -223,69 +231,68 @@ num_fails code bag t left at variables s to value otherwise here =
       stays = in_call_stays left otherwise (slice_set variables to None);
     }
 
-either_taken : (code : List Instr) (bag : List Reference) (rows t used : ℕ) (b : Bool) (one two : Action)
-    → (b ≡ true → IsTaken code bag rows t used one) → IsTaken code bag rows t used two
-    → IsTaken code bag rows t used (cond b one two)
-either_taken code bag rows t used true one two first second = first refl
-either_taken code bag rows t used false one two first second = second
-
-num_taken : (code : List Instr) (bag : List Reference) (rows t used left at : ℕ) (variables : List (Option ℕ))
+num_taken : (code : List Instr) (bag : List Reference) (layout : Layout) (t used left at : ℕ)
+    (variables : List (Option ℕ))
     (s : State) (to value otherwise : ℕ)
     → StandsAt code bag t at variables s (Num to value otherwise)
-    → IsTaken code bag rows t used (dispatch_instruction rows t used left at variables (Some (Num to value otherwise)))
-num_taken code bag rows t used left at variables s to value otherwise here =
-    either_taken code bag rows t used (has_room rows t used) _ _
-    (λ room. num_born code bag rows t used left at variables s to value otherwise here room)
+    → IsTaken code bag layout t used
+    (dispatch_instruction layout t used left at variables (Some (Num to value otherwise)))
+num_taken code bag layout t used left at variables s to value otherwise here =
+    either (IsTaken code bag layout t used) (has_room layout t used) _ _
+    (λ room. num_born code bag layout t used left at variables s to value otherwise here room)
     (num_fails code bag t left at variables s to value otherwise here)
 
 -- ---- each instruction
 
-instruction_taken : (code : List Instr) (bag : List Reference) (rows t used left at : ℕ) (variables : List (Option ℕ))
+instruction_taken : (code : List Instr) (bag : List Reference) (layout : Layout) (t used left at : ℕ)
+    (variables : List (Option ℕ))
     (s : State) (i : Instr)
     → StandsAt code bag t at variables s i
-    → IsTaken code bag rows t used (dispatch_instruction rows t used left at variables (Some i))
-instruction_taken code bag rows t used left at variables s (Num to value otherwise) here =
-    num_taken code bag rows t used left at variables s to value otherwise here
-instruction_taken code bag rows t used left at variables s (NoneObject to) here =
-    none_taken code bag rows t used left at variables s to here
-instruction_taken code bag rows t used left at variables s (MoveReference to from) here =
-    move_taken code bag rows t used left at variables s to from here
-instruction_taken code bag rows t used left at variables s (Newref to from) here =
-    newref_taken code bag rows t used left at variables s to from here
-instruction_taken code bag rows t used left at variables s (Drop from) here =
-    drop_taken code bag rows t used left at variables s from here
-instruction_taken code bag rows t used left at variables s (Ret from) here =
-    ret_taken code bag rows t used left at variables s from here
-instruction_taken code bag rows t used left at variables s (Goto to) here =
-    goto_taken code bag rows t used left at variables s to here
-instruction_taken code bag rows t used left at variables s Fail here =
+    → IsTaken code bag layout t used (dispatch_instruction layout t used left at variables (Some i))
+instruction_taken code bag layout t used left at variables s (Num to value otherwise) here =
+    num_taken code bag layout t used left at variables s to value otherwise here
+instruction_taken code bag layout t used left at variables s (NoneObject to) here =
+    none_taken code bag layout t used left at variables s to here
+instruction_taken code bag layout t used left at variables s (MoveReference to from) here =
+    move_taken code bag layout t used left at variables s to from here
+instruction_taken code bag layout t used left at variables s (Newref to from) here =
+    newref_taken code bag layout t used left at variables s to from here
+instruction_taken code bag layout t used left at variables s (Drop from) here =
+    drop_taken code bag layout t used left at variables s from here
+instruction_taken code bag layout t used left at variables s (Ret from) here =
+    ret_taken code bag layout t used left at variables s from here
+instruction_taken code bag layout t used left at variables s (Goto to) here =
+    goto_taken code bag layout t used left at variables s to here
+instruction_taken code bag layout t used left at variables s Fail here =
     let taken : SilentTaken code bag t [] (Idle left) = record {
       moves_fit = Stays;
       placed =
-          holds_at_none bag t the_root (holds-ended bag t s variables (first_false _ _ here.reported.none_left) here.holds);
+          holds_at_none bag t the_root (holds-ended bag t s variables (first_false _ _ here.met.none_left) here.holds);
       stays = idle_stays left;
     } in
     taken
 
-in_call_taken : (code : List Instr) (bag : List Reference) (rows t used left at : ℕ) (variables : List (Option ℕ))
+in_call_taken : (code : List Instr) (bag : List Reference) (layout : Layout) (t used left at : ℕ)
+    (variables : List (Option ℕ))
     (s : State)
     → IsAcceptableCode code → AreInstructions code → IsInside code at variables s
     → Holds bag t (of_variables s variables)
-    → IsTaken code bag rows t used (dispatch_instruction rows t used left at variables (slice_get code at))
-in_call_taken code bag rows t used left at variables s accepted instructions inside holds =
+    → IsTaken code bag layout t used (dispatch_instruction layout t used left at variables (slice_get code at))
+in_call_taken code bag layout t used left at variables s accepted instructions inside holds =
     let on = passes_on code inside.exits at s accepted inside.walked in
     let here : StandsAt code bag t at variables s on.here =
     record {
       inside = inside;
       holds = holds;
       variables = instructions.each at on.here on.found;
-      reported = on.reported;
+      met = on.met;
       leads = on.leads;
     } in
-    subst (λ (o : Option Instr). IsTaken code bag rows t used (dispatch_instruction rows t used left at variables o))
-    (sym on.found) (instruction_taken code bag rows t used left at variables s on.here here)
+    subst (λ (o : Option Instr). IsTaken code bag layout t used
+    (dispatch_instruction layout t used left at variables o))
+    (sym on.found) (instruction_taken code bag layout t used left at variables s on.here here)
 
--- the exit gives up the caller's reference
+-- The exit gives up the reference that the thread holds as the caller.
 exit_held : (bag : List Reference) (t : ℕ) → Holds bag t the_root → (k : Holding) (object : ℕ)
     → held (reference_of t k object) bag + 0 ≡ 0 + one_if (same_holding AsCaller k && (root_row == object))
 exit_held bag t holds AsCaller object =
@@ -294,24 +301,24 @@ exit_held bag t holds AsCaller object =
 exit_held bag t holds InFlight object = omega (arith, holds.each InFlight object)
 exit_held bag t holds (ByVariable v) object = omega (arith, holds.each (ByVariable v) object)
 
--- whatever a thread at rest takes up is fit
-pub dispatch_taken : (code : List Instr) (bag : List Reference) (rows t used : ℕ) (place : Place)
+-- What a thread at rest takes up meets its condition, whatever it dispatches.
+pub dispatch_taken : (code : List Instr) (bag : List Reference) (layout : Layout) (t used : ℕ) (place : Place)
     → IsAcceptableCode code → AreInstructions code → (place ≢ Exiting) → PlaceFits code bag t [] place
-    → IsTaken code bag rows t used (dispatch rows t used code place)
-dispatch_taken code bag rows t used Exiting accepted instructions stays fits = absurd (stays refl)
-dispatch_taken code bag rows t used (Idle zero) accepted instructions stays fits =
+    → IsTaken code bag layout t used (dispatch layout t used code place)
+dispatch_taken code bag layout t used Exiting accepted instructions stays fits = absurd (stays refl)
+dispatch_taken code bag layout t used (Idle zero) accepted instructions stays fits =
     let holds = holds_plain bag t the_root fits in
     let one : held (reference_of t AsCaller root_row) bag ≡ 1 = holds.each AsCaller root_row in
     record {
       placed = record { each = exit_held bag t holds };
       starts =
-          Gives root_row AsCaller (Settle ∷ Leave (first_row rows t) used ∷ [])
+          Gives root_row AsCaller (Settle ∷ Leave 0 used ∷ [])
           (omega (arith, one, held-le-references_to (reference_of t AsCaller root_row) bag));
       follows = Leaves refl;
     }
-dispatch_taken code bag rows t used (Idle (suc left)) accepted instructions stays fits =
-    in_call_taken code bag rows t used left 0 entry_variables entry accepted instructions (entry_in_call code)
+dispatch_taken code bag layout t used (Idle (suc left)) accepted instructions stays fits =
+    in_call_taken code bag layout t used left 0 entry_variables entry accepted instructions (entry_in_call code)
     (holds-entered bag t (holds_plain bag t the_root fits))
-dispatch_taken code bag rows t used (InCall left at variables) accepted instructions stays fits =
-    in_call_taken code bag rows t used left at variables fits.0 accepted instructions fits.1
+dispatch_taken code bag layout t used (InCall left at variables) accepted instructions stays fits =
+    in_call_taken code bag layout t used left at variables fits.0 accepted instructions fits.1
     (holds_plain bag t (of_variables fits.0 variables) fits.2)

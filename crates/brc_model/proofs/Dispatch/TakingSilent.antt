@@ -1,4 +1,4 @@
--- In accepted code an instruction that changes no word is fit to be taken up: none, move and goto.
+-- The silent steps of accepted code meet their condition: `none`, `move` and `goto`, which change no word.
 use Rattle.std.proofs.Common.{◌≡◌, ℕ, ◌+◌, ◌<◌, true, false, List, [], ◌∷◌, ◌++◌, length, Option, None, Some, refl, ap, ◌∙◌, arith, Bool, inl, inr}
 use Rattle.std.specs.Prelude.{◌==◌, ◌&&◌, slice_set}
 use Rattle.std.specs.List.{list_any}
@@ -13,20 +13,24 @@ use Rattle.brc_model.specs.declared.slot.Exit.TheVariants.{Success}
 use Rattle.brc_model.specs.Slots.{slot_of, is_owned, kind_of, put}
 use Rattle.brc_model.specs.declared.duty.Holding.{Holding}
 use Rattle.brc_model.specs.declared.duty.Holding.TheVariants.{ByVariable}
-use Rattle.brc_model.specs.AbstractState.{Reference, same_holding, none_row, same, without}
+use Rattle.brc_model.specs.AbstractState.{Reference, same_holding, same, without}
 use Rattle.brc_model.specs.Threads.{row_of}
 use Rattle.brc_model.specs.declared.actor.Place.TheVariants.{InCall}
-use Rattle.brc_model.specs.Machine.{dispatch_instruction, Silent, gain, pass_on}
+use Rattle.brc_model.specs.Actions.{dispatch_instruction, Silent}
+use Rattle.brc_model.specs.Moves.{gain, pass_on}
 use Rattle.brc_model.proofs.Basics.Bag.{held_has, held-without, held-cons}
 use Rattle.brc_model.specs.References.{held, one_if, reference_of}
 use Rattle.brc_model.proofs.Basics.Lists.{first_false}
 use Rattle.brc_model.proofs.Dispatch.Holds.{of_variables, Holds, owned_has}
 use Rattle.brc_model.proofs.Dispatch.Grounded.{IsInside, owned_slot, owned_row, grounded-put, StandsAt, slot_of-put_same, slot_of-put_other}
 use Rattle.brc_model.proofs.Stepping.Counts.{same_is}
-use Rattle.brc_model.proofs.Dispatch.Begins.{holds_at_none, IsTaken, taken_with_row, in_call_stays, newref_held, emptied_held, Stays, GainsNone, PassesOn, SilentTaken}
+use Rattle.brc_model.proofs.Dispatch.Begins.{holds_at_none, IsTaken, taken_with_row, in_call_stays, newref_held, emptied_held, SilentTaken}
+use Rattle.brc_model.proofs.Keeping.SilentMoves.{Stays, GainsNone, PassesOn}
 use Rattle.std.proofs.lemmas.Bool.Decides.{eqb_tells}
+use Rattle.brc_model.specs.declared.layout.Layout.{Layout}
+use Rattle.brc_model.specs.Layout.{none_row}
 
--- what lacked one reference has it
+-- Gaining the reference that the thread lacks makes the bag fit what the thread is to hold.
 pub gained_holds : (bag : List Reference) (t to row : ℕ) (says : Holding → ℕ → Bool)
     → ((k : Holding) (object : ℕ) → held (reference_of t k object) bag
     + one_if (same_holding (ByVariable to) k && (row == object)) ≡ one_if (says k object) + 0)
@@ -41,13 +45,14 @@ gained_holds bag t to row says lacks k object =
 
 -- ---- none
 
-pub none_taken : (code : List Instr) (bag : List Reference) (rows t used left at : ℕ) (variables : List (Option ℕ))
+pub none_taken : (code : List Instr) (bag : List Reference) (layout : Layout) (t used left at : ℕ)
+    (variables : List (Option ℕ))
     (s : State) (to : ℕ)
     → StandsAt code bag t at variables s (NoneObject to)
-    → IsTaken code bag rows t used (dispatch_instruction rows t used left at variables (Some (NoneObject to)))
-none_taken code bag rows t used left at variables s to here =
+    → IsTaken code bag layout t used (dispatch_instruction layout t used left at variables (Some (NoneObject to)))
+none_taken code bag layout t used left at variables s to here =
     let slot : Slot = Owned kinds.None in
-    let free : is_owned (slot_of s to) ≡ false = first_false _ _ here.reported.free in
+    let free : is_owned (slot_of s to) ≡ false = first_false _ _ here.met.free in
     let in_slots : to < length s.slots = omega (arith, here.variables, here.inside.slots) in
     let in_rows : to < length variables = omega (arith, here.variables, here.inside.rows) in
     let next : IsInside code (at + 1) (slice_set variables to (Some none_row)) (put s to slot) = record {
@@ -73,9 +78,9 @@ none_taken code bag rows t used left at variables s to here =
     } in
     taken
 
--- ---- a reference is handed on
+-- ---- a reference passed on
 
--- the reference that a variable owns is lost, and the variable emptied
+-- Losing the reference that a variable owns, and emptying the variable, makes the bag fit what the thread is to hold.
 lost_holds : (bag : List Reference) (t : ℕ) (s : State) (variables : List (Option ℕ)) (from row : ℕ)
     → from < length s.slots → is_owned (slot_of s from) ≡ true → row_of variables from ≡ Some row
     → Holds bag t (of_variables s variables)
@@ -106,13 +111,15 @@ still_free s from to in_slots free =
       | inr other ↦ ap is_owned (slot_of-put_other s from to Empty other.1) ∙ free
     ]
 
-pub move_taken : (code : List Instr) (bag : List Reference) (rows t used left at : ℕ) (variables : List (Option ℕ))
+pub move_taken : (code : List Instr) (bag : List Reference) (layout : Layout) (t used left at : ℕ)
+    (variables : List (Option ℕ))
     (s : State) (to from : ℕ)
     → StandsAt code bag t at variables s (MoveReference to from)
-    → IsTaken code bag rows t used (dispatch_instruction rows t used left at variables (Some (MoveReference to from)))
-move_taken code bag rows t used left at variables s to from here =
-    let owned = owned_slot (slot_of s from) (first_false _ _ here.reported.not_empty) (first_false _ _ here.reported.owned) in
-    let free : is_owned (slot_of s to) ≡ false = first_false _ _ here.reported.free in
+    → IsTaken code bag layout t used
+    (dispatch_instruction layout t used left at variables (Some (MoveReference to from)))
+move_taken code bag layout t used left at variables s to from here =
+    let owned = owned_slot (slot_of s from) (first_false _ _ here.met.not_empty) (first_false _ _ here.met.owned) in
+    let free : is_owned (slot_of s to) ≡ false = first_false _ _ here.met.free in
     let row = owned_row (slot_of s from) (row_of variables from) owned (here.inside.grounded from) in
     let slot : Slot = Owned (kind_of (slot_of s from)) in
     let s1 = put s from Empty in
@@ -148,17 +155,18 @@ move_taken code bag rows t used left at variables s to from here =
       placed = (put s1 to slot, next, holds_at_none _ t _ holds);
       stays = in_call_stays left (at + 1) (slice_set v1 to (Some row.0));
     } in
-    taken_with_row code bag rows t used row.0 (row_of variables from)
+    taken_with_row code bag layout t used row.0 (row_of variables from)
     (λ x. Silent (pass_on t (ByVariable from) (ByVariable to) x) (InCall left (at + 1) (slice_set v1 to (Some x))))
     row.1 taken
 
 -- ---- a jump
 
-pub goto_taken : (code : List Instr) (bag : List Reference) (rows t used left at : ℕ) (variables : List (Option ℕ))
+pub goto_taken : (code : List Instr) (bag : List Reference) (layout : Layout) (t used left at : ℕ)
+    (variables : List (Option ℕ))
     (s : State) (to : ℕ)
     → StandsAt code bag t at variables s (Goto to)
-    → IsTaken code bag rows t used (dispatch_instruction rows t used left at variables (Some (Goto to)))
-goto_taken code bag rows t used left at variables s to here =
+    → IsTaken code bag layout t used (dispatch_instruction layout t used left at variables (Some (Goto to)))
+goto_taken code bag layout t used left at variables s to here =
     let next : IsInside code to variables s = record {
       exits = here.inside.exits ++ Success ∷ [];
       walked = here.leads Success to refl;

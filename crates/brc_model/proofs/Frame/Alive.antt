@@ -1,10 +1,10 @@
--- A row that is referenced, awaited, decided about or merged is live; and what an agenda weighs, all agendas weigh.
+-- A row with a reference, a pending decrement, a decision or a merge under way is live. A thread's agenda weighs at
+-- most what all agendas together weigh.
 use Rattle.std.proofs.Common.{◌≡◌, ℕ, ◌+◌, ◌<◌, ◌≤◌, List, ◌∷◌, Some, refl, ap, ◌∙◌, arith}
 use Rattle.std.specs.Prelude.{slice_get, sum_by}
 use Rattle.std.proofs.lemmas.List.Sums.{sum_by-cons}
 use Rattle.brc_model.specs.AbstractState.{references_to}
 use Rattle.brc_model.specs.declared.duty.Duty.{Duty}
-use Rattle.brc_model.specs.Duties.{block_of}
 use Rattle.brc_model.specs.Machine.{Life, Unborn, Live, Dying, Closed, Actor, Machine}
 use Rattle.brc_model.proofs.Basics.Bag.{held-le-references_to}
 use Rattle.brc_model.specs.References.{reference_of}
@@ -13,19 +13,20 @@ use Rattle.brc_model.specs.Accounts.{Accounts}
 use Rattle.brc_model.specs.Invariant.{numbers_of, CoreInvariant}
 use Rattle.brc_model.specs.Knowledge.{IsBacked}
 use Rattle.brc_model.proofs.Objects.Weights.{agenda_weight-le}
+use Rattle.brc_model.specs.Layout.{block_of, IsCounted}
 
 -- ---- weights
 
--- the first duty's weight, and that of the others, is among all
+-- The weights of the first duty and of the duties behind it are part of the weight of all agendas.
 pub first_weighs : (f : Duty → ℕ) (actors : List Actor) (t : ℕ) (a : Actor) (d : Duty) (rest : List Duty)
     → slice_get actors t ≡ Some a → a.agenda ≡ d ∷ rest → f d + sum_by f rest ≤ weight f actors
 first_weighs f actors t a d rest found is =
     let here : sum_by f a.agenda ≡ f d + sum_by f rest = ap (sum_by f) is ∙ sum_by-cons f d rest in
     omega (arith, here, agenda_weight-le f actors t a found)
 
--- ---- life
+-- ---- live rows
 
--- one of the numbers says that the row is live
+-- The row is live, and its numbers are those of a live row.
 pub record IsAlive (owner : ℕ) (l : Life) (n : Numbers) : Type 0 where
   pub life : l ≡ Live
   pub live : IsLive owner n
@@ -41,29 +42,34 @@ alive_by owner Closed n row some =
     absurd (omega (arith, row.mark, row.references, row.waiting, row.merging, row.deciding, some))
 
 abbrev pub Alive : Machine → ℕ → Type 0
-Alive m x = IsAlive (block_of m.rows x) (m.life x) (numbers_of m x)
+Alive m x = IsAlive (block_of m.layout x) (m.life x) (numbers_of m x)
 
-pub alive_referenced : (p : Accounts) (n : ℕ) (m : Machine) (x : ℕ) → CoreInvariant p n m → 0 < x
+pub alive_referenced : (p : Accounts) (n : ℕ) (m : Machine) (x : ℕ) → CoreInvariant p n m → IsCounted m.layout x
     → 0 < references_to x m.abstract.references → Alive m x
 alive_referenced p n m x core pos some =
-    alive_by (block_of m.rows x) (m.life x) (numbers_of m x) (core.rows x pos) (omega (arith, some))
+    alive_by (block_of m.layout x) (m.life x) (numbers_of m x) (core.rows x pos) (omega (arith, some))
 
-pub alive_waiting : (p : Accounts) (n : ℕ) (m : Machine) (x : ℕ) → CoreInvariant p n m → 0 < x → 0 < weight (waits x) m.actors
+pub alive_waiting : (p : Accounts) (n : ℕ) (m : Machine) (x : ℕ) → CoreInvariant p n m → IsCounted m.layout x
+    → 0 < weight (waits x) m.actors
     → Alive m x
 alive_waiting p n m x core pos some =
-    alive_by (block_of m.rows x) (m.life x) (numbers_of m x) (core.rows x pos) (omega (arith, some))
+    alive_by (block_of m.layout x) (m.life x) (numbers_of m x) (core.rows x pos) (omega (arith, some))
 
-pub alive_deciding : (p : Accounts) (n : ℕ) (m : Machine) (x : ℕ) → CoreInvariant p n m → 0 < x → 0 < weight (decides x) m.actors
+pub alive_deciding : (p : Accounts) (n : ℕ) (m : Machine) (x : ℕ) → CoreInvariant p n m → IsCounted m.layout x
+    → 0 < weight (decides x) m.actors
     → Alive m x
 alive_deciding p n m x core pos some =
-    alive_by (block_of m.rows x) (m.life x) (numbers_of m x) (core.rows x pos) (omega (arith, some))
+    alive_by (block_of m.layout x) (m.life x) (numbers_of m x) (core.rows x pos) (omega (arith, some))
 
-pub alive_merging : (p : Accounts) (n : ℕ) (m : Machine) (x : ℕ) → CoreInvariant p n m → 0 < x → 0 < weight (merges x) m.actors
+pub alive_merging : (p : Accounts) (n : ℕ) (m : Machine) (x : ℕ) → CoreInvariant p n m → IsCounted m.layout x
+    → 0 < weight (merges x) m.actors
     → Alive m x
 alive_merging p n m x core pos some =
-    alive_by (block_of m.rows x) (m.life x) (numbers_of m x) (core.rows x pos) (omega (arith, some))
+    alive_by (block_of m.layout x) (m.life x) (numbers_of m x) (core.rows x pos) (omega (arith, some))
 
-pub alive_backed : (p : Accounts) (n : ℕ) (m : Machine) (t x : ℕ) → CoreInvariant p n m → 0 < x → IsBacked m t x → Alive m x
+pub alive_backed : (p : Accounts) (n : ℕ) (m : Machine) (t x : ℕ) → CoreInvariant p n m → IsCounted m.layout x
+    → IsBacked m t x
+    → Alive m x
 alive_backed p n m t x core pos backed =
     alive_referenced p n m x core pos
     (omega (arith, backed.held_so, held-le-references_to (reference_of t backed.by x) m.abstract.references))

@@ -1,4 +1,5 @@
--- Work that is put aside: what a duty makes, gives up or weighs at a row, only a duty about that row does.
+-- The duties that a thread has put aside: a duty makes references to, gives up references to and weighs something at
+-- the row that it is about, and at no other row.
 use Rattle.std.proofs.Common.{◌≡◌, ℕ, ◌+◌, ◌<◌, ◌≤◌, Bool, true, false, cond, List, [], ◌∷◌, inl, refl, sym, ap, ◌∙◌, subst, arith}
 use Rattle.std.specs.Prelude.{◌==◌, ◌&&◌, count_by, sum_by}
 use Rattle.std.proofs.lemmas.List.Sums.{sum_by-cons}
@@ -18,7 +19,7 @@ use Rattle.brc_model.proofs.Basics.Bag.{one_if_low}
 
 -- ---- one duty
 
--- no row that both duties are about
+-- No row is the subject of both duties.
 abbrev pub AreApart : Duty → Duty → Type 0
 AreApart d e = (x : ℕ) → is_about x d ≡ true → is_about x e ≡ false
 
@@ -36,7 +37,7 @@ and_at_most true false = omega arith
 and_at_most false true = omega arith
 and_at_most false false = omega arith
 
--- who makes a reference to an object is about its row
+-- A duty that makes a reference to an object is about the object's row.
 pub lacks_about : (d : Duty) (k : Holding) (x : ℕ) → one_if (lacks d k x) ≤ one_if (is_about x d)
 lacks_about (RetainLoad y h) k x = and_at_most (same_holding h k) (y == x)
 lacks_about (RetainStore y h w) k x = and_at_most (same_holding h k) (y == x)
@@ -46,7 +47,7 @@ lacks_about (BirthSlot y h) k x = and_at_most (same_holding h k) (y == x)
 lacks_about (BirthLocal y h) k x = and_at_most (same_holding h k) (y == x)
 lacks_about _ k x = omega arith
 
--- who gives one up, too
+-- A duty that gives up a reference to an object is about the object's row.
 pub extra_about : (d : Duty) (k : Holding) (x : ℕ) → one_if (extra d k x) ≤ one_if (is_about x d)
 extra_about (ReleaseLoad y h) k x = and_at_most (same_holding h k) (y == x)
 extra_about (ReleaseStore y w) k x = and_at_most (same_holding InFlight k) (y == x)
@@ -54,7 +55,7 @@ extra_about (SharedLoad y Own) k x = and_at_most (same_holding InFlight k) (y ==
 extra_about (SharedExchange y Own w) k x = and_at_most (same_holding InFlight k) (y == x)
 extra_about _ k x = omega arith
 
--- A weight at a row: only duties about the row have one.
+-- The weight counts duties about the row alone.
 pub record IsOfRow (x : ℕ) (f : Duty → ℕ) : Type 0 where
   pub about : (d : Duty) → is_about x d ≡ false → f d ≡ 0
 
@@ -102,7 +103,7 @@ decides_of_row x = record { about = decides_about x }
 pub looks_of_row : (x : ℕ) → IsOfRow x (looks x)
 looks_of_row x = record { about = looks_about x }
 
--- ---- the duties that are put aside
+-- ---- duties put aside
 
 counts_below : (f g : Duty → Bool) → ((d : Duty) → one_if (f d) ≤ one_if (g d)) → (ds : List Duty)
     → count_by f ds ≤ count_by g ds
@@ -122,7 +123,7 @@ lacks_counted aside k x = counts_below (λ d. lacks d k x) (is_about x) (λ d. l
 pub extra_counted : (aside : List Duty) (k : Holding) (x : ℕ) → extra_aside aside k x ≤ count_by (is_about x) aside
 extra_counted aside k x = counts_below (λ d. extra d k x) (is_about x) (λ d. extra_about d k x) aside
 
--- where none is about a row, none weighs anything there
+-- If none of the duties put aside is about a row, they weigh nothing there.
 pub aside_weighs : (x : ℕ) (f : Duty → ℕ) → IsOfRow x f → (aside : List Duty) → count_by (is_about x) aside ≡ 0
     → sum_by f aside ≡ 0
 aside_weighs x f of_row [] none = refl
@@ -140,9 +141,9 @@ aside_weighs x f of_row (d ∷ ds) none =
       aside_weighs x f of_row ds (omega (arith, whole, none)),
     )
 
--- ---- what is given up
+-- ---- references given up
 
--- the reference that the duty at hand gives up is held
+-- The bag has the reference that the first duty gives up.
 pub extra_held : (bag : List Reference) (t : ℕ) (account : Account) (agenda aside : List Duty) (k : Holding) (x : ℕ)
     → HoldsAt bag t account agenda aside → one_if (about_of x agenda) + count_by (is_about x) aside ≤ 1
     → extra_of agenda k x ≡ true → lacks_of agenda k x ≡ false → 0 < held (reference_of t k x) bag
@@ -152,9 +153,9 @@ extra_held bag t account (d ∷ rest) aside k x holds apart more less =
     let b : one_if (lacks d k x) ≡ 0 = ap one_if less in
     omega (arith, holds.each k x, a, b, extra_about d k x, apart, lacks_counted aside k x)
 
--- ---- no work is put aside
+-- ---- nothing put aside
 
--- where nothing is put aside, the duty at hand alone has more or less
+-- If a thread has put nothing aside, the bag and its account differ by what its first duty makes or gives up.
 pub record HoldsAlone (bag : List Reference) (t : ℕ) (account : Account) (agenda : List Duty) : Type 0 where
   pub each : (k : Holding) (object : ℕ)
       → held (reference_of t k object) bag + one_if (lacks_of agenda k object) ≡ account k object

@@ -3,6 +3,7 @@ use Rattle.std.proofs.Common.{◌≡◌, ◌≢◌, ℕ, ◌+◌, ◌-◌, ◌<�
 use Rattle.std.specs.Prelude.{◌==◌, slice_get}
 use Rattle.std.proofs.lemmas.Bool.{eqb-true, eq-eqb, ne_eqb}
 use Rattle.std.proofs.lemmas.Bool.Decides.{eqb_tells}
+use Rattle.brc_model.specs.declared.duty.Holding.{Holding}
 use Rattle.brc_model.specs.declared.duty.Holding.TheVariants.{InFlight}
 use Rattle.brc_word.specs.Words.{owner_part, biased_part, phase_part, fresh_word, released_word, merged_word, local_word}
 use Rattle.brc_model.specs.declared.duty.Reason.{Reason}
@@ -10,8 +11,9 @@ use Rattle.brc_model.specs.declared.duty.Reason.TheVariants.{Own, Handed}
 use Rattle.brc_model.specs.declared.duty.Duty.{Duty}
 use Rattle.brc_model.specs.declared.duty.Duty.TheVariants.{RetainLoad, RetainStore, RetainAdd, ReleaseLoad, ReleaseStore, DecideAtZero, SharedLoad, SharedExchange, Look, MergeSwap, MergeLoad, MergeExchange, Die, Settle, SettleEnd, Leave, Finish, BirthLocal}
 use Rattle.brc_model.specs.declared.address.Address.TheVariants.{Local, Shared, Gate, ThreadWord}
-use Rattle.brc_model.specs.Duties.{block_of, address_of, new_word}
+use Rattle.brc_model.specs.Duties.{address_of, new_word}
 use Rattle.brc_model.specs.Machine.{Actor, Dying, Machine, written, Unborn, Life}
+use Rattle.brc_model.proofs.Basics.Lists.{either}
 use Rattle.brc_model.proofs.Basics.Bag.{held-le-references_to}
 use Rattle.brc_model.specs.References.{held, one_if, reference_of}
 use Rattle.brc_model.specs.RowInvariant.{waits, decides, merges, InOwned, InSwapped, InMerged, RowInvariant}
@@ -24,32 +26,41 @@ use Rattle.brc_model.proofs.Frame.Aside.{extra_held}
 use Rattle.brc_model.proofs.Frame.Alive.{first_weighs, Alive, alive_referenced, alive_waiting, alive_deciding, alive_merging}
 use Rattle.brc_model.proofs.Basics.Written.{written_here, written_apart, written_load, apart_local, apart_shared, apart_gate, apart_thread}
 use Rattle.brc_model.proofs.Frame.Others.{is_dying}
-use Rattle.brc_model.proofs.Basics.Blocks.{next_above, next_unborn}
+use Rattle.brc_model.proofs.Basics.Blocks.{next_counted, next_unborn}
+use Rattle.brc_model.specs.Layout.{block_of, IsCounted}
 
 pub head_of : (p : Accounts) (n : ℕ) (m : Machine) (t : ℕ) (a : Actor) (d : Duty) (rest : List Duty)
     → AtDuty p n m t a d rest → HeadFits m t a d rest
 head_of p n m t a d rest here =
     subst (λ (l : List Duty). HeadOf m t a l) here.agenda (here.core.each t a here.found).0.head_fits
 
--- ---- which rows are alive at a duty
+-- ---- live rows at a duty
 
-own_alive : (p : Accounts) (n : ℕ) (m : Machine) (t : ℕ) (a : Actor) (d : Duty) (rest : List Duty) (x : ℕ)
-    → AtDuty p n m t a d rest → 0 < x → extra_of (d ∷ rest) InFlight x ≡ true
-    → lacks_of (d ∷ rest) InFlight x ≡ false → Alive m x
-own_alive p n m t a d rest x here pos more less =
+-- The bag has the reference that the first duty gives up.
+pub gives_held : (p : Accounts) (n : ℕ) (m : Machine) (t : ℕ) (a : Actor) (d : Duty) (rest : List Duty) (k : Holding)
+    (x : ℕ)
+    → AtDuty p n m t a d rest → extra_of (d ∷ rest) k x ≡ true → lacks_of (d ∷ rest) k x ≡ false
+    → 0 < held (reference_of t k x) m.abstract.references
+gives_held p n m t a d rest k x here more less =
     let fits = here.core.each t a here.found in
-    let some : 0 < held (reference_of t InFlight x) m.abstract.references =
-    extra_held m.abstract.references t (p t) a.agenda a.aside InFlight x fits.0.holds (fits.2.apart x)
-    (ap (λ (l : List Duty). extra_of l InFlight x) here.agenda ∙ more)
-    (ap (λ (l : List Duty). lacks_of l InFlight x) here.agenda ∙ less) in
+    extra_held m.abstract.references t (p t) a.agenda a.aside k x fits.0.holds (fits.2.apart x)
+    (ap (λ (l : List Duty). extra_of l k x) here.agenda ∙ more)
+    (ap (λ (l : List Duty). lacks_of l k x) here.agenda ∙ less)
+
+pub given_alive : (p : Accounts) (n : ℕ) (m : Machine) (t : ℕ) (a : Actor) (d : Duty) (rest : List Duty) (k : Holding)
+    (x : ℕ)
+    → AtDuty p n m t a d rest → IsCounted m.layout x → extra_of (d ∷ rest) k x ≡ true
+    → lacks_of (d ∷ rest) k x ≡ false → Alive m x
+given_alive p n m t a d rest k x here pos more less =
+    let some = gives_held p n m t a d rest k x here more less in
     alive_referenced p n m x here.core pos
-    (omega (arith, some, held-le-references_to (reference_of t InFlight x) m.abstract.references))
+    (omega (arith, some, held-le-references_to (reference_of t k x) m.abstract.references))
 
 pub exchange_alive : (p : Accounts) (n : ℕ) (m : Machine) (t : ℕ) (a : Actor) (x w : ℕ) (r : Reason) (rest : List Duty)
     → AtDuty p n m t a (SharedExchange x r w) rest → Alive m x
 exchange_alive p n m t a x w Own rest here =
-    own_alive p n m t a (SharedExchange x Own w) rest x here (head_of p n m t a (SharedExchange x Own w) rest here)
-    (eq-eqb x x refl) refl
+    given_alive p n m t a (SharedExchange x Own w) rest InFlight x here
+    (head_of p n m t a (SharedExchange x Own w) rest here) (eq-eqb x x refl) refl
 exchange_alive p n m t a x w Handed rest here =
     let one : one_if (x == x) ≡ 1 = ap one_if (eq-eqb x x refl) in
     alive_waiting p n m x here.core (head_of p n m t a (SharedExchange x Handed w) rest here).0
@@ -95,7 +106,7 @@ claim_clash p n m t u x y a b rest here ne found other same =
     let alive = claim_alive p n m t a y rest here in
     let theirs : owner_part (m.memory (Local y)) ≡ u + 1 =
     ap (λ (z : ℕ). owner_part (m.memory (Local z))) same ∙ other.owner in
-    let block : u ≡ block_of m.rows y = elim alive.live.mode [
+    let block : u ≡ block_of m.layout y = elim alive.live.mode [
       | InOwned o ↦ omega (arith, o.owned, theirs)
       | InSwapped s ↦ absurd (omega (arith, s.local, theirs))
       | InMerged s ↦ absurd (omega (arith, s.local, theirs))
@@ -107,23 +118,27 @@ claim_clash p n m t u x y a b rest here ne found other same =
           ∙ ap status_word other.running)
     ]
 
--- nobody owns what isn't born
-unowned_clash : (p : Accounts) (n : ℕ) (m : Machine) (u x y : ℕ) (b : Actor) → CoreInvariant p n m → 1 < y → m.life y ≡ Unborn
+-- No thread owns a row that isn't born.
+unowned_clash : (p : Accounts) (n : ℕ) (m : Machine) (u x y : ℕ) (b : Actor) → CoreInvariant p n m
+    → IsCounted m.layout y
+    → m.life y ≡ Unborn
     → OwnsLocally m u b x → y ≡ x → ⊥
 unowned_clash p n m u x y b core above unborn other same =
     let theirs : owner_part (m.memory (Local y)) ≡ u + 1 =
     ap (λ (z : ℕ). owner_part (m.memory (Local z))) same ∙ other.owner in
     let row =
-    subst (λ (l : Life). RowInvariant (block_of m.rows y) l (numbers_of m y)) unborn
-    (core.rows y (omega (arith, above))) in
+    subst (λ (l : Life). RowInvariant (block_of m.layout y) l (numbers_of m y)) unborn
+    (core.rows y above) in
     omega (arith, theirs, row.local)
 
 local_kept : (m : Machine) (y x v : ℕ) → (y ≡ x → ⊥) → written m.memory (Local y) v (Local x) ≡ m.memory (Local x)
 local_kept m y x v ne = written_apart m.memory (Local y) (Local x) v (apart_local y x ne)
 
+-- A step doesn't change the local word of a row that another running thread owns.
 pub locals_left : (p : Accounts) (n : ℕ) (m : Machine) (t : ℕ) (a : Actor) (d : Duty) (rest : List Duty)
     → AtDuty p n m t a d rest → (u x : ℕ) (b : Actor) → u ≢ t → slice_get m.actors u ≡ Some b → OwnsLocally m u b x
-    → written m.memory (address_of m.rows t a.head d) (new_word t a.head d (m.memory (address_of m.rows t a.head d)))
+    → written m.memory (address_of m.layout t a.head d)
+    (new_word t a.head d (m.memory (address_of m.layout t a.head d)))
     (Local x) ≡ m.memory (Local x)
 locals_left p n m t a (RetainLoad y h) rest here u x b ne found other = written_load m.memory (Local y) (Local x)
 locals_left p n m t a (ReleaseLoad y h) rest here u x b ne found other = written_load m.memory (Local y) (Local x)
@@ -135,7 +150,7 @@ locals_left p n m t a (MergeSwap y Own) rest here u x b ne found other =
     local_kept m y x 0 (owners_clash m t u x y a b ne (head_of p n m t a (MergeSwap y Own) rest here).1 other)
 locals_left p n m t a (BirthLocal y h) rest here u x b ne found other =
     local_kept m y x (local_word t 1)
-    (unowned_clash p n m u x y b here.core (next_above m t a y (head_of p n m t a (BirthLocal y h) rest here).0)
+    (unowned_clash p n m u x y b here.core (next_counted m t a y (head_of p n m t a (BirthLocal y h) rest here).0)
     (next_unborn p n m t a y here.core here.found (head_of p n m t a (BirthLocal y h) rest here).0) other)
 locals_left p n m t a (MergeSwap y Handed) rest here u x b ne found other =
     local_kept m y x 0 (claim_clash p n m t u x y a b rest here ne found other)
@@ -162,14 +177,11 @@ released_merged w some phase =
     let other : (w == fresh_word) ≡ false = ne_eqb w fresh_word (λ e. absurd (omega (arith, phase, e))) in
     ap (λ (b : Bool). phase_part (cond b (w + 2) (w - 4))) other ∙ (shared_down w some).1 ∙ phase
 
-exchanged : (b : Bool) (x y z : ℕ) → (P : ℕ → Type 0) → (b ≡ true → P x) → P y → P (cond b x y)
-exchanged true x y z P win lose = win refl
-exchanged false x y z P win lose = lose
-
+-- A step leaves a merged row merged.
 pub merged_left : (p : Accounts) (n : ℕ) (m : Machine) (t : ℕ) (a : Actor) (d : Duty) (rest : List Duty)
     → AtDuty p n m t a d rest → (x : ℕ) → phase_part (m.memory (Shared x)) ≡ 3
-    → phase_part (written m.memory (address_of m.rows t a.head d)
-    (new_word t a.head d (m.memory (address_of m.rows t a.head d))) (Shared x)) ≡ 3
+    → phase_part (written m.memory (address_of m.layout t a.head d)
+    (new_word t a.head d (m.memory (address_of m.layout t a.head d))) (Shared x)) ≡ 3
 merged_left p n m t a (RetainAdd y h) rest here x was =
     phase_written m y (m.memory (Shared y) + 4) x (λ w. (shared_up (m.memory (Shared y))).1 ∙ w) was
 merged_left p n m t a (DecideAtZero y) rest here x was =
@@ -179,7 +191,7 @@ merged_left p n m t a (SharedLoad y r) rest here x was =
 merged_left p n m t a (SharedExchange y r w) rest here x was =
     let alive = exchange_alive p n m t a y w r rest here in
     phase_written m y (cond (m.memory (Shared y) == w) (released_word w) (m.memory (Shared y))) x
-    (λ phase. exchanged (m.memory (Shared y) == w) (released_word w) (m.memory (Shared y)) 0 (λ v. phase_part v ≡ 3)
+    (λ phase. either (λ v. phase_part v ≡ 3) (m.memory (Shared y) == w) (released_word w) (m.memory (Shared y))
     (λ won.
     let same : m.memory (Shared y) ≡ w = eqb-true (m.memory (Shared y)) w won in
     released_merged w (subst (λ (v : ℕ). 1 ≤ biased_part v) same (shared_range _ _ alive.live))
@@ -188,7 +200,7 @@ merged_left p n m t a (MergeLoad y c r) rest here x was =
     ap phase_part (written_load m.memory (Shared y) (Shared x)) ∙ was
 merged_left p n m t a (MergeExchange y c w r) rest here x was =
     phase_written m y (cond (m.memory (Shared y) == w) (merged_word w c) (m.memory (Shared y))) x
-    (λ phase. exchanged (m.memory (Shared y) == w) (merged_word w c) (m.memory (Shared y)) 0 (λ v. phase_part v ≡ 3)
+    (λ phase. either (λ v. phase_part v ≡ 3) (m.memory (Shared y) == w) (merged_word w c) (m.memory (Shared y))
     (λ won. (shared_merged w c).1) phase) was
 merged_left p n m t a _ rest here x was = was
 
@@ -205,19 +217,23 @@ thread_written m t u v other was =
           λ e. was (sym (written_apart m.memory (ThreadWord t) (ThreadWord u) v (apart_thread t u apart.1)) ∙ e)
     ]
 
+-- A thread that isn't running doesn't run after the step.
 pub stopped_left : (m : Machine) (t : ℕ) (a : Actor) (d : Duty) (u : ℕ) → m.memory (ThreadWord u) ≢ 1
-    → written m.memory (address_of m.rows t a.head d) (new_word t a.head d (m.memory (address_of m.rows t a.head d)))
+    → written m.memory (address_of m.layout t a.head d)
+    (new_word t a.head d (m.memory (address_of m.layout t a.head d)))
     (ThreadWord u) ≢ 1
 stopped_left m t a (Look y) u was =
-    λ e. was (sym (written_load m.memory (ThreadWord (block_of m.rows y)) (ThreadWord u)) ∙ e)
+    λ e. was (sym (written_load m.memory (ThreadWord (block_of m.layout y)) (ThreadWord u)) ∙ e)
 stopped_left m t a (Leave y k) u was = thread_written m t u 2 (λ e. absurd (omega (arith, e))) was
 stopped_left m t a Finish u was = thread_written m t u 3 (λ e. absurd (omega (arith, e))) was
 stopped_left m t a _ u was = was
 
+-- A step doesn't change another thread's word.
 pub words_left : (m : Machine) (t : ℕ) (a : Actor) (d : Duty) (u : ℕ) → u ≢ t
-    → written m.memory (address_of m.rows t a.head d) (new_word t a.head d (m.memory (address_of m.rows t a.head d)))
+    → written m.memory (address_of m.layout t a.head d)
+    (new_word t a.head d (m.memory (address_of m.layout t a.head d)))
     (ThreadWord u) ≡ m.memory (ThreadWord u)
-words_left m t a (Look y) u ne = written_load m.memory (ThreadWord (block_of m.rows y)) (ThreadWord u)
+words_left m t a (Look y) u ne = written_load m.memory (ThreadWord (block_of m.layout y)) (ThreadWord u)
 words_left m t a (Leave y k) u ne =
     written_apart m.memory (ThreadWord t) (ThreadWord u) 2 (apart_thread t u (λ e. ne (sym e)))
 words_left m t a Finish u ne =
@@ -231,9 +247,11 @@ gate_clash m t u x y ne mine other same =
     let both : Dying t ≡ Dying u = sym mine ∙ ap m.life same ∙ is_dying (m.life x) u other in
     ne (let e : t ≡ u = cc in sym e)
 
+-- A step doesn't change the gate of a row that another thread is finalising.
 pub gates_left : (p : Accounts) (n : ℕ) (m : Machine) (t : ℕ) (a : Actor) (d : Duty) (rest : List Duty)
     → AtDuty p n m t a d rest → (u x : ℕ) → u ≢ t → dies_by (m.life x) u ≡ true
-    → written m.memory (address_of m.rows t a.head d) (new_word t a.head d (m.memory (address_of m.rows t a.head d)))
+    → written m.memory (address_of m.layout t a.head d)
+    (new_word t a.head d (m.memory (address_of m.layout t a.head d)))
     (Gate x) ≡ m.memory (Gate x)
 gates_left p n m t a (Die y) rest here u x ne dies =
     written_apart m.memory (Gate y) (Gate x) _

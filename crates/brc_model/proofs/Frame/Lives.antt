@@ -1,16 +1,13 @@
--- Which rows a step lets die, and that the life of other threads' dying rows stays.
-use Rattle.std.proofs.Common.{◌≡◌, ◌≢◌, ℕ, ◌+◌, Bool, true, false, cond, List, [], ◌∷◌, ◌++◌, inl, inr, Option, None, Some, refl, sym, ap, ◌∙◌, subst}
-use Rattle.std.specs.Prelude.{◌==◌, ◌&&◌, nat_lt}
+-- Which rows a step can make die. A step doesn't change the lives of the rows that other threads are finalising.
+use Rattle.std.proofs.Common.{◌≡◌, ◌≢◌, ℕ, Bool, true, false, cond, List, [], ◌∷◌, inl, inr, Option, None, Some, refl, sym, ap, ◌∙◌, subst}
+use Rattle.std.specs.Prelude.{◌==◌}
 use Rattle.std.proofs.lemmas.Bool.{ne_eqb}
 use Rattle.std.proofs.lemmas.Bool.Decides.{eqb_tells}
-use Rattle.brc_word.specs.Words.{most_local, local_part, is_immortal_word, fresh_word, dead_word, released_word, merged_word}
-use Rattle.brc_model.specs.declared.duty.Reason.{Reason}
-use Rattle.brc_model.specs.declared.duty.Reason.TheVariants.{Own, Handed}
 use Rattle.brc_model.specs.declared.duty.Duty.{Duty}
-use Rattle.brc_model.specs.declared.duty.Duty.TheVariants.{RetainLoad, RetainStore, RetainAdd, ReleaseLoad, ReleaseStore, DecideAtZero, SharedLoad, SharedExchange, SetMark, Look, TakeMark, MergeSwap, MergeLoad, MergeExchange, Die, Settle, SettleKind, SettleCell, TakeSlot, CloseResource, SettleEnd, Leave, Scan, Finish, ClaimMark, BirthKind, BirthSlot, BirthLocal}
-use Rattle.brc_model.specs.Duties.{address_of, continuation, counts_locally, once_merged, merge_result, shared_result, has_resource, cells_of, cells_from, release_found}
+use Rattle.brc_model.specs.declared.duty.Duty.TheVariants.{DecideAtZero, SharedExchange, MergeExchange, Die, SettleKind, SettleCell, SettleEnd, BirthKind, BirthLocal}
+use Rattle.brc_model.specs.Duties.{address_of, continuation}
 use Rattle.brc_model.specs.Machine.{Actor, Life, Unborn, Live, Dying, Closed, Machine, is_running, dies_next, ended_row, born_row, with_life, life_by, done_by}
-use Rattle.brc_model.proofs.Basics.Lists.{some_is}
+use Rattle.brc_model.proofs.Basics.Lists.{some_is, none_some}
 use Rattle.brc_model.specs.Accounts.{Accounts}
 use Rattle.brc_model.specs.OpenWork.{dies_by}
 use Rattle.brc_model.specs.Knowledge.{HasCountedKind}
@@ -18,114 +15,25 @@ use Rattle.brc_model.specs.Invariant.{AtDuty, CoreInvariant}
 use Rattle.brc_model.proofs.Basics.Written.{written_load}
 use Rattle.brc_model.specs.declared.address.Address.TheVariants.{KindOf}
 use Rattle.brc_model.specs.Kinds.{kind_of_word, is_counted_kind}
+use Rattle.brc_model.proofs.Basics.Continuation.{MayDie, Origin, Continuation, GoesOn, continues}
 use Rattle.brc_model.proofs.Frame.Alive.{Alive}
 use Rattle.brc_model.proofs.Basics.Blocks.{next_unborn}
 use Rattle.brc_model.proofs.Frame.Others.{LeavesOthers}
 use Rattle.brc_model.proofs.Frame.Leaves.{head_of, exchange_alive, decide_alive, merge_alive, locals_left, merged_left, stopped_left, words_left, gates_left}
 use Rattle.brc_model.proofs.Basics.MovesApart.{moves_apart}
+use Rattle.brc_model.specs.declared.layout.Layout.{Layout}
 
--- the row of a duty that may let it die
-abbrev pub MayDie : Duty → ℕ → Type 0
-MayDie (DecideAtZero x) y = x ≡ y
-MayDie (SharedExchange x r w) y = x ≡ y
-MayDie (MergeExchange x c w r) y = x ≡ y
-MayDie _ y = ⊥
+one_dies : (d : Duty) (found : ℕ) (e : Duty) (y : ℕ) → Origin d found e → dies_next (e ∷ []) ≡ Some y → MayDie d y
+one_dies d found (Die x) y origin dies = subst (MayDie d) (some_is x y dies) origin
+one_dies d found _ y origin dies = absurd (none_some y dies)
 
-none_some : {A : Type 0} (x : A) → None ≡ Some x → ⊥
-none_some x e = cc
+-- only three duties are followed by one that lets a row die
+pub next_dies : {layout : Layout} {t head found : ℕ} (d : Duty) (next : List Duty) (y : ℕ)
+    → Continuation layout t head found d next → dies_next next ≡ Some y → MayDie d y
+next_dies {found = found} d next y (GoesOn e leads) dies = one_dies d found e y leads.origin dies
+next_dies d next y _ dies = absurd (none_some y dies)
 
-decide_dies : (b : Bool) (x y : ℕ) → dies_next (cond b (Die x ∷ []) (MergeSwap x Own ∷ [])) ≡ Some y → x ≡ y
-decide_dies true x y e = some_is x y e
-decide_dies false x y e = absurd (none_some y e)
-
-result_dies : (b c : Bool) (x y : ℕ) → dies_next (cond b (SetMark x ∷ []) (cond c (Die x ∷ []) [])) ≡ Some y → x ≡ y
-result_dies true c x y e = absurd (none_some y e)
-result_dies false true x y e = some_is x y e
-result_dies false false x y e = absurd (none_some y e)
-
-exchange_dies : (a : Bool) (x y w : ℕ) (r : Reason)
-    → dies_next (cond a (shared_result x w) (SharedLoad x r ∷ [])) ≡ Some y → x ≡ y
-exchange_dies true x y w r e = result_dies (w == fresh_word) (released_word w == dead_word) x y e
-exchange_dies false x y w r e = absurd (none_some y e)
-
-last_dies : (b : Bool) (x y : ℕ) → dies_next (cond b (Die x ∷ []) []) ≡ Some y → x ≡ y
-last_dies true x y e = some_is x y e
-last_dies false x y e = absurd (none_some y e)
-
-merge_dies : (a : Bool) (x y c word : ℕ) (r : Reason)
-    → dies_next (cond a (merge_result x r word) (MergeLoad x c r ∷ [])) ≡ Some y → x ≡ y
-merge_dies true x y c word Own e = last_dies (word == dead_word) x y e
-merge_dies true x y c word Handed e = absurd (none_some y e)
-merge_dies false x y c word r e = absurd (none_some y e)
-
-merged_none : (x y : ℕ) (r : Reason) → dies_next (once_merged x r) ≡ Some y → ⊥
-merged_none x y Own e = none_some y e
-merged_none x y Handed e = none_some y e
-
-either_none : (b : Bool) (x z : List Duty) (y : ℕ) → (dies_next x ≡ Some y → ⊥) → (dies_next z ≡ Some y → ⊥)
-    → dies_next (cond b x z) ≡ Some y → ⊥
-either_none true x z y f g = f
-either_none false x z y f g = g
-
-claimed_none : (b : Bool) (x y : ℕ) (rest : List Duty) → (dies_next rest ≡ Some y → ⊥)
-    → dies_next (cond b (MergeSwap x Handed ∷ []) [] ++ rest) ≡ Some y → ⊥
-claimed_none true x y rest none e = none_some y e
-claimed_none false x y rest none e = none e
-
-cells_none : (b : Bool) (x i n y : ℕ) → dies_next (cond b (SettleCell x i n ∷ []) (SettleEnd x ∷ [])) ≡ Some y → ⊥
-cells_none true x i n y e = none_some y e
-cells_none false x i n y e = none_some y e
-
-pub next_dies : (t : ℕ) (running : Bool) (head : ℕ) (d : Duty) (found y : ℕ)
-    → ((x i n : ℕ) → d ≡ SettleCell x i n → found ≡ 0) → dies_next (continuation t running head d found) ≡ Some y
-    → MayDie d y
-next_dies t running head (RetainLoad x h) found y cells e =
-    either_none (is_immortal_word found) [] _ y (none_some y)
-    (either_none (counts_locally t running found && nat_lt (local_part found) most_local)
-    (RetainStore x h found ∷ []) (RetainAdd x h ∷ []) y (none_some y) (none_some y)) e
-next_dies t running head (RetainStore x h w) found y cells e = none_some y e
-next_dies t running head (RetainAdd x h) found y cells e = none_some y e
-next_dies t running head (ReleaseLoad x h) found y cells e =
-    either_none (is_immortal_word found) [] _ y (none_some y)
-    (either_none (counts_locally t running found) (ReleaseStore x found ∷ []) (SharedLoad x Own ∷ []) y
-    (none_some y) (none_some y)) e
-next_dies t running head (ReleaseStore x w) found y cells e =
-    either_none (local_part w == 1) (DecideAtZero x ∷ []) [] y (none_some y) (none_some y) e
-next_dies t running head (DecideAtZero x) found y cells e = decide_dies (found == fresh_word) x y e
-next_dies t running head (SharedLoad x r) found y cells e = none_some y e
-next_dies t running head (SharedExchange x r w) found y cells e = exchange_dies (found == w) x y w r e
-next_dies t running head (SetMark x) found y cells e = none_some y e
-next_dies t running head (Look x) found y cells e =
-    either_none (found == 1) [] (TakeMark x ∷ []) y (none_some y) (none_some y) e
-next_dies t running head (TakeMark x) found y cells e =
-    either_none (found == 1) (MergeSwap x Handed ∷ []) [] y (none_some y) (none_some y) e
-next_dies t running head (MergeSwap x r) found y cells e =
-    either_none (found == 0) (once_merged x r) (MergeLoad x (local_part found) r ∷ []) y (merged_none x y r)
-    (none_some y) e
-next_dies t running head (MergeLoad x c r) found y cells e = none_some y e
-next_dies t running head (MergeExchange x c w r) found y cells e = merge_dies (found == w) x y c (merged_word w c) r e
-next_dies t running head (Die x) found y cells e = none_some y e
-next_dies t running head Settle found y cells e = none_some y e
-next_dies t running head (SettleKind x) found y cells e =
-    absurd (either_none (has_resource found) (TakeSlot x ∷ []) (cells_from x 0 (cells_of found)) y (none_some y)
-    (cells_none (nat_lt 0 (cells_of found)) x 0 (cells_of found) y) e)
-next_dies t running head (SettleCell x i n) found y cells e =
-    let empty : release_found found ≡ [] = ap release_found (cells x i n refl) in
-    cells_none (nat_lt (i + 1) n) x (i + 1) n y
-    (sym (ap (λ (l : List Duty). dies_next (l ++ cells_from x (i + 1) n)) empty) ∙ e)
-next_dies t running head (TakeSlot x) found y cells e = none_some y e
-next_dies t running head (CloseResource x) found y cells e = none_some y e
-next_dies t running head (SettleEnd x) found y cells e = none_some y e
-next_dies t running head (Leave x k) found y cells e = none_some y e
-next_dies t running head (Scan x k) found y cells e = claimed_none (found == 1) x y _ (none_some y) e
-next_dies t running head Finish found y cells e = none_some y e
-next_dies t running head (ClaimMark x) found y cells e = claimed_none (found == 1) x y _ (none_some y) e
-next_dies t running head (BirthKind x h w) found y cells e =
-    either_none (has_resource w) (BirthSlot x h ∷ []) (BirthLocal x h ∷ []) y (none_some y) (none_some y) e
-next_dies t running head (BirthSlot x h) found y cells e = none_some y e
-next_dies t running head (BirthLocal x h) found y cells e = none_some y e
-
--- ---- the rows that die are alive
+-- ---- rows that begin to die are live
 
 may_die_alive : (p : Accounts) (n : ℕ) (m : Machine) (t : ℕ) (a : Actor) (d : Duty) (rest : List Duty) (y : ℕ)
     → AtDuty p n m t a d rest → MayDie d y → Alive m y
@@ -137,46 +45,38 @@ may_die_alive p n m t a (MergeExchange x c w r) rest y here is =
 may_die_alive p n m t a _ rest y here is = absurd is
 
 abbrev pub next_of : Machine → ℕ → Actor → Duty → List Duty
-next_of m t a d = continuation t (is_running a.status) a.head d (m.memory (address_of m.rows t a.head d))
+next_of m t a d = continuation m.layout t (is_running a.status) a.head d (m.memory (address_of m.layout t a.head d))
+
+pub next_may_die : (m : Machine) (t : ℕ) (a : Actor) (d : Duty) (y : ℕ) → dies_next (next_of m t a d) ≡ Some y
+    → MayDie d y
+next_may_die m t a d y dies =
+    next_dies d (next_of m t a d) y
+    (continues m.layout t (is_running a.status) a.head d (m.memory (address_of m.layout t a.head d))) dies
 
 pub cell_found : (p : Accounts) (n : ℕ) (m : Machine) (t : ℕ) (a : Actor) (d : Duty) → CoreInvariant p n m → (x i k : ℕ)
-    → d ≡ SettleCell x i k → m.memory (address_of m.rows t a.head d) ≡ 0
-cell_found p n m t a d core x i k is = ap (λ (e : Duty). m.memory (address_of m.rows t a.head e)) is ∙ core.cells x i
+    → d ≡ SettleCell x i k → m.memory (address_of m.layout t a.head d) ≡ 0
+cell_found p n m t a d core x i k is = ap (λ (e : Duty). m.memory (address_of m.layout t a.head e)) is ∙ core.cells x i
 
--- what a step lets die was alive
+-- A row that a step makes die was live before it.
 pub dying_was_alive : (p : Accounts) (n : ℕ) (m : Machine) (t : ℕ) (a : Actor) (d : Duty) (rest : List Duty) (y : ℕ)
     → AtDuty p n m t a d rest → dies_next (next_of m t a d) ≡ Some y → Alive m y
 dying_was_alive p n m t a d rest y here e =
-    may_die_alive p n m t a d rest y here
-    (next_dies t (is_running a.status) a.head d (m.memory (address_of m.rows t a.head d)) y
-    (cell_found p n m t a d here.core) e)
+    may_die_alive p n m t a d rest y here (next_may_die m t a d y e)
 
 -- ---- life after a step
 
--- a row lives on, begins to die, or is closed
-dies_with : (life : ℕ → Life) (o : Option ℕ) (t u x : ℕ) → u ≢ t → ((y : ℕ) → o ≡ Some y → life y ≡ Live)
-    → dies_by (with_life life o (Dying t) x) u ≡ dies_by (life x) u
-dies_with life None t u x ne was = refl
-dies_with life (Some y) t u x ne was =
+-- A row whose life changes, and which the thread finalises neither before nor after, changes nothing of what it
+-- finalises.
+changes_life : (life : ℕ → Life) (o : Option ℕ) (state : Life) (u x : ℕ) → dies_by state u ≡ false
+    → ((y : ℕ) → o ≡ Some y → dies_by (life y) u ≡ false)
+    → dies_by (with_life life o state x) u ≡ dies_by (life x) u
+changes_life life None state u x now was = refl
+changes_life life (Some y) state u x now was =
     elim (eqb_tells y x) [
       | inl same ↦
-          let now : dies_by (with_life life (Some y) (Dying t) x) u ≡ (t == u) =
-          ap (λ (b : Bool). dies_by (cond b (Dying t) (life x)) u) same.0 in
-          let before : dies_by (life x) u ≡ false =
-          ap (λ (l : Life). dies_by l u) (ap life (sym same.1) ∙ was y refl) in
-          now ∙ ne_eqb t u (λ e. ne (sym e)) ∙ sym before
-      | inr other ↦ ap (λ (b : Bool). dies_by (cond b (Dying t) (life x)) u) other.0
-    ]
-
-closes_with : (life : ℕ → Life) (o : Option ℕ) (u x : ℕ) → ((y : ℕ) → o ≡ Some y → dies_by (life y) u ≡ false)
-    → dies_by (with_life life o Closed x) u ≡ dies_by (life x) u
-closes_with life None u x was = refl
-closes_with life (Some y) u x was =
-    elim (eqb_tells y x) [
-      | inl same ↦
-          ap (λ (b : Bool). dies_by (cond b Closed (life x)) u) same.0
+          ap (λ (b : Bool). dies_by (cond b state (life x)) u) same.0 ∙ now
           ∙ sym (ap (λ (z : ℕ). dies_by (life z) u) (sym same.1) ∙ was y refl)
-      | inr other ↦ ap (λ (b : Bool). dies_by (cond b Closed (life x)) u) other.0
+      | inr other ↦ ap (λ (b : Bool). dies_by (cond b state (life x)) u) other.0
     ]
 
 ended_mine : (p : Accounts) (n : ℕ) (m : Machine) (t : ℕ) (a : Actor) (d : Duty) (rest : List Duty) (u y : ℕ)
@@ -185,18 +85,6 @@ ended_mine p n m t a (SettleEnd x) rest u y here ne e =
     let mine : m.life y ≡ Dying t = ap m.life (sym (some_is x y e)) ∙ (head_of p n m t a (SettleEnd x) rest here).1 in
     ap (λ (l : Life). dies_by l u) mine ∙ ne_eqb t u (λ q. ne (sym q))
 ended_mine p n m t a _ rest u y here ne e = absurd (none_some y e)
-
--- a row is born that nobody lets die
-born_with : (life : ℕ → Life) (o : Option ℕ) (u x : ℕ) → ((y : ℕ) → o ≡ Some y → dies_by (life y) u ≡ false)
-    → dies_by (with_life life o Live x) u ≡ dies_by (life x) u
-born_with life None u x was = refl
-born_with life (Some y) u x was =
-    elim (eqb_tells y x) [
-      | inl same ↦
-          ap (λ (b : Bool). dies_by (cond b Live (life x)) u) same.0
-          ∙ sym (ap (λ (z : ℕ). dies_by (life z) u) (sym same.1) ∙ was y refl)
-      | inr other ↦ ap (λ (b : Bool). dies_by (cond b Live (life x)) u) other.0
-    ]
 
 born_was : (p : Accounts) (n : ℕ) (m : Machine) (t : ℕ) (a : Actor) (d : Duty) (rest : List Duty) (y : ℕ)
     → AtDuty p n m t a d rest → born_row d ≡ Some y → m.life y ≡ Unborn
@@ -209,19 +97,20 @@ lives_left : (p : Accounts) (n : ℕ) (m : Machine) (t : ℕ) (a : Actor) (d : D
     → AtDuty p n m t a d rest → (u x : ℕ) → u ≢ t
     → dies_by (life_by m.life t d (next_of m t a d) x) u ≡ dies_by (m.life x) u
 lives_left p n m t a d rest here u x ne =
+    let dying = with_life m.life (dies_next (next_of m t a d)) (Dying t) in
+    let closed = with_life dying (ended_row d) Closed in
     let first =
-    λ (z : ℕ). dies_with m.life (dies_next (next_of m t a d)) t u z ne
-    (λ y e. (dying_was_alive p n m t a d rest y here e).life) in
+    λ (z : ℕ). changes_life m.life (dies_next (next_of m t a d)) (Dying t) u z (ne_eqb t u (λ e. ne (sym e)))
+    (λ y e. ap (λ (l : Life). dies_by l u) (dying_was_alive p n m t a d rest y here e).life) in
     let second =
-    λ (z : ℕ). closes_with (with_life m.life (dies_next (next_of m t a d)) (Dying t)) (ended_row d) u z
+    λ (z : ℕ). changes_life dying (ended_row d) Closed u z refl
     (λ y e. first y ∙ ended_mine p n m t a d rest u y here ne e) ∙ first z in
-    born_with (with_life (with_life m.life (dies_next (next_of m t a d)) (Dying t)) (ended_row d) Closed) (born_row d)
-    u x
+    changes_life closed (born_row d) Live u x refl
     (λ y e. second y ∙ ap (λ (l : Life). dies_by l u) (born_was p n m t a d rest y here e)) ∙ second x
 
 -- ---- kinds
 
--- a birth says a kind that is counted
+-- A kind word that names a counted kind still does after a step: a birth stores such kinds alone.
 kinds_left : (p : Accounts) (n : ℕ) (m : Machine) (t : ℕ) (a : Actor) (d : Duty) (rest : List Duty)
     → AtDuty p n m t a d rest → (x : ℕ) → HasCountedKind m.memory x → HasCountedKind (done_by m t a d rest).memory x
 kinds_left p n m t a (SettleKind y) rest here x was =
@@ -234,13 +123,14 @@ kinds_left p n m t a (BirthKind y h w) rest here x was =
     ]
 kinds_left p n m t a _ rest here x was = was
 
--- ---- all that others rely on
+-- ---- everything that other threads rely on
 
+-- A thread's step leaves what the other threads rely on.
 pub leaves_others : (p : Accounts) (n : ℕ) (m : Machine) (t : ℕ) (a : Actor) (d : Duty) (rest : List Duty)
     → AtDuty p n m t a d rest → LeavesOthers m (done_by m t a d rest) t
 leaves_others p n m t a d rest here = record {
-  rows = refl;
-  bag = λ u k object ne. moves_apart m.memory m.abstract u t k object d (m.memory (address_of m.rows t a.head d)) ne;
+  layout = refl;
+  bag = λ u k object ne. moves_apart m.memory m.abstract u t k object d (m.memory (address_of m.layout t a.head d)) ne;
   locals = λ u x b ne found owns. locals_left p n m t a d rest here u x b ne found owns;
   merged = λ x was. merged_left p n m t a d rest here x was;
   stopped = λ u was. stopped_left m t a d u was;

@@ -1,31 +1,31 @@
--- What a thread holds and knows stands through the steps of other threads.
-use Rattle.std.proofs.Common.{◌≡◌, ◌≢◌, ℕ, ◌+◌, ◌<◌, true, cond, List, [], ◌∷◌, inl, inr, Some, refl, sym, ap, ◌∙◌, subst, arith}
+-- What a thread holds and knows is unchanged by the steps of other threads.
+use Rattle.std.proofs.Common.{◌≡◌, ◌≢◌, ℕ, ◌<◌, ◌≤◌, true, cond, List, [], ◌∷◌, inl, inr, Some, refl, sym, ap, ◌∙◌, subst, arith}
 use Rattle.std.specs.Prelude.{◌==◌, slice_get, slice_set, count_by}
 use Rattle.std.proofs.lemmas.Bool.{eq-eqb, eqb-true}
 use Rattle.std.proofs.lemmas.Bool.Decides.{eqb_tells}
 use Rattle.std.proofs.lemmas.List.Sums.{sum_by-cons}
 use Rattle.std.proofs.lemmas.Option.{slice_get_within}
 use Rattle.brc_model.specs.declared.duty.Holding.{Holding}
-use Rattle.brc_word.specs.Words.{immortal_local, phase_part, local_part, owner_part}
-use Rattle.brc_model.specs.declared.duty.Reason.{Reason}
-use Rattle.brc_model.specs.declared.duty.Reason.TheVariants.{Own, Handed}
+use Rattle.brc_word.specs.Words.{phase_part}
 use Rattle.brc_model.specs.declared.duty.Duty.{Duty}
-use Rattle.brc_model.specs.declared.duty.Duty.TheVariants.{RetainLoad, RetainStore, RetainAdd, ReleaseLoad, ReleaseStore, DecideAtZero, SharedLoad, SharedExchange, SetMark, Look, TakeMark, MergeSwap, MergeLoad, MergeExchange, Die, Settle, SettleKind, SettleCell, TakeSlot, CloseResource, SettleEnd, Leave, Scan, Finish, ClaimMark, BirthKind, BirthSlot, BirthLocal}
+use Rattle.brc_model.specs.declared.duty.Duty.TheVariants.{Die, Settle, SettleKind, SettleCell, TakeSlot, CloseResource, SettleEnd, Leave, Scan, Finish, ClaimMark, BirthKind, BirthSlot, BirthLocal}
 use Rattle.brc_model.specs.declared.address.Address.{Address}
 use Rattle.brc_model.specs.declared.address.Address.TheVariants.{Local, Shared, Gate, ThreadWord}
-use Rattle.brc_model.specs.Duties.{block_of}
-use Rattle.brc_model.specs.Machine.{Actor, Life, Unborn, Live, Dying, Closed, Machine, first_row}
+use Rattle.brc_model.specs.Machine.{Actor, Life, Unborn, Live, Dying, Closed, Machine}
 use Rattle.brc_model.specs.References.{held, one_if, reference_of}
 use Rattle.brc_model.specs.OpenWork.{AllWait, AsideFits, AgendaFits, Linked, dies_by, ChainFits}
 use Rattle.brc_model.specs.Invariant.{Fits, ActorFits}
 use Rattle.brc_model.specs.Accounts.{Accounts, HoldsAt, Account}
-use Rattle.brc_model.specs.Knowledge.{OwnsLocally, IsBacked, MayMerge, MayCarry, IsNext, HasCountedKind, HeadFits, HeadOf, IsDyingWord}
+use Rattle.brc_model.proofs.Frame.Known.{LeavesRow, known_kept}
+use Rattle.brc_model.specs.Knowledge.{OwnsLocally, IsNext, HasCountedKind, HeadFits, HeadOf, IsDyingWord}
 use Rattle.brc_model.proofs.Basics.Lists.{some_is, slice_get-set_same, slice_get-set_other}
 use Rattle.brc_model.proofs.Basics.Bag.{one_if_true}
+use Rattle.brc_model.specs.declared.layout.Layout.{Layout}
+use Rattle.brc_model.specs.Layout.{block_of, block_size, row_at, IsCounted}
 
--- what the others rely on
+-- What a step of thread `t` leaves unchanged for all other threads.
 pub record LeavesOthers (m new : Machine) (t : ℕ) : Type 0 where
-  pub rows : new.rows ≡ m.rows
+  pub layout : new.layout ≡ m.layout
   pub bag : (u : ℕ) (k : Holding) (object : ℕ) → u ≢ t
       → held (reference_of u k object) new.abstract.references ≡ held (reference_of u k object) m.abstract.references
   pub locals : (u x : ℕ) (b : Actor) → u ≢ t → slice_get m.actors u ≡ Some b → OwnsLocally m u b x
@@ -34,7 +34,7 @@ pub record LeavesOthers (m new : Machine) (t : ℕ) : Type 0 where
   pub stopped : (u : ℕ) → m.memory (ThreadWord u) ≢ 1 → new.memory (ThreadWord u) ≢ 1
   pub words : (u : ℕ) → u ≢ t → new.memory (ThreadWord u) ≡ m.memory (ThreadWord u)
   pub gates : (u x : ℕ) → u ≢ t → dies_by (m.life x) u ≡ true → new.memory (Gate x) ≡ m.memory (Gate x)
-  -- what a birth said of an object stays said
+  -- A kind word that names a counted kind still names one.
   pub kinds : (x : ℕ) → HasCountedKind m.memory x → HasCountedKind new.memory x
   pub lives : (u x : ℕ) → u ≢ t → dies_by (new.life x) u ≡ dies_by (m.life x) u
 
@@ -43,30 +43,16 @@ holds_kept : (m new : Machine) (t u : ℕ) (account : Account) (agenda aside : L
 holds_kept m new t u account agenda aside leaves ne holds =
     record { each = λ k object. omega (arith, leaves.bag u k object ne, holds.each k object) }
 
-backed_kept : (m new : Machine) (t u x : ℕ) → LeavesOthers m new t → u ≢ t → IsBacked m u x → IsBacked new u x
-backed_kept m new t u x leaves ne backed =
-    record { by = backed.by; held_so = omega (arith, leaves.bag u backed.by x ne, backed.held_so) }
-
-owns_kept : (m new : Machine) (t u x : ℕ) (b : Actor) → LeavesOthers m new t → u ≢ t → slice_get m.actors u ≡ Some b
-    → OwnsLocally m u b x → OwnsLocally new u b x
-owns_kept m new t u x b leaves ne found owns =
-    let same = leaves.locals u x b ne found owns in
-    record {
-      running = owns.running;
-      owner = ap owner_part same ∙ owns.owner;
-      low = subst (λ (w : ℕ). local_part w < immortal_local) (sym same) owns.low;
-    }
-
-may_merge_kept : (m new : Machine) (t u x : ℕ) → LeavesOthers m new t → MayMerge m u x → MayMerge new u x
-may_merge_kept m new t u x leaves (inl mine) = inl (ap (λ (r : ℕ). block_of r x) leaves.rows ∙ mine)
-may_merge_kept m new t u x leaves (inr stopped) =
-    inr (subst (λ (r : ℕ). new.memory (ThreadWord (block_of r x)) ≢ 1) (sym leaves.rows)
-    (leaves.stopped (block_of m.rows x) stopped))
-
-may_carry_kept : (m new : Machine) (t u x : ℕ) (b : Actor) (r : Reason) → LeavesOthers m new t → MayCarry m u b x r
-    → MayCarry new u b x r
-may_carry_kept m new t u x b Own leaves own = (own.0, ap (λ (r : ℕ). block_of r x) leaves.rows ∙ own.1)
-may_carry_kept m new t u x b Handed leaves handed = tt
+row_left : (m new : Machine) (t u : ℕ) (b : Actor) → LeavesOthers m new t → u ≢ t → slice_get m.actors u ≡ Some b
+    → (x : ℕ) → LeavesRow m new u b b x
+row_left m new t u b leaves ne found x = record {
+  layout = leaves.layout;
+  status = refl;
+  local = leaves.locals u x b ne found;
+  merged = leaves.merged x;
+  references = λ k. leaves.bag u k x ne;
+  stopped = leaves.stopped;
+}
 
 pub dying_is : (l : Life) (u : ℕ) → l ≡ Dying u → dies_by l u ≡ true
 dying_is l u is = ap (λ (k : Life). dies_by k u) is ∙ eq-eqb u u refl
@@ -92,82 +78,67 @@ next_kept : (m new : Machine) (t u x : ℕ) (b : Actor) → LeavesOthers m new t
 next_kept m new t u x b leaves next = record {
   running = next.running;
   worker = next.worker;
-  row = subst (λ (r : ℕ). x ≡ first_row r u + b.used) (sym leaves.rows) next.row;
-  room = omega (arith, next.room, leaves.rows);
+  there = subst (λ (l : Layout). u ≤ l.workers) (sym leaves.layout) next.there;
+  row = subst (λ (l : Layout). x ≡ row_at l u b.used) (sym leaves.layout) next.row;
+  room = subst (λ (l : Layout). b.used < block_size l u) (sym leaves.layout) next.room;
 }
+
+counted_kept : (m new : Machine) (t x : ℕ) → LeavesOthers m new t → IsCounted m.layout x → IsCounted new.layout x
+counted_kept m new t x leaves counted = subst (λ (l : Layout). IsCounted l x) (sym leaves.layout) counted
 
 head_kept : (m new : Machine) (t u : ℕ) (b : Actor) (d : Duty) (rest : List Duty) → LeavesOthers m new t → u ≢ t
     → slice_get m.actors u ≡ Some b → HeadFits m u b d rest → HeadFits new u b d rest
-head_kept m new t u b (RetainLoad x h) rest leaves ne found fits = backed_kept m new t u x leaves ne fits
-head_kept m new t u b (RetainStore x h w) rest leaves ne found fits = (
-  fits.0,
-  backed_kept m new t u x leaves ne fits.1,
-  owns_kept m new t u x b leaves ne found fits.2,
-  leaves.locals u x b ne found fits.2 ∙ fits.3,
-  fits.4,
-  fits.5,
+head_kept m new t u b (Die x) rest leaves ne found fits = (
+  counted_kept m new t x leaves fits.0,
+  life_kept m new t u x leaves ne fits.1,
+  gate_kept m new t u x leaves ne fits.1 ∙ fits.2,
 )
-head_kept m new t u b (RetainAdd x h) rest leaves ne found fits = (fits.0, backed_kept m new t u x leaves ne fits.1)
-head_kept m new t u b (ReleaseLoad x h) rest leaves ne found fits = fits
-head_kept m new t u b (ReleaseStore x w) rest leaves ne found fits =
-    (fits.0, owns_kept m new t u x b leaves ne found fits.1, leaves.locals u x b ne found fits.1 ∙ fits.2, fits.3)
-head_kept m new t u b (DecideAtZero x) rest leaves ne found fits = (
-  fits.0,
-  owns_kept m new t u x b leaves ne found fits.1,
-  ap local_part (leaves.locals u x b ne found fits.1) ∙ fits.2,
-)
-head_kept m new t u b (SharedLoad x Own) rest leaves ne found fits = fits
-head_kept m new t u b (SharedLoad x Handed) rest leaves ne found fits = (fits.0, leaves.merged x fits.1)
-head_kept m new t u b (SharedExchange x Own w) rest leaves ne found fits = fits
-head_kept m new t u b (SharedExchange x Handed w) rest leaves ne found fits = (fits.0, leaves.merged x fits.1)
-head_kept m new t u b (SetMark x) rest leaves ne found fits = fits
-head_kept m new t u b (Look x) rest leaves ne found fits = fits
-head_kept m new t u b (TakeMark x) rest leaves ne found fits = (
-  fits.0,
-  subst (λ (r : ℕ). new.memory (ThreadWord (block_of r x)) ≢ 1) (sym leaves.rows)
-      (leaves.stopped (block_of m.rows x) fits.1),
-)
-head_kept m new t u b (MergeSwap x Own) rest leaves ne found fits = (
-  fits.0,
-  owns_kept m new t u x b leaves ne found fits.1,
-  ap local_part (leaves.locals u x b ne found fits.1) ∙ fits.2,
-)
-head_kept m new t u b (MergeSwap x Handed) rest leaves ne found fits =
-    (fits.0, may_merge_kept m new t u x leaves fits.1)
-head_kept m new t u b (MergeLoad x c r) rest leaves ne found fits =
-    (fits.0, fits.1, may_carry_kept m new t u x b r leaves fits.2)
-head_kept m new t u b (MergeExchange x c w r) rest leaves ne found fits =
-    (fits.0, fits.1, may_carry_kept m new t u x b r leaves fits.2)
-head_kept m new t u b (Die x) rest leaves ne found fits =
-    (fits.0, life_kept m new t u x leaves ne fits.1, gate_kept m new t u x leaves ne fits.1 ∙ fits.2)
 head_kept m new t u b Settle rest leaves ne found fits = fits
-head_kept m new t u b (SettleKind x) rest leaves ne found fits =
-    (fits.0, life_kept m new t u x leaves ne fits.1, dying_word_kept m new t u x leaves ne fits.1 fits.2)
-head_kept m new t u b (SettleCell x i n) rest leaves ne found fits =
-    (fits.0, life_kept m new t u x leaves ne fits.1, fits.2, dying_word_kept m new t u x leaves ne fits.1 fits.3)
-head_kept m new t u b (TakeSlot x) rest leaves ne found fits =
-    (fits.0, life_kept m new t u x leaves ne fits.1, dying_word_kept m new t u x leaves ne fits.1 fits.2)
-head_kept m new t u b (CloseResource x) rest leaves ne found fits =
-    (fits.0, life_kept m new t u x leaves ne fits.1, dying_word_kept m new t u x leaves ne fits.1 fits.2)
-head_kept m new t u b (SettleEnd x) rest leaves ne found fits =
-    (fits.0, life_kept m new t u x leaves ne fits.1, dying_word_kept m new t u x leaves ne fits.1 fits.2)
+head_kept m new t u b (SettleKind x) rest leaves ne found fits = (
+  counted_kept m new t x leaves fits.0,
+  life_kept m new t u x leaves ne fits.1,
+  dying_word_kept m new t u x leaves ne fits.1 fits.2,
+)
+head_kept m new t u b (SettleCell x i n) rest leaves ne found fits = (
+  counted_kept m new t x leaves fits.0,
+  life_kept m new t u x leaves ne fits.1,
+  fits.2,
+  dying_word_kept m new t u x leaves ne fits.1 fits.3,
+)
+head_kept m new t u b (TakeSlot x) rest leaves ne found fits = (
+  counted_kept m new t x leaves fits.0,
+  life_kept m new t u x leaves ne fits.1,
+  dying_word_kept m new t u x leaves ne fits.1 fits.2,
+)
+head_kept m new t u b (CloseResource x) rest leaves ne found fits = (
+  counted_kept m new t x leaves fits.0,
+  life_kept m new t u x leaves ne fits.1,
+  dying_word_kept m new t u x leaves ne fits.1 fits.2,
+)
+head_kept m new t u b (SettleEnd x) rest leaves ne found fits = (
+  counted_kept m new t x leaves fits.0,
+  life_kept m new t u x leaves ne fits.1,
+  dying_word_kept m new t u x leaves ne fits.1 fits.2,
+)
 head_kept m new t u b (Leave x k) rest leaves ne found fits = fits
 head_kept m new t u b (Scan x k) rest leaves ne found fits = fits
 head_kept m new t u b Finish rest leaves ne found fits = fits
-head_kept m new t u b (ClaimMark x) rest leaves ne found fits = ap (λ (r : ℕ). block_of r x) leaves.rows ∙ fits
+head_kept m new t u b (ClaimMark x) rest leaves ne found fits = ap (λ (r : Layout). block_of r x) leaves.layout ∙ fits
 head_kept m new t u b (BirthKind x h w) rest leaves ne found fits =
     (next_kept m new t u x b leaves fits.0, fits.1, fits.2)
 head_kept m new t u b (BirthSlot x h) rest leaves ne found fits =
     (next_kept m new t u x b leaves fits.0, fits.1, leaves.kinds x fits.2)
 head_kept m new t u b (BirthLocal x h) rest leaves ne found fits =
     (next_kept m new t u x b leaves fits.0, fits.1, leaves.kinds x fits.2)
+head_kept m new t u b d rest leaves ne found fits =
+    known_kept m new u b b d rest refl (λ x about. row_left m new t u b leaves ne found x) fits
 
 head_of_kept : (m new : Machine) (t u : ℕ) (b : Actor) (agenda : List Duty) → LeavesOthers m new t → u ≢ t
     → slice_get m.actors u ≡ Some b → HeadOf m u b agenda → HeadOf new u b agenda
 head_of_kept m new t u b [] leaves ne found fits = tt
 head_of_kept m new t u b (d ∷ rest) leaves ne found fits = head_kept m new t u b d rest leaves ne found fits
 
--- a chain stands where the gates of its rows do
+-- A chain stays linked if the gates of its rows don't change.
 pub linked_kept : (memory new : Address → ℕ) (t head : ℕ) (chained : List ℕ)
     → ((x : ℕ) → 0 < count_by (λ y. y == x) chained → new (Gate x) ≡ memory (Gate x)) → Linked memory t head chained
     → Linked new t head chained
@@ -205,9 +176,11 @@ others_fit account m new t u b leaves ne found fits = record {
   exited = fits.exited;
   head_fits = head_of_kept m new t u b b.agenda leaves ne found fits.head_fits;
   chain = chain_kept m new t u b.head b.agenda leaves ne fits.chain;
+  unlocked = fits.unlocked;
+  unlent = fits.unlent;
 }
 
--- ---- what is put aside
+-- ---- duties put aside
 
 waits_kept : (m new : Machine) (t u : ℕ) (b : Actor) (aside : List Duty) → LeavesOthers m new t → u ≢ t
     → slice_get m.actors u ≡ Some b → AllWait m u b aside → AllWait new u b aside
@@ -228,7 +201,7 @@ aside_kept m new t u b leaves ne found fits = record {
 
 -- ---- all threads
 
--- After a thread's step all threads fit, where it fits and leaves what the others rely on.
+-- If the thread that steps fits afterwards and leaves what the others rely on, every thread fits afterwards.
 pub each_fits : (p q : Accounts) (m new : Machine) (t : ℕ) (a after : Actor) → slice_get m.actors t ≡ Some a
     → LeavesOthers m new t → ((u : ℕ) → u ≢ t → p u ≡ q u) → Fits (q t) new t after
     → ((u : ℕ) (b : Actor) → slice_get m.actors u ≡ Some b → Fits (p u) m u b)
@@ -246,7 +219,7 @@ each_fits p q m new t a after at leaves same own each u b is =
           let old = each u b found in
           let fits = others_fit (p u) m new t u b leaves apart.1 found old.0 in (
             subst (λ (account : Account). ActorFits account new u b) (same u apart.1) fits,
-            subst (λ (rows : ℕ). AgendaFits rows u b b.status) (sym leaves.rows) old.1,
+            subst (λ (layout : Layout). AgendaFits b b.status) (sym leaves.layout) old.1,
             aside_kept m new t u b leaves apart.1 found old.2,
           )
     ]

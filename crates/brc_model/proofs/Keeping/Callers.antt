@@ -1,17 +1,18 @@
--- The first references: each thread holds the root as the caller, and nothing else.
+-- The references of the first machine: each thread holds the root as the caller that lends it, and nothing else.
 use Rattle.std.proofs.Common.{◌≡◌, ◌≢◌, ℕ, zero, suc, ◌<◌, ◌≤◌, refl, sym, ap, subst, arith, inl, inr}
 use Rattle.std.specs.Prelude.{◌==◌}
 use Rattle.std.proofs.lemmas.Bool.{eq-eqb}
 use Rattle.std.proofs.lemmas.Bool.Decides.{eqb_tells}
 use Rattle.brc_model.specs.declared.duty.Holding.{Holding}
 use Rattle.brc_model.specs.declared.duty.Holding.TheVariants.{ByVariable, AsCaller, InFlight}
-use Rattle.brc_model.specs.AbstractState.{root_row, same, references_to}
-use Rattle.brc_model.specs.Machine.{caller_reference, callers_below}
+use Rattle.brc_model.specs.AbstractState.{same, references_to}
+use Rattle.brc_model.specs.StepMachine.{caller_reference, callers_below}
 use Rattle.brc_model.proofs.Basics.Bag.{other_thread, same-other_holder, held-cons, references_to-cons}
 use Rattle.brc_model.specs.References.{held, one_if, cell_reference, reference_of}
 use Rattle.brc_model.proofs.Dispatch.Holds.{the_root}
+use Rattle.brc_model.specs.Layout.{root_row}
 
--- by the caller, the object tells
+-- Two references that one thread holds as the caller are the same if their objects are.
 same-one_caller : (t object row : ℕ)
     → same (reference_of t AsCaller object) (reference_of t AsCaller row) ≡ (object == row)
 same-one_caller t object row = rw (eq-eqb t t refl) refl

@@ -1,31 +1,34 @@
--- What holds of each machine that an accepted module's events lead to: the invariant of all threads, and that each
--- thread stands in its function's code, with the account that its place says.
+-- The second layer of the invariant, which holds of each machine that an accepted module's events lead to: the
+-- invariant of all threads holds, and each thread is at a point of its function's code, with the account that its place
+-- gives.
 use Rattle.std.proofs.Common.{◌≡◌, ℕ, Bool, false, List, inl, inr, Some, sym, ap, ◌∙◌, subst}
 use Rattle.std.specs.Prelude.{slice_get, slice_set}
 use Rattle.std.proofs.lemmas.Bool.Decides.{eqb_tells}
 use Rattle.std.proofs.lemmas.Option.{slice_get_within}
 use Rattle.brc_lang.specs.declared.module.Module.{Module}
-use Rattle.brc_model.specs.Machine.{Actor, Machine}
+use Rattle.brc_model.specs.Actions.{StepActor}
+use Rattle.brc_model.specs.StepMachine.{StepMachine, counting}
 use Rattle.brc_model.proofs.Basics.Lists.{some_is, slice_get-set_same, slice_get-set_other}
 use Rattle.brc_model.specs.Accounts.{Account, Accounts}
 use Rattle.brc_model.specs.Invariant.{Invariant}
 use Rattle.brc_model.proofs.Dispatch.Coded.{InCode}
 use Rattle.brc_model.proofs.Keeping.Replaced.{with_account, with_account_same, with_account_other}
 
-pub record CodeInvariant (p : Module) (n : ℕ) (m : Machine) : Type 0 where
+pub record CodeInvariant (p : Module) (n : ℕ) (m : StepMachine) : Type 0 where
   pub accounts : Accounts
-  pub kept : Invariant accounts n m
+  pub kept : Invariant accounts n (counting m)
   pub functions : m.functions ≡ p.functions
-  pub coded : (t : ℕ) (a : Actor) → slice_get m.actors t ≡ Some a → InCode p a (accounts t)
+  pub coded : (t : ℕ) (a : StepActor) → slice_get m.actors t ≡ Some a → InCode p a (accounts t)
 
-abbrev pub KeepsOn : Module → ℕ → Bool → Machine → Type 0
+abbrev pub KeepsOn : Module → ℕ → Bool → StepMachine → Type 0
 KeepsOn p n bad m = (bad ≡ false) × CodeInvariant p n m
 
--- all threads stand in their code where one has moved, with its new account
-pub coded_set : (p : Module) (c : Accounts) (actors : List Actor) (t : ℕ) (a after : Actor) (account : Account)
+-- If one thread moves within its code, every thread still has the account that its place gives.
+pub coded_set : (p : Module) (c : Accounts) (actors : List StepActor) (t : ℕ) (a after : StepActor) (account : Account)
     → slice_get actors t ≡ Some a → InCode p after account
-    → ((u : ℕ) (b : Actor) → slice_get actors u ≡ Some b → InCode p b (c u))
-    → (u : ℕ) (b : Actor) → slice_get (slice_set actors t after) u ≡ Some b → InCode p b (with_account c t account u)
+    → ((u : ℕ) (b : StepActor) → slice_get actors u ≡ Some b → InCode p b (c u))
+    → (u : ℕ) (b : StepActor) → slice_get (slice_set actors t after) u ≡ Some b
+    → InCode p b (with_account c t account u)
 coded_set p c actors t a after account at own each u b is =
     elim (eqb_tells u t) [
       | inl this ↦
@@ -34,7 +37,7 @@ coded_set p c actors t a after account at own each u b is =
           ∙ slice_get-set_same actors t after (slice_get_within actors t a at)) ∙ is in
           let here : InCode p after (with_account c t account t) =
           subst (InCode p after) (with_account_same c t account) own in
-          subst (λ (x : Actor). InCode p x (with_account c t account u)) (some_is after b written_is)
+          subst (λ (x : StepActor). InCode p x (with_account c t account u)) (some_is after b written_is)
           (subst (λ (w : ℕ). InCode p after (with_account c t account w)) (sym this.1) here)
       | inr apart ↦
           subst (InCode p b) (with_account_other c t account u apart.1)

@@ -1,4 +1,4 @@
--- The rule holds after a thread's first duty, where it holds of that thread and of the marks.
+-- Doing a thread's first duty keeps the core invariant, if the thread and the marks fit afterwards.
 use Rattle.std.proofs.Common.{◌≡◌, ℕ, ◌<◌, List, ◌⊎◌, Some, refl, ◌∙◌, arith}
 use Rattle.std.specs.Prelude.{slice_get, slice_set}
 use Rattle.std.proofs.lemmas.List.{length-set}
@@ -17,12 +17,13 @@ use Rattle.brc_model.proofs.Basics.MovesApart.{moves_apart, moves_off_cells}
 use Rattle.brc_model.proofs.Frame.Lives.{cell_found, leaves_others}
 use Rattle.brc_model.proofs.Stepping.Neutral.{ThreadFits, found_by, memory_by}
 use Rattle.brc_model.proofs.Objects.RowsAfter.{rows_after}
-use Rattle.brc_model.proofs.Objects.ClosedAfter.{closed_is_after, closed_has_after, closed_once_after, none_lives_after, dying_after}
-use Rattle.brc_model.proofs.Objects.UsesAfter.{uses_after, no_block_after, born_is_after, born_has_after, born_once_after}
+use Rattle.brc_model.proofs.Objects.ClosedAfter.{closed_is_after, closed_has_after, closed_once_after, immortals_live_after, dying_after}
+use Rattle.brc_model.proofs.Objects.UsesAfter.{uses_after, born_is_after, born_has_after, born_once_after}
 use Rattle.brc_model.proofs.Objects.KindsAfter.{kinds_after}
-use Rattle.brc_model.proofs.Stepping.Nones.{none_local}
+use Rattle.brc_model.proofs.Stepping.Nones.{immortal_word_left}
 use Rattle.brc_model.proofs.Objects.GatesAfter.{gates_after}
 use Rattle.brc_model.proofs.Objects.BlanksAfter.{zero_written, blanks_after}
+use Rattle.brc_model.specs.Layout.{IsCounted}
 
 -- ---- cells stay empty
 
@@ -35,29 +36,33 @@ cells_left m t a _ x i empty = empty
 -- ---- all threads
 
 others_and_own : (p : Accounts) (n : ℕ) (m : Machine) (t : ℕ) (a : Actor) (d : Duty) (rest : List Duty)
-    → AtDuty p n m t a d rest → ThreadFits p (done_by m t a d rest) t (actor_by t a d rest (found_by m t a d))
-    → AsideFits (done_by m t a d rest) t (actor_by t a d rest (found_by m t a d))
-    → (u : ℕ) (b : Actor) → slice_get (slice_set m.actors t (actor_by t a d rest (found_by m t a d))) u ≡ Some b
+    → AtDuty p n m t a d rest → ThreadFits p (done_by m t a d rest) t (actor_by m.layout t a d rest (found_by m t a d))
+    → AsideFits (done_by m t a d rest) t (actor_by m.layout t a d rest (found_by m t a d))
+    → (u : ℕ) (b : Actor) → slice_get (slice_set m.actors t (actor_by m.layout t a d rest (found_by m t a d))) u ≡
+    Some b
     → Fits (p u) (done_by m t a d rest) u b
 others_and_own p n m t a d rest here own aside =
-    each_fits p p m (done_by m t a d rest) t a (actor_by t a d rest (found_by m t a d)) here.found
+    each_fits p p m (done_by m t a d rest) t a (actor_by m.layout t a d rest (found_by m t a d)) here.found
     (leaves_others p n m t a d rest here) (λ u ne. refl) (own.actor, own.agenda, aside) here.core.each
 
--- ---- the whole rule
+-- ---- the core invariant
 
 pub keeps_by : (p : Accounts) (n : ℕ) (m : Machine) (t : ℕ) (a : Actor) (d : Duty) (rest : List Duty)
     → AtDuty p n m t a d rest → (a.status ≡ Gone → ⊥)
-    → ThreadFits p (done_by m t a d rest) t (actor_by t a d rest (found_by m t a d))
+    → ThreadFits p (done_by m t a d rest) t (actor_by m.layout t a d rest (found_by m t a d))
     → ((x : ℕ) → ((done_by m t a d rest).memory (Mark x) ≡ 0)
-    ⊎ (((done_by m t a d rest).memory (Mark x) ≡ 1) × (0 < x) × IsWatched (done_by m t a d rest) x))
+    ⊎ (((done_by m t a d rest).memory (Mark x) ≡ 1) × (IsCounted m.layout x) × IsWatched (done_by m t a d rest) x))
     → CoreInvariant p n (done_by m t a d rest)
 keeps_by p n m t a d rest here alive own marks =
     let within : t < n = omega (arith, slice_get_within m.actors t a here.found, here.core.threads) in
     record {
-      threads = length-set m.actors t (actor_by t a d rest (found_by m t a d)) ∙ here.core.threads;
+      threads = length-set m.actors t (actor_by m.layout t a d rest (found_by m t a d)) ∙ here.core.threads;
       some_rows = here.core.some_rows;
       few_threads = here.core.few_threads;
       few_rows = here.core.few_rows;
+      workers = here.core.workers;
+      few_cells = here.core.few_cells;
+      few_immortals = here.core.few_immortals;
       rows = λ x pos. rows_after p n m t a d rest here.core here.found here.agenda alive x pos;
       marks = marks;
       each = others_and_own p n m t a d rest here own (aside_after p n m t a d rest here);
@@ -69,17 +74,17 @@ keeps_by p n m t a d rest here alive own marks =
       cells = λ x i. cells_left m t a d x i (here.core.cells x i);
       uses = λ u b is. uses_after p n m t a d rest here u b is;
       blanks = λ u b is. blanks_after p n m t a d rest here u b is;
-      no_block = λ x past. no_block_after p n m t a d rest here x past;
       born_is = λ x is. born_is_after p n m t a d rest here x is;
       born_has = λ x above is. born_has_after p n m t a d rest here x above is;
       born_once = λ x. born_once_after p n m t a d rest here x;
       cells_hold =
           λ x i object. moves_off_cells m.memory m.abstract x i object t d (found_by m t a d)
           (cell_found p n m t a d here.core) ∙ here.core.cells_hold x i object;
-      none_lives = none_lives_after p n m t a d rest here;
+      immortals_live = λ x immortal. immortals_live_after p n m t a d rest x here immortal;
       closed_is = λ x is. closed_is_after p n m t a d rest x here is;
       closed_has = λ x is. closed_has_after p n m t a d rest x here is;
       once = closed_once_after p n m t a d rest here;
       kinds = λ x born. kinds_after p n m t a d rest here x born;
-      none_word = none_local p n m t a d rest here ∙ here.core.none_word;
+      immortal_words =
+          λ x immortal. immortal_word_left p n m t a d rest x here immortal ∙ here.core.immortal_words x immortal;
     }

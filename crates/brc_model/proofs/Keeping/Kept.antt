@@ -1,16 +1,15 @@
--- The theorem in two parts: doing the next duty of a thread is not bad and keeps the invariant, and taking work up
--- under its condition keeps it. Whatever the threads run: the step world and the running threads stand on both alike.
-use Rattle.std.proofs.Common.{◌≡◌, ℕ, zero, suc, false, List, ◌∷◌, Some, refl, sym, ◌∙◌, subst, arith}
+-- The theorem in two parts: doing a thread's next duty isn't bad and keeps the invariant; taking up work keeps the
+-- invariant if the work meets its condition. The invariant doesn't say what the threads run, so the step world and the
+-- running threads both use it.
+use Rattle.std.proofs.Common.{◌≡◌, ℕ, false, List, ◌∷◌, Some, refl, sym, ◌∙◌, subst, inl, inr}
 use Rattle.std.specs.Prelude.{slice_get}
 use Rattle.std.proofs.lemmas.Option.{slice_get_within}
-use Rattle.brc_model.specs.AbstractState.{Reference}
 use Rattle.brc_model.specs.declared.duty.Reason.TheVariants.{Own, Handed}
 use Rattle.brc_model.specs.declared.duty.Duty.{Duty}
 use Rattle.brc_model.specs.declared.duty.Duty.TheVariants.{RetainLoad, RetainStore, RetainAdd, ReleaseLoad, ReleaseStore, DecideAtZero, SharedLoad, SharedExchange, SetMark, Look, TakeMark, MergeSwap, MergeLoad, MergeExchange, Die, Settle, SettleKind, SettleCell, TakeSlot, CloseResource, SettleEnd, Leave, Scan, Finish, ClaimMark, BirthKind, BirthSlot, BirthLocal}
 use Rattle.brc_model.specs.declared.actor.Status.TheVariants.{Running, Gone}
-use Rattle.brc_model.specs.declared.actor.Place.{Place}
-use Rattle.brc_model.specs.Machine.{Actor, Machine, actor_by, done_by, at_place, with_actor}
-use Rattle.brc_model.specs.Events.{is_bad_duty}
+use Rattle.brc_model.specs.Machine.{Actor, Machine, actor_by, done_by, with_actor}
+use Rattle.brc_model.specs.BadDuties.{is_bad_duty}
 use Rattle.brc_model.proofs.Basics.Lists.{slice_get-set_same, written_actor}
 use Rattle.brc_model.specs.Accounts.{Account, Accounts}
 use Rattle.brc_model.specs.Invariant.{AtDuty, Invariant}
@@ -27,54 +26,74 @@ use Rattle.brc_model.proofs.Stepping.Settled.{settled_after}
 use Rattle.brc_model.proofs.Work.Watches.{marks_after}
 use Rattle.brc_model.proofs.Keeping.KeepsDuty.{keeps_by}
 use Rattle.brc_model.proofs.Keeping.NotBad.{duty_not_bad}
-use Rattle.brc_model.proofs.Dispatch.Begins.{Starts, Gives, Takes, Follows, Nothing, Settles as SettlesFirst, Leaves, Bears}
 use Rattle.brc_model.proofs.Keeping.Sits.{sitting, Sits, AtRest, sits_core, taken_up_step}
 use Rattle.brc_model.proofs.Keeping.Replaced.{with_account}
 use Rattle.brc_model.proofs.Stepping.Births.{thread_after_birth_kind, thread_after_birth_slot, thread_after_birth_local}
-use Rattle.brc_model.proofs.Stepping.Nones.{thread_after_retain_none, thread_after_release_none}
+use Rattle.brc_model.proofs.Stepping.Nones.{thread_after_retain_immortal, thread_after_release_immortal}
+use Rattle.std.proofs.lemmas.Bool.{cases_Bool}
+use Rattle.brc_model.specs.Layout.{is_immortal_row}
 
--- ---- a duty
+-- ---- doing a duty
 
 thread_after_duty : (p : Accounts) (n : ℕ) (m : Machine) (t : ℕ) (a : Actor) (d : Duty) (rest : List Duty)
     → AtDuty p n m t a d rest → (a.status ≡ Gone → ⊥) → IsSettled a.head (d ∷ rest)
-    → ThreadFits p (done_by m t a d rest) t (actor_by t a d rest (found_by m t a d))
-thread_after_duty p n m t a (RetainLoad zero h) rest here alive settled = thread_after_retain_none p n m t a h rest here alive
-thread_after_duty p n m t a (RetainLoad (suc x) h) rest here alive settled =
-    thread_after_retain_counted p n m t a (suc x) h rest (omega arith) here alive
-thread_after_duty p n m t a (RetainStore x h w) rest here alive settled = thread_after_retain_store p n m t a x h w rest here alive
-thread_after_duty p n m t a (RetainAdd x h) rest here alive settled = thread_after_retain_add p n m t a x h rest here alive
-thread_after_duty p n m t a (ReleaseLoad zero h) rest here alive settled =
-    thread_after_release_none p n m t a h rest here alive (release_held p n m t a 0 h rest here)
-thread_after_duty p n m t a (ReleaseLoad (suc x) h) rest here alive settled =
-    thread_after_release_counted p n m t a (suc x) h rest (omega arith) here alive
-thread_after_duty p n m t a (ReleaseStore x w) rest here alive settled = thread_after_release_store p n m t a x w rest here alive
-thread_after_duty p n m t a (DecideAtZero x) rest here alive settled = thread_after_decide_at_zero p n m t a x rest here alive
-thread_after_duty p n m t a (SharedLoad x r) rest here alive settled = thread_after_shared_load p n m t a x r rest here alive
-thread_after_duty p n m t a (SharedExchange x r w) rest here alive settled = thread_after_shared_exchange p n m t a x r w rest here alive
+    → ThreadFits p (done_by m t a d rest) t (actor_by m.layout t a d rest (found_by m t a d))
+thread_after_duty p n m t a (RetainLoad x h) rest here alive settled =
+    elim (cases_Bool (is_immortal_row m.layout x)) [
+      | inl immortal ↦ thread_after_retain_immortal p n m t a x h rest here immortal alive
+      | inr counted ↦ thread_after_retain_counted p n m t a x h rest counted here alive
+    ]
+thread_after_duty p n m t a (RetainStore x h w) rest here alive settled =
+    thread_after_retain_store p n m t a x h w rest here alive
+thread_after_duty p n m t a (RetainAdd x h) rest here alive settled =
+    thread_after_retain_add p n m t a x h rest here alive
+thread_after_duty p n m t a (ReleaseLoad x h) rest here alive settled =
+    elim (cases_Bool (is_immortal_row m.layout x)) [
+      | inl immortal ↦
+          thread_after_release_immortal p n m t a x h rest here immortal alive (release_held p n m t a x h rest here)
+      | inr counted ↦ thread_after_release_counted p n m t a x h rest counted here alive
+    ]
+thread_after_duty p n m t a (ReleaseStore x w) rest here alive settled =
+    thread_after_release_store p n m t a x w rest here alive
+thread_after_duty p n m t a (DecideAtZero x) rest here alive settled =
+    thread_after_decide_at_zero p n m t a x rest here alive
+thread_after_duty p n m t a (SharedLoad x r) rest here alive settled =
+    thread_after_shared_load p n m t a x r rest here alive
+thread_after_duty p n m t a (SharedExchange x r w) rest here alive settled =
+    thread_after_shared_exchange p n m t a x r w rest here alive
 thread_after_duty p n m t a (SetMark x) rest here alive settled = thread_after_set_mark p n m t a x rest here alive
 thread_after_duty p n m t a (Look x) rest here alive settled = thread_after_look p n m t a x rest here alive
 thread_after_duty p n m t a (TakeMark x) rest here alive settled = thread_after_take_mark p n m t a x rest here alive
-thread_after_duty p n m t a (MergeSwap x Own) rest here alive settled = thread_after_merge_swap_own p n m t a x rest here alive
-thread_after_duty p n m t a (MergeSwap x Handed) rest here alive settled = thread_after_merge_swap_handed p n m t a x rest here alive
-thread_after_duty p n m t a (MergeLoad x c r) rest here alive settled = thread_after_merge_load p n m t a x c r rest here alive
+thread_after_duty p n m t a (MergeSwap x Own) rest here alive settled =
+    thread_after_merge_swap_own p n m t a x rest here alive
+thread_after_duty p n m t a (MergeSwap x Handed) rest here alive settled =
+    thread_after_merge_swap_handed p n m t a x rest here alive
+thread_after_duty p n m t a (MergeLoad x c r) rest here alive settled =
+    thread_after_merge_load p n m t a x c r rest here alive
 thread_after_duty p n m t a (MergeExchange x c w r) rest here alive settled =
     thread_after_merge_exchange p n m t a x c w r rest here alive
 thread_after_duty p n m t a (Die x) rest here alive settled = thread_after_die p n m t a x rest here alive
 thread_after_duty p n m t a Settle rest here alive settled = thread_after_settle p n m t a rest here alive
-thread_after_duty p n m t a (SettleKind x) rest here alive settled = thread_after_settle_kind p n m t a x rest here alive
-thread_after_duty p n m t a (SettleCell x i k) rest here alive settled = thread_after_settle_cell p n m t a x i k rest here alive
+thread_after_duty p n m t a (SettleKind x) rest here alive settled =
+    thread_after_settle_kind p n m t a x rest here alive
+thread_after_duty p n m t a (SettleCell x i k) rest here alive settled =
+    thread_after_settle_cell p n m t a x i k rest here alive
 thread_after_duty p n m t a (TakeSlot x) rest here alive settled = thread_after_take_slot p n m t a x rest here alive
-thread_after_duty p n m t a (CloseResource x) rest here alive settled = thread_after_close_resource p n m t a x rest here alive
+thread_after_duty p n m t a (CloseResource x) rest here alive settled =
+    thread_after_close_resource p n m t a x rest here alive
 thread_after_duty p n m t a (SettleEnd x) rest here alive settled = thread_after_settle_end p n m t a x rest here alive
 thread_after_duty p n m t a (Leave x k) rest here alive settled = thread_after_leave p n m t a x k rest here alive
 thread_after_duty p n m t a (Scan x k) rest here alive settled = thread_after_scan p n m t a x k rest here alive
 thread_after_duty p n m t a Finish rest here alive settled = thread_after_finish p n m t a rest here alive settled
 thread_after_duty p n m t a (ClaimMark x) rest here alive settled = thread_after_claim_mark p n m t a x rest here alive
-thread_after_duty p n m t a (BirthKind x h w) rest here alive settled = thread_after_birth_kind p n m t a x h w rest here alive
-thread_after_duty p n m t a (BirthSlot x h) rest here alive settled = thread_after_birth_slot p n m t a x h rest here alive
-thread_after_duty p n m t a (BirthLocal x h) rest here alive settled = thread_after_birth_local p n m t a x h rest here alive
+thread_after_duty p n m t a (BirthKind x h w) rest here alive settled =
+    thread_after_birth_kind p n m t a x h w rest here alive
+thread_after_duty p n m t a (BirthSlot x h) rest here alive settled =
+    thread_after_birth_slot p n m t a x h rest here alive
+thread_after_duty p n m t a (BirthLocal x h) rest here alive settled =
+    thread_after_birth_local p n m t a x h rest here alive
 
--- a thread at its first duty
+-- What `duty_kept` needs: the invariant holds, and the thread isn't gone and has the duty next.
 pub record Doing (p : Accounts) (n : ℕ) (m : Machine) (t : ℕ) (a : Actor) (d : Duty) (rest : List Duty) : Type 0 where
   pub kept : Invariant p n m
   pub found : slice_get m.actors t ≡ Some a
@@ -96,56 +115,46 @@ duty_kept p n m t a d rest doing =
             (λ x. marks_after p n m t a d rest here doing.alive x);
         settled =
             λ u b is. written_actor (λ w c. IsSettled c.head c.agenda) m.actors t a
-            (actor_by t a d rest (found_by m t a d)) doing.found
+            (actor_by m.layout t a d rest (found_by m t a d)) doing.found
             (settled_after p n m t a d rest here doing.alive settled) doing.kept.settled u b is;
       },
     )
 
--- ---- what is taken up
+-- ---- taking up work
 
--- The second part: taking work up under its condition keeps the invariant.
-pub kept_sits : (p : Accounts) (n : ℕ) (m : Machine) (t : ℕ) (a : Actor) (place : Place) (agenda : List Duty)
+-- The second part of the theorem: taking up work that meets its condition keeps the invariant.
+pub kept_sits : (p : Accounts) (n : ℕ) (m : Machine) (t : ℕ) (a : Actor) (agenda : List Duty)
     (account : Account)
-    → Invariant p n m → AtRest p n m t a → Sits m t a place agenda account → IsSettled a.head agenda
-    → Invariant (with_account p t account) n (with_actor m t (sitting a place agenda))
-kept_sits p n m t a place agenda account kept rest sits settled = record {
-  core = sits_core p n m t a place agenda account rest sits;
+    → Invariant p n m → AtRest p n m t a → Sits m t a agenda account → IsSettled a.head agenda
+    → Invariant (with_account p t account) n (with_actor m t (sitting a agenda))
+kept_sits p n m t a agenda account kept rest sits settled = record {
+  core = sits_core p n m t a agenda account rest sits;
   settled =
-      λ u b is. written_actor (λ w c. IsSettled c.head c.agenda) m.actors t a (sitting a place agenda) rest.found
+      λ u b is. written_actor (λ w c. IsSettled c.head c.agenda) m.actors t a (sitting a agenda) rest.found
       settled kept.settled u b is;
 }
 
--- the thread that has taken duties up stands at the first of them
-pub sits_down : (p : Accounts) (n : ℕ) (m : Machine) (t : ℕ) (a : Actor) (place : Place) (d : Duty) (rest : List Duty)
+-- A thread that has taken up duties is ready to do the first of them.
+pub sits_down : (p : Accounts) (n : ℕ) (m : Machine) (t : ℕ) (a : Actor) (d : Duty) (rest : List Duty)
     (account : Account)
-    → Invariant p n m → AtRest p n m t a → Sits m t a place (d ∷ rest) account → IsSettled a.head (d ∷ rest)
-    → Doing (with_account p t account) n (with_actor m t (sitting a place (d ∷ rest))) t (sitting a place (d ∷ rest)) d
+    → Invariant p n m → AtRest p n m t a → Sits m t a (d ∷ rest) account → IsSettled a.head (d ∷ rest)
+    → Doing (with_account p t account) n (with_actor m t (sitting a (d ∷ rest))) t (sitting a (d ∷ rest)) d
     rest
-sits_down p n m t a place d rest account kept at sits settled = record {
-  kept = kept_sits p n m t a place (d ∷ rest) account kept at sits settled;
-  found = slice_get-set_same m.actors t (sitting a place (d ∷ rest)) (slice_get_within m.actors t a at.found);
+sits_down p n m t a d rest account kept at sits settled = record {
+  kept = kept_sits p n m t a (d ∷ rest) account kept at sits settled;
+  found = slice_get-set_same m.actors t (sitting a (d ∷ rest)) (slice_get_within m.actors t a at.found);
   agenda = refl;
   alive = λ e. let wrong : Running ≡ Gone = sym at.running ∙ e in absurd cc;
 }
 
--- a duty that is taken up and done at once
-pub taken_up : (p : Accounts) (n : ℕ) (m : Machine) (t : ℕ) (a : Actor) (place : Place) (d : Duty) (rest : List Duty)
+-- Taking up duties and doing the first of them at once isn't bad and keeps the invariant.
+pub taken_up : (p : Accounts) (n : ℕ) (m : Machine) (t : ℕ) (a : Actor) (d : Duty) (rest : List Duty)
     (account : Account)
-    → Invariant p n m → AtRest p n m t a → Sits m t a place (d ∷ rest) account → IsSettled a.head (d ∷ rest)
-    → (is_bad_duty m t a d ≡ false) × Invariant (with_account p t account) n (done_by m t (at_place a place) d rest)
-taken_up p n m t a place d rest account kept at sits settled =
-    let now = sitting a place (d ∷ rest) in
+    → Invariant p n m → AtRest p n m t a → Sits m t a (d ∷ rest) account → IsSettled a.head (d ∷ rest)
+    → (is_bad_duty m t a d ≡ false) × Invariant (with_account p t account) n (done_by m t a d rest)
+taken_up p n m t a d rest account kept at sits settled =
+    let now = sitting a (d ∷ rest) in
     let done =
     duty_kept (with_account p t account) n (with_actor m t now) t now d rest
-    (sits_down p n m t a place d rest account kept at sits settled) in
-    (done.0, subst (Invariant (with_account p t account) n) (taken_up_step m t a place d rest) done.1)
-
-pub starts_settled : (bag : List Reference) (rows t used head : ℕ) (place : Place) (d : Duty) (rest : List Duty)
-    → Starts bag rows t used d rest → Follows rows t used place rest → IsSettled head (d ∷ rest)
-starts_settled bag rows t used head place d rest (Gives row h behind some) (Nothing stays) = tt
-starts_settled bag rows t used head place d rest (Gives row h behind some) (SettlesFirst stays) = tt
-starts_settled bag rows t used head place d rest (Gives row h behind some) (Leaves leaves) = tt
-starts_settled bag rows t used head place d rest (Takes row h by behind some) (Nothing stays) = tt
-starts_settled bag rows t used head place d rest (Takes row h by behind some) (SettlesFirst stays) = tt
-starts_settled bag rows t used head place d rest (Takes row h by behind some) (Leaves leaves) = tt
-starts_settled bag rows t used head place d rest (Bears h w room few said) follows = tt
+    (sits_down p n m t a d rest account kept at sits settled) in
+    (done.0, subst (Invariant (with_account p t account) n) (taken_up_step m t a d rest) done.1)

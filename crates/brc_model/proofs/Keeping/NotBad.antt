@@ -1,12 +1,12 @@
--- A thread's first duty touches no freed row, and makes moves that are allowed.
-use Rattle.std.proofs.Common.{◌≡◌, ℕ, ◌-◌, ◌<◌, Bool, true, false, cond, not, List, [], ◌∷◌, ◌++◌, refl, sym, ap, ◌∙◌, subst, arith, zero, suc}
+-- A thread's first duty touches no freed row, and makes no move of references that isn't allowed.
+use Rattle.std.proofs.Common.{◌≡◌, ℕ, ◌-◌, ◌<◌, Bool, true, false, cond, not, List, [], ◌∷◌, ◌++◌, refl, sym, ap, ◌∙◌, subst, arith, inl, inr}
 use Rattle.std.specs.Prelude.{◌==◌, ◌&&◌, ◌||◌, count_by, slice_get, Some}
 use Rattle.std.specs.List.{list_any}
 use Rattle.std.proofs.lemmas.Bool.{eq-eqb, ne_eqb, lt-ltb}
 use Rattle.std.proofs.lemmas.List.Sums.{sum_by-cons}
 use Rattle.brc_model.specs.declared.duty.Holding.{Holding}
 use Rattle.brc_model.specs.declared.duty.Holding.TheVariants.{ByVariable, AsCaller, InFlight}
-use Rattle.brc_model.specs.AbstractState.{none_row, is_counted, is_among, AbstractState, same_holding, same, references_to, Move, Gain, Lose, PassOn, Finalise, is_allowed, are_allowed, Born, ByThread, holds_by_cells, move, without}
+use Rattle.brc_model.specs.AbstractState.{is_counted, is_among, AbstractState, same_holding, same, references_to, Move, Gain, Lose, PassOn, Finalise, is_allowed, are_allowed, Born, ByThread, holds_by_cells, move, without}
 use Rattle.brc_word.specs.Words.{immortal_local, local_part, is_immortal_word}
 use Rattle.brc_model.specs.declared.duty.Reason.TheVariants.{Own, Handed}
 use Rattle.brc_model.specs.declared.duty.Duty.{Duty}
@@ -15,48 +15,33 @@ use Rattle.brc_lang.specs.declared.kind.Kind.{Kind}
 use Rattle.brc_model.specs.Kinds.{kind_of_word, is_counted_kind}
 use Rattle.brc_model.specs.declared.address.Address.TheVariants.{Local, KindOf}
 use Rattle.brc_model.specs.Duties.{address_of}
-use Rattle.brc_model.specs.Machine.{Actor, Unborn, Live, Dying, Closed, Machine, put_in_flight, gain, lose, reference_effects, birth, take_out}
-use Rattle.brc_model.specs.Events.{touched_row, is_freed_for, touches_freed, is_bad_duty}
+use Rattle.brc_model.specs.Machine.{Actor, Unborn, Live, Dying, Closed, Machine}
+use Rattle.brc_model.specs.Moves.{put_in_flight, gain, lose, reference_effects, birth, take_out}
+use Rattle.brc_model.specs.BadDuties.{touched_row, is_freed_for, touches_freed, is_bad_duty}
+use Rattle.brc_model.proofs.Basics.Lists.{either}
 use Rattle.brc_model.proofs.Basics.Bag.{same_holding-refl, held_has, held-le-references_to, no_cell_holds, same-refl, one_if_true}
-use Rattle.brc_model.specs.References.{held, one_if, reference_of}
+use Rattle.brc_model.specs.References.{one_if, reference_of}
 use Rattle.brc_model.specs.RowInvariant.{waits, decides, merges, InOwned, InSwapped, InMerged}
 use Rattle.brc_model.specs.Accounts.{Accounts, extra_of, lacks_of}
 use Rattle.brc_model.specs.Knowledge.{IsBacked, IsNext}
 use Rattle.brc_model.specs.OpenWork.{Linked, dies_by}
 use Rattle.brc_model.specs.Invariant.{AtDuty, CoreInvariant}
 use Rattle.brc_model.proofs.Promises.Agreeing.{is_free_of}
-use Rattle.brc_model.proofs.Frame.Aside.{extra_held}
-use Rattle.brc_model.proofs.Frame.Alive.{Alive, first_weighs, alive_referenced, alive_waiting, alive_deciding, alive_merging, alive_backed}
+use Rattle.brc_model.proofs.Frame.Alive.{Alive, first_weighs, alive_waiting, alive_deciding, alive_merging, alive_backed}
 use Rattle.brc_model.proofs.Frame.Others.{is_dying}
-use Rattle.brc_model.proofs.Frame.Leaves.{head_of, exchange_alive, decide_alive, merge_alive, claim_alive}
-use Rattle.brc_model.proofs.Basics.Blocks.{next_above, next_unborn}
-use Rattle.brc_model.proofs.Stepping.Nones.{none_immortal}
+use Rattle.brc_model.proofs.Frame.Leaves.{head_of, exchange_alive, decide_alive, merge_alive, claim_alive, gives_held, given_alive}
+use Rattle.brc_model.proofs.Basics.Blocks.{next_counted, next_unborn}
+use Rattle.brc_model.proofs.Stepping.Nones.{immortal_row}
+use Rattle.std.proofs.lemmas.Bool.{cases_Bool}
+use Rattle.brc_model.specs.declared.layout.Layout.{Layout}
+use Rattle.brc_model.specs.Layout.{is_immortal_row, IsCounted}
 
--- ---- what is given up is held
-
--- the reference that the first duty gives up is in the bag
-pub gives_held : (p : Accounts) (n : ℕ) (m : Machine) (t : ℕ) (a : Actor) (d : Duty) (rest : List Duty) (k : Holding)
-    (x : ℕ)
-    → AtDuty p n m t a d rest → extra_of (d ∷ rest) k x ≡ true → lacks_of (d ∷ rest) k x ≡ false
-    → 0 < held (reference_of t k x) m.abstract.references
-gives_held p n m t a d rest k x here more less =
-    let fits = here.core.each t a here.found in
-    extra_held m.abstract.references t (p t) a.agenda a.aside k x fits.0.holds (fits.2.apart x)
-    (ap (λ (l : List Duty). extra_of l k x) here.agenda ∙ more)
-    (ap (λ (l : List Duty). lacks_of l k x) here.agenda ∙ less)
+-- ---- references given up
 
 holder_same : (h : Holding) (x : ℕ) → (same_holding h h && (x == x)) ≡ true
 holder_same h x = ap (λ (b : Bool). b && (x == x)) (same_holding-refl h) ∙ eq-eqb x x refl
 
-given_alive : (p : Accounts) (n : ℕ) (m : Machine) (t : ℕ) (a : Actor) (d : Duty) (rest : List Duty) (k : Holding)
-    (x : ℕ)
-    → AtDuty p n m t a d rest → 0 < x → extra_of (d ∷ rest) k x ≡ true → lacks_of (d ∷ rest) k x ≡ false → Alive m x
-given_alive p n m t a d rest k x here pos more less =
-    let some = gives_held p n m t a d rest k x here more less in
-    alive_referenced p n m x here.core pos
-    (omega (arith, some, held-le-references_to (reference_of t k x) m.abstract.references))
-
--- ---- no freed row is touched
+-- ---- freed rows
 
 alive_free : (m : Machine) (t x : ℕ) → Alive m x → is_freed_for t (m.life x) ≡ false
 alive_free m t x alive = ap (is_freed_for t) alive.life
@@ -67,7 +52,7 @@ dying_free m t x dying = ap (is_freed_for t) dying ∙ ap not (eq-eqb t t refl)
 one_at : (x : ℕ) → one_if (x == x) ≡ 1
 one_at x = ap one_if (eq-eqb x x refl)
 
--- the head of the chain is dying
+-- The head of a thread's chain is a row that the thread is finalising.
 pub chain_head_dies : (p : Accounts) (n : ℕ) (m : Machine) (t : ℕ) (a : Actor) (rest : List Duty)
     → AtDuty p n m t a Settle rest → m.life (a.head - 1) ≡ Dying t
 chain_head_dies p n m t a rest here =
@@ -85,28 +70,32 @@ chain_head_dies p n m t a rest here =
           ap m.life row ∙ is_dying (m.life x) t dies
     ] refl chain.linked
 
--- nor is what isn't born yet
+-- The next row of a thread's block isn't freed, since it isn't born yet.
 next_free : (p : Accounts) (n : ℕ) (m : Machine) (t : ℕ) (a : Actor) (x : ℕ) → CoreInvariant p n m
     → slice_get m.actors t ≡ Some a
     → IsNext m t a x → touches_freed m t (Some x) ≡ false
 next_free p n m t a x core found next = ap (is_freed_for t) (next_unborn p n m t a x core found next)
 
 touches_none : (p : Accounts) (n : ℕ) (m : Machine) (t : ℕ) (a : Actor) (d : Duty) (rest : List Duty)
-    → AtDuty p n m t a d rest → touches_freed m t (touched_row (address_of m.rows t a.head d)) ≡ false
-touches_none p n m t a (RetainLoad zero h) rest here = ap (is_freed_for t) here.core.none_lives
-touches_none p n m t a (RetainLoad (suc x) h) rest here =
-    alive_free m t (suc x) (alive_backed p n m t (suc x) here.core (omega arith)
-    (head_of p n m t a (RetainLoad (suc x) h) rest here))
+    → AtDuty p n m t a d rest → touches_freed m t (touched_row (address_of m.layout t a.head d)) ≡ false
+touches_none p n m t a (RetainLoad x h) rest here =
+    elim (cases_Bool (is_immortal_row m.layout x)) [
+      | inl immortal ↦ ap (is_freed_for t) (here.core.immortals_live x immortal)
+      | inr counted ↦
+          alive_free m t x (alive_backed p n m t x here.core counted (head_of p n m t a (RetainLoad x h) rest here))
+    ]
 touches_none p n m t a (RetainStore x h w) rest here =
     let fits = head_of p n m t a (RetainStore x h w) rest here in
     alive_free m t x (alive_backed p n m t x here.core fits.0 fits.1)
 touches_none p n m t a (RetainAdd x h) rest here =
     let fits = head_of p n m t a (RetainAdd x h) rest here in
     alive_free m t x (alive_backed p n m t x here.core fits.0 fits.1)
-touches_none p n m t a (ReleaseLoad zero h) rest here = ap (is_freed_for t) here.core.none_lives
-touches_none p n m t a (ReleaseLoad (suc x) h) rest here =
-    alive_free m t (suc x) (given_alive p n m t a (ReleaseLoad (suc x) h) rest h (suc x) here (omega arith)
-    (holder_same h (suc x)) refl)
+touches_none p n m t a (ReleaseLoad x h) rest here =
+    elim (cases_Bool (is_immortal_row m.layout x)) [
+      | inl immortal ↦ ap (is_freed_for t) (here.core.immortals_live x immortal)
+      | inr counted ↦
+          alive_free m t x (given_alive p n m t a (ReleaseLoad x h) rest h x here counted (holder_same h x) refl)
+    ]
 touches_none p n m t a (ReleaseStore x w) rest here =
     alive_free m t x (given_alive p n m t a (ReleaseStore x w) rest InFlight x here
     (head_of p n m t a (ReleaseStore x w) rest here).0 (holder_same InFlight x) refl)
@@ -146,26 +135,23 @@ touches_none p n m t a (BirthLocal x h) rest here =
 touches_none p n m t a (SettleEnd x) rest here = dying_free m t x (head_of p n m t a (SettleEnd x) rest here).1
 touches_none p n m t a _ rest here = refl
 
--- ---- the moves are allowed
+-- ---- moves of references
 
-one_allowed : (p : AbstractState) (mv : Move) → is_allowed p mv ≡ true → are_allowed p (mv ∷ []) ≡ true
-one_allowed p mv e = ap (λ (b : Bool). b && true) e
-
-if_allowed : (p : AbstractState) (b : Bool) (mvs : List Move) → (b ≡ true → are_allowed p mvs ≡ true)
-    → are_allowed p (cond b mvs []) ≡ true
-if_allowed p true mvs e = e refl
-if_allowed p false mvs e = refl
+one_allowed : (layout : Layout) (p : AbstractState) (mv : Move) → is_allowed layout p mv ≡ true
+    → are_allowed layout p (mv ∷ []) ≡ true
+one_allowed layout p mv e = ap (λ (b : Bool). b && true) e
 
 or_true : (a : Bool) → (a || true) ≡ true
 or_true true = refl
 or_true false = refl
 
-backed_gain : (m : Machine) (t x : ℕ) (h : Holding) → IsBacked m t x → are_allowed m.abstract (gain t h x) ≡ true
+backed_gain : (m : Machine) (t x : ℕ) (h : Holding) → IsBacked m t x
+    → are_allowed m.layout m.abstract (gain t h x) ≡ true
 backed_gain m t x h backed =
     let some : 0 < references_to x m.abstract.references =
     omega (arith, backed.held_so, held-le-references_to (reference_of t backed.by x) m.abstract.references) in
-    one_allowed m.abstract (Gain (reference_of t h x))
-    (ap (λ (b : Bool). (x == none_row) || b) (lt-ltb 0 _ some) ∙ or_true (x == none_row))
+    one_allowed m.layout m.abstract (Gain (reference_of t h x))
+    (ap (λ (b : Bool). is_immortal_row m.layout x || b) (lt-ltb 0 _ some) ∙ or_true (is_immortal_row m.layout x))
 
 given_in_bag : (p : Accounts) (n : ℕ) (m : Machine) (t : ℕ) (a : Actor) (d : Duty) (rest : List Duty) (k : Holding)
     (x : ℕ)
@@ -181,28 +167,33 @@ mortal_row m x alive = ne_eqb (local_part (m.memory (Local x))) immortal_local (
   | InMerged s ↦ λ e. absurd (omega (arith, s.local, e))
 ])
 
--- the holder's reference is handed on, and the object isn't immortal
-put_in_flight_allowed : (p : AbstractState) (t x : ℕ) (h : Holding) → list_any (same (reference_of t h x)) p.references ≡ true
-    → are_allowed p (put_in_flight t h x ++ []) ≡ true
-put_in_flight_allowed p t x (ByVariable v) has =
-    one_allowed p (PassOn (reference_of t (ByVariable v) x) (ByThread t InFlight)) has
-put_in_flight_allowed p t x AsCaller has = one_allowed p (PassOn (reference_of t AsCaller x) (ByThread t InFlight)) has
-put_in_flight_allowed p t x InFlight has = refl
+-- If the bag has a reference, putting it in flight is allowed.
+put_in_flight_allowed : (layout : Layout) (p : AbstractState) (t x : ℕ) (h : Holding)
+    → list_any (same (reference_of t h x)) p.references ≡ true
+    → are_allowed layout p (put_in_flight t h x ++ []) ≡ true
+put_in_flight_allowed layout p t x (ByVariable v) has =
+    one_allowed layout p (PassOn (reference_of t (ByVariable v) x) (ByThread t InFlight)) has
+put_in_flight_allowed layout p t x AsCaller has =
+    one_allowed layout p (PassOn (reference_of t AsCaller x) (ByThread t InFlight)) has
+put_in_flight_allowed layout p t x InFlight has = refl
 
--- and lost from the hand at once, where the object isn't counted
-both_allowed : (p : AbstractState) (t x : ℕ) (h : Holding) → list_any (same (reference_of t h x)) p.references ≡ true
-    → are_allowed p (PassOn (reference_of t h x) (ByThread t InFlight) ∷ lose t x) ≡ true
-both_allowed p t x h has =
+-- If the bag has a reference, putting it in flight and losing it at once is allowed.
+both_allowed : (layout : Layout) (p : AbstractState) (t x : ℕ) (h : Holding)
+    → list_any (same (reference_of t h x)) p.references ≡ true
+    → are_allowed layout p (PassOn (reference_of t h x) (ByThread t InFlight) ∷ lose t x) ≡ true
+both_allowed layout p t x h has =
     let r = reference_of t InFlight x in
-    ap (λ (b : Bool). b && are_allowed (move p (PassOn (reference_of t h x) (ByThread t InFlight))) (lose t x)) has
-    ∙ one_allowed (move p (PassOn (reference_of t h x) (ByThread t InFlight))) (Lose r)
+    ap (λ (b : Bool). b && are_allowed layout (move p (PassOn (reference_of t h x) (ByThread t InFlight)))
+    (lose t x)) has
+    ∙ one_allowed layout (move p (PassOn (reference_of t h x) (ByThread t InFlight))) (Lose r)
     (ap (λ (b : Bool). b || list_any (same r) (without (reference_of t h x) p.references)) (same-refl r))
 
-let_go_allowed : (p : AbstractState) (t x : ℕ) (h : Holding) → list_any (same (reference_of t h x)) p.references ≡ true
-    → are_allowed p (put_in_flight t h x ++ lose t x) ≡ true
-let_go_allowed p t x (ByVariable v) has = both_allowed p t x (ByVariable v) has
-let_go_allowed p t x AsCaller has = both_allowed p t x AsCaller has
-let_go_allowed p t x InFlight has = one_allowed p (Lose (reference_of t InFlight x)) has
+let_go_allowed : (layout : Layout) (p : AbstractState) (t x : ℕ) (h : Holding)
+    → list_any (same (reference_of t h x)) p.references ≡ true
+    → are_allowed layout p (put_in_flight t h x ++ lose t x) ≡ true
+let_go_allowed layout p t x (ByVariable v) has = both_allowed layout p t x (ByVariable v) has
+let_go_allowed layout p t x AsCaller has = both_allowed layout p t x AsCaller has
+let_go_allowed layout p t x InFlight has = one_allowed layout p (Lose (reference_of t InFlight x)) has
 
 dying_is_not_live : (m : Machine) (t x : ℕ) → m.life x ≡ Dying t → (m.life x ≡ Live → ⊥)
 dying_is_not_live m t x dying e = let wrong : Dying t ≡ Live = sym dying ∙ e in cc
@@ -210,63 +201,68 @@ dying_is_not_live m t x dying e = let wrong : Dying t ≡ Live = sym dying ∙ e
 dying_is_not_unborn : (m : Machine) (t x : ℕ) → m.life x ≡ Dying t → (m.life x ≡ Unborn → ⊥)
 dying_is_not_unborn m t x dying e = let wrong : Dying t ≡ Unborn = sym dying ∙ e in cc
 
--- a dying row has no reference, its cells hold none, and it wasn't closed
-finalise_allowed : (p : Accounts) (n : ℕ) (m : Machine) (t x : ℕ) → CoreInvariant p n m → 0 < x → m.life x ≡ Dying t
-    → are_allowed m.abstract (Finalise x ∷ []) ≡ true
+-- Finalising a dying row is allowed: it has no reference, its cells hold none, and it wasn't closed before.
+finalise_allowed : (p : Accounts) (n : ℕ) (m : Machine) (t x : ℕ) → CoreInvariant p n m → IsCounted m.layout x
+    → m.life x ≡ Dying t
+    → are_allowed m.layout m.abstract (Finalise x ∷ []) ≡ true
 finalise_allowed p n m t x core pos dying =
     let free = is_free_of p n m x core pos (dying_is_not_live m t x dying) (dying_is_not_unborn m t x dying) in
-    let counted : is_counted x ≡ true = lt-ltb 0 x pos in
+    let counted : is_counted m.layout x ≡ true = ap not pos in
     let none : (references_to x m.abstract.references == 0) ≡ true = eq-eqb _ _ free.references in
     let open_still : is_among x m.abstract.closed ≡ false =
     elim (is_among x m.abstract.closed) as (λ b. is_among x m.abstract.closed ≡ b → b ≡ false) [
       | true ↦ λ e. absurd (let wrong : Dying t ≡ Closed = sym dying ∙ core.closed_is x e in cc)
       | false ↦ λ e. refl
     ] refl in
-    let empty : holds_by_cells x m.abstract.references ≡ false = no_cell_holds x m.abstract.references (core.cells_hold x) in
-    one_allowed m.abstract (Finalise x) (rw (counted, none, open_still, empty) refl)
+    let empty : holds_by_cells x m.abstract.references ≡ false =
+    no_cell_holds x m.abstract.references (core.cells_hold x) in
+    one_allowed m.layout m.abstract (Finalise x) (rw (counted, none, open_still, empty) refl)
 
--- what is born now wasn't born before
+-- The birth of the next row is allowed: the row wasn't born before, and its kind is counted.
 birth_allowed : (p : Accounts) (n : ℕ) (m : Machine) (t : ℕ) (a : Actor) (x : ℕ) (h : Holding) (kind : Kind)
     → CoreInvariant p n m → slice_get m.actors t ≡ Some a → IsNext m t a x
-    → is_counted_kind kind ≡ true → are_allowed m.abstract (birth t h x kind) ≡ true
+    → is_counted_kind kind ≡ true → are_allowed m.layout m.abstract (birth t h x kind) ≡ true
 birth_allowed p n m t a x h kind core found next counts =
-    let above = next_above m t a x next in
-    let counted : is_counted x ≡ true = lt-ltb 0 x (omega (arith, above)) in
+    let counted : is_counted m.layout x ≡ true = ap not (next_counted m t a x next) in
     let new : is_among x m.abstract.born ≡ false =
     elim (is_among x m.abstract.born) as (λ b. is_among x m.abstract.born ≡ b → b ≡ false) [
       | true ↦ λ e. absurd ((core.born_is x e).1 (next_unborn p n m t a x core found next))
       | false ↦ λ e. refl
     ] refl in
-    one_allowed m.abstract (Born (reference_of t h x) kind) (rw (counted, counts, new) refl)
+    one_allowed m.layout m.abstract (Born (reference_of t h x) kind) (rw (counted, counts, new) refl)
 
 moves_allowed : (p : Accounts) (n : ℕ) (m : Machine) (t : ℕ) (a : Actor) (d : Duty) (rest : List Duty)
     → AtDuty p n m t a d rest
-    → are_allowed m.abstract (reference_effects m.memory t d (m.memory (address_of m.rows t a.head d))) ≡ true
+    → are_allowed m.layout m.abstract
+    (reference_effects m.memory t d (m.memory (address_of m.layout t a.head d))) ≡ true
 moves_allowed p n m t a (RetainLoad x h) rest here =
-    if_allowed m.abstract (is_immortal_word (m.memory (Local x))) (gain t h x)
-    (λ e. backed_gain m t x h (head_of p n m t a (RetainLoad x h) rest here))
+    either (λ mvs. are_allowed m.layout m.abstract mvs ≡ true) (is_immortal_word (m.memory (Local x))) (gain t h x) []
+    (λ e. backed_gain m t x h (head_of p n m t a (RetainLoad x h) rest here)) refl
 moves_allowed p n m t a (RetainStore x h w) rest here =
     backed_gain m t x h (head_of p n m t a (RetainStore x h w) rest here).1
 moves_allowed p n m t a (RetainAdd x h) rest here = backed_gain m t x h (head_of p n m t a (RetainAdd x h) rest here).1
-moves_allowed p n m t a (ReleaseLoad zero h) rest here =
-    ap (λ (b : Bool). are_allowed m.abstract (put_in_flight t h 0 ++ cond b (lose t 0) [])) (none_immortal p n m here.core)
-    ∙ let_go_allowed m.abstract t 0 h (given_in_bag p n m t a (ReleaseLoad 0 h) rest h 0 here (holder_same h 0) refl)
-moves_allowed p n m t a (ReleaseLoad (suc x) h) rest here =
-    let alive =
-    given_alive p n m t a (ReleaseLoad (suc x) h) rest h (suc x) here (omega arith) (holder_same h (suc x)) refl in
-    ap (λ (b : Bool). are_allowed m.abstract (put_in_flight t h (suc x) ++ cond b (lose t (suc x)) []))
-    (mortal_row m (suc x) alive)
-    ∙ put_in_flight_allowed m.abstract t (suc x) h
-    (given_in_bag p n m t a (ReleaseLoad (suc x) h) rest h (suc x) here (holder_same h (suc x)) refl)
+moves_allowed p n m t a (ReleaseLoad x h) rest here =
+    let has = given_in_bag p n m t a (ReleaseLoad x h) rest h x here (holder_same h x) refl in
+    elim (cases_Bool (is_immortal_row m.layout x)) [
+      | inl immortal ↦
+          ap (λ (b : Bool). are_allowed m.layout m.abstract (put_in_flight t h x ++ cond b (lose t x) []))
+          (immortal_row p n m x here.core immortal)
+          ∙ let_go_allowed m.layout m.abstract t x h has
+      | inr counted ↦
+          let alive = given_alive p n m t a (ReleaseLoad x h) rest h x here counted (holder_same h x) refl in
+          ap (λ (b : Bool). are_allowed m.layout m.abstract (put_in_flight t h x ++ cond b (lose t x) []))
+          (mortal_row m x alive)
+          ∙ put_in_flight_allowed m.layout m.abstract t x h has
+    ]
 moves_allowed p n m t a (ReleaseStore x w) rest here =
-    one_allowed m.abstract (Lose (reference_of t InFlight x))
+    one_allowed m.layout m.abstract (Lose (reference_of t InFlight x))
     (given_in_bag p n m t a (ReleaseStore x w) rest InFlight x here (holder_same InFlight x) refl)
 moves_allowed p n m t a (SharedExchange x Own w) rest here =
-    if_allowed m.abstract _ (lose t x)
-    (λ e. one_allowed m.abstract (Lose (reference_of t InFlight x))
-    (given_in_bag p n m t a (SharedExchange x Own w) rest InFlight x here (holder_same InFlight x) refl))
+    either (λ mvs. are_allowed m.layout m.abstract mvs ≡ true) _ (lose t x) []
+    (λ e. one_allowed m.layout m.abstract (Lose (reference_of t InFlight x))
+    (given_in_bag p n m t a (SharedExchange x Own w) rest InFlight x here (holder_same InFlight x) refl)) refl
 moves_allowed p n m t a (SettleCell x i k) rest here =
-    ap (λ (w : ℕ). are_allowed m.abstract (take_out t x i w)) (here.core.cells x i)
+    ap (λ (w : ℕ). are_allowed m.layout m.abstract (take_out t x i w)) (here.core.cells x i)
 moves_allowed p n m t a (SettleEnd x) rest here =
     let fits = head_of p n m t a (SettleEnd x) rest here in finalise_allowed p n m t x here.core fits.0 fits.1
 moves_allowed p n m t a (BirthLocal x h) rest here =
@@ -277,5 +273,6 @@ moves_allowed p n m t a _ rest here = refl
 pub duty_not_bad : (p : Accounts) (n : ℕ) (m : Machine) (t : ℕ) (a : Actor) (d : Duty) (rest : List Duty)
     → AtDuty p n m t a d rest → is_bad_duty m t a d ≡ false
 duty_not_bad p n m t a d rest here =
-    ap (λ (b : Bool). b || not (are_allowed m.abstract (reference_effects m.memory t d (m.memory (address_of m.rows t a.head d)))))
+    ap (λ (b : Bool). b || not
+    (are_allowed m.layout m.abstract (reference_effects m.memory t d (m.memory (address_of m.layout t a.head d)))))
     (touches_none p n m t a d rest here) ∙ ap not (moves_allowed p n m t a d rest here)

@@ -1,6 +1,6 @@
--- The same work, elsewhere: a thread puts the duty at hand aside, or takes one back that it has put aside. Nothing else
--- changes, so the invariant holds as before.
-use Rattle.std.proofs.Common.{◌≡◌, ◌≢◌, ℕ, ◌+◌, true, false, cond, List, [], ◌∷◌, ◌++◌, inr, Some, refl, sym, ap, ◌∙◌, subst, arith}
+-- A thread puts its only duty aside, or takes back a duty that it has put aside. Nothing else changes, and the
+-- invariant holds as before.
+use Rattle.std.proofs.Common.{◌≡◌, ℕ, ◌+◌, true, false, cond, List, [], ◌∷◌, ◌++◌, inr, Some, refl, sym, ap, ◌∙◌, subst, arith}
 use Rattle.std.specs.Prelude.{slice_get, count_by, sum_by}
 use Rattle.std.proofs.lemmas.Bool.{false≢true}
 use Rattle.std.proofs.lemmas.List.Sums.{sum_by-cons, sum_by-append}
@@ -9,49 +9,47 @@ use Rattle.brc_model.specs.declared.duty.Duty.{Duty}
 use Rattle.brc_model.specs.declared.duty.Duty.TheVariants.{Die, Settle, SettleKind, SettleCell, TakeSlot, CloseResource, SettleEnd, Leave, Scan, Finish, BirthKind, BirthSlot, BirthLocal}
 use Rattle.brc_model.specs.declared.actor.Status.{Status}
 use Rattle.brc_model.specs.declared.actor.Status.TheVariants.{Running, Leaving, Gone}
-use Rattle.brc_model.specs.declared.actor.Place.{Place}
-use Rattle.brc_model.specs.declared.actor.Place.TheVariants.{Exiting}
 use Rattle.brc_model.specs.Machine.{Actor, Machine, with_actor}
 use Rattle.brc_model.specs.References.{one_if}
 use Rattle.brc_model.specs.RowInvariant.{waits, carries, merges, decides, agenda_weight}
 use Rattle.brc_model.specs.Accounts.{Accounts, extra, lacks, extra_of, lacks_of, extra_aside, lacks_aside}
 use Rattle.brc_model.specs.Knowledge.{HeadFits, HeadOf}
-use Rattle.brc_model.specs.OpenWork.{Later, Agenda, AgendaFits, is_about, about_of, is_finalising, finalised_now, scans, may_wait, is_piece, AllWait, AsideFits, IsSettled}
+use Rattle.brc_model.specs.OpenWork.{Later, Agenda, AgendaFits, has_leave, exits, is_about, about_of, is_finalising, finalised_now, scans, may_wait, is_piece, AllWait, AsideFits, IsSettled}
 use Rattle.brc_model.specs.Invariant.{looks, kind_stored, slot_stored, BlankFits, CoreInvariant, Invariant}
 use Rattle.brc_model.proofs.Basics.Lists.{written_actor}
-use Rattle.brc_model.proofs.Frame.Beside.{LeavesBeside, known_beside}
+use Rattle.brc_model.proofs.Frame.Known.{LeavesRow, known_kept}
 use Rattle.brc_model.proofs.Keeping.Replaced.{with_account, with_account_itself, replaced_core}
 
--- the thread with other not_departing work
+-- The thread with another agenda and other duties put aside.
 abbrev pub working : Actor → List Duty → List Duty → Actor
 working a agenda aside =
     record {
-      function = a.function;
-      place = a.place;
       status = a.status;
       agenda = agenda;
       aside = aside;
       head = a.head;
       used = a.used;
+      locked = a.locked;
+      lent = a.lent;
     }
 
 -- ---- a duty that may wait
 
-waiting_later : (rows t used : ℕ) (status : Status) (place : Place) (d : Duty) → may_wait d ≡ true
-    → Agenda rows t used status place (d ∷ []) → Later rows t used status place []
-waiting_later rows t used status place Settle waits fits = absurd cc
-waiting_later rows t used status place (Leave x n) waits fits = absurd cc
-waiting_later rows t used status place (Scan x n) waits fits = absurd cc
-waiting_later rows t used status place Finish waits fits = absurd cc
-waiting_later rows t used status place _ waits fits = fits
+waiting_later : (used : ℕ) (status : Status) (d : Duty) → may_wait d ≡ true
+    → Agenda used status (d ∷ []) → Later used status []
+waiting_later used status Settle waits fits = absurd cc
+waiting_later used status (Leave x n) waits fits = absurd cc
+waiting_later used status (Scan x n) waits fits = absurd cc
+waiting_later used status Finish waits fits = absurd cc
+waiting_later used status _ waits fits = fits
 
-later_waiting : (rows t used : ℕ) (status : Status) (place : Place) (d : Duty) → may_wait d ≡ true
-    → Later rows t used status place [] → Agenda rows t used status place (d ∷ [])
-later_waiting rows t used status place Settle waits fits = absurd cc
-later_waiting rows t used status place (Leave x n) waits fits = absurd cc
-later_waiting rows t used status place (Scan x n) waits fits = absurd cc
-later_waiting rows t used status place Finish waits fits = absurd cc
-later_waiting rows t used status place _ waits fits = fits
+later_waiting : (used : ℕ) (status : Status) (d : Duty) → may_wait d ≡ true
+    → Later used status [] → Agenda used status (d ∷ [])
+later_waiting used status Settle waits fits = absurd cc
+later_waiting used status (Leave x n) waits fits = absurd cc
+later_waiting used status (Scan x n) waits fits = absurd cc
+later_waiting used status Finish waits fits = absurd cc
+later_waiting used status _ waits fits = fits
 
 waiting_hand : (d : Duty) (x : ℕ) → may_wait d ≡ true → is_finalising d x ≡ false
 waiting_hand (Die y) x waits = absurd cc
@@ -86,16 +84,16 @@ waiting_stores (BirthSlot y h) x waits = absurd cc
 waiting_stores (BirthLocal y h) x waits = absurd cc
 waiting_stores _ x waits = (refl, refl)
 
--- ---- what the others know stays
+-- ---- what the other duties know
 
--- what a thread that only rearranges its work leaves to each of its duties: everything
+-- Rearranging its work leaves everything unchanged that a thread's duties rely on.
 all_left : (m : Machine) (t : ℕ) (a : Actor) (agenda aside : List Duty) (x : ℕ)
-    → LeavesBeside m (with_actor m t (working a agenda aside)) t a (working a agenda aside) x
+    → LeavesRow m (with_actor m t (working a agenda aside)) t a (working a agenda aside) x
 all_left m t a agenda aside x = record {
-  rows = refl;
+  layout = refl;
   status = refl;
-  local = refl;
-  shared = refl;
+  local = λ owns. refl;
+  merged = λ was. was;
   references = λ k. refl;
   stopped = λ u was. was;
 }
@@ -104,7 +102,7 @@ still_known : (m : Machine) (t : ℕ) (a : Actor) (agenda aside : List Duty) (d 
     → HeadFits m t a d []
     → HeadFits (with_actor m t (working a agenda aside)) t (working a agenda aside) d []
 still_known m t a agenda aside d waits knows =
-    known_beside m (with_actor m t (working a agenda aside)) t a (working a agenda aside) d waits
+    known_kept m (with_actor m t (working a agenda aside)) t a (working a agenda aside) d [] waits
     (λ x about. all_left m t a agenda aside x) knows
 
 still_wait : (m : Machine) (t : ℕ) (a : Actor) (agenda aside ds : List Duty) → AllWait m t a ds
@@ -113,11 +111,13 @@ still_wait m t a agenda aside [] waits = tt
 still_wait m t a agenda aside (d ∷ ds) waits =
     (waits.0, still_known m t a agenda aside d waits.0 waits.1, still_wait m t a agenda aside ds waits.2)
 
--- ---- both ways
+-- ---- both directions
 
--- Work is arranged otherwise: each weight, and whatever else is counted, is what it was.
+-- What rearranged work has to show: each weight is what it was before, and so is what the work makes and gives up; and
+-- the new agenda fits.
 pub record Rearranges (m : Machine) (t : ℕ) (a : Actor) (agenda aside : List Duty) : Type 0 where
-  pub stays : (a.place ≢ Exiting) × (a.status ≡ Running)
+  pub running : a.status ≡ Running
+  pub stays : has_leave agenda ≡ false
   pub weighs : (f : Duty → ℕ) → sum_by f agenda + sum_by f aside ≡ agenda_weight f a
   pub lacks_same : (k : Holding) (x : ℕ) → one_if (lacks_of agenda k x) + lacks_aside aside k x
       ≡ one_if (lacks_of a.agenda k x) + lacks_aside a.aside k x
@@ -125,9 +125,9 @@ pub record Rearranges (m : Machine) (t : ℕ) (a : Actor) (agenda aside : List D
       ≡ one_if (extra_of a.agenda k x) + extra_aside a.aside k x
   pub hands : (x : ℕ) → finalised_now agenda x ≡ finalised_now a.agenda x
   pub knows : HeadOf (with_actor m t (working a agenda aside)) t (working a agenda aside) agenda
-  pub fits : Agenda m.rows t a.used Running a.place agenda
+  pub fits : Agenda a.used Running agenda
   pub others : AsideFits (with_actor m t (working a agenda aside)) t (working a agenda aside)
-  pub blanks : BlankFits m.rows m.memory t a.used agenda
+  pub blanks : BlankFits m.layout m.memory t a.used agenda
   pub scans_on : (x : ℕ) → scans x a.agenda ≡ true → scans x agenda ≡ true
   pub settled : IsSettled a.head agenda
 
@@ -146,17 +146,20 @@ rearranged p n m t a agenda aside kept found new =
             each = λ k x. omega (arith, old.holds.each k x, new.lacks_same k x, new.extra_same k x);
           };
           bounded = old.bounded;
-          exited = λ e. absurd (new.stays.0 e);
+          exited = λ e. absurd (false≢true (sym (ap (λ (s : Status). exits s agenda) new.running ∙ new.stays) ∙ e));
           head_fits = new.knows;
           chain = record {
             chained = old.chain.chained;
             linked = old.chain.linked;
             once = λ x.
-                let hand : one_if (finalised_now agenda x) ≡ one_if (finalised_now a.agenda x) = ap one_if (new.hands x) in
+                let hand : one_if (finalised_now agenda x) ≡ one_if (finalised_now a.agenda x) =
+                ap one_if (new.hands x) in
                 omega (arith, old.chain.once x, hand);
           };
+          unlocked = old.unlocked;
+          unlent = old.unlent;
         },
-        subst (λ (s : Status). AgendaFits m.rows t b s) (sym new.stays.1) new.fits,
+        subst (λ (s : Status). AgendaFits b s) (sym new.running) new.fits,
         new.others,
       );
       used = refl;
@@ -177,26 +180,27 @@ rearranged p n m t a agenda aside kept found new =
 
 -- ---- a duty is put aside
 
-alone_stays : (rows t : ℕ) (a : Actor) (status : Status) (d : Duty) → may_wait d ≡ true → a.agenda ≡ d ∷ []
-    → AgendaFits rows t a status → (a.place ≢ Exiting) × (status ≡ Running)
-alone_stays rows t a Gone d waits is fits = absurd (let wrong : [] ≡ d ∷ [] = sym fits.0 ∙ is in cc)
-alone_stays rows t a Running d waits is fits =
-    waiting_later rows t a.used Running a.place d waits (subst (Agenda rows t a.used Running a.place) is fits)
-alone_stays rows t a Leaving d waits is fits =
-    waiting_later rows t a.used Leaving a.place d waits (subst (Agenda rows t a.used Leaving a.place) is fits)
+alone_stays : (a : Actor) (status : Status) (d : Duty) → may_wait d ≡ true → a.agenda ≡ d ∷ []
+    → AgendaFits a status → status ≡ Running
+alone_stays a Gone d waits is fits = absurd (let wrong : [] ≡ d ∷ [] = sym fits.0 ∙ is in cc)
+alone_stays a Running d waits is fits =
+    waiting_later a.used Running d waits (subst (Agenda a.used Running) is fits)
+alone_stays a Leaving d waits is fits =
+    waiting_later a.used Leaving d waits (subst (Agenda a.used Leaving) is fits)
 
--- A thread puts the only duty of its agenda aside, where that may wait.
+-- A thread puts the only duty of its agenda aside, if that duty may wait.
 pub put_aside : (p : Accounts) (n : ℕ) (m : Machine) (t : ℕ) (a : Actor) (d : Duty) → Invariant p n m
     → slice_get m.actors t ≡ Some a → a.agenda ≡ d ∷ [] → may_wait d ≡ true
     → Invariant p n (with_actor m t (working a [] (d ∷ a.aside)))
 put_aside p n m t a d kept found is waits =
     let fits = kept.core.each t a found in
-    let stays = alone_stays m.rows t a a.status d waits is fits.1 in
+    let running = alone_stays a a.status d waits is fits.1 in
     let knows : HeadFits m t a d [] = subst (HeadOf m t a) is fits.0.head_fits in
-    let blanks : BlankFits m.rows m.memory t a.used (d ∷ []) =
-    subst (BlankFits m.rows m.memory t a.used) is (kept.core.blanks t a found) in
+    let blanks : BlankFits m.layout m.memory t a.used (d ∷ []) =
+    subst (BlankFits m.layout m.memory t a.used) is (kept.core.blanks t a found) in
     rearranged p n m t a [] (d ∷ a.aside) kept found (record {
-      stays = stays;
+      running = running;
+      stays = refl;
       weighs = λ f.
           let old : sum_by f a.agenda ≡ sum_by f (d ∷ []) = ap (sum_by f) is in
           omega (arith, old, sum_by-cons f d [], sum_by-cons f d a.aside);
@@ -210,7 +214,7 @@ put_aside p n m t a d kept found is waits =
           omega (arith, old, sum_by-cons (λ (e : Duty). cond (extra e k x) 1 0) d a.aside);
       hands = λ x. sym (ap (λ (l : List Duty). finalised_now l x) is ∙ waiting_hand d x waits);
       knows = tt;
-      fits = (stays.0, refl);
+      fits = refl;
       others = record {
         waits = (
           waits,
@@ -244,7 +248,7 @@ sum_split f before after d =
       sum_by-cons f d after,
     )
 
--- the duty that is taken back, and those that stay aside
+-- The duty that the thread takes back may wait and knows what it needs, and so do the duties that stay aside.
 record Split (m : Machine) (t : ℕ) (a : Actor) (d : Duty) (others : List Duty) : Type 0 where
   waits : may_wait d ≡ true
   knows : HeadFits m t a d []
@@ -258,13 +262,17 @@ split_off m t a (e ∷ before) after d all =
     let rest = split_off m t a before after d all.2 in
     record { waits = rest.waits; knows = rest.knows; stay = (all.0, all.1, rest.stay) }
 
-idle_stays : (rows t : ℕ) (a : Actor) (status : Status) → (a.place ≡ Exiting → ⊥) → a.agenda ≡ []
-    → AgendaFits rows t a status → (a.place ≢ Exiting) × (status ≡ Running)
-idle_stays rows t a Gone not_exiting none fits = absurd (not_exiting fits.1)
-idle_stays rows t a Running not_exiting none fits = subst (Agenda rows t a.used Running a.place) none fits
-idle_stays rows t a Leaving not_exiting none fits = subst (Agenda rows t a.used Leaving a.place) none fits
+waiting_leave : (d : Duty) → may_wait d ≡ true → has_leave (d ∷ []) ≡ false
+waiting_leave (Leave x n) waits = absurd cc
+waiting_leave _ waits = refl
 
--- A thread with nothing at hand takes one of the duties back that it has put aside.
+-- A thread whose exit isn't under way is running.
+stays_running : (status : Status) (agenda : List Duty) → (exits status agenda ≡ true → ⊥) → status ≡ Running
+stays_running Running agenda stays = refl
+stays_running Leaving agenda stays = absurd (stays refl)
+stays_running Gone agenda stays = absurd (stays refl)
+
+-- A thread with an empty agenda takes back a duty that it has put aside.
 pub take_back : (p : Accounts) (n : ℕ) (m : Machine) (t : ℕ) (a : Actor) (before after : List Duty) (d : Duty)
     → Invariant p n m → slice_get m.actors t ≡ Some a → a.agenda ≡ [] → a.aside ≡ before ++ d ∷ after
     → Invariant p n (with_actor m t (working a (d ∷ []) (before ++ after)))
@@ -274,13 +282,14 @@ take_back p n m t a before after d kept found none is =
     let it = split_off m t a before after d (subst (AllWait m t a) is fits.2.waits) in
     let one : sum_by (λ (e : Duty). 1) a.aside ≡ 1 + sum_by (λ (e : Duty). 1) others =
     ap (sum_by (λ (e : Duty). 1)) is ∙ sum_split (λ (e : Duty). 1) before after d in
-    let not_exiting : a.place ≡ Exiting
+    let stays : exits a.status a.agenda ≡ true
     → ⊥ = λ e.
     let empty : sum_by (λ (e : Duty). 1) a.aside ≡ 0 = ap (sum_by (λ (e : Duty). 1)) (fits.0.exited e).1 in
     absurd (omega (arith, empty, one)) in
-    let stays = idle_stays m.rows t a a.status not_exiting none fits.1 in
+    let running = stays_running a.status a.agenda stays in
     rearranged p n m t a (d ∷ []) others kept found (record {
-      stays = stays;
+      running = running;
+      stays = waiting_leave d it.waits;
       weighs = λ f.
           let old : sum_by f a.agenda ≡ 0 = ap (sum_by f) none in
           let all : sum_by f a.aside ≡ f d + sum_by f others = ap (sum_by f) is ∙ sum_split f before after d in
@@ -299,7 +308,7 @@ take_back p n m t a before after d kept found none is =
           omega (arith, old, all);
       hands = λ x. waiting_hand d x it.waits ∙ sym (ap (λ (l : List Duty). finalised_now l x) none);
       knows = still_known m t a (d ∷ []) others d it.waits it.knows;
-      fits = later_waiting m.rows t a.used Running a.place d it.waits (stays.0, refl);
+      fits = later_waiting a.used Running d it.waits refl;
       others = record {
         waits = still_wait m t a (d ∷ []) others others it.stay;
         apart = λ x.
@@ -309,7 +318,7 @@ take_back p n m t a before after d kept found none is =
         pieces = inr (waiting_piece d it.waits);
       };
       blanks =
-          let old = subst (BlankFits m.rows m.memory t a.used) none (kept.core.blanks t a found) in
+          let old = subst (BlankFits m.layout m.memory t a.used) none (kept.core.blanks t a found) in
           record {
             kinds = λ x block past stored. old.kinds x block past refl;
             slots = λ x block past stored. old.slots x block past refl;

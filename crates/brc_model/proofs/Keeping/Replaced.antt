@@ -1,5 +1,5 @@
--- One thread has other work, or the same work elsewhere, and another account: where its duties weigh what they weighed,
--- the rule holds as before. Memory, references and lives are as they were.
+-- A thread with new work, another place or another account: if its duties weigh what they weighed before, the core
+-- invariant still holds. Memory, references and lives are unchanged.
 use Rattle.std.proofs.Common.{◌≡◌, ◌≢◌, ℕ, Bool, true, cond, List, inl, inr, Some, refl, sym, ap, ◌∙◌, subst, arith}
 use Rattle.std.specs.Prelude.{◌==◌, slice_get, slice_set}
 use Rattle.std.proofs.lemmas.Bool.{eq-eqb, ne_eqb}
@@ -8,7 +8,6 @@ use Rattle.std.proofs.lemmas.Bool.Decides.{eqb_tells}
 use Rattle.std.proofs.lemmas.List.{length-set}
 use Rattle.std.proofs.lemmas.Option.{slice_get_within}
 use Rattle.brc_model.specs.declared.duty.Duty.{Duty}
-use Rattle.brc_model.specs.Duties.{block_of}
 use Rattle.brc_model.specs.Machine.{Actor, Machine, with_actor}
 use Rattle.brc_model.proofs.Basics.Lists.{some_is, slice_get-set_same, slice_get-set_other, written_actor}
 use Rattle.brc_model.proofs.Objects.Weights.{weight-set}
@@ -17,8 +16,9 @@ use Rattle.brc_model.specs.Accounts.{Account, Accounts}
 use Rattle.brc_model.specs.Invariant.{numbers_of, Fits, looks, IsWatched, ByRunning, ByExit, ByLook, CoreInvariant, UsesFit, BlankFits}
 use Rattle.brc_model.specs.OpenWork.{scans}
 use Rattle.brc_model.proofs.Frame.Others.{LeavesOthers, each_fits}
+use Rattle.brc_model.specs.Layout.{block_of, index_of}
 
--- the accounts with one thread's replaced
+-- The accounts, with the account of one thread replaced.
 abbrev pub with_account : Accounts → ℕ → Account → Accounts
 with_account p t account u = cond (u == t) account (p u)
 
@@ -40,11 +40,11 @@ with_account_itself p t =
       | inr apart ↦ sym (with_account_other p t (p t) u apart.1)
     ])
 
--- What one thread's new state has to show.
+-- What the new state of one thread has to show.
 pub record Replaces (m : Machine) (t : ℕ) (a b : Actor) (account : Account) : Type 0 where
   pub fits : Fits account (with_actor m t b) t b
   pub used : b.used ≡ a.used
-  pub blanks : BlankFits m.rows m.memory t b.used b.agenda
+  pub blanks : BlankFits m.layout m.memory t b.used b.agenda
   pub waits : (x : ℕ) → agenda_weight (waits x) b ≡ agenda_weight (waits x) a
   pub carries : (x : ℕ) → agenda_weight (carries x) b ≡ agenda_weight (carries x) a
   pub merges : (x : ℕ) → agenda_weight (merges x) b ≡ agenda_weight (merges x) a
@@ -78,21 +78,23 @@ still_watched : (m : Machine) (t : ℕ) (a b : Actor) (account : Account) (x : �
     → Replaces m t a b account → IsWatched m x → IsWatched (with_actor m t b) x
 still_watched m t a b account x found new (ByRunning one) = ByRunning one
 still_watched m t a b account x found new (ByExit c is scanned) =
-    elim (eqb_tells (block_of m.rows x) t) [
+    elim (eqb_tells (block_of m.layout x) t) [
       | inl same ↦
           let this : c ≡ a = some_is c a (sym is ∙ ap (slice_get m.actors) same.1 ∙ found) in
-          let there : slice_get (slice_set m.actors t b) (block_of m.rows x) ≡ Some b =
+          let there : slice_get (slice_set m.actors t b) (block_of m.layout x) ≡ Some b =
           ap (slice_get (slice_set m.actors t b)) same.1
           ∙ slice_get-set_same m.actors t b (slice_get_within m.actors t a found) in
-          ByExit b there (new.scans x (sym (ap (λ (q : Actor). scans x q.agenda) this) ∙ scanned))
-      | inr apart ↦ ByExit c (slice_get-set_other m.actors t (block_of m.rows x) b apart.1 ∙ is) scanned
+          ByExit b there
+          (new.scans (index_of m.layout (block_of m.layout x) x)
+          (sym (ap (λ (q : Actor). scans (index_of m.layout (block_of m.layout x) x) q.agenda) this) ∙ scanned))
+      | inr apart ↦ ByExit c (slice_get-set_other m.actors t (block_of m.layout x) b apart.1 ∙ is) scanned
     ]
 still_watched m t a b account x found new (ByLook some) =
     ByLook (omega (arith, some, same_weight (looks x) m.actors t a b found (new.looks x)))
 
 nothing_changes : (m : Machine) (t : ℕ) (b : Actor) → LeavesOthers m (with_actor m t b) t
 nothing_changes m t b = record {
-  rows = refl;
+  layout = refl;
   bag = λ u k object ne. refl;
   locals = λ u x c ne found owns. refl;
   merged = λ x was. was;
@@ -111,8 +113,11 @@ replaced_core p n m t a b account core found new = record {
   some_rows = core.some_rows;
   few_threads = core.few_threads;
   few_rows = core.few_rows;
+  workers = core.workers;
+  few_cells = core.few_cells;
+  few_immortals = core.few_immortals;
   rows =
-      λ x pos. subst (λ (k : Numbers). RowInvariant (block_of m.rows x) (m.life x) k)
+      λ x pos. subst (λ (k : Numbers). RowInvariant (block_of m.layout x) (m.life x) k)
       (same_numbers m t a b account x found new) (core.rows x pos);
   marks = λ x. elim (core.marks x) [
     | inl none ↦ inl none
@@ -127,14 +132,13 @@ replaced_core p n m t a b account core found new = record {
   dying = core.dying;
   cells = core.cells;
   uses =
-      λ u c is. written_actor (λ w q. UsesFit m.rows m.life w q.used) m.actors t a b found
-      (subst (UsesFit m.rows m.life t) (sym new.used) (core.uses t a found)) core.uses u c is;
+      λ u c is. written_actor (λ w q. UsesFit m.layout m.life w q.used) m.actors t a b found
+      (subst (UsesFit m.layout m.life t) (sym new.used) (core.uses t a found)) core.uses u c is;
   blanks =
-      λ u c is. written_actor (λ w q. BlankFits m.rows m.memory w q.used q.agenda) m.actors t a b found new.blanks
+      λ u c is. written_actor (λ w q. BlankFits m.layout m.memory w q.used q.agenda) m.actors t a b found new.blanks
       core.blanks u c is;
-  no_block = core.no_block;
   cells_hold = core.cells_hold;
-  none_lives = core.none_lives;
+  immortals_live = core.immortals_live;
   born_is = core.born_is;
   born_has = core.born_has;
   born_once = core.born_once;
@@ -142,5 +146,5 @@ replaced_core p n m t a b account core found new = record {
   closed_has = core.closed_has;
   once = core.once;
   kinds = core.kinds;
-  none_word = core.none_word;
+  immortal_words = core.immortal_words;
 }

@@ -1,4 +1,4 @@
--- A thread at rest stands elsewhere, and some of its references move: the moves are allowed, and the rule holds
+-- A silent step: a thread at rest moves some of its references. The moves are allowed, and the core invariant holds
 -- afterwards.
 use Rattle.std.proofs.Common.{◌≡◌, ◌≢◌, ℕ, ◌<◌, Bool, true, false, List, [], inl, inr, refl, sym, ap, ◌∙◌, subst, arith, ◌≤◌}
 use Rattle.std.specs.Prelude.{count_by, ◌==◌, ◌&&◌, slice_get, slice_set, AllPairs}
@@ -6,12 +6,9 @@ use Rattle.std.proofs.lemmas.Bool.{ne_eqb, false≢true}
 use Rattle.std.proofs.lemmas.Bool.Decides.{eqb_tells}
 use Rattle.std.proofs.lemmas.List.{length-set}
 use Rattle.std.proofs.lemmas.Option.{slice_get_within}
-use Rattle.brc_model.specs.AbstractState.{none_row, Holder, ByThread, Reference, AbstractState, same, without, references_to, Move, are_allowed, moved, is_among}
+use Rattle.brc_model.specs.AbstractState.{Holder, ByThread, Reference, AbstractState, same, without, references_to, Move, are_allowed, moved, is_among}
 use Rattle.brc_model.specs.declared.duty.Duty.{Duty}
-use Rattle.brc_model.specs.Duties.{block_of}
 use Rattle.brc_model.specs.declared.actor.Status.{Status}
-use Rattle.brc_model.specs.declared.actor.Place.{Place}
-use Rattle.brc_model.specs.declared.actor.Place.TheVariants.{Exiting}
 use Rattle.brc_model.specs.Machine.{Actor, Machine, with_actor, with_moves}
 use Rattle.brc_model.proofs.Basics.Lists.{some_is, written_actor, slice_get-set_other}
 use Rattle.brc_model.proofs.Basics.Bag.{references_to-cons, references_to-without, other_thread}
@@ -19,17 +16,20 @@ use Rattle.brc_model.specs.References.{one_if, cell_reference, reference_of}
 use Rattle.brc_model.specs.RowInvariant.{waits, carries, merges, decides, weight, Numbers, RowInvariant}
 use Rattle.brc_model.specs.Accounts.{Account, Accounts, HoldsAt, IsBounded}
 use Rattle.brc_model.specs.Invariant.{Fits, numbers_of, UsesFit, looks, IsWatched, ByRunning, ByExit, ByLook, CoreInvariant, BlankFits}
-use Rattle.brc_model.specs.OpenWork.{scans, AgendaFits, ChainFits}
+use Rattle.brc_model.specs.OpenWork.{exits, scans, AgendaFits, ChainFits}
 use Rattle.brc_model.proofs.Basics.MovesApart.{AreAside, IsNoWayOf, moved_aside}
 use Rattle.brc_model.proofs.Frame.Aside.{HoldsAlone, holds_alone, alone_fits}
 use Rattle.brc_lang.specs.declared.kind.Kind.{Kind}
 use Rattle.brc_model.specs.Kinds.{kind_number}
 use Rattle.brc_model.proofs.Frame.Others.{LeavesOthers, each_fits}
-use Rattle.brc_model.proofs.Dispatch.Begins.{SilentMoves, Stays, GainsNone, PassesOn, bag_after}
+use Rattle.brc_model.proofs.Keeping.SilentMoves.{SilentMoves, Stays, GainsNone, PassesOn, bag_after}
 use Rattle.brc_model.proofs.Keeping.Sits.{sitting, AtRest, rest_blanks, same_weight}
 use Rattle.brc_model.proofs.Keeping.Replaced.{with_account, with_account_same, with_account_other}
+use Rattle.brc_model.proofs.Basics.Blocks.{counted_above}
+use Rattle.brc_model.specs.declared.layout.Layout.{Layout}
+use Rattle.brc_model.specs.Layout.{none_row, block_of, index_of, IsCounted}
 
--- ---- the moves
+-- ---- moves of references
 
 pub silent_bag : (p : AbstractState) (t : ℕ) (moves : List Move) → SilentMoves p.references t moves
     → (moved p moves).references ≡ bag_after p.references moves
@@ -43,7 +43,8 @@ silent_closed p t [] Stays = refl
 silent_closed p t _ (GainsNone h) = refl
 silent_closed p t _ (PassesOn from to x has) = refl
 
-silent_born : (p : AbstractState) (t : ℕ) (moves : List Move) → SilentMoves p.references t moves → (moved p moves).born ≡ p.born
+silent_born : (p : AbstractState) (t : ℕ) (moves : List Move) → SilentMoves p.references t moves
+    → (moved p moves).born ≡ p.born
 silent_born p t [] Stays = refl
 silent_born p t _ (GainsNone h) = refl
 silent_born p t _ (PassesOn from to x has) = refl
@@ -54,13 +55,14 @@ silent_kinds p t [] Stays = refl
 silent_kinds p t _ (GainsNone h) = refl
 silent_kinds p t _ (PassesOn from to x has) = refl
 
-pub silent_allowed : (p : AbstractState) (t : ℕ) (moves : List Move) → SilentMoves p.references t moves
-    → are_allowed p moves ≡ true
-silent_allowed p t [] Stays = refl
-silent_allowed p t _ (GainsNone h) = refl
-silent_allowed p t _ (PassesOn from to x has) = ap (λ (b : Bool). b && true) has
+pub silent_allowed : (layout : Layout) (p : AbstractState) (t : ℕ) (moves : List Move)
+    → SilentMoves p.references t moves
+    → are_allowed layout p moves ≡ true
+silent_allowed layout p t [] Stays = refl
+silent_allowed layout p t _ (GainsNone h) = refl
+silent_allowed layout p t _ (PassesOn from to x has) = ap (λ (b : Bool). b && true) has
 
--- a counted object has as many references as before
+-- A silent step doesn't change how many references a counted object has.
 silent_references : (p : AbstractState) (t x : ℕ) (moves : List Move) → SilentMoves p.references t moves → 0 < x
     → references_to x p.references ≡ references_to x (moved p moves).references
 silent_references p t x [] Stays pos = refl
@@ -74,7 +76,7 @@ silent_references p t x _ (PassesOn from to y has) pos =
       references_to-without x (reference_of t from y) p.references has,
     )
 
--- and no other holder has a part in them
+-- A silent step changes no reference of another holder.
 silent_aside : (bag : List Reference) (h : Holder) (t : ℕ) (moves : List Move) → SilentMoves bag t moves → IsNoWayOf t h
     → AreAside h moves
 silent_aside bag h t [] Stays other = tt
@@ -83,22 +85,22 @@ silent_aside bag h t _ (PassesOn from to x has) other = ((other from, other to),
 
 -- ---- the machine afterwards
 
-abbrev pub silenced : Machine → ℕ → Actor → List Move → Place → Machine
-silenced m t a moves place = with_moves (with_actor m t (sitting a place [])) moves
+abbrev pub silenced : Machine → ℕ → Actor → List Move → Machine
+silenced m t a moves = with_moves (with_actor m t (sitting a [])) moves
 
-same_numbers : (p : Accounts) (n : ℕ) (m : Machine) (t : ℕ) (a : Actor) (moves : List Move) (place : Place) (x : ℕ)
-    → AtRest p n m t a → SilentMoves m.abstract.references t moves → 0 < x
-    → numbers_of m x ≡ numbers_of (silenced m t a moves place) x
-same_numbers p n m t a moves place x rest silent pos =
-    let r = silent_references m.abstract t x moves silent pos in
-    let w : weight (waits x) m.actors ≡ weight (waits x) (slice_set m.actors t (sitting a place [])) =
-    sym (same_weight (waits x) m.actors t a place [] rest.found rest.agenda refl) in
-    let c : weight (carries x) m.actors ≡ weight (carries x) (slice_set m.actors t (sitting a place [])) =
-    sym (same_weight (carries x) m.actors t a place [] rest.found rest.agenda refl) in
-    let g : weight (merges x) m.actors ≡ weight (merges x) (slice_set m.actors t (sitting a place [])) =
-    sym (same_weight (merges x) m.actors t a place [] rest.found rest.agenda refl) in
-    let d : weight (decides x) m.actors ≡ weight (decides x) (slice_set m.actors t (sitting a place [])) =
-    sym (same_weight (decides x) m.actors t a place [] rest.found rest.agenda refl) in
+same_numbers : (p : Accounts) (n : ℕ) (m : Machine) (t : ℕ) (a : Actor) (moves : List Move) (x : ℕ)
+    → AtRest p n m t a → SilentMoves m.abstract.references t moves → IsCounted m.layout x
+    → numbers_of m x ≡ numbers_of (silenced m t a moves) x
+same_numbers p n m t a moves x rest silent pos =
+    let r = silent_references m.abstract t x moves silent (counted_above m.layout x pos) in
+    let w : weight (waits x) m.actors ≡ weight (waits x) (slice_set m.actors t (sitting a [])) =
+    sym (same_weight (waits x) m.actors t a [] rest.found rest.agenda refl) in
+    let c : weight (carries x) m.actors ≡ weight (carries x) (slice_set m.actors t (sitting a [])) =
+    sym (same_weight (carries x) m.actors t a [] rest.found rest.agenda refl) in
+    let g : weight (merges x) m.actors ≡ weight (merges x) (slice_set m.actors t (sitting a [])) =
+    sym (same_weight (merges x) m.actors t a [] rest.found rest.agenda refl) in
+    let d : weight (decides x) m.actors ≡ weight (decides x) (slice_set m.actors t (sitting a [])) =
+    sym (same_weight (decides x) m.actors t a [] rest.found rest.agenda refl) in
     λ i. record {
       local = (numbers_of m x).local;
       shared = (numbers_of m x).shared;
@@ -110,25 +112,26 @@ same_numbers p n m t a moves place x rest silent pos =
       deciding = d i;
     }
 
-still_watched : (p : Accounts) (n : ℕ) (m : Machine) (t : ℕ) (a : Actor) (moves : List Move) (place : Place) (x : ℕ)
-    → AtRest p n m t a → IsWatched m x → IsWatched (silenced m t a moves place) x
-still_watched p n m t a moves place x rest (ByRunning one) = ByRunning one
-still_watched p n m t a moves place x rest (ByExit b found scanned) =
-    elim (eqb_tells (block_of m.rows x) t) [
+still_watched : (p : Accounts) (n : ℕ) (m : Machine) (t : ℕ) (a : Actor) (moves : List Move) (x : ℕ)
+    → AtRest p n m t a → IsWatched m x → IsWatched (silenced m t a moves) x
+still_watched p n m t a moves x rest (ByRunning one) = ByRunning one
+still_watched p n m t a moves x rest (ByExit b found scanned) =
+    elim (eqb_tells (block_of m.layout x) t) [
       | inl same ↦
           let this : b ≡ a = some_is b a (sym found ∙ ap (slice_get m.actors) same.1 ∙ rest.found) in
-          let none : scans x b.agenda ≡ false = ap (λ (c : Actor). scans x c.agenda) this ∙ ap (scans x) rest.agenda in
+          let i = index_of m.layout (block_of m.layout x) x in
+          let none : scans i b.agenda ≡ false = ap (λ (c : Actor). scans i c.agenda) this ∙ ap (scans i) rest.agenda in
           absurd (false≢true (sym none ∙ scanned))
       | inr apart ↦
-          ByExit b (slice_get-set_other m.actors t (block_of m.rows x) (sitting a place []) apart.1 ∙ found) scanned
+          ByExit b (slice_get-set_other m.actors t (block_of m.layout x) (sitting a []) apart.1 ∙ found) scanned
     ]
-still_watched p n m t a moves place x rest (ByLook some) =
-    ByLook (omega (arith, some, same_weight (looks x) m.actors t a place [] rest.found rest.agenda refl))
+still_watched p n m t a moves x rest (ByLook some) =
+    ByLook (omega (arith, some, same_weight (looks x) m.actors t a [] rest.found rest.agenda refl))
 
-leaves : (m : Machine) (t : ℕ) (a : Actor) (moves : List Move) (place : Place) → SilentMoves m.abstract.references t moves
-    → LeavesOthers m (silenced m t a moves place) t
-leaves m t a moves place silent = record {
-  rows = refl;
+leaves : (m : Machine) (t : ℕ) (a : Actor) (moves : List Move) → SilentMoves m.abstract.references t moves
+    → LeavesOthers m (silenced m t a moves) t
+leaves m t a moves silent = record {
+  layout = refl;
   bag =
       λ u k object ne. moved_aside m.abstract (reference_of u k object) moves
       (silent_aside m.abstract.references (ByThread u k) t moves silent (λ h. other_thread u t k h ne));
@@ -141,20 +144,19 @@ leaves m t a moves place silent = record {
   lives = λ u x ne. refl;
 }
 
--- what a thread has to show to take a quiet step
-pub record SilentSits (m : Machine) (t : ℕ) (a : Actor) (moves : List Move) (place : Place) (account : Account)
+-- What a thread has to show to take a silent step.
+pub record SilentSits (m : Machine) (t : ℕ) (a : Actor) (moves : List Move) (account : Account)
     : Type 0 where
   pub alone : a.aside ≡ []
   pub moves_fit : SilentMoves m.abstract.references t moves
   pub holds : HoldsAlone (bag_after m.abstract.references moves) t account []
   pub bounded : IsBounded account
-  pub stays : place ≢ Exiting
 
-thread_after_duty : (p : Accounts) (n : ℕ) (m : Machine) (t : ℕ) (a : Actor) (moves : List Move) (place : Place)
+thread_after_duty : (p : Accounts) (n : ℕ) (m : Machine) (t : ℕ) (a : Actor) (moves : List Move)
     (account : Account)
-    → AtRest p n m t a → SilentSits m t a moves place account
-    → Fits account (silenced m t a moves place) t (sitting a place [])
-thread_after_duty p n m t a moves place account rest taken =
+    → AtRest p n m t a → SilentSits m t a moves account
+    → Fits account (silenced m t a moves) t (sitting a [])
+thread_after_duty p n m t a moves account rest taken =
     let old = (rest.core.each t a rest.found).0 in
     let chain = subst (λ (l : List Duty). ChainFits m t a.head l) rest.agenda old.chain in (
       record {
@@ -164,42 +166,47 @@ thread_after_duty p n m t a moves place account rest taken =
             (sym (silent_bag m.abstract t moves taken.moves_fit))
             (holds_alone (bag_after m.abstract.references moves) t account [] a.aside taken.alone taken.holds);
         bounded = taken.bounded;
-        exited = λ e. absurd (taken.stays e);
+        exited = λ e. absurd (false≢true (sym (ap (λ (s : Status). exits s []) rest.running) ∙ e));
         head_fits = tt;
         chain = record { chained = chain.chained; linked = chain.linked; once = chain.once };
+        unlocked = old.unlocked;
+        unlent = old.unlent;
       },
-      subst (λ (s : Status). AgendaFits m.rows t (sitting a place []) s) (sym rest.running) (taken.stays, refl),
-      alone_fits (silenced m t a moves place) t (sitting a place []) taken.alone,
+      subst (λ (s : Status). AgendaFits (sitting a []) s) (sym rest.running) refl,
+      alone_fits (silenced m t a moves) t (sitting a []) taken.alone,
     )
 
--- A quiet step under its condition keeps the rule.
-pub silent_core : (p : Accounts) (n : ℕ) (m : Machine) (t : ℕ) (a : Actor) (moves : List Move) (place : Place)
+-- A silent step that meets its condition keeps the core invariant.
+pub silent_core : (p : Accounts) (n : ℕ) (m : Machine) (t : ℕ) (a : Actor) (moves : List Move)
     (account : Account)
-    → AtRest p n m t a → SilentSits m t a moves place account
-    → CoreInvariant (with_account p t account) n (silenced m t a moves place)
-silent_core p n m t a moves place account rest taken =
+    → AtRest p n m t a → SilentSits m t a moves account
+    → CoreInvariant (with_account p t account) n (silenced m t a moves)
+silent_core p n m t a moves account rest taken =
     let silent = taken.moves_fit in
     let within : t < n = omega (arith, slice_get_within m.actors t a rest.found, rest.core.threads) in
     let born = silent_born m.abstract t moves silent in
     let closed = silent_closed m.abstract t moves silent in
     record {
-      threads = length-set m.actors t (sitting a place []) ∙ rest.core.threads;
+      threads = length-set m.actors t (sitting a []) ∙ rest.core.threads;
       some_rows = rest.core.some_rows;
       few_threads = rest.core.few_threads;
       few_rows = rest.core.few_rows;
+      workers = rest.core.workers;
+      few_cells = rest.core.few_cells;
+      few_immortals = rest.core.few_immortals;
       rows =
-          λ x pos. subst (λ (k : Numbers). RowInvariant (block_of m.rows x) (m.life x) k)
-          (same_numbers p n m t a moves place x rest silent pos) (rest.core.rows x pos);
+          λ x pos. subst (λ (k : Numbers). RowInvariant (block_of m.layout x) (m.life x) k)
+          (same_numbers p n m t a moves x rest silent pos) (rest.core.rows x pos);
       marks = λ x. elim (rest.core.marks x) [
         | inl none ↦ inl none
-        | inr set ↦ inr (set.0, set.1, still_watched p n m t a moves place x rest set.2)
+        | inr set ↦ inr (set.0, set.1, still_watched p n m t a moves x rest set.2)
       ];
       each =
-          let now = sitting a place [] in
-          let own = thread_after_duty p n m t a moves place account rest taken in
-          each_fits p (with_account p t account) m (silenced m t a moves place) t a now rest.found
-          (leaves m t a moves place silent) (with_account_other p t account)
-          (subst (λ (c : Account). Fits c (silenced m t a moves place) t now) (with_account_same p t account) own)
+          let now = sitting a [] in
+          let own = thread_after_duty p n m t a moves account rest taken in
+          each_fits p (with_account p t account) m (silenced m t a moves) t a now rest.found
+          (leaves m t a moves silent) (with_account_other p t account)
+          (subst (λ (c : Account). Fits c (silenced m t a moves) t now) (with_account_same p t account) own)
           rest.core.each;
       beyond = λ u past k object.
           moved_aside m.abstract (reference_of u k object) moves
@@ -214,13 +221,13 @@ silent_core p n m t a moves place account rest taken =
           (silent_aside m.abstract.references (cell_reference x i object).holder t moves silent (λ h. refl))
           ∙ rest.core.cells_hold x i object;
       uses =
-          λ u b is. written_actor (λ w c. UsesFit m.rows m.life w c.used) m.actors t a (sitting a place []) rest.found
+          λ u b is. written_actor (λ w c. UsesFit m.layout m.life w c.used) m.actors t a (sitting a []) rest.found
           (rest.core.uses t a rest.found) rest.core.uses u b is;
       blanks =
-          λ u b is. written_actor (λ w c. BlankFits m.rows m.memory w c.used c.agenda) m.actors t a (sitting a place [])
+          λ u b is. written_actor (λ w c. BlankFits m.layout m.memory w c.used c.agenda) m.actors t a
+          (sitting a [])
           rest.found (rest_blanks p n m t a [] rest) rest.core.blanks u b is;
-      no_block = rest.core.no_block;
-      none_lives = rest.core.none_lives;
+      immortals_live = rest.core.immortals_live;
       born_is = λ x is. rest.core.born_is x (sym (ap (is_among x) born) ∙ is);
       born_has = λ x above is. ap (is_among x) born ∙ rest.core.born_has x above is;
       born_once = subst (λ (l : List ℕ). (x : ℕ) → count_by (λ y. y == x) l ≤ 1) (sym born) rest.core.born_once;
@@ -228,6 +235,7 @@ silent_core p n m t a moves place account rest taken =
       closed_has = λ x is. ap (is_among x) closed ∙ rest.core.closed_has x is;
       once = subst (λ (l : List ℕ). AllPairs (λ x y. x ≢ y) l) (sym closed) rest.core.once;
       kinds = λ x born.
-          rest.core.kinds x born ∙ ap (λ (k : ℕ → Kind). kind_number (k x)) (sym (silent_kinds m.abstract t moves silent));
-      none_word = rest.core.none_word;
+          rest.core.kinds x born ∙ ap (λ (k : ℕ → Kind). kind_number (k x))
+          (sym (silent_kinds m.abstract t moves silent));
+      immortal_words = rest.core.immortal_words;
     }

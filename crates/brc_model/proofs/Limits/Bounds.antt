@@ -1,6 +1,6 @@
--- The words that a duty finds at a row: a shared word has few counts more than its bias, and suits what is done with
--- it.
-use Rattle.std.proofs.Common.{◌≡◌, ◌≢◌, ℕ, ◌+◌, ◌*◌, ◌≤◌, Bool, true, List, refl, ap, ◌∙◌, arith, zero, suc}
+-- Bounds of the words that a duty finds at a row: a shared count stays near its bias, and the word suits what the duty
+-- does with it.
+use Rattle.std.proofs.Common.{◌≡◌, ◌≢◌, ℕ, ◌+◌, ◌*◌, ◌≤◌, Bool, true, List, refl, ap, ◌∙◌, arith, inl, inr}
 use Rattle.std.specs.Prelude.{◌==◌, ◌&&◌}
 use Rattle.std.proofs.lemmas.Bool.{eq-eqb}
 use Rattle.brc_word.specs.Words.{owner_part, local_part, biased_part, phase_part, bias}
@@ -8,7 +8,7 @@ use Rattle.brc_model.specs.declared.duty.Holding.{Holding}
 use Rattle.brc_model.specs.declared.duty.Duty.{Duty}
 use Rattle.brc_model.specs.declared.duty.Duty.TheVariants.{RetainStore, RetainAdd, ReleaseLoad, ReleaseStore, SharedExchange, MergeExchange, SettleCell}
 use Rattle.brc_model.specs.declared.address.Address.TheVariants.{Local, Shared}
-use Rattle.brc_model.specs.Duties.{address_of, block_of, counts_locally}
+use Rattle.brc_model.specs.Duties.{address_of, counts_locally}
 use Rattle.brc_model.specs.declared.actor.Status.TheVariants.{Gone}
 use Rattle.brc_model.specs.Machine.{Actor, Machine, is_running}
 use Rattle.brc_model.specs.Within.{Suits}
@@ -23,8 +23,10 @@ use Rattle.brc_model.proofs.Stepping.Releases.{release_alive}
 use Rattle.brc_model.proofs.Work.MergesOnce.{carried_is}
 use Rattle.brc_model.proofs.Limits.FewHeld.{most_each, references_few}
 use Rattle.brc_model.specs.Limits.{thread_limit}
+use Rattle.std.proofs.lemmas.Bool.{cases_Bool}
+use Rattle.brc_model.specs.Layout.{block_of, is_immortal_row}
 
--- ---- a live row's shared word
+-- ---- the shared word of a live row
 
 phased_few : (k : Numbers) → Phased k → (k.mark + k.waiting ≤ 1) × (phase_part k.shared ≢ 1)
 phased_few k (IsDefault phase none above) = (omega (arith, none), λ e. absurd (omega (arith, phase, e)))
@@ -38,39 +40,41 @@ live_few owner k live =
       | InMerged g ↦ (g.awaits, λ e. absurd (omega (arith, g.phase, e)))
     ]
 
--- few references are counted, so the count is near the bias
+-- A live row has few references, so its biased shared count is near the bias.
 record NearBias (m : Machine) (x : ℕ) : Type 0 where
   high : biased_part (m.memory (Shared x)) + weight (carries x) m.actors ≤ bias + thread_limit * most_each + 1
   some : 1 ≤ biased_part (m.memory (Shared x))
   state : phase_part (m.memory (Shared x)) ≢ 1
 
-near_bias : (p : Accounts) (n : ℕ) (m : Machine) (x : ℕ) → CoreInvariant p n m → n ≤ thread_limit → Alive m x → NearBias m x
+near_bias : (p : Accounts) (n : ℕ) (m : Machine) (x : ℕ) → CoreInvariant p n m → n ≤ thread_limit → Alive m x
+    → NearBias m x
 near_bias p n m x core few alive =
-    let says = live_few (block_of m.rows x) (numbers_of m x) alive.live in
+    let says = live_few (block_of m.layout x) (numbers_of m x) alive.live in
     record {
       high = omega (arith, alive.live.sum, says.0, references_few p n m x core, few);
-      some = shared_range (block_of m.rows x) (numbers_of m x) alive.live;
+      some = shared_range (block_of m.layout x) (numbers_of m x) alive.live;
       state = says.1;
     }
 
--- ---- what a duty finds
+-- ---- the word that a duty finds
 
 release_suits : (p : Accounts) (n : ℕ) (m : Machine) (t : ℕ) (a : Actor) (x : ℕ) (h : Holding) (rest : List Duty)
     → AtDuty p n m t a (ReleaseLoad x h) rest → (a.status ≡ Gone → ⊥)
     → is_running a.status ≡ true → owner_part (m.memory (Local x)) ≡ t + 1 → 1 ≤ local_part (m.memory (Local x))
-release_suits p n m t a zero h rest here alive runs owner = omega (arith, here.core.none_word)
-release_suits p n m t a (suc y) h rest here alive runs owner =
-    let x = suc y in
-    let living = release_alive p n m t a x h rest (omega arith) here in
-    let counts : counts_locally t (is_running a.status) (m.memory (Local x)) ≡ true =
-    ap (λ (b : Bool). b && (owner_part (m.memory (Local x)) == t + 1)) runs
-    ∙ eq-eqb (owner_part (m.memory (Local x))) (t + 1) owner in
-    count_above p n m t x a here.core here.found (counts_owner m t a x counts living)
-    (weight_here p n m t x a (ReleaseLoad x h) rest here (eq-eqb x x refl) refl) living
+release_suits p n m t a x h rest here alive runs owner = elim (cases_Bool (is_immortal_row m.layout x)) [
+  | inl immortal ↦ omega (arith, here.core.immortal_words x immortal)
+  | inr counted ↦
+      let living = release_alive p n m t a x h rest counted here in
+      let counts : counts_locally t (is_running a.status) (m.memory (Local x)) ≡ true =
+      ap (λ (b : Bool). b && (owner_part (m.memory (Local x)) == t + 1)) runs
+      ∙ eq-eqb (owner_part (m.memory (Local x))) (t + 1) owner in
+      count_above p n m t x a here.core here.found (counts_owner m t a x counts living)
+      (weight_here p n m t x a (ReleaseLoad x h) rest here (eq-eqb x x refl) refl) living
+]
 
 pub duty_suits : (p : Accounts) (n : ℕ) (m : Machine) (t : ℕ) (a : Actor) (d : Duty) (rest : List Duty) (count : ℕ)
     → AtDuty p n m t a d rest → (a.status ≡ Gone → ⊥) → n ≤ thread_limit
-    → Suits t (is_running a.status) count d (m.memory (address_of m.rows t a.head d))
+    → Suits t (is_running a.status) count d (m.memory (address_of m.layout t a.head d))
 duty_suits p n m t a (RetainStore x h w) rest count here alive few =
     let (pos, backed, owns, same, some, low) = head_of p n m t a (RetainStore x h w) rest here in low
 duty_suits p n m t a (RetainAdd x h) rest count here alive few =

@@ -1,4 +1,4 @@
--- A thread holds an object in at most nineteen ways, and in each within a bound: so an object has few references.
+-- A thread holds an object in at most nineteen ways, and in each way within a bound, so an object has few references.
 use Rattle.std.proofs.Common.{◌≡◌, ℕ, zero, suc, ◌+◌, ◌*◌, ◌<◌, ◌≤◌, Bool, true, false, cond, List, [], ◌∷◌, Option, Some, inl, inr, refl, sym, ap, ◌∙◌, subst, arith}
 use Rattle.std.specs.Prelude.{◌==◌, ◌||◌, if◌then◌else◌, slice_get, sum_by, count_by}
 use Rattle.std.specs.List.{list_any}
@@ -21,7 +21,7 @@ use Rattle.brc_model.specs.Invariant.{CoreInvariant}
 use Rattle.brc_model.proofs.Basics.Lists.{and_first}
 use Rattle.brc_model.proofs.Frame.Aside.{extra_about, extra_counted}
 
--- ---- a list that all references to an object are among
+-- ---- counting references by a list of keys
 
 record Covers (keys bag : List Reference) (x : ℕ) : Type 0 where
   each : (r : Reference) → r.object ≡ x → 0 < held r bag → list_any (same r) keys ≡ true
@@ -34,7 +34,7 @@ or_first : (a b : Bool) → a ≡ true → (a || b) ≡ true
 or_first true b e = refl
 or_first false b e = absurd cc
 
--- one reference more, and each key counts it if it is the same
+-- With one reference more in the bag, the keys count one more for each key that is the same reference.
 sum_more : (keys bag : List Reference) (q : Reference)
     → sum_by (λ (k : Reference). held k (q ∷ bag)) keys ≡ sum_by (λ (k : Reference). one_if (same k q)) keys
     + sum_by (λ (k : Reference). held k bag) keys
@@ -80,7 +80,8 @@ covered keys (q ∷ bag) x covers =
           omega (arith, references_to-cons x q bag, sum_more keys bag q, rest, none)
     ]
 
--- how often a reference may be held: twice in all, and as the caller as often as it may be lent
+-- A bound on how often one reference is in the bag: as the caller, the most that a thread may lend and one; in any
+-- other way, two. The one more is a reference that a duty is just giving up.
 abbrev most_by : Holder → ℕ
 most_by (ByThread t AsCaller) = most_lent + 1
 most_by (ByThread t (ByVariable v)) = 2
@@ -98,18 +99,20 @@ sum_below f g (k ∷ keys) below =
 
 -- ---- the ways to hold an object
 
--- by each variable below a number, before other ways
+-- References by the variables below a number, in front of a list.
 abbrev variables_of : ℕ → ℕ → ℕ → List Reference → List Reference
 variables_of t x zero tail = tail
 variables_of t x (suc v) tail = reference_of t (ByVariable v) x ∷ variables_of t x v tail
 
--- for each thread: one way of its own, in the hand, as the caller, and by the sixteen variables
+-- The references to an object that the threads below a number can have: one way of each thread's own, in flight, as the
+-- caller, and by the sixteen variables.
 abbrev ways : (ℕ → Holding) → ℕ → ℕ → List Reference
 ways own x zero = []
 ways own x (suc t) =
-    reference_of t (own t) x ∷ reference_of t InFlight x ∷ reference_of t AsCaller x ∷ variables_of t x 16 (ways own x t)
+    reference_of t (own t) x ∷ reference_of t InFlight x ∷ reference_of t AsCaller x ∷ variables_of t x 16
+    (ways own x t)
 
--- as often as one thread may hold an object in all
+-- The most references to one object that one thread may have.
 abbrev pub most_each : ℕ
 most_each = 2 * most_lent + 36
 
@@ -217,9 +220,9 @@ among_all own r x t (suc n) low e =
           among_later own r x n (among_all own r x t n below e)
     ]
 
--- ---- what the rule says of one thread
+-- ---- the references of one thread
 
--- who holds an object by a variable does so by one of the sixteen
+-- A thread that holds an object by a variable holds it by one of the sixteen.
 account_low : (account : Account) (h : Holding) (object : ℕ) → IsBounded account → 0 < account h object → is_low h
 account_low account (ByVariable v) object bounded some = elim (cases_lt v 16) [
   | inl lt ↦ lt
@@ -234,7 +237,7 @@ account_most account t (ByVariable v) object bounded = omega (arith, bounded.by_
 account_most account t AsCaller object bounded = omega (arith, bounded.lent object)
 account_most account t InFlight object bounded = omega (arith, bounded.in_flight object)
 
--- how a thread holds what a duty gives up
+-- How the thread holds the reference that a duty gives up.
 abbrev given_by : Duty → Holding
 given_by (ReleaseLoad x h) = h
 given_by _ = InFlight
@@ -246,7 +249,8 @@ extra_given (SharedLoad x Own) k object e = sym (same_holding-true InFlight k (a
 extra_given (SharedExchange x Own w) k object e = sym (same_holding-true InFlight k (and_first _ _ e))
 extra_given _ k object e = absurd cc
 
--- what the one duty about the object gives up
+-- How the thread holds the reference that the first duty about the object gives up. It is in flight if there is no such
+-- duty.
 abbrev given_in : ℕ → List Duty → Holding
 given_in x [] = InFlight
 given_in x (d ∷ rest) = if is_about x d then given_by d else given_in x rest
@@ -274,7 +278,7 @@ given_as x (d ∷ rest) k few some =
           given_as x rest k (omega (arith, about, few)) (omega (arith, given, some, none, extra_about d k x))
     ] refl
 
--- the duty at hand, and those that are put aside
+-- The first duty of an agenda, and the duties put aside.
 abbrev opened : List Duty → List Duty → List Duty
 opened [] aside = aside
 opened (d ∷ rest) aside = d ∷ aside
@@ -348,6 +352,7 @@ held_way p n m (ByThread t k) object core some =
 
 -- ---- all references to an object
 
+-- An object has at most `most_each` references for each thread.
 pub references_few : (p : Accounts) (n : ℕ) (m : Machine) (x : ℕ) → CoreInvariant p n m
     → references_to x m.abstract.references ≤ most_each * n
 references_few p n m x core =

@@ -1,48 +1,61 @@
--- Each event keeps what threads' duties are about small.
+-- Each event keeps the rows and cells of threads' duties in range.
 use Rattle.std.proofs.Common.{◌≡◌, ℕ, zero, suc, ◌+◌, ◌≤◌, List, [], ◌∷◌, length, Option, None, Some, refl, subst, arith}
-use Rattle.std.specs.Prelude.{slice_get, map}
+use Rattle.std.specs.Prelude.{slice_get}
 use Rattle.brc_lang.specs.declared.module.Module.{Module}
 use Rattle.brc_model.specs.declared.thread.Call.{Call}
 use Rattle.brc_model.specs.declared.thread.Choice.{Choice}
 use Rattle.brc_model.specs.declared.address.Address.TheVariants.{KindOf}
 use Rattle.brc_model.specs.Duties.{cells_of}
-use Rattle.brc_model.specs.Machine.{Actor, Machine, Action, Skip, Stuck, Silent, Does, action_of, of_thread, at_place, machine_by, next_machine, machine_after, main_actor, worker_actor, first_machine, first_memory}
-use Rattle.brc_model.proofs.Basics.Lists.{some_is, slice_get-map, written_actor}
+use Rattle.brc_model.specs.Machine.{Actor, idle_actor}
+use Rattle.brc_model.proofs.Basics.Lists.{some_is, written_actor}
+use Rattle.brc_model.specs.Actions.{StepActor, Action, Skip, Stuck, Silent, Does, action_of}
+use Rattle.brc_model.specs.StepMachine.{StepMachine, counting, of_thread, machine_by, next_machine, machine_after, first_layout, first_machine, first_memory}
+use Rattle.brc_model.proofs.Keeping.FirstMachine.{first_actors, worker_found}
+use Rattle.brc_model.proofs.Dispatch.Counting.{its_found, counting_silent, counting_done}
 use Rattle.brc_model.proofs.Keeping.CodeInvariant.{CodeInvariant}
 use Rattle.brc_model.proofs.Dispatch.Actions.{ActionFits, action_fits}
 use Rattle.brc_model.proofs.Keeping.CodeEvents.{event_keeps}
-use Rattle.brc_model.proofs.Limits.Ranges.{limit, AreSmall, head_small, Ranges, duty_ranges}
+use Rattle.brc_model.proofs.Limits.Ranges.{AreSmall, head_small, Ranges, duty_ranges}
 use Rattle.brc_model.specs.Limits.{cell_limit}
+use Rattle.brc_model.specs.Layout.{row_count}
 
-action_ranges : (p : Module) (n : ℕ) (m : Machine) (t : ℕ) (a : Actor) (x : Action) → (whole : CodeInvariant p n m)
-    → Ranges n m → slice_get m.actors t ≡ Some a → ActionFits p whole.accounts n m t a x
-    → Ranges n (machine_by m t a x)
+action_ranges : (p : Module) (n : ℕ) (m : StepMachine) (t : ℕ) (a : StepActor) (x : Action)
+    → (whole : CodeInvariant p n m)
+    → Ranges n (counting m) → slice_get m.actors t ≡ Some a → ActionFits p whole.accounts n m t a x
+    → Ranges n (counting (machine_by m t a x))
 action_ranges p n m t a Skip whole ranges found fits = ranges
 action_ranges p n m t a Stuck whole ranges found fits = ranges
-action_ranges p n m t a (Silent moves place) whole ranges found fits = record {
-  kinds = ranges.kinds;
-  each =
-      written_actor (λ u c. AreSmall (limit n m) c.agenda) m.actors t a (at_place a place) found
-      (ranges.each t a found) ranges.each;
-}
+action_ranges p n m t a (Silent moves place) whole ranges found fits =
+    let there = its_found m t a found in
+    subst (Ranges n) (counting_silent m t a moves place) (record {
+      kinds = ranges.kinds;
+      each =
+          written_actor (λ u c. AreSmall (row_count m.layout) c.agenda) (counting m).actors t a.actor a.actor there
+          (ranges.each t a.actor there) ranges.each;
+    })
 action_ranges p n m t a (Does d rest place) whole ranges found fits =
-    duty_ranges whole.accounts n m t a (at_place a place) d rest whole.kept.core ranges found
-    (head_small whole.accounts n m t a whole.kept.core found) (fits.small (ranges.each t a found))
+    let there = its_found m t a found in
+    let core = whole.kept.core in
+    subst (Ranges n) (counting_done m t a d rest place)
+    (duty_ranges whole.accounts n (counting m) t a.actor a.actor d rest core ranges there
+    (head_small whole.accounts n (counting m) t a.actor core there) (fits.small (ranges.each t a.actor there)))
 
-thread_ranges : (p : Module) (n : ℕ) (m : Machine) (t : ℕ) (choice : Choice) (o : Option Actor) → CodeInvariant p n m
-    → Ranges n m → slice_get m.actors t ≡ o
-    → Ranges n (of_thread m (λ a. machine_by m t a (action_of m.functions m.rows t a choice)) o)
+thread_ranges : (p : Module) (n : ℕ) (m : StepMachine) (t : ℕ) (choice : Choice) (o : Option StepActor)
+    → CodeInvariant p n m
+    → Ranges n (counting m) → slice_get m.actors t ≡ o
+    → Ranges n (counting (of_thread m (λ a. machine_by m t a (action_of m.functions m.layout t a choice)) o))
 thread_ranges p n m t choice None whole ranges found = ranges
 thread_ranges p n m t choice (Some a) whole ranges found =
-    action_ranges p n m t a (action_of m.functions m.rows t a choice) whole ranges found
+    action_ranges p n m t a (action_of m.functions m.layout t a choice) whole ranges found
     (action_fits p n m t a choice whole found)
 
--- both invariants, of each machine that steps lead to
-pub record Bounded (p : Module) (n : ℕ) (m : Machine) : Type 0 where
+-- Both invariants hold: that of accepted code, and the ranges.
+pub record Bounded (p : Module) (n : ℕ) (m : StepMachine) : Type 0 where
   pub whole : CodeInvariant p n m
-  pub ranges : Ranges n m
+  pub ranges : Ranges n (counting m)
 
-pub bounded_after : (p : Module) (n : ℕ) (m : Machine) (events : List (ℕ × Choice)) → Bounded p n m
+-- Every list of events keeps both invariants.
+pub bounded_after : (p : Module) (n : ℕ) (m : StepMachine) (events : List (ℕ × Choice)) → Bounded p n m
     → Bounded p n (machine_after m events)
 bounded_after p n m [] bounded = bounded
 bounded_after p n m (e ∷ events) bounded = bounded_after p n (next_machine m e) events (record {
@@ -58,14 +71,16 @@ first_kinds workers (suc zero) = omega arith
 first_kinds workers (suc (suc x)) = omega arith
 
 first_small : (k : ℕ) (calls : List Call) (t : ℕ) (a : Actor)
-    → slice_get (main_actor ∷ map worker_actor calls) t ≡ Some a → AreSmall k a.agenda
-first_small k calls zero a is = subst (λ (b : Actor). AreSmall k b.agenda) (some_is main_actor a is) tt
+    → slice_get (first_actors calls) t ≡ Some a → AreSmall k a.agenda
+first_small k calls zero a is = subst (λ (b : Actor). AreSmall k b.agenda) (some_is (idle_actor 2) a is) tt
 first_small k calls (suc t) a is =
-    let call = slice_get-map worker_actor calls t a is in subst (λ (b : Actor). AreSmall k b.agenda) call.is_image tt
+    let call = worker_found calls t a is in subst (λ (b : Actor). AreSmall k b.agenda) call.is_image tt
 
-pub first_ranges : (m : Module) (rows : ℕ) (calls : List Call) → Ranges (1 + length calls) (first_machine m rows calls)
+-- The duties and kind words of the first machine are in range.
+pub first_ranges : (m : Module) (rows : ℕ) (calls : List Call)
+    → Ranges (1 + length calls) (counting (first_machine m rows calls))
 first_ranges m rows calls =
     record {
       kinds = first_kinds (length calls);
-      each = first_small (limit (1 + length calls) (first_machine m rows calls)) calls;
+      each = first_small (row_count (first_layout rows calls)) calls;
     }

@@ -1,16 +1,21 @@
--- Each step of a world that steps lead to asks for words that are there, and finds words that suit its duty.
-use Rattle.std.proofs.Common.{◌≡◌, ℕ, zero, suc, ◌+◌, ◌-◌, ◌*◌, ◌<◌, ◌≤◌, List, ◌∷◌, length, Some, refl, sym, ap, ◌∙◌, subst, arith}
+-- Each step of a reachable world names words that exist, and finds words that suit its duty.
+use Rattle.std.proofs.Common.{◌≡◌, ℕ, ◌+◌, ◌<◌, ◌≤◌, List, ◌∷◌, length, Some, refl, sym, ap, ◌∙◌, subst, arith}
 use Rattle.std.specs.Prelude.{slice_get}
-use Rattle.std.proofs.lemmas.List.{length-set}
+use Rattle.std.proofs.lemmas.List.{length-map}
+use Rattle.std.proofs.lemmas.Bool.{eq-eqb}
 use Rattle.std.proofs.lemmas.Option.{slice_get_within}
 use Rattle.brc_lang.specs.declared.module.Module.{Module}
 use Rattle.brc_model.specs.declared.duty.Duty.{Duty}
-use Rattle.brc_model.specs.declared.duty.Duty.TheVariants.{RetainLoad, RetainStore, RetainAdd, ReleaseLoad, ReleaseStore, DecideAtZero, SharedLoad, SharedExchange, SetMark, Look, TakeMark, MergeSwap, MergeLoad, MergeExchange, Die, Settle, SettleKind, SettleCell, TakeSlot, CloseResource, SettleEnd, Leave, Scan, Finish, ClaimMark, BirthKind, BirthSlot, BirthLocal}
+use Rattle.brc_model.specs.declared.duty.Duty.TheVariants.{Look, Settle, SettleCell, Leave, Scan, Finish}
 use Rattle.brc_model.specs.declared.actor.Status.TheVariants.{Gone}
 use Rattle.brc_model.specs.declared.actor.Place.{Place}
 use Rattle.brc_model.specs.Duties.{address_of}
-use Rattle.brc_model.specs.Machine.{Actor, Machine, is_running, with_actor, first_machine, machine_after, used_by}
-use Rattle.brc_model.specs.World.{World, world_of, row_count, IsReachable}
+use Rattle.brc_model.specs.Machine.{is_running, Actor, Machine, with_actor, used_by}
+use Rattle.brc_model.specs.World.{World, world_of, IsReachable}
+use Rattle.brc_model.specs.Actions.{StepActor}
+use Rattle.brc_model.specs.StepMachine.{StepMachine, its_actor, counting, first_machine, machine_after}
+use Rattle.brc_model.proofs.Keeping.CodeInvariant.{CodeInvariant}
+use Rattle.brc_model.proofs.Dispatch.Counting.{its_found}
 use Rattle.brc_model.specs.Within.{IsThere, Suits, IsWithin, StepsWithin}
 use Rattle.brc_model.proofs.Frame.Leaves.{head_of}
 use Rattle.brc_model.proofs.Stepping.Neutral.{agenda_here}
@@ -19,121 +24,102 @@ use Rattle.brc_model.proofs.Keeping.Replaced.{with_account}
 use Rattle.brc_model.proofs.Keeping.Kept.{Doing}
 use Rattle.brc_model.proofs.Dispatch.Actions.{DutyFits, ActionFits, action_fits}
 use Rattle.brc_model.proofs.Promises.Safe.{first_code_invariant}
-use Rattle.brc_model.proofs.Limits.Ranges.{limit, IsSmall, head_small}
+use Rattle.brc_model.proofs.Limits.Ranges.{IsSmall, head_small}
 use Rattle.brc_model.proofs.Limits.RangesEvents.{Bounded, bounded_after, first_ranges}
 use Rattle.brc_model.proofs.Limits.Bounds.{duty_suits}
-use Rattle.brc_model.proofs.Basics.Blocks.{used_low, block_within}
+use Rattle.brc_model.proofs.Basics.Blocks.{used_low, block_within, size_within, thread_there, rows_low}
 use Rattle.brc_model.specs.Accounts.{Accounts}
 use Rattle.brc_model.specs.Invariant.{AtDuty, CoreInvariant}
 use Rattle.brc_model.proofs.Objects.UsesAfter.{own_uses}
-use Rattle.std.proofs.Math.Nat.{mul-le-mul_right}
-use Rattle.brc_model.specs.Limits.{row_limit, thread_limit}
+use Rattle.brc_model.specs.Limits.{row_limit, thread_limit, total_limit}
+use Rattle.brc_model.specs.Layout.{row_count, block_size}
 
--- ---- the word is there
+-- ---- the word exists
 
 duty_there : (p : Accounts) (n : ℕ) (m : Machine) (t : ℕ) (a : Actor) (d : Duty) (rest : List Duty)
-    → AtDuty p n m t a d rest → (a.status ≡ Gone → ⊥) → IsSmall (limit n m) d
-    → IsThere (limit n m) (length m.actors) (address_of m.rows t a.head d)
-duty_there p n m t a (RetainLoad x h) rest here alive small = small
-duty_there p n m t a (RetainStore x h w) rest here alive small = small
-duty_there p n m t a (RetainAdd x h) rest here alive small = small
-duty_there p n m t a (ReleaseLoad x h) rest here alive small = small
-duty_there p n m t a (ReleaseStore x w) rest here alive small = small
-duty_there p n m t a (DecideAtZero x) rest here alive small = small
-duty_there p n m t a (SharedLoad x r) rest here alive small = small
-duty_there p n m t a (SharedExchange x r w) rest here alive small = small
-duty_there p n m t a (SetMark x) rest here alive small = small
+    → AtDuty p n m t a d rest → (a.status ≡ Gone → ⊥) → IsSmall (row_count m.layout) d
+    → IsThere (row_count m.layout) (length m.actors) (address_of m.layout t a.head d)
 duty_there p n m t a (Look x) rest here alive small =
-    let within : t < n = omega (arith, slice_get_within m.actors t a here.found, here.core.threads) in
-    omega (arith, block_within m.rows n x here.core.some_rows (omega (arith, within)) small, here.core.threads)
-duty_there p n m t a (TakeMark x) rest here alive small = small
-duty_there p n m t a (MergeSwap x r) rest here alive small = small
-duty_there p n m t a (MergeLoad x c r) rest here alive small = small
-duty_there p n m t a (MergeExchange x c w r) rest here alive small = small
-duty_there p n m t a (Die x) rest here alive small = small
+    omega (arith, block_within m.layout x here.core.some_rows, here.core.threads, here.core.workers)
 duty_there p n m t a Settle rest here alive small = omega (arith, head_small p n m t a here.core here.found)
-duty_there p n m t a (SettleKind x) rest here alive small = small
 duty_there p n m t a (SettleCell x i c) rest here alive small =
     let (pos, dies, more, gate) = head_of p n m t a (SettleCell x i c) rest here in
-    (small.0, omega (arith, more, small.1))
-duty_there p n m t a (TakeSlot x) rest here alive small = small
-duty_there p n m t a (CloseResource x) rest here alive small = small
-duty_there p n m t a (SettleEnd x) rest here alive small = small
+    (small.row x (eq-eqb x x refl), omega (arith, more, small.cells))
 duty_there p n m t a (Leave x c) rest here alive small = slice_get_within m.actors t a here.found
 duty_there p n m t a (Scan x c) rest here alive small =
     let fits = agenda_here p n m t a (Scan x c) rest here alive in
     let some = head_of p n m t a (Scan x c) rest here in
-    used_low p n m t a x here.core here.found
-    (omega (arith, slice_get_within m.actors t a here.found, here.core.threads)) (omega (arith, fits.2, some))
+    used_low p n m t a x here.core here.found (omega (arith, fits.1, some))
 duty_there p n m t a Finish rest here alive small = slice_get_within m.actors t a here.found
-duty_there p n m t a (ClaimMark x) rest here alive small = small
-duty_there p n m t a (BirthKind x h w) rest here alive small = small.0
-duty_there p n m t a (BirthSlot x h) rest here alive small = small
-duty_there p n m t a (BirthLocal x h) rest here alive small = small
+duty_there p n m t a _ rest here alive small = small.row _ (eq-eqb _ _ refl)
 
--- ---- the thread has no more rows than there are
+-- ---- used rows
 
 used_within : (p : Accounts) (n : ℕ) (m : Machine) (t : ℕ) (a : Actor) (used : ℕ) → CoreInvariant p n m
-    → slice_get m.actors t ≡ Some a → (0 < t → used ≤ m.rows) → (t ≡ 0 → used ≡ 2) → used ≤ limit n m
-used_within p n m zero a used core found few main = omega (arith, main refl)
-used_within p n m (suc t) a used core found few main =
-    let within : suc t < n = omega (arith, slice_get_within m.actors (suc t) a found, core.threads) in
-    let more : 1 * m.rows ≤ (n - 1) * m.rows = mul-le-mul_right m.rows (omega (arith, within)) in
-    omega (arith, few (omega arith), more)
+    → slice_get m.actors t ≡ Some a → used ≤ block_size m.layout t → used ≤ row_count m.layout
+used_within p n m t a used core found few =
+    omega (arith, few, size_within m.layout t (thread_there p n m t a core found))
 
 duty_used : (p : Accounts) (n : ℕ) (m : Machine) (t : ℕ) (a : Actor) (d : Duty) (rest : List Duty)
-    → AtDuty p n m t a d rest → used_by a.used d ≤ limit n m
+    → AtDuty p n m t a d rest → used_by a.used d ≤ row_count m.layout
 duty_used p n m t a d rest here =
     let after = own_uses p n m t a d rest here in
-    used_within p n m t a (used_by a.used d) here.core here.found after.few after.main
+    used_within p n m t a (used_by a.used d) here.core here.found after.few
 
--- ---- a duty
+-- ---- one duty
+
+-- what a duty can rely on, of n threads
+record DutyWithin (n : ℕ) (m : Machine) (t : ℕ) (a : Actor) (d : Duty) : Type 0 where
+  there : IsThere (row_count m.layout) n (address_of m.layout t a.head d)
+  head : a.head ≤ row_count m.layout
+  used : used_by a.used d ≤ row_count m.layout
+  suits : Suits t (is_running a.status) (row_count m.layout) d (m.memory (address_of m.layout t a.head d))
 
 duty_within : (p : Accounts) (n : ℕ) (m : Machine) (t : ℕ) (a : Actor) (d : Duty) (rest : List Duty)
-    → Doing p n m t a d rest → IsSmall (limit n m) d → n ≤ thread_limit → IsWithin (world_of m) t a d
+    → Doing p n m t a d rest → IsSmall (row_count m.layout) d → n ≤ thread_limit → DutyWithin n m t a d
 duty_within p n m t a d rest doing small few =
     let core = doing.kept.core in
     let here : AtDuty p n m t a d rest = record { core = core; found = doing.found; agenda = doing.agenda } in
     record {
       there =
-          subst (λ (l : ℕ). IsThere (2 + (l - 1) * m.rows) (length m.actors) (address_of m.rows t a.head d))
-          (sym core.threads) (duty_there p n m t a d rest here doing.alive small);
-      head =
-          subst (λ (l : ℕ). a.head ≤ 2 + (l - 1) * m.rows) (sym core.threads)
-          (head_small p n m t a core doing.found);
-      used =
-          subst (λ (l : ℕ). used_by a.used d ≤ 2 + (l - 1) * m.rows) (sym core.threads)
-          (duty_used p n m t a d rest here);
-      suits = duty_suits p n m t a d rest (row_count (world_of m)) here doing.alive few;
+          subst (λ (l : ℕ). IsThere (row_count m.layout) l (address_of m.layout t a.head d)) core.threads
+          (duty_there p n m t a d rest here doing.alive small);
+      head = head_small p n m t a core doing.found;
+      used = duty_used p n m t a d rest here;
+      suits = duty_suits p n m t a d rest (row_count m.layout) here doing.alive few;
     }
 
--- a duty that the thread does, by the thread that already has it in its agenda
-does_within : (p : Module) (n : ℕ) (m : Machine) (t : ℕ) (a : Actor) (d : Duty) (rest : List Duty) (place : Place)
+-- so many threads are in the world
+threads_in : (p : Module) (n : ℕ) (m : StepMachine) → CodeInvariant p n m → n ≡ length m.actors
+threads_in p n m whole = sym whole.kept.core.threads ∙ length-map m.actors its_actor
+
+-- A duty that fits its thread is within the world's bounds, whether the thread has it in its agenda or takes it up now.
+does_within : (p : Module) (n : ℕ) (m : StepMachine) (t : ℕ) (a : StepActor) (d : Duty) (rest : List Duty)
+    (place : Place)
     → (bounded : Bounded p n m) → n ≤ thread_limit → slice_get m.actors t ≡ Some a
     → DutyFits p bounded.whole.accounts n m t a d rest place
-    → IsWithin (world_of m) t a d
+    → IsWithin (world_of m) t a.actor d
 does_within p n m t a d rest place bounded few found fits =
-    let now = sitting a place (d ∷ rest) in
-    let within : IsWithin (world_of (with_actor m t now)) t now d =
-    duty_within (with_account bounded.whole.accounts t fits.account) n (with_actor m t now) t now d rest fits.doing
-    (fits.small (bounded.ranges.each t a found)).0 few in
-    let long = length-set m.actors t now in
+    let now = sitting a.actor (d ∷ rest) in
+    let within : DutyWithin n (with_actor (counting m) t now) t now d =
+    duty_within (with_account bounded.whole.accounts t fits.account) n (with_actor (counting m) t now) t now d rest
+    fits.doing (fits.small (bounded.ranges.each t a.actor (its_found m t a found))).0 few in
+    let long = threads_in p n m bounded.whole in
     record {
-      there = subst (λ (l : ℕ). IsThere (2 + (l - 1) * m.rows) l (address_of m.rows t a.head d)) long within.there;
-      head = subst (λ (l : ℕ). a.head ≤ 2 + (l - 1) * m.rows) long within.head;
-      used = subst (λ (l : ℕ). used_by a.used d ≤ 2 + (l - 1) * m.rows) long within.used;
-      suits =
-          subst (λ (l : ℕ). Suits t (is_running a.status) (2 + (l - 1) * m.rows) d
-          (m.memory (address_of m.rows t a.head d))) long within.suits;
+      there =
+          subst (λ (l : ℕ). IsThere (row_count m.layout) l (address_of m.layout t a.actor.head d)) long within.there;
+      head = within.head;
+      used = within.used;
+      suits = within.suits;
     }
 
-machine_within : (p : Module) (n : ℕ) (m : Machine) (t : ℕ) (a : Actor) → Bounded p n m → n ≤ thread_limit
+machine_within : (p : Module) (n : ℕ) (m : StepMachine) (t : ℕ) (a : StepActor) → Bounded p n m → n ≤ thread_limit
     → slice_get m.actors t ≡ Some a → StepsWithin (world_of m) t a
 machine_within p n m t a bounded few found choice d rest place is =
     does_within p n m t a d rest place bounded few found
     (subst (ActionFits p bounded.whole.accounts n m t a) is (action_fits p n m t a choice bounded.whole found))
 
--- ---- the worlds that steps lead to
+-- ---- reachable worlds
 
 reached_bounded : (p : Module) (w : World) (r : IsReachable p w)
     → Bounded p (1 + length r.calls) (machine_after (first_machine p r.rows r.calls) r.events)
@@ -142,7 +128,8 @@ reached_bounded p w r = bounded_after p (1 + length r.calls) (first_machine p r.
   ranges = first_ranges p r.rows r.calls;
 })
 
-pub steps_within : (p : Module) (w : World) (t : ℕ) (a : Actor) → IsReachable p w → slice_get w.actors t ≡ Some a
+-- Each duty that a thread of a reachable world may do next is within the world's bounds.
+pub steps_within : (p : Module) (w : World) (t : ℕ) (a : StepActor) → IsReachable p w → slice_get w.actors t ≡ Some a
     → StepsWithin w t a
 steps_within p w t a r found =
     let m = machine_after (first_machine p r.rows r.calls) r.events in
@@ -150,13 +137,16 @@ steps_within p w t a r found =
     subst (λ (v : World). StepsWithin v t a) (sym r.reached)
     (machine_within p (1 + length r.calls) m t a (reached_bounded p w r) (omega (arith, r.calls_fit.most)) there)
 
--- ---- how large a world is
+-- ---- the size of a world
 
 pub same_functions : (p : Module) (w : World) → IsReachable p w → w.functions ≡ p.functions
 same_functions p w r = ap (λ (v : World). v.functions) r.reached ∙ (reached_bounded p w r).whole.functions
 
 threads_are : (p : Module) (w : World) (r : IsReachable p w) → length w.actors ≡ 1 + length r.calls
-threads_are p w r = ap (λ (v : World). length v.actors) r.reached ∙ (reached_bounded p w r).whole.kept.core.threads
+threads_are p w r =
+    let m = machine_after (first_machine p r.rows r.calls) r.events in
+    ap (λ (v : World). length v.actors) r.reached
+    ∙ sym (threads_in p (1 + length r.calls) m (reached_bounded p w r).whole)
 
 pub some_threads : (p : Module) (w : World) → IsReachable p w → 1 < length w.actors
 some_threads p w r = omega (arith, threads_are p w r, r.calls_fit.some)
@@ -164,14 +154,27 @@ some_threads p w r = omega (arith, threads_are p w r, r.calls_fit.some)
 pub few_threads : (p : Module) (w : World) → IsReachable p w → length w.actors ≤ thread_limit
 few_threads p w r = omega (arith, threads_are p w r, r.calls_fit.most)
 
-pub some_rows : (p : Module) (w : World) → IsReachable p w → 0 < w.rows
+pub some_rows : (p : Module) (w : World) → IsReachable p w → 0 < w.layout.rows
 some_rows p w r =
-    let same : w.rows ≡ (machine_after (first_machine p r.rows r.calls) r.events).rows =
-    ap (λ (v : World). v.rows) r.reached in
+    let same : w.layout.rows ≡ (machine_after (first_machine p r.rows r.calls) r.events).layout.rows =
+    ap (λ (v : World). v.layout.rows) r.reached in
     omega (arith, same, (reached_bounded p w r).whole.kept.core.some_rows)
 
-pub few_rows : (p : Module) (w : World) → IsReachable p w → w.rows ≤ row_limit
+pub few_rows : (p : Module) (w : World) → IsReachable p w → w.layout.rows ≤ row_limit
 few_rows p w r =
-    let same : w.rows ≡ (machine_after (first_machine p r.rows r.calls) r.events).rows =
-    ap (λ (v : World). v.rows) r.reached in
+    let same : w.layout.rows ≡ (machine_after (first_machine p r.rows r.calls) r.events).layout.rows =
+    ap (λ (v : World). v.layout.rows) r.reached in
     omega (arith, same, (reached_bounded p w r).whole.kept.core.few_rows)
+
+pub few_in_all : (p : Module) (w : World) → IsReachable p w → row_count w.layout ≤ total_limit
+few_in_all p w r =
+    let m = machine_after (first_machine p r.rows r.calls) r.events in
+    let same : row_count w.layout ≡ row_count m.layout = ap (λ (v : World). row_count v.layout) r.reached in
+    let whole = (reached_bounded p w r).whole in
+    omega (arith, same, rows_low whole.accounts (1 + length r.calls) (counting m) whole.kept.core)
+
+pub workers_are : (p : Module) (w : World) → IsReachable p w → length w.actors ≡ 1 + w.layout.workers
+workers_are p w r =
+    let m = machine_after (first_machine p r.rows r.calls) r.events in
+    let same : w.layout.workers ≡ m.layout.workers = ap (λ (v : World). v.layout.workers) r.reached in
+    omega (arith, threads_are p w r, same, (reached_bounded p w r).whole.kept.core.workers)

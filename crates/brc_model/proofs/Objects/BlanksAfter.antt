@@ -1,4 +1,4 @@
--- The unused rows of each thread's block are blank after a step too, apart from what the birth under way has stored.
+-- After each step the unused rows of each thread's block are still blank, apart from what a birth under way has stored.
 use Rattle.std.proofs.Common.{◌≡◌, ◌≢◌, ℕ, zero, suc, ◌+◌, ◌≤◌, Bool, true, false, cond, List, [], ◌∷◌, ◌++◌, inl, inr, Some, refl, sym, ap, ◌∙◌, subst, arith}
 use Rattle.std.specs.Prelude.{◌==◌, slice_get, slice_set}
 use Rattle.std.proofs.lemmas.Bool.{ne_eqb}
@@ -8,20 +8,21 @@ use Rattle.brc_model.specs.declared.duty.Holding.{Holding}
 use Rattle.brc_model.specs.declared.duty.Duty.{Duty}
 use Rattle.brc_model.specs.declared.duty.Duty.TheVariants.{SettleKind, TakeSlot, BirthKind, BirthSlot, BirthLocal}
 use Rattle.brc_model.specs.declared.address.Address.TheVariants.{KindOf, Slot}
-use Rattle.brc_model.specs.Duties.{block_of, has_resource, ready}
-use Rattle.brc_model.specs.Machine.{Actor, Machine, first_row, used_by, actor_by, done_by}
+use Rattle.brc_model.specs.Duties.{has_resource, ready}
+use Rattle.brc_model.specs.Machine.{Actor, Machine, used_by, actor_by, done_by}
 use Rattle.brc_model.proofs.Basics.Lists.{some_is, slice_get-set_same, slice_get-set_other}
 use Rattle.brc_model.proofs.Basics.Written.{written_load}
-use Rattle.brc_model.proofs.Basics.Blocks.{next_block}
+use Rattle.brc_model.proofs.Basics.Blocks.{next_block, next_index}
 use Rattle.brc_model.proofs.Frame.Leaves.{head_of}
 use Rattle.brc_model.proofs.Stepping.Neutral.{found_by, memory_by}
 use Rattle.brc_model.specs.Accounts.{Accounts}
 use Rattle.brc_model.specs.Knowledge.{IsNext}
 use Rattle.brc_model.specs.Invariant.{AtDuty, kind_stored, slot_stored, BlankFits}
+use Rattle.brc_model.specs.Layout.{block_of, index_of}
 
 -- ---- the thread that steps
 
--- a word that is 0 stays so where another word is stored, and where 0 is stored
+-- A word that is 0 stays 0 if the step stores another word.
 still_zero : (b : Bool) (v word : ℕ) → b ≡ false → word ≡ 0 → cond b v word ≡ 0
 still_zero b v word apart zero_before = ap (λ (c : Bool). cond c v word) apart ∙ zero_before
 
@@ -29,7 +30,8 @@ pub zero_written : (b : Bool) (v : ℕ) → v ≡ 0 → cond b 0 v ≡ 0
 zero_written true v e = refl
 zero_written false v e = e
 
--- what the agenda says that is stored, after the birth's first step and after its step on the slot
+-- After the step on the kind word, the agenda says that the birth has stored it. After the step on the slot, the agenda
+-- says so of both.
 kind_stored_after_kind : (b : Bool) (head y : ℕ) (h : Holding) (rest : List Duty) (x : ℕ)
     → kind_stored (ready head (cond b (BirthSlot y h ∷ []) (BirthLocal y h ∷ []) ++ rest)) x ≡ (y == x)
 kind_stored_after_kind true zero y h rest x = refl
@@ -47,21 +49,23 @@ slot_stored_after_slot : (head y : ℕ) (h : Holding) (rest : List Duty) (x : �
 slot_stored_after_slot zero y h rest x = refl
 slot_stored_after_slot (suc head) y h rest x = refl
 
--- what the rule says of the thread's unused rows, at its first duty
+-- The thread's unused rows are blank when it is about to do the duty.
 pub blanks_here : (p : Accounts) (n : ℕ) (m : Machine) (t : ℕ) (a : Actor) (d : Duty) (rest : List Duty)
-    → AtDuty p n m t a d rest → BlankFits m.rows m.memory t a.used (d ∷ rest)
+    → AtDuty p n m t a d rest → BlankFits m.layout m.memory t a.used (d ∷ rest)
 blanks_here p n m t a d rest here =
-    subst (λ (l : List Duty). BlankFits m.rows m.memory t a.used l) here.agenda (here.core.blanks t a here.found)
+    subst (λ (l : List Duty). BlankFits m.layout m.memory t a.used l) here.agenda (here.core.blanks t a here.found)
 
--- the row that was born isn't one of the unused any more
-born_apart : (m : Machine) (t : ℕ) (a : Actor) (y x : ℕ) → IsNext m t a y → first_row m.rows t + (a.used + 1) ≤ x
+-- The row that the birth makes isn't one of the rows that are unused after it.
+born_apart : (m : Machine) (t : ℕ) (a : Actor) (y x : ℕ) → IsNext m t a y → a.used + 1 ≤ index_of m.layout t x
     → (y == x) ≡ false
 born_apart m t a y x next past =
-    ne_eqb y x (λ e. let row = next.row in absurd (omega (arith, row, past, e)))
+    ne_eqb y x (λ e. let same : index_of m.layout t y ≡ index_of m.layout t x = ap (index_of m.layout t) e in absurd
+    (omega (arith, next_index m t a y next, past, same)))
 
 own_blanks : (p : Accounts) (n : ℕ) (m : Machine) (t : ℕ) (a : Actor) (d : Duty) (rest : List Duty)
     → AtDuty p n m t a d rest
-    → BlankFits m.rows (memory_by m t a d) t (used_by a.used d) (actor_by t a d rest (found_by m t a d)).agenda
+    → BlankFits m.layout (memory_by m t a d) t (used_by a.used d)
+    (actor_by m.layout t a d rest (found_by m t a d)).agenda
 own_blanks p n m t a (BirthKind y h w) rest here =
     let old = blanks_here p n m t a (BirthKind y h w) rest here in
     record {
@@ -107,16 +111,16 @@ own_blanks p n m t a d rest here =
 
 -- ---- the other threads
 
--- no other thread's block has the row of the birth
-block_apart : (m : Machine) (t u : ℕ) (a : Actor) (y x : ℕ) → u ≢ t → IsNext m t a y → block_of m.rows x ≡ u
+-- The row of a birth is in no other thread's block.
+block_apart : (m : Machine) (t u : ℕ) (a : Actor) (y x : ℕ) → u ≢ t → IsNext m t a y → block_of m.layout x ≡ u
     → (y == x) ≡ false
 block_apart m t u a y x ne next block =
-    ne_eqb y x (λ e. ne (sym block ∙ ap (block_of m.rows) (sym e) ∙ next_block m t a y next))
+    ne_eqb y x (λ e. ne (sym block ∙ ap (block_of m.layout) (sym e) ∙ next_block m t a y next))
 
 others_blanks : (p : Accounts) (n : ℕ) (m : Machine) (t : ℕ) (a : Actor) (d : Duty) (rest : List Duty) (u : ℕ)
     (b : Actor)
     → AtDuty p n m t a d rest → u ≢ t → slice_get m.actors u ≡ Some b
-    → BlankFits m.rows (memory_by m t a d) u b.used b.agenda
+    → BlankFits m.layout (memory_by m t a d) u b.used b.agenda
 others_blanks p n m t a (BirthKind y h w) rest u b here ne found =
     let old = here.core.blanks u b found in
     let next = (head_of p n m t a (BirthKind y h w) rest here).0 in
@@ -151,20 +155,22 @@ others_blanks p n m t a _ rest u b here ne found =
     let old = here.core.blanks u b found in
     record { kinds = old.kinds; slots = old.slots }
 
+-- After a thread's step the unused rows of every thread's block are blank.
 pub blanks_after : (p : Accounts) (n : ℕ) (m : Machine) (t : ℕ) (a : Actor) (d : Duty) (rest : List Duty)
     → AtDuty p n m t a d rest → (u : ℕ) (b : Actor) → slice_get (done_by m t a d rest).actors u ≡ Some b
-    → BlankFits m.rows (memory_by m t a d) u b.used b.agenda
+    → BlankFits m.layout (memory_by m t a d) u b.used b.agenda
 blanks_after p n m t a d rest here u b is =
-    let after = actor_by t a d rest (found_by m t a d) in
+    let after = actor_by m.layout t a d rest (found_by m t a d) in
     elim (eqb_tells u t) [
       | inl same ↦
           let written_is : Some after ≡ Some b =
           sym (ap (slice_get (slice_set m.actors t after)) same.1
           ∙ slice_get-set_same m.actors t after (slice_get_within m.actors t a here.found)) ∙ is in
-          let own : BlankFits m.rows (memory_by m t a d) u after.used after.agenda =
-          subst (λ (w : ℕ). BlankFits m.rows (memory_by m t a d) w after.used after.agenda) (sym same.1)
+          let own : BlankFits m.layout (memory_by m t a d) u after.used after.agenda =
+          subst (λ (w : ℕ). BlankFits m.layout (memory_by m t a d) w after.used after.agenda) (sym same.1)
           (own_blanks p n m t a d rest here) in
-          subst (λ (c : Actor). BlankFits m.rows (memory_by m t a d) u c.used c.agenda) (some_is after b written_is) own
+          subst (λ (c : Actor). BlankFits m.layout (memory_by m t a d) u c.used c.agenda)
+          (some_is after b written_is) own
       | inr apart ↦
           others_blanks p n m t a d rest u b here apart.1 (sym (slice_get-set_other m.actors t u after apart.1) ∙ is)
     ]

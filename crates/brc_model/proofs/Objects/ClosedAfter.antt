@@ -1,4 +1,4 @@
--- What the rule says of life and closed rows holds after a step.
+-- What the invariant says of lives and of closed rows holds after a step.
 use Rattle.std.proofs.Common.{◌≡◌, ◌≢◌, ℕ, ◌<◌, ◌≤◌, Bool, true, false, List, [], ◌∷◌, ◌++◌, ◌⊎◌, inl, inr, None, Some, refl, sym, ap, ◌∙◌, subst, arith}
 use Rattle.std.specs.Prelude.{◌==◌, ◌||◌, AllPairs}
 use Rattle.std.proofs.lemmas.Bool.{eqb-true, eq-eqb, ne_eqb}
@@ -15,6 +15,8 @@ use Rattle.brc_model.specs.Accounts.{Accounts}
 use Rattle.brc_model.specs.OpenWork.{dies_by}
 use Rattle.brc_model.proofs.Objects.Closing.{GoesOn, BeginsToDie, IsClosed, IsBorn, life_step, SameClosed, OneMore, closed_step}
 use Rattle.brc_model.specs.Invariant.{AtDuty}
+use Rattle.brc_model.proofs.Basics.Blocks.{immortal_apart}
+use Rattle.brc_model.specs.Layout.{is_immortal_row}
 
 pub dying_not_closed : (t : ℕ) → Dying t ≡ Closed → ⊥
 dying_not_closed t e = cc
@@ -32,7 +34,7 @@ either_true false b e = inr e
 pub one_is : (x y : ℕ) → is_among x (y ∷ []) ≡ true → y ≡ x
 one_is x y e = elim (either_true (y == x) false e) [ inl same ↦ eqb-true y x same | inr wrong ↦ absurd cc ]
 
--- a row that was closed is closed still, and one that is closed now was, or ended
+-- A closed row stays closed.
 pub closed_stays : (p : Accounts) (n : ℕ) (m : Machine) (t : ℕ) (a : Actor) (d : Duty) (rest : List Duty) (x : ℕ)
     → AtDuty p n m t a d rest → m.life x ≡ Closed → (done_by m t a d rest).life x ≡ Closed
 closed_stays p n m t a d rest x here was =
@@ -47,7 +49,7 @@ pub closed_is_after : (p : Accounts) (n : ℕ) (m : Machine) (t : ℕ) (a : Acto
     → AtDuty p n m t a d rest → is_among x (done_by m t a d rest).abstract.closed ≡ true
     → (done_by m t a d rest).life x ≡ Closed
 closed_is_after p n m t a d rest x here is =
-    elim (closed_step m t d (m.memory (address_of m.rows t a.head d))) [
+    elim (closed_step m t d (m.memory (address_of m.layout t a.head d))) [
       | SameClosed none same ↦
           closed_stays p n m t a d rest x here (here.core.closed_is x (sym (ap (is_among x) same) ∙ is))
       | OneMore y ended more ↦
@@ -79,7 +81,7 @@ pub closed_has_after : (p : Accounts) (n : ℕ) (m : Machine) (t : ℕ) (a : Act
     → is_among x (done_by m t a d rest).abstract.closed ≡ true
 closed_has_after p n m t a d rest x here is =
     let Q : List ℕ → Type 0 = λ l. is_among x l ≡ true in
-    elim (closed_step m t d (m.memory (address_of m.rows t a.head d))) [
+    elim (closed_step m t d (m.memory (address_of m.layout t a.head d))) [
       | SameClosed none same ↦
           subst Q (sym same) (elim (life_step p n m t a d rest x here) [
             | GoesOn now other ↦ here.core.closed_has x (sym now ∙ is)
@@ -102,7 +104,7 @@ pub closed_once_after : (p : Accounts) (n : ℕ) (m : Machine) (t : ℕ) (a : Ac
     → AtDuty p n m t a d rest → AllPairs (λ x y. x ≢ y) (done_by m t a d rest).abstract.closed
 closed_once_after p n m t a d rest here =
     let Q : List ℕ → Type 0 = λ l. AllPairs (λ x y. x ≢ y) l in
-    elim (closed_step m t d (m.memory (address_of m.rows t a.head d))) [
+    elim (closed_step m t d (m.memory (address_of m.layout t a.head d))) [
       | SameClosed none same ↦ subst Q (sym same) here.core.once
       | OneMore y ended more ↦
           subst Q (sym more) (all_pairs_push (λ x z. x ≢ z) m.abstract.closed y here.core.once (λ k e lt same.
@@ -117,16 +119,17 @@ closed_once_after p n m t a d rest here =
           ]))
     ]
 
--- ---- who dies
+-- ---- rows that are dying
 
-pub none_lives_after : (p : Accounts) (n : ℕ) (m : Machine) (t : ℕ) (a : Actor) (d : Duty) (rest : List Duty)
-    → AtDuty p n m t a d rest → (done_by m t a d rest).life 0 ≡ Live
-none_lives_after p n m t a d rest here =
-    elim (life_step p n m t a d rest 0 here) [
-      | GoesOn now other ↦ now ∙ here.core.none_lives
-      | BeginsToDie now alive positive none ↦ absurd (omega (arith, positive))
-      | IsClosed now dying positive ended ↦ absurd (omega (arith, positive))
-      | IsBorn now unborn above born none ↦ absurd (omega (arith, above))
+pub immortals_live_after : (p : Accounts) (n : ℕ) (m : Machine) (t : ℕ) (a : Actor) (d : Duty) (rest : List Duty)
+    (x : ℕ)
+    → AtDuty p n m t a d rest → is_immortal_row m.layout x ≡ true → (done_by m t a d rest).life x ≡ Live
+immortals_live_after p n m t a d rest x here immortal =
+    elim (life_step p n m t a d rest x here) [
+      | GoesOn now other ↦ now ∙ here.core.immortals_live x immortal
+      | BeginsToDie now alive counted none ↦ absurd (immortal_apart m.layout x x counted immortal refl)
+      | IsClosed now dying counted ended ↦ absurd (immortal_apart m.layout x x counted immortal refl)
+      | IsBorn now unborn counted born none ↦ now
     ]
 
 pub dying_after : (p : Accounts) (n : ℕ) (m : Machine) (t : ℕ) (a : Actor) (d : Duty) (rest : List Duty) (x u : ℕ)

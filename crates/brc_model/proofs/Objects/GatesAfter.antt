@@ -1,4 +1,4 @@
--- Which gates are free and which say that their row is closed, after each step too.
+-- After each step too, the gate of an unborn or live row is free, and the gate of a closed row says that it is closed.
 use Rattle.std.proofs.Common.{◌≡◌, ℕ, ◌-◌, List, None, Some, refl, sym, ap, ◌∙◌, subst}
 use Rattle.brc_word.specs.Words.{dying_word, closed_word}
 use Rattle.brc_model.specs.declared.duty.Duty.{Duty}
@@ -14,7 +14,7 @@ use Rattle.brc_model.specs.Accounts.{Accounts}
 use Rattle.brc_model.specs.OpenWork.{GateFits}
 use Rattle.brc_model.specs.Invariant.{AtDuty}
 
--- a thread stores in no gate but that of a row that it closes
+-- A thread stores in the gate of a row only if it is finalising the row.
 gate_stays : (p : Accounts) (n : ℕ) (m : Machine) (t : ℕ) (a : Actor) (d : Duty) (rest : List Duty) (x : ℕ)
     → AtDuty p n m t a d rest → (m.life x ≡ Dying t → ⊥) → memory_by m t a d (Gate x) ≡ m.memory (Gate x)
 gate_stays p n m t a (Die y) rest x here other =
@@ -33,7 +33,7 @@ ended_gate m t a (SettleEnd y) x ended =
     (written_here m.memory (Gate y) closed_word)
 ended_gate m t a _ x ended = absurd (let wrong : None ≡ Some x = ended in cc)
 
--- a row that doesn't change its life
+-- The gate still fits a row whose life doesn't change.
 gate_goes_on : (p : Accounts) (n : ℕ) (m : Machine) (t : ℕ) (a : Actor) (d : Duty) (rest : List Duty) (x : ℕ) (l : Life)
     → AtDuty p n m t a d rest → m.life x ≡ l → GateFits l (m.memory (Gate x)) → GateFits l (memory_by m t a d (Gate x))
 gate_goes_on p n m t a d rest x Unborn here is fits =
@@ -44,6 +44,7 @@ gate_goes_on p n m t a d rest x (Dying u) here is fits = tt
 gate_goes_on p n m t a d rest x Closed here is fits =
     gate_stays p n m t a d rest x here (λ e. let wrong : Closed ≡ Dying t = sym is ∙ e in cc) ∙ fits
 
+-- After a thread's step each gate fits its row's life.
 pub gates_after : (p : Accounts) (n : ℕ) (m : Machine) (t : ℕ) (a : Actor) (d : Duty) (rest : List Duty)
     → AtDuty p n m t a d rest → (x : ℕ) → GateFits ((done_by m t a d rest).life x) (memory_by m t a d (Gate x))
 gates_after p n m t a d rest here x =

@@ -1,5 +1,5 @@
--- What was born is of the kind that its kind word says, after each step too.
-use Rattle.std.proofs.Common.{◌≡◌, ◌≢◌, ℕ, Bool, true, false, cond, List, [], ◌∷◌, None, Some, inl, inr, refl, sym, ap}
+-- After each step too, a born object is of the kind that its kind word names.
+use Rattle.std.proofs.Common.{◌≡◌, ◌≢◌, ℕ, Bool, true, false, cond, List, None, Some, inl, inr, refl, sym, ap}
 use Rattle.std.proofs.Common.{◌∙◌}
 use Rattle.std.proofs.lemmas.Bool.{ne_eqb, eq-eqb}
 use Rattle.std.proofs.lemmas.Bool.Decides.{eqb_tells}
@@ -7,23 +7,25 @@ use Rattle.brc_lang.specs.declared.kind.Kind.{Kind}
 use Rattle.brc_lang.specs.declared.kind.Kind.TheVariants as kinds
 use Rattle.brc_word.specs.Words.{kind_part}
 use Rattle.brc_model.specs.Kinds.{kind_number, kind_numbered, kind_of_word, is_counted_kind}
-use Rattle.brc_model.specs.AbstractState.{AbstractState, Move, Born, Gain, Lose, PassOn, Finalise, move, moved}
+use Rattle.brc_model.specs.AbstractState.{AbstractState, Move, Born, move, moved}
 use Rattle.brc_model.specs.declared.duty.Duty.{Duty}
 use Rattle.brc_model.specs.declared.duty.Duty.TheVariants.{SettleKind, BirthKind, BirthLocal}
 use Rattle.brc_model.specs.declared.address.Address.TheVariants.{KindOf}
-use Rattle.brc_model.specs.Machine.{Actor, Unborn, Machine, reference_effects, born_row, done_by}
+use Rattle.brc_model.specs.Machine.{Actor, Unborn, Machine, born_row, done_by}
+use Rattle.brc_model.specs.Moves.{reference_effects}
 use Rattle.brc_model.proofs.Basics.Written.{written_apart, written_load}
 use Rattle.brc_model.proofs.Basics.Blocks.{next_unborn}
 use Rattle.brc_model.proofs.Frame.Leaves.{head_of}
 use Rattle.brc_model.proofs.Stepping.Neutral.{found_by, memory_by}
-use Rattle.brc_model.proofs.Objects.UsesAfter.{AllBearNone, moves_none, before_or_now}
+use Rattle.brc_model.proofs.Basics.Moves.{moved_keeps}
+use Rattle.brc_model.proofs.Objects.UsesAfter.{BearsNone, moves_none, before_or_now}
 use Rattle.brc_model.proofs.Basics.Lists.{some_is}
 use Rattle.brc_model.specs.Accounts.{Accounts}
 use Rattle.brc_model.specs.Invariant.{AtDuty}
 
 -- ---- numbers and kinds
 
--- a kind word that says a counted kind has that kind's number
+-- If a kind word names a counted kind, its kind part is that kind's number.
 pub counted_number : (n : ℕ) → is_counted_kind (kind_numbered n) ≡ true → n ≡ kind_number (kind_numbered n)
 counted_number n counts =
     elim (eqb_tells n 1) [
@@ -48,19 +50,17 @@ counted_number n counts =
 
 -- ---- the kinds after a step
 
-moved_kinds : (p : AbstractState) (mvs : List Move) → AllBearNone mvs → (moved p mvs).kinds ≡ p.kinds
-moved_kinds p [] none = refl
-moved_kinds p (Born r kind ∷ mvs) none = absurd none.0
-moved_kinds p (Gain r ∷ mvs) none = moved_kinds (move p (Gain r)) mvs none.1
-moved_kinds p (Lose r ∷ mvs) none = moved_kinds (move p (Lose r)) mvs none.1
-moved_kinds p (PassOn r h ∷ mvs) none = moved_kinds (move p (PassOn r h)) mvs none.1
-moved_kinds p (Finalise x ∷ mvs) none = moved_kinds (move p (Finalise x)) mvs none.1
+move_kinds : (p : AbstractState) (mv : Move) → BearsNone mv → (move p mv).kinds ≡ p.kinds
+move_kinds p (Born r kind) none = absurd none
+move_kinds p _ none = refl
 
 same_kinds : (m : Machine) (t : ℕ) (d : Duty) (found : ℕ) → born_row d ≡ None
     → (moved m.abstract (reference_effects m.memory t d found)).kinds ≡ m.abstract.kinds
-same_kinds m t d found none = moved_kinds m.abstract (reference_effects m.memory t d found) (moves_none m.memory t d found none)
+same_kinds m t d found none =
+    moved_keeps (λ p. p.kinds) BearsNone move_kinds m.abstract (reference_effects m.memory t d found)
+    (moves_none m.memory t d found none)
 
--- the kind word of what was born is left as it is
+-- No step changes the kind word of a born row.
 word_stays : (p : Accounts) (n : ℕ) (m : Machine) (t : ℕ) (a : Actor) (d : Duty) (rest : List Duty) (x : ℕ)
     → AtDuty p n m t a d rest → m.life x ≢ Unborn → memory_by m t a d (KindOf x) ≡ m.memory (KindOf x)
 word_stays p n m t a (SettleKind y) rest x here born = written_load m.memory (KindOf y) (KindOf x)
@@ -70,7 +70,7 @@ word_stays p n m t a (BirthKind y h w) rest x here born =
     written_apart m.memory (KindOf y) (KindOf x) w (ne_eqb y x apart)
 word_stays p n m t a _ rest x here born = refl
 
--- and so is its kind
+-- No step changes the kind of a born row.
 kind_stays : (p : Accounts) (n : ℕ) (m : Machine) (t : ℕ) (a : Actor) (d : Duty) (rest : List Duty) (x : ℕ)
     → AtDuty p n m t a d rest → m.life x ≢ Unborn → (done_by m t a d rest).abstract.kinds x ≡ m.abstract.kinds x
 kind_stays p n m t a (BirthLocal y h) rest x here born =
@@ -79,7 +79,7 @@ kind_stays p n m t a (BirthLocal y h) rest x here born =
     ap (λ (b : Bool). cond b (kind_of_word (m.memory (KindOf y))) (m.abstract.kinds x)) (ne_eqb y x apart)
 kind_stays p n m t a d rest x here born = ap (λ (k : ℕ → Kind). k x) (same_kinds m t d (found_by m t a d) refl)
 
--- what is born now is of the kind that its word says
+-- A row that this step gives birth to is of the kind that its kind word names.
 kind_is_said : (p : Accounts) (n : ℕ) (m : Machine) (t : ℕ) (a : Actor) (d : Duty) (rest : List Duty) (x : ℕ)
     → AtDuty p n m t a d rest → born_row d ≡ Some x
     → kind_part (memory_by m t a d (KindOf x)) ≡ kind_number ((done_by m t a d rest).abstract.kinds x)
@@ -94,6 +94,7 @@ kind_is_said p n m t a (BirthLocal y h) rest x here is =
     ∙ ap kind_number (sym kind)
 kind_is_said p n m t a _ rest x here is = absurd (let wrong : None ≡ Some x = is in cc)
 
+-- After a thread's step the kind word of each born row names its kind.
 pub kinds_after : (p : Accounts) (n : ℕ) (m : Machine) (t : ℕ) (a : Actor) (d : Duty) (rest : List Duty)
     → AtDuty p n m t a d rest → (x : ℕ) → (done_by m t a d rest).life x ≢ Unborn
     → kind_part ((done_by m t a d rest).memory (KindOf x)) ≡ kind_number ((done_by m t a d rest).abstract.kinds x)

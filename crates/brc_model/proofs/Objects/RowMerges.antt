@@ -1,11 +1,12 @@
--- What becomes of a row's numbers in the steps about its mark and in a merge.
+-- How the steps about a row's mark and the steps of a merge change the row's numbers.
 use Rattle.std.proofs.Common.{◌≡◌, ◌≢◌, ℕ, ◌+◌, ◌-◌, ◌≤◌, refl, ◌∙◌, arith}
 use Rattle.brc_word.specs.Words.{local_part, biased_part, phase_part, bias, dead_word, merged_word}
 use Rattle.brc_model.specs.RowInvariant.{Numbers, IsDefault, IsQueued, AtZero, AboveZero, InOwned, InSwapped, InMerged, IsLive, IsDead}
 use Rattle.brc_model.proofs.Objects.RowSteps.{shared_down, shared_merged, shared_range}
 
--- ---- the handed reference of a claimed mark, once the object is merged
+-- ---- the handed reference of a merged object
 
+-- `Decrements`, for a handed reference: the merged object lives on.
 pub handed_lost : (owner : ℕ) (n : Numbers) → IsLive owner n → phase_part n.shared ≡ 3 → n.shared - 4 ≢ dead_word
     → 1 ≤ n.waiting
     → IsLive owner (record n { shared = n.shared - 4; waiting = n.waiting - 1 })
@@ -34,6 +35,7 @@ handed_lost owner n live phase alive some = let down = shared_down n.shared (sha
   ];
 }
 
+-- `DecrementsToZero`, for a handed reference: it was the last one.
 pub handed_dies : (owner : ℕ) (n : Numbers) → IsLive owner n → n.shared - 4 ≡ dead_word → 1 ≤ n.waiting
     → IsDead (record n { shared = n.shared - 4; waiting = n.waiting - 1 })
 handed_dies owner n live dead some =
@@ -62,7 +64,7 @@ handed_dies owner n live dead some =
       }
     ]
 
--- ---- marks: a decrement that awaits goes from a duty to the mark, or back
+-- ---- a pending decrement moves between a duty and the mark
 
 same_awaiting : (owner : ℕ) (n : Numbers) (mark waiting : ℕ) → mark + waiting ≡ n.mark + n.waiting → IsLive owner n
     → IsLive owner (record n { mark = mark; waiting = waiting })
@@ -114,7 +116,7 @@ mark_taken owner n live set = same_awaiting owner n 0 (n.waiting + 1) (omega (ar
 
 -- ---- merging
 
--- the owner that found its local count gone swaps its word out
+-- `LocalTakenOut`, for the owner: its local count is 0, and it swaps the local word out.
 pub swapped_own : (owner : ℕ) (n : Numbers) → IsLive owner n → local_part n.local ≡ 0 → 1 ≤ n.deciding
     → IsLive owner (record n { local = 0; deciding = n.deciding - 1; merging = n.merging + 1 })
 swapped_own owner n live zero some = record {
@@ -137,7 +139,7 @@ swapped_own owner n live zero some = record {
   ];
 }
 
--- a claimant swaps out a local count that nobody decides about
+-- `LocalTakenOut`, for a claimed mark: a thread swaps the local word out, while no thread decides about the row.
 pub swapped_claimed : (owner : ℕ) (n : Numbers) → IsLive owner n → n.local ≢ 0 → n.deciding ≡ 0
     → IsLive owner (record n { local = 0; carried = n.carried + local_part n.local; merging = n.merging + 1 })
 swapped_claimed owner n live some none = record {
@@ -155,7 +157,7 @@ swapped_claimed owner n live some none = record {
   ];
 }
 
--- what was swapped out is added, and the object is merged; or it dies, where nothing is left
+-- `Merges` and `MergesForHanded`: if the merged count isn't 0, the object lives on, merged.
 pub merged_live : (owner : ℕ) (n : Numbers) (c : ℕ) → IsLive owner n → 1 ≤ n.merging → n.carried ≡ c
     → merged_word n.shared c ≢ dead_word
     → IsLive owner (record n { shared = merged_word n.shared c; carried = 0; merging = n.merging - 1 })
@@ -176,6 +178,7 @@ merged_live owner n c live some carried alive = let up = shared_merged n.shared 
   ];
 }
 
+-- `MergesToZero`: if the merged count is 0, the object has no reference.
 pub merged_dies : (owner : ℕ) (n : Numbers) (c : ℕ) → IsLive owner n → 1 ≤ n.merging → n.carried ≡ c
     → merged_word n.shared c ≡ dead_word
     → IsDead (record n { shared = merged_word n.shared c; carried = 0; merging = n.merging - 1 })

@@ -25,6 +25,7 @@ shared_merged w c = (omega arith, omega arith)
 
 -- ---- the running owner's steps
 
+-- `LocalRaised`: the owner raises its local count.
 pub local_up : (owner : ℕ) (n : Numbers) → IsLive owner n → 1 ≤ local_part n.local → local_part n.local < most_local
     → IsLive owner (record n { local = n.local + 1; references = n.references + 1 })
 local_up owner n live some low = let up = owner_up n.local low in record {
@@ -46,7 +47,7 @@ local_up owner n live some low = let up = owner_up n.local low in record {
   ];
 }
 
--- a count above 1 goes down; the last local reference leaves the decision to the owner
+-- `LocalLowered`: the owner lowers a local count above 1.
 pub local_down : (owner : ℕ) (n : Numbers) → IsLive owner n → 2 ≤ local_part n.local → 1 ≤ n.references
     → IsLive owner (record n { local = n.local - 1; references = n.references - 1 })
 local_down owner n live some referenced = let down = owner_down n.local (omega (arith, some)) in record {
@@ -68,6 +69,7 @@ local_down owner n live some referenced = let down = owner_down n.local (omega (
   ];
 }
 
+-- `LocalReachesZero`: the owner lowers a local count of 1, and decides from then on.
 pub local_to_zero : (owner : ℕ) (n : Numbers) → IsLive owner n → local_part n.local ≡ 1 → 1 ≤ n.references
     → IsLive owner (record n { local = n.local - 1; references = n.references - 1; deciding = n.deciding + 1 })
 local_to_zero owner n live one referenced = let down = owner_down n.local (omega (arith, one)) in record {
@@ -89,7 +91,7 @@ local_to_zero owner n live one referenced = let down = owner_down n.local (omega
   ];
 }
 
--- the owner at zero finds (0, default): nothing is left
+-- `NeverShared`: if the owner's local count is 0 and the shared word is (0, default), the object has no reference.
 pub zero_dies : (owner : ℕ) (n : Numbers) → IsLive owner n → local_part n.local ≡ 0 → 1 ≤ n.deciding
     → n.shared ≡ fresh_word → IsDead (record n { deciding = n.deciding - 1 })
 zero_dies owner n live zero some fresh =
@@ -127,6 +129,7 @@ shared_range owner n live =
       | InMerged m ↦ omega (arith, m.counted)
     ]
 
+-- `SharedRaised`: a thread raises the shared count.
 pub shared_gained : (owner : ℕ) (n : Numbers) → IsLive owner n
     → IsLive owner (record n { shared = n.shared + 4; references = n.references + 1 })
 shared_gained owner n live = let up = shared_up n.shared in record {
@@ -165,7 +168,7 @@ shared_gained owner n live = let up = shared_up n.shared in record {
   ];
 }
 
--- a release that finds (0, default) queues, and its decrement awaits
+-- `Queues`: a release that finds (0, default) queues the object, and its decrement is pending from then on.
 pub shared_queued : (owner : ℕ) (n : Numbers) → IsLive owner n → n.shared ≡ fresh_word → 1 ≤ n.references
     → IsLive owner (record n { shared = n.shared + 2; references = n.references - 1; waiting = n.waiting + 1 })
 shared_queued owner n live fresh referenced =
@@ -199,7 +202,8 @@ shared_queued owner n live fresh referenced =
       ];
     }
 
--- a release that finds another word subtracts, and leaves the object alive
+-- `Decrements`: a release that finds any other shared word lowers its count, and the object lives on unless it is
+-- merged with a count of 0.
 pub shared_lost : (owner : ℕ) (n : Numbers) → IsLive owner n → n.shared ≢ fresh_word → n.shared - 4 ≢ dead_word
     → 1 ≤ n.references
     → IsLive owner (record n { shared = n.shared - 4; references = n.references - 1 })
@@ -240,7 +244,7 @@ shared_lost owner n live other alive referenced =
       ];
     }
 
--- the last reference to a merged object is given up: nothing is left
+-- `DecrementsToZero`: a release that takes the count of a merged object to 0 gives up the last reference.
 pub shared_dies : (owner : ℕ) (n : Numbers) → IsLive owner n → n.shared - 4 ≡ dead_word → 1 ≤ n.references
     → IsDead (record n { shared = n.shared - 4; references = n.references - 1 })
 shared_dies owner n live dead referenced =

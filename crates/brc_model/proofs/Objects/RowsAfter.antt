@@ -1,11 +1,10 @@
 -- Each duty keeps each row's invariant.
-use Rattle.std.proofs.Common.{◌≡◌, ℕ, ◌<◌, List, ◌∷◌, Some, arith, subst, inl, inr}
+use Rattle.std.proofs.Common.{◌≡◌, ℕ, List, ◌∷◌, Some, subst, inl, inr, refl, sym}
 use Rattle.std.specs.Prelude.{slice_get}
 use Rattle.std.proofs.lemmas.Bool.Decides.{eqb_tells}
 use Rattle.brc_model.specs.declared.duty.Reason.TheVariants.{Own, Handed}
 use Rattle.brc_model.specs.declared.duty.Duty.{Duty}
 use Rattle.brc_model.specs.declared.duty.Duty.TheVariants.{RetainLoad, RetainStore, RetainAdd, ReleaseLoad, ReleaseStore, DecideAtZero, SharedLoad, SharedExchange, SetMark, Look, TakeMark, MergeSwap, MergeLoad, MergeExchange, Die, Settle, SettleKind, SettleCell, TakeSlot, CloseResource, SettleEnd, Leave, Scan, Finish, ClaimMark, BirthKind, BirthSlot, BirthLocal}
-use Rattle.brc_model.specs.Duties.{block_of}
 use Rattle.brc_model.specs.declared.actor.Status.TheVariants.{Gone}
 use Rattle.brc_model.specs.Machine.{Actor, Machine, done_by}
 use Rattle.brc_model.specs.RowInvariant.{RowInvariant}
@@ -18,11 +17,17 @@ use Rattle.brc_model.proofs.Objects.RowsAfterShared.{row_after_shared_load, row_
 use Rattle.brc_model.proofs.Objects.RowsAfterMarks.{row_after_set_mark, row_after_look, row_after_take_mark, row_after_scan, row_after_claim_mark, row_after_die, row_after_settle_kind, row_after_settle_cell, row_after_take_slot, row_after_close_resource, row_after_settle_end}
 use Rattle.brc_model.proofs.Objects.RowsAfterBirths.{row_after_birth_kind, row_after_birth_slot, row_after_birth_local}
 use Rattle.brc_model.proofs.Objects.RowsAfterMerge.{row_after_own_swap, row_after_handed_swap, row_after_merge_load, row_after_merge_exchange}
+use Rattle.brc_model.proofs.Basics.Blocks.{immortal_apart}
+use Rattle.brc_model.specs.declared.layout.Layout.{Layout}
+use Rattle.brc_model.specs.Layout.{none_row, block_of, IsCounted}
 
--- the row that the duty is about
+none_counted : (layout : Layout) → IsCounted layout none_row → ⊥
+none_counted layout counted = immortal_apart layout none_row none_row counted refl refl
+
+-- A duty keeps the invariant of the row that it is about.
 own_row : (p : Accounts) (n : ℕ) (m : Machine) (t : ℕ) (a : Actor) (d : Duty) (rest : List Duty)
     → AtDuty p n m t a d rest
-    → 0 < subject d → KeepsRow m t a d rest (subject d)
+    → IsCounted m.layout (subject m.layout t d) → KeepsRow m t a d rest (subject m.layout t d)
 own_row p n m t a (RetainLoad y h) rest s some = row_after_retain_load some s
 own_row p n m t a (RetainStore y h w) rest s some = row_after_retain_store s
 own_row p n m t a (RetainAdd y h) rest s some = row_after_retain_add s
@@ -40,28 +45,31 @@ own_row p n m t a (MergeSwap y Handed) rest s some = row_after_handed_swap s
 own_row p n m t a (MergeLoad y c r) rest s some = row_after_merge_load s
 own_row p n m t a (MergeExchange y c w r) rest s some = row_after_merge_exchange s
 own_row p n m t a (Die y) rest s some = row_after_die some s
-own_row p n m t a Settle rest s some = absurd (omega (arith, some))
+own_row p n m t a Settle rest s some = absurd (none_counted m.layout some)
 own_row p n m t a (SettleKind y) rest s some = row_after_settle_kind some s
 own_row p n m t a (SettleCell y i cells) rest s some = row_after_settle_cell some s
 own_row p n m t a (TakeSlot y) rest s some = row_after_take_slot some s
 own_row p n m t a (CloseResource y) rest s some = row_after_close_resource some s
 own_row p n m t a (SettleEnd y) rest s some = row_after_settle_end s
-own_row p n m t a (Leave y left) rest s some = absurd (omega (arith, some))
+own_row p n m t a (Leave y left) rest s some = absurd (none_counted m.layout some)
 own_row p n m t a (Scan y left) rest s some = row_after_scan some s
-own_row p n m t a Finish rest s some = absurd (omega (arith, some))
+own_row p n m t a Finish rest s some = absurd (none_counted m.layout some)
 own_row p n m t a (ClaimMark y) rest s some = row_after_claim_mark some s
 own_row p n m t a (BirthKind y h w) rest s some = row_after_birth_kind some s
 own_row p n m t a (BirthSlot y h) rest s some = row_after_birth_slot some s
 own_row p n m t a (BirthLocal y h) rest s some = row_after_birth_local s
 
-pub rows_after : (p : Accounts) (n : ℕ) (m : Machine) (t : ℕ) (a : Actor) (d : Duty) (rest : List Duty) → CoreInvariant p n m
+-- A thread's next duty keeps the invariant of every counted row.
+pub rows_after : (p : Accounts) (n : ℕ) (m : Machine) (t : ℕ) (a : Actor) (d : Duty) (rest : List Duty)
+    → CoreInvariant p n m
     → slice_get m.actors t ≡ Some a → a.agenda ≡ d ∷ rest → (a.status ≡ Gone → ⊥)
-    → (x : ℕ) → 0 < x
-    → RowInvariant (block_of m.rows x) ((done_by m t a d rest).life x) (numbers_of (done_by m t a d rest) x)
+    → (x : ℕ) → IsCounted m.layout x
+    → RowInvariant (block_of m.layout x) ((done_by m t a d rest).life x) (numbers_of (done_by m t a d rest) x)
 rows_after p n m t a d rest core actor agenda runs x some =
     let s : AtDuty p n m t a d rest = record { core = core; found = actor; agenda = agenda } in
-    elim (eqb_tells (subject d) x) [
+    elim (eqb_tells (subject m.layout t d) x) [
       | inl same ↦
-          subst (λ (z : ℕ). KeepsRow m t a d rest z) same.1 (own_row p n m t a d rest s (omega (arith, some, same.1)))
+          subst (λ (z : ℕ). KeepsRow m t a d rest z) same.1
+          (own_row p n m t a d rest s (subst (IsCounted m.layout) (sym same.1) some))
       | inr other ↦ row_elsewhere s x some other.0
     ]

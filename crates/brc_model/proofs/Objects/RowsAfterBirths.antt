@@ -1,4 +1,4 @@
--- A birth keeps the row's invariant that is born.
+-- A birth keeps the invariant of the row that is born.
 use Rattle.std.proofs.Common.{ℕ, ◌+◌, ◌<◌, Bool, cond, List, [], ◌∷◌, refl, sym, ap, subst, arith}
 use Rattle.std.proofs.lemmas.Option.{slice_get_within}
 use Rattle.brc_model.specs.declared.duty.Holding.{Holding}
@@ -6,7 +6,7 @@ use Rattle.brc_word.specs.Words.{most_local, local_word}
 use Rattle.brc_model.specs.declared.duty.Duty.{Duty}
 use Rattle.brc_model.specs.declared.duty.Duty.TheVariants.{BirthKind, BirthSlot, BirthLocal}
 use Rattle.brc_model.specs.declared.address.Address.TheVariants.{Local}
-use Rattle.brc_model.specs.Duties.{block_of, has_resource}
+use Rattle.brc_model.specs.Duties.{has_resource}
 use Rattle.brc_model.specs.Machine.{Actor, Life, Live, Machine}
 use Rattle.brc_model.proofs.Basics.Bag.{references_to-cons}
 use Rattle.brc_model.specs.References.{reference_of}
@@ -16,27 +16,26 @@ use Rattle.brc_model.specs.Knowledge.{IsNext}
 use Rattle.brc_model.specs.Invariant.{AtDuty, numbers_of}
 use Rattle.brc_model.proofs.Objects.RowsAfterOwn.{own, one_own, written_here, row_apart}
 use Rattle.brc_model.proofs.Objects.RowsAfterStep.{KeepsRow, head_fits_of, weighed, row_becomes, row_stays}
-use Rattle.brc_model.proofs.Objects.RowsAfterElsewhere.{IsApart, apart_if, one_apart}
-use Rattle.brc_model.proofs.Basics.Blocks.{next_above, next_unborn, next_block}
+use Rattle.brc_model.proofs.Objects.RowsAfterElsewhere.{apart_if, all_light}
+use Rattle.brc_model.proofs.Basics.Blocks.{next_counted, next_unborn, next_block}
+use Rattle.brc_model.specs.Layout.{block_of, IsCounted}
 
--- ---- what the object is, and its resource
+-- ---- the kind word and the slot
 
+-- The row's invariant holds after `KindOfResource` and `KindOfOther`.
 pub row_after_birth_kind : {p : Accounts} {n : ℕ} {m : Machine} {t : ℕ} {a : Actor} {y : ℕ} {h : Holding} {w : ℕ}
     {rest : List Duty}
-    → 0 < y → AtDuty p n m t a (BirthKind y h w) rest → KeepsRow m t a (BirthKind y h w) rest y
+    → IsCounted m.layout y → AtDuty p n m t a (BirthKind y h w) rest → KeepsRow m t a (BirthKind y h w) rest y
 row_after_birth_kind {y = y} {h = h} {w = w} some s =
-    let this : IsApart y (BirthKind y h w) =
-    record { waiting = refl; carried = refl; merging = refl; deciding = refl; lives = λ life state. refl } in
-    let slot : IsApart y (BirthSlot y h) =
-    record { waiting = refl; carried = refl; merging = refl; deciding = refl; lives = λ life state. refl } in
-    let local : IsApart y (BirthLocal y h) =
-    record { waiting = refl; carried = refl; merging = refl; deciding = refl; lives = λ life state. refl } in
-    row_apart s y some this (apart_if (has_resource w) (one_apart y _ slot) (one_apart y _ local)) (λ life state. refl)
+    let slot = all_light y (BirthSlot y h ∷ []) refl in
+    let local = all_light y (BirthLocal y h ∷ []) refl in
+    row_apart s y some refl (apart_if (has_resource w) slot local) (λ life state. refl)
     (record { local = refl; shared = refl; mark = refl; references = refl })
 
+-- The row's invariant holds after `SlotFilled`.
 pub row_after_birth_slot : {p : Accounts} {n : ℕ} {m : Machine} {t : ℕ} {a : Actor} {y : ℕ} {h : Holding}
     {rest : List Duty}
-    → 0 < y → AtDuty p n m t a (BirthSlot y h) rest → KeepsRow m t a (BirthSlot y h) rest y
+    → IsCounted m.layout y → AtDuty p n m t a (BirthSlot y h) rest → KeepsRow m t a (BirthSlot y h) rest y
 row_after_birth_slot {y = y} {h = h} some s =
     row_stays {next = BirthLocal y h ∷ []} {x = y} s some
     (record {
@@ -52,9 +51,9 @@ row_after_birth_slot {y = y} {h = h} some s =
       deciding = refl;
     })
 
--- ---- the object is counted
+-- ---- the local word
 
--- one local reference of the owner's, and nothing else
+-- `Born`: the row is live. Its owner has one local reference, and nothing else is counted.
 born_live : (owner : ℕ) (k : Numbers) → owner < most_local → IsUnborn k
     → IsLive owner (record k { local = local_word owner 1; references = k.references + 1 })
 born_live owner k low unborn = record {
@@ -71,6 +70,7 @@ born_live owner k low unborn = record {
   });
 }
 
+-- The row's invariant holds after `Born`.
 pub row_after_birth_local : {p : Accounts} {n : ℕ} {m : Machine} {t : ℕ} {a : Actor} {y : ℕ} {h : Holding}
     {rest : List Duty}
     → AtDuty p n m t a (BirthLocal y h) rest → KeepsRow m t a (BirthLocal y h) rest y
@@ -79,12 +79,12 @@ row_after_birth_local {p = p} {n = n} {m = m} {t = t} {a = a} {y = y} {h = h} {r
     let k = numbers_of m y in
     let weights = weighed s [] refl y in
     let one = one_own y in
-    let above = next_above m t a y next in
+    let above = next_counted m t a y next in
     let block = next_block m t a y next in
     let within = slice_get_within m.actors t a s.found in
     let unborn : IsUnborn k =
-    subst (λ (l : Life). RowInvariant (block_of m.rows y) l k) (next_unborn p n m t a y s.core s.found next)
-    (s.core.rows y (omega (arith, above))) in
+    subst (λ (l : Life). RowInvariant (block_of m.layout y) l k) (next_unborn p n m t a y s.core s.found next)
+    (s.core.rows y above) in
     row_becomes m t a (BirthLocal y h) rest y [] refl Live (ap (λ (b : Bool). cond b Live (m.life y)) (own y))
     (record k { local = local_word t 1; references = k.references + 1 }) (record {
       local = sym (written_here m.memory (Local y) (local_word t 1) (own y));

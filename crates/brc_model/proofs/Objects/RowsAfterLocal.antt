@@ -1,5 +1,5 @@
--- Retaining and releasing by the local word keep the row's invariant.
-use Rattle.std.proofs.Common.{◌≡◌, ℕ, ◌+◌, ◌-◌, ◌<◌, ◌≤◌, Bool, false, cond, List, [], ◌∷◌, ◌++◌, refl, sym, ap, ◌∙◌, arith, inl, inr}
+-- A retain and a release by the local word keep the row's invariant.
+use Rattle.std.proofs.Common.{◌≡◌, ℕ, ◌+◌, ◌-◌, ◌≤◌, Bool, false, cond, List, [], ◌∷◌, ◌++◌, refl, sym, ap, ◌∙◌, arith, inl, inr}
 use Rattle.std.specs.Prelude.{◌&&◌, nat_lt}
 use Rattle.std.proofs.lemmas.Bool.Decides.{eqb_tells}
 use Rattle.brc_model.specs.declared.duty.Holding.{Holding}
@@ -10,47 +10,43 @@ use Rattle.brc_model.specs.declared.duty.Reason.TheVariants.{Own}
 use Rattle.brc_model.specs.declared.duty.Duty.{Duty}
 use Rattle.brc_model.specs.declared.duty.Duty.TheVariants.{RetainLoad, RetainStore, RetainAdd, ReleaseLoad, ReleaseStore, DecideAtZero, SharedLoad, MergeSwap, Die}
 use Rattle.brc_model.specs.declared.address.Address.TheVariants.{Local, Shared}
-use Rattle.brc_model.specs.Duties.{block_of, counts_locally}
-use Rattle.brc_model.specs.Machine.{Live, Dying, Actor, Machine, gain, lose, put_in_flight}
+use Rattle.brc_model.specs.Duties.{counts_locally}
+use Rattle.brc_model.specs.Machine.{Live, Dying, Actor, Machine}
+use Rattle.brc_model.specs.Moves.{gain, lose, put_in_flight}
 use Rattle.brc_model.proofs.Basics.Bag.{references_to-cons, same_holding-refl}
 use Rattle.brc_model.specs.References.{reference_of}
 use Rattle.brc_model.specs.Accounts.{Accounts}
 use Rattle.brc_model.specs.Invariant.{AtDuty, numbers_of}
 use Rattle.brc_model.proofs.Objects.RowSteps.{local_up, local_down, local_to_zero, zero_dies, shared_gained}
 use Rattle.brc_model.proofs.Objects.RowsAfterStep.{head_fits_of, KeepsRow, weighed, row_becomes, row_stays}
-use Rattle.brc_model.proofs.Objects.RowsAfterElsewhere.{IsApart, none_apart, one_apart, apart_if}
+use Rattle.brc_model.proofs.Objects.RowsAfterElsewhere.{none_apart, apart_if, all_light}
 use Rattle.brc_model.proofs.Objects.RowsAfterOwn.{own, one_own, written_here, gives_up, IsLost, is_lost, lives_so, lives_backed, counted_word, row_apart}
+use Rattle.brc_model.specs.Layout.{block_of, IsCounted}
 
 -- ---- retaining
 
-retain_apart : (x y : ℕ) (h : Holding) (w : ℕ)
-    → (IsApart x (RetainLoad y h)) × (IsApart x (RetainStore y h w)) × (IsApart x (RetainAdd y h))
-retain_apart x y h w = (
-  record { waiting = refl; carried = refl; merging = refl; deciding = refl; lives = λ life state. refl },
-  record { waiting = refl; carried = refl; merging = refl; deciding = refl; lives = λ life state. refl },
-  record { waiting = refl; carried = refl; merging = refl; deciding = refl; lives = λ life state. refl },
-)
-
+-- The row's invariant holds after `OwnerRetains`, `FullOwnerRetains` and `OtherRetains`.
 pub row_after_retain_load : {p : Accounts} {n : ℕ} {m : Machine} {t : ℕ} {a : Actor} {y : ℕ} {h : Holding}
     {rest : List Duty}
-    → 0 < y → AtDuty p n m t a (RetainLoad y h) rest → KeepsRow m t a (RetainLoad y h) rest y
+    → IsCounted m.layout y → AtDuty p n m t a (RetainLoad y h) rest → KeepsRow m t a (RetainLoad y h) rest y
 row_after_retain_load {m = m} {t = t} {y = y} {h = h} some s =
     let fits = head_fits_of s in
     let w = m.memory (Local y) in
     let lives = lives_backed s y some fits in
-    let counted : is_immortal_word w ≡ false = counted_word (block_of m.rows y) (numbers_of m y) lives.invariant in
-    let parts = retain_apart y y h w in
+    let counted : is_immortal_word w ≡ false = counted_word (block_of m.layout y) (numbers_of m y) lives.invariant in
     let next =
     apart_if (is_immortal_word w) (none_apart y)
-    (apart_if (counts_locally t _ w && nat_lt (local_part w) most_local) (one_apart y _ parts.1)
-    (one_apart y _ parts.2)) in
-    row_apart s y some parts.0 next (λ life state. refl) (record {
+    (apart_if (counts_locally t _ w && nat_lt (local_part w) most_local)
+    (all_light y (RetainStore y h w ∷ []) refl) (all_light y (RetainAdd y h ∷ []) refl)) in
+    row_apart s y some refl next (λ life state. refl) (record {
       local = sym (written_here m.memory (Local y) w (own y));
       shared = refl;
       mark = refl;
-      references = sym (ap (λ (b : Bool). references_to y (moved m.abstract (cond b (gain t h y) [])).references) counted);
+      references =
+          sym (ap (λ (b : Bool). references_to y (moved m.abstract (cond b (gain t h y) [])).references) counted);
     })
 
+-- The row's invariant holds after `LocalRaised`.
 pub row_after_retain_store : {p : Accounts} {n : ℕ} {m : Machine} {t : ℕ} {a : Actor} {y : ℕ} {h : Holding} {w : ℕ}
     {rest : List Duty}
     → AtDuty p n m t a (RetainStore y h w) rest → KeepsRow m t a (RetainStore y h w) rest y
@@ -71,8 +67,9 @@ row_after_retain_store {m = m} {t = t} {a = a} {y = y} {h = h} {w = w} {rest = r
       carried = omega (arith, weights.carried);
       merging = omega (arith, weights.merging);
       deciding = omega (arith, weights.deciding);
-    }) (local_up (block_of m.rows y) k lives.invariant (omega (arith, low, fits.4)) (omega (arith, low, fits.5)))
+    }) (local_up (block_of m.layout y) k lives.invariant (omega (arith, low, fits.4)) (omega (arith, low, fits.5)))
 
+-- The row's invariant holds after `SharedRaised`.
 pub row_after_retain_add : {p : Accounts} {n : ℕ} {m : Machine} {t : ℕ} {a : Actor} {y : ℕ} {h : Holding}
     {rest : List Duty}
     → AtDuty p n m t a (RetainAdd y h) rest → KeepsRow m t a (RetainAdd y h) rest y
@@ -92,11 +89,11 @@ row_after_retain_add {m = m} {t = t} {a = a} {y = y} {h = h} {rest = rest} s =
       carried = omega (arith, weights.carried);
       merging = omega (arith, weights.merging);
       deciding = omega (arith, weights.deciding);
-    }) (shared_gained (block_of m.rows y) k lives.invariant)
+    }) (shared_gained (block_of m.layout y) k lives.invariant)
 
 -- ---- releasing
 
--- a reference that is taken into the hand is one reference still
+-- A reference that its holder puts in flight is still one reference to the object.
 passed_on : (t y : ℕ) (h : Holding) (p : AbstractState) → IsLost p.references (reference_of t h y)
     → references_to y p.references ≡ references_to y (moved p (put_in_flight t h y ++ [])).references
 passed_on t y InFlight p lost = refl
@@ -118,40 +115,39 @@ passed_on t y (ByVariable v) p lost =
       one,
     )
 
+-- The row's invariant holds after `OwnerReleases` and `OtherReleases`.
 pub row_after_release_load : {p : Accounts} {n : ℕ} {m : Machine} {t : ℕ} {a : Actor} {y : ℕ} {h : Holding}
     {rest : List Duty}
-    → 0 < y → AtDuty p n m t a (ReleaseLoad y h) rest → KeepsRow m t a (ReleaseLoad y h) rest y
+    → IsCounted m.layout y → AtDuty p n m t a (ReleaseLoad y h) rest → KeepsRow m t a (ReleaseLoad y h) rest y
 row_after_release_load {m = m} {t = t} {y = y} {h = h} some s =
     let w = m.memory (Local y) in
     let lost =
     is_lost m.abstract.references (reference_of t h y) (gives_up s h y (rw (same_holding-refl h, own y) refl) refl) in
     let lives = lives_so s y some (omega (arith, lost.before)) in
-    let counted : is_immortal_word w ≡ false = counted_word (block_of m.rows y) (numbers_of m y) lives.invariant in
-    let load : IsApart y (ReleaseLoad y h) =
-    record { waiting = refl; carried = refl; merging = refl; deciding = refl; lives = λ life state. refl } in
-    let store : IsApart y (ReleaseStore y w) =
-    record { waiting = refl; carried = refl; merging = refl; deciding = refl; lives = λ life state. refl } in
-    let shared : IsApart y (SharedLoad y Own) =
-    record { waiting = refl; carried = refl; merging = refl; deciding = refl; lives = λ life state. refl } in
+    let counted : is_immortal_word w ≡ false = counted_word (block_of m.layout y) (numbers_of m y) lives.invariant in
     let next =
     apart_if (is_immortal_word w) (none_apart y)
-    (apart_if (counts_locally t _ w) (one_apart y _ store) (one_apart y _ shared)) in
-    row_apart s y some load next (λ life state. refl) (record {
+    (apart_if (counts_locally t _ w) (all_light y (ReleaseStore y w ∷ []) refl)
+    (all_light y (SharedLoad y Own ∷ []) refl)) in
+    row_apart s y some refl next (λ life state. refl) (record {
       local = sym (written_here m.memory (Local y) w (own y));
       shared = refl;
       mark = refl;
       references =
           passed_on t y h m.abstract lost ∙ sym
-          (ap (λ (b : Bool). references_to y (moved m.abstract (put_in_flight t h y ++ cond b (lose t y) [])).references)
+          (ap (λ (b : Bool). references_to y
+          (moved m.abstract (put_in_flight t h y ++ cond b (lose t y) [])).references)
           counted);
     })
 
+-- The row's invariant holds after `LocalLowered` and `LocalReachesZero`.
 pub row_after_release_store : {p : Accounts} {n : ℕ} {m : Machine} {t : ℕ} {a : Actor} {y w : ℕ} {rest : List Duty}
     → AtDuty p n m t a (ReleaseStore y w) rest → KeepsRow m t a (ReleaseStore y w) rest y
 row_after_release_store {m = m} {t = t} {a = a} {y = y} {w = w} {rest = rest} s =
     let fits = head_fits_of s in
     let k = numbers_of m y in
-    let lost = is_lost m.abstract.references (reference_of t InFlight y) (gives_up s InFlight y (rw (own y) refl) refl) in
+    let lost =
+    is_lost m.abstract.references (reference_of t InFlight y) (gives_up s InFlight y (rw (own y) refl) refl) in
     let lives = lives_so s y fits.0 (omega (arith, lost.before)) in
     let word = written_here m.memory (Local y) (w - 1) (own y) in
     let low : local_part (m.memory (Local y)) ≡ local_part w = ap local_part fits.2 in
@@ -169,7 +165,7 @@ row_after_release_store {m = m} {t = t} {a = a} {y = y} {w = w} {rest = rest} s 
             carried = omega (arith, weights.carried);
             merging = omega (arith, weights.merging);
             deciding = omega (arith, weights.deciding, one);
-          }) (local_to_zero (block_of m.rows y) k lives.invariant (low ∙ last.1) lost.before)
+          }) (local_to_zero (block_of m.layout y) k lives.invariant (low ∙ last.1) lost.before)
       | inr more ↦
           let weights = weighed s [] (rw more.0 refl) y in
           row_becomes m t a (ReleaseStore y w) rest y [] (rw more.0 refl) Live lives.is_live
@@ -182,11 +178,12 @@ row_after_release_store {m = m} {t = t} {a = a} {y = y} {w = w} {rest = rest} s 
             carried = omega (arith, weights.carried);
             merging = omega (arith, weights.merging);
             deciding = omega (arith, weights.deciding);
-          }) (local_down (block_of m.rows y) k lives.invariant (omega (arith, low, fits.3, more.1)) lost.before)
+          }) (local_down (block_of m.layout y) k lives.invariant (omega (arith, low, fits.3, more.1)) lost.before)
     ]
 
--- ---- the owner at zero
+-- ---- the owner decides at zero
 
+-- The row's invariant holds after `NeverShared` and `WasShared`.
 pub row_after_decide_at_zero : {p : Accounts} {n : ℕ} {m : Machine} {t : ℕ} {a : Actor} {y : ℕ} {rest : List Duty}
     → AtDuty p n m t a (DecideAtZero y) rest → KeepsRow m t a (DecideAtZero y) rest y
 row_after_decide_at_zero {m = m} {t = t} {a = a} {y = y} {rest = rest} s =
@@ -210,7 +207,7 @@ row_after_decide_at_zero {m = m} {t = t} {a = a} {y = y} {rest = rest} s =
             carried = omega (arith, weights.carried);
             merging = omega (arith, weights.merging);
             deciding = omega (arith, weights.deciding, one);
-          }) (zero_dies (block_of m.rows y) k lives.invariant fits.2 decided fresh.1)
+          }) (zero_dies (block_of m.layout y) k lives.invariant fits.2 decided fresh.1)
       | inr other ↦
           row_stays {next = MergeSwap y Own ∷ []} {x = y} s fits.0 (record {
             follows = rw other.0 refl;

@@ -1,5 +1,5 @@
--- Setting, taking and looking at marks, and what finalises or leaves, keep the row's invariant.
-use Rattle.std.proofs.Common.{◌≡◌, ℕ, ◌+◌, ◌-◌, ◌<◌, ◌≤◌, Bool, true, false, cond, List, [], ◌∷◌, ◌++◌, refl, sym, ap, ◌∙◌, subst, arith, inl, inr}
+-- The steps that set, look at and take marks, and those that finalise a row, keep the row's invariant.
+use Rattle.std.proofs.Common.{◌≡◌, ℕ, ◌+◌, ◌-◌, ◌≤◌, Bool, true, false, cond, List, [], ◌∷◌, ◌++◌, refl, sym, ap, ◌∙◌, subst, arith, inl, inr}
 use Rattle.std.specs.Prelude.{◌==◌}
 use Rattle.std.proofs.lemmas.List.Sums.{sum_by-append}
 use Rattle.brc_model.specs.AbstractState.{references_to, moved}
@@ -7,22 +7,25 @@ use Rattle.brc_model.specs.declared.duty.Reason.TheVariants.{Handed}
 use Rattle.brc_model.specs.declared.duty.Duty.{Duty}
 use Rattle.brc_model.specs.declared.duty.Duty.TheVariants.{SetMark, Look, TakeMark, MergeSwap, Die, Settle, SettleKind, SettleCell, TakeSlot, CloseResource, SettleEnd, Scan, ClaimMark}
 use Rattle.brc_model.specs.declared.address.Address.TheVariants.{Local, Shared, Mark, Cell, KindOf}
-use Rattle.brc_model.specs.Duties.{block_of, claimed, has_resource, cells_of, cells_from}
-use Rattle.brc_model.specs.Machine.{Life, Live, Dying, Closed, Actor, Machine, with_life, dies_next, life_by, done_by, take_out}
+use Rattle.brc_model.specs.Duties.{claimed, has_resource, cells_of, cells_from}
+use Rattle.brc_model.specs.Machine.{Life, Live, Dying, Closed, Actor, Machine, with_life, dies_next, life_by, done_by}
+use Rattle.brc_model.specs.Moves.{take_out}
 use Rattle.brc_model.specs.RowInvariant.{waits, carries, merges, decides, RowInvariant}
 use Rattle.brc_model.specs.Accounts.{Accounts}
 use Rattle.brc_model.specs.Invariant.{AtDuty, numbers_of}
 use Rattle.brc_model.proofs.Objects.RowMerges.{mark_set, mark_taken}
 use Rattle.brc_model.proofs.Objects.RowsAfterStep.{head_fits_of, following, KeepsRow, weighed, row_becomes, row_stays}
-use Rattle.brc_model.proofs.Objects.RowsAfterElsewhere.{IsApart, AreApart, none_apart, one_apart, more_apart, apart_if, settle_apart, scan_apart, kind_apart, cells_apart, released_apart}
+use Rattle.brc_model.proofs.Objects.RowsAfterElsewhere.{IsApart, AreApart, none_apart, apart_if, light_apart, all_light, cells_apart, released_apart}
 use Rattle.brc_model.proofs.Objects.RowsAfterOwn.{own, one_own, written_here, lives_so, row_apart}
+use Rattle.brc_model.specs.Layout.{block_of, row_at, IsCounted}
 
 -- ---- a mark is set
 
+-- The row's invariant holds after `Marked`.
 pub row_after_set_mark : {p : Accounts} {n : ℕ} {m : Machine} {t : ℕ} {a : Actor} {y : ℕ} {rest : List Duty}
     → AtDuty p n m t a (SetMark y) rest → KeepsRow m t a (SetMark y) rest y
 row_after_set_mark {m = m} {t = t} {a = a} {y = y} {rest = rest} s =
-    let some : 0 < y = head_fits_of s in
+    let some : IsCounted m.layout y = head_fits_of s in
     let k = numbers_of m y in
     let weights = weighed s (Look y ∷ []) refl y in
     let one = one_own y in
@@ -38,22 +41,21 @@ row_after_set_mark {m = m} {t = t} {a = a} {y = y} {rest = rest} s =
       carried = omega (arith, weights.carried);
       merging = omega (arith, weights.merging);
       deciding = omega (arith, weights.deciding);
-    }) (mark_set (block_of m.rows y) k lives.invariant awaits)
+    }) (mark_set (block_of m.layout y) k lives.invariant awaits)
 
+-- The row's invariant holds after `OwnerRuns` and `OwnerExits`.
 pub row_after_look : {p : Accounts} {n : ℕ} {m : Machine} {t : ℕ} {a : Actor} {y : ℕ} {rest : List Duty}
     → AtDuty p n m t a (Look y) rest → KeepsRow m t a (Look y) rest y
 row_after_look {m = m} {y = y} s =
-    let some : 0 < y = head_fits_of s in
-    let look : IsApart y (Look y) =
-    record { waiting = refl; carried = refl; merging = refl; deciding = refl; lives = λ life state. refl } in
-    let take : IsApart y (TakeMark y) =
-    record { waiting = refl; carried = refl; merging = refl; deciding = refl; lives = λ life state. refl } in
-    row_apart s y some look (apart_if _ (none_apart y) (one_apart y (TakeMark y) take)) (λ life state. refl)
+    let some : IsCounted m.layout y = head_fits_of s in
+    let next = apart_if _ (none_apart y) (all_light y (TakeMark y ∷ []) refl) in
+    row_apart s y some refl next (λ life state. refl)
     (record { local = refl; shared = refl; mark = refl; references = refl })
 
--- ---- a mark is taken, by whoever may
+-- ---- a mark is taken
 
--- a duty that takes the mark, and what follows it whether the mark was set or not
+-- What a step that takes the row's mark does, whether or not the mark was set. `tail` are the duties that follow in
+-- both cases.
 pub record Takes (m : Machine) (t : ℕ) (a : Actor) (d : Duty) (rest : List Duty) (y : ℕ) (tail : List Duty) : Type 0
   where
     pub follows : following m t a d ≡ claimed y (m.memory (Mark y)) ++ tail
@@ -65,9 +67,9 @@ pub record Takes (m : Machine) (t : ℕ) (a : Actor) (d : Duty) (rest : List Dut
     pub mark : (done_by m t a d rest).memory (Mark y) ≡ 0
     pub references : references_to y m.abstract.references ≡ references_to y (done_by m t a d rest).abstract.references
 
--- none was set
+-- `MarkGone`, `ScanFindsNone` and `NothingToClaim`: if the mark wasn't set, the row is unchanged.
 takes_none : {p : Accounts} {n : ℕ} {m : Machine} {t : ℕ} {a : Actor} {d : Duty} {rest tail : List Duty} {y : ℕ}
-    → AtDuty p n m t a d rest → 0 < y → Takes m t a d rest y tail → m.memory (Mark y) ≡ 0
+    → AtDuty p n m t a d rest → IsCounted m.layout y → Takes m t a d rest y tail → m.memory (Mark y) ≡ 0
     → KeepsRow m t a d rest y
 takes_none {m = m} {t = t} {a = a} {d = d} {rest = rest} {tail = tail} {y = y} s some takes unset =
     let follows : following m t a d ≡ tail = takes.follows ∙ ap (λ (w : ℕ). claimed y w ++ tail) unset in
@@ -87,9 +89,10 @@ takes_none {m = m} {t = t} {a = a} {d = d} {rest = rest} {tail = tail} {y = y} s
 abbrev hands : ℕ → List Duty
 hands y = MergeSwap y Handed ∷ []
 
--- one was set, and its decrement awaits by the handed reference
+-- `MarkTakenBack`, `ScanFindsMark` and `MarkClaimed`: if the mark was set, its pending decrement goes over to the duty
+-- that merges the object.
 takes_one : {p : Accounts} {n : ℕ} {m : Machine} {t : ℕ} {a : Actor} {d : Duty} {rest tail : List Duty} {y : ℕ}
-    → AtDuty p n m t a d rest → 0 < y → Takes m t a d rest y tail → m.memory (Mark y) ≡ 1
+    → AtDuty p n m t a d rest → IsCounted m.layout y → Takes m t a d rest y tail → m.memory (Mark y) ≡ 1
     → KeepsRow m t a d rest y
 takes_one {m = m} {t = t} {a = a} {d = d} {rest = rest} {tail = tail} {y = y} s some takes set =
     let k = numbers_of m y in
@@ -136,16 +139,17 @@ takes_one {m = m} {t = t} {a = a} {d = d} {rest = rest} {tail = tail} {y = y} s 
             takes.others.deciding,
             sum_by-append (decides y) (hands y) tail,
           );
-    }) (mark_taken (block_of m.rows y) k lives.invariant set)
+    }) (mark_taken (block_of m.layout y) k lives.invariant set)
 
 row_after_taking : {p : Accounts} {n : ℕ} {m : Machine} {t : ℕ} {a : Actor} {d : Duty} {rest tail : List Duty} {y : ℕ}
-    → AtDuty p n m t a d rest → 0 < y → Takes m t a d rest y tail → KeepsRow m t a d rest y
+    → AtDuty p n m t a d rest → IsCounted m.layout y → Takes m t a d rest y tail → KeepsRow m t a d rest y
 row_after_taking {y = y} s some takes =
     elim (s.core.marks y) [
       | inl unset ↦ takes_none s some takes unset
       | inr set ↦ takes_one s some takes set.0
     ]
 
+-- The row's invariant holds after `MarkTakenBack` and `MarkGone`.
 pub row_after_take_mark : {p : Accounts} {n : ℕ} {m : Machine} {t : ℕ} {a : Actor} {y : ℕ} {rest : List Duty}
     → AtDuty p n m t a (TakeMark y) rest → KeepsRow m t a (TakeMark y) rest y
 row_after_take_mark {m = m} {t = t} {a = a} {y = y} {rest = rest} s =
@@ -154,7 +158,7 @@ row_after_take_mark {m = m} {t = t} {a = a} {y = y} {rest = rest} s =
         | true ↦ refl
         | false ↦ refl
       ];
-      this = record { waiting = refl; carried = refl; merging = refl; deciding = refl; lives = λ life state. refl };
+      this = light_apart y (TakeMark y) refl;
       others = none_apart y;
       lives = λ next. refl;
       local = refl;
@@ -164,13 +168,16 @@ row_after_take_mark {m = m} {t = t} {a = a} {y = y} {rest = rest} s =
     } in
     row_after_taking s (head_fits_of s).0 takes
 
-pub row_after_scan : {p : Accounts} {n : ℕ} {m : Machine} {t : ℕ} {a : Actor} {y left : ℕ} {rest : List Duty} → 0 < y
-    → AtDuty p n m t a (Scan y left) rest → KeepsRow m t a (Scan y left) rest y
-row_after_scan {m = m} {t = t} {a = a} {y = y} {left = left} {rest = rest} some s =
-    let takes : Takes m t a (Scan y left) rest y (Settle ∷ Scan (y + 1) (left - 1) ∷ []) = record {
+-- The row's invariant holds after `ScanFindsMark` and `ScanFindsNone`.
+pub row_after_scan : {p : Accounts} {n : ℕ} {m : Machine} {t : ℕ} {a : Actor} {i left : ℕ} {rest : List Duty}
+    → IsCounted m.layout (row_at m.layout t i)
+    → AtDuty p n m t a (Scan i left) rest → KeepsRow m t a (Scan i left) rest (row_at m.layout t i)
+row_after_scan {m = m} {t = t} {a = a} {i = i} {left = left} {rest = rest} some s =
+    let y = row_at m.layout t i in
+    let takes : Takes m t a (Scan i left) rest y (Settle ∷ Scan (i + 1) (left - 1) ∷ []) = record {
       follows = refl;
-      this = scan_apart y y left;
-      others = more_apart y Settle _ (settle_apart y) (one_apart y _ (scan_apart y (y + 1) (left - 1)));
+      this = light_apart y (Scan i left) refl;
+      others = all_light y (Settle ∷ Scan (i + 1) (left - 1) ∷ []) refl;
       lives = λ next. refl;
       local = refl;
       shared = refl;
@@ -179,13 +186,15 @@ row_after_scan {m = m} {t = t} {a = a} {y = y} {left = left} {rest = rest} some 
     } in
     row_after_taking s some takes
 
-pub row_after_claim_mark : {p : Accounts} {n : ℕ} {m : Machine} {t : ℕ} {a : Actor} {y : ℕ} {rest : List Duty} → 0 < y
+-- The row's invariant holds after `MarkClaimed` and `NothingToClaim`.
+pub row_after_claim_mark : {p : Accounts} {n : ℕ} {m : Machine} {t : ℕ} {a : Actor} {y : ℕ} {rest : List Duty}
+    → IsCounted m.layout y
     → AtDuty p n m t a (ClaimMark y) rest → KeepsRow m t a (ClaimMark y) rest y
 row_after_claim_mark {m = m} {t = t} {a = a} {y = y} {rest = rest} some s =
     let takes : Takes m t a (ClaimMark y) rest y (Settle ∷ []) = record {
       follows = refl;
-      this = record { waiting = refl; carried = refl; merging = refl; deciding = refl; lives = λ life state. refl };
-      others = one_apart y Settle (settle_apart y);
+      this = light_apart y (ClaimMark y) refl;
+      others = all_light y (Settle ∷ []) refl;
       lives = λ next. refl;
       local = refl;
       shared = refl;
@@ -194,9 +203,11 @@ row_after_claim_mark {m = m} {t = t} {a = a} {y = y} {rest = rest} some s =
     } in
     row_after_taking s some takes
 
--- ---- an object dies, and is finalised
+-- ---- deallocation
 
-pub row_after_die : {p : Accounts} {n : ℕ} {m : Machine} {t : ℕ} {a : Actor} {y : ℕ} {rest : List Duty} → 0 < y
+-- The row's invariant holds after `Chained`.
+pub row_after_die : {p : Accounts} {n : ℕ} {m : Machine} {t : ℕ} {a : Actor} {y : ℕ} {rest : List Duty}
+    → IsCounted m.layout y
     → AtDuty p n m t a (Die y) rest → KeepsRow m t a (Die y) rest y
 row_after_die {y = y} some s =
     row_stays {next = []} {x = y} s some
@@ -213,23 +224,23 @@ row_after_die {y = y} some s =
       deciding = refl;
     })
 
-pub row_after_settle_kind : {p : Accounts} {n : ℕ} {m : Machine} {t : ℕ} {a : Actor} {y : ℕ} {rest : List Duty} → 0 < y
+-- The row's invariant holds after `DyingResource` and `DyingCells`.
+pub row_after_settle_kind : {p : Accounts} {n : ℕ} {m : Machine} {t : ℕ} {a : Actor} {y : ℕ} {rest : List Duty}
+    → IsCounted m.layout y
     → AtDuty p n m t a (SettleKind y) rest → KeepsRow m t a (SettleKind y) rest y
 row_after_settle_kind {m = m} {y = y} some s =
     let word = m.memory (KindOf y) in
-    let slot : IsApart y (TakeSlot y) =
-    record { waiting = refl; carried = refl; merging = refl; deciding = refl; lives = λ life state. refl } in
-    let next = apart_if (has_resource word) (one_apart y (TakeSlot y) slot) (cells_apart y y 0 (cells_of word)) in
-    row_apart s y some (kind_apart y y) next (λ life state. refl)
+    let next =
+    apart_if (has_resource word) (all_light y (TakeSlot y ∷ []) refl) (cells_apart y y 0 (cells_of word)) in
+    row_apart s y some refl next (λ life state. refl)
     (record { local = refl; shared = refl; mark = refl; references = refl })
 
+-- The row's invariant holds after `CellEmptied`.
 pub row_after_settle_cell : {p : Accounts} {n : ℕ} {m : Machine} {t : ℕ} {a : Actor} {y i cells : ℕ} {rest : List
-    Duty} → 0 < y
+    Duty} → IsCounted m.layout y
     → AtDuty p n m t a (SettleCell y i cells) rest → KeepsRow m t a (SettleCell y i cells) rest y
 row_after_settle_cell {m = m} {t = t} {y = y} {i = i} {cells = cells} some s =
-    let this : IsApart y (SettleCell y i cells) =
-    record { waiting = refl; carried = refl; merging = refl; deciding = refl; lives = λ life state. refl } in
-    row_apart s y some this (released_apart y (m.memory (Cell y i)) (cells_from y (i + 1) cells)
+    row_apart s y some refl (released_apart y (m.memory (Cell y i)) (cells_from y (i + 1) cells)
     (cells_apart y y (i + 1) cells)) (λ life state. refl)
     (record {
       local = refl;
@@ -239,7 +250,9 @@ row_after_settle_cell {m = m} {t = t} {y = y} {i = i} {cells = cells} some s =
           ap (λ (w : ℕ). references_to y (moved m.abstract (take_out t y i w)).references) (sym (s.core.cells y i));
     })
 
-pub row_after_take_slot : {p : Accounts} {n : ℕ} {m : Machine} {t : ℕ} {a : Actor} {y : ℕ} {rest : List Duty} → 0 < y
+-- The row's invariant holds after `SlotEmptied`.
+pub row_after_take_slot : {p : Accounts} {n : ℕ} {m : Machine} {t : ℕ} {a : Actor} {y : ℕ} {rest : List Duty}
+    → IsCounted m.layout y
     → AtDuty p n m t a (TakeSlot y) rest → KeepsRow m t a (TakeSlot y) rest y
 row_after_take_slot {y = y} some s =
     row_stays {next = CloseResource y ∷ []} {x = y} s some
@@ -256,8 +269,9 @@ row_after_take_slot {y = y} some s =
       deciding = refl;
     })
 
+-- The row's invariant holds after `ResourceClosed`.
 pub row_after_close_resource : {p : Accounts} {n : ℕ} {m : Machine} {t : ℕ} {a : Actor} {y : ℕ} {rest : List Duty}
-    → 0 < y
+    → IsCounted m.layout y
     → AtDuty p n m t a (CloseResource y) rest → KeepsRow m t a (CloseResource y) rest y
 row_after_close_resource {y = y} some s =
     row_stays {next = SettleEnd y ∷ []} {x = y} s some
@@ -274,15 +288,15 @@ row_after_close_resource {y = y} some s =
       deciding = refl;
     })
 
--- a row that was dying is closed
+-- `Closes`: a dying row is closed, and still counts nothing.
 pub row_after_settle_end : {p : Accounts} {n : ℕ} {m : Machine} {t : ℕ} {a : Actor} {y : ℕ} {rest : List Duty}
     → AtDuty p n m t a (SettleEnd y) rest → KeepsRow m t a (SettleEnd y) rest y
 row_after_settle_end {m = m} {t = t} {a = a} {y = y} {rest = rest} s =
     let fits = head_fits_of s in
     let k = numbers_of m y in
     let weights = weighed s [] refl y in
-    let dead : RowInvariant (block_of m.rows y) (Dying t) k =
-    subst (λ (l : Life). RowInvariant (block_of m.rows y) l k) fits.1 (s.core.rows y fits.0) in
+    let dead : RowInvariant (block_of m.layout y) (Dying t) k =
+    subst (λ (l : Life). RowInvariant (block_of m.layout y) l k) fits.1 (s.core.rows y fits.0) in
     row_becomes m t a (SettleEnd y) rest y [] refl Closed (ap (λ (b : Bool). cond b Closed (m.life y)) (own y)) k
     (record {
       local = refl;

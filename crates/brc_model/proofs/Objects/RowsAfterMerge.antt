@@ -1,4 +1,4 @@
--- Taking the local count over to the shared one keeps the row's invariant.
+-- A merge, which takes the local count over into the shared word, keeps the row's invariant.
 use Rattle.std.proofs.Common.{◌≡◌, ◌≢◌, ℕ, ◌+◌, ◌-◌, ◌≤◌, Bool, true, false, cond, List, [], ◌∷◌, refl, sym, ap, ◌∙◌, arith, inl, inr}
 use Rattle.std.specs.Prelude.{◌==◌, sum_by}
 use Rattle.std.proofs.lemmas.Bool.{ne_eqb}
@@ -11,7 +11,7 @@ use Rattle.brc_model.specs.declared.duty.Duty.{Duty}
 use Rattle.brc_model.specs.declared.duty.Duty.TheVariants.{SharedLoad, MergeSwap, MergeLoad, MergeExchange, Die}
 use Rattle.brc_model.specs.declared.address.Address.{Address}
 use Rattle.brc_model.specs.declared.address.Address.TheVariants.{Local, Shared}
-use Rattle.brc_model.specs.Duties.{block_of, once_merged}
+use Rattle.brc_model.specs.Duties.{once_merged}
 use Rattle.brc_model.specs.Machine.{Live, Dying, Actor, Machine, written, life_by, done_by}
 use Rattle.brc_model.specs.RowInvariant.{waits, carries, merges, decides, weight, IsLive, InOwned, InSwapped, InMerged}
 use Rattle.brc_model.specs.Accounts.{Accounts}
@@ -21,12 +21,14 @@ use Rattle.brc_model.proofs.Objects.Weights.{agenda_weight-le, none_carried}
 use Rattle.brc_model.proofs.Objects.RowsAfterStep.{head_fits_of, following, KeepsRow, weighed, row_becomes, row_stays}
 use Rattle.brc_model.proofs.Objects.RowsAfterOwn.{own, one_own, written_here, lives_so}
 use Rattle.brc_model.proofs.Work.Deciders.{none_decides}
+use Rattle.brc_model.specs.Layout.{block_of}
 
 carried_own : (y c : ℕ) → cond (y == y) c 0 ≡ c
 carried_own y c = ap (λ (b : Bool). cond b c 0) (own y)
 
 -- ---- the local word is swapped out
 
+-- The row's invariant holds after `LocalTakenOut`, for the owner.
 pub row_after_own_swap : {p : Accounts} {n : ℕ} {m : Machine} {t : ℕ} {a : Actor} {y : ℕ} {rest : List Duty}
     → AtDuty p n m t a (MergeSwap y Own) rest → KeepsRow m t a (MergeSwap y Own) rest y
 row_after_own_swap {m = m} {t = t} {a = a} {y = y} {rest = rest} s =
@@ -49,16 +51,16 @@ row_after_own_swap {m = m} {t = t} {a = a} {y = y} {rest = rest} s =
       carried = omega (arith, weights.carried, carried_own y c, fits.2);
       merging = omega (arith, weights.merging, one);
       deciding = omega (arith, weights.deciding, one);
-    }) (swapped_own (block_of m.rows y) k lives.invariant fits.2 decided)
+    }) (swapped_own (block_of m.layout y) k lives.invariant fits.2 decided)
 
--- the decrement of the duty at hand is among those that await
+-- A pending decrement of the first duty is among all that are pending.
 head_awaits : {p : Accounts} {n : ℕ} {m : Machine} {t : ℕ} {a : Actor} {d : Duty} {rest : List Duty} (y : ℕ)
     → AtDuty p n m t a d rest → waits y d ≤ weight (waits y) m.actors
 head_awaits {m = m} {t = t} {a = a} {d = d} {rest = rest} y s =
     let whole : sum_by (waits y) a.agenda ≡ sum_by (waits y) (d ∷ rest) = ap (sum_by (waits y)) s.agenda in
     omega (arith, agenda_weight-le (waits y) m.actors t a s.found, whole, sum_by-cons (waits y) d rest)
 
--- the local word that a claimant finds
+-- `LocalTakenOut`, for a claimed mark.
 claims_some : {p : Accounts} {n : ℕ} {m : Machine} {t : ℕ} {a : Actor} {y : ℕ} {rest : List Duty}
     → AtDuty p n m t a (MergeSwap y Handed) rest
     → (m.memory (Local y) == 0) ≡ false → m.memory (Local y) ≢ 0 → KeepsRow m t a (MergeSwap y Handed) rest y
@@ -79,8 +81,10 @@ claims_some {p = p} {n = n} {m = m} {t = t} {a = a} {y = y} {rest = rest} s test
       carried = omega (arith, weights.carried, carried_own y c);
       merging = omega (arith, weights.merging, one);
       deciding = omega (arith, weights.deciding);
-    }) (swapped_claimed (block_of m.rows y) k lives.invariant found (none_decides p n m t a y rest s fits.1 lives.invariant))
+    }) (swapped_claimed (block_of m.layout y) k lives.invariant found
+    (none_decides p n m t a y rest s fits.1 lives.invariant))
 
+-- The row's invariant holds after `NobodysCount` and `LocalTakenOut`, for a claimed mark.
 pub row_after_handed_swap : {p : Accounts} {n : ℕ} {m : Machine} {t : ℕ} {a : Actor} {y : ℕ} {rest : List Duty}
     → AtDuty p n m t a (MergeSwap y Handed) rest → KeepsRow m t a (MergeSwap y Handed) rest y
 row_after_handed_swap {m = m} {y = y} s =
@@ -103,11 +107,12 @@ row_after_handed_swap {m = m} {y = y} s =
 
 -- ---- the carried count is added
 
--- a duty of the merge awaits as much as the next
+-- A lost exchange of a merge leaves its pending decrement to the duty that follows.
 again_waits : (y c w : ℕ) (r : Reason) → waits y (MergeExchange y c w r) ≡ waits y (MergeLoad y c r)
 again_waits y c w Own = refl
 again_waits y c w Handed = refl
 
+-- The row's invariant holds after `MergeRead`.
 pub row_after_merge_load : {p : Accounts} {n : ℕ} {m : Machine} {t : ℕ} {a : Actor} {y c : ℕ} {r : Reason}
     {rest : List Duty}
     → AtDuty p n m t a (MergeLoad y c r) rest → KeepsRow m t a (MergeLoad y c r) rest y
@@ -126,14 +131,14 @@ row_after_merge_load {m = m} {y = y} {c = c} {r = r} s =
       deciding = refl;
     })
 
--- what the exchange leaves
+-- The shared word after the exchange, by whether the exchange was won.
 merge_left : (memory : Address → ℕ) (y w c : ℕ) (b : Bool) → (memory (Shared y) == w) ≡ b
     → written memory (Shared y) (cond (memory (Shared y) == w) (merged_word w c) (memory (Shared y))) (Shared y)
     ≡ cond b (merged_word w c) (memory (Shared y))
 merge_left memory y w c b e =
     written_here memory (Shared y) _ (own y) ∙ ap (λ (d : Bool). cond d (merged_word w c) (memory (Shared y))) e
 
--- one thread merges at a time
+-- At most one thread merges the row.
 merging_low : (owner : ℕ) (m : Machine) (y : ℕ) → IsLive owner (numbers_of m y) → weight (merges y) m.actors ≤ 1
 merging_low owner m y live =
     elim live.mode [
@@ -142,7 +147,7 @@ merging_low owner m y live =
       | InMerged w ↦ omega (arith, w.merging)
     ]
 
--- so all that is carried is this duty's
+-- Once that thread has merged the row, no thread carries a count of it.
 carried_here : {p : Accounts} {n : ℕ} {m : Machine} {t : ℕ} {a : Actor} {y c w : ℕ} {r : Reason} {rest : List Duty}
     (owner : ℕ)
     → AtDuty p n m t a (MergeExchange y c w r) rest → IsLive owner (numbers_of m y)
@@ -152,7 +157,7 @@ carried_here {m = m} {t = t} {a = a} {y = y} {c = c} {w = w} {r = r} {rest = res
     none_carried y (done_by m t a (MergeExchange y c w r) rest).actors
     (omega (arith, fewer, merging_low owner m y live))
 
--- nothing is left: the object dies
+-- `MergesToZero`: if the merged count is 0, the object dies.
 merge_ends : {p : Accounts} {n : ℕ} {m : Machine} {t : ℕ} {a : Actor} {y c w : ℕ} {rest : List Duty}
     → AtDuty p n m t a (MergeExchange y c w Own) rest
     → (m.memory (Shared y) == w) ≡ true → m.memory (Shared y) ≡ w → (merged_word w c == dead_word) ≡ true
@@ -163,7 +168,7 @@ merge_ends {m = m} {t = t} {a = a} {y = y} {c = c} {w = w} {rest = rest} s test 
     let one = one_own y in
     let some : 1 ≤ k.merging = omega (arith, weights.merging, one) in
     let lives = lives_so s y (head_fits_of s).0 (omega (arith, some)) in
-    let none = carried_here (block_of m.rows y) s lives.invariant (omega (arith, weights.merging, one)) in
+    let none = carried_here (block_of m.layout y) s lives.invariant (omega (arith, weights.merging, one)) in
     let carried : k.carried ≡ c = omega (arith, weights.carried, carried_own y c, none) in
     let word : merged_word (m.memory (Shared y)) c ≡ merged_word w c = ap (λ (v : ℕ). merged_word v c) same in
     row_becomes m t a (MergeExchange y c w Own) rest y (Die y ∷ []) (rw (test, is_dead) refl) (Dying t)
@@ -177,9 +182,9 @@ merge_ends {m = m} {t = t} {a = a} {y = y} {c = c} {w = w} {rest = rest} s test 
       carried = sym none;
       merging = omega (arith, weights.merging, one);
       deciding = omega (arith, weights.deciding);
-    }) (merged_dies (block_of m.rows y) k c lives.invariant some carried (word ∙ dead))
+    }) (merged_dies (block_of m.layout y) k c lives.invariant some carried (word ∙ dead))
 
--- what a merge was made for awaits as the merge did, and neither merges nor decides
+-- The duty that a merge was made for has the same decrement pending as the merge, and neither merges nor decides.
 record Releases (m : Machine) (t : ℕ) (y c w : ℕ) (r : Reason) : Type 0 where
   lives : life_by m.life t (MergeExchange y c w r) (once_merged y r) y ≡ m.life y
   waiting : sum_by (waits y) (once_merged y r) ≡ waits y (MergeExchange y c w r)
@@ -192,12 +197,12 @@ releases m t y c w Own = record { lives = refl; waiting = refl; carried = refl; 
 releases m t y c w Handed =
     record { lives = refl; waiting = omega arith; carried = refl; merging = refl; deciding = refl }
 
--- the object lives on, merged
+-- `Merges` and `MergesForHanded`: if the merged count isn't 0, the object lives on.
 merge_stays : {p : Accounts} {n : ℕ} {m : Machine} {t : ℕ} {a : Actor} {y c w : ℕ} {r : Reason} {rest : List Duty}
     → AtDuty p n m t a (MergeExchange y c w r) rest
     → (m.memory (Shared y) == w) ≡ true → m.memory (Shared y) ≡ w
     → following m t a (MergeExchange y c w r) ≡ once_merged y r
-    → (IsLive (block_of m.rows y) (numbers_of m y) → 1 ≤ (numbers_of m y).merging → (numbers_of m y).carried ≡ c
+    → (IsLive (block_of m.layout y) (numbers_of m y) → 1 ≤ (numbers_of m y).merging → (numbers_of m y).carried ≡ c
     → merged_word (m.memory (Shared y)) c ≢ dead_word)
     → KeepsRow m t a (MergeExchange y c w r) rest y
 merge_stays {m = m} {t = t} {a = a} {y = y} {c = c} {w = w} {r = r} {rest = rest} s test same follows alive =
@@ -207,7 +212,8 @@ merge_stays {m = m} {t = t} {a = a} {y = y} {c = c} {w = w} {r = r} {rest = rest
     let one = one_own y in
     let some : 1 ≤ k.merging = omega (arith, weights.merging, one, next.merging) in
     let lives = lives_so s y (head_fits_of s).0 (omega (arith, some)) in
-    let none = carried_here (block_of m.rows y) s lives.invariant (omega (arith, weights.merging, one, next.merging)) in
+    let none =
+    carried_here (block_of m.layout y) s lives.invariant (omega (arith, weights.merging, one, next.merging)) in
     let carried : k.carried ≡ c = omega (arith, weights.carried, carried_own y c, none, next.carried) in
     let word : merged_word (m.memory (Shared y)) c ≡ merged_word w c = ap (λ (v : ℕ). merged_word v c) same in
     row_becomes m t a (MergeExchange y c w r) rest y (once_merged y r) follows Live (next.lives ∙ lives.is_live)
@@ -220,7 +226,7 @@ merge_stays {m = m} {t = t} {a = a} {y = y} {c = c} {w = w} {r = r} {rest = rest
       carried = sym none;
       merging = omega (arith, weights.merging, one, next.merging);
       deciding = omega (arith, weights.deciding, next.deciding);
-    }) (merged_live (block_of m.rows y) k c lives.invariant some carried (alive lives.invariant some carried))
+    }) (merged_live (block_of m.layout y) k c lives.invariant some carried (alive lives.invariant some carried))
 
 merge_won : {p : Accounts} {n : ℕ} {m : Machine} {t : ℕ} {a : Actor} {y c w : ℕ} {rest : List Duty} (r : Reason)
     → AtDuty p n m t a (MergeExchange y c w r) rest
@@ -232,16 +238,17 @@ merge_won {c = c} {w = w} Own s test same =
           merge_stays s test same (rw (test, alive.0) refl)
           (λ live some carried dead. alive.1 (ap (λ (v : ℕ). merged_word v c) (sym same) ∙ dead))
     ]
--- the handed reference is counted, so the object lives on
+-- The handed reference is still counted, so the merged count isn't 0.
 merge_won {m = m} {y = y} {c = c} Handed s test same =
     merge_stays s test same (rw test refl) (λ live some carried dead.
     absurd (omega (
       arith,
       head_awaits y s,
       one_own y,
-      (merged_dies (block_of m.rows y) (numbers_of m y) c live some carried dead).waiting,
+      (merged_dies (block_of m.layout y) (numbers_of m y) c live some carried dead).waiting,
     )))
 
+-- The row's invariant holds after `Merges`, `MergesToZero`, `MergesForHanded` and `MergeLost`.
 pub row_after_merge_exchange : {p : Accounts} {n : ℕ} {m : Machine} {t : ℕ} {a : Actor} {y c w : ℕ} {r : Reason}
     {rest : List Duty}
     → AtDuty p n m t a (MergeExchange y c w r) rest → KeepsRow m t a (MergeExchange y c w r) rest y

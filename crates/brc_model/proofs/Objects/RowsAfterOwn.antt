@@ -1,4 +1,4 @@
--- What a step on its duty's own row starts from: its words, its weights and the references that its thread has.
+-- What each proof about a duty's own row starts from: the row's words and weights, and the references of its thread.
 use Rattle.std.proofs.Common.{◌≡◌, ℕ, ◌+◌, ◌<◌, ◌≤◌, Bool, true, false, cond, List, refl, sym, ap, ◌∙◌, arith}
 use Rattle.std.specs.Prelude.{◌==◌}
 use Rattle.std.specs.List.{list_any}
@@ -9,7 +9,6 @@ use Rattle.brc_word.specs.Words.{immortal_local, local_part, is_immortal_word}
 use Rattle.brc_model.specs.declared.duty.Duty.{Duty}
 use Rattle.brc_model.specs.declared.address.Address.{Address}
 use Rattle.brc_model.specs.declared.address.Address.TheVariants.{Local, Shared, Mark}
-use Rattle.brc_model.specs.Duties.{block_of}
 use Rattle.brc_model.specs.Machine.{Life, Live, Actor, Machine, written, same_address, with_life, ended_row, born_row, done_by}
 use Rattle.brc_model.proofs.Basics.Bag.{held_has, held-le-references_to, references_to-without}
 use Rattle.brc_model.specs.References.{held, one_if, reference_of}
@@ -19,7 +18,8 @@ use Rattle.brc_model.specs.Invariant.{AtDuty, numbers_of}
 use Rattle.brc_model.specs.Knowledge.{IsBacked}
 use Rattle.brc_model.proofs.Frame.Aside.{extra_held}
 use Rattle.brc_model.proofs.Objects.RowsAfterStep.{following, KeepsRow, RowStays, row_stays, Lives, row_lives}
-use Rattle.brc_model.proofs.Objects.RowsAfterElsewhere.{AreApart, IsApart}
+use Rattle.brc_model.proofs.Objects.RowsAfterElsewhere.{AreApart, weighs, light_apart}
+use Rattle.brc_model.specs.Layout.{block_of, IsCounted}
 
 pub own : (y : ℕ) → (y == y) ≡ true
 own y = eq-eqb y y refl
@@ -27,14 +27,14 @@ own y = eq-eqb y y refl
 pub one_own : (y : ℕ) → one_if (y == y) ≡ 1
 one_own y = ap one_if (own y)
 
--- the word that was written
+-- Reading back a word that was just written.
 pub written_here : (memory : Address → ℕ) (at : Address) (word : ℕ) → same_address at at ≡ true
     → written memory at word at ≡ word
 written_here memory at word this = ap (λ (same : Bool). cond same word (memory at)) this
 
 -- ---- references of the thread
 
--- what a duty gives up is there
+-- The bag has the reference that a duty gives up.
 pub gives_up : {p : Accounts} {n : ℕ} {m : Machine} {t : ℕ} {a : Actor} {d : Duty} {rest : List Duty}
     → AtDuty p n m t a d rest → (k : Holding) (object : ℕ) → extra d k object ≡ true → lacks d k object ≡ false
     → 0 < held (reference_of t k object) m.abstract.references
@@ -44,7 +44,7 @@ gives_up {p = p} {m = m} {t = t} {a = a} s k object more less =
     (ap (λ (ds : List Duty). extra_of ds k object) s.agenda ∙ more)
     (ap (λ (ds : List Duty). lacks_of ds k object) s.agenda ∙ less)
 
--- a reference that is there, and the bag without it
+-- The bag has the reference, and has one reference less to its object without it.
 pub record IsLost (bag : List Reference) (r : Reference) : Type 0 where
   pub has : list_any (same r) bag ≡ true
   pub before : 1 ≤ references_to r.object bag
@@ -60,19 +60,19 @@ is_lost bag r some =
       less = omega (arith, references_to-without r.object r bag has, this);
     }
 
--- ---- the row lives
+-- ---- live rows
 
 pub lives_so : {p : Accounts} {n : ℕ} {m : Machine} {t : ℕ} {a : Actor} {d : Duty} {rest : List Duty}
-    → AtDuty p n m t a d rest → (y : ℕ) → 0 < y
+    → AtDuty p n m t a d rest → (y : ℕ) → IsCounted m.layout y
     → 1 ≤ (numbers_of m y).references + (numbers_of m y).mark + (numbers_of m y).waiting + (numbers_of m y).merging
     + (numbers_of m y).deciding
-    → Lives (block_of m.rows y) (m.life y) (numbers_of m y)
+    → Lives (block_of m.layout y) (m.life y) (numbers_of m y)
 lives_so {m = m} s y some counted =
-    row_lives (block_of m.rows y) (m.life y) (numbers_of m y) (s.core.rows y some) counted
+    row_lives (block_of m.layout y) (m.life y) (numbers_of m y) (s.core.rows y some) counted
 
 pub lives_backed : {p : Accounts} {n : ℕ} {m : Machine} {t : ℕ} {a : Actor} {d : Duty} {rest : List Duty}
-    → AtDuty p n m t a d rest → (y : ℕ) → 0 < y → IsBacked m t y
-    → Lives (block_of m.rows y) (m.life y) (numbers_of m y)
+    → AtDuty p n m t a d rest → (y : ℕ) → IsCounted m.layout y → IsBacked m t y
+    → Lives (block_of m.layout y) (m.life y) (numbers_of m y)
 lives_backed {m = m} {t = t} s y some backed =
     lives_so s y some (omega (
       arith,
@@ -80,7 +80,7 @@ lives_backed {m = m} {t = t} s y some backed =
       backed.held_so,
     ))
 
--- a row above 0 isn't immortal
+-- A live counted row isn't immortal.
 pub counted_word : (owner : ℕ) (n : Numbers) → IsLive owner n → is_immortal_word n.local ≡ false
 counted_word owner n live =
     ne_eqb (local_part n.local) immortal_local (λ (e : local_part n.local ≡ immortal_local).
@@ -90,7 +90,7 @@ counted_word owner n live =
       | InMerged w ↦ absurd (omega (arith, w.local, e))
     ])
 
--- ---- a step whose duties weigh nothing at the row
+-- ---- duties that weigh nothing at the row
 
 pub record KeepsWords (m after : Machine) (x : ℕ) : Type 0 where
   pub local : m.memory (Local x) ≡ after.memory (Local x)
@@ -99,10 +99,11 @@ pub record KeepsWords (m after : Machine) (x : ℕ) : Type 0 where
   pub references : references_to x m.abstract.references ≡ references_to x after.abstract.references
 
 pub row_apart : {p : Accounts} {n : ℕ} {m : Machine} {t : ℕ} {a : Actor} {d : Duty} {rest : List Duty}
-    → AtDuty p n m t a d rest → (x : ℕ) → 0 < x → IsApart x d → AreApart x (following m t a d)
+    → AtDuty p n m t a d rest → (x : ℕ) → IsCounted m.layout x → weighs d ≡ false → AreApart x (following m t a d)
     → ((life : ℕ → Life) (state : Life) → with_life (with_life life (ended_row d) state) (born_row d) Live x ≡ life x)
     → KeepsWords m (done_by m t a d rest) x → KeepsRow m t a d rest x
-row_apart {m = m} {t = t} {a = a} {d = d} {rest = rest} s x some this next ends words =
+row_apart {m = m} {t = t} {a = a} {d = d} {rest = rest} s x some light next ends words =
+    let this = light_apart x d light in
     let q : RowStays m t a d rest x (following m t a d) = record {
       follows = refl;
       lives = ends _ _ ∙ next.lives m.life _;

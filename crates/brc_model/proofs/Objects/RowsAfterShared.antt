@@ -1,5 +1,5 @@
--- Releasing by the shared word keeps the row's invariant.
-use Rattle.std.proofs.Common.{◌≡◌, ◌≢◌, ℕ, ◌+◌, ◌-◌, ◌<◌, ◌≤◌, Bool, true, false, cond, List, [], ◌∷◌, refl, sym, ap, ◌∙◌, arith, inl, inr}
+-- A release by the shared word keeps the row's invariant.
+use Rattle.std.proofs.Common.{◌≡◌, ◌≢◌, ℕ, ◌+◌, ◌-◌, ◌≤◌, Bool, true, false, cond, List, [], ◌∷◌, refl, sym, ap, ◌∙◌, arith, inl, inr}
 use Rattle.std.specs.Prelude.{◌==◌}
 use Rattle.std.proofs.lemmas.Bool.Decides.{eqb_tells}
 use Rattle.brc_model.specs.declared.duty.Holding.TheVariants.{InFlight}
@@ -11,8 +11,8 @@ use Rattle.brc_model.specs.declared.duty.Duty.{Duty}
 use Rattle.brc_model.specs.declared.duty.Duty.TheVariants.{SharedLoad, SharedExchange, SetMark, Die}
 use Rattle.brc_model.specs.declared.address.Address.{Address}
 use Rattle.brc_model.specs.declared.address.Address.TheVariants.{Shared}
-use Rattle.brc_model.specs.Duties.{block_of}
-use Rattle.brc_model.specs.Machine.{Live, Dying, Actor, Machine, written, lose, reference_effects}
+use Rattle.brc_model.specs.Machine.{Live, Dying, Actor, Machine, written}
+use Rattle.brc_model.specs.Moves.{lose, reference_effects}
 use Rattle.brc_model.specs.References.{reference_of}
 use Rattle.brc_model.specs.RowInvariant.{waits}
 use Rattle.brc_model.specs.Accounts.{Accounts}
@@ -21,15 +21,17 @@ use Rattle.brc_model.proofs.Objects.RowSteps.{shared_queued, shared_lost, shared
 use Rattle.brc_model.proofs.Objects.RowMerges.{handed_lost, handed_dies}
 use Rattle.brc_model.proofs.Objects.RowsAfterStep.{head_fits_of, KeepsRow, weighed, row_becomes, row_stays}
 use Rattle.brc_model.proofs.Objects.RowsAfterOwn.{own, one_own, written_here, gives_up, is_lost, lives_so}
+use Rattle.brc_model.specs.Layout.{block_of, IsCounted}
 
--- a load and an exchange weigh the same
+-- The load and the exchange of a release have the same decrement pending.
 same_waits : (x y : ℕ) (r : Reason) (w : ℕ) → waits x (SharedLoad y r) ≡ waits x (SharedExchange y r w)
 same_waits x y Own w = refl
 same_waits x y Handed w = refl
 
+-- The row's invariant holds after `SharedRead`.
 pub row_after_shared_load : {p : Accounts} {n : ℕ} {m : Machine} {t : ℕ} {a : Actor} {y : ℕ} {r : Reason}
     {rest : List Duty}
-    → 0 < y → AtDuty p n m t a (SharedLoad y r) rest → KeepsRow m t a (SharedLoad y r) rest y
+    → IsCounted m.layout y → AtDuty p n m t a (SharedLoad y r) rest → KeepsRow m t a (SharedLoad y r) rest y
 row_after_shared_load {m = m} {y = y} {r = r} some s =
     let found = m.memory (Shared y) in
     row_stays {next = SharedExchange y r found ∷ []} {x = y} s some (record {
@@ -47,14 +49,14 @@ row_after_shared_load {m = m} {y = y} {r = r} some s =
 
 -- ---- the exchange
 
--- what it leaves
+-- The shared word after the exchange, by whether the exchange was won.
 exchanged : (memory : Address → ℕ) (y w : ℕ) (b : Bool) → (memory (Shared y) == w) ≡ b
     → written memory (Shared y) (cond (memory (Shared y) == w) (released_word w) (memory (Shared y))) (Shared y)
     ≡ cond b (released_word w) (memory (Shared y))
 exchanged memory y w b e =
     written_here memory (Shared y) _ (own y) ∙ ap (λ (c : Bool). cond c (released_word w) (memory (Shared y))) e
 
--- the references, by its test
+-- A lost exchange moves no reference.
 exchange_moves : (memory : Address → ℕ) (t y : ℕ) (r : Reason) (w found : ℕ) (p : AbstractState) → (found == w) ≡ false
     → references_to y p.references
     ≡ references_to y (moved p (reference_effects memory t (SharedExchange y r w) found)).references
@@ -62,10 +64,10 @@ exchange_moves memory t y Own w found p e =
     sym (ap (λ (b : Bool). references_to y (moved p (cond b (lose t y) [])).references) e)
 exchange_moves memory t y Handed w found p e = refl
 
--- another thread was faster: it loads anew
+-- `ExchangeLost`: if the compare-exchange fails, the thread loads the word again, and the row is unchanged.
 row_after_lost_exchange : {p : Accounts} {n : ℕ} {m : Machine} {t : ℕ} {a : Actor} {y : ℕ} {r : Reason} {w : ℕ}
     {rest : List Duty}
-    → 0 < y → AtDuty p n m t a (SharedExchange y r w) rest
+    → IsCounted m.layout y → AtDuty p n m t a (SharedExchange y r w) rest
     → (m.memory (Shared y) == w) ≡ false → KeepsRow m t a (SharedExchange y r w) rest y
 row_after_lost_exchange {m = m} {t = t} {y = y} {r = r} {w = w} some s other =
     row_stays {next = SharedLoad y r ∷ []} {x = y} s some (record {
@@ -81,22 +83,24 @@ row_after_lost_exchange {m = m} {t = t} {y = y} {r = r} {w = w} some s other =
       deciding = refl;
     })
 
--- ---- a reference of the thread's own
+-- ---- the thread's own reference
 
--- the references are one fewer
+-- If the exchange is won, the references to the object are those after the thread's reference is lost.
 own_moves : (memory : Address → ℕ) (t y w found : ℕ) (p : AbstractState) → (found == w) ≡ true
     → references_to y (moved p (reference_effects memory t (SharedExchange y Own w) found)).references
     ≡ references_to y (moved p (lose t y)).references
 own_moves memory t y w found p e = ap (λ (b : Bool). references_to y (moved p (cond b (lose t y) [])).references) e
 
+-- `Queues`, for the thread's own reference.
 own_queues : {p : Accounts} {n : ℕ} {m : Machine} {t : ℕ} {a : Actor} {y w : ℕ} {rest : List Duty}
     → AtDuty p n m t a (SharedExchange y Own w) rest
     → (m.memory (Shared y) == w) ≡ true → m.memory (Shared y) ≡ w → (w == fresh_word) ≡ true → w ≡ fresh_word
     → KeepsRow m t a (SharedExchange y Own w) rest y
 own_queues {m = m} {t = t} {a = a} {y = y} {w = w} {rest = rest} s test same is_fresh fresh =
-    let some : 0 < y = head_fits_of s in
+    let some : IsCounted m.layout y = head_fits_of s in
     let k = numbers_of m y in
-    let lost = is_lost m.abstract.references (reference_of t InFlight y) (gives_up s InFlight y (rw (own y) refl) refl) in
+    let lost =
+    is_lost m.abstract.references (reference_of t InFlight y) (gives_up s InFlight y (rw (own y) refl) refl) in
     let lives = lives_so s y some (omega (arith, lost.before)) in
     let weights = weighed s (SetMark y ∷ []) (rw (test, is_fresh) refl) y in
     let left : released_word w ≡ w + 2 = ap (λ (b : Bool). cond b (w + 2) (w - 4)) is_fresh in
@@ -111,16 +115,18 @@ own_queues {m = m} {t = t} {a = a} {y = y} {w = w} {rest = rest} s test same is_
       carried = omega (arith, weights.carried);
       merging = omega (arith, weights.merging);
       deciding = omega (arith, weights.deciding);
-    }) (shared_queued (block_of m.rows y) k lives.invariant (same ∙ fresh) lost.before)
+    }) (shared_queued (block_of m.layout y) k lives.invariant (same ∙ fresh) lost.before)
 
+-- `DecrementsToZero`, for the thread's own reference.
 own_dies : {p : Accounts} {n : ℕ} {m : Machine} {t : ℕ} {a : Actor} {y w : ℕ} {rest : List Duty}
     → AtDuty p n m t a (SharedExchange y Own w) rest
     → (m.memory (Shared y) == w) ≡ true → m.memory (Shared y) ≡ w → (w == fresh_word) ≡ false
     → (w - 4 == dead_word) ≡ true → w - 4 ≡ dead_word → KeepsRow m t a (SharedExchange y Own w) rest y
 own_dies {m = m} {t = t} {a = a} {y = y} {w = w} {rest = rest} s test same other is_dead dead =
-    let some : 0 < y = head_fits_of s in
+    let some : IsCounted m.layout y = head_fits_of s in
     let k = numbers_of m y in
-    let lost = is_lost m.abstract.references (reference_of t InFlight y) (gives_up s InFlight y (rw (own y) refl) refl) in
+    let lost =
+    is_lost m.abstract.references (reference_of t InFlight y) (gives_up s InFlight y (rw (own y) refl) refl) in
     let lives = lives_so s y some (omega (arith, lost.before)) in
     let weights = weighed s (Die y ∷ []) (rw (test, other, is_dead) refl) y in
     let left : released_word w ≡ w - 4 = ap (λ (b : Bool). cond b (w + 2) (w - 4)) other in
@@ -135,17 +141,19 @@ own_dies {m = m} {t = t} {a = a} {y = y} {w = w} {rest = rest} s test same other
       carried = omega (arith, weights.carried);
       merging = omega (arith, weights.merging);
       deciding = omega (arith, weights.deciding);
-    }) (shared_dies (block_of m.rows y) k lives.invariant (omega (arith, same, dead)) lost.before)
+    }) (shared_dies (block_of m.layout y) k lives.invariant (omega (arith, same, dead)) lost.before)
 
+-- `Decrements`, for the thread's own reference.
 own_loses : {p : Accounts} {n : ℕ} {m : Machine} {t : ℕ} {a : Actor} {y w : ℕ} {rest : List Duty}
     → AtDuty p n m t a (SharedExchange y Own w) rest
     → (m.memory (Shared y) == w) ≡ true → m.memory (Shared y) ≡ w → (w == fresh_word) ≡ false → w ≢ fresh_word
     → (w - 4 == dead_word) ≡ false → w - 4 ≢ dead_word
     → KeepsRow m t a (SharedExchange y Own w) rest y
 own_loses {m = m} {t = t} {a = a} {y = y} {w = w} {rest = rest} s test same other isnt_fresh alive isnt_dead =
-    let some : 0 < y = head_fits_of s in
+    let some : IsCounted m.layout y = head_fits_of s in
     let k = numbers_of m y in
-    let lost = is_lost m.abstract.references (reference_of t InFlight y) (gives_up s InFlight y (rw (own y) refl) refl) in
+    let lost =
+    is_lost m.abstract.references (reference_of t InFlight y) (gives_up s InFlight y (rw (own y) refl) refl) in
     let lives = lives_so s y some (omega (arith, lost.before)) in
     let weights = weighed s [] (rw (test, other, alive) refl) y in
     let left : released_word w ≡ w - 4 = ap (λ (b : Bool). cond b (w + 2) (w - 4)) other in
@@ -159,9 +167,10 @@ own_loses {m = m} {t = t} {a = a} {y = y} {w = w} {rest = rest} s test same othe
       carried = omega (arith, weights.carried);
       merging = omega (arith, weights.merging);
       deciding = omega (arith, weights.deciding);
-    }) (shared_lost (block_of m.rows y) k lives.invariant (λ e. isnt_fresh (sym same ∙ e))
+    }) (shared_lost (block_of m.layout y) k lives.invariant (λ e. isnt_fresh (sym same ∙ e))
     (λ e. isnt_dead (ap (λ (v : ℕ). v - 4) (sym same) ∙ e)) lost.before)
 
+-- The row's invariant holds after `Queues`, `Decrements`, `DecrementsToZero` and `ExchangeLost`.
 pub row_after_own_exchange : {p : Accounts} {n : ℕ} {m : Machine} {t : ℕ} {a : Actor} {y w : ℕ} {rest : List Duty}
     → AtDuty p n m t a (SharedExchange y Own w) rest → KeepsRow m t a (SharedExchange y Own w) rest y
 row_after_own_exchange {m = m} {y = y} {w = w} s =
@@ -178,6 +187,7 @@ row_after_own_exchange {m = m} {y = y} {w = w} s =
 
 -- ---- the handed reference of a claimed mark
 
+-- `DecrementsToZero`, for a handed reference.
 handed_ends : {p : Accounts} {n : ℕ} {m : Machine} {t : ℕ} {a : Actor} {y w : ℕ} {rest : List Duty}
     → AtDuty p n m t a (SharedExchange y Handed w) rest
     → (m.memory (Shared y) == w) ≡ true → m.memory (Shared y) ≡ w → (w == fresh_word) ≡ false
@@ -201,8 +211,9 @@ handed_ends {m = m} {t = t} {a = a} {y = y} {w = w} {rest = rest} s test same ot
       carried = omega (arith, weights.carried);
       merging = omega (arith, weights.merging);
       deciding = omega (arith, weights.deciding);
-    }) (handed_dies (block_of m.rows y) k lives.invariant (omega (arith, same, dead)) awaits)
+    }) (handed_dies (block_of m.layout y) k lives.invariant (omega (arith, same, dead)) awaits)
 
+-- `Decrements`, for a handed reference.
 handed_stays : {p : Accounts} {n : ℕ} {m : Machine} {t : ℕ} {a : Actor} {y w : ℕ} {rest : List Duty}
     → AtDuty p n m t a (SharedExchange y Handed w) rest
     → (m.memory (Shared y) == w) ≡ true → m.memory (Shared y) ≡ w → (w == fresh_word) ≡ false
@@ -225,9 +236,11 @@ handed_stays {m = m} {t = t} {a = a} {y = y} {w = w} {rest = rest} s test same o
       carried = omega (arith, weights.carried);
       merging = omega (arith, weights.merging);
       deciding = omega (arith, weights.deciding);
-    }) (handed_lost (block_of m.rows y) k lives.invariant fits.1 (λ e. isnt_dead (ap (λ (v : ℕ). v - 4) (sym same) ∙ e))
+    }) (handed_lost (block_of m.layout y) k lives.invariant fits.1
+    (λ e. isnt_dead (ap (λ (v : ℕ). v - 4) (sym same) ∙ e))
     awaits)
 
+-- The row's invariant holds after `Decrements`, `DecrementsToZero` and `ExchangeLost`, for a handed reference.
 pub row_after_handed_exchange : {p : Accounts} {n : ℕ} {m : Machine} {t : ℕ} {a : Actor} {y w : ℕ} {rest : List Duty}
     → AtDuty p n m t a (SharedExchange y Handed w) rest → KeepsRow m t a (SharedExchange y Handed w) rest y
 row_after_handed_exchange {m = m} {y = y} {w = w} s =

@@ -1,33 +1,34 @@
--- A thread's step, and what one row's numbers and its life come to.
-use Rattle.std.proofs.Common.{◌≡◌, ℕ, ◌+◌, ◌<◌, ◌≤◌, List, refl, sym, ap, ◌∙◌, subst, arith}
+-- One row's numbers and life before and after a thread's step.
+use Rattle.std.proofs.Common.{◌≡◌, ℕ, ◌+◌, ◌≤◌, List, refl, sym, ap, ◌∙◌, subst, arith}
 use Rattle.std.specs.Prelude.{sum_by}
 use Rattle.brc_model.specs.AbstractState.{references_to}
 use Rattle.brc_model.specs.declared.duty.Duty.{Duty}
 use Rattle.brc_model.specs.declared.address.Address.TheVariants.{Local, Shared, Mark}
-use Rattle.brc_model.specs.Duties.{block_of, address_of, continuation}
+use Rattle.brc_model.specs.Duties.{address_of, continuation}
 use Rattle.brc_model.specs.Machine.{Life, Unborn, Live, Dying, Closed, Actor, Machine, is_running, life_by, done_by}
 use Rattle.brc_model.specs.RowInvariant.{waits, carries, merges, decides, Numbers, IsLive, RowInvariant}
 use Rattle.brc_model.specs.Accounts.{Accounts}
 use Rattle.brc_model.specs.Invariant.{AtDuty, numbers_of}
 use Rattle.brc_model.specs.Knowledge.{HeadFits, HeadOf}
 use Rattle.brc_model.proofs.Objects.Weights.{Weighed, weighed_after}
+use Rattle.brc_model.specs.Layout.{block_of, IsCounted}
 
 pub head_fits_of : {p : Accounts} {n : ℕ} {m : Machine} {t : ℕ} {a : Actor} {d : Duty} {rest : List Duty}
     → AtDuty p n m t a d rest → HeadFits m t a d rest
 head_fits_of {m = m} {t = t} {a = a} s =
     subst (λ (ds : List Duty). HeadOf m t a ds) s.agenda (s.core.each t a s.found).0.head_fits
 
--- the word that the duty finds, and the duties that follow it
+-- The word that the duty finds.
 abbrev pub found_by : Machine → ℕ → Actor → Duty → ℕ
-found_by m t a d = m.memory (address_of m.rows t a.head d)
+found_by m t a d = m.memory (address_of m.layout t a.head d)
 
 abbrev pub following : Machine → ℕ → Actor → Duty → List Duty
-following m t a d = continuation t (is_running a.status) a.head d (found_by m t a d)
+following m t a d = continuation m.layout t (is_running a.status) a.head d (found_by m t a d)
 
--- the row's invariant after the step
+-- The row's invariant holds after the step.
 abbrev pub KeepsRow : Machine → ℕ → Actor → Duty → List Duty → ℕ → Type 0
 KeepsRow m t a d rest x =
-    RowInvariant (block_of m.rows x) ((done_by m t a d rest).life x) (numbers_of (done_by m t a d rest) x)
+    RowInvariant (block_of m.layout x) ((done_by m t a d rest).life x) (numbers_of (done_by m t a d rest) x)
 
 pub weighed : {p : Accounts} {n : ℕ} {m : Machine} {t : ℕ} {a : Actor} {d : Duty} {rest : List Duty}
     → AtDuty p n m t a d rest → (next : List Duty) → following m t a d ≡ next → (x : ℕ)
@@ -35,7 +36,7 @@ pub weighed : {p : Accounts} {n : ℕ} {m : Machine} {t : ℕ} {a : Actor} {d : 
 weighed {m = m} {t = t} {a = a} {d = d} {rest = rest} s next follows x =
     weighed_after m t a d rest next s.found s.agenda follows x
 
--- ---- the numbers afterwards
+-- ---- the numbers after the step
 
 pub record IsSame (n k : Numbers) : Type 0 where
   pub local : n.local ≡ k.local
@@ -62,15 +63,15 @@ same_numbers n k s =
 
 pub row_becomes : (m : Machine) (t : ℕ) (a : Actor) (d : Duty) (rest : List Duty) (x : ℕ) (next : List Duty)
     → following m t a d ≡ next → (life : Life) → life_by m.life t d next x ≡ life
-    → (k : Numbers) → IsSame k (numbers_of (done_by m t a d rest) x) → RowInvariant (block_of m.rows x) life k
+    → (k : Numbers) → IsSame k (numbers_of (done_by m t a d rest) x) → RowInvariant (block_of m.layout x) life k
     → KeepsRow m t a d rest x
 row_becomes m t a d rest x next follows life lives k same holds =
     let now : (done_by m t a d rest).life x ≡ life = ap (λ (ds : List Duty). life_by m.life t d ds x) follows ∙ lives in
     let numbers : k ≡ numbers_of (done_by m t a d rest) x = same_numbers k (numbers_of (done_by m t a d rest) x) same in
-    subst (λ (l : Life). RowInvariant (block_of m.rows x) l (numbers_of (done_by m t a d rest) x)) (sym now)
-    (subst (λ (k : Numbers). RowInvariant (block_of m.rows x) life k) numbers holds)
+    subst (λ (l : Life). RowInvariant (block_of m.layout x) l (numbers_of (done_by m t a d rest) x)) (sym now)
+    (subst (λ (k : Numbers). RowInvariant (block_of m.layout x) life k) numbers holds)
 
--- ---- a step that changes nothing about the row
+-- ---- steps that leave the row unchanged
 
 pub record RowStays (m : Machine) (t : ℕ) (a : Actor) (d : Duty) (rest : List Duty) (x : ℕ) (next : List Duty) : Type 0
   where
@@ -86,7 +87,7 @@ pub record RowStays (m : Machine) (t : ℕ) (a : Actor) (d : Duty) (rest : List 
     pub deciding : sum_by (decides x) next ≡ decides x d
 
 pub row_stays : {p : Accounts} {n : ℕ} {m : Machine} {t : ℕ} {a : Actor} {d : Duty} {rest next : List Duty} {x : ℕ}
-    → AtDuty p n m t a d rest → 0 < x → RowStays m t a d rest x next → KeepsRow m t a d rest x
+    → AtDuty p n m t a d rest → IsCounted m.layout x → RowStays m t a d rest x next → KeepsRow m t a d rest x
 row_stays {m = m} {t = t} {a = a} {d = d} {rest = rest} {next = next} {x = x} s some q =
     let w = weighed s next q.follows x in
     row_becomes m t a d rest x next q.follows (m.life x) q.lives (numbers_of m x) (record {
@@ -100,7 +101,7 @@ row_stays {m = m} {t = t} {a = a} {d = d} {rest = rest} {next = next} {x = x} s 
       deciding = omega (arith, w.deciding, q.deciding);
     }) (s.core.rows x some)
 
--- ---- a row that something counts lives
+-- ---- a counted row is live
 
 pub record Lives (owner : ℕ) (life : Life) (n : Numbers) : Type 0 where
   pub is_live : life ≡ Live

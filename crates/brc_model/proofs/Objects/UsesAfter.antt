@@ -1,5 +1,5 @@
--- Which rows are born after a step, and which are used.
-use Rattle.std.proofs.Common.{◌≡◌, ◌≢◌, ℕ, ◌+◌, ◌<◌, ◌≤◌, Bool, true, false, cond, List, [], ◌∷◌, ◌++◌, ◌⊎◌, inl, inr, None, Some, refl, sym, ap, ◌∙◌, subst, arith, zero, suc}
+-- Which rows are born and which are used after a step.
+use Rattle.std.proofs.Common.{◌≡◌, ◌≢◌, ℕ, ◌+◌, ◌≤◌, Bool, true, false, cond, List, [], ◌∷◌, ◌++◌, ◌⊎◌, inl, inr, None, Some, refl, sym, ap, ◌∙◌, subst, arith}
 use Rattle.std.specs.Prelude.{◌==◌, ◌||◌, slice_get, slice_set, count_by}
 use Rattle.std.proofs.lemmas.List.Sums.{sum_by-cons, sum_by-append}
 use Rattle.brc_model.specs.References.{one_if}
@@ -10,23 +10,23 @@ use Rattle.std.proofs.lemmas.Bool.{eq-eqb, cases_lt}
 use Rattle.std.proofs.lemmas.Bool.Decides.{eqb_tells}
 use Rattle.std.proofs.lemmas.List.Folds.{list_any-append}
 use Rattle.std.proofs.lemmas.Option.{slice_get_within}
-use Rattle.brc_model.specs.declared.duty.Holding.{Holding}
-use Rattle.brc_model.specs.declared.duty.Holding.TheVariants.{ByVariable, AsCaller, InFlight}
 use Rattle.brc_model.specs.AbstractState.{is_among, AbstractState, Move, Born, Gain, Lose, PassOn, Finalise, move, moved}
-use Rattle.brc_word.specs.Words.{is_immortal_word}
-use Rattle.brc_model.specs.declared.duty.Reason.TheVariants.{Own}
 use Rattle.brc_model.specs.declared.duty.Duty.{Duty}
-use Rattle.brc_model.specs.declared.duty.Duty.TheVariants.{RetainLoad, RetainStore, RetainAdd, ReleaseLoad, ReleaseStore, SharedExchange, SettleEnd, BirthLocal, SettleCell}
+use Rattle.brc_model.specs.declared.duty.Duty.TheVariants.{BirthLocal}
 use Rattle.brc_model.specs.declared.address.Address.{Address}
-use Rattle.brc_model.specs.Duties.{block_of, address_of}
-use Rattle.brc_model.specs.Machine.{Actor, Unborn, Live, Dying, Closed, Machine, first_row, used_by, put_in_flight, gain, lose, reference_effects, born_row, actor_by, done_by, take_out}
-use Rattle.brc_model.proofs.Basics.Lists.{some_is, slice_get-set_same, slice_get-set_other}
-use Rattle.brc_model.proofs.Basics.Blocks.{next_above, next_block, next_unborn}
+use Rattle.brc_model.specs.Duties.{address_of}
+use Rattle.brc_model.specs.Machine.{Actor, Unborn, Live, Dying, Closed, Machine, used_by, born_row, actor_by, done_by}
+use Rattle.brc_model.specs.Moves.{reference_effects}
+use Rattle.brc_model.proofs.Basics.Lists.{some_is, slice_get-set_same, slice_get-set_other, none_some}
+use Rattle.brc_model.proofs.Basics.Blocks.{row_back, next_index, next_counted, next_block, next_unborn}
+use Rattle.std.specs.List.{AllByRecursion}
+use Rattle.brc_model.proofs.Basics.Moves.{MoveOf, Bears, each_effect, moved_keeps}
 use Rattle.brc_model.proofs.Frame.Leaves.{head_of}
 use Rattle.brc_model.proofs.Stepping.Neutral.{found_by, uses_same}
 use Rattle.brc_model.proofs.Objects.Closing.{GoesOn, BeginsToDie, IsClosed, IsBorn, life_step}
 use Rattle.brc_model.proofs.Objects.ClosedAfter.{among_more, among_last, either_true, one_is}
 use Rattle.brc_model.proofs.Basics.Bag.{one_if_low}
+use Rattle.brc_model.specs.Layout.{row_at, index_of, IsCounted}
 
 -- ---- lives
 
@@ -39,7 +39,7 @@ dying_not_unborn t e = cc
 closed_not_unborn : Closed ≡ Unborn → ⊥
 closed_not_unborn e = cc
 
--- what was born is never unborn again
+-- A born row never becomes unborn.
 pub stays_born : (p : Accounts) (n : ℕ) (m : Machine) (t : ℕ) (a : Actor) (d : Duty) (rest : List Duty) (x : ℕ)
     → AtDuty p n m t a d rest → m.life x ≢ Unborn → (done_by m t a d rest).life x ≢ Unborn
 stays_born p n m t a d rest x here born =
@@ -50,7 +50,7 @@ stays_born p n m t a d rest x here born =
       | IsBorn now unborn above this none ↦ λ e. live_not_unborn (sym now ∙ e)
     ]
 
--- only the step of its birth bears a row
+-- An unborn row stays unborn unless the step is the last of its birth.
 pub stays_unborn : (p : Accounts) (n : ℕ) (m : Machine) (t : ℕ) (a : Actor) (d : Duty) (rest : List Duty) (x : ℕ)
     → AtDuty p n m t a d rest → m.life x ≡ Unborn → (born_row d ≡ Some x → ⊥) → (done_by m t a d rest).life x ≡ Unborn
 stays_unborn p n m t a d rest x here unborn other =
@@ -61,68 +61,69 @@ stays_unborn p n m t a d rest x here unborn other =
       | IsBorn now was above this none ↦ absurd (other this)
     ]
 
-none_is_not : (x : ℕ) → None ≡ Some x → ⊥
-none_is_not x e = cc
-
 born_next : (p : Accounts) (n : ℕ) (m : Machine) (t : ℕ) (a : Actor) (d : Duty) (rest : List Duty) (x : ℕ)
     → AtDuty p n m t a d rest → born_row d ≡ Some x → IsNext m t a x × (used_by a.used d ≡ a.used + 1)
 born_next p n m t a (BirthLocal y h) rest x here e =
     (subst (λ (z : ℕ). IsNext m t a z) (some_is y x e) (head_of p n m t a (BirthLocal y h) rest here).0, refl)
-born_next p n m t a _ rest x here e = absurd (none_is_not x e)
+born_next p n m t a _ rest x here e = absurd (none_some x e)
 
--- the row that a birth bears lives
+-- The row that a birth makes is live.
 born_lives : (p : Accounts) (n : ℕ) (m : Machine) (t : ℕ) (a : Actor) (d : Duty) (rest : List Duty) (x : ℕ)
     → AtDuty p n m t a d rest → born_row d ≡ Some x → (done_by m t a d rest).life x ≡ Live
 born_lives p n m t a (BirthLocal y h) rest x here e =
     ap (λ (b : Bool). cond b Live (m.life x)) (eq-eqb y x (some_is y x e))
-born_lives p n m t a _ rest x here e = absurd (none_is_not x e)
+born_lives p n m t a _ rest x here e = absurd (none_some x e)
 
--- ---- uses
+-- ---- used rows
 
--- whether a step is a birth's last
+-- A step is the last of a birth, or it isn't.
 either_born : (d : Duty) → (born_row d ≡ None) ⊎ ((x : ℕ) × (born_row d ≡ Some x))
 either_born (BirthLocal x h) = inr (x, refl)
 either_born _ = inl refl
 
 pub own_uses : (p : Accounts) (n : ℕ) (m : Machine) (t : ℕ) (a : Actor) (d : Duty) (rest : List Duty)
-    → AtDuty p n m t a d rest → UsesFit m.rows (done_by m t a d rest).life t (used_by a.used d)
+    → AtDuty p n m t a d rest → UsesFit m.layout (done_by m t a d rest).life t (used_by a.used d)
 own_uses p n m t a d rest here =
     let old = here.core.uses t a here.found in
     elim (either_born d) [
       | inl none ↦
           let same = uses_same a.used d none in
-          let now : UsesFit m.rows (done_by m t a d rest).life t a.used = record {
+          let now : UsesFit m.layout (done_by m t a d rest).life t a.used = record {
             main = old.main;
             few = old.few;
             born = λ x low high. stays_born p n m t a d rest x here (old.born x low high);
             unborn =
                 λ x block past. stays_unborn p n m t a d rest x here (old.unborn x block past)
-                (λ e. none_is_not x (sym none ∙ e));
+                (λ e. none_some x (sym none ∙ e));
           } in
-          subst (λ (u : ℕ). UsesFit m.rows (done_by m t a d rest).life t u) (sym same) now
+          subst (λ (u : ℕ). UsesFit m.layout (done_by m t a d rest).life t u) (sym same) now
       | inr this ↦
           let next = born_next p n m t a d rest this.0 here this.1 in
-          let now : UsesFit m.rows (done_by m t a d rest).life t (a.used + 1) = record {
+          let at = next_index m t a this.0 next.0 in
+          let now : UsesFit m.layout (done_by m t a d rest).life t (a.used + 1) = record {
             main = λ e. (let worker = next.0.worker in absurd (omega (arith, e, worker)));
-            few = λ worker. (let room = next.0.room in omega (arith, room));
-            born = λ x low high.
-                elim (cases_lt x (first_row m.rows t + a.used)) [
-                  | inl before ↦ stays_born p n m t a d rest x here (old.born x low before)
+            few = (let room = next.0.room in omega (arith, room));
+            born = λ x block low.
+                elim (cases_lt (index_of m.layout t x) a.used) [
+                  | inl before ↦ stays_born p n m t a d rest x here (old.born x block before)
                   | inr past ↦
-                      let same : x ≡ this.0 = (let row = next.0.row in omega (arith, row, past, high)) in
+                      let index : index_of m.layout t x ≡ a.used = omega (arith, low, past) in
+                      let same : x ≡ this.0 =
+                      sym (row_back m.layout t x block) ∙ ap (row_at m.layout t) index ∙ sym next.0.row in
                       λ e. live_not_unborn (sym (born_lives p n m t a d rest this.0 here this.1)
                       ∙ sym (ap (done_by m t a d rest).life same) ∙ e)
                 ];
             unborn = λ x block past. stays_unborn p n m t a d rest x here (old.unborn x block (omega (arith, past)))
-                (λ e. let same : this.0 ≡ x = some_is this.0 x (sym this.1 ∙ e) in let row =
-                next.0.row in absurd (omega (arith, row, past, same)));
+                (λ e. let same : index_of m.layout t this.0 ≡ index_of m.layout t x =
+                ap (index_of m.layout t) (some_is this.0 x (sym this.1 ∙ e)) in absurd
+                (omega (arith, at, past, same)));
           } in
-          subst (λ (u : ℕ). UsesFit m.rows (done_by m t a d rest).life t u) (sym next.1) now
+          subst (λ (u : ℕ). UsesFit m.layout (done_by m t a d rest).life t u) (sym next.1) now
     ]
 
 others_uses : (p : Accounts) (n : ℕ) (m : Machine) (t : ℕ) (a : Actor) (d : Duty) (rest : List Duty) (u : ℕ) (b : Actor)
     → AtDuty p n m t a d rest → u ≢ t → slice_get m.actors u ≡ Some b
-    → UsesFit m.rows (done_by m t a d rest).life u b.used
+    → UsesFit m.layout (done_by m t a d rest).life u b.used
 others_uses p n m t a d rest u b here ne found =
     let old = here.core.uses u b found in
     record {
@@ -134,33 +135,26 @@ others_uses p n m t a d rest u b here ne found =
           (λ e. ne (sym block ∙ next_block m t a x (born_next p n m t a d rest x here e).0));
     }
 
+-- After a thread's step the used rows of each thread's block are born, and the others aren't.
 pub uses_after : (p : Accounts) (n : ℕ) (m : Machine) (t : ℕ) (a : Actor) (d : Duty) (rest : List Duty)
     → AtDuty p n m t a d rest → (u : ℕ) (b : Actor) → slice_get (done_by m t a d rest).actors u ≡ Some b
-    → UsesFit m.rows (done_by m t a d rest).life u b.used
+    → UsesFit m.layout (done_by m t a d rest).life u b.used
 uses_after p n m t a d rest here u b is =
-    let after = actor_by t a d rest (found_by m t a d) in
+    let after = actor_by m.layout t a d rest (found_by m t a d) in
     elim (eqb_tells u t) [
       | inl same ↦
           let written_is : Some after ≡ Some b =
           sym (ap (slice_get (slice_set m.actors t after)) same.1
           ∙ slice_get-set_same m.actors t after (slice_get_within m.actors t a here.found)) ∙ is in
-          let own : UsesFit m.rows (done_by m t a d rest).life u after.used =
-          subst (λ (w : ℕ). UsesFit m.rows (done_by m t a d rest).life w after.used) (sym same.1)
+          let own : UsesFit m.layout (done_by m t a d rest).life u after.used =
+          subst (λ (w : ℕ). UsesFit m.layout (done_by m t a d rest).life w after.used) (sym same.1)
           (own_uses p n m t a d rest here) in
-          subst (λ (c : Actor). UsesFit m.rows (done_by m t a d rest).life u c.used) (some_is after b written_is) own
+          subst (λ (c : Actor). UsesFit m.layout (done_by m t a d rest).life u c.used) (some_is after b written_is) own
       | inr apart ↦
           others_uses p n m t a d rest u b here apart.1 (sym (slice_get-set_other m.actors t u after apart.1) ∙ is)
     ]
 
-pub no_block_after : (p : Accounts) (n : ℕ) (m : Machine) (t : ℕ) (a : Actor) (d : Duty) (rest : List Duty)
-    → AtDuty p n m t a d rest → (x : ℕ) → n ≤ block_of m.rows x → (done_by m t a d rest).life x ≡ Unborn
-no_block_after p n m t a d rest here x past =
-    let within : t < n = omega (arith, slice_get_within m.actors t a here.found, here.core.threads) in
-    stays_unborn p n m t a d rest x here (here.core.no_block x past)
-    (λ e. let block = next_block m t a x (born_next p n m t a d rest x here e).0 in absurd
-    (omega (arith, block, within, past)))
-
--- ---- the list of what was born
+-- ---- the list of born rows
 
 abbrev pub BearsNone : Move → Type 0
 BearsNone (Born r kind) = ⊥
@@ -169,67 +163,37 @@ BearsNone (Lose r) = Unit {0}
 BearsNone (PassOn r h) = Unit {0}
 BearsNone (Finalise x) = Unit {0}
 
-abbrev pub AllBearNone : List Move → Type 0
-AllBearNone [] = Unit {0}
-AllBearNone (mv ∷ mvs) = BearsNone mv × AllBearNone mvs
+move_bears : (p : AbstractState) (mv : Move) → BearsNone mv → (move p mv).born ≡ p.born
+move_bears p (Born r kind) none = absurd none
+move_bears p _ none = refl
 
-moved_born : (p : AbstractState) (mvs : List Move) → AllBearNone mvs → (moved p mvs).born ≡ p.born
-moved_born p [] none = refl
-moved_born p (Born r kind ∷ mvs) none = absurd none.0
-moved_born p (Gain r ∷ mvs) none = moved_born (move p (Gain r)) mvs none.1
-moved_born p (Lose r ∷ mvs) none = moved_born (move p (Lose r)) mvs none.1
-moved_born p (PassOn r h ∷ mvs) none = moved_born (move p (PassOn r h)) mvs none.1
-moved_born p (Finalise x ∷ mvs) none = moved_born (move p (Finalise x)) mvs none.1
-
-either_none : (b : Bool) (mvs others : List Move) → AllBearNone mvs → AllBearNone others
-    → AllBearNone (cond b mvs others)
-either_none true mvs others f g = f
-either_none false mvs others f g = g
-
-append_none : (mvs others : List Move) → AllBearNone mvs → AllBearNone others → AllBearNone (mvs ++ others)
-append_none [] others f g = g
-append_none (mv ∷ mvs) others f g = (f.0, append_none mvs others f.1 g)
-
-put_in_flight_none : (t : ℕ) (h : Holding) (x : ℕ) → AllBearNone (put_in_flight t h x)
-put_in_flight_none t (ByVariable v) x = (tt, tt)
-put_in_flight_none t AsCaller x = (tt, tt)
-put_in_flight_none t InFlight x = tt
-
-take_out_none : (t x i found : ℕ) → AllBearNone (take_out t x i found)
-take_out_none t x i zero = tt
-take_out_none t x i (suc y) = (tt, tt)
+effect_bears : {t found : ℕ} (d : Duty) (mv : Move) → born_row d ≡ None → MoveOf t found d mv → BearsNone mv
+effect_bears d mv none (Bears x h kind of born) = absurd (none_some x (sym none ∙ born))
+effect_bears d mv none _ = tt
 
 pub moves_none : (memory : Address → ℕ) (t : ℕ) (d : Duty) (found : ℕ) → born_row d ≡ None
-    → AllBearNone (reference_effects memory t d found)
-moves_none memory t (RetainLoad x h) found e = either_none (is_immortal_word found) (gain t h x) [] (tt, tt) tt
-moves_none memory t (RetainStore x h w) found e = (tt, tt)
-moves_none memory t (RetainAdd x h) found e = (tt, tt)
-moves_none memory t (ReleaseLoad x h) found e =
-    append_none (put_in_flight t h x) (cond (is_immortal_word found) (lose t x) []) (put_in_flight_none t h x)
-    (either_none (is_immortal_word found) (lose t x) [] (tt, tt) tt)
-moves_none memory t (ReleaseStore x w) found e = (tt, tt)
-moves_none memory t (SharedExchange x Own w) found e = either_none (found == w) (lose t x) [] (tt, tt) tt
-moves_none memory t (SettleCell x i k) found e = take_out_none t x i found
-moves_none memory t (SettleEnd x) found e = (tt, tt)
-moves_none memory t (BirthLocal x h) found e = absurd (let wrong : Some x ≡ None = e in cc)
-moves_none memory t _ found e = tt
+    → AllByRecursion BearsNone (reference_effects memory t d found)
+moves_none memory t d found none =
+    each_effect BearsNone memory t d found (λ mv sort. effect_bears d mv none sort)
 
 data BornStep (m : Machine) (t : ℕ) (d : Duty) (found : ℕ) : Type 0 where
   SameBorn : born_row d ≡ None → (moved m.abstract (reference_effects m.memory t d found)).born ≡ m.abstract.born
       → BornStep m t d found
-  OneBorn : (y : ℕ) → born_row d ≡ Some y → (moved m.abstract (reference_effects m.memory t d found)).born ≡ m.abstract.born ++ y ∷ []
+  OneBorn : (y : ℕ) → born_row d ≡ Some y
+      → (moved m.abstract (reference_effects m.memory t d found)).born ≡ m.abstract.born ++ y ∷ []
       → BornStep m t d found
 
 born_step : (m : Machine) (t : ℕ) (d : Duty) (found : ℕ) → BornStep m t d found
 born_step m t (BirthLocal x h) found = OneBorn x refl refl
 born_step m t d found =
-    SameBorn refl (moved_born m.abstract (reference_effects m.memory t d found) (moves_none m.memory t d found refl))
+    SameBorn refl (moved_keeps (λ p. p.born) BearsNone move_bears m.abstract (reference_effects m.memory t d found)
+    (moves_none m.memory t d found refl))
 
 pub born_is_after : (p : Accounts) (n : ℕ) (m : Machine) (t : ℕ) (a : Actor) (d : Duty) (rest : List Duty)
     → AtDuty p n m t a d rest → (x : ℕ) → is_among x (done_by m t a d rest).abstract.born ≡ true
-    → (0 < x) × ((done_by m t a d rest).life x ≢ Unborn)
+    → (IsCounted m.layout x) × ((done_by m t a d rest).life x ≢ Unborn)
 born_is_after p n m t a d rest here x is =
-    elim (born_step m t d (m.memory (address_of m.rows t a.head d))) [
+    elim (born_step m t d (m.memory (address_of m.layout t a.head d))) [
       | SameBorn none same ↦
           let old = here.core.born_is x (sym (ap (is_among x) same) ∙ is) in
           (old.0, stays_born p n m t a d rest x here old.1)
@@ -240,12 +204,12 @@ born_is_after p n m t a d rest here x is =
             | inr new ↦
                 let this : y ≡ x = one_is x y new in
                 let bears : born_row d ≡ Some x = born ∙ ap Some this in
-                let above = next_above m t a x (born_next p n m t a d rest x here bears).0 in
-                (omega (arith, above), λ e. live_not_unborn (sym (born_lives p n m t a d rest x here bears) ∙ e))
+                let above = next_counted m t a x (born_next p n m t a d rest x here bears).0 in
+                (above, λ e. live_not_unborn (sym (born_lives p n m t a d rest x here bears) ∙ e))
           ]
     ]
 
--- what is born stands in the list, now or before
+-- A row that is born after the step was born before it, or the step is the last of its birth.
 pub before_or_now : (p : Accounts) (n : ℕ) (m : Machine) (t : ℕ) (a : Actor) (d : Duty) (rest : List Duty) (x : ℕ)
     → AtDuty p n m t a d rest → (done_by m t a d rest).life x ≢ Unborn → (m.life x ≢ Unborn) ⊎ (born_row d ≡ Some x)
 before_or_now p n m t a d rest x here born =
@@ -257,15 +221,15 @@ before_or_now p n m t a d rest x here born =
     ]
 
 pub born_has_after : (p : Accounts) (n : ℕ) (m : Machine) (t : ℕ) (a : Actor) (d : Duty) (rest : List Duty)
-    → AtDuty p n m t a d rest → (x : ℕ) → 0 < x → (done_by m t a d rest).life x ≢ Unborn
+    → AtDuty p n m t a d rest → (x : ℕ) → IsCounted m.layout x → (done_by m t a d rest).life x ≢ Unborn
     → is_among x (done_by m t a d rest).abstract.born ≡ true
 born_has_after p n m t a d rest here x above born =
     let Q : List ℕ → Type 0 = λ l. is_among x l ≡ true in
-    elim (born_step m t d (m.memory (address_of m.rows t a.head d))) [
+    elim (born_step m t d (m.memory (address_of m.layout t a.head d))) [
       | SameBorn none same ↦
           subst Q (sym same) (elim (before_or_now p n m t a d rest x here born) [
             | inl was ↦ here.core.born_has x above was
-            | inr this ↦ absurd (none_is_not x (sym none ∙ this))
+            | inr this ↦ absurd (none_some x (sym none ∙ this))
           ])
       | OneBorn y bears more ↦
           subst Q (sym more) (elim (before_or_now p n m t a d rest x here born) [
@@ -276,7 +240,7 @@ born_has_after p n m t a d rest here x above born =
           ])
     ]
 
--- ---- nothing is born twice
+-- ---- no row is born twice
 
 none_counted : (x : ℕ) (l : List ℕ) → is_among x l ≡ false → count_by (λ y. y == x) l ≡ 0
 none_counted x [] none = refl
@@ -296,7 +260,7 @@ not_listed p n m x core unborn =
       | false ↦ λ e. refl
     ] refl
 
--- one more, that isn't in the list
+-- Appending an element that isn't in the list keeps every element at most once in it.
 one_more : (x y : ℕ) (l : List ℕ) → count_by (λ z. z == x) l ≤ 1 → is_among y l ≡ false
     → count_by (λ z. z == x) (l ++ y ∷ []) ≤ 1
 one_more x y l once none =
@@ -318,10 +282,11 @@ pub born_once_after : (p : Accounts) (n : ℕ) (m : Machine) (t : ℕ) (a : Acto
     → AtDuty p n m t a d rest → (x : ℕ) → count_by (λ y. y == x) (done_by m t a d rest).abstract.born ≤ 1
 born_once_after p n m t a d rest here x =
     let Q : List ℕ → Type 0 = λ l. count_by (λ y. y == x) l ≤ 1 in
-    elim (born_step m t d (m.memory (address_of m.rows t a.head d))) [
+    elim (born_step m t d (m.memory (address_of m.layout t a.head d))) [
       | SameBorn none same ↦ subst Q (sym same) (here.core.born_once x)
       | OneBorn y bears more ↦
           let next = (born_next p n m t a d rest y here bears).0 in
           let unborn = next_unborn p n m t a y here.core here.found next in
-          subst Q (sym more) (one_more x y m.abstract.born (here.core.born_once x) (not_listed p n m y here.core unborn))
+          subst Q (sym more)
+          (one_more x y m.abstract.born (here.core.born_once x) (not_listed p n m y here.core unborn))
     ]

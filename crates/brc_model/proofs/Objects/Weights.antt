@@ -1,4 +1,4 @@
--- What the weights of the agendas come to after one thread's step.
+-- What the agendas of all threads weigh after one thread's step.
 use Rattle.std.proofs.Common.{◌≡◌, ℕ, zero, suc, ◌+◌, ◌≤◌, true, false, cond, List, [], ◌∷◌, ◌++◌, Some, get_or, refl, ap, ◌∙◌, arith}
 use Rattle.std.specs.Prelude.{◌==◌, sum_by, slice_get, slice_set}
 use Rattle.std.proofs.lemmas.Option.{slice_get_within, get_or_from_slice_get}
@@ -10,9 +10,9 @@ use Rattle.brc_model.specs.Machine.{Actor, Machine, is_running, done_by}
 use Rattle.brc_model.specs.References.{one_if}
 use Rattle.brc_model.specs.RowInvariant.{waits, carries, merges, decides, agenda_weight, weight}
 
--- ---- what is passed over weighs nothing
+-- ---- duties that `ready` skips weigh nothing
 
--- a weight of neither settling nor looking through marks
+-- The weight is 0 for the duties that `ready` can skip: settling, and looking through marks.
 pub record IsLight (f : Duty → ℕ) : Type 0 where
   pub settle : f Settle ≡ 0
   pub scan : (x n : ℕ) → f (Scan x n) ≡ 0
@@ -45,7 +45,7 @@ agenda_weight-le f actors t a is =
     ap (agenda_weight f) (get_or_from_slice_get actors t a a is) in
     omega (arith, get_or-le-sum_by (agenda_weight f) actors t a (slice_get_within actors t a is), this)
 
--- the first duty is replaced by those that follow it
+-- A step replaces the weight of its duty by the weight of the duties that follow.
 pub weight-stepped : (f : Duty → ℕ) → IsLight f
     → (actors : List Actor) (t : ℕ) (a b : Actor) (d : Duty) (next rest : List Duty) (head : ℕ)
     → slice_get actors t ≡ Some a
@@ -73,12 +73,14 @@ light f settle scan = record { settle = settle; scan = scan }
 
 pub weighed_after : (m : Machine) (t : ℕ) (a : Actor) (d : Duty) (rest next : List Duty) → slice_get m.actors t ≡ Some a
     → a.agenda ≡ d ∷ rest
-    → continuation t (is_running a.status) a.head d (m.memory (address_of m.rows t a.head d)) ≡ next → (x : ℕ)
+    → continuation m.layout t (is_running a.status) a.head d (m.memory (address_of m.layout t a.head d)) ≡ next
+    → (x : ℕ)
     → Weighed m (done_by m t a d rest) x d next
 weighed_after m t a d rest next is agenda follows x =
-    let found = m.memory (address_of m.rows t a.head d) in
+    let found = m.memory (address_of m.layout t a.head d) in
     let head = new_head a.head d found in
-    let now : ready head (continuation t (is_running a.status) a.head d found ++ rest) ≡ ready head (next ++ rest) =
+    let now : ready head (continuation m.layout t (is_running a.status) a.head d found ++ rest) ≡ ready head
+    (next ++ rest) =
     ap (λ (ds : List Duty). ready head (ds ++ rest)) follows in
     record {
       waiting =
@@ -95,7 +97,7 @@ weighed_after m t a d rest next is agenda follows x =
           now refl;
     }
 
--- ---- where nothing merges, nothing is carried
+-- ---- nothing is carried unless a thread merges
 
 sum_none : {X : Type 0} (f g : X → ℕ) → ((x : X) → f x ≡ 0 → g x ≡ 0) → (xs : List X) → sum_by f xs ≡ 0
     → sum_by g xs ≡ 0

@@ -1,11 +1,10 @@
--- The rule of a row says that its counts agree.
+-- The invariant of a row implies that the row's counts agree.
 use Rattle.std.proofs.Common.{◌≡◌, ◌≢◌, ℕ, ◌+◌, ◌<◌, ◌≤◌, ◌⊎◌, Bool, true, false, inl, inr, refl, ap, arith}
 use Rattle.std.specs.Prelude.{◌==◌, ◌||◌}
 use Rattle.brc_word.specs.Words.{owner_part, local_part, biased_part, phase_part, bias}
 use Rattle.brc_model.specs.declared.duty.Reason.TheVariants.{Own}
 use Rattle.brc_model.specs.declared.duty.Duty.{Duty}
 use Rattle.brc_model.specs.declared.duty.Duty.TheVariants.{DecideAtZero, MergeSwap, MergeLoad, MergeExchange}
-use Rattle.brc_model.specs.Duties.{block_of}
 use Rattle.brc_model.specs.Machine.{Life, Unborn, Live, Dying, Closed, Machine}
 use Rattle.brc_model.specs.Agreement.{has_swapped, is_merging, decides_or_merges, HasDuty, SomeThreadHas, OwnerHas, IsCountedLocally, IsPhase, AgreesAt, IsFreeOf}
 use Rattle.brc_model.specs.References.{one_if}
@@ -14,18 +13,19 @@ use Rattle.brc_model.specs.Accounts.{Accounts}
 use Rattle.brc_model.specs.Invariant.{numbers_of, CoreInvariant}
 use Rattle.brc_model.proofs.Work.HasDuties.{Weighs, some_weighs, is_open}
 use Rattle.brc_model.proofs.Work.Deciders.{decider_owns}
+use Rattle.brc_model.specs.Layout.{block_of, IsCounted}
 
 or_first : (a b : Bool) → (a || b) ≡ false → a ≡ false
 or_first true b e = absurd cc
 or_first false b e = refl
 
--- what the rule of a row says of its local count, until it is merged
+-- What the invariant of a row says of its local count until the row is merged.
 data LocalSays (owner : ℕ) (n : Numbers) : Type 0 where
-  IsCounted : owner_part n.local ≡ owner + 1 → 1 ≤ local_part n.local → LocalSays owner n
+  CountsIt : owner_part n.local ≡ owner + 1 → 1 ≤ local_part n.local → LocalSays owner n
   IsDecided : n.deciding ≡ 1 → LocalSays owner n
   IsCarried : n.merging ≡ 1 → LocalSays owner n
 
--- and of a live row
+-- What it says of a live row.
 record LiveSays (owner : ℕ) (n : Numbers) : Type 0 where
   total : local_part n.local + biased_part n.shared + n.carried ≡ n.references + n.mark + n.waiting + bias
   default_none : phase_part n.shared ≡ 0 → n.mark + n.waiting ≡ 0
@@ -60,7 +60,7 @@ phased_says owner n live local (IsQueued p w) = record {
 
 decided_says : (owner : ℕ) (n : Numbers) → owner_part n.local ≡ owner + 1 → Decided n → LocalSays owner n
 decided_says owner n owned (AtZero z d) = IsDecided d
-decided_says owner n owned (AboveZero z d) = IsCounted owned z
+decided_says owner n owned (AboveZero z d) = CountsIt owned z
 
 mode_says : (owner : ℕ) (n : Numbers) → IsLive owner n → Mode owner n → LiveSays owner n
 mode_says owner n live (InOwned o) = phased_says owner n live (decided_says owner n o.owned o.decided) o.phased
@@ -76,7 +76,7 @@ mode_says owner n live (InMerged g) = record {
   local = λ ne. absurd (ne g.phase);
 }
 
--- by the row's life
+-- What it says of a row, by the row's life.
 record RowSays (owner : ℕ) (l : Life) (n : Numbers) : Type 0 where
   total : local_part n.local + biased_part n.shared + n.carried ≡ n.references + n.mark + n.waiting + bias
   live : l ≡ Live → LiveSays owner n
@@ -99,7 +99,7 @@ row_says owner Closed n row =
       live = λ e. absurd cc;
     }
 
--- ---- whose duties they are
+-- ---- which thread has the duty
 
 decides_only : (x : ℕ) (d : Duty) → decides_or_merges x d ≡ false → decides x d ≡ 0
 decides_only x (DecideAtZero y) other = ap one_if (or_first (y == x) (is_merging x (DecideAtZero y)) other)
@@ -116,13 +116,13 @@ merges_only x (MergeLoad y c r) other = ap one_if other
 merges_only x (MergeExchange y c w r) other = ap one_if other
 merges_only x _ other = refl
 
--- the thread whose agenda weighs has such a duty
+-- A thread whose agenda weighs something has a duty of that sort.
 has_duty : (m : Machine) (f : Duty → ℕ) (is_such : Duty → Bool) → ((d : Duty) → is_such d ≡ false → f d ≡ 0)
     → (it : Weighs f m.actors) → HasDuty m it.who is_such
 has_duty m f is_such only it =
     record { actor = it.which; found = it.found; listed = is_open f is_such only it.which it.some }
 
--- who decides about a row is its owner
+-- The thread that decides about a row is the row's owner.
 owner_decides : (p : Accounts) (n : ℕ) (m : Machine) (x : ℕ) → CoreInvariant p n m → weight (decides x) m.actors ≡ 1
     → OwnerHas m x (decides_or_merges x)
 owner_decides p n m x core one =
@@ -131,17 +131,17 @@ owner_decides p n m x core one =
     (it.who, owns.owner, has_duty m (decides x) (decides_or_merges x) (decides_only x) it)
 
 default_local : (p : Accounts) (n : ℕ) (m : Machine) (x : ℕ) → CoreInvariant p n m
-    → LocalSays (block_of m.rows x) (numbers_of m x) → IsCountedLocally m x ⊎ SomeThreadHas m (decides_or_merges x)
-default_local p n m x core (IsCounted owned some) = inl (record { owner = owned; counted = some })
+    → LocalSays (block_of m.layout x) (numbers_of m x) → IsCountedLocally m x ⊎ SomeThreadHas m (decides_or_merges x)
+default_local p n m x core (CountsIt owned some) = inl (record { owner = owned; counted = some })
 default_local p n m x core (IsDecided one) = let owner = owner_decides p n m x core one in inr (owner.0, owner.2)
 default_local p n m x core (IsCarried one) =
     let it = some_weighs (merges x) m.actors (omega (arith, one)) in
     inr (it.who, has_duty m (merges x) (decides_or_merges x) (merges_only x) it)
 
 queued_local : (p : Accounts) (n : ℕ) (m : Machine) (x : ℕ) → CoreInvariant p n m
-    → LocalSays (block_of m.rows x) (numbers_of m x)
+    → LocalSays (block_of m.layout x) (numbers_of m x)
     → IsCountedLocally m x ⊎ OwnerHas m x (decides_or_merges x) ⊎ SomeThreadHas m (has_swapped x)
-queued_local p n m x core (IsCounted owned some) = inl (record { owner = owned; counted = some })
+queued_local p n m x core (CountsIt owned some) = inl (record { owner = owned; counted = some })
 queued_local p n m x core (IsDecided one) = inr (inl (owner_decides p n m x core one))
 queued_local p n m x core (IsCarried one) =
     let it = some_weighs (merges x) m.actors (omega (arith, one)) in
@@ -149,9 +149,10 @@ queued_local p n m x core (IsCarried one) =
 
 -- ---- every row
 
-pub agrees_at : (p : Accounts) (n : ℕ) (m : Machine) (x : ℕ) → CoreInvariant p n m → 0 < x → AgreesAt m x
+-- The counts of each row agree, and each phase implies what it says.
+pub agrees_at : (p : Accounts) (n : ℕ) (m : Machine) (x : ℕ) → CoreInvariant p n m → IsCounted m.layout x → AgreesAt m x
 agrees_at p n m x core pos =
-    let says = row_says (block_of m.rows x) (m.life x) (numbers_of m x) (core.rows x pos) in
+    let says = row_says (block_of m.layout x) (m.life x) (numbers_of m x) (core.rows x pos) in
     record {
       total = omega (arith, says.total);
       default_none = λ live e. (says.live live).default_none e;
@@ -172,9 +173,10 @@ free_row owner Live n row alive born = absurd (alive refl)
 free_row owner (Dying t) n row alive born = row
 free_row owner Closed n row alive born = row
 
--- what is dying or closed is free of references
-pub is_free_of : (p : Accounts) (n : ℕ) (m : Machine) (x : ℕ) → CoreInvariant p n m → 0 < x → (m.life x ≡ Live → ⊥)
+-- A dying or closed row has no reference, and no decrement of it is pending.
+pub is_free_of : (p : Accounts) (n : ℕ) (m : Machine) (x : ℕ) → CoreInvariant p n m → IsCounted m.layout x
+    → (m.life x ≡ Live → ⊥)
     → (m.life x ≡ Unborn → ⊥) → IsFreeOf m x
 is_free_of p n m x core pos alive born =
-    let dead = free_row (block_of m.rows x) (m.life x) (numbers_of m x) (core.rows x pos) alive born in
+    let dead = free_row (block_of m.layout x) (m.life x) (numbers_of m x) (core.rows x pos) alive born in
     record { references = dead.references; awaiting_none = omega (arith, dead.mark, dead.waiting) }

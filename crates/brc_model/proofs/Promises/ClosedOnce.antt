@@ -1,4 +1,4 @@
--- A row is finalised at most once: what is closed stays closed, and is closed once.
+-- A row is finalised at most once: a closed row stays closed, and is closed once.
 use Rattle.std.proofs.Common.{◌≡◌, ◌≢◌, ℕ, suc, ◌+◌, ◌<◌, ◌≤◌, Bool, true, false, cond, List, [], ◌∷◌, ◌++◌, ◌⊎◌, inl, inr, length, Some, refl, sym, ap, ◌∙◌, arith}
 use Rattle.std.specs.Prelude.{◌==◌, count_by, get_or, AllPairs}
 use Rattle.std.proofs.lemmas.Bool.Decides.{eqb_tells}
@@ -9,6 +9,7 @@ use Rattle.brc_model.specs.declared.thread.Choice.{Choice}
 use Rattle.brc_model.specs.declared.duty.Duty.{Duty}
 use Rattle.brc_model.specs.Duties.{address_of}
 use Rattle.brc_model.specs.Machine.{Actor, Machine, ended_row, done_by}
+use Rattle.brc_model.specs.StepMachine.{StepMachine}
 use Rattle.brc_model.specs.Progress.{ClosedStays, ClosesAnew, ClosedOnce}
 use Rattle.brc_model.specs.References.{one_if}
 use Rattle.brc_model.specs.Accounts.{Accounts}
@@ -19,14 +20,14 @@ use Rattle.brc_model.proofs.Promises.StepCases.{ShowsSteps, at_duty, event_shows
 use Rattle.brc_model.proofs.Keeping.SilentSteps.{silent_closed}
 use Rattle.brc_model.specs.Invariant.{AtDuty}
 
--- ---- what is closed stays closed
+-- ---- a closed row stays closed
 
 abbrev StaysAmong : Machine → Machine → Type 0
 StaysAmong m new = (x : ℕ) → is_among x m.abstract.closed ≡ true → is_among x new.abstract.closed ≡ true
 
 stays_among : (m : Machine) (t : ℕ) (a : Actor) (d : Duty) (rest : List Duty) → StaysAmong m (done_by m t a d rest)
 stays_among m t a d rest = λ x was.
-    elim (closed_step m t d (m.memory (address_of m.rows t a.head d))) [
+    elim (closed_step m t d (m.memory (address_of m.layout t a.head d))) [
       | SameClosed none same ↦ ap (is_among x) same ∙ was
       | OneMore y ended more ↦ ap (is_among x) more ∙ among_more x m.abstract.closed (y ∷ []) was
     ]
@@ -34,15 +35,16 @@ stays_among m t a d rest = λ x was.
 closed_shown : (n : ℕ) → ShowsSteps (λ t m new. StaysAmong m new) n
 closed_shown n = record {
   stays = λ p t m kept x was. was;
-  sits = λ t m new a place agenda found shown. shown;
-  moves = λ p t m a moves place kept found silent x was. ap (is_among x) (silent_closed m.abstract t moves silent) ∙ was;
+  sits = λ t m new a agenda found shown. shown;
+  moves = λ p t m a moves kept found silent x was. ap (is_among x) (silent_closed m.abstract t moves silent) ∙ was;
   does = λ p t m a d rest doing. stays_among m t a d rest;
 }
 
-pub closed_stays : (p : Module) (n : ℕ) (m : Machine) (event : ℕ × Choice) → CodeInvariant p n m → ClosedStays m event
+pub closed_stays : (p : Module) (n : ℕ) (m : StepMachine) (event : ℕ × Choice) → CodeInvariant p n m
+    → ClosedStays m event
 closed_stays p n m event whole = event_shows (closed_shown n) m event whole
 
--- ---- what is closed anew wasn't closed
+-- ---- an event closes no closed row
 
 ne_true : (b : Bool) → (b ≡ true → ⊥) → b ≡ false
 ne_true true wrong = absurd (wrong refl)
@@ -66,7 +68,7 @@ ends_open p n m t a d rest row here ended was =
 closes_at_duty : (p : Accounts) (n : ℕ) (m : Machine) (t : ℕ) (a : Actor) (d : Duty) (rest : List Duty)
     → AtDuty p n m t a d rest → ClosesSo m (done_by m t a d rest)
 closes_at_duty p n m t a d rest here =
-    elim (closed_step m t d (m.memory (address_of m.rows t a.head d))) [
+    elim (closed_step m t d (m.memory (address_of m.layout t a.head d))) [
       | SameClosed none same ↦ inl same
       | OneMore row ended more ↦ inr (row, ne_true _ (ends_open p n m t a d rest row here ended), more)
     ]
@@ -74,15 +76,15 @@ closes_at_duty p n m t a d rest here =
 closes_shown : (n : ℕ) → ShowsSteps (λ t m new. ClosesSo m new) n
 closes_shown n = record {
   stays = λ p t m kept. inl refl;
-  sits = λ t m new a place agenda found shown. shown;
-  moves = λ p t m a moves place kept found silent. inl (silent_closed m.abstract t moves silent);
+  sits = λ t m new a agenda found shown. shown;
+  moves = λ p t m a moves kept found silent. inl (silent_closed m.abstract t moves silent);
   does = λ p t m a d rest doing. closes_at_duty p n m t a d rest (at_duty doing);
 }
 
-pub closes_anew : (p : Module) (n : ℕ) (m : Machine) (event : ℕ × Choice) → CodeInvariant p n m → ClosesAnew m event
+pub closes_anew : (p : Module) (n : ℕ) (m : StepMachine) (event : ℕ × Choice) → CodeInvariant p n m → ClosesAnew m event
 closes_anew p n m event whole = event_shows (closes_shown n) m event whole
 
--- ---- it is closed once
+-- ---- each row is closed once
 
 abbrev counted : ℕ → List ℕ → ℕ
 counted x xs = count_by (λ y. y == x) xs
@@ -125,5 +127,5 @@ once_counted x (y ∷ ys) once =
           )
     ]
 
-pub closed_once : (p : Module) (n : ℕ) (m : Machine) → CodeInvariant p n m → ClosedOnce m
+pub closed_once : (p : Module) (n : ℕ) (m : StepMachine) → CodeInvariant p n m → ClosedOnce m
 closed_once p n m whole = λ x. once_counted x m.abstract.closed whole.kept.core.once

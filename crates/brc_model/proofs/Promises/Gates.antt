@@ -1,4 +1,4 @@
--- A row's gate says that it is closed, just where it was finalised; and what is born is among the used rows.
+-- A row's gate says that the row is closed exactly if the row was finalised. Each born row is among the used rows.
 use Rattle.std.proofs.Common.{◌≡◌, ◌≢◌, ℕ, ◌<◌, true, false, cond, List, [], ◌∷◌, get_or, ◌⊎◌, inl, inr, refl, sym, ap, ◌∙◌, subst, arith}
 use Rattle.std.specs.Prelude.{◌==◌, count_by}
 use Rattle.std.proofs.lemmas.Bool.{eqb-true, cases_lt, false≢true}
@@ -12,7 +12,9 @@ use Rattle.brc_model.specs.declared.duty.Duty.{Duty}
 use Rattle.brc_model.specs.declared.duty.Duty.TheVariants.{Die, SettleKind, SettleCell, TakeSlot, CloseResource, SettleEnd}
 use Rattle.brc_model.specs.declared.address.Address.{Address}
 use Rattle.brc_model.specs.declared.address.Address.TheVariants.{Gate}
-use Rattle.brc_model.specs.Machine.{Actor, Life, Unborn, Live, Dying, Closed, Machine, main_actor}
+use Rattle.brc_model.specs.Machine.{Actor, idle_actor, Life, Unborn, Live, Dying, Closed, Machine}
+use Rattle.brc_model.specs.StepMachine.{StepMachine, its_actor, counting}
+use Rattle.brc_model.specs.Layout.{block_of, index_of}
 use Rattle.brc_model.specs.Progress.{Always, GatesTell, BornAreUsed}
 use Rattle.brc_model.specs.References.{one_if}
 use Rattle.brc_model.specs.Accounts.{Accounts}
@@ -21,17 +23,18 @@ use Rattle.brc_model.specs.OpenWork.{Linked, finalised_now, dies_by, GateFits}
 use Rattle.brc_model.specs.Invariant.{CoreInvariant}
 use Rattle.brc_model.proofs.Frame.Others.{dying_is}
 use Rattle.brc_model.proofs.Keeping.CodeInvariant.{CodeInvariant}
+use Rattle.brc_model.proofs.Basics.Lists.{slice_get-map}
 use Rattle.brc_model.proofs.Promises.RowLaws.{always}
 use Rattle.brc_model.proofs.Basics.Blocks.{born_used}
 use Rattle.brc_model.specs.Limits.{thread_limit}
 
 -- ---- the gate of a dying row
 
--- a dying row's word is below the closed one, for threads and rows are few
+-- A dying word is never the closed word, since threads and rows are few.
 dying_low : (t gate : ℕ) → t < thread_limit → IsDyingWord t gate → gate ≢ closed_word
 dying_low t gate few (next, is, low) e = absurd (omega (arith, few, low, is, e))
 
--- at hand, its gate is free before its first step and a dying word after it
+-- The gate of the row that the first duty is finalising is free before `Die`, and a dying word after it.
 hand_gate : (m : Machine) (t : ℕ) (a : Actor) (agenda : List Duty) (x : ℕ) → HeadOf m t a agenda
     → finalised_now agenda x ≡ true → (m.memory (Gate x) ≡ free_word) ⊎ IsDyingWord t (m.memory (Gate x))
 hand_gate m t a (Die y ∷ rest) x fits at = inl (ap (λ (z : ℕ). m.memory (Gate z)) (sym (eqb-true y x at)) ∙ fits.2)
@@ -47,7 +50,7 @@ hand_gate m t a (SettleEnd y ∷ rest) x fits at =
     inr (subst (λ (z : ℕ). IsDyingWord t (m.memory (Gate z))) (eqb-true y x at) fits.2)
 hand_gate m t a _ x fits at = absurd (false≢true at)
 
--- in the chain, it is a dying word
+-- The gate of a row in the chain is a dying word.
 chained_gate : (memory : Address → ℕ) (t head : ℕ) (chained : List ℕ) (x : ℕ) → Linked memory t head chained
     → 0 < count_by (λ y. y == x) chained → IsDyingWord t (memory (Gate x))
 chained_gate memory t head [] x linked some = absurd (omega (arith, some))
@@ -64,8 +67,8 @@ chained_gate memory t head (y ∷ ys) x linked some =
 dying_gate : (p : Accounts) (n : ℕ) (m : Machine) (t x : ℕ) → CoreInvariant p n m → t < n → m.life x ≡ Dying t
     → (m.memory (Gate x) ≡ free_word) ⊎ IsDyingWord t (m.memory (Gate x))
 dying_gate p n m t x core within dies =
-    let a = get_or m.actors t main_actor in
-    let found = slice_get-get_or m.actors t main_actor (omega (arith, within, core.threads)) in
+    let a = get_or m.actors t (idle_actor 0) in
+    let found = slice_get-get_or m.actors t (idle_actor 0) (omega (arith, within, core.threads)) in
     let fits = (core.each t a found).0 in
     elim (finalised_now a.agenda x) as (λ b. finalised_now a.agenda x ≡ b
     → (m.memory (Gate x) ≡ free_word) ⊎ IsDyingWord t (m.memory (Gate x))) [
@@ -86,7 +89,7 @@ dying_within p n m t x core dies =
       | inr past ↦ absurd (false≢true (sym (core.dying x t (omega (arith, past))) ∙ dying_is (m.life x) t dies))
     ]
 
--- only a closed row's gate says so
+-- A row whose gate is the closed word is closed.
 closed_by : (p : Accounts) (n : ℕ) (m : Machine) (x : ℕ) (l : Life) → CoreInvariant p n m → m.life x ≡ l
     → GateFits l (m.memory (Gate x)) → m.memory (Gate x) ≡ closed_word → l ≡ Closed
 closed_by p n m x Unborn core is fits e = absurd (omega (arith, fits, e))
@@ -99,22 +102,26 @@ closed_by p n m x (Dying t) core is fits e =
     ]
 closed_by p n m x Closed core is fits e = refl
 
-tell_in : (p : Module) (n : ℕ) (m : Machine) → CodeInvariant p n m → GatesTell m
+tell_in : (p : Module) (n : ℕ) (m : StepMachine) → CodeInvariant p n m → GatesTell m
 tell_in p n m whole =
     let core = whole.kept.core in
     λ x. (
-      λ e. core.closed_has x (closed_by whole.accounts n m x (m.life x) core refl (core.gates x) e),
+      λ e. core.closed_has x (closed_by whole.accounts n (counting m) x (m.life x) core refl (core.gates x) e),
       λ c. subst (λ (l : Life). GateFits l (m.memory (Gate x))) (core.closed_is x c) (core.gates x),
     )
 
 pub gates_tell : (p : Module) → IsModule p → IsAcceptable p → Always GatesTell p
 gates_tell = always GatesTell tell_in
 
--- ---- what is born
+-- ---- born rows
 
-used_in : (p : Module) (n : ℕ) (m : Machine) → CodeInvariant p n m → BornAreUsed m
+used_in : (p : Module) (n : ℕ) (m : StepMachine) → CodeInvariant p n m → BornAreUsed m
 used_in p n m whole = λ x born.
-    let used = born_used whole.accounts n m x whole.kept.core born in (used.by, used.found, used.low, used.high)
+    let used = born_used whole.accounts n (counting m) x whole.kept.core born in
+    let of = slice_get-map its_actor m.actors (block_of m.layout x) used.by used.found in
+    let low : index_of m.layout (block_of m.layout x) x < of.source.actor.used =
+    subst (λ (a : Actor). index_of m.layout (block_of m.layout x) x < a.used) (sym of.is_image) used.low in
+    (of.source, of.is_there, low)
 
 pub born_are_used : (p : Module) → IsModule p → IsAcceptable p → Always BornAreUsed p
 born_are_used = always BornAreUsed used_in

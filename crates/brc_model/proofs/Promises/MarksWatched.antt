@@ -1,4 +1,4 @@
--- Each mark that is set is watched, in each machine that events lead to: read off the invariant's word about marks.
+-- In each machine that events lead to, each set mark is watched, as the invariant says.
 use Rattle.std.proofs.Common.{◌≡◌, ℕ, ◌+◌, ◌<◌, Bool, true, false, List, [], ◌∷◌, inl, inr, length, Some, refl, sym, ap, ◌∙◌, arith}
 use Rattle.std.specs.Prelude.{◌&&◌, ◌||◌, nat_le, nat_lt, slice_get}
 use Rattle.std.specs.List.{list_any}
@@ -11,9 +11,8 @@ use Rattle.brc_model.specs.declared.duty.Duty.TheVariants.{Look, TakeMark, Settl
 use Rattle.brc_model.specs.declared.address.Address.TheVariants.{Mark, ThreadWord}
 use Rattle.brc_model.specs.declared.actor.Status.{Status}
 use Rattle.brc_model.specs.declared.actor.Status.TheVariants.{Running, Leaving, Gone}
-use Rattle.brc_model.specs.declared.actor.Place.{Place}
-use Rattle.brc_model.specs.Duties.{block_of}
-use Rattle.brc_model.specs.Machine.{Actor, Machine, first_row, first_machine}
+use Rattle.brc_model.specs.Machine.{Actor, Machine}
+use Rattle.brc_model.specs.StepMachine.{StepMachine, counting, first_machine}
 use Rattle.brc_model.specs.Progress.{Always}
 use Rattle.brc_model.specs.Watched.{looks_at, scans_over, IsWatched, ByRunning, ByExit, ByLook, MarksWatched}
 use Rattle.brc_model.specs.References.{one_if}
@@ -29,21 +28,22 @@ use Rattle.brc_model.proofs.Keeping.CodeInvariant.{CodeInvariant}
 use Rattle.brc_model.proofs.Keeping.CodeEvents.{code_invariant_after}
 use Rattle.brc_model.proofs.Promises.Safe.{first_code_invariant}
 use Rattle.brc_model.proofs.Basics.Blocks.{born_used}
+use Rattle.brc_model.specs.Layout.{block_of, index_of}
 
--- ---- by its running thread
+-- ---- by the running thread
 
 status_runs : (s : Status) → status_word s ≡ 1 → s ≡ Running
 status_runs Running e = refl
 status_runs Leaving e = absurd (omega (arith, e))
 status_runs Gone e = absurd (omega (arith, e))
 
--- the marked row was born, so its block's thread is there
-by_running : (p : Module) (n : ℕ) (m : Machine) (x : ℕ) → CodeInvariant p n m → m.memory (Mark x) ≡ 1
-    → m.memory (ThreadWord (block_of m.rows x)) ≡ 1 → IsWatched m x
+-- A marked row was born, so the thread of its block exists.
+by_running : (p : Module) (n : ℕ) (m : StepMachine) (x : ℕ) → CodeInvariant p n m → m.memory (Mark x) ≡ 1
+    → m.memory (ThreadWord (block_of m.layout x)) ≡ 1 → IsWatched (counting m) x
 by_running p n m x whole marked word =
-    let used = born_used whole.accounts n m x whole.kept.core
-    (marked_born whole.accounts n m x whole.kept.core marked) in
-    let fits = (whole.kept.core.each (block_of m.rows x) used.by used.found).0 in
+    let used = born_used whole.accounts n (counting m) x whole.kept.core
+    (marked_born whole.accounts n (counting m) x whole.kept.core marked) in
+    let fits = (whole.kept.core.each (block_of m.layout x) used.by used.found).0 in
     ByRunning (used.by, used.found, status_runs used.by.status (sym fits.word ∙ word))
 
 -- ---- by an exit
@@ -53,49 +53,52 @@ both_true true true c ea eb = refl
 both_true true false c ea eb = absurd cc
 both_true false b c ea eb = absurd cc
 
--- a scan goes on to the end of the used rows, and is an exit's
-later_scans : (rows t used : ℕ) (status : Status) (place : Place) (x : ℕ) (l : List Duty)
-    → Later rows t used status place l → x < first_row rows t + used → scans x l ≡ true
+-- A scan is part of an exit, and goes to the end of the thread's used rows.
+later_scans : (used : ℕ) (status : Status) (x : ℕ) (l : List Duty)
+    → Later used status l → x < used → scans x l ≡ true
     → (status ≡ Leaving) × (list_any (scans_over x) l ≡ true)
-later_scans rows t used status place x [] later low e = absurd cc
-later_scans rows t used status place x (Settle ∷ rest) later low e =
-    later_scans rows t used status place x rest later low e
-later_scans rows t used status place x (Leave y k ∷ []) later low e = absurd cc
-later_scans rows t used status place x (Scan y k ∷ rest) later low e = (
+later_scans used status x [] later low e = absurd cc
+later_scans used status x (Settle ∷ rest) later low e =
+    later_scans used status x rest later low e
+later_scans used status x (Leave y k ∷ []) later low e = absurd cc
+later_scans used status x (Scan y k ∷ rest) later low e = (
   later.0,
   both_true (nat_le y x) (nat_lt x (y + k)) (list_any (scans_over x) rest) e
-      (lt-ltb x (y + k) (omega (arith, low, later.2))),
+      (lt-ltb x (y + k) (omega (arith, low, later.1))),
 )
-later_scans rows t used status place x (Finish ∷ []) later low e = absurd cc
-later_scans rows t used status place x _ later low e = absurd later
+later_scans used status x (Finish ∷ []) later low e = absurd cc
+later_scans used status x _ later low e = absurd later
 
-agenda_scans : (rows t used : ℕ) (status : Status) (place : Place) (x : ℕ) (l : List Duty)
-    → Agenda rows t used status place l → x < first_row rows t + used → scans x l ≡ true
+agenda_scans : (used : ℕ) (status : Status) (x : ℕ) (l : List Duty)
+    → Agenda used status l → x < used → scans x l ≡ true
     → (status ≡ Leaving) × (list_any (scans_over x) l ≡ true)
-agenda_scans rows t used status place x [] fits low e = absurd cc
-agenda_scans rows t used status place x (Settle ∷ rest) fits low e =
-    later_scans rows t used status place x (Settle ∷ rest) fits low e
-agenda_scans rows t used status place x (Leave y k ∷ rest) fits low e =
-    later_scans rows t used status place x (Leave y k ∷ rest) fits low e
-agenda_scans rows t used status place x (Scan y k ∷ rest) fits low e =
-    later_scans rows t used status place x (Scan y k ∷ rest) fits low e
-agenda_scans rows t used status place x (Finish ∷ rest) fits low e =
-    later_scans rows t used status place x (Finish ∷ rest) fits low e
-agenda_scans rows t used status place x (_ ∷ rest) fits low e = later_scans rows t used status place x rest fits low e
+agenda_scans used status x [] fits low e = absurd cc
+agenda_scans used status x (Settle ∷ rest) fits low e =
+    later_scans used status x (Settle ∷ rest) fits low e
+agenda_scans used status x (Leave y k ∷ rest) fits low e =
+    later_scans used status x (Leave y k ∷ rest) fits low e
+agenda_scans used status x (Scan y k ∷ rest) fits low e =
+    later_scans used status x (Scan y k ∷ rest) fits low e
+agenda_scans used status x (Finish ∷ rest) fits low e =
+    later_scans used status x (Finish ∷ rest) fits low e
+agenda_scans used status x (_ ∷ rest) fits low e =
+    later_scans used status x rest fits low e
 
-exit_scans : (rows t : ℕ) (a : Actor) (status : Status) (x : ℕ) → AgendaFits rows t a status
-    → x < first_row rows t + a.used → scans x a.agenda ≡ true
+exit_scans : (a : Actor) (status : Status) (x : ℕ) → AgendaFits a status
+    → x < a.used → scans x a.agenda ≡ true
     → (status ≡ Leaving) × (list_any (scans_over x) a.agenda ≡ true)
-exit_scans rows t a Gone x fits low e = let none : false ≡ true = ap (scans x) (sym fits.0) ∙ e in absurd cc
-exit_scans rows t a Running x fits low e = agenda_scans rows t a.used Running a.place x a.agenda fits low e
-exit_scans rows t a Leaving x fits low e = agenda_scans rows t a.used Leaving a.place x a.agenda fits low e
+exit_scans a Gone x fits low e = let none : false ≡ true = ap (scans x) (sym fits.0) ∙ e in absurd cc
+exit_scans a Running x fits low e = agenda_scans a.used Running x a.agenda fits low e
+exit_scans a Leaving x fits low e = agenda_scans a.used Leaving x a.agenda fits low e
 
-by_exit : (p : Module) (n : ℕ) (m : Machine) (x : ℕ) (a : Actor) → CodeInvariant p n m → m.memory (Mark x) ≡ 1
-    → slice_get m.actors (block_of m.rows x) ≡ Some a → scans x a.agenda ≡ true → IsWatched m x
+by_exit : (p : Module) (n : ℕ) (m : StepMachine) (x : ℕ) (a : Actor) → CodeInvariant p n m → m.memory (Mark x) ≡ 1
+    → slice_get (counting m).actors (block_of m.layout x) ≡ Some a
+    → scans (index_of m.layout (block_of m.layout x) x) a.agenda ≡ true → IsWatched (counting m) x
 by_exit p n m x a whole marked found e =
-    let t = block_of m.rows x in
-    let within = marked_within whole.accounts n m t a x whole.kept.core found marked refl in
-    let shown = exit_scans m.rows t a a.status x (whole.kept.core.each t a found).1 within.1 e in
+    let t = block_of m.layout x in
+    let within = marked_within whole.accounts n (counting m) t a x whole.kept.core found marked refl in
+    let shown =
+    exit_scans a a.status (index_of m.layout t x) (whole.kept.core.each t a found).1 within e in
     ByExit a found shown.0 shown.1
 
 -- ---- by a look
@@ -112,13 +115,13 @@ by_look m x weighs =
 
 -- ---- all marks
 
-watched_so : (p : Module) (n : ℕ) (m : Machine) (x : ℕ) → CodeInvariant p n m → m.memory (Mark x) ≡ 1 → core.IsWatched m x
-    → IsWatched m x
+watched_so : (p : Module) (n : ℕ) (m : StepMachine) (x : ℕ) → CodeInvariant p n m → m.memory (Mark x) ≡ 1
+    → core.IsWatched (counting m) x → IsWatched (counting m) x
 watched_so p n m x whole marked (core.ByRunning word) = by_running p n m x whole marked word
 watched_so p n m x whole marked (core.ByExit a found e) = by_exit p n m x a whole marked found e
-watched_so p n m x whole marked (core.ByLook weighs) = by_look m x weighs
+watched_so p n m x whole marked (core.ByLook weighs) = by_look (counting m) x weighs
 
-all_watched : (p : Module) (n : ℕ) (m : Machine) → CodeInvariant p n m → MarksWatched m
+all_watched : (p : Module) (n : ℕ) (m : StepMachine) → CodeInvariant p n m → MarksWatched m
 all_watched p n m whole = λ x set.
     elim (whole.kept.core.marks x) [
       | inl none ↦ absurd (set none)

@@ -1,5 +1,5 @@
--- While its owner runs, a row's local word is changed by the owner's events alone, and nobody takes a row over.
-use Rattle.std.proofs.Common.{◌≡◌, ◌≢◌, ℕ, zero, suc, ◌+◌, ◌-◌, List, ◌⊎◌, inl, inr, Some, refl, sym, ap, ◌∙◌, subst, arith}
+-- While a row's owner runs, only the owner's events change the row's local word. No thread takes over a born row.
+use Rattle.std.proofs.Common.{◌≡◌, ◌≢◌, ℕ, ◌+◌, ◌-◌, List, ◌⊎◌, inl, inr, Some, refl, sym, ap, ◌∙◌, subst, arith}
 use Rattle.std.specs.Prelude.{slice_get}
 use Rattle.std.proofs.lemmas.Bool.Decides.{eqb_tells}
 use Rattle.std.proofs.lemmas.Option.{slice_get_within}
@@ -9,8 +9,8 @@ use Rattle.brc_model.specs.declared.thread.Choice.{Choice}
 use Rattle.brc_model.specs.declared.duty.Duty.{Duty}
 use Rattle.brc_model.specs.declared.duty.Duty.TheVariants.{RetainLoad, RetainStore, ReleaseLoad, ReleaseStore, MergeSwap, BirthLocal}
 use Rattle.brc_model.specs.declared.address.Address.TheVariants.{Local}
-use Rattle.brc_model.specs.declared.actor.Place.{Place}
 use Rattle.brc_model.specs.Machine.{Actor, Machine, written, with_actor, done_by, Unborn}
+use Rattle.brc_model.specs.StepMachine.{StepMachine}
 use Rattle.brc_model.specs.Progress.{Runs, OnlyOwnersCount, OwnersStay}
 use Rattle.brc_model.proofs.Basics.Lists.{some_is, slice_get-set_same, slice_get-set_other}
 use Rattle.brc_model.proofs.Basics.Written.{written_here, written_apart, written_load, apart_local}
@@ -21,17 +21,19 @@ use Rattle.brc_model.proofs.Keeping.CodeInvariant.{CodeInvariant}
 use Rattle.brc_model.proofs.Promises.StepCases.{ShowsSteps, at_duty, event_shows}
 use Rattle.brc_model.proofs.Promises.Immortals.{counted_low}
 use Rattle.brc_model.proofs.Basics.Blocks.{next_unborn}
-use Rattle.brc_model.proofs.Stepping.Nones.{none_local}
+use Rattle.brc_model.proofs.Stepping.Nones.{immortal_word_left}
 use Rattle.brc_model.specs.Accounts.{Accounts}
 use Rattle.brc_model.specs.Invariant.{AtDuty}
+use Rattle.std.proofs.lemmas.Bool.{cases_Bool}
+use Rattle.brc_model.specs.Layout.{is_immortal_row}
 
--- ---- others leave a running owner's count
+-- ---- other threads leave a running owner's count
 
--- a running thread runs still, whoever sits down elsewhere
-runs_still : (m : Machine) (t u : ℕ) (a : Actor) (place : Place) (agenda : List Duty) → slice_get m.actors t ≡ Some a
-    → Runs m u → Runs (with_actor m t (sitting a place agenda)) u
-runs_still m t u a place agenda found runs =
-    let now = sitting a place agenda in
+-- A running thread still runs after a thread takes up work.
+runs_still : (m : Machine) (t u : ℕ) (a : Actor) (agenda : List Duty) → slice_get m.actors t ≡ Some a
+    → Runs m u → Runs (with_actor m t (sitting a agenda)) u
+runs_still m t u a agenda found runs =
+    let now = sitting a agenda in
     elim (eqb_tells u t) [
       | inl same ↦
           let this : runs.0 ≡ a = some_is runs.0 a (sym runs.1 ∙ ap (slice_get m.actors) same.1 ∙ found) in (
@@ -46,10 +48,13 @@ runs_still m t u a place agenda found runs =
 local_left : (p : Accounts) (n : ℕ) (m : Machine) (t : ℕ) (a : Actor) (d : Duty) (rest : List Duty) (x owner : ℕ)
     → AtDuty p n m t a d rest → owner ≢ t
     → owner_part (m.memory (Local x)) ≡ owner + 1 → Runs m owner → memory_by m t a d (Local x) ≡ m.memory (Local x)
-local_left p n m t a d rest zero owner here ne owns runs = none_local p n m t a d rest here
-local_left p n m t a d rest (suc x) owner here ne owns runs =
-    locals_left p n m t a d rest here owner (suc x) runs.0 ne runs.1
-    (record { running = runs.2; owner = owns; low = counted_low p n m (suc x) here.core (omega arith) })
+local_left p n m t a d rest x owner here ne owns runs =
+    elim (cases_Bool (is_immortal_row m.layout x)) [
+      | inl immortal ↦ immortal_word_left p n m t a d rest x here immortal
+      | inr counted ↦
+          locals_left p n m t a d rest here owner x runs.0 ne runs.1
+          (record { running = runs.2; owner = owns; low = counted_low p n m x here.core counted })
+    ]
 
 abbrev CountsSo : ℕ → Machine → Machine → Type 0
 CountsSo t m new =
@@ -68,13 +73,14 @@ counts_shown : (n : ℕ) → ShowsSteps CountsSo n
 counts_shown n = record {
   stays = λ p t m kept x owner owns runs changed. absurd (changed refl);
   sits =
-      λ t m new a place agenda found shown x owner owns runs changed. shown x owner owns
-      (runs_still m t owner a place agenda found runs) changed;
-  moves = λ p t m a moves place kept found silent x owner owns runs changed. absurd (changed refl);
+      λ t m new a agenda found shown x owner owns runs changed. shown x owner owns
+      (runs_still m t owner a agenda found runs) changed;
+  moves = λ p t m a moves kept found silent x owner owns runs changed. absurd (changed refl);
   does = λ p t m a d rest doing. counts_at_duty p n m t a d rest (at_duty doing);
 }
 
-pub only_owners_count : (p : Module) (n : ℕ) (m : Machine) (event : ℕ × Choice) → CodeInvariant p n m → OnlyOwnersCount m event
+pub only_owners_count : (p : Module) (n : ℕ) (m : StepMachine) (event : ℕ × Choice) → CodeInvariant p n m
+    → OnlyOwnersCount m event
 only_owners_count p n m event whole = event_shows (counts_shown n) m event whole
 
 -- ---- owners
@@ -117,10 +123,10 @@ owners_shown : (n : ℕ)
     → ShowsSteps (λ t m new. (x : ℕ) → m.life x ≢ Unborn → OwnedSo (new.memory (Local x)) (m.memory (Local x))) n
 owners_shown n = record {
   stays = λ p t m kept x born. inl refl;
-  sits = λ t m new a place agenda found shown. shown;
-  moves = λ p t m a moves place kept found silent x born. inl refl;
+  sits = λ t m new a agenda found shown. shown;
+  moves = λ p t m a moves kept found silent x born. inl refl;
   does = λ p t m a d rest doing x born. owned_after p n m t a d rest x (at_duty doing) born;
 }
 
-pub owners_stay : (p : Module) (n : ℕ) (m : Machine) (event : ℕ × Choice) → CodeInvariant p n m → OwnersStay m event
+pub owners_stay : (p : Module) (n : ℕ) (m : StepMachine) (event : ℕ × Choice) → CodeInvariant p n m → OwnersStay m event
 owners_stay p n m event whole = event_shows (owners_shown n) m event whole

@@ -1,10 +1,11 @@
--- What the invariant says of each event, and of each machine, holds in all that an accepted module's events lead to.
+-- What the invariant says of each event and of each machine holds of everything that an accepted module's events lead
+-- to.
 use Rattle.std.proofs.Common.{ℕ, ◌+◌, length}
 use Rattle.brc_lang.specs.declared.module.Module.{Module}
 use Rattle.brc_lang.specs.Grammar.{IsModule}
 use Rattle.brc_model.specs.declared.thread.Choice.{Choice}
 use Rattle.brc_model.specs.Paths.{IsAcceptable}
-use Rattle.brc_model.specs.Machine.{Machine, first_machine}
+use Rattle.brc_model.specs.StepMachine.{StepMachine, first_machine}
 use Rattle.brc_model.specs.Progress.{Always, AtEachEvent, StatesRise, OnlyOwnersCount, OwnersStay, ClosedStays, ClosesAnew, ImmortalsStay, ClosedOnce}
 use Rattle.brc_model.proofs.Keeping.CodeInvariant.{CodeInvariant}
 use Rattle.brc_model.proofs.Keeping.CodeEvents.{code_invariant_after}
@@ -14,14 +15,18 @@ use Rattle.brc_model.proofs.Promises.Owners as owners
 use Rattle.brc_model.proofs.Promises.ClosedOnce as closed
 use Rattle.brc_model.proofs.Promises.Immortals as immortals
 
-pub always : (P : Machine → Type 0) → ((p : Module) (n : ℕ) (m : Machine) → CodeInvariant p n m → P m) → (p : Module)
+-- What both layers of the invariant imply holds of every machine that an accepted module's events lead to.
+pub always : (P : StepMachine → Type 0) → ((p : Module) (n : ℕ) (m : StepMachine) → CodeInvariant p n m → P m)
+    → (p : Module)
     → IsModule p → IsAcceptable p → Always P p
 always P holds p fits accepted = λ rows calls events some most are_calls.
     holds p (1 + length calls) _ (code_invariant_after p (1 + length calls) (first_machine p rows calls) events
     (first_code_invariant p rows calls fits accepted are_calls some most))
 
-pub at_each_event : (P : Machine → ℕ × Choice → Type 0)
-    → ((p : Module) (n : ℕ) (m : Machine) (event : ℕ × Choice) → CodeInvariant p n m → P m event) → (p : Module) → IsModule p
+-- What both layers of the invariant imply of each event holds in every such machine.
+pub at_each_event : (P : StepMachine → ℕ × Choice → Type 0)
+    → ((p : Module) (n : ℕ) (m : StepMachine) (event : ℕ × Choice) → CodeInvariant p n m → P m event) → (p : Module)
+    → IsModule p
     → IsAcceptable p → AtEachEvent P p
 at_each_event P holds p fits accepted =
     λ event. always (λ m. P m event) (λ q n m whole. holds q n m event whole) p fits accepted

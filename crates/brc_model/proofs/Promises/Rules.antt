@@ -1,4 +1,5 @@
--- The rules are the steps: what a step computes is what some rule says, and a rule says nothing else.
+-- The rules are exactly the steps: each step is the conclusion of some rule, and each rule concludes what a step
+-- computes.
 use Rattle.std.proofs.Common.{◌≡◌, ◌≢◌, ℕ, suc, ◌-◌, ◌<◌, ◌≤◌, Bool, true, false, List, [], ◌⊎◌, inl, inr, refl, sym, subst, arith}
 use Rattle.std.specs.Prelude.{◌==◌, nat_lt}
 use Rattle.std.proofs.lemmas.Bool.Decides.{eqb_tells, leb_tells}
@@ -13,10 +14,11 @@ use Rattle.brc_model.specs.declared.address.Address.{Address}
 use Rattle.brc_model.specs.Rules.{Goes, IsComputed, given_up, one_shared}
 use Rattle.brc_model.specs.Rules as rules
 use Rattle.brc_model.specs.Duties.{new_word, continuation, counts_locally, has_resource}
-use Rattle.brc_model.specs.Machine.{reference_effects, put_in_flight}
+use Rattle.brc_model.specs.Moves.{reference_effects, put_in_flight}
 use Rattle.brc_model.specs.AbstractState.{Move}
+use Rattle.brc_model.specs.declared.layout.Layout.{Layout}
 
--- a test on two numbers, by its two answers
+-- Case analysis on a test of two numbers.
 by_test : (a b : ℕ) (P : Bool → Type 0) → (a ≡ b → P true) → (a ≢ b → P false) → P (a == b)
 by_test a b P if_same if_other =
     elim (eqb_tells a b) [
@@ -45,12 +47,12 @@ not_less_test a b le = elim (leb_tells (suc a) b) [
   | inr high ↦ high.0
 ]
 
-module _ (memory : Address → ℕ) (t : ℕ) (running : Bool) (head : ℕ) where
+module _ (memory : Address → ℕ) (layout : Layout) (t : ℕ) (running : Bool) (head : ℕ) where
   abbrev Computed : Duty → ℕ → ℕ → List Duty → List Move → Type 0
-  Computed = IsComputed memory t running head
+  Computed = IsComputed memory layout t running head
 
   abbrev By : Duty → ℕ → ℕ → List Duty → List Move → Type 0
-  By = Goes memory t running head
+  By = Goes memory layout t running head
 
   -- ---- a rule concludes what the step computes
 
@@ -169,17 +171,19 @@ module _ (memory : Address → ℕ) (t : ℕ) (running : Bool) (head : ℕ) wher
   computed d found left next moves (rules.Closes x f) = record { left_is = refl; next_is = refl; moves_are = refl }
   computed d found left next moves (rules.SaysLeaving first rows f) =
       record { left_is = refl; next_is = refl; moves_are = refl }
-  computed d found left next moves (rules.ScanFindsMark x rows f set) =
+  computed d found left next moves (rules.ScanFindsMark index rows f set) =
       record { left_is = refl; next_is = rw (same_test f 1 set) refl; moves_are = refl }
-  computed d found left next moves (rules.ScanFindsNone x rows f none) =
+  computed d found left next moves (rules.ScanFindsNone index rows f none) =
       record { left_is = refl; next_is = rw (other_test f 1 none) refl; moves_are = refl }
   computed d found left next moves (rules.SaysGone f) = record { left_is = refl; next_is = refl; moves_are = refl }
 
-  -- ---- and each step goes by a rule: the one whose premises the found value meets
+  -- ---- each step goes by a rule
 
-  -- a rule that applies is the step's, since it concludes what the step computes
+  -- Some rule concludes what the step computes.
   abbrev pub GoesByRule : Duty → ℕ → Type 0
-  GoesByRule d found = By d found (new_word t head d found) (continuation t running head d found) (reference_effects memory t d found)
+  GoesByRule d found =
+      By d found (new_word t head d found) (continuation layout t running head d found)
+      (reference_effects memory t d found)
 
   applies : (d : Duty) (found left : ℕ) (next : List Duty) (moves : List Move) → By d found left next moves
       → GoesByRule d found
@@ -187,9 +191,9 @@ module _ (memory : Address → ℕ) (t : ℕ) (running : Bool) (head : ℕ) wher
       let c = computed d found left next moves rule in
       let word = subst (λ w. By d found w next moves) c.left_is rule in
       let duties = subst (λ ds. By d found (new_word t head d found) ds moves) c.next_is word in
-      subst (By d found (new_word t head d found) (continuation t running head d found)) c.moves_are duties
+      subst (By d found (new_word t head d found) (continuation layout t running head d found)) c.moves_are duties
 
-  -- a Boolean test, with its answer
+  -- A Boolean is true or false.
   told : (b : Bool) → (b ≡ true) ⊎ (b ≡ false)
   told true = inl refl
   told false = inr refl
@@ -310,9 +314,9 @@ module _ (memory : Address → ℕ) (t : ℕ) (running : Bool) (head : ℕ) wher
   by_rule (CloseResource x) found = rules.ResourceClosed x found
   by_rule (SettleEnd x) found = rules.Closes x found
   by_rule (Leave first rows) found = rules.SaysLeaving first rows found
-  by_rule (Scan x rows) found =
+  by_rule (Scan index rows) found =
       elim (eqb_tells found 1) [
-        | inl set ↦ applies _ _ _ _ _ (rules.ScanFindsMark x rows found set.1)
-        | inr none ↦ applies _ _ _ _ _ (rules.ScanFindsNone x rows found none.1)
+        | inl set ↦ applies _ _ _ _ _ (rules.ScanFindsMark index rows found set.1)
+        | inr none ↦ applies _ _ _ _ _ (rules.ScanFindsNone index rows found none.1)
       ]
   by_rule Finish found = rules.SaysGone found

@@ -1,6 +1,6 @@
--- The invariant says what an accepted module promises, so each accepted module is safe.
+-- The invariant implies what an accepted module promises, so each accepted module is safe.
 use Rattle.std.proofs.Common.{◌≡◌, ℕ, zero, suc, ◌+◌, ◌<◌, true, List, [], ◌∷◌, inl, inr, length, Some, refl, sym, ap, ◌∙◌, subst, arith, ◌≢◌, ◌≤◌}
-use Rattle.std.specs.Prelude.{◌==◌, slice_get, count_by, sum_by, map}
+use Rattle.std.specs.Prelude.{◌==◌, slice_get, count_by, sum_by}
 use Rattle.std.specs.List.{All}
 use Rattle.std.proofs.lemmas.Bool.{eq-eqb, false≢true}
 use Rattle.std.proofs.lemmas.Option.{slice_get_cases, slice_get_within}
@@ -12,27 +12,28 @@ use Rattle.brc_model.specs.declared.duty.Holding.{Holding}
 use Rattle.brc_model.specs.AbstractState.{Holder, ByThread, ByCell, references_to}
 use Rattle.brc_model.specs.declared.duty.Duty.{Duty}
 use Rattle.brc_model.specs.declared.address.Address.TheVariants.{Mark, ThreadWord}
-use Rattle.brc_model.specs.Duties.{block_of}
 use Rattle.brc_model.specs.declared.actor.Status.{Status}
 use Rattle.brc_model.specs.declared.actor.Status.TheVariants.{Running, Leaving, Gone}
-use Rattle.brc_model.specs.declared.actor.Place.TheVariants.{Exiting}
-use Rattle.brc_model.specs.Machine.{Actor, Life, Unborn, Live, Dying, Closed, Machine, main_actor, worker_actor, first_machine}
+use Rattle.brc_model.specs.Machine.{Actor, Life, Unborn, Live, Dying, Closed, Machine, idle_actor}
+use Rattle.brc_model.specs.StepMachine.{StepMachine, counting, first_machine}
 use Rattle.brc_model.specs.Safety.{AreCalls, has_gone, AllGone, IsHeldByOpenList, IsSafeNow, Safe}
 use Rattle.brc_model.proofs.Basics.Bag.{empty_bag}
 use Rattle.brc_model.specs.References.{held, one_if, reference_of}
 use Rattle.brc_model.specs.RowInvariant.{waits, carries, merges, decides, agenda_weight, weight, IsDefault, IsQueued, AtZero, AboveZero, InOwned, InSwapped, InMerged, IsLive, RowInvariant}
 use Rattle.brc_model.specs.Accounts.{Accounts, HoldsAt}
 use Rattle.brc_model.specs.Invariant.{numbers_of, looks, ByRunning, ByExit, ByLook, CoreInvariant}
-use Rattle.brc_model.specs.OpenWork.{AgendaFits, scans, Linked, dies_by, finalised_now, IsSettled}
+use Rattle.brc_model.specs.OpenWork.{AgendaFits, exits, scans, Linked, dies_by, finalised_now, IsSettled}
 use Rattle.brc_model.specs.Knowledge.{status_word}
-use Rattle.brc_model.proofs.Basics.Lists.{some_is, list_all_found, slice_get-map}
+use Rattle.brc_model.proofs.Basics.Lists.{some_is, list_all_found}
 use Rattle.brc_model.proofs.Promises.Agreeing.{agrees_at, is_free_of}
 use Rattle.brc_model.proofs.Work.Deciders.{sum_zero}
-use Rattle.brc_model.proofs.Keeping.FirstMachine.{first_accounts, first_core, first_coded}
+use Rattle.brc_model.proofs.Keeping.FirstMachine.{first_actors, worker_found, first_accounts, first_core, first_coded}
 use Rattle.brc_model.proofs.Keeping.CodeInvariant.{CodeInvariant}
 use Rattle.brc_model.proofs.Keeping.CodeEvents.{event_keeps, code_invariant_after}
 use Rattle.brc_model.proofs.Basics.Blocks.{born_used}
 use Rattle.brc_model.specs.Limits.{row_limit}
+use Rattle.std.proofs.lemmas.Bool.{cases_Bool}
+use Rattle.brc_model.specs.Layout.{block_of, index_of, is_immortal_row, IsCounted}
 
 -- ---- when all threads are gone
 
@@ -44,7 +45,6 @@ gone_is Gone e = refl
 pub record IsGoneAt (m : Machine) (t : ℕ) (a : Actor) : Type 0 where
   pub status : a.status ≡ Gone
   pub agenda : a.agenda ≡ []
-  pub place : a.place ≡ Exiting
   pub head : a.head ≡ 0
 
 gone_at : (p : Accounts) (n : ℕ) (m : Machine) (t : ℕ) (a : Actor) → CoreInvariant p n m → AllGone m
@@ -52,9 +52,9 @@ gone_at : (p : Accounts) (n : ℕ) (m : Machine) (t : ℕ) (a : Actor) → CoreI
 gone_at p n m t a core done found =
     let status : a.status ≡ Gone =
     gone_is a.status (list_all_found (λ (b : Actor). has_gone b.status) m.actors t a done found) in
-    let fits : AgendaFits m.rows t a Gone =
-    subst (λ (s : Status). AgendaFits m.rows t a s) status (core.each t a found).1 in
-    record { status = status; agenda = fits.0; place = fits.1; head = fits.2 }
+    let fits : AgendaFits a Gone =
+    subst (λ (s : Status). AgendaFits a s) status (core.each t a found).1 in
+    record { status = status; agenda = fits.0; head = fits.1 }
 
 gone_holds : (p : Accounts) (n : ℕ) (m : Machine) (t : ℕ) (k : Holding) (object : ℕ) → CoreInvariant p n m → AllGone m
     → held (reference_of t k object) m.abstract.references ≡ 0
@@ -64,7 +64,7 @@ gone_holds p n m t k object core done =
           let a = found.0 in
           let gone = gone_at p n m t a core done found.2 in
           let old = (core.each t a found.2).0 in
-          let exited = old.exited gone.place in
+          let exited = old.exited (ap (λ (s : Status). exits s a.agenda) gone.status) in
           let agenda : HoldsAt m.abstract.references t (p t) [] a.aside =
           subst (λ (l : List Duty). HoldsAt m.abstract.references t (p t) l a.aside) gone.agenda old.holds in
           let holds : HoldsAt m.abstract.references t (p t) [] [] =
@@ -81,16 +81,18 @@ none_holds p n m (ByCell x i) object core done = core.cells_hold x i object
 pub none_left : (p : Accounts) (n : ℕ) (m : Machine) → CoreInvariant p n m → AllGone m → m.abstract.references ≡ []
 none_left p n m core done = empty_bag m.abstract.references (λ r. none_holds p n m r.holder r.object core done)
 
-no_weights : (p : Accounts) (n : ℕ) (m : Machine) (f : Duty → ℕ) → CoreInvariant p n m → AllGone m → weight f m.actors ≡ 0
+no_weights : (p : Accounts) (n : ℕ) (m : Machine) (f : Duty → ℕ) → CoreInvariant p n m → AllGone m
+    → weight f m.actors ≡ 0
 no_weights p n m f core done =
     sum_zero (agenda_weight f) m.actors (λ t a found.
     let gone = gone_at p n m t a core done found in
     let agenda : sum_by f a.agenda ≡ 0 = ap (sum_by f) gone.agenda in
-    let aside : sum_by f a.aside ≡ 0 = ap (sum_by f) ((core.each t a found).0.exited gone.place).1 in
+    let aside : sum_by f a.aside ≡ 0 =
+    ap (sum_by f) ((core.each t a found).0.exited (ap (λ (s : Status). exits s a.agenda) gone.status)).1 in
     omega (arith, agenda, aside))
 
--- no mark is left: nobody watches
-no_mark : (p : Accounts) (n : ℕ) (m : Machine) (x : ℕ) → CoreInvariant p n m → AllGone m → block_of m.rows x < n
+-- No mark is set, since no thread would watch it.
+no_mark : (p : Accounts) (n : ℕ) (m : Machine) (x : ℕ) → CoreInvariant p n m → AllGone m → block_of m.layout x < n
     → m.memory (Mark x) ≡ 0
 no_mark p n m x core done within =
     elim (core.marks x) [
@@ -98,24 +100,27 @@ no_mark p n m x core done within =
       | inr set ↦
           elim set.2 [
             | ByRunning one ↦
-                elim (slice_get_cases m.actors (block_of m.rows x)).1 [
+                elim (slice_get_cases m.actors (block_of m.layout x)).1 [
                   | inl found ↦
-                      let gone = gone_at p n m (block_of m.rows x) found.0 core done found.2 in
-                      let word : m.memory (ThreadWord (block_of m.rows x)) ≡ 3 =
-                      (core.each (block_of m.rows x) found.0 found.2).0.word ∙ ap status_word gone.status in
+                      let gone = gone_at p n m (block_of m.layout x) found.0 core done found.2 in
+                      let word : m.memory (ThreadWord (block_of m.layout x)) ≡ 3 =
+                      (core.each (block_of m.layout x) found.0 found.2).0.word ∙ ap status_word gone.status in
                       absurd (omega (arith, one, word))
                   | inr past ↦ absurd (omega (arith, past.0, core.threads, within))
                 ]
             | ByExit b found scanned ↦
-                absurd (false≢true (sym (ap (scans x) (gone_at p n m (block_of m.rows x) b core done found).agenda)
+                absurd (false≢true
+                (sym (ap (scans (index_of m.layout (block_of m.layout x) x))
+                (gone_at p n m (block_of m.layout x) b core done found).agenda)
                 ∙ scanned))
             | ByLook some ↦ absurd (omega (arith, some, no_weights p n m (looks x) core done))
           ]
     ]
 
--- a live row has a reference
-live_referenced : (p : Accounts) (n : ℕ) (m : Machine) (x : ℕ) → CoreInvariant p n m → AllGone m → block_of m.rows x < n
-    → IsLive (block_of m.rows x) (numbers_of m x) → 0 < references_to x m.abstract.references
+-- A live row has a reference.
+live_referenced : (p : Accounts) (n : ℕ) (m : Machine) (x : ℕ) → CoreInvariant p n m → AllGone m
+    → block_of m.layout x < n
+    → IsLive (block_of m.layout x) (numbers_of m x) → 0 < references_to x m.abstract.references
 live_referenced p n m x core done within live =
     let mark = no_mark p n m x core done within in
     let waiting = no_weights p n m (waits x) core done in
@@ -135,7 +140,7 @@ live_referenced p n m x core done within live =
       | InMerged g ↦ omega (arith, live.sum, g.counted, mark, waiting)
     ]
 
--- no row is dying: every chain is empty
+-- No row is dying, since every chain is empty.
 none_dying : (p : Accounts) (n : ℕ) (m : Machine) (x t : ℕ) → CoreInvariant p n m → AllGone m → m.life x ≡ Dying t → ⊥
 none_dying p n m x t core done dying =
     let dies : dies_by (m.life x) t ≡ true = ap (λ (l : Life). dies_by l t) dying ∙ eq-eqb t t refl in
@@ -143,7 +148,8 @@ none_dying p n m x t core done dying =
       | inl found ↦
           let gone = gone_at p n m t found.0 core done found.2 in
           let chain = (core.each t found.0 found.2).0.chain in
-          let hand : one_if (finalised_now found.0.agenda x) ≡ 0 = ap (λ (l : List Duty). one_if (finalised_now l x)) gone.agenda in
+          let hand : one_if (finalised_now found.0.agenda x) ≡ 0 =
+          ap (λ (l : List Duty). one_if (finalised_now l x)) gone.agenda in
           let one : one_if (dies_by (m.life x) t) ≡ 1 = ap one_if dies in
           elim chain.chained as (λ l. chain.chained ≡ l → Linked m.memory t found.0.head l → ⊥) [
             | [] ↦ λ e linked.
@@ -154,60 +160,66 @@ none_dying p n m x t core done dying =
       | inr past ↦ false≢true (sym (core.dying x t (omega (arith, past.0, core.threads))) ∙ dies)
     ]
 
--- what was born and has no reference is closed
-born_closed : (p : Accounts) (n : ℕ) (m : Machine) (x : ℕ) (l : Life) → CoreInvariant p n m → AllGone m → 0 < x
+-- A born row without references is closed.
+born_closed : (p : Accounts) (n : ℕ) (m : Machine) (x : ℕ) (l : Life) → CoreInvariant p n m → AllGone m
+    → IsCounted m.layout x
     → references_to x m.abstract.references ≡ 0 → (m.life x ≢ Unborn) → m.life x ≡ l → m.life x ≡ Closed
 born_closed p n m x Unborn core done pos none born is = absurd (born is)
 born_closed p n m x Live core done pos none born is =
-    let live : IsLive (block_of m.rows x) (numbers_of m x) =
-    subst (λ (l : Life). RowInvariant (block_of m.rows x) l (numbers_of m x)) is (core.rows x pos) in
+    let live : IsLive (block_of m.layout x) (numbers_of m x) =
+    subst (λ (l : Life). RowInvariant (block_of m.layout x) l (numbers_of m x)) is (core.rows x pos) in
     let used = born_used p n m x core born in
-    let within : block_of m.rows x < n =
-    omega (arith, slice_get_within m.actors (block_of m.rows x) used.by used.found, core.threads) in
+    let within : block_of m.layout x < n =
+    omega (arith, slice_get_within m.actors (block_of m.layout x) used.by used.found, core.threads) in
     absurd (omega (arith, live_referenced p n m x core done within live, none))
 born_closed p n m x (Dying t) core done pos none born is = absurd (none_dying p n m x t core done is)
 born_closed p n m x Closed core done pos none born is = is
 
--- what is closed was born, and is counted
+-- A closed row was born, and is counted.
 pub closed_born : (p : Accounts) (n : ℕ) (m : Machine) (x : ℕ) → CoreInvariant p n m → m.life x ≡ Closed
-    → (0 < x) × (m.life x ≢ Unborn)
-closed_born p n m zero core closed = absurd (let wrong : Live ≡ Closed = sym core.none_lives ∙ closed in cc)
-closed_born p n m (suc x) core closed = (omega arith, λ e. let wrong : Closed ≡ Unborn = sym closed ∙ e in cc)
+    → (IsCounted m.layout x) × (m.life x ≢ Unborn)
+closed_born p n m x core closed =
+    elim (cases_Bool (is_immortal_row m.layout x)) [
+      | inl immortal ↦ absurd (let wrong : Live ≡ Closed = sym (core.immortals_live x immortal) ∙ closed in cc)
+      | inr counted ↦ (counted, λ e. let wrong : Closed ≡ Unborn = sym closed ∙ e in cc)
+    ]
 
 -- ---- the promise
 
-pub safe_now : (p : Module) (n : ℕ) (m : Machine) → CodeInvariant p n m → 0 < n → IsSafeNow m
+-- A machine of which both layers of the invariant hold is safe.
+pub safe_now : (p : Module) (n : ℕ) (m : StepMachine) → CodeInvariant p n m → 0 < n → IsSafeNow m
 safe_now p n m whole some = record {
   none_bad = λ event. (event_keeps p n m event whole).0;
-  agrees = λ x pos. agrees_at whole.accounts n m x whole.kept.core pos;
+  agrees = λ x pos. agrees_at whole.accounts n (counting m) x whole.kept.core pos;
   kinds = whole.kept.core.kinds;
-  free = λ x pos alive born. is_free_of whole.accounts n m x whole.kept.core pos alive born;
+  free = λ x pos alive born. is_free_of whole.accounts n (counting m) x whole.kept.core pos alive born;
   closed_once = whole.kept.core.once;
   closed_at_end = λ done x. (
     λ closed.
-        let was = closed_born whole.accounts n m x whole.kept.core (whole.kept.core.closed_is x closed) in (
+        let was = closed_born whole.accounts n (counting m) x whole.kept.core (whole.kept.core.closed_is x closed) in (
           whole.kept.core.born_has x was.0 was.1,
           ap (references_to x)
-              (none_left whole.accounts n m whole.kept.core done),
+              (none_left whole.accounts n (counting m) whole.kept.core done),
         ),
     λ born.
         let was = whole.kept.core.born_is x born.0 in
-        whole.kept.core.closed_has x (born_closed whole.accounts n m x
+        whole.kept.core.closed_has x (born_closed whole.accounts n (counting m) x
         (m.life x) whole.kept.core done was.0 born.1 was.1 refl),
   );
-  none_left = λ done. none_left whole.accounts n m whole.kept.core done;
+  none_left = λ done. none_left whole.accounts n (counting m) whole.kept.core done;
   left_in_lists = λ done.
-      subst (All (IsHeldByOpenList m.abstract)) (sym (none_left whole.accounts n m whole.kept.core done))
+      subst (All (IsHeldByOpenList m.abstract)) (sym (none_left whole.accounts n (counting m) whole.kept.core done))
       (λ i d within. absurd (omega (arith, within)));
 }
 
-first_settled : (calls : List Call) (t : ℕ) (a : Actor) → slice_get (main_actor ∷ map worker_actor calls) t ≡ Some a
+first_settled : (calls : List Call) (t : ℕ) (a : Actor) → slice_get (first_actors calls) t ≡ Some a
     → IsSettled a.head a.agenda
-first_settled calls zero a is = subst (λ (b : Actor). IsSettled b.head b.agenda) (some_is main_actor a is) tt
+first_settled calls zero a is = subst (λ (b : Actor). IsSettled b.head b.agenda) (some_is (idle_actor 2) a is) tt
 first_settled calls (suc t) a is =
-    let call = slice_get-map worker_actor calls t a is in
+    let call = worker_found calls t a is in
     subst (λ (b : Actor). IsSettled b.head b.agenda) call.is_image tt
 
+-- Both layers of the invariant hold of the first machine.
 pub first_code_invariant : (m : Module) (rows : ℕ) (calls : List Call) → IsModule m → IsAcceptable m → AreCalls m calls
     → 0 < rows → rows ≤ row_limit → CodeInvariant m (1 + length calls) (first_machine m rows calls)
 first_code_invariant m rows calls fits accepted are_calls some few = record {
@@ -217,6 +229,7 @@ first_code_invariant m rows calls fits accepted are_calls some few = record {
   coded = λ t a is. first_coded m calls t a fits accepted are_calls is;
 }
 
+-- Each acceptable module is safe.
 pub accepted_is_safe : (m : Module) → IsModule m → IsAcceptable m → Safe m
 accepted_is_safe m fits accepted = λ rows calls events some most are_calls.
     safe_now m (1 + length calls) _

@@ -9,6 +9,7 @@ use Rattle.brc_model.specs.declared.duty.Duty.{Duty}
 use Rattle.brc_model.specs.declared.duty.Duty.TheVariants.{RetainAdd, DecideAtZero, SharedLoad, SharedExchange, MergeLoad, MergeExchange}
 use Rattle.brc_model.specs.declared.address.Address.TheVariants.{Shared}
 use Rattle.brc_model.specs.Machine.{Actor, Machine, written}
+use Rattle.brc_model.specs.StepMachine.{StepMachine}
 use Rattle.brc_model.specs.Progress.{StatesRise}
 use Rattle.brc_model.proofs.Objects.RowSteps.{shared_range, shared_up, shared_down, shared_merged}
 use Rattle.brc_model.proofs.Basics.Written.{written_here, written_apart, apart_shared}
@@ -19,7 +20,7 @@ use Rattle.brc_model.proofs.Promises.StepCases.{ShowsSteps, at_duty, event_shows
 use Rattle.brc_model.specs.Accounts.{Accounts}
 use Rattle.brc_model.specs.Invariant.{AtDuty}
 
--- ---- what a word's state is after an exchange
+-- ---- a word's state after an exchange
 
 released_rises : (w : ℕ) → 1 ≤ biased_part w → phase_part w ≤ phase_part (released_word w)
 released_rises w some =
@@ -37,7 +38,7 @@ released_rises w some =
 merged_rises : (w c : ℕ) → phase_part w ≤ phase_part (merged_word w c)
 merged_rises w c = omega (arith, (shared_merged w c).1)
 
--- an exchange that is lost leaves the word
+-- A lost exchange leaves the word unchanged, and a won one doesn't lower its state.
 exchange_rises : (found w new : ℕ) → (found ≡ w → phase_part w ≤ phase_part new)
     → phase_part found ≤ phase_part (cond (found == w) new found)
 exchange_rises found w new won =
@@ -95,10 +96,10 @@ states_shown : (n : ℕ)
     → ShowsSteps (λ t m new. (x : ℕ) → phase_part (m.memory (Shared x)) ≤ phase_part (new.memory (Shared x))) n
 states_shown n = record {
   stays = λ p t m kept x. omega arith;
-  sits = λ t m new a place agenda found shown. shown;
-  moves = λ p t m a moves place kept found silent x. omega arith;
+  sits = λ t m new a agenda found shown. shown;
+  moves = λ p t m a moves kept found silent x. omega arith;
   does = λ p t m a d rest doing x. rises p n m t a d rest x (at_duty doing);
 }
 
-pub states_rise : (p : Module) (n : ℕ) (m : Machine) (event : ℕ × Choice) → CodeInvariant p n m → StatesRise m event
+pub states_rise : (p : Module) (n : ℕ) (m : StepMachine) (event : ℕ × Choice) → CodeInvariant p n m → StatesRise m event
 states_rise p n m event whole = event_shows (states_shown n) m event whole

@@ -1,5 +1,5 @@
--- Which steps change the world: each of a thread that isn't gone, but for a claim that is out of place or finds no
--- mark.
+-- Which steps change the world: every step of a thread that isn't gone, except for a claim that isn't allowed or finds
+-- no mark.
 use Rattle.std.proofs.Common.{◌≡◌, ◌≢◌, ℕ, zero, suc, ◌+◌, Bool, true, false, cond, List, [], ◌∷◌, ◌++◌, length, inl, inr, Option, None, Some, refl, sym, ap, ◌∙◌, subst, arith, ◌<◌, ◌⊎◌}
 use Rattle.std.specs.Prelude.{◌==◌, slice_get, slice_set}
 use Rattle.std.proofs.Math.Path.{fun_ext}
@@ -9,7 +9,6 @@ use Rattle.brc_lang.specs.declared.module.Instr.TheVariants.{Num, NoneObject, Ne
 use Rattle.brc_lang.specs.declared.module.Module.{Module}
 use Rattle.brc_model.specs.declared.thread.Choice.{Choice}
 use Rattle.brc_model.specs.declared.thread.Choice.TheVariants.{Ok, Fault, Claim}
-use Rattle.brc_model.specs.AbstractState.{none_row}
 use Rattle.brc_model.specs.Threads.{row_of, entry_variables, code_of}
 use Rattle.brc_model.specs.declared.duty.Reason.TheVariants.{Handed}
 use Rattle.brc_model.specs.declared.duty.Duty.{Duty}
@@ -21,9 +20,11 @@ use Rattle.brc_model.specs.declared.actor.Status.{Status}
 use Rattle.brc_model.specs.declared.actor.Status.TheVariants.{Running, Leaving, Gone}
 use Rattle.brc_model.specs.declared.actor.Place.{Place}
 use Rattle.brc_model.specs.declared.actor.Place.TheVariants.{Idle, InCall, Exiting}
-use Rattle.brc_model.specs.Machine.{Actor, Machine, Action, Skip, Stuck, Silent, Does, with_row, dispatch_instruction, dispatch, is_running, actor_by, done_by, at_place, may_claim, agenda_action, status_action, action_of, of_thread, machine_by, next_machine, first_machine, machine_after, written, has_room, next_row}
+use Rattle.brc_model.specs.Machine.{is_running, written, has_room}
+use Rattle.brc_model.specs.Actions.{StepActor, Action, Skip, Stuck, Silent, Does, with_row, dispatch_instruction, dispatch, may_claim, agenda_action, status_action, action_of}
+use Rattle.brc_model.specs.StepMachine.{StepMachine, of_thread, at_place, step_actor, does_by, machine_by, next_machine, first_machine, machine_after}
 use Rattle.brc_model.specs.World.{World, world_of, machine_of, step, IsReachable}
-use Rattle.brc_model.proofs.Basics.Lists.{some_is, slice_get-set_same, set_found}
+use Rattle.brc_model.proofs.Basics.Lists.{either, some_is, slice_get-set_same, set_found}
 use Rattle.brc_model.proofs.Basics.Written.{written_here, written_load}
 use Rattle.brc_model.proofs.Dispatch.Claims.{claimer, gone_claims_none}
 use Rattle.brc_model.proofs.Dispatch.Actions.{ActionFits, action_fits}
@@ -36,17 +37,20 @@ use Rattle.brc_model.proofs.Promises.AgendaMoves.{agenda_moves}
 use Rattle.brc_model.proofs.Promises.Emptied.{chain_empty}
 use Rattle.brc_lang.specs.Grammar.{LeadsForward}
 use Rattle.brc_lang.specs.declared.module.Function.{Function}
+use Rattle.brc_model.specs.declared.layout.Layout.{Layout}
+use Rattle.brc_model.specs.Layout.{none_row, row_at}
 
--- ---- a thread that goes on
+-- ---- a thread that isn't gone
 
--- worlds differ where their threads do
-actor_apart : (v w : World) (t : ℕ) (a b : Actor) → slice_get w.actors t ≡ Some a → v.actors ≡ slice_set w.actors t b
+-- Worlds in which a thread differs are different.
+actor_apart : (v w : World) (t : ℕ) (a b : StepActor) → slice_get w.actors t ≡ Some a
+    → v.actors ≡ slice_set w.actors t b
     → b ≢ a → v ≢ w
 actor_apart v w t a b found set apart e =
     apart (some_is b a (sym (slice_get-set_same w.actors t b (slice_get_within w.actors t a found))
-    ∙ ap (λ (l : List Actor). slice_get l t) (sym set ∙ ap (λ (u : World). u.actors) e) ∙ found))
+    ∙ ap (λ (l : List StepActor). slice_get l t) (sym set ∙ ap (λ (u : World). u.actors) e) ∙ found))
 
--- the thread is then elsewhere
+-- The action leads the thread to another place.
 abbrev IsElsewhere : Place → Action → Type 0
 IsElsewhere place Skip = ⊥
 IsElsewhere place Stuck = Unit {0}
@@ -58,39 +62,36 @@ row_elsewhere : (place : Place) (o : Option ℕ) (work : ℕ → Action) → ((r
 row_elsewhere place None work each = tt
 row_elsewhere place (Some row) work each = each row
 
-room_elsewhere : (place : Place) (b : Bool) (one two : Action) → IsElsewhere place one → IsElsewhere place two
-    → IsElsewhere place (cond b one two)
-room_elsewhere place true one two first second = first
-room_elsewhere place false one two first second = second
-
--- a later instruction of a call, or the end of the call
-instruction_elsewhere : (place : Place) (rows t used left at : ℕ) (variables : List (Option ℕ)) (code : List Instr)
+-- An instruction leads to another place: a later point of its call, or the end of the call.
+instruction_elsewhere : (place : Place) (layout : Layout) (t used left at : ℕ) (variables : List (Option ℕ))
+    (code : List Instr)
     (i : Option Instr)
     → LeadsForward code → slice_get code at ≡ i
     → ((next : ℕ) (later : List (Option ℕ)) → at < next → InCall left next later ≢ place) → Idle left ≢ place
-    → IsElsewhere place (dispatch_instruction rows t used left at variables i)
-instruction_elsewhere place rows t used left at variables code None forward found inside ends = tt
-instruction_elsewhere place rows t used left at variables code (Some (Num to value otherwise)) forward found inside
+    → IsElsewhere place (dispatch_instruction layout t used left at variables i)
+instruction_elsewhere place layout t used left at variables code None forward found inside ends = tt
+instruction_elsewhere place layout t used left at variables code (Some (Num to value otherwise)) forward found inside
     ends =
-    room_elsewhere place (has_room rows t used) _ _
-    (inside (at + 1) (slice_set variables to (Some (next_row rows t used))) (omega arith))
+    either (IsElsewhere place) (has_room layout t used) _ _
+    (λ room. inside (at + 1) (slice_set variables to (Some (row_at layout t used))) (omega arith))
     (inside otherwise (slice_set variables to None) (forward at (Num to value otherwise) otherwise found refl).0)
-instruction_elsewhere place rows t used left at variables code (Some (NoneObject to)) forward found inside ends =
+instruction_elsewhere place layout t used left at variables code (Some (NoneObject to)) forward found inside ends =
     inside (at + 1) (slice_set variables to (Some none_row)) (omega arith)
-instruction_elsewhere place rows t used left at variables code (Some (Newref to from)) forward found inside ends =
+instruction_elsewhere place layout t used left at variables code (Some (Newref to from)) forward found inside ends =
     row_elsewhere place (row_of variables from) _
     (λ row. inside (at + 1) (slice_set variables to (Some row)) (omega arith))
-instruction_elsewhere place rows t used left at variables code (Some (MoveReference to from)) forward found inside ends
+instruction_elsewhere place layout t used left at variables code
+    (Some (MoveReference to from)) forward found inside ends
     =
     row_elsewhere place (row_of variables from) _
     (λ row. inside (at + 1) (slice_set (slice_set variables from None) to (Some row)) (omega arith))
-instruction_elsewhere place rows t used left at variables code (Some (Drop from)) forward found inside ends =
+instruction_elsewhere place layout t used left at variables code (Some (Drop from)) forward found inside ends =
     row_elsewhere place (row_of variables from) _ (λ row. inside (at + 1) (slice_set variables from None) (omega arith))
-instruction_elsewhere place rows t used left at variables code (Some (Goto to)) forward found inside ends =
+instruction_elsewhere place layout t used left at variables code (Some (Goto to)) forward found inside ends =
     inside to variables (forward at (Goto to) to found refl).0
-instruction_elsewhere place rows t used left at variables code (Some (Ret from)) forward found inside ends =
+instruction_elsewhere place layout t used left at variables code (Some (Ret from)) forward found inside ends =
     row_elsewhere place (row_of variables from) _ (λ row. ends)
-instruction_elsewhere place rows t used left at variables code (Some Fail) forward found inside ends = ends
+instruction_elsewhere place layout t used left at variables code (Some Fail) forward found inside ends = ends
 
 one_call_less : (left : ℕ) → Idle left ≢ Idle (suc left)
 one_call_less left e = (let same : left ≡ suc left = cc in omega (arith, same))
@@ -99,90 +100,97 @@ one_point_on : (left at next : ℕ) (variables later : List (Option ℕ)) → at
     → InCall left next later ≢ InCall left at variables
 one_point_on left at next variables later on e = (let same : next ≡ at = cc in omega (arith, same, on))
 
-dispatch_elsewhere : (rows t used : ℕ) (code : List Instr) (place : Place) → LeadsForward code
-    → IsElsewhere place (dispatch rows t used code place)
-dispatch_elsewhere rows t used code Exiting forward = tt
-dispatch_elsewhere rows t used code (Idle zero) forward = λ e. cc
-dispatch_elsewhere rows t used code (Idle (suc left)) forward =
-    instruction_elsewhere (Idle (suc left)) rows t used left 0 entry_variables code (slice_get code 0) forward refl
+dispatch_elsewhere : (layout : Layout) (t used : ℕ) (code : List Instr) (place : Place) → LeadsForward code
+    → IsElsewhere place (dispatch layout t used code place)
+dispatch_elsewhere layout t used code Exiting forward = tt
+dispatch_elsewhere layout t used code (Idle zero) forward = λ e. cc
+dispatch_elsewhere layout t used code (Idle (suc left)) forward =
+    instruction_elsewhere (Idle (suc left)) layout t used left 0 entry_variables code
+    (slice_get code 0) forward refl
     (λ next later on e. cc) (one_call_less left)
-dispatch_elsewhere rows t used code (InCall left at variables) forward =
-    instruction_elsewhere (InCall left at variables) rows t used left at variables code (slice_get code at) forward
+dispatch_elsewhere layout t used code (InCall left at variables) forward =
+    instruction_elsewhere (InCall left at variables) layout t used left at variables code (slice_get code at) forward
     refl (λ next later on e. one_point_on left at next variables later on e) (λ e. cc)
 
--- the thread is elsewhere, or does the first duty of its agenda
-abbrev Moves : Actor → Action → Type 0
+-- The action leads the thread to another place, or is the first duty of its agenda.
+abbrev Moves : StepActor → Action → Type 0
 Moves a Skip = ⊥
 Moves a Stuck = Unit {0}
 Moves a (Silent moves place) = place ≢ a.place
-Moves a (Does d rest place) = (place ≢ a.place) ⊎ (a.agenda ≡ d ∷ rest)
+Moves a (Does d rest place) = (place ≢ a.place) ⊎ (a.actor.agenda ≡ d ∷ rest)
 
-elsewhere_moves : (a : Actor) (x : Action) → IsElsewhere a.place x → Moves a x
+elsewhere_moves : (a : StepActor) (x : Action) → IsElsewhere a.place x → Moves a x
 elsewhere_moves a Skip elsewhere = elsewhere
 elsewhere_moves a Stuck elsewhere = tt
 elsewhere_moves a (Silent moves place) elsewhere = elsewhere
 elsewhere_moves a (Does d rest place) elsewhere = inl elsewhere
 
-agenda_moves_on : (functions : List Function) (rows t : ℕ) (a : Actor) (agenda : List Duty) → a.agenda ≡ agenda
-    → LeadsForward (code_of (slice_get functions a.function)) → Moves a (agenda_action functions rows t a agenda)
-agenda_moves_on functions rows t a [] is forward =
-    elsewhere_moves a (agenda_action functions rows t a [])
-    (dispatch_elsewhere rows t a.used (code_of (slice_get functions a.function)) a.place forward)
-agenda_moves_on functions rows t a (d ∷ rest) is forward = inr is
+agenda_moves_on : (functions : List Function) (layout : Layout) (t : ℕ) (a : StepActor) (agenda : List Duty)
+    → a.actor.agenda ≡ agenda
+    → LeadsForward (code_of (slice_get functions a.function)) → Moves a (agenda_action functions layout t a agenda)
+agenda_moves_on functions layout t a [] is forward =
+    elsewhere_moves a (agenda_action functions layout t a [])
+    (dispatch_elsewhere layout t a.actor.used (code_of (slice_get functions a.function)) a.place forward)
+agenda_moves_on functions layout t a (d ∷ rest) is forward = inr is
 
-status_moves_on : (functions : List Function) (rows t : ℕ) (a : Actor) (status : Status) → status ≢ Gone
-    → LeadsForward (code_of (slice_get functions a.function)) → Moves a (status_action functions rows t a status)
-status_moves_on functions rows t a Gone alive forward = absurd (alive refl)
-status_moves_on functions rows t a Running alive forward = agenda_moves_on functions rows t a a.agenda refl forward
-status_moves_on functions rows t a Leaving alive forward = agenda_moves_on functions rows t a a.agenda refl forward
+status_moves_on : (functions : List Function) (layout : Layout) (t : ℕ) (a : StepActor) (status : Status)
+    → status ≢ Gone
+    → LeadsForward (code_of (slice_get functions a.function)) → Moves a (status_action functions layout t a status)
+status_moves_on functions layout t a Gone alive forward = absurd (alive refl)
+status_moves_on functions layout t a Running alive forward =
+    agenda_moves_on functions layout t a a.actor.agenda refl forward
+status_moves_on functions layout t a Leaving alive forward =
+    agenda_moves_on functions layout t a a.actor.agenda refl forward
 
-action_moves : (p : Module) (c : Accounts) (n : ℕ) (m : Machine) (t : ℕ) (a : Actor) (x : Action)
+action_moves : (p : Module) (c : Accounts) (n : ℕ) (m : StepMachine) (t : ℕ) (a : StepActor) (x : Action)
     → slice_get m.actors t ≡ Some a → ActionFits p c n m t a x → Moves a x → world_of (machine_by m t a x) ≢ world_of m
 action_moves p c n m t a Skip found fits moves = absurd moves
 action_moves p c n m t a Stuck found fits moves = absurd fits
 action_moves p c n m t a (Silent refs place) found fits moves =
     actor_apart (world_of (machine_by m t a (Silent refs place))) (world_of m) t a (at_place a place) found refl
-    (λ e. moves (ap (λ (c : Actor). c.place) e))
+    (λ e. moves (ap (λ (c : StepActor). c.place) e))
 action_moves p c n m t a (Does d rest place) found fits moves =
-    let word = m.memory (address_of m.rows t a.head d) in
+    let word = m.memory (address_of m.layout t a.actor.head d) in
     actor_apart (world_of (machine_by m t a (Does d rest place))) (world_of m) t a
-    (actor_by t (at_place a place) d rest word) found refl (λ e. elim moves [
-      | inl elsewhere ↦ elsewhere (ap (λ (c : Actor). c.place) e)
+    (step_actor m.layout t a d rest place word) found refl (λ e. elim moves [
+      | inl elsewhere ↦ elsewhere (ap (λ (c : StepActor). c.place) e)
       | inr is ↦
-          agenda_moves t (is_running a.status) a.head (new_head a.head d word) d rest word
-          (ap (λ (c : Actor). c.agenda) e ∙ is)
+          agenda_moves m.layout t (is_running a.actor.status) a.actor.head (new_head a.actor.head d word) d rest word
+          (ap (λ (c : StepActor). c.actor.agenda) e ∙ is)
     ])
 
--- the machine after an event of the thread
-abbrev after : Machine → ℕ → Choice → Option Actor → Machine
-after m t choice o = of_thread m (λ a. machine_by m t a (action_of m.functions m.rows t a choice)) o
+-- The machine after an event of the thread.
+abbrev after : StepMachine → ℕ → Choice → Option StepActor → StepMachine
+after m t choice o = of_thread m (λ a. machine_by m t a (action_of m.functions m.layout t a choice)) o
 
 abbrev BothMove : World → ℕ → Type 0
 BothMove w t = (step w t Ok ≢ w) × (step w t Fault ≢ w)
 
-machine_moves : (p : Module) (n : ℕ) (m : Machine) (t : ℕ) (a : Actor) → CodeInvariant p n m → slice_get m.actors t ≡ Some a
-    → (a.status ≡ Gone → ⊥) → BothMove (world_of m) t
+machine_moves : (p : Module) (n : ℕ) (m : StepMachine) (t : ℕ) (a : StepActor) → CodeInvariant p n m
+    → slice_get m.actors t ≡ Some a
+    → (a.actor.status ≡ Gone → ⊥) → BothMove (world_of m) t
 machine_moves p n m t a whole found alive =
     let forward : LeadsForward (code_of (slice_get m.functions a.function)) =
     subst (λ (fs : List Function). LeadsForward (code_of (slice_get fs a.function))) (sym whole.functions)
     (whole.coded t a found).instructions.forward in
-    let acting : world_of (machine_by m t a (action_of m.functions m.rows t a Ok)) ≢ world_of m =
-    action_moves p whole.accounts n m t a (action_of m.functions m.rows t a Ok) found
-    (action_fits p n m t a Ok whole found) (status_moves_on m.functions m.rows t a a.status alive forward) in
+    let acting : world_of (machine_by m t a (action_of m.functions m.layout t a Ok)) ≢ world_of m =
+    action_moves p whole.accounts n m t a (action_of m.functions m.layout t a Ok) found
+    (action_fits p n m t a Ok whole found) (status_moves_on m.functions m.layout t a a.actor.status alive forward) in
     let by_ok : world_of (next_machine m (t, Ok)) ≢ world_of m =
-    subst (λ (o : Option Actor). world_of (after m t Ok o) ≢ world_of m) (sym found) acting in
+    subst (λ (o : Option StepActor). world_of (after m t Ok o) ≢ world_of m) (sym found) acting in
     let by_fault : world_of (next_machine m (t, Fault)) ≢ world_of m =
-    subst (λ (o : Option Actor). world_of (after m t Fault o) ≢ world_of m) (sym found) acting in
+    subst (λ (o : Option StepActor). world_of (after m t Fault o) ≢ world_of m) (sym found) acting in
     (λ e. by_ok (worlds_follow m (t, Ok) ∙ e), λ e. by_fault (worlds_follow m (t, Fault) ∙ e))
 
-pub going_on_moves : (p : Module) (w : World) (t : ℕ) (a : Actor) → IsReachable p w → slice_get w.actors t ≡ Some a
-    → a.status ≢ Gone → (step w t Ok ≢ w) × (step w t Fault ≢ w)
+pub going_on_moves : (p : Module) (w : World) (t : ℕ) (a : StepActor) → IsReachable p w → slice_get w.actors t ≡ Some a
+    → a.actor.status ≢ Gone → (step w t Ok ≢ w) × (step w t Fault ≢ w)
 going_on_moves p w t a here found alive =
     let first = first_machine p here.rows here.calls in
     let n = 1 + length here.calls in
     let whole : CodeInvariant p n (machine_after first here.events) =
     code_invariant_after p n first here.events
-    (first_code_invariant p here.rows here.calls here.fits here.accepted here.calls_fit here.some_rows here.most_rows) in
+    (first_code_invariant p here.rows here.calls here.fits here.accepted here.calls_fit here.some_rows
+    here.most_rows) in
     let there : slice_get (machine_after first here.events).actors t ≡ Some a =
     ap (λ (v : World). slice_get v.actors t) (sym here.reached) ∙ found in
     subst (λ (v : World). BothMove v t) (sym here.reached)
@@ -190,25 +198,25 @@ going_on_moves p w t a here found alive =
 
 -- ---- claims
 
--- the action of a claim
-abbrev claimed : ℕ → Actor → Bool → Action
+-- The action of a claim.
+abbrev claimed : ℕ → StepActor → Bool → Action
 claimed row a may = cond may (Does (ClaimMark row) [] a.place) Skip
 
-claim_is : (w : World) (t : ℕ) (a : Actor) (row : ℕ) (may : Bool) → slice_get w.actors t ≡ Some a
-    → may_claim w.rows t a row ≡ may
+claim_is : (w : World) (t : ℕ) (a : StepActor) (row : ℕ) (may : Bool) → slice_get w.actors t ≡ Some a
+    → may_claim w.layout t a row ≡ may
     → step w t (Claim row) ≡ world_of (machine_by (machine_of w) t a (claimed row a may))
 claim_is w t a row may found is =
-    ap (λ (o : Option Actor). world_of (after (machine_of w) t (Claim row) o)) found
+    ap (λ (o : Option StepActor). world_of (after (machine_of w) t (Claim row) o)) found
     ∙ ap (λ (b : Bool). world_of (machine_by (machine_of w) t a (claimed row a b))) is
 
-pub claim_moves : (w : World) (t : ℕ) (a : Actor) (row : ℕ) → slice_get w.actors t ≡ Some a
-    → may_claim w.rows t a row ≡ true → w.memory (Mark row) ≢ 0 → step w t (Claim row) ≢ w
+pub claim_moves : (w : World) (t : ℕ) (a : StepActor) (row : ℕ) → slice_get w.actors t ≡ Some a
+    → may_claim w.layout t a row ≡ true → w.memory (Mark row) ≢ 0 → step w t (Claim row) ≢ w
 claim_moves w t a row found may marked e =
-    let done : world_of (done_by (machine_of w) t a (ClaimMark row) []) ≡ w =
+    let done : world_of (does_by (machine_of w) t a (ClaimMark row) [] a.place) ≡ w =
     sym (claim_is w t a row true found may) ∙ e in
     marked (sym (ap (λ (v : World). v.memory (Mark row)) done) ∙ written_here w.memory (Mark row) 0)
 
--- a mark that isn't set is left so
+-- Clearing a mark that isn't set leaves memory unchanged.
 unmarked_stays : (memory : Address → ℕ) (row : ℕ) → memory (Mark row) ≡ 0 → written memory (Mark row) 0 ≡ memory
 unmarked_stays memory row none =
     fun_ext (λ (b : Address). ap (λ (word : ℕ). written memory (Mark row) word b) (sym none)
@@ -220,47 +228,53 @@ none_claimed head row found empty none =
     ap (λ (word : ℕ). ready head ((cond (word == 1) (MergeSwap row Handed ∷ []) [] ++ Settle ∷ []) ++ [])) none
     ∙ ap (λ (h : ℕ). ready h (Settle ∷ [])) empty
 
-miss_stays : (w : World) (t : ℕ) (a : Actor) (row : ℕ) → slice_get w.actors t ≡ Some a → a.agenda ≡ [] → a.head ≡ 0
-    → w.memory (Mark row) ≡ 0 → world_of (done_by (machine_of w) t a (ClaimMark row) []) ≡ w
+miss_stays : (w : World) (t : ℕ) (a : StepActor) (row : ℕ) → slice_get w.actors t ≡ Some a → a.actor.agenda ≡ []
+    → a.actor.head ≡ 0
+    → w.memory (Mark row) ≡ 0 → world_of (does_by (machine_of w) t a (ClaimMark row) [] a.place) ≡ w
 miss_stays w t a row found rest empty none =
-    let agenda = none_claimed a.head row (w.memory (Mark row)) empty none ∙ sym rest in
-    let same : actor_by t a (ClaimMark row) [] (w.memory (Mark row)) ≡ a =
+    let agenda = none_claimed a.actor.head row (w.memory (Mark row)) empty none ∙ sym rest in
+    let same : step_actor w.layout t a (ClaimMark row) [] a.place (w.memory (Mark row)) ≡ a =
     λ i. record {
       function = a.function;
       place = a.place;
-      status = a.status;
-      agenda = agenda i;
-      aside = a.aside;
-      head = a.head;
-      used = a.used;
+      actor = record {
+        status = a.actor.status;
+        agenda = agenda i;
+        aside = a.actor.aside;
+        head = a.actor.head;
+        used = a.actor.used;
+        locked = a.actor.locked;
+        lent = a.actor.lent;
+      };
     } in
-    let actors : slice_set w.actors t (actor_by t a (ClaimMark row) [] (w.memory (Mark row))) ≡ w.actors =
+    let actors : slice_set w.actors t
+    (step_actor w.layout t a (ClaimMark row) [] a.place (w.memory (Mark row))) ≡ w.actors =
     ap (slice_set w.actors t) same ∙ set_found w.actors t a found in
     let memory = unmarked_stays w.memory row none in
-    λ i. record { functions = w.functions; rows = w.rows; memory = memory i; actors = actors i }
+    λ i. record { functions = w.functions; layout = w.layout; memory = memory i; actors = actors i }
 
-pub claim_misses : (p : Module) (w : World) (t : ℕ) (a : Actor) (row : ℕ) → IsReachable p w
-    → slice_get w.actors t ≡ Some a → may_claim w.rows t a row ≡ true → w.memory (Mark row) ≡ 0
+pub claim_misses : (p : Module) (w : World) (t : ℕ) (a : StepActor) (row : ℕ) → IsReachable p w
+    → slice_get w.actors t ≡ Some a → may_claim w.layout t a row ≡ true → w.memory (Mark row) ≡ 0
     → step w t (Claim row) ≡ w
 claim_misses p w t a row here found may none =
-    let rest = (claimer w.rows t a row may).agenda in
+    let rest = (claimer w.layout t a row may).agenda in
     let there : slice_get (machine_after (first_machine p here.rows here.calls) here.events).actors t ≡ Some a =
     ap (λ (v : World). slice_get v.actors t) (sym here.reached) ∙ found in
     claim_is w t a row true found may
     ∙ miss_stays w t a row found rest (chain_empty p here.rows here.calls here.events t a there rest) none
 
-pub claim_stays : (w : World) (t : ℕ) (a : Actor) (row : ℕ) → slice_get w.actors t ≡ Some a
-    → may_claim w.rows t a row ≡ false → step w t (Claim row) ≡ w
+pub claim_stays : (w : World) (t : ℕ) (a : StepActor) (row : ℕ) → slice_get w.actors t ≡ Some a
+    → may_claim w.layout t a row ≡ false → step w t (Claim row) ≡ w
 claim_stays w t a row found may = claim_is w t a row false found may
 
 -- ---- a thread that is gone
 
-pub gone_stays : (w : World) (t : ℕ) (a : Actor) (row : ℕ) → slice_get w.actors t ≡ Some a → a.status ≡ Gone
+pub gone_stays : (w : World) (t : ℕ) (a : StepActor) (row : ℕ) → slice_get w.actors t ≡ Some a → a.actor.status ≡ Gone
     → (step w t Ok ≡ w) × (step w t Fault ≡ w) × (step w t (Claim row) ≡ w)
 gone_stays w t a row found gone =
-    let still : world_of (machine_by (machine_of w) t a (action_of w.functions w.rows t a Ok)) ≡ w =
-    ap (λ (s : Status). world_of (machine_by (machine_of w) t a (status_action w.functions w.rows t a s))) gone in (
-      ap (λ (o : Option Actor). world_of (after (machine_of w) t Ok o)) found ∙ still,
-      ap (λ (o : Option Actor). world_of (after (machine_of w) t Fault o)) found ∙ still,
-      claim_stays w t a row found (gone_claims_none w.rows t a row gone),
+    let still : world_of (machine_by (machine_of w) t a (action_of w.functions w.layout t a Ok)) ≡ w =
+    ap (λ (s : Status). world_of (machine_by (machine_of w) t a (status_action w.functions w.layout t a s))) gone in (
+      ap (λ (o : Option StepActor). world_of (after (machine_of w) t Ok o)) found ∙ still,
+      ap (λ (o : Option StepActor). world_of (after (machine_of w) t Fault o)) found ∙ still,
+      claim_stays w t a row found (gone_claims_none w.layout t a row gone),
     )

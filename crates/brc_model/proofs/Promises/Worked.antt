@@ -1,4 +1,4 @@
--- Worked schedules on the smallest module, with one worker that makes one call: what the step world comes to.
+-- Three schedules of the smallest module, with one worker that makes one call, by computation.
 use Rattle.std.proofs.Common.{◌≡◌, ℕ, List, [], ◌∷◌, ◌++◌, map, refl}
 use Rattle.std.specs.Prelude.{replicate}
 use Rattle.brc_lang.specs.declared.module.Instr.TheVariants.{Fail}
@@ -8,7 +8,9 @@ use Rattle.brc_model.specs.declared.actor.Status.{Status}
 use Rattle.brc_model.specs.declared.actor.Status.TheVariants.{Running, Gone}
 use Rattle.brc_model.specs.declared.thread.Choice.{Choice}
 use Rattle.brc_model.specs.declared.thread.Choice.TheVariants.{Ok, Claim}
-use Rattle.brc_model.specs.Machine.{Live, Closed, Machine, Actor, first_machine, machine_after}
+use Rattle.brc_model.specs.Machine.{Live, Closed}
+use Rattle.brc_model.specs.Actions.{StepActor}
+use Rattle.brc_model.specs.StepMachine.{StepMachine, first_machine, machine_after}
 
 smallest : Module
 smallest = record { functions = record { name = 102 ∷ []; code = Fail ∷ [] } ∷ [] }
@@ -19,13 +21,13 @@ one_call = record { function = 0; times = 1 } ∷ []
 steps : ℕ → ℕ → List (ℕ × Choice)
 steps n t = replicate n (t, Ok)
 
-after_events : List (ℕ × Choice) → Machine
+after_events : List (ℕ × Choice) → StepMachine
 after_events events = machine_after (first_machine smallest 4 one_call) events
 
-statuses : Machine → List Status
-statuses m = map (λ (a : Actor). a.status) m.actors
+statuses : StepMachine → List Status
+statuses m = map (λ (a : StepActor). a.actor.status) m.actors
 
--- the worker has set the mark and not looked, and main leaves: main's exit finds the mark and closes the root
+-- The worker has set the mark and hasn't looked yet when main leaves. Main's exit finds the mark and closes the root.
 mark_set : List (ℕ × Choice)
 mark_set = steps 5 1 ++ steps 40 0
 
@@ -41,7 +43,8 @@ mark_set-done : statuses (after_events (mark_set ++ steps 10 1)) ≡ Gone ∷ Go
 unfolding smallest one_call steps after_events mark_set statuses
 mark_set-done = refl
 
--- the worker has queued the root and set no mark: main's exit finds none, and the worker closes the root
+-- The worker has queued the root and hasn't set its mark yet when main leaves. Main's exit finds no mark, and the
+-- worker closes the root.
 queued : List (ℕ × Choice)
 queued = steps 4 1 ++ steps 40 0
 
@@ -57,7 +60,7 @@ queued-closed : (after_events (queued ++ steps 40 1)).life 1 ≡ Closed
 unfolding smallest one_call steps after_events queued
 queued-closed = refl
 
--- main looks into its queue before it leaves
+-- The worker has set the mark, and main looks into its queue before it leaves.
 claimed : List (ℕ × Choice)
 claimed = steps 5 1 ++ (0, Claim 1) ∷ steps 40 0
 

@@ -1,4 +1,4 @@
--- A machine's step is a step of the world that its threads see, so steps lead from a reachable world only to such.
+-- A machine's step is a step of the world that its threads see, and reachability is closed under steps.
 use Rattle.std.proofs.Common.{◌≡◌, ℕ, ◌<◌, ◌≤◌, List, [], ◌∷◌, ◌++◌, Option, None, Some, refl, sym, ap, ◌∙◌}
 use Rattle.std.specs.Prelude.{slice_get}
 use Rattle.std.proofs.lemmas.List.Sums.{fold_push}
@@ -8,35 +8,38 @@ use Rattle.brc_model.specs.declared.thread.Call.{Call}
 use Rattle.brc_model.specs.declared.thread.Choice.{Choice}
 use Rattle.brc_model.specs.Paths.{IsAcceptable}
 use Rattle.brc_model.specs.Safety.{AreCalls}
-use Rattle.brc_model.specs.Machine.{Actor, Machine, Action, Skip, Stuck, Silent, Does, action_of, of_thread, machine_by, next_machine, first_machine, machine_after}
+use Rattle.brc_model.specs.Actions.{StepActor, Action, Skip, Stuck, Silent, Does, action_of}
+use Rattle.brc_model.specs.StepMachine.{StepMachine, of_thread, machine_by, next_machine, first_machine, machine_after}
 use Rattle.brc_model.specs.World.{World, world_of, machine_of, first_world, step, IsReachable}
 use Rattle.brc_model.specs.Limits.{row_limit}
 
--- ---- a step looks at nothing else
+-- ---- a step depends on the world alone
 
--- the machine with nothing beside its world
-abbrev bared : Machine → Machine
+-- The machine with the same world, an empty abstract state and no born row.
+abbrev bared : StepMachine → StepMachine
 bared m = machine_of (world_of m)
 
-action_alike : (m : Machine) (t : ℕ) (a : Actor) (x : Action)
+action_alike : (m : StepMachine) (t : ℕ) (a : StepActor) (x : Action)
     → world_of (machine_by m t a x) ≡ world_of (machine_by (bared m) t a x)
 action_alike m t a Skip = refl
 action_alike m t a Stuck = refl
 action_alike m t a (Silent moves place) = refl
 action_alike m t a (Does d rest place) = refl
 
-thread_alike : (m : Machine) (t : ℕ) (choice : Choice) (o : Option Actor)
-    → world_of (of_thread m (λ a. machine_by m t a (action_of m.functions m.rows t a choice)) o)
-    ≡ world_of (of_thread (bared m) (λ a. machine_by (bared m) t a (action_of m.functions m.rows t a choice)) o)
+thread_alike : (m : StepMachine) (t : ℕ) (choice : Choice) (o : Option StepActor)
+    → world_of (of_thread m (λ a. machine_by m t a (action_of m.functions m.layout t a choice)) o)
+    ≡ world_of (of_thread (bared m) (λ a. machine_by (bared m) t a (action_of m.functions m.layout t a choice)) o)
 thread_alike m t choice None = refl
-thread_alike m t choice (Some a) = action_alike m t a (action_of m.functions m.rows t a choice)
+thread_alike m t choice (Some a) = action_alike m t a (action_of m.functions m.layout t a choice)
 
-pub worlds_follow : (m : Machine) (event : ℕ × Choice)
+-- The world of the machine after an event is the world after the step.
+pub worlds_follow : (m : StepMachine) (event : ℕ × Choice)
     → world_of (next_machine m event) ≡ step (world_of m) event.0 event.1
 worlds_follow m event = thread_alike m event.0 event.1 (slice_get m.actors event.0)
 
 -- ---- reachable worlds
 
+-- The first world is reachable.
 pub first_reachable : (p : Module) (rows : ℕ) (calls : List Call) → IsModule p → IsAcceptable p → 0 < rows
     → rows ≤ row_limit
     → AreCalls p calls → IsReachable p (first_world p rows calls)
@@ -52,6 +55,7 @@ first_reachable p rows calls fits accepted some most calls_fit = record {
   reached = refl;
 }
 
+-- A step of a reachable world leads to a reachable world.
 pub step_reachable : (p : Module) (w : World) (t : ℕ) (choice : Choice) → IsReachable p w
     → IsReachable p (step w t choice)
 step_reachable p w t choice here =

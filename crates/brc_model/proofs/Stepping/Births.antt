@@ -1,5 +1,5 @@
--- A thread after its own steps of a birth: the object's reference is gained with the last.
-use Rattle.std.proofs.Common.{◌≡◌, ℕ, ◌+◌, Bool, true, false, cond, List, [], ◌∷◌, inl, inr, refl, sym, ap, ◌∙◌, subst, arith}
+-- A thread fits after its own steps of a birth. It gains its reference to the object with the last one.
+use Rattle.std.proofs.Common.{◌≡◌, ◌≤◌, ◌<◌, ℕ, Bool, true, false, cond, List, [], ◌∷◌, inl, inr, refl, sym, ap, ◌∙◌, subst, arith}
 use Rattle.std.specs.Prelude.{◌==◌}
 use Rattle.std.proofs.lemmas.Bool.Decides.{eqb_tells}
 use Rattle.brc_model.specs.declared.duty.Holding.{Holding}
@@ -7,7 +7,7 @@ use Rattle.brc_model.specs.declared.duty.Duty.{Duty}
 use Rattle.brc_model.specs.declared.duty.Duty.TheVariants.{BirthKind, BirthSlot, BirthLocal}
 use Rattle.brc_model.specs.Duties.{has_resource}
 use Rattle.brc_model.specs.declared.actor.Status.TheVariants.{Gone}
-use Rattle.brc_model.specs.Machine.{Actor, Life, Unborn, Live, Machine, done_by, actor_by, first_row}
+use Rattle.brc_model.specs.Machine.{Actor, Life, Unborn, Live, Machine, done_by, actor_by}
 use Rattle.brc_model.specs.References.{one_if}
 use Rattle.brc_model.specs.Accounts.{Accounts}
 use Rattle.brc_model.specs.Knowledge.{IsNext, HasCountedKind}
@@ -26,30 +26,35 @@ use Rattle.brc_model.proofs.Stepping.Shown.{own_shown}
 use Rattle.brc_model.proofs.Stepping.Chains.{chain_here}
 use Rattle.brc_model.proofs.Stepping.Settled.{ready_none}
 use Rattle.brc_model.specs.Invariant.{AtDuty}
+use Rattle.brc_model.specs.declared.layout.Layout.{Layout}
+use Rattle.brc_model.specs.Layout.{block_size, row_at}
 
--- the row is still the next one
-still_next : (m new : Machine) (t : ℕ) (a b : Actor) (x : ℕ) → new.rows ≡ m.rows → b.status ≡ a.status → b.used ≡ a.used
+-- The row is still the next one of the thread's block.
+still_next : (m new : Machine) (t : ℕ) (a b : Actor) (x : ℕ) → new.layout ≡ m.layout → b.status ≡ a.status
+    → b.used ≡ a.used
     → IsNext m t a x → IsNext new t b x
-still_next m new t a b x rows status used next = record {
+still_next m new t a b x same status used next = record {
   running = status ∙ next.running;
   worker = next.worker;
-  row =
-      next.row ∙ ap (λ (u : ℕ). first_row m.rows t + u) (sym used) ∙ ap (λ (r : ℕ). first_row r t + b.used) (sym rows);
-  room = omega (arith, next.room, rows, used);
+  there = subst (λ (l : Layout). t ≤ l.workers) (sym same) next.there;
+  row = next.row ∙ ap (λ (u : ℕ). row_at m.layout t u) (sym used) ∙ ap (λ (l : Layout). row_at l t b.used) (sym same);
+  room = subst (λ (l : Layout). b.used < block_size l t) (sym same) (omega (arith, next.room, used));
 }
 
+-- The thread fits after `KindOfResource` and `KindOfOther`.
 pub thread_after_birth_kind : (p : Accounts) (n : ℕ) (m : Machine) (t : ℕ) (a : Actor) (x : ℕ) (h : Holding) (w : ℕ)
     (rest : List Duty)
     → AtDuty p n m t a (BirthKind x h w) rest → (a.status ≡ Gone → ⊥)
     → ThreadFits p (done_by m t a (BirthKind x h w) rest) t
-    (actor_by t a (BirthKind x h w) rest (found_by m t a (BirthKind x h w)))
+    (actor_by m.layout t a (BirthKind x h w) rest (found_by m t a (BirthKind x h w)))
 thread_after_birth_kind p n m t a x h w rest here alive =
     let d : Duty = BirthKind x h w in
     let fits = head_of p n m t a d rest here in
     let new = done_by m t a d rest in
     let said : HasCountedKind new.memory x =
     ap (λ (v : ℕ). is_counted_kind (kind_of_word v)) (written_here m.memory (KindOf x) w) ∙ fits.2 in
-    elim (has_resource w) as (λ b. has_resource w ≡ b → ThreadFits p new t (actor_by t a d rest (found_by m t a d))) [
+    elim (has_resource w) as
+    (λ b. has_resource w ≡ b → ThreadFits p new t (actor_by m.layout t a d rest (found_by m t a d))) [
       | true ↦ λ e.
           own_keeps p n m t a d rest (BirthSlot x h ∷ []) (BirthSlot x h ∷ rest) here alive refl (record {
             next_is = ap (λ (b : Bool). cond b (BirthSlot x h ∷ []) (BirthLocal x h ∷ [])) e;
@@ -72,10 +77,12 @@ thread_after_birth_kind p n m t a x h w rest here alive =
           })
     ] refl
 
-pub thread_after_birth_slot : (p : Accounts) (n : ℕ) (m : Machine) (t : ℕ) (a : Actor) (x : ℕ) (h : Holding) (rest : List Duty)
+-- The thread fits after `SlotFilled`.
+pub thread_after_birth_slot : (p : Accounts) (n : ℕ) (m : Machine) (t : ℕ) (a : Actor) (x : ℕ) (h : Holding)
+    (rest : List Duty)
     → AtDuty p n m t a (BirthSlot x h) rest → (a.status ≡ Gone → ⊥)
     → ThreadFits p (done_by m t a (BirthSlot x h) rest) t
-    (actor_by t a (BirthSlot x h) rest (found_by m t a (BirthSlot x h)))
+    (actor_by m.layout t a (BirthSlot x h) rest (found_by m t a (BirthSlot x h)))
 thread_after_birth_slot p n m t a x h rest here alive =
     let d : Duty = BirthSlot x h in
     let fits = head_of p n m t a d rest here in
@@ -90,7 +97,7 @@ thread_after_birth_slot p n m t a x h rest here alive =
       knows = λ b status head used. (still_next m new t a b x refl status used fits.0, fits.1, fits.2);
     })
 
--- no row that dies changes
+-- A birth doesn't change which rows the thread is finalising.
 born_dies : (life : ℕ → Life) (t x y : ℕ) → life x ≡ Unborn
     → dies_by (cond (x == y) Live (life y)) t ≡ dies_by (life y) t
 born_dies life t x y unborn =
@@ -101,23 +108,25 @@ born_dies life t x y unborn =
       | inr other ↦ ap (λ (b : Bool). dies_by (cond b Live (life y)) t) other.0
     ]
 
--- the object is born, and nothing is left to do
-pub thread_after_birth_local : (p : Accounts) (n : ℕ) (m : Machine) (t : ℕ) (a : Actor) (x : ℕ) (h : Holding) (rest : List Duty)
+-- `Born`: the object is born, and the thread's agenda is empty.
+pub thread_after_birth_local : (p : Accounts) (n : ℕ) (m : Machine) (t : ℕ) (a : Actor) (x : ℕ) (h : Holding)
+    (rest : List Duty)
     → AtDuty p n m t a (BirthLocal x h) rest → (a.status ≡ Gone → ⊥)
     → ThreadFits p (done_by m t a (BirthLocal x h) rest) t
-    (actor_by t a (BirthLocal x h) rest (found_by m t a (BirthLocal x h)))
+    (actor_by m.layout t a (BirthLocal x h) rest (found_by m t a (BirthLocal x h)))
 thread_after_birth_local p n m t a x h [] here alive =
     let d : Duty = BirthLocal x h in
     let fits = head_of p n m t a d [] here in
     let later = agenda_here p n m t a d [] here alive in
     let new = done_by m t a d [] in
-    let after = actor_by t a d [] (found_by m t a d) in
+    let after = actor_by m.layout t a d [] (found_by m t a d) in
     own_shown p n m t a d [] [] a.status a.head here (record {
       head_is = refl;
       status_is = refl;
       agenda_is = ready_none a.head;
       word = (here.core.each t a here.found).0.word;
-      held = held_gained m.abstract.references t x h (d ∷ []) [] (λ k o. refl) (λ k o. refl) (λ k o. refl) (λ k o. refl);
+      held = held_gained m.abstract.references t x h (d ∷ []) [] (λ k o. refl) (λ k o. refl) (λ k o. refl)
+          (λ k o. refl);
       chain = chain_same m new t a.head (d ∷ []) [] (record {
         gates = λ y. refl;
         hands =
@@ -126,8 +135,8 @@ thread_after_birth_local p n m t a x h [] here alive =
             (arith, life);
       }) (chain_here p n m t a d [] here);
       fits =
-          agenda_out m.rows t after a.status alive
-          (subst (λ (l : List Duty). Agenda m.rows t after.used a.status a.place l) (sym (ready_none a.head))
+          agenda_out after a.status alive
+          (subst (λ (l : List Duty). Agenda after.used a.status l) (sym (ready_none a.head))
           later);
       knows = λ b status head used. tt;
     })

@@ -1,5 +1,5 @@
--- A thread after its own steps of its dying chain: a row is chained, taken from the chain, and closed.
-use Rattle.std.proofs.Common.{◌≡◌, ℕ, zero, suc, ◌+◌, ◌-◌, ◌<◌, Bool, true, false, cond, List, [], ◌∷◌, inl, inr, Some, refl, sym, ap, ◌∙◌, subst, arith, ◌≢◌}
+-- A thread fits after its own steps on its dying chain: it chains a row, takes a row from the chain, or closes a row.
+use Rattle.std.proofs.Common.{◌≡◌, ℕ, ◌+◌, ◌-◌, ◌<◌, Bool, true, false, cond, List, [], ◌∷◌, inl, inr, Some, refl, sym, ap, ◌∙◌, subst, arith, ◌≢◌}
 use Rattle.std.specs.Prelude.{◌==◌, count_by}
 use Rattle.std.proofs.lemmas.Bool.{eq-eqb}
 use Rattle.std.proofs.lemmas.Bool.Decides.{eqb_tells}
@@ -26,10 +26,13 @@ use Rattle.brc_model.proofs.Stepping.Retains.{ready_first}
 use Rattle.brc_model.proofs.Basics.Blocks.{born_low}
 use Rattle.brc_model.proofs.Stepping.Shown.{ShownStep, own_shown, agenda_shown}
 use Rattle.brc_model.proofs.Basics.Bag.{one_if_low}
+use Rattle.brc_model.specs.Limits.{total_limit}
+use Rattle.std.proofs.lemmas.Bool.{cases_Bool}
+use Rattle.brc_model.specs.Layout.{is_immortal_row, IsCounted}
 
--- ---- which rows die
+-- ---- dying rows
 
--- the chain at a thread's first duty
+-- The thread's chain fits the agenda that begins with the duty.
 pub chain_here : (p : Accounts) (n : ℕ) (m : Machine) (t : ℕ) (a : Actor) (d : Duty) (rest : List Duty)
     → AtDuty p n m t a d rest → ChainFits m t a.head (d ∷ rest)
 chain_here p n m t a d rest here =
@@ -39,26 +42,32 @@ pub one_if_some : (b : Bool) → 0 < one_if b → b ≡ true
 one_if_some true some = refl
 one_if_some false some = absurd (omega arith)
 
--- only what was born dies
+-- A dying row was born.
 pub dying_born : (m : Machine) (t x : ℕ) → m.life x ≡ Dying t → m.life x ≢ Unborn
 dying_born m t x dies unborn = let wrong : Unborn ≡ Dying t = sym unborn ∙ dies in cc
 
-pub dying_low : (p : Accounts) (n : ℕ) (m : Machine) (t x : ℕ) → CoreInvariant p n m → m.life x ≡ Dying t → x < 32770
+pub dying_low : (p : Accounts) (n : ℕ) (m : Machine) (t x : ℕ) → CoreInvariant p n m → m.life x ≡ Dying t
+    → x < total_limit
 dying_low p n m t x core dies = born_low p n m x core (dying_born m t x dies)
 
-pub dying_above : (p : Accounts) (n : ℕ) (m : Machine) (t x : ℕ) → CoreInvariant p n m → m.life x ≡ Dying t → 0 < x
-dying_above p n m t zero core dies = absurd (let wrong : Live ≡ Dying t = sym core.none_lives ∙ dies in cc)
-dying_above p n m t (suc x) core dies = omega arith
+pub dying_above : (p : Accounts) (n : ℕ) (m : Machine) (t x : ℕ) → CoreInvariant p n m → m.life x ≡ Dying t
+    → IsCounted m.layout x
+dying_above p n m t x core dies =
+    elim (cases_Bool (is_immortal_row m.layout x)) [
+      | inl immortal ↦ absurd (let wrong : Live ≡ Dying t = sym (core.immortals_live x immortal) ∙ dies in cc)
+      | inr counted ↦ counted
+    ]
 
--- the row at hand isn't chained
+-- The row that the first duty is finalising isn't in the chain.
 hand_not_chained : (m : Machine) (t head x : ℕ) (agenda : List Duty) (chain : ChainFits m t head agenda)
     → finalised_now agenda x ≡ true → count_by (λ y. y == x) chain.chained ≡ 0
 hand_not_chained m t head x agenda chain at =
     let one : one_if (finalised_now agenda x) ≡ 1 = ap one_if at in
     omega (arith, one, chain.once x, one_if_low (dies_by (m.life x) t))
 
--- the head is a dying row's
-pub head_low : (p : Accounts) (n : ℕ) (m : Machine) (t head : ℕ) (agenda : List Duty) (chained : List ℕ) → CoreInvariant p n m
+-- The head of a chain fits into half a word, since the rows in the chain are born.
+pub head_low : (p : Accounts) (n : ℕ) (m : Machine) (t head : ℕ) (agenda : List Duty) (chained : List ℕ)
+    → CoreInvariant p n m
     → Linked m.memory t head chained
     → ((x : ℕ) → one_if (finalised_now agenda x) + count_by (λ y. y == x) chained ≡ one_if (dies_by (m.life x) t))
     → head < half
@@ -70,7 +79,7 @@ head_low p n m t head agenda (x ∷ xs) core linked once =
     in
     omega (arith, linked.0, dying_low p n m t x core dies)
 
--- ---- a row is chained
+-- ---- `Die` puts a row into the chain
 
 die_chain : (p : Accounts) (n : ℕ) (m : Machine) (t : ℕ) (a : Actor) (x : ℕ) (rest agenda : List Duty)
     → AtDuty p n m t a (Die x) rest → ((y : ℕ) → finalised_now agenda y ≡ false)
@@ -99,12 +108,13 @@ die_chain p n m t a x rest agenda here none =
           ap one_if (none y) in omega (arith, hand, old.once y, sum_by-cons (λ z. cond (z == y) 1 0) x old.chained);
     }
 
+-- The thread fits after `Chained`.
 pub thread_after_die : (p : Accounts) (n : ℕ) (m : Machine) (t : ℕ) (a : Actor) (x : ℕ) (rest : List Duty)
     → AtDuty p n m t a (Die x) rest → (a.status ≡ Gone → ⊥)
-    → ThreadFits p (done_by m t a (Die x) rest) t (actor_by t a (Die x) rest (found_by m t a (Die x)))
+    → ThreadFits p (done_by m t a (Die x) rest) t (actor_by m.layout t a (Die x) rest (found_by m t a (Die x)))
 thread_after_die p n m t a x rest here alive =
     let ready_so =
-    ready_is m.rows t a.used a.status a.place (x + 1) rest (agenda_here p n m t a (Die x) rest here alive) in
+    ready_is m.layout t a.used a.status (x + 1) rest (agenda_here p n m t a (Die x) rest here alive) in
     own_shown p n m t a (Die x) rest (ready (x + 1) rest) a.status (x + 1) here (record {
       head_is = refl;
       status_is = refl;
@@ -116,12 +126,12 @@ thread_after_die p n m t a x rest here alive =
       knows = λ b status head used. ready_so.knows (done_by m t a (Die x) rest) b head;
     })
 
--- ---- a row is taken from the chain
+-- ---- `Settle` takes the first row from the chain
 
 next_of_dying : (word t next : ℕ) → word ≡ dying_word t next → next < half → next_part word ≡ next
 next_of_dying word t next is low = omega (arith, is, low)
 
--- what is known of the first of the chain
+-- The first row of a chain that isn't empty, and the rest of the chain.
 record FirstChained (m : Machine) (t : ℕ) (a : Actor) (rest : List Duty) : Type 0 where
   row : ℕ
   others : List ℕ
@@ -135,7 +145,8 @@ record FirstChained (m : Machine) (t : ℕ) (a : Actor) (rest : List Duty) : Typ
 
 first_by : (m : Machine) (t : ℕ) (a : Actor) (rest : List Duty) (chained : List ℕ) → 0 < a.head
     → Linked m.memory t a.head chained
-    → ((x : ℕ) → one_if (finalised_now (Settle ∷ rest) x) + count_by (λ y. y == x) chained ≡ one_if (dies_by (m.life x) t))
+    → ((x : ℕ) → one_if (finalised_now (Settle ∷ rest) x) + count_by (λ y. y == x) chained ≡ one_if
+    (dies_by (m.life x) t))
     → FirstChained m t a rest
 first_by m t a rest [] some linked once = absurd (omega (arith, some, linked))
 first_by m t a rest (x ∷ xs) some linked once =
@@ -198,15 +209,16 @@ settle_shown p n m t a rest first here alive row_is =
       );
     }
 
+-- The thread fits after `ChainRead`.
 pub thread_after_settle : (p : Accounts) (n : ℕ) (m : Machine) (t : ℕ) (a : Actor) (rest : List Duty)
     → AtDuty p n m t a Settle rest → (a.status ≡ Gone → ⊥)
-    → ThreadFits p (done_by m t a Settle rest) t (actor_by t a Settle rest (found_by m t a Settle))
+    → ThreadFits p (done_by m t a Settle rest) t (actor_by m.layout t a Settle rest (found_by m t a Settle))
 thread_after_settle p n m t a rest here alive =
     let first = first_chained p n m t a rest here in
     own_shown p n m t a Settle rest (SettleKind first.row ∷ Settle ∷ rest) a.status first.next here
     (settle_shown p n m t a rest first here alive (omega (arith, first.head_is)))
 
--- ---- the row is closed
+-- ---- `SettleEnd` closes the row
 
 end_chain : (p : Accounts) (n : ℕ) (m : Machine) (t : ℕ) (a : Actor) (x : ℕ) (rest agenda : List Duty)
     → AtDuty p n m t a (SettleEnd x) rest → ((y : ℕ) → finalised_now agenda y ≡ false)
@@ -236,12 +248,14 @@ end_chain p n m t a x rest agenda here none =
           ];
     }
 
+-- The thread fits after `Closes`.
 pub thread_after_settle_end : (p : Accounts) (n : ℕ) (m : Machine) (t : ℕ) (a : Actor) (x : ℕ) (rest : List Duty)
     → AtDuty p n m t a (SettleEnd x) rest → (a.status ≡ Gone → ⊥)
-    → ThreadFits p (done_by m t a (SettleEnd x) rest) t (actor_by t a (SettleEnd x) rest (found_by m t a (SettleEnd x)))
+    → ThreadFits p (done_by m t a (SettleEnd x) rest) t
+    (actor_by m.layout t a (SettleEnd x) rest (found_by m t a (SettleEnd x)))
 thread_after_settle_end p n m t a x rest here alive =
     let ready_so =
-    ready_is m.rows t a.used a.status a.place a.head rest (agenda_here p n m t a (SettleEnd x) rest here alive) in
+    ready_is m.layout t a.used a.status a.head rest (agenda_here p n m t a (SettleEnd x) rest here alive) in
     own_shown p n m t a (SettleEnd x) rest (ready a.head rest) a.status a.head here (record {
       head_is = refl;
       status_is = refl;

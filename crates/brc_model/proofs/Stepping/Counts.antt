@@ -1,5 +1,5 @@
--- A thread after its own steps of a retain and a release.
-use Rattle.std.proofs.Common.{◌≡◌, ℕ, Bool, true, false, List, ◌∷◌, refl, sym, ap, ◌∙◌, arith, ◌<◌}
+-- How a step changes the bag, for steps that move nothing, gain one reference or lose one.
+use Rattle.std.proofs.Common.{◌≡◌, ℕ, Bool, true, false, List, ◌∷◌, refl, sym, ap, ◌∙◌, arith}
 use Rattle.std.specs.Prelude.{◌==◌, ◌&&◌}
 use Rattle.std.specs.List.{list_any}
 use Rattle.std.proofs.lemmas.Bool.{eqb-true, eqb-false, eq-eqb, ne_eqb}
@@ -19,6 +19,7 @@ use Rattle.brc_model.proofs.Frame.Alive.{alive_backed}
 use Rattle.brc_model.proofs.Frame.Leaves.{head_of}
 use Rattle.brc_model.proofs.Stepping.Own.{HeldStep}
 use Rattle.brc_model.specs.Invariant.{AtDuty}
+use Rattle.brc_model.specs.Layout.{IsCounted}
 
 -- ---- the bag
 
@@ -44,7 +45,7 @@ both_ways k h object x =
     ap (λ (b : Bool). b && (object == x)) (flip_holding h k)
     ∙ ap (λ (b : Bool). same_holding h k && b) (flip_eqb object x)
 
--- one reference by one holder, as a test
+-- Two references of one thread are the same if their ways of holding and their objects are.
 pub same_is : (t x : ℕ) (h k : Holding) (object : ℕ)
     → same (reference_of t k object) (reference_of t h x) ≡ (same_holding h k && (x == object))
 same_is t x h k object =
@@ -53,7 +54,7 @@ same_is t x h k object =
     ap (λ (b : Bool). b && same_holding k h && (object == x)) threads in
     front ∙ both_ways k h object x
 
--- nothing moves, and the duty at hand has the same
+-- The bag is unchanged, and the agenda makes and gives up the same references as before.
 pub held_same : (bag : List Reference) (t : ℕ) (agenda later : List Duty)
     → ((k : Holding) (object : ℕ) → extra_of later k object ≡ extra_of agenda k object)
     → ((k : Holding) (object : ℕ) → lacks_of later k object ≡ lacks_of agenda k object)
@@ -66,7 +67,7 @@ held_same bag t agenda later more less = record {
       omega (arith, a, b);
 }
 
--- what was lacking is gained
+-- The step gains the reference that its duty makes.
 pub held_gained : (bag : List Reference) (t x : ℕ) (h : Holding) (agenda later : List Duty)
     → ((k : Holding) (object : ℕ) → lacks_of agenda k object ≡ (same_holding h k && (x == object)))
     → ((k : Holding) (object : ℕ) → extra_of agenda k object ≡ false)
@@ -84,7 +85,7 @@ held_gained bag t x h agenda later lacked no_more more less = record {
       omega (arith, held-cons r (reference_of t h x) bag, one, a, b, c);
 }
 
--- what was extra is lost
+-- The step loses the reference that its duty gives up.
 pub held_lost : (bag : List Reference) (t x : ℕ) (h : Holding) (agenda later : List Duty)
     → list_any (same (reference_of t h x)) bag ≡ true
     → ((k : Holding) (object : ℕ) → extra_of agenda k object ≡ (same_holding h k && (x == object)))
@@ -107,7 +108,7 @@ held_lost bag t x h agenda later has extra no_less more less = record {
 
 pub backed_not_immortal : (p : Accounts) (n : ℕ) (m : Machine) (t : ℕ) (a : Actor) (x : ℕ) (h : Holding)
     (rest : List Duty)
-    → 0 < x → AtDuty p n m t a (RetainLoad x h) rest → is_immortal_word (m.memory (Local x)) ≡ false
+    → IsCounted m.layout x → AtDuty p n m t a (RetainLoad x h) rest → is_immortal_word (m.memory (Local x)) ≡ false
 backed_not_immortal p n m t a x h rest pos here =
     let fits = head_of p n m t a (RetainLoad x h) rest here in
     let alive = alive_backed p n m t x here.core pos fits in

@@ -1,5 +1,6 @@
--- A thread after its own steps of an exit: it says that it leaves, looks through its rows' marks, and is gone.
-use Rattle.std.proofs.Common.{◌≡◌, ℕ, ◌+◌, ◌-◌, ◌<◌, Bool, true, false, cond, List, [], ◌∷◌, ◌++◌, inl, inr, None, refl, sym, ap, ◌∙◌, subst, arith, ◌≢◌}
+-- A thread fits after its own steps of an exit: it says that it leaves, looks through its rows' marks, and says that it
+-- is gone.
+use Rattle.std.proofs.Common.{◌≡◌, ℕ, ◌+◌, ◌-◌, Bool, true, false, cond, List, [], ◌∷◌, ◌++◌, inl, inr, None, refl, sym, ap, ◌∙◌, subst, arith, ◌≢◌}
 use Rattle.std.specs.Prelude.{◌==◌}
 use Rattle.std.proofs.lemmas.Bool.{eqb-true}
 use Rattle.brc_model.specs.declared.duty.Holding.{Holding}
@@ -7,7 +8,7 @@ use Rattle.brc_model.specs.declared.duty.Reason.TheVariants.{Handed}
 use Rattle.brc_model.specs.declared.duty.Duty.{Duty}
 use Rattle.brc_model.specs.declared.duty.Duty.TheVariants.{MergeSwap, Settle, Leave, Scan, Finish, ClaimMark}
 use Rattle.brc_model.specs.declared.address.Address.TheVariants.{Gate, Mark, ThreadWord}
-use Rattle.brc_model.specs.Duties.{block_of, claimed, new_head, ready}
+use Rattle.brc_model.specs.Duties.{claimed, new_head, ready}
 use Rattle.brc_model.specs.declared.actor.Status.TheVariants.{Leaving, Gone}
 use Rattle.brc_model.specs.Machine.{Actor, Life, Machine, status_by, dies_next, ended_row, actor_by, done_by, born_row, Unborn}
 use Rattle.brc_model.specs.References.{one_if}
@@ -26,26 +27,29 @@ use Rattle.brc_model.proofs.Stepping.Shown.{own_shown, agenda_shown}
 use Rattle.brc_model.proofs.Stepping.Chains.{chain_here}
 use Rattle.brc_model.proofs.Basics.Blocks.{used_block}
 use Rattle.brc_model.proofs.Stepping.Settled.{ready_none}
+use Rattle.brc_model.specs.Layout.{block_of, row_at, IsCounted}
 
 -- ---- marked rows
 
-pub mark_above : (p : Accounts) (n : ℕ) (m : Machine) (x : ℕ) → CoreInvariant p n m → m.memory (Mark x) ≡ 1 → 0 < x
+pub mark_above : (p : Accounts) (n : ℕ) (m : Machine) (x : ℕ) → CoreInvariant p n m → m.memory (Mark x) ≡ 1
+    → IsCounted m.layout x
 mark_above p n m x core marked = elim (core.marks x) [
   | inl none ↦ absurd (omega (arith, none, marked))
   | inr some ↦ some.1
 ]
 
--- what is marked was born
-pub marked_born : (p : Accounts) (n : ℕ) (m : Machine) (x : ℕ) → CoreInvariant p n m → m.memory (Mark x) ≡ 1 → m.life x ≢ Unborn
+-- A marked row was born.
+pub marked_born : (p : Accounts) (n : ℕ) (m : Machine) (x : ℕ) → CoreInvariant p n m → m.memory (Mark x) ≡ 1
+    → m.life x ≢ Unborn
 marked_born p n m x core marked = λ unborn.
     let row =
-    subst (λ (l : Life). RowInvariant (block_of m.rows x) l (numbers_of m x)) unborn
+    subst (λ (l : Life). RowInvariant (block_of m.layout x) l (numbers_of m x)) unborn
     (core.rows x (mark_above p n m x core marked)) in
     absurd (omega (arith, row.mark, marked))
 
--- ---- a mark is claimed
+-- ---- claiming a mark
 
--- what both steps that claim a mark leave, with the duties behind the claim
+-- What `Scan` and `ClaimMark` have in common. `behind` are the duties that follow whether or not the mark was set.
 record ClaimStep (m : Machine) (t : ℕ) (a : Actor) (d : Duty) (x : ℕ) (rest behind : List Duty) : Type 0 where
   next_is : next_of m t a d ≡ claimed x (m.memory (Mark x)) ++ behind
   none_dies : dies_next behind ≡ None
@@ -59,16 +63,16 @@ record ClaimStep (m : Machine) (t : ℕ) (a : Actor) (d : Duty) (x : ℕ) (rest 
   held : (agenda : List Duty) → ((h : Holding) (object : ℕ) → extra_of agenda h object ≡ false)
       → ((h : Holding) (object : ℕ) → lacks_of agenda h object ≡ false)
       → HeldStep m.abstract.references (bag_by m t a d) t (d ∷ rest) agenda
-  block : m.memory (Mark x) ≡ 1 → block_of m.rows x ≡ t
-  later : Later m.rows t a.used a.status a.place (behind ++ rest)
+  block : m.memory (Mark x) ≡ 1 → block_of m.layout x ≡ t
+  later : Later a.used a.status (behind ++ rest)
 
 claim_step : (p : Accounts) (n : ℕ) (m : Machine) (t : ℕ) (a : Actor) (d : Duty) (x : ℕ) (rest behind : List Duty)
     → AtDuty p n m t a d rest → (a.status ≡ Gone → ⊥) → ClaimStep m t a d x rest behind
-    → ThreadFits p (done_by m t a d rest) t (actor_by t a d rest (found_by m t a d))
+    → ThreadFits p (done_by m t a d rest) t (actor_by m.layout t a d rest (found_by m t a d))
 claim_step p n m t a d x rest behind here alive step =
     elim (m.memory (Mark x) == 1) as
     (λ b. (m.memory (Mark x) == 1) ≡ b
-    → ThreadFits p (done_by m t a d rest) t (actor_by t a d rest (found_by m t a d))) [
+    → ThreadFits p (done_by m t a d rest) t (actor_by m.layout t a d rest (found_by m t a d))) [
       | true ↦ λ e.
           let marked : m.memory (Mark x) ≡ 1 = eqb-true (m.memory (Mark x)) 1 e in
           let above = mark_above p n m x here.core marked in
@@ -89,7 +93,7 @@ claim_step p n m t a d x rest behind here alive step =
             knows = λ b status head used. (above, inl (step.block marked));
           })
       | false ↦ λ e.
-          let ready_so = ready_is m.rows t a.used a.status a.place a.head (behind ++ rest) step.later in
+          let ready_so = ready_is m.layout t a.used a.status a.head (behind ++ rest) step.later in
           own_neutral p n m t a d rest behind (ready a.head (behind ++ rest)) here alive (record {
             next_is = step.next_is ∙ ap (λ (b : Bool). cond b (MergeSwap x Handed ∷ []) [] ++ behind) e;
             none_dies = step.none_dies;
@@ -107,13 +111,15 @@ claim_step p n m t a d x rest behind here alive step =
           })
     ] refl
 
-pub thread_after_scan : (p : Accounts) (n : ℕ) (m : Machine) (t : ℕ) (a : Actor) (x k : ℕ) (rest : List Duty)
-    → AtDuty p n m t a (Scan x k) rest → (a.status ≡ Gone → ⊥)
-    → ThreadFits p (done_by m t a (Scan x k) rest) t (actor_by t a (Scan x k) rest (found_by m t a (Scan x k)))
-thread_after_scan p n m t a x k rest here alive =
-    let some = head_of p n m t a (Scan x k) rest here in
-    let fits = agenda_here p n m t a (Scan x k) rest here alive in
-    claim_step p n m t a (Scan x k) x rest (Settle ∷ Scan (x + 1) (k - 1) ∷ []) here alive (record {
+-- The thread fits after `ScanFindsMark` and `ScanFindsNone`.
+pub thread_after_scan : (p : Accounts) (n : ℕ) (m : Machine) (t : ℕ) (a : Actor) (i k : ℕ) (rest : List Duty)
+    → AtDuty p n m t a (Scan i k) rest → (a.status ≡ Gone → ⊥)
+    → ThreadFits p (done_by m t a (Scan i k) rest) t (actor_by m.layout t a (Scan i k) rest (found_by m t a (Scan i k)))
+thread_after_scan p n m t a i k rest here alive =
+    let some = head_of p n m t a (Scan i k) rest here in
+    let fits = agenda_here p n m t a (Scan i k) rest here alive in
+    let x = row_at m.layout t i in
+    claim_step p n m t a (Scan i k) x rest (Settle ∷ Scan (i + 1) (k - 1) ∷ []) here alive (record {
       next_is = refl;
       none_dies = refl;
       none_ends = refl;
@@ -123,15 +129,16 @@ thread_after_scan p n m t a x k rest here alive =
       gates = λ y. refl;
       word = refl;
       hands = λ y. refl;
-      held = λ agenda more less. held_same m.abstract.references t (Scan x k ∷ rest) agenda more less;
-      block = λ marked. used_block p n m t a x here.core here.found fits.1 (omega (arith, fits.2, some));
-      later = (fits.0, omega (arith, fits.1), omega (arith, fits.2, some), fits.3);
+      held = λ agenda more less. held_same m.abstract.references t (Scan i k ∷ rest) agenda more less;
+      block = λ marked. used_block p n m t a i here.core here.found (omega (arith, fits.1, some));
+      later = (fits.0, omega (arith, fits.1, some), fits.2);
     })
 
--- a running thread looks into its queue
+-- `MarkClaimed` and `NothingToClaim`: a running thread looks into its queue.
 pub thread_after_claim_mark : (p : Accounts) (n : ℕ) (m : Machine) (t : ℕ) (a : Actor) (x : ℕ) (rest : List Duty)
     → AtDuty p n m t a (ClaimMark x) rest → (a.status ≡ Gone → ⊥)
-    → ThreadFits p (done_by m t a (ClaimMark x) rest) t (actor_by t a (ClaimMark x) rest (found_by m t a (ClaimMark x)))
+    → ThreadFits p (done_by m t a (ClaimMark x) rest) t
+    (actor_by m.layout t a (ClaimMark x) rest (found_by m t a (ClaimMark x)))
 thread_after_claim_mark p n m t a x rest here alive =
     claim_step p n m t a (ClaimMark x) x rest (Settle ∷ []) here alive (record {
       next_is = refl;
@@ -150,7 +157,7 @@ thread_after_claim_mark p n m t a x rest here alive =
 
 -- ---- the thread says that it leaves
 
--- no row is at hand before the step, nor after it
+-- The chain fits after a step that changes no gate and no life, if the thread finalises no row before it or after it.
 exit_chain : (p : Accounts) (n : ℕ) (m : Machine) (t : ℕ) (a : Actor) (d : Duty) (rest agenda : List Duty)
     → AtDuty p n m t a d rest → ((y : ℕ) → memory_by m t a d (Gate y) ≡ m.memory (Gate y))
     → ((y : ℕ) → (done_by m t a d rest).life y ≡ m.life y)
@@ -167,15 +174,17 @@ exit_chain p n m t a d rest agenda here gates lives before after =
           omega (arith, was, now, life);
     }) (chain_here p n m t a d rest here)
 
+-- The thread fits after `SaysLeaving`.
 pub thread_after_leave : (p : Accounts) (n : ℕ) (m : Machine) (t : ℕ) (a : Actor) (x k : ℕ) (rest : List Duty)
     → AtDuty p n m t a (Leave x k) rest → (a.status ≡ Gone → ⊥)
-    → ThreadFits p (done_by m t a (Leave x k) rest) t (actor_by t a (Leave x k) rest (found_by m t a (Leave x k)))
+    → ThreadFits p (done_by m t a (Leave x k) rest) t
+    (actor_by m.layout t a (Leave x k) rest (found_by m t a (Leave x k)))
 thread_after_leave p n m t a x k [] here alive =
     let fits = agenda_here p n m t a (Leave x k) [] here alive in
     let looks : List Duty = Scan x k ∷ Finish ∷ [] in
     let ready_so =
-    ready_is m.rows t a.used Leaving a.place a.head looks
-    (refl, omega (arith, fits.2), omega (arith, fits.2, fits.3), (refl, fits.1)) in
+    ready_is m.layout t a.used Leaving a.head looks
+    (refl, omega (arith, fits.1, fits.2), refl) in
     own_shown p n m t a (Leave x k) [] (ready a.head looks) Leaving a.head here (record {
       head_is = refl;
       status_is = refl;
@@ -188,16 +197,16 @@ thread_after_leave p n m t a x k [] here alive =
       fits = agenda_shown m t a (Leave x k) [] (ready a.head looks) Leaving (λ e. cc) refl refl ready_so.fits;
       knows = λ b status head used. ready_so.knows (done_by m t a (Leave x k) []) b head;
     })
-thread_after_leave p n m t a x k (e ∷ rest) here alive = absurd (agenda_here p n m t a (Leave x k) (e ∷ rest) here alive)
+thread_after_leave p n m t a x k (e ∷ rest) here alive =
+    absurd (agenda_here p n m t a (Leave x k) (e ∷ rest) here alive)
 
--- ---- the thread is gone
+-- ---- the thread says that it is gone
 
--- its chain is empty by `IsSettled`: a thread settles before it leaves, and after each mark
+-- `SaysGone`: the thread's chain is empty by `IsSettled`, since a thread settles before it leaves and after each mark.
 pub thread_after_finish : (p : Accounts) (n : ℕ) (m : Machine) (t : ℕ) (a : Actor) (rest : List Duty)
     → AtDuty p n m t a Finish rest → (a.status ≡ Gone → ⊥) → (empty : a.head ≡ 0)
-    → ThreadFits p (done_by m t a Finish rest) t (actor_by t a Finish rest (found_by m t a Finish))
+    → ThreadFits p (done_by m t a Finish rest) t (actor_by m.layout t a Finish rest (found_by m t a Finish))
 thread_after_finish p n m t a [] here alive empty =
-    let fits = agenda_here p n m t a Finish [] here alive in
     own_shown p n m t a Finish [] [] Gone a.head here (record {
       head_is = refl;
       status_is = refl;
@@ -205,7 +214,7 @@ thread_after_finish p n m t a [] here alive empty =
       word = written_here m.memory (ThreadWord t) 3;
       held = held_same m.abstract.references t (Finish ∷ []) [] (λ k o. refl) (λ k o. refl);
       chain = exit_chain p n m t a Finish [] [] here (λ y. refl) (λ y. refl) (λ y. refl) (λ y. refl);
-      fits = (ready_none a.head, fits.1, empty);
+      fits = (ready_none a.head, empty);
       knows = λ b status head used. tt;
     })
 thread_after_finish p n m t a (e ∷ rest) here alive empty = absurd (agenda_here p n m t a Finish (e ∷ rest) here alive)

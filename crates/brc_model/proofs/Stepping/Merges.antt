@@ -1,4 +1,5 @@
--- A thread after its own steps that put an object into its owner's queue, that claim one, and that merge one.
+-- A thread fits after its own steps that put an object into its owner's queue, take an object out of a queue, or merge
+-- one.
 use Rattle.std.proofs.Common.{◌≡◌, ℕ, Bool, true, false, cond, List, [], ◌∷◌, inr, refl, ap, ◌∙◌, arith}
 use Rattle.std.specs.Prelude.{◌==◌}
 use Rattle.std.proofs.lemmas.Bool.{eqb-true, eqb-false, eq-eqb, ne_eqb}
@@ -8,7 +9,7 @@ use Rattle.brc_model.specs.declared.duty.Reason.TheVariants.{Own, Handed}
 use Rattle.brc_model.specs.declared.duty.Duty.{Duty}
 use Rattle.brc_model.specs.declared.duty.Duty.TheVariants.{SharedLoad, SetMark, Look, TakeMark, MergeSwap, MergeLoad, MergeExchange, Die}
 use Rattle.brc_model.specs.declared.address.Address.TheVariants.{Local, Shared, ThreadWord}
-use Rattle.brc_model.specs.Duties.{block_of, merge_result}
+use Rattle.brc_model.specs.Duties.{merge_result}
 use Rattle.brc_model.specs.declared.actor.Status.TheVariants.{Gone}
 use Rattle.brc_model.specs.Machine.{Actor, Machine, done_by, actor_by}
 use Rattle.brc_model.specs.References.{one_if}
@@ -25,12 +26,16 @@ use Rattle.brc_model.proofs.Stepping.Counts.{held_same}
 use Rattle.brc_model.proofs.Stepping.Steps.{own_done, own_next, own_dying}
 use Rattle.brc_model.proofs.Work.MergesOnce.{swapped_apart}
 use Rattle.brc_model.specs.Invariant.{AtDuty}
+use Rattle.brc_model.specs.declared.layout.Layout.{Layout}
+use Rattle.brc_model.specs.Layout.{block_of}
 
--- ---- a mark is set, and looked after
+-- ---- the mark
 
+-- The thread fits after `Marked`.
 pub thread_after_set_mark : (p : Accounts) (n : ℕ) (m : Machine) (t : ℕ) (a : Actor) (x : ℕ) (rest : List Duty)
     → AtDuty p n m t a (SetMark x) rest → (a.status ≡ Gone → ⊥)
-    → ThreadFits p (done_by m t a (SetMark x) rest) t (actor_by t a (SetMark x) rest (found_by m t a (SetMark x)))
+    → ThreadFits p (done_by m t a (SetMark x) rest) t
+    (actor_by m.layout t a (SetMark x) rest (found_by m t a (SetMark x)))
 thread_after_set_mark p n m t a x rest here alive =
     let d : Duty = SetMark x in
     own_next p n m t a d (Look x) rest here alive refl refl refl refl
@@ -38,14 +43,16 @@ thread_after_set_mark p n m t a x rest here alive =
     (agenda_here p n m t a d rest here alive)
     (λ b status head used. head_of p n m t a d rest here)
 
+-- The thread fits after `OwnerRuns` and `OwnerExits`.
 pub thread_after_look : (p : Accounts) (n : ℕ) (m : Machine) (t : ℕ) (a : Actor) (x : ℕ) (rest : List Duty)
     → AtDuty p n m t a (Look x) rest → (a.status ≡ Gone → ⊥)
-    → ThreadFits p (done_by m t a (Look x) rest) t (actor_by t a (Look x) rest (found_by m t a (Look x)))
+    → ThreadFits p (done_by m t a (Look x) rest) t (actor_by m.layout t a (Look x) rest (found_by m t a (Look x)))
 thread_after_look p n m t a x rest here alive =
     let d : Duty = Look x in
-    let found = m.memory (ThreadWord (block_of m.rows x)) in
+    let found = m.memory (ThreadWord (block_of m.layout x)) in
     let later = agenda_here p n m t a d rest here alive in
-    elim (found == 1) as (λ b. (found == 1) ≡ b → ThreadFits p (done_by m t a d rest) t (actor_by t a d rest found)) [
+    elim (found == 1) as
+    (λ b. (found == 1) ≡ b → ThreadFits p (done_by m t a d rest) t (actor_by m.layout t a d rest found)) [
       | true ↦ λ e.
           own_done p n m t a d rest here alive refl (ap (λ (b : Bool). cond b [] (TakeMark x ∷ [])) e) later
           (held_same m.abstract.references t (d ∷ rest) [] (λ k o. refl) (λ k o. refl))
@@ -55,19 +62,22 @@ thread_after_look p n m t a x rest here alive =
           (held_same m.abstract.references t (d ∷ rest) (TakeMark x ∷ rest) (λ k o. refl) (λ k o. refl))
           later (λ b status head used. (
             head_of p n m t a d rest here,
-            (leaves_others p n m t a d rest here).stopped (block_of m.rows x) (eqb-false found 1 e),
+            (leaves_others p n m t a d rest here).stopped (block_of m.layout x) (eqb-false found 1 e),
           ))
     ] refl
 
+-- The thread fits after `MarkTakenBack` and `MarkGone`.
 pub thread_after_take_mark : (p : Accounts) (n : ℕ) (m : Machine) (t : ℕ) (a : Actor) (x : ℕ) (rest : List Duty)
     → AtDuty p n m t a (TakeMark x) rest → (a.status ≡ Gone → ⊥)
-    → ThreadFits p (done_by m t a (TakeMark x) rest) t (actor_by t a (TakeMark x) rest (found_by m t a (TakeMark x)))
+    → ThreadFits p (done_by m t a (TakeMark x) rest) t
+    (actor_by m.layout t a (TakeMark x) rest (found_by m t a (TakeMark x)))
 thread_after_take_mark p n m t a x rest here alive =
     let d : Duty = TakeMark x in
     let found = found_by m t a d in
     let fits = head_of p n m t a d rest here in
     let later = agenda_here p n m t a d rest here alive in
-    elim (found == 1) as (λ b. (found == 1) ≡ b → ThreadFits p (done_by m t a d rest) t (actor_by t a d rest found)) [
+    elim (found == 1) as
+    (λ b. (found == 1) ≡ b → ThreadFits p (done_by m t a d rest) t (actor_by m.layout t a d rest found)) [
       | true ↦ λ e.
           own_next p n m t a d (MergeSwap x Handed) rest here alive refl refl refl
           (ap (λ (b : Bool). cond b (MergeSwap x Handed ∷ []) []) e)
@@ -78,7 +88,7 @@ thread_after_take_mark p n m t a x rest here alive =
           (held_same m.abstract.references t (d ∷ rest) [] (λ k o. refl) (λ k o. refl))
     ] refl
 
--- ---- the local count is swapped out
+-- ---- the local word
 
 swap_alive : (p : Accounts) (n : ℕ) (m : Machine) (t : ℕ) (a : Actor) (x : ℕ) (rest : List Duty)
     → AtDuty p n m t a (MergeSwap x Own) rest → Alive m x
@@ -87,9 +97,9 @@ swap_alive p n m t a x rest here =
     alive_deciding p n m x here.core (head_of p n m t a (MergeSwap x Own) rest here).0
     (omega (arith, first_weighs (decides x) m.actors t a (MergeSwap x Own) rest here.found here.agenda, one))
 
--- the local word that the owner swaps isn't 0, and the row is of its block
+-- The row of an owner's merge is in the owner's block.
 swap_own : (p : Accounts) (n : ℕ) (m : Machine) (t : ℕ) (a : Actor) (x : ℕ) (rest : List Duty)
-    → AtDuty p n m t a (MergeSwap x Own) rest → block_of m.rows x ≡ t
+    → AtDuty p n m t a (MergeSwap x Own) rest → block_of m.layout x ≡ t
 swap_own p n m t a x rest here =
     let owns = (head_of p n m t a (MergeSwap x Own) rest here).1 in
     elim (swap_alive p n m t a x rest here).live.mode [
@@ -98,10 +108,11 @@ swap_own p n m t a x rest here =
       | InMerged s ↦ absurd (omega (arith, s.local, owns.owner))
     ]
 
+-- The thread fits after `LocalTakenOut`, for the owner.
 pub thread_after_merge_swap_own : (p : Accounts) (n : ℕ) (m : Machine) (t : ℕ) (a : Actor) (x : ℕ) (rest : List Duty)
     → AtDuty p n m t a (MergeSwap x Own) rest → (a.status ≡ Gone → ⊥)
     → ThreadFits p (done_by m t a (MergeSwap x Own) rest) t
-    (actor_by t a (MergeSwap x Own) rest (found_by m t a (MergeSwap x Own)))
+    (actor_by m.layout t a (MergeSwap x Own) rest (found_by m t a (MergeSwap x Own)))
 thread_after_merge_swap_own p n m t a x rest here alive =
     let found = m.memory (Local x) in
     let d : Duty = MergeSwap x Own in
@@ -117,10 +128,11 @@ thread_after_merge_swap_own p n m t a x rest here alive =
       (status ∙ fits.1.running, swap_own p n m t a x rest here),
     ))
 
+-- The thread fits after `NobodysCount` and `LocalTakenOut`, for a claimed mark.
 pub thread_after_merge_swap_handed : (p : Accounts) (n : ℕ) (m : Machine) (t : ℕ) (a : Actor) (x : ℕ) (rest : List Duty)
     → AtDuty p n m t a (MergeSwap x Handed) rest → (a.status ≡ Gone → ⊥)
     → ThreadFits p (done_by m t a (MergeSwap x Handed) rest) t
-    (actor_by t a (MergeSwap x Handed) rest (found_by m t a (MergeSwap x Handed)))
+    (actor_by m.layout t a (MergeSwap x Handed) rest (found_by m t a (MergeSwap x Handed)))
 thread_after_merge_swap_handed p n m t a x rest here alive =
     let found = m.memory (Local x) in
     let d : Duty = MergeSwap x Handed in
@@ -128,7 +140,8 @@ thread_after_merge_swap_handed p n m t a x rest here alive =
     let e : Duty = MergeLoad x (local_part found) Handed in
     let gives : Duty = SharedLoad x Handed in
     let later = agenda_here p n m t a d rest here alive in
-    elim (found == 0) as (λ b. (found == 0) ≡ b → ThreadFits p (done_by m t a d rest) t (actor_by t a d rest found)) [
+    elim (found == 0) as
+    (λ b. (found == 0) ≡ b → ThreadFits p (done_by m t a d rest) t (actor_by m.layout t a d rest found)) [
       | true ↦ λ none.
           own_next p n m t a d gives rest here alive refl refl refl
           (ap (λ (b : Bool). cond b (gives ∷ []) (e ∷ [])) none)
@@ -142,17 +155,19 @@ thread_after_merge_swap_handed p n m t a x rest here alive =
           later (λ b status head used. (fits.0, omega arith, tt))
     ] refl
 
--- ---- the local count is added to the shared one
+-- ---- the shared word
 
-may_carry_stays : (m new : Machine) (t x : ℕ) (a b : Actor) (r : Reason) → new.rows ≡ m.rows → b.status ≡ a.status
+may_carry_stays : (m new : Machine) (t x : ℕ) (a b : Actor) (r : Reason) → new.layout ≡ m.layout → b.status ≡ a.status
     → MayCarry m t a x r → MayCarry new t b x r
-may_carry_stays m new t x a b Own rows status own = (status ∙ own.0, ap (λ (k : ℕ). block_of k x) rows ∙ own.1)
+may_carry_stays m new t x a b Own rows status own = (status ∙ own.0, ap (λ (k : Layout). block_of k x) rows ∙ own.1)
 may_carry_stays m new t x a b Handed rows status handed = tt
 
-pub thread_after_merge_load : (p : Accounts) (n : ℕ) (m : Machine) (t : ℕ) (a : Actor) (x c : ℕ) (r : Reason) (rest : List Duty)
+-- The thread fits after `MergeRead`.
+pub thread_after_merge_load : (p : Accounts) (n : ℕ) (m : Machine) (t : ℕ) (a : Actor) (x c : ℕ) (r : Reason)
+    (rest : List Duty)
     → AtDuty p n m t a (MergeLoad x c r) rest → (a.status ≡ Gone → ⊥)
     → ThreadFits p (done_by m t a (MergeLoad x c r) rest) t
-    (actor_by t a (MergeLoad x c r) rest (found_by m t a (MergeLoad x c r)))
+    (actor_by m.layout t a (MergeLoad x c r) rest (found_by m t a (MergeLoad x c r)))
 thread_after_merge_load p n m t a x c r rest here alive =
     let d : Duty = MergeLoad x c r in
     let fits = head_of p n m t a d rest here in
@@ -173,17 +188,18 @@ merge_next x c w found dead won is_dead =
     ap (λ (b : Bool). cond b (cond (merged_word w c == dead_word) (Die x ∷ []) []) (MergeLoad x c Own ∷ [])) won
     ∙ ap (λ (b : Bool). cond b (Die x ∷ []) []) is_dead
 
--- the merge was made: the owner's object dies or lives on, and a handed reference is given up next
+-- If the exchange of a merge is won, the owner's object dies or lives on, and a handed reference is given up next.
 merge_won : (p : Accounts) (n : ℕ) (m : Machine) (t : ℕ) (a : Actor) (x c w : ℕ) (r : Reason) (rest : List Duty)
     → AtDuty p n m t a (MergeExchange x c w r) rest → (a.status ≡ Gone → ⊥) → (m.memory (Shared x) == w) ≡ true
     → ThreadFits p (done_by m t a (MergeExchange x c w r) rest) t
-    (actor_by t a (MergeExchange x c w r) rest (m.memory (Shared x)))
+    (actor_by m.layout t a (MergeExchange x c w r) rest (m.memory (Shared x)))
 merge_won p n m t a x c w Own rest here alive won =
     let found = m.memory (Shared x) in
     let d : Duty = MergeExchange x c w Own in
     let later = agenda_here p n m t a d rest here alive in
     elim (merged_word w c == dead_word) as
-    (λ b. (merged_word w c == dead_word) ≡ b → ThreadFits p (done_by m t a d rest) t (actor_by t a d rest found)) [
+    (λ b. (merged_word w c == dead_word) ≡ b → ThreadFits p (done_by m t a d rest) t
+    (actor_by m.layout t a d rest found)) [
       | true ↦ λ dead.
           own_dying p n m t a d rest x here alive refl (record {
             next_is = merge_next x c w found true won dead;
@@ -212,17 +228,19 @@ merge_won p n m t a x c w Handed rest here alive won =
       ap phase_part wrote ∙ (shared_merged w c).1,
     ))
 
+-- The thread fits after `Merges`, `MergesToZero`, `MergesForHanded` and `MergeLost`.
 pub thread_after_merge_exchange : (p : Accounts) (n : ℕ) (m : Machine) (t : ℕ) (a : Actor) (x c w : ℕ) (r : Reason)
     (rest : List Duty)
     → AtDuty p n m t a (MergeExchange x c w r) rest → (a.status ≡ Gone → ⊥)
     → ThreadFits p (done_by m t a (MergeExchange x c w r) rest) t
-    (actor_by t a (MergeExchange x c w r) rest (found_by m t a (MergeExchange x c w r)))
+    (actor_by m.layout t a (MergeExchange x c w r) rest (found_by m t a (MergeExchange x c w r)))
 thread_after_merge_exchange p n m t a x c w r rest here alive =
     let found = m.memory (Shared x) in
     let d : Duty = MergeExchange x c w r in
     let fits = head_of p n m t a d rest here in
     let again : Duty = MergeLoad x c r in
-    elim (found == w) as (λ b. (found == w) ≡ b → ThreadFits p (done_by m t a d rest) t (actor_by t a d rest found)) [
+    elim (found == w) as
+    (λ b. (found == w) ≡ b → ThreadFits p (done_by m t a d rest) t (actor_by m.layout t a d rest found)) [
       | true ↦ λ won. merge_won p n m t a x c w r rest here alive won
       | false ↦ λ lost.
           own_next p n m t a d again rest here alive refl refl refl

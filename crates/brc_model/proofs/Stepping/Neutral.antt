@@ -1,4 +1,4 @@
--- A thread after a step that lets no row die and finalises none.
+-- A thread fits after a step that makes no row die and closes none.
 use Rattle.std.proofs.Common.{◌≡◌, ℕ, List, ◌∷◌, ◌++◌, Option, None, refl, sym, ap, ◌∙◌, subst, arith, Some}
 use Rattle.brc_model.specs.AbstractState.{Reference, moved}
 use Rattle.brc_model.specs.declared.duty.Duty.{Duty}
@@ -7,54 +7,58 @@ use Rattle.brc_model.specs.declared.address.Address.TheVariants.{Gate, ThreadWor
 use Rattle.brc_model.specs.Duties.{address_of, new_word, new_head, ready}
 use Rattle.brc_model.specs.declared.actor.Status.{Status}
 use Rattle.brc_model.specs.declared.actor.Status.TheVariants.{Running, Leaving, Gone}
-use Rattle.brc_model.specs.Machine.{Actor, Life, Dying, Closed, Machine, status_by, reference_effects, dies_next, ended_row, with_life, life_by, actor_by, done_by, written, born_row, used_by, Live}
+use Rattle.brc_model.specs.Machine.{Actor, Life, Dying, Closed, Machine, status_by, dies_next, ended_row, with_life, life_by, actor_by, done_by, written, born_row, used_by, Live}
+use Rattle.brc_model.specs.Moves.{reference_effects}
 use Rattle.brc_model.specs.References.{one_if}
 use Rattle.brc_model.specs.Accounts.{Accounts, HoldsAt}
 use Rattle.brc_model.specs.Knowledge.{HeadOf, status_word}
 use Rattle.brc_model.specs.OpenWork.{Agenda, finalised_now, dies_by, ChainFits, AgendaFits}
 use Rattle.brc_model.specs.Invariant.{AtDuty, ActorFits}
 use Rattle.brc_model.proofs.Frame.Lives.{next_of}
+use Rattle.brc_model.proofs.Stepping.UnderWay.{exits_still}
 use Rattle.brc_model.proofs.Stepping.Own.{HeldStep, holds_step, ChainSame, chain_same}
 use Rattle.brc_model.specs.declared.duty.Duty.TheVariants.{BirthLocal}
 
--- all that the rule says of one thread
+-- Everything that the invariant says of one thread, but for the duties that it has put aside.
 pub record ThreadFits (p : Accounts) (m : Machine) (t : ℕ) (a : Actor) : Type 0 where
   pub actor : ActorFits (p t) m t a
-  pub agenda : AgendaFits m.rows t a a.status
+  pub agenda : AgendaFits a a.status
 
 abbrev pub found_by : Machine → ℕ → Actor → Duty → ℕ
-found_by m t a d = m.memory (address_of m.rows t a.head d)
+found_by m t a d = m.memory (address_of m.layout t a.head d)
 
 abbrev pub bag_by : Machine → ℕ → Actor → Duty → List Reference
 bag_by m t a d = (moved m.abstract (reference_effects m.memory t d (found_by m t a d))).references
 
 abbrev pub memory_by : Machine → ℕ → Actor → Duty → Address → ℕ
-memory_by m t a d = written m.memory (address_of m.rows t a.head d) (new_word t a.head d (found_by m t a d))
+memory_by m t a d = written m.memory (address_of m.layout t a.head d) (new_word t a.head d (found_by m t a d))
 
 -- ---- agendas and statuses
 
-pub agenda_in : (rows t : ℕ) (a : Actor) (status : Status) → (status ≡ Gone → ⊥) → AgendaFits rows t a status
-    → Agenda rows t a.used status a.place a.agenda
-agenda_in rows t a Gone alive fits = absurd (alive refl)
-agenda_in rows t a Running alive fits = fits
-agenda_in rows t a Leaving alive fits = fits
+pub agenda_in : (a : Actor) (status : Status) → (status ≡ Gone → ⊥)
+    → AgendaFits a status
+    → Agenda a.used status a.agenda
+agenda_in a Gone alive fits = absurd (alive refl)
+agenda_in a Running alive fits = fits
+agenda_in a Leaving alive fits = fits
 
-pub agenda_out : (rows t : ℕ) (a : Actor) (status : Status) → (status ≡ Gone → ⊥)
-    → Agenda rows t a.used status a.place a.agenda → AgendaFits rows t a status
-agenda_out rows t a Gone alive fits = absurd (alive refl)
-agenda_out rows t a Running alive fits = fits
-agenda_out rows t a Leaving alive fits = fits
+pub agenda_out : (a : Actor) (status : Status) → (status ≡ Gone → ⊥)
+    → Agenda a.used status a.agenda → AgendaFits a status
+agenda_out a Gone alive fits = absurd (alive refl)
+agenda_out a Running alive fits = fits
+agenda_out a Leaving alive fits = fits
 
--- the agenda's shape at the first duty
+-- An agenda that begins with the duty has the form that the invariant gives it.
 pub agenda_here : (p : Accounts) (n : ℕ) (m : Machine) (t : ℕ) (a : Actor) (d : Duty) (rest : List Duty)
-    → AtDuty p n m t a d rest → (a.status ≡ Gone → ⊥) → Agenda m.rows t a.used a.status a.place (d ∷ rest)
+    → AtDuty p n m t a d rest → (a.status ≡ Gone → ⊥) → Agenda a.used a.status (d ∷ rest)
 agenda_here p n m t a d rest here alive =
-    subst (λ (l : List Duty). Agenda m.rows t a.used a.status a.place l) here.agenda
-    (agenda_in m.rows t a a.status alive (here.core.each t a here.found).1)
+    subst (λ (l : List Duty). Agenda a.used a.status l) here.agenda
+    (agenda_in a a.status alive (here.core.each t a here.found).1)
 
 -- ---- the step
 
--- what a neutral step has to show of its new agenda
+-- What a neutral step has to show: it makes no row die, closes none and gives birth to none; it changes neither the
+-- thread's status nor its chain nor any gate; and the new agenda fits.
 pub record NeutralStep (m : Machine) (t : ℕ) (a : Actor) (d : Duty) (rest next agenda : List Duty) : Type 0 where
   pub next_is : next_of m t a d ≡ next
   pub none_dies : dies_next next ≡ None
@@ -67,11 +71,11 @@ pub record NeutralStep (m : Machine) (t : ℕ) (a : Actor) (d : Duty) (rest next
   pub word : memory_by m t a d (ThreadWord t) ≡ m.memory (ThreadWord t)
   pub hands : (x : ℕ) → finalised_now agenda x ≡ finalised_now (d ∷ rest) x
   pub held : HeldStep m.abstract.references (bag_by m t a d) t (d ∷ rest) agenda
-  pub fits : Agenda m.rows t a.used a.status a.place agenda
+  pub fits : Agenda a.used a.status agenda
   pub knows : (b : Actor) → b.status ≡ a.status → b.head ≡ a.head → b.used ≡ a.used
       → HeadOf (done_by m t a d rest) t b agenda
 
--- only a birth uses a row
+-- Only a birth raises the number of used rows.
 pub uses_same : (used : ℕ) (d : Duty) → born_row d ≡ None → used_by used d ≡ used
 uses_same used (BirthLocal x h) none = absurd (let wrong : Some x ≡ None = none in cc)
 uses_same used _ none = refl
@@ -84,13 +88,14 @@ life_same m t a d next x is dies ends born =
     ends
     ∙ ap (λ (o : Option ℕ). with_life m.life o Live x) born
 
+-- The thread fits after a neutral step.
 pub own_neutral : (p : Accounts) (n : ℕ) (m : Machine) (t : ℕ) (a : Actor) (d : Duty) (rest next agenda : List Duty)
     → AtDuty p n m t a d rest → (a.status ≡ Gone → ⊥) → NeutralStep m t a d rest next agenda
-    → ThreadFits p (done_by m t a d rest) t (actor_by t a d rest (found_by m t a d))
+    → ThreadFits p (done_by m t a d rest) t (actor_by m.layout t a d rest (found_by m t a d))
 own_neutral p n m t a d rest next agenda here alive step =
     let old = (here.core.each t a here.found).0 in
     let new = done_by m t a d rest in
-    let after = actor_by t a d rest (found_by m t a d) in
+    let after = actor_by m.layout t a d rest (found_by m t a d) in
     let whole : after.agenda ≡ agenda =
     ap (λ (h : ℕ). ready h (next_of m t a d ++ rest)) step.same_head
     ∙ ap (λ (l : List Duty). ready a.head (l ++ rest)) step.next_is ∙ step.agenda_is in
@@ -113,16 +118,18 @@ own_neutral p n m t a d rest next agenda here alive step =
         word = step.word ∙ old.word ∙ ap status_word (sym step.same_status);
         holds = subst (λ (l : List Duty). HoldsAt new.abstract.references t (p t) l a.aside) (sym whole) holds;
         bounded = old.bounded;
-        exited = old.exited;
+        exited = λ e. old.exited (sym (exits_still p n m t a d rest (found_by m t a d) here) ∙ e);
         head_fits =
             subst (λ (l : List Duty). HeadOf new t after l) (sym whole)
             (step.knows after step.same_status step.same_head (uses_same a.used d step.none_born));
         chain =
             subst (λ (l : List Duty). ChainFits new t after.head l) (sym whole)
             (subst (λ (h : ℕ). ChainFits new t h agenda) (sym step.same_head) chain);
+        unlocked = old.unlocked;
+        unlent = old.unlent;
       };
-      agenda = agenda_out m.rows t after after.status (λ e. alive (sym step.same_status ∙ e))
-          (subst (λ (l : List Duty). Agenda m.rows t after.used after.status a.place l) (sym whole)
-          (subst (λ (u : ℕ). Agenda m.rows t u after.status a.place agenda) (sym (uses_same a.used d step.none_born))
-          (subst (λ (s : Status). Agenda m.rows t a.used s a.place agenda) (sym step.same_status) step.fits)));
+      agenda = agenda_out after after.status (λ e. alive (sym step.same_status ∙ e))
+          (subst (λ (l : List Duty). Agenda after.used after.status l) (sym whole)
+          (subst (λ (u : ℕ). Agenda u after.status agenda) (sym (uses_same a.used d step.none_born))
+          (subst (λ (s : Status). Agenda a.used s agenda) (sym step.same_status) step.fits)));
     }

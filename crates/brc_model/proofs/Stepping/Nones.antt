@@ -1,5 +1,6 @@
--- None is immortal: its word stays, its references aren't counted, and a thread gets and gives them up with one step.
-use Rattle.std.proofs.Common.{◌≡◌, ℕ, ◌<◌, Bool, true, cond, List, [], ◌∷◌, ◌++◌, refl, sym, ap, ◌∙◌, subst, arith, ◌+◌, ◌-◌}
+-- None is immortal: no step changes its local word, its references aren't counted, and a thread makes or gives up one
+-- with a single step.
+use Rattle.std.proofs.Common.{◌≡◌, ℕ, ◌<◌, Bool, true, cond, List, [], ◌∷◌, ◌++◌, refl, sym, ap, ◌∙◌, subst, ◌+◌, ◌-◌}
 use Rattle.std.specs.Prelude.{◌&&◌, nat_lt}
 use Rattle.brc_model.specs.declared.duty.Holding.{Holding}
 use Rattle.brc_model.specs.declared.duty.Holding.TheVariants.{ByVariable, AsCaller, InFlight}
@@ -10,14 +11,14 @@ use Rattle.brc_model.specs.declared.duty.Duty.{Duty}
 use Rattle.brc_model.specs.declared.duty.Duty.TheVariants.{RetainLoad, RetainStore, ReleaseLoad, ReleaseStore, SharedLoad, RetainAdd, MergeSwap, BirthLocal}
 use Rattle.brc_model.specs.declared.address.Address.TheVariants.{Local}
 use Rattle.brc_model.specs.declared.actor.Status.TheVariants.{Gone}
-use Rattle.brc_model.specs.Machine.{Actor, Machine, gain, lose, put_in_flight, written, done_by, actor_by, is_running}
+use Rattle.brc_model.specs.Machine.{Actor, Machine, written, done_by, actor_by, is_running}
+use Rattle.brc_model.specs.Moves.{gain, lose, put_in_flight}
 use Rattle.brc_model.proofs.Basics.Bag.{held_has, same-refl}
 use Rattle.brc_model.specs.References.{held, reference_of}
 use Rattle.brc_model.specs.Accounts.{Accounts}
-use Rattle.brc_model.specs.Knowledge.{IsNext}
 use Rattle.brc_model.specs.Invariant.{AtDuty, CoreInvariant}
 use Rattle.brc_model.proofs.Basics.Written.{written_apart, written_load, apart_local}
-use Rattle.brc_model.proofs.Basics.Blocks.{next_above}
+use Rattle.brc_model.proofs.Basics.Blocks.{next_counted, immortal_apart}
 use Rattle.brc_model.proofs.Frame.Leaves.{head_of}
 use Rattle.brc_model.proofs.Stepping.Own.{HeldStep}
 use Rattle.brc_model.proofs.Stepping.Neutral.{ThreadFits, found_by, bag_by, memory_by, agenda_here}
@@ -25,86 +26,91 @@ use Rattle.brc_model.proofs.Stepping.Counts.{held_gained, held_lost}
 use Rattle.brc_model.proofs.Stepping.Steps.{own_done}
 use Rattle.brc_model.proofs.Frame.Lives.{next_of}
 use Rattle.brc_model.specs.Duties.{counts_locally}
+use Rattle.brc_model.specs.Layout.{is_immortal_row, IsCounted}
 
--- ---- its word
+-- ---- its local word
 
-above : (y : ℕ) → 0 < y → y ≡ 0 → ⊥
-above y pos e = absurd (omega (arith, pos, e))
+local_apart : (m : Machine) (y x v : ℕ) → IsCounted m.layout y → is_immortal_row m.layout x ≡ true
+    → written m.memory (Local y) v (Local x) ≡ m.memory (Local x)
+local_apart m y x v counted immortal =
+    written_apart m.memory (Local y) (Local x) v (apart_local y x (immortal_apart m.layout y x counted immortal))
 
-local_apart : (m : Machine) (y v : ℕ) → 0 < y → written m.memory (Local y) v (Local 0) ≡ m.memory (Local 0)
-local_apart m y v pos = written_apart m.memory (Local y) (Local 0) v (apart_local y 0 (above y pos))
+pub immortal_word_left : (p : Accounts) (n : ℕ) (m : Machine) (t : ℕ) (a : Actor) (d : Duty) (rest : List Duty) (x : ℕ)
+    → AtDuty p n m t a d rest → is_immortal_row m.layout x ≡ true → memory_by m t a d (Local x) ≡ m.memory (Local x)
+immortal_word_left p n m t a (RetainLoad y h) rest x here immortal = written_load m.memory (Local y) (Local x)
+immortal_word_left p n m t a (ReleaseLoad y h) rest x here immortal = written_load m.memory (Local y) (Local x)
+immortal_word_left p n m t a (RetainStore y h w) rest x here immortal =
+    local_apart m y x (w + 1) (head_of p n m t a (RetainStore y h w) rest here).0 immortal
+immortal_word_left p n m t a (ReleaseStore y w) rest x here immortal =
+    local_apart m y x (w - 1) (head_of p n m t a (ReleaseStore y w) rest here).0 immortal
+immortal_word_left p n m t a (BirthLocal y h) rest x here immortal =
+    local_apart m y x (local_word t 1) (next_counted m t a y (head_of p n m t a (BirthLocal y h) rest here).0) immortal
+immortal_word_left p n m t a (MergeSwap y Own) rest x here immortal =
+    local_apart m y x 0 (head_of p n m t a (MergeSwap y Own) rest here).0 immortal
+immortal_word_left p n m t a (MergeSwap y Handed) rest x here immortal =
+    local_apart m y x 0 (head_of p n m t a (MergeSwap y Handed) rest here).0 immortal
+immortal_word_left p n m t a _ rest x here immortal = refl
 
-pub next_counted : (m : Machine) (t : ℕ) (a : Actor) (y : ℕ) → IsNext m t a y → 0 < y
-next_counted m t a y next = let row = next_above m t a y next in omega (arith, row)
+pub immortal_row : (p : Accounts) (n : ℕ) (m : Machine) (x : ℕ) → CoreInvariant p n m
+    → is_immortal_row m.layout x ≡ true
+    → is_immortal_word (m.memory (Local x)) ≡ true
+immortal_row p n m x core immortal = ap is_immortal_word (core.immortal_words x immortal)
 
-pub none_local : (p : Accounts) (n : ℕ) (m : Machine) (t : ℕ) (a : Actor) (d : Duty) (rest : List Duty)
-    → AtDuty p n m t a d rest → memory_by m t a d (Local 0) ≡ m.memory (Local 0)
-none_local p n m t a (RetainLoad y h) rest here = written_load m.memory (Local y) (Local 0)
-none_local p n m t a (ReleaseLoad y h) rest here = written_load m.memory (Local y) (Local 0)
-none_local p n m t a (RetainStore y h w) rest here =
-    local_apart m y (w + 1) (head_of p n m t a (RetainStore y h w) rest here).0
-none_local p n m t a (ReleaseStore y w) rest here =
-    local_apart m y (w - 1) (head_of p n m t a (ReleaseStore y w) rest here).0
-none_local p n m t a (BirthLocal y h) rest here =
-    local_apart m y (local_word t 1) (next_counted m t a y (head_of p n m t a (BirthLocal y h) rest here).0)
-none_local p n m t a (MergeSwap y Own) rest here = local_apart m y 0 (head_of p n m t a (MergeSwap y Own) rest here).0
-none_local p n m t a (MergeSwap y Handed) rest here =
-    local_apart m y 0 (head_of p n m t a (MergeSwap y Handed) rest here).0
-none_local p n m t a _ rest here = refl
+-- ---- a new reference
 
-pub none_immortal : (p : Accounts) (n : ℕ) (m : Machine) → CoreInvariant p n m → is_immortal_word (m.memory (Local 0)) ≡ true
-none_immortal p n m core = ap is_immortal_word core.none_word
-
--- ---- a reference to it is made
-
-pub thread_after_retain_none : (p : Accounts) (n : ℕ) (m : Machine) (t : ℕ) (a : Actor) (h : Holding) (rest : List Duty)
-    → AtDuty p n m t a (RetainLoad 0 h) rest → (a.status ≡ Gone → ⊥)
-    → ThreadFits p (done_by m t a (RetainLoad 0 h) rest) t
-    (actor_by t a (RetainLoad 0 h) rest (found_by m t a (RetainLoad 0 h)))
-thread_after_retain_none p n m t a h rest here alive =
-    let d : Duty = RetainLoad 0 h in
-    let immortal = none_immortal p n m here.core in
-    let bag : bag_by m t a d ≡ reference_of t h 0 ∷ m.abstract.references =
-    ap (λ (b : Bool). (moved m.abstract (cond b (gain t h 0) [])).references) immortal in
-    let word = m.memory (Local 0) in
+-- The thread fits after `RetainsImmortal`.
+pub thread_after_retain_immortal : (p : Accounts) (n : ℕ) (m : Machine) (t : ℕ) (a : Actor) (x : ℕ) (h : Holding)
+    (rest : List Duty)
+    → AtDuty p n m t a (RetainLoad x h) rest → is_immortal_row m.layout x ≡ true → (a.status ≡ Gone → ⊥)
+    → ThreadFits p (done_by m t a (RetainLoad x h) rest) t
+    (actor_by m.layout t a (RetainLoad x h) rest (found_by m t a (RetainLoad x h)))
+thread_after_retain_immortal p n m t a x h rest here row alive =
+    let d : Duty = RetainLoad x h in
+    let immortal = immortal_row p n m x here.core row in
+    let bag : bag_by m t a d ≡ reference_of t h x ∷ m.abstract.references =
+    ap (λ (b : Bool). (moved m.abstract (cond b (gain t h x) [])).references) immortal in
+    let word = m.memory (Local x) in
     let next : next_of m t a d ≡ [] =
     ap (λ (b : Bool). cond b [] (cond
     (counts_locally t (is_running a.status) word && nat_lt (local_part word) most_local)
-    (RetainStore 0 h word ∷ []) (RetainAdd 0 h ∷ []))) immortal in
+    (RetainStore x h word ∷ []) (RetainAdd x h ∷ []))) immortal in
     own_done p n m t a d rest here alive refl next (agenda_here p n m t a d rest here alive)
     (subst (λ (l : List Reference). HeldStep m.abstract.references l t (d ∷ rest) []) (sym bag)
-    (held_gained m.abstract.references t 0 h (d ∷ rest) [] (λ k o. refl) (λ k o. refl) (λ k o. refl) (λ k o. refl)))
+    (held_gained m.abstract.references t x h (d ∷ rest) [] (λ k o. refl) (λ k o. refl) (λ k o. refl) (λ k o. refl)))
 
--- ---- a reference to it is given up
+-- ---- a reference given up
 
--- what was taken into the hand, and lost
-pub lost_from : (t : ℕ) (h : Holding) (p : AbstractState)
-    → (moved p (put_in_flight t h 0 ++ lose t 0)).references ≡ without (reference_of t h 0) p.references
-lost_from t InFlight p = refl
-lost_from t AsCaller p =
-    let r = reference_of t InFlight 0 in
-    let rest = without (reference_of t AsCaller 0) p.references in
+-- Putting a reference in flight and losing it leaves the bag without that reference.
+pub lost_from : (t : ℕ) (h : Holding) (x : ℕ) (p : AbstractState)
+    → (moved p (put_in_flight t h x ++ lose t x)).references ≡ without (reference_of t h x) p.references
+lost_from t InFlight x p = refl
+lost_from t AsCaller x p =
+    let r = reference_of t InFlight x in
+    let rest = without (reference_of t AsCaller x) p.references in
     ap (λ (b : Bool). cond b rest (r ∷ without r rest)) (same-refl r)
-lost_from t (ByVariable v) p =
-    let r = reference_of t InFlight 0 in
-    let rest = without (reference_of t (ByVariable v) 0) p.references in
+lost_from t (ByVariable v) x p =
+    let r = reference_of t InFlight x in
+    let rest = without (reference_of t (ByVariable v) x) p.references in
     ap (λ (b : Bool). cond b rest (r ∷ without r rest)) (same-refl r)
 
-pub thread_after_release_none : (p : Accounts) (n : ℕ) (m : Machine) (t : ℕ) (a : Actor) (h : Holding) (rest : List Duty)
-    → AtDuty p n m t a (ReleaseLoad 0 h) rest → (a.status ≡ Gone → ⊥) → 0 < held (reference_of t h 0) m.abstract.references
-    → ThreadFits p (done_by m t a (ReleaseLoad 0 h) rest) t
-    (actor_by t a (ReleaseLoad 0 h) rest (found_by m t a (ReleaseLoad 0 h)))
-thread_after_release_none p n m t a h rest here alive some =
-    let d : Duty = ReleaseLoad 0 h in
-    let immortal = none_immortal p n m here.core in
-    let bag : bag_by m t a d ≡ without (reference_of t h 0) m.abstract.references =
-    ap (λ (b : Bool). (moved m.abstract (put_in_flight t h 0 ++ cond b (lose t 0) [])).references) immortal
-    ∙ lost_from t h m.abstract in
-    let word = m.memory (Local 0) in
+-- The thread fits after `ReleasesImmortal`.
+pub thread_after_release_immortal : (p : Accounts) (n : ℕ) (m : Machine) (t : ℕ) (a : Actor) (x : ℕ) (h : Holding)
+    (rest : List Duty)
+    → AtDuty p n m t a (ReleaseLoad x h) rest → is_immortal_row m.layout x ≡ true → (a.status ≡ Gone → ⊥)
+    → 0 < held (reference_of t h x) m.abstract.references
+    → ThreadFits p (done_by m t a (ReleaseLoad x h) rest) t
+    (actor_by m.layout t a (ReleaseLoad x h) rest (found_by m t a (ReleaseLoad x h)))
+thread_after_release_immortal p n m t a x h rest here row alive some =
+    let d : Duty = ReleaseLoad x h in
+    let immortal = immortal_row p n m x here.core row in
+    let bag : bag_by m t a d ≡ without (reference_of t h x) m.abstract.references =
+    ap (λ (b : Bool). (moved m.abstract (put_in_flight t h x ++ cond b (lose t x) [])).references) immortal
+    ∙ lost_from t h x m.abstract in
+    let word = m.memory (Local x) in
     let next : next_of m t a d ≡ [] =
-    ap (λ (b : Bool). cond b [] (cond (counts_locally t (is_running a.status) word) (ReleaseStore 0 word ∷ [])
-    (SharedLoad 0 Own ∷ []))) immortal in
+    ap (λ (b : Bool). cond b [] (cond (counts_locally t (is_running a.status) word) (ReleaseStore x word ∷ [])
+    (SharedLoad x Own ∷ []))) immortal in
     own_done p n m t a d rest here alive refl next (agenda_here p n m t a d rest here alive)
     (subst (λ (l : List Reference). HeldStep m.abstract.references l t (d ∷ rest) []) (sym bag)
-    (held_lost m.abstract.references t 0 h (d ∷ rest) [] (held_has (reference_of t h 0) m.abstract.references some)
+    (held_lost m.abstract.references t x h (d ∷ rest) [] (held_has (reference_of t h x) m.abstract.references some)
     (λ k o. refl) (λ k o. refl) (λ k o. refl) (λ k o. refl)))

@@ -1,5 +1,4 @@
--- A thread after its own steps that make a reference, and after those that give one up by the local word or by the
--- shared one.
+-- A thread fits after its own steps that make a reference, give one up by the local word, or decide at zero.
 use Rattle.std.proofs.Common.{◌≡◌, ℕ, ◌+◌, ◌-◌, ◌<◌, Bool, true, false, cond, List, [], ◌∷◌, ◌++◌, refl, sym, ap, ◌∙◌, subst, arith}
 use Rattle.std.specs.Prelude.{◌==◌, ◌&&◌}
 use Rattle.std.specs.List.{list_any}
@@ -14,7 +13,8 @@ use Rattle.brc_model.specs.declared.duty.Duty.TheVariants.{RetainStore, RetainAd
 use Rattle.brc_model.specs.declared.address.Address.TheVariants.{Local, Shared}
 use Rattle.brc_model.specs.Duties.{counts_locally}
 use Rattle.brc_model.specs.declared.actor.Status.TheVariants.{Gone}
-use Rattle.brc_model.specs.Machine.{Actor, Machine, is_running, lose, put_in_flight, done_by, actor_by}
+use Rattle.brc_model.specs.Machine.{Actor, Machine, is_running, done_by, actor_by}
+use Rattle.brc_model.specs.Moves.{lose, put_in_flight}
 use Rattle.brc_model.proofs.Basics.Bag.{same_holding-refl, held-cons, held-without, held_has, held-le-references_to}
 use Rattle.brc_model.specs.References.{held, one_if, reference_of}
 use Rattle.brc_model.specs.RowInvariant.{InOwned, InSwapped, InMerged}
@@ -31,31 +31,35 @@ use Rattle.brc_model.proofs.Stepping.Counts.{same_is, held_same, held_gained, he
 use Rattle.brc_model.proofs.Stepping.Retains.{counts_owner, count_above, weight_here}
 use Rattle.brc_model.proofs.Stepping.Steps.{own_done, own_next, own_dying}
 use Rattle.brc_model.specs.Invariant.{AtDuty}
+use Rattle.brc_model.specs.Layout.{IsCounted}
 
--- ---- a reference is made
+-- ---- the last step of a retain
 
+-- The thread fits after `LocalRaised`.
 pub thread_after_retain_store : (p : Accounts) (n : ℕ) (m : Machine) (t : ℕ) (a : Actor) (x : ℕ) (h : Holding) (w : ℕ)
     (rest : List Duty)
     → AtDuty p n m t a (RetainStore x h w) rest → (a.status ≡ Gone → ⊥)
     → ThreadFits p (done_by m t a (RetainStore x h w) rest) t
-    (actor_by t a (RetainStore x h w) rest (found_by m t a (RetainStore x h w)))
+    (actor_by m.layout t a (RetainStore x h w) rest (found_by m t a (RetainStore x h w)))
 thread_after_retain_store p n m t a x h w rest here alive =
     own_done p n m t a (RetainStore x h w) rest here alive refl refl
     (agenda_here p n m t a (RetainStore x h w) rest here alive)
     (held_gained m.abstract.references t x h (RetainStore x h w ∷ rest) [] (λ k o. refl) (λ k o. refl) (λ k o. refl)
     (λ k o. refl))
 
-pub thread_after_retain_add : (p : Accounts) (n : ℕ) (m : Machine) (t : ℕ) (a : Actor) (x : ℕ) (h : Holding) (rest : List Duty)
+-- The thread fits after `SharedRaised`.
+pub thread_after_retain_add : (p : Accounts) (n : ℕ) (m : Machine) (t : ℕ) (a : Actor) (x : ℕ) (h : Holding)
+    (rest : List Duty)
     → AtDuty p n m t a (RetainAdd x h) rest → (a.status ≡ Gone → ⊥)
     → ThreadFits p (done_by m t a (RetainAdd x h) rest) t
-    (actor_by t a (RetainAdd x h) rest (found_by m t a (RetainAdd x h)))
+    (actor_by m.layout t a (RetainAdd x h) rest (found_by m t a (RetainAdd x h)))
 thread_after_retain_add p n m t a x h rest here alive =
     own_done p n m t a (RetainAdd x h) rest here alive refl refl
     (agenda_here p n m t a (RetainAdd x h) rest here alive)
     (held_gained m.abstract.references t x h (RetainAdd x h ∷ rest) [] (λ k o. refl) (λ k o. refl) (λ k o. refl)
     (λ k o. refl))
 
--- ---- a reference is taken to the hand
+-- ---- the first step of a release
 
 extra_here : (p : Accounts) (n : ℕ) (m : Machine) (t : ℕ) (a : Actor) (d : Duty) (rest : List Duty) (h : Holding)
     (x : ℕ)
@@ -74,7 +78,7 @@ release_held p n m t a x h rest here =
     (ap (λ (b : Bool). b && (x == x)) (same_holding-refl h) ∙ eq-eqb x x refl) refl
 
 pub release_alive : (p : Accounts) (n : ℕ) (m : Machine) (t : ℕ) (a : Actor) (x : ℕ) (h : Holding) (rest : List Duty)
-    → 0 < x → AtDuty p n m t a (ReleaseLoad x h) rest → Alive m x
+    → IsCounted m.layout x → AtDuty p n m t a (ReleaseLoad x h) rest → Alive m x
 release_alive p n m t a x h rest pos here =
     alive_referenced p n m x here.core pos
     (omega (
@@ -91,7 +95,7 @@ alive_mortal m x alive =
       | InMerged s ↦ λ e. absurd (omega (arith, s.local, e))
     ])
 
--- the holder's reference becomes the hand's
+-- The step puts its holder's reference in flight, and the duty that follows gives that up.
 held_taken : (bag : List Reference) (t x : ℕ) (h : Holding) (rest later : List Duty)
     → list_any (same (reference_of t h x)) bag ≡ true
     → ((k : Holding) (object : ℕ) → extra_of later k object ≡ (same_holding InFlight k && (x == object)))
@@ -119,7 +123,8 @@ held_passed_on : (m : Machine) (t x : ℕ) (h : Holding) (rest later : List Duty
     → list_any (same (reference_of t h x)) m.abstract.references ≡ true
     → ((k : Holding) (object : ℕ) → extra_of later k object ≡ (same_holding InFlight k && (x == object)))
     → ((k : Holding) (object : ℕ) → lacks_of later k object ≡ false)
-    → HeldStep m.abstract.references (moved m.abstract (put_in_flight t h x ++ [])).references t (ReleaseLoad x h ∷ rest) later
+    → HeldStep m.abstract.references (moved m.abstract (put_in_flight t h x ++ [])).references t
+    (ReleaseLoad x h ∷ rest) later
 held_passed_on m t x (ByVariable v) rest later has more less =
     held_taken m.abstract.references t x (ByVariable v) rest later has more less
 held_passed_on m t x AsCaller rest later has more less =
@@ -127,12 +132,12 @@ held_passed_on m t x AsCaller rest later has more less =
 held_passed_on m t x InFlight rest later has more less =
     held_same m.abstract.references t (ReleaseLoad x InFlight ∷ rest) later more less
 
--- of a counted object
+-- `OwnerReleases` and `OtherReleases`: the object is counted.
 pub thread_after_release_counted : (p : Accounts) (n : ℕ) (m : Machine) (t : ℕ) (a : Actor) (x : ℕ) (h : Holding)
     (rest : List Duty)
-    → 0 < x → AtDuty p n m t a (ReleaseLoad x h) rest → (a.status ≡ Gone → ⊥)
+    → IsCounted m.layout x → AtDuty p n m t a (ReleaseLoad x h) rest → (a.status ≡ Gone → ⊥)
     → ThreadFits p (done_by m t a (ReleaseLoad x h) rest) t
-    (actor_by t a (ReleaseLoad x h) rest (found_by m t a (ReleaseLoad x h)))
+    (actor_by m.layout t a (ReleaseLoad x h) rest (found_by m t a (ReleaseLoad x h)))
 thread_after_release_counted p n m t a x h rest pos here alive =
     let word = m.memory (Local x) in
     let d : Duty = ReleaseLoad x h in
@@ -154,7 +159,7 @@ thread_after_release_counted p n m t a x h rest pos here alive =
     let later = agenda_here p n m t a d rest here alive in
     elim (counts_locally t (is_running a.status) word) as
     (λ b. counts_locally t (is_running a.status) word ≡ b
-    → ThreadFits p (done_by m t a d rest) t (actor_by t a d rest word)) [
+    → ThreadFits p (done_by m t a d rest) t (actor_by m.layout t a d rest word)) [
       | true ↦ λ e.
           let owns = counts_owner m t a x e living in
           let some =
@@ -182,9 +187,9 @@ thread_after_release_counted p n m t a x h rest pos here alive =
           (λ b status head used. pos)
     ] refl
 
--- ---- the reference in the hand is lost
+-- ---- the owner's release
 
--- its duty has the hand's reference more, and what comes next has nothing
+-- The step loses the reference in flight, which its duty gives up. The duties that follow give up nothing.
 pub held_let_go : (p : Accounts) (n : ℕ) (m : Machine) (t : ℕ) (a : Actor) (d : Duty) (rest later : List Duty) (x : ℕ)
     → AtDuty p n m t a d rest
     → ((k : Holding) (object : ℕ) → extra_of (d ∷ rest) k object ≡ (same_holding InFlight k && (x == object)))
@@ -197,10 +202,11 @@ held_let_go p n m t a d rest later x here extra none more less =
     held_lost m.abstract.references t x InFlight (d ∷ rest) later
     (held_has (reference_of t InFlight x) m.abstract.references some) extra none more less
 
+-- The thread fits after `LocalLowered` and `LocalReachesZero`.
 pub thread_after_release_store : (p : Accounts) (n : ℕ) (m : Machine) (t : ℕ) (a : Actor) (x w : ℕ) (rest : List Duty)
     → AtDuty p n m t a (ReleaseStore x w) rest → (a.status ≡ Gone → ⊥)
     → ThreadFits p (done_by m t a (ReleaseStore x w) rest) t
-    (actor_by t a (ReleaseStore x w) rest (found_by m t a (ReleaseStore x w)))
+    (actor_by m.layout t a (ReleaseStore x w) rest (found_by m t a (ReleaseStore x w)))
 thread_after_release_store p n m t a x w rest here alive =
     let d : Duty = ReleaseStore x w in
     let fits = head_of p n m t a d rest here in
@@ -210,7 +216,7 @@ thread_after_release_store p n m t a x w rest here alive =
     λ later more less. held_let_go p n m t a d rest later x here (λ k o. refl) (λ k o. refl) more less in
     let later = agenda_here p n m t a d rest here alive in
     elim (local_part w == 1) as (λ b. (local_part w == 1) ≡ b
-    → ThreadFits p (done_by m t a d rest) t (actor_by t a d rest (m.memory (Local x)))) [
+    → ThreadFits p (done_by m t a d rest) t (actor_by m.layout t a d rest (m.memory (Local x)))) [
       | true ↦ λ e.
           let one : local_part w ≡ 1 = eqb-true _ _ e in
           let down = owner_down w fits.3 in
@@ -237,17 +243,18 @@ thread_after_release_store p n m t a x w rest here alive =
 
 -- ---- the owner decides
 
+-- The thread fits after `NeverShared` and `WasShared`.
 pub thread_after_decide_at_zero : (p : Accounts) (n : ℕ) (m : Machine) (t : ℕ) (a : Actor) (x : ℕ) (rest : List Duty)
     → AtDuty p n m t a (DecideAtZero x) rest → (a.status ≡ Gone → ⊥)
     → ThreadFits p (done_by m t a (DecideAtZero x) rest) t
-    (actor_by t a (DecideAtZero x) rest (found_by m t a (DecideAtZero x)))
+    (actor_by m.layout t a (DecideAtZero x) rest (found_by m t a (DecideAtZero x)))
 thread_after_decide_at_zero p n m t a x rest here alive =
     let word = m.memory (Shared x) in
     let d : Duty = DecideAtZero x in
     let fits = head_of p n m t a d rest here in
     let later = agenda_here p n m t a d rest here alive in
     elim (word == fresh_word) as (λ b. (word == fresh_word) ≡ b
-    → ThreadFits p (done_by m t a d rest) t (actor_by t a d rest word)) [
+    → ThreadFits p (done_by m t a d rest) t (actor_by m.layout t a d rest word)) [
       | true ↦ λ e.
           own_dying p n m t a d rest x here alive refl (record {
             next_is = ap (λ (b : Bool). cond b (Die x ∷ []) (MergeSwap x Own ∷ [])) e;

@@ -1,4 +1,4 @@
--- A thread after its own steps of a retain, and of the owner's release.
+-- A thread fits after the first step of a retain.
 use Rattle.std.proofs.Common.{◌≡◌, ℕ, zero, suc, ◌+◌, ◌<◌, ◌≤◌, Bool, true, false, cond, List, [], ◌∷◌, Some, refl, sym, ap, ◌∙◌, subst, arith}
 use Rattle.std.proofs.lemmas.Bool.{eq-eqb}
 use Rattle.std.specs.Prelude.{◌==◌, ◌&&◌, nat_lt, slice_get}
@@ -12,7 +12,8 @@ use Rattle.brc_model.specs.declared.address.Address.TheVariants.{Local}
 use Rattle.brc_model.specs.Duties.{continuation, counts_locally, ready}
 use Rattle.brc_model.specs.declared.actor.Status.{Status}
 use Rattle.brc_model.specs.declared.actor.Status.TheVariants.{Running, Leaving, Gone}
-use Rattle.brc_model.specs.Machine.{Actor, Machine, is_running, gain, done_by, actor_by}
+use Rattle.brc_model.specs.Machine.{Actor, Machine, is_running, done_by, actor_by}
+use Rattle.brc_model.specs.Moves.{gain}
 use Rattle.brc_model.proofs.Basics.Lists.{and_first, and_second}
 use Rattle.brc_model.specs.References.{held, reference_of}
 use Rattle.brc_model.specs.RowInvariant.{decides, agenda_weight, weight, InOwned, InSwapped, InMerged, AtZero, AboveZero}
@@ -27,15 +28,12 @@ use Rattle.brc_model.proofs.Stepping.Own.{HeldStep}
 use Rattle.brc_model.proofs.Stepping.Neutral.{ThreadFits, found_by, bag_by, agenda_here, own_neutral}
 use Rattle.brc_model.proofs.Stepping.Counts.{held_same, backed_not_immortal}
 use Rattle.brc_model.proofs.Work.Weighing.{own_weighs}
+use Rattle.brc_model.proofs.Basics.Continuation.{is_plain}
 use Rattle.brc_model.proofs.Frame.Aside.{decides_of_row}
 use Rattle.brc_model.proofs.Work.Deciders.{nobody_decides}
+use Rattle.brc_model.specs.Layout.{IsCounted}
 
-abbrev pub is_passed : Duty → Bool
-is_passed Settle = true
-is_passed (Scan x k) = true
-is_passed _ = false
-
-pub ready_first : (head : ℕ) (d : Duty) (rest : List Duty) → is_passed d ≡ false → ready head (d ∷ rest) ≡ d ∷ rest
+pub ready_first : (head : ℕ) (d : Duty) (rest : List Duty) → is_plain d ≡ true → ready head (d ∷ rest) ≡ d ∷ rest
 ready_first zero Settle rest e = absurd cc
 ready_first zero (Scan x k) rest e = absurd cc
 ready_first zero _ rest e = refl
@@ -43,7 +41,7 @@ ready_first (suc head) Settle rest e = absurd cc
 ready_first (suc head) (Scan x k) rest e = absurd cc
 ready_first (suc head) _ rest e = refl
 
--- ---- the local word is loaded for a retain
+-- ---- the local word of a live row
 
 pub running_is : (status : Status) → is_running status ≡ true → status ≡ Running
 running_is Running e = refl
@@ -65,7 +63,7 @@ counts_owner m t a x counts alive =
       ];
     }
 
--- where nobody decides, the running owner's count is above 0
+-- The running owner's local count is above 0 unless the owner is deciding about the row.
 pub count_above : (p : Accounts) (n : ℕ) (m : Machine) (t x : ℕ) (a : Actor) → CoreInvariant p n m
     → slice_get m.actors t ≡ Some a
     → OwnsLocally m t a x → agenda_weight (decides x) a ≡ 0 → Alive m x → 1 ≤ local_part (m.memory (Local x))
@@ -86,12 +84,12 @@ retain_bag : (m : Machine) (t : ℕ) (a : Actor) (x : ℕ) (h : Holding) → is_
     → bag_by m t a (RetainLoad x h) ≡ m.abstract.references
 retain_bag m t a x h mortal = ap (λ (b : Bool). (moved m.abstract (cond b (gain t h x) [])).references) mortal
 
--- of a counted object
+-- `OwnerRetains`, `FullOwnerRetains` and `OtherRetains`: the object is counted.
 pub thread_after_retain_counted : (p : Accounts) (n : ℕ) (m : Machine) (t : ℕ) (a : Actor) (x : ℕ) (h : Holding)
     (rest : List Duty)
-    → 0 < x → AtDuty p n m t a (RetainLoad x h) rest → (a.status ≡ Gone → ⊥)
+    → IsCounted m.layout x → AtDuty p n m t a (RetainLoad x h) rest → (a.status ≡ Gone → ⊥)
     → ThreadFits p (done_by m t a (RetainLoad x h) rest) t
-    (actor_by t a (RetainLoad x h) rest (found_by m t a (RetainLoad x h)))
+    (actor_by m.layout t a (RetainLoad x h) rest (found_by m t a (RetainLoad x h)))
 thread_after_retain_counted p n m t a x h rest pos here alive =
     let word = m.memory (Local x) in
     let fits = head_of p n m t a (RetainLoad x h) rest here in
@@ -105,7 +103,7 @@ thread_after_retain_counted p n m t a x h rest pos here alive =
       held_so =
           subst (λ (l : List Reference). 0 < held (reference_of t fits.by x) l) (sym bag) fits.held_so;
     } in
-    let first : continuation t (is_running a.status) a.head (RetainLoad x h) word
+    let first : continuation m.layout t (is_running a.status) a.head (RetainLoad x h) word
     ≡ cond (counts_locally t (is_running a.status) word && nat_lt (local_part word) most_local)
     (RetainStore x h word ∷ []) (RetainAdd x h ∷ []) =
     ap (λ (b : Bool). cond b [] (cond
@@ -117,7 +115,7 @@ thread_after_retain_counted p n m t a x h rest pos here alive =
     λ e more less. subst (λ (l : List Reference). HeldStep m.abstract.references l t (RetainLoad x h ∷ rest) (e ∷ rest))
     (sym bag) (held_same m.abstract.references t (RetainLoad x h ∷ rest) (e ∷ rest) more less) in
     let is_local = counts_locally t (is_running a.status) word && nat_lt (local_part word) most_local in
-    elim is_local as (λ b. is_local ≡ b → ThreadFits p new t (actor_by t a (RetainLoad x h) rest word)) [
+    elim is_local as (λ b. is_local ≡ b → ThreadFits p new t (actor_by m.layout t a (RetainLoad x h) rest word)) [
       | true ↦ λ e.
           let counts =
           and_first (counts_locally t (is_running a.status) word) (nat_lt (local_part word) most_local) e in

@@ -1,6 +1,6 @@
--- A thread after its own steps at the dying row at hand: it looks what the row is, and takes out its cells or its
--- resource.
-use Rattle.std.proofs.Common.{◌≡◌, ℕ, ◌+◌, ◌<◌, Bool, true, false, cond, List, [], ◌∷◌, ◌++◌, None, refl, sym, ap, ◌∙◌, subst}
+-- A thread fits after its own steps on the row that it is finalising: it reads the row's kind, and empties its cells or
+-- closes its resource.
+use Rattle.std.proofs.Common.{◌≡◌, ℕ, ◌+◌, Bool, true, false, cond, List, [], ◌∷◌, ◌++◌, None, refl, sym, ap, ◌∙◌, subst}
 use Rattle.std.specs.Prelude.{◌==◌, nat_lt}
 use Rattle.std.proofs.lemmas.Bool.{ltb-true}
 use Rattle.brc_model.specs.declared.duty.Holding.{Holding}
@@ -10,7 +10,8 @@ use Rattle.brc_model.specs.declared.address.Address.TheVariants.{Gate, KindOf, C
 use Rattle.brc_model.specs.Duties.{new_head, cells_of, cells_from, release_found, has_resource}
 use Rattle.brc_model.specs.declared.actor.Status.{Status}
 use Rattle.brc_model.specs.declared.actor.Status.TheVariants.{Gone}
-use Rattle.brc_model.specs.Machine.{Actor, Dying, Machine, status_by, ended_row, actor_by, done_by, born_row, dies_next, take_out}
+use Rattle.brc_model.specs.Machine.{Actor, Dying, Machine, status_by, ended_row, actor_by, done_by, born_row, dies_next}
+use Rattle.brc_model.specs.Moves.{take_out}
 use Rattle.brc_model.specs.AbstractState.{moved}
 use Rattle.brc_model.specs.Accounts.{Accounts, extra_of, lacks_of, extra, lacks}
 use Rattle.brc_model.specs.OpenWork.{Later, Agenda, finalised_now, is_finalising}
@@ -20,15 +21,18 @@ use Rattle.brc_model.proofs.Frame.Lives.{next_of}
 use Rattle.brc_model.proofs.Stepping.Own.{HeldStep}
 use Rattle.brc_model.proofs.Stepping.Neutral.{ThreadFits, found_by, bag_by, memory_by, agenda_here, life_same, own_neutral}
 use Rattle.brc_model.proofs.Stepping.Counts.{held_same}
-use Rattle.brc_model.proofs.Stepping.Retains.{ready_first, is_passed}
-use Rattle.brc_model.specs.declared.actor.Place.{Place}
+use Rattle.brc_model.proofs.Stepping.Retains.{ready_first}
+use Rattle.brc_model.proofs.Basics.Continuation.{is_plain}
 use Rattle.brc_model.specs.Invariant.{AtDuty}
+use Rattle.brc_model.specs.declared.layout.Layout.{Layout}
+use Rattle.brc_model.specs.Layout.{IsCounted}
 
--- ---- what follows a step
+-- ---- the duties that follow a step
 
--- what the steps between those of the chain and the row's closing leave
+-- What the steps between `Settle` and `SettleEnd` have in common: the row is dying by this thread, and the step changes
+-- neither gates nor the chain nor the thread's status.
 record SettlingStep (m : Machine) (t : ℕ) (a : Actor) (d : Duty) (x : ℕ) (rest : List Duty) : Type 0 where
-  above : 0 < x
+  above : IsCounted m.layout x
   dies : m.life x ≡ Dying t
   gate : IsDyingWord t (m.memory (Gate x))
   none_ends : ended_row d ≡ None
@@ -41,24 +45,25 @@ record SettlingStep (m : Machine) (t : ℕ) (a : Actor) (d : Duty) (x : ℕ) (re
   held : (e : Duty) → ((h : Holding) (object : ℕ) → extra_of (e ∷ rest) h object ≡ false)
       → ((h : Holding) (object : ℕ) → lacks_of (e ∷ rest) h object ≡ false)
       → HeldStep m.abstract.references (bag_by m t a d) t (d ∷ rest) (e ∷ rest)
-  later : Later m.rows t a.used a.status a.place rest
+  later : Later a.used a.status rest
 
--- what follows: a duty that keeps the row at hand
+-- The duty is one more step on the row that the thread is finalising.
 record KeepsHand (e : Duty) (x : ℕ) : Type 0 where
   hand : (y : ℕ) → is_finalising e y ≡ (x == y)
   lives : dies_next (e ∷ []) ≡ None
-  stays : is_passed e ≡ false
+  stays : is_plain e ≡ true
   extra_none : (h : Holding) (object : ℕ) → extra e h object ≡ false
   lacks_none : (h : Holding) (object : ℕ) → lacks e h object ≡ false
-  later : (rows t used : ℕ) (status : Status) (place : Place) (rest : List Duty) → Later rows t used status place rest
-      → Agenda rows t used status place (e ∷ rest)
+  later : (layout : Layout) (t used : ℕ) (status : Status) (rest : List Duty)
+      → Later used status rest
+      → Agenda used status (e ∷ rest)
 
 settles_on : (p : Accounts) (n : ℕ) (m : Machine) (t : ℕ) (a : Actor) (d e : Duty) (x : ℕ) (rest : List Duty)
     → AtDuty p n m t a d rest → (a.status ≡ Gone → ⊥) → SettlingStep m t a d x rest
     → KeepsHand e x → next_of m t a d ≡ e ∷ []
     → ((done_by m t a d rest).life x ≡ Dying t → IsDyingWord t ((done_by m t a d rest).memory (Gate x)) → (b : Actor)
     → HeadFits (done_by m t a d rest) t b e rest)
-    → ThreadFits p (done_by m t a d rest) t (actor_by t a d rest (found_by m t a d))
+    → ThreadFits p (done_by m t a d rest) t (actor_by m.layout t a d rest (found_by m t a d))
 settles_on p n m t a d e x rest here alive step keeps next knows =
     own_neutral p n m t a d rest (e ∷ []) (e ∷ rest) here alive (record {
       next_is = next;
@@ -72,7 +77,7 @@ settles_on p n m t a d e x rest here alive step keeps next knows =
       word = step.word;
       hands = λ y. keeps.hand y ∙ step.hands y;
       held = step.held e keeps.extra_none keeps.lacks_none;
-      fits = keeps.later m.rows t a.used a.status a.place rest step.later;
+      fits = keeps.later m.layout t a.used a.status rest step.later;
       knows =
           λ b status head used. knows (life_same m t a d (e ∷ []) x next keeps.lives step.none_ends step.none_born
           ∙ step.dies) (subst (IsDyingWord t) (sym (step.gates x)) step.gate) b;
@@ -86,7 +91,7 @@ keeps_cell x i k =
       stays = refl;
       extra_none = λ h o. refl;
       lacks_none = λ h o. refl;
-      later = λ rows t used status place rest later. later;
+      later = λ layout t used status rest later. later;
     }
 
 keeps_end : (x : ℕ) → KeepsHand (SettleEnd x) x
@@ -97,7 +102,7 @@ keeps_end x =
       stays = refl;
       extra_none = λ h o. refl;
       lacks_none = λ h o. refl;
-      later = λ rows t used status place rest later. later;
+      later = λ layout t used status rest later. later;
     }
 
 keeps_slot : (x : ℕ) → KeepsHand (TakeSlot x) x
@@ -108,7 +113,7 @@ keeps_slot x =
       stays = refl;
       extra_none = λ h o. refl;
       lacks_none = λ h o. refl;
-      later = λ rows t used status place rest later. later;
+      later = λ layout t used status rest later. later;
     }
 
 keeps_close : (x : ℕ) → KeepsHand (CloseResource x) x
@@ -119,16 +124,16 @@ keeps_close x =
       stays = refl;
       extra_none = λ h o. refl;
       lacks_none = λ h o. refl;
-      later = λ rows t used status place rest later. later;
+      later = λ layout t used status rest later. later;
     }
 
--- a cell or the end follows
+-- The next cell follows, or the row's closing if no cell is left.
 cells_step : (p : Accounts) (n : ℕ) (m : Machine) (t : ℕ) (a : Actor) (d : Duty) (x i k : ℕ) (rest : List Duty)
     → AtDuty p n m t a d rest → (a.status ≡ Gone → ⊥) → SettlingStep m t a d x rest → next_of m t a d ≡ cells_from x i k
-    → ThreadFits p (done_by m t a d rest) t (actor_by t a d rest (found_by m t a d))
+    → ThreadFits p (done_by m t a d rest) t (actor_by m.layout t a d rest (found_by m t a d))
 cells_step p n m t a d x i k rest here alive step next_is =
     elim (nat_lt i k) as (λ b. nat_lt i k ≡ b
-    → ThreadFits p (done_by m t a d rest) t (actor_by t a d rest (found_by m t a d))) [
+    → ThreadFits p (done_by m t a d rest) t (actor_by m.layout t a d rest (found_by m t a d))) [
       | true ↦ λ e.
           let next : next_of m t a d ≡ SettleCell x i k ∷ [] =
           next_is ∙ ap (λ (b : Bool). cond b (SettleCell x i k ∷ []) (SettleEnd x ∷ [])) e in
@@ -141,12 +146,13 @@ cells_step p n m t a d x i k rest here alive step next_is =
           (λ dies gate b. (step.above, dies, gate))
     ] refl
 
--- ---- what the row is
+-- ---- the row's kind
 
--- files and sockets give their resource back, and lists their cells
+-- `DyingResource` and `DyingCells`: a file or a socket has a resource to close, and a list has cells to empty.
 pub thread_after_settle_kind : (p : Accounts) (n : ℕ) (m : Machine) (t : ℕ) (a : Actor) (x : ℕ) (rest : List Duty)
     → AtDuty p n m t a (SettleKind x) rest → (a.status ≡ Gone → ⊥)
-    → ThreadFits p (done_by m t a (SettleKind x) rest) t (actor_by t a (SettleKind x) rest (found_by m t a (SettleKind x)))
+    → ThreadFits p (done_by m t a (SettleKind x) rest) t
+    (actor_by m.layout t a (SettleKind x) rest (found_by m t a (SettleKind x)))
 thread_after_settle_kind p n m t a x rest here alive =
     let fits = head_of p n m t a (SettleKind x) rest here in
     let word = m.memory (KindOf x) in
@@ -165,7 +171,7 @@ thread_after_settle_kind p n m t a x rest here alive =
       later = agenda_here p n m t a (SettleKind x) rest here alive;
     } in
     elim (has_resource word) as (λ b. has_resource word ≡ b
-    → ThreadFits p (done_by m t a (SettleKind x) rest) t (actor_by t a (SettleKind x) rest word)) [
+    → ThreadFits p (done_by m t a (SettleKind x) rest) t (actor_by m.layout t a (SettleKind x) rest word)) [
       | true ↦
           λ e. settles_on p n m t a (SettleKind x) (TakeSlot x) x rest here alive step (keeps_slot x)
           (ap (λ (b : Bool). cond b (TakeSlot x ∷ []) (cells_from x 0 (cells_of word))) e)
@@ -177,11 +183,11 @@ thread_after_settle_kind p n m t a x rest here alive =
 
 -- ---- the row's cells
 
--- they are empty
+-- `CellEmptied`: the cell is empty, as all cells are, so no release follows.
 pub thread_after_settle_cell : (p : Accounts) (n : ℕ) (m : Machine) (t : ℕ) (a : Actor) (x i k : ℕ) (rest : List Duty)
     → AtDuty p n m t a (SettleCell x i k) rest → (a.status ≡ Gone → ⊥)
     → ThreadFits p (done_by m t a (SettleCell x i k) rest) t
-    (actor_by t a (SettleCell x i k) rest (found_by m t a (SettleCell x i k)))
+    (actor_by m.layout t a (SettleCell x i k) rest (found_by m t a (SettleCell x i k)))
 thread_after_settle_cell p n m t a x i k rest here alive =
     let fits = head_of p n m t a (SettleCell x i k) rest here in
     let empty : release_found (m.memory (Cell x i)) ≡ [] = ap release_found (here.core.cells x i) in
@@ -197,7 +203,8 @@ thread_after_settle_cell p n m t a x i k rest here alive =
       word = refl;
       hands = λ y. refl;
       held =
-          λ e more less. subst (λ (w : ℕ). HeldStep m.abstract.references (moved m.abstract (take_out t x i w)).references t
+          λ e more less. subst
+          (λ (w : ℕ). HeldStep m.abstract.references (moved m.abstract (take_out t x i w)).references t
           (SettleCell x i k ∷ rest) (e ∷ rest)) (sym (here.core.cells x i))
           (held_same m.abstract.references t (SettleCell x i k ∷ rest) (e ∷ rest) more less);
       later = agenda_here p n m t a (SettleCell x i k) rest here alive;
@@ -205,9 +212,11 @@ thread_after_settle_cell p n m t a x i k rest here alive =
 
 -- ---- the row's resource
 
+-- The thread fits after `SlotEmptied`.
 pub thread_after_take_slot : (p : Accounts) (n : ℕ) (m : Machine) (t : ℕ) (a : Actor) (x : ℕ) (rest : List Duty)
     → AtDuty p n m t a (TakeSlot x) rest → (a.status ≡ Gone → ⊥)
-    → ThreadFits p (done_by m t a (TakeSlot x) rest) t (actor_by t a (TakeSlot x) rest (found_by m t a (TakeSlot x)))
+    → ThreadFits p (done_by m t a (TakeSlot x) rest) t
+    (actor_by m.layout t a (TakeSlot x) rest (found_by m t a (TakeSlot x)))
 thread_after_take_slot p n m t a x rest here alive =
     let fits = head_of p n m t a (TakeSlot x) rest here in
     settles_on p n m t a (TakeSlot x) (CloseResource x) x rest here alive (record {
@@ -225,10 +234,11 @@ thread_after_take_slot p n m t a x rest here alive =
       later = agenda_here p n m t a (TakeSlot x) rest here alive;
     }) (keeps_close x) refl (λ dies gate b. (fits.0, dies, gate))
 
+-- The thread fits after `ResourceClosed`.
 pub thread_after_close_resource : (p : Accounts) (n : ℕ) (m : Machine) (t : ℕ) (a : Actor) (x : ℕ) (rest : List Duty)
     → AtDuty p n m t a (CloseResource x) rest → (a.status ≡ Gone → ⊥)
     → ThreadFits p (done_by m t a (CloseResource x) rest) t
-    (actor_by t a (CloseResource x) rest (found_by m t a (CloseResource x)))
+    (actor_by m.layout t a (CloseResource x) rest (found_by m t a (CloseResource x)))
 thread_after_close_resource p n m t a x rest here alive =
     let fits = head_of p n m t a (CloseResource x) rest here in
     settles_on p n m t a (CloseResource x) (SettleEnd x) x rest here alive (record {

@@ -1,5 +1,5 @@
--- What the thread that steps has after a release by the shared word.
-use Rattle.std.proofs.Common.{◌≡◌, ℕ, ◌<◌, Bool, true, false, cond, List, [], ◌∷◌, refl, sym, ap, ◌∙◌, subst}
+-- A thread fits after its own steps of a release by the shared word.
+use Rattle.std.proofs.Common.{◌≡◌, ℕ, Bool, true, false, cond, List, [], ◌∷◌, refl, sym, ap, ◌∙◌, subst}
 use Rattle.std.specs.Prelude.{◌==◌}
 use Rattle.brc_model.specs.declared.duty.Holding.{Holding}
 use Rattle.brc_model.specs.declared.duty.Holding.TheVariants.{InFlight}
@@ -12,7 +12,8 @@ use Rattle.brc_model.specs.declared.duty.Duty.TheVariants.{SharedLoad, SharedExc
 use Rattle.brc_model.specs.declared.address.Address.TheVariants.{Shared}
 use Rattle.brc_model.specs.Duties.{shared_result}
 use Rattle.brc_model.specs.declared.actor.Status.TheVariants.{Gone}
-use Rattle.brc_model.specs.Machine.{Actor, Machine, lose, done_by, actor_by}
+use Rattle.brc_model.specs.Machine.{Actor, Machine, done_by, actor_by}
+use Rattle.brc_model.specs.Moves.{lose}
 use Rattle.brc_model.specs.References.{reference_of}
 use Rattle.brc_model.specs.Accounts.{Accounts, extra_of, lacks_of}
 use Rattle.brc_model.proofs.Basics.Written.{written_load}
@@ -24,13 +25,16 @@ use Rattle.brc_model.proofs.Stepping.Counts.{held_same}
 use Rattle.brc_model.proofs.Stepping.Steps.{own_done, own_next, own_dying}
 use Rattle.brc_model.proofs.Stepping.Releases.{held_let_go}
 use Rattle.brc_model.specs.Invariant.{AtDuty}
+use Rattle.brc_model.specs.Layout.{IsCounted}
 
 -- ---- the shared word
 
-pub thread_after_shared_load : (p : Accounts) (n : ℕ) (m : Machine) (t : ℕ) (a : Actor) (x : ℕ) (r : Reason) (rest : List Duty)
+-- The thread fits after `SharedRead`.
+pub thread_after_shared_load : (p : Accounts) (n : ℕ) (m : Machine) (t : ℕ) (a : Actor) (x : ℕ) (r : Reason)
+    (rest : List Duty)
     → AtDuty p n m t a (SharedLoad x r) rest → (a.status ≡ Gone → ⊥)
     → ThreadFits p (done_by m t a (SharedLoad x r) rest) t
-    (actor_by t a (SharedLoad x r) rest (found_by m t a (SharedLoad x r)))
+    (actor_by m.layout t a (SharedLoad x r) rest (found_by m t a (SharedLoad x r)))
 thread_after_shared_load p n m t a x Own rest here alive =
     let d : Duty = SharedLoad x Own in
     own_next p n m t a d (SharedExchange x Own (m.memory (Shared x))) rest here alive refl refl refl refl
@@ -56,19 +60,20 @@ exchange_next x w found r fresh dead won is_fresh is_dead =
     ∙ (ap (λ (b : Bool). cond b (SetMark x ∷ []) (cond (released_word w == dead_word) (Die x ∷ []) [])) is_fresh
     ∙ ap (λ (b : Bool). cond fresh (SetMark x ∷ []) (cond b (Die x ∷ []) [])) is_dead)
 
--- the exchange was made: what the word was says what follows
+-- `Queues`, `Decrements` and `DecrementsToZero`: the exchange is won, and the old word decides what follows.
 exchange_won : (p : Accounts) (n : ℕ) (m : Machine) (t : ℕ) (a : Actor) (x w : ℕ) (r : Reason) (rest : List Duty)
-    → AtDuty p n m t a (SharedExchange x r w) rest → (a.status ≡ Gone → ⊥) → 0 < x → (m.memory (Shared x) == w) ≡ true
+    → AtDuty p n m t a (SharedExchange x r w) rest → (a.status ≡ Gone → ⊥) → IsCounted m.layout x
+    → (m.memory (Shared x) == w) ≡ true
     → ((later : List Duty) → ((k : Holding) (object : ℕ) → extra_of later k object ≡ false)
     → ((k : Holding) (object : ℕ) → lacks_of later k object ≡ false)
     → HeldStep m.abstract.references (bag_by m t a (SharedExchange x r w)) t (SharedExchange x r w ∷ rest) later)
     → ThreadFits p (done_by m t a (SharedExchange x r w) rest) t
-    (actor_by t a (SharedExchange x r w) rest (m.memory (Shared x)))
+    (actor_by m.layout t a (SharedExchange x r w) rest (m.memory (Shared x)))
 exchange_won p n m t a x w r rest here alive pos won moves =
     let d : Duty = SharedExchange x r w in
     let later = agenda_here p n m t a d rest here alive in
     elim (w == fresh_word) as (λ b. (w == fresh_word) ≡ b
-    → ThreadFits p (done_by m t a d rest) t (actor_by t a d rest (m.memory (Shared x)))) [
+    → ThreadFits p (done_by m t a d rest) t (actor_by m.layout t a d rest (m.memory (Shared x)))) [
       | true ↦ λ fresh.
           own_next p n m t a d (SetMark x) rest here alive refl refl refl
           (exchange_next x w (m.memory (Shared x)) r true (released_word w == dead_word) won fresh refl)
@@ -76,7 +81,7 @@ exchange_won p n m t a x w r rest here alive pos won moves =
       | false ↦ λ other.
           elim (released_word w == dead_word) as
           (λ b. (released_word w == dead_word) ≡ b
-          → ThreadFits p (done_by m t a d rest) t (actor_by t a d rest (m.memory (Shared x)))) [
+          → ThreadFits p (done_by m t a d rest) t (actor_by m.layout t a d rest (m.memory (Shared x)))) [
             | true ↦ λ dead.
                 own_dying p n m t a d rest x here alive refl (record {
                   next_is = exchange_next x w (m.memory (Shared x)) r false true won other dead;
@@ -92,16 +97,18 @@ exchange_won p n m t a x w r rest here alive pos won moves =
           ] refl
     ] refl
 
+-- The thread fits after `Queues`, `Decrements`, `DecrementsToZero` and `ExchangeLost`.
 pub thread_after_shared_exchange : (p : Accounts) (n : ℕ) (m : Machine) (t : ℕ) (a : Actor) (x : ℕ) (r : Reason) (w : ℕ)
     (rest : List Duty)
     → AtDuty p n m t a (SharedExchange x r w) rest → (a.status ≡ Gone → ⊥)
     → ThreadFits p (done_by m t a (SharedExchange x r w) rest) t
-    (actor_by t a (SharedExchange x r w) rest (found_by m t a (SharedExchange x r w)))
+    (actor_by m.layout t a (SharedExchange x r w) rest (found_by m t a (SharedExchange x r w)))
 thread_after_shared_exchange p n m t a x Own w rest here alive =
     let found = m.memory (Shared x) in
     let d : Duty = SharedExchange x Own w in
     let pos = head_of p n m t a d rest here in
-    elim (found == w) as (λ b. (found == w) ≡ b → ThreadFits p (done_by m t a d rest) t (actor_by t a d rest found)) [
+    elim (found == w) as
+    (λ b. (found == w) ≡ b → ThreadFits p (done_by m t a d rest) t (actor_by m.layout t a d rest found)) [
       | true ↦ λ won.
           let bag : bag_by m t a d ≡ without (reference_of t InFlight x) m.abstract.references =
           ap (λ (b : Bool). (moved m.abstract (cond b (lose t x) [])).references) won in
@@ -122,7 +129,8 @@ thread_after_shared_exchange p n m t a x Handed w rest here alive =
     let found = m.memory (Shared x) in
     let d : Duty = SharedExchange x Handed w in
     let fits = head_of p n m t a d rest here in
-    elim (found == w) as (λ b. (found == w) ≡ b → ThreadFits p (done_by m t a d rest) t (actor_by t a d rest found)) [
+    elim (found == w) as
+    (λ b. (found == w) ≡ b → ThreadFits p (done_by m t a d rest) t (actor_by m.layout t a d rest found)) [
       | true ↦ λ won.
           exchange_won p n m t a x w Handed rest here alive fits.0 won
           (λ later more less. held_same m.abstract.references t (d ∷ rest) later more less)

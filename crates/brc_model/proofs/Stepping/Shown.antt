@@ -1,4 +1,4 @@
--- A thread after its own step, where the step changes the head of its chain, a row's life or the thread's status.
+-- A thread fits after a step that changes the head of its chain, the life of a row or the thread's status.
 use Rattle.std.proofs.Common.{◌≡◌, ℕ, List, ◌∷◌, None, refl, sym, ap, ◌∙◌, subst}
 use Rattle.brc_model.specs.declared.duty.Duty.{Duty}
 use Rattle.brc_model.specs.declared.address.Address.TheVariants.{ThreadWord}
@@ -9,31 +9,33 @@ use Rattle.brc_model.specs.Machine.{Actor, Machine, status_by, actor_by, done_by
 use Rattle.brc_model.specs.Accounts.{Accounts, HoldsAt}
 use Rattle.brc_model.specs.Knowledge.{HeadOf, status_word}
 use Rattle.brc_model.specs.OpenWork.{Agenda, ChainFits, AgendaFits}
+use Rattle.brc_model.proofs.Stepping.UnderWay.{exits_still}
 use Rattle.brc_model.proofs.Stepping.Own.{HeldStep, holds_step}
 use Rattle.brc_model.proofs.Stepping.Neutral.{ThreadFits, found_by, bag_by, memory_by, agenda_out, uses_same}
 use Rattle.brc_model.specs.Invariant.{AtDuty}
 
--- what a step has to show that changes the head of the chain, a row's life or the thread's status
+-- What a step has to show that changes the head of the chain, the life of a row or the thread's status.
 pub record ShownStep (m : Machine) (t : ℕ) (a : Actor) (d : Duty) (rest agenda : List Duty) (status : Status)
     (head : ℕ) : Type 0 where
   pub head_is : new_head a.head d (found_by m t a d) ≡ head
   pub status_is : status_by a.status d ≡ status
-  pub agenda_is : (actor_by t a d rest (found_by m t a d)).agenda ≡ agenda
+  pub agenda_is : (actor_by m.layout t a d rest (found_by m t a d)).agenda ≡ agenda
   pub word : memory_by m t a d (ThreadWord t) ≡ status_word status
   pub held : HeldStep m.abstract.references (bag_by m t a d) t (d ∷ rest) agenda
   pub chain : ChainFits (done_by m t a d rest) t head agenda
-  pub fits : AgendaFits m.rows t (actor_by t a d rest (found_by m t a d)) status
+  pub fits : AgendaFits (actor_by m.layout t a d rest (found_by m t a d)) status
   pub knows : (b : Actor) → b.status ≡ status → b.head ≡ head → b.used ≡ used_by a.used d
       → HeadOf (done_by m t a d rest) t b agenda
 
+-- The thread fits after a step that shows all this.
 pub own_shown : (p : Accounts) (n : ℕ) (m : Machine) (t : ℕ) (a : Actor) (d : Duty) (rest agenda : List Duty)
     (status : Status) (head : ℕ)
     → AtDuty p n m t a d rest → ShownStep m t a d rest agenda status head
-    → ThreadFits p (done_by m t a d rest) t (actor_by t a d rest (found_by m t a d))
+    → ThreadFits p (done_by m t a d rest) t (actor_by m.layout t a d rest (found_by m t a d))
 own_shown p n m t a d rest agenda status head here step =
     let old = (here.core.each t a here.found).0 in
     let new = done_by m t a d rest in
-    let after = actor_by t a d rest (found_by m t a d) in
+    let after = actor_by m.layout t a d rest (found_by m t a d) in
     let holds : HoldsAt new.abstract.references t (p t) agenda a.aside =
     holds_step m.abstract.references new.abstract.references t (p t) (d ∷ rest) agenda a.aside step.held
     (subst (λ (l : List Duty). HoldsAt m.abstract.references t (p t) l a.aside) here.agenda old.holds) in
@@ -42,23 +44,26 @@ own_shown p n m t a d rest agenda status head here step =
         word = step.word ∙ ap status_word (sym step.status_is);
         holds = subst (λ (l : List Duty). HoldsAt new.abstract.references t (p t) l a.aside) (sym step.agenda_is) holds;
         bounded = old.bounded;
-        exited = old.exited;
+        exited = λ e. old.exited (sym (exits_still p n m t a d rest (found_by m t a d) here) ∙ e);
         head_fits =
             subst (λ (l : List Duty). HeadOf new t after l) (sym step.agenda_is)
             (step.knows after step.status_is step.head_is refl);
         chain =
             subst (λ (l : List Duty). ChainFits new t after.head l) (sym step.agenda_is)
             (subst (λ (h : ℕ). ChainFits new t h agenda) (sym step.head_is) step.chain);
+        unlocked = old.unlocked;
+        unlent = old.unlent;
       };
-      agenda = subst (λ (s : Status). AgendaFits m.rows t after s) (sym step.status_is) step.fits;
+      agenda = subst (λ (s : Status). AgendaFits after s) (sym step.status_is) step.fits;
     }
 
--- the agenda of a thread that isn't gone
+-- The agenda after the step fits a thread that isn't gone.
 pub agenda_shown : (m : Machine) (t : ℕ) (a : Actor) (d : Duty) (rest agenda : List Duty) (status : Status)
-    → (status ≡ Gone → ⊥) → born_row d ≡ None → (actor_by t a d rest (found_by m t a d)).agenda ≡ agenda
-    → Agenda m.rows t a.used status a.place agenda → AgendaFits m.rows t (actor_by t a d rest (found_by m t a d)) status
+    → (status ≡ Gone → ⊥) → born_row d ≡ None → (actor_by m.layout t a d rest (found_by m t a d)).agenda ≡ agenda
+    → Agenda a.used status agenda
+    → AgendaFits (actor_by m.layout t a d rest (found_by m t a d)) status
 agenda_shown m t a d rest agenda status alive born is fits =
-    agenda_out m.rows t (actor_by t a d rest (found_by m t a d)) status alive
-    (subst (λ (u : ℕ). Agenda m.rows t u status a.place (actor_by t a d rest (found_by m t a d)).agenda)
+    agenda_out (actor_by m.layout t a d rest (found_by m t a d)) status alive
+    (subst (λ (u : ℕ). Agenda u status (actor_by m.layout t a d rest (found_by m t a d)).agenda)
     (sym (uses_same a.used d born))
-    (subst (λ (l : List Duty). Agenda m.rows t a.used status a.place l) (sym is) fits))
+    (subst (λ (l : List Duty). Agenda a.used status l) (sym is) fits))

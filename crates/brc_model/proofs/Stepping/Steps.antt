@@ -1,13 +1,13 @@
--- A thread after the step of a duty that keeps lives: one that leaves its status, the head of its chain and all gates.
--- Either no row dies by it, or its own row begins to die, and is at hand from then on.
-use Rattle.std.proofs.Common.{◌≡◌, ℕ, ◌+◌, ◌<◌, Bool, true, false, cond, List, [], ◌∷◌, ◌++◌, inl, inr, Option, None, Some, refl, sym, ap, ◌∙◌, subst, arith}
+-- A thread fits after the step of a duty that keeps lives: one that changes neither the thread's status nor the head of
+-- its chain nor any gate. Such a step makes no row die, or makes its own row die, which the thread then finalises.
+use Rattle.std.proofs.Common.{◌≡◌, ℕ, ◌+◌, Bool, true, false, cond, List, [], ◌∷◌, ◌++◌, inl, inr, Option, None, Some, refl, sym, ap, ◌∙◌, subst, arith}
 use Rattle.std.specs.Prelude.{◌==◌}
 use Rattle.std.proofs.lemmas.Bool.{eq-eqb}
 use Rattle.std.proofs.lemmas.Bool.Decides.{eqb_tells}
 use Rattle.brc_model.specs.declared.duty.Duty.{Duty}
 use Rattle.brc_model.specs.declared.duty.Duty.TheVariants.{Look, Die, Settle, SettleKind, SettleCell, SettleEnd, Leave, Finish, TakeSlot, CloseResource, BirthLocal}
 use Rattle.brc_model.specs.declared.address.Address.TheVariants.{Gate, ThreadWord}
-use Rattle.brc_model.specs.Duties.{new_head, ready, block_of}
+use Rattle.brc_model.specs.Duties.{new_head, ready}
 use Rattle.brc_model.specs.declared.actor.Status.{Status}
 use Rattle.brc_model.specs.declared.actor.Status.TheVariants.{Gone}
 use Rattle.brc_model.specs.Machine.{Actor, Life, Live, Dying, Closed, Machine, status_by, dies_next, ended_row, with_life, life_by, actor_by, done_by, born_row}
@@ -18,10 +18,13 @@ use Rattle.brc_model.specs.OpenWork.{Later, Agenda, finalised_now, dies_by, Gate
 use Rattle.brc_word.specs.Words.{free_word}
 use Rattle.brc_model.proofs.Basics.Written.{written_load}
 use Rattle.brc_model.proofs.Frame.Lives.{next_of}
+use Rattle.brc_model.proofs.Stepping.UnderWay.{exits_still}
 use Rattle.brc_model.proofs.Stepping.Own.{HeldStep, holds_step, ready_is, ChainSame, chain_same}
 use Rattle.brc_model.proofs.Stepping.Neutral.{ThreadFits, found_by, bag_by, memory_by, agenda_out, own_neutral, uses_same}
-use Rattle.brc_model.proofs.Stepping.Retains.{is_passed, ready_first}
+use Rattle.brc_model.proofs.Stepping.Retains.{ready_first}
+use Rattle.brc_model.proofs.Basics.Continuation.{is_plain}
 use Rattle.brc_model.specs.Invariant.{AtDuty}
+use Rattle.brc_model.specs.Layout.{block_of, IsCounted}
 
 -- ---- duties that keep lives
 
@@ -65,7 +68,7 @@ keeping_gates m t a _ x kept = refl
 
 keeping_word : (m : Machine) (t : ℕ) (a : Actor) (d : Duty) → keeps_lives d ≡ true
     → memory_by m t a d (ThreadWord t) ≡ m.memory (ThreadWord t)
-keeping_word m t a (Look y) kept = written_load m.memory (ThreadWord (block_of m.rows y)) (ThreadWord t)
+keeping_word m t a (Look y) kept = written_load m.memory (ThreadWord (block_of m.layout y)) (ThreadWord t)
 keeping_word m t a (Leave y n) kept = absurd cc
 keeping_word m t a Finish kept = absurd cc
 keeping_word m t a _ kept = refl
@@ -79,26 +82,27 @@ keeping_hand (CloseResource y) rest x kept = absurd cc
 keeping_hand (SettleEnd y) rest x kept = absurd cc
 keeping_hand _ rest x kept = refl
 
--- ---- no row dies
+-- ---- no row begins to die
 
 keeping_lives : (e : Duty) → keeps_lives e ≡ true → dies_next (e ∷ []) ≡ None
 keeping_lives (Die x) kept = absurd cc
 keeping_lives _ kept = refl
 
--- what a step that keeps lives and lets no row die has to show of its new agenda
+-- What a step that keeps lives and makes no row die has to show of its new agenda.
 pub record KeepingStep (m : Machine) (t : ℕ) (a : Actor) (d : Duty) (rest next agenda : List Duty) : Type 0 where
   pub next_is : next_of m t a d ≡ next
   pub none_dies : dies_next next ≡ None
   pub agenda_is : ready a.head (next ++ rest) ≡ agenda
   pub hands : (x : ℕ) → finalised_now agenda x ≡ false
   pub held : HeldStep m.abstract.references (bag_by m t a d) t (d ∷ rest) agenda
-  pub fits : Agenda m.rows t a.used a.status a.place agenda
+  pub fits : Agenda a.used a.status agenda
   pub knows : (b : Actor) → b.status ≡ a.status → b.head ≡ a.head → b.used ≡ a.used
       → HeadOf (done_by m t a d rest) t b agenda
 
+-- The thread fits after a step that keeps lives and makes no row die.
 pub own_keeps : (p : Accounts) (n : ℕ) (m : Machine) (t : ℕ) (a : Actor) (d : Duty) (rest next agenda : List Duty)
     → AtDuty p n m t a d rest → (a.status ≡ Gone → ⊥) → keeps_lives d ≡ true → KeepingStep m t a d rest next agenda
-    → ThreadFits p (done_by m t a d rest) t (actor_by t a d rest (found_by m t a d))
+    → ThreadFits p (done_by m t a d rest) t (actor_by m.layout t a d rest (found_by m t a d))
 own_keeps p n m t a d rest next agenda here alive kept step =
     own_neutral p n m t a d rest next agenda here alive (record {
       next_is = step.next_is;
@@ -116,14 +120,14 @@ own_keeps p n m t a d rest next agenda here alive kept step =
       knows = step.knows;
     })
 
--- the agenda goes on with what was for later
+-- If nothing follows the duty, the agenda goes on with the duties behind it.
 pub own_done : (p : Accounts) (n : ℕ) (m : Machine) (t : ℕ) (a : Actor) (d : Duty) (rest : List Duty)
     → AtDuty p n m t a d rest → (a.status ≡ Gone → ⊥) → keeps_lives d ≡ true → next_of m t a d ≡ []
-    → Later m.rows t a.used a.status a.place rest
+    → Later a.used a.status rest
     → HeldStep m.abstract.references (bag_by m t a d) t (d ∷ rest) []
-    → ThreadFits p (done_by m t a d rest) t (actor_by t a d rest (found_by m t a d))
+    → ThreadFits p (done_by m t a d rest) t (actor_by m.layout t a d rest (found_by m t a d))
 own_done p n m t a d rest here alive kept next later moves =
-    let then = ready_is m.rows t a.used a.status a.place a.head rest later in
+    let then = ready_is m.layout t a.used a.status a.head rest later in
     own_keeps p n m t a d rest [] (ready a.head rest) here alive kept (record {
       next_is = next;
       none_dies = refl;
@@ -139,15 +143,15 @@ own_done p n m t a d rest here alive kept next later moves =
       knows = λ b status head used. then.knows (done_by m t a d rest) b head;
     })
 
--- the agenda goes on with a new first duty
+-- If one duty follows, it is the first of the new agenda.
 pub own_next : (p : Accounts) (n : ℕ) (m : Machine) (t : ℕ) (a : Actor) (d e : Duty) (rest : List Duty)
     → AtDuty p n m t a d rest → (a.status ≡ Gone → ⊥) → keeps_lives d ≡ true → keeps_lives e ≡ true
-    → is_passed e ≡ false
+    → is_plain e ≡ true
     → next_of m t a d ≡ e ∷ [] → HeldStep m.abstract.references (bag_by m t a d) t (d ∷ rest) (e ∷ rest)
-    → Agenda m.rows t a.used a.status a.place (e ∷ rest)
+    → Agenda a.used a.status (e ∷ rest)
     → ((b : Actor) → b.status ≡ a.status → b.head ≡ a.head → b.used ≡ a.used
     → HeadFits (done_by m t a d rest) t b e rest)
-    → ThreadFits p (done_by m t a d rest) t (actor_by t a d rest (found_by m t a d))
+    → ThreadFits p (done_by m t a d rest) t (actor_by m.layout t a d rest (found_by m t a d))
 own_next p n m t a d e rest here alive kept other stays next moves fits knows =
     own_keeps p n m t a d rest (e ∷ []) (e ∷ rest) here alive kept (record {
       next_is = next;
@@ -161,13 +165,13 @@ own_next p n m t a d e rest here alive kept other stays next moves fits knows =
 
 -- ---- a row begins to die
 
--- what a step that keeps lives and lets a row die has to show
+-- What a step that makes its row die has to show.
 pub record DyingStep (m : Machine) (t : ℕ) (a : Actor) (d : Duty) (rest : List Duty) (x : ℕ) : Type 0 where
   pub next_is : next_of m t a d ≡ Die x ∷ []
-  pub counted : 0 < x
+  pub counted : IsCounted m.layout x
   pub lived : m.life x ≡ Live
   pub held : HeldStep m.abstract.references (bag_by m t a d) t (d ∷ rest) (Die x ∷ rest)
-  pub later : Later m.rows t a.used a.status a.place rest
+  pub later : Later a.used a.status rest
 
 dying_life : (m : Machine) (t : ℕ) (a : Actor) (d : Duty) (x y : ℕ) → next_of m t a d ≡ Die x ∷ [] → ended_row d ≡ None
     → born_row d ≡ None → life_by m.life t d (next_of m t a d) y ≡ cond (x == y) (Dying t) (m.life y)
@@ -177,7 +181,7 @@ dying_life m t a d x y is ends born =
     ∙ ap (λ (o : Option ℕ). with_life (with_life (with_life m.life (Some x) (Dying t)) o Closed) (born_row d) Live y)
     ends ∙ ap (λ (o : Option ℕ). with_life (with_life m.life (Some x) (Dying t)) o Live y) born
 
--- the row that begins to die is at hand, and was neither at hand nor dying
+-- The row that begins to die is the one that the thread finalises next. It wasn't dying before.
 dying_hands : (life : ℕ → Life) (t x y : ℕ) → life x ≡ Live
     → one_if (x == y) + one_if (dies_by (life y) t) ≡ one_if (dies_by (cond (x == y) (Dying t) (life y)) t)
 dying_hands life t x y lived =
@@ -196,13 +200,14 @@ dying_hands life t x y lived =
           omega (arith, hand, after)
     ]
 
+-- The thread fits after a step that keeps lives and makes its row die.
 pub own_dying : (p : Accounts) (n : ℕ) (m : Machine) (t : ℕ) (a : Actor) (d : Duty) (rest : List Duty) (x : ℕ)
     → AtDuty p n m t a d rest → (a.status ≡ Gone → ⊥) → keeps_lives d ≡ true → DyingStep m t a d rest x
-    → ThreadFits p (done_by m t a d rest) t (actor_by t a d rest (found_by m t a d))
+    → ThreadFits p (done_by m t a d rest) t (actor_by m.layout t a d rest (found_by m t a d))
 own_dying p n m t a d rest x here alive kept step =
     let old = (here.core.each t a here.found).0 in
     let new = done_by m t a d rest in
-    let after = actor_by t a d rest (found_by m t a d) in
+    let after = actor_by m.layout t a d rest (found_by m t a d) in
     let agenda : List Duty = Die x ∷ rest in
     let same_head : new_head a.head d (found_by m t a d) ≡ a.head = keeping_head a.head (found_by m t a d) d kept in
     let same_status : status_by a.status d ≡ a.status = keeping_status a.status d kept in
@@ -232,15 +237,17 @@ own_dying p n m t a d rest x here alive kept step =
         word = keeping_word m t a d kept ∙ old.word ∙ ap status_word (sym same_status);
         holds = subst (λ (l : List Duty). HoldsAt new.abstract.references t (p t) l a.aside) (sym whole) holds;
         bounded = old.bounded;
-        exited = old.exited;
+        exited = λ e. old.exited (sym (exits_still p n m t a d rest (found_by m t a d) here) ∙ e);
         head_fits = subst (λ (l : List Duty). HeadOf new t after l) (sym whole) (step.counted, dies, gate);
         chain =
             subst (λ (l : List Duty). ChainFits new t after.head l) (sym whole)
             (subst (λ (h : ℕ). ChainFits new t h agenda) (sym same_head) chain);
+        unlocked = old.unlocked;
+        unlent = old.unlent;
       };
-      agenda = agenda_out m.rows t after after.status (λ e. alive (sym same_status ∙ e))
-          (subst (λ (l : List Duty). Agenda m.rows t after.used after.status a.place l) (sym whole)
-          (subst (λ (u : ℕ). Later m.rows t u after.status a.place rest)
+      agenda = agenda_out after after.status (λ e. alive (sym same_status ∙ e))
+          (subst (λ (l : List Duty). Agenda after.used after.status l) (sym whole)
+          (subst (λ (u : ℕ). Later u after.status rest)
           (sym (uses_same a.used d (keeping_born d kept)))
-          (subst (λ (s : Status). Later m.rows t a.used s a.place rest) (sym same_status) step.later)));
+          (subst (λ (s : Status). Later a.used s rest) (sym same_status) step.later)));
     }

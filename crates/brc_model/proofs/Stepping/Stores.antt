@@ -1,9 +1,9 @@
 -- The word that each plain store overwrites. Some duties store whatever they find: `is_store` lists them, and
 -- `stores_blindly` shows that such a step does the same for every word found. A running thread does the step as one
 -- plain store. The rule of a store names the word stored and not the word found, and a step has both, so the word found
--- has to follow from the invariant. `overwritten` shows that it does: where the rule holds, a thread at a storing duty
--- finds the word that `Overwrites` says.
-use Rattle.std.proofs.Common.{◌≡◌, ℕ, ◌+◌, ◌<◌, ◌≤◌, Bool, true, false, List, [], ◌∷◌, refl, sym, ap, ◌∙◌, subst, arith}
+-- has to follow from the invariant. `overwritten` shows that it does: a thread at a storing duty finds the word that
+-- `Overwrites` names.
+use Rattle.std.proofs.Common.{◌≡◌, ℕ, ◌<◌, ◌≤◌, Bool, true, false, List, [], ◌∷◌, refl, sym, ap, ◌∙◌, subst, arith}
 use Rattle.std.specs.Prelude.{◌==◌}
 use Rattle.std.proofs.lemmas.Bool.{eq-eqb}
 use Rattle.brc_word.specs.Words.{free_word}
@@ -13,8 +13,9 @@ use Rattle.brc_model.specs.declared.address.Address.{Address}
 use Rattle.brc_model.specs.declared.address.Address.TheVariants.{Local, Mark, ThreadWord}
 use Rattle.brc_model.specs.declared.actor.Status.{Status}
 use Rattle.brc_model.specs.declared.actor.Status.TheVariants.{Running, Leaving, Gone}
-use Rattle.brc_model.specs.Duties.{block_of, new_word, continuation, new_head}
-use Rattle.brc_model.specs.Machine.{Actor, Life, Machine, first_row, reference_effects}
+use Rattle.brc_model.specs.Duties.{new_word, continuation, new_head}
+use Rattle.brc_model.specs.Machine.{Actor, Life, Machine}
+use Rattle.brc_model.specs.Moves.{reference_effects}
 use Rattle.brc_model.specs.References.{one_if}
 use Rattle.brc_model.specs.RowInvariant.{waits, Numbers, IsDefault, IsQueued, InOwned, InSwapped, InMerged, Phased, RowInvariant}
 use Rattle.brc_model.specs.Accounts.{Accounts}
@@ -22,10 +23,12 @@ use Rattle.brc_model.specs.Invariant.{AtDuty, numbers_of}
 use Rattle.brc_model.specs.Knowledge.{status_word, IsNext, IsDyingWord}
 use Rattle.brc_model.specs.OpenWork.{Agenda, AgendaFits}
 use Rattle.brc_model.proofs.Frame.Alive.{first_weighs, alive_waiting}
-use Rattle.brc_model.proofs.Basics.Blocks.{next_above, next_block, next_unborn}
+use Rattle.brc_model.proofs.Basics.Blocks.{next_counted, next_index, next_block, next_unborn}
 use Rattle.brc_model.proofs.Frame.Leaves.{head_of}
 use Rattle.brc_model.proofs.Stepping.Neutral.{found_by}
 use Rattle.brc_model.proofs.Objects.BlanksAfter.{blanks_here}
+use Rattle.brc_model.specs.declared.layout.Layout.{Layout}
+use Rattle.brc_model.specs.Layout.{block_of, index_of}
 
 -- ---- the duties that store
 
@@ -43,41 +46,44 @@ is_store (BirthSlot x h) = true
 is_store (BirthLocal x h) = true
 is_store _ = false
 
--- the duty does the same for both words found
-pub record StoresBlindly (memory : Address → ℕ) (t : ℕ) (running : Bool) (head : ℕ) (d : Duty) (found other : ℕ)
+-- The duty does the same for both words found.
+pub record StoresBlindly (memory : Address → ℕ) (layout : Layout) (t : ℕ) (running : Bool) (head : ℕ) (d : Duty)
+    (found other : ℕ)
     : Type 0 where
   pub left : new_word t head d found ≡ new_word t head d other
-  pub next : continuation t running head d found ≡ continuation t running head d other
+  pub next : continuation layout t running head d found ≡ continuation layout t running head d other
   pub head_after : new_head head d found ≡ new_head head d other
   pub moves : reference_effects memory t d found ≡ reference_effects memory t d other
 
-pub stores_blindly : (memory : Address → ℕ) (t : ℕ) (running : Bool) (head : ℕ) (d : Duty) (found other : ℕ)
-    → is_store d ≡ true → StoresBlindly memory t running head d found other
-stores_blindly memory t running head (RetainStore x h w) found other is =
+-- A storing duty does the same for every word that it finds.
+pub stores_blindly : (memory : Address → ℕ) (layout : Layout) (t : ℕ) (running : Bool) (head : ℕ) (d : Duty)
+    (found other : ℕ)
+    → is_store d ≡ true → StoresBlindly memory layout t running head d found other
+stores_blindly memory layout t running head (RetainStore x h w) found other is =
     record { left = refl; next = refl; head_after = refl; moves = refl }
-stores_blindly memory t running head (ReleaseStore x w) found other is =
+stores_blindly memory layout t running head (ReleaseStore x w) found other is =
     record { left = refl; next = refl; head_after = refl; moves = refl }
-stores_blindly memory t running head (SetMark x) found other is =
+stores_blindly memory layout t running head (SetMark x) found other is =
     record { left = refl; next = refl; head_after = refl; moves = refl }
-stores_blindly memory t running head (Die x) found other is =
+stores_blindly memory layout t running head (Die x) found other is =
     record { left = refl; next = refl; head_after = refl; moves = refl }
-stores_blindly memory t running head (SettleEnd x) found other is =
+stores_blindly memory layout t running head (SettleEnd x) found other is =
     record { left = refl; next = refl; head_after = refl; moves = refl }
-stores_blindly memory t running head (Leave x k) found other is =
+stores_blindly memory layout t running head (Leave x k) found other is =
     record { left = refl; next = refl; head_after = refl; moves = refl }
-stores_blindly memory t running head Finish found other is =
+stores_blindly memory layout t running head Finish found other is =
     record { left = refl; next = refl; head_after = refl; moves = refl }
-stores_blindly memory t running head (BirthKind x h w) found other is =
+stores_blindly memory layout t running head (BirthKind x h w) found other is =
     record { left = refl; next = refl; head_after = refl; moves = refl }
-stores_blindly memory t running head (BirthSlot x h) found other is =
+stores_blindly memory layout t running head (BirthSlot x h) found other is =
     record { left = refl; next = refl; head_after = refl; moves = refl }
-stores_blindly memory t running head (BirthLocal x h) found other is =
+stores_blindly memory layout t running head (BirthLocal x h) found other is =
     record { left = refl; next = refl; head_after = refl; moves = refl }
-stores_blindly memory t running head _ found other is = absurd cc
+stores_blindly memory layout t running head _ found other is = absurd cc
 
 -- ---- the word that a store overwrites
 
--- Says which word a thread's storing duty finds; it says nothing about the other duties.
+-- The word that the thread's storing duty overwrites. Nothing is said of duties that don't store.
 abbrev pub Overwrites : ℕ → Duty → ℕ → Type 0
 Overwrites t (RetainStore x h w) found = found ≡ w
 Overwrites t (ReleaseStore x w) found = found ≡ w
@@ -97,7 +103,7 @@ phased_free : (n : Numbers) → Phased n → 0 < n.waiting → n.mark ≡ 0
 phased_free n (IsDefault phase none count) some = absurd (omega (arith, none, some))
 phased_free n (IsQueued phase one) some = omega (arith, one, some)
 
--- at most one decrement is pending, and it is the one that this duty is about to queue
+-- At most one decrement is pending, and it is the one that this duty is about to queue. So the mark is clear.
 mark_free : (p : Accounts) (n : ℕ) (m : Machine) (t : ℕ) (a : Actor) (x : ℕ) (rest : List Duty)
     → AtDuty p n m t a (SetMark x) rest → m.memory (Mark x) ≡ 0
 mark_free p n m t a x rest here =
@@ -117,42 +123,42 @@ word_is : (p : Accounts) (n : ℕ) (m : Machine) (t : ℕ) (a : Actor) (d : Duty
     → AtDuty p n m t a d rest → a.status ≡ status → m.memory (ThreadWord t) ≡ status_word status
 word_is p n m t a d rest status here is = (here.core.each t a here.found).0.word ∙ ap status_word is
 
--- a thread that is about to leave runs
+-- A thread whose next duty is `Leave` is running.
 leaving_runs : (m : Machine) (t : ℕ) (a : Actor) (x k : ℕ) (rest : List Duty) (status : Status)
-    → a.agenda ≡ Leave x k ∷ rest → AgendaFits m.rows t a status → status ≡ Running
+    → a.agenda ≡ Leave x k ∷ rest → AgendaFits a status → status ≡ Running
 leaving_runs m t a x k rest Running is fits = refl
 leaving_runs m t a x k rest Gone is fits = absurd (let wrong : [] ≡ Leave x k ∷ rest = sym fits.0 ∙ is in cc)
 leaving_runs m t a x k [] Leaving is fits =
-    (subst (λ (l : List Duty). Agenda m.rows t a.used Leaving a.place l) is fits).0
+    (subst (λ (l : List Duty). Agenda a.used Leaving l) is fits).0
 leaving_runs m t a x k (e ∷ rest) Leaving is fits =
-    absurd (subst (λ (l : List Duty). Agenda m.rows t a.used Leaving a.place l) is fits)
+    absurd (subst (λ (l : List Duty). Agenda a.used Leaving l) is fits)
 
--- a thread that is about to be gone is leaving
+-- A thread whose next duty is `Finish` is leaving.
 finishing_leaves : (m : Machine) (t : ℕ) (a : Actor) (rest : List Duty) (status : Status)
-    → a.agenda ≡ Finish ∷ rest → AgendaFits m.rows t a status → status ≡ Leaving
+    → a.agenda ≡ Finish ∷ rest → AgendaFits a status → status ≡ Leaving
 finishing_leaves m t a rest Leaving is fits = refl
 finishing_leaves m t a rest Gone is fits = absurd (let wrong : [] ≡ Finish ∷ rest = sym fits.0 ∙ is in cc)
 finishing_leaves m t a [] Running is fits =
-    (subst (λ (l : List Duty). Agenda m.rows t a.used Running a.place l) is fits).0
+    subst (λ (l : List Duty). Agenda a.used Running l) is fits
 finishing_leaves m t a (e ∷ rest) Running is fits =
-    absurd (subst (λ (l : List Duty). Agenda m.rows t a.used Running a.place l) is fits)
+    absurd (subst (λ (l : List Duty). Agenda a.used Running l) is fits)
 
 -- ---- births
 
--- the row that is born next isn't used yet
-next_unused : (m : Machine) (t : ℕ) (a : Actor) (x : ℕ) → IsNext m t a x → first_row m.rows t + a.used ≤ x
-next_unused m t a x next = let row = next.row in omega (arith, row)
+-- The row that is born next isn't used yet.
+next_unused : (m : Machine) (t : ℕ) (a : Actor) (x : ℕ) → IsNext m t a x → a.used ≤ index_of m.layout t x
+next_unused m t a x next = omega (arith, next_index m t a x next)
 
 next_local : (p : Accounts) (n : ℕ) (m : Machine) (t : ℕ) (a : Actor) (d : Duty) (rest : List Duty) (x : ℕ)
     → AtDuty p n m t a d rest → IsNext m t a x → m.memory (Local x) ≡ 0
 next_local p n m t a d rest x here next =
-    let above = next_above m t a x next in
-    (subst (λ (l : Life). RowInvariant (block_of m.rows x) l (numbers_of m x))
-    (next_unborn p n m t a x here.core here.found next) (here.core.rows x (omega (arith, above)))).local
+    let above = next_counted m t a x next in
+    (subst (λ (l : Life). RowInvariant (block_of m.layout x) l (numbers_of m x))
+    (next_unborn p n m t a x here.core here.found next) (here.core.rows x above)).local
 
--- ---- all of them
+-- ---- all stores
 
--- A thread at a storing duty finds the word that the invariant says.
+-- A thread at a storing duty overwrites the word that `Overwrites` names.
 pub overwritten : (p : Accounts) (n : ℕ) (m : Machine) (t : ℕ) (a : Actor) (d : Duty) (rest : List Duty)
     → AtDuty p n m t a d rest → Overwrites t d (found_by m t a d)
 overwritten p n m t a (RetainStore x h w) rest here = (head_of p n m t a (RetainStore x h w) rest here).3

@@ -1,4 +1,4 @@
--- Only the running owner decides about a row, and only by its first duty.
+-- Only a row's running owner decides about it.
 use Rattle.std.proofs.Common.{◌≡◌, ℕ, suc, ◌<◌, List, [], ◌∷◌, inl, inr, Some, refl, sym, ap, ◌∙◌, subst, arith}
 use Rattle.std.specs.Prelude.{◌==◌, slice_get, sum_by}
 use Rattle.std.proofs.lemmas.Bool.{eq-eqb}
@@ -8,7 +8,6 @@ use Rattle.brc_model.specs.declared.duty.Reason.TheVariants.{Own, Handed}
 use Rattle.brc_model.specs.declared.duty.Duty.{Duty}
 use Rattle.brc_model.specs.declared.duty.Duty.TheVariants.{DecideAtZero, MergeSwap}
 use Rattle.brc_model.specs.declared.address.Address.TheVariants.{ThreadWord}
-use Rattle.brc_model.specs.Duties.{block_of}
 use Rattle.brc_model.specs.Machine.{Actor, Machine}
 use Rattle.brc_model.proofs.Basics.Lists.{some_is}
 use Rattle.brc_model.specs.References.{one_if}
@@ -19,8 +18,9 @@ use Rattle.brc_model.specs.Knowledge.{OwnsLocally, MayMerge, HeadFits, status_wo
 use Rattle.brc_model.proofs.Work.HasDuties.{some_weighs}
 use Rattle.brc_model.proofs.Frame.Aside.{decides_of_row}
 use Rattle.brc_model.proofs.Work.Weighing.{own_weighs, weighing}
+use Rattle.brc_model.specs.Layout.{block_of}
 
--- who decides about a row owns it and runs
+-- A thread that decides about a row runs and owns the row.
 duty_owns : (m : Machine) (u x : ℕ) (b : Actor) (d : Duty) (rest : List Duty) → HeadFits m u b d rest
     → 0 < decides x d → OwnsLocally m u b x
 duty_owns m u x b (DecideAtZero y) rest fits some =
@@ -35,6 +35,7 @@ duty_owns m u x b (MergeSwap y Own) rest fits some =
     ]
 duty_owns m u x b _ rest fits some = absurd (omega (arith, some))
 
+-- A thread that decides about a row runs and owns the row.
 pub decider_owns : (p : Accounts) (n : ℕ) (m : Machine) (u x : ℕ) (b : Actor) → CoreInvariant p n m
     → slice_get m.actors u ≡ Some b
     → 0 < agenda_weight (decides x) b → OwnsLocally m u b x
@@ -48,7 +49,7 @@ sum_zero f [] none = refl
 sum_zero f (b ∷ rest) none =
     omega (arith, sum_by-cons f b rest, none 0 b refl, sum_zero f rest (λ u c is. none (suc u) c is))
 
--- where the running owner is at a duty that decides about nothing, nobody decides
+-- If the row's running owner isn't deciding about the row, no thread is.
 pub nobody_decides : (p : Accounts) (n : ℕ) (m : Machine) (t x : ℕ) (a : Actor) → CoreInvariant p n m
     → slice_get m.actors t ≡ Some a → OwnsLocally m t a x → agenda_weight (decides x) a ≡ 0
     → weight (decides x) m.actors ≡ 0
@@ -65,9 +66,9 @@ nobody_decides p n m t x a core found owns mine =
 
 -- ---- a claimed mark
 
--- a decider is the thread of the row's block
+-- A thread that decides about a row is the thread of the row's block.
 decider_is_owner : (m : Machine) (u : ℕ) (b : Actor) (x : ℕ) → OwnsLocally m u b x
-    → IsLive (block_of m.rows x) (numbers_of m x) → 0 < weight (decides x) m.actors → u ≡ block_of m.rows x
+    → IsLive (block_of m.layout x) (numbers_of m x) → 0 < weight (decides x) m.actors → u ≡ block_of m.layout x
 decider_is_owner m u b x owns live some =
     elim live.mode [
       | InOwned o ↦ omega (arith, o.owned, owns.owner)
@@ -75,10 +76,10 @@ decider_is_owner m u b x owns live some =
       | InMerged w ↦ absurd (omega (arith, w.deciding, some))
     ]
 
--- nobody decides about a row where its mark was claimed
+-- While a thread that claimed a row's mark is about to merge the row, no thread decides about the row.
 pub none_decides : (p : Accounts) (n : ℕ) (m : Machine) (t : ℕ) (a : Actor) (y : ℕ) (rest : List Duty)
     → AtDuty p n m t a (MergeSwap y Handed) rest → MayMerge m t y
-    → IsLive (block_of m.rows y) (numbers_of m y) → weight (decides y) m.actors ≡ 0
+    → IsLive (block_of m.layout y) (numbers_of m y) → weight (decides y) m.actors ≡ 0
 none_decides p n m t a y rest here may live =
     elim (eqb_tells (weight (decides y) m.actors) 0) [
       | inl none ↦ none.1

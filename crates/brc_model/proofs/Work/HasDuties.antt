@@ -1,4 +1,4 @@
--- Where the agendas of all threads weigh something, some thread has a duty that does.
+-- If the agendas of all threads together weigh something, some thread has a duty that weighs something.
 use Rattle.std.proofs.Common.{◌≡◌, ℕ, zero, suc, ◌<◌, Bool, true, false, List, [], ◌∷◌, inl, inr, Some, refl, arith}
 use Rattle.std.proofs.lemmas.Bool.Decides.{eqb_tells}
 use Rattle.std.specs.Prelude.{◌||◌, slice_get, sum_by}
@@ -8,7 +8,7 @@ use Rattle.brc_model.specs.declared.duty.Duty.{Duty}
 use Rattle.brc_model.specs.Machine.{Actor}
 use Rattle.brc_model.specs.RowInvariant.{agenda_weight, weight}
 
--- some agenda weighs, where all together do
+-- A thread whose duties weigh something. `some_weighs` finds one wherever all agendas together weigh something.
 pub record Weighs (f : Duty → ℕ) (actors : List Actor) : Type 0 where
   pub who : ℕ
   pub which : Actor
@@ -33,7 +33,7 @@ or_left : (b c : Bool) → b ≡ true → (b || c) ≡ true
 or_left true c e = refl
 or_left false c e = absurd cc
 
--- the agenda has such a duty, where only such duties weigh
+-- A list of duties that weighs something has a duty of the given sort, if only duties of that sort weigh anything.
 weighs_here : (f : Duty → ℕ) (is_such : Duty → Bool) (d : Duty) (rest : List Duty) (b : Bool)
     → (b ≡ false → f d ≡ 0) → 0 < sum_by f (d ∷ rest) → (0 < sum_by f rest → list_any is_such rest ≡ true)
     → (b || list_any is_such rest) ≡ true
@@ -46,7 +46,7 @@ is_listed f is_such only [] some = absurd (omega (arith, some))
 is_listed f is_such only (d ∷ rest) some =
     weighs_here f is_such d rest (is_such d) (only d) some (is_listed f is_such only rest)
 
--- the thread has such a duty in its agenda, or put aside
+-- A thread whose duties weigh something has a duty of that sort in its agenda or put aside.
 pub is_open : (f : Duty → ℕ) (is_such : Duty → Bool) → ((d : Duty) → is_such d ≡ false → f d ≡ 0) → (a : Actor)
     → 0 < agenda_weight f a → (list_any is_such a.agenda || list_any is_such a.aside) ≡ true
 is_open f is_such only a some =

@@ -1,4 +1,4 @@
--- At most one thread merges a row, and a claimant that finds no owner finds the row merged.
+-- At most one thread merges a row. A thread that claimed the row's mark and finds no owner finds the row merged.
 use Rattle.std.proofs.Common.{◌≡◌, ◌≢◌, ℕ, zero, suc, ◌+◌, ◌<◌, ◌≤◌, Bool, false, cond, List, [], ◌∷◌, ◌⊎◌, inl, inr, Some, refl, sym, ap, ◌∙◌, subst, arith}
 use Rattle.std.specs.Prelude.{◌==◌, slice_get}
 use Rattle.std.proofs.lemmas.Bool.{eq-eqb}
@@ -10,7 +10,6 @@ use Rattle.brc_model.specs.declared.duty.Reason.TheVariants.{Own, Handed}
 use Rattle.brc_model.specs.declared.duty.Duty.{Duty}
 use Rattle.brc_model.specs.declared.duty.Duty.TheVariants.{MergeSwap, MergeLoad, MergeExchange}
 use Rattle.brc_model.specs.declared.address.Address.TheVariants.{Local, Shared, ThreadWord}
-use Rattle.brc_model.specs.Duties.{block_of}
 use Rattle.brc_model.specs.declared.actor.Status.TheVariants.{Running}
 use Rattle.brc_model.specs.Machine.{Actor, Machine}
 use Rattle.brc_model.proofs.Basics.Lists.{some_is}
@@ -25,10 +24,11 @@ use Rattle.brc_model.proofs.Frame.Leaves.{head_of, claim_alive, merge_alive}
 use Rattle.brc_model.proofs.Frame.Aside.{waits_of_row, carries_of_row, merges_of_row}
 use Rattle.brc_model.proofs.Work.Weighing.{own_weighs, weighing}
 use Rattle.brc_model.proofs.Objects.Weights.{agenda_weight-le, carries_nothing, none_carried}
+use Rattle.brc_model.specs.Layout.{block_of}
 
--- ---- weights of agendas
+-- ---- weights of two agendas
 
--- two threads' agendas weigh no more than all
+-- The agendas of two different threads weigh at most what all agendas together weigh.
 two_weigh : (f : Duty → ℕ) (actors : List Actor) (t u : ℕ) (a b : Actor) → u ≢ t → slice_get actors t ≡ Some a
     → slice_get actors u ≡ Some b → agenda_weight f a + agenda_weight f b ≤ weight f actors
 two_weigh f [] t u a b ne one two = absurd cc
@@ -42,18 +42,18 @@ two_weigh f (c ∷ rest) (suc t) zero a b ne one two =
 two_weigh f (c ∷ rest) (suc t) (suc u) a b ne one two =
     omega (arith, sum_by-cons (agenda_weight f) c rest, two_weigh f rest t u a b (λ e. ne (ap suc e)) one two)
 
--- ---- who merges
+-- ---- merging threads
 
--- a thread that merges the row: its running owner, or one whose handed reference awaits
+-- A thread that merges the row is its running owner, or has the pending decrement of a handed reference.
 abbrev IsMerger : Machine → ℕ → Actor → ℕ → Type 0
-IsMerger m u b x = ((b.status ≡ Running) × (block_of m.rows x ≡ u)) ⊎ (1 ≤ agenda_weight (waits x) b)
+IsMerger m u b x = ((b.status ≡ Running) × (block_of m.layout x ≡ u)) ⊎ (1 ≤ agenda_weight (waits x) b)
 
--- a merge of another row weighs nothing
+-- A merge of another row weighs nothing at this one.
 at_other : (y x : ℕ) → (y == x) ≡ false → 0 < one_if (y == x) → ⊥
 at_other y x other some = let none : one_if (y == x) ≡ 0 = ap one_if other in omega (arith, some, none)
 
 merger_knows : (m : Machine) (u x : ℕ) (b : Actor) (d : Duty) (rest : List Duty) → HeadFits m u b d rest
-    → 0 < merges x d → ((b.status ≡ Running) × (block_of m.rows x ≡ u)) ⊎ (1 ≤ waits x d)
+    → 0 < merges x d → ((b.status ≡ Running) × (block_of m.layout x ≡ u)) ⊎ (1 ≤ waits x d)
 merger_knows m u x b (MergeLoad y c Own) rest fits some =
     elim (eqb_tells y x) [
       | inl same ↦ inl (subst (λ (z : ℕ). MayCarry m u b z Own) same.1 fits.2)
@@ -68,7 +68,8 @@ merger_knows m u x b (MergeLoad y c Handed) rest fits some = inr some
 merger_knows m u x b (MergeExchange y c w Handed) rest fits some = inr some
 merger_knows m u x b _ rest fits some = absurd (omega (arith, some))
 
-merger_of : (p : Accounts) (n : ℕ) (m : Machine) (u x : ℕ) (b : Actor) → CoreInvariant p n m → slice_get m.actors u ≡ Some b
+merger_of : (p : Accounts) (n : ℕ) (m : Machine) (u x : ℕ) (b : Actor) → CoreInvariant p n m
+    → slice_get m.actors u ≡ Some b
     → 0 < agenda_weight (merges x) b → IsMerger m u b x
 merger_of p n m u x b core found some =
     let it = weighing p n m u x b (merges x) (merges_of_row x) core found some in
@@ -77,9 +78,10 @@ merger_of p n m u x b core found some =
       | inr waiting ↦ inr (omega (arith, it.among (waits x), waiting))
     ]
 
--- ---- a claimant
+-- ---- claimants
 
--- a claimant and another merger: the owner runs and is the other, or two decrements await
+-- A thread that claimed a row's mark and another merging thread can't both exist: if the other is the running owner,
+-- the claim wasn't allowed; if it has a pending decrement too, there are two, and a row has one at most.
 claimants_clash : (p : Accounts) (n : ℕ) (m : Machine) (t u x : ℕ) (a b : Actor) (rest : List Duty)
     → AtDuty p n m t a (MergeSwap x Handed) rest → u ≢ t → slice_get m.actors u ≡ Some b → IsMerger m u b x
     → Phased (numbers_of m x) → ⊥
@@ -102,7 +104,7 @@ claimants_clash p n m t u x a b rest here ne found merger phased =
           ]
     ]
 
--- while a thread claims a row, no other is at a merge of it
+-- While a thread that claimed a row's mark is about to merge the row, no other thread is merging it.
 claimed_alone : (p : Accounts) (n : ℕ) (m : Machine) (t : ℕ) (a : Actor) (x : ℕ) (rest : List Duty)
     → AtDuty p n m t a (MergeSwap x Handed) rest → 0 < weight (merges x) m.actors → Phased (numbers_of m x) → ⊥
 claimed_alone p n m t a x rest here some phased =
@@ -117,7 +119,7 @@ claimed_alone p n m t a x rest here some phased =
     claimants_clash p n m t other.who x a other.which rest here ne other.found
     (merger_of p n m other.who x other.which here.core other.found other.some) phased
 
--- a claimant that finds no owner finds the row merged
+-- If the local word is 0, a thread that claimed the row's mark finds the row merged.
 pub swapped_apart : (p : Accounts) (n : ℕ) (m : Machine) (t : ℕ) (a : Actor) (x : ℕ) (rest : List Duty)
     → AtDuty p n m t a (MergeSwap x Handed) rest → m.memory (Local x) ≡ 0 → phase_part (m.memory (Shared x)) ≡ 3
 swapped_apart p n m t a x rest here none =
@@ -127,9 +129,9 @@ swapped_apart p n m t a x rest here none =
       | InMerged s ↦ s.phase
     ]
 
--- ---- what is carried
+-- ---- carried counts
 
--- where one thread alone merges, it alone carries
+-- If one thread does all merging of a row, that thread carries all that is carried of the row.
 one_carries : (x : ℕ) (actors : List Actor) (t : ℕ) (a : Actor) → slice_get actors t ≡ Some a
     → weight (merges x) actors ≡ agenda_weight (merges x) a → weight (carries x) actors ≡ agenda_weight (carries x) a
 one_carries x [] t a found one = absurd cc
@@ -155,7 +157,7 @@ one_carries x (b ∷ rest) (suc t) a found one =
       one_carries x rest t a found (omega (arith, sum_by-cons (agenda_weight (merges x)) b rest, others, one)),
     )
 
--- all that is carried of a row is what its merger carries
+-- The count carried of a row is the one in the duty that merges the row.
 pub carried_is : (p : Accounts) (n : ℕ) (m : Machine) (t : ℕ) (a : Actor) (x c w : ℕ) (r : Reason) (rest : List Duty)
     → AtDuty p n m t a (MergeExchange x c w r) rest → weight (carries x) m.actors ≡ c
 carried_is p n m t a x c w r rest here =

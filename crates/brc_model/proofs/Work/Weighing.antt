@@ -1,5 +1,5 @@
--- Who weighs something knows it: a thread weighs something at a row by the first duty of its agenda or by one that is
--- put aside, and each of these knows what it needs of memory.
+-- A thread that weighs something at a row does so by the first duty of its agenda or by a duty that it has put aside.
+-- That duty knows what it needs of memory.
 use Rattle.std.proofs.Common.{◌≡◌, ℕ, ◌+◌, ◌<◌, ◌≤◌, true, List, [], ◌∷◌, inl, inr, Some, refl, sym, ap, ◌∙◌, subst, arith}
 use Rattle.std.specs.Prelude.{slice_get, sum_by}
 use Rattle.std.proofs.lemmas.Bool.Decides.{eqb_tells}
@@ -8,7 +8,6 @@ use Rattle.brc_model.specs.declared.duty.Duty.{Duty}
 use Rattle.brc_model.specs.declared.duty.Duty.TheVariants.{Settle, Leave, Scan, Finish}
 use Rattle.brc_model.specs.declared.actor.Status.{Status}
 use Rattle.brc_model.specs.declared.actor.Status.TheVariants.{Running, Leaving, Gone}
-use Rattle.brc_model.specs.declared.actor.Place.{Place}
 use Rattle.brc_model.specs.Machine.{Actor, Machine}
 use Rattle.brc_model.specs.RowInvariant.{agenda_weight}
 use Rattle.brc_model.specs.References.{one_if}
@@ -18,71 +17,72 @@ use Rattle.brc_model.specs.OpenWork.{Later, Agenda, AgendaFits, is_about, about_
 use Rattle.brc_model.specs.Invariant.{AtDuty, CoreInvariant}
 use Rattle.brc_model.proofs.Frame.Aside.{IsOfRow, aside_weighs}
 
--- ---- what is for later weighs nothing
+-- ---- duties behind the first weigh nothing
 
 later_weighs : (x : ℕ) (f : Duty → ℕ) → IsOfRow x f
-    → (rows t used : ℕ) (status : Status) (place : Place) (rest : List Duty)
-    → Later rows t used status place rest → sum_by f rest ≡ 0
-later_weighs x f of_row rows t used status place [] later = refl
-later_weighs x f of_row rows t used status place (Settle ∷ rest) later =
+    → (used : ℕ) (status : Status) (rest : List Duty)
+    → Later used status rest → sum_by f rest ≡ 0
+later_weighs x f of_row used status [] later = refl
+later_weighs x f of_row used status (Settle ∷ rest) later =
     omega (
       arith,
       sum_by-cons f Settle rest,
       of_row.about Settle refl,
-      later_weighs x f of_row rows t used status place rest later,
+      later_weighs x f of_row used status rest later,
     )
-later_weighs x f of_row rows t used status place (Leave y k ∷ []) later =
+later_weighs x f of_row used status (Leave y k ∷ []) later =
     omega (arith, sum_by-cons f (Leave y k) [], of_row.about (Leave y k) refl)
-later_weighs x f of_row rows t used status place (Scan y k ∷ rest) later =
+later_weighs x f of_row used status (Scan y k ∷ rest) later =
     omega (
       arith,
       sum_by-cons f (Scan y k) rest,
       of_row.about (Scan y k) refl,
-      later_weighs x f of_row rows t used status place rest later.3,
+      later_weighs x f of_row used status rest later.2,
     )
-later_weighs x f of_row rows t used status place (Finish ∷ []) later =
+later_weighs x f of_row used status (Finish ∷ []) later =
     omega (arith, sum_by-cons f Finish [], of_row.about Finish refl)
-later_weighs x f of_row rows t used status place _ later = absurd later
+later_weighs x f of_row used status _ later = absurd later
 
-rest_weighs : (x : ℕ) (f : Duty → ℕ) → IsOfRow x f → (rows t used : ℕ) (status : Status) (place : Place) (d : Duty)
-    (rest : List Duty)
-    → Agenda rows t used status place (d ∷ rest) → sum_by f rest ≡ 0
-rest_weighs x f of_row rows t used status place Settle rest fits = later_weighs x f of_row rows t used status place
-    rest fits
-rest_weighs x f of_row rows t used status place (Leave y k) [] fits = refl
-rest_weighs x f of_row rows t used status place (Leave y k) (e ∷ rest) fits = absurd fits
-rest_weighs x f of_row rows t used status place (Scan y k) rest fits =
-    later_weighs x f of_row rows t used status place rest fits.3
-rest_weighs x f of_row rows t used status place Finish [] fits = refl
-rest_weighs x f of_row rows t used status place Finish (e ∷ rest) fits = absurd fits
-rest_weighs x f of_row rows t used status place _ rest fits = later_weighs x f of_row rows t used status place rest fits
+rest_weighs : (x : ℕ) (f : Duty → ℕ) → IsOfRow x f → (used : ℕ) (status : Status) (d : Duty) (rest : List Duty)
+    → Agenda used status (d ∷ rest) → sum_by f rest ≡ 0
+rest_weighs x f of_row used status Settle rest fits = later_weighs x f of_row used status rest fits
+rest_weighs x f of_row used status (Leave y k) [] fits = refl
+rest_weighs x f of_row used status (Leave y k) (e ∷ rest) fits = absurd fits
+rest_weighs x f of_row used status (Scan y k) rest fits =
+    later_weighs x f of_row used status rest fits.2
+rest_weighs x f of_row used status Finish [] fits = refl
+rest_weighs x f of_row used status Finish (e ∷ rest) fits = absurd fits
+rest_weighs x f of_row used status _ rest fits =
+    later_weighs x f of_row used status rest fits
 
--- behind the first duty of any thread's agenda
+-- The duties behind the first duty of a fitting agenda weigh nothing at any row.
 behind_weighs : (x : ℕ) (f : Duty → ℕ) → IsOfRow x f
-    → (rows t : ℕ) (a : Actor) (status : Status) (d : Duty) (rest : List Duty)
-    → AgendaFits rows t a status → a.agenda ≡ d ∷ rest → sum_by f rest ≡ 0
-behind_weighs x f of_row rows t a Running d rest fits is =
-    rest_weighs x f of_row rows t a.used Running a.place d rest (subst (Agenda rows t a.used Running a.place) is fits)
-behind_weighs x f of_row rows t a Leaving d rest fits is =
-    rest_weighs x f of_row rows t a.used Leaving a.place d rest (subst (Agenda rows t a.used Leaving a.place) is fits)
-behind_weighs x f of_row rows t a Gone d rest fits is = absurd (let wrong : [] ≡ d ∷ rest = sym fits.0 ∙ is in cc)
+    → (a : Actor) (status : Status) (d : Duty) (rest : List Duty)
+    → AgendaFits a status → a.agenda ≡ d ∷ rest → sum_by f rest ≡ 0
+behind_weighs x f of_row a Running d rest fits is =
+    rest_weighs x f of_row a.used Running d rest
+    (subst (Agenda a.used Running) is fits)
+behind_weighs x f of_row a Leaving d rest fits is =
+    rest_weighs x f of_row a.used Leaving d rest
+    (subst (Agenda a.used Leaving) is fits)
+behind_weighs x f of_row a Gone d rest fits is = absurd (let wrong : [] ≡ d ∷ rest = sym fits.0 ∙ is in cc)
 
--- all that a thread weighs at a row, its first duty weighs, where that is about the row
+-- All that a thread weighs at the row of its first duty is the weight of that duty.
 pub own_weighs : (p : Accounts) (n : ℕ) (m : Machine) (t x : ℕ) (a : Actor) (d : Duty) (rest : List Duty)
     (f : Duty → ℕ)
     → AtDuty p n m t a d rest → IsOfRow x f → is_about x d ≡ true → agenda_weight f a ≡ f d
 own_weighs p n m t x a d rest f here of_row this =
     let fits = here.core.each t a here.found in
-    let none = behind_weighs x f of_row m.rows t a a.status d rest fits.1 here.agenda in
+    let none = behind_weighs x f of_row a a.status d rest fits.1 here.agenda in
     let whole : sum_by f a.agenda ≡ f d + sum_by f rest = ap (sum_by f) here.agenda ∙ sum_by-cons f d rest in
     let one : one_if (about_of x a.agenda) ≡ 1 =
     ap (λ (l : List Duty). one_if (about_of x l)) here.agenda ∙ ap one_if this in
     let aside = aside_weighs x f of_row a.aside (omega (arith, fits.2.apart x, one)) in
     omega (arith, none, whole, aside)
 
--- ---- who weighs something knows it
+-- ---- a duty that weighs something
 
--- a duty of the thread that weighs something, what it knows, and that all its weights are among the thread's
+-- A duty of the thread that weighs something, with what the duty knows. The duty's weights are part of the thread's.
 pub record Weighing (f : Duty → ℕ) (m : Machine) (u : ℕ) (b : Actor) : Type 0 where
   pub duty : Duty
   pub rest : List Duty
@@ -91,12 +91,12 @@ pub record Weighing (f : Duty → ℕ) (m : Machine) (u : ℕ) (b : Actor) : Typ
   pub among : (g : Duty → ℕ) → g duty ≤ agenda_weight g b
 
 weighing_agenda : (x : ℕ) (f : Duty → ℕ) → IsOfRow x f → (m : Machine) (u : ℕ) (b : Actor) (agenda : List Duty)
-    → b.agenda ≡ agenda → AgendaFits m.rows u b b.status → HeadOf m u b agenda → 0 < sum_by f b.agenda
+    → b.agenda ≡ agenda → AgendaFits b b.status → HeadOf m u b agenda → 0 < sum_by f b.agenda
     → Weighing f m u b
 weighing_agenda x f of_row m u b [] is fits head some =
     let none : sum_by f b.agenda ≡ 0 = ap (sum_by f) is in absurd (omega (arith, none, some))
 weighing_agenda x f of_row m u b (d ∷ rest) is fits head some =
-    let none = behind_weighs x f of_row m.rows u b b.status d rest fits is in
+    let none = behind_weighs x f of_row b b.status d rest fits is in
     let whole : sum_by f b.agenda ≡ f d + sum_by f rest = ap (sum_by f) is ∙ sum_by-cons f d rest in
     record {
       duty = d;
@@ -108,7 +108,7 @@ weighing_agenda x f of_row m u b (d ∷ rest) is fits head some =
           omega (arith, all);
     }
 
--- one of the duties that are put aside
+-- A duty that weighs something, among those put aside.
 record WeighingAside (f : Duty → ℕ) (m : Machine) (u : ℕ) (b : Actor) (aside : List Duty) : Type 0 where
   duty : Duty
   some : 0 < f duty
@@ -136,7 +136,9 @@ weighing_aside f m u b (d ∷ rest) waits some =
       }
     ]
 
-pub weighing : (p : Accounts) (n : ℕ) (m : Machine) (u x : ℕ) (b : Actor) (f : Duty → ℕ) → IsOfRow x f → CoreInvariant p n m
+-- A thread whose duties weigh something at a row has a duty that does, and that knows what it needs.
+pub weighing : (p : Accounts) (n : ℕ) (m : Machine) (u x : ℕ) (b : Actor) (f : Duty → ℕ) → IsOfRow x f
+    → CoreInvariant p n m
     → slice_get m.actors u ≡ Some b → 0 < agenda_weight f b → Weighing f m u b
 weighing p n m u x b f of_row core found some =
     let fits = core.each u b found in

@@ -1,8 +1,9 @@
-//! The birth of an object, in a row that was never used.
+//! The birth of an object, in a row that no object has used.
 
 ghost use Rattle.std.specs.Prelude.{ℕ, ◌+◌, ◌<◌, ◌≤◌, ◌^◌};
 ghost use Rattle.brc_model.specs.declared.duty.Duty.TheVariants as duties;
 ghost use Rattle.brc_model.specs.declared.duty.Holding.{Holding};
+ghost use Rattle.brc_model.specs.Limits.{worker_limit};
 ghost use Rattle.brc_world.specs.Effects.{IsEffect};
 
 use super::{Doer, Effect, Next};
@@ -11,8 +12,9 @@ use brc_model::{Duty, Holding};
 use brc_word::{kind_number, local_word};
 
 impl Doer {
-    /// The kind word says what the object is (`birth_kind_skipped`). A file or a socket then gets its resource, and
-    /// the count comes last: from that step on the object is born, and has all its parts.
+    /// Stores the kind word, which says what the object is (`birth_kind_skipped`): the first step of a birth. A file or
+    /// a socket gets its resource next. The local word comes last: the object is born with that step, and must have all
+    /// its parts by then. Rules `KindOfResource` and `KindOfOther`.
     #[inline(always)]
     pub(super) fn birth_kind(self, row: u32, holding: Holding, word: u64) -> Effect
         ensures { (found : ℕ) → IsEffect self (duties.BirthKind row holding word) found result }
@@ -25,7 +27,7 @@ impl Doer {
         }
     }
 
-    /// The resource is put into its slot (`slot_left_empty`).
+    /// Puts the resource into its slot (`slot_left_empty`), before the object is born. Rule `SlotFilled`.
     #[inline(always)]
     pub(super) fn birth_slot(self, row: u32, holding: Holding) -> Effect
         ensures { (found : ℕ) → IsEffect self (duties.BirthSlot row holding) found result }
@@ -33,10 +35,12 @@ impl Doer {
         self.leaves(FULL, Next::One(Duty::BirthLocal { row, holding }))
     }
 
-    /// The thread owns the object, and counts its own reference. The row is used up (`birth_reuses_a_row`).
+    /// Stores the local word, and so ends the birth: the thread owns the object and counts its own reference. (PEP 703,
+    /// Biased Reference Counting: the thread that creates an object owns it.) The row is used from now on, so the
+    /// thread's next birth takes another (`birth_reuses_a_row`). Rule `Born`.
     #[inline(always)]
     pub(super) fn birth_local(self) -> Effect
-        requires known { self.number ≤ 32 }
+        requires known { self.number ≤ worker_limit }
         requires room { self.used + 1 < 2 ^ 32 }
         ensures { (row : ℕ) (holding : Holding) (found : ℕ)
             → IsEffect self (duties.BirthLocal row holding) found result }

@@ -1,8 +1,9 @@
-//! The death of an object, from the last decrement to its close.
+//! The deallocation of an object, from its last decrement to its close.
 
 ghost use Rattle.std.specs.Prelude.{ℕ, ◌≤◌, ◌<◌, ◌≡◌, ◌∷◌, []};
 ghost use Rattle.brc_model.specs.declared.duty.Duty.TheVariants as duties;
 ghost use Rattle.brc_model.specs.Duties.{cells_from};
+ghost use Rattle.brc_model.specs.Limits.{worker_limit, cell_limit};
 ghost use Rattle.brc_world.specs.Effects.{IsEffect};
 
 use super::{Doer, Effect, Next};
@@ -11,11 +12,12 @@ use brc_model::Duty;
 use brc_word::{closed, dying, kind_argument, kind_number, next_of_dying};
 
 impl Doer {
-    /// Nothing counts the object any more: its gate says which thread closes it, and links it into that thread's
-    /// dying chain (`die_without_chain`), so that the destruction of nested objects needs no recursion.
+    /// Stores in the gate which thread closes the object, once no reference is left. The word links the object into
+    /// that thread's dying chain, in front of the old head (`die_without_chain`). So the deallocation of nested objects
+    /// needs no recursion. Rule `Chained`.
     #[inline(always)]
     pub(super) fn die(self, row: u32) -> Effect
-        requires known { self.number ≤ 32 }
+        requires known { self.number ≤ worker_limit }
         requires numbered { row < self.rows }
         ensures { (found : ℕ) → IsEffect self (duties.Die row) found result }
     {
@@ -25,7 +27,8 @@ impl Doer {
         }
     }
 
-    /// The first of the chain is taken from it: its gate names the next one (`settle_keeps_head`).
+    /// Loads the gate of the chain's head, which names the next object of the chain, and takes the head off the chain
+    /// (`settle_keeps_head`). Rule `ChainRead`.
     #[inline(always)]
     pub(super) fn settle(self, found: u64) -> Effect
         ensures { IsEffect self duties.Settle found result }
@@ -37,8 +40,8 @@ impl Doer {
         }
     }
 
-    /// What the object is decides what it gives back: a file or a socket its resource, a list its cells, from
-    /// the first on (`first_cell_skipped`).
+    /// Loads the kind word, which decides what the object gives back: a file or a socket its resource, and a list the
+    /// references in its cells, from the first cell on (`first_cell_skipped`). Rules `DyingResource` and `DyingCells`.
     #[inline(always)]
     pub(super) fn settle_kind(self, row: u32, found: u64) -> Effect
         ensures { IsEffect self (duties.SettleKind row) found result }
@@ -53,10 +56,11 @@ impl Doer {
         }
     }
 
-    /// The cell's reference is taken out by a swap (`cell_keeps_its_reference`) and given up, before the next cell.
+    /// Swaps the reference out of the cell (`cell_keeps_its_reference`), and releases it before the thread empties the
+    /// next cell. Rule `CellEmptied`.
     #[inline(always)]
     pub(super) fn settle_cell(self, row: u32, cell: u32, cells: u32, found: u64) -> Effect
-        requires cell { cell < 8 }
+        requires cell { cell < cell_limit }
         requires row { found ≤ self.rows }
         ensures { IsEffect self (duties.SettleCell row cell cells) found result }
     {
@@ -68,8 +72,8 @@ impl Doer {
         self.leaves(0, Next::Release { row, then })
     }
 
-    /// The resource is taken out of its slot, so that nobody finds it there while the host closes
-    /// it, which comes next (`resource_left_open`).
+    /// Takes the resource out of its slot, so that no other thread finds it there while the host closes it. The host's
+    /// close comes next (`resource_left_open`). Rule `SlotEmptied`.
     #[inline(always)]
     pub(super) fn take_slot(self, row: u32) -> Effect
         ensures { (found : ℕ) → IsEffect self (duties.TakeSlot row) found result }
@@ -77,7 +81,7 @@ impl Doer {
         self.leaves(0, Next::One(Duty::CloseResource { row }))
     }
 
-    /// The host closes the resource.
+    /// Lets the host close the resource. Rule `ResourceClosed`.
     #[inline(always)]
     pub(super) fn close_resource(self, row: u32) -> Effect
         ensures { (found : ℕ) → IsEffect self (duties.CloseResource row) found result }
@@ -85,7 +89,8 @@ impl Doer {
         self.leaves(0, Next::One(Duty::SettleEnd { row }))
     }
 
-    /// The object is closed (`settle_end_left_dying`), once: nothing follows.
+    /// Stores in the gate that the object is closed (`settle_end_left_dying`). No duty follows, so it is closed once.
+    /// Rule `Closes`.
     #[inline(always)]
     pub(super) fn settle_end(self) -> Effect
         ensures { (row found : ℕ) → IsEffect self (duties.SettleEnd row) found result }
@@ -94,7 +99,7 @@ impl Doer {
     }
 }
 
-/// The next cell of a dying list, or its end.
+/// Returns the duty to empty the dying list's cell, or the duty to close the list if it has no such cell.
 #[inline(always)]
 fn cell_or_end(row: u32, cell: u32, cells: u32) -> Duty
     ensures { cells_from row cell cells ≡ result ∷ [] }

@@ -1,37 +1,41 @@
-//! The exit of a thread, and what it does with its queue: the set marks of the rows that it owns.
+//! The exit of a thread, and its queue: the set marks of the rows that it owns.
 
-ghost use Rattle.std.specs.Prelude.{ℕ, ◌<◌};
+ghost use Rattle.std.specs.Prelude.{ℕ, ◌<◌, ◌^◌};
 ghost use Rattle.brc_model.specs.declared.duty.Duty.TheVariants as duties;
 ghost use Rattle.brc_world.specs.Effects.{IsEffect};
 
 use super::release::handed_merge;
 use super::{Doer, Effect, Next};
+use crate::rows::row_at;
 use crate::states::{GONE, LEAVING, SET};
 use brc_model::{Duty, Status};
 
 impl Doer {
-    /// The thread says that it leaves, and only then scans its marks (`exit_scans_first`): who sets a mark behind the
-    /// scan finds a thread that runs no longer, and takes the mark back.
+    /// Stores that the thread is leaving. The thread announces its exit before it scans its marks (`exit_scans_first`):
+    /// a thread that sets a mark behind the scan then finds that the owner no longer runs, and takes the mark back.
+    /// Rule `SaysLeaving`.
     #[inline(always)]
-    pub(super) fn leave(self, row: u32, rows: u32) -> Effect
-        ensures { (found : ℕ) → IsEffect self (duties.Leave row rows) found result }
+    pub(super) fn leave(self, index: u32, rows: u32) -> Effect
+        ensures { (found : ℕ) → IsEffect self (duties.Leave index rows) found result }
     {
         Effect {
             status: Status::Leaving,
-            ..self.leaves(LEAVING, Next::Two(Duty::Scan { row, rows }, Duty::Finish))
+            ..self.leaves(LEAVING, Next::Two(Duty::Scan { index, rows }, Duty::Finish))
         }
     }
 
-    /// Each row's mark is taken by a swap, since whoever set it may take it back meanwhile; none is passed over
-    /// (`scan_skips_a_row`). A set mark is a reference to be merged and given up, and what dies by that settles
-    /// before the next row.
+    /// Takes the row's mark, by a swap, because the thread that set it may take it back at the same time. The scan
+    /// passes over no row (`scan_skips_a_row`). If the mark was set, the thread merges the object and releases the
+    /// reference that the queue held. It deallocates what dies by that before it goes on to the next row. Rules
+    /// `ScanFindsMark` and `ScanFindsNone`.
     #[inline(always)]
-    pub(super) fn scan(self, row: u32, rows: u32, found: u64) -> Effect
-        requires { row < self.rows }
-        ensures { IsEffect self (duties.Scan row rows) found result }
+    pub(super) fn scan(self, index: u32, rows: u32, found: u64) -> Effect
+        requires { index < 2 ^ 31 }
+        ensures { IsEffect self (duties.Scan index rows) found result }
     {
+        let row = row_at(self.layout, self.number, index);
         let then = Duty::Scan {
-            row: row + 1,
+            index: index + 1,
             rows: rows.saturating_sub(1),
         };
         if found == SET {
@@ -41,7 +45,7 @@ impl Doer {
         }
     }
 
-    /// The thread is gone (`finished_thread_isnt_gone`).
+    /// Stores that the thread is gone (`finished_thread_isnt_gone`): it takes no further step. Rule `SaysGone`.
     #[inline(always)]
     pub(super) fn finish(self) -> Effect
         ensures { (found : ℕ) → IsEffect self duties.Finish found result }
@@ -52,7 +56,9 @@ impl Doer {
         }
     }
 
-    /// A running thread takes a mark between two calls, by the same swap as at its exit (`claimed_mark_left_set`).
+    /// Takes a mark while the thread runs, between two calls, by the same swap as at its exit
+    /// (`claimed_mark_left_set`). (PEP 703, Biased Reference Counting: the owner merges the objects in its queue.)
+    /// Rules `MarkClaimed` and `NothingToClaim`.
     #[inline(always)]
     pub(super) fn claim_mark(self, row: u32, found: u64) -> Effect
         ensures { IsEffect self (duties.ClaimMark row) found result }

@@ -1,4 +1,4 @@
-//! The merge of an object's two counts.
+//! Merges: the local count moves into the shared word, and from then on nobody owns the object.
 
 ghost use Rattle.std.specs.Prelude.{◌≡◌, ◌+◌, ◌*◌, ◌<◌};
 ghost use Rattle.brc_word.specs.Words.{biased_part, bias};
@@ -12,10 +12,11 @@ use brc_model::{Duty, Reason};
 use brc_word::{is_dead, local_count, merged};
 
 impl Doer {
-    /// A merge swaps the local word for nobody's, and carries over the local count that it found. In one step, so
-    /// that no reference is in both words or is counted after the merge (`merge_swap_keeps_local`). A word that is
-    /// nobody's already has been merged, and what the merge was made for comes next. (PEP 703, Biased Reference
-    /// Counting: `_Py_ExplicitMergeRefcount`.)
+    /// Swaps the local word for nobody's, and carries the local count that it finds there. (PEP 703, Biased Reference
+    /// Counting: `_Py_ExplicitMergeRefcount`.) Owner and count leave the word in one step, so that no reference is in
+    /// both words, and none is counted locally after the merge (`merge_swap_keeps_local`). If the word is nobody's
+    /// already, the object has been merged, and the thread does what it wanted the merge for. Rules `NobodysCount` and
+    /// `LocalTakenOut`.
     #[inline(always)]
     pub(super) fn merge_swap(self, row: u32, reason: Reason, found: u64) -> Effect
         ensures { IsEffect self (duties.MergeSwap row reason) found result }
@@ -31,8 +32,8 @@ impl Doer {
         self.leaves(0, Next::One(load))
     }
 
-    /// The carried count is to be added to the shared one, which other threads still change: so it is looked at first
-    /// ..
+    /// Loads the shared word, to which the carried count is to be added. Other threads still change the word, so the
+    /// next step stores the sum only if the word is still the same. Rule `MergeRead`.
     #[inline(always)]
     pub(super) fn merge_load(self, row: u32, carried: u32, reason: Reason, found: u64) -> Effect
         ensures { IsEffect self (duties.MergeLoad row carried reason) found result }
@@ -48,10 +49,13 @@ impl Doer {
         )
     }
 
-    /// .. and exchanged if it is still the same; else the merge looks again (`lost_merge_overwrites`). Count and state
-    /// change in one step: from then on nobody owns the object, and all references are in the shared count
-    /// (`merge_drops_local`). At zero it dies (`death_tested_before_merge`). A claimed mark's reference is still
-    /// counted, and given up next (`merge_forgets_the_handed_reference`).
+    /// Compare-exchanges the shared word for the merged one, the last step of the merge. (PEP 703, Biased Reference
+    /// Counting: nobody owns a merged object, and it is freed at shared count zero.) If another thread has changed the
+    /// word since the load, the thread leaves it as it is and retries (`lost_merge_overwrites`). Count and state change
+    /// in one step, so that the shared count has all references once the object is merged (`merge_drops_local`). If the
+    /// owner merges and no reference is left, the object dies (`death_tested_before_merge`). After a claim the count
+    /// still has the reference that the queue held, and the thread releases it next
+    /// (`merge_forgets_the_handed_reference`). Rules `Merges`, `MergesToZero`, `MergesForHanded` and `MergeLost`.
     #[inline(always)]
     pub(super) fn merge_exchange(
         self,
@@ -88,7 +92,8 @@ impl Doer {
     }
 }
 
-/// What the object was merged for: the reference that a claimed mark was queued with is given up.
+/// Returns what the thread does once the object is merged: after a claim, it releases the reference that the queue
+/// held.
 #[inline(always)]
 fn once_merged(row: u32, reason: Reason) -> Next
     ensures { duties_of result ≡ once_merged row reason }

@@ -1,4 +1,4 @@
-//! A reference that is given up.
+//! Releases: a thread gives up a reference to an object.
 
 ghost use Rattle.std.specs.Prelude.{◌≡◌, ◌≤◌, ◌+◌, ℕ, true, IsTrue};
 ghost use Rattle.brc_word.specs.Words.{owner_part, local_part, biased_part};
@@ -18,9 +18,9 @@ use brc_word::{
 };
 
 impl Doer {
-    /// A release begins with a look at the local word, as a retain does: the running owner counts down there, and
-    /// everybody else in the shared word: while the owner runs, only it may merge (`other_thread_merges`). (PEP 703,
-    /// Biased Reference Counting: `Py_DECREF`.)
+    /// Loads the local word, the first step of a release. (PEP 703, Biased Reference Counting: `Py_DECREF`.) A running
+    /// owner releases through the local word, and any other thread through the shared word: while the owner runs, only
+    /// the owner may merge (`other_thread_merges`). Rules `ReleasesImmortal`, `OwnerReleases` and `OtherReleases`.
     #[inline(always)]
     pub(super) fn release_load(self, row: u32, found: u64) -> Effect
         requires { is_running self.status ≡ true → owner_part found ≡ self.number + 1 → 1 ≤ local_part found }
@@ -41,8 +41,10 @@ impl Doer {
         }
     }
 
-    /// The running owner counts down by a plain store (`release_store_skipped`). At zero the shared word decides what
-    /// follows (`last_local_reference_missed`), since other threads may still count references there.
+    /// Stores the lowered local count (`release_store_skipped`). (PEP 703, Biased Reference Counting: the owner changes
+    /// the local count without atomic operations.) A plain store is enough, because no other thread writes the word
+    /// while its owner runs. At zero the shared word decides what follows (`last_local_reference_missed`), because
+    /// other threads may still count references there. Rules `LocalLowered` and `LocalReachesZero`.
     #[inline(always)]
     pub(super) fn release_store(self, row: u32, word: u64) -> Effect
         requires { 1 ≤ local_part word }
@@ -56,9 +58,10 @@ impl Doer {
         }
     }
 
-    /// No local reference is left. Where the shared word says that nobody ever counted there, the object dies
-    /// (`unshared_object_leaks`); any other object is merged first, since its count may be above or below zero
-    /// (`free_without_shared`).
+    /// Loads the shared word, once no local reference is left. (PEP 703, Biased Reference Counting: the owner frees the
+    /// object, or merges the counts.) At (0, default) no other thread holds a reference, and the object dies
+    /// (`unshared_object_leaks`). Any other word has to be merged first, because its count may be above or below zero
+    /// (`free_without_shared`). Rules `NeverShared` and `WasShared`.
     #[inline(always)]
     pub(super) fn decide_at_zero(self, row: u32, found: u64) -> Effect
         ensures { IsEffect self (duties.DecideAtZero row) found result }
@@ -76,7 +79,8 @@ impl Doer {
         }
     }
 
-    /// A release by the shared word looks at it first: count and state decide together what it becomes.
+    /// Loads the shared word, because count and state together decide its new value. The next step stores that value
+    /// only if the word is still the same. Rule `SharedRead`.
     #[inline(always)]
     pub(super) fn shared_load(self, row: u32, reason: Reason, found: u64) -> Effect
         ensures { IsEffect self (duties.SharedLoad row reason) found result }
@@ -91,10 +95,12 @@ impl Doer {
         )
     }
 
-    /// The compare-exchange of the release. Where another thread was first, the release looks again
-    /// (`lost_exchange_forgotten`). From count 0, default, the object is queued for its owner and keeps the reference
-    /// (`release_below_zero`); from any other state the count goes down by one, and a merged object that nobody counts
-    /// any more dies (`death_tested_before_decrement`).
+    /// Compare-exchanges the shared word. (PEP 703, Biased Reference Counting: a decrement by a thread that isn't the
+    /// owner.) If another thread has changed the word since the load, the thread retries (`lost_exchange_forgotten`).
+    /// At (0, default) the object is queued for its owner, and the count keeps the reference, which the queue now holds
+    /// (`release_below_zero`). From any other shared word one reference is taken. If the object is then merged and has no
+    /// reference left, this thread deallocates it (`death_tested_before_decrement`). Rules `Queues`, `Decrements`,
+    /// `DecrementsToZero` and `ExchangeLost`.
     #[inline(always)]
     pub(super) fn shared_exchange(self, row: u32, reason: Reason, word: u64, found: u64) -> Effect
         requires shared { found ≡ word → IsShared word }
@@ -114,9 +120,9 @@ impl Doer {
         }
     }
 
-    /// A queued object is put into its owner's queue: its mark is set. The owner may have looked through its queue
-    /// for the last time already, so whoever sets a mark looks afterwards whether the owner still runs
-    /// (`post_without_look`).
+    /// Sets the object's mark, which puts the object into its owner's queue. (PEP 703, Biased Reference Counting: the
+    /// queue of objects to be merged.) The owner may have scanned its marks for the last time already. So the thread
+    /// looks next whether the owner still runs (`post_without_look`). Rule `Marked`.
     #[inline(always)]
     pub(super) fn set_mark(self, row: u32) -> Effect
         ensures { (found : ℕ) → IsEffect self (duties.SetMark row) found result }
@@ -124,9 +130,10 @@ impl Doer {
         self.leaves(SET, Next::One(Duty::Look { row }))
     }
 
-    /// The look at the owner's thread word. A running owner will find the mark; of one that leaves or is gone, the
-    /// thread takes it back. The mark is set before the look, and the owner says that it leaves before it scans: so
-    /// one of the two always finds the mark (`look_at_own_word`).
+    /// Loads the thread word of the object's owner (`look_at_own_word`). A running owner will find the mark. If the
+    /// owner is exiting or has exited, this thread takes the mark back. The thread sets the mark before it looks, and
+    /// the owner announces its exit before it scans, so at least one of the two finds the mark. Rules `OwnerRuns` and
+    /// `OwnerExits`.
     #[inline(always)]
     pub(super) fn look(self, row: u32, found: u64) -> Effect
         ensures { IsEffect self (duties.Look row) found result }
@@ -138,8 +145,9 @@ impl Doer {
         }
     }
 
-    /// The mark is taken back by a swap: a leaving owner may take it too, and only one of the two may merge
-    /// (`mark_left_set`).
+    /// Takes the mark back, by a swap: an exiting owner may take it too, and only the thread that finds it set may
+    /// merge the object. The swap clears the mark (`mark_left_set`), so no other thread finds it set. Rules
+    /// `MarkTakenBack` and `MarkGone`.
     #[inline(always)]
     pub(super) fn take_mark(self, row: u32, found: u64) -> Effect
         ensures { IsEffect self (duties.TakeMark row) found result }
@@ -152,7 +160,8 @@ impl Doer {
     }
 }
 
-/// A claimed mark: the object is merged, so that the reference that it was queued with can be given up.
+/// Returns the merge of an object whose mark has been claimed. The thread then releases the reference that the queue
+/// held.
 #[inline(always)]
 pub(super) fn handed_merge(row: u32) -> Duty
     ensures { result ≡ duties.MergeSwap row reasons.Handed }

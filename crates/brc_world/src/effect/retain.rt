@@ -1,7 +1,7 @@
-//! A new reference.
+//! Retains: a thread makes a new reference to an object.
 
 ghost use Rattle.std.specs.Prelude.{ℕ, ◌+◌, ◌*◌, ◌<◌};
-ghost use Rattle.brc_word.specs.Words.{local_part, biased_part, bias};
+ghost use Rattle.brc_word.specs.Words.{most_local, local_part, biased_part, bias};
 ghost use Rattle.brc_model.specs.declared.duty.Duty.TheVariants as duties;
 ghost use Rattle.brc_model.specs.declared.duty.Holding.{Holding};
 ghost use Rattle.brc_model.specs.Within.{IsShared};
@@ -12,9 +12,10 @@ use brc_model::{Duty, Holding};
 use brc_word::{LocalChoice, local_with_one_more, retain_choice, shared_with_one_more};
 
 impl Doer {
-    /// A new reference begins with a look at the local word, which says whether the object is immortal and whether
-    /// the thread is its owner, who alone may count there. Without the look the reference would be counted nowhere
-    /// (`retain_load_skipped`). (PEP 703, Biased Reference Counting: `Py_INCREF`.)
+    /// Loads the local word, the first step of a retain. (PEP 703, Biased Reference Counting: `Py_INCREF`.) The word
+    /// says whether the object is immortal, and whether the thread is the owner: a running owner alone may count in the
+    /// local word. A thread that skips this choice counts its reference nowhere (`retain_load_skipped`). Rules
+    /// `RetainsImmortal`, `OwnerRetains`, `FullOwnerRetains` and `OtherRetains`.
     #[inline(always)]
     pub(super) fn retain_load(self, row: u32, holding: Holding, found: u64) -> Effect
         ensures { IsEffect self (duties.RetainLoad row holding) found result }
@@ -35,19 +36,21 @@ impl Doer {
         }
     }
 
-    /// The running owner counts in the local word by a plain store. Load and store needn't be one step, since nobody
-    /// else writes the word meanwhile; but it is one more, no more (`retain_store_doubled`).
+    /// Stores the raised local count. (PEP 703, Biased Reference Counting: the owner changes the local count without
+    /// atomic operations.) Load and store need not be one atomic step, because no other thread writes the word while
+    /// its owner runs. The count rises by exactly one (`retain_store_doubled`). Rule `LocalRaised`.
     #[inline(always)]
     pub(super) fn retain_store(self, word: u64) -> Effect
-        requires { local_part word < 4294967294 }
+        requires { local_part word < most_local }
         ensures { (row : ℕ) (holding : Holding) (found : ℕ)
             → IsEffect self (duties.RetainStore row holding word) found result }
     {
         self.leaves(local_with_one_more(word), Next::Nothing)
     }
 
-    /// Everybody else counts in the shared word (`retain_add_skipped`), by an atomic add: with a load and a store of
-    /// its own, a count that another thread adds between the two would be lost.
+    /// Adds one to the shared count, atomically. (PEP 703, Biased Reference Counting: other threads count in the shared
+    /// field.) A separate load and store could lose what another thread adds between the two. A thread that skips the
+    /// addition counts its reference nowhere (`retain_add_skipped`). Rule `SharedRaised`.
     #[inline(always)]
     pub(super) fn retain_add(self, found: u64) -> Effect
         requires shared { IsShared found }

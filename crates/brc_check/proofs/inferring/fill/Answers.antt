@@ -6,4 +6,5 @@ use Rattle.brc_check.proofs.inferring.fill.Goals as goal
 pub returns : goal.returns
 returns c =
     let all : c.loop-at.at ≡ length c.args.code.now = omega arith in
-    filled_last c.args.code.now c.loop-at.row (subst (IsFilledTo c.args.code.now c.loop-at.row) all c.loop-at.invariant)
+    filled_last c.args.code.now c.loop-at.entries (subst (IsFilledTo c.args.code.now c.loop-at.entries) all
+    c.loop-at.invariant)

@@ -4,4 +4,4 @@ use Rattle.brc_model.specs.Slots.{entry}
 use Rattle.brc_check.proofs.inferring.first_entries.Given as goal
 
 abbrev pub invariant-loop-at : goal.invariant-loop-at
-invariant-loop-at l = l.row ≡ Some entry ∷ replicate (l._at - 1) None
+invariant-loop-at l = l.entries ≡ Some entry ∷ replicate (l._at - 1) None

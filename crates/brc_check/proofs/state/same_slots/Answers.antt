@@ -2,7 +2,7 @@ use Rattle.std.proofs.Common.{refl}
 use Rattle.brc_check.proofs.Same.{each_kind, each_slot, same_slots}
 use Rattle.brc_check.proofs.state.same_slots.Goals as goal
 
--- each pair of slots is told apart by the slots' numbers
+-- the numbers of two slots decide whether the slots are equal
 pub returns : goal.returns
 returns c =
     same_slots _ c.args.one.now c.args.other.now c.eq.result

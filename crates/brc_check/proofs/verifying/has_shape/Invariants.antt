@@ -6,4 +6,4 @@ use Rattle.brc_check.proofs.verifying.has_shape.Given as goal
 
 abbrev pub invariant-loop-number : goal.invariant-loop-number
 invariant-loop-number l =
-    (k : ℕ) (f : Function) → k < l.number → slice_get l.functions k ≡ Some f → length (row_of l.rows k) ≡ length f.code
+    (k : ℕ) (f : Function) → k < l.number → slice_get l.functions k ≡ Some f → length (row_of l.lists k) ≡ length f.code

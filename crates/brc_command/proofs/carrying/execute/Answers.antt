@@ -1,7 +1,7 @@
 use Rattle.std.proofs.Common.{ap}
 use Rattle.std.specs.Prelude.{Err}
 use Rattle.brc_command.specs.Lines.{stop_text}
-use Rattle.brc_command.proofs.Telling.{begun_anyway}
+use Rattle.brc_command.proofs.Outputs.{begun_anyway}
 use Rattle.brc_command.proofs.carrying.execute.Goals as goal
 
 pub returns-in-Err-clause-stopped : goal.returns-in-Err-clause-stopped
@@ -9,7 +9,7 @@ returns-in-Err-clause-stopped g c = λ _. record {
   stop = c.in-Err.stop;
   reason = c.in-Err.ensures.stopped;
   same_status = c.status.ensures.exact;
-  told = begun_anyway c.write_stop.result _ _ (stop_text c.in-Err.stop) c.write_stop.ensures.whole
+  line = begun_anyway c.write_stop.result _ _ (stop_text c.in-Err.stop) c.write_stop.ensures.whole
       c.write_stop.ensures.begun;
   unwritten = c.in-Err.ensures.unwritten;
   begun = λ e. c.in-Err.ensures.begun (ap Err e);

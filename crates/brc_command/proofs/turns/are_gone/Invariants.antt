@@ -6,4 +6,4 @@ use Rattle.brc_world.specs.Worlds.{seen}
 use Rattle.brc_command.proofs.turns.are_gone.Given as goal
 
 abbrev pub invariant-loop-thread : goal.invariant-loop-thread
-invariant-loop-thread l = list_all (λ a. has_gone a.status) (take l.thread (seen l.world).actors) ≡ true
+invariant-loop-thread l = list_all (λ a. has_gone a.actor.status) (take l.thread (seen l.world).actors) ≡ true

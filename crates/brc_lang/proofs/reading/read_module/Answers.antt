@@ -2,8 +2,8 @@ use Rattle.std.proofs.lemmas.Result.{err_from_is_err_and}
 use Rattle.brc_lang.proofs.Functions.{fault_below}
 use Rattle.brc_lang.proofs.reading.read_module.Goals as goal
 
-pub returns-in_err-place : goal.returns-in_err-place
-returns-in_err-place c =
+pub returns-in_err-cursor : goal.returns-in_err-cursor
+returns-in_err-cursor c =
     let p = err_from_is_err_and c.from_residual.result c.from_residual.ensures.1 in
-    rw (p.1, p.2) (fault_below c.args.bytes.now c.loop-alloc.functions c.loop-alloc.place c.in_err-place.field-0.0
-    c.loop-alloc.invariant c.in_err-place.ensures.err)
+    rw (p.1, p.2) (fault_below c.args.bytes.now c.loop-alloc.functions c.loop-alloc.cursor c.in_err-cursor.field-0.0
+    c.loop-alloc.invariant c.in_err-cursor.ensures.err)

@@ -3,7 +3,7 @@ use Rattle.brc_lang.proofs.Functions.{IsReadTo}
 use Rattle.brc_lang.proofs.reading.read_module.Given as goal
 
 abbrev pub invariant-loop-alloc : goal.invariant-loop-alloc
-invariant-loop-alloc l = IsReadTo l.bytes l.functions l.place
+invariant-loop-alloc l = IsReadTo l.bytes l.functions l.cursor
 
 abbrev pub decreases-loop-alloc : goal.decreases-loop-alloc
-decreases-loop-alloc l = length l.place.rest.now
+decreases-loop-alloc l = length l.cursor.rest.now

@@ -1,4 +1,4 @@
--- What is left to look at says whether all lead forward.
+-- All targets lead forward if those of the instructions that are left do.
 use Rattle.std.proofs.Common.{◌≡◌, drop, length}
 use Rattle.brc_lang.specs.Fault.{lead_forward_from, leads_forward}
 use Rattle.brc_lang.proofs.targets.leads_forward.Given as goal

@@ -15,3 +15,9 @@ returns-clause-some_rows c = within.some_rows
 
 pub returns-clause-few_rows : goal.returns-clause-few_rows
 returns-clause-few_rows c = within.few_rows
+
+pub returns-clause-few_in_all : goal.returns-clause-few_in_all
+returns-clause-few_in_all c = within.few_in_all
+
+pub returns-clause-workers : goal.returns-clause-workers
+returns-clause-workers c = within.workers_are

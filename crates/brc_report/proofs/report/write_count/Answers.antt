@@ -1,5 +1,5 @@
 use Rattle.std.proofs.Common.{codes, refl}
-use Rattle.brc_lang.proofs.Written.{stops_early, stops_late}
+use Rattle.brc_report.proofs.Writing.{stops_early, stops_late}
 use Rattle.brc_report.specs.Report.{entry}
 use Rattle.brc_report.proofs.report.write_count.Goals as goal
 

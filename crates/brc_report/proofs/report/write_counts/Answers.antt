@@ -1,7 +1,7 @@
 use Rattle.std.proofs.Common.{◌++◌, ◌∙◌, ℕ, List, [], Bor, suc, take, drop, get_or, ap, refl, sym}
 use Rattle.std.specs.List.{flat_map}
 use Rattle.brc_lang.specs.Grammar.{line}
-use Rattle.brc_lang.proofs.Written.{stops_between, flat_map_around}
+use Rattle.brc_report.proofs.Writing.{stops_between, flat_map_around}
 use Rattle.brc_report.specs.Report.{entry}
 use Rattle.brc_report.proofs.report.write_counts.Goals as goal
 

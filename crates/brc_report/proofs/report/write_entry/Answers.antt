@@ -1,6 +1,6 @@
 use Rattle.std.proofs.Common.{◌++◌, append_assoc, codes, decimal, refl}
 use Rattle.std.proofs.KnownBytes.{Appends-trans}
-use Rattle.brc_lang.proofs.Written.{stops_early, stops_between, stops_late}
+use Rattle.brc_report.proofs.Writing.{stops_early, stops_between, stops_late}
 use Rattle.brc_report.proofs.report.write_entry.Goals as goal
 
 pub returns-in_err-write_bytes-clause-begun : goal.returns-in_err-write_bytes-clause-begun

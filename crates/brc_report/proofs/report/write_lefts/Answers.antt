@@ -1,7 +1,7 @@
 use Rattle.std.proofs.Common.{suc, take, drop, get_or, refl}
 use Rattle.std.specs.List.{flat_map}
 use Rattle.brc_lang.specs.declared.kind.Kind.TheVariants.{None}
-use Rattle.brc_lang.proofs.Written.{stops_between, flat_map_around}
+use Rattle.brc_report.proofs.Writing.{stops_between, flat_map_around}
 use Rattle.brc_report.specs.declared.tally.Left.{Left}
 use Rattle.brc_report.specs.Report.{left_text}
 use Rattle.brc_report.proofs.report.write_lefts.Goals as goal

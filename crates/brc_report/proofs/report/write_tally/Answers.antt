@@ -1,6 +1,6 @@
 use Rattle.std.proofs.Common.{◌++◌, refl, ap, sym}
 use Rattle.std.specs.List.{flat_map}
-use Rattle.brc_lang.proofs.Written.{stops_early, stops_late}
+use Rattle.brc_report.proofs.Writing.{stops_early, stops_late}
 use Rattle.brc_report.specs.Report.{counts_text, left_text}
 use Rattle.brc_report.proofs.report.write_tally.Goals as goal
 

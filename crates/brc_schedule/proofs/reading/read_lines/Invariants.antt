@@ -4,7 +4,7 @@ use Rattle.brc_schedule.proofs.reading.read_lines.Given as goal
 
 abbrev pub invariant-loop-text : goal.invariant-loop-text
 invariant-loop-text l =
-    record { read : IsReadTo l.bytes l.above l.place; room : l.place.line + length l.place.rest.now < 2 ^ 64 }
+    record { read : IsReadTo l.bytes l.above l.cursor; room : l.cursor.line + length l.cursor.rest.now < 2 ^ 64 }
 
 abbrev pub decreases-loop-text : goal.decreases-loop-text
-decreases-loop-text l = length l.place.rest.now
+decreases-loop-text l = length l.cursor.rest.now

@@ -2,7 +2,7 @@ use Rattle.std.proofs.Common.{◌≡◌, reverse, vec_len}
 use Rattle.brc_model.specs.Duties.{ready}
 use Rattle.brc_world.proofs.agenda.pass_over.Given as goal
 
--- what is left comes to the same
+-- the duties that need a step stay the same
 abbrev pub invariant-loop-duty : goal.invariant-loop-duty
 invariant-loop-duty l = ready l.head (reverse l.agenda.items) ≡ ready l.head (reverse l.fn.agenda.items)
 

@@ -1,41 +1,45 @@
--- An idle thread with calls left is at its next call's first instruction.
+-- An idle thread with calls left dispatches the first instruction of its next call.
 use Rattle.std.proofs.Common.{◌≡◌, ◌-◌, [], ap, ◌∙◌, reverse}
-use Rattle.std.specs.Prelude.{slice_get}
+use Rattle.std.specs.Prelude.{None, slice_get}
 use Rattle.brc_model.specs.declared.actor.Place.TheVariants.{Idle}
 use Rattle.brc_model.specs.Threads.{code_of}
-use Rattle.brc_model.specs.Machine as model
-use Rattle.brc_model.specs.Machine.{Actor}
+use Rattle.brc_model.specs.Actions as model
+use Rattle.brc_model.specs.Actions.{StepActor}
 use Rattle.brc_world.specs.Actors.{start_by, started, place_of}
 use Rattle.brc_world.proofs.Calling.{idle_begins}
 use Rattle.brc_world.proofs.dispatch.dispatch.Goals as goal
 
--- what the model's thread dispatches there
+-- The model's thread dispatches that instruction too.
 begins : (c : goal.After-next_instruction-in-Idle)
-    → model.dispatch_instruction c.args.rows c.args.number c.args.thread.now.used (c.args.thread.now.left - 1) 0
+    → model.dispatch_instruction c.args.layout c.args.number c.args.thread.now.used (c.args.thread.now.left - 1) 0
     c.entry_variables-thread.result
     (slice_get (code_of (slice_get c.args.functions.now c.args.thread.now.function)) 0)
-    ≡ model.dispatch c.args.rows c.args.number c.args.thread.now.used
+    ≡ model.dispatch c.args.layout c.args.number c.args.thread.now.used
     (code_of (slice_get c.args.functions.now c.args.thread.now.function))
     (place_of c.args.thread.now.stage c.args.thread.now.left c.args.thread.now.at c.args.thread.now.variables)
 begins c =
     let code = code_of (slice_get c.args.functions.now c.args.thread.now.function) in
     rw (c.entry_variables-thread.ensures, c.in-Idle.is)
-    (idle_begins c.args.rows c.args.number c.args.thread.now.used c.args.thread.now.left code
+    (idle_begins c.args.layout c.args.number c.args.thread.now.used c.args.thread.now.left code
     c.if-thread-eq0.false)
 
 pub returns-else-thread-eq0-clause-starts : goal.returns-else-thread-eq0-clause-starts
 returns-else-thread-eq0-clause-starts c = c.next_instruction-in-Idle.ensures.starts ∙ ap start_by (begins c)
 
--- the thread before its call
-abbrev idle : (c : goal.After-next_instruction-in-Idle) → Actor
+-- the model's thread before the call
+abbrev idle : (c : goal.After-next_instruction-in-Idle) → StepActor
 idle c = record {
   function = c.args.thread.now.function;
   place = Idle c.args.thread.now.left;
-  status = c.args.thread.now.status;
-  agenda = reverse c.args.thread.now.agenda.items;
-  aside = [];
-  head = c.args.thread.now.head;
-  used = c.args.thread.now.used;
+  actor = record {
+    status = c.args.thread.now.status;
+    agenda = reverse c.args.thread.now.agenda.items;
+    aside = [];
+    head = c.args.thread.now.head;
+    used = c.args.thread.now.used;
+    locked = None;
+    lent = None;
+  };
 }
 
 pub returns-else-thread-eq0-clause-actor : goal.returns-else-thread-eq0-clause-actor

@@ -1,4 +1,4 @@
--- The step starts with the thread's action, which can be done.
+-- The step starts with the thread's action, which the thread can do.
 use Rattle.std.proofs.Common.{refl, ◌∙◌}
 use Rattle.brc_world.proofs.Acting.{HasStarted, stuck_step, moved_step, does_step, can_do}
 use Rattle.brc_world.specs.declared.dispatch.Start.TheVariants.{Doing}
@@ -8,7 +8,7 @@ use Rattle.brc_world.proofs.doing.act.Goals as goal
 
 pub do_duty-requires : goal.do_duty-requires
 do_duty-requires c =
-    let has : HasStarted c.args.functions.now c.args.rows c.args.number (actor_of c.args.thread.now)
+    let has : HasStarted c.args.functions.now c.args.layout c.args.number (actor_of c.args.thread.now)
     (actor_of c.first_duty.new.thread) (Doing c.in-Doing.duty) = record {
       alive = c.in_default.not-Gone;
       starts = rw c.in_ok-reserve.ensures.items at c.in-Doing.ensures.starts;
@@ -27,13 +27,13 @@ do_duty-requires c =
 
 pub returns-in-Doing : goal.returns-in-Doing
 returns-in-Doing c =
-    let has : HasStarted c.args.functions.now c.args.rows c.args.number (actor_of c.args.thread.now)
+    let has : HasStarted c.args.functions.now c.args.layout c.args.number (actor_of c.args.thread.now)
     (actor_of c.first_duty.new.thread) (Doing c.in-Doing.duty) = record {
       alive = c.in_default.not-Gone;
       starts = rw c.in_ok-reserve.ensures.items at c.in-Doing.ensures.starts;
       actor = rw c.in_ok-reserve.ensures.items at c.in-Doing.ensures.actor;
     } in
-    let step = does_step _ _ _ (word_in c.args.memory.now) _ _ _ has in
+    let step = does_step c.args.functions.now c.args.layout c.args.number (word_in c.args.memory.now) _ _ _ has in
     record {
       did = step.answer;
       words = c.do_duty.ensures.word.words ∙ step.memory_is;
@@ -48,7 +48,8 @@ returns-in-Doing c =
 pub returns-in-Stuck : goal.returns-in-Stuck
 returns-in-Stuck c =
     let step =
-    stuck_step _ _ _ (word_in c.args.memory.now) (actor_of c.args.thread.now) (actor_of c.first_duty.new.thread)
+    stuck_step c.args.functions.now c.args.layout c.args.number (word_in c.args.memory.now)
+    (actor_of c.args.thread.now) (actor_of c.first_duty.new.thread)
     (record {
       alive = c.in_default.not-Gone;
       starts = rw c.in_ok-reserve.ensures.items at c.in-Stuck.ensures.starts;
@@ -68,7 +69,8 @@ returns-in-Stuck c =
 pub returns-in-Moved : goal.returns-in-Moved
 returns-in-Moved c =
     let step =
-    moved_step _ _ _ (word_in c.args.memory.now) (actor_of c.args.thread.now) (actor_of c.first_duty.new.thread)
+    moved_step c.args.functions.now c.args.layout c.args.number (word_in c.args.memory.now)
+    (actor_of c.args.thread.now) (actor_of c.first_duty.new.thread)
     (record {
       alive = c.in_default.not-Gone;
       starts = rw c.in_ok-reserve.ensures.items at c.in-Moved.ensures.starts;

@@ -1,5 +1,5 @@
 use Rattle.std.proofs.Common.{◌≡◌, ◌∷◌, take, map}
-use Rattle.brc_model.specs.Machine.{main_actor, worker_actor}
+use Rattle.brc_model.specs.StepMachine.{main_actor, worker_actor}
 use Rattle.brc_world.specs.Actors.{actor_of}
 use Rattle.brc_world.proofs.first.first_threads.Given as goal
 

@@ -1,4 +1,3 @@
-use Rattle.std.proofs.Common.{arith}
 use Rattle.brc_model.specs.Progress.{BornOnce, BornListed, BornAreThere, BornAreUsed, UsedAreBorn}
 use Rattle.brc_model.specs.Progress.{ClosedWereBorn, ClosedOnce, GatesTell}
 use Rattle.brc_model.specs.Safety.{IsSafeNow}
@@ -12,7 +11,7 @@ returns c = λ p m of.
     let reachable = is_reachable p m of in
     tally_same m (record {
       some_rows = small.some_rows p (world_of m) reachable;
-      some_threads = omega (arith, small.some_threads p (world_of m) reachable);
+      workers = small.workers p (world_of m) reachable;
       used = at_machine BornAreUsed p m of (c.born_rows_are_used.ensures p of.fits of.accepted);
       born = at_machine UsedAreBorn p m of (c.used_rows_are_born.ensures p of.fits of.accepted);
       listed = at_machine BornListed p m of (c.born_rows_are_listed.ensures p of.fits of.accepted);

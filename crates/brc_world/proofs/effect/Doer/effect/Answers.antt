@@ -1,4 +1,5 @@
--- The rules that look at less than the duty and the word say it of each.
+-- Some effects don't depend on the found word, or on each field of their duty. Their contracts hold for every value of
+-- these.
 use Rattle.brc_world.proofs.effect.Doer.effect.Goals as goal
 
 pub returns-in-RetainStore : goal.returns-in-RetainStore

@@ -1,10 +1,10 @@
 use Rattle.std.proofs.Common.{refl, sym, arith}
 use Rattle.brc_model.specs.declared.thread.Choice.TheVariants.{Ok}
-use Rattle.brc_model.specs.Machine.{status_action}
+use Rattle.brc_model.specs.Actions.{status_action}
 use Rattle.brc_world.specs.Actors.{actor_of, memory_by, actor_by}
 use Rattle.brc_world.specs.Storage.{word_in}
 use Rattle.brc_world.specs.Worlds.{seen}
-use Rattle.brc_world.proofs.Outcomes.{contents, Turned, Outcome, outcome, answered, refusal, thread_at, rows_small}
+use Rattle.brc_world.proofs.Outcomes.{contents, Turned, Outcome, outcome, answered, refusal, thread_at}
 use Rattle.brc_world.proofs.Answering.{going_answers}
 use Rattle.brc_world.proofs.Stepping.{going_on, can_go_on}
 use Rattle.brc_world.proofs.world.World.go_on.Goals as goal
@@ -20,11 +20,8 @@ act-requires-clause-some_rows c = c.worlds_are_small.ensures.some_rows _ _ c.sel
 
 pub act-requires-clause-small : goal.act-requires-clause-small
 act-requires-clause-small c =
-    let few = c.worlds_are_small.ensures.few_threads _ _ c.self.invariant.reachable in
-    let few_rows = c.worlds_are_small.ensures.few_rows _ _ c.self.invariant.reachable in
-    rw c.self.invariant.rows (rows_small
-    (seen (contents c.self.inside.accepted.now.functions c.self.inside.rows c.self.inside.memory
-    c.self.inside.threads.items)) few few_rows)
+    let few_rows = c.worlds_are_small.ensures.few_in_all _ _ c.self.invariant.reachable in
+    rw c.self.invariant.rows few_rows
 
 pub act-requires-clause-known : goal.act-requires-clause-known
 act-requires-clause-known c =
@@ -36,27 +33,27 @@ pub act-requires-clause-can : goal.act-requires-clause-can
 act-requires-clause-can c =
     let within = rw (sym c.self.view_is) at c.requires in
     let here =
-    thread_at c.self.inside.accepted.now.functions c.self.inside.rows c.self.inside.memory
+    thread_at c.self.inside.accepted.now.functions c.self.inside.layout c.self.inside.memory
     c.self.inside.threads.items c.args.thread c.index_mut.result.now c.index_mut.ensures.value within in
     let steps = c.steps_are_within.ensures _ _ c.args.thread _ c.self.invariant.reachable here in
     rw (c.as_slice.ensures, c.self.invariant.rows, c.self.invariant.threads) (can_go_on _ _ _ steps)
 
--- the world after the step, and where the step's thread stood
+-- The world after the step is the model's next world or, if memory was refused, the same world.
 outcome_of : (c : goal.After-self-1)
-    → Outcome c.self.inside.accepted.now c.self.inside.rows c.self.inside.memory c.act.new.memory
+    → Outcome c.self.inside.accepted.now c.self.inside.layout c.self.inside.memory c.act.new.memory
     c.self.inside.threads.items c.args.thread Ok c.act.new.thread c.act.result
 outcome_of c =
     let p = c.self.inside.accepted.now in
-    let rows = c.self.inside.rows in
+    let layout = c.self.inside.layout in
     let words = c.self.inside.memory in
     let threads = c.self.inside.threads.items in
     let t = c.args.thread in
     let before = c.index_mut.result.now in
     let after = c.act.new.thread in
-    let w = seen (contents p.functions rows words threads) in
-    let action = status_action p.functions rows t (actor_of before) before.status in
-    let memory = memory_by rows t (word_in words) (actor_of before) action in
-    let next = actor_by rows t (word_in words) (actor_of before) action in
+    let w = seen (contents p.functions layout words threads) in
+    let action = status_action p.functions layout t (actor_of before) before.status in
+    let memory = memory_by layout t (word_in words) (actor_of before) action in
+    let next = actor_by layout t (word_in words) (actor_of before) action in
     let turned : Turned words c.act.new.memory (actor_of before) (actor_of after) c.act.result memory next = record {
       words = rw c.as_slice.ensures at c.act.ensures.words;
       actor = rw c.as_slice.ensures at c.act.ensures.actor;
@@ -66,9 +63,9 @@ outcome_of c =
       threads = c.act.ensures.as_many_threads;
     } in
     let within = rw (sym c.self.view_is) at c.requires in
-    let here = thread_at p.functions rows words threads t before c.index_mut.ensures.value within in
+    let here = thread_at p.functions layout words threads t before c.index_mut.ensures.value within in
     let is = going_on w t (actor_of before) here in
-    outcome p rows words c.act.new.memory threads t Ok before after c.act.result memory next turned
+    outcome p layout words c.act.new.memory threads t Ok before after c.act.result memory next turned
     c.index_mut.ensures.value is c.self.invariant
     (c.worlds_lead_on.ensures.step p w t Ok c.self.invariant.reachable)
 
@@ -87,10 +84,10 @@ returns-clause-answer c =
     let threads = c.self.inside.threads.items in
     let t = c.args.thread in
     let before = c.index_mut.result.now in
-    let w = seen (contents p.functions c.self.inside.rows c.self.inside.memory threads) in
+    let w = seen (contents p.functions c.self.inside.layout c.self.inside.memory threads) in
     let within = rw (sym c.self.view_is) at c.requires in
     let here =
-    thread_at p.functions c.self.inside.rows c.self.inside.memory threads t before c.index_mut.ensures.value within
+    thread_at p.functions c.self.inside.layout c.self.inside.memory threads t before c.index_mut.ensures.value within
     in
     rw (sym c.self.view_is) (answered w _ _ t c.act.result _ (outcome_of c).made
     (rw c.as_slice.ensures at c.act.ensures.did)
@@ -104,10 +101,10 @@ returns-clause-refused c =
     let threads = c.self.inside.threads.items in
     let t = c.args.thread in
     let before = c.index_mut.result.now in
-    let w = seen (contents p.functions c.self.inside.rows c.self.inside.memory threads) in
+    let w = seen (contents p.functions c.self.inside.layout c.self.inside.memory threads) in
     let within = rw (sym c.self.view_is) at c.requires in
     let here =
-    thread_at p.functions c.self.inside.rows c.self.inside.memory threads t before c.index_mut.ensures.value within
+    thread_at p.functions c.self.inside.layout c.self.inside.memory threads t before c.index_mut.ensures.value within
     in
     rw (sym c.self.view_is) (refusal c.act.result
     (λ alive. (c.steps_move.ensures.goes_on p w t (actor_of before) c.self.invariant.reachable here alive).0)

@@ -1,7 +1,7 @@
-use Rattle.std.proofs.Common.{◌-◌, length, sym, arith}
+use Rattle.std.proofs.Common.{arith}
 use Rattle.brc_world.specs.Worlds.{seen}
+use Rattle.brc_world.proofs.Indices.{block_there}
 use Rattle.brc_world.proofs.Outcomes.{contents}
-use Rattle.brc_world.proofs.Tallying.{block_there}
 use Rattle.brc_world.proofs.world.World.is_born.Goals as goal
 
 pub block_of-block-requires : goal.block_of-block-requires
@@ -10,10 +10,10 @@ block_of-block-requires c = c.worlds_are_small.ensures.some_rows _ _ c.self.inva
 pub overflow_cast-block : goal.overflow_cast-block
 overflow_cast-block c =
     let w =
-    seen (contents c.self.inside.accepted.now.functions c.self.inside.rows c.self.inside.memory
+    seen (contents c.self.inside.accepted.now.functions c.self.inside.layout c.self.inside.memory
     c.self.inside.threads.items) in
     let few = c.worlds_are_small.ensures.few_threads _ w c.self.invariant.reachable in
+    let many = c.worlds_are_small.ensures.workers _ w c.self.invariant.reachable in
     let some = c.worlds_are_small.ensures.some_rows _ w c.self.invariant.reachable in
-    let within = rw (sym c.self.view_is) at c.requires in
-    let there = block_there w.rows (length w.actors - 1) c.args.row some within in
-    omega (arith, few, there, c.block_of-block.ensures)
+    let there = block_there w.layout c.args.row some in
+    omega (arith, few, many, there, c.block_of-block.ensures)

@@ -4,7 +4,7 @@ use Rattle.brc_world.specs.Worlds.{seen}
 use Rattle.brc_world.specs.Tallies.{is_closed_row, left_in}
 use Rattle.brc_world.proofs.world.World.left_of.Given as goal
 
--- what is left of the rows so far
+-- `left` has the rows so far that aren't closed
 abbrev pub invariant-loop-row : goal.invariant-loop-row
 invariant-loop-row l =
     l.left ≡ map (left_in (seen l.fn.self))

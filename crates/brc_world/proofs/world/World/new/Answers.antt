@@ -1,16 +1,29 @@
--- The first world is as the model begins.
+-- The first world is the model's first world.
+use Rattle.std.proofs.Common.{ℕ, sym, ap, arith}
+use Rattle.brc_model.specs.declared.layout.Layout.{Layout}
+use Rattle.brc_model.specs.Limits.{cell_limit}
 use Rattle.brc_world.proofs.Outcomes.{first_seen, first_is}
 use Rattle.brc_world.proofs.world.World.new.Goals as goal
 
+pub overflow_cast-layout : goal.overflow_cast-layout
+overflow_cast-layout c = omega (arith, c.requires.calls_fit.most, c.requires.one_each)
+
+pub first_memory-requires : goal.first_memory-requires
+first_memory-requires c = omega (arith, c.requires.calls_fit.most, c.requires.one_each)
+
+abbrev layout_with : ℕ → ℕ → Layout
+layout_with rows workers = record { workers = workers; rows = rows; cells = cell_limit; immortal_lists = 0 }
+
 pub invariant_of-result : goal.invariant_of-result
 invariant_of-result c =
-    first_is _ c.args.checked.now.module c.args.rows c.args.workers c.args.calls.now _ _ c.module.ensures.value
-    c.requires.one_each c.in_ok-first_memory.ensures.words c.in_ok-first_threads.ensures
-    c.in_ok-first_memory.ensures.rows c.in_ok-first_memory.ensures.threads
+    first_is _ c.args.checked.now.module c.args.rows _ c.args.calls.now _ _ c.module.ensures.value
+    (ap (layout_with c.args.rows) (sym c.requires.one_each)) c.in_ok-first_memory.ensures.words
+    c.in_ok-first_threads.ensures c.in_ok-first_memory.ensures.rows c.in_ok-first_memory.ensures.threads
     (c.worlds_lead_on.ensures.first c.args.checked.now.module c.args.rows c.args.calls.now c.module.ensures.fits
     c.module.ensures.accepted c.requires.some_rows c.requires.most_rows c.requires.calls_fit)
 
 pub returns : goal.returns
 returns c =
-    first_seen _ c.args.checked.now.module c.args.rows c.args.workers c.args.calls.now _ _ c.module.ensures.value
-    c.requires.one_each c.in_ok-first_memory.ensures.words c.in_ok-first_threads.ensures
+    first_seen _ c.args.checked.now.module c.args.rows _ c.args.calls.now _ _ c.module.ensures.value
+    (ap (layout_with c.args.rows) (sym c.requires.one_each)) c.in_ok-first_memory.ensures.words
+    c.in_ok-first_threads.ensures

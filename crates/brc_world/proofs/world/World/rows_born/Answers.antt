@@ -1,18 +1,13 @@
 use Rattle.std.proofs.Common.{ℕ, List, [], ◌∷◌, ◌++◌, Vec, Global, ap, sym, ◌∙◌, arith}
 use Rattle.brc_world.specs.Worlds.{seen}
 use Rattle.brc_world.proofs.Tallying.{born_here, unborn_here}
-use Rattle.brc_world.proofs.Outcomes.{contents, rows_small}
 use Rattle.brc_world.proofs.world.World.rows_born.Goals.{then-is_born+in_ok-push, else-is_born}
 use Rattle.brc_world.proofs.world.World.rows_born.Goals as goal
 
 pub overflow_cast-row-end : goal.overflow_cast-row-end
 overflow_cast-row-end c =
-    let few = c.worlds_are_small.ensures.few_threads _ _ c.self.invariant.reachable in
-    let few_rows = c.worlds_are_small.ensures.few_rows _ _ c.self.invariant.reachable in
-    let small =
-    rows_small (seen (contents c.self.inside.accepted.now.functions c.self.inside.rows c.self.inside.memory
-    c.self.inside.threads.items)) few few_rows in
-    omega (arith, c.rows-row-end.ensures, c.self.invariant.rows, small)
+    let few_rows = c.worlds_are_small.ensures.few_in_all _ _ c.self.invariant.reachable in
+    omega (arith, c.rows-row-end.ensures, c.self.invariant.rows, few_rows)
 
 pub loop-row-preserved : goal.loop-row-preserved
 loop-row-preserved c = record {

@@ -3,7 +3,7 @@ use Rattle.brc_world.specs.Worlds.{seen}
 use Rattle.brc_world.specs.Tallies.{born_below}
 use Rattle.brc_world.proofs.world.World.rows_born.Given as goal
 
--- the rows below that are born
+-- `born` has the born rows below the loop's row
 abbrev pub invariant-loop-row : goal.invariant-loop-row
 invariant-loop-row l = record {
   first : 1 ≤ l.row;

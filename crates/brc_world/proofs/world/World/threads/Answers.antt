@@ -1,4 +1,4 @@
--- Main is among the threads.
+-- There is at least one thread, main.
 use Rattle.std.proofs.Common.{arith}
 use Rattle.std.proofs.lemmas.Grind.{common_steps}
 use Rattle.brc_world.proofs.world.World.threads.Goals as goal

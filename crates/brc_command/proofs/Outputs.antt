@@ -1,4 +1,4 @@
--- What is on a writer after a line, whether or not it was at fault.
+-- The bytes on a writer after a line, whether or not the writer returned an error.
 use Rattle.std.proofs.Common.{ℕ, List, [], Option, Result, Ok, Err, OnOk, OnErr, sym, append-nil}
 use Rattle.std.specs.Io.KnownBytes.{Appends}
 use Rattle.brc_lang.specs.Written.{AppendsBeginning}

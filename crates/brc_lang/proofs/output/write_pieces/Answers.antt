@@ -1,7 +1,7 @@
 use Rattle.std.proofs.Common.{List, ℕ, Bor, [], suc, take, drop, get_or, refl}
 use Rattle.std.specs.List.{flat_map}
 use Rattle.brc_lang.proofs.Written.{stops_between, flat_map_around}
-use Rattle.brc_command.proofs.lines.write_pieces.Goals as goal
+use Rattle.brc_lang.proofs.output.write_pieces.Goals as goal
 
 abbrev bytes : Bor (List ℕ) → List ℕ
 bytes piece = piece.now

@@ -1,0 +1,42 @@
+//! The entries of one function compared with one step of a path.
+
+ghost use Rattle.std.specs.Prelude.{◌≡◌, ◌↔◌, Some, IsTrue, MatchOption};
+ghost use Rattle.brc_model.specs.Tables.{entry_at};
+ghost use Rattle.brc_check.specs.Entries.{end_of, StaysOn, IsBlocked};
+
+use crate::refused::CodeAt;
+use crate::state::same_state;
+use crate::step::Step;
+use brc_model::{CheckCode, State};
+
+fn is_entry(entries: &[Option<State>], at: usize, state: &State) -> bool
+    ensures { IsTrue result ↔ (entry_at entries.now at ≡ Some state.now) }
+{
+    if at >= entries.len() {
+        return false;
+    }
+    match entries[at] {
+        None => false,
+        Some(found) => same_state(&found, state),
+    }
+}
+
+/// Returns the code and the point that keep the step from agreeing with the entries, or `None` if it agrees.
+pub fn blocked(entries: &[Option<State>], at: usize, step: &Step) -> Option<CodeAt>
+    ensures { MatchOption result (StaysOn entries.now (end_of at step.now))
+        (λ m. IsBlocked entries.now (end_of at step.now) m.at m.code) }
+{
+    match *step {
+        Step::Ends => None,
+        Step::Error(code) => Some(CodeAt { at, code }),
+        Step::To(next, arriving) => {
+            if is_entry(entries, next, &arriving) {
+                return None;
+            }
+            Some(CodeAt {
+                at: next,
+                code: CheckCode::StatesDiffer,
+            })
+        }
+    }
+}

@@ -1,0 +1,34 @@
+-- How much a text may have.
+use Rattle.std.specs.Prelude.{ℕ, ◌-◌, ◌^◌}
+
+abbrev pub function_limit : ℕ
+function_limit = 64
+
+-- of a function
+abbrev pub instruction_limit : ℕ
+instruction_limit = 256
+
+-- v0 to v15
+abbrev pub variable_count : ℕ
+variable_count = 16
+
+abbrev pub last_variable : ℕ
+last_variable = 15
+
+-- a target is the number of an instruction, from 0
+abbrev pub target_count : ℕ
+target_count = 256
+
+abbrev pub last_target : ℕ
+last_target = 255
+
+-- the greatest value of a number, which has 32 bits
+abbrev pub value_limit : ℕ
+value_limit = 2 ^ 32 - 1
+
+-- the bytes of a name, and those after its first letter
+abbrev pub name_limit : ℕ
+name_limit = 16
+
+abbrev pub name_rest_limit : ℕ
+name_rest_limit = 15

@@ -1,0 +1,42 @@
+-- The counting machine of a step machine: its threads, and what an action does to it.
+use Rattle.std.proofs.Common.{◌≡◌, ℕ, List, Some, sym}
+use Rattle.std.specs.Prelude.{slice_get}
+use Rattle.brc_model.specs.declared.actor.Place.{Place}
+use Rattle.brc_model.specs.declared.duty.Duty.{Duty}
+use Rattle.brc_model.specs.Duties.{address_of}
+use Rattle.brc_model.specs.AbstractState.{Move}
+use Rattle.brc_model.specs.Machine.{with_actor, with_moves, done_by}
+use Rattle.brc_model.specs.Actions.{StepActor}
+use Rattle.brc_model.specs.StepMachine.{StepMachine, its_actor, counting, at_place, step_actor, silent_by, does_by}
+use Rattle.brc_model.proofs.Basics.Lists.{slice_get-image, map-set}
+
+pub its_found : (m : StepMachine) (t : ℕ) (a : StepActor) → slice_get m.actors t ≡ Some a
+    → slice_get (counting m).actors t ≡ Some a.actor
+its_found m t a found = slice_get-image its_actor m.actors t a found
+
+-- where the thread goes elsewhere, only its references move
+pub counting_silent : (m : StepMachine) (t : ℕ) (a : StepActor) (moves : List Move) (place : Place)
+    → with_moves (with_actor (counting m) t a.actor) moves ≡ counting (silent_by m t a moves place)
+counting_silent m t a moves place =
+    let new = with_moves (with_actor (counting m) t a.actor) moves in
+    λ i. record {
+      layout = new.layout;
+      memory = new.memory;
+      actors = sym (map-set its_actor m.actors t (at_place a place)) i;
+      abstract = new.abstract;
+      life = new.life;
+    }
+
+-- where it does a duty, the counting machine does
+pub counting_done : (m : StepMachine) (t : ℕ) (a : StepActor) (d : Duty) (rest : List Duty) (place : Place)
+    → done_by (counting m) t a.actor d rest ≡ counting (does_by m t a d rest place)
+counting_done m t a d rest place =
+    let new = done_by (counting m) t a.actor d rest in
+    let after = step_actor m.layout t a d rest place (m.memory (address_of m.layout t a.actor.head d)) in
+    λ i. record {
+      layout = new.layout;
+      memory = new.memory;
+      actors = sym (map-set its_actor m.actors t after) i;
+      abstract = new.abstract;
+      life = new.life;
+    }

@@ -1,0 +1,110 @@
+-- What a duty that may wait knows stays, where a step leaves what the duty relies on at its row.
+use Rattle.std.proofs.Common.{◌≡◌, ◌≢◌, ℕ, ◌<◌, true, inl, inr, refl, sym, ap, ◌∙◌, subst, arith}
+use Rattle.std.specs.Prelude.{◌==◌, List}
+use Rattle.std.proofs.lemmas.Bool.{eq-eqb}
+use Rattle.brc_word.specs.Words.{immortal_local, owner_part, local_part, phase_part}
+use Rattle.brc_model.specs.declared.duty.Holding.{Holding}
+use Rattle.brc_model.specs.declared.duty.Reason.{Reason}
+use Rattle.brc_model.specs.declared.duty.Reason.TheVariants.{Own, Handed}
+use Rattle.brc_model.specs.declared.duty.Duty.{Duty}
+use Rattle.brc_model.specs.declared.duty.Duty.TheVariants.{RetainLoad, RetainStore, RetainAdd, ReleaseLoad, ReleaseStore, DecideAtZero, SharedLoad, SharedExchange, SetMark, Look, TakeMark, MergeSwap, MergeLoad, MergeExchange}
+use Rattle.brc_model.specs.declared.address.Address.TheVariants.{Local, Shared, ThreadWord}
+use Rattle.brc_model.specs.Machine.{Actor, Machine}
+use Rattle.brc_model.specs.References.{held, reference_of}
+use Rattle.brc_model.specs.OpenWork.{is_about, may_wait}
+use Rattle.brc_model.specs.Knowledge.{OwnsLocally, IsBacked, MayMerge, MayCarry, HeadFits}
+use Rattle.brc_model.specs.declared.layout.Layout.{Layout}
+use Rattle.brc_model.specs.Layout.{block_of, IsCounted}
+
+-- What a step leaves to a thread's duty about the row.
+pub record LeavesRow (m new : Machine) (t : ℕ) (a after : Actor) (x : ℕ) : Type 0 where
+  pub layout : new.layout ≡ m.layout
+  pub status : after.status ≡ a.status
+  pub local : OwnsLocally m t a x → new.memory (Local x) ≡ m.memory (Local x)
+  pub merged : phase_part (m.memory (Shared x)) ≡ 3 → phase_part (new.memory (Shared x)) ≡ 3
+  pub references : (k : Holding)
+      → held (reference_of t k x) new.abstract.references ≡ held (reference_of t k x) m.abstract.references
+  pub stopped : (u : ℕ) → m.memory (ThreadWord u) ≢ 1 → new.memory (ThreadWord u) ≢ 1
+
+itself : (x : ℕ) → (x == x) ≡ true
+itself x = eq-eqb x x refl
+
+module _ (m new : Machine) (t : ℕ) (a after : Actor) where
+  abbrev Leaves : ℕ → Type 0
+  Leaves x = LeavesRow m new t a after x
+
+  backed_kept : (x : ℕ) → Leaves x → IsBacked m t x → IsBacked new t x
+  backed_kept x leaves backed =
+      record { by = backed.by; held_so = omega (arith, leaves.references backed.by, backed.held_so) }
+
+  owns_kept : (x : ℕ) → Leaves x → OwnsLocally m t a x → OwnsLocally new t after x
+  owns_kept x leaves owns =
+      let same = leaves.local owns in
+      record {
+        running = leaves.status ∙ owns.running;
+        owner = ap owner_part same ∙ owns.owner;
+        low = subst (λ (w : ℕ). local_part w < immortal_local) (sym same) owns.low;
+      }
+
+  block_kept : (x : ℕ) → Leaves x → block_of m.layout x ≡ t → block_of new.layout x ≡ t
+  block_kept x leaves mine = ap (λ (r : Layout). block_of r x) leaves.layout ∙ mine
+
+  stopped_kept : (x : ℕ) → Leaves x → m.memory (ThreadWord (block_of m.layout x)) ≢ 1
+      → new.memory (ThreadWord (block_of new.layout x)) ≢ 1
+  stopped_kept x leaves stopped =
+      subst (λ (r : Layout). new.memory (ThreadWord (block_of r x)) ≢ 1) (sym leaves.layout)
+      (leaves.stopped (block_of m.layout x) stopped)
+
+  may_merge_kept : (x : ℕ) → Leaves x → MayMerge m t x → MayMerge new t x
+  may_merge_kept x leaves (inl mine) = inl (block_kept x leaves mine)
+  may_merge_kept x leaves (inr stopped) = inr (stopped_kept x leaves stopped)
+
+  may_carry_kept : (x : ℕ) (r : Reason) → Leaves x → MayCarry m t a x r → MayCarry new t after x r
+  may_carry_kept x Own leaves own = (leaves.status ∙ own.0, block_kept x leaves own.1)
+  may_carry_kept x Handed leaves handed = tt
+
+  counted_kept : (x : ℕ) → Leaves x → IsCounted m.layout x → IsCounted new.layout x
+  counted_kept x leaves counted = subst (λ (l : Layout). IsCounted l x) (sym leaves.layout) counted
+
+  -- Shows that a duty keeps what it knows, where what it relies on is left at its row.
+  pub known_kept : (e : Duty) (rest : List Duty) → may_wait e ≡ true → ((x : ℕ) → is_about x e ≡ true → Leaves x)
+      → HeadFits m t a e rest → HeadFits new t after e rest
+  known_kept (RetainLoad x h) rest waits leaves fits = backed_kept x (leaves x (itself x)) fits
+  known_kept (RetainStore x h w) rest waits leaves fits =
+      let here = leaves x (itself x) in (
+        counted_kept x here fits.0,
+        backed_kept x here fits.1,
+        owns_kept x here fits.2,
+        here.local fits.2 ∙ fits.3,
+        fits.4,
+        fits.5,
+      )
+  known_kept (RetainAdd x h) rest waits leaves fits =
+      (counted_kept x (leaves x (itself x)) fits.0, backed_kept x (leaves x (itself x)) fits.1)
+  known_kept (ReleaseLoad x h) rest waits leaves fits = fits
+  known_kept (ReleaseStore x w) rest waits leaves fits =
+      let here = leaves x (itself x) in
+      (counted_kept x here fits.0, owns_kept x here fits.1, here.local fits.1 ∙ fits.2, fits.3)
+  known_kept (DecideAtZero x) rest waits leaves fits =
+      let here = leaves x (itself x) in
+      (counted_kept x here fits.0, owns_kept x here fits.1, ap local_part (here.local fits.1) ∙ fits.2)
+  known_kept (SharedLoad x Own) rest waits leaves fits = counted_kept x (leaves x (itself x)) fits
+  known_kept (SharedLoad x Handed) rest waits leaves fits =
+      (counted_kept x (leaves x (itself x)) fits.0, (leaves x (itself x)).merged fits.1)
+  known_kept (SharedExchange x Own w) rest waits leaves fits = counted_kept x (leaves x (itself x)) fits
+  known_kept (SharedExchange x Handed w) rest waits leaves fits =
+      (counted_kept x (leaves x (itself x)) fits.0, (leaves x (itself x)).merged fits.1)
+  known_kept (SetMark x) rest waits leaves fits = counted_kept x (leaves x (itself x)) fits
+  known_kept (Look x) rest waits leaves fits = counted_kept x (leaves x (itself x)) fits
+  known_kept (TakeMark x) rest waits leaves fits =
+      (counted_kept x (leaves x (itself x)) fits.0, stopped_kept x (leaves x (itself x)) fits.1)
+  known_kept (MergeSwap x Own) rest waits leaves fits =
+      let here = leaves x (itself x) in
+      (counted_kept x here fits.0, owns_kept x here fits.1, ap local_part (here.local fits.1) ∙ fits.2)
+  known_kept (MergeSwap x Handed) rest waits leaves fits =
+      (counted_kept x (leaves x (itself x)) fits.0, may_merge_kept x (leaves x (itself x)) fits.1)
+  known_kept (MergeLoad x c r) rest waits leaves fits =
+      (counted_kept x (leaves x (itself x)) fits.0, fits.1, may_carry_kept x r (leaves x (itself x)) fits.2)
+  known_kept (MergeExchange x c w r) rest waits leaves fits =
+      (counted_kept x (leaves x (itself x)) fits.0, fits.1, may_carry_kept x r (leaves x (itself x)) fits.2)
+  known_kept _ rest waits leaves fits = absurd cc

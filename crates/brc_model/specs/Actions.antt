@@ -1,0 +1,115 @@
+-- Actions. At an event a thread of the step world does the first duty of its agenda, or what its code dispatches.
+use Rattle.std.specs.Prelude.{ℕ, zero, suc, ◌+◌, ◌*◌, Bool, true, false, ◌&&◌, ◌==◌, nat_lt, if◌then◌else◌, List, [], ◌∷◌, length, Option, None, Some, slice_get, slice_set}
+use Rattle.brc_lang.specs.declared.module.Instr.{Instr}
+use Rattle.brc_lang.specs.declared.module.Instr.TheVariants.{Num, NoneObject, Newref, Move as MoveReference, Drop, Goto, Ret, Fail}
+use Rattle.brc_lang.specs.declared.module.Function.{Function}
+use Rattle.brc_word.specs.Words.{half}
+use Rattle.brc_model.specs.declared.thread.Choice.{Choice}
+use Rattle.brc_model.specs.declared.thread.Choice.TheVariants.{Ok, Fault, Claim}
+use Rattle.brc_model.specs.declared.actor.Status.{Status}
+use Rattle.brc_model.specs.declared.actor.Status.TheVariants.{Running, Leaving, Gone}
+use Rattle.brc_model.specs.declared.actor.Place.{Place}
+use Rattle.brc_model.specs.declared.actor.Place.TheVariants.{Idle, InCall, Exiting}
+use Rattle.brc_model.specs.declared.duty.Holding.TheVariants.{ByVariable, AsCaller}
+use Rattle.brc_model.specs.declared.duty.Duty.{Duty}
+use Rattle.brc_model.specs.declared.duty.Duty.TheVariants.{RetainLoad, ReleaseLoad, Settle, Leave, ClaimMark, BirthKind}
+use Rattle.brc_model.specs.AbstractState.{Move}
+use Rattle.brc_model.specs.Threads.{code_of, row_of, entry_variables}
+use Rattle.brc_model.specs.Moves.{pass_on, gain}
+use Rattle.brc_model.specs.declared.layout.Layout.{Layout}
+use Rattle.brc_model.specs.Layout.{none_row, root_row, block_of, row_at, index_of}
+use Rattle.brc_model.specs.Machine.{Actor, is_running, has_room}
+
+-- a thread of the step world: the function that it calls, where it is, and what it counts with
+pub record StepActor : Type 0 where
+  pub function : ℕ
+  pub place : Place
+  pub actor : Actor
+
+-- What a thread does at an event.
+pub data Action : Type 0 where
+  -- it takes no step
+  Skip : Action
+  -- it can't go on
+  Stuck : Action
+  -- it takes a silent step: these of its references move, and it is then at this place
+  Silent : List Move → Place → Action
+  -- it does a duty, with these duties behind it, and is then at this place
+  Does : Duty → List Duty → Place → Action
+
+abbrev pub with_row : Option ℕ → (ℕ → Action) → Action
+with_row None work = Stuck
+with_row (Some row) work = work row
+
+-- the kind word of a number
+abbrev pub number_word : ℕ → ℕ
+number_word value = 2 * half + value
+
+-- Returns what a thread does at an instruction, if it has used `used` rows of its block.
+abbrev pub dispatch_instruction : Layout → ℕ → ℕ → ℕ → ℕ → List (Option ℕ) → Option Instr → Action
+dispatch_instruction layout t used left at variables None = Stuck
+dispatch_instruction layout t used left at variables (Some (Num to value otherwise)) =
+    if has_room layout t used
+    then Does (BirthKind (row_at layout t used) (ByVariable to) (number_word value)) []
+    (InCall left (at + 1) (slice_set variables to (Some (row_at layout t used))))
+    else Silent [] (InCall left otherwise (slice_set variables to None))
+dispatch_instruction layout t used left at variables (Some (NoneObject to)) =
+    Silent (gain t (ByVariable to) none_row) (InCall left (at + 1) (slice_set variables to (Some none_row)))
+dispatch_instruction layout t used left at variables (Some (Newref to from)) =
+    with_row (row_of variables from)
+    (λ row. Does (RetainLoad row (ByVariable to)) [] (InCall left (at + 1) (slice_set variables to (Some row))))
+dispatch_instruction layout t used left at variables (Some (MoveReference to from)) =
+    with_row (row_of variables from)
+    (λ row. Silent (pass_on t (ByVariable from) (ByVariable to) row)
+    (InCall left (at + 1) (slice_set (slice_set variables from None) to (Some row))))
+dispatch_instruction layout t used left at variables (Some (Drop from)) =
+    with_row (row_of variables from)
+    (λ row. Does (ReleaseLoad row (ByVariable from)) (Settle ∷ [])
+    (InCall left (at + 1) (slice_set variables from None)))
+dispatch_instruction layout t used left at variables (Some (Goto to)) = Silent [] (InCall left to variables)
+dispatch_instruction layout t used left at variables (Some (Ret from)) =
+    with_row (row_of variables from) (λ row. Does (ReleaseLoad row (ByVariable from)) (Settle ∷ []) (Idle left))
+dispatch_instruction layout t used left at variables (Some Fail) = Silent [] (Idle left)
+
+-- Returns what a thread with an empty agenda does. With no call left it gives up its reference to the root, settles,
+-- and leaves.
+abbrev pub dispatch : Layout → ℕ → ℕ → List Instr → Place → Action
+dispatch layout t used code Exiting = Stuck
+dispatch layout t used code (Idle zero) =
+    Does (ReleaseLoad root_row AsCaller) (Settle ∷ Leave 0 used ∷ []) Exiting
+dispatch layout t used code (Idle (suc left)) =
+    dispatch_instruction layout t used left 0 entry_variables (slice_get code 0)
+dispatch layout t used code (InCall left at variables) =
+    dispatch_instruction layout t used left at variables (slice_get code at)
+
+-- Says whether the place is outside all calls.
+abbrev pub is_idle : Place → Bool
+is_idle (Idle left) = true
+is_idle (InCall left at variables) = false
+is_idle Exiting = false
+
+-- Says whether the thread may claim the row: it runs, is outside its calls with nothing to do, and has used the row,
+-- which is in its own block.
+abbrev pub may_claim : Layout → ℕ → StepActor → ℕ → Bool
+may_claim layout t a row =
+    is_idle a.place && is_running a.actor.status && (length a.actor.agenda == 0) && (block_of layout row == t)
+    && nat_lt (index_of layout t row) a.actor.used
+
+-- Returns what a thread that isn't gone does: the first duty of its agenda, or what it dispatches.
+abbrev pub agenda_action : List Function → Layout → ℕ → StepActor → List Duty → Action
+agenda_action functions layout t a [] =
+    dispatch layout t a.actor.used (code_of (slice_get functions a.function)) a.place
+agenda_action functions layout t a (d ∷ rest) = Does d rest a.place
+
+-- Returns what a thread of the status does: one that is gone takes no step.
+abbrev pub status_action : List Function → Layout → ℕ → StepActor → Status → Action
+status_action functions layout t a Gone = Skip
+status_action functions layout t a Running = agenda_action functions layout t a a.actor.agenda
+status_action functions layout t a Leaving = agenda_action functions layout t a a.actor.agenda
+
+-- Returns what the thread does at an event with the choice. No step is a host call yet, so `Fault` means what `Ok`
+-- does.
+abbrev pub action_of : List Function → Layout → ℕ → StepActor → Choice → Action
+action_of functions layout t a Ok = status_action functions layout t a a.actor.status
+action_of functions layout t a Fault = status_action functions layout t a a.actor.status
+action_of functions layout t a (Claim row) = if may_claim layout t a row then Does (ClaimMark row) [] a.place else Skip

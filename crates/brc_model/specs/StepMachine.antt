@@ -1,0 +1,160 @@
+-- The step machine: the counting machine, with functions and places on top. At an event one thread does the first duty
+-- of its agenda, or dispatches its next instruction.
+use Rattle.std.specs.Prelude.{ℕ, zero, suc, ◌+◌, ◌*◌, if◌then◌else◌, nat_le, List, [], ◌∷◌, length, map, Option, None, Some, fold, slice_get, slice_set}
+use Rattle.brc_lang.specs.declared.kind.Kind.{Kind}
+use Rattle.brc_lang.specs.declared.kind.Kind.TheVariants as kinds
+use Rattle.brc_lang.specs.declared.module.Function.{Function}
+use Rattle.brc_lang.specs.declared.module.Module.{Module}
+use Rattle.brc_word.specs.Words.{half, immortal_local, local_word, fresh_word}
+use Rattle.brc_model.specs.declared.thread.Call.{Call}
+use Rattle.brc_model.specs.declared.thread.Choice.{Choice}
+use Rattle.brc_model.specs.declared.actor.Place.{Place}
+use Rattle.brc_model.specs.declared.actor.Place.TheVariants.{Idle}
+use Rattle.brc_model.specs.declared.duty.Holding.TheVariants.{AsCaller}
+use Rattle.brc_model.specs.declared.duty.Duty.{Duty}
+use Rattle.brc_model.specs.declared.address.Address.{Address}
+use Rattle.brc_model.specs.declared.address.Address.TheVariants.{Local, Shared, Gate, KindOf, Mark, Cell, Slot, Resource, ThreadWord}
+use Rattle.brc_model.specs.Limits.{cell_limit}
+use Rattle.brc_model.specs.AbstractState.{AbstractState, Reference, Move, ByThread, moved}
+use Rattle.brc_model.specs.declared.layout.Layout.{Layout}
+use Rattle.brc_model.specs.Layout.{root_row, front_rows, by_row}
+use Rattle.brc_model.specs.Duties.{address_of}
+use Rattle.brc_model.specs.Machine.{Actor, idle_actor, Life, Unborn, Live, Machine, actor_by, done_by}
+use Rattle.brc_model.specs.Actions.{StepActor, Action, Skip, Stuck, Silent, Does, action_of}
+
+-- ---- the machine
+
+pub record StepMachine : Type 0 where
+  pub functions : List Function
+  pub layout : Layout
+  pub memory : Address → ℕ
+  pub actors : List StepActor
+  pub abstract : AbstractState
+  pub life : ℕ → Life
+
+-- what the thread counts with
+abbrev pub its_actor : StepActor → Actor
+its_actor a = a.actor
+
+-- the counting machine under it
+abbrev pub counting : StepMachine → Machine
+counting m =
+    record {
+      layout = m.layout;
+      memory = m.memory;
+      actors = map its_actor m.actors;
+      abstract = m.abstract;
+      life = m.life;
+    }
+
+-- Applies a function to the thread of an event, if there is such a thread.
+abbrev pub of_thread : {A : Type 0} → A → (StepActor → A) → Option StepActor → A
+of_thread otherwise of_actor None = otherwise
+of_thread otherwise of_actor (Some a) = of_actor a
+
+-- ---- one step
+
+-- the thread at another place
+abbrev pub at_place : StepActor → Place → StepActor
+at_place a place = record { function = a.function; place = place; actor = a.actor }
+
+-- the thread after its first duty
+abbrev pub step_actor : Layout → ℕ → StepActor → Duty → List Duty → Place → ℕ → StepActor
+step_actor layout t a d rest place found =
+    record { function = a.function; place = place; actor = actor_by layout t a.actor d rest found }
+
+-- Returns the machine after a silent step: the thread is at the place, and some of its references have moved.
+abbrev pub silent_by : StepMachine → ℕ → StepActor → List Move → Place → StepMachine
+silent_by m t a moves place =
+    record {
+      functions = m.functions;
+      layout = m.layout;
+      memory = m.memory;
+      actors = slice_set m.actors t (at_place a place);
+      abstract = moved m.abstract moves;
+      life = m.life;
+    }
+
+-- Returns the machine after the thread's duty: its words, its abstract state and its lives are the counting machine's.
+abbrev pub does_by : StepMachine → ℕ → StepActor → Duty → List Duty → Place → StepMachine
+does_by m t a d rest place =
+    let done = done_by (counting m) t a.actor d rest in
+    record {
+      functions = m.functions;
+      layout = m.layout;
+      memory = done.memory;
+      actors =
+          slice_set m.actors t (step_actor m.layout t a d rest place (m.memory (address_of m.layout t a.actor.head d)));
+      abstract = done.abstract;
+      life = done.life;
+    }
+
+-- Returns the machine after the thread's action.
+abbrev pub machine_by : StepMachine → ℕ → StepActor → Action → StepMachine
+machine_by m t a Skip = m
+machine_by m t a Stuck = m
+machine_by m t a (Silent moves place) = silent_by m t a moves place
+machine_by m t a (Does d rest place) = does_by m t a d rest place
+
+-- Returns the machine after the event; where there is no such thread, it stays as it is.
+abbrev pub next_machine : StepMachine → ℕ × Choice → StepMachine
+next_machine m event =
+    of_thread m (λ a. machine_by m event.0 a (action_of m.functions m.layout event.0 a event.1))
+    (slice_get m.actors event.0)
+
+abbrev pub machine_after : StepMachine → List (ℕ × Choice) → StepMachine
+machine_after m events = fold next_machine m events
+
+-- ---- the first state
+
+abbrev pub main_actor : StepActor
+main_actor = record { function = 0; place = Idle 0; actor = idle_actor front_rows }
+
+abbrev pub worker_actor : Call → StepActor
+worker_actor c = record { function = c.function; place = Idle c.times; actor = idle_actor 0 }
+
+-- None is immortal. The root is a list that main owns; its local count is one for main and one for each worker.
+abbrev pub first_memory : ℕ → Address → ℕ
+first_memory workers (Local x) = by_row (local_word 0 immortal_local) (local_word 0 (1 + workers)) 0 x
+first_memory workers (Shared x) = fresh_word
+first_memory workers (Gate x) = 1
+first_memory workers (KindOf x) = by_row half (3 * half + cell_limit) 0 x
+first_memory workers (Mark x) = 0
+first_memory workers (Cell x i) = 0
+first_memory workers (Slot x) = 0
+first_memory workers (Resource x) = 0
+first_memory workers (ThreadWord t) = if nat_le t workers then 1 else 0
+
+abbrev pub first_life : ℕ → Life
+first_life x = by_row Live Live Unborn x
+
+-- None's kind is none and the root's is list; a row that isn't born has no kind yet.
+abbrev pub first_kinds : ℕ → Kind
+first_kinds x = by_row kinds.None kinds.List kinds.Any x
+
+abbrev pub caller_reference : ℕ → Reference
+caller_reference t = record { holder = ByThread t AsCaller; object = root_row }
+
+-- the references to the root that the threads below n hold as callers
+abbrev pub callers_below : ℕ → List Reference
+callers_below zero = []
+callers_below (suc n) = caller_reference n ∷ callers_below n
+
+-- one worker for each call, with `rows` rows each
+abbrev pub first_layout : ℕ → List Call → Layout
+first_layout rows calls = record { workers = length calls; rows = rows; cells = cell_limit; immortal_lists = 0 }
+
+abbrev pub first_machine : Module → ℕ → List Call → StepMachine
+first_machine m rows calls = record {
+  functions = m.functions;
+  layout = first_layout rows calls;
+  memory = first_memory (length calls);
+  actors = main_actor ∷ map worker_actor calls;
+  abstract = record {
+    references = callers_below (1 + length calls);
+    born = root_row ∷ [];
+    closed = [];
+    kinds = first_kinds;
+  };
+  life = first_life;
+}

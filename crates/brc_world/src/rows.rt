@@ -1,0 +1,82 @@
+//! Which rows are whose: the numbers of the rows of a thread's block.
+
+ghost use Rattle.std.specs.Prelude.{◌≡◌, ◌<◌, ◌^◌};
+ghost use Rattle.brc_model.specs.Layout.{worker_rows, row_count, block_of, block_size, row_at, index_of, is_immortal_row};
+
+use brc_model::Layout;
+
+/// The row of none.
+pub const NONE_ROW: u32 = 0;
+
+/// The row of the root.
+pub const ROOT: u32 = 1;
+
+/// Main's rows in front of the workers': none's and the root's.
+pub const FRONT_ROWS: u32 = 2;
+
+/// The rows of all workers.
+fn worker_rows(layout: Layout) -> u32
+    ensures { result ≡ worker_rows layout }
+{
+    u32::from(layout.workers) * u32::from(layout.rows)
+}
+
+/// All rows.
+pub fn row_count(layout: Layout) -> usize
+    ensures { result ≡ row_count layout }
+{
+    (FRONT_ROWS + worker_rows(layout) + u32::from(layout.immortal_lists)) as usize
+}
+
+/// The thread of the row's block.
+pub fn block_of(layout: Layout, row: u32) -> u32
+    requires { 0 < layout.rows }
+    ensures { result ≡ block_of layout row }
+{
+    if FRONT_ROWS <= row && row < FRONT_ROWS + worker_rows(layout) {
+        (row - FRONT_ROWS) / u32::from(layout.rows) + 1
+    } else {
+        0
+    }
+}
+
+/// Whether the row is an immortal object's: none, or an immortal list.
+pub fn is_immortal_row(layout: Layout, row: u32) -> bool
+    ensures { result ≡ is_immortal_row layout row }
+{
+    let first = FRONT_ROWS + worker_rows(layout);
+    row == NONE_ROW || (first <= row && row < first + u32::from(layout.immortal_lists))
+}
+
+/// How many rows the thread's block has.
+pub fn block_size(layout: Layout, number: u8) -> u32
+    ensures { result ≡ block_size layout number }
+{
+    match number {
+        0 => FRONT_ROWS + u32::from(layout.immortal_lists),
+        _ => u32::from(layout.rows),
+    }
+}
+
+/// The row of the index in the thread's block.
+pub fn row_at(layout: Layout, number: u8, index: u32) -> u32
+    requires { index < 2 ^ 31 }
+    ensures { result ≡ row_at layout number index }
+{
+    match number {
+        0 if index < FRONT_ROWS => index,
+        0 => worker_rows(layout) + index,
+        _ => FRONT_ROWS + u32::from(number - 1) * u32::from(layout.rows) + index,
+    }
+}
+
+/// The index of the row in the thread's block.
+pub fn index_of(layout: Layout, number: u8, row: u32) -> u32
+    ensures { result ≡ index_of layout number row }
+{
+    match number {
+        0 if row < FRONT_ROWS => row,
+        0 => row.saturating_sub(worker_rows(layout)),
+        _ => row.saturating_sub(FRONT_ROWS + u32::from(number - 1) * u32::from(layout.rows)),
+    }
+}
