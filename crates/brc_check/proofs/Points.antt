@@ -15,7 +15,7 @@ use Rattle.brc_model.specs.declared.slot.Exit.{Exit}
 use Rattle.brc_model.specs.declared.slot.Exit.TheVariants.{Success, Fault}
 use Rattle.brc_model.specs.Slots.{entry}
 use Rattle.brc_model.specs.Paths.{At, Reports, follow}
-use Rattle.brc_model.specs.Tables.{HasShape, entry_at, row_of}
+use Rattle.brc_model.specs.Tables.{HasShape, entry_at, entries_of}
 use Rattle.brc_check.specs.declared.refused.CodeAt as refused
 use Rattle.brc_check.specs.declared.refused.Refused.{Refused}
 use Rattle.brc_check.specs.declared.step.Step.{Step}
@@ -125,7 +125,7 @@ closed_entries code entries to same past begun closed = record {
 
 pub entries_read : (lists : List (List (Option State))) (number : ℕ) (entries : List (Option State))
     → number < length lists
-    → entries ≡ slice_index_or lists number entries → entries ≡ row_of lists number
+    → entries ≡ slice_index_or lists number entries → entries ≡ entries_of lists number
 entries_read lists number entries lt is = get_or_read lists number entries lt is []
 
 pub same_points : (functions : List Function) (lists : List (List (Option State))) (number : ℕ) (f : Function)
@@ -134,7 +134,7 @@ pub same_points : (functions : List Function) (lists : List (List (Option State)
     → f ≡ slice_index_or functions number f → entries ≡ slice_index_or lists number entries
     → length entries ≡ length f.code
 same_points functions lists number f entries shape lt is_f is_entries =
-    ap length (entries_read lists number entries (let n = shape.rows in omega (arith, n, lt)) is_entries)
+    ap length (entries_read lists number entries (let n = shape.lists in omega (arith, n, lt)) is_entries)
     ∙ shape.points number f (slice_get_read functions (length functions) number f refl lt is_f)
 
 pub function_error : (functions : List Function) (lists : List (List (Option State))) (number : ℕ) (f : Function)
@@ -151,16 +151,16 @@ function_error functions lists number f entries r at c shape lt is_f is_entries 
   named = refl;
   error =
       subst (λ (o : List (Option State)). IsErrorAt f.code o at c)
-      (entries_read lists number entries (let n = shape.rows in omega (arith, n, lt)) is_entries) error;
+      (entries_read lists number entries (let n = shape.lists in omega (arith, n, lt)) is_entries) error;
 })
 
 pub closed_more : (functions : List Function) (lists : List (List (Option State))) (number : ℕ) (f : Function)
     (entries : List (Option State))
     → HasShape functions lists → number < length functions
     → f ≡ slice_index_or functions number f → entries ≡ slice_index_or lists number entries
-    → ((k : ℕ) (g : Function) → k < number → slice_get functions k ≡ Some g → IsClosed g.code (row_of lists k))
+    → ((k : ℕ) (g : Function) → k < number → slice_get functions k ≡ Some g → IsClosed g.code (entries_of lists k))
     → IsClosed f.code entries
-    → (k : ℕ) (g : Function) → k < number + 1 → slice_get functions k ≡ Some g → IsClosed g.code (row_of lists k)
+    → (k : ℕ) (g : Function) → k < number + 1 → slice_get functions k ≡ Some g → IsClosed g.code (entries_of lists k)
 closed_more functions lists number f entries shape lt is_f is_entries before here k g below e =
     elim (cases_lt k number) [
       | inl less ↦ before k g less e
@@ -169,10 +169,10 @@ closed_more functions lists number f entries shape lt is_f is_entries before her
           let function : f ≡ g =
           same_Some f g (sym (slice_get_read functions (length functions) number f refl lt is_f)
           ∙ ap (slice_get functions) (sym same) ∙ e) in
-          let entries_same : entries ≡ row_of lists k =
-          entries_read lists number entries (let n = shape.rows in omega (arith, n, lt)) is_entries
-          ∙ ap (row_of lists) (sym same) in
-          subst (λ (h : Function). IsClosed h.code (row_of lists k)) function
+          let entries_same : entries ≡ entries_of lists k =
+          entries_read lists number entries (let n = shape.lists in omega (arith, n, lt)) is_entries
+          ∙ ap (entries_of lists) (sym same) in
+          subst (λ (h : Function). IsClosed h.code (entries_of lists k)) function
           (subst (IsClosed f.code) entries_same here)
     ]
 
@@ -182,9 +182,11 @@ pub shape_more : (functions : List Function) (lists : List (List (Option State))
     (entries : List (Option State))
     → length lists ≡ length functions → number < length functions
     → f ≡ slice_index_or functions number f → entries ≡ slice_index_or lists number entries
-    → ((k : ℕ) (g : Function) → k < number → slice_get functions k ≡ Some g → length (row_of lists k) ≡ length g.code)
+    → ((k : ℕ) (g : Function) → k < number → slice_get functions k ≡ Some g → length
+    (entries_of lists k) ≡ length g.code)
     → length entries ≡ length f.code
-    → (k : ℕ) (g : Function) → k < number + 1 → slice_get functions k ≡ Some g → length (row_of lists k) ≡ length g.code
+    → (k : ℕ) (g : Function) → k < number + 1 → slice_get functions k ≡ Some g
+    → length (entries_of lists k) ≡ length g.code
 shape_more functions lists number f entries count lt is_f is_entries before here k g below e =
     elim (cases_lt k number) [
       | inl less ↦ before k g less e
@@ -193,16 +195,16 @@ shape_more functions lists number f entries count lt is_f is_entries before here
           let function : f ≡ g =
           same_Some f g (sym (slice_get_read functions (length functions) number f refl lt is_f)
           ∙ ap (slice_get functions) (sym same) ∙ e) in
-          let entries_same : entries ≡ row_of lists k =
-          entries_read lists number entries (omega (arith, count, lt)) is_entries ∙ ap (row_of lists) (sym same) in
+          let entries_same : entries ≡ entries_of lists k =
+          entries_read lists number entries (omega (arith, count, lt)) is_entries ∙ ap (entries_of lists) (sym same) in
           sym (ap length entries_same) ∙ here ∙ ap (λ (h : Function). length h.code) function
     ]
 
 pub shape_all : (functions : List Function) (lists : List (List (Option State))) (to : ℕ)
     → length lists ≡ length functions → length functions ≤ to
-    → ((k : ℕ) (g : Function) → k < to → slice_get functions k ≡ Some g → length (row_of lists k) ≡ length g.code)
+    → ((k : ℕ) (g : Function) → k < to → slice_get functions k ≡ Some g → length (entries_of lists k) ≡ length g.code)
     → HasShape functions lists
 shape_all functions lists to count past each = record {
-  rows = count;
+  lists = count;
   points = λ k g e. each k g (let within = slice_get_within functions k g e in omega (arith, within, past)) e;
 }

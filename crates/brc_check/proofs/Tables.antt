@@ -12,7 +12,7 @@ use Rattle.brc_lang.specs.declared.module.Instr.{Instr}
 use Rattle.brc_model.specs.declared.code.CheckCode.{CheckCode}
 use Rattle.brc_model.specs.declared.slot.State.{State}
 use Rattle.brc_model.specs.Paths.{IsAcceptableCode, IsAcceptable}
-use Rattle.brc_model.specs.Tables.{HasShape, IsTrueTable, IsTrueWhereReached, row_of}
+use Rattle.brc_model.specs.Tables.{HasShape, IsTrueTable, IsTrueWhereReached, entries_of}
 use Rattle.brc_check.specs.declared.refused.Refused.{Refused}
 use Rattle.brc_check.specs.Entries.{IsClosed}
 use Rattle.brc_check.specs.Filling.{IsInferred}
@@ -35,7 +35,7 @@ holds_at P (g ∷ fs) (suc k) f all e = holds_at P fs k f all.1 e
 
 pub record AreInferred (functions : List Function) (lists : List (List (Option State))) (to : ℕ) : Type 0 where
   pub count : length lists ≡ to
-  pub each : (k : ℕ) (f : Function) → k < to → slice_get functions k ≡ Some f → IsInferred f.code (row_of lists k)
+  pub each : (k : ℕ) (f : Function) → k < to → slice_get functions k ≡ Some f → IsInferred f.code (entries_of lists k)
 
 pub none_inferred : (functions : List Function) (lists : List (List (Option State))) → lists ≡ []
     → AreInferred functions lists 0
@@ -65,7 +65,7 @@ pub inferred_true : (m : Module) (lists : List (List (Option State)))
     → IsTrueTable m lists
 inferred_true m lists are = record {
   shape = record {
-    rows = are.count;
+    lists = are.count;
     points = λ k f e. (are.each k f (slice_get_within m.functions k f e) e).same_length;
   };
   entries = λ k at f e. (are.each k f (slice_get_within m.functions k f e) e).truth at;
@@ -81,19 +81,19 @@ inferred_acceptable m lists are =
 
 abbrev pub AreClosed : List Function → List (List (Option State)) → Type 0
 AreClosed functions lists =
-    (number : ℕ) (f : Function) → slice_get functions number ≡ Some f → IsClosed f.code (row_of lists number)
+    (number : ℕ) (f : Function) → slice_get functions number ≡ Some f → IsClosed f.code (entries_of lists number)
 
 pub closed_are_acceptable : (m : Module) (lists : List (List (Option State))) → AreClosed m.functions lists
     → IsAcceptable m
 closed_are_acceptable m lists closed =
     all_hold (λ (f : Function). IsAcceptableCode f.code) m.functions
-    (λ k f e. closed-acceptable f.code (row_of lists k) (closed k f e))
+    (λ k f e. closed-acceptable f.code (entries_of lists k) (closed k f e))
 
 pub closed_are_true : (m : Module) (lists : List (List (Option State))) → HasShape m.functions lists
     → AreClosed m.functions lists → IsTrueWhereReached m lists
 closed_are_true m lists shape closed = record {
   shape = shape;
-  entries = λ k at f s e r. closed-reached f.code (row_of lists k) (closed k f e) at s r;
+  entries = λ k at f s e r. closed-reached f.code (entries_of lists k) (closed k f e) at s r;
 }
 
 -- a true table of an acceptable module has no error
@@ -102,7 +102,7 @@ pub no_table_error : (m : Module) (lists : List (List (Option State))) (r : Refu
 no_table_error m lists r accepted true_table error =
     elim error [
       | inl f ↦ f.other_shape true_table.shape
-      | inr f ↦ no_error f.function.code (row_of lists f.number) r.at r.code
+      | inr f ↦ no_error f.function.code (entries_of lists f.number) r.at r.code
           (holds_at (λ (g : Function). IsAcceptableCode g.code) m.functions f.number f.function accepted f.listed)
           (λ k. true_table.entries f.number k f.function f.listed) f.error
     ]

@@ -6,7 +6,7 @@ use Rattle.brc_model.specs.declared.code.CheckCode.{CheckCode}
 use Rattle.brc_model.specs.declared.code.CheckCode.TheVariants.{StatesDiffer, NoMemory}
 use Rattle.brc_model.specs.declared.slot.State.{State}
 use Rattle.brc_model.specs.Paths.{ReportsCode}
-use Rattle.brc_model.specs.Tables.{StatesDifferAt, HasShape, row_of}
+use Rattle.brc_model.specs.Tables.{StatesDifferAt, HasShape, entries_of}
 use Rattle.brc_check.specs.declared.refused.Refused.{Refused}
 use Rattle.brc_check.specs.Entries.{IsErrorAt}
 
@@ -46,7 +46,7 @@ pub record IsFunctionError (functions : List Function) (table : List (List (Opti
   pub function : Function
   pub listed : slice_get functions number ≡ Some function
   pub named : function.name ≡ r.function
-  pub error : IsErrorAt function.code (row_of table number) r.at r.code
+  pub error : IsErrorAt function.code (entries_of table number) r.at r.code
 
 abbrev pub IsTableError : List Function → List (List (Option State)) → Refused → Type 0
 IsTableError functions table r = IsShapeError functions table r ⊎ IsFunctionError functions table r

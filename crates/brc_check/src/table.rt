@@ -1,5 +1,5 @@
 ghost use Rattle.std.specs.Prelude.{◌≡◌, length, nat_lt, slice_set, if◌then◌else◌};
-ghost use Rattle.brc_model.specs.Tables.{row_of, entry_at};
+ghost use Rattle.brc_model.specs.Tables.{entries_of, entry_at};
 
 use brc_lang::Sequence;
 use brc_model::State;
@@ -38,7 +38,7 @@ impl Table {
 
     /// Returns the entry of a point, or `None` if there is no such point. Functions and points count from 0.
     pub fn entry(&self, function: usize, at: usize) -> Option<State>
-        ensures { result ≡ entry_at (row_of self.now function) at }
+        ensures { result ≡ entry_at (entries_of self.now function) at }
     {
         if function >= self.lists.len() {
             return None;
@@ -52,9 +52,9 @@ impl Table {
 
     /// Overwrites one entry. Returns `false` and changes nothing if there is no such point.
     pub fn change(&mut self, function: usize, at: usize, entry: Option<State>) -> bool
-        ensures answer { result ≡ nat_lt at (length (row_of self.old function)) }
+        ensures answer { result ≡ nat_lt at (length (entries_of self.old function)) }
         ensures changed { self.new ≡ (if result then slice_set self.old function
-            (slice_set (row_of self.old function) at entry) else self.old) }
+            (slice_set (entries_of self.old function) at entry) else self.old) }
     {
         if function >= self.lists.len() || at >= self.lists[function].len() {
             return false;

@@ -6,7 +6,7 @@ ghost use Rattle.std.specs.List.{AllByRecursion};
 ghost use Rattle.brc_lang.specs.declared.module.Function.{Function};
 ghost use Rattle.brc_lang.specs.Grammar.{IsModule, IsFunction};
 ghost use Rattle.brc_model.specs.Paths.{IsAcceptable};
-ghost use Rattle.brc_model.specs.Tables.{HasShape, IsTrueTable, IsTrueWhereReached, row_of};
+ghost use Rattle.brc_model.specs.Tables.{HasShape, IsTrueTable, IsTrueWhereReached, entries_of};
 ghost use Rattle.brc_model.specs.Safety.{Safe};
 ghost use Rattle.brc_check.specs.Entries.{IsClosedAt, IsClosed, IsErrorAt};
 ghost use Rattle.brc_check.specs.Refusal.{IsShapeError, IsFunctionError, IsTableError};
@@ -69,7 +69,7 @@ fn first_error(functions: &[Function], lists: &[Sequence<Option<State>>]) -> Opt
     requires { HasShape functions.now lists.now }
     ensures { MatchOption result
         ((number : ℕ) (f : Function) → slice_get functions.now number ≡ Some f
-        → IsClosed f.code (row_of lists.now number))
+        → IsClosed f.code (entries_of lists.now number))
         (λ r. IsFunctionError functions.now lists.now r) }
 {
     for (number, function) in functions.iter().enumerate() {
@@ -84,7 +84,7 @@ fn table_error(functions: &[Function], lists: &[Sequence<Option<State>>]) -> Opt
     requires { 0 < length functions.now }
     ensures { MatchOption result
         (HasShape functions.now lists.now × ((number : ℕ) (f : Function) → slice_get functions.now number ≡ Some f
-        → IsClosed f.code (row_of lists.now number)))
+        → IsClosed f.code (entries_of lists.now number)))
         (λ r. IsTableError functions.now lists.now r) }
 {
     if !has_shape(functions, lists) {

@@ -86,7 +86,7 @@ module _ (memory : Address → ℕ) (layout : Layout) (t : ℕ) (running : Bool)
     LocalReachesZero : (x word found : ℕ) → local_part word ≡ 1
         → Goes (ReleaseStore x word) found (word - 1) (DecideAtZero x ∷ []) (lose t x)
     -- (0, default): no other thread holds a reference, and the owner deallocates the object at once
-    NeverShared : (x found : ℕ) → found ≡ fresh_word
+    NothingShared : (x found : ℕ) → found ≡ fresh_word
         → Goes (DecideAtZero x) found found (Die x ∷ []) []
     -- in any other state the owner merges the counts first
     WasShared : (x found : ℕ) → found ≢ fresh_word

@@ -28,29 +28,29 @@ abbrev pub IsTrueEntry : List Instr → ℕ → Option State → Type 0
 IsTrueEntry code at entry = (s : State) → (entry ≡ Some s) ↔ Reaches code at s
 
 -- the entries of a function
-abbrev pub row_of : List (List (Option State)) → ℕ → List (Option State)
-row_of table function = slice_index_or table function []
+abbrev pub entries_of : List (List (Option State)) → ℕ → List (Option State)
+entries_of table function = slice_index_or table function []
 
 -- the entry of a point, or none past the last point
 abbrev pub entry_at : List (Option State) → ℕ → Option State
-entry_at row at = slice_index_or row at None
+entry_at entries at = slice_index_or entries at None
 
 -- ---- tables
 
 -- the table has a list of entries for each function, and the list has an entry for each of the function's points
 pub record HasShape (functions : List Function) (table : List (List (Option State))) : Type 0 where
-  pub rows : length table ≡ length functions
+  pub lists : length table ≡ length functions
   pub points : (number : ℕ) (f : Function) → slice_get functions number ≡ Some f
-      → length (row_of table number) ≡ length f.code
+      → length (entries_of table number) ≡ length f.code
 
 -- each entry of the table is true
 pub record IsTrueTable (m : Module) (table : List (List (Option State))) : Type 0 where
   pub shape : HasShape m.functions table
   pub entries : (number at : ℕ) (f : Function) → slice_get m.functions number ≡ Some f
-      → IsTrueEntry f.code at (entry_at (row_of table number) at)
+      → IsTrueEntry f.code at (entry_at (entries_of table number) at)
 
 -- each point that a path reaches has the path's state; any other point may have any entry
 pub record IsTrueWhereReached (m : Module) (table : List (List (Option State))) : Type 0 where
   pub shape : HasShape m.functions table
   pub entries : (number at : ℕ) (f : Function) (s : State) → slice_get m.functions number ≡ Some f → Reaches f.code at s
-      → entry_at (row_of table number) at ≡ Some s
+      → entry_at (entries_of table number) at ≡ Some s

@@ -39,26 +39,26 @@ abbrev pub may_fill : Bool → Duty → Bool
 may_fill full d = if leaves_chain d then full else fills_chain d
 
 -- Whether a duty works on one object: it neither settles the chain, nor claims a mark, nor exits.
-abbrev pub is_plain : Duty → Bool
-is_plain Settle = false
-is_plain (Leave i n) = false
-is_plain (Scan i n) = false
-is_plain Finish = false
-is_plain (ClaimMark x) = false
-is_plain _ = true
+abbrev pub is_inner : Duty → Bool
+is_inner Settle = false
+is_inner (Leave i n) = false
+is_inner (Scan i n) = false
+is_inner Finish = false
+is_inner (ClaimMark x) = false
+is_inner _ = true
 
 -- What a duty has in common with the one by which its work goes on: the row, whether it works on one object, whether it
 -- may be at hand while others are put aside, and what it does to the dying chain.
 pub record Traits : Type 0 where
   pub about : ℕ → Bool
-  pub plain : Bool
+  pub inner : Bool
   pub piece : Bool
   pub chain : Bool → Bool
 
 abbrev pub traits : Duty → Traits
 traits d = record {
   about = λ x. is_about x d;
-  plain = is_plain d;
+  inner = is_inner d;
   piece = is_piece d;
   chain = λ full. may_fill full d;
 }
@@ -95,26 +95,26 @@ pub record Leads (found : ℕ) (d e : Duty) : Type 0 where
   pub other : e ≢ d
   pub origin : Origin d found e
 
-plain_origin : (d : Duty) (found : ℕ) (e : Duty) → Origin d found e → is_plain e ≡ true
-plain_origin d found Settle origin = absurd origin
-plain_origin d found (Leave i n) origin = absurd origin
-plain_origin d found (Scan i n) origin = absurd origin
-plain_origin d found Finish origin = absurd origin
-plain_origin d found (ClaimMark x) origin = absurd origin
-plain_origin d found _ origin = refl
+inner_origin : (d : Duty) (found : ℕ) (e : Duty) → Origin d found e → is_inner e ≡ true
+inner_origin d found Settle origin = absurd origin
+inner_origin d found (Leave i n) origin = absurd origin
+inner_origin d found (Scan i n) origin = absurd origin
+inner_origin d found Finish origin = absurd origin
+inner_origin d found (ClaimMark x) origin = absurd origin
+inner_origin d found _ origin = refl
 
-pub next_plain : {found : ℕ} {d : Duty} (e : Duty) → Leads found d e → is_plain e ≡ true
-next_plain {found = found} {d = d} e leads = plain_origin d found e leads.origin
+pub next_inner : {found : ℕ} {d : Duty} (e : Duty) → Leads found d e → is_inner e ≡ true
+next_inner {found = found} {d = d} e leads = inner_origin d found e leads.origin
 
-pub first_plain : {found : ℕ} (d e : Duty) → Leads found d e → is_plain d ≡ true
-first_plain d e leads = ap (λ (s : Traits). s.plain) (sym leads.same) ∙ next_plain e leads
+pub first_inner : {found : ℕ} (d e : Duty) → Leads found d e → is_inner d ≡ true
+first_inner d e leads = ap (λ (s : Traits). s.inner) (sym leads.same) ∙ next_inner e leads
 
 -- ---- all that follows a duty
 
 -- The duties that follow a duty of thread t, whose dying chain has this head and whose step found this word.
 pub data Continuation (layout : Layout) (t head found : ℕ) : Duty → List Duty → Type 0 where
   -- nothing: the work is done
-  Ends : {d : Duty} → is_plain d ≡ true → Continuation layout t head found d []
+  Ends : {d : Duty} → is_inner d ≡ true → Continuation layout t head found d []
   -- nothing: the thread is gone
   Finishes : Continuation layout t head found Finish []
   -- the work goes on by one duty about the same row

@@ -33,7 +33,7 @@ IsGrounded (Locked k) row = ⊥
 -- Some path reaches the point in this state, and the state is true of the variables.
 pub record IsInside (code : List Instr) (at : ℕ) (variables : List (Option ℕ)) (s : State) : Type 0 where
   pub exits : List Exit
-  pub walked : path_end code exits ≡ At at s
+  pub arrived : path_end code exits ≡ At at s
   pub slots : length s.slots ≡ 16
   pub rows : length variables ≡ 16
   pub grounded : (v : ℕ) → IsGrounded (slot_of s v) (row_of variables v)
@@ -143,4 +143,4 @@ entry_grounded (suc v) =
     (sym (get_or-replicate_default 15 v Empty)) tt
 
 pub entry_in_call : (code : List Instr) → IsInside code 0 entry_variables entry
-entry_in_call code = record { exits = []; walked = refl; slots = refl; rows = refl; grounded = entry_grounded }
+entry_in_call code = record { exits = []; arrived = refl; slots = refl; rows = refl; grounded = entry_grounded }

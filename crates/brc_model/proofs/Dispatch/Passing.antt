@@ -66,9 +66,9 @@ arrives_at code at next s never =
 leads_by : (code : List Instr) (exits : List Exit) (at : ℕ) (s : State) (i : Instr) (exit : Exit)
     → IsAcceptableCode code → path_end code exits ≡ At at s → slice_get code at ≡ Some i → lowest i s ≡ None
     → (next : ℕ) → target i exit at ≡ Some next → path_end code (exits ++ exit ∷ []) ≡ At next (after i exit s)
-leads_by code exits at s i exit accepted walked found none next t =
+leads_by code exits at s i exit accepted arrived found none next t =
     let one_more : path_end code (exits ++ exit ∷ []) ≡ passes code at (slice_get code at) exit s =
-    path_end-append code exits exit ∙ ap (λ (p : PathEnd). follow code p exit) walked in
+    path_end-append code exits exit ∙ ap (λ (p : PathEnd). follow code p exit) arrived in
     let on : passes code at (slice_get code at) exit s ≡ arrives code at (target i exit at) (after i exit s) =
     ap (λ (o : Option Instr). passes code at o exit s) found
     ∙ ap (λ (o : Option CheckCode). unless_reported at o (arrives code at (target i exit at) (after i exit s))) none in
@@ -78,9 +78,9 @@ leads_by code exits at s i exit accepted walked found none next t =
 
 pub passes_on : (code : List Instr) (exits : List Exit) (at : ℕ) (s : State) → IsAcceptableCode code
     → path_end code exits ≡ At at s → PassesOn code exits at s
-passes_on code exits at s accepted walked =
+passes_on code exits at s accepted arrived =
     let one_more : path_end code (exits ++ Success ∷ []) ≡ passes code at (slice_get code at) Success s =
-    path_end-append code exits Success ∙ ap (λ (p : PathEnd). follow code p Success) walked in
+    path_end-append code exits Success ∙ ap (λ (p : PathEnd). follow code p Success) arrived in
     let never : (reported : CheckCode) → passes code at (slice_get code at) Success s ≡ Reports at reported
     → ⊥ = λ reported e. accepted.reports_none at reported
     (record { exits = exits ++ Success ∷ []; reports = one_more ∙ e }) in
@@ -100,7 +100,7 @@ passes_on code exits at s accepted walked =
                   here = i;
                   found = e;
                   met = are_met i s l;
-                  leads = λ exit. leads_by code exits at s i exit accepted walked e l;
+                  leads = λ exit. leads_by code exits at s i exit accepted arrived e l;
                 }
           ] refl
     ] refl

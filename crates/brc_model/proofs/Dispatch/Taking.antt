@@ -88,7 +88,7 @@ newref_taken code bag layout t used left at variables s to from here =
     let slot = Owned (kind_of (slot_of s from)) in
     let next : IsInside code (at + 1) (slice_set variables to (Some live.object)) (put s to slot) = record {
       exits = here.inside.exits ++ Success ∷ [];
-      walked = here.leads Success (at + 1) refl;
+      arrived = here.leads Success (at + 1) refl;
       slots = length-set s.slots to slot ∙ here.inside.slots;
       rows = length-set variables to (Some live.object) ∙ here.inside.rows;
       grounded =
@@ -128,7 +128,7 @@ drop_taken code bag layout t used left at variables s from here =
     let in_rows : from < length variables = omega (arith, here.variables, here.inside.rows) in
     let next : IsInside code (at + 1) (slice_set variables from None) (put s from Empty) = record {
       exits = here.inside.exits ++ Success ∷ [];
-      walked = here.leads Success (at + 1) refl;
+      arrived = here.leads Success (at + 1) refl;
       slots = length-set s.slots from Empty ∙ here.inside.slots;
       rows = length-set variables from None ∙ here.inside.rows;
       grounded = grounded-put s variables from Empty None in_slots in_rows tt here.inside.grounded;
@@ -192,7 +192,7 @@ num_born code bag layout t used left at variables s to value otherwise here room
     let in_rows : to < length variables = omega (arith, here.variables.0, here.inside.rows) in
     let next : IsInside code (at + 1) (slice_set variables to (Some row)) (put s to slot) = record {
       exits = here.inside.exits ++ Success ∷ [];
-      walked = here.leads Success (at + 1) refl;
+      arrived = here.leads Success (at + 1) refl;
       slots = length-set s.slots to slot ∙ here.inside.slots;
       rows = length-set variables to (Some row) ∙ here.inside.rows;
       grounded = grounded-put s variables to slot (Some row) in_slots in_rows (row, refl) here.inside.grounded;
@@ -218,7 +218,7 @@ num_fails code bag t left at variables s to value otherwise here =
     let in_rows : to < length variables = omega (arith, here.variables.0, here.inside.rows) in
     let next : IsInside code otherwise (slice_set variables to None) (put s to Empty) = record {
       exits = here.inside.exits ++ Fault ∷ [];
-      walked = here.leads Fault otherwise refl;
+      arrived = here.leads Fault otherwise refl;
       slots = length-set s.slots to Empty ∙ here.inside.slots;
       rows = length-set variables to None ∙ here.inside.rows;
       grounded = grounded-put s variables to Empty None in_slots in_rows tt here.inside.grounded;
@@ -279,7 +279,7 @@ in_call_taken : (code : List Instr) (bag : List Reference) (layout : Layout) (t 
     → Holds bag t (of_variables s variables)
     → IsTaken code bag layout t used (dispatch_instruction layout t used left at variables (slice_get code at))
 in_call_taken code bag layout t used left at variables s accepted instructions inside holds =
-    let on = passes_on code inside.exits at s accepted inside.walked in
+    let on = passes_on code inside.exits at s accepted inside.arrived in
     let here : StandsAt code bag t at variables s on.here =
     record {
       inside = inside;

@@ -15,7 +15,7 @@ use Rattle.brc_model.proofs.Frame.Aside.{alone_fits}
 use Rattle.brc_model.proofs.Stepping.Neutral.{found_by}
 use Rattle.brc_model.proofs.Stepping.Settled.{ready_none}
 use Rattle.brc_model.proofs.Stepping.Retains.{ready_first}
-use Rattle.brc_model.proofs.Basics.Continuation.{Traits, next_plain, Continuation, Ends, GoesOn, continues}
+use Rattle.brc_model.proofs.Basics.Continuation.{Traits, next_inner, Continuation, Ends, GoesOn, continues}
 use Rattle.brc_model.proofs.Frame.Beside.{beside}
 use Rattle.brc_model.specs.Invariant.{AtDuty}
 use Rattle.brc_model.specs.declared.layout.Layout.{Layout}
@@ -35,11 +35,11 @@ record OnePiece (d : Duty) (agenda : List Duty) : Type 0 where
 
 piece_goes_on : {layout : Layout} {t head found : ℕ} (new : ℕ) (d : Duty) (next : List Duty)
     → Continuation layout t head found d next → is_piece d ≡ true → OnePiece d (ready new (next ++ []))
-piece_goes_on new d next (Ends plain) piece =
+piece_goes_on new d next (Ends inner) piece =
     let P : List Duty → Type 0 = OnePiece d in
     subst P (sym (ready_none new)) (record { piece = tt; about = λ x. omega arith })
 piece_goes_on new d next (GoesOn e leads) piece =
-    subst (OnePiece d) (sym (ready_first new e [] (next_plain e leads))) (record {
+    subst (OnePiece d) (sym (ready_first new e [] (next_inner e leads))) (record {
       piece = ap (λ (s : Traits). s.piece) leads.same ∙ piece;
       about = λ x. omega (arith, ap (λ (s : Traits). one_if (s.about x)) leads.same);
     })

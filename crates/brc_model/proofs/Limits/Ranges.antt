@@ -91,7 +91,7 @@ origin_small k d found _ origin few = omega arith
 
 next_small : (k : ℕ) {layout : Layout} {t head found : ℕ} (d : Duty) (next : List Duty)
     → Continuation layout t head found d next → IsSmall k d → FindsSmall k layout t head d found → AreSmall k next
-next_small k d next (Ends plain) small finds = tt
+next_small k d next (Ends inner) small finds = tt
 next_small k d next Finishes small finds = tt
 next_small k {layout = layout} {t = t} {head = head} {found = found} d next (GoesOn e leads) small finds = (
   record {

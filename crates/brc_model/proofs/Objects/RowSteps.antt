@@ -91,7 +91,7 @@ local_to_zero owner n live one referenced = let down = owner_down n.local (omega
   ];
 }
 
--- `NeverShared`: if the owner's local count is 0 and the shared word is (0, default), the object has no reference.
+-- `NothingShared`: if the owner's local count is 0 and the shared word is (0, default), the object has no reference.
 pub zero_dies : (owner : ℕ) (n : Numbers) → IsLive owner n → local_part n.local ≡ 0 → 1 ≤ n.deciding
     → n.shared ≡ fresh_word → IsDead (record n { deciding = n.deciding - 1 })
 zero_dies owner n live zero some fresh =

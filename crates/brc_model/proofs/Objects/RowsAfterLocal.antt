@@ -183,7 +183,7 @@ row_after_release_store {m = m} {t = t} {a = a} {y = y} {w = w} {rest = rest} s 
 
 -- ---- the owner decides at zero
 
--- The row's invariant holds after `NeverShared` and `WasShared`.
+-- The row's invariant holds after `NothingShared` and `WasShared`.
 pub row_after_decide_at_zero : {p : Accounts} {n : ℕ} {m : Machine} {t : ℕ} {a : Actor} {y : ℕ} {rest : List Duty}
     → AtDuty p n m t a (DecideAtZero y) rest → KeepsRow m t a (DecideAtZero y) rest y
 row_after_decide_at_zero {m = m} {t = t} {a = a} {y = y} {rest = rest} s =

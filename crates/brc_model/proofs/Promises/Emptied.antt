@@ -23,7 +23,7 @@ use Rattle.brc_model.proofs.Basics.Lists.{some_is, written_actor, either}
 use Rattle.brc_model.proofs.Keeping.FirstMachine.{first_actors, worker_found}
 use Rattle.brc_model.proofs.Dispatch.Counting.{its_found, counting_silent, counting_done}
 use Rattle.brc_model.proofs.Dispatch.Claims.{claimer}
-use Rattle.brc_model.proofs.Basics.Continuation.{leaves_chain, fills_chain, may_fill, is_plain, Traits, Continuation, Ends, GoesOn, Frees, Claims, ClaimsNone, Scans, ScansNone, continues}
+use Rattle.brc_model.proofs.Basics.Continuation.{leaves_chain, fills_chain, may_fill, is_inner, Traits, Continuation, Ends, GoesOn, Frees, Claims, ClaimsNone, Scans, ScansNone, continues}
 use Rattle.brc_model.specs.declared.layout.Layout.{Layout}
 
 -- ---- agendas
@@ -74,10 +74,10 @@ kept_full head (Die x) found = refl
 kept_full head Settle found = refl
 kept_full head _ found = refl
 
-plain_less : (full : Bool) (d : Duty) (rest : List Duty) → is_plain d ≡ true → empties (may_fill full d) rest ≡ true
+inner_less : (full : Bool) (d : Duty) (rest : List Duty) → is_inner d ≡ true → empties (may_fill full d) rest ≡ true
     → empties full rest ≡ true
-plain_less full Settle rest plain e = absurd cc
-plain_less full d rest plain e =
+inner_less full Settle rest inner e = absurd cc
+inner_less full d rest inner e =
     (elim (leaves_chain d) as (λ b. empties (cond b full true) rest ≡ true → empties full rest ≡ true) [
       | true ↦ λ e. e
       | false ↦ asks_less full rest
@@ -86,8 +86,8 @@ plain_less full d rest plain e =
 next_empties : {layout : Layout} {t head found : ℕ} (d : Duty) (next rest : List Duty)
     → Continuation layout t head found d next → Empties head (d ∷ rest)
     → empties (some_chain (new_head head d found)) (next ++ rest) ≡ true
-next_empties {head = head} {found = found} d next rest (Ends plain) e =
-    plain_less (some_chain (new_head head d found)) d rest plain
+next_empties {head = head} {found = found} d next rest (Ends inner) e =
+    inner_less (some_chain (new_head head d found)) d rest inner
     (subst (λ (full : Bool). empties full rest ≡ true) (sym (kept_full head d found)) e)
 next_empties {head = head} {found = found} d next rest (GoesOn c leads) e =
     let same = ap (λ (s : Traits). s.chain (some_chain (new_head head d found))) leads.same in

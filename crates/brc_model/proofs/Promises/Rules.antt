@@ -101,7 +101,7 @@ module _ (memory : Address → ℕ) (layout : Layout) (t : ℕ) (running : Bool)
       record { left_is = refl; next_is = rw (other_test (local_part word) 1 more) refl; moves_are = refl }
   computed d found left next moves (rules.LocalReachesZero x word f last) =
       record { left_is = refl; next_is = rw (same_test (local_part word) 1 last) refl; moves_are = refl }
-  computed d found left next moves (rules.NeverShared x f fresh) =
+  computed d found left next moves (rules.NothingShared x f fresh) =
       record { left_is = refl; next_is = rw (same_test f fresh_word fresh) refl; moves_are = refl }
   computed d found left next moves (rules.WasShared x f other) =
       record { left_is = refl; next_is = rw (other_test f fresh_word other) refl; moves_are = refl }
@@ -265,7 +265,7 @@ module _ (memory : Address → ℕ) (layout : Layout) (t : ℕ) (running : Bool)
       ]
   by_rule (DecideAtZero x) found =
       elim (eqb_tells found fresh_word) [
-        | inl fresh ↦ applies _ _ _ _ _ (rules.NeverShared x found fresh.1)
+        | inl fresh ↦ applies _ _ _ _ _ (rules.NothingShared x found fresh.1)
         | inr other ↦ applies _ _ _ _ _ (rules.WasShared x found other.1)
       ]
   by_rule (SharedLoad x reason) found = rules.SharedRead x reason found

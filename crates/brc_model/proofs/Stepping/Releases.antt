@@ -243,7 +243,7 @@ thread_after_release_store p n m t a x w rest here alive =
 
 -- ---- the owner decides
 
--- The thread fits after `NeverShared` and `WasShared`.
+-- The thread fits after `NothingShared` and `WasShared`.
 pub thread_after_decide_at_zero : (p : Accounts) (n : ℕ) (m : Machine) (t : ℕ) (a : Actor) (x : ℕ) (rest : List Duty)
     → AtDuty p n m t a (DecideAtZero x) rest → (a.status ≡ Gone → ⊥)
     → ThreadFits p (done_by m t a (DecideAtZero x) rest) t

@@ -28,12 +28,12 @@ use Rattle.brc_model.proofs.Stepping.Own.{HeldStep}
 use Rattle.brc_model.proofs.Stepping.Neutral.{ThreadFits, found_by, bag_by, agenda_here, own_neutral}
 use Rattle.brc_model.proofs.Stepping.Counts.{held_same, backed_not_immortal}
 use Rattle.brc_model.proofs.Work.Weighing.{own_weighs}
-use Rattle.brc_model.proofs.Basics.Continuation.{is_plain}
+use Rattle.brc_model.proofs.Basics.Continuation.{is_inner}
 use Rattle.brc_model.proofs.Frame.Aside.{decides_of_row}
 use Rattle.brc_model.proofs.Work.Deciders.{nobody_decides}
 use Rattle.brc_model.specs.Layout.{IsCounted}
 
-pub ready_first : (head : ℕ) (d : Duty) (rest : List Duty) → is_plain d ≡ true → ready head (d ∷ rest) ≡ d ∷ rest
+pub ready_first : (head : ℕ) (d : Duty) (rest : List Duty) → is_inner d ≡ true → ready head (d ∷ rest) ≡ d ∷ rest
 ready_first zero Settle rest e = absurd cc
 ready_first zero (Scan x k) rest e = absurd cc
 ready_first zero _ rest e = refl

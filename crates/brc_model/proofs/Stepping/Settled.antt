@@ -13,7 +13,7 @@ use Rattle.brc_model.specs.OpenWork.{Later, Agenda, Settles, IsSettled}
 use Rattle.brc_model.proofs.Frame.Leaves.{head_of}
 use Rattle.brc_model.proofs.Frame.Lives.{next_of}
 use Rattle.brc_model.proofs.Stepping.Neutral.{found_by, agenda_here}
-use Rattle.brc_model.proofs.Basics.Continuation.{is_plain, next_plain, first_plain, Continuation, Ends, Finishes, GoesOn, Frees, SettlesRow, Claims, ClaimsNone, Exits, Scans, ScansNone, continues}
+use Rattle.brc_model.proofs.Basics.Continuation.{is_inner, next_inner, first_inner, Continuation, Ends, Finishes, GoesOn, Frees, SettlesRow, Claims, ClaimsNone, Exits, Scans, ScansNone, continues}
 use Rattle.brc_model.specs.declared.duty.Holding.TheVariants.{InFlight}
 use Rattle.brc_model.specs.Invariant.{AtDuty}
 use Rattle.brc_model.specs.declared.layout.Layout.{Layout}
@@ -26,21 +26,21 @@ ready_none zero = refl
 ready_none (suc head) = refl
 
 -- a duty that works on one object comes before any settling
-settles_plain : (d : Duty) (rest : List Duty) → is_plain d ≡ true → Settles rest → Settles (d ∷ rest)
-settles_plain Settle rest plain settles = absurd cc
-settles_plain (Leave x k) rest plain settles = absurd cc
-settles_plain (Scan x k) rest plain settles = absurd cc
-settles_plain Finish rest plain settles = absurd cc
-settles_plain _ rest plain settles = settles
+settles_inner : (d : Duty) (rest : List Duty) → is_inner d ≡ true → Settles rest → Settles (d ∷ rest)
+settles_inner Settle rest inner settles = absurd cc
+settles_inner (Leave x k) rest inner settles = absurd cc
+settles_inner (Scan x k) rest inner settles = absurd cc
+settles_inner Finish rest inner settles = absurd cc
+settles_inner _ rest inner settles = settles
 
-settled_plain : (head : ℕ) (d : Duty) (rest : List Duty) → is_plain d ≡ true → Settles rest
+settled_inner : (head : ℕ) (d : Duty) (rest : List Duty) → is_inner d ≡ true → Settles rest
     → IsSettled head (ready head (d ∷ rest))
-settled_plain head Settle rest plain settles = absurd cc
-settled_plain head (Leave x k) rest plain settles = absurd cc
-settled_plain head (Scan x k) rest plain settles = absurd cc
-settled_plain head Finish rest plain settles = absurd cc
-settled_plain zero _ rest plain settles = settles
-settled_plain (suc head) _ rest plain settles = settles
+settled_inner head Settle rest inner settles = absurd cc
+settled_inner head (Leave x k) rest inner settles = absurd cc
+settled_inner head (Scan x k) rest inner settles = absurd cc
+settled_inner head Finish rest inner settles = absurd cc
+settled_inner zero _ rest inner settles = settles
+settled_inner (suc head) _ rest inner settles = settles
 
 -- With an empty chain, a duty of the exit may come first.
 settled_zero : (used : ℕ) (status : Status) (rest : List Duty)
@@ -70,21 +70,21 @@ settled_later used (suc head) status _ later settles = absurd later
 
 -- ---- the agenda behind a duty
 
-plain_settles : (head : ℕ) (d : Duty) (rest : List Duty) → is_plain d ≡ true → IsSettled head (d ∷ rest)
+inner_settles : (head : ℕ) (d : Duty) (rest : List Duty) → is_inner d ≡ true → IsSettled head (d ∷ rest)
     → Settles rest
-plain_settles head Settle rest plain settled = absurd cc
-plain_settles head (Leave x k) rest plain settled = absurd cc
-plain_settles head (Scan x k) rest plain settled = absurd cc
-plain_settles head Finish rest plain settled = absurd cc
-plain_settles head _ rest plain settled = settled
+inner_settles head Settle rest inner settled = absurd cc
+inner_settles head (Leave x k) rest inner settled = absurd cc
+inner_settles head (Scan x k) rest inner settled = absurd cc
+inner_settles head Finish rest inner settled = absurd cc
+inner_settles head _ rest inner settled = settled
 
-plain_later : (used : ℕ) (status : Status) (d : Duty) (rest : List Duty) → is_plain d ≡ true
+inner_later : (used : ℕ) (status : Status) (d : Duty) (rest : List Duty) → is_inner d ≡ true
     → Agenda used status (d ∷ rest) → Later used status rest
-plain_later used status Settle rest plain fits = absurd cc
-plain_later used status (Leave x k) rest plain fits = absurd cc
-plain_later used status (Scan x k) rest plain fits = absurd cc
-plain_later used status Finish rest plain fits = absurd cc
-plain_later used status _ rest plain fits = fits
+inner_later used status Settle rest inner fits = absurd cc
+inner_later used status (Leave x k) rest inner fits = absurd cc
+inner_later used status (Scan x k) rest inner fits = absurd cc
+inner_later used status Finish rest inner fits = absurd cc
+inner_later used status _ rest inner fits = fits
 
 -- ---- the agenda after a step
 
@@ -97,20 +97,20 @@ module _ (layout : Layout) (t used head found new : ℕ) (status : Status) where
   settled_next : (d : Duty) (next rest : List Duty)
       → Continuation layout t head found d next → Agenda used status (d ∷ rest) → ScansSome d
       → new_head head d found ≡ new → IsSettled head (d ∷ rest) → IsSettled new (ready new (next ++ rest))
-  settled_next d next rest (Ends plain) fits some is settled =
-      settled_later used new status rest (plain_later used status d rest plain fits)
-      (plain_settles head d rest plain settled)
+  settled_next d next rest (Ends inner) fits some is settled =
+      settled_later used new status rest (inner_later used status d rest inner fits)
+      (inner_settles head d rest inner settled)
   settled_next d next [] Finishes fits some is settled =
       subst (IsSettled new) (sym (ready_none new)) tt
   settled_next d next (e ∷ rest) Finishes fits some is settled = absurd fits
   settled_next d next rest (GoesOn e leads) fits some is settled =
-      settled_plain new e rest (next_plain e leads) (plain_settles head d rest (first_plain d e leads) settled)
+      settled_inner new e rest (next_inner e leads) (inner_settles head d rest (first_inner d e leads) settled)
   settled_next d next rest (Frees x i n y e set leads) fits some is settled =
-      settled_plain new (ReleaseLoad y InFlight) (e ∷ rest) refl (settles_plain e rest (next_plain e leads) settled)
+      settled_inner new (ReleaseLoad y InFlight) (e ∷ rest) refl (settles_inner e rest (next_inner e leads) settled)
   settled_next d next rest SettlesRow fits some is settled =
-      settled_plain new (SettleKind (head - 1)) (Settle ∷ rest) refl tt
+      settled_inner new (SettleKind (head - 1)) (Settle ∷ rest) refl tt
   settled_next d next rest (Claims x set) fits some is settled =
-      settled_plain new (MergeSwap x Handed) (Settle ∷ rest) refl tt
+      settled_inner new (MergeSwap x Handed) (Settle ∷ rest) refl tt
   settled_next d next rest (ClaimsNone x) fits some is settled =
       settled_later used new status (Settle ∷ rest) fits tt
   settled_next d next [] (Exits i n) fits some is settled =
@@ -118,7 +118,7 @@ module _ (layout : Layout) (t used head found new : ℕ) (status : Status) where
       (refl, omega (arith, fits.1, fits.2), refl)
   settled_next d next (e ∷ rest) (Exits i n) fits some is settled = absurd fits
   settled_next d next rest (Scans i n set) fits some is settled =
-      settled_plain new (MergeSwap (row_at layout t i) Handed) (Settle ∷ Scan (i + 1) (n - 1) ∷ rest) refl tt
+      settled_inner new (MergeSwap (row_at layout t i) Handed) (Settle ∷ Scan (i + 1) (n - 1) ∷ rest) refl tt
   settled_next d next rest (ScansNone i n) fits some is settled =
       settled_later used new status (Settle ∷ Scan (i + 1) (n - 1) ∷ rest)
       (fits.0, omega (arith, fits.1, some), fits.2) tt

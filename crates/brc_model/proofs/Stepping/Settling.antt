@@ -22,7 +22,7 @@ use Rattle.brc_model.proofs.Stepping.Own.{HeldStep}
 use Rattle.brc_model.proofs.Stepping.Neutral.{ThreadFits, found_by, bag_by, memory_by, agenda_here, life_same, own_neutral}
 use Rattle.brc_model.proofs.Stepping.Counts.{held_same}
 use Rattle.brc_model.proofs.Stepping.Retains.{ready_first}
-use Rattle.brc_model.proofs.Basics.Continuation.{is_plain}
+use Rattle.brc_model.proofs.Basics.Continuation.{is_inner}
 use Rattle.brc_model.specs.Invariant.{AtDuty}
 use Rattle.brc_model.specs.declared.layout.Layout.{Layout}
 use Rattle.brc_model.specs.Layout.{IsCounted}
@@ -51,7 +51,7 @@ record SettlingStep (m : Machine) (t : ℕ) (a : Actor) (d : Duty) (x : ℕ) (re
 record KeepsHand (e : Duty) (x : ℕ) : Type 0 where
   hand : (y : ℕ) → is_finalising e y ≡ (x == y)
   lives : dies_next (e ∷ []) ≡ None
-  stays : is_plain e ≡ true
+  stays : is_inner e ≡ true
   extra_none : (h : Holding) (object : ℕ) → extra e h object ≡ false
   lacks_none : (h : Holding) (object : ℕ) → lacks e h object ≡ false
   later : (layout : Layout) (t used : ℕ) (status : Status) (rest : List Duty)

@@ -22,7 +22,7 @@ use Rattle.brc_model.proofs.Stepping.UnderWay.{exits_still}
 use Rattle.brc_model.proofs.Stepping.Own.{HeldStep, holds_step, ready_is, ChainSame, chain_same}
 use Rattle.brc_model.proofs.Stepping.Neutral.{ThreadFits, found_by, bag_by, memory_by, agenda_out, own_neutral, uses_same}
 use Rattle.brc_model.proofs.Stepping.Retains.{ready_first}
-use Rattle.brc_model.proofs.Basics.Continuation.{is_plain}
+use Rattle.brc_model.proofs.Basics.Continuation.{is_inner}
 use Rattle.brc_model.specs.Invariant.{AtDuty}
 use Rattle.brc_model.specs.Layout.{block_of, IsCounted}
 
@@ -146,7 +146,7 @@ own_done p n m t a d rest here alive kept next later moves =
 -- If one duty follows, it is the first of the new agenda.
 pub own_next : (p : Accounts) (n : ℕ) (m : Machine) (t : ℕ) (a : Actor) (d e : Duty) (rest : List Duty)
     → AtDuty p n m t a d rest → (a.status ≡ Gone → ⊥) → keeps_lives d ≡ true → keeps_lives e ≡ true
-    → is_plain e ≡ true
+    → is_inner e ≡ true
     → next_of m t a d ≡ e ∷ [] → HeldStep m.abstract.references (bag_by m t a d) t (d ∷ rest) (e ∷ rest)
     → Agenda a.used a.status (e ∷ rest)
     → ((b : Actor) → b.status ≡ a.status → b.head ≡ a.head → b.used ≡ a.used

@@ -10,13 +10,13 @@ use Rattle.brc_model.specs.Machine.{Actor, Machine, is_running, status_by, actor
 use Rattle.brc_model.specs.Accounts.{Accounts}
 use Rattle.brc_model.specs.OpenWork.{Agenda, AgendaFits, has_leave, exits}
 use Rattle.brc_model.specs.Invariant.{AtDuty}
-use Rattle.brc_model.proofs.Basics.Continuation.{is_plain, next_plain, Continuation, GoesOn, Frees, continues}
+use Rattle.brc_model.proofs.Basics.Continuation.{is_inner, next_inner, Continuation, GoesOn, Frees, continues}
 
 -- ---- the duty to leave
 
-plain_leave : (e : Duty) → is_plain e ≡ true → has_leave (e ∷ []) ≡ false
-plain_leave (Leave i n) plain = absurd cc
-plain_leave _ plain = refl
+plain_leave : (e : Duty) → is_inner e ≡ true → has_leave (e ∷ []) ≡ false
+plain_leave (Leave i n) inner = absurd cc
+plain_leave _ inner = refl
 
 leave_behind : (l rest : List Duty) → has_leave l ≡ false → has_leave (l ++ rest) ≡ has_leave rest
 leave_behind [] rest none = refl
@@ -38,8 +38,8 @@ leave_ready (suc head) (_ ∷ rest) = refl
 -- No step is followed by the duty to leave.
 next_leave : {layout : Layout} {t head found : ℕ} (d : Duty) (next : List Duty)
     → Continuation layout t head found d next → has_leave next ≡ false
-next_leave d next (GoesOn e leads) = plain_leave e (next_plain e leads)
-next_leave d next (Frees x i n y e some leads) = plain_leave e (next_plain e leads)
+next_leave d next (GoesOn e leads) = plain_leave e (next_inner e leads)
+next_leave d next (Frees x i n y e some leads) = plain_leave e (next_inner e leads)
 next_leave d next _ = refl
 
 agenda_leave : (layout : Layout) (t : ℕ) (running : Bool) (head new found : ℕ) (d : Duty) (rest : List Duty)

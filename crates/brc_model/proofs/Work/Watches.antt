@@ -19,7 +19,7 @@ use Rattle.brc_model.specs.OpenWork.{Later, Agenda, scans}
 use Rattle.brc_model.specs.Invariant.{AtDuty, looks, IsWatched, ByRunning, ByExit, ByLook, CoreInvariant}
 use Rattle.brc_model.specs.Knowledge.{status_word}
 use Rattle.brc_model.proofs.Basics.Written.{written_here, written_apart, written_load, apart_mark}
-use Rattle.brc_model.proofs.Basics.Continuation.{is_plain, next_plain, first_plain, Continuation, Ends, GoesOn, Frees, Exits, Scans, ScansNone, continues}
+use Rattle.brc_model.proofs.Basics.Continuation.{is_inner, next_inner, first_inner, Continuation, Ends, GoesOn, Frees, Exits, Scans, ScansNone, continues}
 use Rattle.brc_model.proofs.Frame.Leaves.{head_of, words_left}
 use Rattle.brc_model.proofs.Frame.Lives.{next_of}
 use Rattle.brc_model.proofs.Stepping.Neutral.{found_by, memory_by, agenda_here}
@@ -83,15 +83,15 @@ ready_scans x (suc head) (Scan j (suc k) ∷ rest) row = le-leb j x row.0
 ready_scans x zero (d ∷ rest) row = scans_told x (d ∷ rest) row
 ready_scans x (suc head) (d ∷ rest) row = scans_told x (d ∷ rest) row
 
-plain_first : (x : ℕ) (d : Duty) (rest : List Duty) → is_plain d ≡ true → ScansRow x (d ∷ rest) → ScansRow x rest
-plain_first x (Leave j k) rest plain row = absurd row
-plain_first x (Scan j k) rest plain row = absurd cc
-plain_first x _ rest plain row = row
+plain_first : (x : ℕ) (d : Duty) (rest : List Duty) → is_inner d ≡ true → ScansRow x (d ∷ rest) → ScansRow x rest
+plain_first x (Leave j k) rest inner row = absurd row
+plain_first x (Scan j k) rest inner row = absurd cc
+plain_first x _ rest inner row = row
 
-plain_before : (x : ℕ) (d : Duty) (rest : List Duty) → is_plain d ≡ true → ScansRow x rest → ScansRow x (d ∷ rest)
-plain_before x (Leave j k) rest plain row = absurd cc
-plain_before x (Scan j k) rest plain row = absurd cc
-plain_before x _ rest plain row = row
+plain_before : (x : ℕ) (d : Duty) (rest : List Duty) → is_inner d ≡ true → ScansRow x rest → ScansRow x (d ∷ rest)
+plain_before x (Leave j k) rest inner row = absurd cc
+plain_before x (Scan j k) rest inner row = absurd cc
+plain_before x _ rest inner row = row
 
 -- The duty doesn't take the row's mark away.
 abbrev Spares : Layout → ℕ → Duty → ℕ → Type 0
@@ -111,10 +111,10 @@ spares_index layout t _ x block spares = tt
 
 next_scans : {layout : Layout} {t head found : ℕ} (x : ℕ) (d : Duty) (next rest : List Duty)
     → Continuation layout t head found d next → SparesIndex d x → ScansRow x (d ∷ rest) → ScansRow x (next ++ rest)
-next_scans x d next rest (Ends plain) spares row = plain_first x d rest plain row
+next_scans x d next rest (Ends inner) spares row = plain_first x d rest inner row
 next_scans x d next rest (GoesOn e leads) spares row =
-    plain_before x e rest (next_plain e leads) (plain_first x d rest (first_plain d e leads) row)
-next_scans x d next rest (Frees y i n z e some leads) spares row = plain_before x e rest (next_plain e leads) row
+    plain_before x e rest (next_inner e leads) (plain_first x d rest (first_inner d e leads) row)
+next_scans x d next rest (Frees y i n z e some leads) spares row = plain_before x e rest (next_inner e leads) row
 next_scans x d next rest (Exits i n) spares row = absurd row
 next_scans x d next rest (Scans i n set) spares row =
     (omega (arith, row.0, spares), omega (arith, row.0, row.1, spares))

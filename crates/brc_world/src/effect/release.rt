@@ -61,7 +61,7 @@ impl Doer {
     /// Loads the shared word, once no local reference is left. (PEP 703, Biased Reference Counting: the owner frees the
     /// object, or merges the counts.) At (0, default) no other thread holds a reference, and the object dies
     /// (`unshared_object_leaks`). Any other word has to be merged first, because its count may be above or below zero
-    /// (`free_without_shared`). Rules `NeverShared` and `WasShared`.
+    /// (`free_without_shared`). Rules `NothingShared` and `WasShared`.
     #[inline(always)]
     pub(super) fn decide_at_zero(self, row: u32, found: u64) -> Effect
         ensures { IsEffect self (duties.DecideAtZero row) found result }
@@ -98,7 +98,7 @@ impl Doer {
     /// Compare-exchanges the shared word. (PEP 703, Biased Reference Counting: a decrement by a thread that isn't the
     /// owner.) If another thread has changed the word since the load, the thread retries (`lost_exchange_forgotten`).
     /// At (0, default) the object is queued for its owner, and the count keeps the reference, which the queue now holds
-    /// (`release_below_zero`). From any other shared word one reference is taken. If the object is then merged and has no
+    /// (`release_below_zero`). Any other shared word loses one reference. If the object is then merged and has no
     /// reference left, this thread deallocates it (`death_tested_before_decrement`). Rules `Queues`, `Decrements`,
     /// `DecrementsToZero` and `ExchangeLost`.
     #[inline(always)]

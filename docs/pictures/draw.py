@@ -1,0 +1,498 @@
+#!/usr/bin/env python3
+"""Draws the pictures of docs/PICTURES.md, and checks them against the definitions.
+
+    python3 docs/pictures/draw.py           writes the drawings into docs/PICTURES.md
+    python3 docs/pictures/draw.py --check   changes nothing; fails if a drawing there is out of date
+
+What is read: the rules of the step relation (crates/brc_model/specs/Rules.antt), the word of each duty (Duties.antt
+there), the numbers of the words (crates/brc_word/specs/Words.antt and Header.antt), the kinds (Kinds.antt) and
+crates.txt. A drawing whose arrows are no longer the rules is an error.
+"""
+import re
+import sys
+from pathlib import Path
+
+ROOT = Path(__file__).resolve().parents[2]
+PAGE = ROOT / "docs" / "PICTURES.md"
+MODEL = ROOT / "crates" / "brc_model" / "specs"
+WORD = ROOT / "crates" / "brc_word" / "specs"
+
+
+def fail(message):
+    sys.exit(f"draw.py: {message}")
+
+
+def want(holds, message):
+    if not holds:
+        fail(message)
+
+
+# ---- what the definitions say
+
+
+def atoms(text):
+    """The parts of an application: words, and brackets with what is in them."""
+    parts, depth, part = [], 0, ""
+    for letter in text.strip():
+        if letter in "([":
+            depth += 1
+        if letter in ")]":
+            depth -= 1
+        if letter.isspace() and depth == 0:
+            if part:
+                parts.append(part)
+            part = ""
+        else:
+            part += letter
+    return parts + [part] if part else parts
+
+
+class Rule:
+    """One rule: its duty, what the step finds and leaves, and the duties that follow."""
+
+    def __init__(self, name, text):
+        self.name = name
+        duty, self.found, self.left, self.next = atoms(text)[:4]
+        self.duty = duty.strip("()").split()[0]
+
+    def changes(self):
+        return self.left != self.found
+
+    def first_next(self):
+        return self.next.strip("()").split()[0]
+
+
+def read_rules():
+    text = (MODEL / "Rules.antt").read_text()
+    body = text[text.index("pub data Goes") : text.index("pub record IsComputed")]
+    body = re.sub(r"--.*", "", body)
+    parts = re.split(r"\n    ([A-Z]\w*) :", body)[1:]
+    rules = {}
+    for name, statement in zip(parts[::2], parts[1::2]):
+        conclusion = statement[statement.rindex("→ Goes ") + len("→ Goes ") :]
+        rules[name] = Rule(name, conclusion)
+    want(len(rules) > 40, "too few rules were found in Rules.antt")
+    return rules
+
+
+def read_addresses():
+    """The sort of word that each duty is about."""
+    found = {}
+    for line in (MODEL / "Duties.antt").read_text().splitlines():
+        match = re.match(r"address_of (?:\w+ )+?(?:\((\w+)[^)]*\)|([A-Z]\w*)) = (\w+)", line)
+        if match:
+            found[match.group(1) or match.group(2)] = match.group(3)
+    want(len(found) > 20, "too few duties were found in Duties.antt")
+    return found
+
+
+def read_numbers():
+    """The named numbers of the words."""
+    numbers = {}
+    for name, value in re.findall(r"^(\w+) = ([\d\w ^*+-]+)$", (WORD / "Words.antt").read_text(), re.M):
+        try:
+            numbers[name] = eval(value.replace("^", "**"), {"__builtins__": {}}, dict(numbers))
+        except NameError:
+            pass
+    for name in "half immortal_local most_local bias fresh_word dead_word free_word closed_word".split():
+        want(name in numbers, f"Words.antt gives no number {name}")
+    return numbers
+
+
+def read_states():
+    found = re.findall(r"^state_of (\w+) = (\d)$", (WORD / "Header.antt").read_text(), re.M)
+    states = {name.lower(): int(value) for name, value in found}
+    want(sorted(states) == ["default", "merged", "queued"], "Header.antt gives other states")
+    return states
+
+
+def read_kinds():
+    found = re.findall(r"^kind_number kinds\.(\w+) = (\d+)$", (MODEL / "Kinds.antt").read_text(), re.M)
+    return {name.lower(): int(value) for name, value in found}
+
+
+def read_crates():
+    crates = {}
+    for line in (ROOT / "crates.txt").read_text().splitlines():
+        if line and not line.startswith("#"):
+            name, below = line.split(":")
+            crates[name] = below.split()
+    return crates
+
+
+RULES = read_rules()
+ADDRESSES = read_addresses()
+NUMBERS = read_numbers()
+STATES = read_states()
+KINDS = read_kinds()
+CRATES = read_crates()
+
+
+def rules_of(test):
+    return {rule.name for rule in RULES.values() if test(rule)}
+
+
+def changing(address):
+    return rules_of(lambda rule: ADDRESSES[rule.duty] == address and rule.changes())
+
+
+def power(number):
+    """The number as a power of two, as in 2^40."""
+    exponent = number.bit_length() - 1
+    want(number == 1 << exponent, f"{number} is no power of two")
+    return exponent
+
+
+# ---- drawing
+
+
+def boxed(width, *lines):
+    want(all(len(line) < width for line in lines), f"a line is too long for its box: {lines}")
+    inside = ["│ " + line.ljust(width - 1) + "│" for line in lines]
+    return ["┌" + "─" * width + "┐"] + inside + ["└" + "─" * width + "┘"]
+
+
+def indented(lines, by=2):
+    return [(" " * by + line).rstrip() for line in lines]
+
+
+def draw_shared_word():
+    """The states of a live object, by its shared word."""
+    arrows = "SharedRaised Decrements Queues Merges MergesForHanded MergesToZero DecrementsToZero".split()
+    want(changing("Shared") == set(arrows), f"the rules that change a shared word are {sorted(changing('Shared'))}")
+    dying = rules_of(lambda rule: rule.first_next() == "Die")
+    want(dying == {"NothingShared", "MergesToZero", "DecrementsToZero"}, f"the rules that free are {sorted(dying)}")
+    default, queued, merged = (format(STATES[name], "02b") for name in ("default", "queued", "merged"))
+    want(NUMBERS["fresh_word"] == 4 * NUMBERS["bias"] + STATES["default"], "fresh_word isn't (0, default)")
+    want(NUMBERS["dead_word"] == 4 * NUMBERS["bias"] + STATES["merged"], "dead_word isn't (0, merged)")
+    return f"""
+      Born   SharedRaised            SharedRaised              SharedRaised
+        │    Decrements              Decrements                Decrements
+        │     ┌──┐                     ┌──┐                      ┌──┐
+        ▼     │  ▼                     │  ▼                      │  ▼
+      ┌───────────┐     Queues      ┌───────────┐     Merges     ┌───────────┐
+      │  default  │────────────────▶│  queued   │───────────────▶│  merged   │
+      │  bits {default}  │   from count 0  │  bits {queued}  │ MergesForHanded│  bits {merged}  │
+      └───────────┘                 └───────────┘                └───────────┘
+        │   │                                                      ▲   │
+        │   └──────────────────────── Merges ──────────────────────┘   │
+        │                                                              │
+        │ NothingShared                                                │ DecrementsToZero
+        │ MergesToZero                                                 │
+        ▼                                                              ▼
+      ┌──────────────────────────────────────────────────────────────────────┐
+      │  freed: no thread holds a reference, and one thread deallocates      │
+      └──────────────────────────────────────────────────────────────────────┘
+"""
+
+
+def draw_retain():
+    """How a new reference is counted."""
+    return """
+  RetainLoad: the thread reads the local word
+  │
+  ├─ RetainsImmortal          an immortal object: nothing is counted
+  ├─ OwnerRetains             the running owner
+  │   └─ LocalRaised          stores one local reference more
+  ├─ FullOwnerRetains         the owner, at the highest local count
+  │   └─ SharedRaised         adds one to the shared count
+  └─ OtherRetains             any other thread, or an owner that is leaving
+      └─ SharedRaised         adds one to the shared count
+"""
+
+
+def draw_release():
+    """What giving up a reference can lead to."""
+    return """
+  ReleaseLoad: the thread reads the local word
+  │
+  ├─ ReleasesImmortal         an immortal object: nothing is counted
+  │
+  ├─ OwnerReleases            the running owner: it stores one local reference less
+  │   ├─ LocalLowered         it has more local references
+  │   └─ LocalReachesZero     that was its last one: it reads the shared word
+  │       ├─ NothingShared    (0, default): the object is freed
+  │       └─ WasShared        any other word: the owner merges the counts
+  │           ├─ LocalTakenOut, MergeRead, Merges         references are left
+  │           └─ LocalTakenOut, MergeRead, MergesToZero   none is left: the object is freed
+  │
+  └─ OtherReleases            any other thread, or an owner that is leaving
+      └─ SharedRead           it reads the shared word, and then tries to exchange it
+          ├─ ExchangeLost     the word has changed meanwhile: SharedRead again
+          ├─ Decrements       one shared reference less
+          ├─ DecrementsToZero (1, merged) becomes (0, merged): the object is freed
+          └─ Queues           (0, default) becomes (0, queued): the owner is asked to merge
+              └─ Marked       the mark is set; the thread reads the owner's thread word
+                  ├─ OwnerRuns          the owner will find the mark (next lines)
+                  └─ OwnerExits         the thread takes the mark back
+                      ├─ MarkTakenBack  it was still set: this thread merges
+                      └─ MarkGone       the owner has found it, and merges
+
+  MarkClaimed                 the owner finds the mark outside its calls 
+  ScanFindsMark               the owner finds the mark at its exit
+  MarkTakenBack               the releasing thread takes the mark back
+  │
+  ├─ LocalTakenOut, MergeRead, MergesForHanded   the counts are merged (after
+  │                           MergeLost, another thread's exchange, MergeRead again)
+  └─ NobodysCount             they were merged already
+      └─ SharedRead           both ways end here: the handed reference is given up
+          ├─ Decrements       other references are left
+          └─ DecrementsToZero it was the last one: the object is freed
+"""
+
+
+def draw_life():
+    """The life of a row."""
+    want(rules_of(lambda rule: rule.duty == "BirthLocal") == {"Born"}, "a birth ends by another rule")
+    want(rules_of(lambda rule: rule.duty == "SettleEnd") == {"Closes"}, "an object is closed by another rule")
+    want(changing("Gate") == {"Chained", "Closes"}, f"the rules that change a gate are {sorted(changing('Gate'))}")
+    free, closed = NUMBERS["free_word"], power(NUMBERS["closed_word"])
+    width = 76
+    lines = boxed(width, "unborn", f"    gate {free}, local word 0: the row holds no object yet")
+    lines += [
+        "     │ KindOfOther, or KindOfResource and then SlotFilled: still unborn",
+        "     │ Born: one thread owns the object, with one local reference",
+        "     ▼",
+    ]
+    lines += boxed(width, "live", f"    gate {free}: default, queued or merged")
+    lines += [
+        "     │ NothingShared      by the owner, from default",
+        "     │ MergesToZero       by the owner, from default by way of (0, merged)",
+        "     │ DecrementsToZero   by any thread, from merged",
+        "     ▼",
+    ]
+    lines += boxed(
+        width,
+        "dying in thread t: no other thread touches its words, but for its mark",
+        "",
+        f"    gate {free}",
+        "     │ Chained: the object becomes the head of t's dying chain",
+        "     ▼",
+        "    gate: t, and the next object of the chain",
+        "     │ ChainRead: t takes the object off its chain",
+        "     ▼",
+        "     ├─ DyingResource   a file or a socket: SlotEmptied, ResourceClosed",
+        "     └─ DyingCells      any other object. Of a list CellEmptied, once for",
+        "                        each cell: what was in it is released at once",
+    )
+    lines += ["     │ Closes", "     ▼"]
+    lines += boxed(width, "closed", f"    gate 2^{closed}, for ever: no thread touches its words any more")
+    return indented(lines)
+
+
+def draw_thread():
+    """The life of a thread."""
+    running, leaving, gone = 1, int(RULES["SaysLeaving"].left), int(RULES["SaysGone"].left)
+    want(changing("ThreadWord") == {"SaysLeaving", "SaysGone"}, "other rules change a thread word")
+    return f"""
+  thread word {running}: running
+  ┌────────────────────────────────────────────────────────────────────────┐
+  │                                                                        │
+  │                       the first instruction of a call                  │
+  │   ┌───────────────┐ ──────────────────────────────▶ ┌──────────────┐   │
+  │   │     Idle      │                                 │    InCall    │   │
+  │   │ between calls │ ◀────────────────────────────── │ at one point │   │
+  │   └───────────────┘            ret, fail            └──────────────┘   │
+  │      │        │  ▲                                      │      ▲       │
+  │      │        └──┘ a claim of one of its rows:          └──────┘       │
+  │      │             MarkClaimed, NothingToClaim      any other          │
+  │      │                                              instruction        │
+  │      │ no call is left                                                 │
+  │      ▼                                                                 │
+  │   ┌───────────────┐                                                    │
+  │   │    Exiting    │ releases the root, and settles what dies by that   │
+  │   └───────────────┘                                                    │
+  └──────┬─────────────────────────────────────────────────────────────────┘
+         │ SaysLeaving
+         ▼
+  thread word {leaving}: leaving
+  ┌────────────────────────────────────────────────────────────────────────┐
+  │   ┌───────────────┐ looks at the mark of each row that it has used:    │
+  │   │    Exiting    │ ScanFindsMark, ScanFindsNone. Where it finds one   │
+  │   └───────────────┘ it merges, and settles what dies by that           │
+  └──────┬─────────────────────────────────────────────────────────────────┘
+         │ SaysGone
+         ▼
+  thread word {gone}: gone
+  ┌────────────────────────────────────────────────────────────────────────┐
+  │   takes no step                                                        │
+  └────────────────────────────────────────────────────────────────────────┘
+"""
+
+
+def field_row(*fields):
+    """One word of 64 bits: each field is its width here, its highest bit, its lowest bit and what it says."""
+    want(fields[0][1] == 63 and fields[-1][2] == 0, "the fields aren't 64 bits")
+    for above, below in zip(fields, fields[1:]):
+        want(above[2] == below[1] + 1, "the fields leave a gap")
+    numbers, middle, lines = [], [], []
+    for width, high, low, says in fields:
+        want(len(says) < width, f"the field is too narrow: {says}")
+        numbers.append(f"{high}" + f"{low}".rjust(width - len(f"{high}")))
+        middle.append((" " + says).ljust(width))
+        lines.append("─" * width)
+    return [
+        " " + " ".join(numbers),
+        "┌" + "┬".join(lines) + "┐",
+        "│" + "│".join(middle) + "│",
+        "└" + "┴".join(lines) + "┘",
+    ]
+
+
+def draw_bits():
+    """The bits of the words of a header."""
+    half, bias = power(NUMBERS["half"]), power(NUMBERS["bias"])
+    closed = power(NUMBERS["closed_word"])
+    want(NUMBERS["immortal_local"] == 2**half - 1, "the immortal count isn't the highest one")
+    want(NUMBERS["most_local"] == 2**half - 2, "the owner counts up to another number")
+    want(closed == 63, "closed isn't the highest bit")
+    state_bits = power(4)
+    top = bias + 1 + state_bits
+    lines = ["local word"]
+    count = f"local count; 2^{half} - 1: immortal"
+    lines += field_row((32, 63, half, "owner + 1; 0: nobody"), (45, half - 1, 0, count))
+    lines += ["", "shared word"]
+    count = f"shared count + 2^{bias}"
+    lines += field_row((21, 63, top, "0"), (46, top - 1, state_bits, count), (9, state_bits - 1, 0, "state"))
+    lines += ["", "gate word of a dying object"]
+    lines += field_row((32, 63, half, "thread + 1"), (45, half - 1, 0, "next of the chain: row + 1; 0: none"))
+    lines += ["", f"gate word of any other object: {NUMBERS['free_word']} is free, 2^{closed} is closed"]
+    kinds = ", ".join(f"{number} {name}" for name, number in KINDS.items() if number)
+    lines += ["", "kind word"]
+    lines += field_row((32, 63, half, "kind"), (45, half - 1, 0, "argument: a number's value, a list's cells"))
+    lines += [f" kinds: {kinds}; 0 until a birth stores the word"]
+    return indented(lines)
+
+
+def draw_values():
+    """Some words, with their values."""
+    half, bias = NUMBERS["half"], NUMBERS["bias"]
+
+    def local(owner, count):
+        return (owner + 1) * half + count
+
+    def shared(count, state):
+        return (count + bias) * 4 + STATES[state]
+
+    rows = [
+        ("local", "nobody owns the object", 0),
+        ("local", "main owns it, with 1 local reference", local(0, 1)),
+        ("local", "worker 2 owns it, with 3 local references", local(2, 3)),
+        ("local", "none, which is immortal", local(0, NUMBERS["immortal_local"])),
+        ("shared", "(0, default), of a new object", shared(0, "default")),
+        ("shared", "(1, default)", shared(1, "default")),
+        ("shared", "(0, queued)", shared(0, "queued")),
+        ("shared", "(-1, queued)", shared(-1, "queued")),
+        ("shared", "(1, merged)", shared(1, "merged")),
+        ("shared", "(0, merged), of an object that is freed", shared(0, "merged")),
+        ("gate", "free", NUMBERS["free_word"]),
+        ("gate", "dying in worker 1, the last of its chain", 2 * half),
+        ("gate", "dying in worker 1, row 6 is the next of the chain", 2 * half + 7),
+        ("gate", "closed", NUMBERS["closed_word"]),
+        ("kind", "a number whose value is 7", KINDS["num"] * half + 7),
+        ("kind", "a list of 8 cells", KINDS["list"] * half + 8),
+    ]
+    want(shared(0, "default") == NUMBERS["fresh_word"], "fresh_word is another")
+    return [f"  {word:<8}{says:<52}{value:#018x}" for word, says, value in rows]
+
+
+# What each crate does with `drop v1`, and the file to look at.
+WAY = {
+    "brc": ("hands the bytes of the module's file down", "crates/brc/src/disk.rt"),
+    "brc_arguments": ("knows from the command line what is asked for", "crates/brc_arguments/src/command.rt"),
+    "brc_command": ("has the text read, checked, run and reported", "crates/brc_command/src/carrying.rt"),
+    "brc_world": ("dispatches it: a release of v1's row, step by step", "crates/brc_world/src/dispatch.rt"),
+    "brc_check": ("asks that v1 owns a reference, and leaves it empty", "crates/brc_check/src/instruction.rt"),
+    "brc_schedule": ("for `brc step`: reads which thread takes the steps", "crates/brc_schedule/src/line.rt"),
+    "brc_model": ("defines all that: conditions, duties, rules, safety", "crates/brc_model/specs/Rules.antt"),
+    "brc_report": ("writes the tally, in which the object is closed", "crates/brc_report/src/report.rt"),
+    "brc_lang": ("reads the line as the instruction Drop of v1", "crates/brc_lang/src/instruction.rt"),
+    "brc_word": ("says what a word is with one reference less", "crates/brc_word/src/choice.rt"),
+}
+
+
+def level(crate):
+    own = [below for below in CRATES[crate] if below in CRATES]
+    return 1 + max((level(below) for below in own), default=0)
+
+
+def draw_layers():
+    """The crates by level, with the way of one instruction."""
+    crates = [name for name in CRATES if not name.endswith("_tests")]
+    want(set(crates) == set(WAY), f"crates.txt has other crates than the way of drop: {sorted(set(crates) ^ set(WAY))}")
+    for crate, (_, path) in WAY.items():
+        want((ROOT / path).exists(), f"{path} isn't there")
+    width, lines = 80, []
+    top = max(level(name) for name in crates)
+    for number in range(top, 0, -1):
+        if number < top:
+            lines.append("├───┼" + "─" * width + "┤")
+        else:
+            lines.append("┌───┬" + "─" * width + "┐")
+        shown = False
+        for name in crates:
+            if level(name) != number:
+                continue
+            says, path = WAY[name]
+            below = [b for b in CRATES[name] if b in CRATES]
+            lines.append(f"│ {number if not shown else ' '} │ " + f"{name:<15}{says}".ljust(width - 1) + "│")
+            lines.append("│   │ " + (" " * 15 + path.removeprefix(f"crates/{name}/")).ljust(width - 1) + "│")
+            if below:
+                lines.append("│   │ " + (" " * 15 + "uses " + short(below)).ljust(width - 1) + "│")
+            shown = True
+    lines.append("└───┴" + "─" * width + "┘")
+    return indented(lines)
+
+
+def short(names):
+    """Crates without the part of their names that all share."""
+    return ", ".join(name.removeprefix("brc_") for name in names)
+
+
+# ---- the page
+
+
+DRAWINGS = {
+    "shared word": draw_shared_word,
+    "retain": draw_retain,
+    "release": draw_release,
+    "life": draw_life,
+    "thread": draw_thread,
+    "bits": draw_bits,
+    "values": draw_values,
+    "layers": draw_layers,
+}
+
+
+def lines_of(drawing):
+    if isinstance(drawing, str):
+        drawing = drawing.strip("\n").split("\n")
+    return "\n".join(line.rstrip() for line in drawing)
+
+
+def check_names(name, text):
+    """Each word of two capitals in a drawing is a rule, a duty or a place."""
+    for word in re.findall(r"\b[A-Z][a-z]+(?:[A-Z][a-z]+)+\b", text):
+        known = word in RULES or word in ADDRESSES or word == "InCall"
+        want(known, f"the drawing {name} names {word}, which is no rule")
+
+
+def main():
+    text = page = PAGE.read_text()
+    drawn = ""
+    for name, draw in DRAWINGS.items():
+        drawing = lines_of(draw())
+        check_names(name, drawing)
+        drawn += drawing
+        block = re.compile(rf"(<!-- drawing: {name} -->\n```text\n).*?(```\n)", re.S)
+        want(len(block.findall(page)) == 1, f"PICTURES.md has no place for the drawing {name}, or several")
+        page = block.sub(lambda found: found.group(1) + drawing + "\n" + found.group(2), page)
+    if "--check" in sys.argv[1:]:
+        want(page == text, "PICTURES.md is out of date: run draw.py")
+    elif page != text:
+        PAGE.write_text(page)
+    missing = [name for name in RULES if not re.search(rf"\b{name}\b", page)]
+    want(not missing, f"PICTURES.md doesn't name the rules {missing}")
+
+
+main()
