@@ -60,7 +60,7 @@ AgendaFits a Leaving = Agenda a.used Leaving a.agenda
 
 -- ---- when a chain is empty
 
--- The agenda settles before it comes to a duty of the exit.
+-- The agenda settles before each duty of the exit.
 abbrev pub Settles : List Duty → Type 0
 Settles [] = Unit {0}
 Settles (Settle ∷ rest) = Unit {0}

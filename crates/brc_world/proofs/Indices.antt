@@ -12,7 +12,7 @@ use Rattle.brc_model.specs.Within.{IsThere}
 use Rattle.brc_world.specs.Effects.{IsIndexed}
 use Rattle.brc_model.specs.Layout.{front_rows, worker_rows, is_worker_row, block_of, row_at, IsCounted}
 
--- a row is of main's block or of a worker's
+-- Each row is in main's block or in a worker's.
 pub block_there : (layout : Layout) (row : ℕ) → 0 < layout.rows → block_of layout row ≤ layout.workers
 block_there layout row some =
     elim (is_worker_row layout row) as (λ b. is_worker_row layout row ≡ b
@@ -29,7 +29,7 @@ block_there layout row some =
       | false ↦ λ e. omega arith
     ] refl
 
--- no row is below its index
+-- A row's index is at most the row.
 pub index_low : (layout : Layout) (t i : ℕ) → i ≤ row_at layout t i
 index_low layout zero i =
     elim (cases_lt i front_rows) [
@@ -44,13 +44,13 @@ index_low layout zero i =
     ]
 index_low layout (suc t) i = omega arith
 
--- a duty whose word is there names no large index
+-- The index that a duty names is small, if its word exists.
 pub indexed : (layout : Layout) (t head n threads : ℕ) (d : Duty) → n ≤ total_limit
     → IsThere n threads (address_of layout t head d) → IsIndexed d
 indexed layout t head n threads (Scan i k) few there = omega (arith, index_low layout t i, few, there)
 indexed layout t head n threads _ few there = tt
 
--- what is counted isn't none
+-- A counted row isn't none's.
 pub counted_above : (layout : Layout) (x : ℕ) → IsCounted layout x → 0 < x
 counted_above layout zero counted = absurd cc
 counted_above layout (suc x) counted = omega arith

@@ -1,34 +1,34 @@
-//! Which rows are whose: the numbers of the rows of a thread's block.
+//! The rows of each thread's block, by the layout.
 
 ghost use Rattle.std.specs.Prelude.{◌≡◌, ◌<◌, ◌^◌};
 ghost use Rattle.brc_model.specs.Layout.{worker_rows, row_count, block_of, block_size, row_at, index_of, is_immortal_row};
 
 use brc_model::Layout;
 
-/// The row of none.
+/// None's row.
 pub const NONE_ROW: u32 = 0;
 
-/// The row of the root.
+/// The root's row.
 pub const ROOT: u32 = 1;
 
 /// Main's rows in front of the workers': none's and the root's.
 pub const FRONT_ROWS: u32 = 2;
 
-/// The rows of all workers.
+/// Returns the number of rows of all workers.
 fn worker_rows(layout: Layout) -> u32
     ensures { result ≡ worker_rows layout }
 {
     u32::from(layout.workers) * u32::from(layout.rows)
 }
 
-/// All rows.
+/// Returns the number of all rows.
 pub fn row_count(layout: Layout) -> usize
     ensures { result ≡ row_count layout }
 {
     (FRONT_ROWS + worker_rows(layout) + u32::from(layout.immortal_lists)) as usize
 }
 
-/// The thread of the row's block.
+/// Returns the thread whose block has the row.
 pub fn block_of(layout: Layout, row: u32) -> u32
     requires { 0 < layout.rows }
     ensures { result ≡ block_of layout row }
@@ -40,7 +40,7 @@ pub fn block_of(layout: Layout, row: u32) -> u32
     }
 }
 
-/// Whether the row is an immortal object's: none, or an immortal list.
+/// Returns whether the row is an immortal object's: none's, or an immortal list's.
 pub fn is_immortal_row(layout: Layout, row: u32) -> bool
     ensures { result ≡ is_immortal_row layout row }
 {
@@ -48,7 +48,7 @@ pub fn is_immortal_row(layout: Layout, row: u32) -> bool
     row == NONE_ROW || (first <= row && row < first + u32::from(layout.immortal_lists))
 }
 
-/// How many rows the thread's block has.
+/// Returns the number of rows of the thread's block.
 pub fn block_size(layout: Layout, number: u8) -> u32
     ensures { result ≡ block_size layout number }
 {
@@ -58,7 +58,7 @@ pub fn block_size(layout: Layout, number: u8) -> u32
     }
 }
 
-/// The row of the index in the thread's block.
+/// Returns the row with the index in the thread's block.
 pub fn row_at(layout: Layout, number: u8, index: u32) -> u32
     requires { index < 2 ^ 31 }
     ensures { result ≡ row_at layout number index }
@@ -70,7 +70,7 @@ pub fn row_at(layout: Layout, number: u8, index: u32) -> u32
     }
 }
 
-/// The index of the row in the thread's block.
+/// Returns the index of the row in the thread's block.
 pub fn index_of(layout: Layout, number: u8, row: u32) -> u32
     ensures { result ≡ index_of layout number row }
 {

@@ -210,7 +210,7 @@ either_true : (b c : Bool) → (b || c) ≡ true → (b ≡ true) ⊎ (c ≡ tru
 either_true true c e = inl refl
 either_true false c e = inr e
 
--- immortal rows are main's
+-- Immortal rows are main's.
 pub immortal_block : (layout : Layout) (x : ℕ) → is_immortal_row layout x ≡ true → block_of layout x ≡ 0
 immortal_block layout x immortal =
     elim (either_true (x == none_row) _ immortal) [
@@ -225,12 +225,12 @@ immortal_block layout x immortal =
           mains_block layout x (InRear (omega (arith, first)))
     ]
 
--- what is counted isn't none
+-- A counted row isn't none's.
 pub counted_above : (layout : Layout) (x : ℕ) → IsCounted layout x → 0 < x
 counted_above layout zero counted = absurd cc
 counted_above layout (suc x) counted = omega arith
 
--- the root is counted
+-- The root is counted.
 pub root_counted : (layout : Layout) → IsCounted layout root_row
 root_counted layout =
     elim (leb_tells (first_immortal_list layout) root_row) [
@@ -239,12 +239,12 @@ root_counted layout =
           ap (λ (b : Bool). b && nat_lt root_row (first_immortal_list layout + layout.immortal_lists)) past.0
     ]
 
--- a counted row is no immortal one
+-- A counted row isn't an immortal one.
 pub immortal_apart : (layout : Layout) (y x : ℕ) → IsCounted layout y → is_immortal_row layout x ≡ true → y ≡ x → ⊥
 immortal_apart layout y x counted immortal e =
     absurd (false≢true (sym counted ∙ ap (is_immortal_row layout) e ∙ immortal))
 
--- where there are no immortal lists, only none is immortal
+-- If there are no immortal lists, only none is immortal.
 pub only_none : (layout : Layout) (x : ℕ) → layout.immortal_lists ≡ 0 → is_immortal_row layout x ≡ true → x ≡ none_row
 only_none layout x no_lists immortal =
     elim (either_true (x == none_row) _ immortal) [

@@ -15,7 +15,7 @@ use Rattle.brc_model.specs.OpenWork.{is_about, is_piece}
 
 -- ---- one duty that follows another
 
--- Whether a duty leaves the dying chain as it is: retains, births and what an exit does.
+-- Says whether a duty leaves the dying chain as it is. Retains, births and the duties of an exit do.
 abbrev pub leaves_chain : Duty → Bool
 leaves_chain (RetainLoad x h) = true
 leaves_chain (RetainStore x h w) = true
@@ -34,11 +34,12 @@ abbrev pub fills_chain : Duty → Bool
 fills_chain Settle = false
 fills_chain _ = true
 
--- Whether the dying chain may be full once the duty and all that follows it are done, where it may be so before.
+-- Says whether the dying chain may have rows once the duty and all that follows it are done. `full` says whether it may
+-- before.
 abbrev pub may_fill : Bool → Duty → Bool
 may_fill full d = if leaves_chain d then full else fills_chain d
 
--- Whether a duty works on one object: it neither settles the chain, nor claims a mark, nor exits.
+-- Says whether a duty works on one object: it doesn't settle the chain, claim a mark or exit.
 abbrev pub is_inner : Duty → Bool
 is_inner Settle = false
 is_inner (Leave i n) = false
@@ -47,8 +48,8 @@ is_inner Finish = false
 is_inner (ClaimMark x) = false
 is_inner _ = true
 
--- What a duty has in common with the one by which its work goes on: the row, whether it works on one object, whether it
--- may be at hand while others are put aside, and what it does to the dying chain.
+-- What a duty has in common with the duty that goes on with its work: the row, whether it works on one object, whether
+-- it may come next while others are aside, and what it does to the dying chain.
 pub record Traits : Type 0 where
   pub about : ℕ → Bool
   pub inner : Bool
@@ -63,21 +64,21 @@ traits d = record {
   chain = λ full. may_fill full d;
 }
 
--- The row of a duty that may let it die.
+-- The duty may let the row's object die.
 abbrev pub MayDie : Duty → ℕ → Type 0
 MayDie (DecideAtZero x) y = x ≡ y
 MayDie (SharedExchange x r w) y = x ≡ y
 MayDie (MergeExchange x c w r) y = x ≡ y
 MayDie _ y = ⊥
 
--- The cells of a dying list, by the step that reads its kind and by those that empty a cell.
+-- How many cells a dying list has, by the step that reads its kind and the steps that empty a cell.
 abbrev pub cells_by : Duty → ℕ → ℕ
 cells_by (SettleKind x) found = cells_of found
 cells_by (SettleCell x i n) found = n
 cells_by _ found = 0
 
--- Which duties the work goes on from by duty e. Only a few go on by one that lets the row die or empties a cell, and
--- none by one that settles, claims, exits or begins a birth.
+-- The duty d, whose step found this word, may be followed by e. Only few duties are followed by one that lets the row
+-- die or empties a cell, and none by one that settles, claims, exits or begins a birth.
 abbrev pub Origin : Duty → ℕ → Duty → Type 0
 Origin d found (Die x) = MayDie d x
 Origin d found (SettleCell x i n) = n ≡ cells_by d found
@@ -89,7 +90,7 @@ Origin d found (ClaimMark x) = ⊥
 Origin d found (BirthKind x h w) = ⊥
 Origin d found _ = Unit {0}
 
--- The work of d, whose step found this word, goes on by e.
+-- The duty e goes on with the work of d, whose step found this word.
 pub record Leads (found : ℕ) (d e : Duty) : Type 0 where
   pub same : traits e ≡ traits d
   pub other : e ≢ d
@@ -135,9 +136,9 @@ pub data Continuation (layout : Layout) (t head found : ℕ) : Duty → List Dut
       (MergeSwap (row_at layout t i) Handed ∷ Settle ∷ Scan (i + 1) (n - 1) ∷ [])
   ScansNone : (i n : ℕ) → Continuation layout t head found (Scan i n) (Settle ∷ Scan (i + 1) (n - 1) ∷ [])
 
--- ---- the walk over all duties
+-- ---- all duties
 
--- by a test of the step
+-- the two ways of a test that the step makes
 on : {layout : Layout} {t head found : ℕ} {d : Duty} (b : Bool) {l r : List Duty}
     → Continuation layout t head found d l → Continuation layout t head found d r
     → Continuation layout t head found d (cond b l r)

@@ -1,4 +1,4 @@
--- Which references a step moves: those to its duty's object, and what a list's cell held. A lemma about all moves of a
+-- A step moves references to its duty's object, and the reference that a list's cell held. A lemma about all moves of a
 -- step matches on the sort of move.
 use Rattle.std.proofs.Common.{◌≡◌, ℕ, zero, suc, Bool, true, false, cond, List, [], ◌∷◌, Some, refl, sym, ◌∙◌, arith}
 use Rattle.std.specs.Prelude.{◌==◌}
@@ -21,7 +21,7 @@ use Rattle.brc_model.specs.OpenWork.{is_about}
 
 -- ---- the sorts of moves
 
--- the duty is about the row
+-- The duty is about the row.
 abbrev IsOf : ℕ → Duty → Type 0
 IsOf x d = (y : ℕ) → is_about y d ≡ (x == y)
 
@@ -71,7 +71,7 @@ pub each_effect : (P : Move → Type 0) (memory : Address → ℕ) (t : ℕ) (d 
 each_effect P memory t d found each =
     all_moves (MoveOf t found d) P each (reference_effects memory t d found) (effects_are memory t d found)
 
--- what each move leaves, all leave
+-- What each move leaves unchanged, all moves do.
 pub moved_keeps : {A : Type 0} (part : AbstractState → A) (P : Move → Type 0)
     → ((p : AbstractState) (mv : Move) → P mv → part (move p mv) ≡ part p)
     → (p : AbstractState) (mvs : List Move) → AllByRecursion P mvs → part (moved p mvs) ≡ part p
@@ -87,7 +87,7 @@ object_of (Lose r) = r.object
 object_of (PassOn r h) = r.object
 object_of (Finalise x) = x
 
--- the move is of another object
+-- The move is of a reference to another object.
 abbrev pub IsOfOther : ℕ → Move → Type 0
 IsOfOther x mv = (object_of mv == x) ≡ false
 
@@ -100,7 +100,7 @@ effect_elsewhere d x mv other empty (TakesOut z i n y is some) = absurd (omega (
 effect_elsewhere d x mv other empty (Finalises y of ended) = sym (of x) ∙ other
 effect_elsewhere d x mv other empty (Bears y h kind of born) = sym (of x) ∙ other
 
--- A step moves references to its duty's object alone, where it finds no cell full.
+-- A step that finds no full cell moves references to its duty's object alone.
 pub effects_elsewhere : (memory : Address → ℕ) (t : ℕ) (d : Duty) (found x : ℕ) → is_about x d ≡ false
     → ((y i n : ℕ) → d ≡ SettleCell y i n → found ≡ 0)
     → AllByRecursion (IsOfOther x) (reference_effects memory t d found)

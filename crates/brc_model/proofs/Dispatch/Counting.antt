@@ -1,4 +1,4 @@
--- The counting machine of a step machine: its threads, and what an action does to it.
+-- The counting machine under a step machine: its threads, and what an action does to it.
 use Rattle.std.proofs.Common.{◌≡◌, ℕ, List, Some, sym}
 use Rattle.std.specs.Prelude.{slice_get}
 use Rattle.brc_model.specs.declared.actor.Place.{Place}
@@ -14,7 +14,7 @@ pub its_found : (m : StepMachine) (t : ℕ) (a : StepActor) → slice_get m.acto
     → slice_get (counting m).actors t ≡ Some a.actor
 its_found m t a found = slice_get-image its_actor m.actors t a found
 
--- where the thread goes elsewhere, only its references move
+-- A silent step changes nothing of the counting machine but the references.
 pub counting_silent : (m : StepMachine) (t : ℕ) (a : StepActor) (moves : List Move) (place : Place)
     → with_moves (with_actor (counting m) t a.actor) moves ≡ counting (silent_by m t a moves place)
 counting_silent m t a moves place =
@@ -27,7 +27,7 @@ counting_silent m t a moves place =
       life = new.life;
     }
 
--- where it does a duty, the counting machine does
+-- A duty's step is the counting machine's step.
 pub counting_done : (m : StepMachine) (t : ℕ) (a : StepActor) (d : Duty) (rest : List Duty) (place : Place)
     → done_by (counting m) t a.actor d rest ≡ counting (does_by m t a d rest place)
 counting_done m t a d rest place =

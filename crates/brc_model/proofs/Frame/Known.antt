@@ -1,4 +1,4 @@
--- What a duty that may wait knows stays, where a step leaves what the duty relies on at its row.
+-- A duty that may wait keeps what it knows, if a step leaves what the duty relies on at its row.
 use Rattle.std.proofs.Common.{◌≡◌, ◌≢◌, ℕ, ◌<◌, true, inl, inr, refl, sym, ap, ◌∙◌, subst, arith}
 use Rattle.std.specs.Prelude.{◌==◌, List}
 use Rattle.std.proofs.lemmas.Bool.{eq-eqb}
@@ -16,7 +16,7 @@ use Rattle.brc_model.specs.Knowledge.{OwnsLocally, IsBacked, MayMerge, MayCarry,
 use Rattle.brc_model.specs.declared.layout.Layout.{Layout}
 use Rattle.brc_model.specs.Layout.{block_of, IsCounted}
 
--- What a step leaves to a thread's duty about the row.
+-- What a step leaves unchanged for a thread's duty about the row.
 pub record LeavesRow (m new : Machine) (t : ℕ) (a after : Actor) (x : ℕ) : Type 0 where
   pub layout : new.layout ≡ m.layout
   pub status : after.status ≡ a.status
@@ -66,7 +66,7 @@ module _ (m new : Machine) (t : ℕ) (a after : Actor) where
   counted_kept : (x : ℕ) → Leaves x → IsCounted m.layout x → IsCounted new.layout x
   counted_kept x leaves counted = subst (λ (l : Layout). IsCounted l x) (sym leaves.layout) counted
 
-  -- Shows that a duty keeps what it knows, where what it relies on is left at its row.
+  -- A duty keeps what it knows if the step leaves what it relies on at its row.
   pub known_kept : (e : Duty) (rest : List Duty) → may_wait e ≡ true → ((x : ℕ) → is_about x e ≡ true → Leaves x)
       → HeadFits m t a e rest → HeadFits new t after e rest
   known_kept (RetainLoad x h) rest waits leaves fits = backed_kept x (leaves x (itself x)) fits

@@ -27,13 +27,13 @@ use Rattle.brc_model.specs.Layout.{row_count, block_of, row_at, is_immortal_row}
 
 -- ---- duties
 
--- the cells that a duty speaks of
+-- the number of cells that a duty names
 abbrev cells_named : Duty → ℕ
 cells_named (SettleCell x i n) = n
 cells_named (BirthKind x h w) = cells_of w
 cells_named _ = 0
 
--- its row is below a limit, and a list has at most eight cells
+-- The duty's row is below the limit, and it names at most eight cells.
 pub record IsSmall (k : ℕ) (d : Duty) : Type 0 where
   pub row : (x : ℕ) → is_about x d ≡ true → x < k
   pub cells : cells_named d ≤ cell_limit
@@ -49,7 +49,7 @@ abbrev pub AreSmall : ℕ → List Duty → Type 0
 AreSmall k [] = Unit {0}
 AreSmall k (d ∷ rest) = IsSmall k d × AreSmall k rest
 
--- What the step has to find so that the duties that follow it are small.
+-- What the step must find so that the duties that follow are small.
 abbrev pub FindsSmall : ℕ → Layout → ℕ → ℕ → Duty → ℕ → Type 0
 FindsSmall k layout t head Settle found = head - 1 < k
 FindsSmall k layout t head (SettleKind x) found = cells_of found ≤ cell_limit
@@ -63,7 +63,7 @@ both_small : (k : ℕ) (l r : List Duty) → AreSmall k l → AreSmall k r → A
 both_small k [] r first second = second
 both_small k (d ∷ l) r first second = (first.0, both_small k l r first.1 second)
 
--- settling and exits are about no row
+-- Settling and exits are about no row.
 pub settle_small : (k : ℕ) → IsSmall k Settle
 settle_small k = record { row = λ x e. absurd cc; cells = omega arith }
 
@@ -76,7 +76,7 @@ scan_small k i n = record { row = λ x e. absurd cc; cells = omega arith }
 finish_small : (k : ℕ) → IsSmall k Finish
 finish_small k = record { row = λ x e. absurd cc; cells = omega arith }
 
--- the cells of a list are those that its kind says
+-- The cells that are emptied are those that the kind word says.
 cells_small : (k : ℕ) (layout : Layout) (t head : ℕ) (d : Duty) (found : ℕ) → IsSmall k d
     → FindsSmall k layout t head d found → cells_by d found ≤ cell_limit
 cells_small k layout t head (SettleKind x) found small finds = finds

@@ -89,7 +89,7 @@ duty_within p n m t a d rest doing small few =
       suits = duty_suits p n m t a d rest (row_count m.layout) here doing.alive few;
     }
 
--- so many threads are in the world
+-- The world has `n` threads.
 threads_in : (p : Module) (n : ℕ) (m : StepMachine) → CodeInvariant p n m → n ≡ length m.actors
 threads_in p n m whole = sym whole.kept.core.threads ∙ length-map m.actors its_actor
 

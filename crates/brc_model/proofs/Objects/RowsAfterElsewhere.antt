@@ -163,7 +163,7 @@ other_apart x d e = record {
   lives = lives_other x d e;
 }
 
--- whether a duty weighs something at its row, or lets it die
+-- Says whether a duty weighs something at its row or lets its object die.
 abbrev pub weighs : Duty → Bool
 weighs (DecideAtZero x) = true
 weighs (SharedLoad x Handed) = true
@@ -193,7 +193,7 @@ all_light x (d ∷ ds) light =
     more_apart x d ds (light_apart x d (first_false (weighs d) (list_any weighs ds) light))
     (all_light x ds (second_false (weighs d) (list_any weighs ds) light))
 
--- the duty's row is the one that it is about
+-- A duty's subject is the row that it is about.
 not_about : (layout : Layout) (t x : ℕ) (d : Duty) → (subject layout t d == x) ≡ false → is_about x d ≡ false
 not_about layout t x Settle e = refl
 not_about layout t x (Leave i n) e = refl

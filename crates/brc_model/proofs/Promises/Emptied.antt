@@ -67,7 +67,7 @@ ready_empties (suc head) (_ ∷ rest) e = e
 
 -- ---- one duty
 
--- the duty itself fills the chain as it may
+-- A duty fills the chain only if `may_fill` says so.
 kept_full : (head : ℕ) (d : Duty) (found : ℕ)
     → may_fill (some_chain (new_head head d found)) d ≡ may_fill (some_chain head) d
 kept_full head (Die x) found = refl
