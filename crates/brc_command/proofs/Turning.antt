@@ -80,7 +80,7 @@ tally_of_last m rows calls planned events first last (Ok tally) same is led coun
     counted ∙ ap tally_of (led ∙ ap (λ (w : World). world_after w events) (is ∙ ap (first_world m rows) same))
 tally_of_last m rows calls planned events first last (Err e) same is led counted = counted
 
--- ---- who is gone
+-- ---- threads that are gone
 
 has_gone_at : (w : World) (t : ℕ) (b : Bool) → t < length w.actors → b ≡ is_gone_at w t
     → has_gone (get_or w.actors t main_actor).actor.status ≡ b

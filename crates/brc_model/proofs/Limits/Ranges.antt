@@ -1,4 +1,4 @@
--- The rows and cells that threads' duties and chains name exist, and each step keeps it so.
+-- The rows and cells that threads' duties and chains name exist, before and after each step.
 use Rattle.std.proofs.Common.{◌≡◌, ℕ, zero, suc, ◌+◌, ◌<◌, ◌≤◌, true, false, cond, List, [], ◌∷◌, ◌++◌, Some, refl, sym, ap, ◌∙◌, subst, arith, ◌-◌, inl, inr}
 use Rattle.std.specs.Prelude.{◌==◌, slice_get, count_by}
 use Rattle.std.proofs.lemmas.Bool.{eq-eqb, eqb-true}
