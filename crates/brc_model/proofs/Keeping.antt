@@ -2,9 +2,12 @@
 -- work keeps the invariant if the work meets its condition (`Kept.kept_sits`).
 --
 -- In order: `NotBad` and `KeepsDuty` (a duty), `Replaced`, `Sits`, `SilentMoves` and `SilentSteps` (work that a thread
--- takes up), and `Kept`, which has both parts. `Rearranging` puts a duty aside and takes it back. None of these knows
--- code. `Callers` and `FirstMachine` show the invariant of the first machine. `CodeInvariant` adds the second layer,
--- about accepted code, and `CodeEvents` carries both layers through every list of events.
+-- takes up), and `Kept`, which has both parts. `Rearranging` puts a duty aside and takes it back. `WorkAside`,
+-- `WorkBegins`, `NextRows`, `BirthsBegin` and `FreeReferences` are the laws of what a running thread does between two
+-- duties. `Moved`, `OneReference` and `HandedOver` hand a reference over to another thread. None of these knows code.
+-- `Callers` and `FirstCounts` show the invariant of a machine in which some threads hold the root, `FirstHands` and
+-- `FirstMachine` that the first machines are such. `CodeInvariant` adds the second layer, about accepted code, and
+-- `CodeEvents` carries both layers through every list of events.
 
 pub mod NotBad
 pub mod KeepsDuty
@@ -14,7 +17,17 @@ pub mod SilentMoves
 pub mod SilentSteps
 pub mod Kept
 pub mod Rearranging
+pub mod WorkAside
+pub mod WorkBegins
+pub mod NextRows
+pub mod BirthsBegin
+pub mod FreeReferences
+pub mod Moved
+pub mod OneReference
+pub mod HandedOver
 pub mod Callers
+pub mod FirstCounts
+pub mod FirstHands
 pub mod FirstMachine
 pub mod CodeInvariant
 pub mod CodeEvents

@@ -1,12 +1,13 @@
 -- What is promised of an accepted module (`Safe.accepted_is_safe`) and of each event follows from the invariant.
 --
--- In order: `Agreeing` and `Safe`; `StepCases`, which splits an event by its action, and over it `StatesRise` to
--- `ClosedOnce`; `Gates`, `Births` and `MarksWatched`; `RowLaws`, which extends these laws to every list of events; then
--- the laws of the world: `Worlds`, `AgendaMoves`, `Emptied`, `StepsMove`, `Trace`. `Rules` proves that the named rules
--- are the steps. `Worked` computes three schedules.
+-- In order: `Agreeing` and `Safe`; `Counting`, the laws of the counting machine; `StepCases`, which splits an event by
+-- its action, and over it `StatesRise` to `ClosedOnce`; `Gates`, `Births` and `MarksWatched`; `RowLaws`, which extends
+-- these laws to every list of events; then the laws of the world: `Worlds`, `AgendaMoves`, `Emptied`, `StepsMove`,
+-- `Trace`. `Rules` proves that the named rules are the steps. `Worked` computes three schedules.
 
 pub mod Agreeing
 pub mod Safe
+pub mod Counting
 pub mod StepCases
 pub mod StatesRise
 pub mod Immortals

@@ -9,6 +9,8 @@ use Rattle.brc_model.specs.declared.duty.Duty.{Duty}
 use Rattle.brc_model.specs.declared.duty.Duty.TheVariants.{RetainLoad, RetainStore, RetainAdd, ReleaseLoad, ReleaseStore, SharedLoad, SharedExchange, BirthKind, BirthSlot, BirthLocal}
 use Rattle.brc_model.specs.References.{held, one_if, reference_of}
 use Rattle.brc_word.specs.Words.{half}
+use Rattle.brc_model.specs.declared.layout.Layout.{Layout}
+use Rattle.brc_model.specs.Layout.{IsCounted}
 
 -- Says whether the duty gives up this reference: the bag still has it, and the account no longer does.
 abbrev pub extra : Duty → Holding → ℕ → Bool
@@ -66,11 +68,12 @@ abbrev pub most_lent : ℕ
 most_lent = half
 
 -- A thread holds at most one reference by each of its sixteen variables, and as the caller at most `most_lent` to one
--- object. A reference in flight is part of no account.
-pub record IsBounded (account : Account) : Type 0 where
+-- counted object. References to immortal objects aren't counted, so it may hold any number of them. A reference in
+-- flight is part of no account.
+pub record IsBounded (layout : Layout) (account : Account) : Type 0 where
   pub by_variable : (v object : ℕ) → account (ByVariable v) object ≤ 1
   pub sixteen : (v object : ℕ) → 16 ≤ v → account (ByVariable v) object ≡ 0
-  pub lent : (object : ℕ) → account AsCaller object ≤ most_lent
+  pub lent : (object : ℕ) → IsCounted layout object → account AsCaller object ≤ most_lent
   pub in_flight : (object : ℕ) → account InFlight object ≡ 0
 
 -- The account is empty, as that of a thread whose exit is under way or done.

@@ -42,7 +42,7 @@ numbers_of m x = record {
 pub record ActorFits (account : Account) (m : Machine) (t : ℕ) (a : Actor) : Type 0 where
   pub word : m.memory (ThreadWord t) ≡ status_word a.status
   pub holds : HoldsAt m.abstract.references t account a.agenda a.aside
-  pub bounded : IsBounded account
+  pub bounded : IsBounded m.layout account
   pub exited : exits a.status a.agenda ≡ true → HoldsNone account × (a.aside ≡ [])
   pub head_fits : HeadOf m t a a.agenda
   pub chain : ChainFits m t a.head a.agenda

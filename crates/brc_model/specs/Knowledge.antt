@@ -11,7 +11,7 @@ use Rattle.brc_model.specs.declared.address.Address.{Address}
 use Rattle.brc_model.specs.declared.address.Address.TheVariants.{Local, Shared, Gate, KindOf, ThreadWord}
 use Rattle.brc_model.specs.declared.actor.Status.{Status}
 use Rattle.brc_model.specs.declared.actor.Status.TheVariants.{Running, Leaving, Gone}
-use Rattle.brc_model.specs.Machine.{Actor, Dying, Machine}
+use Rattle.brc_model.specs.Machine.{Actor, Unborn, Dying, Machine}
 use Rattle.brc_model.specs.References.{held, reference_of}
 use Rattle.brc_model.specs.Layout.{block_of, block_size, row_at, IsCounted}
 
@@ -74,8 +74,9 @@ HeadFits m t a (SharedLoad x Handed) rest = (IsCounted m.layout x) × (phase_par
 HeadFits m t a (SharedExchange x Own w) rest = IsCounted m.layout x
 HeadFits m t a (SharedExchange x Handed w) rest = (IsCounted m.layout x) × (phase_part (m.memory (Shared x)) ≡ 3)
 HeadFits m t a (SetMark x) rest = IsCounted m.layout x
-HeadFits m t a (Look x) rest = IsCounted m.layout x
-HeadFits m t a (TakeMark x) rest = (IsCounted m.layout x) × (m.memory (ThreadWord (block_of m.layout x)) ≢ 1)
+HeadFits m t a (Look x) rest = (IsCounted m.layout x) × (m.life x ≢ Unborn)
+HeadFits m t a (TakeMark x) rest =
+    (IsCounted m.layout x) × (m.memory (ThreadWord (block_of m.layout x)) ≢ 1) × (m.life x ≢ Unborn)
 HeadFits m t a (MergeSwap x Own) rest =
     (IsCounted m.layout x) × OwnsLocally m t a x × (local_part (m.memory (Local x)) ≡ 0)
 HeadFits m t a (MergeSwap x Handed) rest = (IsCounted m.layout x) × MayMerge m t x

@@ -24,6 +24,10 @@ pub mod Events
 pub mod Safety
 pub mod World
 pub mod Within
+pub mod Ranges
+pub mod Stores
+pub mod Counting
+pub mod CountingLaws
 pub mod Progress
 pub mod Watched
 pub mod Trace

@@ -113,17 +113,22 @@ main_actor = record { function = 0; place = Idle 0; actor = idle_actor front_row
 abbrev pub worker_actor : Call → StepActor
 worker_actor c = record { function = c.function; place = Idle c.times; actor = idle_actor 0 }
 
--- None is immortal. The root is a list that main owns; its local count is one for main and one for each worker.
+-- The first words. None is immortal. The root is a list that main owns, and its local count is the number of threads
+-- that hold it.
+abbrev pub rooted_memory : ℕ → ℕ → Address → ℕ
+rooted_memory workers callers (Local x) = by_row (local_word 0 immortal_local) (local_word 0 callers) 0 x
+rooted_memory workers callers (Shared x) = fresh_word
+rooted_memory workers callers (Gate x) = 1
+rooted_memory workers callers (KindOf x) = by_row half (3 * half + cell_limit) 0 x
+rooted_memory workers callers (Mark x) = 0
+rooted_memory workers callers (Cell x i) = 0
+rooted_memory workers callers (Slot x) = 0
+rooted_memory workers callers (Resource x) = 0
+rooted_memory workers callers (ThreadWord t) = if nat_le t workers then 1 else 0
+
+-- Here main and each worker hold the root.
 abbrev pub first_memory : ℕ → Address → ℕ
-first_memory workers (Local x) = by_row (local_word 0 immortal_local) (local_word 0 (1 + workers)) 0 x
-first_memory workers (Shared x) = fresh_word
-first_memory workers (Gate x) = 1
-first_memory workers (KindOf x) = by_row half (3 * half + cell_limit) 0 x
-first_memory workers (Mark x) = 0
-first_memory workers (Cell x i) = 0
-first_memory workers (Slot x) = 0
-first_memory workers (Resource x) = 0
-first_memory workers (ThreadWord t) = if nat_le t workers then 1 else 0
+first_memory workers = rooted_memory workers (1 + workers)
 
 abbrev pub first_life : ℕ → Life
 first_life x = by_row Live Live Unborn x

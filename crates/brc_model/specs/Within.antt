@@ -1,18 +1,19 @@
 -- What a step can rely on: its word is there, and the values that it finds and leaves are a header's, below all bounds.
-use Rattle.std.specs.Prelude.{◌≡◌, ◌≢◌, ℕ, ◌+◌, ◌*◌, ◌<◌, ◌≤◌, Bool, true, List, length}
+use Rattle.std.specs.Prelude.{◌≡◌, ◌≢◌, ◌⊎◌, ℕ, ◌+◌, ◌*◌, ◌<◌, ◌≤◌, Bool, true, List, length}
 use Rattle.brc_word.specs.Words.{half, most_local, owner_part, local_part, biased_part, phase_part, bias}
 use Rattle.brc_model.specs.declared.thread.Choice.{Choice}
 use Rattle.brc_model.specs.declared.actor.Place.{Place}
 use Rattle.brc_model.specs.declared.address.Address.{Address}
 use Rattle.brc_model.specs.declared.address.Address.TheVariants.{Local, Shared, Gate, KindOf, Mark, Cell, Slot, Resource, ThreadWord}
 use Rattle.brc_model.specs.declared.duty.Duty.{Duty}
-use Rattle.brc_model.specs.declared.duty.Duty.TheVariants.{RetainStore, RetainAdd, ReleaseLoad, ReleaseStore, SharedExchange, MergeExchange, SettleCell}
+use Rattle.brc_model.specs.declared.duty.Duty.TheVariants.{RetainLoad, RetainStore, RetainAdd, ReleaseLoad, ReleaseStore, SharedLoad, SharedExchange, MergeLoad, MergeExchange, SettleCell}
 use Rattle.brc_model.specs.Duties.{address_of}
 use Rattle.brc_model.specs.Machine.{Actor, used_by, is_running}
 use Rattle.brc_model.specs.World.{World}
 use Rattle.brc_model.specs.Actions.{StepActor, Does, action_of}
 use Rattle.brc_model.specs.Limits.{cell_limit}
-use Rattle.brc_model.specs.Layout.{row_count}
+use Rattle.brc_model.specs.declared.layout.Layout.{Layout}
+use Rattle.brc_model.specs.Layout.{row_count, block_of}
 
 -- the address has a word, in a world of n rows and `threads` threads
 abbrev pub IsThere : ℕ → ℕ → Address → Type 0
@@ -37,11 +38,23 @@ Suits t running n (RetainStore x h w) found = local_part w < most_local
 Suits t running n (RetainAdd x h) found = IsShared found × (biased_part found + 1 < 2 * bias)
 Suits t running n (ReleaseLoad x h) found = running ≡ true → owner_part found ≡ t + 1 → 1 ≤ local_part found
 Suits t running n (ReleaseStore x w) found = 1 ≤ local_part w
+Suits t running n (SharedLoad x r) found = IsShared found × (1 ≤ biased_part found)
 Suits t running n (SharedExchange x r w) found = found ≡ w → IsShared w × (1 ≤ biased_part w)
+Suits t running n (MergeLoad x c r) found = (c < half) × IsShared found × (biased_part found + c < 2 * bias)
 Suits t running n (MergeExchange x c w r) found =
     (c < half) × (found ≡ w → IsShared w × (biased_part w + c < 2 * bias))
 Suits t running n (SettleCell x i k) found = found ≤ n
 Suits t running n _ found = Unit {0}
+
+-- A row's local word names no owner, or the thread of the row's block.
+abbrev pub OwnerFits : Layout → ℕ → ℕ → Type 0
+OwnerFits layout x word = (owner_part word ≡ 0) ⊎ (owner_part word ≡ block_of layout x + 1)
+
+-- what a load of a local word finds of the owner
+abbrev pub FindsOwner : Layout → Duty → ℕ → Type 0
+FindsOwner layout (RetainLoad x h) found = OwnerFits layout x found
+FindsOwner layout (ReleaseLoad x h) found = OwnerFits layout x found
+FindsOwner layout _ found = Unit {0}
 
 -- the thread's step of the duty is within all bounds
 pub record IsWithin (w : World) (t : ℕ) (a : Actor) (d : Duty) : Type 0 where

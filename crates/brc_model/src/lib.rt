@@ -8,19 +8,24 @@
 mod actor;
 mod address;
 mod code;
+mod counting_laws;
 mod duty;
+mod hand_laws;
 mod laws;
 mod layout;
 mod row_laws;
 mod rule_laws;
 mod slot;
 mod thread;
+mod work_laws;
 mod world_laws;
 
 pub use actor::{Place, Status};
 pub use address::Address;
 pub use code::CheckCode;
+pub use counting_laws::{accounts_are_there, counts_agree, duties_are_kept, duties_are_within};
 pub use duty::{Duty, Holding, Reason};
+pub use hand_laws::{hands_begin, references_are_handed_over, references_are_the_threads};
 pub use laws::accepted_is_safe;
 pub use layout::Layout;
 pub use row_laws::{
@@ -32,6 +37,10 @@ pub use row_laws::{
 pub use rule_laws::steps_go_by_rules;
 pub use slot::{Exit, Slot, State};
 pub use thread::{Call, Choice};
+pub use work_laws::{
+    births_begin, immortals_are_free, releases_begin, retains_begin, work_is_put_aside,
+    work_is_taken_back,
+};
 pub use world_laws::{
     steps_are_within, steps_move, threads_make_their_traces, worlds_are_small,
     worlds_follow_machines, worlds_lead_on,

@@ -1,8 +1,9 @@
 -- How often a reference is in the bag of references, before and after a move.
-use Rattle.std.proofs.Common.{◌≡◌, ◌≢◌, ℕ, ◌+◌, ◌<◌, ◌≤◌, Bool, true, false, cond, List, [], ◌∷◌, refl, sym, ap, ◌∙◌, subst, arith}
+use Rattle.std.proofs.Common.{◌≡◌, ◌≢◌, ℕ, ◌+◌, ◌<◌, ◌≤◌, Bool, true, false, cond, List, [], ◌∷◌, inl, inr, refl, sym, ap, ◌∙◌, subst, arith}
 use Rattle.std.specs.Prelude.{◌==◌, ◌&&◌, ◌||◌, count_by}
 use Rattle.std.specs.List.{list_any}
 use Rattle.std.proofs.lemmas.Bool.{eqb-true, eq-eqb, ne_eqb}
+use Rattle.std.proofs.lemmas.Bool.Decides.{eqb_tells}
 use Rattle.std.proofs.lemmas.List.Sums.{sum_by-cons}
 use Rattle.brc_model.proofs.Basics.Lists.{and_first, and_second}
 use Rattle.brc_model.specs.declared.duty.Holding.{Holding}
@@ -17,6 +18,13 @@ one_if_low false = omega arith
 pub one_if_true : (b : Bool) → 0 < one_if b → b ≡ true
 one_if_true true some = refl
 one_if_true false some = absurd (omega (arith, some))
+
+-- Equality of numbers is the same either way round.
+pub eqb_swapped : (a b : ℕ) → (a == b) ≡ (b == a)
+eqb_swapped a b = elim (eqb_tells a b) [
+  | inl this ↦ this.0 ∙ sym (eq-eqb b a (sym this.1))
+  | inr apart ↦ apart.0 ∙ sym (ne_eqb b a (λ e. apart.1 (sym e)))
+]
 
 pub same_holding-true : (h k : Holding) → same_holding h k ≡ true → h ≡ k
 same_holding-true (ByVariable v) (ByVariable w) e = ap ByVariable (eqb-true v w e)
@@ -33,6 +41,17 @@ pub same_holding-refl : (h : Holding) → same_holding h h ≡ true
 same_holding-refl (ByVariable v) = eq-eqb v v refl
 same_holding-refl AsCaller = refl
 same_holding-refl InFlight = refl
+
+pub same_holding-swapped : (h k : Holding) → same_holding h k ≡ same_holding k h
+same_holding-swapped (ByVariable v) (ByVariable w) = eqb_swapped v w
+same_holding-swapped (ByVariable v) AsCaller = refl
+same_holding-swapped (ByVariable v) InFlight = refl
+same_holding-swapped AsCaller (ByVariable w) = refl
+same_holding-swapped AsCaller AsCaller = refl
+same_holding-swapped AsCaller InFlight = refl
+same_holding-swapped InFlight (ByVariable w) = refl
+same_holding-swapped InFlight AsCaller = refl
+same_holding-swapped InFlight InFlight = refl
 
 pub same_holder-true : (h k : Holder) → same_holder h k ≡ true → h ≡ k
 same_holder-true (ByThread t h) (ByThread u k) e =
@@ -142,7 +161,7 @@ references_to-without object q bag has = count-without (λ (r : Reference). r.ob
 
 -- ---- the empty bag
 
-held_itself : (q : Reference) (bag : List Reference) → held q (q ∷ bag) ≡ 1 + held q bag
+pub held_itself : (q : Reference) (bag : List Reference) → held q (q ∷ bag) ≡ 1 + held q bag
 held_itself q bag = held-cons q q bag ∙ ap (λ (b : Bool). one_if b + held q bag) (same-refl q)
 
 pub empty_bag : (bag : List Reference) → ((r : Reference) → held r bag ≡ 0) → bag ≡ []

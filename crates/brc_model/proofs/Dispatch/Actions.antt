@@ -27,13 +27,15 @@ use Rattle.brc_model.proofs.Keeping.SilentSteps.{SilentSits}
 use Rattle.brc_model.proofs.Dispatch.Begins.{Starts, Gives, Takes, Bears, Follows, Nothing, Settles, Leaves, IsTaken}
 use Rattle.brc_model.proofs.Keeping.SilentMoves.{bag_after}
 use Rattle.brc_model.proofs.Keeping.Sits.{sitting, Sits, AtRest}
-use Rattle.brc_model.proofs.Keeping.Replaced.{with_account, with_account_itself}
+use Rattle.brc_model.specs.Counting.{with_account}
+use Rattle.brc_model.proofs.Keeping.Replaced.{with_account_itself}
 use Rattle.brc_model.proofs.Dispatch.TakenSits.{taken_sits, claim_sits, rests, dispatch_fits, starts_settled}
 use Rattle.brc_model.proofs.Dispatch.Counting.{its_found}
 use Rattle.brc_model.proofs.Keeping.Kept.{Doing, sits_down}
 use Rattle.brc_model.proofs.Keeping.CodeInvariant.{CodeInvariant}
 use Rattle.brc_model.proofs.Basics.Blocks.{used_row, next_within}
-use Rattle.brc_model.proofs.Limits.Ranges.{IsSmall, AreSmall, row_small, settle_small, leave_small, referenced_small}
+use Rattle.brc_model.specs.Ranges.{IsSmall, AreSmall}
+use Rattle.brc_model.proofs.Limits.Ranges.{row_small, settle_small, leave_small, referenced_small}
 use Rattle.brc_model.proofs.Dispatch.Claims.{claimer}
 use Rattle.brc_model.specs.declared.layout.Layout.{Layout}
 use Rattle.brc_model.specs.Layout.{row_count, row_at}
@@ -138,7 +140,7 @@ taken_fits p n m t a (Silent moves place) whole found at taken =
         alone = (whole.coded t a found).alone;
         moves_fit = taken.moves_fit;
         holds = placed.holds;
-        bounded = says_bounded code place placed.account placed.says;
+        bounded = says_bounded m.layout code place placed.account placed.says;
       };
     }
 taken_fits p n m t a (Does d rest place) whole found at taken =

@@ -24,6 +24,7 @@ use Rattle.brc_model.proofs.Dispatch.Holds.{nothing, the_root, of_variables}
 use Rattle.brc_model.proofs.Dispatch.Grounded.{IsInside, AreInstructions}
 use Rattle.brc_model.proofs.Frame.Aside.{HoldsAlone}
 use Rattle.brc_model.proofs.Basics.Bag.{one_if_low}
+use Rattle.brc_model.specs.declared.layout.Layout.{Layout}
 use Rattle.brc_model.specs.Layout.{root_row}
 
 -- The account of a thread that holds just these references, each once.
@@ -104,19 +105,19 @@ exited_none code Exiting account says e k object = ap (λ (c : Account). c k obj
 
 -- ---- how much the thread holds
 
-pub root_bounded : IsBounded (once_each the_root)
-root_bounded = record {
+pub root_bounded : (layout : Layout) → IsBounded layout (once_each the_root)
+root_bounded layout = record {
   by_variable = λ v object. omega arith;
   sixteen = λ v object past. refl;
-  lent = λ object. omega (arith, one_if_low (object == root_row));
+  lent = λ object counted. omega (arith, one_if_low (object == root_row));
   in_flight = λ object. refl;
 }
 
-nothing_bounded : IsBounded (once_each nothing)
-nothing_bounded = record {
+nothing_bounded : (layout : Layout) → IsBounded layout (once_each nothing)
+nothing_bounded layout = record {
   by_variable = λ v object. omega arith;
   sixteen = λ v object past. refl;
-  lent = λ object. omega arith;
+  lent = λ object counted. omega arith;
   in_flight = λ object. refl;
 }
 
@@ -124,19 +125,19 @@ nothing_bounded = record {
 past_owns_none : (s : State) (v : ℕ) → length s.slots ≡ 16 → 16 ≤ v → is_owned (slot_of s v) ≡ false
 past_owns_none s v slots past = ap is_owned (get_or_past s.slots v Empty (omega (arith, slots, past)))
 
-variables_bounded : (s : State) (variables : List (Option ℕ)) → length s.slots ≡ 16
-    → IsBounded (once_each (of_variables s variables))
-variables_bounded s variables slots = record {
+variables_bounded : (layout : Layout) (s : State) (variables : List (Option ℕ)) → length s.slots ≡ 16
+    → IsBounded layout (once_each (of_variables s variables))
+variables_bounded layout s variables slots = record {
   by_variable = λ v object. one_if_low (is_owned (slot_of s v) && names (row_of variables v) object);
   sixteen = λ v object past.
       ap (λ (b : Bool). one_if (b && names (row_of variables v) object)) (past_owns_none s v slots past);
-  lent = λ object. omega (arith, one_if_low (object == root_row));
+  lent = λ object counted. omega (arith, one_if_low (object == root_row));
   in_flight = λ object. refl;
 }
 
-pub says_bounded : (code : List Instr) (place : Place) (account : Account) → PlaceSays code place account
-    → IsBounded account
-says_bounded code (Idle left) account says = subst IsBounded (sym says) root_bounded
-says_bounded code (InCall left at variables) account says =
-    subst IsBounded (sym says.2) (variables_bounded says.0 variables says.1.slots)
-says_bounded code Exiting account says = subst IsBounded (sym says) nothing_bounded
+pub says_bounded : (layout : Layout) (code : List Instr) (place : Place) (account : Account)
+    → PlaceSays code place account → IsBounded layout account
+says_bounded layout code (Idle left) account says = subst (IsBounded layout) (sym says) (root_bounded layout)
+says_bounded layout code (InCall left at variables) account says =
+    subst (IsBounded layout) (sym says.2) (variables_bounded layout says.0 variables says.1.slots)
+says_bounded layout code Exiting account says = subst (IsBounded layout) (sym says) (nothing_bounded layout)

@@ -75,7 +75,8 @@ follows_weigh layout t used place rest f settle leave (Leaves leaves) =
 
 pub starts_sit : (p : Accounts) (n : ℕ) (m : Machine) (t : ℕ) (a : Actor) (place : Place) (d : Duty) (rest : List Duty)
     (account : Account)
-    → AtRest p n m t a → a.aside ≡ [] → HoldsAlone m.abstract.references t account (d ∷ rest) → IsBounded account
+    → AtRest p n m t a → a.aside ≡ [] → HoldsAlone m.abstract.references t account (d ∷ rest)
+    → IsBounded m.layout account
     → (exits Running (d ∷ rest) ≡ true → HoldsNone account)
     → Starts m.abstract.references m.layout t a.used d rest → Follows m.layout t a.used place rest
     → Sits m t a (d ∷ rest) account
@@ -175,7 +176,7 @@ taken_sits p c n m t a place d rest at alone taken =
       departs = departs;
       sits =
           starts_sit c n m t a.actor place d rest placed.account at alone placed.holds
-          (says_bounded code place placed.account placed.says)
+          (says_bounded m.layout code place placed.account placed.says)
           (λ e. exited_none code place placed.account placed.says (departing_is place (sym departs ∙ e)))
           taken.starts taken.follows;
     }

@@ -1,6 +1,6 @@
 -- A row with a reference, a pending decrement, a decision or a merge under way is live. A thread's agenda weighs at
 -- most what all agendas together weigh.
-use Rattle.std.proofs.Common.{◌≡◌, ℕ, ◌+◌, ◌<◌, ◌≤◌, List, ◌∷◌, Some, refl, ap, ◌∙◌, arith}
+use Rattle.std.proofs.Common.{◌≡◌, ◌≢◌, ℕ, ◌+◌, ◌<◌, ◌≤◌, List, ◌∷◌, Some, refl, sym, ap, ◌∙◌, arith}
 use Rattle.std.specs.Prelude.{slice_get, sum_by}
 use Rattle.std.proofs.lemmas.List.Sums.{sum_by-cons}
 use Rattle.brc_model.specs.AbstractState.{references_to}
@@ -43,6 +43,10 @@ alive_by owner Closed n row some =
 
 abbrev pub Alive : Machine → ℕ → Type 0
 Alive m x = IsAlive (block_of m.layout x) (m.life x) (numbers_of m x)
+
+-- A live row was born.
+pub alive_born : (m : Machine) (x : ℕ) → Alive m x → m.life x ≢ Unborn
+alive_born m x alive unborn = let wrong : Live ≡ Unborn = sym alive.life ∙ unborn in cc
 
 pub alive_referenced : (p : Accounts) (n : ℕ) (m : Machine) (x : ℕ) → CoreInvariant p n m → IsCounted m.layout x
     → 0 < references_to x m.abstract.references → Alive m x

@@ -18,7 +18,7 @@ use Rattle.brc_model.proofs.Basics.Written.{written_apart, other_local, other_sh
 use Rattle.brc_model.proofs.Basics.MovesApart.{held-without_apart}
 use Rattle.brc_model.proofs.Basics.Moves.{IsOfOther, effects_elsewhere, moved_keeps}
 use Rattle.brc_model.proofs.Frame.Leaves.{stopped_left}
-use Rattle.brc_model.proofs.Frame.Lives.{cell_found}
+use Rattle.brc_model.proofs.Frame.Lives.{cell_found, born_left, next_of}
 use Rattle.brc_model.proofs.Stepping.Neutral.{found_by}
 use Rattle.brc_model.specs.Invariant.{AtDuty}
 
@@ -29,7 +29,8 @@ other_object q r other =
     and_right (same_holder q.holder r.holder) (q.object == r.object)
     (ne_eqb q.object r.object (λ e. eqb-false r.object q.object other (sym e)))
 
-one_more_elsewhere : (q r : Reference) (bag : List Reference) → (r.object == q.object) ≡ false
+-- A further reference to another object changes nothing of how often this one is in the bag.
+pub one_more_elsewhere : (q r : Reference) (bag : List Reference) → (r.object == q.object) ≡ false
     → held q (r ∷ bag) ≡ held q bag
 one_more_elsewhere q r bag other =
     let none : one_if (same q r) ≡ 0 = ap one_if (other_object q r other) in omega (arith, held-cons q r bag, none)
@@ -61,6 +62,7 @@ module _ (p : Accounts) (n : ℕ) (m : Machine) (t : ℕ) (a : Actor) where
         moved_keeps (λ q. held (reference_of t k x) q.references) (IsOfOther x) (move_elsewhere (reference_of t k x))
         m.abstract _ (effects_elsewhere m.memory t d (found_by m t a d) x apart (cell_found p n m t a d here.core));
     stopped = λ u was. stopped_left m t a d u was;
+    born = λ was. born_left m.life t d (next_of m t a d) x was;
   }
 
   -- A duty that the thread has put aside keeps what it knows through a step of a duty about another row.

@@ -9,7 +9,7 @@ use Rattle.brc_model.specs.declared.duty.Reason.TheVariants.{Own, Handed}
 use Rattle.brc_model.specs.declared.duty.Duty.{Duty}
 use Rattle.brc_model.specs.declared.duty.Duty.TheVariants.{RetainLoad, RetainStore, RetainAdd, ReleaseLoad, ReleaseStore, DecideAtZero, SharedLoad, SharedExchange, SetMark, Look, TakeMark, MergeSwap, MergeLoad, MergeExchange}
 use Rattle.brc_model.specs.declared.address.Address.TheVariants.{Local, Shared, ThreadWord}
-use Rattle.brc_model.specs.Machine.{Actor, Machine}
+use Rattle.brc_model.specs.Machine.{Actor, Unborn, Machine}
 use Rattle.brc_model.specs.References.{held, reference_of}
 use Rattle.brc_model.specs.OpenWork.{is_about, may_wait}
 use Rattle.brc_model.specs.Knowledge.{OwnsLocally, IsBacked, MayMerge, MayCarry, HeadFits}
@@ -25,6 +25,7 @@ pub record LeavesRow (m new : Machine) (t : ℕ) (a after : Actor) (x : ℕ) : T
   pub references : (k : Holding)
       → held (reference_of t k x) new.abstract.references ≡ held (reference_of t k x) m.abstract.references
   pub stopped : (u : ℕ) → m.memory (ThreadWord u) ≢ 1 → new.memory (ThreadWord u) ≢ 1
+  pub born : m.life x ≢ Unborn → new.life x ≢ Unborn
 
 itself : (x : ℕ) → (x == x) ≡ true
 itself x = eq-eqb x x refl
@@ -95,9 +96,11 @@ module _ (m new : Machine) (t : ℕ) (a after : Actor) where
   known_kept (SharedExchange x Handed w) rest waits leaves fits =
       (counted_kept x (leaves x (itself x)) fits.0, (leaves x (itself x)).merged fits.1)
   known_kept (SetMark x) rest waits leaves fits = counted_kept x (leaves x (itself x)) fits
-  known_kept (Look x) rest waits leaves fits = counted_kept x (leaves x (itself x)) fits
+  known_kept (Look x) rest waits leaves fits =
+      (counted_kept x (leaves x (itself x)) fits.0, (leaves x (itself x)).born fits.1)
   known_kept (TakeMark x) rest waits leaves fits =
-      (counted_kept x (leaves x (itself x)) fits.0, stopped_kept x (leaves x (itself x)) fits.1)
+      let here = leaves x (itself x) in
+      (counted_kept x here fits.0, stopped_kept x here fits.1, here.born fits.2)
   known_kept (MergeSwap x Own) rest waits leaves fits =
       let here = leaves x (itself x) in
       (counted_kept x here fits.0, owns_kept x here fits.1, ap local_part (here.local fits.1) ∙ fits.2)

@@ -70,6 +70,21 @@ exchange_alive p n m t a x w Handed rest here =
       one,
     ))
 
+-- The row of a thread's load before an exchange is live, for the same reason as at the exchange.
+pub load_alive : (p : Accounts) (n : ℕ) (m : Machine) (t : ℕ) (a : Actor) (x : ℕ) (r : Reason) (rest : List Duty)
+    → AtDuty p n m t a (SharedLoad x r) rest → Alive m x
+load_alive p n m t a x Own rest here =
+    given_alive p n m t a (SharedLoad x Own) rest InFlight x here
+    (head_of p n m t a (SharedLoad x Own) rest here) (eq-eqb x x refl) refl
+load_alive p n m t a x Handed rest here =
+    let one : one_if (x == x) ≡ 1 = ap one_if (eq-eqb x x refl) in
+    alive_waiting p n m x here.core (head_of p n m t a (SharedLoad x Handed) rest here).0
+    (omega (
+      arith,
+      first_weighs (waits x) m.actors t a (SharedLoad x Handed) rest here.found here.agenda,
+      one,
+    ))
+
 pub decide_alive : (p : Accounts) (n : ℕ) (m : Machine) (t : ℕ) (a : Actor) (x : ℕ) (rest : List Duty)
     → AtDuty p n m t a (DecideAtZero x) rest → Alive m x
 decide_alive p n m t a x rest here =
@@ -83,6 +98,15 @@ merge_alive p n m t a x c w r rest here =
     let one : one_if (x == x) ≡ 1 = ap one_if (eq-eqb x x refl) in
     alive_merging p n m x here.core (head_of p n m t a (MergeExchange x c w r) rest here).0
     (omega (arith, first_weighs (merges x) m.actors t a (MergeExchange x c w r) rest here.found here.agenda, one))
+
+-- The row of a merge that loads the shared word is live, for the same reason as at the exchange.
+pub merge_load_alive : (p : Accounts) (n : ℕ) (m : Machine) (t : ℕ) (a : Actor) (x c : ℕ) (r : Reason)
+    (rest : List Duty)
+    → AtDuty p n m t a (MergeLoad x c r) rest → Alive m x
+merge_load_alive p n m t a x c r rest here =
+    let one : one_if (x == x) ≡ 1 = ap one_if (eq-eqb x x refl) in
+    alive_merging p n m x here.core (head_of p n m t a (MergeLoad x c r) rest here).0
+    (omega (arith, first_weighs (merges x) m.actors t a (MergeLoad x c r) rest here.found here.agenda, one))
 
 pub claim_alive : (p : Accounts) (n : ℕ) (m : Machine) (t : ℕ) (a : Actor) (x : ℕ) (rest : List Duty)
     → AtDuty p n m t a (MergeSwap x Handed) rest → Alive m x

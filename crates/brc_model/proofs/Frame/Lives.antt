@@ -108,6 +108,25 @@ lives_left p n m t a d rest here u x ne =
     changes_life closed (born_row d) Live u x refl
     (λ y e. second y ∙ ap (λ (l : Life). dies_by l u) (born_was p n m t a d rest y here e)) ∙ second x
 
+-- A row that was born is still born after its life changes to one that isn't `Unborn`.
+born_through : (life : ℕ → Life) (o : Option ℕ) (state : Life) (x : ℕ) → state ≢ Unborn → life x ≢ Unborn
+    → with_life life o state x ≢ Unborn
+born_through life None state x now was = was
+born_through life (Some y) state x now was =
+    elim (y == x) as (λ b. cond b state (life x) ≢ Unborn) [
+      | true ↦ now
+      | false ↦ was
+    ]
+
+-- A born row is still born after a step.
+pub born_left : (life : ℕ → Life) (t : ℕ) (d : Duty) (next : List Duty) (x : ℕ) → life x ≢ Unborn
+    → life_by life t d next x ≢ Unborn
+born_left life t d next x was =
+    let dying = with_life life (dies_next next) (Dying t) in
+    let first : dying x ≢ Unborn = born_through life (dies_next next) (Dying t) x (λ e. cc) was in
+    born_through (with_life dying (ended_row d) Closed) (born_row d) Live x (λ e. cc)
+    (born_through dying (ended_row d) Closed x (λ e. cc) first)
+
 -- ---- kinds
 
 -- A kind word that names a counted kind still does after a step: a birth stores such kinds alone.
@@ -138,4 +157,5 @@ leaves_others p n m t a d rest here = record {
   gates = λ u x ne dies. gates_left p n m t a d rest here u x ne dies;
   kinds = λ x was. kinds_left p n m t a d rest here x was;
   lives = λ u x ne. lives_left p n m t a d rest here u x ne;
+  born = λ x was. born_left m.life t d (next_of m t a d) x was;
 }

@@ -15,7 +15,7 @@ use Rattle.brc_model.specs.Machine.{Actor, Life, Unborn, Live, Dying, Closed, Ma
 use Rattle.brc_model.specs.References.{held, one_if, reference_of}
 use Rattle.brc_model.specs.OpenWork.{AllWait, AsideFits, AgendaFits, Linked, dies_by, ChainFits}
 use Rattle.brc_model.specs.Invariant.{Fits, ActorFits}
-use Rattle.brc_model.specs.Accounts.{Accounts, HoldsAt, Account}
+use Rattle.brc_model.specs.Accounts.{Accounts, HoldsAt, Account, IsBounded}
 use Rattle.brc_model.proofs.Frame.Known.{LeavesRow, known_kept}
 use Rattle.brc_model.specs.Knowledge.{OwnsLocally, IsNext, HasCountedKind, HeadFits, HeadOf, IsDyingWord}
 use Rattle.brc_model.proofs.Basics.Lists.{some_is, slice_get-set_same, slice_get-set_other}
@@ -37,6 +37,7 @@ pub record LeavesOthers (m new : Machine) (t : ℕ) : Type 0 where
   -- A kind word that names a counted kind still names one.
   pub kinds : (x : ℕ) → HasCountedKind m.memory x → HasCountedKind new.memory x
   pub lives : (u x : ℕ) → u ≢ t → dies_by (new.life x) u ≡ dies_by (m.life x) u
+  pub born : (x : ℕ) → m.life x ≢ Unborn → new.life x ≢ Unborn
 
 holds_kept : (m new : Machine) (t u : ℕ) (account : Account) (agenda aside : List Duty) → LeavesOthers m new t → u ≢ t
     → HoldsAt m.abstract.references u account agenda aside → HoldsAt new.abstract.references u account agenda aside
@@ -52,6 +53,7 @@ row_left m new t u b leaves ne found x = record {
   merged = leaves.merged x;
   references = λ k. leaves.bag u k x ne;
   stopped = leaves.stopped;
+  born = leaves.born x;
 }
 
 pub dying_is : (l : Life) (u : ℕ) → l ≡ Dying u → dies_by l u ≡ true
@@ -172,7 +174,7 @@ others_fit : (account : Account) (m new : Machine) (t u : ℕ) (b : Actor) → L
 others_fit account m new t u b leaves ne found fits = record {
   word = leaves.words u ne ∙ fits.word;
   holds = holds_kept m new t u account b.agenda b.aside leaves ne fits.holds;
-  bounded = fits.bounded;
+  bounded = subst (λ (l : Layout). IsBounded l account) (sym leaves.layout) fits.bounded;
   exited = fits.exited;
   head_fits = head_of_kept m new t u b b.agenda leaves ne found fits.head_fits;
   chain = chain_kept m new t u b.head b.agenda leaves ne fits.chain;

@@ -12,7 +12,7 @@ use Rattle.brc_model.proofs.Basics.Lists.{written_actor}
 use Rattle.brc_model.proofs.Stepping.Neutral.{found_by}
 use Rattle.brc_model.proofs.Stepping.UnderWay.{exits_still}
 use Rattle.brc_model.proofs.Keeping.Sits.{sitting, taken_up_step}
-use Rattle.brc_model.proofs.Keeping.Replaced.{with_account}
+use Rattle.brc_model.specs.Counting.{with_account}
 use Rattle.brc_model.proofs.Keeping.Kept.{duty_kept}
 use Rattle.brc_model.specs.Invariant.{AtDuty, Invariant}
 use Rattle.brc_model.specs.OpenWork.{IsSettled, exits}

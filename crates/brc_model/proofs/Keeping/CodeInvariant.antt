@@ -12,7 +12,8 @@ use Rattle.brc_model.proofs.Basics.Lists.{some_is, slice_get-set_same, slice_get
 use Rattle.brc_model.specs.Accounts.{Account, Accounts}
 use Rattle.brc_model.specs.Invariant.{Invariant}
 use Rattle.brc_model.proofs.Dispatch.Coded.{InCode}
-use Rattle.brc_model.proofs.Keeping.Replaced.{with_account, with_account_same, with_account_other}
+use Rattle.brc_model.specs.Counting.{with_account}
+use Rattle.brc_model.proofs.Keeping.Replaced.{with_account_same, with_account_other}
 
 pub record CodeInvariant (p : Module) (n : ℕ) (m : StepMachine) : Type 0 where
   pub accounts : Accounts

@@ -27,7 +27,7 @@ use Rattle.brc_model.proofs.Work.Watches.{marks_after}
 use Rattle.brc_model.proofs.Keeping.KeepsDuty.{keeps_by}
 use Rattle.brc_model.proofs.Keeping.NotBad.{duty_not_bad}
 use Rattle.brc_model.proofs.Keeping.Sits.{sitting, Sits, AtRest, sits_core, taken_up_step}
-use Rattle.brc_model.proofs.Keeping.Replaced.{with_account}
+use Rattle.brc_model.specs.Counting.{with_account}
 use Rattle.brc_model.proofs.Stepping.Births.{thread_after_birth_kind, thread_after_birth_slot, thread_after_birth_local}
 use Rattle.brc_model.proofs.Stepping.Nones.{thread_after_retain_immortal, thread_after_release_immortal}
 use Rattle.std.proofs.lemmas.Bool.{cases_Bool}

@@ -21,15 +21,15 @@ use Rattle.brc_model.specs.BadDuties.{touched_row, is_freed_for, touches_freed, 
 use Rattle.brc_model.proofs.Basics.Lists.{either}
 use Rattle.brc_model.proofs.Basics.Bag.{same_holding-refl, held_has, held-le-references_to, no_cell_holds, same-refl, one_if_true}
 use Rattle.brc_model.specs.References.{one_if, reference_of}
-use Rattle.brc_model.specs.RowInvariant.{waits, decides, merges, InOwned, InSwapped, InMerged}
+use Rattle.brc_model.specs.RowInvariant.{decides, InOwned, InSwapped, InMerged}
 use Rattle.brc_model.specs.Accounts.{Accounts, extra_of, lacks_of}
 use Rattle.brc_model.specs.Knowledge.{IsBacked, IsNext}
 use Rattle.brc_model.specs.OpenWork.{Linked, dies_by}
 use Rattle.brc_model.specs.Invariant.{AtDuty, CoreInvariant}
 use Rattle.brc_model.proofs.Promises.Agreeing.{is_free_of}
-use Rattle.brc_model.proofs.Frame.Alive.{Alive, first_weighs, alive_waiting, alive_deciding, alive_merging, alive_backed}
+use Rattle.brc_model.proofs.Frame.Alive.{Alive, first_weighs, alive_deciding, alive_backed}
 use Rattle.brc_model.proofs.Frame.Others.{is_dying}
-use Rattle.brc_model.proofs.Frame.Leaves.{head_of, exchange_alive, decide_alive, merge_alive, claim_alive, gives_held, given_alive}
+use Rattle.brc_model.proofs.Frame.Leaves.{head_of, load_alive, exchange_alive, decide_alive, merge_load_alive, merge_alive, claim_alive, gives_held, given_alive}
 use Rattle.brc_model.proofs.Basics.Blocks.{next_counted, next_unborn}
 use Rattle.brc_model.proofs.Stepping.Nones.{immortal_row}
 use Rattle.std.proofs.lemmas.Bool.{cases_Bool}
@@ -100,24 +100,13 @@ touches_none p n m t a (ReleaseStore x w) rest here =
     alive_free m t x (given_alive p n m t a (ReleaseStore x w) rest InFlight x here
     (head_of p n m t a (ReleaseStore x w) rest here).0 (holder_same InFlight x) refl)
 touches_none p n m t a (DecideAtZero x) rest here = alive_free m t x (decide_alive p n m t a x rest here)
-touches_none p n m t a (SharedLoad x Own) rest here =
-    alive_free m t x (given_alive p n m t a (SharedLoad x Own) rest InFlight x here
-    (head_of p n m t a (SharedLoad x Own) rest here) (holder_same InFlight x) refl)
-touches_none p n m t a (SharedLoad x Handed) rest here =
-    alive_free m t x (alive_waiting p n m x here.core (head_of p n m t a (SharedLoad x Handed) rest here).0
-    (omega (
-      arith,
-      first_weighs (waits x) m.actors t a (SharedLoad x Handed) rest here.found here.agenda,
-      one_at x,
-    )))
+touches_none p n m t a (SharedLoad x r) rest here = alive_free m t x (load_alive p n m t a x r rest here)
 touches_none p n m t a (SharedExchange x r w) rest here = alive_free m t x (exchange_alive p n m t a x w r rest here)
 touches_none p n m t a (MergeSwap x Own) rest here =
     alive_free m t x (alive_deciding p n m x here.core (head_of p n m t a (MergeSwap x Own) rest here).0
     (omega (arith, first_weighs (decides x) m.actors t a (MergeSwap x Own) rest here.found here.agenda, one_at x)))
 touches_none p n m t a (MergeSwap x Handed) rest here = alive_free m t x (claim_alive p n m t a x rest here)
-touches_none p n m t a (MergeLoad x c r) rest here =
-    alive_free m t x (alive_merging p n m x here.core (head_of p n m t a (MergeLoad x c r) rest here).0
-    (omega (arith, first_weighs (merges x) m.actors t a (MergeLoad x c r) rest here.found here.agenda, one_at x)))
+touches_none p n m t a (MergeLoad x c r) rest here = alive_free m t x (merge_load_alive p n m t a x c r rest here)
 touches_none p n m t a (MergeExchange x c w r) rest here = alive_free m t x (merge_alive p n m t a x c w r rest here)
 touches_none p n m t a (Die x) rest here = dying_free m t x (head_of p n m t a (Die x) rest here).1
 touches_none p n m t a Settle rest here = dying_free m t (a.head - 1) (chain_head_dies p n m t a rest here)

@@ -18,20 +18,8 @@ use Rattle.brc_model.specs.OpenWork.{Later, Agenda, AgendaFits, has_leave, exits
 use Rattle.brc_model.specs.Invariant.{looks, kind_stored, slot_stored, BlankFits, CoreInvariant, Invariant}
 use Rattle.brc_model.proofs.Basics.Lists.{written_actor}
 use Rattle.brc_model.proofs.Frame.Known.{LeavesRow, known_kept}
-use Rattle.brc_model.proofs.Keeping.Replaced.{with_account, with_account_itself, replaced_core}
-
--- The thread with another agenda and other duties put aside.
-abbrev pub working : Actor → List Duty → List Duty → Actor
-working a agenda aside =
-    record {
-      status = a.status;
-      agenda = agenda;
-      aside = aside;
-      head = a.head;
-      used = a.used;
-      locked = a.locked;
-      lent = a.lent;
-    }
+use Rattle.brc_model.specs.Counting.{with_account, working}
+use Rattle.brc_model.proofs.Keeping.Replaced.{with_account_itself, replaced_core}
 
 -- ---- a duty that may wait
 
@@ -96,6 +84,7 @@ all_left m t a agenda aside x = record {
   merged = λ was. was;
   references = λ k. refl;
   stopped = λ u was. was;
+  born = λ was. was;
 }
 
 still_known : (m : Machine) (t : ℕ) (a : Actor) (agenda aside : List Duty) (d : Duty) → may_wait d ≡ true
@@ -105,7 +94,8 @@ still_known m t a agenda aside d waits knows =
     known_kept m (with_actor m t (working a agenda aside)) t a (working a agenda aside) d [] waits
     (λ x about. all_left m t a agenda aside x) knows
 
-still_wait : (m : Machine) (t : ℕ) (a : Actor) (agenda aside ds : List Duty) → AllWait m t a ds
+-- The duties put aside still know what they know.
+pub still_wait : (m : Machine) (t : ℕ) (a : Actor) (agenda aside ds : List Duty) → AllWait m t a ds
     → AllWait (with_actor m t (working a agenda aside)) t (working a agenda aside) ds
 still_wait m t a agenda aside [] waits = tt
 still_wait m t a agenda aside (d ∷ ds) waits =

@@ -1,7 +1,7 @@
 -- A thread with new work, another place or another account: if its duties weigh what they weighed before, the core
 -- invariant still holds. Memory, references and lives are unchanged.
 use Rattle.std.proofs.Common.{◌≡◌, ◌≢◌, ℕ, Bool, true, cond, List, inl, inr, Some, refl, sym, ap, ◌∙◌, subst, arith}
-use Rattle.std.specs.Prelude.{◌==◌, slice_get, slice_set}
+use Rattle.std.specs.Prelude.{slice_get, slice_set}
 use Rattle.std.proofs.lemmas.Bool.{eq-eqb, ne_eqb}
 use Rattle.std.proofs.Math.Path.{fun_ext}
 use Rattle.std.proofs.lemmas.Bool.Decides.{eqb_tells}
@@ -15,12 +15,9 @@ use Rattle.brc_model.specs.RowInvariant.{waits, carries, merges, decides, agenda
 use Rattle.brc_model.specs.Accounts.{Account, Accounts}
 use Rattle.brc_model.specs.Invariant.{numbers_of, Fits, looks, IsWatched, ByRunning, ByExit, ByLook, CoreInvariant, UsesFit, BlankFits}
 use Rattle.brc_model.specs.OpenWork.{scans}
+use Rattle.brc_model.specs.Counting.{with_account}
 use Rattle.brc_model.proofs.Frame.Others.{LeavesOthers, each_fits}
 use Rattle.brc_model.specs.Layout.{block_of, index_of}
-
--- The accounts, with the account of one thread replaced.
-abbrev pub with_account : Accounts → ℕ → Account → Accounts
-with_account p t account u = cond (u == t) account (p u)
 
 pub with_account_same : (p : Accounts) (t : ℕ) (account : Account) → account ≡ with_account p t account t
 with_account_same p t account = sym (ap (λ (b : Bool). cond b account (p t)) (eq-eqb t t refl))
@@ -103,6 +100,7 @@ nothing_changes m t b = record {
   gates = λ u x ne dies. refl;
   kinds = λ x was. was;
   lives = λ u x ne. refl;
+  born = λ x was. was;
 }
 
 pub replaced_core : (p : Accounts) (n : ℕ) (m : Machine) (t : ℕ) (a b : Actor) (account : Account) → CoreInvariant p n m

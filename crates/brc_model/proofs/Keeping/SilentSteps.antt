@@ -24,7 +24,8 @@ use Rattle.brc_model.specs.Kinds.{kind_number}
 use Rattle.brc_model.proofs.Frame.Others.{LeavesOthers, each_fits}
 use Rattle.brc_model.proofs.Keeping.SilentMoves.{SilentMoves, Stays, GainsNone, PassesOn, bag_after}
 use Rattle.brc_model.proofs.Keeping.Sits.{sitting, AtRest, rest_blanks, same_weight}
-use Rattle.brc_model.proofs.Keeping.Replaced.{with_account, with_account_same, with_account_other}
+use Rattle.brc_model.specs.Counting.{with_account}
+use Rattle.brc_model.proofs.Keeping.Replaced.{with_account_same, with_account_other}
 use Rattle.brc_model.proofs.Basics.Blocks.{counted_above}
 use Rattle.brc_model.specs.declared.layout.Layout.{Layout}
 use Rattle.brc_model.specs.Layout.{none_row, block_of, index_of, IsCounted}
@@ -142,6 +143,7 @@ leaves m t a moves silent = record {
   gates = λ u x ne dies. refl;
   kinds = λ x was. was;
   lives = λ u x ne. refl;
+  born = λ x was. was;
 }
 
 -- What a thread has to show to take a silent step.
@@ -150,7 +152,7 @@ pub record SilentSits (m : Machine) (t : ℕ) (a : Actor) (moves : List Move) (a
   pub alone : a.aside ≡ []
   pub moves_fit : SilentMoves m.abstract.references t moves
   pub holds : HoldsAlone (bag_after m.abstract.references moves) t account []
-  pub bounded : IsBounded account
+  pub bounded : IsBounded m.layout account
 
 thread_after_duty : (p : Accounts) (n : ℕ) (m : Machine) (t : ℕ) (a : Actor) (moves : List Move)
     (account : Account)

@@ -15,7 +15,8 @@ use Rattle.brc_model.specs.OpenWork.{AsideFits, Agenda, exits, scans, finalised_
 use Rattle.brc_model.specs.Invariant.{Fits, looks, CoreInvariant, BlankFits}
 use Rattle.brc_model.specs.Knowledge.{HeadOf}
 use Rattle.brc_model.proofs.Objects.Weights.{weight-set}
-use Rattle.brc_model.proofs.Keeping.Replaced.{with_account, replaced_core}
+use Rattle.brc_model.specs.Counting.{with_account}
+use Rattle.brc_model.proofs.Keeping.Replaced.{replaced_core}
 
 -- The thread with another agenda.
 abbrev pub sitting : Actor → List Duty → Actor
@@ -34,7 +35,7 @@ sitting a agenda =
 pub record Sits (m : Machine) (t : ℕ) (a : Actor) (agenda : List Duty) (account : Account)
     : Type 0 where
   pub holds : HoldsAt m.abstract.references t account agenda a.aside
-  pub bounded : IsBounded account
+  pub bounded : IsBounded m.layout account
   pub exited : exits Running agenda ≡ true → HoldsNone account × (a.aside ≡ [])
   pub aside : AsideFits (with_actor m t (sitting a agenda)) t (sitting a agenda)
   pub knows : HeadOf (with_actor m t (sitting a agenda)) t (sitting a agenda) agenda

@@ -6,7 +6,7 @@ use Rattle.std.proofs.lemmas.Bool.{eq-eqb}
 use Rattle.brc_word.specs.Words.{owner_part, local_part, biased_part, phase_part, bias}
 use Rattle.brc_model.specs.declared.duty.Holding.{Holding}
 use Rattle.brc_model.specs.declared.duty.Duty.{Duty}
-use Rattle.brc_model.specs.declared.duty.Duty.TheVariants.{RetainStore, RetainAdd, ReleaseLoad, ReleaseStore, SharedExchange, MergeExchange, SettleCell}
+use Rattle.brc_model.specs.declared.duty.Duty.TheVariants.{RetainStore, RetainAdd, ReleaseLoad, ReleaseStore, SharedLoad, SharedExchange, MergeLoad, MergeExchange, SettleCell}
 use Rattle.brc_model.specs.declared.address.Address.TheVariants.{Local, Shared}
 use Rattle.brc_model.specs.Duties.{address_of, counts_locally}
 use Rattle.brc_model.specs.declared.actor.Status.TheVariants.{Gone}
@@ -17,14 +17,14 @@ use Rattle.brc_model.specs.Accounts.{Accounts}
 use Rattle.brc_model.specs.Invariant.{AtDuty, numbers_of, CoreInvariant}
 use Rattle.brc_model.proofs.Objects.RowSteps.{shared_range}
 use Rattle.brc_model.proofs.Frame.Alive.{Alive, alive_backed}
-use Rattle.brc_model.proofs.Frame.Leaves.{head_of, exchange_alive, merge_alive}
+use Rattle.brc_model.proofs.Frame.Leaves.{head_of, load_alive, exchange_alive, merge_load_alive, merge_alive}
 use Rattle.brc_model.proofs.Stepping.Retains.{counts_owner, count_above, weight_here}
 use Rattle.brc_model.proofs.Stepping.Releases.{release_alive}
-use Rattle.brc_model.proofs.Work.MergesOnce.{carried_is}
+use Rattle.brc_model.proofs.Work.MergesOnce.{carried_at_load, carried_is}
 use Rattle.brc_model.proofs.Limits.FewHeld.{most_each, references_few}
 use Rattle.brc_model.specs.Limits.{thread_limit}
 use Rattle.std.proofs.lemmas.Bool.{cases_Bool}
-use Rattle.brc_model.specs.Layout.{block_of, is_immortal_row}
+use Rattle.brc_model.specs.Layout.{block_of, is_immortal_row, IsCounted}
 
 -- ---- the shared word of a live row
 
@@ -46,12 +46,25 @@ record NearBias (m : Machine) (x : ℕ) : Type 0 where
   some : 1 ≤ biased_part (m.memory (Shared x))
   state : phase_part (m.memory (Shared x)) ≢ 1
 
+-- A live row with counts is counted, since an immortal row's local word is the immortal one.
+alive_counted : (p : Accounts) (n : ℕ) (m : Machine) (x : ℕ) → CoreInvariant p n m → Alive m x → IsCounted m.layout x
+alive_counted p n m x core alive = elim (cases_Bool (is_immortal_row m.layout x)) [
+  | inl immortal ↦
+      let word = core.immortal_words x immortal in
+      absurd (elim alive.live.mode [
+        | InOwned o ↦ omega (arith, o.low, word)
+        | InSwapped s ↦ omega (arith, s.local, word)
+        | InMerged s ↦ omega (arith, s.local, word)
+      ])
+  | inr counted ↦ counted
+]
+
 near_bias : (p : Accounts) (n : ℕ) (m : Machine) (x : ℕ) → CoreInvariant p n m → n ≤ thread_limit → Alive m x
     → NearBias m x
 near_bias p n m x core few alive =
     let says = live_few (block_of m.layout x) (numbers_of m x) alive.live in
     record {
-      high = omega (arith, alive.live.sum, says.0, references_few p n m x core, few);
+      high = omega (arith, alive.live.sum, says.0, references_few p n m x core (alive_counted p n m x core alive), few);
       some = shared_range (block_of m.layout x) (numbers_of m x) alive.live;
       state = says.1;
     }
@@ -83,11 +96,20 @@ duty_suits p n m t a (RetainAdd x h) rest count here alive few =
     (record { low = omega (arith, near.high); state = near.state }, omega (arith, near.high))
 duty_suits p n m t a (ReleaseLoad x h) rest count here alive few = release_suits p n m t a x h rest here alive
 duty_suits p n m t a (ReleaseStore x w) rest count here alive few = (head_of p n m t a (ReleaseStore x w) rest here).3
+duty_suits p n m t a (SharedLoad x r) rest count here alive few =
+    let near = near_bias p n m x here.core few (load_alive p n m t a x r rest here) in
+    (record { low = omega (arith, near.high); state = near.state }, near.some)
 duty_suits p n m t a (SharedExchange x r w) rest count here alive few = λ same.
     let near = near_bias p n m x here.core few (exchange_alive p n m t a x w r rest here) in
     let word : biased_part (m.memory (Shared x)) ≡ biased_part w = ap biased_part same in (
       record { low = omega (arith, near.high, word); state = λ e. near.state (ap phase_part same ∙ e) },
       omega (arith, near.some, word),
+    )
+duty_suits p n m t a (MergeLoad x c r) rest count here alive few =
+    let near = near_bias p n m x here.core few (merge_load_alive p n m t a x c r rest here) in (
+      (head_of p n m t a (MergeLoad x c r) rest here).1,
+      record { low = omega (arith, near.high); state = near.state },
+      omega (arith, near.high, carried_at_load p n m t a x c r rest here),
     )
 duty_suits p n m t a (MergeExchange x c w r) rest count here alive few = (
   (head_of p n m t a (MergeExchange x c w r) rest here).1,

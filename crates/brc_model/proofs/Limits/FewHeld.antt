@@ -18,6 +18,8 @@ use Rattle.brc_model.specs.References.{held, one_if, reference_of}
 use Rattle.brc_model.specs.Accounts.{Account, Accounts, extra, extra_of, extra_aside, most_lent, IsBounded}
 use Rattle.brc_model.specs.OpenWork.{is_about, about_of}
 use Rattle.brc_model.specs.Invariant.{CoreInvariant}
+use Rattle.brc_model.specs.declared.layout.Layout.{Layout}
+use Rattle.brc_model.specs.Layout.{IsCounted}
 use Rattle.brc_model.proofs.Basics.Lists.{and_first}
 use Rattle.brc_model.proofs.Frame.Aside.{extra_about, extra_counted}
 
@@ -91,11 +93,22 @@ most_by (ByCell x i) = 2
 abbrev most_held : Reference → ℕ
 most_held r = most_by r.holder
 
-sum_below : (f g : Reference → ℕ) (keys : List Reference) → ((k : Reference) → f k ≤ g k)
-    → sum_by f keys ≤ sum_by g keys
-sum_below f g [] below = omega arith
-sum_below f g (k ∷ keys) below =
-    omega (arith, sum_by-cons f k keys, sum_by-cons g k keys, below k, sum_below f g keys below)
+-- All keys are references to the object.
+abbrev AreOf : ℕ → List Reference → Type 0
+AreOf x [] = Unit {0}
+AreOf x (k ∷ keys) = (k.object ≡ x) × AreOf x keys
+
+sum_below : (f g : Reference → ℕ) (x : ℕ) (keys : List Reference) → AreOf x keys
+    → ((k : Reference) → k.object ≡ x → f k ≤ g k) → sum_by f keys ≤ sum_by g keys
+sum_below f g x [] of_x below = omega arith
+sum_below f g x (k ∷ keys) of_x below =
+    omega (
+      arith,
+      sum_by-cons f k keys,
+      sum_by-cons g k keys,
+      below k of_x.0,
+      sum_below f g x keys of_x.1 below,
+    )
 
 -- ---- the ways to hold an object
 
@@ -115,6 +128,16 @@ ways own x (suc t) =
 -- The most references to one object that one thread may have.
 abbrev pub most_each : ℕ
 most_each = 2 * most_lent + 36
+
+-- All ways to hold an object are references to it.
+variables_are_of : (t x v : ℕ) (tail : List Reference) → AreOf x tail → AreOf x (variables_of t x v tail)
+variables_are_of t x zero tail of_x = of_x
+variables_are_of t x (suc v) tail of_x = (refl, variables_are_of t x v tail of_x)
+
+ways_are_of : (own : ℕ → Holding) (x n : ℕ) → AreOf x (ways own x n)
+ways_are_of own x zero = tt
+ways_are_of own x (suc t) =
+    (refl, (refl, (refl, variables_are_of t x 16 (ways own x t) (ways_are_of own x t))))
 
 most_of_one : (t : ℕ) (h : Holding) → most_by (ByThread t h) ≤ most_lent + 1
 most_of_one t (ByVariable v) = omega arith
@@ -223,19 +246,20 @@ among_all own r x t (suc n) low e =
 -- ---- the references of one thread
 
 -- A thread that holds an object by a variable holds it by one of the sixteen.
-account_low : (account : Account) (h : Holding) (object : ℕ) → IsBounded account → 0 < account h object → is_low h
-account_low account (ByVariable v) object bounded some = elim (cases_lt v 16) [
+account_low : (layout : Layout) (account : Account) (h : Holding) (object : ℕ) → IsBounded layout account
+    → 0 < account h object → is_low h
+account_low layout account (ByVariable v) object bounded some = elim (cases_lt v 16) [
   | inl lt ↦ lt
   | inr past ↦ absurd (omega (arith, some, bounded.sixteen v object past))
 ]
-account_low account AsCaller object bounded some = tt
-account_low account InFlight object bounded some = tt
+account_low layout account AsCaller object bounded some = tt
+account_low layout account InFlight object bounded some = tt
 
-account_most : (account : Account) (t : ℕ) (h : Holding) (object : ℕ) → IsBounded account
-    → account h object + 1 ≤ most_by (ByThread t h)
-account_most account t (ByVariable v) object bounded = omega (arith, bounded.by_variable v object)
-account_most account t AsCaller object bounded = omega (arith, bounded.lent object)
-account_most account t InFlight object bounded = omega (arith, bounded.in_flight object)
+account_most : (layout : Layout) (account : Account) (t : ℕ) (h : Holding) (object : ℕ) → IsBounded layout account
+    → IsCounted layout object → account h object + 1 ≤ most_by (ByThread t h)
+account_most layout account t (ByVariable v) object bounded counted = omega (arith, bounded.by_variable v object)
+account_most layout account t AsCaller object bounded counted = omega (arith, bounded.lent object counted)
+account_most layout account t InFlight object bounded counted = omega (arith, bounded.in_flight object)
 
 -- How the thread holds the reference that a duty gives up.
 abbrev given_by : Duty → Holding
@@ -301,9 +325,10 @@ abbrev own_way : Machine → ℕ → ℕ → Holding
 own_way m x t = given_in x (opened_by (slice_get m.actors t))
 
 within_most : (p : Accounts) (n : ℕ) (m : Machine) (h : Holder) (object : ℕ) → CoreInvariant p n m
+    → IsCounted m.layout object
     → held (record { holder = h; object = object }) m.abstract.references ≤ most_by h
-within_most p n m (ByCell x i) object core = omega (arith, core.cells_hold x i object)
-within_most p n m (ByThread t k) object core =
+within_most p n m (ByCell x i) object core counted = omega (arith, core.cells_hold x i object)
+within_most p n m (ByThread t k) object core counted =
     elim (slice_get_cases m.actors t).1 [
       | inl found ↦
           let a = found.0 in
@@ -316,7 +341,7 @@ within_most p n m (ByThread t k) object core =
             opened_extra object k a.agenda a.aside,
             opened_about object a.agenda a.aside,
             fits.2.apart object,
-            account_most (p t) t k object fits.0.bounded,
+            account_most m.layout (p t) t k object fits.0.bounded counted,
           )
       | inr past ↦ omega (arith, core.beyond t (omega (arith, past.0, core.threads)) k object)
     ]
@@ -339,7 +364,7 @@ held_way p n m (ByThread t k) object core some =
           elim (eqb_tells (count_by (λ d. Rattle.brc_model.specs.Accounts.extra d k object) all) 0) [
             | inl none ↦
                 let said : 0 < p t k object = omega (arith, fits.0.holds.each k object, some, none.1, extra) in
-                among_low (own_way m object) object t k (account_low (p t) k object fits.0.bounded said)
+                among_low (own_way m object) object t k (account_low m.layout (p t) k object fits.0.bounded said)
             | inr more ↦
                 let own : own_way m object t ≡ given_in object all =
                 ap (λ (o : Option Actor). given_in object (opened_by o)) found.2 in
@@ -352,10 +377,10 @@ held_way p n m (ByThread t k) object core some =
 
 -- ---- all references to an object
 
--- An object has at most `most_each` references for each thread.
-pub references_few : (p : Accounts) (n : ℕ) (m : Machine) (x : ℕ) → CoreInvariant p n m
+-- A counted object has at most `most_each` references for each thread.
+pub references_few : (p : Accounts) (n : ℕ) (m : Machine) (x : ℕ) → CoreInvariant p n m → IsCounted m.layout x
     → references_to x m.abstract.references ≤ most_each * n
-references_few p n m x core =
+references_few p n m x core counted =
     let keys = ways (own_way m x) x n in
     let covers : Covers keys m.abstract.references x =
     record {
@@ -365,7 +390,7 @@ references_few p n m x core =
     omega (
       arith,
       covered keys m.abstract.references x covers,
-      sum_below (λ (r : Reference). held r m.abstract.references) most_held keys
-          (λ r. within_most p n m r.holder r.object core),
+      sum_below (λ (r : Reference). held r m.abstract.references) most_held x keys (ways_are_of (own_way m x) x n)
+          (λ r is. within_most p n m r.holder r.object core (subst (IsCounted m.layout) (sym is) counted)),
       most_of_ways (own_way m x) x n,
     )

@@ -15,6 +15,7 @@ use Rattle.brc_model.specs.RowInvariant.{RowInvariant}
 use Rattle.brc_model.specs.Accounts.{Accounts}
 use Rattle.brc_model.specs.Invariant.{numbers_of, CoreInvariant}
 use Rattle.brc_model.specs.OpenWork.{Linked, dies_by, is_about}
+use Rattle.brc_model.specs.Ranges.{cells_named, IsSmall, AreSmall, Ranges}
 use Rattle.brc_model.proofs.Basics.Continuation.{Traits, cells_by, Origin, Continuation, Ends, Finishes, GoesOn, Frees, SettlesRow, Claims, ClaimsNone, Exits, Scans, ScansNone, continues}
 use Rattle.brc_model.proofs.Basics.Written.{written_load}
 use Rattle.brc_model.proofs.Basics.Lists.{written_actor}
@@ -27,27 +28,12 @@ use Rattle.brc_model.specs.Layout.{row_count, block_of, row_at, is_immortal_row}
 
 -- ---- duties
 
--- the number of cells that a duty names
-abbrev cells_named : Duty → ℕ
-cells_named (SettleCell x i n) = n
-cells_named (BirthKind x h w) = cells_of w
-cells_named _ = 0
-
--- The duty's row is below the limit, and it names at most eight cells.
-pub record IsSmall (k : ℕ) (d : Duty) : Type 0 where
-  pub row : (x : ℕ) → is_about x d ≡ true → x < k
-  pub cells : cells_named d ≤ cell_limit
-
 pub row_small : (k x : ℕ) (d : Duty) → x < k → ((y : ℕ) → is_about y d ≡ (x == y)) → cells_named d ≤ cell_limit
     → IsSmall k d
 row_small k x d low about few = record {
   row = λ y e. subst (λ (z : ℕ). z < k) (eqb-true x y (sym (about y) ∙ e)) low;
   cells = few;
 }
-
-abbrev pub AreSmall : ℕ → List Duty → Type 0
-AreSmall k [] = Unit {0}
-AreSmall k (d ∷ rest) = IsSmall k d × AreSmall k rest
 
 -- What the step must find so that the duties that follow are small.
 abbrev pub FindsSmall : ℕ → Layout → ℕ → ℕ → Duty → ℕ → Type 0
@@ -166,10 +152,6 @@ head_small p n m t a core found =
 
 -- ---- machines
 
-pub record Ranges (n : ℕ) (m : Machine) : Type 0 where
-  pub kinds : (x : ℕ) → cells_of (m.memory (KindOf x)) ≤ cell_limit
-  pub each : (t : ℕ) (a : Actor) → slice_get m.actors t ≡ Some a → AreSmall (row_count m.layout) a.agenda
-
 finds_small : (p : Accounts) (n : ℕ) (m : Machine) (t : ℕ) (a : Actor) (d : Duty) → CoreInvariant p n m → Ranges n m
     → a.head ≤ row_count m.layout → FindsSmall (row_count m.layout) m.layout t a.head d
     (m.memory (address_of m.layout t a.head d))
@@ -198,8 +180,9 @@ kinds_left m t a _ k x small was = was
 pub duty_ranges : (p : Accounts) (n : ℕ) (m : Machine) (t : ℕ) (b a : Actor) (d : Duty) (rest : List Duty)
     → CoreInvariant p n m
     → Ranges n m → slice_get m.actors t ≡ Some b → a.head ≤ row_count m.layout
-    → AreSmall (row_count m.layout) (d ∷ rest) → Ranges n (done_by m t a d rest)
-duty_ranges p n m t b a d rest core ranges found head small =
+    → AreSmall (row_count m.layout) (d ∷ rest) → AreSmall (row_count m.layout) a.aside
+    → Ranges n (done_by m t a d rest)
+duty_ranges p n m t b a d rest core ranges found head small waiting =
     let word = m.memory (address_of m.layout t a.head d) in
     let next =
     next_small (row_count m.layout) d (continuation m.layout t (is_running a.status) a.head d word)
@@ -212,4 +195,6 @@ duty_ranges p n m t b a d rest core ranges found head small =
           (ready_small (row_count m.layout) _ (continuation m.layout t (is_running a.status) a.head d word ++ rest)
           (both_small (row_count m.layout) (continuation m.layout t (is_running a.status) a.head d word) rest next
           small.1)) ranges.each;
+      aside = written_actor (λ u c. AreSmall (row_count m.layout) c.aside) m.actors t b
+          (actor_by m.layout t a d rest word) found waiting ranges.aside;
     }

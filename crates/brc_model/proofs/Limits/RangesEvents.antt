@@ -1,22 +1,20 @@
 -- Each event keeps the rows and cells of threads' duties in range.
-use Rattle.std.proofs.Common.{◌≡◌, ℕ, zero, suc, ◌+◌, ◌≤◌, List, [], ◌∷◌, length, Option, None, Some, refl, subst, arith}
+use Rattle.std.proofs.Common.{◌≡◌, ℕ, ◌+◌, List, [], ◌∷◌, length, Option, None, Some, refl, subst}
 use Rattle.std.specs.Prelude.{slice_get}
 use Rattle.brc_lang.specs.declared.module.Module.{Module}
 use Rattle.brc_model.specs.declared.thread.Call.{Call}
 use Rattle.brc_model.specs.declared.thread.Choice.{Choice}
-use Rattle.brc_model.specs.declared.address.Address.TheVariants.{KindOf}
-use Rattle.brc_model.specs.Duties.{cells_of}
-use Rattle.brc_model.specs.Machine.{Actor, idle_actor}
-use Rattle.brc_model.proofs.Basics.Lists.{some_is, written_actor}
+use Rattle.brc_model.proofs.Basics.Lists.{written_actor}
 use Rattle.brc_model.specs.Actions.{StepActor, Action, Skip, Stuck, Silent, Does, action_of}
-use Rattle.brc_model.specs.StepMachine.{StepMachine, counting, of_thread, machine_by, next_machine, machine_after, first_layout, first_machine, first_memory}
-use Rattle.brc_model.proofs.Keeping.FirstMachine.{first_actors, worker_found}
+use Rattle.brc_model.specs.StepMachine.{StepMachine, counting, of_thread, machine_by, next_machine, machine_after, first_layout, first_machine}
+use Rattle.brc_model.proofs.Keeping.FirstCounts.{rooted_ranges}
+use Rattle.brc_model.proofs.Keeping.FirstMachine.{first_rooted}
 use Rattle.brc_model.proofs.Dispatch.Counting.{its_found, counting_silent, counting_done}
 use Rattle.brc_model.proofs.Keeping.CodeInvariant.{CodeInvariant}
 use Rattle.brc_model.proofs.Dispatch.Actions.{ActionFits, action_fits}
 use Rattle.brc_model.proofs.Keeping.CodeEvents.{event_keeps}
-use Rattle.brc_model.proofs.Limits.Ranges.{AreSmall, head_small, Ranges, duty_ranges}
-use Rattle.brc_model.specs.Limits.{cell_limit}
+use Rattle.brc_model.specs.Ranges.{AreSmall, Ranges}
+use Rattle.brc_model.proofs.Limits.Ranges.{head_small, duty_ranges}
 use Rattle.brc_model.specs.Layout.{row_count}
 
 action_ranges : (p : Module) (n : ℕ) (m : StepMachine) (t : ℕ) (a : StepActor) (x : Action)
@@ -32,13 +30,17 @@ action_ranges p n m t a (Silent moves place) whole ranges found fits =
       each =
           written_actor (λ u c. AreSmall (row_count m.layout) c.agenda) (counting m).actors t a.actor a.actor there
           (ranges.each t a.actor there) ranges.each;
+      aside =
+          written_actor (λ u c. AreSmall (row_count m.layout) c.aside) (counting m).actors t a.actor a.actor there
+          (ranges.aside t a.actor there) ranges.aside;
     })
 action_ranges p n m t a (Does d rest place) whole ranges found fits =
     let there = its_found m t a found in
     let core = whole.kept.core in
     subst (Ranges n) (counting_done m t a d rest place)
     (duty_ranges whole.accounts n (counting m) t a.actor a.actor d rest core ranges there
-    (head_small whole.accounts n (counting m) t a.actor core there) (fits.small (ranges.each t a.actor there)))
+    (head_small whole.accounts n (counting m) t a.actor core there) (fits.small (ranges.each t a.actor there))
+    (ranges.aside t a.actor there))
 
 thread_ranges : (p : Module) (n : ℕ) (m : StepMachine) (t : ℕ) (choice : Choice) (o : Option StepActor)
     → CodeInvariant p n m
@@ -65,22 +67,9 @@ bounded_after p n m (e ∷ events) bounded = bounded_after p n (next_machine m e
 
 -- ---- the first machine
 
-first_kinds : (workers x : ℕ) → cells_of (first_memory workers (KindOf x)) ≤ cell_limit
-first_kinds workers zero = omega arith
-first_kinds workers (suc zero) = omega arith
-first_kinds workers (suc (suc x)) = omega arith
-
-first_small : (k : ℕ) (calls : List Call) (t : ℕ) (a : Actor)
-    → slice_get (first_actors calls) t ≡ Some a → AreSmall k a.agenda
-first_small k calls zero a is = subst (λ (b : Actor). AreSmall k b.agenda) (some_is (idle_actor 2) a is) tt
-first_small k calls (suc t) a is =
-    let call = worker_found calls t a is in subst (λ (b : Actor). AreSmall k b.agenda) call.is_image tt
-
 -- The duties and kind words of the first machine are in range.
 pub first_ranges : (m : Module) (rows : ℕ) (calls : List Call)
     → Ranges (1 + length calls) (counting (first_machine m rows calls))
 first_ranges m rows calls =
-    record {
-      kinds = first_kinds (length calls);
-      each = first_small (row_count (first_layout rows calls)) calls;
-    }
+    subst (Ranges (1 + length calls)) (first_rooted m rows calls)
+    (rooted_ranges (first_layout rows calls) (1 + length calls))

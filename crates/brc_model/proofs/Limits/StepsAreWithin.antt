@@ -1,38 +1,46 @@
 -- Each step of a reachable world names words that exist, and finds words that suit its duty.
-use Rattle.std.proofs.Common.{◌≡◌, ℕ, ◌+◌, ◌<◌, ◌≤◌, List, ◌∷◌, length, Some, refl, sym, ap, ◌∙◌, subst, arith}
+use Rattle.std.proofs.Common.{◌≡◌, ℕ, ◌+◌, ◌<◌, ◌≤◌, ◌⊎◌, inl, inr, List, ◌∷◌, length, Some, refl, sym, ap, ◌∙◌, subst, arith}
 use Rattle.std.specs.Prelude.{slice_get}
 use Rattle.std.proofs.lemmas.List.{length-map}
-use Rattle.std.proofs.lemmas.Bool.{eq-eqb}
+use Rattle.std.proofs.lemmas.Bool.{eq-eqb, cases_Bool}
 use Rattle.std.proofs.lemmas.Option.{slice_get_within}
 use Rattle.brc_lang.specs.declared.module.Module.{Module}
 use Rattle.brc_model.specs.declared.duty.Duty.{Duty}
-use Rattle.brc_model.specs.declared.duty.Duty.TheVariants.{Look, Settle, SettleCell, Leave, Scan, Finish}
+use Rattle.brc_model.specs.declared.duty.Duty.TheVariants.{RetainLoad, ReleaseLoad, Look, Settle, SettleCell, Leave, Scan, Finish}
 use Rattle.brc_model.specs.declared.actor.Status.TheVariants.{Gone}
+use Rattle.brc_model.specs.declared.address.Address.TheVariants.{Local}
+use Rattle.brc_word.specs.Words.{owner_part}
 use Rattle.brc_model.specs.declared.actor.Place.{Place}
 use Rattle.brc_model.specs.Duties.{address_of}
-use Rattle.brc_model.specs.Machine.{is_running, Actor, Machine, with_actor, used_by}
+use Rattle.brc_model.specs.Machine.{Actor, Life, Live, Machine, with_actor, used_by}
 use Rattle.brc_model.specs.World.{World, world_of, IsReachable}
 use Rattle.brc_model.specs.Actions.{StepActor}
 use Rattle.brc_model.specs.StepMachine.{StepMachine, its_actor, counting, first_machine, machine_after}
 use Rattle.brc_model.proofs.Keeping.CodeInvariant.{CodeInvariant}
 use Rattle.brc_model.proofs.Dispatch.Counting.{its_found}
-use Rattle.brc_model.specs.Within.{IsThere, Suits, IsWithin, StepsWithin}
+use Rattle.brc_model.specs.Within.{IsThere, FindsOwner, IsWithin, StepsWithin}
+use Rattle.brc_model.specs.CountingLaws.{DutyWithin}
+use Rattle.brc_model.specs.RowInvariant.{Numbers, InOwned, InSwapped, InMerged, IsLive, RowInvariant}
+use Rattle.brc_model.proofs.Stepping.Stores.{overwritten}
+use Rattle.brc_model.proofs.Frame.Alive.{alive_backed}
+use Rattle.brc_model.proofs.Stepping.Releases.{release_alive}
 use Rattle.brc_model.proofs.Frame.Leaves.{head_of}
 use Rattle.brc_model.proofs.Stepping.Neutral.{agenda_here}
 use Rattle.brc_model.proofs.Keeping.Sits.{sitting}
-use Rattle.brc_model.proofs.Keeping.Replaced.{with_account}
+use Rattle.brc_model.specs.Counting.{with_account}
 use Rattle.brc_model.proofs.Keeping.Kept.{Doing}
 use Rattle.brc_model.proofs.Dispatch.Actions.{DutyFits, ActionFits, action_fits}
 use Rattle.brc_model.proofs.Promises.Safe.{first_code_invariant}
-use Rattle.brc_model.proofs.Limits.Ranges.{IsSmall, head_small}
+use Rattle.brc_model.specs.Ranges.{IsSmall}
+use Rattle.brc_model.proofs.Limits.Ranges.{head_small}
 use Rattle.brc_model.proofs.Limits.RangesEvents.{Bounded, bounded_after, first_ranges}
 use Rattle.brc_model.proofs.Limits.Bounds.{duty_suits}
-use Rattle.brc_model.proofs.Basics.Blocks.{used_low, block_within, size_within, thread_there, rows_low}
+use Rattle.brc_model.proofs.Basics.Blocks.{used_low, block_within, size_within, thread_there, rows_low, immortal_block}
 use Rattle.brc_model.specs.Accounts.{Accounts}
-use Rattle.brc_model.specs.Invariant.{AtDuty, CoreInvariant}
+use Rattle.brc_model.specs.Invariant.{AtDuty, CoreInvariant, numbers_of}
 use Rattle.brc_model.proofs.Objects.UsesAfter.{own_uses}
 use Rattle.brc_model.specs.Limits.{row_limit, thread_limit, total_limit}
-use Rattle.brc_model.specs.Layout.{row_count, block_size}
+use Rattle.brc_model.specs.Layout.{row_count, block_of, block_size, is_immortal_row}
 
 -- ---- the word exists
 
@@ -68,14 +76,42 @@ duty_used p n m t a d rest here =
 
 -- ---- one duty
 
--- what a duty can rely on, of n threads
-record DutyWithin (n : ℕ) (m : Machine) (t : ℕ) (a : Actor) (d : Duty) : Type 0 where
-  there : IsThere (row_count m.layout) n (address_of m.layout t a.head d)
-  head : a.head ≤ row_count m.layout
-  used : used_by a.used d ≤ row_count m.layout
-  suits : Suits t (is_running a.status) (row_count m.layout) d (m.memory (address_of m.layout t a.head d))
+-- A counted live row has no owner, or the thread of its block owns it.
+row_owner : (owner : ℕ) (k : Numbers) → IsLive owner k
+    → (owner_part k.local ≡ 0) ⊎ (owner_part k.local ≡ owner + 1)
+row_owner owner k live = elim live.mode [
+  | InOwned o ↦ inr o.owned
+  | InSwapped s ↦ inl (omega (arith, s.local))
+  | InMerged s ↦ inl (omega (arith, s.local))
+]
 
-duty_within : (p : Accounts) (n : ℕ) (m : Machine) (t : ℕ) (a : Actor) (d : Duty) (rest : List Duty)
+-- A live row has no owner, or the thread of its block owns it; immortal rows are main's.
+live_owner : (p : Accounts) (n : ℕ) (m : Machine) (x : ℕ) → CoreInvariant p n m → m.life x ≡ Live
+    → (owner_part (m.memory (Local x)) ≡ 0) ⊎ (owner_part (m.memory (Local x)) ≡ block_of m.layout x + 1)
+live_owner p n m x core live = elim (cases_Bool (is_immortal_row m.layout x)) [
+  | inl immortal ↦ inr (omega (arith, core.immortal_words x immortal, immortal_block m.layout x immortal))
+  | inr counted ↦
+      row_owner (block_of m.layout x) (numbers_of m x)
+      (subst (λ (l : Life). RowInvariant (block_of m.layout x) l (numbers_of m x)) live (core.rows x counted))
+]
+
+-- The row of a load of a local word is live, so the word names no owner, or the thread of the row's block.
+finds_owner : (p : Accounts) (n : ℕ) (m : Machine) (t : ℕ) (a : Actor) (d : Duty) (rest : List Duty)
+    → AtDuty p n m t a d rest → FindsOwner m.layout d (m.memory (address_of m.layout t a.head d))
+finds_owner p n m t a (RetainLoad x h) rest here =
+    live_owner p n m x here.core (elim (cases_Bool (is_immortal_row m.layout x)) [
+      | inl immortal ↦ here.core.immortals_live x immortal
+      | inr counted ↦ (alive_backed p n m t x here.core counted (head_of p n m t a (RetainLoad x h) rest here)).life
+    ])
+finds_owner p n m t a (ReleaseLoad x h) rest here =
+    live_owner p n m x here.core (elim (cases_Bool (is_immortal_row m.layout x)) [
+      | inl immortal ↦ here.core.immortals_live x immortal
+      | inr counted ↦ (release_alive p n m t a x h rest counted here).life
+    ])
+finds_owner p n m t a _ rest here = tt
+
+-- A thread's next duty can rely on what `DutyWithin` says.
+pub duty_within : (p : Accounts) (n : ℕ) (m : Machine) (t : ℕ) (a : Actor) (d : Duty) (rest : List Duty)
     → Doing p n m t a d rest → IsSmall (row_count m.layout) d → n ≤ thread_limit → DutyWithin n m t a d
 duty_within p n m t a d rest doing small few =
     let core = doing.kept.core in
@@ -87,6 +123,8 @@ duty_within p n m t a d rest doing small few =
       head = head_small p n m t a core doing.found;
       used = duty_used p n m t a d rest here;
       suits = duty_suits p n m t a d rest (row_count m.layout) here doing.alive few;
+      overwrites = overwritten p n m t a d rest here;
+      owner = finds_owner p n m t a d rest here;
     }
 
 -- The world has `n` threads.

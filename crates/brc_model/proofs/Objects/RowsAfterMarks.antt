@@ -47,7 +47,7 @@ row_after_set_mark {m = m} {t = t} {a = a} {y = y} {rest = rest} s =
 pub row_after_look : {p : Accounts} {n : ℕ} {m : Machine} {t : ℕ} {a : Actor} {y : ℕ} {rest : List Duty}
     → AtDuty p n m t a (Look y) rest → KeepsRow m t a (Look y) rest y
 row_after_look {m = m} {y = y} s =
-    let some : IsCounted m.layout y = head_fits_of s in
+    let some : IsCounted m.layout y = (head_fits_of s).0 in
     let next = apart_if _ (none_apart y) (all_light y (TakeMark y ∷ []) refl) in
     row_apart s y some refl next (λ life state. refl)
     (record { local = refl; shared = refl; mark = refl; references = refl })

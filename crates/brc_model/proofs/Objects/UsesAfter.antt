@@ -15,13 +15,14 @@ use Rattle.brc_model.specs.declared.duty.Duty.{Duty}
 use Rattle.brc_model.specs.declared.duty.Duty.TheVariants.{BirthLocal}
 use Rattle.brc_model.specs.declared.address.Address.{Address}
 use Rattle.brc_model.specs.Duties.{address_of}
-use Rattle.brc_model.specs.Machine.{Actor, Unborn, Live, Dying, Closed, Machine, used_by, born_row, actor_by, done_by}
+use Rattle.brc_model.specs.Machine.{Actor, Unborn, Live, Dying, Machine, used_by, born_row, actor_by, done_by}
 use Rattle.brc_model.specs.Moves.{reference_effects}
 use Rattle.brc_model.proofs.Basics.Lists.{some_is, slice_get-set_same, slice_get-set_other, none_some}
 use Rattle.brc_model.proofs.Basics.Blocks.{row_back, next_index, next_counted, next_block, next_unborn}
 use Rattle.std.specs.List.{AllByRecursion}
 use Rattle.brc_model.proofs.Basics.Moves.{MoveOf, Bears, each_effect, moved_keeps}
 use Rattle.brc_model.proofs.Frame.Leaves.{head_of}
+use Rattle.brc_model.proofs.Frame.Lives.{next_of, born_left}
 use Rattle.brc_model.proofs.Stepping.Neutral.{found_by, uses_same}
 use Rattle.brc_model.proofs.Objects.Closing.{GoesOn, BeginsToDie, IsClosed, IsBorn, life_step}
 use Rattle.brc_model.proofs.Objects.ClosedAfter.{among_more, among_last, either_true, one_is}
@@ -36,19 +37,10 @@ live_not_unborn e = cc
 dying_not_unborn : (t : ℕ) → Dying t ≡ Unborn → ⊥
 dying_not_unborn t e = cc
 
-closed_not_unborn : Closed ≡ Unborn → ⊥
-closed_not_unborn e = cc
-
 -- A born row never becomes unborn.
 pub stays_born : (p : Accounts) (n : ℕ) (m : Machine) (t : ℕ) (a : Actor) (d : Duty) (rest : List Duty) (x : ℕ)
     → AtDuty p n m t a d rest → m.life x ≢ Unborn → (done_by m t a d rest).life x ≢ Unborn
-stays_born p n m t a d rest x here born =
-    elim (life_step p n m t a d rest x here) [
-      | GoesOn now other ↦ λ e. born (sym now ∙ e)
-      | BeginsToDie now alive positive none ↦ λ e. dying_not_unborn t (sym now ∙ e)
-      | IsClosed now dying positive ended ↦ λ e. closed_not_unborn (sym now ∙ e)
-      | IsBorn now unborn above this none ↦ λ e. live_not_unborn (sym now ∙ e)
-    ]
+stays_born p n m t a d rest x here born = born_left m.life t d (next_of m t a d) x born
 
 -- An unborn row stays unborn unless the step is the last of its birth.
 pub stays_unborn : (p : Accounts) (n : ℕ) (m : Machine) (t : ℕ) (a : Actor) (d : Duty) (rest : List Duty) (x : ℕ)

@@ -15,12 +15,12 @@ use Rattle.brc_model.specs.declared.actor.Status.{Status}
 use Rattle.brc_model.specs.declared.actor.Status.TheVariants.{Running, Leaving, Gone}
 use Rattle.brc_model.specs.declared.actor.Place.{Place}
 use Rattle.brc_model.specs.declared.actor.Place.TheVariants.{Idle, InCall, Exiting}
-use Rattle.brc_model.specs.Machine.{Actor, Machine, is_running, actor_by, done_by, has_room, idle_actor}
+use Rattle.brc_model.specs.Machine.{Actor, Machine, is_running, actor_by, done_by, has_room}
 use Rattle.brc_model.specs.Actions.{StepActor, Action, Skip, Stuck, Silent, Does, with_row, dispatch_instruction, dispatch, may_claim, agenda_action, status_action, action_of}
 use Rattle.brc_model.specs.StepMachine.{StepMachine, counting, of_thread, machine_by, next_machine, machine_after, first_machine}
 use Rattle.brc_lang.specs.declared.module.Function.{Function}
-use Rattle.brc_model.proofs.Basics.Lists.{some_is, written_actor, either}
-use Rattle.brc_model.proofs.Keeping.FirstMachine.{first_actors, worker_found}
+use Rattle.brc_model.proofs.Basics.Lists.{written_actor, either}
+use Rattle.brc_model.proofs.Keeping.FirstMachine.{first_actors, each_first}
 use Rattle.brc_model.proofs.Dispatch.Counting.{its_found, counting_silent, counting_done}
 use Rattle.brc_model.proofs.Dispatch.Claims.{claimer}
 use Rattle.brc_model.proofs.Basics.Continuation.{leaves_chain, fills_chain, may_fill, is_inner, Traits, Continuation, Ends, GoesOn, Frees, Claims, ClaimsNone, Scans, ScansNone, continues}
@@ -219,12 +219,8 @@ emptied_after m [] are = are
 emptied_after m (e ∷ events) are =
     emptied_after (next_machine m e) events (thread_emptied m e.0 e.1 (slice_get m.actors e.0) are refl)
 
-first_emptied : (calls : List Call) (t : ℕ) (a : Actor) → slice_get (first_actors calls) t ≡ Some a
-    → IsEmptied a
-first_emptied calls zero a is = subst (λ (b : Actor). IsEmptied b) (some_is (idle_actor 2) a is) refl
-first_emptied calls (suc t) a is =
-    let call = worker_found calls t a is in
-    subst (λ (b : Actor). IsEmptied b) call.is_image refl
+first_emptied : (calls : List Call) (t : ℕ) (a : Actor) → slice_get (first_actors calls) t ≡ Some a → IsEmptied a
+first_emptied calls = each_first (λ t a. IsEmptied a) calls refl (λ t low. refl)
 
 -- A thread with an empty agenda has an empty chain.
 pub chain_empty : (p : Module) (rows : ℕ) (calls : List Call) (events : List (ℕ × Choice)) (t : ℕ) (a : StepActor)

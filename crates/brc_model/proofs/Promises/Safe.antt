@@ -1,5 +1,5 @@
 -- The invariant implies what an accepted module promises, so each accepted module is safe.
-use Rattle.std.proofs.Common.{◌≡◌, ℕ, zero, suc, ◌+◌, ◌<◌, true, List, [], ◌∷◌, inl, inr, length, Some, refl, sym, ap, ◌∙◌, subst, arith, ◌≢◌, ◌≤◌}
+use Rattle.std.proofs.Common.{◌≡◌, ℕ, ◌+◌, ◌<◌, true, List, [], ◌∷◌, inl, inr, length, Some, refl, sym, ap, ◌∙◌, subst, arith, ◌≢◌, ◌≤◌}
 use Rattle.std.specs.Prelude.{◌==◌, slice_get, count_by, sum_by}
 use Rattle.std.specs.List.{All}
 use Rattle.std.proofs.lemmas.Bool.{eq-eqb, false≢true}
@@ -14,7 +14,7 @@ use Rattle.brc_model.specs.declared.duty.Duty.{Duty}
 use Rattle.brc_model.specs.declared.address.Address.TheVariants.{Mark, ThreadWord}
 use Rattle.brc_model.specs.declared.actor.Status.{Status}
 use Rattle.brc_model.specs.declared.actor.Status.TheVariants.{Running, Leaving, Gone}
-use Rattle.brc_model.specs.Machine.{Actor, Life, Unborn, Live, Dying, Closed, Machine, idle_actor}
+use Rattle.brc_model.specs.Machine.{Actor, Life, Unborn, Live, Dying, Closed, Machine}
 use Rattle.brc_model.specs.StepMachine.{StepMachine, counting, first_machine}
 use Rattle.brc_model.specs.Safety.{AreCalls, has_gone, AllGone, IsHeldByOpenList, IsSafeNow, Safe}
 use Rattle.brc_model.proofs.Basics.Bag.{empty_bag}
@@ -22,12 +22,12 @@ use Rattle.brc_model.specs.References.{held, one_if, reference_of}
 use Rattle.brc_model.specs.RowInvariant.{waits, carries, merges, decides, agenda_weight, weight, IsDefault, IsQueued, AtZero, AboveZero, InOwned, InSwapped, InMerged, IsLive, RowInvariant}
 use Rattle.brc_model.specs.Accounts.{Accounts, HoldsAt}
 use Rattle.brc_model.specs.Invariant.{numbers_of, looks, ByRunning, ByExit, ByLook, CoreInvariant}
-use Rattle.brc_model.specs.OpenWork.{AgendaFits, exits, scans, Linked, dies_by, finalised_now, IsSettled}
+use Rattle.brc_model.specs.OpenWork.{AgendaFits, exits, scans, Linked, dies_by, finalised_now}
 use Rattle.brc_model.specs.Knowledge.{status_word}
-use Rattle.brc_model.proofs.Basics.Lists.{some_is, list_all_found}
+use Rattle.brc_model.proofs.Basics.Lists.{list_all_found}
 use Rattle.brc_model.proofs.Promises.Agreeing.{agrees_at, is_free_of}
 use Rattle.brc_model.proofs.Work.Deciders.{sum_zero}
-use Rattle.brc_model.proofs.Keeping.FirstMachine.{first_actors, worker_found, first_accounts, first_core, first_coded}
+use Rattle.brc_model.proofs.Keeping.FirstMachine.{first_accounts, first_kept, first_coded}
 use Rattle.brc_model.proofs.Keeping.CodeInvariant.{CodeInvariant}
 use Rattle.brc_model.proofs.Keeping.CodeEvents.{event_keeps, code_invariant_after}
 use Rattle.brc_model.proofs.Basics.Blocks.{born_used}
@@ -212,19 +212,12 @@ safe_now p n m whole some = record {
       (λ i d within. absurd (omega (arith, within)));
 }
 
-first_settled : (calls : List Call) (t : ℕ) (a : Actor) → slice_get (first_actors calls) t ≡ Some a
-    → IsSettled a.head a.agenda
-first_settled calls zero a is = subst (λ (b : Actor). IsSettled b.head b.agenda) (some_is (idle_actor 2) a is) tt
-first_settled calls (suc t) a is =
-    let call = worker_found calls t a is in
-    subst (λ (b : Actor). IsSettled b.head b.agenda) call.is_image tt
-
 -- Both layers of the invariant hold of the first machine.
 pub first_code_invariant : (m : Module) (rows : ℕ) (calls : List Call) → IsModule m → IsAcceptable m → AreCalls m calls
     → 0 < rows → rows ≤ row_limit → CodeInvariant m (1 + length calls) (first_machine m rows calls)
 first_code_invariant m rows calls fits accepted are_calls some few = record {
   accounts = first_accounts;
-  kept = record { core = first_core m rows calls are_calls some few; settled = first_settled calls };
+  kept = first_kept m rows calls are_calls some few;
   functions = refl;
   coded = λ t a is. first_coded m calls t a fits accepted are_calls is;
 }

@@ -11,7 +11,7 @@ use Rattle.brc_model.specs.Actions.{StepActor, Action, Skip, Stuck, Silent, Does
 use Rattle.brc_model.specs.StepMachine.{StepMachine, counting, of_thread, does_by, machine_by, next_machine}
 use Rattle.brc_model.proofs.Keeping.SilentMoves.{SilentMoves}
 use Rattle.brc_model.proofs.Keeping.Sits.{sitting, taken_up_step}
-use Rattle.brc_model.proofs.Keeping.Replaced.{with_account}
+use Rattle.brc_model.specs.Counting.{with_account}
 use Rattle.brc_model.specs.Accounts.{Accounts}
 use Rattle.brc_model.specs.Invariant.{AtDuty, Invariant}
 use Rattle.brc_model.proofs.Keeping.Kept.{Doing}

@@ -13,11 +13,11 @@ use Rattle.brc_model.specs.Duties.{merge_result}
 use Rattle.brc_model.specs.declared.actor.Status.TheVariants.{Gone}
 use Rattle.brc_model.specs.Machine.{Actor, Machine, done_by, actor_by}
 use Rattle.brc_model.specs.References.{one_if}
-use Rattle.brc_model.specs.RowInvariant.{decides, InOwned, InSwapped, InMerged}
+use Rattle.brc_model.specs.RowInvariant.{waits, decides, InOwned, InSwapped, InMerged}
 use Rattle.brc_model.specs.Accounts.{Accounts}
 use Rattle.brc_model.specs.Knowledge.{MayCarry}
 use Rattle.brc_model.proofs.Objects.RowSteps.{shared_merged}
-use Rattle.brc_model.proofs.Frame.Alive.{first_weighs, Alive, alive_deciding}
+use Rattle.brc_model.proofs.Frame.Alive.{first_weighs, Alive, alive_born, alive_waiting, alive_deciding}
 use Rattle.brc_model.proofs.Basics.Written.{written_here}
 use Rattle.brc_model.proofs.Frame.Leaves.{head_of, merge_alive}
 use Rattle.brc_model.proofs.Frame.Lives.{leaves_others}
@@ -31,6 +31,14 @@ use Rattle.brc_model.specs.Layout.{block_of}
 
 -- ---- the mark
 
+-- The row of a mark that a thread is about to set is live.
+mark_alive : (p : Accounts) (n : ℕ) (m : Machine) (t : ℕ) (a : Actor) (x : ℕ) (rest : List Duty)
+    → AtDuty p n m t a (SetMark x) rest → Alive m x
+mark_alive p n m t a x rest here =
+    let one : one_if (x == x) ≡ 1 = ap one_if (eq-eqb x x refl) in
+    alive_waiting p n m x here.core (head_of p n m t a (SetMark x) rest here)
+    (omega (arith, first_weighs (waits x) m.actors t a (SetMark x) rest here.found here.agenda, one))
+
 -- The thread fits after `Marked`.
 pub thread_after_set_mark : (p : Accounts) (n : ℕ) (m : Machine) (t : ℕ) (a : Actor) (x : ℕ) (rest : List Duty)
     → AtDuty p n m t a (SetMark x) rest → (a.status ≡ Gone → ⊥)
@@ -41,7 +49,10 @@ thread_after_set_mark p n m t a x rest here alive =
     own_next p n m t a d (Look x) rest here alive refl refl refl refl
     (held_same m.abstract.references t (d ∷ rest) (Look x ∷ rest) (λ k o. refl) (λ k o. refl))
     (agenda_here p n m t a d rest here alive)
-    (λ b status head used. head_of p n m t a d rest here)
+    (λ b status head used. (
+      head_of p n m t a d rest here,
+      (leaves_others p n m t a d rest here).born x (alive_born m x (mark_alive p n m t a x rest here)),
+    ))
 
 -- The thread fits after `OwnerRuns` and `OwnerExits`.
 pub thread_after_look : (p : Accounts) (n : ℕ) (m : Machine) (t : ℕ) (a : Actor) (x : ℕ) (rest : List Duty)
@@ -61,8 +72,9 @@ thread_after_look p n m t a x rest here alive =
           (ap (λ (b : Bool). cond b [] (TakeMark x ∷ [])) e)
           (held_same m.abstract.references t (d ∷ rest) (TakeMark x ∷ rest) (λ k o. refl) (λ k o. refl))
           later (λ b status head used. (
-            head_of p n m t a d rest here,
+            (head_of p n m t a d rest here).0,
             (leaves_others p n m t a d rest here).stopped (block_of m.layout x) (eqb-false found 1 e),
+            (leaves_others p n m t a d rest here).born x (head_of p n m t a d rest here).1,
           ))
     ] refl
 

@@ -3,10 +3,9 @@
 -- plain store. The rule of a store names the word stored and not the word found, and a step has both, so the word found
 -- has to follow from the invariant. `overwritten` shows that it does: a thread at a storing duty finds the word that
 -- `Overwrites` names.
-use Rattle.std.proofs.Common.{◌≡◌, ℕ, ◌<◌, ◌≤◌, Bool, true, false, List, [], ◌∷◌, refl, sym, ap, ◌∙◌, subst, arith}
+use Rattle.std.proofs.Common.{◌≡◌, ℕ, ◌<◌, ◌≤◌, Bool, true, List, [], ◌∷◌, refl, sym, ap, ◌∙◌, subst, arith}
 use Rattle.std.specs.Prelude.{◌==◌}
 use Rattle.std.proofs.lemmas.Bool.{eq-eqb}
-use Rattle.brc_word.specs.Words.{free_word}
 use Rattle.brc_model.specs.declared.duty.Duty.{Duty}
 use Rattle.brc_model.specs.declared.duty.Duty.TheVariants.{RetainStore, ReleaseStore, SetMark, Die, SettleEnd, Leave, Finish, BirthKind, BirthSlot, BirthLocal}
 use Rattle.brc_model.specs.declared.address.Address.{Address}
@@ -20,7 +19,8 @@ use Rattle.brc_model.specs.References.{one_if}
 use Rattle.brc_model.specs.RowInvariant.{waits, Numbers, IsDefault, IsQueued, InOwned, InSwapped, InMerged, Phased, RowInvariant}
 use Rattle.brc_model.specs.Accounts.{Accounts}
 use Rattle.brc_model.specs.Invariant.{AtDuty, numbers_of}
-use Rattle.brc_model.specs.Knowledge.{status_word, IsNext, IsDyingWord}
+use Rattle.brc_model.specs.Knowledge.{status_word, IsNext}
+use Rattle.brc_model.specs.Stores.{is_store, Overwrites}
 use Rattle.brc_model.specs.OpenWork.{Agenda, AgendaFits}
 use Rattle.brc_model.proofs.Frame.Alive.{first_weighs, alive_waiting}
 use Rattle.brc_model.proofs.Basics.Blocks.{next_counted, next_index, next_block, next_unborn}
@@ -31,20 +31,6 @@ use Rattle.brc_model.specs.declared.layout.Layout.{Layout}
 use Rattle.brc_model.specs.Layout.{block_of, index_of}
 
 -- ---- the duties that store
-
--- Says whether the duty stores a word whatever it finds.
-abbrev pub is_store : Duty → Bool
-is_store (RetainStore x h w) = true
-is_store (ReleaseStore x w) = true
-is_store (SetMark x) = true
-is_store (Die x) = true
-is_store (SettleEnd x) = true
-is_store (Leave x n) = true
-is_store Finish = true
-is_store (BirthKind x h w) = true
-is_store (BirthSlot x h) = true
-is_store (BirthLocal x h) = true
-is_store _ = false
 
 -- The duty does the same for both words found.
 pub record StoresBlindly (memory : Address → ℕ) (layout : Layout) (t : ℕ) (running : Bool) (head : ℕ) (d : Duty)
@@ -82,20 +68,6 @@ stores_blindly memory layout t running head (BirthLocal x h) found other is =
 stores_blindly memory layout t running head _ found other is = absurd cc
 
 -- ---- the word that a store overwrites
-
--- The word that the thread's storing duty overwrites. Nothing is said of duties that don't store.
-abbrev pub Overwrites : ℕ → Duty → ℕ → Type 0
-Overwrites t (RetainStore x h w) found = found ≡ w
-Overwrites t (ReleaseStore x w) found = found ≡ w
-Overwrites t (SetMark x) found = found ≡ 0
-Overwrites t (Die x) found = found ≡ free_word
-Overwrites t (SettleEnd x) found = IsDyingWord t found
-Overwrites t (Leave x n) found = found ≡ status_word Running
-Overwrites t Finish found = found ≡ status_word Leaving
-Overwrites t (BirthKind x h w) found = found ≡ 0
-Overwrites t (BirthSlot x h) found = found ≡ 0
-Overwrites t (BirthLocal x h) found = found ≡ 0
-Overwrites t _ found = Unit {0}
 
 -- ---- marks
 

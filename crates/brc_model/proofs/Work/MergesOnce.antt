@@ -1,5 +1,5 @@
 -- At most one thread merges a row. A thread that claimed the row's mark and finds no owner finds the row merged.
-use Rattle.std.proofs.Common.{◌≡◌, ◌≢◌, ℕ, zero, suc, ◌+◌, ◌<◌, ◌≤◌, Bool, false, cond, List, [], ◌∷◌, ◌⊎◌, inl, inr, Some, refl, sym, ap, ◌∙◌, subst, arith}
+use Rattle.std.proofs.Common.{◌≡◌, ◌≢◌, ℕ, zero, suc, ◌+◌, ◌<◌, ◌≤◌, Bool, true, false, cond, List, [], ◌∷◌, ◌⊎◌, inl, inr, Some, refl, sym, ap, ◌∙◌, subst, arith}
 use Rattle.std.specs.Prelude.{◌==◌, slice_get}
 use Rattle.std.proofs.lemmas.Bool.{eq-eqb}
 use Rattle.std.proofs.lemmas.Bool.Decides.{eqb_tells}
@@ -18,9 +18,10 @@ use Rattle.brc_model.specs.RowInvariant.{waits, carries, merges, agenda_weight, 
 use Rattle.brc_model.specs.Accounts.{Accounts}
 use Rattle.brc_model.specs.Invariant.{AtDuty, numbers_of, CoreInvariant}
 use Rattle.brc_model.specs.Knowledge.{MayCarry, HeadFits, status_word}
+use Rattle.brc_model.specs.OpenWork.{is_about}
 use Rattle.brc_model.proofs.Work.HasDuties.{some_weighs}
-use Rattle.brc_model.proofs.Frame.Alive.{first_weighs}
-use Rattle.brc_model.proofs.Frame.Leaves.{head_of, claim_alive, merge_alive}
+use Rattle.brc_model.proofs.Frame.Alive.{first_weighs, Alive}
+use Rattle.brc_model.proofs.Frame.Leaves.{head_of, claim_alive, merge_alive, merge_load_alive}
 use Rattle.brc_model.proofs.Frame.Aside.{waits_of_row, carries_of_row, merges_of_row}
 use Rattle.brc_model.proofs.Work.Weighing.{own_weighs, weighing}
 use Rattle.brc_model.proofs.Objects.Weights.{agenda_weight-le, carries_nothing, none_carried}
@@ -158,18 +159,33 @@ one_carries x (b ∷ rest) (suc t) a found one =
     )
 
 -- The count carried of a row is the one in the duty that merges the row.
-pub carried_is : (p : Accounts) (n : ℕ) (m : Machine) (t : ℕ) (a : Actor) (x c w : ℕ) (r : Reason) (rest : List Duty)
-    → AtDuty p n m t a (MergeExchange x c w r) rest → weight (carries x) m.actors ≡ c
-carried_is p n m t a x c w r rest here =
-    let d : Duty = MergeExchange x c w r in
-    let one : one_if (x == x) ≡ 1 = ap one_if (eq-eqb x x refl) in
-    let mine : cond (x == x) c 0 ≡ c = ap (λ (b : Bool). cond b c 0) (eq-eqb x x refl) in
+carried_by : (p : Accounts) (n : ℕ) (m : Machine) (t : ℕ) (a : Actor) (x c : ℕ) (d : Duty) (rest : List Duty)
+    → AtDuty p n m t a d rest → is_about x d ≡ true → merges x d ≡ 1 → carries x d ≡ c → Alive m x
+    → weight (carries x) m.actors ≡ c
+carried_by p n m t a x c d rest here about one mine alive =
     let first = first_weighs (merges x) m.actors t a d rest here.found here.agenda in
-    let all : weight (merges x) m.actors ≡ 1 = elim (merge_alive p n m t a x c w r rest here).live.mode [
+    let all : weight (merges x) m.actors ≡ 1 = elim alive.live.mode [
       | InOwned o ↦ absurd (omega (arith, first, one, o.merging))
       | InSwapped s ↦ s.merging
       | InMerged s ↦ absurd (omega (arith, first, one, s.merging))
     ] in
-    let whole = own_weighs p n m t x a d rest (merges x) here (merges_of_row x) (eq-eqb x x refl) in
-    let carry = own_weighs p n m t x a d rest (carries x) here (carries_of_row x) (eq-eqb x x refl) in
+    let whole = own_weighs p n m t x a d rest (merges x) here (merges_of_row x) about in
+    let carry = own_weighs p n m t x a d rest (carries x) here (carries_of_row x) about in
     omega (arith, one_carries x m.actors t a here.found (omega (arith, all, whole, first, one)), carry, mine)
+
+-- `carried_by` at the load of a merge.
+pub carried_at_load : (p : Accounts) (n : ℕ) (m : Machine) (t : ℕ) (a : Actor) (x c : ℕ) (r : Reason)
+    (rest : List Duty)
+    → AtDuty p n m t a (MergeLoad x c r) rest → weight (carries x) m.actors ≡ c
+carried_at_load p n m t a x c r rest here =
+    let itself = eq-eqb x x refl in
+    carried_by p n m t a x c (MergeLoad x c r) rest here itself (ap one_if itself)
+    (ap (λ (b : Bool). cond b c 0) itself) (merge_load_alive p n m t a x c r rest here)
+
+-- `carried_by` at the exchange of a merge.
+pub carried_is : (p : Accounts) (n : ℕ) (m : Machine) (t : ℕ) (a : Actor) (x c w : ℕ) (r : Reason) (rest : List Duty)
+    → AtDuty p n m t a (MergeExchange x c w r) rest → weight (carries x) m.actors ≡ c
+carried_is p n m t a x c w r rest here =
+    let itself = eq-eqb x x refl in
+    carried_by p n m t a x c (MergeExchange x c w r) rest here itself (ap one_if itself)
+    (ap (λ (b : Bool). cond b c 0) itself) (merge_alive p n m t a x c w r rest here)

@@ -1,0 +1,89 @@
+-- A ready worker with a row left begins a birth, while other duties are put aside. None of them is about the new row,
+-- since the row isn't born.
+use Rattle.std.proofs.Common.{◌≡◌, ℕ, ◌<◌, refl, subst, arith}
+use Rattle.std.proofs.lemmas.Bool.{ltb-true}
+use Rattle.brc_model.specs.declared.duty.Holding.TheVariants.{AsCaller}
+use Rattle.brc_model.specs.declared.duty.Duty.TheVariants.{BirthKind}
+use Rattle.brc_model.specs.Layout.{block_of, block_size, row_at, row_count}
+use Rattle.brc_model.specs.Machine.{Actor, Life, Machine}
+use Rattle.brc_model.specs.References.{reference_of}
+use Rattle.brc_model.specs.RowInvariant.{RowInvariant, IsUnborn}
+use Rattle.brc_model.specs.Accounts.{Accounts}
+use Rattle.brc_model.specs.Knowledge.{IsNext}
+use Rattle.brc_model.specs.Invariant.{CoreInvariant, numbers_of}
+use Rattle.brc_model.specs.Counting.{with_one_more, IsReady, HasNoneAbout}
+use Rattle.brc_model.specs.CountingLaws.{BirthsBegin}
+use Rattle.brc_model.proofs.Basics.Bag.{held-le-references_to}
+use Rattle.brc_model.proofs.Basics.Blocks.{thread_there, next_counted, next_unborn, next_within}
+use Rattle.brc_model.proofs.Limits.Ranges.{row_small}
+use Rattle.brc_model.proofs.Keeping.WorkBegins.{ready_holds, none_about_held, BeginsWork, more_bounded, work_begins}
+use Rattle.brc_model.proofs.Keeping.NextRows.{unborn_alone}
+
+-- A birth can begin a piece of work.
+birth_begins : (x word : ℕ) → BeginsWork x (BirthKind x AsCaller word)
+birth_begins x word = record {
+  about = λ y. refl;
+  piece = refl;
+  fits = λ used. refl;
+  stays = refl;
+  settled = λ head. tt;
+  hands = λ y. refl;
+  waits = λ y. refl;
+  carries = λ y. refl;
+  merges = λ y. refl;
+  decides = λ y. refl;
+  looks = λ y. refl;
+}
+
+-- A ready thread holds no reference to an object that isn't born.
+unborn_held : (p : Accounts) (n : ℕ) (m : Machine) (t : ℕ) (a : Actor) (x : ℕ) → CoreInvariant p n m → IsReady m t a
+    → IsUnborn (numbers_of m x) → HasNoneAbout a x → p t AsCaller x ≡ 0
+unborn_held p n m t a x core ready row alone =
+    omega (
+      arith,
+      none_about_held p n m t a x AsCaller core ready alone,
+      held-le-references_to (reference_of t AsCaller x) m.abstract.references,
+      row.references,
+    )
+
+-- The invariant and the ranges hold after a ready worker begins a birth.
+pub births_begin : BirthsBegin
+births_begin p n m t a word counts ready worker has_room counted_kind few =
+    let core = counts.kept.core in
+    let x = row_at m.layout t a.used in
+    let room : a.used < block_size m.layout t = ltb-true a.used (block_size m.layout t) has_room in
+    let next : IsNext m t a x =
+    record {
+      running = ready.running;
+      worker = worker;
+      there = thread_there p n m t a core ready.found;
+      row = refl;
+      room = room;
+    } in
+    let counted = next_counted m t a x next in
+    let unborn = next_unborn p n m t a x core ready.found next in
+    let row : IsUnborn (numbers_of m x) =
+    subst (λ (l : Life). RowInvariant (block_of m.layout x) l (numbers_of m x)) unborn (core.rows x counted) in
+    let alone = unborn_alone p n m t a x core ready counted unborn in
+    let none = unborn_held p n m t a x core ready row alone in
+    let holds = ready_holds p n m t a core ready in
+    let bounded = (core.each t a ready.found).0.bounded in
+    work_begins p n m t a x (BirthKind x AsCaller word) (with_one_more (p t) AsCaller x) counts ready alone (record {
+      begins = birth_begins x word;
+      holds = λ k object. omega (arith, holds.each k object);
+      bounded = more_bounded m.layout (p t) x bounded (λ c. omega (arith, none));
+      knows = (
+        record {
+          running = next.running;
+          worker = next.worker;
+          there = next.there;
+          row = refl;
+          room = room;
+        },
+        refl,
+        counted_kind,
+      );
+      small =
+          row_small (row_count m.layout) x (BirthKind x AsCaller word) (next_within p n m t a core ready.found room)
+          (λ y. refl) few;
+    })

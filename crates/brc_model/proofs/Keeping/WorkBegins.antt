@@ -1,0 +1,258 @@
+-- A ready thread begins to retain an object, or to release one, while other duties are put aside.
+use Rattle.std.proofs.Common.{◌≡◌, ℕ, ◌+◌, ◌<◌, ◌≤◌, true, false, List, [], ◌∷◌, inl, inr, refl, sym, ap, ◌∙◌, subst, arith}
+use Rattle.std.specs.Prelude.{◌==◌, ◌&&◌, count_by, sum_by}
+use Rattle.std.proofs.lemmas.Bool.{false≢true}
+use Rattle.std.proofs.lemmas.Bool.Decides.{eqb_tells}
+use Rattle.std.proofs.lemmas.List.Sums.{sum_by-cons}
+use Rattle.brc_model.specs.declared.duty.Holding.{Holding}
+use Rattle.brc_model.specs.declared.duty.Holding.TheVariants.{ByVariable, AsCaller, InFlight}
+use Rattle.brc_model.specs.declared.duty.Duty.{Duty}
+use Rattle.brc_model.specs.declared.duty.Duty.TheVariants.{RetainLoad, ReleaseLoad}
+use Rattle.brc_model.specs.declared.actor.Status.TheVariants.{Running}
+use Rattle.brc_model.specs.declared.layout.Layout.{Layout}
+use Rattle.brc_model.specs.AbstractState.{same_holding}
+use Rattle.brc_model.specs.Layout.{row_count, IsCounted}
+use Rattle.brc_model.specs.Machine.{Actor, Machine, with_actor}
+use Rattle.brc_model.specs.References.{held, one_if, reference_of}
+use Rattle.brc_model.specs.RowInvariant.{waits, carries, merges, decides}
+use Rattle.brc_model.specs.Accounts.{Account, Accounts, extra, lacks, extra_aside, lacks_aside, HoldsAt, most_lent, IsBounded}
+use Rattle.brc_model.specs.Knowledge.{HeadFits}
+use Rattle.brc_model.specs.OpenWork.{is_about, is_piece, is_finalising, has_leave, Agenda, IsSettled}
+use Rattle.brc_model.specs.Invariant.{looks, CoreInvariant}
+use Rattle.brc_model.specs.Ranges.{IsSmall}
+use Rattle.brc_model.specs.Counting.{Counts, with_account, with_one_more, with_one_less, working, IsReady, HasNoneAbout}
+use Rattle.brc_model.specs.CountingLaws.{RetainsBegin, ReleasesBegin}
+use Rattle.brc_model.proofs.Basics.Bag.{one_if_low, held-le-references_to}
+use Rattle.brc_model.proofs.Frame.Aside.{lacks_counted, extra_counted}
+use Rattle.brc_model.proofs.Limits.Ranges.{row_small, referenced_small}
+use Rattle.brc_model.proofs.Keeping.Rearranging.{still_wait}
+use Rattle.brc_model.proofs.Keeping.Sits.{AtRest, Sits}
+use Rattle.brc_model.proofs.Keeping.Kept.{kept_sits}
+use Rattle.brc_model.proofs.Keeping.WorkAside.{working_ranges}
+
+-- ---- a ready thread
+
+-- A ready thread is at rest, whatever it has put aside.
+pub ready_rests : (p : Accounts) (n : ℕ) (m : Machine) (t : ℕ) (a : Actor) → CoreInvariant p n m → IsReady m t a
+    → AtRest p n m t a
+ready_rests p n m t a core ready =
+    record { core = core; found = ready.found; agenda = ready.agenda; running = ready.running }
+
+-- A ready thread's account and the bag differ by the duties put aside alone.
+pub ready_holds : (p : Accounts) (n : ℕ) (m : Machine) (t : ℕ) (a : Actor) → CoreInvariant p n m → IsReady m t a
+    → HoldsAt m.abstract.references t (p t) [] a.aside
+ready_holds p n m t a core ready =
+    subst (λ (l : List Duty). HoldsAt m.abstract.references t (p t) l a.aside) ready.agenda
+    (core.each t a ready.found).0.holds
+
+-- The bag has what the account says of an object that no open work is about.
+pub none_about_held : (p : Accounts) (n : ℕ) (m : Machine) (t : ℕ) (a : Actor) (x : ℕ) (k : Holding)
+    → CoreInvariant p n m → IsReady m t a → HasNoneAbout a x
+    → held (reference_of t k x) m.abstract.references ≡ p t k x
+none_about_held p n m t a x k core ready alone =
+    omega (
+      arith,
+      (ready_holds p n m t a core ready).each k x,
+      lacks_counted a.aside k x,
+      extra_counted a.aside k x,
+      alone,
+    )
+
+-- An object that the thread holds as the caller has a row.
+held_row : (p : Accounts) (n : ℕ) (m : Machine) (t : ℕ) (a : Actor) (x : ℕ) → CoreInvariant p n m → IsReady m t a
+    → HasNoneAbout a x → 1 ≤ p t AsCaller x → x < row_count m.layout
+held_row p n m t a x core ready alone some =
+    referenced_small p n m x core (omega (
+      arith,
+      none_about_held p n m t a x AsCaller core ready alone,
+      held-le-references_to (reference_of t AsCaller x) m.abstract.references,
+      some,
+    ))
+
+-- ---- a new piece of work
+
+-- A duty about one row, with which a piece of work begins: it weighs nothing.
+pub record BeginsWork (x : ℕ) (d : Duty) : Type 0 where
+  pub about : (y : ℕ) → is_about y d ≡ (x == y)
+  pub piece : is_piece d ≡ true
+  pub fits : (used : ℕ) → Agenda used Running (d ∷ [])
+  pub stays : has_leave (d ∷ []) ≡ false
+  pub settled : (head : ℕ) → IsSettled head (d ∷ [])
+  pub hands : (y : ℕ) → is_finalising d y ≡ false
+  pub waits : (y : ℕ) → waits y d ≡ 0
+  pub carries : (y : ℕ) → carries y d ≡ 0
+  pub merges : (y : ℕ) → merges y d ≡ 0
+  pub decides : (y : ℕ) → decides y d ≡ 0
+  pub looks : (y : ℕ) → looks y d ≡ 0
+
+-- What the new work has to show, with the thread's account from then on.
+pub record TakesUp (m : Machine) (t : ℕ) (a : Actor) (x : ℕ) (d : Duty) (account : Account) : Type 0 where
+  pub begins : BeginsWork x d
+  pub holds : (k : Holding) (object : ℕ)
+      → held (reference_of t k object) m.abstract.references + one_if (lacks d k object) + lacks_aside a.aside k object
+      ≡ account k object + one_if (extra d k object) + extra_aside a.aside k object
+  pub bounded : IsBounded m.layout account
+  pub knows : HeadFits (with_actor m t (working a (d ∷ []) a.aside)) t (working a (d ∷ []) a.aside) d []
+  pub small : IsSmall (row_count m.layout) d
+
+-- The duties put aside are about other rows than the new work.
+apart_from : (a : Actor) (x : ℕ) (d : Duty) → BeginsWork x d → HasNoneAbout a x
+    → ((y : ℕ) → count_by (is_about y) a.aside ≤ 1) → (y : ℕ)
+    → one_if (is_about y d) + count_by (is_about y) a.aside ≤ 1
+apart_from a x d begins alone few y =
+    let this : one_if (is_about y d) ≡ one_if (x == y) = ap one_if (begins.about y) in
+    elim (eqb_tells x y) [
+      | inl same ↦
+          let none : HasNoneAbout a y = subst (HasNoneAbout a) same.1 alone in
+          omega (arith, this, none, one_if_low (x == y))
+      | inr other ↦
+          let none : one_if (x == y) ≡ 0 = ap one_if other.0 in
+          omega (arith, this, none, few y)
+    ]
+
+-- The weight of an agenda of one duty that weighs nothing.
+one_weight : (f : Duty → ℕ) (d : Duty) → f d ≡ 0 → sum_by f (d ∷ []) ≡ 0
+one_weight f d none = omega (arith, sum_by-cons f d [], none)
+
+-- A ready thread takes up work about a row that none of its open work is about.
+pub work_begins : (p : Accounts) (n : ℕ) (m : Machine) (t : ℕ) (a : Actor) (x : ℕ) (d : Duty) (account : Account)
+    → Counts p n m → IsReady m t a → HasNoneAbout a x → TakesUp m t a x d account
+    → Counts (with_account p t account) n (with_actor m t (working a (d ∷ []) a.aside))
+work_begins p n m t a x d account counts ready alone new =
+    let core = counts.kept.core in
+    let begins = new.begins in
+    let old = (core.each t a ready.found).2 in
+    let sits : Sits m t a (d ∷ []) account = record {
+      holds = record { each = new.holds };
+      bounded = new.bounded;
+      exited = λ e. absurd (false≢true (sym begins.stays ∙ e));
+      aside = record {
+        waits = still_wait m t a (d ∷ []) a.aside a.aside old.waits;
+        apart = apart_from a x d begins alone (λ y. omega (arith, old.apart y));
+        pieces = inr begins.piece;
+      };
+      knows = new.knows;
+      fits = begins.fits a.used;
+      hands = begins.hands;
+      no_waits = λ y. one_weight (waits y) d (begins.waits y);
+      no_carries = λ y. one_weight (carries y) d (begins.carries y);
+      no_merges = λ y. one_weight (merges y) d (begins.merges y);
+      no_decides = λ y. one_weight (decides y) d (begins.decides y);
+      no_looks = λ y. one_weight (looks y) d (begins.looks y);
+    } in
+    record {
+      kept =
+          kept_sits p n m t a (d ∷ []) account counts.kept (ready_rests p n m t a core ready) sits
+          (begins.settled a.head);
+      ranges =
+          working_ranges n m t a (d ∷ []) a.aside counts.ranges ready.found (new.small, tt)
+          (counts.ranges.aside t a ready.found);
+    }
+
+-- ---- accounts
+
+-- With one reference more, a thread still holds at most `most_lent` to a counted object.
+pub more_bounded : (layout : Layout) (account : Account) (x : ℕ) → IsBounded layout account
+    → (IsCounted layout x → account AsCaller x < most_lent) → IsBounded layout (with_one_more account AsCaller x)
+more_bounded layout account x bounded few = record {
+  by_variable = λ v object. omega (arith, bounded.by_variable v object);
+  sixteen = λ v object past. omega (arith, bounded.sixteen v object past);
+  lent = λ object counted. elim (eqb_tells x object) [
+    | inl same ↦
+        let low = subst (λ (y : ℕ). IsCounted layout y → account AsCaller y < most_lent) same.1 few counted in
+        omega (arith, low, one_if_low (x == object))
+    | inr other ↦
+        let none : one_if (x == object) ≡ 0 = ap one_if other.0 in
+        omega (arith, bounded.lent object counted, none)
+  ];
+  in_flight = λ object. omega (arith, bounded.in_flight object);
+}
+
+-- With one reference less, a thread holds no more than before.
+less_bounded : (layout : Layout) (account : Account) (x : ℕ) → IsBounded layout account
+    → IsBounded layout (with_one_less account AsCaller x)
+less_bounded layout account x bounded = record {
+  by_variable = λ v object. omega (arith, bounded.by_variable v object);
+  sixteen = λ v object past. omega (arith, bounded.sixteen v object past);
+  lent = λ object counted. omega (arith, bounded.lent object counted);
+  in_flight = λ object. omega (arith, bounded.in_flight object);
+}
+
+-- The account has the reference that it loses.
+has_one : (account : Account) (x : ℕ) (k : Holding) (object : ℕ) → 1 ≤ account AsCaller x
+    → one_if (same_holding AsCaller k && (x == object)) ≤ account k object
+has_one account x (ByVariable v) object some = omega arith
+has_one account x InFlight object some = omega arith
+has_one account x AsCaller object some =
+    elim (eqb_tells x object) [
+      | inl same ↦
+          let here : 1 ≤ account AsCaller object = subst (λ (y : ℕ). 1 ≤ account AsCaller y) same.1 some in
+          omega (arith, here, one_if_low (x == object))
+      | inr other ↦ let none : one_if (x == object) ≡ 0 = ap one_if other.0 in omega (arith, none)
+    ]
+
+-- ---- retains and releases
+
+-- A retain can begin a piece of work, and so can a release.
+retain_begins : (x : ℕ) → BeginsWork x (RetainLoad x AsCaller)
+retain_begins x = record {
+  about = λ y. refl;
+  piece = refl;
+  fits = λ used. refl;
+  stays = refl;
+  settled = λ head. tt;
+  hands = λ y. refl;
+  waits = λ y. refl;
+  carries = λ y. refl;
+  merges = λ y. refl;
+  decides = λ y. refl;
+  looks = λ y. refl;
+}
+
+release_begins : (x : ℕ) → BeginsWork x (ReleaseLoad x AsCaller)
+release_begins x = record {
+  about = λ y. refl;
+  piece = refl;
+  fits = λ used. refl;
+  stays = refl;
+  settled = λ head. tt;
+  hands = λ y. refl;
+  waits = λ y. refl;
+  carries = λ y. refl;
+  merges = λ y. refl;
+  decides = λ y. refl;
+  looks = λ y. refl;
+}
+
+-- The invariant and the ranges hold after a ready thread begins to retain an object that it holds.
+pub retains_begin : RetainsBegin
+retains_begin p n m t a x counts ready alone some few =
+    let core = counts.kept.core in
+    let holds = ready_holds p n m t a core ready in
+    let bounded = (core.each t a ready.found).0.bounded in
+    let in_bag = none_about_held p n m t a x AsCaller core ready alone in
+    work_begins p n m t a x (RetainLoad x AsCaller) (with_one_more (p t) AsCaller x) counts ready alone (record {
+      begins = retain_begins x;
+      holds = λ k object. omega (arith, holds.each k object);
+      bounded = more_bounded m.layout (p t) x bounded few;
+      knows = record { by = AsCaller; held_so = omega (arith, in_bag, some) };
+      small =
+          row_small (row_count m.layout) x (RetainLoad x AsCaller) (held_row p n m t a x core ready alone some)
+          (λ y. refl) (omega arith);
+    })
+
+-- The invariant and the ranges hold after a ready thread begins to give up a reference that it holds.
+pub releases_begin : ReleasesBegin
+releases_begin p n m t a x counts ready alone some =
+    let core = counts.kept.core in
+    let holds = ready_holds p n m t a core ready in
+    let bounded = (core.each t a ready.found).0.bounded in
+    work_begins p n m t a x (ReleaseLoad x AsCaller) (with_one_less (p t) AsCaller x) counts ready alone (record {
+      begins = release_begins x;
+      holds = λ k object. omega (arith, holds.each k object, has_one (p t) x k object some);
+      bounded = less_bounded m.layout (p t) x bounded;
+      knows = tt;
+      small =
+          row_small (row_count m.layout) x (ReleaseLoad x AsCaller) (held_row p n m t a x core ready alone some)
+          (λ y. refl) (omega arith);
+    })

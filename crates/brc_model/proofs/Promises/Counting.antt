@@ -1,0 +1,92 @@
+-- The laws of the counting machine: a thread's next duty keeps its invariant and is within its bounds, and the counts
+-- of each row agree.
+use Rattle.std.proofs.Common.{◌≡◌, ℕ, ◌<◌, ◌≤◌, cond, List, [], ◌∷◌, inl, inr, ap, subst, arith}
+use Rattle.std.specs.Prelude.{count_by}
+use Rattle.std.proofs.lemmas.Bool.{cases_Bool, cases_lt}
+use Rattle.std.proofs.lemmas.List.Sums.{sum_by-cons}
+use Rattle.brc_model.specs.declared.duty.Holding.{Holding}
+use Rattle.brc_model.specs.AbstractState.{references_to}
+use Rattle.brc_model.specs.References.{one_if, reference_of}
+use Rattle.brc_model.specs.OpenWork.{is_about}
+use Rattle.brc_model.proofs.Basics.Bag.{held-le-references_to}
+use Rattle.brc_model.proofs.Frame.Aside.{lacks_about, lacks_counted}
+use Rattle.brc_model.specs.declared.duty.Duty.{Duty}
+use Rattle.brc_model.specs.Layout.{row_count}
+use Rattle.brc_model.specs.Machine.{Actor, Machine}
+use Rattle.brc_model.specs.Accounts.{Accounts, lacks_of}
+use Rattle.brc_model.specs.Counting.{Counts}
+use Rattle.brc_model.specs.CountingLaws.{ComesNext, DutiesAreKept, DutiesAreWithin, AccountsAreThere, CountsAgree}
+use Rattle.brc_model.specs.Ranges.{AreSmall}
+use Rattle.brc_model.proofs.Keeping.Kept.{Doing, duty_kept}
+use Rattle.brc_model.proofs.Limits.Ranges.{head_small, duty_ranges, referenced_small}
+use Rattle.brc_model.proofs.Limits.StepsAreWithin.{duty_within}
+use Rattle.brc_model.proofs.Promises.Agreeing.{agrees_at}
+
+-- The premise of the laws about a thread's next duty is that of `duty_kept`.
+doing_next : (p : Accounts) (n : ℕ) (m : Machine) (t : ℕ) (a : Actor) (d : Duty) (rest : List Duty) → Counts p n m
+    → ComesNext m t a d rest → Doing p n m t a d rest
+doing_next p n m t a d rest counts next =
+    record { kept = counts.kept; found = next.found; agenda = next.agenda; alive = next.alive }
+
+-- The duties of the thread's agenda are small.
+next_small : (p : Accounts) (n : ℕ) (m : Machine) (t : ℕ) (a : Actor) (d : Duty) (rest : List Duty) → Counts p n m
+    → ComesNext m t a d rest → AreSmall (row_count m.layout) (d ∷ rest)
+next_small p n m t a d rest counts next =
+    subst (AreSmall (row_count m.layout)) next.agenda (counts.ranges.each t a next.found)
+
+-- Doing a thread's next duty isn't bad, and keeps the invariant.
+pub duties_kept : DutiesAreKept
+duties_kept p n m t a d rest counts next =
+    let kept = duty_kept p n m t a d rest (doing_next p n m t a d rest counts next) in (
+      kept.0,
+      record {
+        kept = kept.1;
+        ranges = duty_ranges p n m t a a d rest counts.kept.core counts.ranges next.found
+            (head_small p n m t a counts.kept.core next.found) (next_small p n m t a d rest counts next)
+            (counts.ranges.aside t a next.found);
+      },
+    )
+
+-- A thread's next duty can rely on what `DutyWithin` says.
+pub duties_within : DutiesAreWithin
+duties_within p n m t a d rest counts next =
+    duty_within p n m t a d rest (doing_next p n m t a d rest counts next) (next_small p n m t a d rest counts next).0
+    counts.kept.core.few_threads
+
+-- The counts of each counted object that was born agree.
+pub counts_agree : CountsAgree
+counts_agree p n m x counts counted born = agrees_at p n m x counts.kept.core counted
+
+-- A row that one of these duties is about is there.
+counted_small : (k : ℕ) (ds : List Duty) (x : ℕ) → AreSmall k ds → 0 < count_by (is_about x) ds → x < k
+counted_small k [] x small more = absurd (omega (arith, more))
+counted_small k (d ∷ ds) x small more =
+    let all = sum_by-cons (λ (e : Duty). cond (is_about x e) 1 0) d ds in
+    elim (cases_Bool (is_about x d)) [
+      | inl this ↦ small.0.row x this
+      | inr other ↦
+          let none : one_if (is_about x d) ≡ 0 = ap one_if other in
+          counted_small k ds x small.1 (omega (arith, all, none, more))
+    ]
+
+-- The duty of an agenda that makes a reference is about its object.
+making_about : (ds : List Duty) (h : Holding) (x : ℕ) → one_if (lacks_of ds h x) ≤ count_by (is_about x) ds
+making_about [] h x = omega arith
+making_about (d ∷ ds) h x =
+    omega (arith, lacks_about d h x, sum_by-cons (λ (e : Duty). cond (is_about x e) 1 0) d ds)
+
+-- The object of each reference in a thread's account has a row: the bag has a reference to it, or a duty is about it.
+pub accounts_there : AccountsAreThere
+accounts_there p n m t a h x counts found holds =
+    let core = counts.kept.core in
+    let each = (core.each t a found).0.holds.each h x in
+    let in_bag = held-le-references_to (reference_of t h x) m.abstract.references in
+    elim (cases_lt 0 (references_to x m.abstract.references)) [
+      | inl listed ↦ referenced_small p n m x core listed
+      | inr none ↦ elim (cases_lt 0 (count_by (is_about x) a.agenda)) [
+        | inl next ↦ counted_small (row_count m.layout) a.agenda x (counts.ranges.each t a found) next
+        | inr quiet ↦
+            counted_small (row_count m.layout) a.aside x (counts.ranges.aside t a found)
+            (omega (arith, each, in_bag, none, quiet, holds, making_about a.agenda h x, lacks_counted a.aside h x))
+      ]
+    ]

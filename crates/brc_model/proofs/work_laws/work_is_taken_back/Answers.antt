@@ -1,0 +1,5 @@
+use Rattle.brc_model.proofs.Keeping.WorkAside as work
+use Rattle.brc_model.proofs.work_laws.work_is_taken_back.Goals as goal
+
+pub returns : goal.returns
+returns c = work.work_taken_back

@@ -1,0 +1,92 @@
+-- The counting machine as running threads use it: the whole invariant, and the changes of a thread's work and account
+-- between two duties.
+use Rattle.std.specs.Prelude.{◌≡◌, ℕ, ◌+◌, ◌-◌, ◌<◌, ◌≤◌, cond, ◌&&◌, ◌==◌, List, [], ◌∷◌, Some, slice_get, count_by, replicate}
+use Rattle.brc_model.specs.declared.duty.Holding.{Holding}
+use Rattle.brc_model.specs.declared.duty.Holding.TheVariants.{AsCaller}
+use Rattle.brc_model.specs.declared.duty.Duty.{Duty}
+use Rattle.brc_model.specs.declared.actor.Status.TheVariants.{Running}
+use Rattle.brc_model.specs.declared.layout.Layout.{Layout}
+use Rattle.brc_model.specs.Layout.{front_rows, root_row}
+use Rattle.brc_model.specs.Limits.{cell_limit, worker_limit, row_limit}
+use Rattle.brc_model.specs.AbstractState.{same_holding}
+use Rattle.brc_model.specs.References.{one_if}
+use Rattle.brc_model.specs.Accounts.{Account, Accounts}
+use Rattle.brc_model.specs.Machine.{Actor, Machine, idle_actor}
+use Rattle.brc_model.specs.StepMachine.{rooted_memory, first_life, first_kinds, caller_reference}
+use Rattle.brc_model.specs.OpenWork.{is_about, about_of}
+use Rattle.brc_model.specs.Invariant.{Invariant}
+use Rattle.brc_model.specs.Ranges.{Ranges}
+
+-- What holds between any two steps of running threads with these accounts: the invariant, and the rows of all duties are
+-- rows of the machine.
+pub record Counts (p : Accounts) (n : ℕ) (m : Machine) : Type 0 where
+  pub kept : Invariant p n m
+  pub ranges : Ranges n m
+
+-- ---- accounts
+
+-- the accounts, with the account of one thread replaced
+abbrev pub with_account : Accounts → ℕ → Account → Accounts
+with_account p t account u = cond (u == t) account (p u)
+
+-- the account with one reference more
+abbrev pub with_one_more : Account → Holding → ℕ → Account
+with_one_more account h x k object = account k object + one_if (same_holding h k && (x == object))
+
+-- the account with one reference less
+abbrev pub with_one_less : Account → Holding → ℕ → Account
+with_one_less account h x k object = account k object - one_if (same_holding h k && (x == object))
+
+-- ---- work
+
+-- the thread with another agenda and other duties put aside
+abbrev pub working : Actor → List Duty → List Duty → Actor
+working a agenda aside =
+    record {
+      status = a.status;
+      agenda = agenda;
+      aside = aside;
+      head = a.head;
+      used = a.used;
+      locked = a.locked;
+      lent = a.lent;
+    }
+
+-- The thread runs, and no duty comes next: all its open work is put aside.
+pub record IsReady (m : Machine) (t : ℕ) (a : Actor) : Type 0 where
+  pub found : slice_get m.actors t ≡ Some a
+  pub running : a.status ≡ Running
+  pub agenda : a.agenda ≡ []
+
+-- None of the thread's open work is about the row.
+abbrev pub HasNoneAbout : Actor → ℕ → Type 0
+HasNoneAbout a x = one_if (about_of x a.agenda) + count_by (is_about x) a.aside ≡ 0
+
+-- ---- the first machine
+
+-- a layout of running threads: no immortal lists yet
+pub record IsPlainLayout (layout : Layout) : Type 0 where
+  pub some_workers : 0 < layout.workers
+  pub few_workers : layout.workers ≤ worker_limit
+  pub some_rows : 0 < layout.rows
+  pub few_rows : layout.rows ≤ row_limit
+  pub cells : layout.cells ≡ cell_limit
+  pub immortals : layout.immortal_lists ≡ 0
+
+-- Main holds the root, and no worker holds anything. All threads count as running, whether they are started or not.
+abbrev pub hands_machine : Layout → Machine
+hands_machine layout = record {
+  layout = layout;
+  memory = rooted_memory layout.workers 1;
+  actors = idle_actor front_rows ∷ replicate layout.workers (idle_actor 0);
+  abstract = record {
+    references = caller_reference 0 ∷ [];
+    born = root_row ∷ [];
+    closed = [];
+    kinds = first_kinds;
+  };
+  life = first_life;
+}
+
+abbrev pub hands_accounts : Accounts
+hands_accounts t k object = one_if ((t == 0) && (same_holding AsCaller k && (root_row == object)))

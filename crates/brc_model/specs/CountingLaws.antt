@@ -1,0 +1,139 @@
+-- The laws of the counting machine that running threads stand on.
+use Rattle.std.specs.Prelude.{◌≡◌, ◌≢◌, ℕ, zero, suc, ◌+◌, ◌<◌, ◌≤◌, true, false, List, [], ◌∷◌, ◌++◌, Some, slice_get}
+use Rattle.brc_model.specs.declared.duty.Holding.{Holding}
+use Rattle.brc_model.specs.declared.duty.Holding.TheVariants.{ByVariable, AsCaller, InFlight}
+use Rattle.brc_model.specs.declared.duty.Duty.{Duty}
+use Rattle.brc_model.specs.declared.duty.Duty.TheVariants.{RetainLoad, ReleaseLoad, BirthKind}
+use Rattle.brc_model.specs.declared.actor.Status.TheVariants.{Gone}
+use Rattle.brc_model.specs.declared.layout.Layout.{Layout}
+use Rattle.brc_model.specs.Kinds.{kind_of_word, is_counted_kind}
+use Rattle.brc_model.specs.AbstractState.{PassOn, ByThread, references_to}
+use Rattle.brc_model.specs.References.{held, reference_of}
+use Rattle.brc_model.specs.Duties.{address_of, cells_of}
+use Rattle.brc_model.specs.Moves.{gain}
+use Rattle.brc_model.specs.Layout.{row_count, row_at, is_immortal_row, IsCounted}
+use Rattle.brc_model.specs.Limits.{cell_limit}
+use Rattle.brc_model.specs.Machine.{Actor, Machine, Unborn, has_room, is_running, used_by, with_actor, with_moves, done_by}
+use Rattle.brc_model.specs.BadDuties.{is_bad_duty}
+use Rattle.brc_model.specs.Accounts.{Accounts, most_lent}
+use Rattle.brc_model.specs.OpenWork.{exits, may_wait}
+use Rattle.brc_model.specs.Within.{IsThere, Suits, FindsOwner}
+use Rattle.brc_model.specs.Stores.{Overwrites}
+use Rattle.brc_model.specs.Agreement.{AgreesAt}
+use Rattle.brc_model.specs.Counting.{Counts, with_account, with_one_more, with_one_less, working, IsReady, HasNoneAbout, IsPlainLayout, hands_machine, hands_accounts}
+
+-- ---- duties
+
+-- The thread isn't gone, and the duty comes next.
+pub record ComesNext (m : Machine) (t : ℕ) (a : Actor) (d : Duty) (rest : List Duty) : Type 0 where
+  pub found : slice_get m.actors t ≡ Some a
+  pub agenda : a.agenda ≡ d ∷ rest
+  pub alive : a.status ≢ Gone
+
+-- Doing a thread's next duty isn't bad, and keeps the invariant.
+abbrev pub DutiesAreKept : Type 0
+DutiesAreKept = (p : Accounts) (n : ℕ) (m : Machine) (t : ℕ) (a : Actor) (d : Duty) (rest : List Duty) → Counts p n m
+    → ComesNext m t a d rest → (is_bad_duty m t a d ≡ false) × Counts p n (done_by m t a d rest)
+
+-- What a thread can rely on at its next duty: the word is there, the value found suits the duty, and a store knows the
+-- value that it overwrites.
+pub record DutyWithin (n : ℕ) (m : Machine) (t : ℕ) (a : Actor) (d : Duty) : Type 0 where
+  pub there : IsThere (row_count m.layout) n (address_of m.layout t a.head d)
+  pub head : a.head ≤ row_count m.layout
+  pub used : used_by a.used d ≤ row_count m.layout
+  pub suits : Suits t (is_running a.status) (row_count m.layout) d (m.memory (address_of m.layout t a.head d))
+  pub overwrites : Overwrites t d (m.memory (address_of m.layout t a.head d))
+  pub owner : FindsOwner m.layout d (m.memory (address_of m.layout t a.head d))
+
+abbrev pub DutiesAreWithin : Type 0
+DutiesAreWithin = (p : Accounts) (n : ℕ) (m : Machine) (t : ℕ) (a : Actor) (d : Duty) (rest : List Duty) → Counts p n m
+    → ComesNext m t a d rest → DutyWithin n m t a d
+
+-- The object of each reference in a thread's account has a row.
+abbrev pub AccountsAreThere : Type 0
+AccountsAreThere =
+    (p : Accounts) (n : ℕ) (m : Machine) (t : ℕ) (a : Actor) (h : Holding) (x : ℕ) → Counts p n m
+    → slice_get m.actors t ≡ Some a → 1 ≤ p t h x → x < row_count m.layout
+
+-- ---- work between two duties
+
+-- A thread puts its only duty aside, if the duty may wait.
+abbrev pub WorkIsPutAside : Type 0
+WorkIsPutAside = (p : Accounts) (n : ℕ) (m : Machine) (t : ℕ) (a : Actor) (d : Duty) → Counts p n m
+    → slice_get m.actors t ≡ Some a → a.agenda ≡ d ∷ [] → may_wait d ≡ true
+    → Counts p n (with_actor m t (working a [] (d ∷ a.aside)))
+
+-- A ready thread takes back a duty that it has put aside.
+abbrev pub WorkIsTakenBack : Type 0
+WorkIsTakenBack =
+    (p : Accounts) (n : ℕ) (m : Machine) (t : ℕ) (a : Actor) (before after : List Duty) (d : Duty) → Counts p n m
+    → slice_get m.actors t ≡ Some a → a.agenda ≡ [] → a.aside ≡ before ++ d ∷ after
+    → Counts p n (with_actor m t (working a (d ∷ []) (before ++ after)))
+
+-- A ready thread begins to retain an object to which it holds a reference.
+abbrev pub RetainsBegin : Type 0
+RetainsBegin = (p : Accounts) (n : ℕ) (m : Machine) (t : ℕ) (a : Actor) (x : ℕ) → Counts p n m → IsReady m t a
+    → HasNoneAbout a x → 1 ≤ p t AsCaller x → (IsCounted m.layout x → p t AsCaller x < most_lent)
+    → Counts (with_account p t (with_one_more (p t) AsCaller x)) n
+    (with_actor m t (working a (RetainLoad x AsCaller ∷ []) a.aside))
+
+-- A ready thread begins to give up a reference that it holds.
+abbrev pub ReleasesBegin : Type 0
+ReleasesBegin = (p : Accounts) (n : ℕ) (m : Machine) (t : ℕ) (a : Actor) (x : ℕ) → Counts p n m → IsReady m t a
+    → HasNoneAbout a x → 1 ≤ p t AsCaller x
+    → Counts (with_account p t (with_one_less (p t) AsCaller x)) n
+    (with_actor m t (working a (ReleaseLoad x AsCaller ∷ []) a.aside))
+
+-- A ready worker with a row left begins a birth. It will hold the new object's first reference.
+abbrev pub BirthsBegin : Type 0
+BirthsBegin = (p : Accounts) (n : ℕ) (m : Machine) (t : ℕ) (a : Actor) (word : ℕ) → Counts p n m → IsReady m t a
+    → 0 < t → has_room m.layout t a.used ≡ true → is_counted_kind (kind_of_word word) ≡ true
+    → cells_of word ≤ cell_limit
+    → Counts (with_account p t (with_one_more (p t) AsCaller (row_at m.layout t a.used))) n
+    (with_actor m t (working a (BirthKind (row_at m.layout t a.used) AsCaller word ∷ []) a.aside))
+
+-- References to immortal objects aren't counted, so a thread may have one more at any time.
+abbrev pub ImmortalsAreFree : Type 0
+ImmortalsAreFree = (p : Accounts) (n : ℕ) (m : Machine) (t : ℕ) (a : Actor) (x : ℕ) → Counts p n m → IsReady m t a
+    → HasNoneAbout a x → is_immortal_row m.layout x ≡ true
+    → Counts (with_account p t (with_one_more (p t) AsCaller x)) n (with_moves m (gain t AsCaller x))
+
+-- A thread hands a reference over to another thread that runs and isn't exiting.
+abbrev pub ReferencesAreHandedOver : Type 0
+ReferencesAreHandedOver =
+    (p : Accounts) (n : ℕ) (m : Machine) (t u : ℕ) (a b : Actor) (x : ℕ) → Counts p n m → slice_get m.actors t ≡ Some a
+    → slice_get m.actors u ≡ Some b → t ≢ u → HasNoneAbout a x → HasNoneAbout b x
+    → exits b.status b.agenda ≡ false → IsCounted m.layout x → 1 ≤ p t AsCaller x → p u AsCaller x < most_lent
+    → Counts (with_account (with_account p t (with_one_less (p t) AsCaller x)) u (with_one_more (p u) AsCaller x)) n
+    (with_moves m (PassOn (reference_of t AsCaller x) (ByThread u AsCaller) ∷ []))
+
+-- ---- the beginning, and what the counts say
+
+-- The first machine of hands has the invariant.
+abbrev pub HandsBegin : Type 0
+HandsBegin = (layout : Layout) → IsPlainLayout layout
+    → Counts hands_accounts (1 + layout.workers) (hands_machine layout)
+
+-- The counts of each counted object that was born add up.
+abbrev pub CountsAgree : Type 0
+CountsAgree = (p : Accounts) (n : ℕ) (m : Machine) (x : ℕ) → Counts p n m → IsCounted m.layout x → m.life x ≢ Unborn
+    → AgreesAt m x
+
+-- The sum of a number over the threads below `n`.
+abbrev pub over_threads : (ℕ → ℕ) → ℕ → ℕ
+over_threads f zero = 0
+over_threads f (suc t) = over_threads f t + f t
+
+-- how many references to the object the bag has of the thread: those that it holds as the caller, and those in flight
+abbrev pub thread_references : Machine → ℕ → ℕ → ℕ
+thread_references m x t =
+    held (reference_of t AsCaller x) m.abstract.references + held (reference_of t InFlight x) m.abstract.references
+
+-- No thread holds the object by a variable, as in running threads.
+abbrev pub HasNoVariables : Machine → ℕ → Type 0
+HasNoVariables m x = (t v : ℕ) → held (reference_of t (ByVariable v) x) m.abstract.references ≡ 0
+
+-- The references to an object are those of the threads.
+abbrev pub SharesOfThreads : Type 0
+SharesOfThreads = (p : Accounts) (n : ℕ) (m : Machine) (x : ℕ) → Counts p n m → HasNoVariables m x
+    → references_to x m.abstract.references ≡ over_threads (thread_references m x) n

@@ -1,0 +1,30 @@
+-- The rows and cells that threads' duties name exist, in agendas and among the duties put aside.
+use Rattle.std.specs.Prelude.{◌≡◌, ℕ, ◌<◌, ◌≤◌, true, List, [], ◌∷◌, Some, slice_get}
+use Rattle.brc_model.specs.declared.duty.Duty.{Duty}
+use Rattle.brc_model.specs.declared.duty.Duty.TheVariants.{SettleCell, BirthKind}
+use Rattle.brc_model.specs.declared.address.Address.TheVariants.{KindOf}
+use Rattle.brc_model.specs.Duties.{cells_of}
+use Rattle.brc_model.specs.Machine.{Actor, Machine}
+use Rattle.brc_model.specs.OpenWork.{is_about}
+use Rattle.brc_model.specs.Limits.{cell_limit}
+use Rattle.brc_model.specs.Layout.{row_count}
+
+-- the number of cells that a duty names
+abbrev pub cells_named : Duty → ℕ
+cells_named (SettleCell x i n) = n
+cells_named (BirthKind x h w) = cells_of w
+cells_named _ = 0
+
+-- The duty's row is below the limit, and it names at most eight cells.
+pub record IsSmall (k : ℕ) (d : Duty) : Type 0 where
+  pub row : (x : ℕ) → is_about x d ≡ true → x < k
+  pub cells : cells_named d ≤ cell_limit
+
+abbrev pub AreSmall : ℕ → List Duty → Type 0
+AreSmall k [] = Unit {0}
+AreSmall k (d ∷ rest) = IsSmall k d × AreSmall k rest
+
+pub record Ranges (n : ℕ) (m : Machine) : Type 0 where
+  pub kinds : (x : ℕ) → cells_of (m.memory (KindOf x)) ≤ cell_limit
+  pub each : (t : ℕ) (a : Actor) → slice_get m.actors t ≡ Some a → AreSmall (row_count m.layout) a.agenda
+  pub aside : (t : ℕ) (a : Actor) → slice_get m.actors t ≡ Some a → AreSmall (row_count m.layout) a.aside

@@ -1,0 +1,21 @@
+//! Laws of the counting machine as running threads use it: how it begins, how a thread hands a reference over to
+//! another, and which references there are.
+
+ghost use Rattle.brc_model.specs.CountingLaws.{HandsBegin, ReferencesAreHandedOver, SharesOfThreads};
+
+/// States that the first machine of hands has the invariant: main holds the root, and no worker holds anything.
+pub fn hands_begin()
+    ensures { HandsBegin }
+{}
+
+/// States that the invariant is kept when a thread hands a reference over to another thread, one that runs and isn't
+/// exiting, while neither has open work about the object.
+pub fn references_are_handed_over()
+    ensures { ReferencesAreHandedOver }
+{}
+
+/// States that the references to an object are those that the threads hold as callers or in flight, if no thread holds
+/// the object by a variable.
+pub fn references_are_the_threads()
+    ensures { SharesOfThreads }
+{}

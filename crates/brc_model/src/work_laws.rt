@@ -1,0 +1,34 @@
+//! Laws of the counting machine between two duties: what running threads may do with their open work, and which work
+//! they may begin.
+
+ghost use Rattle.brc_model.specs.CountingLaws.{WorkIsPutAside, WorkIsTakenBack, RetainsBegin, ReleasesBegin, BirthsBegin, ImmortalsAreFree};
+
+/// States that the invariant holds after a thread puts its only duty aside, if the duty may wait.
+pub fn work_is_put_aside()
+    ensures { WorkIsPutAside }
+{}
+
+/// States that the invariant holds after a ready thread takes back a duty that it has put aside.
+pub fn work_is_taken_back()
+    ensures { WorkIsTakenBack }
+{}
+
+/// States that the invariant holds after a ready thread begins to retain an object to which it holds a reference.
+pub fn retains_begin()
+    ensures { RetainsBegin }
+{}
+
+/// States that the invariant holds after a ready thread begins to give up a reference that it holds.
+pub fn releases_begin()
+    ensures { ReleasesBegin }
+{}
+
+/// States that the invariant holds after a ready worker with a row left begins a birth.
+pub fn births_begin()
+    ensures { BirthsBegin }
+{}
+
+/// States that the invariant holds after a ready thread gains a reference to an immortal object.
+pub fn immortals_are_free()
+    ensures { ImmortalsAreFree }
+{}
