@@ -1,0 +1,171 @@
+-- A hand that works at a row leaves its other work as it is.
+use Rattle.std.proofs.Common.{◌≡◌, ◌≢◌, ℕ, Bool, true, false, not, List, [], ◌∷◌, ◌++◌, inl, inr, refl, sym, ap, ◌∙◌, subst}
+use Rattle.std.specs.List.{filter}
+use Rattle.std.proofs.lemmas.Bool.{cases_Bool, eqb-true}
+use Rattle.std.proofs.lemmas.List.{append-nil}
+use Rattle.brc_model.specs.declared.duty.Duty.{Duty}
+use Rattle.brc_model.specs.declared.duty.Duty.TheVariants.{RetainLoad, RetainStore, RetainAdd, ReleaseLoad, ReleaseStore, DecideAtZero, SharedLoad, SharedExchange, SetMark, Look, TakeMark, MergeSwap, MergeLoad, MergeExchange, Die, Settle, SettleKind, SettleCell, TakeSlot, CloseResource, SettleEnd, Leave, Scan, Finish, ClaimMark, BirthKind, BirthSlot, BirthLocal}
+use Rattle.brc_model.specs.declared.actor.Status.{Status}
+use Rattle.brc_model.specs.Machine.{status_by, used_by}
+use Rattle.brc_model.specs.OpenWork.{is_about}
+use Rattle.brc_table.specs.declared.view.View.{View}
+use Rattle.brc_table.specs.Views.{open_work, turned, did, done}
+use Rattle.brc_table.specs.Hands.{MayWait, HasNoWork}
+use Rattle.brc_heap.specs.Calls.{Leaves}
+use Rattle.brc_heap.proofs.Turning.{away, passes, fails, none_aside, all_away}
+
+-- ---- rows of duties
+
+-- A duty is about one row.
+one_row : (x y : ℕ) (d : Duty) → is_about x d ≡ true → is_about y d ≡ true → y ≡ x
+one_row x y (RetainLoad z h) one other = sym (eqb-true z y other) ∙ eqb-true z x one
+one_row x y (RetainStore z h w) one other = sym (eqb-true z y other) ∙ eqb-true z x one
+one_row x y (RetainAdd z h) one other = sym (eqb-true z y other) ∙ eqb-true z x one
+one_row x y (ReleaseLoad z h) one other = sym (eqb-true z y other) ∙ eqb-true z x one
+one_row x y (ReleaseStore z w) one other = sym (eqb-true z y other) ∙ eqb-true z x one
+one_row x y (DecideAtZero z) one other = sym (eqb-true z y other) ∙ eqb-true z x one
+one_row x y (SharedLoad z r) one other = sym (eqb-true z y other) ∙ eqb-true z x one
+one_row x y (SharedExchange z r w) one other = sym (eqb-true z y other) ∙ eqb-true z x one
+one_row x y (SetMark z) one other = sym (eqb-true z y other) ∙ eqb-true z x one
+one_row x y (Look z) one other = sym (eqb-true z y other) ∙ eqb-true z x one
+one_row x y (TakeMark z) one other = sym (eqb-true z y other) ∙ eqb-true z x one
+one_row x y (MergeSwap z r) one other = sym (eqb-true z y other) ∙ eqb-true z x one
+one_row x y (MergeLoad z c r) one other = sym (eqb-true z y other) ∙ eqb-true z x one
+one_row x y (MergeExchange z c w r) one other = sym (eqb-true z y other) ∙ eqb-true z x one
+one_row x y (Die z) one other = sym (eqb-true z y other) ∙ eqb-true z x one
+one_row x y (SettleKind z) one other = sym (eqb-true z y other) ∙ eqb-true z x one
+one_row x y (SettleCell z i n) one other = sym (eqb-true z y other) ∙ eqb-true z x one
+one_row x y (TakeSlot z) one other = sym (eqb-true z y other) ∙ eqb-true z x one
+one_row x y (CloseResource z) one other = sym (eqb-true z y other) ∙ eqb-true z x one
+one_row x y (SettleEnd z) one other = sym (eqb-true z y other) ∙ eqb-true z x one
+one_row x y (ClaimMark z) one other = sym (eqb-true z y other) ∙ eqb-true z x one
+one_row x y (BirthKind z h w) one other = sym (eqb-true z y other) ∙ eqb-true z x one
+one_row x y (BirthSlot z h) one other = sym (eqb-true z y other) ∙ eqb-true z x one
+one_row x y (BirthLocal z h) one other = sym (eqb-true z y other) ∙ eqb-true z x one
+one_row x y Settle one other = absurd cc
+one_row x y (Leave i n) one other = absurd cc
+one_row x y (Scan i n) one other = absurd cc
+one_row x y Finish one other = absurd cc
+
+apart : (x y : ℕ) (d : Duty) → y ≢ x → is_about y d ≡ true → is_about x d ≡ false
+apart x y d ne this = elim (cases_Bool (is_about x d)) [
+  | inl other ↦ absurd (ne (one_row x y d other this))
+  | inr none ↦ none
+]
+
+-- All of the duties are about the row.
+abbrev pub AllAbout : ℕ → List Duty → Type 0
+AllAbout x [] = Unit {0}
+AllAbout x (d ∷ ds) = (is_about x d ≡ true) × AllAbout x ds
+
+all_pass : (x : ℕ) (ds : List Duty) → AllAbout x ds → filter (is_about x) ds ≡ ds
+all_pass x [] all = refl
+all_pass x (d ∷ ds) all = passes (is_about x) d ds all.0 ∙ ap (λ (es : List Duty). d ∷ es) (all_pass x ds all.1)
+
+all_fail : (x y : ℕ) (ds : List Duty) → y ≢ x → AllAbout x ds → filter (is_about y) ds ≡ []
+all_fail x y [] ne all = refl
+all_fail x y (d ∷ ds) ne all =
+    fails (is_about y) d ds (apart y x d (λ e. ne (sym e)) all.0) ∙ all_fail x y ds ne all.1
+
+filter_both : (p : Duty → Bool) (ds es : List Duty) → filter p (ds ++ es) ≡ filter p ds ++ filter p es
+filter_both p [] es = refl
+filter_both p (d ∷ ds) es = elim (cases_Bool (p d)) [
+  | inl this ↦
+      passes p d (ds ++ es) this
+      ∙ (ap (λ (fs : List Duty). d ∷ fs) (filter_both p ds es)
+      ∙ ap (λ (fs : List Duty). fs ++ filter p es) (sym (passes p d ds this)))
+  | inr other ↦
+      fails p d (ds ++ es) other
+      ∙ (filter_both p ds es ∙ ap (λ (fs : List Duty). fs ++ filter p es) (sym (fails p d ds other)))
+]
+
+-- Putting work about one row apart leaves the work about another.
+others_stay : (x y : ℕ) (ds : List Duty) → y ≢ x → filter (is_about y) (filter (away x) ds) ≡ filter (is_about y) ds
+others_stay x y [] ne = refl
+others_stay x y (d ∷ ds) ne = elim (cases_Bool (is_about x d)) [
+  | inl this ↦
+      ap (filter (is_about y)) (fails (away x) d ds (ap not this))
+      ∙ (others_stay x y ds ne ∙ sym (fails (is_about y) d ds (apart y x d (λ e. ne (sym e)) this)))
+  | inr other ↦
+      ap (filter (is_about y)) (passes (away x) d ds (ap not other)) ∙ elim (cases_Bool (is_about y d)) [
+        | inl mine ↦
+            passes (is_about y) d (filter (away x) ds) mine
+            ∙ (ap (λ (es : List Duty). d ∷ es) (others_stay x y ds ne) ∙ sym (passes (is_about y) d ds mine))
+        | inr neither ↦
+            fails (is_about y) d (filter (away x) ds) neither
+            ∙ (others_stay x y ds ne ∙ sym (fails (is_about y) d ds neither))
+      ]
+]
+
+-- ---- at work
+
+-- The hand with view v has come to work at the row x, with view u.
+pub record WorksAt (x : ℕ) (v u : View) : Type 0 where
+  pub layout : u.layout ≡ v.layout
+  pub thread : u.thread ≡ v.thread
+  pub status : u.status ≡ v.status
+  pub used : u.used ≡ v.used
+  pub given : u.given ≡ v.given
+  pub aside : u.aside ≡ filter (away x) (open_work v)
+
+pub turned_works : (x : ℕ) (v : View) → WorksAt x v (turned v x)
+turned_works x v =
+    record { layout = refl; thread = refl; status = refl; used = refl; given = refl; aside = refl }
+
+-- A hand that begins work has put all its other work aside.
+pub begun_works : (x : ℕ) (v u : View) → HasNoWork v x → u.layout ≡ v.layout → u.thread ≡ v.thread
+    → u.status ≡ v.status → u.used ≡ v.used → u.given ≡ v.given → u.aside ≡ open_work v → WorksAt x v u
+begun_works x v u none layout thread status used given aside = record {
+  layout = layout;
+  thread = thread;
+  status = status;
+  used = used;
+  given = given;
+  aside = aside ∙ sym (all_away x (open_work v) none);
+}
+
+-- The first duty changes neither the thread's status nor how many rows it has used.
+abbrev pub KeepsStatus : List Duty → Type 0
+KeepsStatus [] = Unit {0}
+KeepsStatus (d ∷ ds) = ((s : Status) → status_by s d ≡ s) × ((n : ℕ) → used_by n d ≡ n)
+
+did_works : (x : ℕ) (v u : View) (ds : List Duty) (found : ℕ) → WorksAt x v u → KeepsStatus ds
+    → WorksAt x v (did u ds found)
+did_works x v u [] found works keeps = works
+did_works x v u (d ∷ ds) found works keeps = record {
+  layout = works.layout;
+  thread = works.thread;
+  status = keeps.0 u.status ∙ works.status;
+  used = keeps.1 u.used ∙ works.used;
+  given = works.given;
+  aside = works.aside;
+}
+
+-- One more duty leaves the hand at work.
+pub done_works : (x : ℕ) (v u : View) (ds : List Duty) (found : ℕ) → WorksAt x v u → u.agenda ≡ ds → KeepsStatus ds
+    → WorksAt x v (done u found)
+done_works x v u ds found works is keeps =
+    did_works x v u u.agenda found works (subst KeepsStatus (sym is) keeps)
+
+-- What is left of the hand's work.
+pub works_leave : (x : ℕ) (v u : View) (left : List Duty) → WorksAt x v u → u.agenda ≡ left → AllAbout x left
+    → MayWait left → Leaves x left v u
+works_leave x v u left works is all waits = record {
+  layout = works.layout;
+  thread = works.thread;
+  status = works.status;
+  used = works.used;
+  given = works.given;
+  waits = subst MayWait (sym is) waits;
+  left_is =
+      filter_both (is_about x) u.agenda u.aside
+      ∙ (ap (λ (ds : List Duty). filter (is_about x) ds ++ filter (is_about x) u.aside) is
+      ∙ (ap (λ (ds : List Duty). ds ++ filter (is_about x) u.aside) (all_pass x left all)
+      ∙ (ap (λ (ds : List Duty). left ++ filter (is_about x) ds) works.aside
+      ∙ (ap (λ (ds : List Duty). left ++ ds) (none_aside x (open_work v)) ∙ append-nil left))));
+  others = λ y ne.
+      filter_both (is_about y) u.agenda u.aside
+      ∙ (ap (λ (ds : List Duty). filter (is_about y) ds ++ filter (is_about y) u.aside) is
+      ∙ (ap (λ (ds : List Duty). ds ++ filter (is_about y) u.aside) (all_fail x y left ne all)
+      ∙ (ap (filter (is_about y)) works.aside ∙ others_stay x y (open_work v) ne)));
+}

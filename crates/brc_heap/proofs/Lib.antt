@@ -1,0 +1,9 @@
+mod Turning
+mod Choices
+mod Exchanges
+mod Dying
+mod Leaving
+mod Ending
+mod Merging
+mod Bearing
+mod OwnRows

@@ -1,0 +1,193 @@
+-- What each call does to its hand's view, from the words that its steps find. A call's steps are those of the model:
+-- each is the hand's next duty, which finds some word (`done`).
+use Rattle.std.specs.Prelude.{◌≡◌, ◌≢◌, ◌⊎◌, ◌<◌, ◌≤◌, ◌++◌, true, ℕ, ◌+◌, ◌*◌, ◌==◌, Bool, if◌then◌else◌, List, [], ◌∷◌, None, Some}
+use Rattle.brc_word.specs.Words.{owner_part, most_local, half, local_part, is_immortal_word, free_word, fresh_word, dead_word, released_word, merged_word}
+use Rattle.brc_lang.specs.declared.kind.Kind.{Kind}
+use Rattle.brc_model.specs.declared.duty.Duty.{Duty}
+use Rattle.brc_model.specs.declared.duty.Reason.{Reason}
+use Rattle.brc_model.specs.declared.duty.Reason.TheVariants.{Own}
+use Rattle.brc_model.specs.declared.duty.Duty.TheVariants.{DecideAtZero, SharedLoad, SetMark, MergeSwap, MergeLoad, Die}
+use Rattle.brc_model.specs.Kinds.{kind_number}
+use Rattle.brc_model.specs.Duties.{counts_locally}
+use Rattle.brc_model.specs.Machine.{is_running}
+use Rattle.brc_model.specs.declared.layout.Layout.{Layout}
+use Rattle.brc_model.specs.declared.address.Address.TheVariants.{Local}
+use Rattle.brc_table.specs.declared.view.View.{View}
+use Rattle.brc_table.specs.declared.view.Event.{Event}
+use Rattle.brc_table.specs.Views.{done, resumed, turned, retaining, releasing, bearing, work_about, open_work, next_row, is_given}
+use Rattle.brc_table.specs.Hands.{HandState, MayWait}
+use Rattle.brc_heap.specs.declared.release.LocalRelease.{LocalRelease}
+use Rattle.brc_heap.specs.declared.release.LocalRelease.TheVariants as local
+use Rattle.brc_heap.specs.declared.release.ZeroStep.{ZeroStep}
+use Rattle.brc_heap.specs.declared.release.ZeroStep.TheVariants as zero
+use Rattle.brc_heap.specs.declared.release.SharedRelease.{SharedRelease}
+use Rattle.brc_heap.specs.declared.release.SharedRelease.TheVariants as shared
+use Rattle.brc_heap.specs.declared.merge.MergeStep.{MergeStep}
+use Rattle.brc_heap.specs.declared.merge.MergeStep.TheVariants as merge
+
+-- ---- retain
+
+-- the hand has retained the object: it loaded the local word, and then stored it or added to the shared word, whose
+-- value was `found` (an immortal object needs no second step)
+abbrev pub retained : View → ℕ → ℕ → ℕ → View
+retained v x word found = resumed (retaining v x) (word ∷ found ∷ [])
+
+-- the step on the row's local word that found the one value and left the other
+abbrev pub local_event : ℕ → ℕ → ℕ → Event
+local_event x found left = record { address = Local x; found = found; left = left }
+
+-- A running owner's retain stores the local word, unless the object is immortal, nobody owns it any more, or its local
+-- count is the greatest that the owner reaches by counting.
+abbrev pub RetainsOwn : ℕ → ℕ → ℕ → View → View → Type 0
+RetainsOwn x word found v u =
+    (is_immortal_word word ≡ true) ⊎ (owner_part word ≡ 0) ⊎ (most_local ≤ local_part word)
+    ⊎ (u.trace ≡ (v.trace ++ local_event x word word ∷ []) ++ local_event x found (word + 1) ∷ [])
+
+-- ---- release
+
+-- The hand counts the object locally, having loaded this local word.
+abbrev pub counts_here : View → ℕ → Bool
+counts_here v word = counts_locally v.thread (is_running v.status) word
+
+-- the hand has loaded the local word, and stored it with one less if it counts there
+abbrev pub released_locally : View → ℕ → ℕ → View
+released_locally v x word =
+    let loaded = done (releasing v x) word in if counts_here v word then done loaded word else loaded
+
+abbrev pub local_answer : View → ℕ → LocalRelease
+local_answer v word =
+    if is_immortal_word word then local.Skip
+    else if counts_here v word then (if local_part word == 1 then local.Zero else local.Kept)
+    else local.Share
+
+-- If the object dies, the hand chains it at once.
+abbrev pub chained_by : View → List Duty → View
+chained_by v (Die x ∷ rest) = done v free_word
+chained_by v _ = v
+
+abbrev pub chained : View → View
+chained v = chained_by v v.agenda
+
+-- the hand has looked at the shared word of an object whose last local reference is gone
+abbrev pub decided : View → ℕ → ℕ → View
+decided v x word = chained (done (turned v x) word)
+
+abbrev pub zero_answer : ℕ → ZeroStep
+zero_answer word = if word == fresh_word then zero.Dying else zero.Merge
+
+-- the hand has loaded the shared word, and exchanged it if it was still the same
+abbrev pub released_shared : View → ℕ → ℕ → ℕ → View
+released_shared v x word found = chained (resumed (turned v x) (word ∷ found ∷ []))
+
+abbrev pub shared_answer : ℕ → ℕ → SharedRelease
+shared_answer word found =
+    if found == word
+    then (if word == fresh_word then shared.Queued
+    else if released_word word == dead_word then shared.Dying
+    else shared.Kept)
+    else shared.Again
+
+-- ---- merge
+
+-- the hand has loaded the shared word, and exchanged it for the merged one if it was still the same
+abbrev pub merge_tried : View → ℕ → ℕ → View
+merge_tried v word found = chained (resumed v (word ∷ found ∷ []))
+
+-- the hand's first turn: it has swapped the local word, which was `local`, for nobody's. If nobody owned the object, it
+-- is merged already.
+abbrev pub merge_begun : View → ℕ → ℕ → ℕ → ℕ → View
+merge_begun v x local word found =
+    let swapped = done (turned v x) local in if local == 0 then swapped else merge_tried swapped word found
+
+abbrev pub merge_answer : ℕ → ℕ → ℕ → MergeStep
+merge_answer carried word found =
+    if found == word then (if merged_word word carried == dead_word then merge.Dying else merge.Kept) else merge.Again
+
+abbrev pub first_answer : ℕ → ℕ → ℕ → MergeStep
+first_answer local word found = if local == 0 then merge.Kept else merge_answer (local_part local) word found
+
+-- The hand has a merge of the row to begin, because its last local reference is gone, and remembers no other merge.
+pub record MergeIsFirst (hand : HandState) (x : ℕ) : Type 0 where
+  pub duty : work_about x hand.view ≡ MergeSwap x Own ∷ []
+  pub none : hand.merge ≡ None
+
+-- The hand has begun a merge of the row, and remembers what it carries.
+pub record MergeIsBegun (hand : HandState) (x carried : ℕ) : Type 0 where
+  pub duty : work_about x hand.view ≡ MergeLoad x carried Own ∷ []
+  pub begun : hand.merge ≡ Some (record { row = x; carried = carried })
+
+-- ---- births
+
+-- the kind word of a new object
+abbrev pub kind_word : Kind → ℕ → ℕ
+kind_word kind arg = kind_number kind * half + arg
+
+-- the hand has stored the kind word and the first local word of a new object
+abbrev pub born : View → ℕ → View
+born v word = resumed (bearing v word) (0 ∷ 0 ∷ [])
+
+-- The hand has given birth to the next object of its block, and holds its only reference. Its other work is as it was.
+pub record HasBorn (v u : View) : Type 0 where
+  pub layout : u.layout ≡ v.layout
+  pub thread : u.thread ≡ v.thread
+  pub status : u.status ≡ v.status
+  pub used : u.used ≡ v.used + 1
+  pub given : u.given ≡ v.given
+  pub references : u.references ≡ next_row v ∷ v.references
+  pub waits : MayWait u.agenda
+  pub work : open_work u ≡ open_work v
+
+-- ---- hands
+
+-- The thread's hand was given out, or there is no worker of this number.
+abbrev pub IsTaken : Layout → View → ℕ → Type 0
+IsTaken layout main thread = (thread ≡ 0) ⊎ (layout.workers < thread) ⊎ (is_given thread main ≡ true)
+
+-- Main has given out the thread's hand. It holds what it held before, and its work is as it was.
+pub record HasGiven (thread : ℕ) (v u : View) : Type 0 where
+  pub layout : u.layout ≡ v.layout
+  pub number : u.thread ≡ v.thread
+  pub status : u.status ≡ v.status
+  pub used : u.used ≡ v.used
+  pub given : u.given ≡ thread ∷ v.given
+  pub references : u.references ≡ v.references
+  pub waits : MayWait u.agenda
+  pub work : (x : ℕ) → work_about x u ≡ work_about x v
+
+-- ---- what a call leaves
+
+-- After a call about the row x, this is left of the hand's work about it. Work about other rows is as before, and so are
+-- the thread, its status, its used rows and the hands that it has given out.
+pub record Leaves (x : ℕ) (left : List Duty) (v u : View) : Type 0 where
+  pub layout : u.layout ≡ v.layout
+  pub thread : u.thread ≡ v.thread
+  pub status : u.status ≡ v.status
+  pub used : u.used ≡ v.used
+  pub given : u.given ≡ v.given
+  pub waits : MayWait u.agenda
+  pub left_is : work_about x u ≡ left
+  pub others : (y : ℕ) → y ≢ x → work_about y u ≡ work_about y v
+
+-- what a release through the local word leaves
+abbrev pub local_left : ℕ → LocalRelease → List Duty
+local_left x local.Skip = []
+local_left x local.Kept = []
+local_left x local.Zero = DecideAtZero x ∷ []
+local_left x local.Share = SharedLoad x Own ∷ []
+
+abbrev pub zero_left : ℕ → ZeroStep → List Duty
+zero_left x zero.Dying = []
+zero_left x zero.Merge = MergeSwap x Own ∷ []
+
+-- what a release through the shared word leaves: to set the object's mark, or to try again
+abbrev pub shared_left : ℕ → Reason → SharedRelease → List Duty
+shared_left x r shared.Kept = []
+shared_left x r shared.Queued = SetMark x ∷ []
+shared_left x r shared.Dying = []
+shared_left x r shared.Again = SharedLoad x r ∷ []
+
+-- a merge is left if it has to be tried again
+abbrev pub merge_left : ℕ → ℕ → MergeStep → List Duty
+merge_left x carried merge.Kept = []
+merge_left x carried merge.Dying = []
+merge_left x carried merge.Again = MergeLoad x carried Own ∷ []

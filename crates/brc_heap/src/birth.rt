@@ -1,0 +1,68 @@
+//! Births of objects.
+
+ghost use Rattle.std.specs.Prelude.{◌≡◌, ◌≢◌, ◌≤◌, ◌⊎◌, true, false, ℕ, None};
+ghost use Rattle.brc_model.specs.Duties.{has_resource};
+ghost use Rattle.brc_model.specs.Kinds.{kind_number};
+ghost use Rattle.brc_model.specs.Limits.{cell_limit};
+ghost use Rattle.brc_model.specs.Machine.{has_room};
+ghost use Rattle.brc_table.specs.Views.{next_row};
+ghost use Rattle.brc_table.specs.Hands.{IsOf, IsRunning};
+ghost use Rattle.brc_heap.specs.Calls.{kind_word, born, HasBorn};
+
+use crate::heap::Heap;
+use brc_lang::Kind;
+use brc_table::Hand;
+use brc_word::kind_word;
+
+/// Returns the number that names the kind in kind words.
+fn kind_number(kind: Kind) -> u32
+    ensures { result ≡ kind_number kind }
+{
+    match kind {
+        Kind::Any => 0,
+        Kind::None => 1,
+        Kind::Num => 2,
+        Kind::List => 3,
+        Kind::File => 4,
+        Kind::Sock => 5,
+    }
+}
+
+impl<T: Drop> Heap<T> {
+    /// Gives birth to an object: a number of value `arg`, or a list of `arg` empty cells. Returns its row, the next of the
+    /// hand's block. The hand holds its only reference, which is local.
+    pub fn birth(&self, hand: &mut Hand<T>, kind: Kind, arg: u32, resource: Option<T>) -> u32
+        requires table { IsOf self.now hand.old }
+        requires running { IsRunning hand.old.view }
+        requires room { has_room hand.old.view.layout hand.old.view.thread hand.old.view.used ≡ true }
+        requires kind { (kind ≡ Kind.Num) ⊎ ((kind ≡ Kind.List) × (arg ≤ cell_limit)) }
+        requires resource { resource ≡ None }
+        ensures row { result ≡ next_row hand.old.view }
+        ensures table { IsOf self.now hand.new }
+        ensures merge { hand.new.merge ≡ hand.old.merge }
+        ensures events { hand.new.view ≡ born hand.old.view (kind_word kind arg) }
+        ensures born { HasBorn hand.old.view hand.new.view }
+    {
+        drop(resource);
+        self.birth_steps(hand, kind, arg)
+    }
+
+    /// Makes the steps of `birth`.
+    fn birth_steps(&self, hand: &mut Hand<T>, kind: Kind, arg: u32) -> u32
+        requires table { IsOf self.now hand.old }
+        requires running { IsRunning hand.old.view }
+        requires room { has_room hand.old.view.layout hand.old.view.thread hand.old.view.used ≡ true }
+        requires kind { (kind ≡ Kind.Num) ⊎ ((kind ≡ Kind.List) × (arg ≤ cell_limit)) }
+        ensures row { result ≡ next_row hand.old.view }
+        ensures table { hand.new.table ≡ hand.old.table }
+        ensures merge { hand.new.merge ≡ hand.old.merge }
+        ensures view { (word : ℕ) × (word ≡ kind_word kind arg) × (has_resource word ≡ false)
+            × (hand.new.view ≡ born hand.old.view word) }
+    {
+        hand.rows_are_there();
+        let words = self.words();
+        let row = words.kind_store(hand, kind_word(kind_number(kind), arg));
+        words.first_local_store(hand, row);
+        row
+    }
+}

@@ -1,0 +1,99 @@
+//! The heap of all objects, and the hands that it gives out.
+
+ghost use Rattle.std.specs.Prelude.{◌≡◌, ◌<◌, ◌≤◌, ◌⊎◌, ◌↔◌, true, false, List, [], ◌∷◌, length, IfOk, IsErr, OnOk, OnErr, ℕ};
+ghost use Rattle.brc_model.specs.Limits.{worker_limit, row_limit};
+ghost use Rattle.brc_model.specs.Layout.{root_row};
+ghost use Rattle.brc_model.specs.Machine.{has_room};
+ghost use Rattle.brc_table.specs.Hands.{IsOf, IsRunning, HasNoWork, most_references};
+ghost use Rattle.brc_table.specs.Opening.{plain_layout};
+ghost use Rattle.brc_table.specs.Views.{holds, is_given, main_view, worker_view, giving};
+ghost use Rattle.brc_heap.specs.Calls.{retained, IsTaken, HasGiven};
+
+use crate::error::{NoMemory, Taken};
+use brc_table::{Hand, Words};
+use std::alloc::Global;
+use std::marker::Model;
+
+/// The root's row.
+pub(crate) const ROOT: u32 = 1;
+
+/// All objects of one program, with their counts. `T` is the resource of a file or a socket.
+///
+/// Threads share the heap by reference, and change it by their hands.
+#[derive(Drop)]
+pub struct Heap<T: Drop> {
+    words: Words<T>,
+}
+
+impl<T: Drop> Model for Heap<T> {
+    ghost use Rattle.brc_table.specs.Hands.{TableState};
+
+    ghost Value = { TableState };
+
+    ghost view = { λ h. h.words };
+}
+
+impl<T: Drop> Heap<T> {
+    /// Returns a heap for 1 to 32 workers with 1 to 1024 rows each, and main's hand, which holds the only reference to
+    /// the root.
+    ///
+    /// # Errors
+    ///
+    /// H1 if memory is refused.
+    pub fn new(alloc: Global, workers: u8, rows: u16) -> Result<(Heap<T>, Hand<T>), NoMemory>
+        requires workers { (0 < workers) × (workers ≤ worker_limit) }
+        requires rows { (0 < rows) × (rows ≤ row_limit) }
+        ensures layout { IfOk result (λ made. made.0.layout ≡ plain_layout workers rows) }
+        ensures table { IfOk result (λ made. IsOf made.0 made.1) }
+        ensures view { IfOk result (λ made. made.1.view ≡ main_view (plain_layout workers rows)) }
+    {
+        match Words::new(alloc, workers, rows) {
+            Ok((words, main)) => Ok((Heap { words }, main)),
+            Err(_) => Err(NoMemory),
+        }
+    }
+
+    /// Returns the words of the objects.
+    pub fn words(&self) -> &Words<T>
+        ensures { result.now ≡ self.now }
+    {
+        &self.words
+    }
+
+    /// Returns whether a row of the hand's block is unused, so that the hand can give birth to an object.
+    pub fn room(&self, hand: &Hand<T>) -> bool
+        requires table { IsOf self.now hand.now }
+        ensures { result ≡ has_room hand.now.view.layout hand.now.view.thread hand.now.view.used }
+    {
+        hand.used() < self.words.block_size(hand.thread())
+    }
+
+    /// Gives out the thread's hand, with a reference to the root that main's hand retains for it.
+    ///
+    /// # Errors
+    ///
+    /// H2 if the thread's hand was given out before, or if the heap has no worker of this number.
+    pub fn hand_out(&self, main: &mut Hand<T>, thread: u8) -> Result<Hand<T>, Taken>
+        requires table { IsOf self.now main.old }
+        requires main { main.old.view.thread ≡ 0 }
+        requires running { IsRunning main.old.view }
+        requires held { 1 ≤ holds main.old.view root_row }
+        requires idle { HasNoWork main.old.view root_row }
+        requires few { length main.old.view.references < most_references }
+        ensures taken { IsErr result ↔ IsTaken self.now.layout main.old.view thread }
+        ensures err { OnErr result (main.new ≡ main.old) }
+        ensures worker { IfOk result (λ hand. hand.view ≡ worker_view self.now.layout thread) }
+        ensures table { IfOk result (λ hand. IsOf self.now hand × IsOf self.now main.new) }
+        ensures main { OnOk result ((word : ℕ) × (found : ℕ)
+            × (main.new.view ≡ giving (retained main.old.view root_row word found) thread)) }
+        ensures left { OnOk result (HasGiven thread main.old.view main.new.view) }
+        ensures merge { main.new.merge ≡ main.old.merge }
+    {
+        self.words.layout_is_plain();
+        if thread == 0 || thread > self.words.workers() || main.has_given(thread) {
+            return Err(Taken);
+        }
+        self.retain(main, ROOT);
+        Ok(self.words.split(main, thread))
+    }
+}

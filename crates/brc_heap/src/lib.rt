@@ -1,0 +1,18 @@
+//! Headers and births of objects under real threads: biased reference counting through `&self` and a hand, without any
+//! lock (PEP 703, Biased Reference Counting).
+//!
+//! Each call makes the steps that the step world's threads make for the same work. It never waits, and takes no memory.
+#![tactic(auto)]
+
+mod birth;
+mod error;
+mod heap;
+mod merge;
+mod release;
+mod retain;
+
+pub use brc_table::{Hand, Words};
+pub use error::{NoMemory, Taken};
+pub use heap::Heap;
+pub use merge::MergeStep;
+pub use release::{LocalRelease, SharedRelease, ZeroStep};

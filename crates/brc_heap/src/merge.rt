@@ -1,0 +1,117 @@
+//! Merging an object's two counts, so that nobody owns it any more.
+
+ghost use Rattle.std.specs.Prelude.{◌≡◌, ◌≢◌, ◌⊎◌, [], ◌∷◌, ℕ, None};
+ghost use Rattle.brc_model.specs.declared.duty.Reason.TheVariants.{Own};
+ghost use Rattle.brc_model.specs.declared.duty.Duty.TheVariants.{MergeLoad};
+ghost use Rattle.brc_table.specs.Views.{turned, work_about};
+ghost use Rattle.brc_table.specs.Hands.{IsOf};
+ghost use Rattle.brc_table.specs.Calls.{CanAct};
+ghost use Rattle.brc_heap.specs.Calls.{MergeIsFirst, MergeIsBegun, merge_begun, merge_tried, merge_answer, first_answer, merge_left, Leaves};
+
+use crate::heap::Heap;
+use brc_table::{Hand, Merge};
+use brc_word::{is_dead, local_count, merged};
+
+/// How a try to merge ended.
+#[derive(Clone, Copy, Debug, PartialEq, Eq)]
+pub enum MergeStep {
+    /// The counts are merged, and references are left.
+    Kept,
+    /// No reference is left. The object is in the hand's dying chain.
+    Dying,
+    /// Another thread changed the shared word in between: try again.
+    Again,
+}
+
+impl<T: Drop> Heap<T> {
+    /// Tries once to merge an object, as `zero_step` answered `Merge`, or this call `Again`.
+    ///
+    /// The first turn swaps the local word for nobody's. After `Again` the hand remembers the local count that it
+    /// carries, and goes on with it; until then it begins no other merge.
+    pub fn merge_step(&self, hand: &mut Hand<T>, row: u32) -> MergeStep
+        requires table { IsOf self.now hand.old }
+        requires acts { CanAct hand.old.view }
+        requires duty { MergeIsFirst hand.old row ⊎ ((carried : ℕ) × MergeIsBegun hand.old row carried) }
+        ensures table { IsOf self.now hand.new }
+        ensures first { MergeIsFirst hand.old row → (local : ℕ) × (word : ℕ) × (found : ℕ)
+            × (hand.new.view ≡ merge_begun hand.old.view row local word found)
+            × (result ≡ first_answer local word found) }
+        ensures later { (carried : ℕ) → MergeIsBegun hand.old row carried → (word : ℕ) × (found : ℕ)
+            × (hand.new.view ≡ merge_tried (turned hand.old.view row) word found)
+            × (result ≡ merge_answer carried word found) }
+        ensures again { result ≡ MergeStep.Again → (carried : ℕ) × MergeIsBegun hand.new row carried }
+        ensures done { result ≢ MergeStep.Again → hand.new.merge ≡ None }
+        ensures left { (carried : ℕ) × Leaves row (merge_left row carried result) hand.old.view hand.new.view }
+        ensures references { hand.new.view.references ≡ hand.old.view.references }
+    {
+        match hand.merge() {
+            Some(begun) => self.merge_carried(hand, row, begun.carried),
+            None => self.merge_first(hand, row),
+        }
+    }
+
+    /// Takes the first turn: swaps the local word for nobody's, and tries once to add its count to the shared one.
+    fn merge_first(&self, hand: &mut Hand<T>, row: u32) -> MergeStep
+        requires table { IsOf self.now hand.old }
+        requires acts { CanAct hand.old.view }
+        requires duty { MergeIsFirst hand.old row }
+        ensures table { IsOf self.now hand.new }
+        ensures first { (local : ℕ) × (word : ℕ) × (found : ℕ)
+            × (hand.new.view ≡ merge_begun hand.old.view row local word found)
+            × (result ≡ first_answer local word found) }
+        ensures again { result ≡ MergeStep.Again → (carried : ℕ) × MergeIsBegun hand.new row carried }
+        ensures done { result ≢ MergeStep.Again → hand.new.merge ≡ None }
+        ensures left { (carried : ℕ) × Leaves row (merge_left row carried result) hand.old.view hand.new.view }
+        ensures references { hand.new.view.references ≡ hand.old.view.references }
+    {
+        let local = self.words().local_swap(hand, row);
+        if local == 0 {
+            return MergeStep::Kept;
+        }
+        self.merge_carried(hand, row, local_count(local))
+    }
+
+    /// Tries once to add the carried local count to the shared count, and to make the state merged.
+    fn merge_carried(&self, hand: &mut Hand<T>, row: u32, carried: u32) -> MergeStep
+        requires table { IsOf self.now hand.old }
+        requires acts { CanAct hand.old.view }
+        requires duty { work_about row hand.old.view ≡ MergeLoad row carried Own ∷ [] }
+        ensures table { IsOf self.now hand.new }
+        ensures events { (word : ℕ) × (found : ℕ)
+            × (hand.new.view ≡ merge_tried (turned hand.old.view row) word found)
+            × (result ≡ merge_answer carried word found) }
+        ensures again { result ≡ MergeStep.Again → MergeIsBegun hand.new row carried }
+        ensures done { result ≢ MergeStep.Again → hand.new.merge ≡ None }
+        ensures left { Leaves row (merge_left row carried result) hand.old.view hand.new.view }
+        ensures references { hand.new.view.references ≡ hand.old.view.references }
+    {
+        self.merge_steps(hand, row, carried)
+    }
+
+    /// Makes the steps of `merge_carried`.
+    fn merge_steps(&self, hand: &mut Hand<T>, row: u32, carried: u32) -> MergeStep
+        requires table { IsOf self.now hand.old }
+        requires acts { CanAct hand.old.view }
+        requires duty { work_about row hand.old.view ≡ MergeLoad row carried Own ∷ [] }
+        ensures table { hand.new.table ≡ hand.old.table }
+        ensures events { (word : ℕ) × (found : ℕ)
+            × (hand.new.view ≡ merge_tried (turned hand.old.view row) word found)
+            × (result ≡ merge_answer carried word found) }
+        ensures again { result ≡ MergeStep.Again → MergeIsBegun hand.new row carried }
+        ensures done { result ≢ MergeStep.Again → hand.new.merge ≡ None }
+    {
+        let words = self.words();
+        let word = words.shared_load(hand, row);
+        let next = merged(word, carried);
+        if words.shared_exchange(hand, row, word, next) != word {
+            hand.remember(Some(Merge { row, carried }));
+            return MergeStep::Again;
+        }
+        hand.remember(None);
+        if is_dead(next) {
+            words.gate_store(hand, row);
+            return MergeStep::Dying;
+        }
+        MergeStep::Kept
+    }
+}

@@ -1,0 +1,60 @@
+//! Retaining an object.
+
+ghost use Rattle.std.specs.Prelude.{◌≡◌, ◌<◌, [], length, ℕ};
+ghost use Rattle.brc_model.specs.Layout.{block_of};
+ghost use Rattle.brc_model.specs.Within.{OwnerFits};
+ghost use Rattle.brc_table.specs.Views.{with_reference};
+ghost use Rattle.brc_table.specs.Hands.{IsOf, IsRunning, HoldsOne, HasNoWork, most_references};
+ghost use Rattle.brc_heap.specs.Calls.{retained, RetainsOwn, Leaves};
+
+use crate::heap::Heap;
+use brc_table::Hand;
+use brc_word::{LocalChoice, retain_choice};
+
+impl<T: Drop> Heap<T> {
+    /// Makes a new reference to an object to which the hand holds one already (`Py_INCREF`).
+    ///
+    /// The owner counts in the local word, and any other thread in the shared word. An immortal object isn't counted.
+    pub fn retain(&self, hand: &mut Hand<T>, row: u32)
+        requires table { IsOf self.now hand.old }
+        requires running { IsRunning hand.old.view }
+        requires held { HoldsOne hand.old.view row }
+        requires idle { HasNoWork hand.old.view row }
+        requires few { length hand.old.view.references < most_references }
+        ensures table { IsOf self.now hand.new }
+        ensures merge { hand.new.merge ≡ hand.old.merge }
+        ensures events { (word : ℕ) × (found : ℕ) × OwnerFits hand.old.view.layout row word
+            × (hand.new.view ≡ retained hand.old.view row word found) }
+        ensures own { block_of hand.old.view.layout row ≡ hand.old.view.thread → (word : ℕ) × (found : ℕ)
+            × (hand.new.view ≡ retained hand.old.view row word found)
+            × RetainsOwn row word found hand.old.view hand.new.view }
+        ensures left { Leaves row [] hand.old.view hand.new.view }
+        ensures references { hand.new.view.references
+            ≡ with_reference hand.old.view.layout row hand.old.view.references }
+    {
+        self.retain_steps(hand, row);
+    }
+
+    /// Makes the steps of `retain`.
+    fn retain_steps(&self, hand: &mut Hand<T>, row: u32)
+        requires table { IsOf self.now hand.old }
+        requires running { IsRunning hand.old.view }
+        requires held { HoldsOne hand.old.view row }
+        requires idle { HasNoWork hand.old.view row }
+        requires few { length hand.old.view.references < most_references }
+        ensures table { hand.new.table ≡ hand.old.table }
+        ensures merge { hand.new.merge ≡ hand.old.merge }
+        ensures events { (word : ℕ) × (found : ℕ) × OwnerFits hand.old.view.layout row word
+            × (hand.new.view ≡ retained hand.old.view row word found) }
+    {
+        let words = self.words();
+        let word = words.retain_load(hand, row);
+        match retain_choice(word, hand.thread(), hand.is_running()) {
+            LocalChoice::Skip => {}
+            LocalChoice::Store(next) => words.local_store(hand, row, next),
+            LocalChoice::Share => {
+                words.shared_add(hand, row);
+            }
+        }
+    }
+}

@@ -1,0 +1,229 @@
+-- The words and all hands of a table agree about each counted object's references.
+use Rattle.std.proofs.Common.{◌≡◌, ℕ, zero, suc, ◌+◌, ◌<◌, ◌≤◌, List, [], ◌∷◌, length, Some, refl, sym, ap, ◌∙◌, subst, arith}
+use Rattle.std.specs.Prelude.{slice_get, sum_by}
+use Rattle.std.proofs.lemmas.Option.{slice_get_within}
+use Rattle.std.proofs.lemmas.List.Sums.{sum_by-append}
+use mathlib.Core.Option.{some}
+use lib.ListN.{get_elem?}
+use Rattle.brc_word.specs.Words.{local_part, biased_part, phase_part, bias}
+use Rattle.brc_model.specs.declared.duty.Duty.{Duty}
+use Rattle.brc_model.specs.declared.duty.Holding.TheVariants.{AsCaller}
+use Rattle.brc_model.specs.declared.address.Address.TheVariants.{Local, Shared, Mark}
+use Rattle.brc_model.specs.declared.layout.Layout.{Layout}
+use Rattle.brc_model.specs.Layout.{row_count, block_of, IsCounted}
+use Rattle.brc_model.specs.AbstractState.{references_to}
+use Rattle.brc_model.specs.Agreement.{awaits, carries, weighed, IsPhase, biased_total, awaiting}
+use Rattle.brc_model.specs.Machine.{Actor, Life, Unborn, Live, Dying, Closed, Machine, idle_actor}
+use Rattle.brc_model.specs.RowInvariant.{Numbers, Phased, IsDefault, IsQueued, Mode, InOwned, InSwapped, InMerged, IsDead, IsUnborn, RowInvariant}
+use Rattle.brc_model.specs.Invariant.{numbers_of}
+use Rattle.brc_model.specs.Accounts.{Accounts}
+use Rattle.brc_model.specs.Counting.{Counts}
+use Rattle.brc_model.specs.CountingLaws.{CountsAgree, over_threads}
+use Rattle.brc_table.specs.declared.view.View.{View}
+use Rattle.brc_table.specs.Views.{actor_of, holds, open_work}
+use Rattle.brc_table.specs.Rule.{Stands}
+use Rattle.brc_table.specs.Agreeing.{local_at, shared_at, mark_at, gives_up, makes, over_work, listed, pending, IsInUse, AgreesInTable}
+use Rattle.brc_table.proofs.Summing.{over_each, over_sum, weight_at, weight_there, over_list, over_hands}
+use Rattle.brc_table.proofs.Sharing.{share, share_all, share_one}
+
+-- ---- a row of the machine
+
+-- A row that is default or queued has one pending decrement at most.
+phased_one : (n : Numbers) → Phased n → n.mark + n.waiting ≤ 1
+phased_one n (IsDefault p w b) = omega (arith, w)
+phased_one n (IsQueued p w) = omega (arith, w)
+
+-- So has each live row.
+mode_one : (owner : ℕ) (n : Numbers) → Mode owner n → n.mark + n.waiting ≤ 1
+mode_one owner n (InOwned o) = phased_one n o.phased
+mode_one owner n (InSwapped o) = phased_one n o.phased
+mode_one owner n (InMerged o) = o.awaits
+
+-- the references and the pending decrements of a row together
+abbrev uses : Machine → ℕ → ℕ
+uses m x = references_to x m.abstract.references + awaiting m x
+
+-- What a row's counts say, whether it lives or not.
+record RowSays (m : Machine) (x : ℕ) : Type 0 where
+  total : biased_total m x ≡ references_to x m.abstract.references + awaiting m x + bias
+  one_pending : awaiting m x ≤ 1
+  default_none : phase_part (m.memory (Shared x)) ≡ 0 → awaiting m x ≡ 0
+  default_counts : phase_part (m.memory (Shared x)) ≡ 0 → bias ≤ biased_part (m.memory (Shared x))
+  queued_one : 1 ≤ uses m x → phase_part (m.memory (Shared x)) ≡ 2 → awaiting m x ≡ 1
+  merged_free : 1 ≤ uses m x → phase_part (m.memory (Shared x)) ≡ 3 → m.memory (Local x) ≡ 0
+  merged_counts : 1 ≤ uses m x → phase_part (m.memory (Shared x)) ≡ 3 → bias < biased_part (m.memory (Shared x))
+  phase : 1 ≤ uses m x → IsPhase (phase_part (m.memory (Shared x)))
+
+-- An unborn row has the numbers of a dead one.
+unborn_dead : (n : Numbers) → IsUnborn n → IsDead n
+unborn_dead n row = record {
+  local = ap local_part row.local;
+  shared = ap biased_part row.shared;
+  mark = row.mark;
+  references = row.references;
+  waiting = row.waiting;
+  carried = row.carried;
+  merging = row.merging;
+  deciding = row.deciding;
+}
+
+-- A dead row's counts are zero, and it isn't in use.
+dead_says : (m : Machine) (x : ℕ) → IsDead (numbers_of m x) → RowSays m x
+dead_says m x row =
+    let none : uses m x ≡ 0 = omega (arith, row.references, row.mark, row.waiting) in
+    record {
+      total = omega (arith, row.local, row.shared, row.mark, row.references, row.waiting, row.carried);
+      one_pending = omega (arith, none);
+      default_none = λ e. omega (arith, none);
+      default_counts = λ e. omega (arith, row.shared);
+      queued_one = λ used. absurd (omega (arith, none, used));
+      merged_free = λ used. absurd (omega (arith, none, used));
+      merged_counts = λ used. absurd (omega (arith, none, used));
+      phase = λ used. absurd (omega (arith, none, used));
+    }
+
+-- Each row says so, whatever its life.
+row_says : CountsAgree → (p : Accounts) (n : ℕ) (m : Machine) (x : ℕ) → Counts p n m → IsCounted m.layout x
+    → (l : Life) → m.life x ≡ l → RowInvariant (block_of m.layout x) l (numbers_of m x) → RowSays m x
+row_says law p n m x counts is Unborn life row = dead_says m x (unborn_dead (numbers_of m x) row)
+row_says law p n m x counts is Live life row =
+    let says = law p n m x counts is (λ e. let wrong : Live ≡ Unborn = sym life ∙ e in absurd cc) in
+    record {
+      total = says.total;
+      one_pending = mode_one (block_of m.layout x) (numbers_of m x) row.mode;
+      default_none = says.default_none life;
+      default_counts = says.default_counts life;
+      queued_one = λ used. says.queued_one life;
+      merged_free = λ used. says.merged_free life;
+      merged_counts = λ used. says.merged_counts life;
+      phase = λ used. says.phase life;
+    }
+row_says law p n m x counts is (Dying t) life row = dead_says m x row
+row_says law p n m x counts is Closed life row = dead_says m x row
+
+-- ---- the machine's sums over its hands
+
+-- A number below a list's length has an element.
+there_is : {A : Type 0} (xs : List A) (t : ℕ) → t < length xs → (a : A) × (slice_get xs t ≡ Some a)
+there_is [] t low = absurd (omega (arith, low))
+there_is (a ∷ rest) zero low = (a, refl)
+there_is (a ∷ rest) (suc t) low = there_is rest t (omega (arith, low))
+
+-- the weight of an actor's open work
+abbrev work_of : (Duty → ℕ) → Actor → ℕ
+work_of f a = sum_by f a.agenda + sum_by f a.aside
+
+module _ (layout : Layout) (words : List ℕ) (views : List View) (s : Stands layout words views) where
+  abbrev m : Machine
+  m = s.machine
+
+  abbrev threads : ℕ
+  threads = 1 + s.machine.layout.workers
+
+  -- A hand's thread is one of the machine's.
+  low : (id : ℕ) (v : View) → get_elem? views id ≡ some v → v.thread < threads
+  low id v here =
+      omega (arith, slice_get_within m.actors v.thread (actor_of v) (s.acts id v here), s.counts.kept.core.threads)
+
+  -- The open work of all actors, thread by thread.
+  over_actors : (f : Duty → ℕ) → weighed f m ≡ over_threads (weight_at (work_of f) m.actors) threads
+  over_actors f =
+      subst (λ (n : ℕ). weighed f m ≡ over_threads (weight_at (work_of f) m.actors) n) s.counts.kept.core.threads
+      (over_list (work_of f) m.actors)
+
+  -- The open work of all threads is that of all hands.
+  work : (f : Duty → ℕ) → weighed f m ≡ over_work f views
+  work f =
+      over_actors f
+      ∙ over_hands threads (weight_at (work_of f) m.actors) (λ v. sum_by f (open_work v)) views (record {
+        low = low;
+        each = λ id v here.
+            weight_there (work_of f) m.actors v.thread (actor_of v) (s.acts id v here)
+            ∙ sym (sum_by-append f v.agenda v.aside);
+        apart = s.apart;
+        idle = λ t under none. weight_there (work_of f) m.actors t (idle_actor 0) (s.idle t under none).0;
+      })
+
+  -- The accounts of all threads are what all hands list.
+  accounts : (x : ℕ) → IsCounted m.layout x → over_threads (λ t. s.accounts t AsCaller x) threads ≡ listed views x
+  accounts x is =
+      over_hands threads (λ t. s.accounts t AsCaller x) (λ v. holds v x) views (record {
+        low = low;
+        each = λ id v here. s.holding id v x here is;
+        apart = s.apart;
+        idle = λ t under none. (s.idle t under none).1 AsCaller x;
+      })
+
+  -- A thread's references and work are its account and what it gives up.
+  share_at : (x t : ℕ) → t < threads
+      → share x m.abstract.references t + weight_at (work_of (makes x)) m.actors t
+      ≡ s.accounts t AsCaller x + weight_at (work_of (gives_up x)) m.actors t
+  share_at x t under =
+      let it = there_is m.actors t (omega (arith, under, s.counts.kept.core.threads)) in
+      let fits = s.counts.kept.core.each t it.0 it.1 in
+      omega (
+        arith,
+        share_one x t m.abstract.references (s.accounts t) it.0 fits.0.holds fits.1 (λ i. s.no_variables t i x)
+            (fits.0.bounded.in_flight x),
+        weight_there (work_of (makes x)) m.actors t it.0 it.1,
+        weight_there (work_of (gives_up x)) m.actors t it.0 it.1,
+      )
+
+  -- The references are those that the hands list, without those in the making, and with those being given up.
+  references : (x : ℕ) → IsCounted m.layout x
+      → references_to x m.abstract.references + over_work (makes x) views
+      ≡ listed views x + over_work (gives_up x) views
+  references x is =
+      let bag = m.abstract.references in
+      let made = weight_at (work_of (makes x)) m.actors in
+      let given = weight_at (work_of (gives_up x)) m.actors in
+      let all = share_all x threads bag (record {
+        cells = λ y i. s.counts.kept.core.cells_hold y i x;
+        beyond = λ t past k. s.counts.kept.core.beyond t past k x;
+      }) in
+      let each =
+      over_each (λ t. share x bag t + made t) (λ t. s.accounts t AsCaller x + given t) threads (share_at x) in
+      omega (
+        arith,
+        all,
+        each,
+        over_sum (share x bag) made threads,
+        over_sum (λ t. s.accounts t AsCaller x) given threads,
+        over_actors (makes x),
+        over_actors (gives_up x),
+        work (makes x),
+        work (gives_up x),
+        accounts x is,
+      )
+
+-- ---- agreement
+
+-- The words and the hands of a table agree about each counted object.
+pub agrees_in_table : CountsAgree → (layout : Layout) (words : List ℕ) (views : List View) (x : ℕ)
+    → Stands layout words views → IsCounted layout x → x < row_count layout → AgreesInTable words views x
+agrees_in_table law layout words views x s is there =
+    let m = s.machine in
+    let is' : IsCounted m.layout x = subst (λ (l : Layout). IsCounted l x) (sym s.layout_is) is in
+    let there' : x < row_count m.layout = subst (λ (l : Layout). x < row_count l) (sym s.layout_is) there in
+    let says =
+    row_says law s.accounts (1 + m.layout.workers) m x s.counts is' (m.life x) refl (s.counts.kept.core.rows x is') in
+    let local : m.memory (Local x) ≡ local_at words x = s.reads (Local x) there' in
+    let shared : m.memory (Shared x) ≡ shared_at words x = s.reads (Shared x) there' in
+    let mark : m.memory (Mark x) ≡ mark_at words x = s.reads (Mark x) there' in
+    let phase = ap phase_part shared in
+    let biased = ap biased_part shared in
+    let carried = work layout words views s (carries x) in
+    let awaited = work layout words views s (awaits x) in
+    let refs = references layout words views s x is' in
+    let awaits_is : awaiting m x ≡ pending words views x = omega (arith, mark, awaited) in
+    let in_use : IsInUse words views x → 1 ≤ uses m x = λ used. omega (arith, used, refs, awaits_is) in
+    record {
+      total = omega (arith, says.total, ap local_part local, biased, carried, refs, awaits_is);
+      one_pending = omega (arith, says.one_pending, awaits_is);
+      default_none = λ e. omega (arith, says.default_none (phase ∙ e), awaits_is);
+      default_counts = λ e. omega (arith, says.default_counts (phase ∙ e), biased);
+      queued_one = λ used e. omega (arith, says.queued_one (in_use used) (phase ∙ e), awaits_is);
+      merged_free = λ used e. sym local ∙ says.merged_free (in_use used) (phase ∙ e);
+      merged_counts = λ used e. omega (arith, says.merged_counts (in_use used) (phase ∙ e), biased);
+      phase = λ used. subst IsPhase phase (says.phase (in_use used));
+    }

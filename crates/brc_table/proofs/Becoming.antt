@@ -1,0 +1,325 @@
+-- Changes of a hand's view at which no word changes: the hand turns to other work, or it begins a retain, a release or
+-- a birth. First it puts its next duty aside, which may wait.
+use Rattle.std.proofs.Common.{◌≡◌, ◌⊎◌, ℕ, ◌+◌, ◌<◌, ◌≤◌, true, List, [], ◌∷◌, ◌++◌, length, set, inl, inr, refl, sym, ap, ◌∙◌, subst, arith}
+use Rattle.std.specs.Prelude.{◌==◌, not, count_by}
+use Rattle.std.specs.List.{filter}
+use Rattle.std.proofs.lemmas.Bool.{cases_Bool, eq-eqb}
+use Rattle.std.proofs.lemmas.Bool.Decides.{eqb_tells}
+use Rattle.std.proofs.lemmas.List.{set-set}
+use Rattle.std.proofs.lemmas.List.Sums.{count_by-le-length, length-filter}
+use mathlib.Core.Option.{some}
+use lib.ListN.{get_elem?}
+use Rattle.atomic_table.proofs.Lists.{set_again}
+use Rattle.brc_model.specs.declared.duty.Holding.TheVariants.{ByVariable, AsCaller}
+use Rattle.brc_model.specs.declared.duty.Duty.{Duty}
+use Rattle.brc_model.specs.declared.duty.Duty.TheVariants.{RetainLoad, ReleaseLoad, BirthKind}
+use Rattle.brc_model.specs.declared.actor.Status.TheVariants.{Running}
+use Rattle.brc_model.specs.declared.layout.Layout.{Layout}
+use Rattle.brc_model.specs.Layout.{row_at, is_immortal_row, IsCounted}
+use Rattle.brc_model.specs.Limits.{cell_limit}
+use Rattle.brc_model.specs.Kinds.{kind_of_word, is_counted_kind}
+use Rattle.brc_model.specs.References.{one_if}
+use Rattle.brc_model.specs.Duties.{cells_of}
+use Rattle.brc_model.specs.Moves.{gain}
+use Rattle.brc_model.specs.Machine.{has_room, with_actor, with_moves}
+use Rattle.brc_model.specs.Accounts.{Account, Accounts, HoldsNone}
+use Rattle.brc_model.specs.OpenWork.{is_about}
+use Rattle.brc_model.specs.Counting.{Counts, with_account, with_one_more, with_one_less, working, IsReady, HasNoneAbout}
+use Rattle.brc_model.specs.CountingLaws.{WorkIsPutAside, WorkIsTakenBack, RetainsBegin, ReleasesBegin, BirthsBegin, ImmortalsAreFree}
+use Rattle.brc_table.specs.declared.view.View.{View}
+use Rattle.brc_table.specs.Views.{actor_of, open_work, turned, with_reference, without_reference, retaining, releasing, next_row, bearing}
+use Rattle.brc_table.specs.Rule.{Stands}
+use Rattle.brc_table.specs.Hands.{most_references, HoldsOne, HasNoWork, MayWait, IsRunning}
+use Rattle.brc_table.specs.Begins.{Becomes}
+use Rattle.brc_table.proofs.Lists.{set_view}
+use Rattle.brc_table.proofs.Accounts.{with_account_same, with_account_other, with_account_itself, one_more_else, immortal_apart, count_with_reference, count_without_reference}
+use Rattle.brc_table.proofs.Changing.{changed}
+use Rattle.brc_table.proofs.Picked.{PassesNone, PassesOne, passes_one, count_more}
+
+-- ---- two changes in a row
+
+-- Two changes of a hand's view, one after the other, are one change.
+pub becomes_then : (layout : Layout) (v w u : View) → Becomes layout v w → Becomes layout w u → Becomes layout v u
+becomes_then layout v w u first second words views id stands here =
+    subst (Stands layout words) (set-set views id w u)
+    (second words (set views id w) id (first words views id stands here) (set_view views id v w here))
+
+-- A hand may keep its view.
+becomes_same : (layout : Layout) (v u : View) → v ≡ u → Becomes layout v u
+becomes_same layout v u same words views id stands here =
+    subst (λ (w : View). Stands layout words (set views id w)) same
+    (subst (Stands layout words) (sym (set_again views id v here)) stands)
+
+-- ---- other work
+
+module _ (layout : Layout) (words : List ℕ) (views : List View) (id : ℕ) (v : View) (old : Stands layout words views)
+    (here : get_elem? views id ≡ some v) where
+  -- The rule holds again if the machine with the hand's new work has the invariant, and the new account has the
+  -- references that the hand lists.
+  begun : (agenda aside : List Duty) (references : List ℕ) (account : Account)
+      → Counts (with_account old.accounts v.thread account) (1 + old.machine.layout.workers)
+      (with_actor old.machine v.thread (working (actor_of v) agenda aside))
+      → ((y : ℕ) → IsCounted v.layout y → account AsCaller y ≡ count_by (λ z. z == y) references)
+      → ((i y : ℕ) → account (ByVariable i) y ≡ 0)
+      → Stands layout words (set views id (record v { agenda = agenda; aside = aside; references = references }))
+  begun agenda aside references account counts holding none =
+      let p = old.accounts in
+      let t = v.thread in
+      let u : View = record v { agenda = agenda; aside = aside; references = references } in
+      let own = with_account_same p t account in
+      changed layout words views id v u old here words (record {
+        accounts = with_account p t account;
+        machine = with_actor old.machine t (actor_of u);
+        counts = counts;
+        layout_same = refl;
+        length_is = refl;
+        reads = old.reads;
+        actors = refl;
+        thread_same = refl;
+        told_same = refl;
+        given_more = λ k is. is;
+        holding = λ y counted.
+            ap (λ (a : Account). a AsCaller y) own
+            ∙ holding y (subst (λ (l : Layout). IsCounted l y) (sym (old.told id v here)) counted);
+        others = with_account_other p t account;
+        no_variables = λ k i y. elim (eqb_tells k t) [
+          | inl this ↦
+              ap (λ (j : ℕ). with_account p t account j (ByVariable i) y) this.1
+              ∙ (ap (λ (a : Account). a (ByVariable i) y) own ∙ none i y)
+          | inr apart ↦
+              ap (λ (a : Account). a (ByVariable i) y) (with_account_other p t account k apart.1)
+              ∙ old.no_variables k i y
+        ];
+      })
+
+  -- The same of a hand that keeps its references.
+  rearranged : (agenda aside : List Duty)
+      → Counts old.accounts (1 + old.machine.layout.workers)
+      (with_actor old.machine v.thread (working (actor_of v) agenda aside))
+      → Stands layout words (set views id (record v { agenda = agenda; aside = aside }))
+  rearranged agenda aside counts =
+      begun agenda aside v.references (old.accounts v.thread)
+      (subst (λ (p : Accounts). Counts p (1 + old.machine.layout.workers)
+      (with_actor old.machine v.thread (working (actor_of v) agenda aside)))
+      (sym (with_account_itself old.accounts v.thread)) counts)
+      (λ y counted. old.holding id v y here (subst (λ (l : Layout). IsCounted l y) (old.told id v here) counted))
+      (old.no_variables v.thread)
+
+-- ---- all work put aside
+
+-- the hand with all its work put aside
+abbrev rested : View → View
+rested v = record v { agenda = []; aside = open_work v }
+
+rested_from : WorkIsPutAside → (layout : Layout) (v : View) (ds : List Duty) → v.agenda ≡ ds → MayWait ds
+    → Becomes layout v (record v { agenda = []; aside = ds ++ v.aside })
+rested_from law layout v [] is may =
+    becomes_same layout v (record v { agenda = [] }) (ap (λ (ds : List Duty). record v { agenda = ds }) is)
+rested_from law layout v (d ∷ []) is may =
+    λ words views id stands here.
+    rearranged layout words views id v stands here [] (d ∷ v.aside)
+    (law stands.accounts (1 + stands.machine.layout.workers) stands.machine v.thread (actor_of v) d stands.counts
+    (stands.acts id v here) is may)
+rested_from law layout v (d ∷ e ∷ ds) is may = absurd may
+
+-- A hand whose next duty may wait puts all its work aside.
+rested_becomes : WorkIsPutAside → (layout : Layout) (v : View) → MayWait v.agenda → Becomes layout v (rested v)
+rested_becomes law layout v may = rested_from law layout v v.agenda refl may
+
+-- ---- turning to other work
+
+turned_at : WorkIsTakenBack → (layout : Layout) (v : View) (x : ℕ) (words : List ℕ) (views : List View) (id : ℕ)
+    → Stands layout words views → get_elem? views id ≡ some (rested v)
+    → PassesNone (is_about x) (open_work v) ⊎ PassesOne (is_about x) (open_work v)
+    → Stands layout words (set views id (turned v x))
+turned_at law layout v x words views id stands here (inl none) =
+    becomes_same layout (rested v) (turned v x)
+    (ap (λ (ds : List Duty). record v { agenda = []; aside = ds }) (sym none.left)
+    ∙ ap (λ (ds : List Duty). record v { agenda = ds; aside = filter (λ d. not (is_about x d)) (open_work v) })
+    (sym none.passed)) words views id stands here
+turned_at law layout v x words views id stands here (inr one) =
+    let taken =
+    rearranged layout words views id (rested v) stands here (one.found ∷ []) (one.before ++ one.after)
+    (law stands.accounts (1 + stands.machine.layout.workers) stands.machine v.thread (actor_of (rested v)) one.before
+    one.after one.found stands.counts (stands.acts id (rested v) here) refl one.whole) in
+    subst (λ (ds : List Duty). Stands layout words (set views id (record v {
+      agenda = ds;
+      aside = filter (λ d. not (is_about x d)) (open_work v);
+    }))) (sym one.passed)
+    (subst (λ (ds : List Duty). Stands layout words (set views id (record v { agenda = one.found ∷ []; aside = ds })))
+    (sym one.left) taken)
+
+-- A hand turns to its work about a row: it puts its next duty aside, and takes back the one about the row, if there is
+-- one.
+pub turned_becomes : WorkIsPutAside → WorkIsTakenBack → (layout : Layout) (v : View) (x : ℕ) → MayWait v.agenda
+    → Becomes layout v (turned v x)
+turned_becomes put take layout v x may =
+    becomes_then layout v (rested v) (turned v x) (rested_becomes put layout v may) (λ words views id stands here.
+    let fits =
+    (stands.counts.kept.core.each v.thread (actor_of (rested v)) (stands.acts id (rested v) here)).2 in
+    let few : count_by (is_about x) (open_work v) ≤ 1 = omega (arith, fits.apart x) in
+    turned_at take layout v x words views id stands here (passes_one (is_about x) (open_work v) few))
+
+-- ---- a hand at rest
+
+-- What is known of a hand that runs and has put all its work aside, with none of it about the row.
+record Rests (layout : Layout) (words : List ℕ) (views : List View) (id : ℕ) (v : View) (x : ℕ) : Type 0 where
+  stands : Stands layout words views
+  here : get_elem? views id ≡ some (rested v)
+  running : v.status ≡ Running
+  free : HasNoWork v x
+
+-- The machine's thread is ready.
+ready : (layout : Layout) (words : List ℕ) (views : List View) (id : ℕ) (v : View)
+    → (stands : Stands layout words views) → get_elem? views id ≡ some (rested v) → v.status ≡ Running
+    → IsReady stands.machine v.thread (actor_of (rested v))
+ready layout words views id v stands here running =
+    record { found = stands.acts id (rested v) here; running = running; agenda = refl }
+
+-- None of the thread's work is about the row.
+alone : (v : View) (x : ℕ) → HasNoWork v x → HasNoneAbout (actor_of (rested v)) x
+alone v x free = omega (arith, ap length free, length-filter (is_about x) (open_work v))
+
+-- ---- free references
+
+-- The rule holds with accounts in which the thread has a reference to the object.
+record HasOne (layout : Layout) (words : List ℕ) (views : List View) (t x : ℕ) : Type 0 where
+  stands : Stands layout words views
+  more : 1 ≤ stands.accounts t AsCaller x
+
+-- The rule holds as well with one reference more to an immortal object: views don't list it, and no word changes.
+gains_one : ImmortalsAreFree → (layout : Layout) (words : List ℕ) (views : List View) (id : ℕ) (v : View) (x : ℕ)
+    → Rests layout words views id v x → is_immortal_row v.layout x ≡ true → HasOne layout words views v.thread x
+gains_one law layout words views id v x rests immortal =
+    let old = rests.stands in
+    let m = old.machine in
+    let p = old.accounts in
+    let t = v.thread in
+    let more = with_one_more (p t) AsCaller x in
+    let immortal' : is_immortal_row m.layout x ≡ true =
+    subst (λ (l : Layout). is_immortal_row l x ≡ true) (old.told id (rested v) rests.here) immortal in
+    record {
+      stands = record {
+        accounts = with_account p t more;
+        machine = with_moves m (gain t AsCaller x);
+        counts =
+            law p (1 + m.layout.workers) m t (actor_of (rested v)) x old.counts
+            (ready layout words views id v old rests.here rests.running) (alone v x rests.free) immortal';
+        layout_is = old.layout_is;
+        plain = old.plain;
+        length_is = old.length_is;
+        reads = old.reads;
+        acts = old.acts;
+        told = old.told;
+        holding = λ other w y is counted.
+            one_more_else p t x w.thread AsCaller y (immortal_apart m.layout x y immortal' counted)
+            ∙ old.holding other w y is counted;
+        no_variables = λ u i y. one_more_else p t x u (ByVariable i) y refl ∙ old.no_variables u i y;
+        apart = old.apart;
+        idle = λ u low none.
+            let rest = old.idle u low none in (
+              rest.0,
+              subst HoldsNone (sym (with_account_other p t more u (λ e. none id (rested v) rests.here (sym e)))) rest.1,
+            );
+        given = old.given;
+      };
+      more =
+          subst (λ (a : Account). 1 ≤ a AsCaller x) (sym (with_account_same p t more))
+          (let one : one_if (x == x) ≡ 1 = ap one_if (eq-eqb x x refl) in omega (arith, one));
+    }
+
+-- If the hand holds the object, the rule holds with accounts in which its thread has a reference to it.
+has_one : ImmortalsAreFree → (layout : Layout) (words : List ℕ) (views : List View) (id : ℕ) (v : View) (x : ℕ)
+    → Rests layout words views id v x → HoldsOne v x → HasOne layout words views v.thread x
+has_one law layout words views id v x rests (inl immortal) = gains_one law layout words views id v x rests immortal
+has_one law layout words views id v x rests (inr one) =
+    elim (cases_Bool (is_immortal_row v.layout x)) [
+      | inl immortal ↦ gains_one law layout words views id v x rests immortal
+      | inr counted ↦
+          let old = rests.stands in
+          let counted' : IsCounted old.machine.layout x =
+          subst (λ (l : Layout). IsCounted l x) (old.told id (rested v) rests.here) counted in
+          record { stands = old; more = omega (arith, one, old.holding id (rested v) x rests.here counted') }
+    ]
+
+-- ---- new work
+
+-- A hand begins to retain an object that it holds.
+pub retaining_becomes : WorkIsPutAside → RetainsBegin → ImmortalsAreFree → (layout : Layout) (v : View) (x : ℕ)
+    → IsRunning v → HasNoWork v x → HoldsOne v x → length v.references < most_references
+    → Becomes layout v (retaining v x)
+retaining_becomes put law free layout v x running none holding few =
+    becomes_then layout v (rested v) (retaining v x) (rested_becomes put layout v running.1)
+    (λ words views id stands here.
+    let one =
+    has_one free layout words views id v x
+    (record { stands = stands; here = here; running = running.0; free = none }) holding in
+    let s = one.stands in
+    let t = v.thread in
+    let told = s.told id (rested v) here in
+    begun layout words views id (rested v) s here (RetainLoad x AsCaller ∷ []) (open_work v)
+    (with_reference v.layout x v.references) (with_one_more (s.accounts t) AsCaller x)
+    (law s.accounts (1 + s.machine.layout.workers) s.machine t (actor_of (rested v)) x s.counts
+    (ready layout words views id v s here running.0) (alone v x none) one.more
+    (λ counted. omega (
+      arith,
+      s.holding id (rested v) x here counted,
+      count_by-le-length (λ (y : ℕ). y == x) v.references,
+      few,
+    )))
+    (λ y counted. omega (
+      arith,
+      s.holding id (rested v) y here (subst (λ (l : Layout). IsCounted l y) told counted),
+      count_with_reference v.layout x y v.references counted,
+    ))
+    (λ i y. omega (arith, s.no_variables t i y)))
+
+-- A hand begins to give up a reference that it holds.
+pub releasing_becomes : WorkIsPutAside → ReleasesBegin → ImmortalsAreFree → (layout : Layout) (v : View) (x : ℕ)
+    → IsRunning v → HasNoWork v x → HoldsOne v x → Becomes layout v (releasing v x)
+releasing_becomes put law free layout v x running none holding =
+    becomes_then layout v (rested v) (releasing v x) (rested_becomes put layout v running.1)
+    (λ words views id stands here.
+    let one =
+    has_one free layout words views id v x
+    (record { stands = stands; here = here; running = running.0; free = none }) holding in
+    let s = one.stands in
+    let t = v.thread in
+    let told = s.told id (rested v) here in
+    begun layout words views id (rested v) s here (ReleaseLoad x AsCaller ∷ []) (open_work v)
+    (without_reference v.layout x v.references) (with_one_less (s.accounts t) AsCaller x)
+    (law s.accounts (1 + s.machine.layout.workers) s.machine t (actor_of (rested v)) x s.counts
+    (ready layout words views id v s here running.0) (alone v x none) one.more)
+    (λ y counted. omega (
+      arith,
+      s.holding id (rested v) y here (subst (λ (l : Layout). IsCounted l y) told counted),
+      count_without_reference v.layout x y v.references counted,
+    ))
+    (λ i y. omega (arith, s.no_variables t i y)))
+
+-- A worker's hand with a row left begins the birth of an object.
+pub bearing_becomes : WorkIsPutAside → BirthsBegin → (layout : Layout) (v : View) (word : ℕ) → IsRunning v
+    → 0 < v.thread → has_room v.layout v.thread v.used ≡ true → is_counted_kind (kind_of_word word) ≡ true
+    → cells_of word ≤ cell_limit → Becomes layout v (bearing v word)
+bearing_becomes put law layout v word running worker room kind few =
+    becomes_then layout v (rested v) (bearing v word) (rested_becomes put layout v running.1)
+    (λ words views id stands here.
+    let s = stands in
+    let m = s.machine in
+    let t = v.thread in
+    let told = s.told id (rested v) here in
+    begun layout words views id (rested v) s here (BirthKind (next_row v) AsCaller word ∷ []) (open_work v)
+    (next_row v ∷ v.references) (with_one_more (s.accounts t) AsCaller (next_row v))
+    (subst (λ (l : Layout).
+    Counts (with_account s.accounts t (with_one_more (s.accounts t) AsCaller (row_at l t v.used)))
+    (1 + m.layout.workers)
+    (with_actor m t (working (actor_of v) (BirthKind (row_at l t v.used) AsCaller word ∷ []) (open_work v)))) (sym told)
+    (law s.accounts (1 + m.layout.workers) m t (actor_of (rested v)) word s.counts
+    (ready layout words views id v s here running.0) worker
+    (subst (λ (l : Layout). has_room l t v.used ≡ true) told room) kind few))
+    (λ y counted. omega (
+      arith,
+      s.holding id (rested v) y here (subst (λ (l : Layout). IsCounted l y) told counted),
+      count_more (next_row v) y v.references,
+    ))
+    (λ i y. omega (arith, s.no_variables t i y)))

@@ -1,0 +1,153 @@
+-- One hand's view changes, and with it the machine, so that the rule holds again.
+use Rattle.std.proofs.Common.{◌≡◌, ◌≢◌, ℕ, ◌+◌, ◌<◌, true, List, length, set, Some, ⊎_elim, refl, sym, ap, ◌∙◌, subst}
+use Rattle.std.specs.Prelude.{slice_get, slice_index}
+use Rattle.std.proofs.lemmas.Option.{slice_get_within}
+use mathlib.Core.Option.{some, some-injective}
+use lib.ListN.{get_elem?}
+use Rattle.atomic_table.proofs.Lists.{at_set, set_else, set_again}
+use Rattle.brc_model.specs.declared.duty.Holding.TheVariants.{ByVariable, AsCaller}
+use Rattle.brc_model.specs.declared.address.Address.{Address}
+use Rattle.brc_model.specs.declared.layout.Layout.{Layout}
+use Rattle.brc_model.specs.Layout.{IsCounted}
+use Rattle.brc_model.specs.Machine.{Actor, Machine, idle_actor}
+use Rattle.brc_model.specs.Accounts.{Account, Accounts, HoldsNone}
+use Rattle.brc_model.specs.Counting.{Counts, IsPlainLayout}
+use Rattle.brc_table.specs.declared.view.View.{View}
+use Rattle.brc_table.specs.Places.{place, HasWord, word_count}
+use Rattle.brc_table.specs.Views.{actor_of, holds}
+use Rattle.brc_table.specs.Rule.{reading, Stands}
+use Rattle.brc_table.specs.Views.{is_given}
+use Rattle.brc_table.specs.Begins.{Becomes}
+use Rattle.brc_table.proofs.Lists.{slice_get-set_same, slice_get-set_other, set_view}
+
+-- ---- what the change has to show
+
+-- The new machine of a table in which one hand's view has changed from v to u.
+pub record Changes (layout : Layout) (words : List ℕ) (views : List View) (v u : View) (old : Stands layout words views)
+    (after : List ℕ)
+    : Type 0 where
+  pub accounts : Accounts
+  pub machine : Machine
+  pub counts : Counts accounts (1 + machine.layout.workers) machine
+  pub layout_same : machine.layout ≡ old.machine.layout
+  pub length_is : length after ≡ length words
+  pub reads : (a : Address) → HasWord machine.layout a → machine.memory a ≡ reading a (slice_index after (place a))
+  pub actors : machine.actors ≡ set old.machine.actors v.thread (actor_of u)
+  pub thread_same : u.thread ≡ v.thread
+  pub told_same : u.layout ≡ v.layout
+  pub given_more : (t : ℕ) → is_given t v ≡ true → is_given t u ≡ true
+  pub holding : (x : ℕ) → IsCounted machine.layout x → accounts v.thread AsCaller x ≡ holds u x
+  pub others : (t : ℕ) → t ≢ v.thread → accounts t ≡ old.accounts t
+  pub no_variables : (t i x : ℕ) → accounts t (ByVariable i) x ≡ 0
+
+module _ (layout : Layout) (words : List ℕ) (views : List View) (id : ℕ) (v u : View) (old : Stands layout words views)
+    (here : get_elem? views id ≡ some v) (after : List ℕ) (new : Changes layout words views v u old after) where
+  -- Another hand's thread is another thread.
+  elsewhere : (other : ℕ) (w : View) → other ≢ id → get_elem? views other ≡ some w → w.thread ≢ v.thread
+  elsewhere other w apart is e = apart (old.apart other id w v is here e)
+
+  acts_after : (other : ℕ) (w : View) → get_elem? (set views id u) other ≡ some w
+      → slice_get new.machine.actors w.thread ≡ Some (actor_of w)
+  acts_after other w is =
+      let found : slice_get (set old.machine.actors v.thread (actor_of u)) w.thread ≡ Some (actor_of w) =
+      ⊎_elim
+      (λ t. subst (λ (x : View). slice_get (set old.machine.actors v.thread (actor_of u)) x.thread ≡ Some (actor_of x)) t.1
+      (subst (λ (k : ℕ). slice_get (set old.machine.actors v.thread (actor_of u)) k ≡ Some (actor_of u)) (sym new.thread_same)
+      (slice_get-set_same old.machine.actors v.thread (actor_of u)
+      (slice_get_within old.machine.actors v.thread (actor_of v) (old.acts id v here)))))
+      (λ t. slice_get-set_other old.machine.actors v.thread w.thread (actor_of u) (elsewhere other w t.0 t.1)
+      ∙ old.acts other w t.1)
+      (at_set views id other u w is) in
+      subst (λ (l : List Actor). slice_get l w.thread ≡ Some (actor_of w)) (sym new.actors) found
+
+  told_after : (other : ℕ) (w : View) → get_elem? (set views id u) other ≡ some w → w.layout ≡ new.machine.layout
+  told_after other w is =
+      ⊎_elim
+      (λ t. subst (λ (x : View). x.layout ≡ new.machine.layout) t.1
+      (new.told_same ∙ (old.told id v here ∙ sym new.layout_same)))
+      (λ t. old.told other w t.1 ∙ sym new.layout_same)
+      (at_set views id other u w is)
+
+  holding_after : (other : ℕ) (w : View) (x : ℕ) → get_elem? (set views id u) other ≡ some w
+      → IsCounted new.machine.layout x → new.accounts w.thread AsCaller x ≡ holds w x
+  holding_after other w x is counted =
+      ⊎_elim
+      (λ t. subst (λ (y : View). new.accounts y.thread AsCaller x ≡ holds y x) t.1
+      (subst (λ (k : ℕ). new.accounts k AsCaller x ≡ holds u x) (sym new.thread_same) (new.holding x counted)))
+      (λ t. ap (λ (account : Account). account AsCaller x) (new.others w.thread (elsewhere other w t.0 t.1))
+      ∙ old.holding other w x t.1 (subst (λ (l : Layout). IsCounted l x) new.layout_same counted))
+      (at_set views id other u w is)
+
+  -- A hand of the new list was in the old one, with the same thread.
+  pub record Was (other : ℕ) (w : View) : Type 0 where
+    pub view : View
+    pub found : get_elem? views other ≡ some view
+    pub thread : w.thread ≡ view.thread
+
+  was : (other : ℕ) (w : View) → get_elem? (set views id u) other ≡ some w → Was other w
+  was other w is =
+      ⊎_elim
+      (λ t. record {
+        view = v;
+        found = subst (λ (k : ℕ). get_elem? views k ≡ some v) (sym t.0) here;
+        thread = ap (λ (x : View). x.thread) (sym t.1) ∙ new.thread_same;
+      })
+      (λ t. record { view = w; found = t.1; thread = refl })
+      (at_set views id other u w is)
+
+  apart_after : (one other : ℕ) (w z : View) → get_elem? (set views id u) one ≡ some w
+      → get_elem? (set views id u) other ≡ some z → w.thread ≡ z.thread → one ≡ other
+  apart_after one other w z is that same =
+      let a = was one w is in let b = was other z that in
+      old.apart one other a.view b.view a.found b.found (sym a.thread ∙ (same ∙ b.thread))
+
+  idle_after : (t : ℕ) → t < 1 + new.machine.layout.workers
+      → ((other : ℕ) (w : View) → get_elem? (set views id u) other ≡ some w → w.thread ≡ t → ⊥)
+      → (slice_get new.machine.actors t ≡ Some (idle_actor 0)) × HoldsNone (new.accounts t)
+  idle_after t low none =
+      let apart : t ≢ v.thread = λ e. none id u (set_view views id v u here) (new.thread_same ∙ sym e) in
+      let low' : t < 1 + old.machine.layout.workers =
+      subst (λ (l : Layout). t < 1 + l.workers) new.layout_same low in
+      let rest = old.idle t low' (λ other w is same.
+      let ne : other ≢ id = λ e. apart (sym same ∙ ap (λ (x : View). x.thread)
+      (some-injective w v (sym is ∙ (ap (get_elem? views) e ∙ here)))) in
+      none other w (set_else views id other u ne ∙ is) same) in (
+        ap (λ (l : List Actor). slice_get l t) new.actors
+            ∙ (slice_get-set_other old.machine.actors v.thread t (actor_of u) apart ∙ rest.0),
+        subst HoldsNone (sym (new.others t apart)) rest.1,
+      )
+
+  given_after : (one other : ℕ) (main w : View) → get_elem? (set views id u) one ≡ some main → main.thread ≡ 0
+      → get_elem? (set views id u) other ≡ some w → 0 < w.thread → is_given w.thread main ≡ true
+  given_after one other main w is first that later =
+      let b = was other w that in
+      let more : 0 < b.view.thread = subst (λ (k : ℕ). 0 < k) b.thread later in
+      ⊎_elim
+      (λ t. let old_main : v.thread ≡ 0 = sym new.thread_same ∙ (ap (λ (x : View). x.thread) t.1 ∙ first) in
+      subst (λ (x : View). is_given w.thread x ≡ true) t.1 (new.given_more w.thread
+      (subst (λ (k : ℕ). is_given k v ≡ true) (sym b.thread) (old.given id other v b.view here old_main b.found more))))
+      (λ t. subst (λ (k : ℕ). is_given k main ≡ true) (sym b.thread) (old.given one other main b.view t.1 first b.found more))
+      (at_set views id one u main is)
+
+  pub changed : Stands layout after (set views id u)
+  changed = record {
+    accounts = new.accounts;
+    machine = new.machine;
+    counts = new.counts;
+    layout_is = new.layout_same ∙ old.layout_is;
+    plain = subst IsPlainLayout (sym new.layout_same) old.plain;
+    length_is = new.length_is ∙ (old.length_is ∙ ap word_count (sym new.layout_same));
+    reads = new.reads;
+    acts = acts_after;
+    told = told_after;
+    holding = holding_after;
+    no_variables = new.no_variables;
+    apart = apart_after;
+    idle = idle_after;
+    given = given_after;
+  }
+
+-- A hand that stays as it is.
+pub itself_becomes : (layout : Layout) (v : View) → Becomes layout v v
+itself_becomes layout v words views id stands here =
+    subst (λ (l : List View). Stands layout words l) (sym (set_again views id v here)) stands

@@ -1,0 +1,284 @@
+-- The duty of each kind of step, and where its word is.
+use Rattle.std.proofs.Common.{◌≡◌, ◌≢◌, ℕ, ◌+◌, ◌%◌, ◌*◌, ◌^◌, ◌<◌, ◌≤◌, ◌⊎◌, true, false, Bool, List, [], ◌∷◌, ◌++◌, inl, inr, refl, sym, ap, ◌∙◌, arith}
+use Rattle.std.specs.Prelude.{◌==◌, ◌||◌, cond}
+use Rattle.std.specs.List.{filter, list_any}
+use Rattle.std.proofs.lemmas.Bool.{cases_Bool, eq-eqb}
+use prog.Atomic.{either}
+use Rattle.brc_model.specs.declared.duty.Duty.{Duty}
+use Rattle.brc_model.specs.declared.duty.Duty.TheVariants.{RetainLoad, RetainStore, RetainAdd, ReleaseLoad, ReleaseStore, DecideAtZero, SharedLoad, SharedExchange, MergeSwap, MergeLoad, MergeExchange, Die, BirthKind, BirthLocal}
+use Rattle.brc_model.specs.declared.duty.Holding.TheVariants.{AsCaller}
+use Rattle.brc_model.specs.declared.actor.Status.TheVariants.{Running, Gone}
+use Rattle.brc_model.specs.declared.layout.Layout.{Layout}
+use Rattle.brc_model.specs.Layout.{front_rows, row_count}
+use Rattle.brc_model.specs.Limits.{worker_limit, row_limit}
+use Rattle.std.proofs.Math.Nat.{div-add-mod, mod-lt, mod-eq_of_lt}
+use Rattle.brc_word.specs.Words.{biased_part, bias, local_word, released_word, merged_word, dying_word}
+use Rattle.brc_model.specs.Duties.{address_of, new_word}
+use Rattle.brc_model.specs.Machine.{is_running}
+use Rattle.brc_model.specs.Within.{Suits}
+use Rattle.brc_model.specs.OpenWork.{is_about}
+use Rattle.brc_model.specs.Counting.{IsPlainLayout}
+use Rattle.std.proofs.Math.Nat.{mul-le-mul}
+use Rattle.brc_table.specs.declared.view.View.{View}
+use Rattle.brc_table.specs.Places.{in_tile, place, IsObjectWord}
+use Rattle.brc_table.specs.Views.{RowsAreThere, did, work_about, retaining, releasing, bearing, next_row}
+use Rattle.brc_table.specs.Hands.{HoldsOne}
+use Rattle.brc_table.specs.Begins.{IsQuiet, Makes, MakesQuietly, StoresWord, KeepsThread}
+use Rattle.brc_table.specs.Plays.{overwritten}
+use Rattle.brc_table.specs.Calls.{LoadsShared, SwapsLocal, StoresLocal, AddsShared, ExchangesShared, ChainsRow, OwnsFirst}
+use Rattle.brc_table.proofs.Allowed.{immortal_there}
+
+runs_on : (v : View) → v.status ≡ Running → v.status ≢ Gone
+runs_on v runs gone = let wrong : Running ≡ Gone = sym runs ∙ gone in absurd cc
+
+-- ---- rows
+
+pub held_there : (v : View) (x : ℕ) → IsPlainLayout v.layout → RowsAreThere v → HoldsOne v x → x < row_count v.layout
+held_there v x plain rows (inl immortal) = immortal_there v.layout x plain immortal
+held_there v x plain rows (inr held) = rows.held x held
+
+-- ---- words
+
+low_word : (found : ℕ) → biased_part found < 2 * bias → found + 4 < 2 ^ 64
+low_word found low = let parts = div-add-mod found 4 in let rest : found % 4 < 4 = mod-lt found (omega arith) in
+    omega (arith, low, parts, rest)
+
+either_is : (found old new w word : ℕ) → old ≡ w → new ≡ word
+    → either (found == old) new found ≡ cond (found == w) word found
+either_is found old new w word same leaves = elim (cases_Bool (found == w)) [
+  | inl this ↦ rw (same, this) leaves
+  | inr other ↦ rw (same, other) refl
+]
+
+-- ---- beginnings
+
+pub retain_makes : (v : View) (x : ℕ) → v.status ≡ Running
+    → MakesQuietly (retaining v x) (in_tile 0 x) (λ found. found)
+retain_makes v x runs = record {
+  makes = record {
+    duty = RetainLoad x AsCaller;
+    rest = [];
+    at = record { agenda = refl; alive = runs_on v runs; object = tt; index_is = refl };
+    leaves = λ found suits. refl;
+  };
+  quiet = record { status = λ s. refl; head = λ head found. refl; used = λ used. refl };
+}
+
+pub release_makes : (v : View) (x : ℕ) → v.status ≡ Running
+    → MakesQuietly (releasing v x) (in_tile 0 x) (λ found. found)
+release_makes v x runs = record {
+  makes = record {
+    duty = ReleaseLoad x AsCaller;
+    rest = [];
+    at = record { agenda = refl; alive = runs_on v runs; object = tt; index_is = refl };
+    leaves = λ found suits. refl;
+  };
+  quiet = record { status = λ s. refl; head = λ head found. refl; used = λ used. refl };
+}
+
+-- ---- the row of a duty
+
+either_list : (x : ℕ) (ds es : List Duty) (d : Duty) (rest : List Duty) → filter (is_about x) (ds ++ es) ≡ d ∷ rest
+    → (list_any (is_about x) ds ≡ true) ⊎ (list_any (is_about x) es ≡ true)
+either_list x [] [] d rest is = let wrong : [] ≡ d ∷ rest = is in absurd cc
+either_list x [] (e ∷ es) d rest is = elim (cases_Bool (is_about x e)) [
+  | inl this ↦ inr (ap (λ (b : Bool). b || list_any (is_about x) es) this)
+  | inr other ↦
+      let later : filter (is_about x) es ≡ d ∷ rest =
+      sym (ap (λ (b : Bool). cond b (e ∷ filter (is_about x) es) (filter (is_about x) es)) other) ∙ is in
+      elim (either_list x [] es d rest later) [
+        | inl none ↦ absurd cc
+        | inr there ↦ inr (ap (λ (b : Bool). b || list_any (is_about x) es) other ∙ there)
+      ]
+]
+either_list x (e ∷ ds) es d rest is = elim (cases_Bool (is_about x e)) [
+  | inl this ↦ inl (ap (λ (b : Bool). b || list_any (is_about x) ds) this)
+  | inr other ↦
+      let later : filter (is_about x) (ds ++ es) ≡ d ∷ rest =
+      sym (ap (λ (b : Bool). cond b (e ∷ filter (is_about x) (ds ++ es)) (filter (is_about x) (ds ++ es))) other) ∙ is in
+      elim (either_list x ds es d rest later) [
+        | inl there ↦ inl (ap (λ (b : Bool). b || list_any (is_about x) ds) other ∙ there)
+        | inr there ↦ inr there
+      ]
+]
+
+-- A row about which a hand has work is there.
+work_there : (v : View) (x : ℕ) (d : Duty) (rest : List Duty) → RowsAreThere v → work_about x v ≡ d ∷ rest
+    → x < row_count v.layout
+work_there v x d rest rows is = elim (either_list x v.agenda v.aside d rest is) [
+  | inl next ↦ rows.agenda x next
+  | inr waiting ↦ rows.aside x waiting
+]
+
+next_there : (v : View) (x : ℕ) (d : Duty) → RowsAreThere v → v.agenda ≡ d ∷ [] → is_about x d ≡ true
+    → x < row_count v.layout
+next_there v x d rows is this =
+    rows.agenda x (ap (list_any (is_about x)) is ∙ ap (λ (b : Bool). b || false) this)
+
+-- ---- going on
+
+module _ (u : View) (x : ℕ) (alive : u.status ≢ Gone) where
+  -- The hand's next duty is about the row's word in this line.
+  abbrev line_makes : (line : ℕ) (f : ℕ → ℕ) (d : Duty) → u.agenda ≡ d ∷ []
+      → IsObjectWord (address_of u.layout u.thread u.head d)
+      → in_tile line x ≡ place (address_of u.layout u.thread u.head d)
+      → ((found : ℕ) → Suits u.thread (is_running u.status) (row_count u.layout) d found
+      → f found ≡ new_word u.thread u.head d found)
+      → Makes u (in_tile line x) f
+  line_makes line f d is object index leaves = record {
+    duty = d;
+    rest = [];
+    at = record { agenda = is; alive = alive; object = object; index_is = index };
+    leaves = leaves;
+  }
+
+  at_line : (line : ℕ) (f : ℕ → ℕ) (d : Duty) → u.agenda ≡ d ∷ []
+      → IsObjectWord (address_of u.layout u.thread u.head d)
+      → in_tile line x ≡ place (address_of u.layout u.thread u.head d) → IsQuiet d
+      → ((found : ℕ) → Suits u.thread (is_running u.status) (row_count u.layout) d found
+      → f found ≡ new_word u.thread u.head d found)
+      → MakesQuietly u (in_tile line x) f
+  at_line line f d is object index quiet leaves =
+      record { makes = line_makes line f d is object index leaves; quiet = quiet }
+
+  pub shared_load_makes : (ds : List Duty) → u.agenda ≡ ds → LoadsShared x ds
+      → MakesQuietly u (in_tile 1 x) (λ found. found)
+  shared_load_makes (DecideAtZero y ∷ []) is same =
+      at_line 1 (λ found. found) (DecideAtZero y) is tt (ap (in_tile 1) (sym same))
+      (record { status = λ s. refl; head = λ head found. refl; used = λ used. refl }) (λ found suits. refl)
+  shared_load_makes (SharedLoad y r ∷ []) is same =
+      at_line 1 (λ found. found) (SharedLoad y r) is tt (ap (in_tile 1) (sym same))
+      (record { status = λ s. refl; head = λ head found. refl; used = λ used. refl }) (λ found suits. refl)
+  shared_load_makes (MergeLoad y c r ∷ []) is same =
+      at_line 1 (λ found. found) (MergeLoad y c r) is tt (ap (in_tile 1) (sym same))
+      (record { status = λ s. refl; head = λ head found. refl; used = λ used. refl }) (λ found suits. refl)
+  shared_load_makes _ is same = absurd same
+
+  pub local_swap_makes : (ds : List Duty) → u.agenda ≡ ds → SwapsLocal x ds
+      → MakesQuietly u (in_tile 0 x) (λ found. 0)
+  local_swap_makes (MergeSwap y r ∷ []) is same =
+      at_line 0 (λ found. 0) (MergeSwap y r) is tt (ap (in_tile 0) (sym same))
+      (record { status = λ s. refl; head = λ head found. refl; used = λ used. refl }) (λ found suits. refl)
+  local_swap_makes _ is same = absurd same
+
+  pub shared_add_makes : (ds : List Duty) → u.agenda ≡ ds → AddsShared x ds
+      → MakesQuietly u (in_tile 1 x) (λ found. (found + 4) % 2 ^ 64)
+  shared_add_makes (RetainAdd y h ∷ []) is same =
+      at_line 1 (λ found. (found + 4) % 2 ^ 64) (RetainAdd y h) is tt (ap (in_tile 1) (sym same))
+      (record { status = λ s. refl; head = λ head found. refl; used = λ used. refl })
+      (λ found suits. mod-eq_of_lt (low_word found suits.0.low))
+  shared_add_makes _ is same = absurd same
+
+  pub shared_exchange_makes : (old new : ℕ) (ds : List Duty) → u.agenda ≡ ds → ExchangesShared x old new ds
+      → MakesQuietly u (in_tile 1 x) (λ found. either (found == old) new found)
+  shared_exchange_makes old new (SharedExchange y r w ∷ []) is same =
+      at_line 1 (λ found. either (found == old) new found) (SharedExchange y r w) is tt (ap (in_tile 1) (sym same.0))
+      (record { status = λ s. refl; head = λ head found. refl; used = λ used. refl })
+      (λ found suits. either_is found old new w (released_word w) same.1 same.2)
+  shared_exchange_makes old new (MergeExchange y c w r ∷ []) is same =
+      at_line 1 (λ found. either (found == old) new found) (MergeExchange y c w r) is tt (ap (in_tile 1) (sym same.0))
+      (record { status = λ s. refl; head = λ head found. refl; used = λ used. refl })
+      (λ found suits. either_is found old new w (merged_word w c) same.1 same.2)
+  shared_exchange_makes old new _ is same = absurd same
+
+  pub local_store_makes : (word : ℕ) (ds : List Duty) → u.agenda ≡ ds → StoresLocal x word ds
+      → StoresWord u (in_tile 0 x) word
+  local_store_makes word (RetainStore y h w ∷ []) is same = record {
+    makes =
+        line_makes 0 (λ found. word) (RetainStore y h w) is tt (ap (in_tile 0) (sym same.0)) (λ found suits. same.1);
+    knows = λ found over. over ∙ sym (ap overwritten is);
+  }
+  local_store_makes word (ReleaseStore y w ∷ []) is same = record {
+    makes =
+        line_makes 0 (λ found. word) (ReleaseStore y w) is tt (ap (in_tile 0) (sym same.0)) (λ found suits. same.1);
+    knows = λ found over. over ∙ sym (ap overwritten is);
+  }
+  local_store_makes word _ is same = absurd same
+
+-- A store in the local word leaves status, chain and used rows as they are.
+pub local_store_keeps : (v : View) (x word : ℕ) (ds : List Duty) (found : ℕ) → StoresLocal x word ds
+    → KeepsThread v (did v ds found)
+local_store_keeps v x word (RetainStore y h w ∷ []) found same =
+    record { thread = refl; status = refl; head = refl; used = refl; given = refl }
+local_store_keeps v x word (ReleaseStore y w ∷ []) found same =
+    record { thread = refl; status = refl; head = refl; used = refl; given = refl }
+local_store_keeps v x word _ found same = absurd same
+
+-- ---- the rows of these duties
+
+pub shared_load_there : (v : View) (x : ℕ) (ds : List Duty) → RowsAreThere v → work_about x v ≡ ds → LoadsShared x ds
+    → x < row_count v.layout
+shared_load_there v x (d ∷ rest) rows is same = work_there v x d rest rows is
+shared_load_there v x [] rows is same = absurd same
+
+pub local_swap_there : (v : View) (x : ℕ) (ds : List Duty) → RowsAreThere v → work_about x v ≡ ds → SwapsLocal x ds
+    → x < row_count v.layout
+local_swap_there v x (d ∷ rest) rows is same = work_there v x d rest rows is
+local_swap_there v x [] rows is same = absurd same
+
+pub shared_add_there : (v : View) (x : ℕ) (ds : List Duty) → RowsAreThere v → v.agenda ≡ ds → AddsShared x ds
+    → x < row_count v.layout
+shared_add_there v x (RetainAdd y h ∷ []) rows is same = next_there v x (RetainAdd y h) rows is (eq-eqb y x same)
+shared_add_there v x _ rows is same = absurd same
+
+pub shared_exchange_there : (v : View) (x old new : ℕ) (ds : List Duty) → RowsAreThere v → v.agenda ≡ ds
+    → ExchangesShared x old new ds → x < row_count v.layout
+shared_exchange_there v x old new (SharedExchange y r w ∷ []) rows is same =
+    next_there v x (SharedExchange y r w) rows is (eq-eqb y x same.0)
+shared_exchange_there v x old new (MergeExchange y c w r ∷ []) rows is same =
+    next_there v x (MergeExchange y c w r) rows is (eq-eqb y x same.0)
+shared_exchange_there v x old new _ rows is same = absurd same
+
+pub local_store_there : (v : View) (x word : ℕ) (ds : List Duty) → RowsAreThere v → v.agenda ≡ ds
+    → StoresLocal x word ds → x < row_count v.layout
+local_store_there v x word (RetainStore y h w ∷ []) rows is same =
+    next_there v x (RetainStore y h w) rows is (eq-eqb y x same.0)
+local_store_there v x word (ReleaseStore y w ∷ []) rows is same =
+    next_there v x (ReleaseStore y w) rows is (eq-eqb y x same.0)
+local_store_there v x word _ rows is same = absurd same
+
+-- ---- births and deaths
+
+-- There are few rows.
+pub rows_few : (layout : Layout) → IsPlainLayout layout → row_count layout ≤ front_rows + worker_limit * row_limit
+rows_few layout plain =
+    let most = mul-le-mul plain.few_workers plain.few_rows in
+    omega (arith, most, plain.immortals)
+
+pub birth_stores : (v : View) (word : ℕ) → v.status ≡ Running
+    → StoresWord (bearing v word) (in_tile 3 (next_row v)) word
+birth_stores v word runs = record {
+  makes = record {
+    duty = BirthKind (next_row v) AsCaller word;
+    rest = [];
+    at = record { agenda = refl; alive = runs_on v runs; object = tt; index_is = refl };
+    leaves = λ found suits. refl;
+  };
+  knows = λ found over. over;
+}
+
+pub own_stores : (u : View) (x word : ℕ) → u.status ≢ Gone → (ds : List Duty) → u.agenda ≡ ds → OwnsFirst x ds
+    → word ≡ local_word u.thread 1 → StoresWord u (in_tile 0 x) word
+own_stores u x word alive (BirthLocal y h ∷ []) is same first = record {
+  makes = line_makes u x alive 0 (λ found. word) (BirthLocal y h) is tt (ap (in_tile 0) (sym same)) (λ found suits. first);
+  knows = λ found over. over ∙ sym (ap overwritten is);
+}
+own_stores u x word alive _ is same first = absurd same
+
+pub chain_stores : (u : View) (x word : ℕ) → u.status ≢ Gone → (ds : List Duty) → u.agenda ≡ ds → ChainsRow x ds
+    → word ≡ dying_word u.thread u.head → StoresWord u (in_tile 2 x) word
+chain_stores u x word alive (Die y ∷ []) is same dies = record {
+  makes = line_makes u x alive 2 (λ found. word) (Die y) is tt (ap (in_tile 2) (sym same)) (λ found suits. dies);
+  knows = λ found over. over ∙ sym (ap overwritten is);
+}
+chain_stores u x word alive _ is same dies = absurd same
+
+pub owns_first_there : (v : View) (x : ℕ) (ds : List Duty) → RowsAreThere v → v.agenda ≡ ds → OwnsFirst x ds
+    → x < row_count v.layout
+owns_first_there v x (BirthLocal y h ∷ []) rows is same = next_there v x (BirthLocal y h) rows is (eq-eqb y x same)
+owns_first_there v x _ rows is same = absurd same
+
+pub chains_row_there : (v : View) (x : ℕ) (ds : List Duty) → RowsAreThere v → v.agenda ≡ ds → ChainsRow x ds
+    → x < row_count v.layout
+chains_row_there v x (Die y ∷ []) rows is same = next_there v x (Die y) rows is (eq-eqb y x same)
+chains_row_there v x _ rows is same = absurd same

@@ -1,0 +1,122 @@
+-- The first words say what the words of the first machine of hands are.
+use Rattle.std.proofs.Common.{◌≡◌, ◌≢◌, ℕ, zero, suc, ◌+◌, ◌*◌, ◌/◌, ◌%◌, ◌-◌, ◌<◌, ◌≤◌, Bool, true, false, List, refl, sym, ap, ◌∙◌, arith}
+use Rattle.std.specs.Prelude.{◌==◌, nat_lt, if◌then◌else◌, slice_index}
+use Rattle.std.proofs.Math.Nat.{div-add-mod, mod-lt}
+use Rattle.std.proofs.lemmas.Bool.{ne_eqb, le-leb, le-ltb, lt-ltb}
+use Rattle.brc_word.specs.Words.{free_word, fresh_word}
+use Rattle.brc_model.specs.declared.address.Address.{Address}
+use Rattle.brc_model.specs.declared.address.Address.TheVariants.{Local, Shared, Gate, KindOf, Mark, Cell, Slot, Resource, ThreadWord}
+use Rattle.brc_model.specs.declared.layout.Layout.{Layout}
+use Rattle.brc_model.specs.Layout.{row_count, none_row, root_row}
+use Rattle.brc_model.specs.Limits.{worker_limit}
+use Rattle.brc_model.specs.Machine.{same_address}
+use Rattle.brc_model.specs.StepMachine.{rooted_memory}
+use Rattle.brc_table.specs.Places.{line, front, tile, in_tile, place, HasWord}
+use Rattle.brc_table.specs.Rule.{reading}
+use Rattle.brc_table.specs.Opening.{blank_line, blank_word, first_word, AreFirst}
+use Rattle.brc_table.proofs.Places.{place_apart, place_within}
+
+-- ---- lines
+
+-- A place behind the thread words is in the line that its tile's number, line and column say.
+line_of : (q l c : ℕ) → l < 13 → c < line → ((front + tile * q + line * l + c) - front) % tile / line ≡ l
+line_of q l c low small =
+    let n = (front + tile * q + line * l + c) - front in
+    let one = div-add-mod n tile in let below = mod-lt n (let h : 0 < tile = omega arith in h) in
+    let other = div-add-mod (n % tile) line in
+    let under = mod-lt (n % tile) (let h : 0 < line = omega arith in h) in
+    omega (arith, one, below, other, under, low, small)
+
+-- So the first value of a blank word is that of its line.
+blank_behind : (q l c : ℕ) → l < 13 → c < line → blank_word (front + tile * q + line * l + c) ≡ blank_line l
+blank_behind q l c low small =
+    let index = front + tile * q + line * l + c in
+    let behind : nat_lt index front ≡ false = le-ltb index front (omega arith) in
+    ap (λ (b : Bool). if b then (if index == 0 then 1 else 0) else blank_line ((index - front) % tile / line)) behind
+    ∙ ap blank_line (line_of q l c low small)
+
+-- Lines from the third on are zero.
+line_zero : (l : ℕ) → 2 < l → blank_line l ≡ 0
+line_zero l high =
+    ap (λ (b : Bool). if b then fresh_word else if l == 2 then free_word else 0)
+    (ne_eqb l 1 (λ e. omega (arith, e, high)))
+    ∙ ap (λ (b : Bool). if b then free_word else 0) (ne_eqb l 2 (λ e. omega (arith, e, high)))
+
+-- ---- none and the root
+
+-- All other words than none's and the root's local words and kind words have the value of a blank word.
+first_else : (index : ℕ) → index ≢ in_tile 0 none_row → index ≢ in_tile 0 root_row → index ≢ in_tile 3 none_row
+    → index ≢ in_tile 3 root_row → first_word index ≡ blank_word index
+first_else index a b c d = rw (ne_eqb index _ a, ne_eqb index _ b, ne_eqb index _ c, ne_eqb index _ d) refl
+
+-- The same of an address.
+module _ (layout : Layout) (few : layout.workers ≤ worker_limit) where
+  none_there : none_row < row_count layout
+  none_there = omega arith
+
+  root_there : root_row < row_count layout
+  root_there = omega arith
+
+  first_apart : (a : Address) → HasWord layout a → same_address a (Local none_row) ≡ false
+      → same_address a (Local root_row) ≡ false → same_address a (KindOf none_row) ≡ false
+      → same_address a (KindOf root_row) ≡ false → first_word (place a) ≡ blank_word (place a)
+  first_apart a has b c d e =
+      first_else (place a) (place_apart layout a (Local none_row) few has none_there b)
+      (place_apart layout a (Local root_row) few has root_there c)
+      (place_apart layout a (KindOf none_row) few has none_there d)
+      (place_apart layout a (KindOf root_row) few has root_there e)
+
+  rest_low : (x : ℕ) → x % line < line
+  rest_low x = mod-lt x (omega arith)
+
+  -- ---- addresses
+
+  -- The table's first words say what the first machine's are.
+  pub first_reads : (a : Address) → HasWord layout a
+      → rooted_memory layout.workers 1 a ≡ reading a (first_word (place a))
+  first_reads (Local zero) has = refl
+  first_reads (Local (suc zero)) has = refl
+  first_reads (Local (suc (suc x))) has =
+      let row = suc (suc x) in
+      sym (first_apart (Local row) has (ne_eqb row none_row (λ e. omega (arith, e)))
+      (ne_eqb row root_row (λ e. omega (arith, e))) refl refl
+      ∙ blank_behind (row / line) 0 (row % line) (omega arith) (rest_low row))
+  first_reads (Shared x) has =
+      sym (first_apart (Shared x) has refl refl refl refl
+      ∙ blank_behind (x / line) 1 (x % line) (omega arith) (rest_low x))
+  first_reads (Gate x) has =
+      sym (first_apart (Gate x) has refl refl refl refl
+      ∙ blank_behind (x / line) 2 (x % line) (omega arith) (rest_low x))
+  first_reads (KindOf zero) has = refl
+  first_reads (KindOf (suc zero)) has = refl
+  first_reads (KindOf (suc (suc x))) has =
+      let row = suc (suc x) in
+      sym (first_apart (KindOf row) has refl refl (ne_eqb row none_row (λ e. omega (arith, e)))
+      (ne_eqb row root_row (λ e. omega (arith, e)))
+      ∙ blank_behind (row / line) 3 (row % line) (omega arith) (rest_low row))
+  first_reads (Mark x) has =
+      sym (first_apart (Mark x) has refl refl refl refl
+      ∙ blank_behind (x / line) 4 (x % line) (omega arith) (rest_low x))
+  first_reads (Cell x i) has =
+      sym (first_apart (Cell x i) has refl refl refl refl
+      ∙ blank_behind (x / line) (5 + x % line) i (omega (arith, rest_low x)) has.1
+      ∙ line_zero (5 + x % line) (omega arith))
+  first_reads (Slot x) has = absurd has
+  first_reads (Resource x) has = absurd has
+  first_reads (ThreadWord zero) has =
+      ap (λ (b : Bool). if b then 1 else 0) (le-leb 0 layout.workers (omega arith))
+  first_reads (ThreadWord (suc t)) has =
+      let in_front : nat_lt (suc t) front ≡ true = lt-ltb (suc t) front (omega (arith, few, has)) in
+      let word : first_word (suc t) ≡ 0 =
+      first_apart (ThreadWord (suc t)) has refl refl refl refl
+      ∙ ap (λ (b : Bool). if b then (if suc t == 0 then 1 else 0) else blank_line ((suc t - front) % tile / line))
+      in_front
+      ∙ ap (λ (b : Bool). if b then 1 else 0) (ne_eqb (suc t) 0 (λ e. omega (arith, e))) in
+      ap (λ (b : Bool). if b then 1 else 0) (le-leb (suc t) layout.workers (omega (arith, has)))
+      ∙ sym (ap (reading (ThreadWord (suc t))) word)
+
+  -- So do words that are the first ones at each place.
+  pub words_read : (words : List ℕ) → AreFirst layout words → (a : Address) → HasWord layout a
+      → rooted_memory layout.workers 1 a ≡ reading a (slice_index words (place a))
+  words_read words first a has =
+      first_reads a has ∙ sym (ap (reading a) (first.each (place a) (place_within layout a few has)))

@@ -1,0 +1,37 @@
+-- Lists with one element changed.
+use Rattle.std.proofs.Common.{◌≡◌, ◌≢◌, ℕ, zero, suc, ◌<◌, Bool, true, false, ◌&&◌, List, [], ◌∷◌, length, replicate, set, Some, refl, sym, ap, arith}
+use Rattle.std.specs.Prelude.{slice_get}
+use mathlib.Core.Option.{some, some-ne-none}
+use lib.ListN.{get_elem?}
+
+pub slice_get-set_same : {A : Type 0} (xs : List A) (i : ℕ) (x : A) → i < length xs → slice_get (set xs i x) i ≡ Some x
+slice_get-set_same [] i x h = absurd (omega arith)
+slice_get-set_same (y ∷ ys) zero x h = refl
+slice_get-set_same (y ∷ ys) (suc i) x h = slice_get-set_same ys i x (omega arith)
+
+pub slice_get-set_other : {A : Type 0} (xs : List A) (i j : ℕ) (x : A) → j ≢ i
+    → slice_get (set xs i x) j ≡ slice_get xs j
+slice_get-set_other [] i j x ne = refl
+slice_get-set_other (y ∷ ys) zero zero x ne = absurd (ne refl)
+slice_get-set_other (y ∷ ys) zero (suc j) x ne = refl
+slice_get-set_other (y ∷ ys) (suc i) zero x ne = refl
+slice_get-set_other (y ∷ ys) (suc i) (suc j) x ne = slice_get-set_other ys i j x (λ e. ne (ap suc e))
+
+pub slice_get-replicate : {A : Type 0} (n i : ℕ) (x : A) → i < n → slice_get (replicate n x) i ≡ Some x
+slice_get-replicate zero i x low = absurd (omega (arith, low))
+slice_get-replicate (suc n) zero x low = refl
+slice_get-replicate (suc n) (suc i) x low = slice_get-replicate n i x (omega (arith, low))
+
+-- An element that is there can be replaced.
+pub set_view : {A : Type 0} (xs : List A) (i : ℕ) (x y : A) → get_elem? xs i ≡ some x → get_elem? (set xs i y) i ≡ some y
+set_view [] i x y is = absurd (some-ne-none x (sym is))
+set_view (z ∷ zs) zero x y is = refl
+set_view (z ∷ zs) (suc i) x y is = set_view zs i x y is
+
+pub and_first : (a b : Bool) → (a && b) ≡ true → a ≡ true
+and_first true b e = refl
+and_first false b e = absurd cc
+
+pub and_second : (a b : Bool) → (a && b) ≡ true → b ≡ true
+and_second true b e = e
+and_second false b e = absurd cc

@@ -1,0 +1,80 @@
+-- A table stands on its first words, with main's hand alone.
+use Rattle.std.proofs.Common.{◌≡◌, ℕ, zero, suc, ◌+◌, ◌<◌, Bool, true, false, cond, ◌&&◌, List, [], ◌∷◌, Some, refl, sym, ap, ◌∙◌, subst, arith}
+use Rattle.std.specs.Prelude.{◌==◌, slice_get}
+use Rattle.std.proofs.lemmas.Bool.{ne_eqb}
+use Rattle.std.proofs.lemmas.List.Sums.{sum_by-cons}
+use mathlib.Core.Option.{some, some-injective, some-ne-none}
+use lib.ListN.{get_elem?}
+use Rattle.brc_model.specs.declared.duty.Holding.TheVariants.{AsCaller}
+use Rattle.brc_model.specs.declared.layout.Layout.{Layout}
+use Rattle.brc_model.specs.Layout.{root_row}
+use Rattle.brc_model.specs.AbstractState.{same_holding}
+use Rattle.brc_model.specs.References.{one_if}
+use Rattle.brc_model.specs.Accounts.{HoldsNone}
+use Rattle.brc_model.specs.Machine.{idle_actor}
+use Rattle.brc_model.specs.Counting.{IsPlainLayout, hands_machine, hands_accounts}
+use Rattle.brc_model.specs.CountingLaws.{HandsBegin}
+use Rattle.brc_table.specs.declared.view.View.{View}
+use Rattle.brc_table.specs.Views.{actor_of, holds, main_view}
+use Rattle.brc_table.specs.Rule.{Stands}
+use Rattle.brc_table.specs.Opening.{AreFirst}
+use Rattle.brc_table.proofs.Lists.{slice_get-replicate}
+use Rattle.brc_table.proofs.FirstWords.{words_read}
+
+-- The only element of a list of one.
+only_one : {A : Type 0} (x y : A) (i : ℕ) → get_elem? (x ∷ []) i ≡ some y → (i ≡ 0) × (x ≡ y)
+only_one x y zero is = (refl, some-injective x y is)
+only_one x y (suc i) is = absurd (some-ne-none y (sym is))
+
+-- Main holds one reference to the root, and no other.
+main_holds : (layout : Layout) (x : ℕ) → hands_accounts 0 AsCaller x ≡ holds (main_view layout) x
+main_holds layout x = omega (arith, sum_by-cons (λ (y : ℕ). cond (y == x) 1 0) root_row [])
+
+by_none : (b : Bool) → one_if (b && false) ≡ 0
+by_none true = refl
+by_none false = refl
+
+-- A worker holds nothing.
+worker_holds : (t : ℕ) → HoldsNone (hands_accounts (suc t))
+worker_holds t k object =
+    ap (λ (b : Bool). one_if (b && (same_holding AsCaller k && (root_row == object))))
+    (ne_eqb (suc t) 0 (λ e. omega (arith, e)))
+
+module _ (begin : HandsBegin) (layout : Layout) (plain : IsPlainLayout layout) (words : List ℕ)
+    (first : AreFirst layout words) where
+  abbrev hands : List View
+  hands = main_view layout ∷ []
+
+  -- What holds of main's hand holds of each hand.
+  of_main : (P : View → Type 0) (id : ℕ) (v : View) → get_elem? hands id ≡ some v → P (main_view layout) → P v
+  of_main P id v is main = subst P (only_one (main_view layout) v id is).1 main
+
+  idle_workers : (t : ℕ) → t < 1 + layout.workers
+      → ((id : ℕ) (v : View) → get_elem? hands id ≡ some v → v.thread ≡ t → ⊥)
+      → (slice_get (hands_machine layout).actors t ≡ Some (idle_actor 0)) × HoldsNone (hands_accounts t)
+  idle_workers zero low none = absurd (none 0 (main_view layout) refl refl)
+  idle_workers (suc t) low none =
+      (slice_get-replicate layout.workers t (idle_actor 0) (omega (arith, low)), worker_holds t)
+
+  pub opening : Stands layout words hands
+  opening = record {
+    accounts = hands_accounts;
+    machine = hands_machine layout;
+    counts = begin layout plain;
+    layout_is = refl;
+    plain = plain;
+    length_is = first.length_is;
+    reads = words_read layout plain.few_workers words first;
+    acts = λ id v is.
+        of_main (λ w. slice_get (hands_machine layout).actors w.thread ≡ Some (actor_of w)) id v is refl;
+    told = λ id v is. of_main (λ w. w.layout ≡ layout) id v is refl;
+    holding = λ id v x is counted.
+        of_main (λ w. hands_accounts w.thread AsCaller x ≡ holds w x) id v is (main_holds layout x);
+    no_variables = λ t i x. by_none (t == 0);
+    apart = λ id other v w is that same.
+        (only_one (main_view layout) v id is).0 ∙ sym (only_one (main_view layout) w other that).0;
+    idle = idle_workers;
+    given = λ id other main v is first_thread that later.
+        let none = ap (λ (w : View). w.thread) (only_one (main_view layout) v other that).1 in
+        absurd (omega (arith, later, none));
+  }

@@ -1,0 +1,194 @@
+-- The references to an object are those that the hands list, without those that hands are making, and with those that
+-- hands are giving up.
+use Rattle.std.proofs.Common.{◌≡◌, ℕ, suc, ◌+◌, ◌<◌, ◌≤◌, Bool, true, false, cond, ◌&&◌, List, [], ◌∷◌, ◌++◌, length, inl, inr, refl, sym, ap, ◌∙◌, subst, arith}
+use Rattle.std.specs.Prelude.{◌==◌, sum_by}
+use Rattle.std.proofs.lemmas.Bool.{eq-eqb, ne_eqb, cases_lt}
+use Rattle.std.proofs.lemmas.Bool.Decides.{eqb_tells}
+use Rattle.std.proofs.lemmas.List.{length-append}
+use Rattle.brc_model.specs.declared.duty.Holding.{Holding}
+use Rattle.brc_model.specs.declared.duty.Holding.TheVariants.{ByVariable, AsCaller, InFlight}
+use Rattle.brc_model.specs.AbstractState.{Holder, ByThread, ByCell, Reference, same_holding, same_holder, references_to}
+use Rattle.brc_model.specs.References.{held, one_if, reference_of, cell_reference}
+use Rattle.brc_model.specs.Machine.{Actor}
+use Rattle.brc_model.specs.Accounts.{Account, HoldsAt}
+use Rattle.brc_model.specs.OpenWork.{AgendaFits}
+use Rattle.brc_model.specs.CountingLaws.{over_threads}
+use Rattle.brc_model.proofs.Basics.Bag.{held-cons, held_itself, references_to-cons}
+use Rattle.brc_table.specs.Agreeing.{gives_up, makes}
+use Rattle.brc_table.proofs.Summing.{over_each, over_sum, over_none, over_one}
+use Rattle.brc_table.proofs.Tally.{tally, tally_both, same_length, zeros, zeros_long, zeros_here, zeros_else}
+use Rattle.brc_table.proofs.Claims.{code, decode, code-decode, same_code, code_if, all_true, all_false, code_if_tally, gives, making, gives_codes, makes_codes, all_codes, all_long, all_tallied, actor_tallied, makes_first, gives_first}
+
+-- ---- the bag
+
+-- the code of the holder's holding, if the holder is the thread
+abbrev codes_of : ℕ → Holder → List ℕ
+codes_of t (ByThread u k) = code_if (t == u) k
+codes_of t (ByCell y i) = []
+
+-- the code of the reference's holding, if it is the thread's and to the object
+abbrev code_in : ℕ → ℕ → Reference → List ℕ
+code_in t x r = cond (x == r.object) (codes_of t r.holder) []
+
+-- the codes of the thread's references to the object
+abbrev codes_in : ℕ → ℕ → List Reference → List ℕ
+codes_in t x [] = []
+codes_in t x (r ∷ bag) = code_in t x r ++ codes_in t x bag
+
+eq_back : (a b : ℕ) → (a == b) ≡ (b == a)
+eq_back a b = elim (eqb_tells a b) [
+  | inl this ↦ this.0 ∙ sym (eq-eqb b a (sym this.1))
+  | inr apart ↦ apart.0 ∙ sym (ne_eqb b a (λ e. apart.1 (sym e)))
+]
+
+same_back : (h k : Holding) → same_holding h k ≡ same_holding k h
+same_back h k = same_code h k ∙ (eq_back (code h) (code k) ∙ sym (same_code k h))
+
+and_back : (a b : Bool) → (a && b) ≡ (b && a)
+and_back true true = refl
+and_back true false = refl
+and_back false true = refl
+and_back false false = refl
+
+-- What a thread holds is as often among its codes as in the bag: one holder, and then the whole bag.
+holder_tallied : (t : ℕ) (k : Holding) (h : Holder)
+    → tally (code k) (codes_of t h) ≡ one_if (same_holder (ByThread t k) h)
+holder_tallied t k (ByThread u l) =
+    code_if_tally (t == u) l k
+    ∙ ap one_if (and_back (same_holding l k) (t == u) ∙ ap (λ (b : Bool). (t == u) && b) (same_back l k))
+holder_tallied t k (ByCell y i) = refl
+
+guarded : (c : ℕ) (b s : Bool) (l : List ℕ) → tally c l ≡ one_if s → tally c (cond b l []) ≡ one_if (s && b)
+guarded c true s l e = e ∙ sym (all_true s)
+guarded c false s l e = sym (all_false s)
+
+held_tallied : (t x : ℕ) (k : Holding) (bag : List Reference)
+    → held (reference_of t k x) bag ≡ tally (code k) (codes_in t x bag)
+held_tallied t x k [] = refl
+held_tallied t x k (r ∷ bag) =
+    omega (
+      arith,
+      held-cons (reference_of t k x) r bag,
+      held_tallied t x k bag,
+      tally_both (code k) (code_in t x r) (codes_in t x bag),
+      guarded (code k) (x == r.object) (same_holder (ByThread t k) r.holder) (codes_of t r.holder)
+          (holder_tallied t k r.holder),
+    )
+
+-- Nothing but the threads below the number holds the object.
+pub record IsOfThreads (x n : ℕ) (bag : List Reference) : Type 0 where
+  pub cells : (y i : ℕ) → held (cell_reference y i x) bag ≡ 0
+  pub beyond : (t : ℕ) → n ≤ t → (k : Holding) → held (reference_of t k x) bag ≡ 0
+
+-- What holds of a bag holds of the bag without its first reference.
+of_rest : (x n : ℕ) (q : Reference) (bag : List Reference) → IsOfThreads x n (q ∷ bag) → IsOfThreads x n bag
+of_rest x n q bag are = record {
+  cells = λ y i. omega (arith, are.cells y i, held-cons (cell_reference y i x) q bag);
+  beyond = λ t past k. omega (arith, are.beyond t past k, held-cons (reference_of t k x) q bag);
+}
+
+-- A reference is of one thread, once.
+holder_once : (x n : ℕ) (h : Holder) (bag : List Reference) → IsOfThreads x n (record { holder = h; object = x } ∷ bag)
+    → over_threads (λ t. length (codes_of t h)) n ≡ 1
+holder_once x n (ByCell y i) bag are =
+    absurd (omega (arith, are.cells y i, held_itself (cell_reference y i x) bag))
+holder_once x n (ByThread u k) bag are =
+    let low : u < n = elim (cases_lt u n) [
+      | inl low ↦ low
+      | inr past ↦ absurd (omega (arith, are.beyond u past k, held_itself (reference_of u k x) bag))
+    ] in
+    over_one (λ t. length (code_if (t == u) k)) u n low
+    (λ t ne. ap (λ (b : Bool). length (code_if b k)) (ne_eqb t u ne))
+    ∙ ap (λ (b : Bool). length (code_if b k)) (eq-eqb u u refl)
+
+reference_once : (x n : ℕ) (q : Reference) (bag : List Reference) → IsOfThreads x n (q ∷ bag)
+    → over_threads (λ t. length (code_in t x q)) n ≡ one_if (q.object == x)
+reference_once x n q bag are = elim (eqb_tells q.object x) [
+  | inl this ↦
+      let here : IsOfThreads x n (record { holder = q.holder; object = x } ∷ bag) =
+      subst (λ (y : ℕ). IsOfThreads x n (record { holder = q.holder; object = y } ∷ bag)) this.1 are in
+      over_each (λ t. length (code_in t x q)) (λ t. length (codes_of t q.holder)) n
+      (λ t low. ap (λ (b : Bool). length (cond b (codes_of t q.holder) [])) (eq-eqb x q.object (sym this.1)))
+      ∙ (holder_once x n q.holder bag here ∙ sym (ap one_if this.0))
+  | inr apart ↦
+      over_each (λ t. length (code_in t x q)) (λ t. 0) n
+      (λ t low. ap (λ (b : Bool). length (cond b (codes_of t q.holder) [])) (ne_eqb x q.object (λ e. apart.1 (sym e))))
+      ∙ (over_none n ∙ sym (ap one_if apart.0))
+]
+
+-- the number of the thread's references to the object
+abbrev pub share : ℕ → List Reference → ℕ → ℕ
+share x bag t = length (codes_in t x bag)
+
+-- The references to an object are those of the threads.
+pub share_all : (x n : ℕ) (bag : List Reference) → IsOfThreads x n bag
+    → references_to x bag ≡ over_threads (share x bag) n
+share_all x n [] are = sym (over_none n)
+share_all x n (q ∷ bag) are =
+    let both =
+    over_each (share x (q ∷ bag)) (λ t. length (code_in t x q) + share x bag t) n
+    (λ t low. length-append (code_in t x q) (codes_in t x bag))
+    ∙ over_sum (λ t. length (code_in t x q)) (share x bag) n in
+    omega (
+      arith,
+      references_to-cons x q bag,
+      share_all x n bag (of_rest x n q bag are),
+      reference_once x n q bag are,
+      both,
+    )
+
+-- ---- one thread
+
+-- An account without other holdings is as many references as the caller.
+zeros_tallied : (x : ℕ) (account : Account) → ((v : ℕ) → account (ByVariable v) x ≡ 0) → account InFlight x ≡ 0
+    → (k : Holding) → tally (code k) (zeros (account AsCaller x)) ≡ account k x
+zeros_tallied x account none flight AsCaller = zeros_here (account AsCaller x)
+zeros_tallied x account none flight InFlight = zeros_else 0 (account AsCaller x) ∙ sym flight
+zeros_tallied x account none flight (ByVariable v) = zeros_else (suc v) (account AsCaller x) ∙ sym (none v)
+
+-- A thread's references are those of its account as the caller, without those that its work makes, and with those that
+-- its work gives up, if its account has no other holding.
+pub share_one : (x t : ℕ) (bag : List Reference) (account : Account) (a : Actor)
+    → HoldsAt bag t account a.agenda a.aside → AgendaFits a a.status → ((v : ℕ) → account (ByVariable v) x ≡ 0)
+    → account InFlight x ≡ 0
+    → share x bag t + (sum_by (makes x) a.agenda + sum_by (makes x) a.aside)
+    ≡ account AsCaller x + (sum_by (gives_up x) a.agenda + sum_by (gives_up x) a.aside)
+share_one x t bag account a holds fits none flight =
+    let made = all_codes (makes_codes x) a.agenda in
+    let made_aside = all_codes (makes_codes x) a.aside in
+    let given = all_codes (gives_codes x) a.agenda in
+    let given_aside = all_codes (gives_codes x) a.aside in
+    let left = codes_in t x bag ++ (made ++ made_aside) in
+    let right = zeros (account AsCaller x) ++ (given ++ given_aside) in
+    let at : (k : Holding) → tally (code k) left ≡ tally (code k) right =
+    λ k. omega (
+      arith,
+      tally_both (code k) (codes_in t x bag) (made ++ made_aside),
+      tally_both (code k) made made_aside,
+      tally_both (code k) (zeros (account AsCaller x)) (given ++ given_aside),
+      tally_both (code k) given given_aside,
+      held_tallied t x k bag,
+      actor_tallied (making x) a a.status k fits,
+      actor_tallied (gives x) a a.status k fits,
+      ap one_if (makes_first x k a.agenda),
+      ap one_if (gives_first x k a.agenda),
+      all_tallied (making x) k a.aside,
+      all_tallied (gives x) k a.aside,
+      zeros_tallied x account none flight k,
+      holds.each k x,
+    ) in
+    let long = same_length left right
+    (λ c. subst (λ (z : ℕ). tally z left ≡ tally z right) (code-decode c) (at (decode c))) in
+    omega (
+      arith,
+      long,
+      length-append (codes_in t x bag) (made ++ made_aside),
+      length-append made made_aside,
+      length-append (zeros (account AsCaller x)) (given ++ given_aside),
+      length-append given given_aside,
+      zeros_long (account AsCaller x),
+      all_long (making x) a.agenda,
+      all_long (making x) a.aside,
+      all_long (gives x) a.agenda,
+      all_long (gives x) a.aside,
+    )

@@ -1,0 +1,291 @@
+-- Main gives out a worker's hand, with one of its references to the root, and the rule holds again.
+use Rattle.std.proofs.Common.{◌≡◌, ◌≢◌, ◌⊎◌, ℕ, zero, suc, ◌+◌, ◌<◌, ◌≤◌, Bool, true, false, cond, List, [], ◌∷◌, ◌++◌, length, set, inl, inr, Some, refl, sym, ap, ◌∙◌, subst, arith}
+use Rattle.std.specs.Prelude.{◌==◌, ◌||◌, ◌&&◌, nat_lt, count_by, slice_get}
+use Rattle.std.proofs.lemmas.Bool.{eq-eqb, lt-leb, false≢true}
+use Rattle.std.proofs.lemmas.Bool.Decides.{eqb_tells}
+use Rattle.std.proofs.lemmas.List.{length-set}
+use Rattle.std.proofs.lemmas.List.Sums.{sum_by-append, sum_by-cons, length-filter}
+use mathlib.Core.Option.{some, some-injective, some-ne-none}
+use lib.ListN.{get_elem?}
+use Rattle.atomic_table.specs.Table.{State, Splits}
+use Rattle.atomic_table.proofs.Lists.{at_set, set_else, at_longer, at_last}
+use Rattle.brc_model.specs.declared.duty.Holding.TheVariants.{ByVariable, AsCaller}
+use Rattle.brc_model.specs.declared.duty.Duty.{Duty}
+use Rattle.brc_model.specs.declared.layout.Layout.{Layout}
+use Rattle.brc_model.specs.Layout.{first_immortal_list, IsCounted, root_row}
+use Rattle.brc_model.specs.AbstractState.{PassOn, ByThread}
+use Rattle.brc_model.specs.References.{one_if, reference_of}
+use Rattle.brc_model.specs.Accounts.{Account, Accounts, HoldsNone}
+use Rattle.brc_model.specs.Machine.{Machine, idle_actor, with_moves}
+use Rattle.brc_model.specs.OpenWork.{is_about, about_of}
+use Rattle.brc_model.specs.Counting.{Counts, HasNoneAbout, with_account, with_one_less, with_one_more}
+use Rattle.brc_model.specs.CountingLaws.{ReferencesAreHandedOver}
+use Rattle.brc_table.specs.declared.view.View.{View}
+use Rattle.brc_table.specs.Views.{actor_of, holds, is_given, giving, worker_view}
+use Rattle.brc_table.specs.Rule.{Stands}
+use Rattle.brc_table.specs.Hands.{HasNoWork}
+use Rattle.brc_table.specs.Giving.{MayGive}
+use Rattle.brc_table.proofs.Lists.{set_view}
+use Rattle.brc_table.proofs.Picked.{count_more, count_less}
+use Rattle.brc_table.proofs.Accounts.{with_account_same, with_account_other}
+
+-- ---- work
+
+-- No duty of a thread is about the row, if none of all its work is.
+none_about : (x : ℕ) (agenda aside : List Duty) → count_by (is_about x) (agenda ++ aside) ≡ 0
+    → one_if (about_of x agenda) + count_by (is_about x) aside ≡ 0
+none_about x [] aside none = omega (arith, none)
+none_about x (d ∷ rest) aside none =
+    let counted : Duty → ℕ = λ e. cond (is_about x e) 1 0 in
+    omega (arith, none, sum_by-cons counted d (rest ++ aside), sum_by-append counted rest aside)
+
+has_none : (v : View) (x : ℕ) → HasNoWork v x → HasNoneAbout (actor_of v) x
+has_none v x free =
+    none_about x v.agenda v.aside (sym (length-filter (is_about x) (v.agenda ++ v.aside)) ∙ ap length free)
+
+-- ---- the hands afterwards
+
+-- An element of a longer list was there before, or is the new one.
+at_end : {A : Type 0} (l : List A) (a b : A) (j : ℕ) → get_elem? (l ++ a ∷ []) j ≡ some b
+    → (get_elem? l j ≡ some b) ⊎ ((j ≡ length l) × (a ≡ b))
+at_end [] a b zero is = inr (refl, some-injective a b is)
+at_end [] a b (suc j) is = absurd (some-ne-none b (sym is))
+at_end (x ∷ xs) a b zero is = inl is
+at_end (x ∷ xs) a b (suc j) is = elim (at_end xs a b j is) [
+  | inl there ↦ inl there
+  | inr new ↦ inr (ap suc new.0, new.1)
+]
+
+module _ (law : ReferencesAreHandedOver) (layout : Layout) (words : List ℕ) (views : List View) (id : ℕ) (v : View)
+    (t : ℕ) (may : MayGive v t) (old : Stands layout words views) (here : get_elem? views id ≡ some v) where
+  abbrev main_after : View
+  main_after = giving v t
+
+  abbrev worker : View
+  worker = worker_view v.layout t
+
+  abbrev hands : List View
+  hands = set views id main_after ++ worker ∷ []
+
+  -- A hand is main's, the new one, or another one as it was.
+  data Whose (other : ℕ) (z : View) : Type 0 where
+    Mains : other ≡ id → main_after ≡ z → Whose other z
+    Another : other ≢ id → get_elem? views other ≡ some z → Whose other z
+    New : other ≡ length views → worker ≡ z → Whose other z
+
+  whose : (other : ℕ) (z : View) → get_elem? hands other ≡ some z → Whose other z
+  whose other z is = elim (at_end (set views id main_after) worker z other is) [
+    | inl there ↦ elim (at_set views id other main_after z there) [
+      | inl same ↦ Mains same.0 same.1
+      | inr apart ↦ Another apart.0 apart.1
+    ]
+    | inr new ↦ New (new.0 ∙ length-set views id main_after) new.1
+  ]
+
+  -- They are all there.
+  main_there : get_elem? hands id ≡ some main_after
+  main_there =
+      at_longer (set views id main_after) (worker ∷ []) id main_after (set_view views id v main_after here)
+
+  worker_there : get_elem? hands (length views) ≡ some worker
+  worker_there = at_last (set views id main_after) worker (length views) (length-set views id main_after)
+
+  another_there : (other : ℕ) (z : View) → other ≢ id → get_elem? views other ≡ some z
+      → get_elem? hands other ≡ some z
+  another_there other z apart is =
+      at_longer (set views id main_after) (worker ∷ []) other z (set_else views id other main_after apart ∙ is)
+
+  -- ---- their threads
+
+  t_apart : t ≢ v.thread
+  t_apart e = absurd (omega (arith, e, may.is_main, may.some_worker))
+
+  -- Another hand's thread isn't main,
+  not_main : (other : ℕ) (z : View) → other ≢ id → get_elem? views other ≡ some z → z.thread ≢ v.thread
+  not_main other z apart is e = apart (old.apart other id z v is here e)
+
+  -- nor the worker, whose hand wasn't given out.
+  not_worker : (other : ℕ) (z : View) → get_elem? views other ≡ some z → z.thread ≢ t
+  not_worker other z is e =
+      let positive : 0 < z.thread = omega (arith, e, may.some_worker) in
+      let given = old.given id other v z here may.is_main is positive in
+      false≢true (sym may.not_given ∙ (ap (λ (k : ℕ). is_given k v) (sym e) ∙ given))
+
+  -- ---- the machine and the accounts afterwards
+
+  abbrev p : Accounts
+  p = old.accounts
+
+  abbrev machine : Machine
+  machine =
+      with_moves old.machine (PassOn (reference_of v.thread AsCaller root_row) (ByThread t AsCaller) ∷ [])
+
+  abbrev less : Account
+  less = with_one_less (p v.thread) AsCaller root_row
+
+  abbrev more : Account
+  more = with_one_more (p t) AsCaller root_row
+
+  abbrev after : Accounts
+  after = with_account (with_account p v.thread less) t more
+
+  after_main : after v.thread ≡ less
+  after_main =
+      with_account_other (with_account p v.thread less) t more v.thread (λ e. t_apart (sym e))
+      ∙ with_account_same p v.thread less
+
+  after_worker : after t ≡ more
+  after_worker = with_account_same (with_account p v.thread less) t more
+
+  after_others : (k : ℕ) → k ≢ v.thread → k ≢ t → after k ≡ p k
+  after_others k apart other =
+      with_account_other (with_account p v.thread less) t more k other
+      ∙ with_account_other p v.thread less k apart
+
+  -- The worker has done nothing, and holds nothing.
+  worker_idle : (slice_get old.machine.actors t ≡ Some (idle_actor 0)) × HoldsNone (p t)
+  worker_idle =
+      let known : t ≤ old.machine.layout.workers =
+      subst (λ (l : Layout). t ≤ l.workers) (old.told id v here) may.known_worker in
+      old.idle t (omega (arith, known)) (λ other z is e. not_worker other z is e)
+
+  root_counted : IsCounted old.machine.layout root_row
+  root_counted =
+      let l = old.machine.layout in
+      ap (λ (b : Bool). b && nat_lt root_row (first_immortal_list l + l.immortal_lists))
+      (lt-leb (first_immortal_list l) root_row (omega arith))
+
+  counts : Counts after (1 + old.machine.layout.workers) machine
+  counts =
+      law p (1 + old.machine.layout.workers) old.machine v.thread t (actor_of v) (idle_actor 0) root_row old.counts
+      (old.acts id v here) worker_idle.0 (λ e. t_apart (sym e)) (has_none v root_row may.no_work) refl refl root_counted
+      (omega (arith, old.holding id v root_row here root_counted, may.holds_root))
+      (omega (arith, worker_idle.1 AsCaller root_row))
+
+  -- ---- each part of the rule
+
+  acts_after : (other : ℕ) (z : View) → Whose other z → slice_get machine.actors z.thread ≡ Some (actor_of z)
+  acts_after other z (Mains same is) =
+      subst (λ (w : View). slice_get machine.actors w.thread ≡ Some (actor_of w)) is (old.acts id v here)
+  acts_after other z (Another apart is) = old.acts other z is
+  acts_after other z (New same is) =
+      subst (λ (w : View). slice_get machine.actors w.thread ≡ Some (actor_of w)) is worker_idle.0
+
+  told_after : (other : ℕ) (z : View) → Whose other z → z.layout ≡ machine.layout
+  told_after other z (Mains same is) =
+      subst (λ (w : View). w.layout ≡ machine.layout) is (old.told id v here)
+  told_after other z (Another apart is) = old.told other z is
+  told_after other z (New same is) = subst (λ (w : View). w.layout ≡ machine.layout) is (old.told id v here)
+
+  holding_after : (other : ℕ) (z : View) (x : ℕ) → Whose other z → IsCounted machine.layout x
+      → after z.thread AsCaller x ≡ holds z x
+  holding_after other z x (Mains same is) counted =
+      subst (λ (w : View). after w.thread AsCaller x ≡ holds w x) is
+      (ap (λ (a : Account). a AsCaller x) after_main
+      ∙ omega (arith, old.holding id v x here counted, count_less root_row x v.references))
+  holding_after other z x (Another apart is) counted =
+      ap (λ (a : Account). a AsCaller x)
+      (after_others z.thread (not_main other z apart is) (not_worker other z is))
+      ∙ old.holding other z x is counted
+  holding_after other z x (New same is) counted =
+      subst (λ (w : View). after w.thread AsCaller x ≡ holds w x) is
+      (ap (λ (a : Account). a AsCaller x) after_worker
+      ∙ omega (arith, worker_idle.1 AsCaller x, count_more root_row x []))
+
+  none_after : (k i x : ℕ) → after k (ByVariable i) x ≡ 0
+  none_after k i x = elim (eqb_tells k t) [
+    | inl this ↦
+        ap (λ (j : ℕ). after j (ByVariable i) x) this.1
+        ∙ (ap (λ (a : Account). a (ByVariable i) x) after_worker ∙ omega (arith, old.no_variables t i x))
+    | inr other ↦ elim (eqb_tells k v.thread) [
+      | inl main ↦
+          ap (λ (j : ℕ). after j (ByVariable i) x) main.1
+          ∙ (ap (λ (a : Account). a (ByVariable i) x) after_main ∙ omega (arith, old.no_variables v.thread i x))
+      | inr apart ↦
+          ap (λ (a : Account). a (ByVariable i) x) (after_others k apart.1 other.1) ∙ old.no_variables k i x
+    ]
+  ]
+
+  -- The threads of main's hand and of the new one.
+  main_thread : (z : View) → main_after ≡ z → z.thread ≡ v.thread
+  main_thread z is = sym (ap (λ (w : View). w.thread) is)
+
+  worker_thread : (z : View) → worker ≡ z → z.thread ≡ t
+  worker_thread z is = sym (ap (λ (w : View). w.thread) is)
+
+  apart_after : (one other : ℕ) (w z : View) → Whose one w → Whose other z → w.thread ≡ z.thread → one ≡ other
+  apart_after one other w z (Mains same is) (Mains same' is') e = same ∙ sym same'
+  apart_after one other w z (Mains same is) (Another apart is') e =
+      absurd (not_main other z apart is' (sym e ∙ main_thread w is))
+  apart_after one other w z (Mains same is) (New same' is') e =
+      absurd (t_apart (sym (worker_thread z is') ∙ (sym e ∙ main_thread w is)))
+  apart_after one other w z (Another apart is) (Mains same' is') e =
+      absurd (not_main one w apart is (e ∙ main_thread z is'))
+  apart_after one other w z (Another apart is) (Another apart' is') e = old.apart one other w z is is' e
+  apart_after one other w z (Another apart is) (New same' is') e =
+      absurd (not_worker one w is (e ∙ worker_thread z is'))
+  apart_after one other w z (New same is) (Mains same' is') e =
+      absurd (t_apart (sym (worker_thread w is) ∙ (e ∙ main_thread z is')))
+  apart_after one other w z (New same is) (Another apart' is') e =
+      absurd (not_worker other z is' (sym e ∙ worker_thread w is))
+  apart_after one other w z (New same is) (New same' is') e = same ∙ sym same'
+
+  idle_after : (k : ℕ) → k < 1 + machine.layout.workers
+      → ((other : ℕ) (z : View) → get_elem? hands other ≡ some z → z.thread ≡ k → ⊥)
+      → (slice_get machine.actors k ≡ Some (idle_actor 0)) × HoldsNone (after k)
+  idle_after k low none =
+      let no_main : k ≢ v.thread = λ e. none id main_after main_there (sym e) in
+      let no_worker : k ≢ t = λ e. none (length views) worker worker_there (sym e) in
+      let idle = old.idle k low (λ other z is e.
+      none other z (another_there other z (λ same. no_main (sym e ∙ ap (λ (w : View). w.thread)
+      (some-injective z v (sym is ∙ (ap (get_elem? views) same ∙ here))))) is) e) in
+      (idle.0, subst HoldsNone (sym (after_others k no_main no_worker)) idle.1)
+
+  -- Main has given out the worker's hand, and those that it gave out before.
+  worker_given : is_given t main_after ≡ true
+  worker_given = ap (λ (b : Bool). b || is_given t v) (eq-eqb t t refl)
+
+  still_given : (k : ℕ) → is_given k v ≡ true → is_given k main_after ≡ true
+  still_given k given = elim (t == k) as (λ b. (b || is_given k v) ≡ true) [
+    | true ↦ refl
+    | false ↦ given
+  ]
+
+  given_after : (one other : ℕ) (main z : View) → Whose one main → main.thread ≡ 0 → Whose other z → 0 < z.thread
+      → is_given z.thread main ≡ true
+  given_after one other main z (Mains same is) first (Mains same' is') later =
+      absurd (omega (arith, later, main_thread z is', may.is_main))
+  given_after one other main z (Mains same is) first (Another apart is') later =
+      subst (λ (w : View). is_given z.thread w ≡ true) is
+      (still_given z.thread (old.given id other v z here may.is_main is' later))
+  given_after one other main z (Mains same is) first (New same' is') later =
+      subst (λ (w : View). is_given z.thread w ≡ true) is
+      (subst (λ (k : ℕ). is_given k main_after ≡ true) (sym (worker_thread z is')) worker_given)
+  given_after one other main z (Another apart is) first whose_z later =
+      absurd (not_main one main apart is (first ∙ sym may.is_main))
+  given_after one other main z (New same is) first whose_z later =
+      absurd (omega (arith, first, worker_thread main is, may.some_worker))
+
+  pub given_out : Stands layout words hands
+  given_out = record {
+    accounts = after;
+    machine = machine;
+    counts = counts;
+    layout_is = old.layout_is;
+    plain = old.plain;
+    length_is = old.length_is;
+    reads = old.reads;
+    acts = λ other z is. acts_after other z (whose other z is);
+    told = λ other z is. told_after other z (whose other z is);
+    holding = λ other z x is counted. holding_after other z x (whose other z is) counted;
+    no_variables = none_after;
+    apart = λ one other w z is that same. apart_after one other w z (whose one w is) (whose other z that) same;
+    idle = idle_after;
+    given = λ one other main z is first that later.
+        given_after one other main z (whose one main is) first (whose other z that) later;
+  }
+
+-- What a table asks of main's seat that is cut in two.
+pub splits : {S : Type 0} → ReferencesAreHandedOver → (layout : Layout) (id : ℕ) (v : View) (t : ℕ) → MayGive v t
+    → Splits (λ (s : State S View). Stands layout s.words s.views) id v (giving v t) (worker_view v.layout t)
+splits law layout id v t may = λ s stands here. given_out law layout s.words s.views id v t may stands here

@@ -1,0 +1,171 @@
+-- A hand does its first duty, which is one step on an object's word, and the rule holds again.
+use Rattle.std.proofs.Common.{◌≡◌, ◌≢◌, ℕ, ◌+◌, ◌≤◌, Bool, true, cond, List, ◌∷◌, length, set, inl, inr, refl, sym, ap, ◌∙◌, subst, arith}
+use Rattle.std.specs.Prelude.{◌==◌, slice_index}
+use Rattle.std.proofs.lemmas.List.{length-set, get_or-set_same, get_or-set_other}
+use Rattle.std.proofs.lemmas.Bool.{eqb-true, cases_Bool}
+use mathlib.Core.Option.{some}
+use lib.ListN.{get_elem?}
+use Rattle.brc_model.specs.declared.duty.Duty.{Duty}
+use Rattle.brc_model.specs.declared.actor.Status.TheVariants.{Gone}
+use Rattle.brc_model.specs.declared.address.Address.{Address}
+use Rattle.brc_model.specs.declared.address.Address.TheVariants.{Local, Shared, Gate, KindOf, Mark, Cell, Slot, Resource, ThreadWord}
+use Rattle.brc_model.specs.declared.layout.Layout.{Layout}
+use Rattle.brc_model.specs.Layout.{row_count}
+use Rattle.brc_model.specs.Limits.{worker_limit}
+use Rattle.brc_model.specs.Duties.{address_of, new_word}
+use Rattle.brc_model.specs.Machine.{Machine, same_address, written, actor_by, done_by}
+use Rattle.brc_model.specs.Within.{IsThere}
+use Rattle.brc_model.specs.CountingLaws.{ComesNext, DutiesAreKept, DutyWithin, DutiesAreWithin}
+use Rattle.brc_table.specs.declared.view.View.{View}
+use Rattle.brc_table.specs.Places.{place, HasWord, IsObjectWord, word_count}
+use Rattle.brc_table.specs.Views.{actor_of, did}
+use Rattle.brc_table.specs.Rule.{reading, Stands}
+use Rattle.brc_table.proofs.Lists.{and_first, and_second}
+use Rattle.brc_table.proofs.Places.{place_apart, place_within}
+use Rattle.brc_table.proofs.Changing.{Changes, changed}
+
+-- ---- words and addresses
+
+object_has : (layout : Layout) (threads : ℕ) (a : Address) → IsObjectWord a → IsThere (row_count layout) threads a
+    → HasWord layout a
+object_has layout threads (Local x) object there = there
+object_has layout threads (Shared x) object there = there
+object_has layout threads (Gate x) object there = there
+object_has layout threads (KindOf x) object there = there
+object_has layout threads (Mark x) object there = there
+object_has layout threads (Cell x i) object there = there
+object_has layout threads (Slot x) object there = absurd object
+object_has layout threads (Resource x) object there = absurd object
+object_has layout threads (ThreadWord t) object there = absurd object
+
+object_reads : (a : Address) (word : ℕ) → IsObjectWord a → reading a word ≡ word
+object_reads (Local x) word object = refl
+object_reads (Shared x) word object = refl
+object_reads (Gate x) word object = refl
+object_reads (KindOf x) word object = refl
+object_reads (Mark x) word object = refl
+object_reads (Cell x i) word object = refl
+object_reads (Slot x) word object = absurd object
+object_reads (Resource x) word object = absurd object
+object_reads (ThreadWord t) word object = absurd object
+
+same_is : (a b : Address) → same_address a b ≡ true → a ≡ b
+same_is (Local x) (Local y) e = ap Local (eqb-true x y e)
+same_is (Shared x) (Shared y) e = ap Shared (eqb-true x y e)
+same_is (Gate x) (Gate y) e = ap Gate (eqb-true x y e)
+same_is (KindOf x) (KindOf y) e = ap KindOf (eqb-true x y e)
+same_is (Mark x) (Mark y) e = ap Mark (eqb-true x y e)
+same_is (Cell x i) (Cell y j) e =
+    let one = eqb-true x y (and_first (x == y) (i == j) e) in
+    let other = eqb-true i j (and_second (x == y) (i == j) e) in
+    ap (λ (z : ℕ). Cell z i) one ∙ ap (Cell y) other
+same_is (Slot x) (Slot y) e = ap Slot (eqb-true x y e)
+same_is (Resource x) (Resource y) e = ap Resource (eqb-true x y e)
+same_is (ThreadWord t) (ThreadWord u) e = ap ThreadWord (eqb-true t u e)
+same_is _ _ e = absurd cc
+
+-- Writing an object's word in the table is writing it in the machine.
+written_reads : (layout : Layout) (words : List ℕ) (memory : Address → ℕ) (a : Address) (word : ℕ)
+    → layout.workers ≤ worker_limit → length words ≡ word_count layout → IsObjectWord a → HasWord layout a
+    → ((b : Address) → HasWord layout b → memory b ≡ reading b (slice_index words (place b)))
+    → (b : Address) → HasWord layout b
+    → written memory a word b ≡ reading b (slice_index (set words (place a) word) (place b))
+written_reads layout words memory a word few long object has reads b there =
+    elim (cases_Bool (same_address a b)) [
+      | inl one ↦
+          let here : slice_index (set words (place a) word) (place a) ≡ word =
+          get_or-set_same words (place a) word 0 (omega (arith, long, place_within layout a few has)) in
+          let found : written memory a word b ≡ word = ap (λ (e : Bool). cond e word (memory b)) one in
+          let there' : reading b (slice_index (set words (place a) word) (place b)) ≡ word =
+          subst (λ (c : Address). reading c (slice_index (set words (place a) word) (place c)) ≡ word) (same_is a b one)
+          (object_reads a (slice_index (set words (place a) word) (place a)) object ∙ here) in
+          found ∙ sym there'
+      | inr other ↦
+          let apart : place b ≢ place a = λ e. place_apart layout a b few has there other (sym e) in
+          let same : slice_index (set words (place a) word) (place b) ≡ slice_index words (place b) =
+          get_or-set_other words (place a) (place b) word 0 apart in
+          ap (λ (e : Bool). cond e word (memory b)) other ∙ (reads b there ∙ ap (reading b) (sym same))
+    ]
+
+-- ---- the step
+
+-- What is known of a hand that does its first duty.
+pub record Does (layout : Layout) (words : List ℕ) (views : List View) (id : ℕ) (v : View) (d : Duty) (rest : List Duty)
+    : Type 0 where
+  pub stands : Stands layout words views
+  pub here : get_elem? views id ≡ some v
+  pub agenda : v.agenda ≡ d ∷ rest
+  pub alive : v.status ≢ Gone
+  pub object : IsObjectWord (address_of v.layout v.thread v.head d)
+
+-- the place of the duty's word
+abbrev pub place_of : View → Duty → ℕ
+place_of v d = place (address_of v.layout v.thread v.head d)
+
+module _ (kept : DutiesAreKept) (within : DutiesAreWithin) (layout : Layout) (words : List ℕ) (views : List View) (id : ℕ)
+    (v : View) (d : Duty) (rest : List Duty) (does : Does layout words views id v d rest) where
+  abbrev m : Machine
+  m = does.stands.machine
+
+  abbrev found : ℕ
+  found = slice_index words (place_of v d)
+
+  told : v.layout ≡ m.layout
+  told = does.stands.told id v does.here
+
+  comes : ComesNext m v.thread (actor_of v) d rest
+  comes = record { found = does.stands.acts id v does.here; agenda = does.agenda; alive = does.alive }
+
+  pub relies : DutyWithin (1 + m.layout.workers) m v.thread (actor_of v) d
+  relies = within does.stands.accounts (1 + m.layout.workers) m v.thread (actor_of v) d rest does.stands.counts comes
+
+  has : HasWord m.layout (address_of v.layout v.thread v.head d)
+  has =
+      object_has m.layout (1 + m.layout.workers) (address_of v.layout v.thread v.head d) does.object
+      (subst (λ (l : Layout). IsThere (row_count m.layout) (1 + m.layout.workers) (address_of l v.thread v.head d))
+      (sym told) relies.there)
+
+  -- The machine's step finds the table's word.
+  pub finds : m.memory (address_of v.layout v.thread v.head d) ≡ found
+  finds =
+      does.stands.reads (address_of v.layout v.thread v.head d) has
+      ∙ object_reads (address_of v.layout v.thread v.head d) found does.object
+
+  changes : Changes layout words views v (did v (d ∷ rest) found) does.stands
+      (set words (place_of v d) (new_word v.thread v.head d found))
+  changes =
+      let old = does.stands in
+      let t = v.thread in let a = actor_of v in
+      let seen : m.memory (address_of m.layout t a.head d) ≡ found =
+      subst (λ (l : Layout). m.memory (address_of l t v.head d) ≡ found) told finds in
+      record {
+        accounts = old.accounts;
+        machine = done_by m t a d rest;
+        counts = (kept old.accounts (1 + m.layout.workers) m t a d rest old.counts comes).1;
+        layout_same = refl;
+        length_is = length-set words (place_of v d) (new_word t v.head d found);
+        reads = λ b there.
+            let after =
+            written_reads m.layout words m.memory (address_of v.layout t v.head d) (new_word t v.head d found)
+            old.plain.few_workers old.length_is does.object has old.reads b there in
+            subst (λ (k : ℕ). written m.memory (address_of m.layout t a.head d) (new_word t a.head d k) b
+            ≡ reading b (slice_index (set words (place_of v d) (new_word t v.head d found)) (place b))) (sym seen)
+            (subst (λ (l : Layout). written m.memory (address_of l t v.head d) (new_word t v.head d found) b
+            ≡ reading b (slice_index (set words (place_of v d) (new_word t v.head d found)) (place b))) told after);
+        actors =
+            ap (λ (k : ℕ). set m.actors t (actor_by m.layout t a d rest k)) seen
+            ∙ ap (λ (l : Layout). set m.actors t (actor_by l t a d rest found)) (sym told);
+        thread_same = refl;
+        told_same = refl;
+        given_more = λ u is. is;
+        holding = λ x counted. old.holding id v x does.here counted;
+        others = λ u apart. refl;
+        no_variables = old.no_variables;
+      }
+
+  -- The rule holds after the step.
+  pub stands_after : Stands layout (set words (place_of v d) (new_word v.thread v.head d found))
+      (set views id (did v (d ∷ rest) found))
+  stands_after =
+      changed layout words views id v (did v (d ∷ rest) found) does.stands does.here
+      (set words (place_of v d) (new_word v.thread v.head d found)) changes

@@ -1,0 +1,56 @@
+use Rattle.std.proofs.Common.{◌≡◌, ℕ, ◌<◌, [], true, set, ap, sym, ◌∙◌, subst, arith}
+use Rattle.brc_model.specs.declared.layout.Layout.{Layout}
+use Rattle.brc_model.specs.Limits.{thread_limit}
+use Rattle.brc_model.specs.Machine.{is_running}
+use Rattle.brc_table.specs.declared.view.View.{View}
+use Rattle.brc_table.specs.Views.{RowsAreThere, IsGivenBy, giving, worker_view}
+use Rattle.brc_table.specs.Hands.{TableState, HandState}
+use Rattle.brc_table.specs.Giving.{MayGive}
+use Rattle.brc_table.proofs.Splitting.{splits}
+use Rattle.brc_table.proofs.GivenHands.{giving_there, given_by, parts}
+use Rattle.brc_table.proofs.NewHands.{worker_fits}
+use Rattle.brc_table.proofs.words.Words.give_out.Goals as goal
+
+pub split_seat-seat-requires : goal.split_seat-seat-requires
+split_seat-seat-requires g c =
+    let seat = c.main.inside.seat in
+    let table_is = ap (λ (w : TableState). w.table) c.self.view_is in
+    let view_is = ap (λ (h : HandState). h.view) c.main.view_is in (
+      ap (λ (h : HandState). h.table) c.main.view_is ∙ (c.requires.table.0 ∙ sym table_is),
+      omega (arith, c.self.invariant.1),
+      splits c.references_are_handed_over.ensures c.self.inside.table.shared.key seat.id seat.me.0 g.W.Worker.number
+          (subst (MayGive seat.me.0) c.requires.number
+          (subst (λ (v : View). MayGive v c.args.thread) (sym view_is) c.requires.may_give)),
+    )
+
+-- Main's hand is still as its plain fields say.
+pub invariant_of-main : goal.invariant_of-main
+invariant_of-main g c =
+    let before = c.main.inside.seat.me in
+    let t = c.args.thread in
+    let after =
+    parts c.split_seat-seat.new.seat.me (giving before.0 g.W.Worker.number) before.1 c.split_seat-seat.ensures.2 in
+    let view : c.split_seat-seat.new.seat.me.0 ≡ giving before.0 t =
+    after.0 ∙ ap (giving before.0) (sym c.requires.number) in
+    let workers = ap (λ (l : Layout). l.workers) c.requires.table.1 in
+    let known : t < thread_limit =
+    omega (arith, c.requires.may_give.known_worker, workers, c.layout_is_plain.ensures.few_workers) in
+    let fits = c.main.invariant in (
+      after.1 ∙ fits.0,
+      fits.1 ∙ sym (ap (λ (v : View). v.thread) view),
+      fits.2 ∙ sym (ap (λ (v : View). is_running v.status) view),
+      fits.3 ∙ sym (ap (λ (v : View). v.head) view),
+      fits.4 ∙ sym (ap (λ (v : View). v.used) view),
+      subst RowsAreThere (sym view) (giving_there before.0 t fits.5),
+      subst (IsGivenBy (set c.main.inside.given t true)) (sym view)
+          (given_by c.main.inside.given before.0 t known fits.6),
+    )
+
+-- So is the worker's.
+pub invariant_of-result : goal.invariant_of-result
+invariant_of-result g c =
+    let main = c.main.inside.seat.me.0 in
+    let view_is = ap (λ (h : HandState). h.view) c.main.view_is in
+    let may = subst (λ (v : View). MayGive v c.args.thread) (sym view_is) c.requires.may_give in
+    worker_fits main.layout c.args.thread c.split_seat-seat.result.me may.some_worker may.known_worker
+    (c.split_seat-seat.ensures.4 ∙ ap (λ (k : ℕ). (worker_view main.layout k, [])) (sym c.requires.number))

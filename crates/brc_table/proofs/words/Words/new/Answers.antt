@@ -1,0 +1,29 @@
+use Rattle.std.proofs.Common.{ℕ, ◌<◌, ◌≤◌, refl, sym, subst}
+use Rattle.brc_model.specs.Limits.{worker_limit, row_limit}
+use Rattle.brc_model.specs.Counting.{IsPlainLayout}
+use Rattle.brc_table.specs.Opening.{AreFirst, plain_layout}
+use Rattle.brc_table.proofs.Opening.{opening}
+use Rattle.brc_table.proofs.NewHands.{main_fits}
+use Rattle.brc_table.proofs.words.Words.new.Goals as goal
+
+is_plain : (workers rows : ℕ) → (0 < workers) × (workers ≤ worker_limit) → (0 < rows) × (rows ≤ row_limit)
+    → IsPlainLayout (plain_layout workers rows)
+is_plain workers rows some_workers some_rows = record {
+  some_workers = some_workers.0;
+  few_workers = some_workers.1;
+  some_rows = some_rows.0;
+  few_rows = some_rows.1;
+  cells = refl;
+  immortals = refl;
+}
+
+pub vacant-requires : goal.vacant-requires
+vacant-requires g c =
+    let layout = plain_layout c.args.workers c.args.rows in
+    opening c.hands_begin.ensures layout (is_plain c.args.workers c.args.rows c.requires.workers c.requires.rows)
+    c.as_slice.result.now (subst (AreFirst layout) (sym c.as_slice.ensures.value) c.in_ok-words.ensures)
+
+pub invariant_of-main : goal.invariant_of-main
+invariant_of-main g c =
+    main_fits (plain_layout c.args.workers c.args.rows) c.in_ok-table.seat.me
+    (is_plain c.args.workers c.args.rows c.requires.workers c.requires.rows) c.in_ok-table.ensures.4

@@ -1,0 +1,95 @@
+-- What the words and the hands of a table say together: an object's counts add up to its references. (PEP 703, Biased
+-- Reference Counting: an object has as many references as its local and its shared count say together; it is freed only
+-- in the states default and merged.)
+use Rattle.std.specs.Prelude.{◌≡◌, ℕ, ◌+◌, ◌<◌, ◌≤◌, List, slice_index, sum_by}
+use Rattle.brc_word.specs.Words.{local_part, biased_part, phase_part, bias}
+use Rattle.brc_model.specs.declared.duty.Reason.TheVariants.{Own}
+use Rattle.brc_model.specs.declared.duty.Duty.{Duty}
+use Rattle.brc_model.specs.declared.duty.Duty.TheVariants.{RetainLoad, RetainStore, RetainAdd, ReleaseLoad, ReleaseStore, SharedLoad, SharedExchange, BirthKind, BirthSlot, BirthLocal}
+use Rattle.brc_model.specs.declared.address.Address.TheVariants.{Local, Shared, Mark}
+use Rattle.brc_model.specs.Agreement.{at_row, awaits, carries, IsPhase}
+use Rattle.brc_table.specs.declared.view.View.{View}
+use Rattle.brc_table.specs.Places.{place}
+use Rattle.brc_table.specs.Views.{holds, open_work}
+
+-- ---- the words of an object
+
+abbrev pub local_at : List ℕ → ℕ → ℕ
+local_at words x = slice_index words (place (Local x))
+
+abbrev pub shared_at : List ℕ → ℕ → ℕ
+shared_at words x = slice_index words (place (Shared x))
+
+abbrev pub mark_at : List ℕ → ℕ → ℕ
+mark_at words x = slice_index words (place (Mark x))
+
+-- 0 default, 2 queued, 3 merged
+abbrev pub phase_at : List ℕ → ℕ → ℕ
+phase_at words x = phase_part (shared_at words x)
+
+-- ---- the work of the hands
+
+-- 1 if the duty gives up a reference to the object: the hand no longer lists it, and the counts still have it
+abbrev pub gives_up : ℕ → Duty → ℕ
+gives_up x (ReleaseLoad y h) = at_row x y
+gives_up x (ReleaseStore y w) = at_row x y
+gives_up x (SharedLoad y Own) = at_row x y
+gives_up x (SharedExchange y Own w) = at_row x y
+gives_up x _ = 0
+
+-- 1 if the duty makes a reference to the object: the hand lists it already, and the counts don't have it yet
+abbrev pub makes : ℕ → Duty → ℕ
+makes x (RetainLoad y h) = at_row x y
+makes x (RetainStore y h w) = at_row x y
+makes x (RetainAdd y h) = at_row x y
+makes x (BirthKind y h w) = at_row x y
+makes x (BirthSlot y h) = at_row x y
+makes x (BirthLocal y h) = at_row x y
+makes x _ = 0
+
+-- the sum of a weight over the open work of all hands
+abbrev pub over_work : (Duty → ℕ) → List View → ℕ
+over_work weight views = sum_by (λ v. sum_by weight (open_work v)) views
+
+-- ---- the numbers of an object
+
+-- the local and the shared count together, with what merges have swapped out of the local word and not yet added to the
+-- shared word, and with the bias of the shared word
+abbrev pub counted : List ℕ → List View → ℕ → ℕ
+counted words views x = local_part (local_at words x) + biased_part (shared_at words x) + over_work (carries x) views
+
+-- the references that the hands list
+abbrev pub listed : List View → ℕ → ℕ
+listed views x = sum_by (λ v. holds v x) views
+
+-- the decrements that are pending: one if the mark is set, and those of the hands' work
+abbrev pub pending : List ℕ → List View → ℕ → ℕ
+pending words views x = mark_at words x + over_work (awaits x) views
+
+-- The object has a reference or a pending decrement. Then it lives: it is born, and it isn't dying or closed. A hand
+-- lists a reference that it makes, and at a birth there is no other, so those that are being made don't count.
+abbrev pub IsInUse : List ℕ → List View → ℕ → Type 0
+IsInUse words views x =
+    over_work (makes x) views < listed views x + over_work (gives_up x) views + pending words views x
+
+-- ---- agreement
+
+-- The words and all hands agree about the object's references. The total and the first clauses hold of every row, also
+-- before a birth and after a death, when the object has no reference. Whether an object lives can't be read off its words,
+-- so the other clauses ask that it is in use.
+pub record AgreesInTable (words : List ℕ) (views : List View) (x : ℕ) : Type 0 where
+  -- the counts add up to the references and the pending decrements; the references are those that hands list, without
+  -- those that hands are making, and with those that hands are giving up
+  pub total : counted words views x + over_work (makes x) views
+      ≡ listed views x + over_work (gives_up x) views + pending words views x + bias
+  -- no object has two pending decrements
+  pub one_pending : pending words views x ≤ 1
+  -- default: no decrement is pending, and the shared count isn't negative
+  pub default_none : phase_at words x ≡ 0 → pending words views x ≡ 0
+  pub default_counts : phase_at words x ≡ 0 → bias ≤ biased_part (shared_at words x)
+  -- queued: one decrement is pending
+  pub queued_one : IsInUse words views x → phase_at words x ≡ 2 → pending words views x ≡ 1
+  -- merged: nobody owns the object, and the shared count is above 0
+  pub merged_free : IsInUse words views x → phase_at words x ≡ 3 → local_at words x ≡ 0
+  pub merged_counts : IsInUse words views x → phase_at words x ≡ 3 → bias < biased_part (shared_at words x)
+  pub phase : IsInUse words views x → IsPhase (phase_at words x)

@@ -1,0 +1,51 @@
+-- Which duties each kind of step does.
+use Rattle.std.specs.Prelude.{◌≡◌, ◌≢◌, ℕ, ◌+◌, ◌-◌, List, [], ◌∷◌}
+use Rattle.brc_word.specs.Words.{released_word, merged_word}
+use Rattle.brc_model.specs.declared.duty.Duty.{Duty}
+use Rattle.brc_model.specs.declared.duty.Duty.TheVariants.{RetainStore, RetainAdd, ReleaseStore, DecideAtZero, SharedLoad, SharedExchange, MergeSwap, MergeLoad, MergeExchange, Die, BirthLocal}
+use Rattle.brc_model.specs.declared.actor.Status.TheVariants.{Gone}
+use Rattle.brc_table.specs.declared.view.View.{View}
+use Rattle.brc_table.specs.Hands.{MayWait}
+
+-- The hand's thread isn't gone, and the hand may turn to other work.
+abbrev pub CanAct : View → Type 0
+CanAct v = (v.status ≢ Gone) × MayWait v.agenda
+
+-- The one duty is to load the row's shared word.
+abbrev pub LoadsShared : ℕ → List Duty → Type 0
+LoadsShared x (DecideAtZero y ∷ []) = y ≡ x
+LoadsShared x (SharedLoad y r ∷ []) = y ≡ x
+LoadsShared x (MergeLoad y c r ∷ []) = y ≡ x
+LoadsShared x _ = ⊥
+
+-- The one duty is to swap the row's local word for nobody's.
+abbrev pub SwapsLocal : ℕ → List Duty → Type 0
+SwapsLocal x (MergeSwap y r ∷ []) = y ≡ x
+SwapsLocal x _ = ⊥
+
+-- The one duty is to store this word as the row's local word.
+abbrev pub StoresLocal : ℕ → ℕ → List Duty → Type 0
+StoresLocal x word (RetainStore y h w ∷ []) = (y ≡ x) × (word ≡ w + 1)
+StoresLocal x word (ReleaseStore y w ∷ []) = (y ≡ x) × (word ≡ w - 1)
+StoresLocal x word _ = ⊥
+
+-- The one duty is to count a reference more in the row's shared word.
+abbrev pub AddsShared : ℕ → List Duty → Type 0
+AddsShared x (RetainAdd y h ∷ []) = y ≡ x
+AddsShared x _ = ⊥
+
+-- The one duty is to exchange the row's shared word, if it is still the old one, for the new one.
+abbrev pub ExchangesShared : ℕ → ℕ → ℕ → List Duty → Type 0
+ExchangesShared x old new (SharedExchange y r w ∷ []) = (y ≡ x) × (old ≡ w) × (new ≡ released_word w)
+ExchangesShared x old new (MergeExchange y c w r ∷ []) = (y ≡ x) × (old ≡ w) × (new ≡ merged_word w c)
+ExchangesShared x old new _ = ⊥
+
+-- The one duty is to chain the dying row.
+abbrev pub ChainsRow : ℕ → List Duty → Type 0
+ChainsRow x (Die y ∷ []) = y ≡ x
+ChainsRow x _ = ⊥
+
+-- The one duty is to store the new row's first local word.
+abbrev pub OwnsFirst : ℕ → List Duty → Type 0
+OwnsFirst x (BirthLocal y h ∷ []) = y ≡ x
+OwnsFirst x _ = ⊥

@@ -1,0 +1,49 @@
+-- What contracts see of a table and of a hand.
+use Rattle.std.specs.Prelude.{◌≡◌, ℕ, ◌≤◌, ◌^◌, ◌⊎◌, true, Option, List, [], ◌∷◌}
+use Rattle.atomic_table.specs.Seated.{TableId}
+use Rattle.brc_model.specs.declared.actor.Status.TheVariants.{Running}
+use Rattle.brc_model.specs.declared.duty.Duty.{Duty}
+use Rattle.brc_model.specs.declared.layout.Layout.{Layout}
+use Rattle.brc_model.specs.Layout.{is_immortal_row}
+use Rattle.brc_model.specs.OpenWork.{may_wait}
+use Rattle.brc_table.specs.declared.view.View.{View}
+use Rattle.brc_table.specs.declared.hand.Merge.{Merge}
+use Rattle.brc_table.specs.Views.{holds, work_about}
+
+-- A table, as contracts see it: which one it is, and its size.
+pub record TableState : Type 0 where
+  pub table : TableId
+  pub layout : Layout
+
+-- A hand, as contracts see it: whose table it is of, and what it knows.
+pub record HandState : Type 0 where
+  pub table : TableId
+  pub view : View
+  -- the merge that the hand remembers, if it has begun one
+  pub merge : Option Merge
+
+-- The hand is of the table.
+abbrev pub IsOf : TableState → HandState → Type 0
+IsOf words hand = (hand.table ≡ words.table) × (hand.view.layout ≡ words.layout)
+
+-- the most references that a hand may hold in all
+abbrev pub most_references : ℕ
+most_references = 2 ^ 32
+
+-- The hand holds a reference to the object. Every hand counts as holding immortal objects.
+abbrev pub HoldsOne : View → ℕ → Type 0
+HoldsOne v x = (is_immortal_row v.layout x ≡ true) ⊎ (1 ≤ holds v x)
+
+-- The hand has nothing to do about the row.
+abbrev pub HasNoWork : View → ℕ → Type 0
+HasNoWork v x = work_about x v ≡ []
+
+-- The hand's next duty may wait, so that the hand may turn to other work.
+abbrev pub MayWait : List Duty → Type 0
+MayWait [] = Unit {0}
+MayWait (d ∷ []) = may_wait d ≡ true
+MayWait _ = ⊥
+
+-- The hand runs, and may turn to other work.
+abbrev pub IsRunning : View → Type 0
+IsRunning v = (v.status ≡ Running) × MayWait v.agenda

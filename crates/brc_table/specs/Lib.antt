@@ -1,0 +1,10 @@
+pub mod Places
+pub mod Views
+pub mod Rule
+pub mod Plays
+pub mod Hands
+pub mod Begins
+pub mod Calls
+pub mod Opening
+pub mod Agreeing
+pub mod Giving

@@ -1,0 +1,49 @@
+-- The table's rule: between any two steps, words and views are those of a counting machine that has the invariant.
+use Rattle.std.specs.Prelude.{◌≡◌, ℕ, ◌+◌, ◌<◌, true, ◌==◌, if◌then◌else◌, List, length, Some, slice_get, slice_index}
+use mathlib.Core.Option.{some}
+use lib.ListN.{get_elem?}
+use Rattle.brc_model.specs.declared.duty.Holding.TheVariants.{ByVariable, AsCaller}
+use Rattle.brc_model.specs.declared.address.Address.{Address}
+use Rattle.brc_model.specs.declared.address.Address.TheVariants.{ThreadWord}
+use Rattle.brc_model.specs.declared.layout.Layout.{Layout}
+use Rattle.brc_model.specs.Layout.{IsCounted}
+use Rattle.brc_model.specs.Machine.{Machine, idle_actor}
+use Rattle.brc_model.specs.Accounts.{Accounts, HoldsNone}
+use Rattle.brc_model.specs.Counting.{Counts, IsPlainLayout}
+use Rattle.brc_table.specs.declared.view.View.{View}
+use Rattle.brc_table.specs.Places.{place, HasWord, word_count}
+use Rattle.brc_table.specs.Views.{actor_of, holds, is_given}
+
+-- what a word says at its address: a thread that isn't started yet counts as running
+abbrev pub reading : Address → ℕ → ℕ
+reading (ThreadWord t) word = if word == 0 then 1 else word
+reading address word = word
+
+-- There is a counting machine with the invariant whose words, threads and accounts are those of the table.
+pub record Stands (layout : Layout) (words : List ℕ) (views : List View) : Type 0 where
+  pub accounts : Accounts
+  pub machine : Machine
+  pub counts : Counts accounts (1 + machine.layout.workers) machine
+  pub layout_is : machine.layout ≡ layout
+  pub plain : IsPlainLayout machine.layout
+  pub length_is : length words ≡ word_count machine.layout
+  pub reads : (a : Address) → HasWord machine.layout a → machine.memory a ≡ reading a (slice_index words (place a))
+  -- each view is its thread's
+  pub acts : (id : ℕ) (v : View) → get_elem? views id ≡ some v
+      → slice_get machine.actors v.thread ≡ Some (actor_of v)
+  pub told : (id : ℕ) (v : View) → get_elem? views id ≡ some v → v.layout ≡ machine.layout
+  -- the references to counted objects are those that the view lists
+  pub holding : (id : ℕ) (v : View) (x : ℕ) → get_elem? views id ≡ some v → IsCounted machine.layout x
+      → accounts v.thread AsCaller x ≡ holds v x
+  -- no hand holds a reference by a variable
+  pub no_variables : (t i x : ℕ) → accounts t (ByVariable i) x ≡ 0
+  -- no thread has two hands
+  pub apart : (id other : ℕ) (v w : View) → get_elem? views id ≡ some v → get_elem? views other ≡ some w
+      → v.thread ≡ w.thread → id ≡ other
+  -- a thread without a hand has done nothing and holds nothing
+  pub idle : (t : ℕ) → t < 1 + machine.layout.workers
+      → ((id : ℕ) (v : View) → get_elem? views id ≡ some v → v.thread ≡ t → ⊥)
+      → (slice_get machine.actors t ≡ Some (idle_actor 0)) × HoldsNone (accounts t)
+  -- the other hands are those that main has given out
+  pub given : (id other : ℕ) (main v : View) → get_elem? views id ≡ some main → main.thread ≡ 0
+      → get_elem? views other ≡ some v → 0 < v.thread → is_given v.thread main ≡ true

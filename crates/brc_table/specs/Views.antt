@@ -1,0 +1,179 @@
+-- A hand's view as a thread of the counting machine, and what its steps make of it.
+use Rattle.std.specs.Prelude.{Some, Bool, ◌≡◌, ℕ, ◌<◌, ◌≤◌, true, ◌==◌, not, if◌then◌else◌, List, [], ◌∷◌, ◌++◌, None, count_by, fold, slice_get}
+use Rattle.std.specs.List.{filter, list_any}
+use Rattle.brc_model.specs.declared.duty.Holding.TheVariants.{AsCaller}
+use Rattle.brc_model.specs.declared.duty.Duty.{Duty}
+use Rattle.brc_model.specs.declared.duty.Duty.TheVariants.{RetainLoad, ReleaseLoad, BirthKind}
+use Rattle.brc_model.specs.declared.actor.Status.TheVariants.{Running}
+use Rattle.brc_model.specs.declared.layout.Layout.{Layout}
+use Rattle.brc_model.specs.Limits.{thread_limit}
+use Rattle.brc_model.specs.Layout.{row_count, block_size, front_rows, root_row, row_at, is_immortal_row}
+use Rattle.brc_model.specs.Duties.{address_of, new_word, continuation, new_head, ready}
+use Rattle.brc_model.specs.Machine.{Actor, is_running, status_by, used_by}
+use Rattle.brc_model.specs.OpenWork.{is_about}
+use Rattle.brc_table.specs.declared.view.View.{View}
+use Rattle.brc_table.specs.declared.view.Event.{Event}
+
+-- the thread of the counting machine that the view is of
+abbrev pub actor_of : View → Actor
+actor_of v = record {
+  status = v.status;
+  agenda = v.agenda;
+  aside = v.aside;
+  head = v.head;
+  used = v.used;
+  locked = v.locked;
+  lent = v.lent;
+}
+
+-- ---- references
+
+-- The hand's thread is main or a worker, and the objects to which the hand holds references, and those of its duties,
+-- have rows.
+pub record RowsAreThere (v : View) : Type 0 where
+  pub thread : v.thread ≤ v.layout.workers
+  pub used : v.used ≤ block_size v.layout v.thread
+  pub main : v.thread ≡ 0 → v.used ≡ block_size v.layout v.thread
+  pub held : (x : ℕ) → 1 ≤ count_by (λ y. y == x) v.references → x < row_count v.layout
+  pub agenda : (x : ℕ) → list_any (is_about x) v.agenda ≡ true → x < row_count v.layout
+  pub aside : (x : ℕ) → list_any (is_about x) v.aside ≡ true → x < row_count v.layout
+
+-- how many references the hand holds to the object
+abbrev pub holds : View → ℕ → ℕ
+holds v x = count_by (λ y. y == x) v.references
+
+-- the rows without the first that is x
+abbrev pub without_one : ℕ → List ℕ → List ℕ
+without_one x [] = []
+without_one x (y ∷ rows) = if y == x then rows else y ∷ without_one x rows
+
+-- a reference more: only those to counted objects are listed
+abbrev pub with_reference : Layout → ℕ → List ℕ → List ℕ
+with_reference layout x rows = if is_immortal_row layout x then rows else x ∷ rows
+
+abbrev pub without_reference : Layout → ℕ → List ℕ → List ℕ
+without_reference layout x rows = if is_immortal_row layout x then rows else without_one x rows
+
+-- ---- steps
+
+-- the hand's own event, if its first duty finds this word
+abbrev pub event_of : View → Duty → ℕ → Event
+event_of v d found = record {
+  address = address_of v.layout v.thread v.head d;
+  found = found;
+  left = new_word v.thread v.head d found;
+}
+
+abbrev pub did : View → List Duty → ℕ → View
+did v [] found = v
+did v (d ∷ rest) found = record v {
+  status = status_by v.status d;
+  agenda = ready (new_head v.head d found)
+      (continuation v.layout v.thread (is_running v.status) v.head d found ++ rest);
+  head = new_head v.head d found;
+  used = used_by v.used d;
+  trace = v.trace ++ event_of v d found ∷ [];
+}
+
+-- the view after its first duty has found this word
+abbrev pub done : View → ℕ → View
+done v found = did v v.agenda found
+
+-- the view after several duties, each of which finds the next of these words
+abbrev pub resumed : View → List ℕ → View
+resumed v founds = fold done v founds
+
+-- ---- open work
+
+-- all duties that the hand has still to do
+abbrev pub open_work : View → List Duty
+open_work v = v.agenda ++ v.aside
+
+-- those about the row: one at most
+abbrev pub work_about : ℕ → View → List Duty
+work_about x v = filter (is_about x) (open_work v)
+
+-- The hand turns to its work about the row and puts all other work aside.
+abbrev pub turned : View → ℕ → View
+turned v x = record v { agenda = work_about x v; aside = filter (λ d. not (is_about x d)) (open_work v) }
+
+-- the hand begins to retain the row's object
+abbrev pub retaining : View → ℕ → View
+retaining v x = record v {
+  agenda = RetainLoad x AsCaller ∷ [];
+  aside = open_work v;
+  references = with_reference v.layout x v.references;
+}
+
+-- the hand begins to give up a reference to the row's object
+abbrev pub releasing : View → ℕ → View
+releasing v x = record v {
+  agenda = ReleaseLoad x AsCaller ∷ [];
+  aside = open_work v;
+  references = without_reference v.layout x v.references;
+}
+
+-- the row of the hand's next birth
+abbrev pub next_row : View → ℕ
+next_row v = row_at v.layout v.thread v.used
+
+-- the hand begins the birth of an object with this kind word
+abbrev pub bearing : View → ℕ → View
+bearing v word = record v {
+  agenda = BirthKind (next_row v) AsCaller word ∷ [];
+  aside = open_work v;
+  references = next_row v ∷ v.references;
+}
+
+-- ---- the hands that main has given out
+
+-- Says whether main has given out the thread's hand.
+abbrev pub is_given : ℕ → View → Bool
+is_given thread main = list_any (λ t. t == thread) main.given
+
+-- The row of booleans says of each thread whether its hand was given out.
+abbrev pub IsGivenBy : List Bool → View → Type 0
+IsGivenBy given main = (t : ℕ) → t < thread_limit → slice_get given t ≡ Some (is_given t main)
+
+-- ---- the first hands
+
+-- main's hand, which holds the root
+abbrev pub main_view : Layout → View
+main_view layout = record {
+  layout = layout;
+  thread = 0;
+  status = Running;
+  references = root_row ∷ [];
+  agenda = [];
+  aside = [];
+  head = 0;
+  used = front_rows;
+  locked = None;
+  lent = None;
+  given = [];
+  trace = [];
+}
+
+-- main's hand after it has given out the thread's, with one of its references to the root
+abbrev pub giving : View → ℕ → View
+giving v thread = record v {
+  references = without_one root_row v.references;
+  given = thread ∷ v.given;
+}
+
+-- a worker's hand, just given out
+abbrev pub worker_view : Layout → ℕ → View
+worker_view layout thread = record {
+  layout = layout;
+  thread = thread;
+  status = Running;
+  references = root_row ∷ [];
+  agenda = [];
+  aside = [];
+  head = 0;
+  used = 0;
+  locked = None;
+  lent = None;
+  given = [];
+  trace = [];
+}

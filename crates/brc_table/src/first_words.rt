@@ -1,0 +1,88 @@
+//! The first words of a table.
+
+ghost use Rattle.std.specs.Prelude.{◌≡◌, IfOk};
+ghost use Rattle.brc_table.specs.Opening.{blank_line, blank_word, first_word, AreFirst};
+
+use crate::place::{FRONT, GATE, KIND, LINE, LOCAL, SHARED, TILE, in_line};
+use crate::size::{CELLS, NONE_ROW, ROOT_ROW, word_count};
+use brc_model::Layout;
+use brc_word::{kind_word, local_word};
+use std::alloc::{AllocError, Global};
+
+/// Main's number.
+const MAIN: u8 = 0;
+
+/// The place of main's thread word.
+const MAIN_PLACE: usize = 0;
+
+/// The thread word of a running thread. That of a worker that isn't started is 0.
+const RUNNING: u64 = 1;
+
+/// The shared word of count 0 and state default.
+const FRESH: u64 = 1 << 42;
+
+/// The gate of an object that is neither dying nor closed.
+const FREE: u64 = 1;
+
+/// The local count of an immortal object.
+const IMMORTAL: u32 = u32::MAX;
+
+/// The number of the kind none.
+const NONE_KIND: u32 = 1;
+
+/// The number of the kind list.
+const LIST_KIND: u32 = 3;
+
+/// Returns the first value of the words in a line of a tile, of rows that aren't born.
+fn blank_line(line: usize) -> u64
+    ensures { result ≡ blank_line line }
+{
+    match line {
+        SHARED => FRESH,
+        GATE => FREE,
+        _ => 0,
+    }
+}
+
+/// Returns the first value of a word of a thread, or of a row that isn't born.
+fn blank_word(index: usize) -> u64
+    ensures { result ≡ blank_word index }
+{
+    if index >= FRONT {
+        blank_line((index - FRONT) % TILE / LINE)
+    } else if index == MAIN_PLACE {
+        RUNNING
+    } else {
+        0
+    }
+}
+
+/// Returns the first value of a word. None is immortal. The root is a list of eight cells, and main, which owns it,
+/// holds the only reference to it.
+fn first_word(index: usize) -> u64
+    ensures { result ≡ first_word index }
+{
+    if index == in_line(LOCAL, NONE_ROW) {
+        local_word(Some(MAIN), IMMORTAL)
+    } else if index == in_line(LOCAL, ROOT_ROW) {
+        local_word(Some(MAIN), 1)
+    } else if index == in_line(KIND, NONE_ROW) {
+        kind_word(NONE_KIND, 0)
+    } else if index == in_line(KIND, ROOT_ROW) {
+        kind_word(LIST_KIND, u32::from(CELLS))
+    } else {
+        blank_word(index)
+    }
+}
+
+/// Returns the words of a table before any step, or `AllocError` if memory is refused.
+pub(crate) fn first_words(alloc: Global, layout: Layout) -> Result<Vec<u64>, AllocError>
+    ensures { IfOk result (λ words. AreFirst layout words.items) }
+{
+    let count = word_count(layout);
+    let mut words = Vec::with_capacity(alloc, count)?;
+    for index in 0..count {
+        words.push(first_word(index))?;
+    }
+    Ok(words)
+}

@@ -1,0 +1,22 @@
+//! The words of all objects in one table that threads share (PEP 703, Biased Reference Counting), and the hands by which
+//! threads change them, one atomic step at a time.
+#![tactic(auto)]
+
+mod first_words;
+mod hand;
+mod laws;
+mod lives;
+mod place;
+mod rule;
+mod size;
+mod split;
+mod step;
+mod steps;
+mod view;
+mod words;
+
+pub use hand::{Hand, Merge};
+pub use laws::counts_agree_in_every_table;
+pub use rule::Counting;
+pub use view::{Event, View};
+pub use words::Words;

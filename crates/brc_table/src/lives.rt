@@ -1,0 +1,93 @@
+//! The steps by which a hand gives birth to an object and chains a dying one (PEP 703, Biased Reference Counting: a new
+//! object has one local reference and the default state).
+
+ghost use Rattle.std.specs.Prelude.{◌≡◌, ◌≢◌, ◌<◌, ◌≤◌, true};
+ghost use Rattle.brc_model.specs.declared.actor.Status.TheVariants.{Gone};
+ghost use Rattle.brc_model.specs.Duties.{cells_of};
+ghost use Rattle.brc_model.specs.Kinds.{kind_of_word, is_counted_kind};
+ghost use Rattle.brc_model.specs.Limits.{cell_limit};
+ghost use Rattle.brc_model.specs.Layout.{row_at};
+ghost use Rattle.brc_model.specs.Machine.{has_room};
+ghost use Rattle.brc_table.specs.Views.{done, bearing, next_row};
+ghost use Rattle.brc_table.specs.Plays.{overwritten};
+ghost use Rattle.brc_table.specs.Hands.{IsOf, IsRunning};
+ghost use Rattle.brc_table.specs.Calls.{ChainsRow, OwnsFirst};
+
+use crate::hand::Hand;
+use crate::place::{GATE, KIND, LOCAL};
+use crate::words::Words;
+use brc_model::{births_begin, work_is_put_aside};
+use brc_word::{dying, local_word};
+use std::marker::Brand;
+
+/// The rows in front of the workers' blocks: none's and the root's.
+const FRONT_ROWS: u32 = 2;
+
+impl<T: Drop> Words<T> {
+    /// Begins the birth of an object: stores its kind word. Returns the object's row, the next of the hand's block.
+    pub fn kind_store(&self, hand: &mut Hand<T>, word: u64) -> u32
+        requires table { IsOf self.now hand.old }
+        requires running { IsRunning hand.old.view }
+        requires worker { 0 < hand.old.view.thread }
+        requires room { has_room hand.old.view.layout hand.old.view.thread hand.old.view.used ≡ true }
+        requires kind { is_counted_kind (kind_of_word word) ≡ true }
+        requires cells { cells_of word ≤ cell_limit }
+        ensures row { result ≡ next_row hand.old.view }
+        ensures table { hand.new.table ≡ hand.old.table }
+        ensures merge { hand.new.merge ≡ hand.old.merge }
+        ensures view { hand.new.view ≡ done (bearing hand.old.view word) 0 }
+    {
+        work_is_put_aside();
+        births_begin();
+        self.layout_is_plain();
+        hand.rows_are_there();
+        let (head, used) = (hand.head, hand.used);
+        let row = self.row_at(hand.thread, used);
+        self.store::<Brand>(hand, KIND, row, word, head, used);
+        row
+    }
+
+    /// Returns the row with the index in the worker's block.
+    fn row_at(&self, thread: u8, index: u32) -> u32
+        requires worker { 0 < thread }
+        requires there { thread ≤ self.now.layout.workers }
+        requires index { index < self.now.layout.rows }
+        ensures { result ≡ row_at self.now.layout thread index }
+    {
+        self.layout_is_plain();
+        let rows = u32::from(self.layout.rows);
+        FRONT_ROWS + u32::from(thread - 1) * rows + index
+    }
+
+    /// Does the next duty: stores the new object's owner and its first reference. The object is born.
+    pub fn first_local_store(&self, hand: &mut Hand<T>, row: u32)
+        requires table { IsOf self.now hand.old }
+        requires alive { hand.old.view.status ≢ Gone }
+        requires duty { OwnsFirst row hand.old.view.agenda }
+        ensures table { hand.new.table ≡ hand.old.table }
+        ensures merge { hand.new.merge ≡ hand.old.merge }
+        ensures view { hand.new.view ≡ done hand.old.view (overwritten hand.old.view.agenda) }
+    {
+        self.layout_is_plain();
+        hand.rows_are_there();
+        let (head, used) = (hand.head, hand.used + 1);
+        let word = local_word(Some(hand.thread), 1);
+        self.store::<Brand>(hand, LOCAL, row, word, head, used);
+    }
+
+    /// Does the next duty: puts the object, which has no reference left, at the head of the hand's dying chain.
+    pub fn gate_store(&self, hand: &mut Hand<T>, row: u32)
+        requires table { IsOf self.now hand.old }
+        requires alive { hand.old.view.status ≢ Gone }
+        requires duty { ChainsRow row hand.old.view.agenda }
+        ensures table { hand.new.table ≡ hand.old.table }
+        ensures merge { hand.new.merge ≡ hand.old.merge }
+        ensures view { hand.new.view ≡ done hand.old.view (overwritten hand.old.view.agenda) }
+    {
+        self.layout_is_plain();
+        hand.rows_are_there();
+        let (head, used) = (row + 1, hand.used);
+        let word = dying(hand.thread, hand.head);
+        self.store::<Brand>(hand, GATE, row, word, head, used);
+    }
+}

@@ -1,0 +1,51 @@
+//! The table's rule, and what each step makes of the hand that takes it.
+
+ghost use Rattle.brc_table.specs.declared.view.View.{View};
+
+use crate::view::View;
+use atomic_table::{Play, TableRule};
+use brc_model::Layout;
+use std::marker::{Brand, PhantomData};
+
+/// The rule of biased reference counting: words and views are those of a counting machine with the invariant.
+pub struct Counting;
+
+impl<S> TableRule<S, View, Layout> for Counting {
+    ghost use Rattle.brc_table.specs.Rule.{Stands};
+    ghost use Rattle.brc_table.specs.Views.{main_view};
+
+    ghost holds = { λ layout s. Stands layout s.words s.views };
+
+    ghost first = { main_view };
+}
+
+/// What the hand begins with, before it does its first duty.
+pub(crate) trait Begins {
+    ghost begins: { View → View };
+}
+
+impl Begins for Brand {
+    ghost begins = { λ v. v };
+}
+
+/// A step that goes on with the value that it finds.
+pub(crate) struct Continued<B> {
+    marker: PhantomData<B>,
+}
+
+impl<S, B: Begins> Play<S, View> for Continued<B> {
+    ghost use Rattle.brc_table.specs.Plays.{Continues};
+
+    ghost then = { λ s me found after. Continues B.begins me found after };
+}
+
+/// A store.
+pub(crate) struct Stored<B> {
+    marker: PhantomData<B>,
+}
+
+impl<S, B: Begins> Play<S, View> for Stored<B> {
+    ghost use Rattle.brc_table.specs.Plays.{Stores};
+
+    ghost then = { λ s me stored after. Stores B.begins me after };
+}

@@ -1,0 +1,35 @@
+//! How many rows and words a table has.
+
+ghost use Rattle.std.specs.Prelude.{◌≡◌};
+ghost use Rattle.brc_model.specs.Layout.{row_count};
+ghost use Rattle.brc_table.specs.Places.{word_count};
+
+use crate::place::{FRONT, LINE, TILE};
+use brc_model::Layout;
+
+/// None's row.
+pub(crate) const NONE_ROW: u32 = 0;
+
+/// The root's row.
+pub(crate) const ROOT_ROW: u32 = 1;
+
+/// Main's rows in front of the workers': none's and the root's.
+pub(crate) const FRONT_ROWS: u32 = 2;
+
+/// The cells of each row.
+pub(crate) const CELLS: u8 = 8;
+
+/// Returns the number of all rows.
+pub(crate) fn row_count(layout: Layout) -> usize
+    ensures { result ≡ row_count layout }
+{
+    let worker_rows = usize::from(layout.workers) * usize::from(layout.rows);
+    FRONT_ROWS as usize + worker_rows + usize::from(layout.immortal_lists)
+}
+
+/// Returns the number of all words. The last tile may have fewer rows than eight.
+pub(crate) fn word_count(layout: Layout) -> usize
+    ensures { result ≡ word_count layout }
+{
+    FRONT + TILE * ((row_count(layout) + (LINE - 1)) / LINE)
+}

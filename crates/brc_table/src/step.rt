@@ -1,0 +1,149 @@
+//! One atomic step of a hand, of any kind. Each is sequentially consistent, and may first turn the hand to other work.
+
+ghost use Rattle.std.specs.Prelude.{◌≡◌, ◌+◌, ◌%◌, ◌^◌, ◌<◌, ◌==◌};
+ghost use prog.Atomic.{either};
+ghost use Rattle.brc_model.specs.Layout.{row_count};
+ghost use Rattle.brc_table.specs.Places.{in_tile};
+ghost use Rattle.brc_table.specs.Views.{done};
+ghost use Rattle.brc_table.specs.Plays.{SuitsFirst, FirstFindsOwner, overwritten};
+ghost use Rattle.brc_table.specs.Hands.{IsOf};
+ghost use Rattle.brc_table.specs.Begins.{Becomes, KeepsThread, MakesQuietly, StoresWord};
+
+use crate::hand::Hand;
+use crate::place::in_line;
+use crate::rule::{Begins, Continued, Stored};
+use crate::words::Words;
+use brc_model::{accounts_are_there, duties_are_kept, duties_are_within};
+
+impl<T: Drop> Words<T> {
+    /// Loads a word.
+    pub(crate) fn load<B: Begins>(&self, hand: &mut Hand<T>, line: usize, row: u32) -> u64
+        requires table { IsOf self.now hand.old }
+        requires begins { Becomes self.now.layout hand.old.view (B.begins hand.old.view) }
+        requires thread { KeepsThread hand.old.view (B.begins hand.old.view) }
+        requires line { line < 5 }
+        requires there { row < row_count self.now.layout }
+        requires makes { MakesQuietly (B.begins hand.old.view) (in_tile line row) (λ found. found) }
+        ensures table { hand.new.table ≡ hand.old.table }
+        ensures merge { hand.new.merge ≡ hand.old.merge }
+        ensures view { hand.new.view ≡ done (B.begins hand.old.view) result }
+        ensures suits { SuitsFirst (B.begins hand.old.view) (B.begins hand.old.view).agenda result }
+        ensures owner { FirstFindsOwner (B.begins hand.old.view) (B.begins hand.old.view).agenda result }
+    {
+        duties_are_kept();
+        duties_are_within();
+        accounts_are_there();
+        let index = in_line(line, row);
+        self.table
+            .shared
+            .load::<Continued<B>>(&mut hand.seat, index)
+    }
+
+    /// Swaps a word with another value.
+    pub(crate) fn swap<B: Begins>(&self, hand: &mut Hand<T>, line: usize, row: u32, new: u64) -> u64
+        requires table { IsOf self.now hand.old }
+        requires begins { Becomes self.now.layout hand.old.view (B.begins hand.old.view) }
+        requires thread { KeepsThread hand.old.view (B.begins hand.old.view) }
+        requires line { line < 5 }
+        requires there { row < row_count self.now.layout }
+        requires makes { MakesQuietly (B.begins hand.old.view) (in_tile line row) (λ found. new) }
+        ensures table { hand.new.table ≡ hand.old.table }
+        ensures merge { hand.new.merge ≡ hand.old.merge }
+        ensures view { hand.new.view ≡ done (B.begins hand.old.view) result }
+        ensures suits { SuitsFirst (B.begins hand.old.view) (B.begins hand.old.view).agenda result }
+    {
+        duties_are_kept();
+        duties_are_within();
+        accounts_are_there();
+        let index = in_line(line, row);
+        self.table
+            .shared
+            .swap::<Continued<B>>(&mut hand.seat, index, new)
+    }
+
+    /// Adds to a word.
+    pub(crate) fn add<B: Begins>(&self, hand: &mut Hand<T>, line: usize, row: u32, more: u64) -> u64
+        requires table { IsOf self.now hand.old }
+        requires begins { Becomes self.now.layout hand.old.view (B.begins hand.old.view) }
+        requires thread { KeepsThread hand.old.view (B.begins hand.old.view) }
+        requires line { line < 5 }
+        requires there { row < row_count self.now.layout }
+        requires makes { MakesQuietly (B.begins hand.old.view) (in_tile line row) (λ found. (found + more) % 2 ^ 64) }
+        ensures table { hand.new.table ≡ hand.old.table }
+        ensures merge { hand.new.merge ≡ hand.old.merge }
+        ensures view { hand.new.view ≡ done (B.begins hand.old.view) result }
+        ensures suits { SuitsFirst (B.begins hand.old.view) (B.begins hand.old.view).agenda result }
+    {
+        duties_are_kept();
+        duties_are_within();
+        accounts_are_there();
+        let index = in_line(line, row);
+        self.table
+            .shared
+            .fetch_add::<Continued<B>>(&mut hand.seat, index, more)
+    }
+
+    /// Exchanges a word for another value if it is still the old one. Returns the value found.
+    pub(crate) fn exchange<B: Begins>(
+        &self,
+        hand: &mut Hand<T>,
+        line: usize,
+        row: u32,
+        old: u64,
+        new: u64,
+    ) -> u64
+        requires table { IsOf self.now hand.old }
+        requires begins { Becomes self.now.layout hand.old.view (B.begins hand.old.view) }
+        requires thread { KeepsThread hand.old.view (B.begins hand.old.view) }
+        requires line { line < 5 }
+        requires there { row < row_count self.now.layout }
+        requires makes { MakesQuietly (B.begins hand.old.view) (in_tile line row) (λ found. either (found == old) new found) }
+        ensures table { hand.new.table ≡ hand.old.table }
+        ensures merge { hand.new.merge ≡ hand.old.merge }
+        ensures view { hand.new.view ≡ done (B.begins hand.old.view) result }
+        ensures suits { SuitsFirst (B.begins hand.old.view) (B.begins hand.old.view).agenda result }
+    {
+        duties_are_kept();
+        duties_are_within();
+        accounts_are_there();
+        let index = in_line(line, row);
+        self.table
+            .shared
+            .compare_exchange::<Continued<B>>(&mut hand.seat, index, old, new)
+    }
+
+    /// Stores a word. `head` and `used` are those of the thread after the step.
+    pub(crate) fn store<B: Begins>(
+        &self,
+        hand: &mut Hand<T>,
+        line: usize,
+        row: u32,
+        word: u64,
+        head: u32,
+        used: u32,
+    )
+        requires table { IsOf self.now hand.old }
+        requires begins { Becomes self.now.layout hand.old.view (B.begins hand.old.view) }
+        requires thread { KeepsThread hand.old.view (B.begins hand.old.view) }
+        requires line { line < 5 }
+        requires there { row < row_count self.now.layout }
+        requires stores { StoresWord (B.begins hand.old.view) (in_tile line row) word }
+        requires status { (done (B.begins hand.old.view) (overwritten (B.begins hand.old.view).agenda)).status
+            ≡ hand.old.view.status }
+        requires head { (done (B.begins hand.old.view) (overwritten (B.begins hand.old.view).agenda)).head ≡ head }
+        requires used { (done (B.begins hand.old.view) (overwritten (B.begins hand.old.view).agenda)).used ≡ used }
+        ensures table { hand.new.table ≡ hand.old.table }
+        ensures merge { hand.new.merge ≡ hand.old.merge }
+        ensures view { hand.new.view ≡ done (B.begins hand.old.view) (overwritten (B.begins hand.old.view).agenda) }
+    {
+        duties_are_kept();
+        duties_are_within();
+        accounts_are_there();
+        let index = in_line(line, row);
+        self.table
+            .shared
+            .store::<Stored<B>>(&mut hand.seat, index, word);
+        hand.head = head;
+        hand.used = used;
+    }
+}

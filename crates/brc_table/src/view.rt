@@ -1,0 +1,42 @@
+//! What a hand knows of the table: plain data that exists in proofs alone.
+
+use brc_model::{Address, Duty, Layout, Status};
+use std::collections::LinkedList;
+
+/// What one hand knows. No value of it is made: it is the ghost state that contracts speak of.
+pub struct View {
+    /// The table's size. It is the same for all hands of a table.
+    pub layout: Layout,
+    /// The hand's thread: main's is 0, and the workers' are 1, 2 and so on.
+    pub thread: u8,
+    /// Whether the thread runs, is leaving or is gone.
+    pub status: Status,
+    /// The rows of the counted objects to which the hand holds references, each as often as it holds one.
+    pub references: LinkedList<u32>,
+    /// The duties that come next.
+    pub agenda: LinkedList<Duty>,
+    /// The duties that the hand has put aside, each about another row.
+    pub aside: LinkedList<Duty>,
+    /// The head of the dying chain: 0 if it is empty, else a row plus 1.
+    pub head: u32,
+    /// How many rows of the thread's block are used.
+    pub used: u32,
+    /// The row of the list that the hand has locked. No call locks yet.
+    pub locked: Option<u32>,
+    /// The row whose resource the hand has lent. No call lends yet.
+    pub lent: Option<u32>,
+    /// Of main's hand, the threads whose hands it has given out.
+    pub given: LinkedList<u8>,
+    /// The hand's own steps so far, in order.
+    pub trace: LinkedList<Event>,
+}
+
+/// One step of a hand on one word. Running code keeps no trace: it exists in proofs alone.
+pub struct Event {
+    /// The word's address.
+    pub address: Address,
+    /// The value that the step found.
+    pub found: u64,
+    /// The value that the step left.
+    pub left: u64,
+}

@@ -1,0 +1,101 @@
+//! The words of all objects.
+
+ghost use Rattle.std.specs.Prelude.{◌≡◌, ◌<◌, ◌≤◌, IfOk, None};
+ghost use Rattle.brc_model.specs.Layout.{block_size};
+ghost use Rattle.brc_model.specs.Limits.{worker_limit, row_limit};
+ghost use Rattle.brc_model.specs.Counting.{IsPlainLayout};
+ghost use Rattle.brc_table.specs.Views.{main_view};
+ghost use Rattle.brc_table.specs.Hands.{IsOf};
+ghost use Rattle.brc_table.specs.Opening.{plain_layout};
+
+use crate::first_words::first_words;
+use crate::hand::{Hand, THREADS};
+use crate::rule::Counting;
+use crate::size::{CELLS, FRONT_ROWS, row_count};
+use crate::view::View;
+use atomic_table::Table;
+use brc_model::{Layout, hands_begin};
+use std::alloc::{AllocError, Global};
+use std::marker::Model;
+
+/// The words of all objects, in one table that threads share.
+#[derive(Drop)]
+pub struct Words<T: Drop> {
+    pub(crate) table: Table<Option<T>, View, Layout, Counting, Global>,
+    pub(crate) layout: Layout,
+}
+
+impl<T: Drop> Model for Words<T> {
+    ghost use Rattle.std.specs.Prelude.{◌≡◌};
+    ghost use Rattle.brc_model.specs.Counting.{IsPlainLayout};
+    ghost use Rattle.brc_table.specs.Hands.{TableState};
+    ghost use Rattle.brc_table.specs.Places.{word_count};
+
+    ghost Value = { TableState };
+
+    ghost view = { λ w. record { table = w.table.shared.table_id; layout = w.table.shared.key } };
+
+    ghost invariant = { λ w. (w.layout ≡ w.table.shared.key)
+        × (w.table.shared.table_id.words ≡ word_count w.table.shared.key)
+        × IsPlainLayout w.table.shared.key };
+}
+
+impl<T: Drop> Words<T> {
+    /// Returns the words of a table with this many workers and this many rows for each of them, and main's hand, or
+    /// `AllocError` if memory is refused. Main holds the only reference to the root.
+    pub fn new(alloc: Global, workers: u8, rows: u16) -> Result<(Words<T>, Hand<T>), AllocError>
+        requires workers { (0 < workers) × (workers ≤ worker_limit) }
+        requires rows { (0 < rows) × (rows ≤ row_limit) }
+        ensures layout { IfOk result (λ made. made.0.layout ≡ plain_layout workers rows) }
+        ensures table { IfOk result (λ made. IsOf made.0 made.1) }
+        ensures view { IfOk result (λ made. made.1.view ≡ main_view (plain_layout workers rows)) }
+        ensures merge { IfOk result (λ made. made.1.merge ≡ None) }
+    {
+        hands_begin();
+        let layout = Layout {
+            workers,
+            rows,
+            cells: CELLS,
+            immortal_lists: 0,
+        };
+        let words = first_words(alloc, layout)?;
+        let slots = row_count(layout);
+        let (table, seat) = Table::vacant(alloc, words.as_slice(), slots, &layout)?;
+        let main = Hand {
+            seat,
+            thread: 0,
+            running: true,
+            head: 0,
+            used: FRONT_ROWS,
+            given: [false; THREADS],
+            merge: None,
+        };
+        Ok((Words { table, layout }, main))
+    }
+
+    /// Returns how many rows the thread's block has: 2 for main, else as many as each worker has.
+    pub fn block_size(&self, thread: u8) -> u32
+        ensures { result ≡ block_size self.now.layout thread }
+    {
+        self.layout_is_plain();
+        if thread == 0 {
+            FRONT_ROWS
+        } else {
+            u32::from(self.layout.rows)
+        }
+    }
+
+    /// Returns how many workers there are.
+    pub fn workers(&self) -> u8
+        ensures { result ≡ self.now.layout.workers }
+    {
+        self.layout.workers
+    }
+
+    /// States that the table has 1 to 32 workers with 1 to 1024 rows each.
+    pub fn layout_is_plain(&self)
+        ensures { IsPlainLayout self.now.layout }
+    {
+        let _opened = self.layout;
+    }
+}
