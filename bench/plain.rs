@@ -1,0 +1,429 @@
+//! Biased reference counting (PEP 703) in plain Rust: the program that the proved counter is compared with.
+//!
+//! Every step is one sequentially consistent access of one word, as in the proved counter.
+//!
+//!     rustc -O bench/plain.rs && ./plain          # a small run of each row: counts alone
+//!     rustc -O bench/plain.rs && ./plain --time   # nanoseconds, the median of 9 runs
+
+use std::hint::black_box;
+use std::sync::atomic::{AtomicU64, Ordering::SeqCst};
+use std::sync::{Arc, Barrier};
+use std::thread;
+use std::time::{Duration, Instant};
+
+// The block: the threads' words, then a tile for each 8 rows. A tile has 8 words for each field, then the rows' cells.
+const THREAD_WORDS: u64 = 40;
+const TILE_ROWS: u64 = 8;
+const TILE_WORDS: u64 = 104;
+
+/// What a word is to its row. A tile has marks and cells after these; this program touches neither.
+#[derive(Clone, Copy)]
+enum Field {
+    Local = 0,
+    Shared = 1,
+    Gate = 2,
+    Kind = 3,
+}
+
+/// Returns the index of the word of `field` for `row`.
+fn place(field: Field, row: u64) -> usize {
+    (THREAD_WORDS + TILE_WORDS * (row / TILE_ROWS) + TILE_ROWS * field as u64 + row % TILE_ROWS) as usize
+}
+
+// A local word, a gate and a kind word each have a high half and a low half of 32 bits.
+const HIGH_ONE: u64 = 1 << 32;
+const IMMORTAL_COUNT: u64 = HIGH_ONE - 1;
+
+/// Returns the local word of a row that `thread` owns with `count` local references.
+fn local_word(thread: u64, count: u64) -> u64 {
+    (thread + 1) * HIGH_ONE + count
+}
+
+fn local_count(word: u64) -> u64 {
+    word % HIGH_ONE
+}
+
+fn owned_by(word: u64, thread: u64) -> bool {
+    word / HIGH_ONE == thread + 1
+}
+
+// A shared word is `(count + COUNT_BIAS) * ONE_SHARED + state`; state 0 is default.
+const ONE_SHARED: u64 = 4;
+const COUNT_BIAS: u64 = 1 << 40;
+const ZERO_DEFAULT: u64 = COUNT_BIAS * ONE_SHARED;
+const ZERO_QUEUED: u64 = ZERO_DEFAULT + 2;
+const ZERO_MERGED: u64 = ZERO_DEFAULT + 3;
+
+const NO_OWNER: u64 = 0;
+const GATE_FREE: u64 = 1;
+const NONE_ROW: u64 = 0;
+const ROOT_ROW: u64 = 1;
+const FIRST_WORKER_ROW: u64 = 2;
+
+/// The words of all threads and rows.
+struct Block {
+    words: Vec<AtomicU64>,
+}
+
+impl Block {
+    /// Makes the block for `workers` workers with `rows_each` rows each. Only none and the root have an owner.
+    fn new(workers: u64, rows_each: u64) -> Block {
+        assert!(workers < THREAD_WORDS);
+        let rows = FIRST_WORKER_ROW + workers * rows_each;
+        let len = THREAD_WORDS + TILE_WORDS * rows.div_ceil(TILE_ROWS);
+        let block = Block { words: (0..len).map(|_| AtomicU64::new(0)).collect() };
+        for row in 0..rows {
+            block.word(Field::Local, row).store(NO_OWNER, SeqCst);
+            block.word(Field::Shared, row).store(ZERO_DEFAULT, SeqCst);
+            block.word(Field::Gate, row).store(GATE_FREE, SeqCst);
+        }
+        block.word(Field::Local, NONE_ROW).store(local_word(0, IMMORTAL_COUNT), SeqCst);
+        block.word(Field::Local, ROOT_ROW).store(local_word(0, 1), SeqCst);
+        block
+    }
+
+    fn word(&self, field: Field, row: u64) -> &AtomicU64 {
+        &self.words[place(field, row)]
+    }
+
+    /// Returns the words of `row` that releases and retains change: local, shared, gate.
+    fn counts(&self, row: u64) -> [u64; 3] {
+        [Field::Local, Field::Shared, Field::Gate].map(|field| self.word(field, row).load(SeqCst))
+    }
+}
+
+/// A thread's right to act: its number, its chain of dying rows, and its rows that no birth has used yet.
+struct Hand {
+    thread: u64,
+    /// The first row of the dying chain plus 1, or 0 where the chain is empty.
+    head: u64,
+    first_row: u64,
+    rows: u64,
+    used: u64,
+}
+
+impl Hand {
+    /// Returns the hand of the main thread, which has no rows for births.
+    fn main() -> Hand {
+        Hand { thread: 0, head: 0, first_row: FIRST_WORKER_ROW, rows: 0, used: 0 }
+    }
+
+    /// Returns the hand of worker `thread`, counted from 1, where each worker has `rows_each` rows.
+    fn worker(thread: u64, rows_each: u64) -> Hand {
+        Hand { thread, head: 0, first_row: FIRST_WORKER_ROW + (thread - 1) * rows_each, rows: rows_each, used: 0 }
+    }
+}
+
+/// Adds a reference to `row`.
+fn retain(hand: &mut Hand, block: &Block, row: u64) {
+    // Only the owner writes a local word that names it, so what the owner loads here is still there at its store.
+    let local = block.word(Field::Local, row).load(SeqCst);
+    if local_count(local) == IMMORTAL_COUNT {
+        return;
+    }
+    // The bound keeps a local count from growing into the immortal one.
+    if owned_by(local, hand.thread) && local_count(local) < IMMORTAL_COUNT - 1 {
+        block.word(Field::Local, row).store(local + 1, SeqCst);
+    } else {
+        // Any thread may change the shared word, so a load and a store would lose another thread's reference.
+        block.word(Field::Shared, row).fetch_add(ONE_SHARED, SeqCst);
+    }
+}
+
+/// The answer of [`release_local`].
+#[derive(Debug, PartialEq)]
+enum LocalRelease {
+    /// The row is immortal.
+    Skip,
+    Kept,
+    /// The local count reached zero; [`zero_step`] follows.
+    Zero,
+    /// Another thread, or nobody, owns the row; [`try_release_shared`] follows.
+    Share,
+}
+
+/// Takes a reference to `row` from the local count, if the thread owns the row.
+fn release_local(hand: &mut Hand, block: &Block, row: u64) -> LocalRelease {
+    let local = block.word(Field::Local, row).load(SeqCst);
+    if local_count(local) == IMMORTAL_COUNT {
+        return LocalRelease::Skip;
+    }
+    if !owned_by(local, hand.thread) {
+        return LocalRelease::Share;
+    }
+    debug_assert!(local_count(local) > 0, "the thread holds no local reference");
+    // A plain store is enough, as in `retain`: no other thread writes this word.
+    block.word(Field::Local, row).store(local - 1, SeqCst);
+    if local_count(local - 1) > 0 {
+        LocalRelease::Kept
+    } else {
+        LocalRelease::Zero
+    }
+}
+
+/// The answer of [`zero_step`].
+#[derive(Debug, PartialEq)]
+enum ZeroStep {
+    Dying,
+    /// The shared word has a count or a state; the owner merges the two counts next.
+    Merge,
+}
+
+/// Decides what becomes of `row` after its owner's local count reached zero.
+fn zero_step(hand: &mut Hand, block: &Block, row: u64) -> ZeroStep {
+    // Without this look at the shared word the owner would deallocate a row that other threads hold
+    // (`free_without_shared`).
+    if block.word(Field::Shared, row).load(SeqCst) != ZERO_DEFAULT {
+        return ZeroStep::Merge;
+    }
+    push_dying(hand, block, row);
+    ZeroStep::Dying
+}
+
+/// Puts `row` in front of the thread's dying chain.
+fn push_dying(hand: &mut Hand, block: &Block, row: u64) {
+    // The gate names the thread that deallocates the row. It is stored after the last reference is gone, never before.
+    block.word(Field::Gate, row).store((hand.thread + 1) * HIGH_ONE + hand.head, SeqCst);
+    hand.head = row + 1;
+}
+
+/// The answer of [`try_release_shared`].
+#[derive(Debug, PartialEq)]
+enum SharedRelease {
+    Kept,
+    /// The thread queued the row and asks the owner to merge.
+    Queued,
+    Dying,
+    /// Another thread changed the shared word first.
+    Again,
+}
+
+/// Takes a reference to `row` from the shared count, if no other thread changes the shared word meanwhile.
+fn try_release_shared(hand: &mut Hand, block: &Block, row: u64) -> SharedRelease {
+    let shared = block.word(Field::Shared, row);
+    let old = shared.load(SeqCst);
+    // At (0, default) the reference is in the owner's count. The count stays as it is and the owner merges: a shared
+    // count below zero that is still default would never reach the owner (`release_below_zero`).
+    let new = if old == ZERO_DEFAULT { ZERO_QUEUED } else { old - ONE_SHARED };
+    // A plain store could undo what another thread did to the word since the load.
+    if shared.compare_exchange(old, new, SeqCst, SeqCst).is_err() {
+        return SharedRelease::Again;
+    }
+    if old == ZERO_DEFAULT {
+        SharedRelease::Queued
+    } else if new == ZERO_MERGED {
+        push_dying(hand, block, row);
+        SharedRelease::Dying
+    } else {
+        SharedRelease::Kept
+    }
+}
+
+/// The answer of [`release`].
+#[derive(Debug, PartialEq)]
+enum Release {
+    Skip,
+    Kept,
+    Merge,
+    Queued,
+    Dying,
+}
+
+/// Takes a reference to `row`, and retries a lost compare-exchange.
+fn release(hand: &mut Hand, block: &Block, row: u64) -> Release {
+    match release_local(hand, block, row) {
+        LocalRelease::Skip => Release::Skip,
+        LocalRelease::Kept => Release::Kept,
+        LocalRelease::Zero => match zero_step(hand, block, row) {
+            ZeroStep::Dying => Release::Dying,
+            ZeroStep::Merge => Release::Merge,
+        },
+        LocalRelease::Share => loop {
+            match try_release_shared(hand, block, row) {
+                SharedRelease::Kept => return Release::Kept,
+                SharedRelease::Queued => return Release::Queued,
+                SharedRelease::Dying => return Release::Dying,
+                SharedRelease::Again => continue,
+            }
+        },
+    }
+}
+
+/// Makes the next row of the thread's own rows and returns it, or `None` if all are used.
+fn birth(hand: &mut Hand, block: &Block, kind: u64, argument: u64) -> Option<u64> {
+    if hand.used == hand.rows {
+        return None;
+    }
+    let row = hand.first_row + hand.used;
+    hand.used += 1;
+    // The kind comes first: the local word is what makes the row an object, and an object has its kind.
+    block.word(Field::Kind, row).store(kind * HIGH_ONE + argument, SeqCst);
+    block.word(Field::Local, row).store(local_word(hand.thread, 1), SeqCst);
+    Some(row)
+}
+
+// From here on: the rows of the table.
+
+const WORKERS: u64 = 4;
+/// The rows of each worker: more than a tile's, so that no two workers' first rows share a tile.
+const ROWS_EACH: u64 = 64;
+const KIND: u64 = 2;
+/// The most workers, and the most rows of each: births use them all.
+const MOST_WORKERS: u64 = 32;
+const MOST_ROWS: u64 = 1024;
+
+/// What one run of a row of the table did.
+struct Run {
+    /// The number of operations that went as they should, of all threads.
+    done: u64,
+    /// The time of the slowest thread.
+    slowest: Duration,
+}
+
+/// Runs each job on a thread of its own. The jobs start together.
+fn run_together<Job: FnOnce() -> u64 + Send>(jobs: Vec<Job>) -> Run {
+    let barrier = Barrier::new(jobs.len());
+    let timed = |job: Job| {
+        barrier.wait();
+        let start = Instant::now();
+        (job(), start.elapsed())
+    };
+    thread::scope(|scope| {
+        let timed = &timed;
+        let threads: Vec<_> = jobs.into_iter().map(|job| scope.spawn(move || timed(job))).collect();
+        let mut run = Run { done: 0, slowest: Duration::ZERO };
+        for thread in threads {
+            let (done, time) = thread.join().unwrap();
+            run.done += done;
+            run.slowest = run.slowest.max(time);
+        }
+        run
+    })
+}
+
+/// Retains and releases `row` `n` times, and returns how many of the releases answered `Kept`.
+fn pairs(hand: &mut Hand, block: &Block, row: u64, n: u64) -> u64 {
+    let mut kept = 0;
+    for _ in 0..n {
+        // The black box keeps the compiler from computing the row's places once for all pairs.
+        retain(hand, block, black_box(row));
+        kept += u64::from(release(hand, block, black_box(row)) == Release::Kept);
+    }
+    kept
+}
+
+/// Runs `n` pairs on each thread of `plan`, which names a thread and the owner of the row that it uses.
+fn counted(plan: &[(usize, usize)], n: u64) -> Run {
+    let block = &Block::new(WORKERS, ROWS_EACH);
+    // Thread 0 has the root already. Each worker makes its first row.
+    let mut hands = vec![Hand::main()];
+    hands.extend((1..=WORKERS).map(|thread| Hand::worker(thread, ROWS_EACH)));
+    let rows: Vec<u64> = hands.iter_mut().map(|hand| birth(hand, block, KIND, 0).unwrap_or(ROOT_ROW)).collect();
+    let counts = || rows.iter().map(|&row| block.counts(row)).collect::<Vec<_>>();
+
+    let before = counts();
+    let acting = hands.iter_mut().filter_map(|hand| {
+        let &(_, owner) = plan.iter().find(|(thread, _)| *thread as u64 == hand.thread)?;
+        Some((hand, rows[owner]))
+    });
+    let run = run_together(acting.map(|(hand, row)| move || pairs(hand, block, row, n)).collect());
+    assert_eq!(counts(), before, "each count ends as it began");
+    run
+}
+
+/// Makes `n` rows, by one worker after another, over as many blocks as it takes. The blocks are made outside the time.
+fn births(n: u64) -> Run {
+    let mut run = Run { done: 0, slowest: Duration::ZERO };
+    while run.done < n {
+        let block = &Block::new(MOST_WORKERS, MOST_ROWS);
+        for thread in 1..=MOST_WORKERS {
+            let mut hand = Hand::worker(thread, MOST_ROWS);
+            let most = (n - run.done).min(MOST_ROWS);
+            let first = hand.first_row;
+            let start = Instant::now();
+            let made = (0..most).filter(|&argument| birth(&mut hand, block, KIND, black_box(argument)).is_some()).count();
+            run.slowest += start.elapsed();
+            run.done += made as u64;
+            for row in first..first + most {
+                assert_eq!(block.counts(row), [local_word(thread, 1), ZERO_DEFAULT, GATE_FREE], "one reference");
+            }
+        }
+    }
+    run
+}
+
+/// Clones and drops `arc` `n` times, and returns `n`.
+fn arc_pairs<T>(arc: &Arc<T>, n: u64) -> u64 {
+    for _ in 0..n {
+        drop(Arc::clone(black_box(arc)));
+    }
+    n
+}
+
+/// Runs `n` pairs on each of `threads` threads, all at one `Arc`.
+fn one_arc(threads: u64, n: u64) -> Run {
+    let arc = &Arc::new(7_u64);
+    let run = run_together((0..threads).map(|_| move || arc_pairs(arc, n)).collect());
+    assert_eq!(Arc::strong_count(arc), 1, "the count ends as it began");
+    run
+}
+
+/// A number that keeps its `Arc` off the cache lines of others. The allocator puts several `Arc<u64>` on one line.
+#[repr(align(128))]
+struct Apart(#[allow(dead_code)] u64);
+
+/// Runs `n` pairs on each of `threads` threads, each at an `Arc` of its own.
+fn own_arcs(threads: u64, n: u64) -> Run {
+    let arcs: Vec<Arc<Apart>> = (0..threads).map(|thread| Arc::new(Apart(thread))).collect();
+    let run = run_together(arcs.iter().map(|arc| move || arc_pairs(arc, n)).collect());
+    assert!(arcs.iter().all(|arc| Arc::strong_count(arc) == 1), "each count ends as it began");
+    run
+}
+
+/// A row of the table: its name, what runs it, its threads, and each thread's operations with `--time`.
+type TableRow = (&'static str, fn(u64) -> Run, u64, u64);
+
+const RUNS: usize = 9;
+const SMALL: u64 = 1_000;
+const PAIRS: u64 = 5_000_000;
+const BIRTHS: u64 = 1_000_000;
+
+const TABLE: [TableRow; 12] = [
+    ("biased: the owner alone (main at the root)", |n| counted(&[(0, 0)], n), 1, PAIRS),
+    ("biased: another thread alone (at the root)", |n| counted(&[(1, 0)], n), 1, PAIRS),
+    ("biased: owner and another at one row", |n| counted(&[(0, 0), (1, 0)], n), 2, PAIRS),
+    ("biased: 1 thread, own row", |n| counted(&[(1, 1)], n), 1, PAIRS),
+    ("biased: 2 threads, own rows", |n| counted(&[(1, 1), (2, 2)], n), 2, PAIRS),
+    ("biased: 4 threads, own rows", |n| counted(&[(1, 1), (2, 2), (3, 3), (4, 4)], n), 4, PAIRS),
+    ("biased: births", births, 1, BIRTHS),
+    ("Arc: alone", |n| one_arc(1, n), 1, PAIRS),
+    ("Arc: two threads at one Arc", |n| one_arc(2, n), 2, PAIRS),
+    ("Arc: 1 thread, own Arc", |n| own_arcs(1, n), 1, PAIRS),
+    ("Arc: 2 threads, own Arcs", |n| own_arcs(2, n), 2, PAIRS),
+    ("Arc: 4 threads, own Arcs", |n| own_arcs(4, n), 4, PAIRS),
+];
+
+/// Runs `n` operations on each of `threads` threads, and asserts that all went as they should.
+fn checked(run: fn(u64) -> Run, threads: u64, n: u64) -> Run {
+    let run = run(n);
+    assert_eq!(run.done, threads * n);
+    run
+}
+
+/// Returns the nanoseconds of one operation of a thread: the median of all runs.
+fn median_ns(run: fn(u64) -> Run, threads: u64, n: u64) -> f64 {
+    let mut times: Vec<Duration> = (0..RUNS).map(|_| checked(run, threads, n).slowest).collect();
+    times.sort();
+    times[RUNS / 2].as_nanos() as f64 / n as f64
+}
+
+fn main() {
+    let time = std::env::args().any(|argument| argument == "--time");
+    for (name, run, threads, n) in TABLE {
+        if time {
+            println!("{name:<44}{:>8.1}", median_ns(run, threads, n));
+        } else {
+            println!("{name:<44}{:>8}", checked(run, threads, SMALL).done);
+        }
+    }
+}

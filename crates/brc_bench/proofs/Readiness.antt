@@ -1,0 +1,89 @@
+-- A hand stays ready to retain and release an object.
+use Rattle.std.proofs.Common.{◌≡◌, ◌≢◌, ◌≤◌, ◌<◌, ℕ, zero, suc, ◌+◌, Bool, true, false, List, [], ◌∷◌, refl, sym, ap, ◌∙◌, subst, inl, inr, arith}
+use Rattle.brc_model.specs.declared.duty.Duty.{Duty}
+use Rattle.brc_model.specs.declared.actor.Status.TheVariants.{Running, Gone}
+use Rattle.brc_table.specs.declared.view.View.{View}
+use Rattle.brc_table.specs.Hands.{IsRunning}
+use Rattle.brc_table.specs.Calls.{CanAct}
+use Rattle.std.specs.List.{filter}
+use Rattle.std.proofs.lemmas.List.Sums.{sum_by-cons}
+use Rattle.brc_model.specs.References.{one_if}
+use Rattle.brc_model.specs.OpenWork.{is_about}
+use Rattle.std.specs.Prelude.{count_by, cond, length, ◌==◌, ◌&&◌, ◌||◌, nat_le, nat_lt}
+use Rattle.std.proofs.lemmas.Bool.{cases_Bool, eq-eqb, ne_eqb, ltb-true, leb-true}
+use Rattle.brc_model.specs.declared.layout.Layout.{Layout}
+use Rattle.brc_model.specs.Layout.{root_row, none_row, first_immortal_list, row_at, IsCounted}
+use Rattle.brc_table.specs.Views.{worker_view, next_row, open_work}
+use Rattle.brc_table.specs.Hands.{TableState, HandState, IsOf}
+use Rattle.brc_heap.specs.Calls.{Leaves, HasBorn}
+use Rattle.brc_bench.specs.Ready.{IsReady}
+
+-- What two calls about the same row leave.
+pub both_leave : {x : ℕ} {left next : List Duty} {v u w : View} → Leaves x left v u → Leaves x next u w
+    → Leaves x next v w
+both_leave one two = record {
+  layout = two.layout ∙ one.layout;
+  thread = two.thread ∙ one.thread;
+  status = two.status ∙ one.status;
+  used = two.used ∙ one.used;
+  given = two.given ∙ one.given;
+  waits = two.waits;
+  left_is = two.left_is;
+  others = λ y ne. two.others y ne ∙ one.others y ne;
+}
+
+-- After a call a hand can act as before.
+pub still_acts : {x : ℕ} {left : List Duty} {v u : View} → CanAct v → Leaves x left v u → CanAct u
+still_acts acts leaves = ((λ gone. acts.0 (sym leaves.status ∙ gone)), leaves.waits)
+
+-- ---- a newborn object
+
+and_false : (b : Bool) → (b && false) ≡ false
+and_false true = refl
+and_false false = refl
+
+-- An object of a worker is counted.
+workers_counted : (layout : Layout) (t : ℕ) → layout.immortal_lists ≡ 0
+    → IsCounted layout (row_at layout (suc t) 0)
+workers_counted layout t none =
+    let x = row_at layout (suc t) 0 in let first = first_immortal_list layout in
+    let apart : (x == none_row) ≡ false = ne_eqb x none_row (λ e. absurd (omega (arith, e))) in
+    let behind : (nat_le first x && nat_lt x (first + layout.immortal_lists)) ≡ false =
+    elim (cases_Bool (nat_lt x (first + layout.immortal_lists))) [
+      | inr above ↦ ap (λ (b : Bool). nat_le first x && b) above ∙ and_false (nat_le first x)
+      | inl below ↦ elim (cases_Bool (nat_le first x)) [
+        | inr before ↦ ap (λ (b : Bool). b && nat_lt x (first + layout.immortal_lists)) before
+        | inl after ↦
+            let low = ltb-true x (first + layout.immortal_lists) below in
+            let high = leb-true first x after in absurd (omega (arith, low, high, none))
+      ]
+    ] in
+    ap (λ (b : Bool). b || (nat_le first x && nat_lt x (first + layout.immortal_lists))) apart ∙ behind
+
+-- A worker that has just got its hand and given birth to an object is ready to retain and release it.
+pub born_ready : (heap : TableState) (hand before : HandState) (t : ℕ) → 0 < t → heap.layout.immortal_lists ≡ 0
+    → before.view ≡ worker_view heap.layout t → IsOf heap hand → HasBorn before.view hand.view
+    → IsReady heap hand (next_row before.view)
+born_ready heap hand before zero some none was table born = absurd (omega (arith, some))
+born_ready heap hand before (suc t) some none was table born =
+    let v = before.view in let x = next_row v in
+    let layout_is : hand.view.layout ≡ heap.layout = table.1 in
+    let row_is : x ≡ row_at heap.layout (suc t) 0 = ap next_row was in
+    let references : hand.view.references ≡ x ∷ root_row ∷ [] =
+    born.references ∙ ap (λ (u : View). x ∷ u.references) was in
+    record {
+      table = table;
+      running = (born.status ∙ ap (λ (u : View). u.status) was, born.waits);
+      counted =
+          subst (λ (l : Layout). IsCounted l x) (sym layout_is)
+          (subst (IsCounted heap.layout) (sym row_is) (workers_counted heap.layout t none));
+      held =
+          let here : one_if (x == x) ≡ 1 = ap one_if (eq-eqb x x refl) in
+          let all : count_by (λ y. y == x) hand.view.references
+          ≡ one_if (x == x) + count_by (λ y. y == x) (root_row ∷ []) =
+          ap (count_by (λ y. y == x)) references
+          ∙ sum_by-cons (λ (y : ℕ). cond (y == x) 1 0) x (root_row ∷ []) in
+          omega (arith, all, here);
+      idle = ap (filter (is_about x)) (born.work ∙ ap open_work was);
+      few = let two : length hand.view.references ≡ 2 = ap length references in omega (arith, two);
+    }
