@@ -5,8 +5,9 @@
     python3 docs/pictures/draw.py --check   changes nothing; fails if a drawing there is out of date
 
 What is read: the rules of the step relation (crates/brc_model/specs/Rules.antt), the word of each duty (Duties.antt
-there), the numbers of the words (crates/brc_word/specs/Words.antt and Header.antt), the kinds (Kinds.antt) and
-crates.txt. A drawing whose arrows are no longer the rules is an error.
+there), the numbers of the words (crates/brc_word/specs/Words.antt and Header.antt), the kinds (Kinds.antt), the places
+of a table's words (crates/brc_table/specs/Places.antt) and crates.txt. A drawing whose arrows are no longer the rules
+is an error.
 """
 import re
 import sys
@@ -16,6 +17,7 @@ ROOT = Path(__file__).resolve().parents[2]
 PAGE = ROOT / "docs" / "PICTURES.md"
 MODEL = ROOT / "crates" / "brc_model" / "specs"
 WORD = ROOT / "crates" / "brc_word" / "specs"
+TABLE = ROOT / "crates" / "brc_table" / "specs"
 
 
 def fail(message):
@@ -111,6 +113,18 @@ def read_kinds():
     return {name.lower(): int(value) for name, value in found}
 
 
+def read_places():
+    """The sizes of a table's parts, and the line of each sort of word in a tile."""
+    text = (TABLE / "Places.antt").read_text()
+    sizes = {name: int(value) for name, value in re.findall(r"^(line|front|tile) = (\d+)$", text, re.M)}
+    lines = {int(number): name for name, number in re.findall(r"^place \((\w+) x\) = in_tile (\d+) x$", text, re.M)}
+    cells = re.search(r"^cell_place row cell = .* line \* \((\d+) \+ row % line\) \+ cell$", text, re.M)
+    want(len(sizes) == 3 and cells, "Places.antt doesn't give the sizes")
+    want(sorted(lines) == list(range(int(cells.group(1)))), "the lines of a tile aren't those before the cells")
+    want(sizes["tile"] == sizes["line"] * (len(lines) + sizes["line"]), "a tile has another number of lines")
+    return sizes, [lines[number] for number in sorted(lines)]
+
+
 def read_crates():
     crates = {}
     for line in (ROOT / "crates.txt").read_text().splitlines():
@@ -125,6 +139,7 @@ ADDRESSES = read_addresses()
 NUMBERS = read_numbers()
 STATES = read_states()
 KINDS = read_kinds()
+SIZES, TILE_LINES = read_places()
 CRATES = read_crates()
 
 
@@ -396,6 +411,51 @@ def draw_values():
     return [f"  {word:<8}{says:<52}{value:#018x}" for word, says, value in rows]
 
 
+def draw_tile():
+    """The words of a table, and one of its tiles."""
+    line, front, tile = SIZES["line"], SIZES["front"], SIZES["tile"]
+    names = {"Local": "local", "Shared": "shared", "Gate": "gate", "KindOf": "kind", "Mark": "mark"}
+    want(set(TILE_LINES) == set(names), "a tile has other lines")
+    wide, width = 50, 9
+
+    def part(place, says):
+        yield f"{place:>6} ├" + "─" * wide + "┤"
+        yield " " * 7 + "│" + f" {says}".ljust(wide) + "│"
+
+    lines = [" place ┌" + "─" * wide + "┐"]
+    lines.append(f"{0:>6} │" + " thread words: main's at 0, worker t's at t".ljust(wide) + "│")
+    for number in range(2):
+        lines += part(front + tile * number, f"tile {number}: rows {line * number} to {line * number + line - 1}")
+    lines += part(front + tile * 2, "and so on")
+    lines += [" " * 7 + "└" + "─" * wide + "┘", ""]
+    lines.append(f"tile k, from place {front} + {tile} k on; its rows are {line} k to {line} k + {line - 1}")
+    columns = "".join(f"+ {i}".ljust(width + 1) for i in (0, 1)) + "..".ljust(7) + f"+ {line - 1}"
+    lines.append(" " * 8 + columns)
+
+    def rule(left, middle, right):
+        return " " * 6 + left + middle.join(["─" * width, "─" * width, "─" * 6, "─" * width]) + right
+
+    def words(place, says):
+        cells = [says(0), says(1), "..", says(line - 1)]
+        widths = [width, width, 6, width]
+        return f"{'+ ' + str(place):>5} │" + "│".join(f" {c}".ljust(w) for c, w in zip(cells, widths)) + "│"
+
+    lines.append(rule("┌", "┬", "┐"))
+    for number, sort in enumerate(TILE_LINES):
+        lines.append(words(line * number, lambda i: names[sort]) + f" the {names[sort]} word of each row")
+        lines.append(rule("├", "┼", "┤"))
+    first = len(TILE_LINES)
+    lines.append(words(line * first, lambda i: f"cell {i}") + " the cells of its first row")
+    lines.append(rule("├", "┼", "┤"))
+    lines.append(words(line * (first + 1), lambda i: f"cell {i}") + " the cells of its second row")
+    lines.append(rule("├", "┼", "┤"))
+    lines.append("   .. │" + " and so on".ljust(3 * width + 6 + 3) + "│")
+    lines.append(rule("├", "┼", "┤"))
+    lines.append(words(tile - line, lambda i: f"cell {i}") + " the cells of its last row")
+    lines.append(rule("└", "┴", "┘"))
+    return indented(lines)
+
+
 # What each crate does with `drop v1`, and the file to look at.
 WAY = {
     "brc": ("hands the bytes of the module's file down", "crates/brc/src/disk.rt"),
@@ -403,6 +463,8 @@ WAY = {
     "brc_command": ("has the text read, checked, run and reported", "crates/brc_command/src/carrying.rt"),
     "brc_world": ("dispatches it: a release of v1's row, step by step", "crates/brc_world/src/dispatch.rt"),
     "brc_check": ("asks that v1 owns a reference, and leaves it empty", "crates/brc_check/src/instruction.rt"),
+    "brc_heap": ("not on the way: a real thread's release", "crates/brc_heap/src/release.rt"),
+    "brc_table": ("not on the way: one step of a real thread", "crates/brc_table/src/steps.rt"),
     "brc_schedule": ("for `brc step`: reads which thread takes the steps", "crates/brc_schedule/src/line.rt"),
     "brc_model": ("defines all that: conditions, duties, rules, safety", "crates/brc_model/specs/Rules.antt"),
     "brc_report": ("writes the tally, in which the object is closed", "crates/brc_report/src/report.rt"),
@@ -418,7 +480,7 @@ def level(crate):
 
 def draw_layers():
     """The crates by level, with the way of one instruction."""
-    crates = [name for name in CRATES if not name.endswith("_tests")]
+    crates = [name for name in CRATES if not name.endswith(("_tests", "_bench"))]
     want(set(crates) == set(WAY), f"crates.txt has other crates than the way of drop: {sorted(set(crates) ^ set(WAY))}")
     for crate, (_, path) in WAY.items():
         want((ROOT / path).exists(), f"{path} isn't there")
@@ -460,6 +522,7 @@ DRAWINGS = {
     "thread": draw_thread,
     "bits": draw_bits,
     "values": draw_values,
+    "tile": draw_tile,
     "layers": draw_layers,
 }
 
