@@ -17,7 +17,7 @@ use Rattle.brc_table.specs.Places.{place, IsObjectWord}
 use Rattle.brc_table.specs.Rule.{Stands}
 use Rattle.brc_table.specs.Plays.{overwritten}
 
--- In each table that stands, a hand with the one view may have the other.
+-- In each table that meets the rule, a hand with the one view may have the other.
 abbrev pub Becomes : Layout → View → View → Type 0
 Becomes layout v u = (words : List ℕ) (views : List View) (id : ℕ) → Stands layout words views
     → get_elem? views id ≡ some v → Stands layout words (slice_set views id u)
