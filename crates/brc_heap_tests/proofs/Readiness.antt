@@ -1,0 +1,120 @@
+-- Hands stay ready to retain and release the root.
+use Rattle.std.proofs.Common.{◌≡◌, ◌≢◌, ◌≤◌, ◌<◌, ℕ, ◌+◌, Bool, true, false, List, [], ◌∷◌, length, inl, inr, refl, sym, ap, ◌∙◌, subst, arith}
+use Rattle.std.specs.Prelude.{◌==◌, ◌⊎◌, cond, count_by, if◌then◌else◌}
+use Rattle.std.proofs.lemmas.List.Sums.{sum_by-cons}
+use Rattle.brc_model.specs.declared.actor.Status.TheVariants.{Running, Gone}
+use Rattle.brc_model.specs.declared.duty.Duty.{Duty}
+use Rattle.brc_model.specs.declared.layout.Layout.{Layout}
+use Rattle.brc_model.specs.Layout.{root_row, is_immortal_row}
+use Rattle.brc_table.specs.declared.view.View.{View}
+use Rattle.brc_table.specs.Views.{work_about, with_reference, without_reference, without_one, worker_view, next_row}
+use Rattle.brc_table.specs.Opening.{plain_layout}
+use Rattle.brc_model.specs.OpenWork.{is_about}
+use Rattle.std.specs.List.{filter}
+use Rattle.brc_table.specs.Hands.{TableState, HandState, IsOf, IsRunning, HoldsOne, most_references}
+use Rattle.brc_table.specs.Calls.{CanAct}
+use Rattle.brc_heap.specs.Calls.{Leaves, HasBorn}
+use Rattle.brc_heap_tests.specs.Ready.{IsReady}
+
+-- What two calls about the same row leave.
+pub both_leave : {x : ℕ} {left next : List Duty} {v u w : View} → Leaves x left v u → Leaves x next u w
+    → Leaves x next v w
+both_leave one two = record {
+  layout = two.layout ∙ one.layout;
+  thread = two.thread ∙ one.thread;
+  status = two.status ∙ one.status;
+  used = two.used ∙ one.used;
+  given = two.given ∙ one.given;
+  waits = two.waits;
+  left_is = two.left_is;
+  others = λ y ne. two.others y ne ∙ one.others y ne;
+}
+
+-- A hand that runs after a call can act.
+pub still_acts : {x : ℕ} {left : List Duty} {v u : View} → IsRunning v → Leaves x left v u → CanAct u
+still_acts running leaves =
+    ((λ gone. absurd (let e : Running ≡ Gone = sym (leaves.status ∙ running.0) ∙ gone in cc)), leaves.waits)
+
+-- A running hand still runs after a call.
+pub still_runs : {x : ℕ} {left : List Duty} {v u : View} → IsRunning v → Leaves x left v u → IsRunning u
+still_runs running leaves = (leaves.status ∙ running.0, leaves.waits)
+
+-- With one more reference to the root, a hand holds the root, immortal or not.
+held_by : (immortal : Bool) (rows : List ℕ)
+    → (immortal ≡ true) ⊎ (1 ≤ count_by (λ y. y == root_row) (if immortal then rows else root_row ∷ rows))
+held_by true rows = inl refl
+held_by false rows =
+    let more : count_by (λ y. y == root_row) (root_row ∷ rows) ≡ 1 + count_by (λ y. y == root_row) rows =
+    sum_by-cons (λ (y : ℕ). cond (y == root_row) 1 0) root_row rows in
+    let held : 1 ≤ count_by (λ y. y == root_row) (root_row ∷ rows) = omega (arith, more) in inr held
+
+-- A hand that has retained the root holds it.
+pub holds_root : (v u : View) → u.layout ≡ v.layout
+    → u.references ≡ with_reference v.layout root_row v.references → HoldsOne u root_row
+holds_root v u same is =
+    subst (λ (rows : List ℕ). (is_immortal_row u.layout root_row ≡ true) ⊎ (1 ≤ count_by (λ y. y == root_row) rows))
+    (sym is)
+    (subst (λ (l : Layout). (is_immortal_row l root_row ≡ true)
+    ⊎ (1 ≤ count_by (λ y. y == root_row) (with_reference v.layout root_row v.references))) (sym same)
+    (held_by (is_immortal_row v.layout root_row) v.references))
+
+-- To retain the root and release it changes no reference, immortal or not.
+back_by : (immortal : Bool) (rows : List ℕ)
+    → (if immortal then (if immortal then rows else root_row ∷ rows)
+    else without_one root_row (if immortal then rows else root_row ∷ rows)) ≡ rows
+back_by true rows = refl
+back_by false rows = refl
+
+-- A hand that has retained the root and released it holds what it held before.
+pub holds_again : (v u w : View) → u.layout ≡ v.layout
+    → u.references ≡ with_reference v.layout root_row v.references
+    → w.references ≡ without_reference u.layout root_row u.references → w.references ≡ v.references
+holds_again v u w same is after =
+    after
+    ∙ (ap (λ (rows : List ℕ). without_reference u.layout root_row rows) is
+    ∙ (ap (λ (l : Layout). without_reference l root_row (with_reference v.layout root_row v.references)) same
+    ∙ back_by (is_immortal_row v.layout root_row) v.references))
+
+-- A hand that has nothing left to do about the root, and holds what it held before, is ready again.
+pub ready_again : {heap : TableState} {before after : HandState} → IsReady heap before → IsOf heap after
+    → Leaves root_row [] before.view after.view → after.view.references ≡ before.view.references
+    → IsReady heap after
+ready_again ready table leaves same = record {
+  table = table;
+  running = still_runs ready.running leaves;
+  held = subst (λ (rows : List ℕ). 1 ≤ count_by (λ y. y == root_row) rows) (sym same) ready.held;
+  idle = leaves.left_is;
+  few = subst (λ (rows : List ℕ). length rows < most_references) (sym same) ready.few;
+}
+
+-- Work about another row is as it was.
+pub other_work : (v u : View) (x : ℕ) (work : List Duty) → work_about x v ≡ work → Leaves root_row [] v u
+    → x ≢ root_row → work_about x u ≡ work
+other_work v u x work is leaves ne = leaves.others x ne ∙ is
+
+-- The worker of the smallest heap gives birth to an object, which isn't the root, and releases it. The worker then
+-- holds what it held before, and is ready again.
+pub ready_after_release : {heap : TableState} {before after : HandState} {x : ℕ} {left : List Duty} (born : View)
+    → before.view ≡ worker_view (plain_layout 1 1) 1 → IsReady heap before → x ≡ next_row before.view
+    → HasBorn before.view born → IsOf heap after → Leaves x left born after.view
+    → after.view.references ≡ without_reference born.layout x born.references → IsReady heap after
+ready_after_release {heap} {before} {after} {x} {left} born first ready here birth table leaves released =
+    let v = before.view in
+    let row : x ≡ 2 = here ∙ ap next_row first in
+    let back : without_reference v.layout (next_row v) (next_row v ∷ v.references) ≡ v.references =
+    subst (λ (z : View). without_reference z.layout (next_row z) (next_row z ∷ z.references) ≡ z.references)
+    (sym first) refl in
+    let same : after.view.references ≡ v.references =
+    released
+    ∙ (ap (λ (l : Layout). without_reference l x born.references) birth.layout
+    ∙ (ap (λ (rows : List ℕ). without_reference v.layout x rows) birth.references
+    ∙ (ap (λ (y : ℕ). without_reference v.layout y (next_row v ∷ v.references)) here ∙ back))) in
+    record {
+      table = table;
+      running = (leaves.status ∙ (birth.status ∙ ready.running.0), leaves.waits);
+      held = subst (λ (rows : List ℕ). 1 ≤ count_by (λ y. y == root_row) rows) (sym same) ready.held;
+      idle =
+          leaves.others root_row (λ e. absurd (omega (arith, row, e)))
+          ∙ (ap (filter (is_about root_row)) birth.work ∙ ready.idle);
+      few = subst (λ (rows : List ℕ). length rows < most_references) (sym same) ready.few;
+    }

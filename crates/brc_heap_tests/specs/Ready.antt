@@ -1,0 +1,28 @@
+-- What the tests' helpers require of a hand.
+use Rattle.std.specs.Prelude.{◌≤◌, ◌<◌, length, List, [], ◌∷◌}
+use Rattle.std.specs.Coded.{Unit-prop}
+use Rattle.std.proofs.Props.{props}
+use Rattle.brc_model.specs.declared.duty.Duty.{Duty}
+use Rattle.brc_model.specs.Layout.{root_row}
+use Rattle.brc_table.specs.Views.{holds}
+use Rattle.brc_table.specs.Hands.{TableState, HandState, IsOf, IsRunning, HasNoWork, MayWait, most_references}
+
+-- The hand runs, holds a reference to the root, and has nothing to do about it.
+pub record IsReady (heap : TableState) (hand : HandState) : Type 0 where
+  pub table : IsOf heap hand
+  pub running : IsRunning hand.view
+  pub held : 1 ≤ holds hand.view root_row
+  pub idle : HasNoWork hand.view root_row
+  pub few : length hand.view.references < most_references
+
+-- ---- a fact that a struct can keep
+
+pub waits-prop : (ds : List Duty) → IsProp (MayWait ds)
+waits-prop [] = Unit-prop
+waits-prop (d ∷ []) = Prim.hlevel props
+waits-prop (d ∷ e ∷ ds) = λ one other. absurd one
+
+pub ruleset ready_props = (props, waits-prop)
+
+pub ready-prop : (heap : TableState) (hand : HandState) → IsProp (IsReady heap hand)
+ready-prop heap hand = Prim.hlevel ready_props

@@ -1,0 +1,99 @@
+//! Hands that retain and release the root.
+
+ghost use Rattle.std.specs.Prelude.{◌≡◌, ◌<◌, ◌≤◌, [], ◌∷◌, true, IfOk, OnOk};
+ghost use Rattle.brc_model.specs.declared.duty.Reason.TheVariants.{Own};
+ghost use Rattle.brc_model.specs.declared.duty.Duty.TheVariants.{SharedLoad};
+ghost use Rattle.brc_model.specs.Layout.{root_row};
+ghost use Rattle.brc_model.specs.Limits.{worker_limit, row_limit};
+ghost use Rattle.brc_table.specs.Opening.{plain_layout};
+ghost use Rattle.brc_table.specs.Views.{work_about, without_reference, main_view, worker_view};
+ghost use Rattle.brc_table.specs.Hands.{IsOf, IsRunning, HoldsOne, HasNoWork};
+ghost use Rattle.brc_table.specs.Calls.{CanAct};
+ghost use Rattle.brc_heap.specs.Calls.{Leaves, shared_left};
+ghost use Rattle.brc_heap_tests.specs.Ready.{IsReady};
+
+use brc_heap::{Hand, Heap, LocalRelease, SharedRelease};
+use std::alloc::Global;
+use std::test::*;
+
+/// The row of none, which is immortal.
+pub const NONE: u32 = 0;
+
+/// The row of the root, which main owns.
+pub const ROOT: u32 = 1;
+
+/// More tries than a release through the shared word takes.
+const TRIES: u32 = 100_000_000;
+
+/// Returns a heap, and main's hand.
+pub fn opened(alloc: Global, workers: u8, rows: u16) -> Result<(Heap<u32>, Hand<u32>), Fail>
+    requires workers { (0 < workers) × (workers ≤ worker_limit) }
+    requires rows { (0 < rows) × (rows ≤ row_limit) }
+    ensures layout { IfOk result (λ made. made.0.layout ≡ plain_layout workers rows) }
+    ensures view { IfOk result (λ made. made.1.view ≡ main_view (plain_layout workers rows)) }
+    ensures ready { IfOk result (λ made. IsReady made.0 made.1) }
+    ensures main { IfOk result (λ made. made.1.view.thread ≡ 0) }
+{
+    Ok(Heap::new(alloc, workers, rows)?)
+}
+
+/// Gives out the worker's hand. Main's hand is ready for more.
+pub fn worker(heap: &Heap<u32>, main: &mut Hand<u32>, thread: u8) -> Result<Hand<u32>, Fail>
+    requires ready { IsReady heap.now main.old }
+    requires main { main.old.view.thread ≡ 0 }
+    ensures view { IfOk result (λ hand. hand.view ≡ worker_view heap.now.layout thread) }
+    ensures worker { IfOk result (λ hand. IsReady heap.now hand) }
+    ensures ready { OnOk result (IsReady heap.now main.new) }
+    ensures main { OnOk result (main.new.view.thread ≡ 0) }
+{
+    Ok(heap.hand_out(main, thread)?)
+}
+
+/// Tries to release the root through its shared word, until no other thread changes the word in between.
+pub fn release_shared(heap: &Heap<u32>, hand: &mut Hand<u32>) -> SharedRelease
+    requires table { IsOf heap.now hand.old }
+    requires acts { CanAct hand.old.view }
+    requires duty { work_about root_row hand.old.view ≡ SharedLoad root_row Own ∷ [] }
+    ensures table { IsOf heap.now hand.new }
+    ensures left { Leaves root_row (shared_left root_row Own result) hand.old.view hand.new.view }
+    ensures references { hand.new.view.references ≡ hand.old.view.references }
+{
+    for _ in 0..TRIES {
+        match heap.try_release_shared(hand, ROOT) {
+            SharedRelease::Again => {}
+            ended => return ended,
+        }
+    }
+    SharedRelease::Again
+}
+
+/// Releases the root. Returns whether references are left, and nothing is left to do.
+#[tactic(auto, using(crate::proofs::Readiness::both_leave, crate::proofs::Readiness::still_acts))]
+pub fn release(heap: &Heap<u32>, hand: &mut Hand<u32>) -> bool
+    requires table { IsOf heap.now hand.old }
+    requires running { IsRunning hand.old.view }
+    requires held { HoldsOne hand.old.view root_row }
+    requires idle { HasNoWork hand.old.view root_row }
+    ensures table { IsOf heap.now hand.new }
+    ensures left { result ≡ true → Leaves root_row [] hand.old.view hand.new.view }
+    ensures references { hand.new.view.references
+        ≡ without_reference hand.old.view.layout root_row hand.old.view.references }
+{
+    match heap.release_local(hand, ROOT) {
+        LocalRelease::Kept => true,
+        LocalRelease::Share => matches!(release_shared(heap, hand), SharedRelease::Kept),
+        _ => false,
+    }
+}
+
+/// Retains the root and releases it again. Returns whether references are left, and nothing is left to do. The hand
+/// then holds what it held before.
+pub fn retain_and_release(heap: &Heap<u32>, hand: &mut Hand<u32>) -> bool
+    requires ready { IsReady heap.now hand.old }
+    ensures ready { result ≡ true → IsReady heap.now hand.new }
+    ensures left { result ≡ true → Leaves root_row [] hand.old.view hand.new.view }
+    ensures references { hand.new.view.references ≡ hand.old.view.references }
+{
+    heap.retain(hand, ROOT);
+    release(heap, hand)
+}

@@ -1,0 +1,37 @@
+ghost use Rattle.std.specs.Prelude.{◌≡◌, true};
+ghost use Rattle.brc_heap_tests.specs.Ready.{IsReady};
+
+use crate::calls::{opened, retain_and_release, worker};
+use brc_heap::{Hand, Heap};
+use std::test::*;
+
+/// Asks for the worker's hand. Returns whether it is refused; main's hand is then as before.
+fn refuses(heap: &Heap<u32>, main: &mut Hand<u32>, thread: u8) -> bool
+    requires ready { IsReady heap.now main.old }
+    requires main { main.old.view.thread ≡ 0 }
+    ensures same { result ≡ true → main.new ≡ main.old }
+{
+    heap.hand_out(main, thread).is_err()
+}
+
+#[test]
+fn taken(rt: HostRuntime) -> Result<(), Fail> {
+    let (heap, mut main) = opened(rt.alloc(), 2, 1)?;
+    let _hand = worker(&heap, &mut main, 1)?;
+    assert!(rt; refuses(&heap, &mut main, 0));
+    assert!(rt; refuses(&heap, &mut main, 1));
+    assert!(rt; refuses(&heap, &mut main, 3));
+    assert!(rt; retain_and_release(&heap, &mut main));
+    assert!(rt; heap.hand_out(&mut main, 2).is_ok());
+    Ok(())
+}
+
+// The first, second or third allocation fails under `rt try --test --fail-alloc 1`, 2 or 3.
+#[test]
+fn no_memory(rt: HostRuntime) -> Result<(), Fail> {
+    match Heap::<u32>::new(rt.alloc(), 32, 1024) {
+        Ok((heap, main)) => assert_eq!(rt; heap.words().workers(), 32),
+        Err(error) => assert_eq!(rt; format!(in rt.alloc(); "{error}")?.as_str(), "no memory"),
+    }
+    Ok(())
+}
