@@ -1,7 +1,6 @@
 use Rattle.std.specs.Prelude.{◌≡◌, [], ◌∷◌}
 use Rattle.brc_model.specs.declared.duty.Reason.TheVariants.{Own}
 use Rattle.brc_model.specs.declared.duty.Duty.TheVariants.{SharedLoad}
-use Rattle.brc_table.specs.Views.{work_about}
 use Rattle.brc_table.specs.Hands.{IsOf}
 use Rattle.brc_heap.specs.Calls.{Leaves}
 use Rattle.brc_bench.proofs.pairs.release_shared.Given as goal
