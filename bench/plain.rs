@@ -280,13 +280,15 @@ struct Run {
     slowest: Duration,
 }
 
-/// Runs each job on a thread of its own. The jobs start together.
-fn run_together<Job: FnOnce() -> u64 + Send>(jobs: Vec<Job>) -> Run {
+/// Runs each job on a thread of its own, `n` times. The jobs start together, after half as many untimed runs: new threads
+/// may share a processor until the kernel moves them apart.
+fn run_together<Job: FnMut(u64) -> u64 + Send>(jobs: Vec<Job>, n: u64) -> Run {
     let barrier = Barrier::new(jobs.len());
-    let timed = |job: Job| {
+    let timed = |mut job: Job| {
+        job(n / 2);
         barrier.wait();
         let start = Instant::now();
-        (job(), start.elapsed())
+        (job(n), start.elapsed())
     };
     thread::scope(|scope| {
         let timed = &timed;
@@ -326,7 +328,7 @@ fn counted(plan: &[(usize, usize)], n: u64) -> Run {
         let &(_, owner) = plan.iter().find(|(thread, _)| *thread as u64 == hand.thread)?;
         Some((hand, rows[owner]))
     });
-    let run = run_together(acting.map(|(hand, row)| move || pairs(hand, block, row, n)).collect());
+    let run = run_together(acting.map(|(hand, row)| move |n| pairs(hand, block, row, n)).collect(), n);
     assert_eq!(counts(), before, "each count ends as it began");
     run
 }
@@ -363,7 +365,7 @@ fn arc_pairs<T>(arc: &Arc<T>, n: u64) -> u64 {
 /// Runs `n` pairs on each of `threads` threads, all at one `Arc`.
 fn one_arc(threads: u64, n: u64) -> Run {
     let arc = &Arc::new(7_u64);
-    let run = run_together((0..threads).map(|_| move || arc_pairs(arc, n)).collect());
+    let run = run_together((0..threads).map(|_| move |n| arc_pairs(arc, n)).collect(), n);
     assert_eq!(Arc::strong_count(arc), 1, "the count ends as it began");
     run
 }
@@ -375,7 +377,7 @@ struct Apart(#[allow(dead_code)] u64);
 /// Runs `n` pairs on each of `threads` threads, each at an `Arc` of its own.
 fn own_arcs(threads: u64, n: u64) -> Run {
     let arcs: Vec<Arc<Apart>> = (0..threads).map(|thread| Arc::new(Apart(thread))).collect();
-    let run = run_together(arcs.iter().map(|arc| move || arc_pairs(arc, n)).collect());
+    let run = run_together(arcs.iter().map(|arc| move |n| arc_pairs(arc, n)).collect(), n);
     assert!(arcs.iter().all(|arc| Arc::strong_count(arc) == 1), "each count ends as it began");
     run
 }

@@ -17,7 +17,8 @@ const TRIES: u32 = 1_000_000_000;
 
 /// Retains and releases an object `times` times. Returns how often a reference was left, which is always.
 pub fn pairs(heap: &Heap<()>, hand: &mut Hand<()>, row: u32, times: u32) -> u32
-    requires { IsReady heap.now hand.old row }
+    requires ready { IsReady heap.now hand.old row }
+    ensures { result ≡ times → IsReady heap.now hand.new row }
 {
     let mut kept = 0;
     for _ in 0..times {

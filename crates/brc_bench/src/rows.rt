@@ -32,11 +32,19 @@ const MOST_ROWS: u16 = 1024;
 /// The most heaps that births use, one after another.
 const MOST_HEAPS: u32 = 1000;
 
-/// How often the threads did what they were asked to, and how long they took together.
+/// How often the threads did what they were asked to, and how long the slowest took.
 #[derive(Drop)]
 pub struct Run {
     pub done: u32,
     pub time: Duration,
+}
+
+/// Returns the run of several threads at once.
+fn together(one: Run, two: Run) -> Run {
+    Run {
+        done: one.done.saturating_add(two.done),
+        time: one.time.max(two.time),
+    }
 }
 
 /// A hand with its row, for a thread to take with it.
@@ -48,14 +56,23 @@ struct Worker<'a> {
     ghost ready: { IsReady heap.now hand row } by { ready-prop heap.now hand row },
 }
 
-/// Retains and releases the worker's row.
-fn work(worker: Worker<'_>, times: u32) -> u32 {
+/// Retains and releases the worker's row, and takes the time, after half as many untimed ones: new threads may share a
+/// processor until the kernel moves them apart.
+fn work<R: Clock>(rt: &R, worker: Worker<'_>, times: u32) -> io::Result<Run> {
     let Worker {
         heap,
         mut hand,
         row,
     } = worker;
-    pairs(heap, &mut hand, row, times)
+    if pairs(heap, &mut hand, row, times / 2) != times / 2 {
+        return Err(io::Error::from(ErrorKind::InvalidData));
+    }
+    let start = Instant::now(rt)?;
+    let done = pairs(heap, &mut hand, row, times);
+    Ok(Run {
+        done,
+        time: start.elapsed(rt)?,
+    })
 }
 
 /// Returns a heap of four workers, and main's hand.
@@ -75,13 +92,13 @@ pub fn owner_alone<R: Clock + Threads + Sync>(
     alloc: Global,
     times: u32,
 ) -> io::Result<Run> {
-    let (heap, mut main) = opened(alloc)?;
-    let start = Instant::now(rt)?;
-    let done = pairs(&heap, &mut main, ROOT, times);
-    Ok(Run {
-        done,
-        time: start.elapsed(rt)?,
-    })
+    let (heap, main) = opened(alloc)?;
+    let owner = Worker {
+        heap: &heap,
+        hand: main,
+        row: ROOT,
+    };
+    work(rt, owner, times)
 }
 
 /// Gives out the worker's hand.
@@ -108,13 +125,7 @@ pub fn other_alone<R: Clock + Threads + Sync>(
     times: u32,
 ) -> io::Result<Run> {
     let (heap, mut main) = opened(alloc)?;
-    let one = given(&heap, &mut main, 1)?;
-    let start = Instant::now(rt)?;
-    let done = work(one, times);
-    Ok(Run {
-        done,
-        time: start.elapsed(rt)?,
-    })
+    work(rt, given(&heap, &mut main, 1)?, times)
 }
 
 /// Main and a worker at once, at the root.
@@ -126,12 +137,8 @@ pub fn both<R: Clock + Threads + Sync>(rt: &R, alloc: Global, times: u32) -> io:
         hand: main,
         row: ROOT,
     };
-    let start = Instant::now(rt)?;
-    let (one, two) = thread::join(rt, || work(owner, times), || work(other, times));
-    Ok(Run {
-        done: one.saturating_add(two),
-        time: start.elapsed(rt)?,
-    })
+    let (one, two) = thread::join(rt, || work(rt, owner, times), || work(rt, other, times));
+    Ok(together(one?, two?))
 }
 
 /// Gives out the worker's hand, which gives birth to a number. The worker's row is the number's.
@@ -155,13 +162,7 @@ fn owner<'a>(heap: &'a Heap<()>, main: &mut Hand<()>, thread: u8) -> io::Result<
 /// One thread, at a row of its own.
 pub fn one_thread<R: Clock + Threads + Sync>(rt: &R, alloc: Global, times: u32) -> io::Result<Run> {
     let (heap, mut main) = opened(alloc)?;
-    let one = owner(&heap, &mut main, 1)?;
-    let start = Instant::now(rt)?;
-    let done = work(one, times);
-    Ok(Run {
-        done,
-        time: start.elapsed(rt)?,
-    })
+    work(rt, owner(&heap, &mut main, 1)?, times)
 }
 
 /// Two threads, each at a row of its own.
@@ -173,12 +174,8 @@ pub fn two_threads<R: Clock + Threads + Sync>(
     let (heap, mut main) = opened(alloc)?;
     let one = owner(&heap, &mut main, 1)?;
     let two = owner(&heap, &mut main, 2)?;
-    let start = Instant::now(rt)?;
-    let (one, two) = thread::join(rt, || work(one, times), || work(two, times));
-    Ok(Run {
-        done: one.saturating_add(two),
-        time: start.elapsed(rt)?,
-    })
+    let (one, two) = thread::join(rt, || work(rt, one, times), || work(rt, two, times));
+    Ok(together(one?, two?))
 }
 
 /// Four threads, each at a row of its own.
@@ -192,20 +189,12 @@ pub fn four_threads<R: Clock + Threads + Sync>(
     let two = owner(&heap, &mut main, 2)?;
     let three = owner(&heap, &mut main, 3)?;
     let four = owner(&heap, &mut main, 4)?;
-    let start = Instant::now(rt)?;
     let (low, high) = thread::join(
         rt,
-        || thread::join(rt, || work(one, times), || work(two, times)),
-        || thread::join(rt, || work(three, times), || work(four, times)),
+        || thread::join(rt, || work(rt, one, times), || work(rt, two, times)),
+        || thread::join(rt, || work(rt, three, times), || work(rt, four, times)),
     );
-    Ok(Run {
-        done: low
-            .0
-            .saturating_add(low.1)
-            .saturating_add(high.0)
-            .saturating_add(high.1),
-        time: start.elapsed(rt)?,
-    })
+    Ok(together(together(low.0?, low.1?), together(high.0?, high.1?)))
 }
 
 /// Births by one worker after another, over as many heaps as it takes. The heaps are made outside the time.

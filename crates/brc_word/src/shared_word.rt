@@ -1,15 +1,19 @@
 //! The changes and the tests of the shared word.
 
 ghost use Rattle.std.specs.Prelude.{◌≡◌, ◌≢◌, ◌+◌, ◌*◌, ◌≤◌, ◌<◌, ◌==◌, ◌↔◌, pos, ◌+ℤ◌, IsTrue};
+ghost use Rattle.brc_word.specs.declared.shared.Phase.{Phase};
 ghost use Rattle.brc_word.specs.declared.shared.Shared.{Shared};
+ghost use Rattle.brc_word.specs.declared.shared.SharedChoice.{SharedChoice};
 ghost use Rattle.brc_word.specs.Header.{IsCount, IsSharedWord, total, at_zero, at_end, after_choice};
 ghost use Rattle.brc_word.specs.Words.{biased_part, phase_part, bias, fresh_word, dead_word, released_word};
 ghost use Rattle.brc_word.specs.Words.{merged_word};
 
-use crate::shared::{Phase, Shared, SharedChoice, merge_word, pack, release_choice, unpack};
+use crate::shared::{merge_word, pack, unpack};
 
 /// A count of one in the word: the state has the two bits below.
 const ONE_COUNT: u64 = 4;
+/// The state queued, in the two bits.
+const QUEUED: u64 = 2;
 /// The word of count 0 and state default.
 const FRESH: u64 = 1 << 42;
 /// The word of count 0 and state merged.
@@ -38,16 +42,11 @@ pub fn released(word: u64) -> u64
     ensures less { (shared : Shared) → IsCount shared.count → IsSharedWord word shared → shared ≢ at_zero
         → IsSharedWord result (after_choice SharedChoice.Subtract shared) }
 {
-    let shared = unpack(word).unwrap();
-    match release_choice(shared) {
-        SharedChoice::Subtract => pack(Shared {
-            count: shared.count - 1,
-            phase: shared.phase,
-        }),
-        SharedChoice::Queue => pack(Shared {
-            count: shared.count,
-            phase: Phase::Queued,
-        }),
+    // An exchange waits for this word, so it is computed from the word alone, without a jump on its state.
+    if is_fresh(word) {
+        word + QUEUED
+    } else {
+        word - ONE_COUNT
     }
 }
 
