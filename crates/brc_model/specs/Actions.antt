@@ -34,8 +34,12 @@ pub data Action : Type 0 where
   Stuck : Action
   -- it takes a silent step: these of its references move, and it is then at this place
   Silent : List Move → Place → Action
-  -- it does a duty, with these duties behind it, and is then at this place
-  Does : Duty → List Duty → Place → Action
+  -- it does a duty, with these duties behind it, and is then at the place that the word found decides
+  Does : Duty → List Duty → (ℕ → Place) → Action
+
+-- the place, whatever word the duty finds
+abbrev pub always : Place → ℕ → Place
+always place found = place
 
 abbrev pub with_row : Option ℕ → (ℕ → Action) → Action
 with_row None work = Stuck
@@ -51,13 +55,14 @@ dispatch_instruction layout t used left at variables None = Stuck
 dispatch_instruction layout t used left at variables (Some (Num to value otherwise)) =
     if has_room layout t used
     then Does (BirthKind (row_at layout t used) (ByVariable to) (number_word value)) []
-    (InCall left (at + 1) (slice_set variables to (Some (row_at layout t used))))
+    (always (InCall left (at + 1) (slice_set variables to (Some (row_at layout t used)))))
     else Silent [] (InCall left otherwise (slice_set variables to None))
 dispatch_instruction layout t used left at variables (Some (NoneObject to)) =
     Silent (gain t (ByVariable to) none_row) (InCall left (at + 1) (slice_set variables to (Some none_row)))
 dispatch_instruction layout t used left at variables (Some (Newref to from)) =
     with_row (row_of variables from)
-    (λ row. Does (RetainLoad row (ByVariable to)) [] (InCall left (at + 1) (slice_set variables to (Some row))))
+    (λ row. Does (RetainLoad row (ByVariable to)) []
+    (always (InCall left (at + 1) (slice_set variables to (Some row)))))
 dispatch_instruction layout t used left at variables (Some (MoveReference to from)) =
     with_row (row_of variables from)
     (λ row. Silent (pass_on t (ByVariable from) (ByVariable to) row)
@@ -65,10 +70,11 @@ dispatch_instruction layout t used left at variables (Some (MoveReference to fro
 dispatch_instruction layout t used left at variables (Some (Drop from)) =
     with_row (row_of variables from)
     (λ row. Does (ReleaseLoad row (ByVariable from)) (Settle ∷ [])
-    (InCall left (at + 1) (slice_set variables from None)))
+    (always (InCall left (at + 1) (slice_set variables from None))))
 dispatch_instruction layout t used left at variables (Some (Goto to)) = Silent [] (InCall left to variables)
 dispatch_instruction layout t used left at variables (Some (Ret from)) =
-    with_row (row_of variables from) (λ row. Does (ReleaseLoad row (ByVariable from)) (Settle ∷ []) (Idle left))
+    with_row (row_of variables from)
+    (λ row. Does (ReleaseLoad row (ByVariable from)) (Settle ∷ []) (always (Idle left)))
 dispatch_instruction layout t used left at variables (Some Fail) = Silent [] (Idle left)
 
 -- Returns what a thread with an empty agenda does. With no call left it gives up its reference to the root, settles,
@@ -76,7 +82,7 @@ dispatch_instruction layout t used left at variables (Some Fail) = Silent [] (Id
 abbrev pub dispatch : Layout → ℕ → ℕ → List Instr → Place → Action
 dispatch layout t used code Exiting = Stuck
 dispatch layout t used code (Idle zero) =
-    Does (ReleaseLoad root_row AsCaller) (Settle ∷ Leave 0 used ∷ []) Exiting
+    Does (ReleaseLoad root_row AsCaller) (Settle ∷ Leave 0 used ∷ []) (always Exiting)
 dispatch layout t used code (Idle (suc left)) =
     dispatch_instruction layout t used left 0 entry_variables (slice_get code 0)
 dispatch layout t used code (InCall left at variables) =
@@ -99,7 +105,7 @@ may_claim layout t a row =
 abbrev pub agenda_action : List Function → Layout → ℕ → StepActor → List Duty → Action
 agenda_action functions layout t a [] =
     dispatch layout t a.actor.used (code_of (slice_get functions a.function)) a.place
-agenda_action functions layout t a (d ∷ rest) = Does d rest a.place
+agenda_action functions layout t a (d ∷ rest) = Does d rest (always a.place)
 
 -- Returns what a thread of the status does: one that is gone takes no step.
 abbrev pub status_action : List Function → Layout → ℕ → StepActor → Status → Action
@@ -112,4 +118,5 @@ status_action functions layout t a Leaving = agenda_action functions layout t a 
 abbrev pub action_of : List Function → Layout → ℕ → StepActor → Choice → Action
 action_of functions layout t a Ok = status_action functions layout t a a.actor.status
 action_of functions layout t a Fault = status_action functions layout t a a.actor.status
-action_of functions layout t a (Claim row) = if may_claim layout t a row then Does (ClaimMark row) [] a.place else Skip
+action_of functions layout t a (Claim row) =
+    if may_claim layout t a row then Does (ClaimMark row) [] (always a.place) else Skip

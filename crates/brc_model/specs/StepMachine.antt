@@ -58,7 +58,7 @@ of_thread otherwise of_actor (Some a) = of_actor a
 abbrev pub at_place : StepActor → Place → StepActor
 at_place a place = record { function = a.function; place = place; actor = a.actor }
 
--- the thread after its first duty
+-- the thread after its first duty, which found this word, at this place
 abbrev pub step_actor : Layout → ℕ → StepActor → Duty → List Duty → Place → ℕ → StepActor
 step_actor layout t a d rest place found =
     record { function = a.function; place = place; actor = actor_by layout t a.actor d rest found }
@@ -76,15 +76,16 @@ silent_by m t a moves place =
     }
 
 -- Returns the machine after the thread's duty: its words, its abstract state and its lives are the counting machine's.
-abbrev pub does_by : StepMachine → ℕ → StepActor → Duty → List Duty → Place → StepMachine
+-- The word found decides the thread's place.
+abbrev pub does_by : StepMachine → ℕ → StepActor → Duty → List Duty → (ℕ → Place) → StepMachine
 does_by m t a d rest place =
     let done = done_by (counting m) t a.actor d rest in
+    let found = m.memory (address_of m.layout t a.actor.head d) in
     record {
       functions = m.functions;
       layout = m.layout;
       memory = done.memory;
-      actors =
-          slice_set m.actors t (step_actor m.layout t a d rest place (m.memory (address_of m.layout t a.actor.head d)));
+      actors = slice_set m.actors t (step_actor m.layout t a d rest (place found) found);
       abstract = done.abstract;
       life = done.life;
     }

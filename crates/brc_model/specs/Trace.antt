@@ -34,10 +34,10 @@ pub data MakesStep (functions : List Function) (layout : Layout) (t : ℕ) (a : 
       → action_of functions layout t a choice ≡ Silent moves place
       → MakesStep functions layout t a [] (at_place a place)
   -- a duty, which may find any value
-  DoesDuty : (choice : Choice) (d : Duty) (rest : List Duty) (place : Place) (found : ℕ)
+  DoesDuty : (choice : Choice) (d : Duty) (rest : List Duty) (place : ℕ → Place) (found : ℕ)
       → action_of functions layout t a choice ≡ Does d rest place
       → MakesStep functions layout t a (event_of layout t a.actor d found ∷ [])
-      (step_actor layout t a d rest place found)
+      (step_actor layout t a d rest (place found) found)
 
 -- several steps, one after another
 pub data CanMake (functions : List Function) (layout : Layout) (t : ℕ) : StepActor → List WordEvent → StepActor

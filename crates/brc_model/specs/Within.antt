@@ -66,5 +66,5 @@ pub record IsWithin (w : World) (t : ℕ) (a : Actor) (d : Duty) : Type 0 where
 -- each duty that the thread may do at its next event is within all bounds
 abbrev pub StepsWithin : World → ℕ → StepActor → Type 0
 StepsWithin w t a =
-    (choice : Choice) (d : Duty) (rest : List Duty) (place : Place)
+    (choice : Choice) (d : Duty) (rest : List Duty) (place : ℕ → Place)
     → action_of w.functions w.layout t a choice ≡ Does d rest place → IsWithin w t a.actor d

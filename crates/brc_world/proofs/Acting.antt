@@ -12,7 +12,7 @@ use Rattle.brc_world.specs.declared.did.Did.{Did}
 use Rattle.brc_world.specs.declared.did.Did.TheVariants as answers
 use Rattle.brc_world.specs.declared.dispatch.Start.{Start}
 use Rattle.brc_world.specs.declared.dispatch.Start.TheVariants as starts
-use Rattle.brc_world.specs.Actors.{start_by, started, memory_done, actor_done, memory_by, actor_by, did_by, CanDo, CanAct, finds_mark, memory_claimed, actor_claimed, did_claim}
+use Rattle.brc_world.specs.Actors.{start_by, started, found_by, memory_done, actor_done, memory_by, actor_by, did_by, CanDo, CanAct, finds_mark, memory_claimed, actor_claimed, did_claim}
 use Rattle.brc_model.specs.declared.layout.Layout.{Layout}
 
 -- the answer, the words and the thread are those after the action
@@ -27,42 +27,44 @@ pub record IsStep (layout : Layout) (t : ℕ) (memory : Address → ℕ) (a : St
 
 stuck_by : (layout : Layout) (t : ℕ) (memory : Address → ℕ) (a : StepActor) (x : Action) → TakesStep x
     → starts.Stuck ≡ start_by x
-    → IsStep layout t memory a x answers.Same memory (started a x)
-stuck_by layout t memory a Skip steps e = absurd steps
-stuck_by layout t memory a Stuck steps e = record { answer = refl; memory_is = refl; actor = refl }
-stuck_by layout t memory a (Silent moves place) steps e = absurd cc
-stuck_by layout t memory a (Does d rest place) steps e = absurd cc
+    → (found : ℕ) → IsStep layout t memory a x answers.Same memory (started a x found)
+stuck_by layout t memory a Skip steps e found = absurd steps
+stuck_by layout t memory a Stuck steps e found = record { answer = refl; memory_is = refl; actor = refl }
+stuck_by layout t memory a (Silent moves place) steps e found = absurd cc
+stuck_by layout t memory a (Does d rest place) steps e found = absurd cc
 
 moved_by : (layout : Layout) (t : ℕ) (memory : Address → ℕ) (a : StepActor) (x : Action) → starts.Moved ≡ start_by x
-    → IsStep layout t memory a x answers.Moved memory (started a x)
-moved_by layout t memory a Skip e = absurd cc
-moved_by layout t memory a Stuck e = absurd cc
-moved_by layout t memory a (Silent moves place) e = record { answer = refl; memory_is = refl; actor = refl }
-moved_by layout t memory a (Does d rest place) e = absurd cc
+    → (found : ℕ) → IsStep layout t memory a x answers.Moved memory (started a x found)
+moved_by layout t memory a Skip e found = absurd cc
+moved_by layout t memory a Stuck e found = absurd cc
+moved_by layout t memory a (Silent moves place) e found = record { answer = refl; memory_is = refl; actor = refl }
+moved_by layout t memory a (Does d rest place) e found = absurd cc
 
 doing_is : (d e : Duty) → starts.Doing d ≡ starts.Doing e → e ≡ d
 doing_is d e same = cc
 
 does_by : (layout : Layout) (t : ℕ) (memory : Address → ℕ) (a : StepActor) (x : Action) (d : Duty)
     → starts.Doing d ≡ start_by x
-    → IsStep layout t memory a x answers.Moved (memory_done layout t memory (started a x) d)
-    (actor_done layout t memory (started a x) d)
+    → IsStep layout t memory a x answers.Moved
+    (memory_done layout t memory (started a x (found_by layout t memory a d)) d)
+    (actor_done layout t memory (started a x (found_by layout t memory a d)) d)
 does_by layout t memory a Skip d e = absurd cc
 does_by layout t memory a Stuck d e = absurd cc
 does_by layout t memory a (Silent moves place) d e = absurd cc
 does_by layout t memory a (Does c rest place) d e =
-    let b = started a (Does c rest place) in
-    subst (λ (f : Duty). IsStep layout t memory a (Does c rest place) answers.Moved (memory_done layout t memory b f)
-    (actor_done layout t memory b f)) (doing_is d c e) (record { answer = refl; memory_is = refl; actor = refl })
+    let b = λ (f : Duty). started a (Does c rest place) (found_by layout t memory a f) in
+    subst (λ (f : Duty). IsStep layout t memory a (Does c rest place) answers.Moved
+    (memory_done layout t memory (b f) f) (actor_done layout t memory (b f) f)) (doing_is d c e)
+    (record { answer = refl; memory_is = refl; actor = refl })
 
 can_by : (layout : Layout) (t n threads : ℕ) (memory : Address → ℕ) (a : StepActor) (x : Action) (d : Duty)
     → starts.Doing d ≡ start_by x
-    → CanAct layout t n threads memory a x → CanDo layout t n threads memory (started a x) d
-can_by layout t n threads memory a Skip d e can = absurd cc
-can_by layout t n threads memory a Stuck d e can = absurd cc
-can_by layout t n threads memory a (Silent moves place) d e can = absurd cc
-can_by layout t n threads memory a (Does c rest place) d e can =
-    subst (CanDo layout t n threads memory (started a (Does c rest place))) (doing_is d c e)
+    → CanAct layout t n threads memory a x → (found : ℕ) → CanDo layout t n threads memory (started a x found) d
+can_by layout t n threads memory a Skip d e can found = absurd cc
+can_by layout t n threads memory a Stuck d e can found = absurd cc
+can_by layout t n threads memory a (Silent moves place) d e can found = absurd cc
+can_by layout t n threads memory a (Does c rest place) d e can found =
+    subst (CanDo layout t n threads memory (started a (Does c rest place) found)) (doing_is d c e)
     (record { there = can.there; suits = can.suits; uses = can.uses })
 
 -- ---- a thread that isn't gone
@@ -78,7 +80,7 @@ pub record HasStarted (functions : List Function) (layout : Layout) (t : ℕ) (a
     (start : Start) : Type 0 where
   pub alive : a.actor.status ≢ Gone
   pub starts : start ≡ start_by (agenda_action functions layout t a a.actor.agenda)
-  pub actor : b ≡ started a (agenda_action functions layout t a a.actor.agenda)
+  pub actor : (found : ℕ) → b ≡ started a (agenda_action functions layout t a a.actor.agenda) found
 
 abbrev StepsTo : List Function → Layout → ℕ → (Address → ℕ) → StepActor → Did → (Address → ℕ) → StepActor → Type 0
 StepsTo functions layout t memory a did words b =
@@ -98,10 +100,10 @@ pub stuck_step : (functions : List Function) (layout : Layout) (t : ℕ) (memory
 stuck_step functions layout t memory a b begun =
     of_status functions layout t memory a answers.Same memory b begun.alive
     (subst (IsStep layout t memory a (agenda_action functions layout t a a.actor.agenda) answers.Same memory)
-    (sym begun.actor)
+    (sym (begun.actor 0))
     (stuck_by layout t memory a (agenda_action functions layout t a a.actor.agenda)
     (agenda_steps functions layout t a a.actor.agenda)
-    begun.starts))
+    begun.starts 0))
 
 -- A step on no word is the model's silent step.
 pub moved_step : (functions : List Function) (layout : Layout) (t : ℕ) (memory : Address → ℕ) (a b : StepActor)
@@ -109,8 +111,8 @@ pub moved_step : (functions : List Function) (layout : Layout) (t : ℕ) (memory
 moved_step functions layout t memory a b begun =
     of_status functions layout t memory a answers.Moved memory b begun.alive
     (subst (IsStep layout t memory a (agenda_action functions layout t a a.actor.agenda) answers.Moved memory)
-    (sym begun.actor)
-    (moved_by layout t memory a (agenda_action functions layout t a a.actor.agenda) begun.starts))
+    (sym (begun.actor 0))
+    (moved_by layout t memory a (agenda_action functions layout t a a.actor.agenda) begun.starts 0))
 
 -- A step that does a duty is the model's step of that duty.
 pub does_step : (functions : List Function) (layout : Layout) (t : ℕ) (memory : Address → ℕ) (a b : StepActor)
@@ -124,7 +126,8 @@ does_step functions layout t memory a b d begun =
     begun.alive
     (subst (λ (c : StepActor). IsStep layout t memory a
     (agenda_action functions layout t a a.actor.agenda) answers.Moved
-    (memory_done layout t memory c d) (actor_done layout t memory c d)) (sym begun.actor)
+    (memory_done layout t memory c d) (actor_done layout t memory c d))
+    (sym (begun.actor (found_by layout t memory a d)))
     (does_by layout t memory a (agenda_action functions layout t a a.actor.agenda) d begun.starts))
 
 -- The thread can do the duty that its step has started with.
@@ -134,10 +137,10 @@ pub can_do : (functions : List Function) (layout : Layout) (t n threads : ℕ) (
     → CanAct layout t n threads memory a (status_action functions layout t a a.actor.status)
     → CanDo layout t n threads memory b d
 can_do functions layout t n threads memory a b d begun can =
-    subst (λ (c : StepActor). CanDo layout t n threads memory c d) (sym begun.actor)
+    subst (λ (c : StepActor). CanDo layout t n threads memory c d) (sym (begun.actor 0))
     (can_by layout t n threads memory a (agenda_action functions layout t a a.actor.agenda) d begun.starts
     (subst (CanAct layout t n threads memory a)
-    (sym (alive_action functions layout t a a.actor.status begun.alive)) can))
+    (sym (alive_action functions layout t a a.actor.status begun.alive)) can) 0)
 
 -- ---- a claim that finds a mark
 

@@ -14,7 +14,7 @@ use Rattle.brc_model.specs.declared.duty.Duty.TheVariants.{ClaimMark}
 use Rattle.brc_model.specs.declared.thread.Choice.{Choice}
 use Rattle.brc_model.specs.declared.thread.Choice.TheVariants.{Ok, Claim, Fault}
 use Rattle.brc_model.specs.World.{IsReachable, World, world_of, machine_of, step}
-use Rattle.brc_model.specs.Actions.{StepActor, Action, Skip, Stuck, Silent, Does, may_claim, status_action, action_of}
+use Rattle.brc_model.specs.Actions.{StepActor, Action, Skip, Stuck, Silent, Does, always, may_claim, status_action, action_of}
 use Rattle.brc_model.specs.StepMachine.{of_thread, machine_by}
 use Rattle.brc_model.specs.Within.{IsWithin, StepsWithin}
 use Rattle.brc_world.specs.Actors.{memory_by, actor_by, finds_mark, memory_claimed, actor_claimed, CanDo, CanAct, CanClaim}
@@ -143,7 +143,7 @@ able w t a d within = record { there = within.there; suits = within.suits; uses 
 
 -- The thread can do its action, if each duty that the action may be is within all bounds.
 can_act : (w : World) (t : ℕ) (a : StepActor) (x : Action)
-    → ((d : Duty) (rest : List Duty) (place : Place) → x ≡ Does d rest place → IsWithin w t a.actor d)
+    → ((d : Duty) (rest : List Duty) (place : ℕ → Place) → x ≡ Does d rest place → IsWithin w t a.actor d)
     → CanAct w.layout t (row_count w.layout) (length w.actors) w.memory a x
 can_act w t a Skip within = tt
 can_act w t a Stuck within = tt
@@ -160,5 +160,5 @@ can_go_on w t a steps = can_act w t a (status_action w.functions w.layout t a a.
 pub can_claim : (w : World) (t : ℕ) (a : StepActor) (row : ℕ) → StepsWithin w t a
     → CanClaim w.layout t (row_count w.layout) (length w.actors) w.memory a row
 can_claim w t a row steps may =
-    able w t a (ClaimMark row) (steps (Claim row) (ClaimMark row) [] a.place
-    (ap (λ (b : Bool). cond b (Does (ClaimMark row) [] a.place) Skip) may))
+    able w t a (ClaimMark row) (steps (Claim row) (ClaimMark row) [] (always a.place)
+    (ap (λ (b : Bool). cond b (Does (ClaimMark row) [] (always a.place)) Skip) may))

@@ -12,7 +12,7 @@ use Rattle.brc_model.specs.declared.actor.Place.TheVariants.{Idle, InCall, Exiti
 use Rattle.brc_model.specs.Duties.{address_of, new_word}
 use Rattle.brc_model.specs.Within.{IsThere, Suits}
 use Rattle.brc_model.specs.Machine as model
-use Rattle.brc_model.specs.Actions.{StepActor, Action, Skip, Stuck, Silent, Does, may_claim}
+use Rattle.brc_model.specs.Actions.{StepActor, Action, Skip, Stuck, Silent, Does, always, may_claim}
 use Rattle.brc_model.specs.StepMachine.{at_place, step_actor}
 use Rattle.brc_world.specs.declared.did.Did.{Did}
 use Rattle.brc_world.specs.declared.did.Did.TheVariants as answers
@@ -64,7 +64,7 @@ with_agenda a agenda =
 
 -- the exit of a thread with no call left: it releases its reference to the root, settles, and leaves
 abbrev pub exit_action : ℕ → Action
-exit_action used = Does (ReleaseLoad root_row AsCaller) (Settle ∷ Leave 0 used ∷ []) Exiting
+exit_action used = Does (ReleaseLoad root_row AsCaller) (Settle ∷ Leave 0 used ∷ []) (always Exiting)
 
 -- Returns the start of a step with the action.
 abbrev pub start_by : Action → Start
@@ -73,12 +73,13 @@ start_by Stuck = starts.Stuck
 start_by (Silent moves place) = starts.Moved
 start_by (Does d rest place) = starts.Doing d
 
--- Returns the thread once its step has started: the duty that it does is no longer in its agenda.
-abbrev pub started : StepActor → Action → StepActor
-started a Skip = a
-started a Stuck = a
-started a (Silent moves place) = at_place a place
-started a (Does d rest place) = with_agenda (at_place a place) rest
+-- Returns the thread once its step has started: the duty that it does is no longer in its agenda, and the thread is at
+-- the place that the word found decides.
+abbrev pub started : StepActor → Action → ℕ → StepActor
+started a Skip found = a
+started a Stuck found = a
+started a (Silent moves place) found = at_place a place
+started a (Does d rest place) found = with_agenda (at_place a (place found)) rest
 
 -- a duty that needs no step: to settle an empty chain, or to scan no rows
 abbrev pub is_idle : ℕ → Duty → Bool
@@ -113,7 +114,8 @@ abbrev pub actor_by : Layout → ℕ → (Address → ℕ) → StepActor → Act
 actor_by layout t memory a Skip = a
 actor_by layout t memory a Stuck = a
 actor_by layout t memory a (Silent moves place) = at_place a place
-actor_by layout t memory a (Does d rest place) = actor_done layout t memory (with_agenda (at_place a place) rest) d
+actor_by layout t memory a (Does d rest place) =
+    actor_done layout t memory (with_agenda (at_place a (place (found_by layout t memory a d))) rest) d
 
 -- Returns the answer of a step with the action.
 abbrev pub did_by : Action → Did

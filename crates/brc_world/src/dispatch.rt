@@ -1,6 +1,6 @@
 //! The start of a thread's step: the first duty of its agenda, or the dispatch of its next instruction or of its exit.
 
-ghost use Rattle.std.specs.Prelude.{◌≡◌, ◌+◌, ◌<◌, ◌≤◌, ◌^◌, if◌then◌else◌, slice_get, None, Some};
+ghost use Rattle.std.specs.Prelude.{◌≡◌, ℕ, ◌+◌, ◌<◌, ◌≤◌, ◌^◌, if◌then◌else◌, slice_get, None, Some};
 ghost use Rattle.std.specs.Prelude.{[], ◌∷◌, reverse, vec_len, vec_capacity};
 ghost use Rattle.brc_model.specs.declared.duty.Duty.TheVariants.{ReleaseLoad, Settle};
 ghost use Rattle.brc_model.specs.declared.duty.Holding.TheVariants.{ByVariable};
@@ -24,7 +24,7 @@ pub enum Start {
     Stuck,
     /// The step is done already: it accesses no word, and changes the thread alone.
     Moved,
-    /// The thread does this duty, which is no longer in its agenda.
+    /// The thread does this duty, which is no longer in its agenda, and is already at the place where it then is.
     Doing(Duty),
 }
 
@@ -34,8 +34,8 @@ pub fn first_duty(functions: &[Function], layout: Layout, number: u8, thread: &m
     requires room { vec_len thread.old.agenda + 8 ≤ vec_capacity thread.old.agenda }
     ensures starts { result ≡ start_by (agenda_action functions.now layout number (actor_of thread.old)
         (reverse thread.old.agenda.items)) }
-    ensures actor { actor_of thread.new ≡ started (actor_of thread.old) (agenda_action functions.now layout number
-        (actor_of thread.old) (reverse thread.old.agenda.items)) }
+    ensures actor { (found : ℕ) → actor_of thread.new ≡ started (actor_of thread.old)
+        (agenda_action functions.now layout number (actor_of thread.old) (reverse thread.old.agenda.items)) found }
     ensures room { vec_len thread.new.agenda + 4 ≤ vec_capacity thread.new.agenda }
 {
     match thread.agenda.pop() {
@@ -51,8 +51,8 @@ fn dispatch(functions: &[Function], layout: Layout, number: u8, thread: &mut Thr
     requires empty { thread.old.agenda.items ≡ [] }
     requires room { 8 ≤ vec_capacity thread.old.agenda }
     ensures starts { result ≡ start_by (agenda_action functions.now layout number (actor_of thread.old) []) }
-    ensures actor { actor_of thread.new ≡ started (actor_of thread.old)
-        (agenda_action functions.now layout number (actor_of thread.old) []) }
+    ensures actor { (found : ℕ) → actor_of thread.new ≡ started (actor_of thread.old)
+        (agenda_action functions.now layout number (actor_of thread.old) []) found }
     ensures room { vec_len thread.new.agenda + 4 ≤ vec_capacity thread.new.agenda }
 {
     match thread.stage {
@@ -78,7 +78,8 @@ fn exit(thread: &mut Thread) -> Start
     requires empty { thread.old.agenda.items ≡ [] }
     requires room { 8 ≤ vec_capacity thread.old.agenda }
     ensures starts { result ≡ start_by (exit_action thread.old.used) }
-    ensures actor { actor_of thread.new ≡ started (actor_of thread.old) (exit_action thread.old.used) }
+    ensures actor { (found : ℕ) → actor_of thread.new
+        ≡ started (actor_of thread.old) (exit_action thread.old.used) found }
     ensures room { vec_len thread.new.agenda + 4 ≤ vec_capacity thread.new.agenda }
 {
     thread.stage = Stage::Exiting;
@@ -107,9 +108,9 @@ fn next_instruction(
     requires room { 8 ≤ vec_capacity thread.old.agenda }
     ensures starts { result ≡ start_by (dispatch_instruction layout number thread.old.used left thread.old.at
         thread.old.variables (slice_get (code_of (slice_get functions.now thread.old.function)) thread.old.at)) }
-    ensures actor { actor_of thread.new ≡ started (actor_of thread.old) (dispatch_instruction layout number
-        thread.old.used left thread.old.at thread.old.variables
-        (slice_get (code_of (slice_get functions.now thread.old.function)) thread.old.at)) }
+    ensures actor { (found : ℕ) → actor_of thread.new ≡ started (actor_of thread.old) (dispatch_instruction layout
+        number thread.old.used left thread.old.at thread.old.variables
+        (slice_get (code_of (slice_get functions.now thread.old.function)) thread.old.at)) found }
     ensures room { vec_len thread.new.agenda + 4 ≤ vec_capacity thread.new.agenda }
 {
     match code_of(functions, thread.function).get(thread.at) {
@@ -151,8 +152,8 @@ fn begin(instr: Instr, layout: Layout, number: u8, thread: &mut Thread, left: u3
     requires next { thread.old.at + 1 < 2 ^ 64 }
     ensures starts { result ≡ start_by (dispatch_instruction layout number thread.old.used left thread.old.at
         thread.old.variables (Some instr)) }
-    ensures actor { actor_of thread.new ≡ started (actor_of thread.old) (dispatch_instruction layout number
-        thread.old.used left thread.old.at thread.old.variables (Some instr)) }
+    ensures actor { (found : ℕ) → actor_of thread.new ≡ started (actor_of thread.old) (dispatch_instruction layout
+        number thread.old.used left thread.old.at thread.old.variables (Some instr)) found }
     ensures room { vec_len thread.new.agenda + 4 ≤ vec_capacity thread.new.agenda }
 {
     let next = thread.at + 1;

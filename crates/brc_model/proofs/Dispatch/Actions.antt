@@ -31,6 +31,7 @@ use Rattle.brc_model.specs.Counting.{with_account}
 use Rattle.brc_model.proofs.Keeping.Replaced.{with_account_itself}
 use Rattle.brc_model.proofs.Dispatch.TakenSits.{taken_sits, claim_sits, rests, dispatch_fits, starts_settled}
 use Rattle.brc_model.proofs.Dispatch.Counting.{its_found}
+use Rattle.brc_model.proofs.Stepping.Neutral.{found_by}
 use Rattle.brc_model.proofs.Keeping.Kept.{Doing, sits_down}
 use Rattle.brc_model.proofs.Keeping.CodeInvariant.{CodeInvariant}
 use Rattle.brc_model.proofs.Basics.Blocks.{used_row, next_within}
@@ -64,7 +65,8 @@ abbrev pub ActionFits : Module → Accounts → ℕ → StepMachine → ℕ → 
 ActionFits p c n m t a Skip = Unit {0}
 ActionFits p c n m t a Stuck = ⊥
 ActionFits p c n m t a (Silent moves place) = SilentFits p c n m t a moves place
-ActionFits p c n m t a (Does d rest place) = DutyFits p c n m t a d rest place
+ActionFits p c n m t a (Does d rest place) =
+    DutyFits p c n m t a d rest (place (found_by (counting m) t a.actor d))
 
 -- ---- the duty is in the agenda
 
@@ -145,18 +147,21 @@ taken_fits p n m t a (Silent moves place) whole found at taken =
     }
 taken_fits p n m t a (Does d rest place) whole found at taken =
     let c = whole.accounts in
-    let here = taken_sits p c n (counting m) t a place d rest at (whole.coded t a found).alone taken in
+    let word = found_by (counting m) t a.actor d in
+    let there = place word in
+    let begun = taken word in
+    let here = taken_sits p c n (counting m) t a there d rest at (whole.coded t a found).alone begun in
     record {
       account = here.account;
       says = here.says;
       departs = ap (λ (s : Status). exits s (d ∷ rest)) at.running ∙ here.departs;
       doing =
           sits_down c n (counting m) t a.actor d rest here.account whole.kept at here.sits
-          (starts_settled m.abstract.references m.layout t a.actor.used a.actor.head place d rest taken.starts
-          taken.follows);
+          (starts_settled m.abstract.references m.layout t a.actor.used a.actor.head there d rest begun.starts
+          begun.follows);
       small = λ _. (
-        starts_small c n (counting m) t a.actor d rest at.core at.found taken.starts,
-        follows_small (row_count m.layout) m.layout t a.actor.used place rest taken.follows,
+        starts_small c n (counting m) t a.actor d rest at.core at.found begun.starts,
+        follows_small (row_count m.layout) m.layout t a.actor.used there rest begun.follows,
       );
     }
 

@@ -77,7 +77,7 @@ abbrev pub IsTaken : List Instr → List Reference → Layout → ℕ → ℕ �
 IsTaken code bag layout t used Skip = ⊥
 IsTaken code bag layout t used Stuck = ⊥
 IsTaken code bag layout t used (Silent moves place) = SilentTaken code bag t moves place
-IsTaken code bag layout t used (Does d rest place) = Taken code bag layout t used place d rest
+IsTaken code bag layout t used (Does d rest place) = (found : ℕ) → Taken code bag layout t used (place found) d rest
 
 pub taken_with_row : (code : List Instr) (bag : List Reference) (layout : Layout) (t used object : ℕ) (row : Option ℕ)
     (work : ℕ → Action)

@@ -28,11 +28,12 @@ counting_silent m t a moves place =
     }
 
 -- A duty's step is the counting machine's step.
-pub counting_done : (m : StepMachine) (t : ℕ) (a : StepActor) (d : Duty) (rest : List Duty) (place : Place)
+pub counting_done : (m : StepMachine) (t : ℕ) (a : StepActor) (d : Duty) (rest : List Duty) (place : ℕ → Place)
     → done_by (counting m) t a.actor d rest ≡ counting (does_by m t a d rest place)
 counting_done m t a d rest place =
     let new = done_by (counting m) t a.actor d rest in
-    let after = step_actor m.layout t a d rest place (m.memory (address_of m.layout t a.actor.head d)) in
+    let found = m.memory (address_of m.layout t a.actor.head d) in
+    let after = step_actor m.layout t a d rest (place found) found in
     λ i. record {
       layout = new.layout;
       memory = new.memory;

@@ -21,7 +21,7 @@ use Rattle.brc_model.specs.Kinds.{kind_numbered, kind_of_word, is_counted_kind}
 use Rattle.brc_model.specs.declared.actor.Place.{Place}
 use Rattle.brc_model.specs.declared.actor.Place.TheVariants.{Idle, InCall, Exiting}
 use Rattle.brc_model.specs.Machine.{has_room}
-use Rattle.brc_model.specs.Actions.{Does, dispatch_instruction, dispatch, number_word}
+use Rattle.brc_model.specs.Actions.{Does, always, dispatch_instruction, dispatch, number_word}
 use Rattle.brc_model.proofs.Basics.Bag.{held-le-references_to}
 use Rattle.brc_model.specs.References.{held, one_if, reference_of}
 use Rattle.brc_model.proofs.Basics.Lists.{either, first_false}
@@ -105,8 +105,8 @@ newref_taken code bag layout t used left at variables s to from here =
       follows = Nothing (in_call_stays left (at + 1) (slice_set variables to (Some live.object)));
     } in
     taken_with_row code bag layout t used live.object (row_of variables from)
-    (λ row. Does (RetainLoad row (ByVariable to)) [] (InCall left (at + 1) (slice_set variables to (Some row))))
-    live.is_row taken
+    (λ row. Does (RetainLoad row (ByVariable to)) []
+    (always (InCall left (at + 1) (slice_set variables to (Some row))))) live.is_row (λ found. taken)
 
 given_referenced : (bag : List Reference) (t : ℕ) (s : State) (variables : List (Option ℕ)) (from row : ℕ)
     → is_owned (slot_of s from) ≡ true → row_of variables from ≡ Some row
@@ -146,7 +146,7 @@ drop_taken code bag layout t used left at variables s from here =
     } in
     taken_with_row code bag layout t used row.0 (row_of variables from)
     (λ r. Does (ReleaseLoad r (ByVariable from)) (Settle ∷ [])
-    (InCall left (at + 1) (slice_set variables from None))) row.1 taken
+    (always (InCall left (at + 1) (slice_set variables from None)))) row.1 (λ found. taken)
 
 ret_taken : (code : List Instr) (bag : List Reference) (layout : Layout) (t used left at : ℕ)
     (variables : List (Option ℕ))
@@ -174,7 +174,7 @@ ret_taken code bag layout t used left at variables s from here =
       follows = Settles (idle_stays left);
     } in
     taken_with_row code bag layout t used row.0 (row_of variables from)
-    (λ r. Does (ReleaseLoad r (ByVariable from)) (Settle ∷ []) (Idle left)) row.1 taken
+    (λ r. Does (ReleaseLoad r (ByVariable from)) (Settle ∷ []) (always (Idle left))) row.1 (λ found. taken)
 
 -- ---- a new number
 
@@ -239,7 +239,7 @@ num_taken : (code : List Instr) (bag : List Reference) (layout : Layout) (t used
     (dispatch_instruction layout t used left at variables (Some (Num to value otherwise)))
 num_taken code bag layout t used left at variables s to value otherwise here =
     either (IsTaken code bag layout t used) (has_room layout t used) _ _
-    (λ room. num_born code bag layout t used left at variables s to value otherwise here room)
+    (λ room found. num_born code bag layout t used left at variables s to value otherwise here room)
     (num_fails code bag t left at variables s to value otherwise here)
 
 -- ---- each instruction
@@ -309,7 +309,7 @@ dispatch_taken code bag layout t used Exiting accepted instructions stays fits =
 dispatch_taken code bag layout t used (Idle zero) accepted instructions stays fits =
     let holds = holds_plain bag t the_root fits in
     let one : held (reference_of t AsCaller root_row) bag ≡ 1 = holds.each AsCaller root_row in
-    record {
+    λ found. record {
       placed = record { each = exit_held bag t holds };
       starts =
           Gives root_row AsCaller (Settle ∷ Leave 0 used ∷ [])

@@ -77,7 +77,7 @@ action_keeps p n m t a (Does d rest place) whole found fits =
             (taken_up_step (counting m) t a.actor d rest ∙ counting_done m t a d rest place) done.1;
         functions = whole.functions;
         coded =
-            coded_set p c m.actors t a (step_actor m.layout t a d rest place word) fits.account found
+            coded_set p c m.actors t a (step_actor m.layout t a d rest (place word) word) fits.account found
             (record {
               alone = own.alone;
               accepted = own.accepted;

@@ -25,7 +25,7 @@ use Rattle.brc_model.proofs.Stepping.Stores.{overwritten}
 use Rattle.brc_model.proofs.Frame.Alive.{alive_backed}
 use Rattle.brc_model.proofs.Stepping.Releases.{release_alive}
 use Rattle.brc_model.proofs.Frame.Leaves.{head_of}
-use Rattle.brc_model.proofs.Stepping.Neutral.{agenda_here}
+use Rattle.brc_model.proofs.Stepping.Neutral.{agenda_here, found_by}
 use Rattle.brc_model.proofs.Keeping.Sits.{sitting}
 use Rattle.brc_model.specs.Counting.{with_account}
 use Rattle.brc_model.proofs.Keeping.Kept.{Doing}
@@ -154,7 +154,7 @@ does_within p n m t a d rest place bounded few found fits =
 machine_within : (p : Module) (n : ℕ) (m : StepMachine) (t : ℕ) (a : StepActor) → Bounded p n m → n ≤ thread_limit
     → slice_get m.actors t ≡ Some a → StepsWithin (world_of m) t a
 machine_within p n m t a bounded few found choice d rest place is =
-    does_within p n m t a d rest place bounded few found
+    does_within p n m t a d rest (place (found_by (counting m) t a.actor d)) bounded few found
     (subst (ActionFits p bounded.whole.accounts n m t a) is (action_fits p n m t a choice bounded.whole found))
 
 -- ---- reachable worlds

@@ -16,7 +16,7 @@ use Rattle.brc_model.specs.declared.actor.Status.TheVariants.{Running, Leaving, 
 use Rattle.brc_model.specs.declared.actor.Place.{Place}
 use Rattle.brc_model.specs.declared.actor.Place.TheVariants.{Idle, InCall, Exiting}
 use Rattle.brc_model.specs.Machine.{Actor, Machine, is_running, actor_by, done_by, has_room}
-use Rattle.brc_model.specs.Actions.{StepActor, Action, Skip, Stuck, Silent, Does, with_row, dispatch_instruction, dispatch, may_claim, agenda_action, status_action, action_of}
+use Rattle.brc_model.specs.Actions.{StepActor, Action, Skip, Stuck, Silent, Does, always, with_row, dispatch_instruction, dispatch, may_claim, agenda_action, status_action, action_of}
 use Rattle.brc_model.specs.StepMachine.{StepMachine, counting, of_thread, machine_by, next_machine, machine_after, first_machine}
 use Rattle.brc_lang.specs.declared.module.Function.{Function}
 use Rattle.brc_model.proofs.Basics.Lists.{written_actor, either}
@@ -188,7 +188,7 @@ action_empties : (functions : List Function) (layout : Layout) (t : ℕ) (a : St
 action_empties functions layout t a Ok e = status_empties functions layout t a a.actor.status e
 action_empties functions layout t a Fault e = status_empties functions layout t a a.actor.status e
 action_empties functions layout t a (Claim row) e =
-    either (ActionEmpties a.actor.head) (may_claim layout t a row) (Does (ClaimMark row) [] a.place) Skip
+    either (ActionEmpties a.actor.head) (may_claim layout t a row) (Does (ClaimMark row) [] (always a.place)) Skip
     (λ may. subst (Empties a.actor.head) (claimer layout t a row may).agenda e) tt
 
 action_emptied : (m : StepMachine) (t : ℕ) (a : StepActor) (x : Action) → AreEmptied (counting m)

@@ -21,7 +21,7 @@ use Rattle.brc_model.specs.declared.actor.Status.TheVariants.{Running, Leaving, 
 use Rattle.brc_model.specs.declared.actor.Place.{Place}
 use Rattle.brc_model.specs.declared.actor.Place.TheVariants.{Idle, InCall, Exiting}
 use Rattle.brc_model.specs.Machine.{is_running, written, has_room}
-use Rattle.brc_model.specs.Actions.{StepActor, Action, Skip, Stuck, Silent, Does, with_row, dispatch_instruction, dispatch, may_claim, agenda_action, status_action, action_of}
+use Rattle.brc_model.specs.Actions.{StepActor, Action, Skip, Stuck, Silent, Does, always, with_row, dispatch_instruction, dispatch, may_claim, agenda_action, status_action, action_of}
 use Rattle.brc_model.specs.StepMachine.{StepMachine, of_thread, at_place, step_actor, does_by, machine_by, next_machine, first_machine, machine_after}
 use Rattle.brc_model.specs.World.{World, world_of, machine_of, step, IsReachable}
 use Rattle.brc_model.proofs.Basics.Lists.{either, some_is, slice_get-set_same, set_found}
@@ -55,7 +55,7 @@ abbrev IsElsewhere : Place → Action → Type 0
 IsElsewhere place Skip = ⊥
 IsElsewhere place Stuck = Unit {0}
 IsElsewhere place (Silent moves next) = next ≢ place
-IsElsewhere place (Does d rest next) = next ≢ place
+IsElsewhere place (Does d rest next) = (found : ℕ) → next found ≢ place
 
 row_elsewhere : (place : Place) (o : Option ℕ) (work : ℕ → Action) → ((row : ℕ) → IsElsewhere place (work row))
     → IsElsewhere place (with_row o work)
@@ -73,24 +73,25 @@ instruction_elsewhere place layout t used left at variables code None forward fo
 instruction_elsewhere place layout t used left at variables code (Some (Num to value otherwise)) forward found inside
     ends =
     either (IsElsewhere place) (has_room layout t used) _ _
-    (λ room. inside (at + 1) (slice_set variables to (Some (row_at layout t used))) (omega arith))
+    (λ room found. inside (at + 1) (slice_set variables to (Some (row_at layout t used))) (omega arith))
     (inside otherwise (slice_set variables to None) (forward at (Num to value otherwise) otherwise found refl).0)
 instruction_elsewhere place layout t used left at variables code (Some (NoneObject to)) forward found inside ends =
     inside (at + 1) (slice_set variables to (Some none_row)) (omega arith)
 instruction_elsewhere place layout t used left at variables code (Some (Newref to from)) forward found inside ends =
     row_elsewhere place (row_of variables from) _
-    (λ row. inside (at + 1) (slice_set variables to (Some row)) (omega arith))
+    (λ row found. inside (at + 1) (slice_set variables to (Some row)) (omega arith))
 instruction_elsewhere place layout t used left at variables code
     (Some (MoveReference to from)) forward found inside ends
     =
     row_elsewhere place (row_of variables from) _
     (λ row. inside (at + 1) (slice_set (slice_set variables from None) to (Some row)) (omega arith))
 instruction_elsewhere place layout t used left at variables code (Some (Drop from)) forward found inside ends =
-    row_elsewhere place (row_of variables from) _ (λ row. inside (at + 1) (slice_set variables from None) (omega arith))
+    row_elsewhere place (row_of variables from) _
+    (λ row found. inside (at + 1) (slice_set variables from None) (omega arith))
 instruction_elsewhere place layout t used left at variables code (Some (Goto to)) forward found inside ends =
     inside to variables (forward at (Goto to) to found refl).0
 instruction_elsewhere place layout t used left at variables code (Some (Ret from)) forward found inside ends =
-    row_elsewhere place (row_of variables from) _ (λ row. ends)
+    row_elsewhere place (row_of variables from) _ (λ row found. ends)
 instruction_elsewhere place layout t used left at variables code (Some Fail) forward found inside ends = ends
 
 one_call_less : (left : ℕ) → Idle left ≢ Idle (suc left)
@@ -103,7 +104,7 @@ one_point_on left at next variables later on e = (let same : next ≡ at = cc in
 dispatch_elsewhere : (layout : Layout) (t used : ℕ) (code : List Instr) (place : Place) → LeadsForward code
     → IsElsewhere place (dispatch layout t used code place)
 dispatch_elsewhere layout t used code Exiting forward = tt
-dispatch_elsewhere layout t used code (Idle zero) forward = λ e. cc
+dispatch_elsewhere layout t used code (Idle zero) forward = λ found e. cc
 dispatch_elsewhere layout t used code (Idle (suc left)) forward =
     instruction_elsewhere (Idle (suc left)) layout t used left 0 entry_variables code
     (slice_get code 0) forward refl
@@ -117,7 +118,7 @@ abbrev Moves : StepActor → Action → Type 0
 Moves a Skip = ⊥
 Moves a Stuck = Unit {0}
 Moves a (Silent moves place) = place ≢ a.place
-Moves a (Does d rest place) = (place ≢ a.place) ⊎ (a.actor.agenda ≡ d ∷ rest)
+Moves a (Does d rest place) = ((found : ℕ) → place found ≢ a.place) ⊎ (a.actor.agenda ≡ d ∷ rest)
 
 elsewhere_moves : (a : StepActor) (x : Action) → IsElsewhere a.place x → Moves a x
 elsewhere_moves a Skip elsewhere = elsewhere
@@ -152,8 +153,8 @@ action_moves p c n m t a (Silent refs place) found fits moves =
 action_moves p c n m t a (Does d rest place) found fits moves =
     let word = m.memory (address_of m.layout t a.actor.head d) in
     actor_apart (world_of (machine_by m t a (Does d rest place))) (world_of m) t a
-    (step_actor m.layout t a d rest place word) found refl (λ e. elim moves [
-      | inl elsewhere ↦ elsewhere (ap (λ (c : StepActor). c.place) e)
+    (step_actor m.layout t a d rest (place word) word) found refl (λ e. elim moves [
+      | inl elsewhere ↦ elsewhere word (ap (λ (c : StepActor). c.place) e)
       | inr is ↦
           agenda_moves m.layout t (is_running a.actor.status) a.actor.head (new_head a.actor.head d word) d rest word
           (ap (λ (c : StepActor). c.actor.agenda) e ∙ is)
@@ -200,7 +201,7 @@ going_on_moves p w t a here found alive =
 
 -- The action of a claim.
 abbrev claimed : ℕ → StepActor → Bool → Action
-claimed row a may = cond may (Does (ClaimMark row) [] a.place) Skip
+claimed row a may = cond may (Does (ClaimMark row) [] (always a.place)) Skip
 
 claim_is : (w : World) (t : ℕ) (a : StepActor) (row : ℕ) (may : Bool) → slice_get w.actors t ≡ Some a
     → may_claim w.layout t a row ≡ may
@@ -212,7 +213,7 @@ claim_is w t a row may found is =
 pub claim_moves : (w : World) (t : ℕ) (a : StepActor) (row : ℕ) → slice_get w.actors t ≡ Some a
     → may_claim w.layout t a row ≡ true → w.memory (Mark row) ≢ 0 → step w t (Claim row) ≢ w
 claim_moves w t a row found may marked e =
-    let done : world_of (does_by (machine_of w) t a (ClaimMark row) [] a.place) ≡ w =
+    let done : world_of (does_by (machine_of w) t a (ClaimMark row) [] (always a.place)) ≡ w =
     sym (claim_is w t a row true found may) ∙ e in
     marked (sym (ap (λ (v : World). v.memory (Mark row)) done) ∙ written_here w.memory (Mark row) 0)
 
@@ -230,7 +231,7 @@ none_claimed head row found empty none =
 
 miss_stays : (w : World) (t : ℕ) (a : StepActor) (row : ℕ) → slice_get w.actors t ≡ Some a → a.actor.agenda ≡ []
     → a.actor.head ≡ 0
-    → w.memory (Mark row) ≡ 0 → world_of (does_by (machine_of w) t a (ClaimMark row) [] a.place) ≡ w
+    → w.memory (Mark row) ≡ 0 → world_of (does_by (machine_of w) t a (ClaimMark row) [] (always a.place)) ≡ w
 miss_stays w t a row found rest empty none =
     let agenda = none_claimed a.actor.head row (w.memory (Mark row)) empty none ∙ sym rest in
     let same : step_actor w.layout t a (ClaimMark row) [] a.place (w.memory (Mark row)) ≡ a =

@@ -49,7 +49,7 @@ action_goes m t a choice (Silent moves place) found is = record {
 }
 action_goes m t a choice (Does d rest place) found is =
     let word = found_by (counting m) t a.actor d in
-    let after = step_actor m.layout t a d rest place word in
+    let after = step_actor m.layout t a d rest (place word) word in
     record {
       functions = refl;
       layout = refl;
@@ -73,13 +73,13 @@ action_leaves m u t a Skip ne = leaves_all m t
 action_leaves m u t a Stuck ne = leaves_all m t
 action_leaves m u t a (Silent moves place) ne =
     record { functions = refl; layout = refl; actor = slice_get-set_other m.actors u t (at_place a place) ne }
-action_leaves m u t a (Does d rest place) ne = record {
-  functions = refl;
-  layout = refl;
-  actor =
-      slice_get-set_other m.actors u t
-      (step_actor m.layout u a d rest place (found_by (counting m) u a.actor d)) ne;
-}
+action_leaves m u t a (Does d rest place) ne =
+    let word = found_by (counting m) u a.actor d in
+    record {
+      functions = refl;
+      layout = refl;
+      actor = slice_get-set_other m.actors u t (step_actor m.layout u a d rest (place word) word) ne;
+    }
 
 -- The machine after an event of the thread.
 abbrev after : StepMachine → ℕ → Choice → Option StepActor → StepMachine

@@ -43,6 +43,11 @@ idle c = record {
 }
 
 pub returns-else-thread-eq0-clause-actor : goal.returns-else-thread-eq0-clause-actor
-returns-else-thread-eq0-clause-actor c =
-    (rw c.in-Idle.is at c.next_instruction-in-Idle.ensures.actor)
-    ∙ (rw c.in-Idle.is (ap (started (idle c)) (rw c.in-Idle.is at (begins c))))
+returns-else-thread-eq0-clause-actor c = λ found.
+    (rw c.in-Idle.is at (c.next_instruction-in-Idle.ensures.actor found))
+    ∙ (rw c.in-Idle.is (ap (λ x. started (idle c) x found) (rw c.in-Idle.is at (begins c))))
+
+-- With no call left it dispatches its exit.
+pub returns-then-thread-eq0-clause-actor : goal.returns-then-thread-eq0-clause-actor
+returns-then-thread-eq0-clause-actor c = λ found.
+    rw (c.in-Idle.is, c.if-thread-eq0.true) (c.exit.ensures.actor found)

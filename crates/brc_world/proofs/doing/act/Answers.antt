@@ -12,7 +12,7 @@ do_duty-requires c =
     (actor_of c.first_duty.new.thread) (Doing c.in-Doing.duty) = record {
       alive = c.in_default.not-Gone;
       starts = rw c.in_ok-reserve.ensures.items at c.in-Doing.ensures.starts;
-      actor = rw c.in_ok-reserve.ensures.items at c.in-Doing.ensures.actor;
+      actor = λ found. rw c.in_ok-reserve.ensures.items at (c.in-Doing.ensures.actor found);
     } in
     let can = can_do _ _ _ _ _ (word_in c.args.memory.now) _ _ _ has c.requires.can in
     record {
@@ -31,7 +31,7 @@ returns-in-Doing c =
     (actor_of c.first_duty.new.thread) (Doing c.in-Doing.duty) = record {
       alive = c.in_default.not-Gone;
       starts = rw c.in_ok-reserve.ensures.items at c.in-Doing.ensures.starts;
-      actor = rw c.in_ok-reserve.ensures.items at c.in-Doing.ensures.actor;
+      actor = λ found. rw c.in_ok-reserve.ensures.items at (c.in-Doing.ensures.actor found);
     } in
     let step = does_step c.args.functions.now c.args.layout c.args.number (word_in c.args.memory.now) _ _ _ has in
     record {
@@ -53,7 +53,7 @@ returns-in-Stuck c =
     (record {
       alive = c.in_default.not-Gone;
       starts = rw c.in_ok-reserve.ensures.items at c.in-Stuck.ensures.starts;
-      actor = rw c.in_ok-reserve.ensures.items at c.in-Stuck.ensures.actor;
+      actor = λ found. rw c.in_ok-reserve.ensures.items at (c.in-Stuck.ensures.actor found);
     }) in
     record {
       did = step.answer;
@@ -74,7 +74,7 @@ returns-in-Moved c =
     (record {
       alive = c.in_default.not-Gone;
       starts = rw c.in_ok-reserve.ensures.items at c.in-Moved.ensures.starts;
-      actor = rw c.in_ok-reserve.ensures.items at c.in-Moved.ensures.actor;
+      actor = λ found. rw c.in_ok-reserve.ensures.items at (c.in-Moved.ensures.actor found);
     }) in
     record {
       did = step.answer;
