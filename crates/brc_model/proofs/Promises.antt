@@ -1,9 +1,10 @@
 -- What is promised of an accepted module (`Safe.accepted_is_safe`) and of each event follows from the invariant.
 --
 -- In order: `Agreeing` and `Safe`; `Counting`, the laws of the counting machine; `StepCases`, which splits an event by
--- its action, and over it `StatesRise` to `ClosedOnce`; `Gates`, `Births` and `MarksWatched`; `RowLaws`, which extends
--- these laws to every list of events; then the laws of the world: `Worlds`, `AgendaMoves`, `Emptied`, `StepsMove`,
--- `Trace`. `Rules` proves that the named rules are the steps. `Worked` computes three schedules.
+-- its action, and over it `StatesRise` to `ClosedOnce`; `Gates`, `Births`, `MarksWatched` and `KindWords`; `RowLaws`,
+-- which extends these laws to every list of events; `KnownKinds`, what the checker says of kinds; then the laws of the
+-- world: `Worlds`, `AgendaMoves`, `Emptied`, `StepsMove`, `Trace`. `Rules` proves that the named rules are the steps.
+-- `Worked` computes three schedules.
 
 pub mod Agreeing
 pub mod Safe
@@ -16,7 +17,9 @@ pub mod ClosedOnce
 pub mod Gates
 pub mod Births
 pub mod MarksWatched
+pub mod KindWords
 pub mod RowLaws
+pub mod KnownKinds
 pub mod Worlds
 pub mod AgendaMoves
 pub mod Emptied

@@ -11,6 +11,7 @@ pub mod Moves
 pub mod Machine
 pub mod Actions
 pub mod StepMachine
+pub mod KnownKinds
 pub mod Rules
 pub mod References
 pub mod RowInvariant

@@ -5,6 +5,7 @@ ghost use Rattle.brc_lang.specs.Grammar.{IsModule};
 ghost use Rattle.brc_model.specs.Paths.{IsAcceptable};
 ghost use Rattle.brc_model.specs.Progress.{Always, AtEachEvent, StatesRise, OnlyOwnersCount, OwnersStay, ClosedStays, ClosesAnew, ImmortalsStay, ClosedOnce, GatesTell, BornAreUsed, BornOnce, BornListed, BornAreThere, UsedAreBorn, ClosedWereBorn};
 ghost use Rattle.brc_model.specs.Watched.{MarksWatched};
+ghost use Rattle.brc_model.specs.KnownKinds.{KindsAreKnown, KindsStay};
 
 /// States that no event lowers a row's state, in the order default, queued, merged.
 pub fn states_only_rise()
@@ -80,4 +81,15 @@ pub fn closed_rows_were_born()
 /// will look.
 pub fn marks_are_watched()
     ensures { (m : Module) → IsModule m → IsAcceptable m → Always MarksWatched m }
+{}
+
+/// States that no event changes a kind word that a birth has stored.
+pub fn kinds_stay()
+    ensures { (m : Module) → IsModule m → IsAcceptable m → AtEachEvent KindsStay m }
+{}
+
+/// States that the object that a variable names has the kind that the checker says, in each state in which paths reach
+/// the thread's point: the kind word that its birth stored says so.
+pub fn variables_have_their_kinds()
+    ensures { (m : Module) → IsModule m → IsAcceptable m → Always KindsAreKnown m }
 {}

@@ -14,6 +14,8 @@ use Rattle.brc_model.proofs.Promises.StatesRise as states
 use Rattle.brc_model.proofs.Promises.Owners as owners
 use Rattle.brc_model.proofs.Promises.ClosedOnce as closed
 use Rattle.brc_model.proofs.Promises.Immortals as immortals
+use Rattle.brc_model.proofs.Promises.KindWords as words
+use Rattle.brc_model.specs.KnownKinds.{KindsStay}
 
 -- What both layers of the invariant imply holds of every machine that an accepted module's events lead to.
 pub always : (P : StepMachine → Type 0) → ((p : Module) (n : ℕ) (m : StepMachine) → CodeInvariant p n m → P m)
@@ -51,3 +53,6 @@ closed_once = always ClosedOnce closed.closed_once
 
 pub immortals_stay : (p : Module) → IsModule p → IsAcceptable p → AtEachEvent ImmortalsStay p
 immortals_stay = at_each_event ImmortalsStay immortals.immortals_stay
+
+pub kinds_stay : (p : Module) → IsModule p → IsAcceptable p → AtEachEvent KindsStay p
+kinds_stay = at_each_event KindsStay words.kinds_stay
