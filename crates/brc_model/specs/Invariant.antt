@@ -13,7 +13,7 @@ use Rattle.brc_model.specs.Machine.{Actor, Life, Unborn, Live, Closed, Machine}
 use Rattle.brc_model.specs.References.{held, one_if, reference_of, cell_reference}
 use Rattle.brc_model.specs.RowInvariant.{waits, carries, merges, decides, weight, Numbers, RowInvariant}
 use Rattle.brc_model.specs.Accounts.{Account, Accounts, HoldsAt, IsBounded, HoldsNone}
-use Rattle.brc_model.specs.Knowledge.{status_word, HeadOf}
+use Rattle.brc_model.specs.Knowledge.{status_word, HeadOf, BehindOf}
 use Rattle.brc_model.specs.OpenWork.{exits, scans, AgendaFits, IsSettled, GateFits, dies_by, ChainFits, AsideFits}
 use Rattle.brc_model.specs.Limits.{row_limit, immortal_limit, thread_limit, cell_limit}
 use Rattle.brc_model.specs.declared.layout.Layout.{Layout}
@@ -36,15 +36,16 @@ numbers_of m x = record {
 
 -- ---- one thread
 
--- The thread word says the thread's status, the bag has what the account says, the thread's next duty knows what it
--- needs, and its dying rows are its chain. A thread whose exit is under way holds nothing and has put nothing aside. No
--- instruction locks or lends yet.
+-- The thread word says the thread's status, the bag has what the account says, the thread's duties know what they need,
+-- and its dying rows are its chain and those that its duties finalise. A thread whose exit is under way holds nothing
+-- and has put nothing aside. No instruction locks or lends yet.
 pub record ActorFits (account : Account) (m : Machine) (t : ℕ) (a : Actor) : Type 0 where
   pub word : m.memory (ThreadWord t) ≡ status_word a.status
   pub holds : HoldsAt m.abstract.references t account a.agenda a.aside
   pub bounded : IsBounded m.layout account
   pub exited : exits a.status a.agenda ≡ true → HoldsNone account × (a.aside ≡ [])
   pub head_fits : HeadOf m t a a.agenda
+  pub behind : BehindOf m t a.agenda
   pub chain : ChainFits m t a.head a.agenda
   pub unlocked : a.locked ≡ None
   pub unlent : a.lent ≡ None

@@ -57,6 +57,14 @@ HasCountedKind memory x = is_counted_kind (kind_of_word (memory (KindOf x))) ≡
 abbrev pub IsDyingWord : ℕ → ℕ → Type 0
 IsDyingWord t word = (next : ℕ) × (word ≡ dying_word t next) × (next < half)
 
+-- What a thread knows of a row whose cells it empties, and which it then closes, even while these duties are behind
+-- another one: the thread may release what it found in a cell first.
+abbrev pub BehindFits : Machine → ℕ → Duty → Type 0
+BehindFits m t (SettleCell x i n) =
+    (IsCounted m.layout x) × (m.life x ≡ Dying t) × (i < n) × IsDyingWord t (m.memory (Gate x))
+BehindFits m t (SettleEnd x) = (IsCounted m.layout x) × (m.life x ≡ Dying t) × IsDyingWord t (m.memory (Gate x))
+BehindFits m t d = Unit {0}
+
 -- What the duty knows when it comes next. `rest` are the duties behind it.
 abbrev pub HeadFits : Machine → ℕ → Actor → Duty → List Duty → Type 0
 HeadFits m t a (RetainLoad x h) rest = IsBacked m t x
@@ -85,12 +93,11 @@ HeadFits m t a (MergeExchange x c w r) rest = (IsCounted m.layout x) × (c < hal
 HeadFits m t a (Die x) rest = (IsCounted m.layout x) × (m.life x ≡ Dying t) × (m.memory (Gate x) ≡ free_word)
 HeadFits m t a Settle rest = 0 < a.head
 HeadFits m t a (SettleKind x) rest = (IsCounted m.layout x) × (m.life x ≡ Dying t) × IsDyingWord t (m.memory (Gate x))
-HeadFits m t a (SettleCell x i n) rest =
-    (IsCounted m.layout x) × (m.life x ≡ Dying t) × (i < n) × IsDyingWord t (m.memory (Gate x))
+HeadFits m t a (SettleCell x i n) rest = BehindFits m t (SettleCell x i n)
 HeadFits m t a (TakeSlot x) rest = (IsCounted m.layout x) × (m.life x ≡ Dying t) × IsDyingWord t (m.memory (Gate x))
 HeadFits m t a (CloseResource x) rest =
     (IsCounted m.layout x) × (m.life x ≡ Dying t) × IsDyingWord t (m.memory (Gate x))
-HeadFits m t a (SettleEnd x) rest = (IsCounted m.layout x) × (m.life x ≡ Dying t) × IsDyingWord t (m.memory (Gate x))
+HeadFits m t a (SettleEnd x) rest = BehindFits m t (SettleEnd x)
 HeadFits m t a (Leave i n) rest = Unit {0}
 HeadFits m t a (Scan i n) rest = 0 < n
 HeadFits m t a Finish rest = Unit {0}
@@ -103,3 +110,13 @@ HeadFits m t a (KindLoad x) rest = IsBacked m t x
 abbrev pub HeadOf : Machine → ℕ → Actor → List Duty → Type 0
 HeadOf m t a [] = Unit {0}
 HeadOf m t a (d ∷ rest) = HeadFits m t a d rest
+
+-- Each of the duties knows what it has to know behind another one.
+abbrev pub AllBehind : Machine → ℕ → List Duty → Type 0
+AllBehind m t [] = Unit {0}
+AllBehind m t (d ∷ rest) = BehindFits m t d × AllBehind m t rest
+
+-- the same of the duties behind an agenda's first duty
+abbrev pub BehindOf : Machine → ℕ → List Duty → Type 0
+BehindOf m t [] = Unit {0}
+BehindOf m t (d ∷ rest) = AllBehind m t rest

@@ -1,5 +1,5 @@
 -- A thread's open work: the order of its agenda, the rows that it finalises, and the duties that it has put aside.
-use Rattle.std.specs.Prelude.{◌≡◌, ◌⊎◌, ℕ, ◌+◌, ◌<◌, ◌≤◌, Bool, true, false, ◌==◌, nat_le, List, [], ◌∷◌, count_by}
+use Rattle.std.specs.Prelude.{◌≡◌, ◌⊎◌, ℕ, ◌+◌, ◌<◌, ◌≤◌, Bool, true, false, ◌==◌, nat_le, List, [], ◌∷◌, count_by, if◌then◌else◌}
 use Rattle.brc_word.specs.Words.{half, free_word, dying_word, closed_word}
 use Rattle.brc_model.specs.declared.duty.Duty.{Duty}
 use Rattle.brc_model.specs.declared.duty.Duty.TheVariants.{RetainLoad, RetainStore, RetainAdd, ReleaseLoad, ReleaseStore, DecideAtZero, SharedLoad, SharedExchange, SetMark, Look, TakeMark, MergeSwap, MergeLoad, MergeExchange, Die, Settle, SettleKind, SettleCell, TakeSlot, CloseResource, SettleEnd, Leave, Scan, Finish, ClaimMark, BirthKind, BirthSlot, BirthLocal, KindLoad}
@@ -13,11 +13,13 @@ use Rattle.brc_model.specs.Knowledge.{HeadFits}
 
 -- ---- what is for later
 
--- What may be behind an agenda's first duty: settling, and the end of the thread's exit. A leaving thread still has to
--- scan the marks of its used rows, from the index `i` on.
+-- What may be behind an agenda's first duty: the rest of a dying list, settling, and the end of the thread's exit. A
+-- leaving thread still has to scan the marks of its used rows, from the index `i` on.
 abbrev pub Later : ℕ → Status → List Duty → Type 0
 Later used status [] = status ≡ Running
 Later used status (Settle ∷ rest) = Later used status rest
+Later used status (SettleCell x i n ∷ rest) = Later used status rest
+Later used status (SettleEnd x ∷ rest) = Later used status rest
 Later used status (Leave i n ∷ []) =
     (status ≡ Running) × (i ≡ 0) × (n ≡ used)
 Later used status (Scan i n ∷ rest) =
@@ -60,22 +62,15 @@ AgendaFits a Leaving = Agenda a.used Leaving a.agenda
 
 -- ---- when a chain is empty
 
--- The agenda settles before each duty of the exit.
-abbrev pub Settles : List Duty → Type 0
-Settles [] = Unit {0}
-Settles (Settle ∷ rest) = Unit {0}
-Settles (Leave x k ∷ rest) = ⊥
-Settles (Scan x k ∷ rest) = ⊥
-Settles (Finish ∷ rest) = ⊥
-Settles (d ∷ rest) = Settles rest
-
--- If a duty of the exit comes next, the chain is empty.
+-- Whenever a duty of the exit comes next, the chain is empty: settling empties it. Any other duty may fill it, so the
+-- duties behind one have to fit a chain that isn't empty.
 abbrev pub IsSettled : ℕ → List Duty → Type 0
 IsSettled head [] = Unit {0}
-IsSettled head (Leave x k ∷ rest) = head ≡ 0
-IsSettled head (Scan x k ∷ rest) = head ≡ 0
-IsSettled head (Finish ∷ rest) = head ≡ 0
-IsSettled head (d ∷ rest) = Settles (d ∷ rest)
+IsSettled head (Settle ∷ rest) = IsSettled 0 rest
+IsSettled head (Leave x k ∷ rest) = (head ≡ 0) × IsSettled 0 rest
+IsSettled head (Scan x k ∷ rest) = (head ≡ 0) × IsSettled 0 rest
+IsSettled head (Finish ∷ rest) = (head ≡ 0) × IsSettled 0 rest
+IsSettled head (d ∷ rest) = IsSettled 1 rest
 
 -- ---- dying rows
 
@@ -96,10 +91,10 @@ is_finalising (CloseResource y) x = y == x
 is_finalising (SettleEnd y) x = y == x
 is_finalising _ x = false
 
--- the same of an agenda's first duty
-abbrev pub finalised_now : List Duty → ℕ → Bool
-finalised_now [] x = false
-finalised_now (d ∷ rest) x = is_finalising d x
+-- how many duties of the agenda do so
+abbrev pub finalised : List Duty → ℕ → ℕ
+finalised [] x = 0
+finalised (d ∷ rest) x = if is_finalising d x then 1 + finalised rest x else finalised rest x
 
 -- Says whether the row is dying and the thread finalises it.
 abbrev pub dies_by : Life → ℕ → Bool
@@ -114,12 +109,12 @@ GateFits Live gate = gate ≡ free_word
 GateFits (Dying t) gate = Unit {0}
 GateFits Closed gate = gate ≡ closed_word
 
--- The rows that the thread finalises are its dying chain, and the row that its first duty finalises.
+-- The rows that the thread finalises are its dying chain, and the rows that its duties finalise.
 pub record ChainFits (m : Machine) (t head : ℕ) (agenda : List Duty) : Type 0 where
   pub chained : List ℕ
   pub linked : Linked m.memory t head chained
-  -- each of them is finalised now or chained, once
-  pub once : (x : ℕ) → one_if (finalised_now agenda x) + count_by (λ y. y == x) chained ≡ one_if (dies_by (m.life x) t)
+  -- each of them is finalised by one duty, or chained once
+  pub once : (x : ℕ) → finalised agenda x + count_by (λ y. y == x) chained ≡ one_if (dies_by (m.life x) t)
 
 -- ---- work that is put aside
 

@@ -10,7 +10,7 @@ use Rattle.brc_model.specs.declared.duty.Holding.{Holding}
 use Rattle.brc_model.specs.declared.duty.Holding.TheVariants.{ByVariable, AsCaller, InFlight}
 use Rattle.brc_model.specs.declared.duty.Reason.TheVariants.{Own}
 use Rattle.brc_model.specs.declared.duty.Duty.{Duty}
-use Rattle.brc_model.specs.declared.duty.Duty.TheVariants.{RetainLoad, RetainStore, RetainAdd, ReleaseLoad, ReleaseStore, SharedLoad, SharedExchange, Settle, Leave, Scan, Finish, BirthKind, BirthSlot, BirthLocal}
+use Rattle.brc_model.specs.declared.duty.Duty.TheVariants.{RetainLoad, RetainStore, RetainAdd, ReleaseLoad, ReleaseStore, SharedLoad, SharedExchange, Settle, SettleCell, SettleEnd, Leave, Scan, Finish, BirthKind, BirthSlot, BirthLocal}
 use Rattle.brc_model.specs.declared.actor.Status.{Status}
 use Rattle.brc_model.specs.declared.actor.Status.TheVariants.{Running, Leaving, Gone}
 use Rattle.brc_model.specs.AbstractState.{same_holding}
@@ -215,6 +215,12 @@ none_later : (s : Claims) (used : ℕ) (status : Status) (ds : List Duty) → La
 none_later s used status [] later = refl
 none_later s used status (Settle ∷ rest) later =
     ap (λ (l : List ℕ). l ++ all_codes s.codes rest) (s.later used status Settle rest later)
+    ∙ none_later s used status rest later
+none_later s used status (SettleCell x i n ∷ rest) later =
+    ap (λ (l : List ℕ). l ++ all_codes s.codes rest) (s.later used status (SettleCell x i n) rest later)
+    ∙ none_later s used status rest later
+none_later s used status (SettleEnd x ∷ rest) later =
+    ap (λ (l : List ℕ). l ++ all_codes s.codes rest) (s.later used status (SettleEnd x) rest later)
     ∙ none_later s used status rest later
 none_later s used status (Leave i n ∷ []) later =
     ap (λ (l : List ℕ). l ++ []) (s.later used status (Leave i n) [] later)

@@ -18,9 +18,9 @@ use Rattle.brc_model.specs.Actions.{StepActor, dispatch, agenda_action}
 use Rattle.brc_model.specs.StepMachine.{StepMachine, counting}
 use Rattle.brc_model.specs.RowInvariant.{waits, carries, merges, decides}
 use Rattle.brc_model.specs.Accounts.{Account, Accounts, HoldsAt, HoldsNone, IsBounded}
-use Rattle.brc_model.specs.OpenWork.{Later, Agenda, AgendaFits, has_leave, exits, IsSettled}
+use Rattle.brc_model.specs.OpenWork.{Later, Agenda, AgendaFits, finalised, has_leave, exits, IsSettled}
 use Rattle.brc_model.specs.Invariant.{looks, CoreInvariant}
-use Rattle.brc_model.specs.Knowledge.{IsNext}
+use Rattle.brc_model.specs.Knowledge.{AllBehind, IsNext}
 use Rattle.brc_model.proofs.Frame.Aside.{HoldsAlone, holds_alone, alone_holds, alone_fits}
 use Rattle.brc_model.proofs.Dispatch.Coded.{PlaceSays, InCode, is_departing, departing_is, stays_elsewhere, place_fits, placed_by, exited_none, says_bounded}
 use Rattle.brc_model.proofs.Dispatch.Begins.{Starts, Gives, Takes, Follows, Nothing, Settles, Leaves, Taken, IsTaken, Bears}
@@ -50,6 +50,19 @@ later_follows : (layout : Layout) (t used : ℕ) (place : Place) (rest : List Du
 later_follows layout t used place rest (Nothing stays) = refl
 later_follows layout t used place rest (Settles stays) = refl
 later_follows layout t used place rest (Leaves leaves) = (refl, refl, refl)
+
+-- The duties behind the first one finalise no row, and have to know nothing.
+follows_hands : (layout : Layout) (t used x : ℕ) (place : Place) (rest : List Duty) → Follows layout t used place rest
+    → finalised rest x ≡ 0
+follows_hands layout t used x place rest (Nothing stays) = refl
+follows_hands layout t used x place rest (Settles stays) = refl
+follows_hands layout t used x place rest (Leaves leaves) = refl
+
+follows_behind : (m : Machine) (t : ℕ) (layout : Layout) (used : ℕ) (place : Place) (rest : List Duty)
+    → Follows layout t used place rest → AllBehind m t rest
+follows_behind m t layout used place rest (Nothing stays) = tt
+follows_behind m t layout used place rest (Settles stays) = (tt, tt)
+follows_behind m t layout used place rest (Leaves leaves) = (tt, (tt, tt))
 
 -- The work ends with the duty to leave exactly if the thread's new place is that of an exit.
 follows_leave : (layout : Layout) (t used : ℕ) (place : Place) (rest : List Duty) → Follows layout t used place rest
@@ -90,8 +103,9 @@ starts_sit p n m t a place d rest account at alone holds bounded exited (Gives r
       exited = λ e. (exited e, alone);
       aside = alone_fits (with_actor m t (sitting a (d ∷ rest))) t (sitting a (d ∷ rest)) alone;
       knows = tt;
+      behind = follows_behind (with_actor m t (sitting a (d ∷ rest))) t m.layout a.used place rest follows;
       fits = later_follows m.layout t a.used place rest follows;
-      hands = λ x. refl;
+      hands = λ x. follows_hands m.layout t a.used x place rest follows;
       no_waits = λ x. omega (arith, sum_by-cons (waits x) (ReleaseLoad row h) rest, weigh (waits x) refl (λ y k. refl));
       no_carries =
           λ x. omega (arith, sum_by-cons (carries x) (ReleaseLoad row h) rest, weigh (carries x) refl (λ y k. refl));
@@ -111,8 +125,9 @@ starts_sit p n m t a place d rest account at alone holds bounded exited (Takes r
       exited = λ e. (exited e, alone);
       aside = alone_fits (with_actor m t (sitting a (d ∷ rest))) t (sitting a (d ∷ rest)) alone;
       knows = record { by = by; held_so = some };
+      behind = follows_behind (with_actor m t (sitting a (d ∷ rest))) t m.layout a.used place rest follows;
       fits = later_follows m.layout t a.used place rest follows;
-      hands = λ x. refl;
+      hands = λ x. follows_hands m.layout t a.used x place rest follows;
       no_waits = λ x. omega (arith, sum_by-cons (waits x) (RetainLoad row h) rest, weigh (waits x) refl (λ y k. refl));
       no_carries =
           λ x. omega (arith, sum_by-cons (carries x) (RetainLoad row h) rest, weigh (carries x) refl (λ y k. refl));
@@ -130,6 +145,7 @@ starts_sit p n m t a place d rest account at alone holds bounded exited (Bears h
       exited = λ e. (exited e, alone);
       aside = alone_fits (with_actor m t (sitting a (d ∷ rest))) t (sitting a (d ∷ rest)) alone;
       knows = (next_is p n m t a (BirthKind row h w ∷ []) at room, refl, said);
+      behind = tt;
       fits = later_follows m.layout t a.used place [] follows;
       hands = λ x. refl;
       no_waits = λ x. sum_by-cons (waits x) (BirthKind row h w) [];
@@ -145,10 +161,10 @@ pub starts_settled : (bag : List Reference) (layout : Layout) (t used head : ℕ
     → Starts bag layout t used d rest → Follows layout t used place rest → IsSettled head (d ∷ rest)
 starts_settled bag layout t used head place d rest (Gives row h behind some) (Nothing stays) = tt
 starts_settled bag layout t used head place d rest (Gives row h behind some) (Settles stays) = tt
-starts_settled bag layout t used head place d rest (Gives row h behind some) (Leaves leaves) = tt
+starts_settled bag layout t used head place d rest (Gives row h behind some) (Leaves leaves) = (refl, tt)
 starts_settled bag layout t used head place d rest (Takes row h by behind some) (Nothing stays) = tt
 starts_settled bag layout t used head place d rest (Takes row h by behind some) (Settles stays) = tt
-starts_settled bag layout t used head place d rest (Takes row h by behind some) (Leaves leaves) = tt
+starts_settled bag layout t used head place d rest (Takes row h by behind some) (Leaves leaves) = (refl, tt)
 starts_settled bag layout t used head place d rest (Bears h w room few said) follows = tt
 
 -- The account of the place where the thread then is, with which the work fits the thread.
@@ -195,6 +211,7 @@ claim_sits p n m t a row at alone mine =
       bounded = old.bounded;
       exited = λ e. absurd cc;
       knows = mine;
+      behind = tt;
       fits = refl;
       hands = λ x. refl;
       no_waits = λ x. sum_by-cons (waits x) (ClaimMark row) [];

@@ -7,7 +7,7 @@ use Rattle.brc_model.specs.declared.duty.Holding.{Holding}
 use Rattle.brc_model.specs.declared.duty.Holding.TheVariants.{InFlight}
 use Rattle.brc_model.specs.declared.duty.Reason.TheVariants.{Own, Handed}
 use Rattle.brc_model.specs.declared.duty.Duty.{Duty}
-use Rattle.brc_model.specs.declared.duty.Duty.TheVariants.{RetainLoad, RetainStore, RetainAdd, ReleaseLoad, ReleaseStore, DecideAtZero, SharedLoad, SharedExchange, SetMark, Look, TakeMark, MergeSwap, MergeLoad, MergeExchange, BirthKind, BirthSlot, BirthLocal}
+use Rattle.brc_model.specs.declared.duty.Duty.TheVariants.{RetainLoad, RetainStore, RetainAdd, ReleaseLoad, ReleaseStore, DecideAtZero, SharedLoad, SharedExchange, SetMark, Look, TakeMark, MergeSwap, MergeLoad, MergeExchange, SettleCell, SettleEnd, BirthKind, BirthSlot, BirthLocal}
 use Rattle.brc_model.specs.AbstractState.{Reference, same_holding}
 use Rattle.brc_model.specs.Machine.{Actor, Machine}
 use Rattle.brc_model.specs.References.{held, one_if, reference_of}
@@ -55,9 +55,11 @@ extra_about (SharedLoad y Own) k x = and_at_most (same_holding InFlight k) (y ==
 extra_about (SharedExchange y Own w) k x = and_at_most (same_holding InFlight k) (y == x)
 extra_about _ k x = omega arith
 
--- The weight counts duties about the row alone.
+-- The weight counts duties about the row alone, and none that empties a cell or closes a row.
 pub record IsOfRow (x : ℕ) (f : Duty → ℕ) : Type 0 where
   pub about : (d : Duty) → is_about x d ≡ false → f d ≡ 0
+  pub cell : (y i n : ℕ) → f (SettleCell y i n) ≡ 0
+  pub end : (y : ℕ) → f (SettleEnd y) ≡ 0
 
 waits_about : (x : ℕ) (d : Duty) → is_about x d ≡ false → waits x d ≡ 0
 waits_about x (SetMark y) e = ap one_if e
@@ -89,19 +91,19 @@ looks_about x (TakeMark y) e = ap one_if e
 looks_about x _ e = refl
 
 pub waits_of_row : (x : ℕ) → IsOfRow x (waits x)
-waits_of_row x = record { about = waits_about x }
+waits_of_row x = record { about = waits_about x; cell = λ y i n. refl; end = λ y. refl }
 
 pub carries_of_row : (x : ℕ) → IsOfRow x (carries x)
-carries_of_row x = record { about = carries_about x }
+carries_of_row x = record { about = carries_about x; cell = λ y i n. refl; end = λ y. refl }
 
 pub merges_of_row : (x : ℕ) → IsOfRow x (merges x)
-merges_of_row x = record { about = merges_about x }
+merges_of_row x = record { about = merges_about x; cell = λ y i n. refl; end = λ y. refl }
 
 pub decides_of_row : (x : ℕ) → IsOfRow x (decides x)
-decides_of_row x = record { about = decides_about x }
+decides_of_row x = record { about = decides_about x; cell = λ y i n. refl; end = λ y. refl }
 
 pub looks_of_row : (x : ℕ) → IsOfRow x (looks x)
-looks_of_row x = record { about = looks_about x }
+looks_of_row x = record { about = looks_about x; cell = λ y i n. refl; end = λ y. refl }
 
 -- ---- duties put aside
 

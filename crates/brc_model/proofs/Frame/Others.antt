@@ -17,7 +17,7 @@ use Rattle.brc_model.specs.OpenWork.{AllWait, AsideFits, AgendaFits, Linked, die
 use Rattle.brc_model.specs.Invariant.{Fits, ActorFits}
 use Rattle.brc_model.specs.Accounts.{Accounts, HoldsAt, Account, IsBounded}
 use Rattle.brc_model.proofs.Frame.Known.{LeavesRow, backed_kept, known_kept}
-use Rattle.brc_model.specs.Knowledge.{OwnsLocally, IsNext, HasCountedKind, HeadFits, HeadOf, IsDyingWord}
+use Rattle.brc_model.specs.Knowledge.{OwnsLocally, IsNext, HasCountedKind, BehindFits, HeadFits, HeadOf, AllBehind, BehindOf, IsDyingWord}
 use Rattle.brc_model.proofs.Basics.Lists.{some_is, slice_get-set_same, slice_get-set_other}
 use Rattle.brc_model.proofs.Basics.Bag.{one_if_true}
 use Rattle.brc_model.specs.declared.layout.Layout.{Layout}
@@ -88,6 +88,22 @@ next_kept m new t u x b leaves next = record {
 counted_kept : (m new : Machine) (t x : ℕ) → LeavesOthers m new t → IsCounted m.layout x → IsCounted new.layout x
 counted_kept m new t x leaves counted = subst (λ (l : Layout). IsCounted l x) (sym leaves.layout) counted
 
+-- A duty behind the first knows what it knew.
+behind_fits_kept : (m new : Machine) (t u : ℕ) (d : Duty) → LeavesOthers m new t → u ≢ t → BehindFits m u d
+    → BehindFits new u d
+behind_fits_kept m new t u (SettleCell x i n) leaves ne fits = (
+  counted_kept m new t x leaves fits.0,
+  life_kept m new t u x leaves ne fits.1,
+  fits.2,
+  dying_word_kept m new t u x leaves ne fits.1 fits.3,
+)
+behind_fits_kept m new t u (SettleEnd x) leaves ne fits = (
+  counted_kept m new t x leaves fits.0,
+  life_kept m new t u x leaves ne fits.1,
+  dying_word_kept m new t u x leaves ne fits.1 fits.2,
+)
+behind_fits_kept m new t u _ leaves ne fits = tt
+
 head_kept : (m new : Machine) (t u : ℕ) (b : Actor) (d : Duty) (rest : List Duty) → LeavesOthers m new t → u ≢ t
     → slice_get m.actors u ≡ Some b → HeadFits m u b d rest → HeadFits new u b d rest
 head_kept m new t u b (Die x) rest leaves ne found fits = (
@@ -101,12 +117,8 @@ head_kept m new t u b (SettleKind x) rest leaves ne found fits = (
   life_kept m new t u x leaves ne fits.1,
   dying_word_kept m new t u x leaves ne fits.1 fits.2,
 )
-head_kept m new t u b (SettleCell x i n) rest leaves ne found fits = (
-  counted_kept m new t x leaves fits.0,
-  life_kept m new t u x leaves ne fits.1,
-  fits.2,
-  dying_word_kept m new t u x leaves ne fits.1 fits.3,
-)
+head_kept m new t u b (SettleCell x i n) rest leaves ne found fits =
+    behind_fits_kept m new t u (SettleCell x i n) leaves ne fits
 head_kept m new t u b (TakeSlot x) rest leaves ne found fits = (
   counted_kept m new t x leaves fits.0,
   life_kept m new t u x leaves ne fits.1,
@@ -117,11 +129,8 @@ head_kept m new t u b (CloseResource x) rest leaves ne found fits = (
   life_kept m new t u x leaves ne fits.1,
   dying_word_kept m new t u x leaves ne fits.1 fits.2,
 )
-head_kept m new t u b (SettleEnd x) rest leaves ne found fits = (
-  counted_kept m new t x leaves fits.0,
-  life_kept m new t u x leaves ne fits.1,
-  dying_word_kept m new t u x leaves ne fits.1 fits.2,
-)
+head_kept m new t u b (SettleEnd x) rest leaves ne found fits =
+    behind_fits_kept m new t u (SettleEnd x) leaves ne fits
 head_kept m new t u b (Leave x k) rest leaves ne found fits = fits
 head_kept m new t u b (Scan x k) rest leaves ne found fits = fits
 head_kept m new t u b Finish rest leaves ne found fits = fits
@@ -141,6 +150,17 @@ head_of_kept : (m new : Machine) (t u : ℕ) (b : Actor) (agenda : List Duty) �
     → slice_get m.actors u ≡ Some b → HeadOf m u b agenda → HeadOf new u b agenda
 head_of_kept m new t u b [] leaves ne found fits = tt
 head_of_kept m new t u b (d ∷ rest) leaves ne found fits = head_kept m new t u b d rest leaves ne found fits
+
+all_behind_kept : (m new : Machine) (t u : ℕ) (ds : List Duty) → LeavesOthers m new t → u ≢ t → AllBehind m u ds
+    → AllBehind new u ds
+all_behind_kept m new t u [] leaves ne all = tt
+all_behind_kept m new t u (d ∷ rest) leaves ne all =
+    (behind_fits_kept m new t u d leaves ne all.0, all_behind_kept m new t u rest leaves ne all.1)
+
+behind_of_kept : (m new : Machine) (t u : ℕ) (agenda : List Duty) → LeavesOthers m new t → u ≢ t
+    → BehindOf m u agenda → BehindOf new u agenda
+behind_of_kept m new t u [] leaves ne behind = tt
+behind_of_kept m new t u (d ∷ rest) leaves ne behind = all_behind_kept m new t u rest leaves ne behind
 
 -- A chain stays linked if the gates of its rows don't change.
 pub linked_kept : (memory new : Address → ℕ) (t head : ℕ) (chained : List ℕ)
@@ -179,6 +199,7 @@ others_fit account m new t u b leaves ne found fits = record {
   bounded = subst (λ (l : Layout). IsBounded l account) (sym leaves.layout) fits.bounded;
   exited = fits.exited;
   head_fits = head_of_kept m new t u b b.agenda leaves ne found fits.head_fits;
+  behind = behind_of_kept m new t u b.agenda leaves ne fits.behind;
   chain = chain_kept m new t u b.head b.agenda leaves ne fits.chain;
   unlocked = fits.unlocked;
   unlent = fits.unlent;

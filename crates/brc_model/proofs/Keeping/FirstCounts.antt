@@ -285,6 +285,7 @@ idle_fits p layout callers hold t used le = (
     bounded = caller_bounded layout (p t) t callers (hold.each t le);
     exited = λ e. absurd cc;
     head_fits = tt;
+    behind = tt;
     chain = record { chained = []; linked = refl; once = λ x. sym (ap one_if (none_dies x t)) };
     unlocked = refl;
     unlent = refl;

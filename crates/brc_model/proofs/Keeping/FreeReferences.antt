@@ -15,7 +15,7 @@ use Rattle.brc_model.specs.Moves.{gain}
 use Rattle.brc_model.specs.References.{one_if, reference_of, cell_reference}
 use Rattle.brc_model.specs.RowInvariant.{Numbers, RowInvariant}
 use Rattle.brc_model.specs.Accounts.{Account, Accounts}
-use Rattle.brc_model.specs.Knowledge.{HeadOf}
+use Rattle.brc_model.specs.Knowledge.{HeadOf, BehindOf}
 use Rattle.brc_model.specs.OpenWork.{is_about, exits, AllWait}
 use Rattle.brc_model.specs.Invariant.{numbers_of, Fits, IsWatched, ByRunning, ByExit, ByLook, CoreInvariant}
 use Rattle.brc_model.specs.Counting.{with_account, with_one_more, IsReady, HasNoneAbout}
@@ -138,6 +138,7 @@ own_fits p n m t a x core ready alone immortal =
             more_bounded m.layout (p t) x old.bounded (λ counted. absurd (false≢true (sym counted ∙ immortal)));
         exited = λ e. absurd (false≢true (sym ends ∙ e));
         head_fits = subst (HeadOf (gained m t x) t a) (sym ready.agenda) tt;
+        behind = subst (BehindOf (gained m t x) t) (sym ready.agenda) tt;
         chain = record { chained = old.chain.chained; linked = old.chain.linked; once = old.chain.once };
         unlocked = old.unlocked;
         unlent = old.unlent;

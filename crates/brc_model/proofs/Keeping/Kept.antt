@@ -84,7 +84,7 @@ thread_after_duty p n m t a (CloseResource x) rest here alive settled =
 thread_after_duty p n m t a (SettleEnd x) rest here alive settled = thread_after_settle_end p n m t a x rest here alive
 thread_after_duty p n m t a (Leave x k) rest here alive settled = thread_after_leave p n m t a x k rest here alive
 thread_after_duty p n m t a (Scan x k) rest here alive settled = thread_after_scan p n m t a x k rest here alive
-thread_after_duty p n m t a Finish rest here alive settled = thread_after_finish p n m t a rest here alive settled
+thread_after_duty p n m t a Finish rest here alive settled = thread_after_finish p n m t a rest here alive settled.0
 thread_after_duty p n m t a (ClaimMark x) rest here alive settled = thread_after_claim_mark p n m t a x rest here alive
 thread_after_duty p n m t a (BirthKind x h w) rest here alive settled =
     thread_after_birth_kind p n m t a x h w rest here alive
@@ -117,7 +117,7 @@ duty_kept p n m t a d rest doing =
         settled =
             λ u b is. written_actor (λ w c. IsSettled c.head c.agenda) m.actors t a
             (actor_by m.layout t a d rest (found_by m t a d)) doing.found
-            (settled_after p n m t a d rest here doing.alive settled) doing.kept.settled u b is;
+            (settled_after m t a d rest settled) doing.kept.settled u b is;
       },
     )
 

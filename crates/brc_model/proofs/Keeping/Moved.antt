@@ -11,7 +11,7 @@ use Rattle.brc_model.specs.AbstractState.{Move, ByThread, moved}
 use Rattle.brc_model.specs.References.{held, one_if, reference_of}
 use Rattle.brc_model.specs.Machine.{Actor, Machine, with_moves}
 use Rattle.brc_model.specs.Accounts.{Account, Accounts, HoldsAt, IsBounded}
-use Rattle.brc_model.specs.Knowledge.{IsNext, HeadFits, HeadOf}
+use Rattle.brc_model.specs.Knowledge.{IsNext, BehindFits, HeadFits, HeadOf, AllBehind, BehindOf}
 use Rattle.brc_model.specs.OpenWork.{AllWait, about_of, exits, is_about}
 use Rattle.brc_model.specs.Invariant.{Fits, IsWatched, ByRunning, ByExit, ByLook}
 use Rattle.brc_model.specs.Counting.{HasNoneAbout, with_account}
@@ -125,6 +125,20 @@ module _ (m : Machine) (moves : List Move) (t : ℕ) (a : Actor) (x : ℕ) (else
   head_of_kept [] none fits = tt
   head_of_kept (d ∷ rest) none fits = head_kept d rest (none_about (is_about x d) none) fits
 
+  -- So do the duties behind the first.
+  behind_fits_kept : (d : Duty) → BehindFits m t d → BehindFits (with_moves m moves) t d
+  behind_fits_kept (SettleCell y i n) fits = fits
+  behind_fits_kept (SettleEnd y) fits = fits
+  behind_fits_kept _ fits = tt
+
+  all_behind_kept : (ds : List Duty) → AllBehind m t ds → AllBehind (with_moves m moves) t ds
+  all_behind_kept [] all = tt
+  all_behind_kept (d ∷ rest) all = (behind_fits_kept d all.0, all_behind_kept rest all.1)
+
+  behind_of_kept : (agenda : List Duty) → BehindOf m t agenda → BehindOf (with_moves m moves) t agenda
+  behind_of_kept [] behind = tt
+  behind_of_kept (d ∷ rest) behind = all_behind_kept rest behind
+
   waits_kept : (aside : List Duty) → count_by (is_about x) aside ≡ 0 → AllWait m t a aside
       → AllWait (with_moves m moves) t a aside
   waits_kept [] none waits = tt
@@ -147,6 +161,7 @@ module _ (m : Machine) (moves : List Move) (t : ℕ) (a : Actor) (x : ℕ) (else
           bounded = bounded;
           exited = λ e. absurd (false≢true (sym runs ∙ e));
           head_fits = head_of_kept a.agenda (omega (arith, none)) fits.head_fits;
+          behind = behind_of_kept a.agenda fits.behind;
           chain = record { chained = fits.chain.chained; linked = fits.chain.linked; once = fits.chain.once };
           unlocked = fits.unlocked;
           unlent = fits.unlent;

@@ -13,8 +13,8 @@ use Rattle.brc_model.specs.Machine.{Actor, Machine, with_actor}
 use Rattle.brc_model.specs.References.{one_if}
 use Rattle.brc_model.specs.RowInvariant.{waits, carries, merges, decides, agenda_weight}
 use Rattle.brc_model.specs.Accounts.{Accounts, extra, lacks, extra_of, lacks_of, extra_aside, lacks_aside}
-use Rattle.brc_model.specs.Knowledge.{HeadFits, HeadOf}
-use Rattle.brc_model.specs.OpenWork.{Later, Agenda, AgendaFits, has_leave, exits, is_about, about_of, is_finalising, finalised_now, scans, may_wait, is_piece, AllWait, AsideFits, IsSettled}
+use Rattle.brc_model.specs.Knowledge.{HeadFits, HeadOf, BehindOf}
+use Rattle.brc_model.specs.OpenWork.{Later, Agenda, AgendaFits, has_leave, exits, is_about, about_of, finalised, scans, may_wait, is_piece, AllWait, AsideFits, IsSettled}
 use Rattle.brc_model.specs.Invariant.{looks, kind_stored, slot_stored, BlankFits, CoreInvariant, Invariant}
 use Rattle.brc_model.proofs.Basics.Lists.{written_actor}
 use Rattle.brc_model.proofs.Frame.Known.{LeavesRow, known_kept}
@@ -39,7 +39,7 @@ later_waiting used status (Scan x n) waits fits = absurd cc
 later_waiting used status Finish waits fits = absurd cc
 later_waiting used status _ waits fits = fits
 
-waiting_hand : (d : Duty) (x : ℕ) → may_wait d ≡ true → is_finalising d x ≡ false
+waiting_hand : (d : Duty) (x : ℕ) → may_wait d ≡ true → finalised (d ∷ []) x ≡ 0
 waiting_hand (Die y) x waits = absurd cc
 waiting_hand (SettleKind y) x waits = absurd cc
 waiting_hand (SettleCell y i n) x waits = absurd cc
@@ -114,8 +114,9 @@ pub record Rearranges (m : Machine) (t : ℕ) (a : Actor) (agenda aside : List D
       ≡ one_if (lacks_of a.agenda k x) + lacks_aside a.aside k x
   pub extra_same : (k : Holding) (x : ℕ) → one_if (extra_of agenda k x) + extra_aside aside k x
       ≡ one_if (extra_of a.agenda k x) + extra_aside a.aside k x
-  pub hands : (x : ℕ) → finalised_now agenda x ≡ finalised_now a.agenda x
+  pub hands : (x : ℕ) → finalised agenda x ≡ finalised a.agenda x
   pub knows : HeadOf (with_actor m t (working a agenda aside)) t (working a agenda aside) agenda
+  pub behind : BehindOf (with_actor m t (working a agenda aside)) t agenda
   pub fits : Agenda a.used Running agenda
   pub others : AsideFits (with_actor m t (working a agenda aside)) t (working a agenda aside)
   pub blanks : BlankFits m.layout m.memory t a.used agenda
@@ -139,13 +140,11 @@ rearranged p n m t a agenda aside kept found new =
           bounded = old.bounded;
           exited = λ e. absurd (false≢true (sym (ap (λ (s : Status). exits s agenda) new.running ∙ new.stays) ∙ e));
           head_fits = new.knows;
+          behind = new.behind;
           chain = record {
             chained = old.chain.chained;
             linked = old.chain.linked;
-            once = λ x.
-                let hand : one_if (finalised_now agenda x) ≡ one_if (finalised_now a.agenda x) =
-                ap one_if (new.hands x) in
-                omega (arith, old.chain.once x, hand);
+            once = λ x. omega (arith, old.chain.once x, new.hands x);
           };
           unlocked = old.unlocked;
           unlent = old.unlent;
@@ -203,8 +202,9 @@ put_aside p n m t a d kept found is waits =
           let old : one_if (extra_of a.agenda k x) ≡ one_if (extra d k x) =
           ap (λ (l : List Duty). one_if (extra_of l k x)) is in
           omega (arith, old, sum_by-cons (λ (e : Duty). cond (extra e k x) 1 0) d a.aside);
-      hands = λ x. sym (ap (λ (l : List Duty). finalised_now l x) is ∙ waiting_hand d x waits);
+      hands = λ x. sym (ap (λ (l : List Duty). finalised l x) is ∙ waiting_hand d x waits);
       knows = tt;
+      behind = tt;
       fits = refl;
       others = record {
         waits = (
@@ -297,8 +297,9 @@ take_back p n m t a before after d kept found none is =
           ap (λ (l : List Duty). extra_aside l k x) is
           ∙ sum_split (λ (e : Duty). cond (extra e k x) 1 0) before after d in
           omega (arith, old, all);
-      hands = λ x. waiting_hand d x it.waits ∙ sym (ap (λ (l : List Duty). finalised_now l x) none);
+      hands = λ x. waiting_hand d x it.waits ∙ sym (ap (λ (l : List Duty). finalised l x) none);
       knows = still_known m t a (d ∷ []) others d it.waits it.knows;
+      behind = tt;
       fits = later_waiting a.used Running d it.waits refl;
       others = record {
         waits = still_wait m t a (d ∷ []) others others it.stay;

@@ -170,6 +170,7 @@ thread_after_duty p n m t a moves account rest taken =
         bounded = taken.bounded;
         exited = λ e. absurd (false≢true (sym (ap (λ (s : Status). exits s []) rest.running) ∙ e));
         head_fits = tt;
+        behind = tt;
         chain = record { chained = chain.chained; linked = chain.linked; once = chain.once };
         unlocked = old.unlocked;
         unlent = old.unlent;

@@ -1,5 +1,5 @@
 -- A thread at rest takes up duties, and the core invariant holds with its new agenda.
-use Rattle.std.proofs.Common.{◌≡◌, ℕ, true, false, List, [], ◌∷◌, Some, refl, sym, ap, ◌∙◌, subst, arith}
+use Rattle.std.proofs.Common.{◌≡◌, ℕ, true, List, [], ◌∷◌, Some, refl, sym, ap, ◌∙◌, subst, arith}
 use Rattle.std.specs.Prelude.{slice_get, slice_set, sum_by}
 use Rattle.std.proofs.lemmas.Bool.{false≢true}
 use Rattle.std.proofs.lemmas.List.{set-set}
@@ -8,12 +8,11 @@ use Rattle.brc_model.specs.Duties.{address_of}
 use Rattle.brc_model.specs.declared.actor.Status.{Status}
 use Rattle.brc_model.specs.declared.actor.Status.TheVariants.{Running}
 use Rattle.brc_model.specs.Machine.{Actor, Machine, with_actor, actor_by, done_by}
-use Rattle.brc_model.specs.References.{one_if}
 use Rattle.brc_model.specs.RowInvariant.{waits, carries, merges, decides, agenda_weight, weight}
 use Rattle.brc_model.specs.Accounts.{Account, Accounts, HoldsAt, HoldsNone, IsBounded}
-use Rattle.brc_model.specs.OpenWork.{AsideFits, Agenda, exits, scans, finalised_now, AgendaFits}
+use Rattle.brc_model.specs.OpenWork.{AsideFits, Agenda, exits, scans, finalised, AgendaFits}
 use Rattle.brc_model.specs.Invariant.{Fits, looks, CoreInvariant, BlankFits}
-use Rattle.brc_model.specs.Knowledge.{HeadOf}
+use Rattle.brc_model.specs.Knowledge.{HeadOf, BehindOf}
 use Rattle.brc_model.proofs.Objects.Weights.{weight-set}
 use Rattle.brc_model.specs.Counting.{with_account}
 use Rattle.brc_model.proofs.Keeping.Replaced.{replaced_core}
@@ -39,8 +38,9 @@ pub record Sits (m : Machine) (t : ℕ) (a : Actor) (agenda : List Duty) (accoun
   pub exited : exits Running agenda ≡ true → HoldsNone account × (a.aside ≡ [])
   pub aside : AsideFits (with_actor m t (sitting a agenda)) t (sitting a agenda)
   pub knows : HeadOf (with_actor m t (sitting a agenda)) t (sitting a agenda) agenda
+  pub behind : BehindOf (with_actor m t (sitting a agenda)) t agenda
   pub fits : Agenda a.used Running agenda
-  pub hands : (x : ℕ) → finalised_now agenda x ≡ false
+  pub hands : (x : ℕ) → finalised agenda x ≡ 0
   pub no_waits : (x : ℕ) → sum_by (waits x) agenda ≡ 0
   pub no_carries : (x : ℕ) → sum_by (carries x) agenda ≡ 0
   pub no_merges : (x : ℕ) → sum_by (merges x) agenda ≡ 0
@@ -67,15 +67,15 @@ sitting_fits : (p : Accounts) (n : ℕ) (m : Machine) (t : ℕ) (a : Actor) (age
     → Fits account (with_actor m t (sitting a agenda)) t (sitting a agenda)
 sitting_fits p n m t a agenda account rest sits =
     let old = (rest.core.each t a rest.found).0 in
-    let none : (x : ℕ)
-    → one_if (finalised_now a.agenda x) ≡ one_if (finalised_now agenda x) =
-    λ x. ap one_if (ap (λ (l : List Duty). finalised_now l x) rest.agenda ∙ sym (sits.hands x)) in (
+    let none : (x : ℕ) → finalised a.agenda x ≡ finalised agenda x =
+    λ x. ap (λ (l : List Duty). finalised l x) rest.agenda ∙ sym (sits.hands x) in (
       record {
         word = old.word;
         holds = sits.holds;
         bounded = sits.bounded;
         exited = λ e. sits.exited (sym (ap (λ (s : Status). exits s agenda) rest.running) ∙ e);
         head_fits = sits.knows;
+        behind = sits.behind;
         chain =
             record {
               chained = old.chain.chained;

@@ -1,5 +1,5 @@
 -- A ready thread begins to retain an object, or to release one, while other duties are put aside.
-use Rattle.std.proofs.Common.{◌≡◌, ℕ, ◌+◌, ◌<◌, ◌≤◌, true, false, List, [], ◌∷◌, inl, inr, refl, sym, ap, ◌∙◌, subst, arith}
+use Rattle.std.proofs.Common.{◌≡◌, ℕ, ◌+◌, ◌<◌, ◌≤◌, Bool, cond, true, false, List, [], ◌∷◌, inl, inr, refl, sym, ap, ◌∙◌, subst, arith}
 use Rattle.std.specs.Prelude.{◌==◌, ◌&&◌, count_by, sum_by}
 use Rattle.std.proofs.lemmas.Bool.{false≢true}
 use Rattle.std.proofs.lemmas.Bool.Decides.{eqb_tells}
@@ -132,8 +132,9 @@ work_begins p n m t a x d account counts ready alone new =
         pieces = inr begins.piece;
       };
       knows = new.knows;
+      behind = tt;
       fits = begins.fits a.used;
-      hands = begins.hands;
+      hands = λ y. ap (λ (b : Bool). cond b 1 0) (begins.hands y);
       no_waits = λ y. one_weight (waits y) d (begins.waits y);
       no_carries = λ y. one_weight (carries y) d (begins.carries y);
       no_merges = λ y. one_weight (merges y) d (begins.merges y);

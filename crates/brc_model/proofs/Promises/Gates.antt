@@ -2,6 +2,7 @@
 use Rattle.std.proofs.Common.{◌≡◌, ◌≢◌, ℕ, ◌<◌, true, false, cond, List, [], ◌∷◌, get_or, ◌⊎◌, inl, inr, refl, sym, ap, ◌∙◌, subst, arith}
 use Rattle.std.specs.Prelude.{◌==◌, count_by}
 use Rattle.std.proofs.lemmas.Bool.{eqb-true, cases_lt, false≢true}
+use Rattle.std.proofs.lemmas.Bool.Decides.{eqb_tells}
 use Rattle.std.proofs.lemmas.List.Sums.{sum_by-cons}
 use Rattle.std.proofs.lemmas.Option.{slice_get-get_or}
 use Rattle.brc_lang.specs.declared.module.Module.{Module}
@@ -9,19 +10,22 @@ use Rattle.brc_lang.specs.Grammar.{IsModule}
 use Rattle.brc_model.specs.Paths.{IsAcceptable}
 use Rattle.brc_word.specs.Words.{free_word, closed_word}
 use Rattle.brc_model.specs.declared.duty.Duty.{Duty}
-use Rattle.brc_model.specs.declared.duty.Duty.TheVariants.{Die, SettleKind, SettleCell, TakeSlot, CloseResource, SettleEnd}
+use Rattle.brc_model.specs.declared.duty.Duty.TheVariants.{Die, Settle, SettleKind, SettleCell, TakeSlot, CloseResource, SettleEnd, Leave, Scan, Finish}
 use Rattle.brc_model.specs.declared.address.Address.{Address}
 use Rattle.brc_model.specs.declared.address.Address.TheVariants.{Gate}
+use Rattle.brc_model.specs.declared.actor.Status.{Status}
+use Rattle.brc_model.specs.declared.actor.Status.TheVariants.{Running, Leaving, Gone}
 use Rattle.brc_model.specs.Machine.{Actor, idle_actor, Life, Unborn, Live, Dying, Closed, Machine}
 use Rattle.brc_model.specs.StepMachine.{StepMachine, its_actor, counting}
 use Rattle.brc_model.specs.Layout.{block_of, index_of}
 use Rattle.brc_model.specs.Progress.{Always, GatesTell, BornAreUsed}
 use Rattle.brc_model.specs.References.{one_if}
 use Rattle.brc_model.specs.Accounts.{Accounts}
-use Rattle.brc_model.specs.Knowledge.{IsDyingWord, HeadOf}
-use Rattle.brc_model.specs.OpenWork.{Linked, finalised_now, dies_by, GateFits}
+use Rattle.brc_model.specs.Knowledge.{IsDyingWord, HeadFits, HeadOf, AllBehind, BehindOf}
+use Rattle.brc_model.specs.OpenWork.{Later, Agenda, AgendaFits, Linked, is_finalising, finalised, dies_by, GateFits}
 use Rattle.brc_model.specs.Invariant.{CoreInvariant}
 use Rattle.brc_model.proofs.Frame.Others.{dying_is}
+use Rattle.brc_model.proofs.Stepping.Behind.{finalised_first}
 use Rattle.brc_model.proofs.Keeping.CodeInvariant.{CodeInvariant}
 use Rattle.brc_model.proofs.Basics.Lists.{slice_get-map}
 use Rattle.brc_model.proofs.Promises.RowLaws.{always}
@@ -35,20 +39,80 @@ dying_low : (t gate : ℕ) → t < thread_limit → IsDyingWord t gate → gate 
 dying_low t gate few (next, is, low) e = absurd (omega (arith, few, low, is, e))
 
 -- The gate of the row that the first duty is finalising is free before `Die`, and a dying word after it.
-hand_gate : (m : Machine) (t : ℕ) (a : Actor) (agenda : List Duty) (x : ℕ) → HeadOf m t a agenda
-    → finalised_now agenda x ≡ true → (m.memory (Gate x) ≡ free_word) ⊎ IsDyingWord t (m.memory (Gate x))
-hand_gate m t a (Die y ∷ rest) x fits at = inl (ap (λ (z : ℕ). m.memory (Gate z)) (sym (eqb-true y x at)) ∙ fits.2)
-hand_gate m t a (SettleKind y ∷ rest) x fits at =
+first_gate : (m : Machine) (t : ℕ) (a : Actor) (d : Duty) (rest : List Duty) (x : ℕ) → HeadFits m t a d rest
+    → is_finalising d x ≡ true → (m.memory (Gate x) ≡ free_word) ⊎ IsDyingWord t (m.memory (Gate x))
+first_gate m t a (Die y) rest x fits at = inl (ap (λ (z : ℕ). m.memory (Gate z)) (sym (eqb-true y x at)) ∙ fits.2)
+first_gate m t a (SettleKind y) rest x fits at =
     inr (subst (λ (z : ℕ). IsDyingWord t (m.memory (Gate z))) (eqb-true y x at) fits.2)
-hand_gate m t a (SettleCell y i k ∷ rest) x fits at =
+first_gate m t a (SettleCell y i k) rest x fits at =
     inr (subst (λ (z : ℕ). IsDyingWord t (m.memory (Gate z))) (eqb-true y x at) fits.3)
-hand_gate m t a (TakeSlot y ∷ rest) x fits at =
+first_gate m t a (TakeSlot y) rest x fits at =
     inr (subst (λ (z : ℕ). IsDyingWord t (m.memory (Gate z))) (eqb-true y x at) fits.2)
-hand_gate m t a (CloseResource y ∷ rest) x fits at =
+first_gate m t a (CloseResource y) rest x fits at =
     inr (subst (λ (z : ℕ). IsDyingWord t (m.memory (Gate z))) (eqb-true y x at) fits.2)
-hand_gate m t a (SettleEnd y ∷ rest) x fits at =
+first_gate m t a (SettleEnd y) rest x fits at =
     inr (subst (λ (z : ℕ). IsDyingWord t (m.memory (Gate z))) (eqb-true y x at) fits.2)
-hand_gate m t a _ x fits at = absurd (false≢true at)
+first_gate m t a _ rest x fits at = absurd (false≢true at)
+
+-- The gate of a row that a duty behind the first is finalising is a dying word.
+later_gate : (m : Machine) (t used : ℕ) (status : Status) (l : List Duty) (x : ℕ) → Later used status l
+    → AllBehind m t l → 0 < finalised l x → IsDyingWord t (m.memory (Gate x))
+later_gate m t used status [] x later all some = absurd (omega (arith, some))
+later_gate m t used status (Settle ∷ rest) x later all some = later_gate m t used status rest x later all.1 some
+later_gate m t used status (SettleCell y i k ∷ rest) x later all some =
+    elim (eqb_tells y x) [
+      | inl same ↦ subst (λ (z : ℕ). IsDyingWord t (m.memory (Gate z))) same.1 all.0.3
+      | inr other ↦
+          let apart : one_if (y == x) ≡ 0 = ap one_if other.0 in
+          later_gate m t used status rest x later all.1
+          (omega (arith, some, apart, finalised_first (SettleCell y i k) rest x))
+    ]
+later_gate m t used status (SettleEnd y ∷ rest) x later all some =
+    elim (eqb_tells y x) [
+      | inl same ↦ subst (λ (z : ℕ). IsDyingWord t (m.memory (Gate z))) same.1 all.0.2
+      | inr other ↦
+          let apart : one_if (y == x) ≡ 0 = ap one_if other.0 in
+          later_gate m t used status rest x later all.1
+          (omega (arith, some, apart, finalised_first (SettleEnd y) rest x))
+    ]
+later_gate m t used status (Leave i k ∷ []) x later all some = absurd (omega (arith, some))
+later_gate m t used status (Scan i k ∷ rest) x later all some = later_gate m t used status rest x later.2 all.1 some
+later_gate m t used status (Finish ∷ []) x later all some = absurd (omega (arith, some))
+later_gate m t used status _ x later all some = absurd later
+
+behind_gate : (m : Machine) (t used : ℕ) (status : Status) (d : Duty) (rest : List Duty) (x : ℕ)
+    → Agenda used status (d ∷ rest) → AllBehind m t rest → 0 < finalised rest x → IsDyingWord t (m.memory (Gate x))
+behind_gate m t used status Settle rest x fits all some = later_gate m t used status rest x fits all some
+behind_gate m t used status (Leave i k) [] x fits all some = absurd (omega (arith, some))
+behind_gate m t used status (Leave i k) (e ∷ rest) x fits all some = absurd fits
+behind_gate m t used status (Scan i k) rest x fits all some = later_gate m t used status rest x fits.2 all some
+behind_gate m t used status Finish [] x fits all some = absurd (omega (arith, some))
+behind_gate m t used status Finish (e ∷ rest) x fits all some = absurd fits
+behind_gate m t used status _ rest x fits all some = later_gate m t used status rest x fits all some
+
+-- The gate of a row that a duty is finalising is free or a dying word.
+hand_gate : (m : Machine) (t : ℕ) (a : Actor) (status : Status) (agenda : List Duty) (x : ℕ)
+    → Agenda a.used status agenda → HeadOf m t a agenda → BehindOf m t agenda → 0 < finalised agenda x
+    → (m.memory (Gate x) ≡ free_word) ⊎ IsDyingWord t (m.memory (Gate x))
+hand_gate m t a status [] x fits head behind some = absurd (omega (arith, some))
+hand_gate m t a status (d ∷ rest) x fits head behind some =
+    elim (is_finalising d x) as (λ b. is_finalising d x ≡ b
+    → (m.memory (Gate x) ≡ free_word) ⊎ IsDyingWord t (m.memory (Gate x))) [
+      | true ↦ λ this. first_gate m t a d rest x head this
+      | false ↦ λ other.
+          let apart : one_if (is_finalising d x) ≡ 0 = ap one_if other in
+          inr (behind_gate m t a.used status d rest x fits behind
+          (omega (arith, some, apart, finalised_first d rest x)))
+    ] refl
+
+actor_gate : (m : Machine) (t : ℕ) (a : Actor) (status : Status) (x : ℕ) → AgendaFits a status
+    → HeadOf m t a a.agenda → BehindOf m t a.agenda → 0 < finalised a.agenda x
+    → (m.memory (Gate x) ≡ free_word) ⊎ IsDyingWord t (m.memory (Gate x))
+actor_gate m t a Gone x fits head behind some =
+    let none : finalised a.agenda x ≡ 0 = ap (λ (l : List Duty). finalised l x) fits.0 in
+    absurd (omega (arith, some, none))
+actor_gate m t a Running x fits head behind some = hand_gate m t a Running a.agenda x fits head behind some
+actor_gate m t a Leaving x fits head behind some = hand_gate m t a Leaving a.agenda x fits head behind some
 
 -- The gate of a row in the chain is a dying word.
 chained_gate : (memory : Address → ℕ) (t head : ℕ) (chained : List ℕ) (x : ℕ) → Linked memory t head chained
@@ -69,16 +133,14 @@ dying_gate : (p : Accounts) (n : ℕ) (m : Machine) (t x : ℕ) → CoreInvarian
 dying_gate p n m t x core within dies =
     let a = get_or m.actors t (idle_actor 0) in
     let found = slice_get-get_or m.actors t (idle_actor 0) (omega (arith, within, core.threads)) in
-    let fits = (core.each t a found).0 in
-    elim (finalised_now a.agenda x) as (λ b. finalised_now a.agenda x ≡ b
-    → (m.memory (Gate x) ≡ free_word) ⊎ IsDyingWord t (m.memory (Gate x))) [
-      | true ↦ λ at. hand_gate m t a a.agenda x fits.head_fits at
-      | false ↦ λ off.
+    let fits = core.each t a found in
+    elim (eqb_tells (finalised a.agenda x) 0) [
+      | inl none ↦
           let one : one_if (dies_by (m.life x) t) ≡ 1 = ap one_if (dying_is (m.life x) t dies) in
-          let none : one_if (finalised_now a.agenda x) ≡ 0 = ap one_if off in
-          inr (chained_gate m.memory t a.head fits.chain.chained x fits.chain.linked
-          (omega (arith, fits.chain.once x, one, none)))
-    ] refl
+          inr (chained_gate m.memory t a.head fits.0.chain.chained x fits.0.chain.linked
+          (omega (arith, fits.0.chain.once x, one, none.1)))
+      | inr more ↦ actor_gate m t a a.status x fits.1 fits.0.head_fits fits.0.behind (omega (arith, more.1))
+    ]
 
 -- ---- what a gate says
 

@@ -5,7 +5,7 @@ use Rattle.brc_lang.specs.declared.module.Module.{Module}
 use Rattle.brc_model.specs.declared.thread.Choice.{Choice}
 use Rattle.brc_model.specs.declared.duty.Holding.{Holding}
 use Rattle.brc_model.specs.declared.duty.Duty.{Duty}
-use Rattle.brc_model.specs.declared.duty.Duty.TheVariants.{SettleKind, BirthKind}
+use Rattle.brc_model.specs.declared.duty.Duty.TheVariants.{SettleKind, KindLoad, BirthKind}
 use Rattle.brc_model.specs.declared.address.Address.TheVariants.{KindOf}
 use Rattle.brc_model.specs.Machine.{Actor, Machine}
 use Rattle.brc_model.specs.StepMachine.{StepMachine, next_machine}
@@ -35,6 +35,7 @@ blank_kind p n m t a y h w rest here =
 stays_at_duty : (p : Accounts) (n : ℕ) (m : Machine) (t : ℕ) (a : Actor) (d : Duty) (rest : List Duty)
     → AtDuty p n m t a d rest → StoredStay (λ x. m.memory (KindOf x)) (λ x. memory_by m t a d (KindOf x))
 stays_at_duty p n m t a (SettleKind y) rest here = λ x. inr (written_load m.memory (KindOf y) (KindOf x))
+stays_at_duty p n m t a (KindLoad y) rest here = λ x. inr (written_load m.memory (KindOf y) (KindOf x))
 stays_at_duty p n m t a (BirthKind y h w) rest here = λ x.
     elim (eqb_tells y x) [
       | inl same ↦

@@ -7,7 +7,7 @@ use Rattle.brc_lang.specs.declared.module.Module.{Module}
 use Rattle.brc_lang.specs.Grammar.{IsModule}
 use Rattle.brc_model.specs.Paths.{IsAcceptable}
 use Rattle.brc_model.specs.declared.duty.Duty.{Duty}
-use Rattle.brc_model.specs.declared.duty.Duty.TheVariants.{Look, TakeMark, Settle, Leave, Scan, Finish}
+use Rattle.brc_model.specs.declared.duty.Duty.TheVariants.{Look, TakeMark, Settle, SettleCell, SettleEnd, Leave, Scan, Finish}
 use Rattle.brc_model.specs.declared.address.Address.TheVariants.{Mark, ThreadWord}
 use Rattle.brc_model.specs.declared.actor.Status.{Status}
 use Rattle.brc_model.specs.declared.actor.Status.TheVariants.{Running, Leaving, Gone}
@@ -60,6 +60,8 @@ later_scans : (used : ℕ) (status : Status) (x : ℕ) (l : List Duty)
 later_scans used status x [] later low e = absurd cc
 later_scans used status x (Settle ∷ rest) later low e =
     later_scans used status x rest later low e
+later_scans used status x (SettleCell y i n ∷ rest) later low e = later_scans used status x rest later low e
+later_scans used status x (SettleEnd y ∷ rest) later low e = later_scans used status x rest later low e
 later_scans used status x (Leave y k ∷ []) later low e = absurd cc
 later_scans used status x (Scan y k ∷ rest) later low e = (
   later.0,

@@ -22,7 +22,7 @@ use Rattle.brc_model.specs.References.{held, one_if, reference_of}
 use Rattle.brc_model.specs.RowInvariant.{waits, carries, merges, decides, agenda_weight, weight, IsDefault, IsQueued, AtZero, AboveZero, InOwned, InSwapped, InMerged, IsLive, RowInvariant}
 use Rattle.brc_model.specs.Accounts.{Accounts, HoldsAt}
 use Rattle.brc_model.specs.Invariant.{numbers_of, looks, ByRunning, ByExit, ByLook, CoreInvariant}
-use Rattle.brc_model.specs.OpenWork.{AgendaFits, exits, scans, Linked, dies_by, finalised_now}
+use Rattle.brc_model.specs.OpenWork.{AgendaFits, exits, scans, Linked, dies_by, finalised}
 use Rattle.brc_model.specs.Knowledge.{status_word}
 use Rattle.brc_model.proofs.Basics.Lists.{list_all_found}
 use Rattle.brc_model.proofs.Promises.Agreeing.{agrees_at, is_free_of}
@@ -148,8 +148,7 @@ none_dying p n m x t core done dying =
       | inl found ↦
           let gone = gone_at p n m t found.0 core done found.2 in
           let chain = (core.each t found.0 found.2).0.chain in
-          let hand : one_if (finalised_now found.0.agenda x) ≡ 0 =
-          ap (λ (l : List Duty). one_if (finalised_now l x)) gone.agenda in
+          let hand : finalised found.0.agenda x ≡ 0 = ap (λ (l : List Duty). finalised l x) gone.agenda in
           let one : one_if (dies_by (m.life x) t) ≡ 1 = ap one_if dies in
           elim chain.chained as (λ l. chain.chained ≡ l → Linked m.memory t found.0.head l → ⊥) [
             | [] ↦ λ e linked.

@@ -14,11 +14,12 @@ use Rattle.brc_model.specs.Machine.{Actor, Unborn, Live, Dying, Closed, Machine,
 use Rattle.brc_model.specs.References.{one_if}
 use Rattle.brc_model.specs.Accounts.{Accounts}
 use Rattle.brc_model.specs.Knowledge.{IsDyingWord}
-use Rattle.brc_model.specs.OpenWork.{Linked, finalised_now, dies_by, ChainFits}
+use Rattle.brc_model.specs.OpenWork.{Linked, finalised, dies_by, ChainFits}
 use Rattle.brc_model.specs.Invariant.{AtDuty, CoreInvariant}
 use Rattle.brc_model.proofs.Basics.Written.{written_here, written_apart, written_load, apart_gate}
 use Rattle.brc_model.proofs.Frame.Others.{is_dying, linked_kept}
 use Rattle.brc_model.proofs.Frame.Leaves.{head_of}
+use Rattle.brc_model.proofs.Stepping.Behind.{finalised_first, still_behind}
 use Rattle.brc_model.proofs.Stepping.Own.{ready_is}
 use Rattle.brc_model.proofs.Stepping.Neutral.{ThreadFits, found_by, agenda_here}
 use Rattle.brc_model.proofs.Stepping.Counts.{held_same}
@@ -58,19 +59,17 @@ dying_above p n m t x core dies =
       | inr counted ↦ counted
     ]
 
--- The row that the first duty is finalising isn't in the chain.
+-- A row that a duty finalises isn't in the chain.
 hand_not_chained : (m : Machine) (t head x : ℕ) (agenda : List Duty) (chain : ChainFits m t head agenda)
-    → finalised_now agenda x ≡ true → count_by (λ y. y == x) chain.chained ≡ 0
-hand_not_chained m t head x agenda chain at =
-    let one : one_if (finalised_now agenda x) ≡ 1 = ap one_if at in
-    omega (arith, one, chain.once x, one_if_low (dies_by (m.life x) t))
+    → 0 < finalised agenda x → count_by (λ y. y == x) chain.chained ≡ 0
+hand_not_chained m t head x agenda chain some =
+    omega (arith, some, chain.once x, one_if_low (dies_by (m.life x) t))
 
 -- The head of a chain fits into half a word, since the rows in the chain are born.
 pub head_low : (p : Accounts) (n : ℕ) (m : Machine) (t head : ℕ) (agenda : List Duty) (chained : List ℕ)
     → CoreInvariant p n m
     → Linked m.memory t head chained
-    → ((x : ℕ) → one_if (finalised_now agenda x) + count_by (λ y. y == x) chained ≡ one_if (dies_by (m.life x) t))
-    → head < half
+    → ((x : ℕ) → finalised agenda x + count_by (λ y. y == x) chained ≡ one_if (dies_by (m.life x) t)) → head < half
 head_low p n m t head agenda [] core linked once = omega (arith, linked)
 head_low p n m t head agenda (x ∷ xs) core linked once =
     let here : one_if (x == x) ≡ 1 = ap one_if (eq-eqb x x refl) in
@@ -82,11 +81,13 @@ head_low p n m t head agenda (x ∷ xs) core linked once =
 -- ---- `Die` puts a row into the chain
 
 die_chain : (p : Accounts) (n : ℕ) (m : Machine) (t : ℕ) (a : Actor) (x : ℕ) (rest agenda : List Duty)
-    → AtDuty p n m t a (Die x) rest → ((y : ℕ) → finalised_now agenda y ≡ false)
+    → AtDuty p n m t a (Die x) rest → ((y : ℕ) → finalised agenda y ≡ finalised rest y)
     → ChainFits (done_by m t a (Die x) rest) t (x + 1) agenda
-die_chain p n m t a x rest agenda here none =
+die_chain p n m t a x rest agenda here same =
     let old = chain_here p n m t a (Die x) rest here in
-    let absent = hand_not_chained m t a.head x (Die x ∷ rest) old (eq-eqb x x refl) in
+    let this : one_if (x == x) ≡ 1 = ap one_if (eq-eqb x x refl) in
+    let first = finalised_first (Die x) rest in
+    let absent = hand_not_chained m t a.head x (Die x ∷ rest) old (omega (arith, this, first x)) in
     let new = written m.memory (Gate x) (dying_word t a.head) in
     record {
       chained = x ∷ old.chained;
@@ -104,8 +105,13 @@ die_chain p n m t a x rest agenda here none =
         ),
       );
       once =
-          λ y. let hand : one_if (finalised_now agenda y) ≡ 0 =
-          ap one_if (none y) in omega (arith, hand, old.once y, sum_by-cons (λ z. cond (z == y) 1 0) x old.chained);
+          λ y. omega (
+            arith,
+            same y,
+            old.once y,
+            first y,
+            sum_by-cons (λ z. cond (z == y) 1 0) x old.chained,
+          );
     }
 
 -- The thread fits after `Chained`.
@@ -121,9 +127,11 @@ thread_after_die p n m t a x rest here alive =
       agenda_is = refl;
       word = (here.core.each t a here.found).0.word;
       held = held_same m.abstract.references t (Die x ∷ rest) (ready (x + 1) rest) ready_so.more ready_so.less;
-      chain = die_chain p n m t a x rest (ready (x + 1) rest) here ready_so.is_finalising;
+      chain = die_chain p n m t a x rest (ready (x + 1) rest) here ready_so.hands;
       fits = agenda_shown m t a (Die x) rest (ready (x + 1) rest) a.status alive refl refl ready_so.fits;
-      knows = λ b status head used. ready_so.knows (done_by m t a (Die x) rest) b head;
+      knows =
+          λ b status head used. ready_so.knows (done_by m t a (Die x) rest) b head
+          (still_behind p n m t a (Die x) rest here);
     })
 
 -- ---- `Settle` takes the first row from the chain
@@ -140,18 +148,18 @@ record FirstChained (m : Machine) (t : ℕ) (a : Actor) (rest : List Duty) : Typ
   next_is : next_part (m.memory (Gate row)) ≡ next
   gate : IsDyingWord t (m.memory (Gate row))
   linked : Linked m.memory t next others
-  once : (x : ℕ) → one_if (row == x) + count_by (λ y. y == x) others ≡ one_if (dies_by (m.life x) t)
+  once : (x : ℕ)
+      → one_if (row == x) + finalised rest x + count_by (λ y. y == x) others ≡ one_if (dies_by (m.life x) t)
   dies : m.life row ≡ Dying t
 
 first_by : (m : Machine) (t : ℕ) (a : Actor) (rest : List Duty) (chained : List ℕ) → 0 < a.head
     → Linked m.memory t a.head chained
-    → ((x : ℕ) → one_if (finalised_now (Settle ∷ rest) x) + count_by (λ y. y == x) chained ≡ one_if
-    (dies_by (m.life x) t))
+    → ((x : ℕ) → finalised rest x + count_by (λ y. y == x) chained ≡ one_if (dies_by (m.life x) t))
     → FirstChained m t a rest
 first_by m t a rest [] some linked once = absurd (omega (arith, some, linked))
 first_by m t a rest (x ∷ xs) some linked once =
     let each : (z : ℕ)
-    → one_if (x == z) + count_by (λ y. y == z) xs ≡ one_if (dies_by (m.life z) t) =
+    → one_if (x == z) + finalised rest z + count_by (λ y. y == z) xs ≡ one_if (dies_by (m.life z) t) =
     λ z. omega (arith, once z, sum_by-cons (λ y. cond (y == z) 1 0) x xs) in
     let here : one_if (x == x) ≡ 1 = ap one_if (eq-eqb x x refl) in
     record {
@@ -197,7 +205,7 @@ settle_shown p n m t a rest first here alive row_is =
         linked =
             linked_kept m.memory new.memory t first.next first.others
             (λ x some. written_load m.memory (Gate (a.head - 1)) (Gate x)) first.linked;
-        once = first.once;
+        once = λ x. omega (arith, first.once x, finalised_first (SettleKind first.row) (Settle ∷ rest) x);
       };
       fits =
           agenda_shown m t a Settle rest later a.status alive refl (front (next_part (m.memory (Gate (a.head - 1)))))
@@ -221,11 +229,14 @@ thread_after_settle p n m t a rest here alive =
 -- ---- `SettleEnd` closes the row
 
 end_chain : (p : Accounts) (n : ℕ) (m : Machine) (t : ℕ) (a : Actor) (x : ℕ) (rest agenda : List Duty)
-    → AtDuty p n m t a (SettleEnd x) rest → ((y : ℕ) → finalised_now agenda y ≡ false)
+    → AtDuty p n m t a (SettleEnd x) rest → ((y : ℕ) → finalised agenda y ≡ finalised rest y)
     → ChainFits (done_by m t a (SettleEnd x) rest) t a.head agenda
-end_chain p n m t a x rest agenda here none =
+end_chain p n m t a x rest agenda here kept =
     let old = chain_here p n m t a (SettleEnd x) rest here in
-    let absent = hand_not_chained m t a.head x (SettleEnd x ∷ rest) old (eq-eqb x x refl) in
+    let this : one_if (x == x) ≡ 1 = ap one_if (eq-eqb x x refl) in
+    let first = finalised_first (SettleEnd x) rest in
+    let absent = hand_not_chained m t a.head x (SettleEnd x ∷ rest) old (omega (arith, this, first x)) in
+    let none : finalised rest x ≡ 0 = omega (arith, this, first x, old.once x, one_if_low (dies_by (m.life x) t)) in
     let new = written m.memory (Gate x) closed_word in
     record {
       chained = old.chained;
@@ -234,17 +245,22 @@ end_chain p n m t a x rest agenda here none =
           (apart_gate x y (λ e. absurd (omega
           (arith, subst (λ (z : ℕ). 0 < count_by (λ w. w == z) old.chained) (sym e) some, absent))))) old.linked;
       once = λ y.
-          let hand : one_if (finalised_now agenda y) ≡ 0 = ap one_if (none y) in
           elim (eqb_tells x y) [
             | inl same ↦
                 let gone : one_if (dies_by (with_life m.life (Some x) Closed y) t) ≡ 0 =
                 ap (λ (b : Bool). one_if (dies_by (cond b Closed (m.life y)) t)) same.0 in
-                omega (arith, hand, gone, subst (λ (z : ℕ). count_by (λ w. w == z) old.chained ≡ 0) same.1 absent)
+                omega (
+                  arith,
+                  kept y,
+                  gone,
+                  subst (λ (z : ℕ). finalised rest z ≡ 0) same.1 none,
+                  subst (λ (z : ℕ). count_by (λ w. w == z) old.chained ≡ 0) same.1 absent,
+                )
             | inr other ↦
-                let kept : one_if (dies_by (with_life m.life (Some x) Closed y) t) ≡ one_if (dies_by (m.life y) t) =
+                let life : one_if (dies_by (with_life m.life (Some x) Closed y) t) ≡ one_if (dies_by (m.life y) t) =
                 ap (λ (b : Bool). one_if (dies_by (cond b Closed (m.life y)) t)) other.0 in
                 let apart : one_if (x == y) ≡ 0 = ap one_if other.0 in
-                omega (arith, hand, kept, apart, old.once y)
+                omega (arith, kept y, life, apart, first y, old.once y)
           ];
     }
 
@@ -262,7 +278,9 @@ thread_after_settle_end p n m t a x rest here alive =
       agenda_is = refl;
       word = (here.core.each t a here.found).0.word;
       held = held_same m.abstract.references t (SettleEnd x ∷ rest) (ready a.head rest) ready_so.more ready_so.less;
-      chain = end_chain p n m t a x rest (ready a.head rest) here ready_so.is_finalising;
+      chain = end_chain p n m t a x rest (ready a.head rest) here ready_so.hands;
       fits = agenda_shown m t a (SettleEnd x) rest (ready a.head rest) a.status alive refl refl ready_so.fits;
-      knows = λ b status head used. ready_so.knows (done_by m t a (SettleEnd x) rest) b head;
+      knows =
+          λ b status head used. ready_so.knows (done_by m t a (SettleEnd x) rest) b head
+          (still_behind p n m t a (SettleEnd x) rest here);
     })

@@ -1,6 +1,6 @@
 -- A thread fits after its own steps of an exit: it says that it leaves, looks through its rows' marks, and says that it
 -- is gone.
-use Rattle.std.proofs.Common.{◌≡◌, ℕ, ◌+◌, ◌-◌, Bool, true, false, cond, List, [], ◌∷◌, ◌++◌, inl, inr, None, refl, sym, ap, ◌∙◌, subst, arith, ◌≢◌}
+use Rattle.std.proofs.Common.{◌≡◌, ℕ, ◌+◌, ◌-◌, Bool, true, false, cond, List, [], ◌∷◌, ◌++◌, inl, inr, None, refl, ap, ◌∙◌, subst, arith, ◌≢◌}
 use Rattle.std.specs.Prelude.{◌==◌}
 use Rattle.std.proofs.lemmas.Bool.{eqb-true}
 use Rattle.brc_model.specs.declared.duty.Holding.{Holding}
@@ -13,12 +13,14 @@ use Rattle.brc_model.specs.declared.actor.Status.TheVariants.{Leaving, Gone}
 use Rattle.brc_model.specs.Machine.{Actor, Life, Machine, status_by, dies_next, ended_row, actor_by, done_by, born_row, Unborn}
 use Rattle.brc_model.specs.References.{one_if}
 use Rattle.brc_model.specs.Accounts.{Accounts, extra_of, lacks_of}
-use Rattle.brc_model.specs.OpenWork.{Later, finalised_now, dies_by, ChainFits}
+use Rattle.brc_model.specs.Knowledge.{AllBehind}
+use Rattle.brc_model.specs.OpenWork.{Later, finalised, dies_by, ChainFits}
 use Rattle.brc_model.specs.Invariant.{AtDuty, numbers_of, CoreInvariant}
 use Rattle.brc_model.specs.RowInvariant.{RowInvariant}
 use Rattle.brc_model.proofs.Basics.Written.{written_here}
 use Rattle.brc_model.proofs.Frame.Leaves.{head_of}
 use Rattle.brc_model.proofs.Frame.Lives.{next_of}
+use Rattle.brc_model.proofs.Stepping.Behind.{still_behind}
 use Rattle.brc_model.proofs.Stepping.Own.{HeldStep, ready_is, chain_same}
 use Rattle.brc_model.proofs.Stepping.Neutral.{ThreadFits, found_by, bag_by, memory_by, agenda_here, own_neutral}
 use Rattle.brc_model.proofs.Stepping.Counts.{held_same}
@@ -59,12 +61,13 @@ record ClaimStep (m : Machine) (t : ℕ) (a : Actor) (d : Duty) (x : ℕ) (rest 
   same_status : status_by a.status d ≡ a.status
   gates : (y : ℕ) → memory_by m t a d (Gate y) ≡ m.memory (Gate y)
   word : memory_by m t a d (ThreadWord t) ≡ m.memory (ThreadWord t)
-  hands : (y : ℕ) → finalised_now (d ∷ rest) y ≡ false
+  hands : (y : ℕ) → finalised (behind ++ rest) y ≡ finalised (d ∷ rest) y
   held : (agenda : List Duty) → ((h : Holding) (object : ℕ) → extra_of agenda h object ≡ false)
       → ((h : Holding) (object : ℕ) → lacks_of agenda h object ≡ false)
       → HeldStep m.abstract.references (bag_by m t a d) t (d ∷ rest) agenda
   block : m.memory (Mark x) ≡ 1 → block_of m.layout x ≡ t
   later : Later a.used a.status (behind ++ rest)
+  knows : (new : Machine) → AllBehind new t rest → AllBehind new t (behind ++ rest)
 
 claim_step : (p : Accounts) (n : ℕ) (m : Machine) (t : ℕ) (a : Actor) (d : Duty) (x : ℕ) (rest behind : List Duty)
     → AtDuty p n m t a d rest → (a.status ≡ Gone → ⊥) → ClaimStep m t a d x rest behind
@@ -87,7 +90,7 @@ claim_step p n m t a d x rest behind here alive step =
             agenda_is = ready_first a.head (MergeSwap x Handed) (behind ++ rest) refl;
             gates = step.gates;
             word = step.word;
-            hands = λ y. sym (step.hands y);
+            hands = step.hands;
             held = step.held (MergeSwap x Handed ∷ (behind ++ rest)) (λ h o. refl) (λ h o. refl);
             fits = step.later;
             knows = λ b status head used. (above, inl (step.block marked));
@@ -104,10 +107,12 @@ claim_step p n m t a d x rest behind here alive step =
             agenda_is = refl;
             gates = step.gates;
             word = step.word;
-            hands = λ y. ready_so.is_finalising y ∙ sym (step.hands y);
+            hands = λ y. ready_so.hands y ∙ step.hands y;
             held = step.held (ready a.head (behind ++ rest)) ready_so.more ready_so.less;
             fits = ready_so.fits;
-            knows = λ b status head used. ready_so.knows (done_by m t a d rest) b head;
+            knows =
+                λ b status head used. ready_so.knows (done_by m t a d rest) b head
+                (step.knows (done_by m t a d rest) (still_behind p n m t a d rest here));
           })
     ] refl
 
@@ -132,6 +137,7 @@ thread_after_scan p n m t a i k rest here alive =
       held = λ agenda more less. held_same m.abstract.references t (Scan i k ∷ rest) agenda more less;
       block = λ marked. used_block p n m t a i here.core here.found (omega (arith, fits.1, some));
       later = (fits.0, omega (arith, fits.1, some), fits.2);
+      knows = λ new all. (tt, (tt, all));
     })
 
 -- `MarkClaimed` and `NothingToClaim`: a running thread looks into its queue.
@@ -153,25 +159,24 @@ thread_after_claim_mark p n m t a x rest here alive =
       held = λ agenda more less. held_same m.abstract.references t (ClaimMark x ∷ rest) agenda more less;
       block = λ marked. head_of p n m t a (ClaimMark x) rest here;
       later = agenda_here p n m t a (ClaimMark x) rest here alive;
+      knows = λ new all. (tt, all);
     })
 
 -- ---- the thread says that it leaves
 
--- The chain fits after a step that changes no gate and no life, if the thread finalises no row before it or after it.
+-- The chain fits after a step that changes no gate and no life, if the duties finalise what they did before.
 exit_chain : (p : Accounts) (n : ℕ) (m : Machine) (t : ℕ) (a : Actor) (d : Duty) (rest agenda : List Duty)
     → AtDuty p n m t a d rest → ((y : ℕ) → memory_by m t a d (Gate y) ≡ m.memory (Gate y))
     → ((y : ℕ) → (done_by m t a d rest).life y ≡ m.life y)
-    → ((y : ℕ) → finalised_now (d ∷ rest) y ≡ false) → ((y : ℕ) → finalised_now agenda y ≡ false)
+    → ((y : ℕ) → finalised agenda y ≡ finalised (d ∷ rest) y)
     → ChainFits (done_by m t a d rest) t a.head agenda
-exit_chain p n m t a d rest agenda here gates lives before after =
+exit_chain p n m t a d rest agenda here gates lives hands =
     chain_same m (done_by m t a d rest) t a.head (d ∷ rest) agenda (record {
       gates = gates;
       hands = λ y.
-          let was : one_if (finalised_now (d ∷ rest) y) ≡ 0 = ap one_if (before y) in
-          let now : one_if (finalised_now agenda y) ≡ 0 = ap one_if (after y) in
           let life : one_if (dies_by ((done_by m t a d rest).life y) t) ≡ one_if (dies_by (m.life y) t) =
           ap (λ (l : Life). one_if (dies_by l t)) (lives y) in
-          omega (arith, was, now, life);
+          omega (arith, hands y, life);
     }) (chain_here p n m t a d rest here)
 
 -- The thread fits after `SaysLeaving`.
@@ -192,10 +197,9 @@ thread_after_leave p n m t a x k [] here alive =
       word = written_here m.memory (ThreadWord t) 2;
       held = held_same m.abstract.references t (Leave x k ∷ []) (ready a.head looks) ready_so.more ready_so.less;
       chain =
-          exit_chain p n m t a (Leave x k) [] (ready a.head looks) here (λ y. refl) (λ y. refl) (λ y. refl)
-          ready_so.is_finalising;
+          exit_chain p n m t a (Leave x k) [] (ready a.head looks) here (λ y. refl) (λ y. refl) ready_so.hands;
       fits = agenda_shown m t a (Leave x k) [] (ready a.head looks) Leaving (λ e. cc) refl refl ready_so.fits;
-      knows = λ b status head used. ready_so.knows (done_by m t a (Leave x k) []) b head;
+      knows = λ b status head used. ready_so.knows (done_by m t a (Leave x k) []) b head (tt, (tt, tt));
     })
 thread_after_leave p n m t a x k (e ∷ rest) here alive =
     absurd (agenda_here p n m t a (Leave x k) (e ∷ rest) here alive)
@@ -213,7 +217,7 @@ thread_after_finish p n m t a [] here alive empty =
       agenda_is = ready_none a.head;
       word = written_here m.memory (ThreadWord t) 3;
       held = held_same m.abstract.references t (Finish ∷ []) [] (λ k o. refl) (λ k o. refl);
-      chain = exit_chain p n m t a Finish [] [] here (λ y. refl) (λ y. refl) (λ y. refl) (λ y. refl);
+      chain = exit_chain p n m t a Finish [] [] here (λ y. refl) (λ y. refl) (λ y. refl);
       fits = (ready_none a.head, empty);
       knows = λ b status head used. tt;
     })

@@ -12,9 +12,10 @@ use Rattle.brc_model.specs.Moves.{reference_effects}
 use Rattle.brc_model.specs.References.{one_if}
 use Rattle.brc_model.specs.Accounts.{Accounts, HoldsAt}
 use Rattle.brc_model.specs.Knowledge.{HeadOf, status_word}
-use Rattle.brc_model.specs.OpenWork.{Agenda, finalised_now, dies_by, ChainFits, AgendaFits}
+use Rattle.brc_model.specs.OpenWork.{Agenda, finalised, dies_by, ChainFits, AgendaFits}
 use Rattle.brc_model.specs.Invariant.{AtDuty, ActorFits}
 use Rattle.brc_model.proofs.Frame.Lives.{next_of}
+use Rattle.brc_model.proofs.Stepping.Behind.{behind_after}
 use Rattle.brc_model.proofs.Stepping.UnderWay.{exits_still}
 use Rattle.brc_model.proofs.Stepping.Own.{HeldStep, holds_step, ChainSame, chain_same}
 use Rattle.brc_model.specs.declared.duty.Duty.TheVariants.{BirthLocal}
@@ -69,7 +70,7 @@ pub record NeutralStep (m : Machine) (t : ℕ) (a : Actor) (d : Duty) (rest next
   pub agenda_is : ready a.head (next ++ rest) ≡ agenda
   pub gates : (x : ℕ) → memory_by m t a d (Gate x) ≡ m.memory (Gate x)
   pub word : memory_by m t a d (ThreadWord t) ≡ m.memory (ThreadWord t)
-  pub hands : (x : ℕ) → finalised_now agenda x ≡ finalised_now (d ∷ rest) x
+  pub hands : (x : ℕ) → finalised agenda x ≡ finalised (d ∷ rest) x
   pub held : HeldStep m.abstract.references (bag_by m t a d) t (d ∷ rest) agenda
   pub fits : Agenda a.used a.status agenda
   pub knows : (b : Actor) → b.status ≡ a.status → b.head ≡ a.head → b.used ≡ a.used
@@ -105,8 +106,8 @@ own_neutral p n m t a d rest next agenda here alive step =
     let same : ChainSame m new t a.agenda agenda = record {
       gates = step.gates;
       hands = λ x.
-          let hands : one_if (finalised_now agenda x) ≡ one_if (finalised_now a.agenda x) =
-          ap one_if (step.hands x ∙ ap (λ (l : List Duty). finalised_now l x) (sym here.agenda)) in
+          let hands : finalised agenda x ≡ finalised a.agenda x =
+          step.hands x ∙ ap (λ (l : List Duty). finalised l x) (sym here.agenda) in
           let life : one_if (dies_by (new.life x) t) ≡ one_if (dies_by (m.life x) t) =
           ap (λ (l : Life). one_if (dies_by l t))
           (life_same m t a d next x step.next_is step.none_dies step.none_ends step.none_born) in
@@ -122,6 +123,7 @@ own_neutral p n m t a d rest next agenda here alive step =
         head_fits =
             subst (λ (l : List Duty). HeadOf new t after l) (sym whole)
             (step.knows after step.same_status step.same_head (uses_same a.used d step.none_born));
+        behind = behind_after p n m t a d rest here;
         chain =
             subst (λ (l : List Duty). ChainFits new t after.head l) (sym whole)
             (subst (λ (h : ℕ). ChainFits new t h agenda) (sym step.same_head) chain);

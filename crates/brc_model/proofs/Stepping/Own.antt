@@ -1,17 +1,17 @@
 -- What a thread holds, its agenda and its chain after its own step, put together from what the step changes.
-use Rattle.std.proofs.Common.{◌≡◌, ℕ, zero, suc, ◌+◌, false, List, [], ◌∷◌, refl, arith}
+use Rattle.std.proofs.Common.{◌≡◌, ℕ, zero, suc, ◌+◌, Bool, false, cond, List, [], ◌∷◌, refl, sym, ap, ◌∙◌, arith}
 use Rattle.brc_model.specs.declared.duty.Holding.{Holding}
 use Rattle.brc_model.specs.AbstractState.{Reference}
 use Rattle.brc_model.specs.declared.duty.Duty.{Duty}
-use Rattle.brc_model.specs.declared.duty.Duty.TheVariants.{Settle, Leave, Scan, Finish}
+use Rattle.brc_model.specs.declared.duty.Duty.TheVariants.{Settle, SettleCell, SettleEnd, Leave, Scan, Finish}
 use Rattle.brc_model.specs.declared.address.Address.TheVariants.{Gate}
 use Rattle.brc_model.specs.Duties.{ready}
 use Rattle.brc_model.specs.declared.actor.Status.{Status}
 use Rattle.brc_model.specs.Machine.{Actor, Machine}
 use Rattle.brc_model.specs.References.{held, one_if, reference_of}
 use Rattle.brc_model.specs.Accounts.{extra_of, lacks_of, HoldsAt, Account}
-use Rattle.brc_model.specs.Knowledge.{HeadOf}
-use Rattle.brc_model.specs.OpenWork.{Later, Agenda, finalised_now, dies_by, ChainFits}
+use Rattle.brc_model.specs.Knowledge.{HeadOf, AllBehind}
+use Rattle.brc_model.specs.OpenWork.{Later, Agenda, is_finalising, finalised, dies_by, ChainFits}
 use Rattle.brc_model.proofs.Frame.Others.{linked_kept}
 use Rattle.brc_model.specs.declared.layout.Layout.{Layout}
 
@@ -31,59 +31,78 @@ holds_step bag new t account agenda later aside step holds =
 
 -- ---- agendas
 
--- What holds of an agenda of `Later` duties alone: it fits, and its first duty makes and gives up no reference,
--- finalises no row, and knows all that it needs.
+-- What holds of an agenda of `Later` duties alone, after `ready` has skipped some of them: it fits, its duties finalise
+-- what they did before, and its first duty makes and gives up no reference and knows all that it needs.
 pub record IsReady (layout : Layout) (t used : ℕ) (status : Status) (head : ℕ)
-    (agenda : List Duty) : Type 0 where
+    (rest agenda : List Duty) : Type 0 where
   pub fits : Agenda used status agenda
   pub more : (k : Holding) (object : ℕ) → extra_of agenda k object ≡ false
   pub less : (k : Holding) (object : ℕ) → lacks_of agenda k object ≡ false
-  pub is_finalising : (x : ℕ) → finalised_now agenda x ≡ false
-  pub knows : (m : Machine) (a : Actor) → a.head ≡ head → HeadOf m t a agenda
+  pub hands : (x : ℕ) → finalised agenda x ≡ finalised rest x
+  pub knows : (m : Machine) (a : Actor) → a.head ≡ head → AllBehind m t rest → HeadOf m t a agenda
 
 ready_as : {layout : Layout} {t used : ℕ} {status : Status} {head : ℕ} (agenda : List Duty)
     → Agenda used status agenda → ((k : Holding) (object : ℕ) → extra_of agenda k object ≡ false)
-    → ((k : Holding) (object : ℕ) → lacks_of agenda k object ≡ false) → ((x : ℕ) → finalised_now agenda x ≡ false)
-    → ((m : Machine) (a : Actor) → a.head ≡ head → HeadOf m t a agenda) → IsReady layout t used status head agenda
-ready_as agenda fits more less finalises knows =
-    record { fits = fits; more = more; less = less; is_finalising = finalises; knows = knows }
+    → ((k : Holding) (object : ℕ) → lacks_of agenda k object ≡ false)
+    → ((m : Machine) (a : Actor) → a.head ≡ head → AllBehind m t agenda → HeadOf m t a agenda)
+    → IsReady layout t used status head agenda agenda
+ready_as agenda fits more less knows =
+    record { fits = fits; more = more; less = less; hands = λ x. refl; knows = knows }
+
+-- The duty is skipped.
+ready_past : {layout : Layout} {t used : ℕ} {status : Status} {head : ℕ} (d : Duty) (rest agenda : List Duty)
+    → ((x : ℕ) → is_finalising d x ≡ false) → IsReady layout t used status head rest agenda
+    → IsReady layout t used status head (d ∷ rest) agenda
+ready_past d rest agenda none then = record {
+  fits = then.fits;
+  more = then.more;
+  less = then.less;
+  hands = λ x. then.hands x ∙ sym (ap (λ (b : Bool). cond b (1 + finalised rest x) (finalised rest x)) (none x));
+  knows = λ m a h behind. then.knows m a h behind.1;
+}
 
 pub ready_is : (layout : Layout) (t used : ℕ) (status : Status) (head : ℕ) (rest : List Duty)
-    → Later used status rest → IsReady layout t used status head (ready head rest)
-ready_is layout t used status zero [] later =
-    ready_as [] later (λ k o. refl) (λ k o. refl) (λ x. refl) (λ m a h. tt)
-ready_is layout t used status (suc head) [] later =
-    ready_as [] later (λ k o. refl) (λ k o. refl) (λ x. refl) (λ m a h. tt)
+    → Later used status rest → IsReady layout t used status head rest (ready head rest)
+ready_is layout t used status zero [] later = ready_as [] later (λ k o. refl) (λ k o. refl) (λ m a h b. tt)
+ready_is layout t used status (suc head) [] later = ready_as [] later (λ k o. refl) (λ k o. refl) (λ m a h b. tt)
 ready_is layout t used status zero (Settle ∷ rest) later =
-    ready_is layout t used status zero rest later
+    ready_past Settle rest (ready zero rest) (λ x. refl) (ready_is layout t used status zero rest later)
 ready_is layout t used status (suc head) (Settle ∷ rest) later =
-    ready_as (Settle ∷ rest) later (λ k o. refl) (λ k o. refl) (λ x. refl) (λ m a h. omega (arith, h))
+    ready_as (Settle ∷ rest) later (λ k o. refl) (λ k o. refl) (λ m a h b. omega (arith, h))
+ready_is layout t used status zero (SettleCell x i n ∷ rest) later =
+    ready_as (SettleCell x i n ∷ rest) later (λ k o. refl) (λ k o. refl) (λ m a h b. b.0)
+ready_is layout t used status (suc head) (SettleCell x i n ∷ rest) later =
+    ready_as (SettleCell x i n ∷ rest) later (λ k o. refl) (λ k o. refl) (λ m a h b. b.0)
+ready_is layout t used status zero (SettleEnd x ∷ rest) later =
+    ready_as (SettleEnd x ∷ rest) later (λ k o. refl) (λ k o. refl) (λ m a h b. b.0)
+ready_is layout t used status (suc head) (SettleEnd x ∷ rest) later =
+    ready_as (SettleEnd x ∷ rest) later (λ k o. refl) (λ k o. refl) (λ m a h b. b.0)
 ready_is layout t used status zero (Scan x zero ∷ rest) later =
-    ready_is layout t used status zero rest later.2
+    ready_past (Scan x zero) rest (ready zero rest) (λ y. refl) (ready_is layout t used status zero rest later.2)
 ready_is layout t used status (suc head) (Scan x zero ∷ rest) later =
-    ready_is layout t used status (suc head) rest later.2
+    ready_past (Scan x zero) rest (ready (suc head) rest) (λ y. refl)
+    (ready_is layout t used status (suc head) rest later.2)
 ready_is layout t used status zero (Scan x (suc k) ∷ rest) later =
-    ready_as (Scan x (suc k) ∷ rest) later (λ k o. refl) (λ k o. refl) (λ x. refl) (λ m a h. omega arith)
+    ready_as (Scan x (suc k) ∷ rest) later (λ k o. refl) (λ k o. refl) (λ m a h b. omega arith)
 ready_is layout t used status (suc head) (Scan x (suc k) ∷ rest) later =
-    ready_as (Scan x (suc k) ∷ rest) later (λ k o. refl) (λ k o. refl) (λ x. refl) (λ m a h. omega arith)
+    ready_as (Scan x (suc k) ∷ rest) later (λ k o. refl) (λ k o. refl) (λ m a h b. omega arith)
 ready_is layout t used status zero (Leave x k ∷ []) later =
-    ready_as (Leave x k ∷ []) later (λ k o. refl) (λ k o. refl) (λ x. refl) (λ m a h. tt)
+    ready_as (Leave x k ∷ []) later (λ k o. refl) (λ k o. refl) (λ m a h b. tt)
 ready_is layout t used status (suc head) (Leave x k ∷ []) later =
-    ready_as (Leave x k ∷ []) later (λ k o. refl) (λ k o. refl) (λ x. refl) (λ m a h. tt)
+    ready_as (Leave x k ∷ []) later (λ k o. refl) (λ k o. refl) (λ m a h b. tt)
 ready_is layout t used status zero (Finish ∷ []) later =
-    ready_as (Finish ∷ []) later (λ k o. refl) (λ k o. refl) (λ x. refl) (λ m a h. tt)
+    ready_as (Finish ∷ []) later (λ k o. refl) (λ k o. refl) (λ m a h b. tt)
 ready_is layout t used status (suc head) (Finish ∷ []) later =
-    ready_as (Finish ∷ []) later (λ k o. refl) (λ k o. refl) (λ x. refl) (λ m a h. tt)
+    ready_as (Finish ∷ []) later (λ k o. refl) (λ k o. refl) (λ m a h b. tt)
 ready_is layout t used status head _ later = absurd later
 
 -- ---- chains
 
--- No gate changes, and a row begins or ceases to die only as the first duty's row.
+-- No gate changes, and a row begins or ceases to die only as a row that a duty finalises.
 pub record ChainSame (m new : Machine) (t : ℕ) (agenda later : List Duty) : Type 0 where
   pub gates : (x : ℕ) → new.memory (Gate x) ≡ m.memory (Gate x)
   pub hands : (x : ℕ)
-      → one_if (finalised_now later x) + one_if (dies_by (m.life x) t) ≡ one_if (finalised_now agenda x)
-      + one_if (dies_by (new.life x) t)
+      → finalised later x + one_if (dies_by (m.life x) t) ≡ finalised agenda x + one_if (dies_by (new.life x) t)
 
 pub chain_same : (m new : Machine) (t head : ℕ) (agenda later : List Duty) → ChainSame m new t agenda later
     → ChainFits m t head agenda → ChainFits new t head later

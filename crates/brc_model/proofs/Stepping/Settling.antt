@@ -14,7 +14,7 @@ use Rattle.brc_model.specs.Machine.{Actor, Dying, Machine, status_by, ended_row,
 use Rattle.brc_model.specs.Moves.{take_out}
 use Rattle.brc_model.specs.AbstractState.{moved}
 use Rattle.brc_model.specs.Accounts.{Accounts, extra_of, lacks_of, extra, lacks}
-use Rattle.brc_model.specs.OpenWork.{Later, Agenda, finalised_now, is_finalising}
+use Rattle.brc_model.specs.OpenWork.{Later, Agenda, finalised, is_finalising}
 use Rattle.brc_model.specs.Knowledge.{IsDyingWord, HeadFits}
 use Rattle.brc_model.proofs.Frame.Leaves.{head_of}
 use Rattle.brc_model.proofs.Frame.Lives.{next_of}
@@ -41,7 +41,7 @@ record SettlingStep (m : Machine) (t : ℕ) (a : Actor) (d : Duty) (x : ℕ) (re
   same_status : status_by a.status d ≡ a.status
   gates : (y : ℕ) → memory_by m t a d (Gate y) ≡ m.memory (Gate y)
   word : memory_by m t a d (ThreadWord t) ≡ m.memory (ThreadWord t)
-  hands : (y : ℕ) → (x == y) ≡ finalised_now (d ∷ rest) y
+  hands : (y : ℕ) → (x == y) ≡ is_finalising d y
   held : (e : Duty) → ((h : Holding) (object : ℕ) → extra_of (e ∷ rest) h object ≡ false)
       → ((h : Holding) (object : ℕ) → lacks_of (e ∷ rest) h object ≡ false)
       → HeldStep m.abstract.references (bag_by m t a d) t (d ∷ rest) (e ∷ rest)
@@ -75,7 +75,7 @@ settles_on p n m t a d e x rest here alive step keeps next knows =
       agenda_is = ready_first a.head e rest keeps.stays;
       gates = step.gates;
       word = step.word;
-      hands = λ y. keeps.hand y ∙ step.hands y;
+      hands = λ y. ap (λ (b : Bool). cond b (1 + finalised rest y) (finalised rest y)) (keeps.hand y ∙ step.hands y);
       held = step.held e keeps.extra_none keeps.lacks_none;
       fits = keeps.later m.layout t a.used a.status rest step.later;
       knows =

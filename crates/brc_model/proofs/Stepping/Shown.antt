@@ -9,6 +9,7 @@ use Rattle.brc_model.specs.Machine.{Actor, Machine, status_by, actor_by, done_by
 use Rattle.brc_model.specs.Accounts.{Accounts, HoldsAt}
 use Rattle.brc_model.specs.Knowledge.{HeadOf, status_word}
 use Rattle.brc_model.specs.OpenWork.{Agenda, ChainFits, AgendaFits}
+use Rattle.brc_model.proofs.Stepping.Behind.{behind_after}
 use Rattle.brc_model.proofs.Stepping.UnderWay.{exits_still}
 use Rattle.brc_model.proofs.Stepping.Own.{HeldStep, holds_step}
 use Rattle.brc_model.proofs.Stepping.Neutral.{ThreadFits, found_by, bag_by, memory_by, agenda_out, uses_same}
@@ -48,6 +49,7 @@ own_shown p n m t a d rest agenda status head here step =
         head_fits =
             subst (λ (l : List Duty). HeadOf new t after l) (sym step.agenda_is)
             (step.knows after step.status_is step.head_is refl);
+        behind = behind_after p n m t a d rest here;
         chain =
             subst (λ (l : List Duty). ChainFits new t after.head l) (sym step.agenda_is)
             (subst (λ (h : ℕ). ChainFits new t h agenda) (sym step.head_is) step.chain);

@@ -14,10 +14,11 @@ use Rattle.brc_model.specs.Machine.{Actor, Life, Live, Dying, Closed, Machine, s
 use Rattle.brc_model.specs.References.{one_if}
 use Rattle.brc_model.specs.Accounts.{Accounts, extra_of, lacks_of, HoldsAt}
 use Rattle.brc_model.specs.Knowledge.{HeadFits, HeadOf, status_word}
-use Rattle.brc_model.specs.OpenWork.{Later, Agenda, finalised_now, dies_by, GateFits, ChainFits}
+use Rattle.brc_model.specs.OpenWork.{Later, Agenda, finalised, dies_by, GateFits, ChainFits}
 use Rattle.brc_word.specs.Words.{free_word}
 use Rattle.brc_model.proofs.Basics.Written.{written_load}
 use Rattle.brc_model.proofs.Frame.Lives.{next_of}
+use Rattle.brc_model.proofs.Stepping.Behind.{finalised_first, still_behind, behind_after}
 use Rattle.brc_model.proofs.Stepping.UnderWay.{exits_still}
 use Rattle.brc_model.proofs.Stepping.Own.{HeldStep, holds_step, ready_is, ChainSame, chain_same}
 use Rattle.brc_model.proofs.Stepping.Neutral.{ThreadFits, found_by, bag_by, memory_by, agenda_out, own_neutral, uses_same}
@@ -73,7 +74,8 @@ keeping_word m t a (Leave y n) kept = absurd cc
 keeping_word m t a Finish kept = absurd cc
 keeping_word m t a _ kept = refl
 
-keeping_hand : (d : Duty) (rest : List Duty) (x : ℕ) → keeps_lives d ≡ true → finalised_now (d ∷ rest) x ≡ false
+keeping_hand : (d : Duty) (rest : List Duty) (x : ℕ) → keeps_lives d ≡ true
+    → finalised (d ∷ rest) x ≡ finalised rest x
 keeping_hand (Die y) rest x kept = absurd cc
 keeping_hand (SettleKind y) rest x kept = absurd cc
 keeping_hand (SettleCell y i n) rest x kept = absurd cc
@@ -93,7 +95,7 @@ pub record KeepingStep (m : Machine) (t : ℕ) (a : Actor) (d : Duty) (rest next
   pub next_is : next_of m t a d ≡ next
   pub none_dies : dies_next next ≡ None
   pub agenda_is : ready a.head (next ++ rest) ≡ agenda
-  pub hands : (x : ℕ) → finalised_now agenda x ≡ false
+  pub hands : (x : ℕ) → finalised agenda x ≡ finalised rest x
   pub held : HeldStep m.abstract.references (bag_by m t a d) t (d ∷ rest) agenda
   pub fits : Agenda a.used a.status agenda
   pub knows : (b : Actor) → b.status ≡ a.status → b.head ≡ a.head → b.used ≡ a.used
@@ -132,7 +134,7 @@ own_done p n m t a d rest here alive kept next later moves =
       next_is = next;
       none_dies = refl;
       agenda_is = refl;
-      hands = then.is_finalising;
+      hands = then.hands;
       held = record {
         each = λ k object.
             let more : one_if (extra_of (ready a.head rest) k object) ≡ 0 = ap one_if (then.more k object) in
@@ -140,7 +142,8 @@ own_done p n m t a d rest here alive kept next later moves =
             omega (arith, moves.each k object, more, less);
       };
       fits = then.fits;
-      knows = λ b status head used. then.knows (done_by m t a d rest) b head;
+      knows =
+          λ b status head used. then.knows (done_by m t a d rest) b head (still_behind p n m t a d rest here);
     })
 
 -- If one duty follows, it is the first of the new agenda.
@@ -221,11 +224,11 @@ own_dying p n m t a d rest x here alive kept step =
     let same : ChainSame m new t a.agenda agenda = record {
       gates = λ y. keeping_gates m t a d y kept;
       hands = λ y.
-          let before : one_if (finalised_now a.agenda y) ≡ 0 =
-          ap one_if (ap (λ (l : List Duty). finalised_now l y) here.agenda ∙ keeping_hand d rest y kept) in
+          let before : finalised a.agenda y ≡ finalised rest y =
+          ap (λ (l : List Duty). finalised l y) here.agenda ∙ keeping_hand d rest y kept in
           let now : one_if (dies_by (new.life y) t) ≡ one_if (dies_by (cond (x == y) (Dying t) (m.life y)) t) =
           ap (λ (l : Life). one_if (dies_by l t)) (life y) in
-          omega (arith, before, now, dying_hands m.life t x y step.lived);
+          omega (arith, before, now, finalised_first (Die x) rest y, dying_hands m.life t x y step.lived);
     } in
     let chain : ChainFits new t a.head agenda = chain_same m new t a.head a.agenda agenda same old.chain in
     let gate : new.memory (Gate x) ≡ free_word =
@@ -239,6 +242,7 @@ own_dying p n m t a d rest x here alive kept step =
         bounded = old.bounded;
         exited = λ e. old.exited (sym (exits_still p n m t a d rest (found_by m t a d) here) ∙ e);
         head_fits = subst (λ (l : List Duty). HeadOf new t after l) (sym whole) (step.counted, dies, gate);
+        behind = behind_after p n m t a d rest here;
         chain =
             subst (λ (l : List Duty). ChainFits new t after.head l) (sym whole)
             (subst (λ (h : ℕ). ChainFits new t h agenda) (sym same_head) chain);

@@ -5,7 +5,7 @@ use Rattle.std.proofs.lemmas.Bool.{eqb-true, ne_eqb, leb-true, le-leb}
 use Rattle.std.proofs.lemmas.Bool.Decides.{eqb_tells}
 use Rattle.std.proofs.lemmas.List.Sums.{sum_by-cons}
 use Rattle.brc_model.specs.declared.duty.Duty.{Duty}
-use Rattle.brc_model.specs.declared.duty.Duty.TheVariants.{SetMark, Look, TakeMark, Settle, Leave, Scan, Finish, ClaimMark}
+use Rattle.brc_model.specs.declared.duty.Duty.TheVariants.{SetMark, Look, TakeMark, Settle, SettleCell, SettleEnd, Leave, Scan, Finish, ClaimMark}
 use Rattle.brc_model.specs.declared.address.Address.TheVariants.{Mark, ThreadWord}
 use Rattle.brc_model.specs.Duties.{new_head, ready}
 use Rattle.brc_model.specs.declared.actor.Status.{Status}
@@ -55,6 +55,8 @@ later_scans : (used : ℕ) (status : Status) (x : ℕ) (rest : List Duty)
     → Later used status rest → x < used → scans x rest ≡ true → ScansRow x rest
 later_scans used status x [] later low e = absurd cc
 later_scans used status x (Settle ∷ rest) later low e = later_scans used status x rest later low e
+later_scans used status x (SettleCell y i n ∷ rest) later low e = later_scans used status x rest later low e
+later_scans used status x (SettleEnd y ∷ rest) later low e = later_scans used status x rest later low e
 later_scans used status x (Leave j k ∷ []) later low e = absurd cc
 later_scans used status x (Scan j k ∷ rest) later low e = (leb-true j x e, omega (arith, later.1, low))
 later_scans used status x (Finish ∷ []) later low e = absurd cc

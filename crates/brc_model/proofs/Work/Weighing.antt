@@ -5,7 +5,7 @@ use Rattle.std.specs.Prelude.{slice_get, sum_by}
 use Rattle.std.proofs.lemmas.Bool.Decides.{eqb_tells}
 use Rattle.std.proofs.lemmas.List.Sums.{sum_by-cons}
 use Rattle.brc_model.specs.declared.duty.Duty.{Duty}
-use Rattle.brc_model.specs.declared.duty.Duty.TheVariants.{Settle, Leave, Scan, Finish}
+use Rattle.brc_model.specs.declared.duty.Duty.TheVariants.{Settle, SettleCell, SettleEnd, Leave, Scan, Finish}
 use Rattle.brc_model.specs.declared.actor.Status.{Status}
 use Rattle.brc_model.specs.declared.actor.Status.TheVariants.{Running, Leaving, Gone}
 use Rattle.brc_model.specs.Machine.{Actor, Machine}
@@ -28,6 +28,20 @@ later_weighs x f of_row used status (Settle ∷ rest) later =
       arith,
       sum_by-cons f Settle rest,
       of_row.about Settle refl,
+      later_weighs x f of_row used status rest later,
+    )
+later_weighs x f of_row used status (SettleCell y i k ∷ rest) later =
+    omega (
+      arith,
+      sum_by-cons f (SettleCell y i k) rest,
+      of_row.cell y i k,
+      later_weighs x f of_row used status rest later,
+    )
+later_weighs x f of_row used status (SettleEnd y ∷ rest) later =
+    omega (
+      arith,
+      sum_by-cons f (SettleEnd y) rest,
+      of_row.end y,
       later_weighs x f of_row used status rest later,
     )
 later_weighs x f of_row used status (Leave y k ∷ []) later =

@@ -1,0 +1,154 @@
+-- The duties behind the first know what they knew, after the thread's own step: it closes no row of theirs, and doesn't
+-- change their gates.
+use Rattle.std.proofs.Common.{◌≡◌, ℕ, zero, suc, ◌+◌, ◌-◌, ◌<◌, true, false, cond, List, [], ◌∷◌, ◌++◌, Some, refl, sym, ap, ◌∙◌, subst, arith}
+use Rattle.std.proofs.lemmas.Bool.{eq-eqb, eqb-false, false≢true}
+use Rattle.brc_model.specs.declared.duty.Duty.{Duty}
+use Rattle.brc_model.specs.declared.duty.Duty.TheVariants.{Die, Settle, SettleCell, SettleEnd, Scan}
+use Rattle.brc_model.specs.declared.address.Address.TheVariants.{Gate}
+use Rattle.brc_model.specs.declared.layout.Layout.{Layout}
+use Rattle.brc_model.specs.Duties.{address_of, new_word, new_head, ready}
+use Rattle.brc_model.specs.Machine.{Actor, Unborn, Dying, Machine, is_running, ended_row, actor_by, done_by, written}
+use Rattle.brc_model.specs.References.{one_if}
+use Rattle.brc_model.specs.Accounts.{Accounts}
+use Rattle.brc_model.specs.Knowledge.{BehindFits, AllBehind, BehindOf, IsDyingWord}
+use Rattle.brc_model.specs.OpenWork.{is_finalising, finalised, dies_by, ChainFits}
+use Rattle.brc_model.specs.Invariant.{AtDuty}
+use Rattle.brc_model.proofs.Basics.Bag.{one_if_low}
+use Rattle.brc_model.proofs.Basics.Continuation.{Continuation, Ends, Finishes, GoesOn, Frees, SettlesRow, Claims, ClaimsNone, Exits, Scans, ScansNone, continues}
+use Rattle.brc_model.proofs.Basics.Lists.{some_is, none_some}
+use Rattle.brc_model.proofs.Basics.Written.{written_apart, written_load, apart_gate}
+use Rattle.brc_model.proofs.Frame.Lives.{next_of, cell_found}
+use Rattle.brc_model.proofs.Objects.Closing.{GoesOn as LifeGoesOn, BeginsToDie, IsClosed, IsBorn, life_step}
+
+-- ---- the rows of the duties behind
+
+-- An agenda's duties finalise the row of the first one once more than those behind it.
+pub finalised_first : (d : Duty) (rest : List Duty) (x : ℕ)
+    → finalised (d ∷ rest) x ≡ one_if (is_finalising d x) + finalised rest x
+finalised_first d rest x =
+    elim (is_finalising d x) as
+    (λ b. cond b (1 + finalised rest x) (finalised rest x) ≡ one_if b + finalised rest x) [
+      | true ↦ omega arith
+      | false ↦ omega arith
+    ]
+
+-- The thread finalises a row by one duty alone.
+one_finalises : (p : Accounts) (n : ℕ) (m : Machine) (t : ℕ) (a : Actor) (d : Duty) (rest : List Duty) (x : ℕ)
+    → AtDuty p n m t a d rest → 0 < finalised rest x → is_finalising d x ≡ false
+one_finalises p n m t a d rest x here some =
+    let chain = subst (λ (l : List Duty). ChainFits m t a.head l) here.agenda (here.core.each t a here.found).0.chain in
+    elim (is_finalising d x) as (λ b. is_finalising d x ≡ b → is_finalising d x ≡ false) [
+      | true ↦ λ this.
+          let one : one_if (is_finalising d x) ≡ 1 = ap one_if this in
+          absurd (omega (arith, one, some, chain.once x, finalised_first d rest x, one_if_low (dies_by (m.life x) t)))
+      | false ↦ λ other. other
+    ] refl
+
+-- A step changes no gate but that of the row that its duty finalises.
+gate_stays : (m : Machine) (t : ℕ) (a : Actor) (d : Duty) (x : ℕ) → is_finalising d x ≡ false
+    → written m.memory (address_of m.layout t a.head d)
+    (new_word t a.head d (m.memory (address_of m.layout t a.head d))) (Gate x) ≡ m.memory (Gate x)
+gate_stays m t a (Die y) x other = written_apart m.memory (Gate y) (Gate x) _ (apart_gate y x (eqb-false y x other))
+gate_stays m t a Settle x other = written_load m.memory (Gate (a.head - 1)) (Gate x)
+gate_stays m t a (SettleEnd y) x other =
+    written_apart m.memory (Gate y) (Gate x) _ (apart_gate y x (eqb-false y x other))
+gate_stays m t a _ x other = refl
+
+ended_finalising : (d : Duty) (x : ℕ) → ended_row d ≡ Some x → is_finalising d x ≡ true
+ended_finalising (SettleEnd y) x ended = eq-eqb y x (some_is y x ended)
+ended_finalising _ x ended = absurd (none_some x ended)
+
+module _ (p : Accounts) (n : ℕ) (m : Machine) (t : ℕ) (a : Actor) (d : Duty) (rest : List Duty) where
+  -- A row that the thread finalises is still dying, unless the step closes it.
+  life_stays : (x : ℕ) → AtDuty p n m t a d rest → is_finalising d x ≡ false → m.life x ≡ Dying t
+      → (done_by m t a d rest).life x ≡ Dying t
+  life_stays x here other dies =
+      elim (life_step p n m t a d rest x here) [
+        | LifeGoesOn now still ↦ now ∙ dies
+        | BeginsToDie now alive counted none ↦ now
+        | IsClosed now dying counted ended ↦ absurd (false≢true (sym other ∙ ended_finalising d x ended))
+        | IsBorn now unborn counted born none ↦ absurd (let wrong : Unborn ≡ Dying t = sym unborn ∙ dies in cc)
+      ]
+
+  fits_still : (e : Duty) → AtDuty p n m t a d rest
+      → ((x : ℕ) → is_finalising e x ≡ true → is_finalising d x ≡ false) → BehindFits m t e
+      → BehindFits (done_by m t a d rest) t e
+  fits_still (SettleCell x i k) here apart fits =
+      let other = apart x (eq-eqb x x refl) in (
+        fits.0,
+        life_stays x here other fits.1,
+        fits.2,
+        subst (IsDyingWord t) (sym (gate_stays m t a d x other)) fits.3,
+      )
+  fits_still (SettleEnd x) here apart fits =
+      let other = apart x (eq-eqb x x refl) in (
+        fits.0,
+        life_stays x here other fits.1,
+        subst (IsDyingWord t) (sym (gate_stays m t a d x other)) fits.2,
+      )
+  fits_still _ here apart fits = tt
+
+  all_still : (ds : List Duty) → AtDuty p n m t a d rest
+      → ((x : ℕ) → 0 < finalised ds x → is_finalising d x ≡ false) → AllBehind m t ds
+      → AllBehind (done_by m t a d rest) t ds
+  all_still [] here apart all = tt
+  all_still (e ∷ ds) here apart all = (
+    fits_still e here
+        (λ x this. let one : one_if (is_finalising e x) ≡ 1 = ap one_if this in
+        apart x (omega (arith, one, finalised_first e ds x))) all.0,
+    all_still ds here (λ x some. apart x (omega (arith, some, finalised_first e ds x))) all.1,
+  )
+
+  -- The duties behind the first know what they knew.
+  pub still_behind : AtDuty p n m t a d rest → AllBehind (done_by m t a d rest) t rest
+  still_behind here =
+      all_still rest here (λ x some. one_finalises p n m t a d rest x here some)
+      (subst (BehindOf m t) here.agenda (here.core.each t a here.found).0.behind)
+
+-- ---- the agenda after a step
+
+behind_tail : (m : Machine) (t : ℕ) (l : List Duty) → AllBehind m t l → BehindOf m t l
+behind_tail m t [] all = tt
+behind_tail m t (d ∷ rest) all = all.1
+
+behind_ready : (m : Machine) (t head : ℕ) (l : List Duty) → BehindOf m t l → BehindOf m t (ready head l)
+behind_ready m t zero [] behind = tt
+behind_ready m t (suc head) [] behind = tt
+behind_ready m t zero (Settle ∷ rest) behind = behind_ready m t zero rest (behind_tail m t rest behind)
+behind_ready m t (suc head) (Settle ∷ rest) behind = behind
+behind_ready m t zero (Scan i zero ∷ rest) behind = behind_ready m t zero rest (behind_tail m t rest behind)
+behind_ready m t (suc head) (Scan i zero ∷ rest) behind =
+    behind_ready m t (suc head) rest (behind_tail m t rest behind)
+behind_ready m t zero (Scan i (suc n) ∷ rest) behind = behind
+behind_ready m t (suc head) (Scan i (suc n) ∷ rest) behind = behind
+behind_ready m t zero (_ ∷ rest) behind = behind
+behind_ready m t (suc head) (_ ∷ rest) behind = behind
+
+-- The cells of a dying list are empty, so nothing is released before the next cell.
+behind_next : {layout : Layout} {t head found : ℕ} (m : Machine) (u : ℕ) (d : Duty) (next rest : List Duty)
+    → Continuation layout t head found d next → ((x i k : ℕ) → d ≡ SettleCell x i k → found ≡ 0)
+    → AllBehind m u rest → BehindOf m u (next ++ rest)
+behind_next m u d next rest (Ends inner) empty all = behind_tail m u rest all
+behind_next m u d next rest Finishes empty all = behind_tail m u rest all
+behind_next m u d next rest (GoesOn e leads) empty all = all
+behind_next m u d next rest (Frees x i k y e set leads) empty all =
+    absurd (omega (arith, set, empty x i k refl))
+behind_next m u d next rest SettlesRow empty all = (tt, all)
+behind_next m u d next rest (Claims x set) empty all = (tt, all)
+behind_next m u d next rest (ClaimsNone x) empty all = all
+behind_next m u d next rest (Exits i k) empty all = (tt, all)
+behind_next m u d next rest (Scans i k set) empty all = (tt, (tt, all))
+behind_next m u d next rest (ScansNone i k) empty all = (tt, all)
+
+-- The duties behind the first of the new agenda know what they need.
+pub behind_after : (p : Accounts) (n : ℕ) (m : Machine) (t : ℕ) (a : Actor) (d : Duty) (rest : List Duty)
+    → AtDuty p n m t a d rest
+    → BehindOf (done_by m t a d rest) t
+    (actor_by m.layout t a d rest (m.memory (address_of m.layout t a.head d))).agenda
+behind_after p n m t a d rest here =
+    let found = m.memory (address_of m.layout t a.head d) in
+    let new = done_by m t a d rest in
+    behind_ready new t (new_head a.head d found) (next_of m t a d ++ rest)
+    (behind_next new t d (next_of m t a d) rest
+    (continues m.layout t (is_running a.status) a.head d found)
+    (cell_found p n m t a d here.core) (still_behind p n m t a d rest here))
