@@ -1,5 +1,6 @@
 -- A line that is read as an instruction is its spelling, and the spelling is read again.
-use Rattle.std.proofs.Common.{◌≡◌, ℕ, ◌<◌, ◌≤◌, ◌^◌, Bool, true, false, cond, List, [], ◌∷◌, Result, Ok, Err, refl, sym, ap}
+use Rattle.std.proofs.Common.{◌≡◌, ℕ, ◌<◌, ◌≤◌, ◌^◌, Bool, true, false, cond, List, [], ◌∷◌, Result, Ok, Err, refl, sym}
+use Rattle.std.proofs.Common.{ap}
 use Rattle.std.proofs.Common.{subst, ◌∙◌, arith, inl, inr}
 use Rattle.std.specs.Prelude.{codes, ◌⊎◌}
 use Rattle.std.specs.List.{list_any}
@@ -7,15 +8,18 @@ use Rattle.std.specs.Fmt.{decimal}
 use Rattle.std.specs.Str.{bytes_eq}
 use Rattle.std.proofs.lemmas.Slice.Eq.{bytes_eq-Decides}
 use Rattle.brc_lang.specs.declared.module.Instr.{Instr}
-use Rattle.brc_lang.specs.declared.module.Instr.TheVariants.{Num, List as ListObject, NoneObject, Newref, Move, Drop, Goto, Ret, Fail}
+use Rattle.brc_lang.specs.declared.module.Instr.TheVariants.{Num, List as ListObject, NoneObject, Newref, Move, Drop}
+use Rattle.brc_lang.specs.declared.module.Instr.TheVariants.{Goto, Ret, Fail}
 use Rattle.brc_lang.specs.declared.fault.FaultCode.{FaultCode}
 use Rattle.brc_lang.specs.declared.fault.FaultCode.TheVariants.{UnknownWord}
 use Rattle.brc_lang.specs.Grammar.{variable, target, instruction_words, instruction, IsInstruction}
-use Rattle.brc_lang.specs.Fault.{words, variable_in, target_in, number_between, ◌>>=◌, one_variable_in, two_variables_in}
+use Rattle.brc_lang.specs.Fault.{words, variable_in, target_in, number_between, ◌>>=◌, one_variable_in}
+use Rattle.brc_lang.specs.Fault.{two_variables_in}
 use Rattle.brc_lang.specs.Fault.{one_target_in, birth_in, fail_in, instruction_in, is_line_feed}
 use Rattle.brc_lang.specs.Limits.{variable_count, target_count, value_limit, cell_limit}
 use Rattle.brc_lang.proofs.Words.{joined, some_word, ArePlain, spaced_words, spaced_plain}
-use Rattle.brc_lang.proofs.Spelling.{bind_ok, between_spelled, between_again, number_plain, variable_spelled, variable_again}
+use Rattle.brc_lang.proofs.Spelling.{bind_ok, between_spelled, between_again, number_plain, variable_spelled}
+use Rattle.brc_lang.proofs.Spelling.{variable_again}
 use Rattle.brc_lang.proofs.Spelling.{variable_plain, target_spelled, target_again, target_plain}
 
 -- which way a test went

@@ -12,10 +12,12 @@ use Rattle.brc_lang.specs.declared.fault.FaultCode.TheVariants.{FirstLine, Unkno
 use Rattle.brc_lang.specs.declared.fault.FaultCode.TheVariants.{OverLimit, CutOff, NoMemory}
 use Rattle.brc_lang.specs.Grammar.{is_name}
 use Rattle.brc_lang.specs.Fault.{words, is_numeral, number_in, variable_in, target_in, ◌>>=◌, one_variable_in}
-use Rattle.brc_lang.specs.Fault.{two_variables_in, one_target_in, number_between, birth_in, fail_in, instruction_in, leads_forward}
+use Rattle.brc_lang.specs.Fault.{two_variables_in, one_target_in, number_between, birth_in, fail_in, instruction_in}
+use Rattle.brc_lang.specs.Fault.{leads_forward}
 use Rattle.brc_lang.specs.Fault.{Beginning, heading_fault_of, end_fault_of, next_instruction_fault_of, line_fault_of}
 use Rattle.brc_lang.specs.Fault.{is_whole, is_line_feed, fault_of, HasFault, IsOwn, IsOwnFault}
-use Rattle.brc_lang.specs.Limits.{function_limit, instruction_limit, last_variable, last_target, value_limit, cell_limit}
+use Rattle.brc_lang.specs.Limits.{function_limit, instruction_limit, last_variable, last_target, value_limit}
+use Rattle.brc_lang.specs.Limits.{cell_limit}
 use Rattle.brc_lang.proofs.Headings.{has_name}
 
 -- ---- results and options whose fault, if any, is the text's own
@@ -113,8 +115,10 @@ fail_own (a ∷ ws) = own_word
 instruction_own : (ws : List (List ℕ)) → IsOwn (instruction_in ws)
 instruction_own [] = own_word
 instruction_own (w ∷ ws) =
-    own_either (bytes_eq w (codes "num")) _ _ (own_then (birth_in 0 value_limit ws) _ (birth_own 0 value_limit ws) (λ b. tt))
-    (own_either (bytes_eq w (codes "list")) _ _ (own_then (birth_in 1 cell_limit ws) _ (birth_own 1 cell_limit ws) (λ b. tt))
+    own_either (bytes_eq w (codes "num")) _ _
+    (own_then (birth_in 0 value_limit ws) _ (birth_own 0 value_limit ws) (λ b. tt))
+    (own_either (bytes_eq w (codes "list")) _ _
+    (own_then (birth_in 1 cell_limit ws) _ (birth_own 1 cell_limit ws) (λ b. tt))
     (own_either (bytes_eq w (codes "none")) _ _ (own_then (one_variable_in ws) _ (one_variable_own ws) (λ n. tt))
     (own_either (bytes_eq w (codes "newref")) _ _ (own_then (two_variables_in ws) _ (two_variables_own ws) (λ v. tt))
     (own_either (bytes_eq w (codes "move")) _ _ (own_then (two_variables_in ws) _ (two_variables_own ws) (λ v. tt))

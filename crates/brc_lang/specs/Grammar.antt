@@ -6,7 +6,8 @@ use Rattle.std.specs.Fmt.{decimal}
 use Rattle.brc_lang.specs.declared.module.Module.{Module}
 use Rattle.brc_lang.specs.declared.module.Function.{Function}
 use Rattle.brc_lang.specs.declared.module.Instr.{Instr}
-use Rattle.brc_lang.specs.declared.module.Instr.TheVariants.{Num, List as ListObject, NoneObject, Newref, Move, Drop, Goto, Ret, Fail}
+use Rattle.brc_lang.specs.declared.module.Instr.TheVariants.{Num, List as ListObject, NoneObject, Newref, Move, Drop}
+use Rattle.brc_lang.specs.declared.module.Instr.TheVariants.{Goto, Ret, Fail}
 use Rattle.brc_lang.specs.Limits.{function_limit, instruction_limit, variable_count, target_count, cell_limit}
 use Rattle.brc_lang.specs.Limits.{name_rest_limit}
 

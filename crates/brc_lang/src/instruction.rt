@@ -1,6 +1,6 @@
 //! The instruction of a line.
 
-ghost use Rattle.std.specs.Prelude.{◌≡◌, ◌≤◌, ◌∷◌, [], MatchResult};
+ghost use Rattle.std.specs.Prelude.{◌≡◌, ◌≤◌, ◌∷◌, [], IfOk};
 ghost use Rattle.brc_lang.specs.Fault.{words, one_variable_in, two_variables_in, one_target_in, birth_in};
 ghost use Rattle.brc_lang.specs.Fault.{instruction_in};
 
@@ -82,7 +82,7 @@ fn instruction_with(word: &[u8], operands: &[u8]) -> Result<Instr, FaultCode>
 /// Reads the operands of `num` or `list`: a variable, a number from `low` to `high`, `else` and a target.
 fn birth(low: u32, high: u32, operands: &[u8]) -> Result<(Variable, u32, u8), FaultCode>
     ensures read { result ≡ birth_in low high (words operands.now) }
-    ensures in_range { MatchResult result (λ b. b.1 ≤ high) (λ _. Unit {0}) }
+    ensures in_range { IfOk result (λ b. b.1 ≤ high) }
 {
     let Some((to, number, word, otherwise)) = four_words(operands) else {
         return Err(FaultCode::UnknownWord);
