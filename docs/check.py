@@ -116,8 +116,8 @@ def map_faults(found):
     page = (ROOT / "docs" / "MAP.md").read_text()
     instructions = page[page.index("### An instruction"):page.index("### A duty")]
     duties = page[page.index("### A duty"):page.index("### Anything else")]
-    # `Num`, `Drop`, `Ret`, `Fail` and `Move` have other meanings too.
-    for section, names in ((instructions, {"NoneObject", "Newref", "Goto", "MoveReference"}),
+    # `Num`, `List`, `Drop`, `Ret`, `Fail` and `Move` have other meanings too.
+    for section, names in ((instructions, {"NoneObject", "ListObject", "Newref", "Goto", "MoveReference"}),
                            (duties, variants(MODEL / "src" / "duty.rt", "Duty"))):
         said = words_of([section])
         for path, text in found.items():

@@ -3,7 +3,7 @@ use Rattle.std.proofs.Common.{◌≡◌, ℕ, ◌+◌, ◌<◌, Bool, true, fals
 use Rattle.std.specs.Prelude.{None, Some, slice_get, nat_lt}
 use Rattle.std.proofs.lemmas.Bool.{ltb-true}
 use Rattle.brc_lang.specs.declared.module.Instr.{Instr}
-use Rattle.brc_lang.specs.declared.module.Instr.TheVariants.{Num, NoneObject, Newref, Move, Drop, Goto, Ret, Fail}
+use Rattle.brc_lang.specs.declared.module.Instr.TheVariants.{Num, List as ListObject, NoneObject, Newref, Move, Drop, Goto, Ret, Fail}
 use Rattle.brc_lang.specs.Grammar.{jump, LeadsForward}
 use Rattle.brc_model.specs.declared.code.CheckCode.{CheckCode}
 use Rattle.brc_model.specs.declared.code.CheckCode.TheVariants.{RunsOff}
@@ -18,6 +18,8 @@ forward : (i : Instr) (exit : Exit) (at next : ℕ) → ((to : ℕ) → jump i �
     → target i exit at ≡ Some next → at < next
 forward (Num to value otherwise) Success at next jumps e = let same : at + 1 ≡ next = cc in omega arith
 forward (Num to value otherwise) Fault at next jumps e = jumps next e
+forward (ListObject to cells otherwise) Success at next jumps e = let same : at + 1 ≡ next = cc in omega arith
+forward (ListObject to cells otherwise) Fault at next jumps e = jumps next e
 forward (NoneObject to) exit at next jumps e = let same : at + 1 ≡ next = cc in omega arith
 forward (Newref to from) exit at next jumps e = let same : at + 1 ≡ next = cc in omega arith
 forward (Move to from) exit at next jumps e = let same : at + 1 ≡ next = cc in omega arith

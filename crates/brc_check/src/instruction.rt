@@ -2,7 +2,7 @@
 
 ghost use Rattle.std.specs.Prelude.{◌≡◌, ◌+◌, ◌<◌, ◌^◌};
 ghost use Rattle.std.specs.List.{list_any};
-ghost use Rattle.brc_model.specs.Slots.{slot_of, is_owned, kind_of, names, lowest, after, target};
+ghost use Rattle.brc_model.specs.Slots.{slot_of, is_owned, kind_of, names, lowest, birth_slot, after, target};
 
 use brc_lang::{Instr, Kind, Variable};
 use brc_model::{CheckCode, Exit, Slot, State};
@@ -37,7 +37,7 @@ fn any_owned(slots: &[Slot; 16]) -> bool
     slots.iter().any(|slot| matches!(slot, Slot::Owned(_)))
 }
 
-/// Returns the lowest code that `none` or `num` reports in the state.
+/// Returns the lowest code that `none`, `num` or `list` reports in the state.
 fn into_refusal(state: &State, to: Variable) -> Option<CheckCode>
     ensures { result ≡ lowest (Instr.NoneObject to) state.now }
 {
@@ -112,7 +112,9 @@ pub fn refusal(instr: Instr, state: &State) -> Option<CheckCode>
     ensures { result ≡ lowest instr state.now }
 {
     match instr {
-        Instr::Num { to, .. } | Instr::NoneObject { to } => into_refusal(state, to),
+        Instr::Num { to, .. } | Instr::List { to, .. } | Instr::NoneObject { to } => {
+            into_refusal(state, to)
+        }
         Instr::Newref { to, from } => newref_refusal(state, to, from),
         Instr::Move { to, from } => move_refusal(state, to, from),
         Instr::Drop { from } => drop_refusal(state, from),
@@ -122,17 +124,23 @@ pub fn refusal(instr: Instr, state: &State) -> Option<CheckCode>
     }
 }
 
+/// Returns what an exit of a birth leaves in its variable: an owned reference to the new object, or nothing.
+fn birth_slot(kind: Kind, exit: Exit) -> Slot
+    ensures { result ≡ birth_slot kind exit }
+{
+    match exit {
+        Exit::Success => Slot::Owned(kind),
+        Exit::Fault => Slot::Empty,
+    }
+}
+
 /// Changes the state as an exit of the instruction does.
 pub fn apply(instr: Instr, exit: Exit, state: &mut State)
     ensures { state.new ≡ after instr exit state.old }
 {
     match instr {
-        Instr::Num { to, .. } => {
-            state.slots[to.number() as usize] = match exit {
-                Exit::Success => Slot::Owned(Kind::Num),
-                Exit::Fault => Slot::Empty,
-            };
-        }
+        Instr::Num { to, .. } => state.slots[to.number() as usize] = birth_slot(Kind::Num, exit),
+        Instr::List { to, .. } => state.slots[to.number() as usize] = birth_slot(Kind::List, exit),
         Instr::NoneObject { to } => state.slots[to.number() as usize] = Slot::Owned(Kind::None),
         Instr::Newref { to, from } => {
             let kind = kind_of(slot(state, from));
@@ -154,7 +162,7 @@ pub fn target_of(instr: Instr, exit: Exit, at: usize) -> Option<usize>
     ensures { result ≡ target instr exit at }
 {
     match instr {
-        Instr::Num { otherwise, .. } => Some(match exit {
+        Instr::Num { otherwise, .. } | Instr::List { otherwise, .. } => Some(match exit {
             Exit::Success => at + 1,
             Exit::Fault => otherwise as usize,
         }),

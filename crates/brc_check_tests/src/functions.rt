@@ -15,6 +15,9 @@ type Case<'a> = (&'a [u8], Option<CodeAt>);
 /// A number by one path and none by the other.
 const TWO_KINDS: &[u8] = b"num v1 1 else @2\ngoto @3\nnone v1\nret v1\n";
 
+/// A number by one path and a list by the other.
+const NUMBER_OR_LIST: &[u8] = b"num v1 1 else @2\ngoto @3\nlist v1 1 else @4\nret v1\nfail\n";
+
 /// Functions in which all paths agree.
 const ACCEPTED: &[Case] = &[
     (b"fail\n", None),
@@ -29,6 +32,13 @@ const ACCEPTED: &[Case] = &[
     (b"num v1 1 else @2\ndrop v1\nfail\n", None),
     (b"num v0 1 else @2\ndrop v0\nfail\n", None),
     (b"num v1 1 else @2\ngoto @3\nfail\nret v1\n", None),
+    (b"list v1 1 else @2\nret v1\nfail\n", None),
+    (b"list v1 8 else @2\ndrop v1\nfail\n", None),
+    (b"list v0 3 else @2\ndrop v0\nfail\n", None),
+    (
+        b"list v1 2 else @4\nlist v2 8 else @3\ndrop v2\ndrop v1\nfail\n",
+        None,
+    ),
     (b"none v0\nret v0\n", None),
     (b"none v1\nmove v0 v1\nret v0\n", None),
     (
@@ -56,13 +66,18 @@ const REFUSED: &[Case] = &[
     (b"none v1\nmove v1 v1\n", Some((1, CheckCode::StillOwns))),
     (b"newref v1 v0\nfail\n", Some((1, CheckCode::LeftOwned))),
     (b"none v1\nfail\n", Some((1, CheckCode::LeftOwned))),
+    (
+        b"newref v1 v0\nlist v1 1 else @2\nfail\n",
+        Some((1, CheckCode::StillOwns)),
+    ),
     (TWO_KINDS, Some((3, CheckCode::StatesDiffer))),
+    (NUMBER_OR_LIST, Some((3, CheckCode::StatesDiffer))),
     (b"newref v1 v0\n", Some((0, CheckCode::RunsOff))),
     (b"none v1\n", Some((0, CheckCode::RunsOff))),
     (b"goto @1\nnone v1\n", Some((1, CheckCode::RunsOff))),
 ];
 
-/// The success exit of `num` leaves its number, and the fault exit leaves the variable empty. Only the new variable
+/// The success exit of `num` or `list` leaves its object, and the fault exit leaves the variable empty. Only the new variable
 /// owns a moved reference, and no instruction overwrites a variable that owns one.
 const LEFT_BEHIND: &[Case] = &[
     (
@@ -80,6 +95,26 @@ const LEFT_BEHIND: &[Case] = &[
     (
         b"num v0 1 else @2\nret v0\nnewref v1 v0\n",
         Some((2, CheckCode::EmptyUsed)),
+    ),
+    (
+        b"list v1 1 else @2\nfail\nfail\n",
+        Some((1, CheckCode::LeftOwned)),
+    ),
+    (
+        b"list v1 1 else @2\nnone v1\nfail\n",
+        Some((1, CheckCode::StillOwns)),
+    ),
+    (
+        b"list v1 1 else @2\nret v1\nret v1\n",
+        Some((2, CheckCode::EmptyUsed)),
+    ),
+    (
+        b"list v0 1 else @2\nret v0\nnewref v1 v0\n",
+        Some((2, CheckCode::EmptyUsed)),
+    ),
+    (
+        b"none v1\nlist v1 1 else @2\nfail\n",
+        Some((1, CheckCode::StillOwns)),
     ),
     (
         b"none v1\nmove v2 v1\ndrop v1\nfail\n",

@@ -43,6 +43,18 @@ const TABLES: &[(&[u8], &[Option<Slots>])] = &[
             Some((Slot::Empty, Slot::Empty)),
         ],
     ),
+    // If no row is left for the list, the function goes on after the line that drops it.
+    (
+        b"list v1 2 else @4\nnewref v2 v1\ndrop v2\ndrop v1\nfail\n",
+        &[
+            Some((Slot::Empty, Slot::Empty)),
+            Some((LIST, Slot::Empty)),
+            Some((LIST, LIST)),
+            Some((LIST, Slot::Empty)),
+            Some((Slot::Empty, Slot::Empty)),
+            None,
+        ],
+    ),
     // A point that no path reaches has no entry.
     (
         b"goto @2\ndrop v5\nfail\n",

@@ -7,6 +7,10 @@ const ONE_NUMBER: &[u8] = b"module 1\nfunc f\nnum v1 7 else @2\ndrop v1\nfail\ne
 
 const MOVED: &[u8] = b"module 1\nfunc f\nnum v1 7 else @3\nmove v2 v1\nret v2\nfail\nend\n";
 
+const ONE_LIST: &[u8] = b"module 1\nfunc f\nlist v1 3 else @2\ndrop v1\nfail\nend\n";
+
+const LARGEST_LIST: &[u8] = b"module 1\nfunc f\nlist v1 8 else @2\ndrop v1\nfail\nend\n";
+
 const LATEST: &[u8] =
     b"module 1\nfunc f\nnum v1 1 else @6\nnum v2 2 else @4\ndrop v1\ngoto @5\nmove v2 v1\nret v2\nnone v2\n\
       ret v2\nend\n";
@@ -107,5 +111,71 @@ fn workers_have_rows_of_their_own(rt: HostRuntime) {
     ];
     for (schedule, report) in cases {
         assert_outputs(&rt, &STEP, both(TWO_NUMBERS, schedule), (report, b"", 0));
+    }
+}
+
+// One call makes a list, drops it and fails. With one row, the second call and the third find none left, and make none.
+#[test]
+fn makes_and_drops_lists(rt: HostRuntime) {
+    let report: &[u8] =
+        b"threads 1\nrunning 0\ncreated 2\nclosed 2\nalive 0\nhost faults 0\nclose faults 0\n";
+    for (rows, times) in [(1024, 1), (1, 1), (1, 3)] {
+        let asked = to_run("f", 1, rows, times);
+        assert_outputs(&rt, &asked, both(ONE_LIST, b""), (report, b"", 0));
+    }
+}
+
+// A birth is two steps, kind and local. The drop of a list of three cells is a load and a store of the local word, a
+// load of the shared word, and its death: gate, gate read, kind, three cells, closed: 10 steps, 12 so far. `fail` makes
+// 13. With one row the second call's `list` is one step, which makes nothing, and its `fail` another: 15. A list of
+// eight cells is closed with step 17.
+#[test]
+fn counts_the_steps_of_a_list(rt: HostRuntime) {
+    let root_alone: &[u8] =
+        b"threads 1\nrunning 2\ncreated 1\nclosed 0\nalive 1\nhost faults 0\nclose faults 0\nleft 1 list\n";
+    let list_too: &[u8] =
+        b"threads 1\nrunning 2\ncreated 2\nclosed 0\nalive 2\nhost faults 0\nclose faults 0\nleft 1 list\n\
+          left 2 list\n";
+    let list_closed: &[u8] =
+        b"threads 1\nrunning 2\ncreated 2\nclosed 1\nalive 1\nhost faults 0\nclose faults 0\nleft 1 list\n";
+    let cases: [(&'static [u8], &'static [u8], &[u8]); 7] = [
+        (
+            ONE_LIST,
+            b"schedule 1\nworkers 1\nrows 4\ncall 1 f 1\nstep 1 ok 1\n",
+            root_alone,
+        ),
+        (
+            ONE_LIST,
+            b"schedule 1\nworkers 1\nrows 4\ncall 1 f 1\nstep 1 ok 2\n",
+            list_too,
+        ),
+        (
+            ONE_LIST,
+            b"schedule 1\nworkers 1\nrows 4\ncall 1 f 1\nstep 1 ok 11\n",
+            list_too,
+        ),
+        (
+            ONE_LIST,
+            b"schedule 1\nworkers 1\nrows 4\ncall 1 f 1\nstep 1 fault 12\n",
+            list_closed,
+        ),
+        (
+            ONE_LIST,
+            b"schedule 1\nworkers 1\nrows 1\ncall 1 f 2\nstep 1 ok 15\n",
+            list_closed,
+        ),
+        (
+            LARGEST_LIST,
+            b"schedule 1\nworkers 1\nrows 4\ncall 1 f 1\nstep 1 ok 16\n",
+            list_too,
+        ),
+        (
+            LARGEST_LIST,
+            b"schedule 1\nworkers 1\nrows 4\ncall 1 f 1\nstep 1 ok 17\n",
+            list_closed,
+        ),
+    ];
+    for (text, schedule, report) in cases {
+        assert_outputs(&rt, &STEP, both(text, schedule), (report, b"", 0));
     }
 }

@@ -1,5 +1,6 @@
 -- A line that is read as an instruction is its spelling, and the spelling is read again.
-use Rattle.std.proofs.Common.{◌≡◌, ℕ, ◌<◌, Bool, true, false, cond, List, [], ◌∷◌, Result, Ok, Err, refl, sym, ap}
+use Rattle.std.proofs.Common.{◌≡◌, ℕ, ◌<◌, ◌≤◌, ◌^◌, Bool, true, false, cond, List, [], ◌∷◌, Result, Ok, Err, refl, sym}
+use Rattle.std.proofs.Common.{ap}
 use Rattle.std.proofs.Common.{subst, ◌∙◌, arith, inl, inr}
 use Rattle.std.specs.Prelude.{codes, ◌⊎◌}
 use Rattle.std.specs.List.{list_any}
@@ -7,22 +8,19 @@ use Rattle.std.specs.Fmt.{decimal}
 use Rattle.std.specs.Str.{bytes_eq}
 use Rattle.std.proofs.lemmas.Slice.Eq.{bytes_eq-Decides}
 use Rattle.brc_lang.specs.declared.module.Instr.{Instr}
-use Rattle.brc_lang.specs.declared.module.Instr.TheVariants.{Num, NoneObject, Newref, Move, Drop, Goto, Ret, Fail}
+use Rattle.brc_lang.specs.declared.module.Instr.TheVariants.{Num, List as ListObject, NoneObject, Newref, Move, Drop}
+use Rattle.brc_lang.specs.declared.module.Instr.TheVariants.{Goto, Ret, Fail}
 use Rattle.brc_lang.specs.declared.fault.FaultCode.{FaultCode}
 use Rattle.brc_lang.specs.declared.fault.FaultCode.TheVariants.{UnknownWord}
 use Rattle.brc_lang.specs.Grammar.{variable, target, instruction_words, instruction, IsInstruction}
-use Rattle.brc_lang.specs.Fault.{words, variable_in, target_in, number_in, ◌>>=◌, one_variable_in, two_variables_in}
-use Rattle.brc_lang.specs.Fault.{one_target_in, num_in, fail_in, instruction_in, is_line_feed}
-use Rattle.brc_lang.specs.Limits.{variable_count, target_count, value_limit}
+use Rattle.brc_lang.specs.Fault.{words, variable_in, target_in, number_between, ◌>>=◌, one_variable_in}
+use Rattle.brc_lang.specs.Fault.{two_variables_in}
+use Rattle.brc_lang.specs.Fault.{one_target_in, birth_in, fail_in, instruction_in, is_line_feed}
+use Rattle.brc_lang.specs.Limits.{variable_count, target_count, value_limit, cell_limit}
 use Rattle.brc_lang.proofs.Words.{joined, some_word, ArePlain, spaced_words, spaced_plain}
-use Rattle.brc_lang.proofs.Spelling.{number_spelled, number_again, number_plain, variable_spelled, variable_again}
+use Rattle.brc_lang.proofs.Spelling.{bind_ok, between_spelled, between_again, number_plain, variable_spelled}
+use Rattle.brc_lang.proofs.Spelling.{variable_again}
 use Rattle.brc_lang.proofs.Spelling.{variable_plain, target_spelled, target_again, target_plain}
-
--- the value of a step that did not fail
-pub bind_ok : {A B : Type 0} (r : Result A FaultCode) (f : A → Result B FaultCode) (y : B) → (r >>= f) ≡ Ok y
-    → (x : A) × (r ≡ Ok x) × (f x ≡ Ok y)
-bind_ok (Ok x) f y e = (x, refl, e)
-bind_ok (Err d) f y e = absurd cc
 
 -- which way a test went
 pub chosen : {A : Type 0} (b : Bool) (x y z : A) → cond b x y ≡ z → ((b ≡ true) × (x ≡ z)) ⊎ ((b ≡ false) × (y ≡ z))
@@ -80,37 +78,57 @@ one_target_spelled (a ∷ []) n e =
     (ap (λ (x : List ℕ). x ∷ []) t.0, t.1)
 one_target_spelled (a ∷ b ∷ ws) n e = absurd cc
 
+-- a variable, a number from low to high, `else` and a target
+abbrev AreBirth : ℕ → ℕ → List (List ℕ) → ℕ × ℕ × ℕ → Type 0
+AreBirth low high ws b =
+    (ws ≡ variable b.0 ∷ decimal b.1 ∷ codes "else" ∷ target b.2 ∷ []) × (b.0 < variable_count) × (low ≤ b.1)
+    × (b.1 ≤ high) × (b.2 < target_count)
+
+birth_spelled : (low high : ℕ) (ws : List (List ℕ)) (v : ℕ × ℕ × ℕ) → high < 2 ^ 64 → birth_in low high ws ≡ Ok v
+    → AreBirth low high ws v
+birth_spelled low high [] v small e = absurd cc
+birth_spelled low high (a ∷ []) v small e = absurd cc
+birth_spelled low high (a ∷ b ∷ []) v small e = absurd cc
+birth_spelled low high (a ∷ b ∷ c ∷ []) v small e = absurd cc
+birth_spelled low high (a ∷ b ∷ c ∷ d ∷ []) v small e =
+    either_way (bytes_eq c (codes "else")) _ (Err UnknownWord) (Ok v) e
+    (λ same read.
+    let to = bind_ok (variable_in a) _ v read in
+    let number = bind_ok (number_between low high b) _ v to.2 in
+    let otherwise = bind_ok (target_in d) _ v number.2 in
+    let p = variable_spelled a to.0 to.1 in
+    let q = between_spelled low high b number.0 small number.1 in
+    let r = target_spelled d otherwise.0 otherwise.1 in
+    let last : (c ∷ d ∷ []) ≡ codes "else" ∷ target otherwise.0 ∷ [] =
+    both_same c (codes "else") (d ∷ []) (target otherwise.0 ∷ []) (same_text c (codes "else") same)
+    (ap (λ (x : List ℕ). x ∷ []) r.0) in
+    let more : (b ∷ c ∷ d ∷ []) ≡ decimal number.0 ∷ codes "else" ∷ target otherwise.0 ∷ [] =
+    both_same b (decimal number.0) (c ∷ d ∷ []) _ q.0 last in
+    let most : (a ∷ b ∷ c ∷ d ∷ []) ≡ variable to.0 ∷ decimal number.0 ∷ codes "else" ∷ target otherwise.0 ∷ [] =
+    both_same a (variable to.0) (b ∷ c ∷ d ∷ []) _ p.0 more in
+    subst (AreBirth low high (a ∷ b ∷ c ∷ d ∷ [])) (ok_is (to.0, number.0, otherwise.0) v otherwise.2)
+    (most, p.1, q.1, q.2, r.1))
+    (λ never. absurd cc)
+birth_spelled low high (a ∷ b ∷ c ∷ d ∷ f ∷ ws) v small e = absurd cc
+
 -- ---- from words to the instruction
 
 abbrev Spelled : List (List ℕ) → Instr → Type 0
 Spelled ws i = (ws ≡ instruction_words i) × IsInstruction i
 
-num_spelled : (w : List ℕ) (ws : List (List ℕ)) (i : Instr) → w ≡ codes "num" → num_in ws ≡ Ok i → Spelled (w ∷ ws) i
-num_spelled w [] i named e = absurd cc
-num_spelled w (a ∷ []) i named e = absurd cc
-num_spelled w (a ∷ b ∷ []) i named e = absurd cc
-num_spelled w (a ∷ b ∷ c ∷ []) i named e = absurd cc
-num_spelled w (a ∷ b ∷ c ∷ d ∷ []) i named e =
-    either_way (bytes_eq c (codes "else")) _ (Err UnknownWord) (Ok i) e
-    (λ same read.
-    let to = bind_ok (variable_in a) _ i read in
-    let value = bind_ok (number_in value_limit b) _ i to.2 in
-    let otherwise = bind_ok (target_in d) _ i value.2 in
-    let p = variable_spelled a to.0 to.1 in
-    let q = number_spelled value_limit b value.0 (omega arith) value.1 in
-    let r = target_spelled d otherwise.0 otherwise.1 in
-    let last : (c ∷ d ∷ []) ≡ codes "else" ∷ target otherwise.0 ∷ [] =
-    both_same c (codes "else") (d ∷ []) (target otherwise.0 ∷ []) (same_text c (codes "else") same)
-    (ap (λ (x : List ℕ). x ∷ []) r.0) in
-    let more : (b ∷ c ∷ d ∷ []) ≡ decimal value.0 ∷ codes "else" ∷ target otherwise.0 ∷ [] =
-    both_same b (decimal value.0) (c ∷ d ∷ []) _ q.0 last in
-    let most : (a ∷ b ∷ c ∷ d ∷ []) ≡ variable to.0 ∷ decimal value.0 ∷ codes "else" ∷ target otherwise.0 ∷ [] =
-    both_same a (variable to.0) (b ∷ c ∷ d ∷ []) _ p.0 more in
-    let fits : IsInstruction (Num to.0 value.0 otherwise.0) = (p.1, omega (arith, q.1), r.1) in
-    subst (Spelled (w ∷ a ∷ b ∷ c ∷ d ∷ [])) (ok_is (Num to.0 value.0 otherwise.0) i otherwise.2)
-    (both_same w (codes "num") (a ∷ b ∷ c ∷ d ∷ []) _ named most, fits))
-    (λ never. absurd cc)
-num_spelled w (a ∷ b ∷ c ∷ d ∷ f ∷ ws) i named e = absurd cc
+birth : (name : List ℕ) (make : ℕ → ℕ → ℕ → Instr) (low high : ℕ) (w : List ℕ) (ws : List (List ℕ)) (i : Instr)
+    → ((m k n : ℕ) → instruction_words (make m k n) ≡ name ∷ variable m ∷ decimal k ∷ codes "else" ∷ target n ∷ [])
+    → ((m k n : ℕ) → m < variable_count → low ≤ k → k ≤ high → n < target_count → IsInstruction (make m k n))
+    → high < 2 ^ 64 → w ≡ name
+    → (birth_in low high ws >>= λ v. Ok (make v.0 v.1 v.2)) ≡ Ok i → Spelled (w ∷ ws) i
+birth name make low high w ws i spelling fits small named e =
+    let b = bind_ok (birth_in low high ws) (λ v. Ok (make v.0 v.1 v.2)) i e in
+    let v = birth_spelled low high ws b.0 small b.1 in
+    subst (Spelled (w ∷ ws)) (ok_is (make b.0.0 b.0.1 b.0.2) i b.2) (
+      both_same w name ws (variable b.0.0 ∷ decimal b.0.1 ∷ codes "else" ∷ target b.0.2 ∷ []) named v.0
+          ∙ sym (spelling b.0.0 b.0.1 b.0.2),
+      fits b.0.0 b.0.1 b.0.2 v.1 v.2 v.3 v.4,
+    )
 
 unary : (name : List ℕ) (make : ℕ → Instr) (w : List ℕ) (ws : List (List ℕ)) (i : Instr)
     → ((n : ℕ) → instruction_words (make n) ≡ name ∷ variable n ∷ [])
@@ -150,33 +168,39 @@ words_spelled : (ws : List (List ℕ)) (i : Instr) → instruction_in ws ≡ Ok 
 words_spelled [] i read = absurd cc
 words_spelled (w ∷ ws) i read =
     either_way (bytes_eq w (codes "num")) _ _ (Ok i) read
-    (λ same e. num_spelled w ws i (same_text w (codes "num") same) e)
+    (λ same e. birth (codes "num") (λ m k n. Num m k n) 0 value_limit w ws i (λ m k n. refl)
+    (λ m k n lt least most ltn. (lt, omega (arith, most), ltn)) (omega arith) (same_text w (codes "num") same) e)
     (λ read1.
-    either_way (bytes_eq w (codes "none")) _ _ (Ok i) read1
+    either_way (bytes_eq w (codes "list")) _ _ (Ok i) read1
+    (λ same e. birth (codes "list") (λ m k n. ListObject m k n) 1 cell_limit w ws i (λ m k n. refl)
+    (λ m k n lt least most ltn. (lt, omega (arith, least), most, ltn)) (omega arith)
+    (same_text w (codes "list") same) e)
+    (λ read2.
+    either_way (bytes_eq w (codes "none")) _ _ (Ok i) read2
     (λ same e. unary (codes "none") (λ n. NoneObject n) w ws i (λ n. refl) (λ n lt. lt)
     (same_text w (codes "none") same) e)
-    (λ read2.
-    either_way (bytes_eq w (codes "newref")) _ _ (Ok i) read2
+    (λ read3.
+    either_way (bytes_eq w (codes "newref")) _ _ (Ok i) read3
     (λ same e. binary (codes "newref") (λ m n. Newref m n) w ws i (λ m n. refl) (λ m n lt ltn. (lt, ltn))
     (same_text w (codes "newref") same) e)
-    (λ read3.
-    either_way (bytes_eq w (codes "move")) _ _ (Ok i) read3
+    (λ read4.
+    either_way (bytes_eq w (codes "move")) _ _ (Ok i) read4
     (λ same e. binary (codes "move") (λ m n. Move m n) w ws i (λ m n. refl) (λ m n lt ltn. (lt, ltn))
     (same_text w (codes "move") same) e)
-    (λ read4.
-    either_way (bytes_eq w (codes "drop")) _ _ (Ok i) read4
+    (λ read5.
+    either_way (bytes_eq w (codes "drop")) _ _ (Ok i) read5
     (λ same e. unary (codes "drop") (λ n. Drop n) w ws i (λ n. refl) (λ n lt. lt) (same_text w (codes "drop") same)
     e)
-    (λ read5.
-    either_way (bytes_eq w (codes "goto")) _ _ (Ok i) read5
-    (λ same e. goto_spelled w ws i (same_text w (codes "goto") same) e)
     (λ read6.
-    either_way (bytes_eq w (codes "ret")) _ _ (Ok i) read6
-    (λ same e. unary (codes "ret") (λ n. Ret n) w ws i (λ n. refl) (λ n lt. lt) (same_text w (codes "ret") same) e)
+    either_way (bytes_eq w (codes "goto")) _ _ (Ok i) read6
+    (λ same e. goto_spelled w ws i (same_text w (codes "goto") same) e)
     (λ read7.
-    either_way (bytes_eq w (codes "fail")) _ (Err UnknownWord) (Ok i) read7
+    either_way (bytes_eq w (codes "ret")) _ _ (Ok i) read7
+    (λ same e. unary (codes "ret") (λ n. Ret n) w ws i (λ n. refl) (λ n lt. lt) (same_text w (codes "ret") same) e)
+    (λ read8.
+    either_way (bytes_eq w (codes "fail")) _ (Err UnknownWord) (Ok i) read8
     (λ same e. fail_spelled w ws i (same_text w (codes "fail") same) e)
-    (λ never. absurd cc))))))))
+    (λ never. absurd cc)))))))))
 
 pub instruction_spelled : (text : List ℕ) (i : Instr) → instruction_in (words text) ≡ Ok i
     → (text ≡ instruction i) × IsInstruction i
@@ -190,8 +214,14 @@ words_again : (i : Instr) → IsInstruction i → instruction_in (instruction_wo
 words_again (Num to value otherwise) fits =
     rw (
       variable_again to fits.0,
-      number_again value_limit value (omega (arith, fits.1)) (omega (arith, fits.1)),
+      between_again 0 value_limit value (omega arith) (omega (arith, fits.1)) (omega arith),
       target_again otherwise fits.2,
+    ) refl
+words_again (ListObject to cells otherwise) fits =
+    rw (
+      variable_again to fits.0,
+      between_again 1 cell_limit cells (omega (arith, fits.1)) fits.2 (omega arith),
+      target_again otherwise fits.3,
     ) refl
 words_again (NoneObject to) fits = rw (variable_again to fits) refl
 words_again (Newref to from) fits = rw (variable_again to fits.0, variable_again from fits.1) refl
@@ -207,6 +237,13 @@ words_plain (Num to value otherwise) fits = (
   (
     variable_plain to fits.0,
     (number_plain value (omega (arith, fits.1)), ((refl, refl), (target_plain otherwise fits.2, tt))),
+  ),
+)
+words_plain (ListObject to cells otherwise) fits = (
+  (refl, refl),
+  (
+    variable_plain to fits.0,
+    (number_plain cells (omega (arith, fits.2)), ((refl, refl), (target_plain otherwise fits.3, tt))),
   ),
 )
 words_plain (NoneObject to) fits = ((refl, refl), (variable_plain to fits, tt))
@@ -227,6 +264,7 @@ instruction_plain i fits = spaced_plain (instruction_words i) (words_plain i fit
 
 pub instruction_not_end : (i : Instr) → bytes_eq (instruction i) (codes "end") ≡ false
 instruction_not_end (Num to value otherwise) = refl
+instruction_not_end (ListObject to cells otherwise) = refl
 instruction_not_end (NoneObject to) = refl
 instruction_not_end (Newref to from) = refl
 instruction_not_end (Move to from) = refl

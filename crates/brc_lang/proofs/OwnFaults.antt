@@ -12,10 +12,12 @@ use Rattle.brc_lang.specs.declared.fault.FaultCode.TheVariants.{FirstLine, Unkno
 use Rattle.brc_lang.specs.declared.fault.FaultCode.TheVariants.{OverLimit, CutOff, NoMemory}
 use Rattle.brc_lang.specs.Grammar.{is_name}
 use Rattle.brc_lang.specs.Fault.{words, is_numeral, number_in, variable_in, target_in, ◌>>=◌, one_variable_in}
-use Rattle.brc_lang.specs.Fault.{two_variables_in, one_target_in, num_in, fail_in, instruction_in, leads_forward}
+use Rattle.brc_lang.specs.Fault.{two_variables_in, one_target_in, number_between, birth_in, fail_in, instruction_in}
+use Rattle.brc_lang.specs.Fault.{leads_forward}
 use Rattle.brc_lang.specs.Fault.{Beginning, heading_fault_of, end_fault_of, next_instruction_fault_of, line_fault_of}
 use Rattle.brc_lang.specs.Fault.{is_whole, is_line_feed, fault_of, HasFault, IsOwn, IsOwnFault}
 use Rattle.brc_lang.specs.Limits.{function_limit, instruction_limit, last_variable, last_target, value_limit}
+use Rattle.brc_lang.specs.Limits.{cell_limit}
 use Rattle.brc_lang.proofs.Headings.{has_name}
 
 -- ---- results and options whose fault, if any, is the text's own
@@ -61,6 +63,11 @@ number_own high word =
     let n = digits_value 10 word in
     own_either (is_numeral word && leb n high) (Ok n) (Err Number) tt own_number
 
+between_own : (low high : ℕ) (word : List ℕ) → IsOwn (number_between low high word)
+between_own low high word =
+    own_then (number_in high word) _ (number_own high word) (λ n.
+    own_either (leb low n) (Ok n) (Err Number) tt own_number)
+
 variable_own : (word : List ℕ) → IsOwn (variable_in word)
 variable_own [] = own_word
 variable_own (c ∷ cs) = own_either (eqb c 118) (number_in last_variable cs) (Err UnknownWord)
@@ -89,17 +96,17 @@ one_target_own [] = own_word
 one_target_own (a ∷ []) = target_own a
 one_target_own (a ∷ b ∷ ws) = own_word
 
-num_own : (ws : List (List ℕ)) → IsOwn (num_in ws)
-num_own [] = own_word
-num_own (a ∷ []) = own_word
-num_own (a ∷ b ∷ []) = own_word
-num_own (a ∷ b ∷ c ∷ []) = own_word
-num_own (a ∷ b ∷ c ∷ d ∷ []) =
+birth_own : (low high : ℕ) (ws : List (List ℕ)) → IsOwn (birth_in low high ws)
+birth_own low high [] = own_word
+birth_own low high (a ∷ []) = own_word
+birth_own low high (a ∷ b ∷ []) = own_word
+birth_own low high (a ∷ b ∷ c ∷ []) = own_word
+birth_own low high (a ∷ b ∷ c ∷ d ∷ []) =
     own_either (bytes_eq c (codes "else")) _ (Err UnknownWord)
     (own_then (variable_in a) _ (variable_own a) (λ to.
-    own_then (number_in value_limit b) _ (number_own value_limit b) (λ k.
+    own_then (number_between low high b) _ (between_own low high b) (λ k.
     own_then (target_in d) _ (target_own d) (λ l. tt)))) own_word
-num_own (a ∷ b ∷ c ∷ d ∷ x ∷ ws) = own_word
+birth_own low high (a ∷ b ∷ c ∷ d ∷ x ∷ ws) = own_word
 
 fail_own : (ws : List (List ℕ)) → IsOwn (fail_in ws)
 fail_own [] = tt
@@ -108,14 +115,17 @@ fail_own (a ∷ ws) = own_word
 instruction_own : (ws : List (List ℕ)) → IsOwn (instruction_in ws)
 instruction_own [] = own_word
 instruction_own (w ∷ ws) =
-    own_either (bytes_eq w (codes "num")) _ _ (num_own ws)
+    own_either (bytes_eq w (codes "num")) _ _
+    (own_then (birth_in 0 value_limit ws) _ (birth_own 0 value_limit ws) (λ b. tt))
+    (own_either (bytes_eq w (codes "list")) _ _
+    (own_then (birth_in 1 cell_limit ws) _ (birth_own 1 cell_limit ws) (λ b. tt))
     (own_either (bytes_eq w (codes "none")) _ _ (own_then (one_variable_in ws) _ (one_variable_own ws) (λ n. tt))
     (own_either (bytes_eq w (codes "newref")) _ _ (own_then (two_variables_in ws) _ (two_variables_own ws) (λ v. tt))
     (own_either (bytes_eq w (codes "move")) _ _ (own_then (two_variables_in ws) _ (two_variables_own ws) (λ v. tt))
     (own_either (bytes_eq w (codes "drop")) _ _ (own_then (one_variable_in ws) _ (one_variable_own ws) (λ n. tt))
     (own_either (bytes_eq w (codes "goto")) _ _ (own_then (one_target_in ws) _ (one_target_own ws) (λ n. tt))
     (own_either (bytes_eq w (codes "ret")) _ _ (own_then (one_variable_in ws) _ (one_variable_own ws) (λ n. tt))
-    (own_either (bytes_eq w (codes "fail")) _ (Err UnknownWord) (fail_own ws) own_word)))))))
+    (own_either (bytes_eq w (codes "fail")) _ (Err UnknownWord) (fail_own ws) own_word))))))))
 
 -- ---- lines
 

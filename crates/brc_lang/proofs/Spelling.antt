@@ -14,7 +14,7 @@ use Rattle.std.proofs.lemmas.Str.Parse.{IsDigitsTest, IsNumeralModel, numerals_b
 use Rattle.brc_lang.specs.declared.fault.FaultCode.{FaultCode}
 use Rattle.brc_lang.specs.declared.fault.FaultCode.TheVariants.{UnknownWord, Number}
 use Rattle.brc_lang.specs.Grammar.{variable, target, is_name, is_letter, is_name_byte}
-use Rattle.brc_lang.specs.Fault.{is_numeral, number_in, variable_in, target_in, is_line_feed}
+use Rattle.brc_lang.specs.Fault.{is_numeral, number_in, number_between, variable_in, target_in, is_line_feed, ◌>>=◌}
 use Rattle.brc_lang.specs.RoundTrips.{is_space, IsPlain}
 use Rattle.brc_lang.specs.Limits.{variable_count, last_variable, target_count, last_target, name_rest_limit}
 use Rattle.brc_lang.proofs.Words.{lacks_from_all}
@@ -89,6 +89,23 @@ number_again high n le small =
     let numeral =
     numeral_from (decimal n) (decimal_digits n small) (decimal_nonempty n small) (decimal_first n small) in
     rw (numeral, digits_value-decimal own n small, le-leb n high le) refl
+
+-- the value of a step that did not fail
+pub bind_ok : {A B : Type 0} (r : Result A FaultCode) (f : A → Result B FaultCode) (y : B) → (r >>= f) ≡ Ok y
+    → (x : A) × (r ≡ Ok x) × (f x ≡ Ok y)
+bind_ok (Ok x) f y e = (x, refl, e)
+bind_ok (Err d) f y e = absurd cc
+
+pub between_spelled : (low high : ℕ) (word : List ℕ) (n : ℕ) → high < 2 ^ 64 → number_between low high word ≡ Ok n
+    → (word ≡ decimal n) × (low ≤ n) × (n ≤ high)
+between_spelled low high word n small e =
+    let b = bind_ok (number_in high word) (λ k. cond (leb low k) (Ok k) (Err Number)) n e in
+    let g = guarded (leb low b.0) Number b.0 n b.2 in
+    let s = number_spelled high word b.0 small b.1 in
+    (s.0 ∙ ap decimal g.1, omega (arith, leb-true low b.0 g.0, g.1), omega (arith, s.1, g.1))
+
+pub between_again : (low high n : ℕ) → low ≤ n → n ≤ high → high < 2 ^ 64 → number_between low high (decimal n) ≡ Ok n
+between_again low high n from to small = rw (number_again high n to (omega arith), le-leb low n from) refl
 
 -- ---- variables and targets: a mark, and a number
 

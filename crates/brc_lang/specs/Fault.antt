@@ -8,7 +8,8 @@ use Rattle.std.specs.Str.Parse.{digits_value}
 use Rattle.std.specs.Char.{is_ascii_digit}
 use Rattle.brc_lang.specs.declared.module.Function.{Function}
 use Rattle.brc_lang.specs.declared.module.Instr.{Instr}
-use Rattle.brc_lang.specs.declared.module.Instr.TheVariants.{Num, NoneObject, Newref, Move, Drop, Goto, Ret, Fail}
+use Rattle.brc_lang.specs.declared.module.Instr.TheVariants.{Num, List as ListObject, NoneObject, Newref, Move, Drop}
+use Rattle.brc_lang.specs.declared.module.Instr.TheVariants.{Goto, Ret, Fail}
 use Rattle.brc_lang.specs.declared.fault.FaultCode.{FaultCode}
 use Rattle.brc_lang.specs.declared.fault.FaultCode.TheVariants.{FirstLine, UnknownWord, Number, Target, NameTwice}
 use Rattle.brc_lang.specs.declared.fault.FaultCode.TheVariants.{OverLimit, CutOff, NoMemory}
@@ -17,6 +18,7 @@ use Rattle.brc_lang.specs.declared.module.Module.{Module}
 use Rattle.brc_lang.specs.Grammar.{is_name, IsInstruction, jump, IsFunction, AreNamedApart, heading, instructions}
 use Rattle.brc_lang.specs.Grammar.{functions, first_line}
 use Rattle.brc_lang.specs.Limits.{function_limit, instruction_limit, last_variable, last_target, value_limit}
+use Rattle.brc_lang.specs.Limits.{cell_limit}
 
 -- ---- one line
 
@@ -49,6 +51,9 @@ abbrev pub ◌>>=◌ : {A B : Type 0} → Result A FaultCode → (A → Result B
 (Ok x) >>= f = f x
 (Err e) >>= f = Err e
 
+abbrev pub number_between : ℕ → ℕ → List ℕ → Result ℕ FaultCode
+number_between low high word = number_in high word >>= λ n. if nat_le low n then Ok n else Err Number
+
 -- ---- the words after the first
 
 abbrev pub one_variable_in : List (List ℕ) → Result ℕ FaultCode
@@ -63,13 +68,13 @@ abbrev pub one_target_in : List (List ℕ) → Result ℕ FaultCode
 one_target_in (word ∷ []) = target_in word
 one_target_in _ = Err UnknownWord
 
--- a variable, a number of 32 bits, `else` and a target; `else` is compared first
-abbrev pub num_in : List (List ℕ) → Result Instr FaultCode
-num_in (to ∷ value ∷ word ∷ otherwise ∷ []) =
+-- what is born: a variable, a number from low to high, `else` and a target; `else` is compared first
+abbrev pub birth_in : ℕ → ℕ → List (List ℕ) → Result (ℕ × ℕ × ℕ) FaultCode
+birth_in low high (to ∷ number ∷ word ∷ otherwise ∷ []) =
     if bytes_eq word (codes "else")
-    then (variable_in to >>= λ d. number_in value_limit value >>= λ k. target_in otherwise >>= λ l. Ok (Num d k l))
+    then (variable_in to >>= λ d. number_between low high number >>= λ k. target_in otherwise >>= λ l. Ok (d, k, l))
     else Err UnknownWord
-num_in _ = Err UnknownWord
+birth_in low high _ = Err UnknownWord
 
 abbrev pub fail_in : List (List ℕ) → Result Instr FaultCode
 fail_in [] = Ok Fail
@@ -80,7 +85,8 @@ fail_in _ = Err UnknownWord
 abbrev pub instruction_in : List (List ℕ) → Result Instr FaultCode
 instruction_in [] = Err UnknownWord
 instruction_in (w ∷ ws) =
-    if bytes_eq w (codes "num") then num_in ws
+    if bytes_eq w (codes "num") then (birth_in 0 value_limit ws >>= λ b. Ok (Num b.0 b.1 b.2))
+    else if bytes_eq w (codes "list") then (birth_in 1 cell_limit ws >>= λ b. Ok (ListObject b.0 b.1 b.2))
     else if bytes_eq w (codes "none") then (one_variable_in ws >>= λ d. Ok (NoneObject d))
     else if bytes_eq w (codes "newref") then (two_variables_in ws >>= λ v. Ok (Newref v.0 v.1))
     else if bytes_eq w (codes "move") then (two_variables_in ws >>= λ v. Ok (Move v.0 v.1))

@@ -6,8 +6,10 @@ use Rattle.std.specs.Fmt.{decimal}
 use Rattle.brc_lang.specs.declared.module.Module.{Module}
 use Rattle.brc_lang.specs.declared.module.Function.{Function}
 use Rattle.brc_lang.specs.declared.module.Instr.{Instr}
-use Rattle.brc_lang.specs.declared.module.Instr.TheVariants.{Num, NoneObject, Newref, Move, Drop, Goto, Ret, Fail}
-use Rattle.brc_lang.specs.Limits.{function_limit, instruction_limit, variable_count, target_count, name_rest_limit}
+use Rattle.brc_lang.specs.declared.module.Instr.TheVariants.{Num, List as ListObject, NoneObject, Newref, Move, Drop}
+use Rattle.brc_lang.specs.declared.module.Instr.TheVariants.{Goto, Ret, Fail}
+use Rattle.brc_lang.specs.Limits.{function_limit, instruction_limit, variable_count, target_count, cell_limit}
+use Rattle.brc_lang.specs.Limits.{name_rest_limit}
 
 -- ---- spellings
 
@@ -30,6 +32,8 @@ target number = codes "@" ++ decimal number
 abbrev pub instruction_words : Instr → List (List ℕ)
 instruction_words (Num to value otherwise) =
     codes "num" ∷ variable to ∷ decimal value ∷ codes "else" ∷ target otherwise ∷ []
+instruction_words (ListObject to cells otherwise) =
+    codes "list" ∷ variable to ∷ decimal cells ∷ codes "else" ∷ target otherwise ∷ []
 instruction_words (NoneObject to) = codes "none" ∷ variable to ∷ []
 instruction_words (Newref to from) = codes "newref" ∷ variable to ∷ variable from ∷ []
 instruction_words (Move to from) = codes "move" ∷ variable to ∷ variable from ∷ []
@@ -76,6 +80,8 @@ is_name (c ∷ cs) = is_letter c && list_all is_name_byte cs && nat_le (length c
 
 abbrev pub IsInstruction : Instr → Type 0
 IsInstruction (Num to value otherwise) = (to < variable_count) × (value < 2 ^ 32) × (otherwise < target_count)
+IsInstruction (ListObject to cells otherwise) =
+    (to < variable_count) × (0 < cells) × (cells ≤ cell_limit) × (otherwise < target_count)
 IsInstruction (NoneObject to) = to < variable_count
 IsInstruction (Newref to from) = (to < variable_count) × (from < variable_count)
 IsInstruction (Move to from) = (to < variable_count) × (from < variable_count)
@@ -87,6 +93,7 @@ IsInstruction Fail = Unit {0}
 -- the target that an instruction names
 abbrev pub jump : Instr → Option ℕ
 jump (Num to value otherwise) = Some otherwise
+jump (ListObject to cells otherwise) = Some otherwise
 jump (NoneObject to) = None
 jump (Newref to from) = None
 jump (Move to from) = None

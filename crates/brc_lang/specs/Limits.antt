@@ -26,6 +26,10 @@ last_target = 255
 abbrev pub value_limit : ℕ
 value_limit = 2 ^ 32 - 1
 
+-- the most cells of a list
+abbrev pub cell_limit : ℕ
+cell_limit = 8
+
 -- the bytes of a name, and those after its first letter
 abbrev pub name_limit : ℕ
 name_limit = 16

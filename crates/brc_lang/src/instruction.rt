@@ -1,14 +1,18 @@
 //! The instruction of a line.
 
-ghost use Rattle.std.specs.Prelude.{◌≡◌, ◌∷◌, []};
-ghost use Rattle.brc_lang.specs.Fault.{words, one_variable_in, two_variables_in, one_target_in, num_in, instruction_in};
+ghost use Rattle.std.specs.Prelude.{◌≡◌, ◌≤◌, ◌∷◌, [], IfOk};
+ghost use Rattle.brc_lang.specs.Fault.{words, one_variable_in, two_variables_in, one_target_in, birth_in};
+ghost use Rattle.brc_lang.specs.Fault.{instruction_in};
 
 use crate::fault::FaultCode;
 use crate::lexing::{
-    four_words, is_word, number, one_word, split_word, target, two_words, variable,
+    four_words, is_word, number_between, one_word, split_word, target, two_words, variable,
 };
 use crate::module::Instr;
 use crate::variable::Variable;
+
+/// The most cells of a list.
+const MOST_CELLS: u32 = 8;
 
 /// Reads the instruction of a line.
 ///
@@ -39,7 +43,19 @@ fn instruction_with(word: &[u8], operands: &[u8]) -> Result<Instr, FaultCode>
     ensures { result ≡ instruction_in (word.now ∷ words operands.now) }
 {
     if is_word(word, b"num") {
-        num(operands)
+        let (to, value, otherwise) = birth(0, u32::MAX, operands)?;
+        Ok(Instr::Num {
+            to,
+            value,
+            otherwise,
+        })
+    } else if is_word(word, b"list") {
+        let (to, cells, otherwise) = birth(1, MOST_CELLS, operands)?;
+        Ok(Instr::List {
+            to,
+            cells: cells as u8,
+            otherwise,
+        })
     } else if is_word(word, b"none") {
         let to = one_variable(operands)?;
         Ok(Instr::NoneObject { to })
@@ -63,24 +79,21 @@ fn instruction_with(word: &[u8], operands: &[u8]) -> Result<Instr, FaultCode>
     }
 }
 
-/// Reads the operands of `num`: a variable, a number, `else` and a target.
-fn num(operands: &[u8]) -> Result<Instr, FaultCode>
-    ensures { result ≡ num_in (words operands.now) }
+/// Reads the operands of `num` or `list`: a variable, a number from `low` to `high`, `else` and a target.
+fn birth(low: u32, high: u32, operands: &[u8]) -> Result<(Variable, u32, u8), FaultCode>
+    ensures read { result ≡ birth_in low high (words operands.now) }
+    ensures in_range { IfOk result (λ b. b.1 ≤ high) }
 {
-    let Some((to, value, word, otherwise)) = four_words(operands) else {
+    let Some((to, number, word, otherwise)) = four_words(operands) else {
         return Err(FaultCode::UnknownWord);
     };
     if !is_word(word, b"else") {
         return Err(FaultCode::UnknownWord);
     }
     let to = variable(to)?;
-    let value = number(u32::MAX, value)?;
+    let number = number_between(low, high, number)?;
     let otherwise = target(otherwise)?;
-    Ok(Instr::Num {
-        to,
-        value,
-        otherwise,
-    })
+    Ok((to, number, otherwise))
 }
 
 fn one_variable(operands: &[u8]) -> Result<Variable, FaultCode>

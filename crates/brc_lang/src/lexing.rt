@@ -8,7 +8,7 @@ ghost use Rattle.std.specs.Str.Parse.{digits_value};
 ghost use Rattle.brc_lang.specs.declared.fault.FaultCode.TheVariants.{Number};
 ghost use Rattle.std.specs.Str.{bytes_eq};
 ghost use Rattle.brc_lang.specs.Grammar.{is_name, is_name_byte};
-ghost use Rattle.brc_lang.specs.Fault.{words, number_in, variable_in, target_in, is_line_feed};
+ghost use Rattle.brc_lang.specs.Fault.{words, number_in, number_between, variable_in, target_in, is_line_feed};
 ghost use Rattle.brc_lang.specs.Progress.{IsFirstLineOf};
 
 use crate::fault::FaultCode;
@@ -144,6 +144,18 @@ fn numeral(high: u32, digits: &[u8]) -> Result<u32, FaultCode>
         }
     }
     Ok(value as u32)
+}
+
+/// Reads a number from `low` to `high`. Returns `Number` if the word has another form or the number is out of range.
+pub fn number_between(low: u32, high: u32, word: &[u8]) -> Result<u32, FaultCode>
+    ensures { result ≡ number_between low high word.now }
+{
+    let number = number(high, word)?;
+    if low <= number {
+        Ok(number)
+    } else {
+        Err(FaultCode::Number)
+    }
 }
 
 /// Reads a variable: `v` and a number below 16. Returns `UnknownWord` without the `v`, and `Number` for the rest.

@@ -30,6 +30,13 @@ pub enum Instr {
         value: u32,
         otherwise: u8,
     },
+    /// `list vD N else @L`: makes a list of N empty cells, 1 to 8, and owns it in vD; goes on at L if the worker has no
+    /// row left (`PyList_New`).
+    List {
+        to: Variable,
+        cells: u8,
+        otherwise: u8,
+    },
     /// `none vD`: owns a reference to none in vD.
     NoneObject {
         to: Variable,
@@ -66,7 +73,7 @@ impl Instr {
         ensures { result ≡ jump self }
     {
         match self {
-            Instr::Num { otherwise, .. } => Some(otherwise),
+            Instr::Num { otherwise, .. } | Instr::List { otherwise, .. } => Some(otherwise),
             Instr::Goto { target } => Some(target),
             _ => None,
         }

@@ -1,8 +1,8 @@
-ghost use Rattle.std.specs.Prelude.{[], ◌∷◌, ◌++◌, OnOk, OnErr, decimal};
+ghost use Rattle.std.specs.Prelude.{[], ◌∷◌, ◌++◌, OnOk, OnErr, codes, decimal};
 ghost use Rattle.std.specs.Io.KnownBytes.{Appends};
 ghost use Rattle.brc_lang.specs.Written.{AppendsBeginning};
-ghost use Rattle.brc_lang.specs.declared.module.Instr.TheVariants.{Num};
-ghost use Rattle.brc_lang.specs.Grammar.{spaced, variable as variable_text, instruction as instruction_text};
+ghost use Rattle.brc_lang.specs.Grammar.{spaced, variable as variable_text, target as target_text};
+ghost use Rattle.brc_lang.specs.Grammar.{instruction as instruction_text};
 ghost use Rattle.brc_lang.specs.Grammar.{instructions as instructions_text, line as line_text, heading as heading_text};
 ghost use Rattle.brc_lang.specs.Grammar.{function as function_text, text as module_text};
 
@@ -76,7 +76,12 @@ fn write_instruction<W: Write>(instr: Instr, writer: &mut W) -> io::Result<()>
             to,
             value,
             otherwise,
-        } => write_num(to, value, otherwise, writer),
+        } => write_birth(b"num ", to, value, otherwise, writer),
+        Instr::List {
+            to,
+            cells,
+            otherwise,
+        } => write_birth(b"list ", to, u32::from(cells), otherwise, writer),
         Instr::NoneObject { to } => write_operand(b"none ", to, writer),
         Instr::Newref { to, from } => write_operands(b"newref ", to, from, writer),
         Instr::Move { to, from } => write_operands(b"move ", to, from, writer),
@@ -87,14 +92,21 @@ fn write_instruction<W: Write>(instr: Instr, writer: &mut W) -> io::Result<()>
     }
 }
 
-fn write_num<W: Write>(to: Variable, value: u32, otherwise: u8, writer: &mut W) -> io::Result<()>
+/// Writes the bytes and then the variable, the number, `else` and the target.
+fn write_birth<W: Write>(
+    before: &[u8],
+    to: Variable,
+    number: u32,
+    otherwise: u8,
+    writer: &mut W,
+) -> io::Result<()>
     ensures whole { OnOk result (Appends (W.contents writer.old) (W.contents writer.new)
-        (instruction_text (Num to value otherwise))) }
+        (before.now ++ spaced (variable_text to ∷ decimal number ∷ codes "else" ∷ target_text otherwise ∷ []))) }
     ensures begun { OnErr result (AppendsBeginning (W.contents writer.old) (W.contents writer.new)
-        (instruction_text (Num to value otherwise))) }
+        (before.now ++ spaced (variable_text to ∷ decimal number ∷ codes "else" ∷ target_text otherwise ∷ []))) }
 {
-    write_operand(b"num ", to, writer)?;
-    write_numeral(b" ", u64::from(value), writer)?;
+    write_operand(before, to, writer)?;
+    write_numeral(b" ", u64::from(number), writer)?;
     write_numeral(b" else @", u64::from(otherwise), writer)
 }
 

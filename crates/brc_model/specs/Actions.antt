@@ -1,7 +1,7 @@
 -- Actions. At an event a thread of the step world does the first duty of its agenda, or what its code dispatches.
 use Rattle.std.specs.Prelude.{ℕ, zero, suc, ◌+◌, ◌*◌, Bool, true, false, ◌&&◌, ◌==◌, nat_lt, if◌then◌else◌, List, [], ◌∷◌, length, Option, None, Some, slice_get, slice_set}
 use Rattle.brc_lang.specs.declared.module.Instr.{Instr}
-use Rattle.brc_lang.specs.declared.module.Instr.TheVariants.{Num, NoneObject, Newref, Move as MoveReference, Drop, Goto, Ret, Fail}
+use Rattle.brc_lang.specs.declared.module.Instr.TheVariants.{Num, List as ListObject, NoneObject, Newref, Move as MoveReference, Drop, Goto, Ret, Fail}
 use Rattle.brc_lang.specs.declared.module.Function.{Function}
 use Rattle.brc_word.specs.Words.{half}
 use Rattle.brc_model.specs.declared.thread.Choice.{Choice}
@@ -49,14 +49,26 @@ with_row (Some row) work = work row
 abbrev pub number_word : ℕ → ℕ
 number_word value = 2 * half + value
 
+-- the kind word of a list
+abbrev pub list_word : ℕ → ℕ
+list_word cells = 3 * half + cells
+
+-- Returns what a thread does that makes an object of the kind word in the variable, if it has used `used` rows of its
+-- block. If its block is full, it empties the variable and goes on at `otherwise`.
+abbrev pub birth_action : Layout → ℕ → ℕ → ℕ → ℕ → List (Option ℕ) → ℕ → ℕ → ℕ → Action
+birth_action layout t used left at variables to word otherwise =
+    if has_room layout t used
+    then Does (BirthKind (row_at layout t used) (ByVariable to) word) []
+    (always (InCall left (at + 1) (slice_set variables to (Some (row_at layout t used)))))
+    else Silent [] (InCall left otherwise (slice_set variables to None))
+
 -- Returns what a thread does at an instruction, if it has used `used` rows of its block.
 abbrev pub dispatch_instruction : Layout → ℕ → ℕ → ℕ → ℕ → List (Option ℕ) → Option Instr → Action
 dispatch_instruction layout t used left at variables None = Stuck
 dispatch_instruction layout t used left at variables (Some (Num to value otherwise)) =
-    if has_room layout t used
-    then Does (BirthKind (row_at layout t used) (ByVariable to) (number_word value)) []
-    (always (InCall left (at + 1) (slice_set variables to (Some (row_at layout t used)))))
-    else Silent [] (InCall left otherwise (slice_set variables to None))
+    birth_action layout t used left at variables to (number_word value) otherwise
+dispatch_instruction layout t used left at variables (Some (ListObject to cells otherwise)) =
+    birth_action layout t used left at variables to (list_word cells) otherwise
 dispatch_instruction layout t used left at variables (Some (NoneObject to)) =
     Silent (gain t (ByVariable to) none_row) (InCall left (at + 1) (slice_set variables to (Some none_row)))
 dispatch_instruction layout t used left at variables (Some (Newref to from)) =

@@ -1,6 +1,8 @@
 -- The limits of a machine.
 use Rattle.std.specs.Prelude.{ℕ, ◌+◌, ◌*◌}
 use Rattle.brc_model.specs.Layout.{front_rows}
+-- the most cells of a list
+pub use Rattle.brc_lang.specs.Limits.{cell_limit}
 
 abbrev pub worker_limit : ℕ
 worker_limit = 32
@@ -24,7 +26,3 @@ total_limit = front_rows + worker_limit * row_limit + immortal_limit
 -- the most calls that one worker makes
 abbrev pub times_limit : ℕ
 times_limit = 1000000
-
--- the most cells of a list
-abbrev pub cell_limit : ℕ
-cell_limit = 8

@@ -6,7 +6,7 @@ use Rattle.std.specs.List.{list_any, slice_index_or}
 use Rattle.brc_lang.specs.declared.kind.Kind.{Kind}
 use Rattle.brc_lang.specs.declared.kind.Kind.TheVariants as kinds
 use Rattle.brc_lang.specs.declared.module.Instr.{Instr}
-use Rattle.brc_lang.specs.declared.module.Instr.TheVariants.{Num, NoneObject, Newref, Move, Drop, Goto, Ret, Fail}
+use Rattle.brc_lang.specs.declared.module.Instr.TheVariants.{Num, List as ListObject, NoneObject, Newref, Move, Drop, Goto, Ret, Fail}
 use Rattle.brc_model.specs.declared.code.CheckCode.{CheckCode}
 use Rattle.brc_model.specs.declared.code.CheckCode.TheVariants.{EmptyUsed, WrongKind, NotOwned, StillOwns, LeftOwned, LeftLocked, SecondLock, NotLocked, LockedChanged}
 use Rattle.brc_model.specs.declared.slot.Slot.{Slot}
@@ -79,6 +79,7 @@ breaks s _ _ = false
 
 abbrev pub conditions_of : Instr → List Condition
 conditions_of (Num to value otherwise) = Into to ∷ []
+conditions_of (ListObject to cells otherwise) = Into to ∷ []
 conditions_of (NoneObject to) = Into to ∷ []
 conditions_of (Newref to from) = Use from ∷ Into to ∷ []
 conditions_of (Move to from) = Give from ∷ Into to ∷ []
@@ -102,10 +103,15 @@ lowest i s = find (applies i s) rising
 
 -- ---- exits
 
+-- what an exit of a birth leaves in its variable: an owned reference to the new object, or nothing
+abbrev pub birth_slot : Kind → Exit → Slot
+birth_slot kind Success = Owned kind
+birth_slot kind Fault = Empty
+
 -- the state after an exit of the instruction
 abbrev pub after : Instr → Exit → State → State
-after (Num to value otherwise) Success s = put s to (Owned kinds.Num)
-after (Num to value otherwise) Fault s = put s to Empty
+after (Num to value otherwise) exit s = put s to (birth_slot kinds.Num exit)
+after (ListObject to cells otherwise) exit s = put s to (birth_slot kinds.List exit)
 after (NoneObject to) exit s = put s to (Owned kinds.None)
 after (Newref to from) exit s = put s to (Owned (kind_of (slot_of s from)))
 after (Move to from) exit s = put (put s from Empty) to (Owned (kind_of (slot_of s from)))
@@ -118,6 +124,8 @@ after Fail exit s = s
 abbrev pub target : Instr → Exit → ℕ → Option ℕ
 target (Num to value otherwise) Success at = Some (at + 1)
 target (Num to value otherwise) Fault at = Some otherwise
+target (ListObject to cells otherwise) Success at = Some (at + 1)
+target (ListObject to cells otherwise) Fault at = Some otherwise
 target (NoneObject to) exit at = Some (at + 1)
 target (Newref to from) exit at = Some (at + 1)
 target (Move to from) exit at = Some (at + 1)

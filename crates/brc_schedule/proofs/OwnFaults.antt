@@ -7,14 +7,14 @@ use Rattle.std.specs.Str.{bytes_eq}
 use Rattle.brc_lang.specs.declared.fault.FaultCode.{FaultCode}
 use Rattle.brc_lang.specs.declared.fault.FaultCode.TheVariants.{FirstLine, UnknownWord, Number, CutOff, NoMemory}
 use Rattle.brc_lang.specs.Grammar.{is_name}
-use Rattle.brc_lang.specs.Fault.{words, number_in, is_line_feed, IsOwn, IsOwnFault}
+use Rattle.brc_lang.specs.Fault.{words, number_in, number_between, is_line_feed, IsOwn, IsOwnFault}
 use Rattle.brc_model.specs.declared.thread.Choice.TheVariants as choices
 use Rattle.brc_model.specs.Limits.{worker_limit, row_limit, times_limit}
 use Rattle.brc_schedule.specs.Limits.{last_row}
 use Rattle.brc_schedule.specs.declared.beginning.Beginning.{Beginning}
 use Rattle.brc_schedule.specs.declared.beginning.Beginning.TheVariants.{Opened, Staffed, Planned}
 use Rattle.brc_schedule.specs.declared.schedule.Schedule.{Schedule}
-use Rattle.brc_schedule.specs.Fault.{number_between, size_in, name_in, call_in, choice_in, steps_in, planned_in}
+use Rattle.brc_schedule.specs.Fault.{size_in, name_in, call_in, choice_in, steps_in, planned_in}
 use Rattle.brc_schedule.specs.Fault.{next_of, is_whole, fault_in, fault_of, HasFault}
 use Rattle.brc_schedule.proofs.Results.{own_then, own_either, own_fault_either, number_own}
 

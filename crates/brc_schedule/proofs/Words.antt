@@ -9,7 +9,7 @@ use Rattle.std.proofs.lemmas.Bool.{leb-true, le-leb}
 use Rattle.brc_lang.specs.declared.fault.FaultCode.{FaultCode}
 use Rattle.brc_lang.specs.declared.fault.FaultCode.TheVariants.{UnknownWord, Number}
 use Rattle.brc_lang.specs.Grammar.{is_name}
-use Rattle.brc_lang.specs.Fault.{number_in}
+use Rattle.brc_lang.specs.Fault.{number_in, number_between}
 use Rattle.brc_lang.specs.RoundTrips.{IsPlain, TextsRoundTrip}
 use Rattle.brc_model.specs.declared.thread.Choice.{Choice}
 use Rattle.brc_model.specs.declared.thread.Choice.TheVariants as choices
@@ -18,7 +18,7 @@ use Rattle.brc_schedule.specs.Limits.{last_row}
 use Rattle.brc_schedule.specs.declared.schedule.PlannedCall.{PlannedCall}
 use Rattle.brc_schedule.specs.declared.schedule.Steps.{Steps}
 use Rattle.brc_schedule.specs.Text.{size_words, call_words, words_of, step_words, IsPlannedCall, IsChoiceOf, AreSteps}
-use Rattle.brc_schedule.specs.Fault.{number_between, size_in, name_in, call_in, choice_in, steps_in}
+use Rattle.brc_schedule.specs.Fault.{size_in, name_in, call_in, choice_in, steps_in}
 use Rattle.brc_schedule.proofs.Results.{bind_ok, chosen, guarded, same_text}
 
 choice_spelled : (word : List ℕ) (c : Choice) → choice_in word ≡ Ok c

@@ -7,7 +7,7 @@ use Rattle.brc_lang.specs.declared.fault.FaultCode.{FaultCode}
 use Rattle.brc_lang.specs.declared.fault.FaultCode.TheVariants.{FirstLine, UnknownWord, Number, CutOff, NoMemory}
 use Rattle.brc_lang.specs.declared.fault.ReadFault.{ReadFault}
 use Rattle.brc_lang.specs.Grammar.{is_name}
-use Rattle.brc_lang.specs.Fault.{words, number_in, ◌>>=◌, is_line_feed, line_count}
+use Rattle.brc_lang.specs.Fault.{words, number_between, ◌>>=◌, is_line_feed, line_count}
 use Rattle.brc_model.specs.declared.thread.Choice.{Choice}
 use Rattle.brc_model.specs.declared.thread.Choice.TheVariants as choices
 use Rattle.brc_model.specs.Limits.{worker_limit, row_limit, times_limit}
@@ -20,9 +20,6 @@ use Rattle.brc_schedule.specs.declared.schedule.Steps.{Steps}
 use Rattle.brc_schedule.specs.Text.{first_line, workers_line, text, AreSizes, IsPlannedCall, AreSteps}
 
 -- ---- one line: the first word and the number of words are compared first, then the words from left to right
-
-abbrev pub number_between : ℕ → ℕ → List ℕ → Result ℕ FaultCode
-number_between low high word = number_in high word >>= λ n. if nat_le low n then Ok n else Err Number
 
 abbrev pub size_in : List ℕ → ℕ → List (List ℕ) → Result ℕ FaultCode
 size_in name most (w ∷ size ∷ []) = if bytes_eq w name then number_between 1 most size else Err UnknownWord

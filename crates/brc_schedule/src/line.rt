@@ -1,11 +1,13 @@
 //! Single lines of a schedule's text.
 
 ghost use Rattle.std.specs.Prelude.{◌≡◌, ◌∷◌, [], ◌≤◌};
-ghost use Rattle.brc_lang.specs.Fault.{words};
-ghost use Rattle.brc_schedule.specs.Fault.{number_between, size_in, call_in, choice_in, steps_in};
+ghost use Rattle.brc_lang.specs.Fault.{words, number_between};
+ghost use Rattle.brc_schedule.specs.Fault.{size_in, call_in, choice_in, steps_in};
 
 use crate::schedule::{PlannedCall, Steps};
-use brc_lang::{FaultCode, Name, four_words, is_name, is_word, number, three_words, two_words};
+use brc_lang::{
+    FaultCode, Name, four_words, is_name, is_word, number_between, three_words, two_words,
+};
 use brc_model::Choice;
 
 /// The greatest number of calls or steps of one line.
@@ -104,16 +106,5 @@ fn choice_of(word: &[u8]) -> Result<Choice, FaultCode>
         Ok(Choice::Fault)
     } else {
         Err(FaultCode::UnknownWord)
-    }
-}
-
-fn number_between(low: u32, high: u32, word: &[u8]) -> Result<u32, FaultCode>
-    ensures { result ≡ number_between low high word.now }
-{
-    let number = number(high, word)?;
-    if low <= number {
-        Ok(number)
-    } else {
-        Err(FaultCode::Number)
     }
 }

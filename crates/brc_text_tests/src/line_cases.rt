@@ -5,6 +5,8 @@ pub const READ: &str = "\
 read: num v0 0 else @1
 read: num v15 4294967295 else @1
 read: num v10 4294967290 else @1
+read: list v0 1 else @1
+read: list v15 8 else @1
 read: none v0
 read: none v15
 read: move v0 v15
@@ -44,6 +46,44 @@ line 3 L2: num v1 1 @1 else
 line 3 L2: num v1 1 else 1
 ";
 
+// The cells of `list`, which has 1 to 8 of them.
+pub const LIST_NUMBERS: &str = "\
+line 3 L3: list v1 0 else @1
+line 3 L3: list v1 9 else @1
+line 3 L3: list v1 10 else @1
+line 3 L3: list v1 4294967297 else @1
+line 3 L3: list v1 08 else @1
+line 3 L3: list v1 +8 else @1
+line 3 L3: list v1 8x else @1
+line 3 L3: list v1 x else @1
+line 3 L3: list v1  else @1
+line 3 L3: list v16 8 else @1
+line 3 L3: list v01 8 else @1
+line 3 L3: list v1 8 else @
+line 3 L3: list v1 8 else @256
+line 3 L3: list v1 8 else @01
+";
+
+// Words of `list`.
+pub const LIST_WORDS: &str = "\
+line 3 L2: list
+line 3 L2: list v1
+line 3 L2: list v1 8
+line 3 L2: list v1 8 @1
+line 3 L2: list v1 8 else
+line 3 L2: list v1 8 else @1 @1
+line 3 L2: list v1  8 else @1
+line 3 L2: list v1 8 else @1 
+line 3 L2: list 1 8 else @1
+line 3 L2: list v1 8 els @1
+line 3 L2: list v1 8 elsewhere @1
+line 3 L2: list v1 8 @1 else
+line 3 L2: list v1 8 else 1
+line 3 L2: list v1 8 else v1
+line 3 L2: lists v1 8 else @1
+line 3 L2: lis v1 8 else @1
+";
+
 // The number of words and `else` come first, and then the words from left to right.
 pub const IN_ORDER: &str = "\
 line 3 L2: num v16 01 else @256 x
@@ -53,6 +93,12 @@ line 3 L2: num x 01 else @256
 line 3 L3: num v1 01 else 1
 line 3 L3: num v1 x else 1
 line 3 L2: num v1 1 else v1
+line 3 L2: list v16 0 else @256 x
+line 3 L2: list v16 0 or @256
+line 3 L3: list v16 0 else 1
+line 3 L2: list x 0 else @256
+line 3 L3: list v1 0 else 1
+line 3 L3: list v1 9 else 1
 line 3 L2: none v16 v16
 line 3 L3: move v16 x
 line 3 L2: move x v16

@@ -1,4 +1,6 @@
-use crate::line_cases::{IN_ORDER, NONE_AND_MOVE, NUM_NUMBERS, NUM_WORDS, READ, TARGETS};
+use crate::line_cases::{
+    IN_ORDER, LIST_NUMBERS, LIST_WORDS, NONE_AND_MOVE, NUM_NUMBERS, NUM_WORDS, READ, TARGETS,
+};
 use crate::target_cases::{AHEAD, EARLIER, NOT_AHEAD};
 use brc_lang::{FaultCode, Instr, ReadFault, Sequence, Variable, read, write, write_bytes};
 use std::alloc::{AllocError, Global};
@@ -20,11 +22,13 @@ const HEAD: &[u8] = b"module 1\nfunc f\n";
 const BELOW: &[u8] = b"\nfail\nend\n";
 
 // The text above the cases, the cases, and the text below them.
-const TABLES: [(&[u8], &str, &[u8]); 10] = [
+const TABLES: [(&[u8], &str, &[u8]); 12] = [
     (b"", MODULES, b""),
     (HEAD, READ, BELOW),
     (HEAD, NUM_NUMBERS, BELOW),
     (HEAD, NUM_WORDS, BELOW),
+    (HEAD, LIST_NUMBERS, BELOW),
+    (HEAD, LIST_WORDS, BELOW),
     (HEAD, IN_ORDER, BELOW),
     (HEAD, NONE_AND_MOVE, BELOW),
     (HEAD, TARGETS, BELOW),
@@ -130,14 +134,19 @@ fn reads_each_instruction(rt: HostRuntime) {
         Instr::Num {
             to: Variable::new(1),
             value: 4294967295,
-            otherwise: 4,
+            otherwise: 5,
+        },
+        Instr::List {
+            to: low,
+            cells: 8,
+            otherwise: 5,
         },
         Instr::NoneObject { to: high },
         Instr::Move {
             to: Variable::new(2),
             from: Variable::new(3),
         },
-        Instr::Goto { target: 4 },
+        Instr::Goto { target: 5 },
         Instr::Fail,
     ];
     let table: [(&[u8], &[u8], &[Instr]); 3] = [
@@ -148,7 +157,8 @@ fn reads_each_instruction(rt: HostRuntime) {
             &counted,
         ),
         (
-            b"module 1\nfunc f\nnum v1 4294967295 else @4\nnone v15\nmove v2 v3\ngoto @4\nfail\nend\n",
+            b"module 1\nfunc f\nnum v1 4294967295 else @5\nlist v0 8 else @5\nnone v15\nmove v2 v3\ngoto @5\n\
+            fail\nend\n",
             b"f",
             &others,
         ),

@@ -81,6 +81,16 @@ fn writes_each_instruction(rt: HostRuntime) -> Result<(), Fail> {
             value: 0,
             otherwise: 255,
         },
+        Instr::List {
+            to: high,
+            cells: 8,
+            otherwise: 5,
+        },
+        Instr::List {
+            to: low,
+            cells: 1,
+            otherwise: 255,
+        },
         Instr::NoneObject { to: high },
         Instr::Move {
             to: low,
@@ -95,7 +105,8 @@ fn writes_each_instruction(rt: HostRuntime) -> Result<(), Fail> {
     ];
     let text =
         b"module 1\nfunc f\nnewref v15 v0\ndrop v15\nret v0\nend\nfunc g_2\nfail\nend\nfunc h\n\
-        num v15 4294967295 else @4\nnum v0 0 else @255\nnone v15\nmove v0 v15\ngoto @10\nend\n";
+        num v15 4294967295 else @4\nnum v0 0 else @255\nlist v15 8 else @5\nlist v0 1 else @255\nnone v15\n\
+        move v0 v15\ngoto @10\nend\n";
     assert_eq!(rt; written(rt.alloc(), &table)?.as_slice(), text.as_slice());
     Ok(())
 }

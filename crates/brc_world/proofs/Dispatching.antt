@@ -2,7 +2,7 @@
 use Rattle.std.proofs.Common.{ℕ, zero, suc, Bool, true, false, cond, List, [], ◌∷◌, Option, None, Some}
 use Rattle.std.specs.Prelude.{slice_get}
 use Rattle.brc_lang.specs.declared.module.Instr.{Instr}
-use Rattle.brc_lang.specs.declared.module.Instr.TheVariants.{Num, NoneObject, Newref, Move as MoveReference, Drop, Goto, Ret, Fail}
+use Rattle.brc_lang.specs.declared.module.Instr.TheVariants.{Num, List as ListObject, NoneObject, Newref, Move as MoveReference, Drop, Goto, Ret, Fail}
 use Rattle.brc_lang.specs.declared.module.Function.{Function}
 use Rattle.brc_model.specs.Threads.{code_of, row_of, entry_variables}
 use Rattle.brc_model.specs.declared.duty.Duty.{Duty}
@@ -29,6 +29,8 @@ instruction_steps : (layout : Layout) (t used left at : ℕ) (variables : List (
     → TakesStep (dispatch_instruction layout t used left at variables i)
 instruction_steps layout t used left at variables None = tt
 instruction_steps layout t used left at variables (Some (Num to value otherwise)) =
+    either_steps (has_room layout t used) _ _ tt tt
+instruction_steps layout t used left at variables (Some (ListObject to cells otherwise)) =
     either_steps (has_room layout t used) _ _ tt tt
 instruction_steps layout t used left at variables (Some (NoneObject to)) = tt
 instruction_steps layout t used left at variables (Some (Newref to from)) =

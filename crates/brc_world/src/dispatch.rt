@@ -5,13 +5,13 @@ ghost use Rattle.std.specs.Prelude.{[], ◌∷◌, reverse, vec_len, vec_capacit
 ghost use Rattle.brc_model.specs.declared.duty.Duty.TheVariants.{ReleaseLoad, Settle};
 ghost use Rattle.brc_model.specs.declared.duty.Holding.TheVariants.{ByVariable};
 ghost use Rattle.brc_model.specs.Threads.{code_of, entry_variables};
-ghost use Rattle.brc_model.specs.Actions.{agenda_action, dispatch_instruction};
+ghost use Rattle.brc_model.specs.Actions.{agenda_action, dispatch_instruction, birth_action};
 ghost use Rattle.brc_model.specs.Machine.{has_room};
 ghost use Rattle.brc_world.specs.Actors.{actor_of, with_agenda, exit_action, start_by, started};
 ghost use Rattle.brc_model.specs.Layout.{row_at};
 
 use crate::rows::{NONE_ROW, ROOT, block_size, row_at};
-use crate::states::NUM;
+use crate::states::{LIST, NUM};
 use crate::thread::{Stage, Thread, Variables};
 use brc_lang::{Function, Instr, Variable};
 use brc_model::{Duty, Holding, Layout};
@@ -145,6 +145,46 @@ fn next_row(layout: Layout, number: u8, used: u32) -> Option<u32>
     (used < block_size(layout, number)).then(|| row_at(layout, number, used))
 }
 
+/// Begins the birth of an object of the kind word in the variable. If the thread has no row left, it empties the
+/// variable and goes on at `otherwise`.
+#[inline(always)]
+fn birth(
+    to: Variable,
+    word: u64,
+    otherwise: u8,
+    layout: Layout,
+    number: u8,
+    thread: &mut Thread,
+    left: u32,
+) -> Start
+    requires empty { thread.old.agenda.items ≡ [] }
+    requires room { 8 ≤ vec_capacity thread.old.agenda }
+    requires next { thread.old.at + 1 < 2 ^ 64 }
+    ensures starts { result ≡ start_by (birth_action layout number thread.old.used left thread.old.at
+        thread.old.variables to word otherwise) }
+    ensures actor { actor_of thread.new ≡ started (actor_of thread.old) (birth_action layout number
+        thread.old.used left thread.old.at thread.old.variables to word otherwise) }
+    ensures room { vec_len thread.new.agenda + 4 ≤ vec_capacity thread.new.agenda }
+{
+    let next = thread.at + 1;
+    match next_row(layout, number, thread.used) {
+        Some(row) => {
+            thread.set(to, Some(row));
+            thread.go_to(left, next);
+            Start::Doing(Duty::BirthKind {
+                row,
+                holding: Holding::ByVariable(to),
+                word,
+            })
+        }
+        None => {
+            thread.set(to, None);
+            thread.go_to(left, usize::from(otherwise));
+            Start::Moved
+        }
+    }
+}
+
 #[inline(always)]
 fn begin(instr: Instr, layout: Layout, number: u8, thread: &mut Thread, left: u32) -> Start
     requires empty { thread.old.agenda.items ≡ [] }
@@ -162,22 +202,18 @@ fn begin(instr: Instr, layout: Layout, number: u8, thread: &mut Thread, left: u3
             to,
             value,
             otherwise,
-        } => match next_row(layout, number, thread.used) {
-            Some(row) => {
-                thread.set(to, Some(row));
-                thread.go_to(left, next);
-                Start::Doing(Duty::BirthKind {
-                    row,
-                    holding: Holding::ByVariable(to),
-                    word: kind_word(NUM, value),
-                })
-            }
-            None => {
-                thread.set(to, None);
-                thread.go_to(left, usize::from(otherwise));
-                Start::Moved
-            }
-        },
+        } => {
+            let word = kind_word(NUM, value);
+            birth(to, word, otherwise, layout, number, thread, left)
+        }
+        Instr::List {
+            to,
+            cells,
+            otherwise,
+        } => {
+            let word = kind_word(LIST, u32::from(cells));
+            birth(to, word, otherwise, layout, number, thread, left)
+        }
         Instr::NoneObject { to } => {
             thread.set(to, Some(NONE_ROW));
             thread.go_to(left, next);

@@ -4,14 +4,16 @@ use Rattle.std.specs.Prelude.{◌==◌, ◌&&◌, slice_get, slice_set}
 use Rattle.std.specs.List.{list_any}
 use Rattle.std.proofs.lemmas.List.{length-set}
 use Rattle.brc_lang.specs.declared.module.Instr.{Instr}
-use Rattle.brc_lang.specs.declared.module.Instr.TheVariants.{Num, NoneObject, Newref, Move as MoveReference, Drop, Goto, Ret, Fail}
+use Rattle.brc_lang.specs.declared.module.Instr.TheVariants.{Num, List as ListObject, NoneObject, Newref, Move as MoveReference, Drop, Goto, Ret, Fail}
+use Rattle.brc_lang.specs.declared.kind.Kind.{Kind}
 use Rattle.brc_lang.specs.declared.kind.Kind.TheVariants as kinds
+use Rattle.brc_lang.specs.Limits.{variable_count}
 use Rattle.brc_model.specs.declared.slot.Slot.{Slot}
 use Rattle.brc_model.specs.declared.slot.Slot.TheVariants.{Empty, Owned, Caller, Locked}
 use Rattle.brc_model.specs.declared.slot.State.{State}
 use Rattle.brc_model.specs.declared.slot.Exit.TheVariants.{Success, Fault}
 use Rattle.brc_model.specs.Slots.{slot_of, is_empty, is_owned, kind_of, put, entry}
-use Rattle.brc_model.specs.Paths.{IsAcceptableCode}
+use Rattle.brc_model.specs.Paths.{At, path_end, IsAcceptableCode}
 use Rattle.brc_model.specs.declared.duty.Holding.{Holding}
 use Rattle.brc_model.specs.declared.duty.Holding.TheVariants.{ByVariable, AsCaller, InFlight}
 use Rattle.brc_model.specs.AbstractState.{Reference, same_holding, references_to}
@@ -21,7 +23,7 @@ use Rattle.brc_model.specs.Kinds.{kind_numbered, kind_of_word, is_counted_kind}
 use Rattle.brc_model.specs.declared.actor.Place.{Place}
 use Rattle.brc_model.specs.declared.actor.Place.TheVariants.{Idle, InCall, Exiting}
 use Rattle.brc_model.specs.Machine.{has_room}
-use Rattle.brc_model.specs.Actions.{Does, always, dispatch_instruction, dispatch, number_word}
+use Rattle.brc_model.specs.Actions.{Does, always, birth_action, dispatch_instruction, dispatch, number_word, list_word}
 use Rattle.brc_model.proofs.Basics.Bag.{held-le-references_to}
 use Rattle.brc_model.specs.References.{held, one_if, reference_of}
 use Rattle.brc_model.proofs.Basics.Lists.{either, first_false}
@@ -70,6 +72,20 @@ number_counts : (value : ℕ) → value < half → is_counted_kind (kind_of_word
 number_counts value low =
     let number : kind_part (number_word value) ≡ 2 = omega (arith, low) in
     ap (λ (k : ℕ). is_counted_kind (kind_numbered k)) number
+
+-- A list has the cells that its instruction names.
+list_cells : (cells : ℕ) → cells ≤ cell_limit → cells_of (list_word cells) ≤ cell_limit
+list_cells cells few =
+    let kind : kind_part (list_word cells) ≡ 3 = omega (arith, few) in
+    let all : cells_of (list_word cells) ≡ argument_part (list_word cells) =
+    ap (λ (k : ℕ). cond (k == 3) (argument_part (list_word cells)) 0) kind in
+    omega (arith, few, all)
+
+-- A list is an object of a counted kind.
+list_counts : (cells : ℕ) → cells ≤ cell_limit → is_counted_kind (kind_of_word (list_word cells)) ≡ true
+list_counts cells few =
+    let list : kind_part (list_word cells) ≡ 3 = omega (arith, few) in
+    ap (λ (k : ℕ). is_counted_kind (kind_numbered k)) list
 
 newref_taken : (code : List Instr) (bag : List Reference) (layout : Layout) (t used left at : ℕ)
     (variables : List (Option ℕ))
@@ -176,60 +192,80 @@ ret_taken code bag layout t used left at variables s from here =
     taken_with_row code bag layout t used row.0 (row_of variables from)
     (λ r. Does (ReleaseLoad r (ByVariable from)) (Settle ∷ []) (always (Idle left))) row.1 (λ found. taken)
 
--- ---- a new number
+-- ---- a new object
 
-num_born : (code : List Instr) (bag : List Reference) (layout : Layout) (t used left at : ℕ)
-    (variables : List (Option ℕ))
-    (s : State) (to value otherwise : ℕ)
-    → StandsAt code bag t at variables s (Num to value otherwise) → has_room layout t used ≡ true
+-- A thread at an instruction that makes an object of the kind word in a variable that owns nothing: on success the
+-- variable owns an object of the kind, and where the thread has no row left the variable is empty.
+record BearsAt (code : List Instr) (bag : List Reference) (t at : ℕ) (variables : List (Option ℕ)) (s : State)
+    (to word otherwise : ℕ)
+    (kind : Kind) : Type 0 where
+  pub inside : IsInside code at variables s
+  pub holds : Holds bag t (of_variables s variables)
+  pub variable : to < variable_count
+  pub free : is_owned (slot_of s to) ≡ false
+  pub few_cells : cells_of word ≤ cell_limit
+  pub counted : is_counted_kind (kind_of_word word) ≡ true
+  pub owned_next : path_end code (inside.exits ++ Success ∷ []) ≡ At (at + 1) (put s to (Owned kind))
+  pub empty_next : path_end code (inside.exits ++ Fault ∷ []) ≡ At otherwise (put s to Empty)
+
+born : (code : List Instr) (bag : List Reference) (layout : Layout) (t used left at : ℕ) (variables : List (Option ℕ))
+    (s : State) (to word otherwise : ℕ) (kind : Kind)
+    → BearsAt code bag t at variables s to word otherwise kind → has_room layout t used ≡ true
     → Taken code bag layout t used (InCall left (at + 1) (slice_set variables to (Some (row_at layout t used))))
-    (BirthKind (row_at layout t used) (ByVariable to) (number_word value)) []
-num_born code bag layout t used left at variables s to value otherwise here room =
+    (BirthKind (row_at layout t used) (ByVariable to) word) []
+born code bag layout t used left at variables s to word otherwise kind here room =
     let row = row_at layout t used in
-    let slot : Slot = Owned kinds.Num in
-    let free : is_owned (slot_of s to) ≡ false = first_false _ _ here.met.free in
-    let in_slots : to < length s.slots = omega (arith, here.variables.0, here.inside.slots) in
-    let in_rows : to < length variables = omega (arith, here.variables.0, here.inside.rows) in
+    let slot : Slot = Owned kind in
+    let in_slots : to < length s.slots = omega (arith, here.variable, here.inside.slots) in
+    let in_rows : to < length variables = omega (arith, here.variable, here.inside.rows) in
     let next : IsInside code (at + 1) (slice_set variables to (Some row)) (put s to slot) = record {
       exits = here.inside.exits ++ Success ∷ [];
-      arrived = here.leads Success (at + 1) refl;
+      arrived = here.owned_next;
       slots = length-set s.slots to slot ∙ here.inside.slots;
       rows = length-set variables to (Some row) ∙ here.inside.rows;
       grounded = grounded-put s variables to slot (Some row) in_slots in_rows (row, refl) here.inside.grounded;
     } in
     let held_now : HoldsAlone bag t (once_each (of_variables (put s to slot) (slice_set variables to (Some row))))
-    (BirthKind row (ByVariable to) (number_word value) ∷ []) =
-    record { each = newref_held bag t s variables to row slot in_slots in_rows free refl here.holds } in
+    (BirthKind row (ByVariable to) word ∷ []) =
+    record { each = newref_held bag t s variables to row slot in_slots in_rows here.free refl here.holds } in
     record {
       placed = (put s to slot, next, held_now);
-      starts = Bears (ByVariable to) (number_word value) (ltb-true used (block_size layout t) room)
-          (number_cells value here.variables.1) (number_counts value here.variables.1);
+      starts = Bears (ByVariable to) word (ltb-true used (block_size layout t) room) here.few_cells here.counted;
       follows = Nothing (in_call_stays left (at + 1) (slice_set variables to (Some row)));
     }
 
--- If the thread has no room for a row, `num` empties its variable and goes on at its fault exit.
-num_fails : (code : List Instr) (bag : List Reference) (t left at : ℕ) (variables : List (Option ℕ)) (s : State)
-    (to value otherwise : ℕ)
-    → StandsAt code bag t at variables s (Num to value otherwise)
+-- If the thread has no room for a row, it empties the variable and goes on at the fault exit.
+not_born : (code : List Instr) (bag : List Reference) (t left at : ℕ) (variables : List (Option ℕ)) (s : State)
+    (to word otherwise : ℕ) (kind : Kind)
+    → BearsAt code bag t at variables s to word otherwise kind
     → SilentTaken code bag t [] (InCall left otherwise (slice_set variables to None))
-num_fails code bag t left at variables s to value otherwise here =
-    let free : is_owned (slot_of s to) ≡ false = first_false _ _ here.met.free in
-    let in_slots : to < length s.slots = omega (arith, here.variables.0, here.inside.slots) in
-    let in_rows : to < length variables = omega (arith, here.variables.0, here.inside.rows) in
+not_born code bag t left at variables s to word otherwise kind here =
+    let in_slots : to < length s.slots = omega (arith, here.variable, here.inside.slots) in
+    let in_rows : to < length variables = omega (arith, here.variable, here.inside.rows) in
     let next : IsInside code otherwise (slice_set variables to None) (put s to Empty) = record {
       exits = here.inside.exits ++ Fault ∷ [];
-      arrived = here.leads Fault otherwise refl;
+      arrived = here.empty_next;
       slots = length-set s.slots to Empty ∙ here.inside.slots;
       rows = length-set variables to None ∙ here.inside.rows;
       grounded = grounded-put s variables to Empty None in_slots in_rows tt here.inside.grounded;
     } in
     let holds : Holds bag t (of_variables (put s to Empty) (slice_set variables to None)) =
-    record { each = cleared_held bag t s variables to in_slots free here.holds } in
+    record { each = cleared_held bag t s variables to in_slots here.free here.holds } in
     record {
       moves_fit = Stays;
       placed = (put s to Empty, next, holds_at_none bag t _ holds);
       stays = in_call_stays left otherwise (slice_set variables to None);
     }
+
+birth_taken : (code : List Instr) (bag : List Reference) (layout : Layout) (t used left at : ℕ)
+    (variables : List (Option ℕ))
+    (s : State) (to word otherwise : ℕ) (kind : Kind)
+    → BearsAt code bag t at variables s to word otherwise kind
+    → IsTaken code bag layout t used (birth_action layout t used left at variables to word otherwise)
+birth_taken code bag layout t used left at variables s to word otherwise kind here =
+    either (IsTaken code bag layout t used) (has_room layout t used) _ _
+    (λ room found. born code bag layout t used left at variables s to word otherwise kind here room)
+    (not_born code bag t left at variables s to word otherwise kind here)
 
 num_taken : (code : List Instr) (bag : List Reference) (layout : Layout) (t used left at : ℕ)
     (variables : List (Option ℕ))
@@ -238,9 +274,34 @@ num_taken : (code : List Instr) (bag : List Reference) (layout : Layout) (t used
     → IsTaken code bag layout t used
     (dispatch_instruction layout t used left at variables (Some (Num to value otherwise)))
 num_taken code bag layout t used left at variables s to value otherwise here =
-    either (IsTaken code bag layout t used) (has_room layout t used) _ _
-    (λ room found. num_born code bag layout t used left at variables s to value otherwise here room)
-    (num_fails code bag t left at variables s to value otherwise here)
+    birth_taken code bag layout t used left at variables s to (number_word value) otherwise kinds.Num (record {
+      inside = here.inside;
+      holds = here.holds;
+      variable = here.variables.0;
+      free = first_false _ _ here.met.free;
+      few_cells = number_cells value here.variables.1;
+      counted = number_counts value here.variables.1;
+      owned_next = here.leads Success (at + 1) refl;
+      empty_next = here.leads Fault otherwise refl;
+    })
+
+list_taken : (code : List Instr) (bag : List Reference) (layout : Layout) (t used left at : ℕ)
+    (variables : List (Option ℕ))
+    (s : State) (to cells otherwise : ℕ)
+    → StandsAt code bag t at variables s (ListObject to cells otherwise)
+    → IsTaken code bag layout t used
+    (dispatch_instruction layout t used left at variables (Some (ListObject to cells otherwise)))
+list_taken code bag layout t used left at variables s to cells otherwise here =
+    birth_taken code bag layout t used left at variables s to (list_word cells) otherwise kinds.List (record {
+      inside = here.inside;
+      holds = here.holds;
+      variable = here.variables.0;
+      free = first_false _ _ here.met.free;
+      few_cells = list_cells cells here.variables.2;
+      counted = list_counts cells here.variables.2;
+      owned_next = here.leads Success (at + 1) refl;
+      empty_next = here.leads Fault otherwise refl;
+    })
 
 -- ---- each instruction
 
@@ -251,6 +312,8 @@ instruction_taken : (code : List Instr) (bag : List Reference) (layout : Layout)
     → IsTaken code bag layout t used (dispatch_instruction layout t used left at variables (Some i))
 instruction_taken code bag layout t used left at variables s (Num to value otherwise) here =
     num_taken code bag layout t used left at variables s to value otherwise here
+instruction_taken code bag layout t used left at variables s (ListObject to cells otherwise) here =
+    list_taken code bag layout t used left at variables s to cells otherwise here
 instruction_taken code bag layout t used left at variables s (NoneObject to) here =
     none_taken code bag layout t used left at variables s to here
 instruction_taken code bag layout t used left at variables s (MoveReference to from) here =

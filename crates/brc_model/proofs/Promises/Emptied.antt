@@ -2,7 +2,7 @@
 use Rattle.std.proofs.Common.{◌≡◌, ℕ, zero, suc, Bool, true, false, cond, List, [], ◌∷◌, ◌++◌, Option, None, Some, refl, sym, ap, ◌∙◌, subst}
 use Rattle.std.specs.Prelude.{not, slice_get, slice_set}
 use Rattle.brc_lang.specs.declared.module.Instr.{Instr}
-use Rattle.brc_lang.specs.declared.module.Instr.TheVariants.{Num, NoneObject, Newref, Move as MoveReference, Drop, Goto, Ret, Fail}
+use Rattle.brc_lang.specs.declared.module.Instr.TheVariants.{Num, List as ListObject, NoneObject, Newref, Move as MoveReference, Drop, Goto, Ret, Fail}
 use Rattle.brc_lang.specs.declared.module.Module.{Module}
 use Rattle.brc_model.specs.declared.thread.Call.{Call}
 use Rattle.brc_model.specs.declared.thread.Choice.{Choice}
@@ -141,6 +141,8 @@ instruction_empties : (layout : Layout) (t used left at : ℕ) (variables : List
     → ActionEmpties 0 (dispatch_instruction layout t used left at variables i)
 instruction_empties layout t used left at variables None = tt
 instruction_empties layout t used left at variables (Some (Num to value otherwise)) =
+    either (ActionEmpties 0) (has_room layout t used) _ _ (λ _. refl) tt
+instruction_empties layout t used left at variables (Some (ListObject to cells otherwise)) =
     either (ActionEmpties 0) (has_room layout t used) _ _ (λ _. refl) tt
 instruction_empties layout t used left at variables (Some (NoneObject to)) = tt
 instruction_empties layout t used left at variables (Some (Newref to from)) =

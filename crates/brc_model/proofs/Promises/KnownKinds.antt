@@ -1,6 +1,6 @@
 -- The object that a variable names has the kind that the checker says: each instruction leaves it so, and no other step
 -- changes a kind word that a birth has stored.
-use Rattle.std.proofs.Common.{◌≡◌, ℕ, zero, suc, ◌+◌, ◌<◌, List, [], ◌∷◌, ◌++◌, inl, inr, length, Option, None, Some, refl, sym, ap, ◌∙◌, subst, arith}
+use Rattle.std.proofs.Common.{◌≡◌, ℕ, zero, suc, ◌+◌, ◌<◌, ◌≤◌, List, [], ◌∷◌, ◌++◌, inl, inr, length, Option, None, Some, refl, sym, ap, ◌∙◌, subst, arith}
 use Rattle.std.specs.Prelude.{slice_get, slice_set}
 use Rattle.std.proofs.lemmas.Bool.Decides.{eqb_tells}
 use Rattle.std.proofs.lemmas.List.{length-set}
@@ -9,7 +9,7 @@ use Rattle.brc_lang.specs.declared.kind.Kind.TheVariants as kinds
 use Rattle.brc_lang.specs.declared.module.Module.{Module}
 use Rattle.brc_lang.specs.declared.module.Function.{Function}
 use Rattle.brc_lang.specs.declared.module.Instr.{Instr}
-use Rattle.brc_lang.specs.declared.module.Instr.TheVariants.{Num, NoneObject, Newref, Move as MoveReference, Drop, Goto, Ret, Fail}
+use Rattle.brc_lang.specs.declared.module.Instr.TheVariants.{Num, List as ListObject, NoneObject, Newref, Move as MoveReference, Drop, Goto, Ret, Fail}
 use Rattle.brc_lang.specs.Grammar.{IsInstruction}
 use Rattle.brc_word.specs.Words.{half, kind_part}
 use Rattle.brc_model.specs.declared.thread.Call.{Call}
@@ -34,7 +34,7 @@ use Rattle.brc_model.specs.Threads.{code_of, row_of, entry_variables}
 use Rattle.brc_model.specs.Layout.{none_row, root_row, row_at}
 use Rattle.brc_model.specs.declared.layout.Layout.{Layout}
 use Rattle.brc_model.specs.Machine.{has_room}
-use Rattle.brc_model.specs.Actions.{StepActor, Action, Skip, Stuck, Silent, Does, with_row, number_word, dispatch_instruction, dispatch, may_claim, agenda_action, status_action, action_of}
+use Rattle.brc_model.specs.Actions.{StepActor, Action, Skip, Stuck, Silent, Does, with_row, number_word, list_word, birth_action, dispatch_instruction, dispatch, may_claim, agenda_action, status_action, action_of}
 use Rattle.brc_model.specs.StepMachine.{StepMachine, counting, of_thread, at_place, step_actor, machine_by, next_machine, first_machine, machine_after, main_actor, worker_actor}
 use Rattle.brc_model.specs.KnownKinds.{IsTrueKind, HasTrueKind, HaveTrueKinds, KnowsKinds, kind_words, KindsAreKnown}
 use Rattle.brc_model.proofs.Basics.Lists.{some_is, written_actor, get_or-replicate_default, either, slice_get-map}
@@ -173,24 +173,45 @@ goes_on_put code words left at next variables s i exit x slot row here to is low
     (true_put words s variables x slot row (omega (arith, low, here.inside.slots))
     (omega (arith, low, here.inside.rows)) new here.known))
 
+-- A birth leaves an object of its kind word's kind.
+birth_leaves : (code : List Instr) (words : ℕ → ℕ) (layout : Layout) (t used left at : ℕ) (variables : List (Option ℕ))
+    (s : State) (i : Instr) (to word otherwise : ℕ) (kind : Kind) → (here : KnowsAt code words at variables s i)
+    → to < 16 → kind_of_word word ≡ kind
+    → target i Success at ≡ Some (at + 1) → after i Success s ≡ put s to (Owned kind)
+    → target i FaultExit at ≡ Some otherwise → after i FaultExit s ≡ put s to Empty
+    → Leaves code words (birth_action layout t used left at variables to word otherwise)
+birth_leaves code words layout t used left at variables s i to word otherwise kind here low names next owned else_at
+    empty =
+    either (Leaves code words) (has_room layout t used) _ _
+    (λ room found stored.
+    goes_on_put code words left at (at + 1) variables s i Success to (Owned kind) (Some (row_at layout t used)) here next
+    owned low
+    (λ x is. inr (ap (λ (y : ℕ). kind_of_word (words y)) (sym (some_is (row_at layout t used) x is))
+    ∙ ap kind_of_word stored ∙ names)))
+    (goes_on_put code words left at otherwise variables s i FaultExit to Empty None here else_at empty low
+    (empty_true words None))
+
 -- the kind of a number's kind word
 number_kind : (value : ℕ) → value < half → kind_of_word (number_word value) ≡ kinds.Num
 number_kind value low =
     let number : kind_part (number_word value) ≡ 2 = omega (arith, low) in
     ap kind_numbered number
 
+-- the kind of a list's kind word
+list_kind : (cells : ℕ) → cells ≤ 8 → kind_of_word (list_word cells) ≡ kinds.List
+list_kind cells few =
+    let number : kind_part (list_word cells) ≡ 3 = omega (arith, few) in
+    ap kind_numbered number
+
 instruction_leaves : (code : List Instr) (words : ℕ → ℕ) (layout : Layout) (t used left at : ℕ)
     (variables : List (Option ℕ)) (s : State) (i : Instr) → KnowsAt code words at variables s i
     → Leaves code words (dispatch_instruction layout t used left at variables (Some i))
 instruction_leaves code words layout t used left at variables s (Num to value otherwise) here =
-    either (Leaves code words) (has_room layout t used) _ _
-    (λ room found stored.
-    goes_on_put code words left at (at + 1) variables s (Num to value otherwise) Success to (Owned kinds.Num)
-    (Some (row_at layout t used)) here refl refl here.operands.0
-    (λ x is. inr (ap (λ (y : ℕ). kind_of_word (words y)) (sym (some_is (row_at layout t used) x is))
-    ∙ ap kind_of_word stored ∙ number_kind value here.operands.1)))
-    (goes_on_put code words left at otherwise variables s (Num to value otherwise) FaultExit to Empty None here refl
-    refl here.operands.0 (empty_true words None))
+    birth_leaves code words layout t used left at variables s (Num to value otherwise) to (number_word value) otherwise
+    kinds.Num here here.operands.0 (number_kind value here.operands.1) refl refl refl refl
+instruction_leaves code words layout t used left at variables s (ListObject to cells otherwise) here =
+    birth_leaves code words layout t used left at variables s (ListObject to cells otherwise) to (list_word cells)
+    otherwise kinds.List here here.operands.0 (list_kind cells here.operands.2) refl refl refl refl
 instruction_leaves code words layout t used left at variables s (NoneObject to) here =
     goes_on_put code words left at (at + 1) variables s (NoneObject to) Success to (Owned kinds.None) (Some none_row)
     here refl refl here.operands

@@ -5,7 +5,7 @@ use Rattle.std.specs.Prelude.{◌==◌, slice_get, slice_set}
 use Rattle.std.proofs.Math.Path.{fun_ext}
 use Rattle.std.proofs.lemmas.Option.{slice_get_within}
 use Rattle.brc_lang.specs.declared.module.Instr.{Instr}
-use Rattle.brc_lang.specs.declared.module.Instr.TheVariants.{Num, NoneObject, Newref, Move as MoveReference, Drop, Goto, Ret, Fail}
+use Rattle.brc_lang.specs.declared.module.Instr.TheVariants.{Num, List as ListObject, NoneObject, Newref, Move as MoveReference, Drop, Goto, Ret, Fail}
 use Rattle.brc_lang.specs.declared.module.Module.{Module}
 use Rattle.brc_model.specs.declared.thread.Choice.{Choice}
 use Rattle.brc_model.specs.declared.thread.Choice.TheVariants.{Ok, Fault, Claim}
@@ -21,7 +21,7 @@ use Rattle.brc_model.specs.declared.actor.Status.TheVariants.{Running, Leaving, 
 use Rattle.brc_model.specs.declared.actor.Place.{Place}
 use Rattle.brc_model.specs.declared.actor.Place.TheVariants.{Idle, InCall, Exiting}
 use Rattle.brc_model.specs.Machine.{is_running, written, has_room}
-use Rattle.brc_model.specs.Actions.{StepActor, Action, Skip, Stuck, Silent, Does, always, with_row, dispatch_instruction, dispatch, may_claim, agenda_action, status_action, action_of}
+use Rattle.brc_model.specs.Actions.{StepActor, Action, Skip, Stuck, Silent, Does, always, with_row, birth_action, dispatch_instruction, dispatch, may_claim, agenda_action, status_action, action_of, number_word, list_word}
 use Rattle.brc_model.specs.StepMachine.{StepMachine, of_thread, at_place, step_actor, does_by, machine_by, next_machine, first_machine, machine_after}
 use Rattle.brc_model.specs.World.{World, world_of, machine_of, step, IsReachable}
 use Rattle.brc_model.proofs.Basics.Lists.{either, some_is, slice_get-set_same, set_found}
@@ -62,6 +62,16 @@ row_elsewhere : (place : Place) (o : Option ℕ) (work : ℕ → Action) → ((r
 row_elsewhere place None work each = tt
 row_elsewhere place (Some row) work each = each row
 
+birth_elsewhere : (place : Place) (layout : Layout) (t used left at : ℕ) (variables : List (Option ℕ))
+    (to word otherwise : ℕ)
+    → at < otherwise
+    → ((next : ℕ) (later : List (Option ℕ)) → at < next → InCall left next later ≢ place)
+    → IsElsewhere place (birth_action layout t used left at variables to word otherwise)
+birth_elsewhere place layout t used left at variables to word otherwise ahead inside =
+    either (IsElsewhere place) (has_room layout t used) _ _
+    (λ room found. inside (at + 1) (slice_set variables to (Some (row_at layout t used))) (omega arith))
+    (inside otherwise (slice_set variables to None) ahead)
+
 -- An instruction leads to another place: a later point of its call, or the end of the call.
 instruction_elsewhere : (place : Place) (layout : Layout) (t used left at : ℕ) (variables : List (Option ℕ))
     (code : List Instr)
@@ -72,9 +82,13 @@ instruction_elsewhere : (place : Place) (layout : Layout) (t used left at : ℕ)
 instruction_elsewhere place layout t used left at variables code None forward found inside ends = tt
 instruction_elsewhere place layout t used left at variables code (Some (Num to value otherwise)) forward found inside
     ends =
-    either (IsElsewhere place) (has_room layout t used) _ _
-    (λ room found. inside (at + 1) (slice_set variables to (Some (row_at layout t used))) (omega arith))
-    (inside otherwise (slice_set variables to None) (forward at (Num to value otherwise) otherwise found refl).0)
+    birth_elsewhere place layout t used left at variables to (number_word value) otherwise
+    (forward at (Num to value otherwise) otherwise found refl).0 inside
+instruction_elsewhere place layout t used left at variables code
+    (Some (ListObject to cells otherwise)) forward found inside ends
+    =
+    birth_elsewhere place layout t used left at variables to (list_word cells) otherwise
+    (forward at (ListObject to cells otherwise) otherwise found refl).0 inside
 instruction_elsewhere place layout t used left at variables code (Some (NoneObject to)) forward found inside ends =
     inside (at + 1) (slice_set variables to (Some none_row)) (omega arith)
 instruction_elsewhere place layout t used left at variables code (Some (Newref to from)) forward found inside ends =

@@ -99,7 +99,8 @@ impl Doer {
     }
 }
 
-/// Returns the duty to empty the dying list's cell, or the duty to close the list if it has no such cell.
+/// Returns the duty to empty the dying list's cell, or the duty to close the list if it has no such cell
+/// (`last_cell_skipped`).
 #[inline(always)]
 fn cell_or_end(row: u32, cell: u32, cells: u32) -> Duty
     ensures { cells_from row cell cells ≡ result ∷ [] }
