@@ -1,11 +1,12 @@
 //! The instruction of a line.
 
 ghost use Rattle.std.specs.Prelude.{◌≡◌, ◌∷◌, []};
-ghost use Rattle.brc_lang.specs.Fault.{words, one_variable_in, two_variables_in, one_target_in, num_in, instruction_in};
+ghost use Rattle.brc_lang.specs.Fault.{words, one_variable_in, two_variables_in, one_target_in, num_in, as_in};
+ghost use Rattle.brc_lang.specs.Fault.{instruction_in};
 
 use crate::fault::FaultCode;
 use crate::lexing::{
-    four_words, is_word, number, one_word, split_word, target, two_words, variable,
+    four_words, is_word, kind, number, one_word, split_word, target, two_words, variable,
 };
 use crate::module::Instr;
 use crate::variable::Variable;
@@ -52,6 +53,8 @@ fn instruction_with(word: &[u8], operands: &[u8]) -> Result<Instr, FaultCode>
     } else if is_word(word, b"drop") {
         let from = one_variable(operands)?;
         Ok(Instr::Drop { from })
+    } else if is_word(word, b"as") {
+        as_kind(operands)
     } else if is_word(word, b"goto") {
         let target = one_target(operands)?;
         Ok(Instr::Goto { target })
@@ -79,6 +82,26 @@ fn num(operands: &[u8]) -> Result<Instr, FaultCode>
     Ok(Instr::Num {
         to,
         value,
+        otherwise,
+    })
+}
+
+/// Reads the operands of `as`: a variable, a kind, `else` and a target.
+fn as_kind(operands: &[u8]) -> Result<Instr, FaultCode>
+    ensures { result ≡ as_in (words operands.now) }
+{
+    let Some((from, asked, word, otherwise)) = four_words(operands) else {
+        return Err(FaultCode::UnknownWord);
+    };
+    if !is_word(word, b"else") {
+        return Err(FaultCode::UnknownWord);
+    }
+    let from = variable(from)?;
+    let kind = kind(asked)?;
+    let otherwise = target(otherwise)?;
+    Ok(Instr::As {
+        from,
+        kind,
         otherwise,
     })
 }

@@ -1,6 +1,6 @@
-use crate::line_cases::{IN_ORDER, NONE_AND_MOVE, NUM_NUMBERS, NUM_WORDS, READ, TARGETS};
+use crate::line_cases::{AS_WORDS, IN_ORDER, NONE_AND_MOVE, NUM_NUMBERS, NUM_WORDS, READ, TARGETS};
 use crate::target_cases::{AHEAD, EARLIER, NOT_AHEAD};
-use brc_lang::{FaultCode, Instr, ReadFault, Sequence, Variable, read, write, write_bytes};
+use brc_lang::{FaultCode, Instr, Kind, ReadFault, Sequence, Variable, read, write, write_bytes};
 use std::alloc::{AllocError, Global};
 use std::test::Fail;
 
@@ -20,13 +20,14 @@ const HEAD: &[u8] = b"module 1\nfunc f\n";
 const BELOW: &[u8] = b"\nfail\nend\n";
 
 // The text above the cases, the cases, and the text below them.
-const TABLES: [(&[u8], &str, &[u8]); 10] = [
+const TABLES: [(&[u8], &str, &[u8]); 11] = [
     (b"", MODULES, b""),
     (HEAD, READ, BELOW),
     (HEAD, NUM_NUMBERS, BELOW),
     (HEAD, NUM_WORDS, BELOW),
     (HEAD, IN_ORDER, BELOW),
     (HEAD, NONE_AND_MOVE, BELOW),
+    (HEAD, AS_WORDS, BELOW),
     (HEAD, TARGETS, BELOW),
     (HEAD, AHEAD, b""),
     (HEAD, NOT_AHEAD, b""),
@@ -137,7 +138,12 @@ fn reads_each_instruction(rt: HostRuntime) {
             to: Variable::new(2),
             from: Variable::new(3),
         },
-        Instr::Goto { target: 4 },
+        Instr::As {
+            from: Variable::new(2),
+            kind: Kind::Sock,
+            otherwise: 5,
+        },
+        Instr::Goto { target: 5 },
         Instr::Fail,
     ];
     let table: [(&[u8], &[u8], &[Instr]); 3] = [
@@ -148,7 +154,7 @@ fn reads_each_instruction(rt: HostRuntime) {
             &counted,
         ),
         (
-            b"module 1\nfunc f\nnum v1 4294967295 else @4\nnone v15\nmove v2 v3\ngoto @4\nfail\nend\n",
+            b"module 1\nfunc f\nnum v1 4294967295 else @4\nnone v15\nmove v2 v3\nas v2 sock else @5\ngoto @5\nfail\nend\n",
             b"f",
             &others,
         ),
