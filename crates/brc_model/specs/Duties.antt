@@ -5,7 +5,7 @@ use Rattle.brc_model.specs.declared.duty.Holding.TheVariants.{InFlight}
 use Rattle.brc_model.specs.declared.duty.Reason.{Reason}
 use Rattle.brc_model.specs.declared.duty.Reason.TheVariants.{Own, Handed}
 use Rattle.brc_model.specs.declared.duty.Duty.{Duty}
-use Rattle.brc_model.specs.declared.duty.Duty.TheVariants.{RetainLoad, RetainStore, RetainAdd, ReleaseLoad, ReleaseStore, DecideAtZero, SharedLoad, SharedExchange, SetMark, Look, TakeMark, MergeSwap, MergeLoad, MergeExchange, Die, Settle, SettleKind, SettleCell, TakeSlot, CloseResource, SettleEnd, Leave, Scan, Finish, ClaimMark, BirthKind, BirthSlot, BirthLocal}
+use Rattle.brc_model.specs.declared.duty.Duty.TheVariants.{RetainLoad, RetainStore, RetainAdd, ReleaseLoad, ReleaseStore, DecideAtZero, SharedLoad, SharedExchange, SetMark, Look, TakeMark, MergeSwap, MergeLoad, MergeExchange, Die, Settle, SettleKind, SettleCell, TakeSlot, CloseResource, SettleEnd, Leave, Scan, Finish, ClaimMark, BirthKind, BirthSlot, BirthLocal, KindLoad}
 use Rattle.brc_model.specs.declared.address.Address.{Address}
 use Rattle.brc_model.specs.declared.layout.Layout.{Layout}
 use Rattle.brc_model.specs.declared.address.Address.TheVariants.{Local, Shared, Gate, KindOf, Mark, Cell, Slot, Resource, ThreadWord}
@@ -44,6 +44,7 @@ address_of layout t head (ClaimMark x) = Mark x
 address_of layout t head (BirthKind x h w) = KindOf x
 address_of layout t head (BirthSlot x h) = Slot x
 address_of layout t head (BirthLocal x h) = Local x
+address_of layout t head (KindLoad x) = KindOf x
 
 -- Returns the new value of the word that the step accesses.
 abbrev pub new_word : ℕ → ℕ → Duty → ℕ → ℕ
@@ -75,6 +76,7 @@ new_word t head (ClaimMark x) found = 0
 new_word t head (BirthKind x h w) found = w
 new_word t head (BirthSlot x h) found = 1
 new_word t head (BirthLocal x h) found = local_word t 1
+new_word t head (KindLoad x) found = found
 
 -- ---- what follows a step
 
@@ -159,6 +161,7 @@ continuation layout t running head (BirthKind x h w) found =
     if has_resource w then BirthSlot x h ∷ [] else BirthLocal x h ∷ []
 continuation layout t running head (BirthSlot x h) found = BirthLocal x h ∷ []
 continuation layout t running head (BirthLocal x h) found = []
+continuation layout t running head (KindLoad x) found = []
 
 -- the head of the dying chain after the step: 0, or a row plus 1
 abbrev pub new_head : ℕ → Duty → ℕ → ℕ

@@ -2,7 +2,7 @@
 use Rattle.std.specs.Prelude.{◌≡◌, ◌⊎◌, ℕ, ◌+◌, ◌<◌, ◌≤◌, Bool, true, false, ◌==◌, nat_le, List, [], ◌∷◌, count_by}
 use Rattle.brc_word.specs.Words.{half, free_word, dying_word, closed_word}
 use Rattle.brc_model.specs.declared.duty.Duty.{Duty}
-use Rattle.brc_model.specs.declared.duty.Duty.TheVariants.{RetainLoad, RetainStore, RetainAdd, ReleaseLoad, ReleaseStore, DecideAtZero, SharedLoad, SharedExchange, SetMark, Look, TakeMark, MergeSwap, MergeLoad, MergeExchange, Die, Settle, SettleKind, SettleCell, TakeSlot, CloseResource, SettleEnd, Leave, Scan, Finish, ClaimMark, BirthKind, BirthSlot, BirthLocal}
+use Rattle.brc_model.specs.declared.duty.Duty.TheVariants.{RetainLoad, RetainStore, RetainAdd, ReleaseLoad, ReleaseStore, DecideAtZero, SharedLoad, SharedExchange, SetMark, Look, TakeMark, MergeSwap, MergeLoad, MergeExchange, Die, Settle, SettleKind, SettleCell, TakeSlot, CloseResource, SettleEnd, Leave, Scan, Finish, ClaimMark, BirthKind, BirthSlot, BirthLocal, KindLoad}
 use Rattle.brc_model.specs.declared.address.Address.{Address}
 use Rattle.brc_model.specs.declared.address.Address.TheVariants.{Gate}
 use Rattle.brc_model.specs.declared.actor.Status.{Status}
@@ -149,6 +149,7 @@ is_about x (ClaimMark y) = y == x
 is_about x (BirthKind y h w) = y == x
 is_about x (BirthSlot y h) = y == x
 is_about x (BirthLocal y h) = y == x
+is_about x (KindLoad y) = y == x
 is_about x Settle = false
 is_about x (Leave y n) = false
 is_about x (Scan y n) = false
@@ -159,8 +160,8 @@ abbrev pub about_of : ℕ → List Duty → Bool
 about_of x [] = false
 about_of x (d ∷ rest) = is_about x d
 
--- Says whether a duty may be put aside: a retain, a release, a queueing or a merge may. A thread settles, claims, exits
--- and gives birth in one go.
+-- Says whether a duty may be put aside: a retain, a release, a queueing or a merge may. A thread settles, claims, exits,
+-- gives birth and asks for a kind in one go.
 abbrev pub may_wait : Duty → Bool
 may_wait (RetainLoad x h) = true
 may_wait (RetainStore x h w) = true
@@ -178,12 +179,13 @@ may_wait (MergeLoad x c r) = true
 may_wait (MergeExchange x c w r) = true
 may_wait _ = false
 
--- Says whether a duty may come next while others are aside: one that may wait, a death, or a birth.
+-- Says whether a duty may come next while others are aside: one that may wait, a death, a birth, or a look at a kind.
 abbrev pub is_piece : Duty → Bool
 is_piece (Die x) = true
 is_piece (BirthKind x h w) = true
 is_piece (BirthSlot x h) = true
 is_piece (BirthLocal x h) = true
+is_piece (KindLoad x) = true
 is_piece d = may_wait d
 
 -- The agenda is empty, or one such duty.

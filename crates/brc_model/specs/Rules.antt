@@ -6,7 +6,7 @@ use Rattle.brc_model.specs.declared.duty.Holding.{Holding}
 use Rattle.brc_model.specs.declared.duty.Reason.{Reason}
 use Rattle.brc_model.specs.declared.duty.Reason.TheVariants.{Own, Handed}
 use Rattle.brc_model.specs.declared.duty.Duty.{Duty}
-use Rattle.brc_model.specs.declared.duty.Duty.TheVariants.{RetainLoad, RetainStore, RetainAdd, ReleaseLoad, ReleaseStore, DecideAtZero, SharedLoad, SharedExchange, SetMark, Look, TakeMark, MergeSwap, MergeLoad, MergeExchange, Die, Settle, SettleKind, SettleCell, TakeSlot, CloseResource, SettleEnd, Leave, Scan, Finish, ClaimMark, BirthKind, BirthSlot, BirthLocal}
+use Rattle.brc_model.specs.declared.duty.Duty.TheVariants.{RetainLoad, RetainStore, RetainAdd, ReleaseLoad, ReleaseStore, DecideAtZero, SharedLoad, SharedExchange, SetMark, Look, TakeMark, MergeSwap, MergeLoad, MergeExchange, Die, Settle, SettleKind, SettleCell, TakeSlot, CloseResource, SettleEnd, Leave, Scan, Finish, ClaimMark, BirthKind, BirthSlot, BirthLocal, KindLoad}
 use Rattle.brc_model.specs.declared.address.Address.{Address}
 use Rattle.brc_model.specs.declared.address.Address.TheVariants.{KindOf}
 use Rattle.brc_word.specs.Words.{most_local, local_word, local_part, is_immortal_word, fresh_word, dead_word, merged_word, dying_word, closed_word}
@@ -46,6 +46,10 @@ module _ (memory : Address → ℕ) (layout : Layout) (t : ℕ) (running : Bool)
     -- the thread that makes the object owns it, with one local reference
     Born : (x : ℕ) (h : Holding) (found : ℕ)
         → Goes (BirthLocal x h) found (local_word t 1) [] (birth t h x (kind_of_word (memory (KindOf x))))
+    -- ---- a look at an object's kind
+
+    KindRead : (x found : ℕ)
+        → Goes (KindLoad x) found found [] []
     -- ---- a new reference
 
     -- an immortal object is never counted

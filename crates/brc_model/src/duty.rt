@@ -158,4 +158,8 @@ pub enum Duty {
         row: u32,
         holding: Holding,
     },
+    /// Loads the object's kind word, to ask for its kind.
+    KindLoad {
+        row: u32,
+    },
 }

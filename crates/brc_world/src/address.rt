@@ -31,7 +31,9 @@ pub fn address_of(layout: Layout, thread: u8, head: u32, duty: Duty) -> Address
         Duty::Settle => Address::Gate {
             row: head.saturating_sub(1),
         },
-        Duty::SettleKind { row } | Duty::BirthKind { row, .. } => Address::KindOf { row },
+        Duty::SettleKind { row } | Duty::BirthKind { row, .. } | Duty::KindLoad { row } => {
+            Address::KindOf { row }
+        }
         Duty::SettleCell { row, cell, .. } => Address::Cell { row, cell },
         Duty::TakeSlot { row } | Duty::BirthSlot { row, .. } => Address::Slot { row },
         Duty::CloseResource { row } => Address::Resource { row },

@@ -11,6 +11,7 @@ use brc_model::{Duty, Layout, Status};
 mod birth;
 mod dying;
 mod exit;
+mod kind;
 mod merge;
 mod release;
 mod retain;
@@ -106,6 +107,7 @@ impl Doer {
             Duty::BirthKind { row, holding, word } => self.birth_kind(row, holding, word),
             Duty::BirthSlot { row, holding } => self.birth_slot(row, holding),
             Duty::BirthLocal { .. } => self.birth_local(),
+            Duty::KindLoad { .. } => self.kind_load(found),
         }
     }
 

@@ -1,4 +1,4 @@
--- Births and deallocations, computed by the definitions that the code's contracts cite. Today's instructions make
+-- Births, looks at a kind and deallocations, computed by the definitions that the code's contracts cite. Today's instructions make
 -- numbers alone, so no run of a module shows the other kinds. The object is in row 7, and thread 3, which has used four
 -- rows, makes and deallocates it.
 use Rattle.std.proofs.Common.{◌≡◌, ℕ, List, [], ◌∷◌, true, map, refl}
@@ -12,6 +12,7 @@ use Rattle.brc_model.specs.declared.duty.Duty.TheVariants.{
   TakeSlot,
   CloseResource,
   SettleEnd,
+  KindLoad,
 }
 use Rattle.brc_model.specs.declared.duty.Holding.TheVariants.{InFlight}
 use Rattle.brc_model.specs.declared.address.Address.{Address}
@@ -81,3 +82,17 @@ deaths-leave = refl
 
 deaths-are_at : map (λ (d : Duty). address_of four 3 0 d) (TakeSlot 7 ∷ CloseResource 7 ∷ []) ≡ Slot 7 ∷ Resource 7 ∷ []
 deaths-are_at = refl
+
+-- A look at the kind leaves the word as it is, and nothing follows.
+kinds-are_at : address_of four 3 0 (KindLoad 7) ≡ KindOf 7
+kinds-are_at = refl
+
+kinds-leave : map (λ (w : ℕ). new_word 3 0 (KindLoad 7) w) (number ∷ list ∷ file ∷ sock ∷ [])
+    ≡ number ∷ list ∷ file ∷ sock ∷ []
+unfolding number list file sock
+kinds-leave = refl
+
+kinds-lead_to : map (λ (w : ℕ). continuation four 3 true 0 (KindLoad 7) w) (number ∷ list ∷ file ∷ sock ∷ [])
+    ≡ [] ∷ [] ∷ [] ∷ [] ∷ []
+unfolding number list file sock
+kinds-lead_to = refl

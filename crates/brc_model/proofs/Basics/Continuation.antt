@@ -7,7 +7,7 @@ use Rattle.brc_word.specs.Words.{most_local, local_part, is_immortal_word, fresh
 use Rattle.brc_model.specs.declared.duty.Holding.TheVariants.{InFlight}
 use Rattle.brc_model.specs.declared.duty.Reason.TheVariants.{Own, Handed}
 use Rattle.brc_model.specs.declared.duty.Duty.{Duty}
-use Rattle.brc_model.specs.declared.duty.Duty.TheVariants.{RetainLoad, RetainStore, RetainAdd, ReleaseLoad, ReleaseStore, DecideAtZero, SharedLoad, SharedExchange, SetMark, Look, TakeMark, MergeSwap, MergeLoad, MergeExchange, Die, Settle, SettleKind, SettleCell, TakeSlot, CloseResource, SettleEnd, Leave, Scan, Finish, ClaimMark, BirthKind, BirthSlot, BirthLocal}
+use Rattle.brc_model.specs.declared.duty.Duty.TheVariants.{RetainLoad, RetainStore, RetainAdd, ReleaseLoad, ReleaseStore, DecideAtZero, SharedLoad, SharedExchange, SetMark, Look, TakeMark, MergeSwap, MergeLoad, MergeExchange, Die, Settle, SettleKind, SettleCell, TakeSlot, CloseResource, SettleEnd, Leave, Scan, Finish, ClaimMark, BirthKind, BirthSlot, BirthLocal, KindLoad}
 use Rattle.brc_model.specs.declared.layout.Layout.{Layout}
 use Rattle.brc_model.specs.Layout.{row_at}
 use Rattle.brc_model.specs.Duties.{continuation, counts_locally, claimed, has_resource, cells_of}
@@ -15,7 +15,8 @@ use Rattle.brc_model.specs.OpenWork.{is_about, is_piece}
 
 -- ---- one duty that follows another
 
--- Says whether a duty leaves the dying chain as it is. Retains, births and the duties of an exit do.
+-- Says whether a duty leaves the dying chain as it is. Retains, births, looks
+-- at a kind and the duties of an exit do.
 abbrev pub leaves_chain : Duty → Bool
 leaves_chain (RetainLoad x h) = true
 leaves_chain (RetainStore x h w) = true
@@ -27,6 +28,7 @@ leaves_chain (ClaimMark x) = true
 leaves_chain (BirthKind x h w) = true
 leaves_chain (BirthSlot x h) = true
 leaves_chain (BirthLocal x h) = true
+leaves_chain (KindLoad x) = true
 leaves_chain _ = false
 
 -- Settling empties the chain; all other duties may let a row die.

@@ -34,7 +34,7 @@ module _ (m new : Machine) (t : ℕ) (a after : Actor) where
   abbrev Leaves : ℕ → Type 0
   Leaves x = LeavesRow m new t a after x
 
-  backed_kept : (x : ℕ) → Leaves x → IsBacked m t x → IsBacked new t x
+  pub backed_kept : (x : ℕ) → Leaves x → IsBacked m t x → IsBacked new t x
   backed_kept x leaves backed =
       record { by = backed.by; held_so = omega (arith, leaves.references backed.by, backed.held_so) }
 

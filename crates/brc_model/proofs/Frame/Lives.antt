@@ -4,7 +4,7 @@ use Rattle.std.specs.Prelude.{◌==◌}
 use Rattle.std.proofs.lemmas.Bool.{ne_eqb}
 use Rattle.std.proofs.lemmas.Bool.Decides.{eqb_tells}
 use Rattle.brc_model.specs.declared.duty.Duty.{Duty}
-use Rattle.brc_model.specs.declared.duty.Duty.TheVariants.{DecideAtZero, SharedExchange, MergeExchange, Die, SettleKind, SettleCell, SettleEnd, BirthKind, BirthLocal}
+use Rattle.brc_model.specs.declared.duty.Duty.TheVariants.{DecideAtZero, SharedExchange, MergeExchange, Die, SettleKind, SettleCell, SettleEnd, BirthKind, BirthLocal, KindLoad}
 use Rattle.brc_model.specs.Duties.{address_of, continuation}
 use Rattle.brc_model.specs.Machine.{Actor, Life, Unborn, Live, Dying, Closed, Machine, is_running, dies_next, ended_row, born_row, with_life, life_by, done_by}
 use Rattle.brc_model.proofs.Basics.Lists.{some_is, none_some}
@@ -133,6 +133,8 @@ born_left life t d next x was =
 kinds_left : (p : Accounts) (n : ℕ) (m : Machine) (t : ℕ) (a : Actor) (d : Duty) (rest : List Duty)
     → AtDuty p n m t a d rest → (x : ℕ) → HasCountedKind m.memory x → HasCountedKind (done_by m t a d rest).memory x
 kinds_left p n m t a (SettleKind y) rest here x was =
+    ap (λ (w : ℕ). is_counted_kind (kind_of_word w)) (written_load m.memory (KindOf y) (KindOf x)) ∙ was
+kinds_left p n m t a (KindLoad y) rest here x was =
     ap (λ (w : ℕ). is_counted_kind (kind_of_word w)) (written_load m.memory (KindOf y) (KindOf x)) ∙ was
 kinds_left p n m t a (BirthKind y h w) rest here x was =
     let said = (head_of p n m t a (BirthKind y h w) rest here).2 in

@@ -8,7 +8,7 @@ use Rattle.std.proofs.lemmas.Option.{slice_get_within}
 use Rattle.brc_model.specs.declared.duty.Holding.{Holding}
 use Rattle.brc_word.specs.Words.{phase_part}
 use Rattle.brc_model.specs.declared.duty.Duty.{Duty}
-use Rattle.brc_model.specs.declared.duty.Duty.TheVariants.{Die, Settle, SettleKind, SettleCell, TakeSlot, CloseResource, SettleEnd, Leave, Scan, Finish, ClaimMark, BirthKind, BirthSlot, BirthLocal}
+use Rattle.brc_model.specs.declared.duty.Duty.TheVariants.{Die, Settle, SettleKind, SettleCell, TakeSlot, CloseResource, SettleEnd, Leave, Scan, Finish, ClaimMark, BirthKind, BirthSlot, BirthLocal, KindLoad}
 use Rattle.brc_model.specs.declared.address.Address.{Address}
 use Rattle.brc_model.specs.declared.address.Address.TheVariants.{Local, Shared, Gate, ThreadWord}
 use Rattle.brc_model.specs.Machine.{Actor, Life, Unborn, Live, Dying, Closed, Machine}
@@ -16,7 +16,7 @@ use Rattle.brc_model.specs.References.{held, one_if, reference_of}
 use Rattle.brc_model.specs.OpenWork.{AllWait, AsideFits, AgendaFits, Linked, dies_by, ChainFits}
 use Rattle.brc_model.specs.Invariant.{Fits, ActorFits}
 use Rattle.brc_model.specs.Accounts.{Accounts, HoldsAt, Account, IsBounded}
-use Rattle.brc_model.proofs.Frame.Known.{LeavesRow, known_kept}
+use Rattle.brc_model.proofs.Frame.Known.{LeavesRow, backed_kept, known_kept}
 use Rattle.brc_model.specs.Knowledge.{OwnsLocally, IsNext, HasCountedKind, HeadFits, HeadOf, IsDyingWord}
 use Rattle.brc_model.proofs.Basics.Lists.{some_is, slice_get-set_same, slice_get-set_other}
 use Rattle.brc_model.proofs.Basics.Bag.{one_if_true}
@@ -132,6 +132,8 @@ head_kept m new t u b (BirthSlot x h) rest leaves ne found fits =
     (next_kept m new t u x b leaves fits.0, fits.1, leaves.kinds x fits.2)
 head_kept m new t u b (BirthLocal x h) rest leaves ne found fits =
     (next_kept m new t u x b leaves fits.0, fits.1, leaves.kinds x fits.2)
+head_kept m new t u b (KindLoad x) rest leaves ne found fits =
+    backed_kept m new u b b x (row_left m new t u b leaves ne found x) fits
 head_kept m new t u b d rest leaves ne found fits =
     known_kept m new u b b d rest refl (λ x about. row_left m new t u b leaves ne found x) fits
 

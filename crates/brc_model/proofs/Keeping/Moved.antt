@@ -1,12 +1,12 @@
 -- Moves of references change no word. So every thread fits afterwards, if the moves are of one thread's references to one
 -- object, and none of that thread's open work is about the object.
-use Rattle.std.proofs.Common.{◌≡◌, ◌≢◌, ℕ, Bool, true, false, List, [], ◌∷◌, Some, refl, sym, ap, ◌∙◌, subst, arith}
+use Rattle.std.proofs.Common.{◌≡◌, ◌≢◌, ℕ, Bool, true, false, List, [], ◌∷◌, Some, refl, sym, ap, ◌∙◌, subst, arith, eq-eqb}
 use Rattle.std.specs.Prelude.{count_by, slice_get}
 use Rattle.std.proofs.lemmas.Bool.{false≢true}
 use Rattle.std.proofs.lemmas.List.Sums.{sum_by-cons}
 use Rattle.brc_model.specs.declared.duty.Holding.{Holding}
 use Rattle.brc_model.specs.declared.duty.Duty.{Duty}
-use Rattle.brc_model.specs.declared.duty.Duty.TheVariants.{Die, Settle, SettleKind, SettleCell, TakeSlot, CloseResource, SettleEnd, Leave, Scan, Finish, ClaimMark, BirthKind, BirthSlot, BirthLocal}
+use Rattle.brc_model.specs.declared.duty.Duty.TheVariants.{Die, Settle, SettleKind, SettleCell, TakeSlot, CloseResource, SettleEnd, Leave, Scan, Finish, ClaimMark, BirthKind, BirthSlot, BirthLocal, KindLoad}
 use Rattle.brc_model.specs.AbstractState.{Move, ByThread, moved}
 use Rattle.brc_model.specs.References.{held, one_if, reference_of}
 use Rattle.brc_model.specs.Machine.{Actor, Machine, with_moves}
@@ -16,7 +16,7 @@ use Rattle.brc_model.specs.OpenWork.{AllWait, about_of, exits, is_about}
 use Rattle.brc_model.specs.Invariant.{Fits, IsWatched, ByRunning, ByExit, ByLook}
 use Rattle.brc_model.specs.Counting.{HasNoneAbout, with_account}
 use Rattle.brc_model.proofs.Basics.MovesApart.{AreAside, moved_aside}
-use Rattle.brc_model.proofs.Frame.Known.{known_kept}
+use Rattle.brc_model.proofs.Frame.Known.{LeavesRow, backed_kept, known_kept}
 use Rattle.brc_model.proofs.Frame.Others.{LeavesOthers, each_fits}
 use Rattle.brc_model.proofs.Basics.Lists.{set_found}
 use Rattle.brc_model.proofs.Keeping.Replaced.{with_account_same, with_account_other}
@@ -80,6 +80,19 @@ module _ (m : Machine) (moves : List Move) (t : ℕ) (a : Actor) (x : ℕ) (else
     room = next.room;
   }
 
+  -- The moves leave what a duty about another row relies on.
+  row_left : (d : Duty) (y : ℕ) → is_about x d ≡ false → is_about y d ≡ true
+      → LeavesRow m (with_moves m moves) t a a y
+  row_left d y other about = record {
+    layout = refl;
+    status = refl;
+    local = λ owns. refl;
+    merged = λ was. was;
+    references = λ k. elsewhere k y (λ e. false≢true (sym other ∙ ap (λ (z : ℕ). is_about z d) (sym e) ∙ about));
+    stopped = λ u was. was;
+    born = λ was. was;
+  }
+
   -- A duty about another row knows what it knew.
   head_kept : (d : Duty) (rest : List Duty) → is_about x d ≡ false → HeadFits m t a d rest
       → HeadFits (with_moves m moves) t a d rest
@@ -97,18 +110,10 @@ module _ (m : Machine) (moves : List Move) (t : ℕ) (a : Actor) (x : ℕ) (else
   head_kept (BirthKind y h w) rest other fits = (next_kept y fits.0, fits.1, fits.2)
   head_kept (BirthSlot y h) rest other fits = (next_kept y fits.0, fits.1, fits.2)
   head_kept (BirthLocal y h) rest other fits = (next_kept y fits.0, fits.1, fits.2)
+  head_kept (KindLoad y) rest other fits =
+      backed_kept m (with_moves m moves) t a a y (row_left (KindLoad y) y other (eq-eqb y y refl)) fits
   head_kept d rest other fits =
-      known_kept m (with_moves m moves) t a a d rest refl
-      (λ y about. record {
-        layout = refl;
-        status = refl;
-        local = λ owns. refl;
-        merged = λ was. was;
-        references =
-            λ k. elsewhere k y (λ e. false≢true (sym other ∙ ap (λ (z : ℕ). is_about z d) (sym e) ∙ about));
-        stopped = λ u was. was;
-        born = λ was. was;
-      }) fits
+      known_kept m (with_moves m moves) t a a d rest refl (λ y about. row_left d y other about) fits
 
   -- No duty is about the object if their number is zero.
   none_about : (b : Bool) → one_if b ≡ 0 → b ≡ false

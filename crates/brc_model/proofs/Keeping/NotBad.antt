@@ -10,7 +10,7 @@ use Rattle.brc_model.specs.AbstractState.{is_counted, is_among, AbstractState, s
 use Rattle.brc_word.specs.Words.{immortal_local, local_part, is_immortal_word}
 use Rattle.brc_model.specs.declared.duty.Reason.TheVariants.{Own, Handed}
 use Rattle.brc_model.specs.declared.duty.Duty.{Duty}
-use Rattle.brc_model.specs.declared.duty.Duty.TheVariants.{RetainLoad, RetainStore, RetainAdd, ReleaseLoad, ReleaseStore, DecideAtZero, SharedLoad, SharedExchange, MergeSwap, MergeLoad, MergeExchange, Die, Settle, SettleKind, SettleCell, SettleEnd, TakeSlot, CloseResource, BirthKind, BirthSlot, BirthLocal}
+use Rattle.brc_model.specs.declared.duty.Duty.TheVariants.{RetainLoad, RetainStore, RetainAdd, ReleaseLoad, ReleaseStore, DecideAtZero, SharedLoad, SharedExchange, MergeSwap, MergeLoad, MergeExchange, Die, Settle, SettleKind, SettleCell, SettleEnd, TakeSlot, CloseResource, BirthKind, BirthSlot, BirthLocal, KindLoad}
 use Rattle.brc_lang.specs.declared.kind.Kind.{Kind}
 use Rattle.brc_model.specs.Kinds.{kind_of_word, is_counted_kind}
 use Rattle.brc_model.specs.declared.address.Address.TheVariants.{Local, KindOf}
@@ -76,14 +76,19 @@ next_free : (p : Accounts) (n : ℕ) (m : Machine) (t : ℕ) (a : Actor) (x : �
     → IsNext m t a x → touches_freed m t (Some x) ≡ false
 next_free p n m t a x core found next = ap (is_freed_for t) (next_unborn p n m t a x core found next)
 
+-- An object to which the thread holds a reference isn't freed.
+backed_free : (p : Accounts) (n : ℕ) (m : Machine) (t x : ℕ) → CoreInvariant p n m → IsBacked m t x
+    → is_freed_for t (m.life x) ≡ false
+backed_free p n m t x core backed =
+    elim (cases_Bool (is_immortal_row m.layout x)) [
+      | inl immortal ↦ ap (is_freed_for t) (core.immortals_live x immortal)
+      | inr counted ↦ alive_free m t x (alive_backed p n m t x core counted backed)
+    ]
+
 touches_none : (p : Accounts) (n : ℕ) (m : Machine) (t : ℕ) (a : Actor) (d : Duty) (rest : List Duty)
     → AtDuty p n m t a d rest → touches_freed m t (touched_row (address_of m.layout t a.head d)) ≡ false
 touches_none p n m t a (RetainLoad x h) rest here =
-    elim (cases_Bool (is_immortal_row m.layout x)) [
-      | inl immortal ↦ ap (is_freed_for t) (here.core.immortals_live x immortal)
-      | inr counted ↦
-          alive_free m t x (alive_backed p n m t x here.core counted (head_of p n m t a (RetainLoad x h) rest here))
-    ]
+    backed_free p n m t x here.core (head_of p n m t a (RetainLoad x h) rest here)
 touches_none p n m t a (RetainStore x h w) rest here =
     let fits = head_of p n m t a (RetainStore x h w) rest here in
     alive_free m t x (alive_backed p n m t x here.core fits.0 fits.1)
@@ -122,6 +127,8 @@ touches_none p n m t a (BirthSlot x h) rest here =
 touches_none p n m t a (BirthLocal x h) rest here =
     next_free p n m t a x here.core here.found (head_of p n m t a (BirthLocal x h) rest here).0
 touches_none p n m t a (SettleEnd x) rest here = dying_free m t x (head_of p n m t a (SettleEnd x) rest here).1
+touches_none p n m t a (KindLoad x) rest here =
+    backed_free p n m t x here.core (head_of p n m t a (KindLoad x) rest here)
 touches_none p n m t a _ rest here = refl
 
 -- ---- moves of references

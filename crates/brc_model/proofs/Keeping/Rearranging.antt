@@ -6,7 +6,7 @@ use Rattle.std.proofs.lemmas.Bool.{false≢true}
 use Rattle.std.proofs.lemmas.List.Sums.{sum_by-cons, sum_by-append}
 use Rattle.brc_model.specs.declared.duty.Holding.{Holding}
 use Rattle.brc_model.specs.declared.duty.Duty.{Duty}
-use Rattle.brc_model.specs.declared.duty.Duty.TheVariants.{Die, Settle, SettleKind, SettleCell, TakeSlot, CloseResource, SettleEnd, Leave, Scan, Finish, BirthKind, BirthSlot, BirthLocal}
+use Rattle.brc_model.specs.declared.duty.Duty.TheVariants.{Die, Settle, SettleKind, SettleCell, TakeSlot, CloseResource, SettleEnd, Leave, Scan, Finish, BirthKind, BirthSlot, BirthLocal, KindLoad}
 use Rattle.brc_model.specs.declared.actor.Status.{Status}
 use Rattle.brc_model.specs.declared.actor.Status.TheVariants.{Running, Leaving, Gone}
 use Rattle.brc_model.specs.Machine.{Actor, Machine, with_actor}
@@ -53,6 +53,7 @@ waiting_piece (Die x) waits = absurd cc
 waiting_piece (BirthKind x h w) waits = absurd cc
 waiting_piece (BirthSlot x h) waits = absurd cc
 waiting_piece (BirthLocal x h) waits = absurd cc
+waiting_piece (KindLoad x) waits = absurd cc
 waiting_piece _ waits = waits
 
 waiting_scans : (d : Duty) (x : ℕ) → may_wait d ≡ true → scans x (d ∷ []) ≡ false

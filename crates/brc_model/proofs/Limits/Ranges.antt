@@ -6,7 +6,7 @@ use Rattle.std.proofs.lemmas.List.Sums.{sum_by-cons}
 use Rattle.brc_model.specs.AbstractState.{references_to}
 use Rattle.brc_model.specs.declared.duty.Reason.TheVariants.{Handed}
 use Rattle.brc_model.specs.declared.duty.Duty.{Duty}
-use Rattle.brc_model.specs.declared.duty.Duty.TheVariants.{MergeSwap, Settle, SettleKind, SettleCell, Leave, Scan, Finish, BirthKind}
+use Rattle.brc_model.specs.declared.duty.Duty.TheVariants.{MergeSwap, Settle, SettleKind, SettleCell, Leave, Scan, Finish, BirthKind, KindLoad}
 use Rattle.brc_model.specs.declared.address.Address.TheVariants.{KindOf, Mark}
 use Rattle.brc_model.specs.Duties.{address_of, new_word, continuation, ready, cells_of}
 use Rattle.brc_model.specs.Machine.{Actor, Life, Unborn, Live, Machine, written, is_running, actor_by, done_by}
@@ -167,6 +167,8 @@ kinds_left : (m : Machine) (t : ℕ) (a : Actor) (d : Duty) (k : ℕ) (x : ℕ) 
     → cells_of (written m.memory (address_of m.layout t a.head d)
     (new_word t a.head d (m.memory (address_of m.layout t a.head d))) (KindOf x)) ≤ cell_limit
 kinds_left m t a (SettleKind y) k x small was =
+    subst (λ (w : ℕ). cells_of w ≤ cell_limit) (sym (written_load m.memory (KindOf y) (KindOf x))) was
+kinds_left m t a (KindLoad y) k x small was =
     subst (λ (w : ℕ). cells_of w ≤ cell_limit) (sym (written_load m.memory (KindOf y) (KindOf x))) was
 kinds_left m t a (BirthKind y h w) k x small was =
     elim (y == x) as (λ b. cells_of (cond b w (m.memory (KindOf x))) ≤ cell_limit) [

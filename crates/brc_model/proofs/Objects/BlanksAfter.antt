@@ -6,7 +6,7 @@ use Rattle.std.proofs.lemmas.Bool.Decides.{eqb_tells}
 use Rattle.std.proofs.lemmas.Option.{slice_get_within}
 use Rattle.brc_model.specs.declared.duty.Holding.{Holding}
 use Rattle.brc_model.specs.declared.duty.Duty.{Duty}
-use Rattle.brc_model.specs.declared.duty.Duty.TheVariants.{SettleKind, TakeSlot, BirthKind, BirthSlot, BirthLocal}
+use Rattle.brc_model.specs.declared.duty.Duty.TheVariants.{SettleKind, TakeSlot, BirthKind, BirthSlot, BirthLocal, KindLoad}
 use Rattle.brc_model.specs.declared.address.Address.TheVariants.{KindOf, Slot}
 use Rattle.brc_model.specs.Duties.{has_resource, ready}
 use Rattle.brc_model.specs.Machine.{Actor, Machine, used_by, actor_by, done_by}
@@ -96,6 +96,12 @@ own_blanks p n m t a (SettleKind y) rest here =
       kinds = λ x block past none. written_load m.memory (KindOf y) (KindOf x) ∙ old.kinds x block past refl;
       slots = λ x block past none. old.slots x block past refl;
     }
+own_blanks p n m t a (KindLoad y) rest here =
+    let old = blanks_here p n m t a (KindLoad y) rest here in
+    record {
+      kinds = λ x block past none. written_load m.memory (KindOf y) (KindOf x) ∙ old.kinds x block past refl;
+      slots = λ x block past none. old.slots x block past refl;
+    }
 own_blanks p n m t a (TakeSlot y) rest here =
     let old = blanks_here p n m t a (TakeSlot y) rest here in
     record {
@@ -140,6 +146,12 @@ others_blanks p n m t a (BirthSlot y h) rest u b here ne found =
           (old.slots x block past none);
     }
 others_blanks p n m t a (SettleKind y) rest u b here ne found =
+    let old = here.core.blanks u b found in
+    record {
+      kinds = λ x block past none. written_load m.memory (KindOf y) (KindOf x) ∙ old.kinds x block past none;
+      slots = old.slots;
+    }
+others_blanks p n m t a (KindLoad y) rest u b here ne found =
     let old = here.core.blanks u b found in
     record {
       kinds = λ x block past none. written_load m.memory (KindOf y) (KindOf x) ∙ old.kinds x block past none;

@@ -9,7 +9,7 @@ use Rattle.brc_word.specs.Words.{kind_part}
 use Rattle.brc_model.specs.Kinds.{kind_number, kind_numbered, kind_of_word, is_counted_kind}
 use Rattle.brc_model.specs.AbstractState.{AbstractState, Move, Born, move, moved}
 use Rattle.brc_model.specs.declared.duty.Duty.{Duty}
-use Rattle.brc_model.specs.declared.duty.Duty.TheVariants.{SettleKind, BirthKind, BirthLocal}
+use Rattle.brc_model.specs.declared.duty.Duty.TheVariants.{SettleKind, BirthKind, BirthLocal, KindLoad}
 use Rattle.brc_model.specs.declared.address.Address.TheVariants.{KindOf}
 use Rattle.brc_model.specs.Machine.{Actor, Unborn, Machine, born_row, done_by}
 use Rattle.brc_model.specs.Moves.{reference_effects}
@@ -64,6 +64,7 @@ same_kinds m t d found none =
 word_stays : (p : Accounts) (n : ℕ) (m : Machine) (t : ℕ) (a : Actor) (d : Duty) (rest : List Duty) (x : ℕ)
     → AtDuty p n m t a d rest → m.life x ≢ Unborn → memory_by m t a d (KindOf x) ≡ m.memory (KindOf x)
 word_stays p n m t a (SettleKind y) rest x here born = written_load m.memory (KindOf y) (KindOf x)
+word_stays p n m t a (KindLoad y) rest x here born = written_load m.memory (KindOf y) (KindOf x)
 word_stays p n m t a (BirthKind y h w) rest x here born =
     let next = (head_of p n m t a (BirthKind y h w) rest here).0 in
     let apart : y ≡ x → ⊥ = λ e. born (ap m.life (sym e) ∙ next_unborn p n m t a y here.core here.found next) in

@@ -6,7 +6,7 @@ use Rattle.brc_word.specs.Words.{immortal_local, local_part, is_immortal_word, d
 use Rattle.brc_model.specs.declared.thread.Choice.{Choice}
 use Rattle.brc_model.specs.declared.duty.Reason.TheVariants.{Own, Handed}
 use Rattle.brc_model.specs.declared.duty.Duty.{Duty}
-use Rattle.brc_model.specs.declared.duty.Duty.TheVariants.{RetainAdd, DecideAtZero, SharedLoad, SharedExchange, MergeLoad, MergeExchange, Die, Settle, SettleKind, SettleEnd, TakeSlot, CloseResource, BirthKind, BirthSlot}
+use Rattle.brc_model.specs.declared.duty.Duty.TheVariants.{RetainAdd, DecideAtZero, SharedLoad, SharedExchange, MergeLoad, MergeExchange, Die, Settle, SettleKind, SettleEnd, TakeSlot, CloseResource, BirthKind, BirthSlot, KindLoad}
 use Rattle.brc_model.specs.declared.address.Address.TheVariants.{Local, Shared, Gate, KindOf, Mark, Slot, Resource}
 use Rattle.brc_model.specs.Machine.{Actor, Life, Unborn, Live, Dying, Closed, Machine, written}
 use Rattle.brc_model.specs.StepMachine.{StepMachine, counting, next_machine}
@@ -89,6 +89,7 @@ immortal_gate p n m t a _ rest x here immortal = refl
 immortal_kind : (p : Accounts) (n : ℕ) (m : Machine) (t : ℕ) (a : Actor) (d : Duty) (rest : List Duty) (x : ℕ)
     → AtDuty p n m t a d rest → is_immortal_row m.layout x ≡ true → memory_by m t a d (KindOf x) ≡ m.memory (KindOf x)
 immortal_kind p n m t a (SettleKind y) rest x here immortal = written_load m.memory (KindOf y) (KindOf x)
+immortal_kind p n m t a (KindLoad y) rest x here immortal = written_load m.memory (KindOf y) (KindOf x)
 immortal_kind p n m t a (BirthKind y h w) rest x here immortal =
     written_apart m.memory (KindOf y) (KindOf x) w
     (ne_eqb y x

@@ -9,7 +9,7 @@ use Rattle.brc_model.specs.declared.duty.Holding.{Holding}
 use Rattle.brc_model.specs.declared.duty.Reason.{Reason}
 use Rattle.brc_model.specs.declared.duty.Reason.TheVariants.{Own, Handed}
 use Rattle.brc_model.specs.declared.duty.Duty.{Duty}
-use Rattle.brc_model.specs.declared.duty.Duty.TheVariants.{RetainLoad, RetainStore, RetainAdd, ReleaseLoad, ReleaseStore, DecideAtZero, SharedLoad, SharedExchange, SetMark, Look, TakeMark, MergeSwap, MergeLoad, MergeExchange, Die, Settle, SettleKind, SettleCell, TakeSlot, CloseResource, SettleEnd, Leave, Scan, Finish, ClaimMark, BirthKind, BirthSlot, BirthLocal}
+use Rattle.brc_model.specs.declared.duty.Duty.TheVariants.{RetainLoad, RetainStore, RetainAdd, ReleaseLoad, ReleaseStore, DecideAtZero, SharedLoad, SharedExchange, SetMark, Look, TakeMark, MergeSwap, MergeLoad, MergeExchange, Die, Settle, SettleKind, SettleCell, TakeSlot, CloseResource, SettleEnd, Leave, Scan, Finish, ClaimMark, BirthKind, BirthSlot, BirthLocal, KindLoad}
 use Rattle.brc_model.specs.declared.address.Address.{Address}
 use Rattle.brc_model.specs.Rules.{Goes, IsComputed, given_up, one_shared}
 use Rattle.brc_model.specs.Rules as rules
@@ -75,6 +75,7 @@ module _ (memory : Address → ℕ) (layout : Layout) (t : ℕ) (running : Bool)
   computed d found left next moves (rules.SlotFilled x h f) =
       record { left_is = refl; next_is = refl; moves_are = refl }
   computed d found left next moves (rules.Born x h f) = record { left_is = refl; next_is = refl; moves_are = refl }
+  computed d found left next moves (rules.KindRead x f) = record { left_is = refl; next_is = refl; moves_are = refl }
   computed d found left next moves (rules.RetainsImmortal x h f is) =
       record { left_is = refl; next_is = rw is refl; moves_are = rw is refl }
   computed d found left next moves (rules.OwnerRetains x h f mortal counts low) =
@@ -246,6 +247,7 @@ module _ (memory : Address → ℕ) (layout : Layout) (t : ℕ) (running : Bool)
       ]
   by_rule (BirthSlot x h) found = rules.SlotFilled x h found
   by_rule (BirthLocal x h) found = rules.Born x h found
+  by_rule (KindLoad x) found = rules.KindRead x found
   by_rule (RetainLoad x h) found =
       elim (told (is_immortal_word found)) [
         | inl immortal ↦ applies _ _ _ _ _ (rules.RetainsImmortal x h found immortal)

@@ -1,4 +1,5 @@
--- A thread fits after its own steps that make a reference, give one up by the local word, or decide at zero.
+-- A thread fits after its own steps that ask for a kind, make a reference, give one up by the local word, or decide at
+-- zero.
 use Rattle.std.proofs.Common.{◌≡◌, ℕ, ◌+◌, ◌-◌, ◌<◌, Bool, true, false, cond, List, [], ◌∷◌, ◌++◌, refl, sym, ap, ◌∙◌, subst, arith}
 use Rattle.std.specs.Prelude.{◌==◌, ◌&&◌}
 use Rattle.std.specs.List.{list_any}
@@ -9,7 +10,7 @@ use Rattle.brc_model.specs.AbstractState.{Reference, same_holding, same, without
 use Rattle.brc_word.specs.Words.{immortal_local, owner_part, local_part, is_immortal_word, fresh_word}
 use Rattle.brc_model.specs.declared.duty.Reason.TheVariants.{Own}
 use Rattle.brc_model.specs.declared.duty.Duty.{Duty}
-use Rattle.brc_model.specs.declared.duty.Duty.TheVariants.{RetainStore, RetainAdd, ReleaseLoad, ReleaseStore, DecideAtZero, SharedLoad, MergeSwap, Die}
+use Rattle.brc_model.specs.declared.duty.Duty.TheVariants.{RetainStore, RetainAdd, ReleaseLoad, ReleaseStore, DecideAtZero, SharedLoad, MergeSwap, Die, KindLoad}
 use Rattle.brc_model.specs.declared.address.Address.TheVariants.{Local, Shared}
 use Rattle.brc_model.specs.Duties.{counts_locally}
 use Rattle.brc_model.specs.declared.actor.Status.TheVariants.{Gone}
@@ -32,6 +33,17 @@ use Rattle.brc_model.proofs.Stepping.Retains.{counts_owner, count_above, weight_
 use Rattle.brc_model.proofs.Stepping.Steps.{own_done, own_next, own_dying}
 use Rattle.brc_model.specs.Invariant.{AtDuty}
 use Rattle.brc_model.specs.Layout.{IsCounted}
+
+-- ---- asking for the kind
+
+-- The thread fits after `KindRead`.
+pub thread_after_kind_load : (p : Accounts) (n : ℕ) (m : Machine) (t : ℕ) (a : Actor) (x : ℕ) (rest : List Duty)
+    → AtDuty p n m t a (KindLoad x) rest → (a.status ≡ Gone → ⊥)
+    → ThreadFits p (done_by m t a (KindLoad x) rest) t
+    (actor_by m.layout t a (KindLoad x) rest (found_by m t a (KindLoad x)))
+thread_after_kind_load p n m t a x rest here alive =
+    own_done p n m t a (KindLoad x) rest here alive refl refl (agenda_here p n m t a (KindLoad x) rest here alive)
+    (held_same m.abstract.references t (KindLoad x ∷ rest) [] (λ k o. refl) (λ k o. refl))
 
 -- ---- the last step of a retain
 

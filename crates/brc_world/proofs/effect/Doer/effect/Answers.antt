@@ -43,3 +43,6 @@ returns-in-BirthSlot c = rw c.in-BirthSlot.is (c.birth_slot.ensures _)
 
 pub returns-in-BirthLocal : goal.returns-in-BirthLocal
 returns-in-BirthLocal c = rw c.in-BirthLocal.is (c.birth_local.ensures _ _ _)
+
+pub returns-in-KindLoad : goal.returns-in-KindLoad
+returns-in-KindLoad c = rw c.in-KindLoad.is (c.kind_load.ensures _)
