@@ -70,7 +70,6 @@ const REFUSED: &[Case] = &[
         b"num v1 1 else @2\nas v1 none else @2\nfail\n",
         Some((1, CheckCode::WrongKind)),
     ),
-    (b"as v0 list else @1\n", Some((0, CheckCode::RunsOff))),
     (
         b"newref v1 v0\nnewref v1 v0\ndrop v1\nfail\n",
         Some((1, CheckCode::StillOwns)),
