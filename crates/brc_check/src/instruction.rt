@@ -2,7 +2,7 @@
 
 ghost use Rattle.std.specs.Prelude.{◌≡◌, ◌+◌, ◌<◌, ◌^◌};
 ghost use Rattle.std.specs.List.{list_any};
-ghost use Rattle.brc_model.specs.Slots.{slot_of, is_owned, kind_of, names, lowest, birth_slot, after, target};
+ghost use Rattle.brc_model.specs.Slots.{slot_of, is_owned, kind_of, names, lowest, birth_slot, after, target, may_be, with_kind};
 
 use brc_lang::{Instr, Kind, Variable};
 use brc_model::{CheckCode, Exit, Slot, State};
@@ -19,6 +19,25 @@ fn kind_of(slot: Slot) -> Kind
     match slot {
         Slot::Empty => Kind::Any,
         Slot::Owned(kind) | Slot::Caller(kind) | Slot::Locked(kind) => kind,
+    }
+}
+
+/// Returns whether an object of the kind `known` may be of the kind `asked`.
+fn may_be(known: Kind, asked: Kind) -> bool
+    ensures { result ≡ may_be known asked }
+{
+    known == Kind::Any || known == asked
+}
+
+/// Returns the slot with another kind.
+fn with_kind(slot: Slot, kind: Kind) -> Slot
+    ensures { result ≡ with_kind slot kind }
+{
+    match slot {
+        Slot::Empty => Slot::Empty,
+        Slot::Owned(_) => Slot::Owned(kind),
+        Slot::Caller(_) => Slot::Caller(kind),
+        Slot::Locked(_) => Slot::Locked(kind),
     }
 }
 
@@ -82,6 +101,16 @@ fn drop_refusal(state: &State, from: Variable) -> Option<CheckCode>
     }
 }
 
+fn as_refusal(state: &State, from: Variable, kind: Kind) -> Option<CheckCode>
+    ensures { result ≡ lowest (Instr.As from kind 0) state.now }
+{
+    let source = slot(state, from);
+    if let Slot::Empty = source {
+        return Some(CheckCode::EmptyUsed);
+    }
+    (!may_be(kind_of(source), kind)).then_some(CheckCode::WrongKind)
+}
+
 fn ret_refusal(state: &State, from: Variable) -> Option<CheckCode>
     ensures { result ≡ lowest (Instr.Ret from) state.now }
 {
@@ -118,6 +147,7 @@ pub fn refusal(instr: Instr, state: &State) -> Option<CheckCode>
         Instr::Newref { to, from } => newref_refusal(state, to, from),
         Instr::Move { to, from } => move_refusal(state, to, from),
         Instr::Drop { from } => drop_refusal(state, from),
+        Instr::As { from, kind, .. } => as_refusal(state, from, kind),
         Instr::Goto { .. } => None,
         Instr::Ret { from } => ret_refusal(state, from),
         Instr::Fail => fail_refusal(state),
@@ -152,6 +182,11 @@ pub fn apply(instr: Instr, exit: Exit, state: &mut State)
             state.slots[to.number() as usize] = handed;
         }
         Instr::Drop { from } => state.slots[from.number() as usize] = Slot::Empty,
+        Instr::As { from, kind, .. } => {
+            if let Exit::Success = exit {
+                state.slots[from.number() as usize] = with_kind(slot(state, from), kind);
+            }
+        }
         Instr::Goto { .. } | Instr::Ret { .. } | Instr::Fail => (),
     }
 }
@@ -162,7 +197,9 @@ pub fn target_of(instr: Instr, exit: Exit, at: usize) -> Option<usize>
     ensures { result ≡ target instr exit at }
 {
     match instr {
-        Instr::Num { otherwise, .. } | Instr::List { otherwise, .. } => Some(match exit {
+        Instr::Num { otherwise, .. }
+        | Instr::List { otherwise, .. }
+        | Instr::As { otherwise, .. } => Some(match exit {
             Exit::Success => at + 1,
             Exit::Fault => otherwise as usize,
         }),

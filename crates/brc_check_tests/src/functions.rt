@@ -46,6 +46,12 @@ const ACCEPTED: &[Case] = &[
         None,
     ),
     (b"goto @1\nfail\n", None),
+    (b"as v0 list else @1\nfail\n", None),
+    (b"none v1\nas v1 none else @3\nret v1\nret v1\n", None),
+    (
+        b"num v1 1 else @5\nas v1 num else @3\ngoto @3\ndrop v1\nfail\nfail\n",
+        None,
+    ),
 ];
 
 /// Each code by its smallest functions.
@@ -58,6 +64,22 @@ const REFUSED: &[Case] = &[
     (b"drop v0\n", Some((0, CheckCode::NotOwned))),
     (b"newref v1 v0\nret v0\n", Some((1, CheckCode::NotOwned))),
     (b"move v1 v0\n", Some((0, CheckCode::NotOwned))),
+    (
+        b"as v1 num else @1\nfail\n",
+        Some((0, CheckCode::EmptyUsed)),
+    ),
+    (
+        b"as v0 num else @1\nfail\n",
+        Some((0, CheckCode::WrongKind)),
+    ),
+    (
+        b"none v1\nas v1 list else @2\nret v1\n",
+        Some((1, CheckCode::WrongKind)),
+    ),
+    (
+        b"num v1 1 else @2\nas v1 none else @2\nfail\n",
+        Some((1, CheckCode::WrongKind)),
+    ),
     (
         b"newref v1 v0\nnewref v1 v0\ndrop v1\nfail\n",
         Some((1, CheckCode::StillOwns)),

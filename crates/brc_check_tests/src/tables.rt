@@ -75,6 +75,17 @@ const TABLES: &[(&[u8], &[Option<Slots>])] = &[
             Some((NONE, Slot::Empty)),
         ],
     ),
+    // The kind asked for is known at both exits already.
+    (
+        b"num v1 1 else @4\nas v1 num else @3\ngoto @3\nret v1\nfail\n",
+        &[
+            Some((Slot::Empty, Slot::Empty)),
+            Some((NUMBER, Slot::Empty)),
+            Some((NUMBER, Slot::Empty)),
+            Some((NUMBER, Slot::Empty)),
+            Some((Slot::Empty, Slot::Empty)),
+        ],
+    ),
 ];
 
 /// The slots that overwrite entries.

@@ -11,6 +11,13 @@ const ONE_LIST: &[u8] = b"module 1\nfunc f\nlist v1 3 else @2\ndrop v1\nfail\nen
 
 const LARGEST_LIST: &[u8] = b"module 1\nfunc f\nlist v1 8 else @2\ndrop v1\nfail\nend\n";
 
+const ASKED: &[u8] =
+    b"module 1\nfunc f\nnum v1 7 else @5\nas v1 num else @4\nnum v2 8 else @4\ndrop v2\ndrop v1\nfail\nend\n";
+
+const ROOT_AND_NONE_ASKED: &[u8] =
+    b"module 1\nfunc f\nas v0 list else @6\nnone v1\nas v1 none else @5\nnum v2 1 else @5\ndrop v2\ndrop v1\n\
+      fail\nend\n";
+
 const LATEST: &[u8] =
     b"module 1\nfunc f\nnum v1 1 else @6\nnum v2 2 else @4\ndrop v1\ngoto @5\nmove v2 v1\nret v2\nnone v2\n\
       ret v2\nend\n";
@@ -88,6 +95,48 @@ fn a_moved_number_is_the_same(rt: HostRuntime) {
     for (schedule, report) in cases {
         assert_outputs(&rt, &STEP, both(MOVED, schedule), (report, b"", 0));
     }
+}
+
+// `as` is one step, the third, and makes nothing. The kind is the one asked for, so the next two steps are the birth of
+// the second number.
+#[test]
+fn a_number_is_asked_for_its_kind(rt: HostRuntime) {
+    let one_number: &[u8] =
+        b"threads 1\nrunning 2\ncreated 2\nclosed 0\nalive 2\nhost faults 0\nclose faults 0\nleft 1 list\nleft 2 num\n";
+    let two_numbers: &[u8] =
+        b"threads 1\nrunning 2\ncreated 3\nclosed 0\nalive 3\nhost faults 0\nclose faults 0\nleft 1 list\nleft 2 num\n\
+          left 3 num\n";
+    let cases: [(&'static [u8], &[u8]); 3] = [
+        (
+            b"schedule 1\nworkers 1\nrows 4\ncall 1 f 1\nstep 1 ok 3\n",
+            one_number,
+        ),
+        (
+            b"schedule 1\nworkers 1\nrows 4\ncall 1 f 1\nstep 1 fault 4\n",
+            one_number,
+        ),
+        (
+            b"schedule 1\nworkers 1\nrows 4\ncall 1 f 1\nstep 1 ok 5\n",
+            two_numbers,
+        ),
+    ];
+    for (schedule, report) in cases {
+        assert_outputs(&rt, &STEP, both(ASKED, schedule), (report, b"", 0));
+    }
+}
+
+// Each call of two workers asks the root and none for their kinds, and makes a number only if both are right.
+#[test]
+fn the_root_and_none_are_asked_for_their_kinds(rt: HostRuntime) {
+    let report: &[u8] =
+        b"threads 2\nrunning 0\ncreated 7\nclosed 7\nalive 0\nhost faults 0\nclose faults 0\n";
+    let asked = to_run("f", 2, 3, 1024);
+    assert_outputs(
+        &rt,
+        &asked,
+        both(ROOT_AND_NONE_ASKED, b""),
+        (report, b"", 0),
+    );
 }
 
 // Worker 2's block begins behind the four rows of worker 1's, which begins at row 2.

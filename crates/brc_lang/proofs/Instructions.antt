@@ -1,22 +1,21 @@
 -- A line that is read as an instruction is its spelling, and the spelling is read again.
-use Rattle.std.proofs.Common.{◌≡◌, ℕ, ◌<◌, ◌≤◌, ◌^◌, Bool, true, false, cond, List, [], ◌∷◌, Result, Ok, Err, refl, sym}
-use Rattle.std.proofs.Common.{ap}
+use Rattle.std.proofs.Common.{◌≡◌, ℕ, ◌<◌, ◌≤◌, ◌^◌, Bool, true, false, cond, List, [], ◌∷◌, Result, Ok, Err, refl, sym, ap, ◌≢◌}
 use Rattle.std.proofs.Common.{subst, ◌∙◌, arith, inl, inr}
 use Rattle.std.specs.Prelude.{codes, ◌⊎◌}
 use Rattle.std.specs.List.{list_any}
 use Rattle.std.specs.Fmt.{decimal}
 use Rattle.std.specs.Str.{bytes_eq}
 use Rattle.std.proofs.lemmas.Slice.Eq.{bytes_eq-Decides}
+use Rattle.brc_lang.specs.declared.kind.Kind.{Kind}
+use Rattle.brc_lang.specs.declared.kind.Kind.TheVariants as kinds
 use Rattle.brc_lang.specs.declared.module.Instr.{Instr}
-use Rattle.brc_lang.specs.declared.module.Instr.TheVariants.{Num, List as ListObject, NoneObject, Newref, Move, Drop}
-use Rattle.brc_lang.specs.declared.module.Instr.TheVariants.{Goto, Ret, Fail}
+use Rattle.brc_lang.specs.declared.module.Instr.TheVariants.{Num, List as ListObject, NoneObject, Newref, Move, Drop, Goto, Ret, Fail, As}
 use Rattle.brc_lang.specs.declared.fault.FaultCode.{FaultCode}
 use Rattle.brc_lang.specs.declared.fault.FaultCode.TheVariants.{UnknownWord}
-use Rattle.brc_lang.specs.Grammar.{variable, target, instruction_words, instruction, IsInstruction}
-use Rattle.brc_lang.specs.Fault.{words, variable_in, target_in, number_between, ◌>>=◌, one_variable_in}
-use Rattle.brc_lang.specs.Fault.{two_variables_in}
-use Rattle.brc_lang.specs.Fault.{one_target_in, birth_in, fail_in, instruction_in, is_line_feed}
+use Rattle.brc_lang.specs.Grammar.{variable, target, instruction_words, instruction, IsInstruction, kind_name}
+use Rattle.brc_lang.specs.Fault.{words, variable_in, target_in, number_between, ◌>>=◌, one_variable_in, two_variables_in, one_target_in, birth_in, fail_in, instruction_in, is_line_feed, number_in, kind_in, as_in}
 use Rattle.brc_lang.specs.Limits.{variable_count, target_count, value_limit, cell_limit}
+use Rattle.brc_lang.specs.RoundTrips.{IsPlain}
 use Rattle.brc_lang.proofs.Words.{joined, some_word, ArePlain, spaced_words, spaced_plain}
 use Rattle.brc_lang.proofs.Spelling.{bind_ok, between_spelled, between_again, number_plain, variable_spelled}
 use Rattle.brc_lang.proofs.Spelling.{variable_again}
@@ -111,6 +110,45 @@ birth_spelled low high (a ∷ b ∷ c ∷ d ∷ []) v small e =
     (λ never. absurd cc)
 birth_spelled low high (a ∷ b ∷ c ∷ d ∷ f ∷ ws) v small e = absurd cc
 
+-- ---- kinds
+
+abbrev NamesKind : List ℕ → Kind → Type 0
+NamesKind word k = (word ≡ kind_name k) × (k ≢ kinds.Any)
+
+kind_named : (word : List ℕ) (here k : Kind) → here ≢ kinds.Any → bytes_eq word (kind_name here) ≡ true
+    → ◌≡◌ {A = Result Kind FaultCode} (Ok here) (Ok k) → NamesKind word k
+kind_named word here k named same e =
+    subst (NamesKind word) (ok_is here k e) (same_text word (kind_name here) same, named)
+
+kind_spelled : (word : List ℕ) (k : Kind) → kind_in word ≡ Ok k → NamesKind word k
+kind_spelled word k read =
+    either_way (bytes_eq word (codes "none")) _ _ (Ok k) read (kind_named word kinds.None k (λ e. cc))
+    (λ not_none.
+    either_way (bytes_eq word (codes "num")) _ _ (Ok k) not_none (kind_named word kinds.Num k (λ e. cc))
+    (λ not_num.
+    either_way (bytes_eq word (codes "list")) _ _ (Ok k) not_num (kind_named word kinds.List k (λ e. cc))
+    (λ not_list.
+    either_way (bytes_eq word (codes "file")) _ _ (Ok k) not_list (kind_named word kinds.File k (λ e. cc))
+    (λ not_file.
+    either_way (bytes_eq word (codes "sock")) _ (Err UnknownWord) (Ok k) not_file
+    (kind_named word kinds.Sock k (λ e. cc)) (λ never. absurd cc)))))
+
+kind_again : (k : Kind) → k ≢ kinds.Any → kind_in (kind_name k) ≡ Ok k
+kind_again kinds.None named = refl
+kind_again kinds.Num named = refl
+kind_again kinds.List named = refl
+kind_again kinds.File named = refl
+kind_again kinds.Sock named = refl
+kind_again kinds.Any named = absurd (named refl)
+
+kind_plain : (k : Kind) → IsPlain (kind_name k)
+kind_plain kinds.None = (refl, refl)
+kind_plain kinds.Num = (refl, refl)
+kind_plain kinds.List = (refl, refl)
+kind_plain kinds.File = (refl, refl)
+kind_plain kinds.Sock = (refl, refl)
+kind_plain kinds.Any = (refl, refl)
+
 -- ---- from words to the instruction
 
 abbrev Spelled : List (List ℕ) → Instr → Type 0
@@ -129,6 +167,33 @@ birth name make low high w ws i spelling fits small named e =
           ∙ sym (spelling b.0.0 b.0.1 b.0.2),
       fits b.0.0 b.0.1 b.0.2 v.1 v.2 v.3 v.4,
     )
+
+as_spelled : (w : List ℕ) (ws : List (List ℕ)) (i : Instr) → w ≡ codes "as" → as_in ws ≡ Ok i → Spelled (w ∷ ws) i
+as_spelled w [] i named e = absurd cc
+as_spelled w (a ∷ []) i named e = absurd cc
+as_spelled w (a ∷ b ∷ []) i named e = absurd cc
+as_spelled w (a ∷ b ∷ c ∷ []) i named e = absurd cc
+as_spelled w (a ∷ b ∷ c ∷ d ∷ []) i named e =
+    either_way (bytes_eq c (codes "else")) _ (Err UnknownWord) (Ok i) e
+    (λ same read.
+    let from = bind_ok (variable_in a) _ i read in
+    let kind = bind_ok (kind_in b) _ i from.2 in
+    let otherwise = bind_ok (target_in d) _ i kind.2 in
+    let p = variable_spelled a from.0 from.1 in
+    let q = kind_spelled b kind.0 kind.1 in
+    let r = target_spelled d otherwise.0 otherwise.1 in
+    let last : (c ∷ d ∷ []) ≡ codes "else" ∷ target otherwise.0 ∷ [] =
+    both_same c (codes "else") (d ∷ []) (target otherwise.0 ∷ []) (same_text c (codes "else") same)
+    (ap (λ (x : List ℕ). x ∷ []) r.0) in
+    let more : (b ∷ c ∷ d ∷ []) ≡ kind_name kind.0 ∷ codes "else" ∷ target otherwise.0 ∷ [] =
+    both_same b (kind_name kind.0) (c ∷ d ∷ []) _ q.0 last in
+    let most : (a ∷ b ∷ c ∷ d ∷ []) ≡ variable from.0 ∷ kind_name kind.0 ∷ codes "else" ∷ target otherwise.0 ∷ [] =
+    both_same a (variable from.0) (b ∷ c ∷ d ∷ []) _ p.0 more in
+    let fits : IsInstruction (As from.0 kind.0 otherwise.0) = (p.1, q.1, r.1) in
+    subst (Spelled (w ∷ a ∷ b ∷ c ∷ d ∷ [])) (ok_is (As from.0 kind.0 otherwise.0) i otherwise.2)
+    (both_same w (codes "as") (a ∷ b ∷ c ∷ d ∷ []) _ named most, fits))
+    (λ never. absurd cc)
+as_spelled w (a ∷ b ∷ c ∷ d ∷ f ∷ ws) i named e = absurd cc
 
 unary : (name : List ℕ) (make : ℕ → Instr) (w : List ℕ) (ws : List (List ℕ)) (i : Instr)
     → ((n : ℕ) → instruction_words (make n) ≡ name ∷ variable n ∷ [])
@@ -192,15 +257,18 @@ words_spelled (w ∷ ws) i read =
     (λ same e. unary (codes "drop") (λ n. Drop n) w ws i (λ n. refl) (λ n lt. lt) (same_text w (codes "drop") same)
     e)
     (λ read6.
-    either_way (bytes_eq w (codes "goto")) _ _ (Ok i) read6
-    (λ same e. goto_spelled w ws i (same_text w (codes "goto") same) e)
+    either_way (bytes_eq w (codes "as")) _ _ (Ok i) read6
+    (λ same e. as_spelled w ws i (same_text w (codes "as") same) e)
     (λ read7.
-    either_way (bytes_eq w (codes "ret")) _ _ (Ok i) read7
-    (λ same e. unary (codes "ret") (λ n. Ret n) w ws i (λ n. refl) (λ n lt. lt) (same_text w (codes "ret") same) e)
+    either_way (bytes_eq w (codes "goto")) _ _ (Ok i) read7
+    (λ same e. goto_spelled w ws i (same_text w (codes "goto") same) e)
     (λ read8.
-    either_way (bytes_eq w (codes "fail")) _ (Err UnknownWord) (Ok i) read8
+    either_way (bytes_eq w (codes "ret")) _ _ (Ok i) read8
+    (λ same e. unary (codes "ret") (λ n. Ret n) w ws i (λ n. refl) (λ n lt. lt) (same_text w (codes "ret") same) e)
+    (λ read9.
+    either_way (bytes_eq w (codes "fail")) _ (Err UnknownWord) (Ok i) read9
     (λ same e. fail_spelled w ws i (same_text w (codes "fail") same) e)
-    (λ never. absurd cc)))))))))
+    (λ never. absurd cc))))))))))
 
 pub instruction_spelled : (text : List ℕ) (i : Instr) → instruction_in (words text) ≡ Ok i
     → (text ≡ instruction i) × IsInstruction i
@@ -227,6 +295,8 @@ words_again (NoneObject to) fits = rw (variable_again to fits) refl
 words_again (Newref to from) fits = rw (variable_again to fits.0, variable_again from fits.1) refl
 words_again (Move to from) fits = rw (variable_again to fits.0, variable_again from fits.1) refl
 words_again (Drop from) fits = rw (variable_again from fits) refl
+words_again (As from kind otherwise) fits =
+    rw (variable_again from fits.0, kind_again kind fits.1, target_again otherwise fits.2) refl
 words_again (Goto to) fits = rw (target_again to fits) refl
 words_again (Ret from) fits = rw (variable_again from fits) refl
 words_again Fail fits = refl
@@ -250,6 +320,10 @@ words_plain (NoneObject to) fits = ((refl, refl), (variable_plain to fits, tt))
 words_plain (Newref to from) fits = ((refl, refl), (variable_plain to fits.0, (variable_plain from fits.1, tt)))
 words_plain (Move to from) fits = ((refl, refl), (variable_plain to fits.0, (variable_plain from fits.1, tt)))
 words_plain (Drop from) fits = ((refl, refl), (variable_plain from fits, tt))
+words_plain (As from kind otherwise) fits = (
+  (refl, refl),
+  (variable_plain from fits.0, (kind_plain kind, ((refl, refl), (target_plain otherwise fits.2, tt)))),
+)
 words_plain (Goto to) fits = ((refl, refl), (target_plain to fits, tt))
 words_plain (Ret from) fits = ((refl, refl), (variable_plain from fits, tt))
 words_plain Fail fits = ((refl, refl), tt)
@@ -269,6 +343,7 @@ instruction_not_end (NoneObject to) = refl
 instruction_not_end (Newref to from) = refl
 instruction_not_end (Move to from) = refl
 instruction_not_end (Drop from) = refl
+instruction_not_end (As from kind otherwise) = refl
 instruction_not_end (Goto to) = refl
 instruction_not_end (Ret from) = refl
 instruction_not_end Fail = refl

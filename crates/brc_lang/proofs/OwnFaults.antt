@@ -12,8 +12,7 @@ use Rattle.brc_lang.specs.declared.fault.FaultCode.TheVariants.{FirstLine, Unkno
 use Rattle.brc_lang.specs.declared.fault.FaultCode.TheVariants.{OverLimit, CutOff, NoMemory}
 use Rattle.brc_lang.specs.Grammar.{is_name}
 use Rattle.brc_lang.specs.Fault.{words, is_numeral, number_in, variable_in, target_in, ◌>>=◌, one_variable_in}
-use Rattle.brc_lang.specs.Fault.{two_variables_in, one_target_in, number_between, birth_in, fail_in, instruction_in}
-use Rattle.brc_lang.specs.Fault.{leads_forward}
+use Rattle.brc_lang.specs.Fault.{two_variables_in, one_target_in, number_between, birth_in, fail_in, instruction_in, leads_forward, kind_in, as_in}
 use Rattle.brc_lang.specs.Fault.{Beginning, heading_fault_of, end_fault_of, next_instruction_fault_of, line_fault_of}
 use Rattle.brc_lang.specs.Fault.{is_whole, is_line_feed, fault_of, HasFault, IsOwn, IsOwnFault}
 use Rattle.brc_lang.specs.Limits.{function_limit, instruction_limit, last_variable, last_target, value_limit}
@@ -108,6 +107,26 @@ birth_own low high (a ∷ b ∷ c ∷ d ∷ []) =
     own_then (target_in d) _ (target_own d) (λ l. tt)))) own_word
 birth_own low high (a ∷ b ∷ c ∷ d ∷ x ∷ ws) = own_word
 
+kind_own : (word : List ℕ) → IsOwn (kind_in word)
+kind_own word =
+    own_either (bytes_eq word (codes "none")) _ _ tt
+    (own_either (bytes_eq word (codes "num")) _ _ tt
+    (own_either (bytes_eq word (codes "list")) _ _ tt
+    (own_either (bytes_eq word (codes "file")) _ _ tt
+    (own_either (bytes_eq word (codes "sock")) _ (Err UnknownWord) tt own_word))))
+
+as_own : (ws : List (List ℕ)) → IsOwn (as_in ws)
+as_own [] = own_word
+as_own (a ∷ []) = own_word
+as_own (a ∷ b ∷ []) = own_word
+as_own (a ∷ b ∷ c ∷ []) = own_word
+as_own (a ∷ b ∷ c ∷ d ∷ []) =
+    own_either (bytes_eq c (codes "else")) _ (Err UnknownWord)
+    (own_then (variable_in a) _ (variable_own a) (λ from.
+    own_then (kind_in b) _ (kind_own b) (λ k.
+    own_then (target_in d) _ (target_own d) (λ l. tt)))) own_word
+as_own (a ∷ b ∷ c ∷ d ∷ x ∷ ws) = own_word
+
 fail_own : (ws : List (List ℕ)) → IsOwn (fail_in ws)
 fail_own [] = tt
 fail_own (a ∷ ws) = own_word
@@ -123,9 +142,10 @@ instruction_own (w ∷ ws) =
     (own_either (bytes_eq w (codes "newref")) _ _ (own_then (two_variables_in ws) _ (two_variables_own ws) (λ v. tt))
     (own_either (bytes_eq w (codes "move")) _ _ (own_then (two_variables_in ws) _ (two_variables_own ws) (λ v. tt))
     (own_either (bytes_eq w (codes "drop")) _ _ (own_then (one_variable_in ws) _ (one_variable_own ws) (λ n. tt))
+    (own_either (bytes_eq w (codes "as")) _ _ (as_own ws)
     (own_either (bytes_eq w (codes "goto")) _ _ (own_then (one_target_in ws) _ (one_target_own ws) (λ n. tt))
     (own_either (bytes_eq w (codes "ret")) _ _ (own_then (one_variable_in ws) _ (one_variable_own ws) (λ n. tt))
-    (own_either (bytes_eq w (codes "fail")) _ (Err UnknownWord) (fail_own ws) own_word))))))))
+    (own_either (bytes_eq w (codes "fail")) _ (Err UnknownWord) (fail_own ws) own_word)))))))))
 
 -- ---- lines
 

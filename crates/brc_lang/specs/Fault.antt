@@ -6,10 +6,11 @@ use Rattle.std.specs.List.{AllByRecursion, list_all, list_any, slice_split, befo
 use Rattle.std.specs.Str.{bytes_eq}
 use Rattle.std.specs.Str.Parse.{digits_value}
 use Rattle.std.specs.Char.{is_ascii_digit}
+use Rattle.brc_lang.specs.declared.kind.Kind.{Kind}
+use Rattle.brc_lang.specs.declared.kind.Kind.TheVariants as kinds
 use Rattle.brc_lang.specs.declared.module.Function.{Function}
 use Rattle.brc_lang.specs.declared.module.Instr.{Instr}
-use Rattle.brc_lang.specs.declared.module.Instr.TheVariants.{Num, List as ListObject, NoneObject, Newref, Move, Drop}
-use Rattle.brc_lang.specs.declared.module.Instr.TheVariants.{Goto, Ret, Fail}
+use Rattle.brc_lang.specs.declared.module.Instr.TheVariants.{Num, List as ListObject, NoneObject, Newref, Move, Drop, Goto, Ret, Fail, As}
 use Rattle.brc_lang.specs.declared.fault.FaultCode.{FaultCode}
 use Rattle.brc_lang.specs.declared.fault.FaultCode.TheVariants.{FirstLine, UnknownWord, Number, Target, NameTwice}
 use Rattle.brc_lang.specs.declared.fault.FaultCode.TheVariants.{OverLimit, CutOff, NoMemory}
@@ -46,6 +47,16 @@ abbrev pub target_in : List ℕ → Result ℕ FaultCode
 target_in [] = Err UnknownWord
 target_in (c ∷ cs) = if c == 64 then number_in last_target cs else Err UnknownWord
 
+-- the word of a kind
+abbrev pub kind_in : List ℕ → Result Kind FaultCode
+kind_in word =
+    if bytes_eq word (codes "none") then Ok kinds.None
+    else if bytes_eq word (codes "num") then Ok kinds.Num
+    else if bytes_eq word (codes "list") then Ok kinds.List
+    else if bytes_eq word (codes "file") then Ok kinds.File
+    else if bytes_eq word (codes "sock") then Ok kinds.Sock
+    else Err UnknownWord
+
 infixl 10 ◌>>=◌
 abbrev pub ◌>>=◌ : {A B : Type 0} → Result A FaultCode → (A → Result B FaultCode) → Result B FaultCode
 (Ok x) >>= f = f x
@@ -76,6 +87,14 @@ birth_in low high (to ∷ number ∷ word ∷ otherwise ∷ []) =
     else Err UnknownWord
 birth_in low high _ = Err UnknownWord
 
+-- a variable, a kind, `else` and a target; `else` is compared first
+abbrev pub as_in : List (List ℕ) → Result Instr FaultCode
+as_in (from ∷ kind ∷ word ∷ otherwise ∷ []) =
+    if bytes_eq word (codes "else")
+    then (variable_in from >>= λ s. kind_in kind >>= λ k. target_in otherwise >>= λ l. Ok (As s k l))
+    else Err UnknownWord
+as_in _ = Err UnknownWord
+
 abbrev pub fail_in : List (List ℕ) → Result Instr FaultCode
 fail_in [] = Ok Fail
 fail_in _ = Err UnknownWord
@@ -91,6 +110,7 @@ instruction_in (w ∷ ws) =
     else if bytes_eq w (codes "newref") then (two_variables_in ws >>= λ v. Ok (Newref v.0 v.1))
     else if bytes_eq w (codes "move") then (two_variables_in ws >>= λ v. Ok (Move v.0 v.1))
     else if bytes_eq w (codes "drop") then (one_variable_in ws >>= λ s. Ok (Drop s))
+    else if bytes_eq w (codes "as") then as_in ws
     else if bytes_eq w (codes "goto") then (one_target_in ws >>= λ l. Ok (Goto l))
     else if bytes_eq w (codes "ret") then (one_variable_in ws >>= λ s. Ok (Ret s))
     else if bytes_eq w (codes "fail") then fail_in ws

@@ -3,13 +3,13 @@ use Rattle.std.specs.Prelude.{◌≡◌, ◌≢◌, ℕ, ◌<◌, ◌≤◌, ◌
 use Rattle.std.specs.Prelude.{◌++◌, length, Option, None, Some, slice_get, AllPairs, codes}
 use Rattle.std.specs.List.{flat_map, join_with_byte, AllByRecursion, list_all}
 use Rattle.std.specs.Fmt.{decimal}
+use Rattle.brc_lang.specs.declared.kind.Kind.{Kind}
+use Rattle.brc_lang.specs.declared.kind.Kind.TheVariants as kinds
 use Rattle.brc_lang.specs.declared.module.Module.{Module}
 use Rattle.brc_lang.specs.declared.module.Function.{Function}
 use Rattle.brc_lang.specs.declared.module.Instr.{Instr}
-use Rattle.brc_lang.specs.declared.module.Instr.TheVariants.{Num, List as ListObject, NoneObject, Newref, Move, Drop}
-use Rattle.brc_lang.specs.declared.module.Instr.TheVariants.{Goto, Ret, Fail}
-use Rattle.brc_lang.specs.Limits.{function_limit, instruction_limit, variable_count, target_count, cell_limit}
-use Rattle.brc_lang.specs.Limits.{name_rest_limit}
+use Rattle.brc_lang.specs.declared.module.Instr.TheVariants.{Num, List as ListObject, NoneObject, Newref, Move, Drop, Goto, Ret, Fail, As}
+use Rattle.brc_lang.specs.Limits.{function_limit, instruction_limit, variable_count, target_count, cell_limit, name_rest_limit}
 
 -- ---- spellings
 
@@ -29,6 +29,15 @@ variable number = codes "v" ++ decimal number
 abbrev pub target : ℕ → List ℕ
 target number = codes "@" ++ decimal number
 
+-- the word of a kind; modules don't name `Any`
+abbrev pub kind_name : Kind → List ℕ
+kind_name kinds.None = codes "none"
+kind_name kinds.Num = codes "num"
+kind_name kinds.List = codes "list"
+kind_name kinds.File = codes "file"
+kind_name kinds.Sock = codes "sock"
+kind_name kinds.Any = codes "any"
+
 abbrev pub instruction_words : Instr → List (List ℕ)
 instruction_words (Num to value otherwise) =
     codes "num" ∷ variable to ∷ decimal value ∷ codes "else" ∷ target otherwise ∷ []
@@ -38,6 +47,8 @@ instruction_words (NoneObject to) = codes "none" ∷ variable to ∷ []
 instruction_words (Newref to from) = codes "newref" ∷ variable to ∷ variable from ∷ []
 instruction_words (Move to from) = codes "move" ∷ variable to ∷ variable from ∷ []
 instruction_words (Drop from) = codes "drop" ∷ variable from ∷ []
+instruction_words (As from kind otherwise) =
+    codes "as" ∷ variable from ∷ kind_name kind ∷ codes "else" ∷ target otherwise ∷ []
 instruction_words (Goto to) = codes "goto" ∷ target to ∷ []
 instruction_words (Ret from) = codes "ret" ∷ variable from ∷ []
 instruction_words Fail = codes "fail" ∷ []
@@ -86,6 +97,8 @@ IsInstruction (NoneObject to) = to < variable_count
 IsInstruction (Newref to from) = (to < variable_count) × (from < variable_count)
 IsInstruction (Move to from) = (to < variable_count) × (from < variable_count)
 IsInstruction (Drop from) = from < variable_count
+IsInstruction (As from kind otherwise) =
+    (from < variable_count) × (kind ≢ kinds.Any) × (otherwise < target_count)
 IsInstruction (Goto to) = to < target_count
 IsInstruction (Ret from) = from < variable_count
 IsInstruction Fail = Unit {0}
@@ -98,6 +111,7 @@ jump (NoneObject to) = None
 jump (Newref to from) = None
 jump (Move to from) = None
 jump (Drop from) = None
+jump (As from kind otherwise) = Some otherwise
 jump (Goto to) = Some to
 jump (Ret from) = None
 jump Fail = None

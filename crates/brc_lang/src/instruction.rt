@@ -1,12 +1,11 @@
 //! The instruction of a line.
 
 ghost use Rattle.std.specs.Prelude.{◌≡◌, ◌≤◌, ◌∷◌, [], IfOk};
-ghost use Rattle.brc_lang.specs.Fault.{words, one_variable_in, two_variables_in, one_target_in, birth_in};
-ghost use Rattle.brc_lang.specs.Fault.{instruction_in};
+ghost use Rattle.brc_lang.specs.Fault.{words, one_variable_in, two_variables_in, one_target_in, birth_in, instruction_in, as_in};
 
 use crate::fault::FaultCode;
 use crate::lexing::{
-    four_words, is_word, number_between, one_word, split_word, target, two_words, variable,
+    four_words, is_word, kind, number_between, one_word, split_word, target, two_words, variable,
 };
 use crate::module::Instr;
 use crate::variable::Variable;
@@ -68,6 +67,8 @@ fn instruction_with(word: &[u8], operands: &[u8]) -> Result<Instr, FaultCode>
     } else if is_word(word, b"drop") {
         let from = one_variable(operands)?;
         Ok(Instr::Drop { from })
+    } else if is_word(word, b"as") {
+        as_kind(operands)
     } else if is_word(word, b"goto") {
         let target = one_target(operands)?;
         Ok(Instr::Goto { target })
@@ -94,6 +95,26 @@ fn birth(low: u32, high: u32, operands: &[u8]) -> Result<(Variable, u32, u8), Fa
     let number = number_between(low, high, number)?;
     let otherwise = target(otherwise)?;
     Ok((to, number, otherwise))
+}
+
+/// Reads the operands of `as`: a variable, a kind, `else` and a target.
+fn as_kind(operands: &[u8]) -> Result<Instr, FaultCode>
+    ensures { result ≡ as_in (words operands.now) }
+{
+    let Some((from, asked, word, otherwise)) = four_words(operands) else {
+        return Err(FaultCode::UnknownWord);
+    };
+    if !is_word(word, b"else") {
+        return Err(FaultCode::UnknownWord);
+    }
+    let from = variable(from)?;
+    let kind = kind(asked)?;
+    let otherwise = target(otherwise)?;
+    Ok(Instr::As {
+        from,
+        kind,
+        otherwise,
+    })
 }
 
 fn one_variable(operands: &[u8]) -> Result<Variable, FaultCode>

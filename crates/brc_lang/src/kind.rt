@@ -1,3 +1,6 @@
+ghost use Rattle.std.specs.Prelude.{◌≡◌};
+ghost use Rattle.brc_lang.specs.Grammar.{kind_name};
+
 /// The kind of an object: `none`, `num`, `list`, `file` or `sock` in the language.
 #[derive(Clone, Copy, Debug, PartialEq, Eq)]
 pub enum Kind {
@@ -9,4 +12,20 @@ pub enum Kind {
     Sock,
     /// A kind that isn't known yet, as that of an item of a list before `as` asks for it.
     Any,
+}
+
+impl Kind {
+    /// Returns the kind's word, as in `as v1 num else @3`. `Any` has one too, which no module names.
+    pub fn name(self) -> &'static str
+        ensures { result.now ≡ kind_name self }
+    {
+        match self {
+            Kind::None => "none",
+            Kind::Num => "num",
+            Kind::List => "list",
+            Kind::File => "file",
+            Kind::Sock => "sock",
+            Kind::Any => "any",
+        }
+    }
 }

@@ -8,10 +8,11 @@ ghost use Rattle.std.specs.Str.Parse.{digits_value};
 ghost use Rattle.brc_lang.specs.declared.fault.FaultCode.TheVariants.{Number};
 ghost use Rattle.std.specs.Str.{bytes_eq};
 ghost use Rattle.brc_lang.specs.Grammar.{is_name, is_name_byte};
-ghost use Rattle.brc_lang.specs.Fault.{words, number_in, number_between, variable_in, target_in, is_line_feed};
+ghost use Rattle.brc_lang.specs.Fault.{words, number_in, number_between, variable_in, target_in, is_line_feed, kind_in};
 ghost use Rattle.brc_lang.specs.Progress.{IsFirstLineOf};
 
 use crate::fault::FaultCode;
+use crate::kind::Kind;
 use crate::variable::Variable;
 
 const LAST_VARIABLE: u32 = 15;
@@ -175,5 +176,24 @@ pub(crate) fn target(word: &[u8]) -> Result<u8, FaultCode>
     match word {
         [b'@', digits @ ..] => Ok(number(LAST_TARGET, digits)? as u8),
         _ => Err(FaultCode::UnknownWord),
+    }
+}
+
+/// Reads a kind: `none`, `num`, `list`, `file` or `sock`. Returns `UnknownWord` for another word.
+pub(crate) fn kind(word: &[u8]) -> Result<Kind, FaultCode>
+    ensures { result ≡ kind_in word.now }
+{
+    if is_word(word, b"none") {
+        Ok(Kind::None)
+    } else if is_word(word, b"num") {
+        Ok(Kind::Num)
+    } else if is_word(word, b"list") {
+        Ok(Kind::List)
+    } else if is_word(word, b"file") {
+        Ok(Kind::File)
+    } else if is_word(word, b"sock") {
+        Ok(Kind::Sock)
+    } else {
+        Err(FaultCode::UnknownWord)
     }
 }

@@ -1,6 +1,7 @@
 ghost use Rattle.std.specs.Prelude.{◌≡◌};
 ghost use Rattle.brc_lang.specs.Grammar.{jump};
 
+use crate::kind::Kind;
 use crate::name::Name;
 use crate::sequence::Sequence;
 use crate::variable::Variable;
@@ -55,6 +56,12 @@ pub enum Instr {
     Drop {
         from: Variable,
     },
+    /// `as vS KIND else @L`: goes on at L if the object that vS names isn't of the kind.
+    As {
+        from: Variable,
+        kind: Kind,
+        otherwise: u8,
+    },
     /// `goto @L`: goes on at the instruction L.
     Goto {
         target: u8,
@@ -73,7 +80,9 @@ impl Instr {
         ensures { result ≡ jump self }
     {
         match self {
-            Instr::Num { otherwise, .. } | Instr::List { otherwise, .. } => Some(otherwise),
+            Instr::Num { otherwise, .. }
+            | Instr::List { otherwise, .. }
+            | Instr::As { otherwise, .. } => Some(otherwise),
             Instr::Goto { target } => Some(target),
             _ => None,
         }

@@ -1,11 +1,12 @@
 ghost use Rattle.std.specs.Prelude.{[], ◌∷◌, ◌++◌, OnOk, OnErr, codes, decimal};
 ghost use Rattle.std.specs.Io.KnownBytes.{Appends};
 ghost use Rattle.brc_lang.specs.Written.{AppendsBeginning};
-ghost use Rattle.brc_lang.specs.Grammar.{spaced, variable as variable_text, target as target_text};
-ghost use Rattle.brc_lang.specs.Grammar.{instruction as instruction_text};
+ghost use Rattle.brc_lang.specs.Grammar.{spaced, variable as variable_text, target as target_text, instruction as instruction_text, kind_name};
+ghost use Rattle.brc_lang.specs.declared.module.Instr.TheVariants.{Num, As};
 ghost use Rattle.brc_lang.specs.Grammar.{instructions as instructions_text, line as line_text, heading as heading_text};
 ghost use Rattle.brc_lang.specs.Grammar.{function as function_text, text as module_text};
 
+use crate::kind::Kind;
 use crate::module::{Function, Instr, Module};
 use crate::output::{write_bytes, write_number};
 use crate::variable::Variable;
@@ -86,6 +87,11 @@ fn write_instruction<W: Write>(instr: Instr, writer: &mut W) -> io::Result<()>
         Instr::Newref { to, from } => write_operands(b"newref ", to, from, writer),
         Instr::Move { to, from } => write_operands(b"move ", to, from, writer),
         Instr::Drop { from } => write_operand(b"drop ", from, writer),
+        Instr::As {
+            from,
+            kind,
+            otherwise,
+        } => write_as(from, kind, otherwise, writer),
         Instr::Goto { target } => write_numeral(b"goto @", u64::from(target), writer),
         Instr::Ret { from } => write_operand(b"ret ", from, writer),
         Instr::Fail => write_bytes(b"fail", writer),
@@ -108,6 +114,28 @@ fn write_birth<W: Write>(
     write_operand(before, to, writer)?;
     write_numeral(b" ", u64::from(number), writer)?;
     write_numeral(b" else @", u64::from(otherwise), writer)
+}
+
+fn write_as<W: Write>(from: Variable, kind: Kind, otherwise: u8, writer: &mut W) -> io::Result<()>
+    ensures whole { OnOk result (Appends (W.contents writer.old) (W.contents writer.new)
+        (instruction_text (As from kind otherwise))) }
+    ensures begun { OnErr result (AppendsBeginning (W.contents writer.old) (W.contents writer.new)
+        (instruction_text (As from kind otherwise))) }
+{
+    write_operand(b"as ", from, writer)?;
+    write_kind(b" ", kind, writer)?;
+    write_numeral(b" else @", u64::from(otherwise), writer)
+}
+
+/// Writes the bytes and then the kind's word.
+fn write_kind<W: Write>(before: &[u8], kind: Kind, writer: &mut W) -> io::Result<()>
+    ensures whole { OnOk result (Appends (W.contents writer.old) (W.contents writer.new)
+        (before.now ++ kind_name kind)) }
+    ensures begun { OnErr result (AppendsBeginning (W.contents writer.old) (W.contents writer.new)
+        (before.now ++ kind_name kind)) }
+{
+    write_bytes(before, writer)?;
+    write_bytes(kind.name().as_bytes(), writer)
 }
 
 /// Writes the bytes and then the two variables.

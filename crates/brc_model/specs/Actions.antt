@@ -1,7 +1,7 @@
 -- Actions. At an event a thread of the step world does the first duty of its agenda, or what its code dispatches.
 use Rattle.std.specs.Prelude.{ℕ, zero, suc, ◌+◌, ◌*◌, Bool, true, false, ◌&&◌, ◌==◌, nat_lt, if◌then◌else◌, List, [], ◌∷◌, length, Option, None, Some, slice_get, slice_set}
 use Rattle.brc_lang.specs.declared.module.Instr.{Instr}
-use Rattle.brc_lang.specs.declared.module.Instr.TheVariants.{Num, List as ListObject, NoneObject, Newref, Move as MoveReference, Drop, Goto, Ret, Fail}
+use Rattle.brc_lang.specs.declared.module.Instr.TheVariants.{Num, List as ListObject, NoneObject, Newref, Move as MoveReference, Drop, Goto, Ret, Fail, As}
 use Rattle.brc_lang.specs.declared.module.Function.{Function}
 use Rattle.brc_word.specs.Words.{half}
 use Rattle.brc_model.specs.declared.thread.Choice.{Choice}
@@ -12,8 +12,9 @@ use Rattle.brc_model.specs.declared.actor.Place.{Place}
 use Rattle.brc_model.specs.declared.actor.Place.TheVariants.{Idle, InCall, Exiting}
 use Rattle.brc_model.specs.declared.duty.Holding.TheVariants.{ByVariable, AsCaller}
 use Rattle.brc_model.specs.declared.duty.Duty.{Duty}
-use Rattle.brc_model.specs.declared.duty.Duty.TheVariants.{RetainLoad, ReleaseLoad, Settle, Leave, ClaimMark, BirthKind}
+use Rattle.brc_model.specs.declared.duty.Duty.TheVariants.{RetainLoad, ReleaseLoad, Settle, Leave, ClaimMark, BirthKind, KindLoad}
 use Rattle.brc_model.specs.AbstractState.{Move}
+use Rattle.brc_model.specs.Kinds.{same_kind, kind_of_word}
 use Rattle.brc_model.specs.Threads.{code_of, row_of, entry_variables}
 use Rattle.brc_model.specs.Moves.{pass_on, gain}
 use Rattle.brc_model.specs.declared.layout.Layout.{Layout}
@@ -83,6 +84,10 @@ dispatch_instruction layout t used left at variables (Some (Drop from)) =
     with_row (row_of variables from)
     (λ row. Does (ReleaseLoad row (ByVariable from)) (Settle ∷ [])
     (always (InCall left (at + 1) (slice_set variables from None))))
+dispatch_instruction layout t used left at variables (Some (As from kind otherwise)) =
+    with_row (row_of variables from)
+    (λ row. Does (KindLoad row) []
+    (λ found. InCall left (if same_kind (kind_of_word found) kind then at + 1 else otherwise) variables))
 dispatch_instruction layout t used left at variables (Some (Goto to)) = Silent [] (InCall left to variables)
 dispatch_instruction layout t used left at variables (Some (Ret from)) =
     with_row (row_of variables from)

@@ -27,6 +27,9 @@ kind_numbered n =
 abbrev pub kind_of_word : ℕ → Kind
 kind_of_word word = kind_numbered (kind_part word)
 
+abbrev pub same_kind : Kind → Kind → Bool
+same_kind one other = kind_number one == kind_number other
+
 -- a counted object is a number, a list, a file or a socket
 abbrev pub is_counted_kind : Kind → Bool
 is_counted_kind kinds.Any = false

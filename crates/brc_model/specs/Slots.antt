@@ -1,12 +1,13 @@
 -- Slot states: what each instruction asks of the variables, and what it leaves in them. (Python/C API manual, Reference
 -- Count Details; Extending manual, Ownership Rules: the owner of a reference gives it up once, by a decrement or by
 -- passing it on; a borrower doesn't give it up; a call returns an owned reference.)
-use Rattle.std.specs.Prelude.{ℕ, ◌+◌, Bool, true, false, ◌==◌, List, [], ◌∷◌, Option, None, Some, is_some, find, slice_set, replicate}
+use Rattle.std.specs.Prelude.{ℕ, ◌+◌, Bool, true, false, not, ◌==◌, List, [], ◌∷◌, Option, None, Some, is_some, find, slice_set, replicate}
 use Rattle.std.specs.List.{list_any, slice_index_or}
 use Rattle.brc_lang.specs.declared.kind.Kind.{Kind}
 use Rattle.brc_lang.specs.declared.kind.Kind.TheVariants as kinds
 use Rattle.brc_lang.specs.declared.module.Instr.{Instr}
-use Rattle.brc_lang.specs.declared.module.Instr.TheVariants.{Num, List as ListObject, NoneObject, Newref, Move, Drop, Goto, Ret, Fail}
+use Rattle.brc_lang.specs.declared.module.Instr.TheVariants.{Num, List as ListObject, NoneObject, Newref, Move, Drop, Goto, Ret, Fail, As}
+use Rattle.brc_model.specs.Kinds.{same_kind}
 use Rattle.brc_model.specs.declared.code.CheckCode.{CheckCode}
 use Rattle.brc_model.specs.declared.code.CheckCode.TheVariants.{EmptyUsed, WrongKind, NotOwned, StillOwns, LeftOwned, LeftLocked, SecondLock, NotLocked, LockedChanged}
 use Rattle.brc_model.specs.declared.slot.Slot.{Slot}
@@ -39,6 +40,18 @@ kind_of (Owned k) = k
 kind_of (Caller k) = k
 kind_of (Locked k) = k
 
+-- an object of the first kind may be of the second: it is, or its kind isn't known yet
+abbrev pub may_be : Kind → Kind → Bool
+may_be kinds.Any asked = true
+may_be known asked = same_kind known asked
+
+-- the slot with another kind
+abbrev pub with_kind : Slot → Kind → Slot
+with_kind Empty k = Empty
+with_kind (Owned old) k = Owned k
+with_kind (Caller old) k = Caller k
+with_kind (Locked old) k = Locked k
+
 abbrev pub names : Option ℕ → ℕ → Bool
 names None x = false
 names (Some y) x = x == y
@@ -57,6 +70,8 @@ pub data Condition : Type 0 where
   Give : ℕ → Condition
   -- the variable owns no reference, and isn't the locked one
   Into : ℕ → Condition
+  -- the variable's kind is this one, or isn't known yet
+  MayBe : ℕ → Kind → Condition
   -- no variable owns a reference
   NothingOwned : Condition
   -- no variable but this one owns a reference
@@ -72,6 +87,7 @@ breaks s NotOwned (Give x) = is_borrowed (slot_of s x)
 breaks s LockedChanged (Give x) = names s.locked x
 breaks s StillOwns (Into x) = is_owned (slot_of s x)
 breaks s LockedChanged (Into x) = names s.locked x
+breaks s WrongKind (MayBe x kind) = not (may_be (kind_of (slot_of s x)) kind)
 breaks s LeftOwned NothingOwned = list_any is_owned s.slots
 breaks s LeftOwned (NothingOwnedBut x) = list_any is_owned (put s x Empty).slots
 breaks s LeftLocked NothingLocked = is_some s.locked
@@ -84,6 +100,7 @@ conditions_of (NoneObject to) = Into to ∷ []
 conditions_of (Newref to from) = Use from ∷ Into to ∷ []
 conditions_of (Move to from) = Give from ∷ Into to ∷ []
 conditions_of (Drop from) = Give from ∷ []
+conditions_of (As from kind otherwise) = Use from ∷ MayBe from kind ∷ []
 conditions_of (Goto to) = []
 conditions_of (Ret from) = Give from ∷ NothingOwnedBut from ∷ NothingLocked ∷ []
 conditions_of Fail = NothingOwned ∷ NothingLocked ∷ []
@@ -116,6 +133,8 @@ after (NoneObject to) exit s = put s to (Owned kinds.None)
 after (Newref to from) exit s = put s to (Owned (kind_of (slot_of s from)))
 after (Move to from) exit s = put (put s from Empty) to (Owned (kind_of (slot_of s from)))
 after (Drop from) exit s = put s from Empty
+after (As from kind otherwise) Success s = put s from (with_kind (slot_of s from) kind)
+after (As from kind otherwise) Fault s = s
 after (Goto to) exit s = s
 after (Ret from) exit s = s
 after Fail exit s = s
@@ -130,6 +149,8 @@ target (NoneObject to) exit at = Some (at + 1)
 target (Newref to from) exit at = Some (at + 1)
 target (Move to from) exit at = Some (at + 1)
 target (Drop from) exit at = Some (at + 1)
+target (As from kind otherwise) Success at = Some (at + 1)
+target (As from kind otherwise) Fault at = Some otherwise
 target (Goto to) exit at = Some to
 target (Ret from) exit at = None
 target Fail exit at = None

@@ -1,9 +1,7 @@
 -- The report of a run: ASCII lines, each with a line feed at its end.
 use Rattle.std.specs.Prelude.{ℕ, List, [], ◌∷◌, ◌++◌, codes, decimal}
 use Rattle.std.specs.List.{flat_map}
-use Rattle.brc_lang.specs.Grammar.{line}
-use Rattle.brc_lang.specs.declared.kind.Kind.{Kind}
-use Rattle.brc_lang.specs.declared.kind.Kind.TheVariants.{None, Num, List as ListKind, File, Sock, Any}
+use Rattle.brc_lang.specs.Grammar.{line, kind_name}
 use Rattle.brc_report.specs.declared.tally.Tally.{Tally}
 use Rattle.brc_report.specs.declared.tally.Left.{Left}
 
@@ -25,14 +23,6 @@ counts t =
 
 abbrev pub counts_text : Tally → List ℕ
 counts_text t = flat_map (λ c. line (entry c.0 c.1)) (counts t)
-
-abbrev pub kind_name : Kind → List ℕ
-kind_name None = codes "none"
-kind_name Num = codes "num"
-kind_name ListKind = codes "list"
-kind_name File = codes "file"
-kind_name Sock = codes "sock"
-kind_name Any = codes "any"
 
 -- an object that is alive: its row and its kind
 abbrev pub left_text : Left → List ℕ

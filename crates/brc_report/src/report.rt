@@ -5,10 +5,10 @@ ghost use Rattle.std.specs.List.{flat_map};
 ghost use Rattle.std.specs.Io.KnownBytes.{Appends};
 ghost use Rattle.brc_lang.specs.Grammar.{line};
 ghost use Rattle.brc_lang.specs.Written.{AppendsBeginning};
-ghost use Rattle.brc_report.specs.Report.{entry, kind_name as kind_name_text, left_text, tally_text};
+ghost use Rattle.brc_report.specs.Report.{entry, left_text, tally_text};
 
 use crate::tally::{Left, Tally};
-use brc_lang::{Kind, write_bytes, write_number};
+use brc_lang::{write_bytes, write_number};
 use std::io;
 use std::io::Write;
 
@@ -72,7 +72,7 @@ fn write_left<W: Write>(left: &Left, writer: &mut W) -> io::Result<()>
 {
     write_entry(b"left", u64::from(left.row), writer)?;
     write_bytes(b" ", writer)?;
-    write_bytes(kind_name(left.kind).as_bytes(), writer)?;
+    write_bytes(left.kind.name().as_bytes(), writer)?;
     write_bytes(b"\n", writer)
 }
 
@@ -85,17 +85,4 @@ pub fn write_entry<W: Write>(label: &[u8], number: u64, writer: &mut W) -> io::R
     write_bytes(label, writer)?;
     write_bytes(b" ", writer)?;
     write_number(number, writer)
-}
-
-fn kind_name(kind: Kind) -> &'static str
-    ensures { result.now ≡ kind_name_text kind }
-{
-    match kind {
-        Kind::None => "none",
-        Kind::Num => "num",
-        Kind::List => "list",
-        Kind::File => "file",
-        Kind::Sock => "sock",
-        Kind::Any => "any",
-    }
 }

@@ -11,6 +11,11 @@ read: none v0
 read: none v15
 read: move v0 v15
 read: move v15 v0
+read: as v0 none else @1
+read: as v1 num else @1
+read: as v9 list else @1
+read: as v10 file else @1
+read: as v15 sock else @1
 read: goto @1
 ";
 
@@ -125,6 +130,30 @@ line 3 L2: move v1 v2 v3
 line 3 L2: move v1  v2
 line 3 L3: move v1 v01
 line 3 L3: move v1 v99
+";
+
+// Words of `as`: the kind comes after the variable, and before the target.
+pub const AS_WORDS: &str = "\
+line 3 L2: as
+line 3 L2: as v1
+line 3 L2: as v1 num
+line 3 L2: as v1 num else
+line 3 L2: as v1 num else @1 @1
+line 3 L2: as v1 num @1 else
+line 3 L2: as v1 num or @1
+line 3 L2: as v1 num else 1
+line 3 L2: as 1 num else @1
+line 3 L2: as num v1 else @1
+line 3 L2: as v1 any else @1
+line 3 L2: as v1 nu else @1
+line 3 L2: as v1 number else @1
+line 3 L2: as v1 Num else @1
+line 3 L2: as v1  else @1
+line 3 L2: as v16 any or @256
+line 3 L3: as v16 any else @256
+line 3 L2: as v1 any else @256
+line 3 L3: as v1 num else @256
+line 3 L3: as v1 num else @01
 ";
 
 // Targets of another form.

@@ -1,8 +1,9 @@
 use crate::line_cases::{
-    IN_ORDER, LIST_NUMBERS, LIST_WORDS, NONE_AND_MOVE, NUM_NUMBERS, NUM_WORDS, READ, TARGETS,
+    AS_WORDS, IN_ORDER, LIST_NUMBERS, LIST_WORDS, NONE_AND_MOVE, NUM_NUMBERS, NUM_WORDS, READ,
+    TARGETS,
 };
 use crate::target_cases::{AHEAD, EARLIER, NOT_AHEAD};
-use brc_lang::{FaultCode, Instr, ReadFault, Sequence, Variable, read, write, write_bytes};
+use brc_lang::{FaultCode, Instr, Kind, ReadFault, Sequence, Variable, read, write, write_bytes};
 use std::alloc::{AllocError, Global};
 use std::test::Fail;
 
@@ -22,7 +23,7 @@ const HEAD: &[u8] = b"module 1\nfunc f\n";
 const BELOW: &[u8] = b"\nfail\nend\n";
 
 // The text above the cases, the cases, and the text below them.
-const TABLES: [(&[u8], &str, &[u8]); 12] = [
+const TABLES: [(&[u8], &str, &[u8]); 13] = [
     (b"", MODULES, b""),
     (HEAD, READ, BELOW),
     (HEAD, NUM_NUMBERS, BELOW),
@@ -31,6 +32,7 @@ const TABLES: [(&[u8], &str, &[u8]); 12] = [
     (HEAD, LIST_WORDS, BELOW),
     (HEAD, IN_ORDER, BELOW),
     (HEAD, NONE_AND_MOVE, BELOW),
+    (HEAD, AS_WORDS, BELOW),
     (HEAD, TARGETS, BELOW),
     (HEAD, AHEAD, b""),
     (HEAD, NOT_AHEAD, b""),
@@ -146,7 +148,12 @@ fn reads_each_instruction(rt: HostRuntime) {
             to: Variable::new(2),
             from: Variable::new(3),
         },
-        Instr::Goto { target: 5 },
+        Instr::As {
+            from: Variable::new(2),
+            kind: Kind::Sock,
+            otherwise: 6,
+        },
+        Instr::Goto { target: 6 },
         Instr::Fail,
     ];
     let table: [(&[u8], &[u8], &[Instr]); 3] = [
@@ -157,8 +164,8 @@ fn reads_each_instruction(rt: HostRuntime) {
             &counted,
         ),
         (
-            b"module 1\nfunc f\nnum v1 4294967295 else @5\nlist v0 8 else @5\nnone v15\nmove v2 v3\ngoto @5\n\
-            fail\nend\n",
+            b"module 1\nfunc f\nnum v1 4294967295 else @5\nlist v0 8 else @5\nnone v15\nmove v2 v3\n\
+            as v2 sock else @6\ngoto @6\nfail\nend\n",
             b"f",
             &others,
         ),

@@ -4,6 +4,7 @@
 pub const AHEAD: &str = "\
 read: goto @1|fail|end|
 read: num v1 1 else @1|fail|end|
+read: as v1 num else @1|fail|end|
 read: num v1 1 else @2|goto @2|fail|end|
 read: list v1 1 else @1|fail|end|
 read: fail|goto @2|goto @3|fail|end|
@@ -22,6 +23,8 @@ line 5 L4: num v1 1 else @0|fail|end|
 line 5 L4: num v1 1 else @2|fail|end|
 line 5 L4: list v1 1 else @0|fail|end|
 line 5 L4: list v1 1 else @2|fail|end|
+line 5 L4: as v1 num else @0|fail|end|
+line 5 L4: as v1 num else @2|fail|end|
 line 9 L4: goto @1|fail|end|func g|fail|goto @255|end|end|
 ";
 

@@ -1,4 +1,4 @@
-use brc_lang::{Function, Instr, Module, Name, Sequence, Variable, write, write_number};
+use brc_lang::{Function, Instr, Kind, Module, Name, Sequence, Variable, write, write_number};
 use std::alloc::{AllocError, Global};
 use std::io;
 use std::io::{ErrorKind, Write};
@@ -96,6 +96,11 @@ fn writes_each_instruction(rt: HostRuntime) -> Result<(), Fail> {
             to: low,
             from: high,
         },
+        Instr::As {
+            from: high,
+            kind: Kind::None,
+            otherwise: 255,
+        },
         Instr::Goto { target: 10 },
     ];
     let table: [(&[u8], &[Instr]); 3] = [
@@ -106,7 +111,7 @@ fn writes_each_instruction(rt: HostRuntime) -> Result<(), Fail> {
     let text =
         b"module 1\nfunc f\nnewref v15 v0\ndrop v15\nret v0\nend\nfunc g_2\nfail\nend\nfunc h\n\
         num v15 4294967295 else @4\nnum v0 0 else @255\nlist v15 8 else @5\nlist v0 1 else @255\nnone v15\n\
-        move v0 v15\ngoto @10\nend\n";
+        move v0 v15\nas v15 none else @255\ngoto @10\nend\n";
     assert_eq!(rt; written(rt.alloc(), &table)?.as_slice(), text.as_slice());
     Ok(())
 }

@@ -1,18 +1,20 @@
 -- A step of the code does the thread's action, if the thread isn't gone.
-use Rattle.std.proofs.Common.{◌≡◌, ◌≢◌, ℕ, true, List, refl, sym, subst}
+use Rattle.std.proofs.Common.{◌≡◌, ◌≢◌, ℕ, true, List, refl, sym, ap, ◌∙◌, subst}
+use Rattle.brc_lang.specs.declared.kind.Kind.{Kind}
 use Rattle.brc_lang.specs.declared.module.Function.{Function}
 use Rattle.brc_model.specs.declared.actor.Status.{Status}
 use Rattle.brc_model.specs.declared.actor.Status.TheVariants.{Running, Leaving, Gone}
 use Rattle.brc_model.specs.declared.address.Address.{Address}
 use Rattle.brc_model.specs.declared.duty.Duty.{Duty}
 use Rattle.brc_model.specs.declared.duty.Duty.TheVariants.{ClaimMark}
+use Rattle.brc_model.specs.Duties.{address_of}
 use Rattle.brc_model.specs.Actions.{StepActor, Action, Skip, Stuck, Silent, Does, agenda_action, status_action}
 use Rattle.brc_world.proofs.Dispatching.{TakesStep, agenda_steps}
 use Rattle.brc_world.specs.declared.did.Did.{Did}
 use Rattle.brc_world.specs.declared.did.Did.TheVariants as answers
 use Rattle.brc_world.specs.declared.dispatch.Start.{Start}
 use Rattle.brc_world.specs.declared.dispatch.Start.TheVariants as starts
-use Rattle.brc_world.specs.Actors.{start_by, started, found_by, memory_done, actor_done, memory_by, actor_by, did_by, CanDo, CanAct, finds_mark, memory_claimed, actor_claimed, did_claim}
+use Rattle.brc_world.specs.Actors.{start_by, unasking, asked, answered, started, found_by, memory_done, actor_done, memory_by, actor_by, did_by, CanDo, CanAct, finds_mark, memory_claimed, actor_claimed, did_claim}
 use Rattle.brc_model.specs.declared.layout.Layout.{Layout}
 
 -- the answer, the words and the thread are those after the action
@@ -69,6 +71,12 @@ can_by layout t n threads memory a (Does c rest place) d e can found =
 
 -- ---- a thread that isn't gone
 
+started_head : (a : StepActor) (x : Action) (found : ℕ) → (started a x found).actor.head ≡ a.actor.head
+started_head a Skip found = refl
+started_head a Stuck found = refl
+started_head a (Silent moves place) found = refl
+started_head a (Does d rest place) found = refl
+
 alive_action : (functions : List Function) (layout : Layout) (t : ℕ) (a : StepActor) (s : Status) → s ≢ Gone
     → agenda_action functions layout t a a.actor.agenda ≡ status_action functions layout t a s
 alive_action functions layout t a Running alive = refl
@@ -79,8 +87,8 @@ alive_action functions layout t a Gone alive = absurd (alive refl)
 pub record HasStarted (functions : List Function) (layout : Layout) (t : ℕ) (a b : StepActor)
     (start : Start) : Type 0 where
   pub alive : a.actor.status ≢ Gone
-  pub starts : start ≡ start_by (agenda_action functions layout t a a.actor.agenda)
-  pub actor : (found : ℕ) → b ≡ started a (agenda_action functions layout t a a.actor.agenda) found
+  pub starts : unasking start ≡ start_by (agenda_action functions layout t a a.actor.agenda)
+  pub actor : (found : ℕ) → answered start found b ≡ started a (agenda_action functions layout t a a.actor.agenda) found
 
 abbrev StepsTo : List Function → Layout → ℕ → (Address → ℕ) → StepActor → Did → (Address → ℕ) → StepActor → Type 0
 StepsTo functions layout t memory a did words b =
@@ -130,6 +138,28 @@ does_step functions layout t memory a b d begun =
     (sym (begun.actor (found_by layout t memory a d)))
     (does_by layout t memory a (agenda_action functions layout t a a.actor.agenda) d begun.starts))
 
+-- A step that asks for a kind is the model's step of its duty, after which the word found decides the thread's place.
+pub asks_step : (functions : List Function) (layout : Layout) (t : ℕ) (memory : Address → ℕ) (a b : StepActor)
+    (d : Duty) (kind : Kind) (otherwise : ℕ)
+    → HasStarted functions layout t a b (starts.Asking d kind otherwise)
+    → StepsTo functions layout t memory a answers.Moved (memory_done layout t memory b d)
+    (asked kind otherwise (found_by layout t memory b d) (actor_done layout t memory b d))
+asks_step functions layout t memory a b d kind otherwise begun =
+    let x = agenda_action functions layout t a a.actor.agenda in
+    let heads : b.actor.head ≡ a.actor.head =
+    ap (λ (c : StepActor). c.actor.head) (begun.actor 0) ∙ started_head a x 0 in
+    let same : found_by layout t memory b d ≡ found_by layout t memory a d =
+    ap (λ (head : ℕ). memory (address_of layout t head d)) heads in
+    let found = found_by layout t memory b d in
+    let step : IsStep layout t memory a x answers.Moved (memory_done layout t memory (started a x found) d)
+    (actor_done layout t memory (started a x found) d) =
+    subst (λ (word : ℕ). IsStep layout t memory a x answers.Moved (memory_done layout t memory (started a x word) d)
+    (actor_done layout t memory (started a x word) d)) (sym same) (does_by layout t memory a x d begun.starts) in
+    of_status functions layout t memory a answers.Moved (memory_done layout t memory b d)
+    (asked kind otherwise found (actor_done layout t memory b d)) begun.alive
+    (subst (λ (c : StepActor). IsStep layout t memory a x answers.Moved (memory_done layout t memory c d)
+    (actor_done layout t memory c d)) (sym (begun.actor found)) step)
+
 -- The thread can do the duty that its step has started with.
 pub can_do : (functions : List Function) (layout : Layout) (t n threads : ℕ) (memory : Address → ℕ) (a b : StepActor)
     (d : Duty)
@@ -141,6 +171,20 @@ can_do functions layout t n threads memory a b d begun can =
     (can_by layout t n threads memory a (agenda_action functions layout t a a.actor.agenda) d begun.starts
     (subst (CanAct layout t n threads memory a)
     (sym (alive_action functions layout t a a.actor.status begun.alive)) can) 0)
+
+pub can_ask : (functions : List Function) (layout : Layout) (t n threads : ℕ) (memory : Address → ℕ) (a b : StepActor)
+    (d : Duty) (kind : Kind) (otherwise : ℕ)
+    → HasStarted functions layout t a b (starts.Asking d kind otherwise)
+    → CanAct layout t n threads memory a (status_action functions layout t a a.actor.status)
+    → CanDo layout t n threads memory b d
+can_ask functions layout t n threads memory a b d kind otherwise begun can =
+    let x = agenda_action functions layout t a a.actor.agenda in
+    let does : CanDo layout t n threads memory (asked kind otherwise 0 b) d =
+    subst (λ (c : StepActor). CanDo layout t n threads memory c d) (sym (begun.actor 0))
+    (can_by layout t n threads memory a x d begun.starts
+    (subst (CanAct layout t n threads memory a)
+    (sym (alive_action functions layout t a a.actor.status begun.alive)) can) 0) in
+    record { there = does.there; suits = does.suits; uses = does.uses }
 
 -- ---- a claim that finds a mark
 

@@ -2,7 +2,7 @@
 use Rattle.std.proofs.Common.{ℕ, zero, suc, Bool, true, false, cond, List, [], ◌∷◌, Option, None, Some}
 use Rattle.std.specs.Prelude.{slice_get}
 use Rattle.brc_lang.specs.declared.module.Instr.{Instr}
-use Rattle.brc_lang.specs.declared.module.Instr.TheVariants.{Num, List as ListObject, NoneObject, Newref, Move as MoveReference, Drop, Goto, Ret, Fail}
+use Rattle.brc_lang.specs.declared.module.Instr.TheVariants.{Num, List as ListObject, NoneObject, Newref, Move as MoveReference, Drop, Goto, Ret, Fail, As}
 use Rattle.brc_lang.specs.declared.module.Function.{Function}
 use Rattle.brc_model.specs.Threads.{code_of, row_of, entry_variables}
 use Rattle.brc_model.specs.declared.duty.Duty.{Duty}
@@ -38,6 +38,8 @@ instruction_steps layout t used left at variables (Some (Newref to from)) =
 instruction_steps layout t used left at variables (Some (MoveReference to from)) =
     row_steps (row_of variables from) _ (λ row. tt)
 instruction_steps layout t used left at variables (Some (Drop from)) = row_steps (row_of variables from) _ (λ row. tt)
+instruction_steps layout t used left at variables (Some (As from kind otherwise)) =
+    row_steps (row_of variables from) _ (λ row. tt)
 instruction_steps layout t used left at variables (Some (Goto to)) = tt
 instruction_steps layout t used left at variables (Some (Ret from)) = row_steps (row_of variables from) _ (λ row. tt)
 instruction_steps layout t used left at variables (Some Fail) = tt

@@ -1,5 +1,6 @@
 -- The model's view of a thread, and what a step changes in the words and in its thread, by the thread's action.
 use Rattle.std.specs.Prelude.{◌≡◌, ℕ, ◌≤◌, Bool, true, false, ◌==◌, ◌&&◌, not, if◌then◌else◌, List, [], ◌∷◌, reverse, Option, None}
+use Rattle.brc_lang.specs.declared.kind.Kind.{Kind}
 use Rattle.brc_model.specs.declared.actor.Status.{Status}
 use Rattle.brc_model.specs.declared.actor.Status.TheVariants.{Running, Leaving, Gone}
 use Rattle.brc_model.specs.declared.address.Address.{Address}
@@ -9,6 +10,7 @@ use Rattle.brc_model.specs.declared.duty.Duty.TheVariants.{ReleaseLoad, Settle, 
 use Rattle.brc_model.specs.declared.duty.Holding.TheVariants.{AsCaller}
 use Rattle.brc_model.specs.declared.actor.Place.{Place}
 use Rattle.brc_model.specs.declared.actor.Place.TheVariants.{Idle, InCall, Exiting}
+use Rattle.brc_model.specs.Kinds.{same_kind, kind_of_word}
 use Rattle.brc_model.specs.Duties.{address_of, new_word}
 use Rattle.brc_model.specs.Within.{IsThere, Suits}
 use Rattle.brc_model.specs.Machine as model
@@ -66,12 +68,33 @@ with_agenda a agenda =
 abbrev pub exit_action : ℕ → Action
 exit_action used = Does (ReleaseLoad root_row AsCaller) (Settle ∷ Leave 0 used ∷ []) (always Exiting)
 
--- Returns the start of a step with the action.
+-- Returns the start of a step with the action, but for what the step asks of the word found.
 abbrev pub start_by : Action → Start
 start_by Skip = starts.Stuck
 start_by Stuck = starts.Stuck
 start_by (Silent moves place) = starts.Moved
 start_by (Does d rest place) = starts.Doing d
+
+-- the start without what it asks of the word found
+abbrev pub unasking : Start → Start
+unasking (starts.Asking d kind otherwise) = starts.Doing d
+unasking start = start
+
+-- the place with another point, if it is in a call
+abbrev pub with_point : (ℕ → ℕ) → Place → Place
+with_point point (Idle left) = Idle left
+with_point point (InCall left at variables) = InCall left (point at) variables
+with_point point Exiting = Exiting
+
+-- the thread, which goes on at `otherwise` if the kind word found is of another kind than this one
+abbrev pub asked : Kind → ℕ → ℕ → StepActor → StepActor
+asked kind otherwise found a =
+    at_place a (with_point (λ at. if same_kind (kind_of_word found) kind then at else otherwise) a.place)
+
+-- the thread once the word found has answered what its step's start asks
+abbrev pub answered : Start → ℕ → StepActor → StepActor
+answered (starts.Asking d kind otherwise) found a = asked kind otherwise found a
+answered _ found a = a
 
 -- Returns the thread once its step has started: the duty that it does is no longer in its agenda, and the thread is at
 -- the place that the word found decides.

@@ -7,13 +7,13 @@ ghost use Rattle.brc_model.specs.declared.duty.Holding.TheVariants.{ByVariable};
 ghost use Rattle.brc_model.specs.Threads.{code_of, entry_variables};
 ghost use Rattle.brc_model.specs.Actions.{agenda_action, dispatch_instruction, birth_action};
 ghost use Rattle.brc_model.specs.Machine.{has_room};
-ghost use Rattle.brc_world.specs.Actors.{actor_of, with_agenda, exit_action, start_by, started};
+ghost use Rattle.brc_world.specs.Actors.{actor_of, with_agenda, exit_action, start_by, unasking, answered, started};
 ghost use Rattle.brc_model.specs.Layout.{row_at};
 
 use crate::rows::{NONE_ROW, ROOT, block_size, row_at};
 use crate::states::{LIST, NUM};
 use crate::thread::{Stage, Thread, Variables};
-use brc_lang::{Function, Instr, Variable};
+use brc_lang::{Function, Instr, Kind, Variable};
 use brc_model::{Duty, Holding, Layout};
 use brc_word::kind_word;
 
@@ -26,15 +26,22 @@ pub enum Start {
     Moved,
     /// The thread does this duty, which is no longer in its agenda, and is already at the place where it then is.
     Doing(Duty),
+    /// The thread does this duty, which loads a kind word. It is already at the place where it goes on if the word is of
+    /// the kind; otherwise it goes on at the instruction `otherwise`.
+    Asking {
+        duty: Duty,
+        kind: Kind,
+        otherwise: u8,
+    },
 }
 
 /// Takes the first duty off the agenda or, if the agenda is empty, dispatches the next instruction or the exit.
 #[inline(always)]
 pub fn first_duty(functions: &[Function], layout: Layout, number: u8, thread: &mut Thread) -> Start
     requires room { vec_len thread.old.agenda + 8 ≤ vec_capacity thread.old.agenda }
-    ensures starts { result ≡ start_by (agenda_action functions.now layout number (actor_of thread.old)
+    ensures starts { unasking result ≡ start_by (agenda_action functions.now layout number (actor_of thread.old)
         (reverse thread.old.agenda.items)) }
-    ensures actor { (found : ℕ) → actor_of thread.new ≡ started (actor_of thread.old)
+    ensures actor { (found : ℕ) → answered result found (actor_of thread.new) ≡ started (actor_of thread.old)
         (agenda_action functions.now layout number (actor_of thread.old) (reverse thread.old.agenda.items)) found }
     ensures room { vec_len thread.new.agenda + 4 ≤ vec_capacity thread.new.agenda }
 {
@@ -50,8 +57,8 @@ pub fn first_duty(functions: &[Function], layout: Layout, number: u8, thread: &m
 fn dispatch(functions: &[Function], layout: Layout, number: u8, thread: &mut Thread) -> Start
     requires empty { thread.old.agenda.items ≡ [] }
     requires room { 8 ≤ vec_capacity thread.old.agenda }
-    ensures starts { result ≡ start_by (agenda_action functions.now layout number (actor_of thread.old) []) }
-    ensures actor { (found : ℕ) → actor_of thread.new ≡ started (actor_of thread.old)
+    ensures starts { unasking result ≡ start_by (agenda_action functions.now layout number (actor_of thread.old) []) }
+    ensures actor { (found : ℕ) → answered result found (actor_of thread.new) ≡ started (actor_of thread.old)
         (agenda_action functions.now layout number (actor_of thread.old) []) found }
     ensures room { vec_len thread.new.agenda + 4 ≤ vec_capacity thread.new.agenda }
 {
@@ -77,8 +84,8 @@ fn dispatch(functions: &[Function], layout: Layout, number: u8, thread: &mut Thr
 fn exit(thread: &mut Thread) -> Start
     requires empty { thread.old.agenda.items ≡ [] }
     requires room { 8 ≤ vec_capacity thread.old.agenda }
-    ensures starts { result ≡ start_by (exit_action thread.old.used) }
-    ensures actor { (found : ℕ) → actor_of thread.new
+    ensures starts { unasking result ≡ start_by (exit_action thread.old.used) }
+    ensures actor { (found : ℕ) → answered result found (actor_of thread.new)
         ≡ started (actor_of thread.old) (exit_action thread.old.used) found }
     ensures room { vec_len thread.new.agenda + 4 ≤ vec_capacity thread.new.agenda }
 {
@@ -106,9 +113,9 @@ fn next_instruction(
 ) -> Start
     requires empty { thread.old.agenda.items ≡ [] }
     requires room { 8 ≤ vec_capacity thread.old.agenda }
-    ensures starts { result ≡ start_by (dispatch_instruction layout number thread.old.used left thread.old.at
+    ensures starts { unasking result ≡ start_by (dispatch_instruction layout number thread.old.used left thread.old.at
         thread.old.variables (slice_get (code_of (slice_get functions.now thread.old.function)) thread.old.at)) }
-    ensures actor { (found : ℕ) → actor_of thread.new ≡ started (actor_of thread.old) (dispatch_instruction layout
+    ensures actor { (found : ℕ) → answered result found (actor_of thread.new) ≡ started (actor_of thread.old) (dispatch_instruction layout
         number thread.old.used left thread.old.at thread.old.variables
         (slice_get (code_of (slice_get functions.now thread.old.function)) thread.old.at)) found }
     ensures room { vec_len thread.new.agenda + 4 ≤ vec_capacity thread.new.agenda }
@@ -190,9 +197,9 @@ fn begin(instr: Instr, layout: Layout, number: u8, thread: &mut Thread, left: u3
     requires empty { thread.old.agenda.items ≡ [] }
     requires room { 8 ≤ vec_capacity thread.old.agenda }
     requires next { thread.old.at + 1 < 2 ^ 64 }
-    ensures starts { result ≡ start_by (dispatch_instruction layout number thread.old.used left thread.old.at
+    ensures starts { unasking result ≡ start_by (dispatch_instruction layout number thread.old.used left thread.old.at
         thread.old.variables (Some instr)) }
-    ensures actor { (found : ℕ) → actor_of thread.new ≡ started (actor_of thread.old) (dispatch_instruction layout
+    ensures actor { (found : ℕ) → answered result found (actor_of thread.new) ≡ started (actor_of thread.old) (dispatch_instruction layout
         number thread.old.used left thread.old.at thread.old.variables (Some instr)) found }
     ensures room { vec_len thread.new.agenda + 4 ≤ vec_capacity thread.new.agenda }
 {
@@ -248,6 +255,21 @@ fn begin(instr: Instr, layout: Layout, number: u8, thread: &mut Thread, left: u3
                 thread.set(from, None);
                 thread.go_to(left, next);
                 release(thread, row, from)
+            }
+            None => Start::Stuck,
+        },
+        Instr::As {
+            from,
+            kind,
+            otherwise,
+        } => match thread.row_of(from) {
+            Some(row) => {
+                thread.go_to(left, next);
+                Start::Asking {
+                    duty: Duty::KindLoad { row },
+                    kind,
+                    otherwise,
+                }
             }
             None => Start::Stuck,
         },

@@ -7,9 +7,10 @@ ghost use Rattle.brc_model.specs.Duties.{address_of, new_word};
 ghost use Rattle.brc_model.specs.Machine.{is_running, used_by};
 ghost use Rattle.brc_model.specs.Actions.{may_claim, status_action};
 ghost use Rattle.brc_model.specs.Limits.{worker_limit, total_limit};
+ghost use Rattle.brc_model.specs.Kinds.{same_kind, kind_of_word};
 ghost use Rattle.brc_model.specs.Within.{IsThere, Suits};
 ghost use Rattle.brc_world.specs.Storage.{word_in, IsStored};
-ghost use Rattle.brc_world.specs.Actors.{actor_of, found_by, actor_done, memory_by, actor_by, did_by, CanAct, finds_mark, memory_claimed, actor_claimed, did_claim, CanClaim};
+ghost use Rattle.brc_world.specs.Actors.{actor_of, asked, found_by, actor_done, memory_by, actor_by, did_by, CanAct, finds_mark, memory_claimed, actor_claimed, did_claim, CanClaim};
 
 use crate::address::address_of;
 use crate::agenda::{pass_over, push};
@@ -19,16 +20,24 @@ use crate::effect::Doer;
 use crate::memory::Memory;
 use crate::no_memory::NoMemory;
 use crate::rows::{block_of, index_of};
+use crate::tally::kind_numbered;
 use crate::thread::{Stage, Thread};
-use brc_lang::Function;
+use brc_lang::{Function, Kind};
 use brc_model::{Address, Duty, Layout, Status};
+use brc_word::kind_number;
 
 /// The room in the agenda that a step reserves: four duties when it starts, and four when its duty is done.
 const ROOM: usize = 8;
 
-/// Does the thread's duty, which is no longer in its agenda, on the duty's word.
+/// Does the thread's duty, which is no longer in its agenda, on the duty's word. Returns the value that it found there.
 #[inline(always)]
-pub fn do_duty(memory: &mut Memory, layout: Layout, number: u8, thread: &mut Thread, duty: &Duty)
+pub fn do_duty(
+    memory: &mut Memory,
+    layout: Layout,
+    number: u8,
+    thread: &mut Thread,
+    duty: &Duty,
+) -> u64
     requires some_rows { 0 < layout.rows }
     requires small { length memory.old.local ≤ total_limit }
     requires known { number ≤ worker_limit }
@@ -42,6 +51,7 @@ pub fn do_duty(memory: &mut Memory, layout: Layout, number: u8, thread: &mut Thr
         (new_word number thread.old.head duty.now
         (found_by layout number (word_in memory.old) (actor_of thread.old) duty.now)) memory.new }
     ensures actor { actor_of thread.new ≡ actor_done layout number (word_in memory.old) (actor_of thread.old) duty.now }
+    ensures found { result ≡ found_by layout number (word_in memory.old) (actor_of thread.old) duty.now }
 {
     let all = memory.rows() as u32;
     let address = address_of(layout, number, thread.head, *duty);
@@ -54,6 +64,23 @@ pub fn do_duty(memory: &mut Memory, layout: Layout, number: u8, thread: &mut Thr
     thread.used = effect.used;
     memory.store(address, effect.word);
     pass_over(&mut thread.agenda, effect.head);
+    found
+}
+
+/// Sends a thread in a call on to the instruction `otherwise`, if the kind word that it found is of another kind.
+fn answer(thread: &mut Thread, kind: Kind, otherwise: u8, found: u64)
+    ensures { actor_of thread.new ≡ asked kind otherwise found (actor_of thread.old) }
+{
+    if !is_of_kind(found, kind) {
+        thread.at = usize::from(otherwise);
+    }
+}
+
+/// Returns whether a kind word is of the kind.
+fn is_of_kind(word: u64, kind: Kind) -> bool
+    ensures { result ≡ same_kind (kind_of_word word) kind }
+{
+    kind_numbered(kind_number(word)) == kind
 }
 
 /// Returns the parts of the thread that a duty's effect depends on. `rows` is the number of rows of all threads
@@ -120,6 +147,15 @@ pub fn act(
         Start::Moved => Ok(Did::Moved),
         Start::Doing(duty) => {
             do_duty(memory, layout, number, thread, &duty);
+            Ok(Did::Moved)
+        }
+        Start::Asking {
+            duty,
+            kind,
+            otherwise,
+        } => {
+            let found = do_duty(memory, layout, number, thread, &duty);
+            answer(thread, kind, otherwise, found);
             Ok(Did::Moved)
         }
     }

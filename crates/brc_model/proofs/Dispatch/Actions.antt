@@ -24,7 +24,7 @@ use Rattle.brc_model.specs.OpenWork.{exits}
 use Rattle.brc_model.specs.Invariant.{CoreInvariant, Invariant}
 use Rattle.brc_model.proofs.Dispatch.Coded.{PlaceSays, is_departing, stays_elsewhere, placed_by, says_bounded}
 use Rattle.brc_model.proofs.Keeping.SilentSteps.{SilentSits}
-use Rattle.brc_model.proofs.Dispatch.Begins.{Starts, Gives, Takes, Bears, Follows, Nothing, Settles, Leaves, IsTaken}
+use Rattle.brc_model.proofs.Dispatch.Begins.{Starts, Gives, Takes, Bears, Asks, Follows, Nothing, Settles, Leaves, IsTaken}
 use Rattle.brc_model.proofs.Keeping.SilentMoves.{bag_after}
 use Rattle.brc_model.proofs.Keeping.Sits.{sitting, Sits, AtRest}
 use Rattle.brc_model.specs.Counting.{with_account}
@@ -116,6 +116,10 @@ starts_small p n m t a d rest core found (Takes row h by behind some) =
     (λ y. refl) (omega arith)
 starts_small p n m t a d rest core found (Bears h w room few said) =
     row_small (row_count m.layout) (row_at m.layout t a.used) d (next_within p n m t a core found room) (λ y. refl) few
+starts_small p n m t a d rest core found (Asks row by some) =
+    row_small (row_count m.layout) row d (referenced_small p n m row core
+    (omega (arith, some, held-le-references_to (reference_of t by row) m.abstract.references)))
+    (λ y. refl) (omega arith)
 
 follows_small : (k : ℕ) (layout : Layout) (t used : ℕ) (place : Place) (rest : List Duty)
     → Follows layout t used place rest

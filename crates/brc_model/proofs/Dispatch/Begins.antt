@@ -14,7 +14,7 @@ use Rattle.brc_model.specs.declared.duty.Holding.TheVariants.{ByVariable, AsCall
 use Rattle.brc_model.specs.AbstractState.{Reference, same_holding, references_to, Move}
 use Rattle.brc_model.specs.Threads.{row_of}
 use Rattle.brc_model.specs.declared.duty.Duty.{Duty}
-use Rattle.brc_model.specs.declared.duty.Duty.TheVariants.{RetainLoad, ReleaseLoad, Settle, Leave, BirthKind}
+use Rattle.brc_model.specs.declared.duty.Duty.TheVariants.{RetainLoad, ReleaseLoad, Settle, Leave, BirthKind, KindLoad}
 use Rattle.brc_model.specs.declared.actor.Place.{Place}
 use Rattle.brc_model.specs.declared.actor.Place.TheVariants.{Idle, InCall, Exiting}
 use Rattle.brc_model.specs.Actions.{Action, Skip, Stuck, Silent, Does, with_row}
@@ -45,7 +45,7 @@ holds_at_none bag t says holds = record { each = λ k object. omega (arith, hold
 -- ---- work that a thread takes up
 
 -- The first duty gives up a reference of an object that has one, makes a reference to an object that the thread holds,
--- or begins the birth of the next row.
+-- begins the birth of the next row, or loads the kind of an object that the thread holds.
 pub data Starts (bag : List Reference) (layout : Layout) (t used : ℕ) : Duty → List Duty → Type 0 where
   Gives : (row : ℕ) (h : Holding) (rest : List Duty) → 0 < references_to row bag
       → Starts bag layout t used (ReleaseLoad row h) rest
@@ -54,6 +54,8 @@ pub data Starts (bag : List Reference) (layout : Layout) (t used : ℕ) : Duty �
   Bears : (h : Holding) (w : ℕ) → used < block_size layout t → cells_of w ≤ cell_limit
       → is_counted_kind (kind_of_word w) ≡ true
       → Starts bag layout t used (BirthKind (row_at layout t used) h w) []
+  Asks : (row : ℕ) (by : Holding) → 0 < held (reference_of t by row) bag
+      → Starts bag layout t used (KindLoad row) []
 
 -- The duties behind the first one settle, and leave if the thread is to leave.
 pub data Follows (layout : Layout) (t used : ℕ) (place : Place) : List Duty → Type 0 where

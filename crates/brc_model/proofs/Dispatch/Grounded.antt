@@ -1,19 +1,21 @@
 -- A thread in a call is at a point that some path reaches, and what the path's state says of each variable is true of
 -- the row in that variable.
-use Rattle.std.proofs.Common.{◌≡◌, ◌≢◌, ℕ, zero, suc, ◌<◌, true, false, List, [], ◌∷◌, ◌++◌, length, Option, None, Some, refl, sym, ap, ◌∙◌, subst, arith, inl, inr, get_or-set_same, get_or-set_other}
-use Rattle.std.specs.Prelude.{slice_get, slice_set}
+use Rattle.std.proofs.Common.{◌≡◌, ◌≢◌, ℕ, zero, suc, ◌<◌, Bool, true, false, List, [], ◌∷◌, ◌++◌, length, Option, None, Some, refl, sym, ap, ◌∙◌, subst, arith, inl, inr, get_or-set_same, get_or-set_other}
+use Rattle.std.specs.Prelude.{◌&&◌, slice_get, slice_set}
 use Rattle.std.proofs.lemmas.Bool.{cases_lt}
 use Rattle.std.proofs.lemmas.Bool.Decides.{eqb_tells}
 use Rattle.std.proofs.lemmas.List.{get_or_past}
+use Rattle.brc_lang.specs.declared.kind.Kind.{Kind}
 use Rattle.brc_lang.specs.declared.module.Instr.{Instr}
 use Rattle.brc_lang.specs.Grammar.{IsInstruction, LeadsForward}
 use Rattle.brc_model.specs.declared.slot.Slot.{Slot}
 use Rattle.brc_model.specs.declared.slot.Slot.TheVariants.{Empty, Owned, Caller, Locked}
 use Rattle.brc_model.specs.declared.slot.State.{State}
 use Rattle.brc_model.specs.declared.slot.Exit.{Exit}
-use Rattle.brc_model.specs.Slots.{slot_of, is_empty, is_owned, is_borrowed, put, after, target, entry}
+use Rattle.brc_model.specs.Slots.{slot_of, is_empty, is_owned, is_borrowed, with_kind, names, put, after, target, entry}
 use Rattle.brc_model.specs.Paths.{At, path_end}
-use Rattle.brc_model.specs.declared.duty.Holding.TheVariants.{ByVariable, AsCaller}
+use Rattle.brc_model.specs.declared.duty.Holding.{Holding}
+use Rattle.brc_model.specs.declared.duty.Holding.TheVariants.{ByVariable, AsCaller, InFlight}
 use Rattle.brc_model.specs.AbstractState.{Reference, references_to}
 use Rattle.brc_model.specs.Threads.{row_of, entry_variables}
 use Rattle.brc_model.proofs.Basics.Lists.{get_or-replicate_default}
@@ -76,6 +78,54 @@ grounded-put s rows x slot row in_slots in_rows new old v =
           subst (λ (w : Option ℕ). IsGrounded (slot_of (put s x slot) v) w)
           (sym (row_of-set_other rows x v row other.1)) there
     ]
+
+-- ---- a variable's kind becomes known
+
+kind_grounded : (slot : Slot) (k : Kind) (row : Option ℕ) → IsGrounded slot row → IsGrounded (with_kind slot k) row
+kind_grounded Empty k row grounded = tt
+kind_grounded (Owned old) k row grounded = grounded
+kind_grounded (Caller old) k row grounded = grounded
+kind_grounded (Locked old) k row grounded = absurd grounded
+
+pub grounded-with_kind : (s : State) (rows : List (Option ℕ)) (x : ℕ) (k : Kind) → x < length s.slots
+    → ((v : ℕ) → IsGrounded (slot_of s v) (row_of rows v)) → (v : ℕ)
+    → IsGrounded (slot_of (put s x (with_kind (slot_of s x) k)) v) (row_of rows v)
+grounded-with_kind s rows x k in_slots old v =
+    let slot = with_kind (slot_of s x) k in
+    elim (eqb_tells v x) [
+      | inl this ↦
+          let P : ℕ → Type 0 = λ w. IsGrounded (slot_of (put s x slot) w) (row_of rows w) in
+          subst P (sym this.1) (subst (λ (w : Slot). IsGrounded w (row_of rows x))
+          (sym (slot_of-put_same s x slot in_slots)) (kind_grounded (slot_of s x) k (row_of rows x) (old x)))
+      | inr other ↦
+          subst (λ (w : Slot). IsGrounded w (row_of rows v)) (sym (slot_of-put_other s x v slot other.1)) (old v)
+    ]
+
+kind_owned : (slot : Slot) (k : Kind) → is_owned (with_kind slot k) ≡ is_owned slot
+kind_owned Empty k = refl
+kind_owned (Owned old) k = refl
+kind_owned (Caller old) k = refl
+kind_owned (Locked old) k = refl
+
+slot-with_kind : (s : State) (x v : ℕ) (k : Kind) → x < length s.slots
+    → is_owned (slot_of (put s x (with_kind (slot_of s x) k)) v) ≡ is_owned (slot_of s v)
+slot-with_kind s x v k in_slots =
+    let slot = with_kind (slot_of s x) k in
+    elim (eqb_tells v x) [
+      | inl this ↦
+          subst (λ (w : ℕ). is_owned (slot_of (put s x slot) w) ≡ is_owned (slot_of s w)) (sym this.1)
+          (ap is_owned (slot_of-put_same s x slot in_slots) ∙ kind_owned (slot_of s x) k)
+      | inr other ↦ ap is_owned (slot_of-put_other s x v slot other.1)
+    ]
+
+-- Another kind for a variable doesn't change what the thread is to hold.
+pub says-with_kind : (s : State) (variables : List (Option ℕ)) (x : ℕ) (k : Kind) (h : Holding) (object : ℕ)
+    → x < length s.slots
+    → of_variables s variables h object ≡ of_variables (put s x (with_kind (slot_of s x) k)) variables h object
+says-with_kind s variables x k AsCaller object in_slots = refl
+says-with_kind s variables x k InFlight object in_slots = refl
+says-with_kind s variables x k (ByVariable v) object in_slots =
+    ap (λ (b : Bool). b && names (row_of variables v) object) (sym (slot-with_kind s x v k in_slots))
 
 -- ---- what a slot says
 

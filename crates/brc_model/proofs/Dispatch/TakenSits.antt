@@ -8,7 +8,7 @@ use Rattle.brc_lang.specs.declared.module.Module.{Module}
 use Rattle.brc_model.specs.AbstractState.{Reference}
 use Rattle.brc_model.specs.Threads.{code_of}
 use Rattle.brc_model.specs.declared.duty.Duty.{Duty}
-use Rattle.brc_model.specs.declared.duty.Duty.TheVariants.{RetainLoad, ReleaseLoad, Settle, Leave, ClaimMark, BirthKind}
+use Rattle.brc_model.specs.declared.duty.Duty.TheVariants.{RetainLoad, ReleaseLoad, Settle, Leave, ClaimMark, BirthKind, KindLoad}
 use Rattle.brc_model.specs.declared.actor.Status.{Status}
 use Rattle.brc_model.specs.declared.actor.Status.TheVariants.{Running, Leaving, Gone}
 use Rattle.brc_model.specs.declared.actor.Place.{Place}
@@ -23,7 +23,7 @@ use Rattle.brc_model.specs.Invariant.{looks, CoreInvariant}
 use Rattle.brc_model.specs.Knowledge.{AllBehind, IsNext}
 use Rattle.brc_model.proofs.Frame.Aside.{HoldsAlone, holds_alone, alone_holds, alone_fits}
 use Rattle.brc_model.proofs.Dispatch.Coded.{PlaceSays, InCode, is_departing, departing_is, stays_elsewhere, place_fits, placed_by, exited_none, says_bounded}
-use Rattle.brc_model.proofs.Dispatch.Begins.{Starts, Gives, Takes, Follows, Nothing, Settles, Leaves, Taken, IsTaken, Bears}
+use Rattle.brc_model.proofs.Dispatch.Begins.{Starts, Gives, Takes, Follows, Nothing, Settles, Leaves, Taken, IsTaken, Bears, Asks}
 use Rattle.brc_model.proofs.Dispatch.Taking.{dispatch_taken}
 use Rattle.brc_model.proofs.Keeping.Sits.{Sits, AtRest, sitting}
 use Rattle.brc_model.specs.declared.layout.Layout.{Layout}
@@ -77,6 +77,7 @@ starts_leave : (bag : List Reference) (layout : Layout) (t used : ℕ) (d : Duty
 starts_leave bag layout t used d rest (Gives row h behind some) = refl
 starts_leave bag layout t used d rest (Takes row h by behind some) = refl
 starts_leave bag layout t used d rest (Bears h w room few said) = refl
+starts_leave bag layout t used d rest (Asks row by some) = refl
 
 -- The duties behind the first one weigh nothing.
 follows_weigh : (layout : Layout) (t used : ℕ) (place : Place) (rest : List Duty) (f : Duty → ℕ) → f Settle ≡ 0
@@ -154,6 +155,22 @@ starts_sit p n m t a place d rest account at alone holds bounded exited (Bears h
       no_decides = λ x. sum_by-cons (decides x) (BirthKind row h w) [];
       no_looks = λ x. sum_by-cons (looks x) (BirthKind row h w) [];
     }
+starts_sit p n m t a place d rest account at alone holds bounded exited (Asks row by some) follows =
+    record {
+      holds = holds_alone m.abstract.references t account (d ∷ rest) a.aside alone holds;
+      bounded = bounded;
+      exited = λ e. (exited e, alone);
+      aside = alone_fits (with_actor m t (sitting a (d ∷ rest))) t (sitting a (d ∷ rest)) alone;
+      knows = record { by = by; held_so = some };
+      behind = tt;
+      fits = later_follows m.layout t a.used place [] follows;
+      hands = λ x. refl;
+      no_waits = λ x. sum_by-cons (waits x) (KindLoad row) [];
+      no_carries = λ x. sum_by-cons (carries x) (KindLoad row) [];
+      no_merges = λ x. sum_by-cons (merges x) (KindLoad row) [];
+      no_decides = λ x. sum_by-cons (decides x) (KindLoad row) [];
+      no_looks = λ x. sum_by-cons (looks x) (KindLoad row) [];
+    }
 
 -- the chain is empty where what is taken up begins with the exit: it never does
 pub starts_settled : (bag : List Reference) (layout : Layout) (t used head : ℕ) (place : Place) (d : Duty)
@@ -166,6 +183,7 @@ starts_settled bag layout t used head place d rest (Takes row h by behind some) 
 starts_settled bag layout t used head place d rest (Takes row h by behind some) (Settles stays) = tt
 starts_settled bag layout t used head place d rest (Takes row h by behind some) (Leaves leaves) = (refl, tt)
 starts_settled bag layout t used head place d rest (Bears h w room few said) follows = tt
+starts_settled bag layout t used head place d rest (Asks row by some) follows = tt
 
 -- The account of the place where the thread then is, with which the work fits the thread.
 pub record TakenSits (p : Module) (m : Machine) (t : ℕ) (a : StepActor) (place : Place) (agenda : List Duty) : Type 0

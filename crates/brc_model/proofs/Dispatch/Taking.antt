@@ -4,7 +4,7 @@ use Rattle.std.specs.Prelude.{◌==◌, ◌&&◌, slice_get, slice_set}
 use Rattle.std.specs.List.{list_any}
 use Rattle.std.proofs.lemmas.List.{length-set}
 use Rattle.brc_lang.specs.declared.module.Instr.{Instr}
-use Rattle.brc_lang.specs.declared.module.Instr.TheVariants.{Num, List as ListObject, NoneObject, Newref, Move as MoveReference, Drop, Goto, Ret, Fail}
+use Rattle.brc_lang.specs.declared.module.Instr.TheVariants.{Num, List as ListObject, NoneObject, Newref, Move as MoveReference, Drop, Goto, Ret, Fail, As}
 use Rattle.brc_lang.specs.declared.kind.Kind.{Kind}
 use Rattle.brc_lang.specs.declared.kind.Kind.TheVariants as kinds
 use Rattle.brc_lang.specs.Limits.{variable_count}
@@ -12,14 +12,14 @@ use Rattle.brc_model.specs.declared.slot.Slot.{Slot}
 use Rattle.brc_model.specs.declared.slot.Slot.TheVariants.{Empty, Owned, Caller, Locked}
 use Rattle.brc_model.specs.declared.slot.State.{State}
 use Rattle.brc_model.specs.declared.slot.Exit.TheVariants.{Success, Fault}
-use Rattle.brc_model.specs.Slots.{slot_of, is_empty, is_owned, kind_of, put, entry}
+use Rattle.brc_model.specs.Slots.{slot_of, is_empty, is_owned, kind_of, put, entry, with_kind}
 use Rattle.brc_model.specs.Paths.{At, path_end, IsAcceptableCode}
 use Rattle.brc_model.specs.declared.duty.Holding.{Holding}
 use Rattle.brc_model.specs.declared.duty.Holding.TheVariants.{ByVariable, AsCaller, InFlight}
 use Rattle.brc_model.specs.AbstractState.{Reference, same_holding, references_to}
 use Rattle.brc_model.specs.Threads.{row_of, entry_variables}
-use Rattle.brc_model.specs.declared.duty.Duty.TheVariants.{RetainLoad, ReleaseLoad, Settle, BirthKind, Leave}
-use Rattle.brc_model.specs.Kinds.{kind_numbered, kind_of_word, is_counted_kind}
+use Rattle.brc_model.specs.declared.duty.Duty.TheVariants.{RetainLoad, ReleaseLoad, Settle, BirthKind, Leave, KindLoad}
+use Rattle.brc_model.specs.Kinds.{kind_numbered, kind_of_word, same_kind, is_counted_kind}
 use Rattle.brc_model.specs.declared.actor.Place.{Place}
 use Rattle.brc_model.specs.declared.actor.Place.TheVariants.{Idle, InCall, Exiting}
 use Rattle.brc_model.specs.Machine.{has_room}
@@ -28,12 +28,12 @@ use Rattle.brc_model.proofs.Basics.Bag.{held-le-references_to}
 use Rattle.brc_model.specs.References.{held, one_if, reference_of}
 use Rattle.brc_model.proofs.Basics.Lists.{either, first_false}
 use Rattle.brc_model.proofs.Dispatch.Holds.{the_root, of_variables, Holds, owned_has, caller_has, holds-ended, holds-entered}
-use Rattle.brc_model.proofs.Dispatch.Grounded.{IsGrounded, IsInside, AreInstructions, live_slot, owned_slot, owned_row, grounded-put, StandsAt, entry_in_call}
+use Rattle.brc_model.proofs.Dispatch.Grounded.{IsGrounded, IsInside, AreInstructions, live_slot, owned_slot, owned_row, grounded-put, grounded-with_kind, says-with_kind, StandsAt, entry_in_call}
 use Rattle.brc_model.proofs.Dispatch.Passing.{passes_on}
 use Rattle.brc_model.proofs.Stepping.Counts.{flip_eqb}
 use Rattle.brc_model.proofs.Frame.Aside.{HoldsAlone}
 use Rattle.brc_model.proofs.Dispatch.Coded.{once_each, PlaceFits}
-use Rattle.brc_model.proofs.Dispatch.Begins.{holds_plain, holds_at_none, Gives, Takes, Nothing, Settles, Leaves, Taken, IsTaken, taken_with_row, idle_stays, in_call_stays, newref_held, emptied_held, ended_says, Bears, SilentTaken, cleared_held}
+use Rattle.brc_model.proofs.Dispatch.Begins.{holds_plain, holds_at_none, Gives, Takes, Asks, Nothing, Settles, Leaves, Taken, IsTaken, taken_with_row, idle_stays, in_call_stays, newref_held, emptied_held, ended_says, Bears, SilentTaken, cleared_held}
 use Rattle.brc_model.proofs.Keeping.SilentMoves.{Stays}
 use Rattle.brc_model.specs.Duties.{cells_of}
 use Rattle.brc_word.specs.Words.{half, kind_part, argument_part}
@@ -192,6 +192,66 @@ ret_taken code bag layout t used left at variables s from here =
     taken_with_row code bag layout t used row.0 (row_of variables from)
     (λ r. Does (ReleaseLoad r (ByVariable from)) (Settle ∷ []) (always (Idle left))) row.1 (λ found. taken)
 
+-- ---- a look at a kind
+
+-- The thread holds what it held, wherever it goes on after it has loaded the kind.
+asks_taken : (code : List Instr) (bag : List Reference) (layout : Layout) (t used left next : ℕ)
+    (variables : List (Option ℕ)) (s : State) (row : ℕ) (by : Holding)
+    → IsInside code next variables s → Holds bag t (of_variables s variables)
+    → 0 < held (reference_of t by row) bag
+    → Taken code bag layout t used (InCall left next variables) (KindLoad row) []
+asks_taken code bag layout t used left next variables s row by inside holds some =
+    let held_now : HoldsAlone bag t (once_each (of_variables s variables)) (KindLoad row ∷ []) =
+    record { each = λ k object. omega (arith, holds.each k object) } in
+    record {
+      placed = (s, inside, held_now);
+      starts = Asks row by some;
+      follows = Nothing (in_call_stays left next variables);
+    }
+
+as_taken : (code : List Instr) (bag : List Reference) (layout : Layout) (t used left at : ℕ)
+    (variables : List (Option ℕ)) (s : State) (from : ℕ) (kind : Kind) (otherwise : ℕ)
+    → StandsAt code bag t at variables s (As from kind otherwise)
+    → IsTaken code bag layout t used
+    (dispatch_instruction layout t used left at variables (Some (As from kind otherwise)))
+as_taken code bag layout t used left at variables s from kind otherwise here =
+    let some : is_empty (slot_of s from) ≡ false = first_false _ _ here.met.not_empty in
+    let live = live_slot bag t s variables from (slot_of s from) refl some (here.inside.grounded from) here.holds in
+    let backed =
+    backed_slot bag t s variables from live.object (slot_of s from) refl live.is_row some
+    (here.inside.grounded from) here.holds in
+    let in_slots : from < length s.slots = omega (arith, here.variables.0, here.inside.slots) in
+    let narrowed = put s from (with_kind (slot_of s from) kind) in
+    let next : IsInside code (at + 1) variables narrowed = record {
+      exits = here.inside.exits ++ Success ∷ [];
+      arrived = here.leads Success (at + 1) refl;
+      slots = length-set s.slots from (with_kind (slot_of s from) kind) ∙ here.inside.slots;
+      rows = here.inside.rows;
+      grounded = grounded-with_kind s variables from kind in_slots here.inside.grounded;
+    } in
+    let holds : Holds bag t (of_variables narrowed variables) = record {
+      each = λ h object.
+          here.holds.each h object ∙ ap one_if (says-with_kind s variables from kind h object in_slots);
+    } in
+    let aside : IsInside code otherwise variables s = record {
+      exits = here.inside.exits ++ Fault ∷ [];
+      arrived = here.leads Fault otherwise refl;
+      slots = here.inside.slots;
+      rows = here.inside.rows;
+      grounded = here.inside.grounded;
+    } in
+    let taken : (found : ℕ) → Taken code bag layout t used
+    (InCall left (cond (same_kind (kind_of_word found) kind) (at + 1) otherwise) variables)
+    (KindLoad live.object) [] =
+    λ found. either (λ (next : ℕ). Taken code bag layout t used (InCall left next variables) (KindLoad live.object) [])
+    (same_kind (kind_of_word found) kind) _ _
+    (λ same. asks_taken code bag layout t used left (at + 1) variables narrowed live.object backed.0 next holds backed.1)
+    (asks_taken code bag layout t used left otherwise variables s live.object backed.0 aside here.holds backed.1) in
+    taken_with_row code bag layout t used live.object (row_of variables from)
+    (λ row. Does (KindLoad row) []
+    (λ found. InCall left (cond (same_kind (kind_of_word found) kind) (at + 1) otherwise) variables))
+    live.is_row taken
+
 -- ---- a new object
 
 -- A thread at an instruction that makes an object of the kind word in a variable that owns nothing: on success the
@@ -322,6 +382,8 @@ instruction_taken code bag layout t used left at variables s (Newref to from) he
     newref_taken code bag layout t used left at variables s to from here
 instruction_taken code bag layout t used left at variables s (Drop from) here =
     drop_taken code bag layout t used left at variables s from here
+instruction_taken code bag layout t used left at variables s (As from kind otherwise) here =
+    as_taken code bag layout t used left at variables s from kind otherwise here
 instruction_taken code bag layout t used left at variables s (Ret from) here =
     ret_taken code bag layout t used left at variables s from here
 instruction_taken code bag layout t used left at variables s (Goto to) here =

@@ -2,7 +2,7 @@
 use Rattle.std.proofs.Common.{◌≡◌, ℕ, zero, suc, Bool, true, false, cond, List, [], ◌∷◌, ◌++◌, Option, None, Some, refl, sym, ap, ◌∙◌, subst}
 use Rattle.std.specs.Prelude.{not, slice_get, slice_set}
 use Rattle.brc_lang.specs.declared.module.Instr.{Instr}
-use Rattle.brc_lang.specs.declared.module.Instr.TheVariants.{Num, List as ListObject, NoneObject, Newref, Move as MoveReference, Drop, Goto, Ret, Fail}
+use Rattle.brc_lang.specs.declared.module.Instr.TheVariants.{Num, List as ListObject, NoneObject, Newref, Move as MoveReference, Drop, Goto, Ret, Fail, As}
 use Rattle.brc_lang.specs.declared.module.Module.{Module}
 use Rattle.brc_model.specs.declared.thread.Call.{Call}
 use Rattle.brc_model.specs.declared.thread.Choice.{Choice}
@@ -150,6 +150,8 @@ instruction_empties layout t used left at variables (Some (Newref to from)) =
 instruction_empties layout t used left at variables (Some (MoveReference to from)) =
     row_empties (row_of variables from) _ (λ row. tt)
 instruction_empties layout t used left at variables (Some (Drop from)) =
+    row_empties (row_of variables from) _ (λ row. refl)
+instruction_empties layout t used left at variables (Some (As from kind otherwise)) =
     row_empties (row_of variables from) _ (λ row. refl)
 instruction_empties layout t used left at variables (Some (Goto to)) = tt
 instruction_empties layout t used left at variables (Some (Ret from)) =

@@ -1,15 +1,16 @@
 -- The object that a variable names has the kind that the checker says: each instruction leaves it so, and no other step
 -- changes a kind word that a birth has stored.
-use Rattle.std.proofs.Common.{◌≡◌, ℕ, zero, suc, ◌+◌, ◌<◌, ◌≤◌, List, [], ◌∷◌, ◌++◌, inl, inr, length, Option, None, Some, refl, sym, ap, ◌∙◌, subst, arith}
+use Rattle.std.proofs.Common.{◌≡◌, ℕ, zero, suc, ◌+◌, ◌<◌, ◌≤◌, true, List, [], ◌∷◌, ◌++◌, inl, inr, length, Option, None, Some, refl, sym, ap, ◌∙◌, subst, arith}
 use Rattle.std.specs.Prelude.{slice_get, slice_set}
 use Rattle.std.proofs.lemmas.Bool.Decides.{eqb_tells}
 use Rattle.std.proofs.lemmas.List.{length-set}
+use Rattle.std.proofs.lemmas.Bool.{eqb-true}
 use Rattle.brc_lang.specs.declared.kind.Kind.{Kind}
 use Rattle.brc_lang.specs.declared.kind.Kind.TheVariants as kinds
 use Rattle.brc_lang.specs.declared.module.Module.{Module}
 use Rattle.brc_lang.specs.declared.module.Function.{Function}
 use Rattle.brc_lang.specs.declared.module.Instr.{Instr}
-use Rattle.brc_lang.specs.declared.module.Instr.TheVariants.{Num, List as ListObject, NoneObject, Newref, Move as MoveReference, Drop, Goto, Ret, Fail}
+use Rattle.brc_lang.specs.declared.module.Instr.TheVariants.{Num, List as ListObject, NoneObject, Newref, Move as MoveReference, Drop, As, Goto, Ret, Fail}
 use Rattle.brc_lang.specs.Grammar.{IsInstruction}
 use Rattle.brc_word.specs.Words.{half, kind_part}
 use Rattle.brc_model.specs.declared.thread.Call.{Call}
@@ -21,14 +22,14 @@ use Rattle.brc_model.specs.declared.actor.Place.{Place}
 use Rattle.brc_model.specs.declared.actor.Place.TheVariants.{Idle, InCall, Exiting}
 use Rattle.brc_model.specs.declared.address.Address.TheVariants.{KindOf}
 use Rattle.brc_model.specs.declared.duty.Duty.{Duty}
-use Rattle.brc_model.specs.declared.duty.Duty.TheVariants.{BirthKind}
+use Rattle.brc_model.specs.declared.duty.Duty.TheVariants.{KindLoad, BirthKind}
 use Rattle.brc_model.specs.declared.slot.Slot.{Slot}
-use Rattle.brc_model.specs.declared.slot.Slot.TheVariants.{Empty, Owned}
+use Rattle.brc_model.specs.declared.slot.Slot.TheVariants.{Empty, Owned, Caller, Locked}
 use Rattle.brc_model.specs.declared.slot.State.{State}
 use Rattle.brc_model.specs.declared.slot.Exit.{Exit}
 use Rattle.brc_model.specs.declared.slot.Exit.TheVariants.{Success, Fault as FaultExit}
-use Rattle.brc_model.specs.Kinds.{kind_numbered, kind_of_word}
-use Rattle.brc_model.specs.Slots.{slot_of, kind_of, put, after, target, entry}
+use Rattle.brc_model.specs.Kinds.{kind_number, kind_numbered, kind_of_word, same_kind}
+use Rattle.brc_model.specs.Slots.{slot_of, kind_of, with_kind, put, after, target, entry}
 use Rattle.brc_model.specs.Paths.{At, path_end, IsAcceptableCode}
 use Rattle.brc_model.specs.Threads.{code_of, row_of, entry_variables}
 use Rattle.brc_model.specs.Layout.{none_row, root_row, row_at}
@@ -43,7 +44,7 @@ use Rattle.brc_model.proofs.Dispatch.Passing.{passes_on}
 use Rattle.brc_model.proofs.Keeping.CodeInvariant.{CodeInvariant}
 use Rattle.brc_model.proofs.Keeping.CodeEvents.{event_keeps}
 use Rattle.brc_model.proofs.Dispatch.Coded.{PlaceSays}
-use Rattle.brc_model.proofs.Basics.Written.{written_here}
+use Rattle.brc_model.proofs.Basics.Written.{written_here, written_load}
 use Rattle.brc_model.proofs.Promises.Safe.{first_code_invariant}
 use Rattle.brc_model.proofs.Stepping.Neutral.{found_by}
 use Rattle.brc_model.specs.Paths.{IsAcceptable}
@@ -97,6 +98,42 @@ true_put words s rows x slot row in_slots in_rows new old v =
 empty_true : (words : ℕ → ℕ) (row : Option ℕ) → HasTrueKind words Empty row
 empty_true words row x is = inl refl
 
+numbered_kind : (kind : Kind) → kind_numbered (kind_number kind) ≡ kind
+numbered_kind kinds.Any = refl
+numbered_kind kinds.None = refl
+numbered_kind kinds.Num = refl
+numbered_kind kinds.List = refl
+numbered_kind kinds.File = refl
+numbered_kind kinds.Sock = refl
+
+same_kind_is : (one other : Kind) → same_kind one other ≡ true → one ≡ other
+same_kind_is one other same =
+    sym (numbered_kind one) ∙ ap kind_numbered (eqb-true (kind_number one) (kind_number other) same)
+    ∙ numbered_kind other
+
+slot_with_kind : (words : ℕ → ℕ) (slot : Slot) (kind : Kind) (row : Option ℕ)
+    → ((x : ℕ) → row ≡ Some x → IsTrueKind kind (words x)) → HasTrueKind words (with_kind slot kind) row
+slot_with_kind words Empty kind row names x is = inl refl
+slot_with_kind words (Owned k) kind row names x is = names x is
+slot_with_kind words (Caller k) kind row names x is = names x is
+slot_with_kind words (Locked k) kind row names x is = names x is
+
+-- A variable's slot may take the kind that its object's kind word names.
+true_with_kind : (words : ℕ → ℕ) (s : State) (rows : List (Option ℕ)) (x : ℕ) (kind : Kind) → x < length s.slots
+    → ((y : ℕ) → row_of rows x ≡ Some y → IsTrueKind kind (words y)) → HaveTrueKinds words s rows
+    → HaveTrueKinds words (put s x (with_kind (slot_of s x) kind)) rows
+true_with_kind words s rows x kind in_slots names old v =
+    let slot = with_kind (slot_of s x) kind in
+    elim (eqb_tells v x) [
+      | inl this ↦
+          let there : HasTrueKind words (slot_of (put s x slot) x) (row_of rows x) =
+          subst (λ (w : Slot). HasTrueKind words w (row_of rows x)) (sym (slot_of-put_same s x slot in_slots))
+          (slot_with_kind words (slot_of s x) kind (row_of rows x) names) in
+          subst (λ (w : ℕ). HasTrueKind words (slot_of (put s x slot) w) (row_of rows w)) (sym this.1) there
+      | inr other ↦
+          subst (λ (w : Slot). HasTrueKind words w (row_of rows v)) (sym (slot_of-put_other s x v slot other.1)) (old v)
+    ]
+
 -- ---- the kind words of none and of the root
 
 pub record AreNamed (words : ℕ → ℕ) : Type 0 where
@@ -124,9 +161,10 @@ entry_true words named (suc v) =
 
 -- ---- what an instruction leaves
 
--- What a duty that stores a kind word leaves there.
+-- What a duty that stores a kind word leaves there, and what one that loads a kind word finds.
 abbrev SeesKind : (ℕ → ℕ) → Duty → ℕ → Type 0
 SeesKind words (BirthKind y h w) found = words y ≡ w
+SeesKind words (KindLoad y) found = found ≡ words y
 SeesKind words d found = Unit {0}
 
 -- The place that a step of the thread leads to, by these kind words.
@@ -239,6 +277,15 @@ instruction_leaves code words layout t used left at variables s (Drop from) here
     row_leaves code words (row_of variables from) _ (λ row is found stored.
     goes_on_put code words left at (at + 1) variables s (Drop from) Success from Empty None here refl refl
     here.operands (empty_true words None))
+instruction_leaves code words layout t used left at variables s (As from kind otherwise) here =
+    row_leaves code words (row_of variables from) _ (λ row is found seen.
+    either (λ (next : ℕ). KnowsKinds code words (InCall left next variables)) (same_kind (kind_of_word found) kind) _ _
+    (λ same.
+    goes_on code words left at (at + 1) variables variables s (As from kind otherwise) Success here refl
+    (true_with_kind words s variables from kind (omega (arith, here.operands.0, here.inside.slots))
+    (λ x this. inr (ap (λ (y : ℕ). kind_of_word (words y)) (some_is x row (sym this ∙ is)) ∙ ap kind_of_word (sym seen)
+    ∙ same_kind_is (kind_of_word found) kind same)) here.known))
+    (goes_on code words left at otherwise variables variables s (As from kind otherwise) FaultExit here refl here.known))
 instruction_leaves code words layout t used left at variables s (Goto to) here =
     goes_on code words left at to variables variables s (Goto to) Success here refl here.known
 instruction_leaves code words layout t used left at variables s (Ret from) here =
@@ -323,6 +370,7 @@ pub record KindsHold (m : StepMachine) : Type 0 where
 sees : (m : StepMachine) (t : ℕ) (a : StepActor) (d : Duty) (rest : List Duty) (place : ℕ → Place)
     → SeesKind (kind_words (machine_by m t a (Does d rest place))) d (found_by (counting m) t a.actor d)
 sees m t a (BirthKind y h w) rest place = written_here m.memory (KindOf y) w
+sees m t a (KindLoad y) rest place = sym (written_load m.memory (KindOf y) (KindOf y))
 sees m t a _ rest place = tt
 
 -- The thread is at the place that its action leads to, and the others are where they were.

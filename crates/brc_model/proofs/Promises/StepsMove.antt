@@ -5,10 +5,11 @@ use Rattle.std.specs.Prelude.{◌==◌, slice_get, slice_set}
 use Rattle.std.proofs.Math.Path.{fun_ext}
 use Rattle.std.proofs.lemmas.Option.{slice_get_within}
 use Rattle.brc_lang.specs.declared.module.Instr.{Instr}
-use Rattle.brc_lang.specs.declared.module.Instr.TheVariants.{Num, List as ListObject, NoneObject, Newref, Move as MoveReference, Drop, Goto, Ret, Fail}
+use Rattle.brc_lang.specs.declared.module.Instr.TheVariants.{Num, List as ListObject, NoneObject, Newref, Move as MoveReference, Drop, Goto, Ret, Fail, As}
 use Rattle.brc_lang.specs.declared.module.Module.{Module}
 use Rattle.brc_model.specs.declared.thread.Choice.{Choice}
 use Rattle.brc_model.specs.declared.thread.Choice.TheVariants.{Ok, Fault, Claim}
+use Rattle.brc_model.specs.Kinds.{same_kind, kind_of_word}
 use Rattle.brc_model.specs.Threads.{row_of, entry_variables, code_of}
 use Rattle.brc_model.specs.declared.duty.Reason.TheVariants.{Handed}
 use Rattle.brc_model.specs.declared.duty.Duty.{Duty}
@@ -102,6 +103,12 @@ instruction_elsewhere place layout t used left at variables code
 instruction_elsewhere place layout t used left at variables code (Some (Drop from)) forward found inside ends =
     row_elsewhere place (row_of variables from) _
     (λ row found. inside (at + 1) (slice_set variables from None) (omega arith))
+instruction_elsewhere place layout t used left at variables code (Some (As from kind otherwise)) forward found inside
+    ends =
+    row_elsewhere place (row_of variables from) _
+    (λ row word. inside (cond (same_kind (kind_of_word word) kind) (at + 1) otherwise) variables
+    (either (λ (next : ℕ). at < next) (same_kind (kind_of_word word) kind) (at + 1) otherwise (λ same. omega arith)
+    (forward at (As from kind otherwise) otherwise found refl).0))
 instruction_elsewhere place layout t used left at variables code (Some (Goto to)) forward found inside ends =
     inside to variables (forward at (Goto to) to found refl).0
 instruction_elsewhere place layout t used left at variables code (Some (Ret from)) forward found inside ends =

@@ -2,7 +2,8 @@ use Rattle.std.proofs.Common.{◌≡◌, ◌++◌, ◌∙◌, ℕ, List, ap, app
 use Rattle.std.proofs.KnownBytes.{Appends-trans}
 use Rattle.brc_report.proofs.Writing.{stops_early, stops_between, stops_late}
 use Rattle.brc_report.specs.declared.tally.Left.{Left}
-use Rattle.brc_report.specs.Report.{entry, kind_name, left_text}
+use Rattle.brc_lang.specs.Grammar.{kind_name}
+use Rattle.brc_report.specs.Report.{entry, left_text}
 use Rattle.brc_report.proofs.report.write_left.Goals as goal
 
 -- the line, with the number and the word as the code has them
@@ -39,7 +40,7 @@ returns-in_err-write_bytes-2-clause-begun g c =
     let before =
     Appends-trans _ _ _ opened (codes " ") c.in_ok-write_entry.ensures.whole c.in_ok-write_bytes.ensures.whole in
     stops_between _ _ _ _ _ (opened ++ codes " ") word (codes "\n")
-    (parts c.args.left.now c.from.result word c.from.ensures (c.as_bytes.ensures.value ∙ c.kind_name.ensures))
+    (parts c.args.left.now c.from.result word c.from.ensures (c.as_bytes.ensures.value ∙ c.name.ensures))
     before c.in_err-write_bytes-2.ensures.begun
 
 pub returns-clause-begun : goal.returns-clause-begun
@@ -50,5 +51,5 @@ returns-clause-begun g c =
     Appends-trans _ _ _ opened (codes " ") c.in_ok-write_entry.ensures.whole c.in_ok-write_bytes.ensures.whole in
     let before = Appends-trans _ _ _ (opened ++ codes " ") word spaced c.in_ok-write_bytes-2.ensures.whole in
     stops_late _ _ _ _ _ (opened ++ codes " " ++ word) (codes "\n")
-    (parts c.args.left.now c.from.result word c.from.ensures (c.as_bytes.ensures.value ∙ c.kind_name.ensures))
+    (parts c.args.left.now c.from.result word c.from.ensures (c.as_bytes.ensures.value ∙ c.name.ensures))
     before c.write_bytes-3.ensures.begun
