@@ -3,7 +3,8 @@ use Rattle.std.proofs.Common.{◌≡◌, ℕ, ◌+◌, ◌<◌, Bool, true, fals
 use Rattle.std.specs.Prelude.{None, Some, slice_get, nat_lt}
 use Rattle.std.proofs.lemmas.Bool.{ltb-true}
 use Rattle.brc_lang.specs.declared.module.Instr.{Instr}
-use Rattle.brc_lang.specs.declared.module.Instr.TheVariants.{Num, List as ListObject, NoneObject, Newref, Move, Drop, Goto, Ret, Fail, As}
+use Rattle.brc_lang.specs.declared.module.Instr.TheVariants.{Num, List as ListObject, NoneObject, Newref, Move, Drop}
+use Rattle.brc_lang.specs.declared.module.Instr.TheVariants.{As, Goto, Ret, Fail}
 use Rattle.brc_lang.specs.Grammar.{jump, LeadsForward}
 use Rattle.brc_model.specs.declared.code.CheckCode.{CheckCode}
 use Rattle.brc_model.specs.declared.code.CheckCode.TheVariants.{RunsOff}

@@ -99,8 +99,8 @@ const REFUSED: &[Case] = &[
     (b"goto @1\nnone v1\n", Some((1, CheckCode::RunsOff))),
 ];
 
-/// The success exit of `num` or `list` leaves its object, and the fault exit leaves the variable empty. Only the new variable
-/// owns a moved reference, and no instruction overwrites a variable that owns one.
+/// The success exit of `num` or `list` leaves its object, and the fault exit leaves the variable empty. Only the new
+/// variable owns a moved reference, and no instruction overwrites a variable that owns one.
 const LEFT_BEHIND: &[Case] = &[
     (
         b"num v1 1 else @2\nfail\nfail\n",

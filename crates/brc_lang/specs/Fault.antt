@@ -62,6 +62,7 @@ abbrev pub ◌>>=◌ : {A B : Type 0} → Result A FaultCode → (A → Result B
 (Ok x) >>= f = f x
 (Err e) >>= f = Err e
 
+-- a number from low to high
 abbrev pub number_between : ℕ → ℕ → List ℕ → Result ℕ FaultCode
 number_between low high word = number_in high word >>= λ n. if nat_le low n then Ok n else Err Number
 
@@ -79,7 +80,7 @@ abbrev pub one_target_in : List (List ℕ) → Result ℕ FaultCode
 one_target_in (word ∷ []) = target_in word
 one_target_in _ = Err UnknownWord
 
--- what is born: a variable, a number from low to high, `else` and a target; `else` is compared first
+-- the operands of a birth: a variable, a number from low to high, `else` and a target; `else` is compared first
 abbrev pub birth_in : ℕ → ℕ → List (List ℕ) → Result (ℕ × ℕ × ℕ) FaultCode
 birth_in low high (to ∷ number ∷ word ∷ otherwise ∷ []) =
     if bytes_eq word (codes "else")

@@ -50,7 +50,7 @@ with_row (Some row) work = work row
 abbrev pub number_word : ℕ → ℕ
 number_word value = 2 * half + value
 
--- the kind word of a list
+-- the kind word of a list, which says how many cells it has
 abbrev pub list_word : ℕ → ℕ
 list_word cells = 3 * half + cells
 

@@ -4,7 +4,7 @@ use Rattle.std.specs.Prelude.{List, [], ◌∷◌, ◌++◌, length, Option, Non
 use Rattle.std.specs.List.{AllByRecursion, list_any, before_first, starts_with}
 use Rattle.std.specs.Str.{bytes_eq}
 use Rattle.brc_lang.specs.declared.fault.FaultCode.{FaultCode}
-use Rattle.brc_lang.specs.declared.fault.FaultCode.TheVariants.{FirstLine, UnknownWord, Number, CutOff, NoMemory}
+use Rattle.brc_lang.specs.declared.fault.FaultCode.TheVariants.{FirstLine, UnknownWord, CutOff, NoMemory}
 use Rattle.brc_lang.specs.declared.fault.ReadFault.{ReadFault}
 use Rattle.brc_lang.specs.Grammar.{is_name}
 use Rattle.brc_lang.specs.Fault.{words, number_between, ◌>>=◌, is_line_feed, line_count}

@@ -167,10 +167,10 @@ fn birth(
     requires empty { thread.old.agenda.items ≡ [] }
     requires room { 8 ≤ vec_capacity thread.old.agenda }
     requires next { thread.old.at + 1 < 2 ^ 64 }
-    ensures starts { result ≡ start_by (birth_action layout number thread.old.used left thread.old.at
+    ensures starts { unasking result ≡ start_by (birth_action layout number thread.old.used left thread.old.at
         thread.old.variables to word otherwise) }
-    ensures actor { actor_of thread.new ≡ started (actor_of thread.old) (birth_action layout number
-        thread.old.used left thread.old.at thread.old.variables to word otherwise) }
+    ensures actor { (found : ℕ) → answered result found (actor_of thread.new) ≡ started (actor_of thread.old)
+        (birth_action layout number thread.old.used left thread.old.at thread.old.variables to word otherwise) found }
     ensures room { vec_len thread.new.agenda + 4 ≤ vec_capacity thread.new.agenda }
 {
     let next = thread.at + 1;
@@ -199,8 +199,9 @@ fn begin(instr: Instr, layout: Layout, number: u8, thread: &mut Thread, left: u3
     requires next { thread.old.at + 1 < 2 ^ 64 }
     ensures starts { unasking result ≡ start_by (dispatch_instruction layout number thread.old.used left thread.old.at
         thread.old.variables (Some instr)) }
-    ensures actor { (found : ℕ) → answered result found (actor_of thread.new) ≡ started (actor_of thread.old) (dispatch_instruction layout
-        number thread.old.used left thread.old.at thread.old.variables (Some instr)) found }
+    ensures actor { (found : ℕ) → answered result found (actor_of thread.new) ≡ started (actor_of thread.old)
+        (dispatch_instruction layout number thread.old.used left thread.old.at thread.old.variables (Some instr))
+        found }
     ensures room { vec_len thread.new.agenda + 4 ≤ vec_capacity thread.new.agenda }
 {
     let next = thread.at + 1;
