@@ -1,6 +1,6 @@
--- Births, looks at a kind and deallocations, computed by the definitions that the code's contracts cite. Today's instructions make
--- numbers and lists alone, so no run of a module shows files and sockets. The object is in row 7, and thread 3, which
--- has used four rows, makes and deallocates it.
+-- Births, looks at a kind and deallocations, computed by the definitions that the code's contracts cite. Today's
+-- instructions make numbers and lists alone, so no run of a module shows files and sockets. The object is in row 7, and
+-- thread 3, which has used four rows, makes and deallocates it.
 use Rattle.std.proofs.Common.{◌≡◌, ℕ, List, [], ◌∷◌, true, map, refl}
 use Rattle.brc_model.specs.declared.duty.Duty.{Duty}
 use Rattle.brc_model.specs.declared.duty.Duty.TheVariants.{
