@@ -174,11 +174,12 @@ pub fn apply(instr: Instr, exit: Exit, state: &mut State)
             state.slots[to.number() as usize] = handed;
         }
         Instr::Drop { from } => state.slots[from.number() as usize] = Slot::Empty,
-        Instr::As { from, kind, .. } => {
-            if let Exit::Success = exit {
+        Instr::As { from, kind, .. } => match exit {
+            Exit::Success => {
                 state.slots[from.number() as usize] = with_kind(slot(state, from), kind);
             }
-        }
+            Exit::Fault => (),
+        },
         Instr::Goto { .. } | Instr::Ret { .. } | Instr::Fail => (),
     }
 }
