@@ -154,7 +154,8 @@ fn reads_each_instruction(rt: HostRuntime) {
             &counted,
         ),
         (
-            b"module 1\nfunc f\nnum v1 4294967295 else @4\nnone v15\nmove v2 v3\nas v2 sock else @5\ngoto @5\nfail\nend\n",
+            b"module 1\nfunc f\nnum v1 4294967295 else @4\nnone v15\nmove v2 v3\nas v2 sock else @5\n\
+              goto @5\nfail\nend\n",
             b"f",
             &others,
         ),
