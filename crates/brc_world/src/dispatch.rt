@@ -26,8 +26,8 @@ pub enum Start {
     Moved,
     /// The thread does this duty, which is no longer in its agenda, and is already at the place where it then is.
     Doing(Duty),
-    /// The thread does this duty, which loads a kind word. It is already at the place where it goes on if the word is of
-    /// the kind; otherwise it goes on at the instruction `otherwise`.
+    /// The thread does this duty, which loads a kind word. It is already at the place where it goes on if the word is
+    /// of the kind; otherwise it goes on at the instruction `otherwise`.
     Asking {
         duty: Duty,
         kind: Kind,
@@ -115,8 +115,8 @@ fn next_instruction(
     requires room { 8 ≤ vec_capacity thread.old.agenda }
     ensures starts { unasking result ≡ start_by (dispatch_instruction layout number thread.old.used left thread.old.at
         thread.old.variables (slice_get (code_of (slice_get functions.now thread.old.function)) thread.old.at)) }
-    ensures actor { (found : ℕ) → answered result found (actor_of thread.new) ≡ started (actor_of thread.old) (dispatch_instruction layout
-        number thread.old.used left thread.old.at thread.old.variables
+    ensures actor { (found : ℕ) → answered result found (actor_of thread.new) ≡ started (actor_of thread.old)
+        (dispatch_instruction layout number thread.old.used left thread.old.at thread.old.variables
         (slice_get (code_of (slice_get functions.now thread.old.function)) thread.old.at)) found }
     ensures room { vec_len thread.new.agenda + 4 ≤ vec_capacity thread.new.agenda }
 {
@@ -200,8 +200,7 @@ fn begin(instr: Instr, layout: Layout, number: u8, thread: &mut Thread, left: u3
     ensures starts { unasking result ≡ start_by (dispatch_instruction layout number thread.old.used left thread.old.at
         thread.old.variables (Some instr)) }
     ensures actor { (found : ℕ) → answered result found (actor_of thread.new) ≡ started (actor_of thread.old)
-        (dispatch_instruction layout number thread.old.used left thread.old.at thread.old.variables (Some instr))
-        found }
+        (dispatch_instruction layout number thread.old.used left thread.old.at thread.old.variables (Some instr)) found }
     ensures room { vec_len thread.new.agenda + 4 ≤ vec_capacity thread.new.agenda }
 {
     let next = thread.at + 1;

@@ -245,7 +245,8 @@ as_taken code bag layout t used left at variables s from kind otherwise here =
     (KindLoad live.object) [] =
     λ found. either (λ (next : ℕ). Taken code bag layout t used (InCall left next variables) (KindLoad live.object) [])
     (same_kind (kind_of_word found) kind) _ _
-    (λ same. asks_taken code bag layout t used left (at + 1) variables narrowed live.object backed.0 next holds backed.1)
+    (λ same.
+    asks_taken code bag layout t used left (at + 1) variables narrowed live.object backed.0 next holds backed.1)
     (asks_taken code bag layout t used left otherwise variables s live.object backed.0 aside here.holds backed.1) in
     taken_with_row code bag layout t used live.object (row_of variables from)
     (λ row. Does (KindLoad row) []
