@@ -13,7 +13,7 @@ use Rattle.brc_lang.specs.declared.module.Instr.TheVariants.{Num, List as ListOb
 use Rattle.brc_lang.specs.declared.fault.FaultCode.{FaultCode}
 use Rattle.brc_lang.specs.declared.fault.FaultCode.TheVariants.{UnknownWord}
 use Rattle.brc_lang.specs.Grammar.{variable, target, instruction_words, instruction, IsInstruction, kind_name}
-use Rattle.brc_lang.specs.Fault.{words, variable_in, target_in, number_between, ◌>>=◌, one_variable_in, two_variables_in, one_target_in, birth_in, fail_in, instruction_in, is_line_feed, number_in, kind_in, as_in}
+use Rattle.brc_lang.specs.Fault.{words, variable_in, target_in, number_between, ◌>>=◌, one_variable_in, two_variables_in, one_target_in, birth_in, fail_in, instruction_in, is_line_feed, kind_in, as_in}
 use Rattle.brc_lang.specs.Limits.{variable_count, target_count, value_limit, cell_limit}
 use Rattle.brc_lang.specs.RoundTrips.{IsPlain}
 use Rattle.brc_lang.proofs.Words.{joined, some_word, ArePlain, spaced_words, spaced_plain}
