@@ -52,6 +52,7 @@ pub fn do_duty(memory: &mut Memory, layout: Layout, number: u8, thread: &mut Thr
     thread.head = effect.head;
     thread.status = effect.status;
     thread.used = effect.used;
+    thread.locked = effect.locked;
     memory.store(address, effect.word);
     pass_over(&mut thread.agenda, effect.head);
 }
@@ -65,6 +66,7 @@ fn doer(layout: Layout, thread: &Thread, number: u8, rows: u32) -> Doer
       status = thread.now.status;
       head = thread.now.head;
       used = thread.now.used;
+      locked = thread.now.locked;
       rows = rows;
     } }
 {
@@ -74,6 +76,7 @@ fn doer(layout: Layout, thread: &Thread, number: u8, rows: u32) -> Doer
         status: thread.status,
         head: thread.head,
         used: thread.used,
+        locked: thread.locked,
         rows,
     }
 }

@@ -85,7 +85,7 @@ claim_step p n m t a d x rest behind here alive step =
             same_head = step.same_head;
             same_status = step.same_status;
             agenda_is = ready_first a.head (MergeSwap x Handed) (behind ++ rest) refl;
-            gates = step.gates;
+            gates = λ y dies. step.gates y;
             word = step.word;
             hands = λ y. sym (step.hands y);
             held = step.held (MergeSwap x Handed ∷ (behind ++ rest)) (λ h o. refl) (λ h o. refl);
@@ -102,7 +102,7 @@ claim_step p n m t a d x rest behind here alive step =
             same_head = step.same_head;
             same_status = step.same_status;
             agenda_is = refl;
-            gates = step.gates;
+            gates = λ y dies. step.gates y;
             word = step.word;
             hands = λ y. ready_so.is_finalising y ∙ sym (step.hands y);
             held = step.held (ready a.head (behind ++ rest)) ready_so.more ready_so.less;
@@ -165,7 +165,7 @@ exit_chain : (p : Accounts) (n : ℕ) (m : Machine) (t : ℕ) (a : Actor) (d : D
     → ChainFits (done_by m t a d rest) t a.head agenda
 exit_chain p n m t a d rest agenda here gates lives before after =
     chain_same m (done_by m t a d rest) t a.head (d ∷ rest) agenda (record {
-      gates = gates;
+      gates = λ y dies. gates y;
       hands = λ y.
           let was : one_if (finalised_now (d ∷ rest) y) ≡ 0 = ap one_if (before y) in
           let now : one_if (finalised_now agenda y) ≡ 0 = ap one_if (after y) in

@@ -1,5 +1,5 @@
 -- What a thread holds, its agenda and its chain after its own step, put together from what the step changes.
-use Rattle.std.proofs.Common.{◌≡◌, ℕ, zero, suc, ◌+◌, false, List, [], ◌∷◌, refl, arith}
+use Rattle.std.proofs.Common.{◌≡◌, ℕ, zero, suc, ◌+◌, false, List, [], ◌∷◌, refl, arith, true}
 use Rattle.brc_model.specs.declared.duty.Holding.{Holding}
 use Rattle.brc_model.specs.AbstractState.{Reference}
 use Rattle.brc_model.specs.declared.duty.Duty.{Duty}
@@ -13,6 +13,7 @@ use Rattle.brc_model.specs.Accounts.{extra_of, lacks_of, HoldsAt, Account}
 use Rattle.brc_model.specs.Knowledge.{HeadOf}
 use Rattle.brc_model.specs.OpenWork.{Later, Agenda, finalised_now, dies_by, ChainFits}
 use Rattle.brc_model.proofs.Frame.Others.{linked_kept}
+use Rattle.brc_model.proofs.Basics.Bag.{one_if_true}
 use Rattle.brc_model.specs.declared.layout.Layout.{Layout}
 
 -- ---- what the thread holds
@@ -78,9 +79,9 @@ ready_is layout t used status head _ later = absurd later
 
 -- ---- chains
 
--- No gate changes, and a row begins or ceases to die only as the first duty's row.
+-- No gate of the thread's dying rows changes, and a row begins or ceases to die only as the first duty's row.
 pub record ChainSame (m new : Machine) (t : ℕ) (agenda later : List Duty) : Type 0 where
-  pub gates : (x : ℕ) → new.memory (Gate x) ≡ m.memory (Gate x)
+  pub gates : (x : ℕ) → dies_by (m.life x) t ≡ true → new.memory (Gate x) ≡ m.memory (Gate x)
   pub hands : (x : ℕ)
       → one_if (finalised_now later x) + one_if (dies_by (m.life x) t) ≡ one_if (finalised_now agenda x)
       + one_if (dies_by (new.life x) t)
@@ -89,6 +90,8 @@ pub chain_same : (m new : Machine) (t head : ℕ) (agenda later : List Duty) →
     → ChainFits m t head agenda → ChainFits new t head later
 chain_same m new t head agenda later same fits = record {
   chained = fits.chained;
-  linked = linked_kept m.memory new.memory t head fits.chained (λ x some. same.gates x) fits.linked;
+  linked =
+      linked_kept m.memory new.memory t head fits.chained
+      (λ x some. same.gates x (one_if_true _ (omega (arith, fits.once x, some)))) fits.linked;
   once = λ x. omega (arith, fits.once x, same.hands x);
 }
