@@ -96,6 +96,9 @@ def read_numbers():
             numbers[name] = eval(value.replace("^", "**"), {"__builtins__": {}}, dict(numbers))
         except NameError:
             pass
+    locked = re.search(r"^locked_word thread = thread \+ (\d+)$", (WORD / "Words.antt").read_text(), re.M)
+    want(locked, "Words.antt gives no word of a locked gate")
+    numbers["locked"] = int(locked.group(1))
     for name in "half immortal_local most_local bias fresh_word dead_word free_word closed_word".split():
         want(name in numbers, f"Words.antt gives no number {name}")
     return numbers
@@ -260,7 +263,7 @@ def draw_life():
     """The life of a row."""
     want(rules_of(lambda rule: rule.duty == "BirthLocal") == {"Born"}, "a birth ends by another rule")
     want(rules_of(lambda rule: rule.duty == "SettleEnd") == {"Closes"}, "an object is closed by another rule")
-    want(changing("Gate") == {"Chained", "Closes"}, f"the rules that change a gate are {sorted(changing('Gate'))}")
+    want(changing("Gate") == {"Chained", "Closes", "Locks", "Unlocks"}, f"the rules that change a gate are {sorted(changing('Gate'))}")
     free, closed = NUMBERS["free_word"], power(NUMBERS["closed_word"])
     width = 76
     lines = boxed(width, "unborn", f"    gate {free}, local word 0: the row holds no object yet")
@@ -269,7 +272,17 @@ def draw_life():
         "     │ Born: one thread owns the object, with one local reference",
         "     ▼",
     ]
-    lines += boxed(width, "live", f"    gate {free}: default, queued or merged")
+    locked = NUMBERS["locked"]
+    lines += boxed(
+        width,
+        "live: default, queued or merged",
+        "",
+        f"    gate {free}",
+        "     │ Locks by thread t, which holds the object",
+        "     ▼",
+        f"    gate t + {locked}",
+        f"     │ Unlocks by t: gate {free} again. No object dies while it is locked",
+    )
     lines += [
         "     │ NothingShared      by the owner, from default",
         "     │ MergesToZero       by the owner, from default by way of (0, merged)",
@@ -371,7 +384,8 @@ def draw_bits():
     lines += field_row((21, 63, top, "0"), (46, top - 1, state_bits, count), (9, state_bits - 1, 0, "state"))
     lines += ["", "gate word of a dying object"]
     lines += field_row((32, 63, half, "thread + 1"), (45, half - 1, 0, "next of the chain: row + 1; 0: none"))
-    lines += ["", f"gate word of any other object: {NUMBERS['free_word']} is free, 2^{closed} is closed"]
+    free, locked = NUMBERS["free_word"], NUMBERS["locked"]
+    lines += ["", f"gate word of any other object: {free} is free, t + {locked} locked by thread t, 2^{closed} closed"]
     kinds = ", ".join(f"{number} {name}" for name, number in KINDS.items() if number)
     lines += ["", "kind word"]
     lines += field_row((32, 63, half, "kind"), (45, half - 1, 0, "argument: a number's value, a list's cells"))
@@ -401,6 +415,7 @@ def draw_values():
         ("shared", "(1, merged)", shared(1, "merged")),
         ("shared", "(0, merged), of an object that is freed", shared(0, "merged")),
         ("gate", "free", NUMBERS["free_word"]),
+        ("gate", "locked by worker 1", 1 + NUMBERS["locked"]),
         ("gate", "dying in worker 1, the last of its chain", 2 * half),
         ("gate", "dying in worker 1, row 6 is the next of the chain", 2 * half + 7),
         ("gate", "closed", NUMBERS["closed_word"]),

@@ -4,7 +4,7 @@
 -- In order: `NotBad` and `KeepsDuty` (a duty), `Replaced`, `Sits`, `SilentMoves` and `SilentSteps` (work that a thread
 -- takes up), and `Kept`, which has both parts. `Rearranging` puts a duty aside and takes it back. `WorkAside`,
 -- `WorkBegins`, `NextRows`, `BirthsBegin` and `FreeReferences` are the laws of what a running thread does between two
--- duties. `Moved`, `OneReference` and `HandedOver` hand a reference over to another thread. None of these knows code.
+-- duties, and `Locks` says of each that the thread still holds the list that it has locked. `Moved`, `OneReference` and `HandedOver` hand a reference over to another thread. None of these knows code.
 -- `Callers` and `FirstCounts` show the invariant of a machine in which some threads hold the root, `FirstHands` and
 -- `FirstMachine` that the first machines are such. `CodeInvariant` adds the second layer, about accepted code, and
 -- `CodeEvents` carries both layers through every list of events.
@@ -18,6 +18,7 @@ pub mod SilentSteps
 pub mod Kept
 pub mod Rearranging
 pub mod WorkAside
+pub mod Locks
 pub mod WorkBegins
 pub mod NextRows
 pub mod BirthsBegin

@@ -62,6 +62,10 @@ pub record IsReady (m : Machine) (t : ℕ) (a : Actor) : Type 0 where
 abbrev pub HasNoneAbout : Actor → ℕ → Type 0
 HasNoneAbout a x = one_if (about_of x a.agenda) + count_by (is_about x) a.aside ≡ 0
 
+-- The thread may give up a reference to the object: if it has locked the object, it holds another one.
+abbrev pub MayGiveUp : Account → Actor → ℕ → Type 0
+MayGiveUp account a x = a.locked ≡ Some x → 2 ≤ account AsCaller x
+
 -- ---- the first machine
 
 -- a layout of running threads: no immortal lists yet

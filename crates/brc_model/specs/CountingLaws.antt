@@ -20,7 +20,7 @@ use Rattle.brc_model.specs.OpenWork.{exits, may_wait}
 use Rattle.brc_model.specs.Within.{IsThere, Suits, FindsOwner}
 use Rattle.brc_model.specs.Stores.{Overwrites}
 use Rattle.brc_model.specs.Agreement.{AgreesAt}
-use Rattle.brc_model.specs.Counting.{Counts, with_account, with_one_more, with_one_less, working, IsReady, HasNoneAbout, IsPlainLayout, hands_machine, hands_accounts}
+use Rattle.brc_model.specs.Counting.{Counts, with_account, with_one_more, with_one_less, working, IsReady, HasNoneAbout, IsPlainLayout, hands_machine, hands_accounts, MayGiveUp}
 
 -- ---- duties
 
@@ -77,10 +77,10 @@ RetainsBegin = (p : Accounts) (n : ℕ) (m : Machine) (t : ℕ) (a : Actor) (x :
     → Counts (with_account p t (with_one_more (p t) AsCaller x)) n
     (with_actor m t (working a (RetainLoad x AsCaller ∷ []) a.aside))
 
--- A ready thread begins to give up a reference that it holds.
+-- A ready thread begins to give up a reference that it holds. It keeps one to the list that it has locked.
 abbrev pub ReleasesBegin : Type 0
 ReleasesBegin = (p : Accounts) (n : ℕ) (m : Machine) (t : ℕ) (a : Actor) (x : ℕ) → Counts p n m → IsReady m t a
-    → HasNoneAbout a x → 1 ≤ p t AsCaller x
+    → HasNoneAbout a x → 1 ≤ p t AsCaller x → MayGiveUp (p t) a x
     → Counts (with_account p t (with_one_less (p t) AsCaller x)) n
     (with_actor m t (working a (ReleaseLoad x AsCaller ∷ []) a.aside))
 
@@ -98,12 +98,14 @@ ImmortalsAreFree = (p : Accounts) (n : ℕ) (m : Machine) (t : ℕ) (a : Actor) 
     → HasNoneAbout a x → is_immortal_row m.layout x ≡ true
     → Counts (with_account p t (with_one_more (p t) AsCaller x)) n (with_moves m (gain t AsCaller x))
 
--- A thread hands a reference over to another thread that runs and isn't exiting.
+-- A thread hands a reference over to another thread that runs and isn't exiting. It keeps one to the list that it has
+-- locked.
 abbrev pub ReferencesAreHandedOver : Type 0
 ReferencesAreHandedOver =
     (p : Accounts) (n : ℕ) (m : Machine) (t u : ℕ) (a b : Actor) (x : ℕ) → Counts p n m → slice_get m.actors t ≡ Some a
     → slice_get m.actors u ≡ Some b → t ≢ u → HasNoneAbout a x → HasNoneAbout b x
-    → exits b.status b.agenda ≡ false → IsCounted m.layout x → 1 ≤ p t AsCaller x → p u AsCaller x < most_lent
+    → exits b.status b.agenda ≡ false → IsCounted m.layout x → 1 ≤ p t AsCaller x → MayGiveUp (p t) a x
+    → p u AsCaller x < most_lent
     → Counts (with_account (with_account p t (with_one_less (p t) AsCaller x)) u (with_one_more (p u) AsCaller x)) n
     (with_moves m (PassOn (reference_of t AsCaller x) (ByThread u AsCaller) ∷ []))
 

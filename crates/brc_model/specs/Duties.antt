@@ -5,11 +5,11 @@ use Rattle.brc_model.specs.declared.duty.Holding.TheVariants.{InFlight}
 use Rattle.brc_model.specs.declared.duty.Reason.{Reason}
 use Rattle.brc_model.specs.declared.duty.Reason.TheVariants.{Own, Handed}
 use Rattle.brc_model.specs.declared.duty.Duty.{Duty}
-use Rattle.brc_model.specs.declared.duty.Duty.TheVariants.{RetainLoad, RetainStore, RetainAdd, ReleaseLoad, ReleaseStore, DecideAtZero, SharedLoad, SharedExchange, SetMark, Look, TakeMark, MergeSwap, MergeLoad, MergeExchange, Die, Settle, SettleKind, SettleCell, TakeSlot, CloseResource, SettleEnd, Leave, Scan, Finish, ClaimMark, BirthKind, BirthSlot, BirthLocal, KindLoad}
+use Rattle.brc_model.specs.declared.duty.Duty.TheVariants.{RetainLoad, RetainStore, RetainAdd, ReleaseLoad, ReleaseStore, DecideAtZero, SharedLoad, SharedExchange, SetMark, Look, TakeMark, MergeSwap, MergeLoad, MergeExchange, Die, Settle, SettleKind, SettleCell, TakeSlot, CloseResource, SettleEnd, Leave, Scan, Finish, ClaimMark, BirthKind, BirthSlot, BirthLocal, KindLoad, LockGate, UnlockGate}
 use Rattle.brc_model.specs.declared.address.Address.{Address}
 use Rattle.brc_model.specs.declared.layout.Layout.{Layout}
 use Rattle.brc_model.specs.declared.address.Address.TheVariants.{Local, Shared, Gate, KindOf, Mark, Cell, Slot, Resource, ThreadWord}
-use Rattle.brc_word.specs.Words.{most_local, local_word, owner_part, local_part, is_immortal_word, fresh_word, dead_word, released_word, merged_word, dying_word, next_part, closed_word, kind_part, argument_part}
+use Rattle.brc_word.specs.Words.{most_local, local_word, owner_part, local_part, is_immortal_word, fresh_word, dead_word, released_word, merged_word, free_word, locked_word, dying_word, next_part, closed_word, kind_part, argument_part}
 use Rattle.brc_model.specs.Layout.{block_of, row_at}
 
 -- ---- the word of a step
@@ -45,6 +45,8 @@ address_of layout t head (BirthKind x h w) = KindOf x
 address_of layout t head (BirthSlot x h) = Slot x
 address_of layout t head (BirthLocal x h) = Local x
 address_of layout t head (KindLoad x) = KindOf x
+address_of layout t head (LockGate x) = Gate x
+address_of layout t head (UnlockGate x) = Gate x
 
 -- Returns the new value of the word that the step accesses.
 abbrev pub new_word : ℕ → ℕ → Duty → ℕ → ℕ
@@ -77,6 +79,8 @@ new_word t head (BirthKind x h w) found = w
 new_word t head (BirthSlot x h) found = 1
 new_word t head (BirthLocal x h) found = local_word t 1
 new_word t head (KindLoad x) found = found
+new_word t head (LockGate x) found = if found == free_word then locked_word t else found
+new_word t head (UnlockGate x) found = free_word
 
 -- ---- what follows a step
 
@@ -162,6 +166,8 @@ continuation layout t running head (BirthKind x h w) found =
 continuation layout t running head (BirthSlot x h) found = BirthLocal x h ∷ []
 continuation layout t running head (BirthLocal x h) found = []
 continuation layout t running head (KindLoad x) found = []
+continuation layout t running head (LockGate x) found = []
+continuation layout t running head (UnlockGate x) found = []
 
 -- the head of the dying chain after the step: 0, or a row plus 1
 abbrev pub new_head : ℕ → Duty → ℕ → ℕ

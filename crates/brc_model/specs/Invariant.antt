@@ -14,7 +14,8 @@ use Rattle.brc_model.specs.References.{held, one_if, reference_of, cell_referenc
 use Rattle.brc_model.specs.RowInvariant.{waits, carries, merges, decides, weight, Numbers, RowInvariant}
 use Rattle.brc_model.specs.Accounts.{Account, Accounts, HoldsAt, IsBounded, HoldsNone}
 use Rattle.brc_model.specs.Knowledge.{status_word, HeadOf, BehindOf}
-use Rattle.brc_model.specs.OpenWork.{exits, scans, AgendaFits, IsSettled, GateFits, dies_by, ChainFits, AsideFits}
+use Rattle.brc_model.specs.OpenWork.{exits, scans, AgendaFits, IsSettled, dies_by, ChainFits, AsideFits}
+use Rattle.brc_model.specs.Gates.{LocksFit, GateFits}
 use Rattle.brc_model.specs.Limits.{row_limit, immortal_limit, thread_limit, cell_limit}
 use Rattle.brc_model.specs.declared.layout.Layout.{Layout}
 use Rattle.brc_model.specs.Layout.{block_of, block_size, index_of, is_immortal_row, IsCounted}
@@ -37,8 +38,8 @@ numbers_of m x = record {
 -- ---- one thread
 
 -- The thread word says the thread's status, the bag has what the account says, the thread's duties know what they need,
--- and its dying rows are its chain and those that its duties finalise. A thread whose exit is under way holds nothing
--- and has put nothing aside. No instruction locks or lends yet.
+-- its dying rows are its chain and those that its duties finalise, and it holds the list that it has locked. A thread
+-- whose exit is under way holds nothing, so it has locked nothing, and has put nothing aside. No instruction lends yet.
 pub record ActorFits (account : Account) (m : Machine) (t : ℕ) (a : Actor) : Type 0 where
   pub word : m.memory (ThreadWord t) ≡ status_word a.status
   pub holds : HoldsAt m.abstract.references t account a.agenda a.aside
@@ -47,7 +48,7 @@ pub record ActorFits (account : Account) (m : Machine) (t : ℕ) (a : Actor) : T
   pub head_fits : HeadOf m t a a.agenda
   pub behind : BehindOf m t a.agenda
   pub chain : ChainFits m t a.head a.agenda
-  pub unlocked : a.locked ≡ None
+  pub locks : LocksFit account m t a
   pub unlent : a.lent ≡ None
 
 -- what holds of each thread
@@ -116,8 +117,8 @@ pub record CoreInvariant (p : Accounts) (n : ℕ) (m : Machine) : Type 0 where
   pub each : (t : ℕ) (a : Actor) → slice_get m.actors t ≡ Some a → Fits (p t) m t a
   -- no other thread holds a reference
   pub beyond : (t : ℕ) → n ≤ t → (k : Holding) (object : ℕ) → held (reference_of t k object) m.abstract.references ≡ 0
-  -- a gate is free while its row isn't dying, and says at the end that it is closed
-  pub gates : (x : ℕ) → GateFits (m.life x) (m.memory (Gate x))
+  -- a gate is free or locked while its row isn't dying, and says at the end that it is closed
+  pub gates : (x : ℕ) → GateFits m.actors x (m.life x) (m.memory (Gate x))
   -- no other thread finalises a row
   pub dying : (x t : ℕ) → n ≤ t → dies_by (m.life x) t ≡ false
   -- no instruction stores in a cell yet, so cells are empty and hold no reference

@@ -18,6 +18,7 @@ pub mod RowInvariant
 pub mod Accounts
 pub mod Knowledge
 pub mod OpenWork
+pub mod Gates
 pub mod Invariant
 pub mod Agreement
 pub mod BadDuties

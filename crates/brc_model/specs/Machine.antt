@@ -4,11 +4,12 @@ use Rattle.std.specs.Prelude.{ℕ, ◌+◌, Bool, true, false, ◌&&◌, ◌==�
 use Rattle.brc_model.specs.declared.actor.Status.{Status}
 use Rattle.brc_model.specs.declared.actor.Status.TheVariants.{Running, Leaving, Gone}
 use Rattle.brc_model.specs.declared.duty.Duty.{Duty}
-use Rattle.brc_model.specs.declared.duty.Duty.TheVariants.{Die, SettleEnd, Leave, Finish, BirthLocal}
+use Rattle.brc_model.specs.declared.duty.Duty.TheVariants.{Die, SettleEnd, Leave, Finish, BirthLocal, LockGate, UnlockGate}
 use Rattle.brc_model.specs.declared.address.Address.{Address}
 use Rattle.brc_model.specs.declared.layout.Layout.{Layout}
 use Rattle.brc_model.specs.declared.address.Address.TheVariants.{Local, Shared, Gate, KindOf, Mark, Cell, Slot, Resource, ThreadWord}
 use Rattle.brc_model.specs.AbstractState.{AbstractState, Move, moved}
+use Rattle.brc_word.specs.Words.{free_word}
 use Rattle.brc_model.specs.Duties.{address_of, new_word, continuation, new_head, ready}
 use Rattle.brc_model.specs.Layout.{block_size}
 use Rattle.brc_model.specs.Moves.{reference_effects}
@@ -25,9 +26,9 @@ pub record Actor : Type 0 where
   pub head : ℕ
   -- the number of rows of its block that it has used
   pub used : ℕ
-  -- the row of the list that it has locked, and the resource that it has lent to a call (no instruction locks or lends
-  -- yet)
+  -- the row of the list that it has locked (no instruction locks yet)
   pub locked : Option ℕ
+  -- the resource that it has lent to a call (no instruction lends yet)
   pub lent : Option ℕ
 
 -- a running thread with nothing to do, which has used `used` rows
@@ -49,6 +50,18 @@ status_by status _ = status
 abbrev pub used_by : ℕ → Duty → ℕ
 used_by used (BirthLocal x h) = used + 1
 used_by used _ = used
+
+-- Says whether the duty locks or unlocks a list.
+abbrev pub is_locking : Duty → Bool
+is_locking (LockGate x) = true
+is_locking (UnlockGate x) = true
+is_locking _ = false
+
+-- A thread that finds the gate free has locked the list, until it unlocks it.
+abbrev pub locked_by : Option ℕ → Duty → ℕ → Option ℕ
+locked_by locked (LockGate x) found = if found == free_word then Some x else locked
+locked_by locked (UnlockGate x) found = None
+locked_by locked _ found = locked
 
 -- ---- the rows of a thread
 
@@ -120,7 +133,7 @@ actor_by layout t a d rest found = record {
   aside = a.aside;
   head = new_head a.head d found;
   used = used_by a.used d;
-  locked = a.locked;
+  locked = locked_by a.locked d found;
   lent = a.lent;
 }
 

@@ -2,12 +2,12 @@
 use Rattle.std.specs.Prelude.{◌≡◌, ◌⊎◌, ℕ, ◌+◌, ◌<◌, ◌≤◌, Bool, true, false, ◌==◌, nat_le, List, [], ◌∷◌, count_by, if◌then◌else◌}
 use Rattle.brc_word.specs.Words.{half, free_word, dying_word, closed_word}
 use Rattle.brc_model.specs.declared.duty.Duty.{Duty}
-use Rattle.brc_model.specs.declared.duty.Duty.TheVariants.{RetainLoad, RetainStore, RetainAdd, ReleaseLoad, ReleaseStore, DecideAtZero, SharedLoad, SharedExchange, SetMark, Look, TakeMark, MergeSwap, MergeLoad, MergeExchange, Die, Settle, SettleKind, SettleCell, TakeSlot, CloseResource, SettleEnd, Leave, Scan, Finish, ClaimMark, BirthKind, BirthSlot, BirthLocal, KindLoad}
+use Rattle.brc_model.specs.declared.duty.Duty.TheVariants.{RetainLoad, RetainStore, RetainAdd, ReleaseLoad, ReleaseStore, DecideAtZero, SharedLoad, SharedExchange, SetMark, Look, TakeMark, MergeSwap, MergeLoad, MergeExchange, Die, Settle, SettleKind, SettleCell, TakeSlot, CloseResource, SettleEnd, Leave, Scan, Finish, ClaimMark, BirthKind, BirthSlot, BirthLocal, KindLoad, LockGate, UnlockGate}
 use Rattle.brc_model.specs.declared.address.Address.{Address}
 use Rattle.brc_model.specs.declared.address.Address.TheVariants.{Gate}
 use Rattle.brc_model.specs.declared.actor.Status.{Status}
 use Rattle.brc_model.specs.declared.actor.Status.TheVariants.{Running, Leaving, Gone}
-use Rattle.brc_model.specs.Machine.{Actor, Life, Unborn, Live, Dying, Closed, Machine}
+use Rattle.brc_model.specs.Machine.{Actor, Life, Dying, Machine}
 use Rattle.brc_model.specs.References.{one_if}
 use Rattle.brc_model.specs.Knowledge.{HeadFits}
 
@@ -101,14 +101,6 @@ abbrev pub dies_by : Life → ℕ → Bool
 dies_by (Dying u) t = u == t
 dies_by _ t = false
 
--- A row's gate is free while the row lives, and says closed at the end. While the row is dying, its thread knows the
--- gate by `HeadFits` and by its chain.
-abbrev pub GateFits : Life → ℕ → Type 0
-GateFits Unborn gate = gate ≡ free_word
-GateFits Live gate = gate ≡ free_word
-GateFits (Dying t) gate = Unit {0}
-GateFits Closed gate = gate ≡ closed_word
-
 -- The rows that the thread finalises are its dying chain, and the rows that its duties finalise.
 pub record ChainFits (m : Machine) (t head : ℕ) (agenda : List Duty) : Type 0 where
   pub chained : List ℕ
@@ -145,6 +137,8 @@ is_about x (BirthKind y h w) = y == x
 is_about x (BirthSlot y h) = y == x
 is_about x (BirthLocal y h) = y == x
 is_about x (KindLoad y) = y == x
+is_about x (LockGate y) = y == x
+is_about x (UnlockGate y) = y == x
 is_about x Settle = false
 is_about x (Leave y n) = false
 is_about x (Scan y n) = false
@@ -156,7 +150,7 @@ about_of x [] = false
 about_of x (d ∷ rest) = is_about x d
 
 -- Says whether a duty may be put aside: a retain, a release, a queueing or a merge may. A thread settles, claims, exits,
--- gives birth and asks for a kind in one go.
+-- gives birth, asks for a kind, locks and unlocks in one go.
 abbrev pub may_wait : Duty → Bool
 may_wait (RetainLoad x h) = true
 may_wait (RetainStore x h w) = true
@@ -174,13 +168,16 @@ may_wait (MergeLoad x c r) = true
 may_wait (MergeExchange x c w r) = true
 may_wait _ = false
 
--- Says whether a duty may come next while others are aside: one that may wait, a death, a birth, or a look at a kind.
+-- Says whether a duty may come next while others are aside: one that may wait, a death, a birth, a look at a kind, or
+-- one that locks or unlocks.
 abbrev pub is_piece : Duty → Bool
 is_piece (Die x) = true
 is_piece (BirthKind x h w) = true
 is_piece (BirthSlot x h) = true
 is_piece (BirthLocal x h) = true
 is_piece (KindLoad x) = true
+is_piece (LockGate x) = true
+is_piece (UnlockGate x) = true
 is_piece d = may_wait d
 
 -- The agenda is empty, or one such duty.

@@ -6,10 +6,10 @@ use Rattle.brc_model.specs.declared.duty.Holding.{Holding}
 use Rattle.brc_model.specs.declared.duty.Reason.{Reason}
 use Rattle.brc_model.specs.declared.duty.Reason.TheVariants.{Own, Handed}
 use Rattle.brc_model.specs.declared.duty.Duty.{Duty}
-use Rattle.brc_model.specs.declared.duty.Duty.TheVariants.{RetainLoad, RetainStore, RetainAdd, ReleaseLoad, ReleaseStore, DecideAtZero, SharedLoad, SharedExchange, SetMark, Look, TakeMark, MergeSwap, MergeLoad, MergeExchange, Die, Settle, SettleKind, SettleCell, TakeSlot, CloseResource, SettleEnd, Leave, Scan, Finish, ClaimMark, BirthKind, BirthSlot, BirthLocal, KindLoad}
+use Rattle.brc_model.specs.declared.duty.Duty.TheVariants.{RetainLoad, RetainStore, RetainAdd, ReleaseLoad, ReleaseStore, DecideAtZero, SharedLoad, SharedExchange, SetMark, Look, TakeMark, MergeSwap, MergeLoad, MergeExchange, Die, Settle, SettleKind, SettleCell, TakeSlot, CloseResource, SettleEnd, Leave, Scan, Finish, ClaimMark, BirthKind, BirthSlot, BirthLocal, KindLoad, LockGate, UnlockGate}
 use Rattle.brc_model.specs.declared.address.Address.{Address}
 use Rattle.brc_model.specs.declared.address.Address.TheVariants.{KindOf}
-use Rattle.brc_word.specs.Words.{most_local, local_word, local_part, is_immortal_word, fresh_word, dead_word, merged_word, dying_word, closed_word}
+use Rattle.brc_word.specs.Words.{most_local, local_word, local_part, is_immortal_word, fresh_word, dead_word, merged_word, free_word, locked_word, dying_word, closed_word}
 use Rattle.brc_model.specs.Kinds.{kind_of_word}
 use Rattle.brc_model.specs.AbstractState.{Move, Finalise}
 use Rattle.brc_model.specs.Duties.{new_word, continuation, counts_locally, once_merged, has_resource, cells_of, cells_from, release_found}
@@ -50,6 +50,16 @@ module _ (memory : Address → ℕ) (layout : Layout) (t : ℕ) (running : Bool)
 
     KindRead : (x found : ℕ)
         → Goes (KindLoad x) found found [] []
+    -- ---- locks
+
+    -- the gate is free: the thread has locked the list from then on
+    Locks : (x found : ℕ) → found ≡ free_word
+        → Goes (LockGate x) found (locked_word t) [] []
+    -- another thread has locked the list: the thread may try again
+    LockHeld : (x found : ℕ) → found ≢ free_word
+        → Goes (LockGate x) found found [] []
+    Unlocks : (x found : ℕ)
+        → Goes (UnlockGate x) found free_word [] []
     -- ---- a new reference
 
     -- an immortal object is never counted

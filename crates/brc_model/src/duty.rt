@@ -162,4 +162,12 @@ pub enum Duty {
     KindLoad {
         row: u32,
     },
+    /// Compare-exchanges the list's gate: if it is free, the thread has locked the list from then on.
+    LockGate {
+        row: u32,
+    },
+    /// Frees the gate of the list that the thread has locked.
+    UnlockGate {
+        row: u32,
+    },
 }

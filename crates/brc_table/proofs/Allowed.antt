@@ -135,6 +135,7 @@ module _ (kept : DutiesAreKept) (within : DutiesAreWithin) (law : AccountsAreThe
         agenda = is_at.agenda;
         alive = is_at.alive;
         object = is_at.object;
+        plain = is_at.plain;
       } in
       let found = slice_index s.words index in
       let same : slice_index s.words (place_of u d) ≡ found = ap (slice_index s.words) (sym is_at.index_is) in

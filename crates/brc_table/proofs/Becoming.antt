@@ -1,6 +1,6 @@
 -- Changes of a hand's view at which no word changes: the hand turns to other work, or it begins a retain, a release or
 -- a birth. First it puts its next duty aside, which may wait.
-use Rattle.std.proofs.Common.{◌≡◌, ◌⊎◌, ℕ, ◌+◌, ◌<◌, ◌≤◌, true, List, [], ◌∷◌, ◌++◌, length, set, inl, inr, refl, sym, ap, ◌∙◌, subst, arith}
+use Rattle.std.proofs.Common.{◌≡◌, ◌⊎◌, ℕ, ◌+◌, ◌<◌, ◌≤◌, true, List, [], ◌∷◌, ◌++◌, length, set, inl, inr, refl, sym, ap, ◌∙◌, subst, arith, None, Some}
 use Rattle.std.specs.Prelude.{◌==◌, not, count_by}
 use Rattle.std.specs.List.{filter}
 use Rattle.std.proofs.lemmas.Bool.{cases_Bool, eq-eqb}
@@ -77,6 +77,7 @@ module _ (layout : Layout) (words : List ℕ) (views : List View) (id : ℕ) (v 
         actors = refl;
         thread_same = refl;
         told_same = refl;
+        locked_same = refl;
         given_more = λ k is. is;
         holding = λ y counted.
             ap (λ (a : Account). a AsCaller y) own
@@ -211,6 +212,7 @@ gains_one law layout words views id v x rests immortal =
         reads = old.reads;
         acts = old.acts;
         told = old.told;
+        unlocked = old.unlocked;
         holding = λ other w y is counted.
             one_more_else p t x w.thread AsCaller y (immortal_apart m.layout x y immortal' counted)
             ∙ old.holding other w y is counted;
@@ -289,7 +291,8 @@ releasing_becomes put law free layout v x running none holding =
     begun layout words views id (rested v) s here (ReleaseLoad x AsCaller ∷ []) (open_work v)
     (without_reference v.layout x v.references) (with_one_less (s.accounts t) AsCaller x)
     (law s.accounts (1 + s.machine.layout.workers) s.machine t (actor_of (rested v)) x s.counts
-    (ready layout words views id v s here running.0) (alone v x none) one.more)
+    (ready layout words views id v s here running.0) (alone v x none) one.more
+    (λ e. absurd (let wrong : None ≡ Some x = sym (s.unlocked id (rested v) here) ∙ e in cc)))
     (λ y counted. omega (
       arith,
       s.holding id (rested v) y here (subst (λ (l : Layout). IsCounted l y) told counted),

@@ -1,5 +1,5 @@
 -- One hand's view changes, and with it the machine, so that the rule holds again.
-use Rattle.std.proofs.Common.{◌≡◌, ◌≢◌, ℕ, ◌+◌, ◌<◌, true, List, length, set, Some, ⊎_elim, refl, sym, ap, ◌∙◌, subst}
+use Rattle.std.proofs.Common.{◌≡◌, ◌≢◌, ℕ, ◌+◌, ◌<◌, true, List, length, set, Some, ⊎_elim, refl, sym, ap, ◌∙◌, subst, None}
 use Rattle.std.specs.Prelude.{slice_get, slice_index}
 use Rattle.std.proofs.lemmas.Option.{slice_get_within}
 use mathlib.Core.Option.{some, some-injective}
@@ -35,6 +35,7 @@ pub record Changes (layout : Layout) (words : List ℕ) (views : List View) (v u
   pub actors : machine.actors ≡ set old.machine.actors v.thread (actor_of u)
   pub thread_same : u.thread ≡ v.thread
   pub told_same : u.layout ≡ v.layout
+  pub locked_same : u.locked ≡ v.locked
   pub given_more : (t : ℕ) → is_given t v ≡ true → is_given t u ≡ true
   pub holding : (x : ℕ) → IsCounted machine.layout x → accounts v.thread AsCaller x ≡ holds u x
   pub others : (t : ℕ) → t ≢ v.thread → accounts t ≡ old.accounts t
@@ -66,6 +67,13 @@ module _ (layout : Layout) (words : List ℕ) (views : List View) (id : ℕ) (v 
       (λ t. subst (λ (x : View). x.layout ≡ new.machine.layout) t.1
       (new.told_same ∙ (old.told id v here ∙ sym new.layout_same)))
       (λ t. old.told other w t.1 ∙ sym new.layout_same)
+      (at_set views id other u w is)
+
+  unlocked_after : (other : ℕ) (w : View) → get_elem? (set views id u) other ≡ some w → w.locked ≡ None
+  unlocked_after other w is =
+      ⊎_elim
+      (λ t. subst (λ (x : View). x.locked ≡ None) t.1 (new.locked_same ∙ old.unlocked id v here))
+      (λ t. old.unlocked other w t.1)
       (at_set views id other u w is)
 
   holding_after : (other : ℕ) (w : View) (x : ℕ) → get_elem? (set views id u) other ≡ some w
@@ -140,6 +148,7 @@ module _ (layout : Layout) (words : List ℕ) (views : List View) (id : ℕ) (v 
     reads = new.reads;
     acts = acts_after;
     told = told_after;
+    unlocked = unlocked_after;
     holding = holding_after;
     no_variables = new.no_variables;
     apart = apart_after;

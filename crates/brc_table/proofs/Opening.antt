@@ -1,5 +1,5 @@
 -- A table stands on its first words, with main's hand alone.
-use Rattle.std.proofs.Common.{◌≡◌, ℕ, zero, suc, ◌+◌, ◌<◌, Bool, true, false, cond, ◌&&◌, List, [], ◌∷◌, Some, refl, sym, ap, ◌∙◌, subst, arith}
+use Rattle.std.proofs.Common.{◌≡◌, ℕ, zero, suc, ◌+◌, ◌<◌, Bool, true, false, cond, ◌&&◌, List, [], ◌∷◌, Some, refl, sym, ap, ◌∙◌, subst, arith, None}
 use Rattle.std.specs.Prelude.{◌==◌, slice_get}
 use Rattle.std.proofs.lemmas.Bool.{ne_eqb}
 use Rattle.std.proofs.lemmas.List.Sums.{sum_by-cons}
@@ -68,6 +68,7 @@ module _ (begin : HandsBegin) (layout : Layout) (plain : IsPlainLayout layout) (
     acts = λ id v is.
         of_main (λ w. slice_get (hands_machine layout).actors w.thread ≡ Some (actor_of w)) id v is refl;
     told = λ id v is. of_main (λ w. w.layout ≡ layout) id v is refl;
+    unlocked = λ id v is. of_main (λ w. w.locked ≡ None) id v is refl;
     holding = λ id v x is counted.
         of_main (λ w. hands_accounts w.thread AsCaller x ≡ holds w x) id v is (main_holds layout x);
     no_variables = λ t i x. by_none (t == 0);

@@ -1,5 +1,5 @@
 -- Main gives out a worker's hand, with one of its references to the root, and the rule holds again.
-use Rattle.std.proofs.Common.{◌≡◌, ◌≢◌, ◌⊎◌, ℕ, zero, suc, ◌+◌, ◌<◌, ◌≤◌, Bool, true, false, cond, List, [], ◌∷◌, ◌++◌, length, set, inl, inr, Some, refl, sym, ap, ◌∙◌, subst, arith}
+use Rattle.std.proofs.Common.{◌≡◌, ◌≢◌, ◌⊎◌, ℕ, zero, suc, ◌+◌, ◌<◌, ◌≤◌, Bool, true, false, cond, List, [], ◌∷◌, ◌++◌, length, set, inl, inr, Some, refl, sym, ap, ◌∙◌, subst, arith, None}
 use Rattle.std.specs.Prelude.{◌==◌, ◌||◌, ◌&&◌, nat_lt, count_by, slice_get}
 use Rattle.std.proofs.lemmas.Bool.{eq-eqb, lt-leb, false≢true}
 use Rattle.std.proofs.lemmas.Bool.Decides.{eqb_tells}
@@ -160,6 +160,7 @@ module _ (law : ReferencesAreHandedOver) (layout : Layout) (words : List ℕ) (v
       law p (1 + old.machine.layout.workers) old.machine v.thread t (actor_of v) (idle_actor 0) root_row old.counts
       (old.acts id v here) worker_idle.0 (λ e. t_apart (sym e)) (has_none v root_row may.no_work) refl refl root_counted
       (omega (arith, old.holding id v root_row here root_counted, may.holds_root))
+      (λ e. absurd (let wrong : None ≡ Some root_row = sym (old.unlocked id v here) ∙ e in cc))
       (omega (arith, worker_idle.1 AsCaller root_row))
 
   -- ---- each part of the rule
@@ -176,6 +177,11 @@ module _ (law : ReferencesAreHandedOver) (layout : Layout) (words : List ℕ) (v
       subst (λ (w : View). w.layout ≡ machine.layout) is (old.told id v here)
   told_after other z (Another apart is) = old.told other z is
   told_after other z (New same is) = subst (λ (w : View). w.layout ≡ machine.layout) is (old.told id v here)
+
+  unlocked_after : (other : ℕ) (z : View) → Whose other z → z.locked ≡ None
+  unlocked_after other z (Mains same is) = subst (λ (w : View). w.locked ≡ None) is (old.unlocked id v here)
+  unlocked_after other z (Another apart is) = old.unlocked other z is
+  unlocked_after other z (New same is) = subst (λ (w : View). w.locked ≡ None) is refl
 
   holding_after : (other : ℕ) (z : View) (x : ℕ) → Whose other z → IsCounted machine.layout x
       → after z.thread AsCaller x ≡ holds z x
@@ -277,6 +283,7 @@ module _ (law : ReferencesAreHandedOver) (layout : Layout) (words : List ℕ) (v
     reads = old.reads;
     acts = λ other z is. acts_after other z (whose other z is);
     told = λ other z is. told_after other z (whose other z is);
+    unlocked = λ other z is. unlocked_after other z (whose other z is);
     holding = λ other z x is counted. holding_after other z x (whose other z is) counted;
     no_variables = none_after;
     apart = λ one other w z is that same. apart_after one other w z (whose one w is) (whose other z that) same;

@@ -1,11 +1,12 @@
 -- A hand does its first duty, which is one step on an object's word, and the rule holds again.
-use Rattle.std.proofs.Common.{◌≡◌, ◌≢◌, ℕ, ◌+◌, ◌≤◌, Bool, true, cond, List, ◌∷◌, length, set, inl, inr, refl, sym, ap, ◌∙◌, subst, arith}
+use Rattle.std.proofs.Common.{◌≡◌, ◌≢◌, ℕ, ◌+◌, ◌≤◌, Bool, true, cond, List, ◌∷◌, length, set, inl, inr, refl, sym, ap, ◌∙◌, subst, arith, false, Option}
 use Rattle.std.specs.Prelude.{◌==◌, slice_index}
 use Rattle.std.proofs.lemmas.List.{length-set, get_or-set_same, get_or-set_other}
 use Rattle.std.proofs.lemmas.Bool.{eqb-true, cases_Bool}
 use mathlib.Core.Option.{some}
 use lib.ListN.{get_elem?}
 use Rattle.brc_model.specs.declared.duty.Duty.{Duty}
+use Rattle.brc_model.specs.declared.duty.Duty.TheVariants.{LockGate, UnlockGate}
 use Rattle.brc_model.specs.declared.actor.Status.TheVariants.{Gone}
 use Rattle.brc_model.specs.declared.address.Address.{Address}
 use Rattle.brc_model.specs.declared.address.Address.TheVariants.{Local, Shared, Gate, KindOf, Mark, Cell, Slot, Resource, ThreadWord}
@@ -13,7 +14,7 @@ use Rattle.brc_model.specs.declared.layout.Layout.{Layout}
 use Rattle.brc_model.specs.Layout.{row_count}
 use Rattle.brc_model.specs.Limits.{worker_limit}
 use Rattle.brc_model.specs.Duties.{address_of, new_word}
-use Rattle.brc_model.specs.Machine.{Machine, same_address, written, actor_by, done_by}
+use Rattle.brc_model.specs.Machine.{Machine, same_address, written, actor_by, done_by, is_locking, locked_by}
 use Rattle.brc_model.specs.Within.{IsThere}
 use Rattle.brc_model.specs.CountingLaws.{ComesNext, DutiesAreKept, DutyWithin, DutiesAreWithin}
 use Rattle.brc_table.specs.declared.view.View.{View}
@@ -97,6 +98,13 @@ pub record Does (layout : Layout) (words : List ℕ) (views : List View) (id : �
   pub agenda : v.agenda ≡ d ∷ rest
   pub alive : v.status ≢ Gone
   pub object : IsObjectWord (address_of v.layout v.thread v.head d)
+  pub plain : is_locking d ≡ false
+
+-- A duty that neither locks nor unlocks leaves the hand's lock as it is.
+locked_still : (locked : Option ℕ) (d : Duty) (found : ℕ) → is_locking d ≡ false → locked_by locked d found ≡ locked
+locked_still locked (LockGate x) found plain = absurd cc
+locked_still locked (UnlockGate x) found plain = absurd cc
+locked_still locked _ found plain = refl
 
 -- the place of the duty's word
 abbrev pub place_of : View → Duty → ℕ
@@ -157,6 +165,7 @@ module _ (kept : DutiesAreKept) (within : DutiesAreWithin) (layout : Layout) (wo
             ∙ ap (λ (l : Layout). set m.actors t (actor_by l t a d rest found)) (sym told);
         thread_same = refl;
         told_same = refl;
+        locked_same = locked_still v.locked d found does.plain;
         given_more = λ u is. is;
         holding = λ x counted. old.holding id v x does.here counted;
         others = λ u apart. refl;

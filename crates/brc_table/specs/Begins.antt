@@ -1,5 +1,5 @@
 -- Changes of a hand's view at which no word changes: taking work up, and turning to other work.
-use Rattle.std.specs.Prelude.{◌≡◌, ◌≢◌, ℕ, List, ◌∷◌}
+use Rattle.std.specs.Prelude.{◌≡◌, ◌≢◌, ℕ, List, ◌∷◌, false}
 use Rattle.std.specs.Prelude.{slice_set}
 use mathlib.Core.Option.{some}
 use lib.ListN.{get_elem?}
@@ -9,7 +9,7 @@ use Rattle.brc_model.specs.declared.actor.Status.TheVariants.{Gone}
 use Rattle.brc_model.specs.declared.layout.Layout.{Layout}
 use Rattle.brc_model.specs.Duties.{address_of, new_word, new_head}
 use Rattle.brc_model.specs.Layout.{row_count}
-use Rattle.brc_model.specs.Machine.{status_by, used_by, is_running}
+use Rattle.brc_model.specs.Machine.{status_by, used_by, is_running, is_locking}
 use Rattle.brc_model.specs.Within.{Suits}
 use Rattle.brc_model.specs.Stores.{Overwrites}
 use Rattle.brc_table.specs.declared.view.View.{View}
@@ -28,6 +28,8 @@ pub record IsAt (v : View) (d : Duty) (rest : List Duty) (index : ℕ) : Type 0 
   pub alive : v.status ≢ Gone
   pub object : IsObjectWord (address_of v.layout v.thread v.head d)
   pub index_is : index ≡ place (address_of v.layout v.thread v.head d)
+  -- no call locks yet
+  pub plain : is_locking d ≡ false
 
 -- The duty leaves the thread's status, the head of its chain and its used rows as they are.
 pub record IsQuiet (d : Duty) : Type 0 where

@@ -1,5 +1,5 @@
 -- The table's rule: between any two steps, words and views are those of a counting machine that has the invariant.
-use Rattle.std.specs.Prelude.{◌≡◌, ℕ, ◌+◌, ◌<◌, true, ◌==◌, if◌then◌else◌, List, length, Some, slice_get, slice_index}
+use Rattle.std.specs.Prelude.{◌≡◌, ℕ, ◌+◌, ◌<◌, true, ◌==◌, if◌then◌else◌, List, length, Some, slice_get, slice_index, None}
 use mathlib.Core.Option.{some}
 use lib.ListN.{get_elem?}
 use Rattle.brc_model.specs.declared.duty.Holding.TheVariants.{ByVariable, AsCaller}
@@ -35,6 +35,8 @@ pub record Stands (layout : Layout) (words : List ℕ) (views : List View) : Typ
   -- the references to counted objects are those that the view lists
   pub holding : (id : ℕ) (v : View) (x : ℕ) → get_elem? views id ≡ some v → IsCounted machine.layout x
       → accounts v.thread AsCaller x ≡ holds v x
+  -- no call locks yet
+  pub unlocked : (id : ℕ) (v : View) → get_elem? views id ≡ some v → v.locked ≡ None
   -- no hand holds a reference by a variable
   pub no_variables : (t i x : ℕ) → accounts t (ByVariable i) x ≡ 0
   -- no thread has two hands

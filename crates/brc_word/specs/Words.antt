@@ -58,9 +58,13 @@ merged_word word carried = (biased_part word + carried) * 4 + 3
 
 -- ---- gates, kinds and thread words
 
--- the gate of an object that is neither dying nor closed
+-- the gate of an object that is neither locked nor dying nor closed
 abbrev pub free_word : ℕ
 free_word = 1
+
+-- the gate of a list that the thread has locked
+abbrev pub locked_word : ℕ → ℕ
+locked_word thread = thread + 2
 
 abbrev pub dying_word : ℕ → ℕ → ℕ
 dying_word thread next = (thread + 1) * half + next

@@ -1,12 +1,23 @@
-//! The gate of an object: free, dying in the chain of a thread, or closed.
+//! The gate of an object: free, locked by a thread, dying in the chain of a thread, or closed.
 
 ghost use Rattle.std.specs.Prelude.{◌≡◌, ◌≢◌, ◌==◌};
-ghost use Rattle.brc_word.specs.Words.{dying_word, next_part, closed_word};
+ghost use Rattle.brc_word.specs.Words.{free_word, locked_word, dying_word, next_part, closed_word};
 
+/// The gate of a list that main has locked. Those of the workers' lists follow, in the order of the workers.
+const LOCKED: u64 = 2;
 /// In the gate of a dying object the thread is above the next object of its chain.
 const CHAINED: u64 = 1 << 32;
 /// The gate of a closed object.
 const CLOSED: u64 = 1 << 63;
+
+/// Returns the gate of a list that the thread has locked.
+pub fn locked(thread: u8) -> u64
+    ensures word { result ≡ locked_word thread }
+    ensures unfree { result ≢ free_word }
+    ensures unclosed { result ≢ closed_word }
+{
+    LOCKED + u64::from(thread)
+}
 
 /// Returns the gate of a dying object, in the chain of the thread that deallocates it. `next` is 1 more than the row of
 /// the next object of the chain, or 0 at its end.

@@ -15,7 +15,7 @@ mod shared;
 mod shared_word;
 
 pub use choice::{LocalChoice, release_choice_local, retain_choice};
-pub use gate::{closed, dying, is_closed, next_of_dying};
+pub use gate::{closed, dying, is_closed, locked, next_of_dying};
 pub use kind::{kind_argument, kind_number, kind_word};
 pub use laws::{header_words, local_words_are_headers, pack_and_unpack, shared_words_are_headers};
 pub use local::{

@@ -43,7 +43,7 @@ actor_of t = record {
     aside = [];
     head = t.head;
     used = t.used;
-    locked = None;
+    locked = t.locked;
     lent = None;
   };
 }

@@ -27,7 +27,10 @@ pub fn address_of(layout: Layout, thread: u8, head: u32, duty: Duty) -> Address
         | Duty::SharedExchange { row, .. }
         | Duty::MergeLoad { row, .. }
         | Duty::MergeExchange { row, .. } => Address::Shared { row },
-        Duty::Die { row } | Duty::SettleEnd { row } => Address::Gate { row },
+        Duty::Die { row }
+        | Duty::SettleEnd { row }
+        | Duty::LockGate { row }
+        | Duty::UnlockGate { row } => Address::Gate { row },
         Duty::Settle => Address::Gate {
             row: head.saturating_sub(1),
         },

@@ -62,6 +62,7 @@ pub fn do_duty(
     thread.head = effect.head;
     thread.status = effect.status;
     thread.used = effect.used;
+    thread.locked = effect.locked;
     memory.store(address, effect.word);
     pass_over(&mut thread.agenda, effect.head);
     found
@@ -92,6 +93,7 @@ fn doer(layout: Layout, thread: &Thread, number: u8, rows: u32) -> Doer
       status = thread.now.status;
       head = thread.now.head;
       used = thread.now.used;
+      locked = thread.now.locked;
       rows = rows;
     } }
 {
@@ -101,6 +103,7 @@ fn doer(layout: Layout, thread: &Thread, number: u8, rows: u32) -> Doer
         status: thread.status,
         head: thread.head,
         used: thread.used,
+        locked: thread.locked,
         rows,
     }
 }

@@ -12,6 +12,7 @@ mod birth;
 mod dying;
 mod exit;
 mod kind;
+mod lock;
 mod merge;
 mod release;
 mod retain;
@@ -39,6 +40,8 @@ pub struct Effect {
     pub status: Status,
     /// The number of rows of its block that the thread has used.
     pub used: u32,
+    /// The row of the list that the thread has locked.
+    pub locked: Option<u32>,
 }
 
 /// The thread that does a duty: the parts of it that the duty's effect depends on.
@@ -51,6 +54,8 @@ pub struct Doer {
     pub head: u32,
     /// The number of rows of its block that it has used.
     pub used: u32,
+    /// The row of the list that it has locked.
+    pub locked: Option<u32>,
     /// The number of rows of all threads together.
     pub rows: u32,
 }
@@ -108,10 +113,12 @@ impl Doer {
             Duty::BirthSlot { row, holding } => self.birth_slot(row, holding),
             Duty::BirthLocal { .. } => self.birth_local(),
             Duty::KindLoad { .. } => self.kind_load(found),
+            Duty::LockGate { row } => self.lock_gate(row, found),
+            Duty::UnlockGate { .. } => self.unlock_gate(),
         }
     }
 
-    /// Returns an effect that keeps the thread's head, status and number of used rows.
+    /// Returns an effect that keeps the thread's head, status, number of used rows and lock.
     #[inline(always)]
     fn leaves(self, word: u64, next: Next) -> Effect
         ensures { result ≡ record {
@@ -120,6 +127,7 @@ impl Doer {
           head = self.head;
           status = self.status;
           used = self.used;
+          locked = self.locked;
         } }
     {
         Effect {
@@ -128,6 +136,7 @@ impl Doer {
             head: self.head,
             status: self.status,
             used: self.used,
+            locked: self.locked,
         }
     }
 

@@ -24,6 +24,7 @@ pub fn first_threads(alloc: Global, calls: &[Call]) -> Result<Vec<Thread>, NoMem
         agenda: Vec::new(alloc),
         head: 0,
         used: FRONT_ROWS,
+        locked: None,
     })?;
     for call in calls {
         threads.push(Thread {
@@ -36,6 +37,7 @@ pub fn first_threads(alloc: Global, calls: &[Call]) -> Result<Vec<Thread>, NoMem
             agenda: Vec::new(alloc),
             head: 0,
             used: 0,
+            locked: None,
         })?;
     }
     Ok(threads)

@@ -40,6 +40,8 @@ pub struct Thread {
     pub head: u32,
     /// The number of rows of its block that it has used.
     pub used: u32,
+    /// The row of the list that it has locked. No instruction locks yet.
+    pub locked: Option<u32>,
 }
 
 impl Thread {
@@ -87,11 +89,12 @@ impl fmt::Debug for Thread {
             agenda,
             head,
             used,
+            locked,
             ..
         } = self;
         write!(
             f,
-            "{function} {stage:?} {left} {status:?} {agenda:?} {head} {used}"
+            "{function} {stage:?} {left} {status:?} {agenda:?} {head} {used} {locked:?}"
         )?;
         match stage {
             Stage::InCall => write!(f, " {} {:?}", self.at, self.variables),

@@ -1,7 +1,7 @@
--- Births, looks at a kind and deallocations, computed by the definitions that the code's contracts cite. Today's
+-- Births, looks at a kind, locks and deallocations, computed by the definitions that the code's contracts cite. Today's
 -- instructions make numbers and lists alone, so no run of a module shows files and sockets. The object is in row 7, and
 -- thread 3, which has used four rows, makes and deallocates it.
-use Rattle.std.proofs.Common.{◌≡◌, ℕ, List, [], ◌∷◌, true, map, refl}
+use Rattle.std.proofs.Common.{◌≡◌, ℕ, List, [], ◌∷◌, true, map, refl, None, Some}
 use Rattle.brc_model.specs.declared.duty.Duty.{Duty}
 use Rattle.brc_model.specs.declared.duty.Duty.TheVariants.{
   BirthKind,
@@ -13,13 +13,15 @@ use Rattle.brc_model.specs.declared.duty.Duty.TheVariants.{
   CloseResource,
   SettleEnd,
   KindLoad,
+  LockGate,
+  UnlockGate,
 }
 use Rattle.brc_model.specs.declared.duty.Holding.TheVariants.{InFlight}
 use Rattle.brc_model.specs.declared.address.Address.{Address}
-use Rattle.brc_model.specs.declared.address.Address.TheVariants.{KindOf, Slot, Local, Resource}
+use Rattle.brc_model.specs.declared.address.Address.TheVariants.{KindOf, Slot, Local, Resource, Gate}
 use Rattle.brc_model.specs.declared.layout.Layout.{Layout}
 use Rattle.brc_model.specs.Duties.{address_of, new_word, continuation}
-use Rattle.brc_model.specs.Machine.{used_by}
+use Rattle.brc_model.specs.Machine.{used_by, locked_by}
 
 -- four workers of four rows
 four : Layout
@@ -96,3 +98,26 @@ kinds-lead_to : map (λ (w : ℕ). continuation four 3 true 0 (KindLoad 7) w) (n
     ≡ [] ∷ [] ∷ [] ∷ [] ∷ []
 unfolding number list file sock
 kinds-lead_to = refl
+
+-- Thread 3 locks the list of row 7 if it finds the gate free, and not if it finds it locked by thread 0, or by itself.
+locks-are_at : map (λ (d : Duty). address_of four 3 0 d) (LockGate 7 ∷ UnlockGate 7 ∷ []) ≡ Gate 7 ∷ Gate 7 ∷ []
+locks-are_at = refl
+
+locks-leave : map (λ (w : ℕ). new_word 3 0 (LockGate 7) w) (1 ∷ 2 ∷ 5 ∷ []) ≡ 5 ∷ 2 ∷ 5 ∷ []
+locks-leave = refl
+
+locks-hold : map (λ (w : ℕ). locked_by None (LockGate 7) w) (1 ∷ 2 ∷ 5 ∷ []) ≡ Some 7 ∷ None ∷ None ∷ []
+locks-hold = refl
+
+locks-lead_to : map (λ (w : ℕ). continuation four 3 true 0 (LockGate 7) w) (1 ∷ 2 ∷ []) ≡ [] ∷ [] ∷ []
+locks-lead_to = refl
+
+-- It frees the gate again.
+unlocks-leave : new_word 3 0 (UnlockGate 7) 5 ≡ 1
+unlocks-leave = refl
+
+unlocks-hold : locked_by (Some 7) (UnlockGate 7) 5 ≡ None
+unlocks-hold = refl
+
+unlocks-lead_to : continuation four 3 true 0 (UnlockGate 7) 5 ≡ []
+unlocks-lead_to = refl

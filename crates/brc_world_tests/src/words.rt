@@ -3,7 +3,7 @@ ghost use Rattle.std.specs.Prelude.{◌≡◌};
 use brc_word::{
     LocalChoice, Phase, Shared, SharedChoice, closed, dying, is_closed, is_dead, is_fresh,
     is_immortal, kind_argument, kind_number, kind_word, local_count, local_with_one_less,
-    local_with_one_more, local_word, merge_word, merged, next_of_dying, pack, read_local,
+    local_with_one_more, local_word, locked, merge_word, merged, next_of_dying, pack, read_local,
     release_choice, release_choice_local, released, retain_choice, shared_with_one_more, unpack,
 };
 use std::test::*;
@@ -117,8 +117,22 @@ fn choices(rt: HostRuntime) {
 
 #[test]
 fn gates_and_kinds(rt: HostRuntime) {
-    let words = [dying(1, 2), dying(0, 0), closed(), kind_word(3, 8)];
-    let expected = [8589934594, 4294967296, 9223372036854775808, 12884901896];
+    let words = [
+        locked(0),
+        locked(32),
+        dying(1, 2),
+        dying(0, 0),
+        closed(),
+        kind_word(3, 8),
+    ];
+    let expected = [
+        2,
+        34,
+        8589934594,
+        4294967296,
+        9223372036854775808,
+        12884901896,
+    ];
     assert_eq!(rt; words, expected);
     let parts = [
         next_of_dying(8589934594),

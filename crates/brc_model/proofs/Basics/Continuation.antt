@@ -4,19 +4,21 @@ use Rattle.std.proofs.Common.{◌≡◌, ◌≢◌, ℕ, zero, suc, ◌+◌, ◌
 use Rattle.std.specs.Prelude.{◌==◌, ◌&&◌, nat_lt, if◌then◌else◌}
 use Rattle.std.proofs.lemmas.Bool.{eqb-true}
 use Rattle.brc_word.specs.Words.{most_local, local_part, is_immortal_word, fresh_word, dead_word, released_word, merged_word}
+use Rattle.brc_model.specs.declared.duty.Holding.{Holding}
 use Rattle.brc_model.specs.declared.duty.Holding.TheVariants.{InFlight}
 use Rattle.brc_model.specs.declared.duty.Reason.TheVariants.{Own, Handed}
 use Rattle.brc_model.specs.declared.duty.Duty.{Duty}
-use Rattle.brc_model.specs.declared.duty.Duty.TheVariants.{RetainLoad, RetainStore, RetainAdd, ReleaseLoad, ReleaseStore, DecideAtZero, SharedLoad, SharedExchange, SetMark, Look, TakeMark, MergeSwap, MergeLoad, MergeExchange, Die, Settle, SettleKind, SettleCell, TakeSlot, CloseResource, SettleEnd, Leave, Scan, Finish, ClaimMark, BirthKind, BirthSlot, BirthLocal, KindLoad}
+use Rattle.brc_model.specs.declared.duty.Duty.TheVariants.{RetainLoad, RetainStore, RetainAdd, ReleaseLoad, ReleaseStore, DecideAtZero, SharedLoad, SharedExchange, SetMark, Look, TakeMark, MergeSwap, MergeLoad, MergeExchange, Die, Settle, SettleKind, SettleCell, TakeSlot, CloseResource, SettleEnd, Leave, Scan, Finish, ClaimMark, BirthKind, BirthSlot, BirthLocal, KindLoad, LockGate, UnlockGate}
 use Rattle.brc_model.specs.declared.layout.Layout.{Layout}
 use Rattle.brc_model.specs.Layout.{row_at}
 use Rattle.brc_model.specs.Duties.{continuation, counts_locally, claimed, has_resource, cells_of}
 use Rattle.brc_model.specs.OpenWork.{is_about, is_piece}
+use Rattle.brc_model.specs.Accounts.{lacks}
 
 -- ---- one duty that follows another
 
 -- Says whether a duty leaves the dying chain as it is. Retains, births, looks
--- at a kind and the duties of an exit do.
+-- at a kind, locks and the duties of an exit do.
 abbrev pub leaves_chain : Duty → Bool
 leaves_chain (RetainLoad x h) = true
 leaves_chain (RetainStore x h w) = true
@@ -29,6 +31,8 @@ leaves_chain (BirthKind x h w) = true
 leaves_chain (BirthSlot x h) = true
 leaves_chain (BirthLocal x h) = true
 leaves_chain (KindLoad x) = true
+leaves_chain (LockGate x) = true
+leaves_chain (UnlockGate x) = true
 leaves_chain _ = false
 
 -- Settling empties the chain; all other duties may let a row die.
@@ -50,10 +54,11 @@ is_inner Finish = false
 is_inner (ClaimMark x) = false
 is_inner _ = true
 
--- What a duty has in common with the duty that goes on with its work: the row, whether it works on one object, whether
--- it may come next while others are aside, and what it does to the dying chain.
+-- What a duty has in common with the duty that goes on with its work: the row, the reference that it makes, whether it
+-- works on one object, whether it may come next while others are aside, and what it does to the dying chain.
 pub record Traits : Type 0 where
   pub about : ℕ → Bool
+  pub makes : Holding → ℕ → Bool
   pub inner : Bool
   pub piece : Bool
   pub chain : Bool → Bool
@@ -61,6 +66,7 @@ pub record Traits : Type 0 where
 abbrev pub traits : Duty → Traits
 traits d = record {
   about = λ x. is_about x d;
+  makes = λ k x. lacks d k x;
   inner = is_inner d;
   piece = is_piece d;
   chain = λ full. may_fill full d;
@@ -80,7 +86,7 @@ cells_by (SettleCell x i n) found = n
 cells_by _ found = 0
 
 -- The duty d, whose step found this word, may be followed by e. Only few duties are followed by one that lets the row
--- die or empties a cell, and none by one that settles, claims, exits or begins a birth.
+-- die or empties a cell, and none by one that settles, claims, exits, begins a birth, locks or unlocks.
 abbrev pub Origin : Duty → ℕ → Duty → Type 0
 Origin d found (Die x) = MayDie d x
 Origin d found (SettleCell x i n) = n ≡ cells_by d found
@@ -90,6 +96,8 @@ Origin d found (Scan i n) = ⊥
 Origin d found Finish = ⊥
 Origin d found (ClaimMark x) = ⊥
 Origin d found (BirthKind x h w) = ⊥
+Origin d found (LockGate x) = ⊥
+Origin d found (UnlockGate x) = ⊥
 Origin d found _ = Unit {0}
 
 -- The duty e goes on with the work of d, whose step found this word.

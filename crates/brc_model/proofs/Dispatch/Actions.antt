@@ -1,7 +1,7 @@
 -- Whatever a thread of accepted code does at an event fits it: it is never stuck, the moves of a silent step are its
 -- own, and a duty that it does is one that the invariant allows in its agenda.
 use Rattle.std.proofs.Common.{◌≡◌, ◌≢◌, ℕ, true, List, [], ◌∷◌, Some, refl, sym, ap, ◌∙◌, subst, arith}
-use Rattle.std.specs.Prelude.{slice_get}
+use Rattle.std.specs.Prelude.{slice_get, sum_by}
 use Rattle.std.proofs.lemmas.Option.{slice_get_within}
 use Rattle.brc_lang.specs.declared.module.Module.{Module}
 use Rattle.brc_model.specs.AbstractState.{Move}
@@ -17,19 +17,20 @@ use Rattle.brc_model.specs.Machine.{Actor, Machine, with_actor}
 use Rattle.brc_model.specs.Actions.{StepActor, Action, Skip, Stuck, Silent, Does, agenda_action, status_action, may_claim, action_of}
 use Rattle.brc_model.specs.StepMachine.{StepMachine, counting}
 use Rattle.brc_model.proofs.Basics.Bag.{held-le-references_to}
-use Rattle.brc_model.proofs.Basics.Lists.{either, slice_get-set_same, set_found}
+use Rattle.brc_model.proofs.Basics.Lists.{either, slice_get-set_same, set_found, none_some}
 use Rattle.brc_model.specs.References.{reference_of}
 use Rattle.brc_model.specs.Accounts.{Account, Accounts}
 use Rattle.brc_model.specs.OpenWork.{exits}
 use Rattle.brc_model.specs.Invariant.{CoreInvariant, Invariant}
 use Rattle.brc_model.proofs.Dispatch.Coded.{PlaceSays, is_departing, stays_elsewhere, placed_by, says_bounded}
+use Rattle.brc_model.proofs.Dispatch.Unlocked.{locking}
 use Rattle.brc_model.proofs.Keeping.SilentSteps.{SilentSits}
 use Rattle.brc_model.proofs.Dispatch.Begins.{Starts, Gives, Takes, Bears, Asks, Follows, Nothing, Settles, Leaves, IsTaken}
 use Rattle.brc_model.proofs.Keeping.SilentMoves.{bag_after}
 use Rattle.brc_model.proofs.Keeping.Sits.{sitting, Sits, AtRest}
 use Rattle.brc_model.specs.Counting.{with_account}
 use Rattle.brc_model.proofs.Keeping.Replaced.{with_account_itself}
-use Rattle.brc_model.proofs.Dispatch.TakenSits.{taken_sits, claim_sits, rests, dispatch_fits, starts_settled}
+use Rattle.brc_model.proofs.Dispatch.TakenSits.{taken_sits, claim_sits, rests, dispatch_fits, starts_settled, starts_plain}
 use Rattle.brc_model.proofs.Dispatch.Counting.{its_found}
 use Rattle.brc_model.proofs.Stepping.Neutral.{found_by}
 use Rattle.brc_model.proofs.Keeping.Kept.{Doing, sits_down}
@@ -60,6 +61,7 @@ pub record DutyFits (p : Module) (c : Accounts) (n : ℕ) (m : StepMachine) (t :
   pub doing : Doing (with_account c t account) n (with_actor (counting m) t (sitting a.actor (d ∷ rest))) t
       (sitting a.actor (d ∷ rest)) d rest
   pub small : AreSmall (row_count m.layout) a.actor.agenda → AreSmall (row_count m.layout) (d ∷ rest)
+  pub plain : sum_by locking (d ∷ rest) ≡ 0
 
 abbrev pub ActionFits : Module → Accounts → ℕ → StepMachine → ℕ → StepActor → Action → Type 0
 ActionFits p c n m t a Skip = Unit {0}
@@ -100,6 +102,7 @@ duty_fits p n m t a d rest whole found alive is =
         alive = alive;
       };
       small = λ was. subst (AreSmall (row_count m.layout)) is was;
+      plain = ap (sum_by locking) (sym is) ∙ (whole.coded t a found).plain;
     }
 
 -- ---- the duty is dispatched
@@ -147,6 +150,7 @@ taken_fits p n m t a (Silent moves place) whole found at taken =
         moves_fit = taken.moves_fit;
         holds = placed.holds;
         bounded = says_bounded m.layout code place placed.account placed.says;
+        locks = λ x e. absurd (none_some x (sym (whole.coded t a found).unlocked ∙ e));
       };
     }
 taken_fits p n m t a (Does d rest place) whole found at taken =
@@ -154,7 +158,8 @@ taken_fits p n m t a (Does d rest place) whole found at taken =
     let word = found_by (counting m) t a.actor d in
     let there = place word in
     let begun = taken word in
-    let here = taken_sits p c n (counting m) t a there d rest at (whole.coded t a found).alone begun in
+    let own = whole.coded t a found in
+    let here = taken_sits p c n (counting m) t a there d rest at own.alone own.unlocked begun in
     record {
       account = here.account;
       says = here.says;
@@ -167,6 +172,8 @@ taken_fits p n m t a (Does d rest place) whole found at taken =
         starts_small c n (counting m) t a.actor d rest at.core at.found begun.starts,
         follows_small (row_count m.layout) m.layout t a.actor.used there rest begun.follows,
       );
+      plain =
+          starts_plain m.abstract.references m.layout t a.actor.used there d rest begun.starts begun.follows;
     }
 
 agenda_fits : (p : Module) (n : ℕ) (m : StepMachine) (t : ℕ) (a : StepActor) (agenda : List Duty)
@@ -204,7 +211,8 @@ claim_fits p n m t a row whole found may =
     let at : AtRest c n (counting m) t a.actor =
     record { core = core; found = there; agenda = claims.agenda; running = claims.running } in
     let sits : Sits (counting m) t a.actor (ClaimMark row ∷ []) (c t) =
-    claim_sits c n (counting m) t a.actor row at (whole.coded t a found).alone claims.block in
+    claim_sits c n (counting m) t a.actor row at (whole.coded t a found).alone (whole.coded t a found).unlocked
+    claims.block in
     record {
       account = c t;
       says = (whole.coded t a found).says;
@@ -217,6 +225,7 @@ claim_fits p n m t a row whole found may =
             (λ y. refl) (omega arith),
         tt,
       );
+      plain = refl;
     }
 
 -- ---- any event

@@ -1,7 +1,7 @@
 -- The account of a thread of accepted code is the one that its place gives, and its place says whether its exit is
 -- under way. The step world has this layer of the invariant on top of what holds of any thread.
-use Rattle.std.proofs.Common.{◌≡◌, ◌≢◌, ℕ, ◌≤◌, Bool, true, false, List, [], Option, length, refl, sym, ap, subst, arith}
-use Rattle.std.specs.Prelude.{◌==◌, ◌&&◌, slice_get}
+use Rattle.std.proofs.Common.{◌≡◌, ◌≢◌, ℕ, ◌≤◌, Bool, true, false, List, [], Option, length, refl, sym, ap, subst, arith, None}
+use Rattle.std.specs.Prelude.{◌==◌, ◌&&◌, slice_get, sum_by}
 use Rattle.std.proofs.lemmas.List.{get_or_past}
 use Rattle.brc_model.specs.declared.slot.Slot.TheVariants.{Empty}
 use Rattle.brc_model.specs.Slots.{slot_of, is_owned, names}
@@ -21,6 +21,7 @@ use Rattle.brc_model.specs.References.{one_if}
 use Rattle.brc_model.specs.Accounts.{Account, HoldsNone, IsBounded}
 use Rattle.brc_model.specs.OpenWork.{exits}
 use Rattle.brc_model.proofs.Dispatch.Holds.{nothing, the_root, of_variables}
+use Rattle.brc_model.proofs.Dispatch.Unlocked.{locking}
 use Rattle.brc_model.proofs.Dispatch.Grounded.{IsInside, AreInstructions}
 use Rattle.brc_model.proofs.Frame.Aside.{HoldsAlone}
 use Rattle.brc_model.proofs.Basics.Bag.{one_if_low}
@@ -57,6 +58,9 @@ stays_elsewhere Exiting stays = absurd (stays refl)
 pub record InCode (p : Module) (a : StepActor) (account : Account) : Type 0 where
   -- Code does one piece of work at a time.
   pub alone : a.actor.aside ≡ []
+  -- It locks nothing yet.
+  pub unlocked : a.actor.locked ≡ None
+  pub plain : sum_by locking a.actor.agenda ≡ 0
   pub accepted : IsAcceptableCode (code_of (slice_get p.functions a.function))
   pub instructions : AreInstructions (code_of (slice_get p.functions a.function))
   pub says : PlaceSays (code_of (slice_get p.functions a.function)) a.place account

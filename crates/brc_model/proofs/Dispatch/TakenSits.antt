@@ -1,5 +1,5 @@
 -- What a thread of accepted code takes up fits it: its account is then the one of the place where it is.
-use Rattle.std.proofs.Common.{◌≡◌, ◌≢◌, ℕ, zero, suc, ◌<◌, true, false, List, [], ◌∷◌, Some, refl, sym, ap, ◌∙◌, subst, arith}
+use Rattle.std.proofs.Common.{◌≡◌, ◌≢◌, ℕ, zero, suc, ◌<◌, true, false, List, [], ◌∷◌, Some, refl, sym, ap, ◌∙◌, subst, arith, None}
 use Rattle.std.specs.Prelude.{slice_get, sum_by}
 use Rattle.std.proofs.lemmas.Bool.{false≢true}
 use Rattle.std.proofs.lemmas.List.Sums.{sum_by-cons}
@@ -24,6 +24,8 @@ use Rattle.brc_model.specs.Knowledge.{AllBehind, IsNext}
 use Rattle.brc_model.proofs.Frame.Aside.{HoldsAlone, holds_alone, alone_holds, alone_fits}
 use Rattle.brc_model.proofs.Dispatch.Coded.{PlaceSays, InCode, is_departing, departing_is, stays_elsewhere, place_fits, placed_by, exited_none, says_bounded}
 use Rattle.brc_model.proofs.Dispatch.Begins.{Starts, Gives, Takes, Follows, Nothing, Settles, Leaves, Taken, IsTaken, Bears, Asks}
+use Rattle.brc_model.proofs.Basics.Lists.{none_some}
+use Rattle.brc_model.proofs.Dispatch.Unlocked.{locking}
 use Rattle.brc_model.proofs.Dispatch.Taking.{dispatch_taken}
 use Rattle.brc_model.proofs.Keeping.Sits.{Sits, AtRest, sitting}
 use Rattle.brc_model.specs.declared.layout.Layout.{Layout}
@@ -89,12 +91,12 @@ follows_weigh layout t used place rest f settle leave (Leaves leaves) =
 
 pub starts_sit : (p : Accounts) (n : ℕ) (m : Machine) (t : ℕ) (a : Actor) (place : Place) (d : Duty) (rest : List Duty)
     (account : Account)
-    → AtRest p n m t a → a.aside ≡ [] → HoldsAlone m.abstract.references t account (d ∷ rest)
+    → AtRest p n m t a → a.aside ≡ [] → a.locked ≡ None → HoldsAlone m.abstract.references t account (d ∷ rest)
     → IsBounded m.layout account
     → (exits Running (d ∷ rest) ≡ true → HoldsNone account)
     → Starts m.abstract.references m.layout t a.used d rest → Follows m.layout t a.used place rest
     → Sits m t a (d ∷ rest) account
-starts_sit p n m t a place d rest account at alone holds bounded exited (Gives row h behind some) follows =
+starts_sit p n m t a place d rest account at alone unlocked holds bounded exited (Gives row h behind some) follows =
     let weigh =
     λ (f : Duty → ℕ) (settle : f Settle ≡ 0) (leave : (x k : ℕ) → f (Leave x k) ≡ 0). follows_weigh m.layout t a.used
     place rest f settle leave follows in
@@ -105,6 +107,7 @@ starts_sit p n m t a place d rest account at alone holds bounded exited (Gives r
       aside = alone_fits (with_actor m t (sitting a (d ∷ rest))) t (sitting a (d ∷ rest)) alone;
       knows = tt;
       behind = follows_behind (with_actor m t (sitting a (d ∷ rest))) t m.layout a.used place rest follows;
+      locks = λ x e. absurd (none_some x (sym unlocked ∙ e));
       fits = later_follows m.layout t a.used place rest follows;
       hands = λ x. follows_hands m.layout t a.used x place rest follows;
       no_waits = λ x. omega (arith, sum_by-cons (waits x) (ReleaseLoad row h) rest, weigh (waits x) refl (λ y k. refl));
@@ -116,7 +119,7 @@ starts_sit p n m t a place d rest account at alone holds bounded exited (Gives r
           λ x. omega (arith, sum_by-cons (decides x) (ReleaseLoad row h) rest, weigh (decides x) refl (λ y k. refl));
       no_looks = λ x. omega (arith, sum_by-cons (looks x) (ReleaseLoad row h) rest, weigh (looks x) refl (λ y k. refl));
     }
-starts_sit p n m t a place d rest account at alone holds bounded exited (Takes row h by behind some) follows =
+starts_sit p n m t a place d rest account at alone unlocked holds bounded exited (Takes row h by behind some) follows =
     let weigh =
     λ (f : Duty → ℕ) (settle : f Settle ≡ 0) (leave : (x k : ℕ) → f (Leave x k) ≡ 0). follows_weigh m.layout t a.used
     place rest f settle leave follows in
@@ -127,6 +130,7 @@ starts_sit p n m t a place d rest account at alone holds bounded exited (Takes r
       aside = alone_fits (with_actor m t (sitting a (d ∷ rest))) t (sitting a (d ∷ rest)) alone;
       knows = record { by = by; held_so = some };
       behind = follows_behind (with_actor m t (sitting a (d ∷ rest))) t m.layout a.used place rest follows;
+      locks = λ x e. absurd (none_some x (sym unlocked ∙ e));
       fits = later_follows m.layout t a.used place rest follows;
       hands = λ x. follows_hands m.layout t a.used x place rest follows;
       no_waits = λ x. omega (arith, sum_by-cons (waits x) (RetainLoad row h) rest, weigh (waits x) refl (λ y k. refl));
@@ -138,7 +142,7 @@ starts_sit p n m t a place d rest account at alone holds bounded exited (Takes r
           λ x. omega (arith, sum_by-cons (decides x) (RetainLoad row h) rest, weigh (decides x) refl (λ y k. refl));
       no_looks = λ x. omega (arith, sum_by-cons (looks x) (RetainLoad row h) rest, weigh (looks x) refl (λ y k. refl));
     }
-starts_sit p n m t a place d rest account at alone holds bounded exited (Bears h w room few said) follows =
+starts_sit p n m t a place d rest account at alone unlocked holds bounded exited (Bears h w room few said) follows =
     let row = row_at m.layout t a.used in
     record {
       holds = holds_alone m.abstract.references t account (d ∷ rest) a.aside alone holds;
@@ -147,6 +151,7 @@ starts_sit p n m t a place d rest account at alone holds bounded exited (Bears h
       aside = alone_fits (with_actor m t (sitting a (d ∷ rest))) t (sitting a (d ∷ rest)) alone;
       knows = (next_is p n m t a (BirthKind row h w ∷ []) at room, refl, said);
       behind = tt;
+      locks = λ x e. absurd (none_some x (sym unlocked ∙ e));
       fits = later_follows m.layout t a.used place [] follows;
       hands = λ x. refl;
       no_waits = λ x. sum_by-cons (waits x) (BirthKind row h w) [];
@@ -155,7 +160,7 @@ starts_sit p n m t a place d rest account at alone holds bounded exited (Bears h
       no_decides = λ x. sum_by-cons (decides x) (BirthKind row h w) [];
       no_looks = λ x. sum_by-cons (looks x) (BirthKind row h w) [];
     }
-starts_sit p n m t a place d rest account at alone holds bounded exited (Asks row by some) follows =
+starts_sit p n m t a place d rest account at alone unlocked holds bounded exited (Asks row by some) follows =
     record {
       holds = holds_alone m.abstract.references t account (d ∷ rest) a.aside alone holds;
       bounded = bounded;
@@ -163,6 +168,7 @@ starts_sit p n m t a place d rest account at alone holds bounded exited (Asks ro
       aside = alone_fits (with_actor m t (sitting a (d ∷ rest))) t (sitting a (d ∷ rest)) alone;
       knows = record { by = by; held_so = some };
       behind = tt;
+      locks = λ x e. absurd (none_some x (sym unlocked ∙ e));
       fits = later_follows m.layout t a.used place [] follows;
       hands = λ x. refl;
       no_waits = λ x. sum_by-cons (waits x) (KindLoad row) [];
@@ -171,6 +177,18 @@ starts_sit p n m t a place d rest account at alone holds bounded exited (Asks ro
       no_decides = λ x. sum_by-cons (decides x) (KindLoad row) [];
       no_looks = λ x. sum_by-cons (looks x) (KindLoad row) [];
     }
+
+-- Nothing that is taken up locks or unlocks.
+pub starts_plain : (bag : List Reference) (layout : Layout) (t used : ℕ) (place : Place) (d : Duty) (rest : List Duty)
+    → Starts bag layout t used d rest → Follows layout t used place rest → sum_by locking (d ∷ rest) ≡ 0
+starts_plain bag layout t used place d rest (Gives row h behind some) (Nothing stays) = refl
+starts_plain bag layout t used place d rest (Gives row h behind some) (Settles stays) = refl
+starts_plain bag layout t used place d rest (Gives row h behind some) (Leaves leaves) = refl
+starts_plain bag layout t used place d rest (Takes row h by behind some) (Nothing stays) = refl
+starts_plain bag layout t used place d rest (Takes row h by behind some) (Settles stays) = refl
+starts_plain bag layout t used place d rest (Takes row h by behind some) (Leaves leaves) = refl
+starts_plain bag layout t used place d rest (Bears h w room few said) follows = refl
+starts_plain bag layout t used place d rest (Asks row by some) follows = refl
 
 -- the chain is empty where what is taken up begins with the exit: it never does
 pub starts_settled : (bag : List Reference) (layout : Layout) (t used head : ℕ) (place : Place) (d : Duty)
@@ -195,10 +213,10 @@ pub record TakenSits (p : Module) (m : Machine) (t : ℕ) (a : StepActor) (place
 
 pub taken_sits : (p : Module) (c : Accounts) (n : ℕ) (m : Machine) (t : ℕ) (a : StepActor) (place : Place) (d : Duty)
     (rest : List Duty)
-    → AtRest c n m t a.actor → a.actor.aside ≡ []
+    → AtRest c n m t a.actor → a.actor.aside ≡ [] → a.actor.locked ≡ None
     → Taken (code_of (slice_get p.functions a.function)) m.abstract.references m.layout t a.actor.used place d rest
     → TakenSits p m t a place (d ∷ rest)
-taken_sits p c n m t a place d rest at alone taken =
+taken_sits p c n m t a place d rest at alone unlocked taken =
     let code = code_of (slice_get p.functions a.function) in
     let placed = placed_by code m.abstract.references t (d ∷ rest) place taken.placed in
     let departs : exits Running (d ∷ rest) ≡ is_departing place =
@@ -209,7 +227,7 @@ taken_sits p c n m t a place d rest at alone taken =
       says = placed.says;
       departs = departs;
       sits =
-          starts_sit c n m t a.actor place d rest placed.account at alone placed.holds
+          starts_sit c n m t a.actor place d rest placed.account at alone unlocked placed.holds
           (says_bounded m.layout code place placed.account placed.says)
           (λ e. exited_none code place placed.account placed.says (departing_is place (sym departs ∙ e)))
           taken.starts taken.follows;
@@ -217,8 +235,8 @@ taken_sits p c n m t a place d rest at alone taken =
 
 -- A thread at rest may take up a claim of a row of its own block.
 pub claim_sits : (p : Accounts) (n : ℕ) (m : Machine) (t : ℕ) (a : Actor) (row : ℕ) → AtRest p n m t a
-    → a.aside ≡ [] → block_of m.layout row ≡ t → Sits m t a (ClaimMark row ∷ []) (p t)
-claim_sits p n m t a row at alone mine =
+    → a.aside ≡ [] → a.locked ≡ None → block_of m.layout row ≡ t → Sits m t a (ClaimMark row ∷ []) (p t)
+claim_sits p n m t a row at alone unlocked mine =
     let old = (at.core.each t a at.found).0 in
     let holds : HoldsAt m.abstract.references t (p t) [] a.aside =
     subst (λ (l : List Duty). HoldsAt m.abstract.references t (p t) l a.aside) at.agenda old.holds in
@@ -230,6 +248,7 @@ claim_sits p n m t a row at alone mine =
       exited = λ e. absurd cc;
       knows = mine;
       behind = tt;
+      locks = λ x e. absurd (none_some x (sym unlocked ∙ e));
       fits = refl;
       hands = λ x. refl;
       no_waits = λ x. sum_by-cons (waits x) (ClaimMark row) [];

@@ -1,29 +1,32 @@
 -- A thread's step leaves what the other threads rely on.
-use Rattle.std.proofs.Common.{◌≡◌, ◌≢◌, ℕ, ◌+◌, ◌-◌, ◌<◌, ◌≤◌, Bool, true, false, cond, List, ◌∷◌, inl, inr, Some, refl, sym, ap, ◌∙◌, subst, arith}
-use Rattle.std.specs.Prelude.{◌==◌, slice_get}
+use Rattle.std.proofs.Common.{◌≡◌, ◌≢◌, ℕ, ◌+◌, ◌-◌, ◌<◌, ◌≤◌, Bool, true, false, cond, List, ◌∷◌, inl, inr, Some, refl, sym, ap, ◌∙◌, subst, arith, [], Option, None}
+use Rattle.std.specs.Prelude.{◌==◌, slice_get, sum_by}
+use Rattle.std.proofs.lemmas.List.Sums.{sum_by-cons}
 use Rattle.std.proofs.lemmas.Bool.{eqb-true, eq-eqb, ne_eqb}
 use Rattle.std.proofs.lemmas.Bool.Decides.{eqb_tells}
 use Rattle.brc_model.specs.declared.duty.Holding.{Holding}
 use Rattle.brc_model.specs.declared.duty.Holding.TheVariants.{InFlight}
-use Rattle.brc_word.specs.Words.{owner_part, biased_part, phase_part, fresh_word, released_word, merged_word, local_word}
+use Rattle.brc_word.specs.Words.{owner_part, biased_part, phase_part, fresh_word, released_word, merged_word, local_word, free_word, locked_word}
 use Rattle.brc_model.specs.declared.duty.Reason.{Reason}
 use Rattle.brc_model.specs.declared.duty.Reason.TheVariants.{Own, Handed}
 use Rattle.brc_model.specs.declared.duty.Duty.{Duty}
-use Rattle.brc_model.specs.declared.duty.Duty.TheVariants.{RetainLoad, RetainStore, RetainAdd, ReleaseLoad, ReleaseStore, DecideAtZero, SharedLoad, SharedExchange, Look, MergeSwap, MergeLoad, MergeExchange, Die, Settle, SettleEnd, Leave, Finish, BirthLocal}
+use Rattle.brc_model.specs.declared.duty.Duty.TheVariants.{RetainLoad, RetainStore, RetainAdd, ReleaseLoad, ReleaseStore, DecideAtZero, SharedLoad, SharedExchange, Look, MergeSwap, MergeLoad, MergeExchange, Die, Settle, SettleEnd, Leave, Finish, BirthLocal, LockGate, UnlockGate}
 use Rattle.brc_model.specs.declared.address.Address.TheVariants.{Local, Shared, Gate, ThreadWord}
 use Rattle.brc_model.specs.Duties.{address_of, new_word}
-use Rattle.brc_model.specs.Machine.{Actor, Dying, Machine, written, Unborn, Life}
+use Rattle.brc_model.specs.Machine.{Actor, Dying, Machine, written, Unborn, Life, Live}
 use Rattle.brc_model.proofs.Basics.Lists.{either}
 use Rattle.brc_model.proofs.Basics.Bag.{held-le-references_to}
 use Rattle.brc_model.specs.References.{held, one_if, reference_of}
 use Rattle.brc_model.specs.RowInvariant.{waits, decides, merges, InOwned, InSwapped, InMerged, RowInvariant}
-use Rattle.brc_model.specs.Accounts.{Accounts, extra_of, lacks_of}
-use Rattle.brc_model.specs.Knowledge.{OwnsLocally, HeadFits, HeadOf, status_word}
-use Rattle.brc_model.specs.OpenWork.{dies_by}
+use Rattle.brc_model.specs.Accounts.{Accounts, extra_of, lacks_of, Account, HoldsAt, lacks, HoldsNone}
+use Rattle.brc_model.specs.Knowledge.{OwnsLocally, HeadFits, HeadOf, status_word, IsBacked}
+use Rattle.brc_model.specs.OpenWork.{dies_by, exits}
+use Rattle.brc_model.specs.AbstractState.{Reference}
+use Rattle.brc_model.specs.Gates.{making, LocksFit}
 use Rattle.brc_model.specs.Invariant.{AtDuty, CoreInvariant, numbers_of}
 use Rattle.brc_model.proofs.Objects.RowSteps.{shared_range, shared_up, shared_down, shared_merged}
 use Rattle.brc_model.proofs.Frame.Aside.{extra_held}
-use Rattle.brc_model.proofs.Frame.Alive.{first_weighs, Alive, alive_referenced, alive_waiting, alive_deciding, alive_merging}
+use Rattle.brc_model.proofs.Frame.Alive.{first_weighs, Alive, alive_referenced, alive_waiting, alive_deciding, alive_merging, alive_backed}
 use Rattle.brc_model.proofs.Basics.Written.{written_here, written_apart, written_load, apart_local, apart_shared, apart_gate, apart_thread}
 use Rattle.brc_model.proofs.Frame.Others.{is_dying}
 use Rattle.brc_model.proofs.Basics.Blocks.{next_counted, next_unborn}
@@ -264,12 +267,98 @@ words_left m t a Finish u ne =
     written_apart m.memory (ThreadWord t) (ThreadWord u) 3 (apart_thread t u (λ e. ne (sym e)))
 words_left m t a _ u ne = refl
 
+-- ---- locks
+
+-- The duties that make a reference are all of the thread's, not only the first.
+makes_first : (agenda : List Duty) (k : Holding) (x : ℕ)
+    → one_if (lacks_of agenda k x) ≤ sum_by (λ (d : Duty). one_if (lacks d k x)) agenda
+makes_first [] k x = omega arith
+makes_first (d ∷ rest) k x = omega (arith, sum_by-cons (λ (e : Duty). one_if (lacks e k x)) d rest)
+
+-- The bag has a reference that a thread holds besides those that it is just making.
+pub locked_held : (bag : List Reference) (t : ℕ) (account : Account) (a : Actor) (k : Holding) (x : ℕ)
+    → HoldsAt bag t account a.agenda a.aside → making a k x < account k x → 0 < held (reference_of t k x) bag
+locked_held bag t account a k x holds some =
+    omega (arith, holds.each k x, some, makes_first a.agenda k x)
+
+-- A thread holds a reference to the list that it has locked.
+pub locked_backed : (p : Accounts) (n : ℕ) (m : Machine) (t : ℕ) (a : Actor) (x : ℕ) → CoreInvariant p n m
+    → slice_get m.actors t ≡ Some a → a.locked ≡ Some x → IsBacked m t x
+locked_backed p n m t a x core found e =
+    let fits = (core.each t a found).0 in
+    let it = fits.locks x e in
+    record { by = it.by; held_so = locked_held m.abstract.references t (p t) a it.by x fits.holds it.held_so }
+
+-- So the list lives.
+pub locked_alive : (p : Accounts) (n : ℕ) (m : Machine) (t : ℕ) (a : Actor) (x : ℕ) → CoreInvariant p n m
+    → slice_get m.actors t ≡ Some a → a.locked ≡ Some x → Alive m x
+locked_alive p n m t a x core found e =
+    alive_backed p n m t x core ((core.each t a found).0.locks x e).counted (locked_backed p n m t a x core found e)
+
+unlocked_by : (account : Account) (m : Machine) (t : ℕ) (a : Actor) (locked : Option ℕ) → a.locked ≡ locked
+    → LocksFit account m t a → HoldsNone account → locked ≡ None
+unlocked_by account m t a None is locks none = refl
+unlocked_by account m t a (Some x) is locks none =
+    let it = locks x is in absurd (omega (arith, it.held_so, none it.by x))
+
+-- A thread whose exit is under way or done has locked nothing.
+pub exits_unlocked : (p : Accounts) (n : ℕ) (m : Machine) (t : ℕ) (a : Actor) → CoreInvariant p n m
+    → slice_get m.actors t ≡ Some a → exits a.status a.agenda ≡ true → a.locked ≡ None
+exits_unlocked p n m t a core found e =
+    let fits = (core.each t a found).0 in
+    unlocked_by (p t) m t a a.locked refl fits.locks (fits.exited e).0
+
+-- A row that dies, by whichever thread, isn't one that lives.
+pub alive_apart : (m : Machine) (t x y : ℕ) → m.life y ≡ Dying t → Alive m x → y ≡ x → ⊥
+alive_apart m t x y dies alive same = let wrong : Live ≡ Dying t = sym alive.life ∙ ap m.life (sym same) ∙ dies in cc
+
+-- The gate of a locked list isn't free.
+pub locked_unfree : (t word : ℕ) → word ≡ locked_word t → (word == free_word) ≡ false
+locked_unfree t word is = ne_eqb word free_word (λ e. absurd (omega (arith, is, e)))
+
+-- A step doesn't change the gate of a list that another thread has locked.
+pub locks_left : (p : Accounts) (n : ℕ) (m : Machine) (t : ℕ) (a : Actor) (d : Duty) (rest : List Duty)
+    → AtDuty p n m t a d rest → (u x : ℕ) (b : Actor) → u ≢ t → slice_get m.actors u ≡ Some b → b.locked ≡ Some x
+    → written m.memory (address_of m.layout t a.head d)
+    (new_word t a.head d (m.memory (address_of m.layout t a.head d)))
+    (Gate x) ≡ m.memory (Gate x)
+locks_left p n m t a (Die y) rest here u x b ne found e =
+    written_apart m.memory (Gate y) (Gate x) _
+    (apart_gate y x (alive_apart m t x y (head_of p n m t a (Die y) rest here).1
+    (locked_alive p n m u b x here.core found e)))
+locks_left p n m t a Settle rest here u x b ne found e = written_load m.memory (Gate (a.head - 1)) (Gate x)
+locks_left p n m t a (SettleEnd y) rest here u x b ne found e =
+    written_apart m.memory (Gate y) (Gate x) _
+    (apart_gate y x (alive_apart m t x y (head_of p n m t a (SettleEnd y) rest here).1
+    (locked_alive p n m u b x here.core found e)))
+locks_left p n m t a (LockGate y) rest here u x b ne found e =
+    elim (eqb_tells y x) [
+      | inl same ↦
+          let gate : m.memory (Gate y) ≡ locked_word u =
+          ap (λ (z : ℕ). m.memory (Gate z)) same.1 ∙ ((here.core.each u b found).0.locks x e).gate in
+          let kept : new_word t a.head (LockGate y) (m.memory (Gate y)) ≡ m.memory (Gate y) =
+          ap (λ (c : Bool). cond c (locked_word t) (m.memory (Gate y))) (locked_unfree u (m.memory (Gate y)) gate) in
+          ap (λ (w : ℕ). written m.memory (Gate y) w (Gate x)) kept ∙ written_load m.memory (Gate y) (Gate x)
+      | inr other ↦ written_apart m.memory (Gate y) (Gate x) _ (apart_gate y x other.1)
+    ]
+locks_left p n m t a (UnlockGate y) rest here u x b ne found e =
+    let mine = ((here.core.each t a here.found).0.locks y (head_of p n m t a (UnlockGate y) rest here).2).gate in
+    let theirs = ((here.core.each u b found).0.locks x e).gate in
+    written_apart m.memory (Gate y) (Gate x) _
+    (apart_gate y x (λ same. ne
+    (let gates : m.memory (Gate y) ≡ m.memory (Gate x) = ap (λ (z : ℕ). m.memory (Gate z)) same in
+    omega (arith, mine, theirs, gates))))
+locks_left p n m t a _ rest here u x b ne found e = refl
+
 -- ---- gates
 
 gate_clash : (m : Machine) (t u x y : ℕ) → u ≢ t → m.life y ≡ Dying t → dies_by (m.life x) u ≡ true → y ≡ x → ⊥
 gate_clash m t u x y ne mine other same =
     let both : Dying t ≡ Dying u = sym mine ∙ ap m.life same ∙ is_dying (m.life x) u other in
     ne (let e : t ≡ u = cc in sym e)
+
+pub living_clash : (m : Machine) (u x y : ℕ) → Alive m y → dies_by (m.life x) u ≡ true → y ≡ x → ⊥
+living_clash m u x y alive dies same = alive_apart m u y x (is_dying (m.life x) u dies) alive (sym same)
 
 -- A step doesn't change the gate of a row that another thread is finalising.
 pub gates_left : (p : Accounts) (n : ℕ) (m : Machine) (t : ℕ) (a : Actor) (d : Duty) (rest : List Duty)
@@ -284,4 +373,12 @@ gates_left p n m t a Settle rest here u x ne dies = written_load m.memory (Gate 
 gates_left p n m t a (SettleEnd y) rest here u x ne dies =
     written_apart m.memory (Gate y) (Gate x) _
     (apart_gate y x (gate_clash m t u x y ne (head_of p n m t a (SettleEnd y) rest here).1 dies))
+gates_left p n m t a (LockGate y) rest here u x ne dies =
+    let fits = head_of p n m t a (LockGate y) rest here in
+    written_apart m.memory (Gate y) (Gate x) _
+    (apart_gate y x (living_clash m u x y (alive_backed p n m t y here.core fits.0 fits.1) dies))
+gates_left p n m t a (UnlockGate y) rest here u x ne dies =
+    let fits = head_of p n m t a (UnlockGate y) rest here in
+    written_apart m.memory (Gate y) (Gate x) _
+    (apart_gate y x (living_clash m u x y (alive_backed p n m t y here.core fits.0 fits.1) dies))
 gates_left p n m t a _ rest here u x ne dies = refl

@@ -8,12 +8,13 @@ use Rattle.std.proofs.lemmas.Option.{slice_get_within}
 use Rattle.brc_model.specs.declared.duty.Holding.{Holding}
 use Rattle.brc_word.specs.Words.{phase_part}
 use Rattle.brc_model.specs.declared.duty.Duty.{Duty}
-use Rattle.brc_model.specs.declared.duty.Duty.TheVariants.{Die, Settle, SettleKind, SettleCell, TakeSlot, CloseResource, SettleEnd, Leave, Scan, Finish, ClaimMark, BirthKind, BirthSlot, BirthLocal, KindLoad}
+use Rattle.brc_model.specs.declared.duty.Duty.TheVariants.{Die, Settle, SettleKind, SettleCell, TakeSlot, CloseResource, SettleEnd, Leave, Scan, Finish, ClaimMark, BirthKind, BirthSlot, BirthLocal, KindLoad, LockGate, UnlockGate}
 use Rattle.brc_model.specs.declared.address.Address.{Address}
 use Rattle.brc_model.specs.declared.address.Address.TheVariants.{Local, Shared, Gate, ThreadWord}
 use Rattle.brc_model.specs.Machine.{Actor, Life, Unborn, Live, Dying, Closed, Machine}
 use Rattle.brc_model.specs.References.{held, one_if, reference_of}
 use Rattle.brc_model.specs.OpenWork.{AllWait, AsideFits, AgendaFits, Linked, dies_by, ChainFits}
+use Rattle.brc_model.specs.Gates.{LocksFit}
 use Rattle.brc_model.specs.Invariant.{Fits, ActorFits}
 use Rattle.brc_model.specs.Accounts.{Accounts, HoldsAt, Account, IsBounded}
 use Rattle.brc_model.proofs.Frame.Known.{LeavesRow, backed_kept, known_kept}
@@ -34,6 +35,8 @@ pub record LeavesOthers (m new : Machine) (t : ℕ) : Type 0 where
   pub stopped : (u : ℕ) → m.memory (ThreadWord u) ≢ 1 → new.memory (ThreadWord u) ≢ 1
   pub words : (u : ℕ) → u ≢ t → new.memory (ThreadWord u) ≡ m.memory (ThreadWord u)
   pub gates : (u x : ℕ) → u ≢ t → dies_by (m.life x) u ≡ true → new.memory (Gate x) ≡ m.memory (Gate x)
+  pub locks : (u x : ℕ) (b : Actor) → u ≢ t → slice_get m.actors u ≡ Some b → b.locked ≡ Some x
+      → new.memory (Gate x) ≡ m.memory (Gate x)
   -- A kind word that names a counted kind still names one.
   pub kinds : (x : ℕ) → HasCountedKind m.memory x → HasCountedKind new.memory x
   pub lives : (u x : ℕ) → u ≢ t → dies_by (new.life x) u ≡ dies_by (m.life x) u
@@ -143,6 +146,16 @@ head_kept m new t u b (BirthLocal x h) rest leaves ne found fits =
     (next_kept m new t u x b leaves fits.0, fits.1, leaves.kinds x fits.2)
 head_kept m new t u b (KindLoad x) rest leaves ne found fits =
     backed_kept m new u b b x (row_left m new t u b leaves ne found x) fits
+head_kept m new t u b (LockGate x) rest leaves ne found fits = (
+  counted_kept m new t x leaves fits.0,
+  backed_kept m new u b b x (row_left m new t u b leaves ne found x) fits.1,
+  fits.2,
+)
+head_kept m new t u b (UnlockGate x) rest leaves ne found fits = (
+  counted_kept m new t x leaves fits.0,
+  backed_kept m new u b b x (row_left m new t u b leaves ne found x) fits.1,
+  fits.2,
+)
 head_kept m new t u b d rest leaves ne found fits =
     known_kept m new u b b d rest refl (λ x about. row_left m new t u b leaves ne found x) fits
 
@@ -191,6 +204,18 @@ chain_kept m new t u head agenda leaves ne fits = record {
   once = λ x. fits.once x ∙ ap one_if (sym (leaves.lives u x ne));
 }
 
+-- A thread that has locked a list still holds it, and the gate still names the thread.
+locks_kept : (account : Account) (m new : Machine) (t u : ℕ) (b : Actor) → LeavesOthers m new t → u ≢ t
+    → slice_get m.actors u ≡ Some b → LocksFit account m u b → LocksFit account new u b
+locks_kept account m new t u b leaves ne found locks x e =
+    let it = locks x e in
+    record {
+      counted = counted_kept m new t x leaves it.counted;
+      by = it.by;
+      held_so = it.held_so;
+      gate = leaves.locks u x b ne found e ∙ it.gate;
+    }
+
 others_fit : (account : Account) (m new : Machine) (t u : ℕ) (b : Actor) → LeavesOthers m new t → u ≢ t
     → slice_get m.actors u ≡ Some b → ActorFits account m u b → ActorFits account new u b
 others_fit account m new t u b leaves ne found fits = record {
@@ -201,7 +226,7 @@ others_fit account m new t u b leaves ne found fits = record {
   head_fits = head_of_kept m new t u b b.agenda leaves ne found fits.head_fits;
   behind = behind_of_kept m new t u b.agenda leaves ne fits.behind;
   chain = chain_kept m new t u b.head b.agenda leaves ne fits.chain;
-  unlocked = fits.unlocked;
+  locks = locks_kept account m new t u b leaves ne found fits.locks;
   unlent = fits.unlent;
 }
 

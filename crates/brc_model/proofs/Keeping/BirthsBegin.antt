@@ -1,6 +1,6 @@
 -- A ready worker with a row left begins a birth, while other duties are put aside. None of them is about the new row,
 -- since the row isn't born.
-use Rattle.std.proofs.Common.{◌≡◌, ℕ, ◌<◌, refl, subst, arith}
+use Rattle.std.proofs.Common.{◌≡◌, ℕ, ◌<◌, refl, subst, arith, [], ◌∷◌}
 use Rattle.std.proofs.lemmas.Bool.{ltb-true}
 use Rattle.brc_model.specs.declared.duty.Holding.TheVariants.{AsCaller}
 use Rattle.brc_model.specs.declared.duty.Duty.TheVariants.{BirthKind}
@@ -11,12 +11,13 @@ use Rattle.brc_model.specs.RowInvariant.{RowInvariant, IsUnborn}
 use Rattle.brc_model.specs.Accounts.{Accounts}
 use Rattle.brc_model.specs.Knowledge.{IsNext}
 use Rattle.brc_model.specs.Invariant.{CoreInvariant, numbers_of}
-use Rattle.brc_model.specs.Counting.{with_one_more, IsReady, HasNoneAbout}
+use Rattle.brc_model.specs.Counting.{with_one_more, IsReady, HasNoneAbout, working}
+use Rattle.brc_model.proofs.Keeping.Locks.{more_locks}
 use Rattle.brc_model.specs.CountingLaws.{BirthsBegin}
 use Rattle.brc_model.proofs.Basics.Bag.{held-le-references_to}
 use Rattle.brc_model.proofs.Basics.Blocks.{thread_there, next_counted, next_unborn, next_within}
 use Rattle.brc_model.proofs.Limits.Ranges.{row_small}
-use Rattle.brc_model.proofs.Keeping.WorkBegins.{ready_holds, none_about_held, BeginsWork, more_bounded, work_begins}
+use Rattle.brc_model.proofs.Keeping.WorkBegins.{ready_holds, none_about_held, BeginsWork, more_bounded, work_begins, one_makes}
 use Rattle.brc_model.proofs.Keeping.NextRows.{unborn_alone}
 
 -- A birth can begin a piece of work.
@@ -72,6 +73,10 @@ births_begin p n m t a word counts ready worker has_room counted_kind few =
       begins = birth_begins x word;
       holds = λ k object. omega (arith, holds.each k object);
       bounded = more_bounded m.layout (p t) x bounded (λ c. omega (arith, none));
+      locks =
+          more_locks (p t) m t a (working a (BirthKind x AsCaller word ∷ []) a.aside) x
+          (core.each t a ready.found).0.locks refl
+          (λ k y. omega (arith, one_makes k y (BirthKind x AsCaller word)));
       knows = (
         record {
           running = next.running;

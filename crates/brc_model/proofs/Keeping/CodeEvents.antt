@@ -1,6 +1,7 @@
 -- Each event, by any thread and with any choice, keeps both layers of the invariant and isn't bad.
-use Rattle.std.proofs.Common.{◌≡◌, ℕ, false, List, [], ◌∷◌, Option, None, Some, refl, sym, ap, ◌∙◌, subst, not}
+use Rattle.std.proofs.Common.{◌≡◌, ℕ, false, List, [], ◌∷◌, Option, None, Some, refl, sym, ap, ◌∙◌, subst, not, arith}
 use Rattle.std.specs.Prelude.{slice_get}
+use Rattle.std.proofs.lemmas.List.Sums.{sum_by-cons}
 use Rattle.brc_lang.specs.declared.module.Module.{Module}
 use Rattle.brc_model.specs.declared.duty.Duty.{Duty}
 use Rattle.brc_model.specs.declared.thread.Choice.{Choice}
@@ -19,6 +20,7 @@ use Rattle.brc_model.specs.OpenWork.{IsSettled, exits}
 use Rattle.brc_model.proofs.Keeping.CodeInvariant.{CodeInvariant, KeepsOn, coded_set}
 use Rattle.brc_model.proofs.Keeping.SilentSteps.{silenced, silent_core, silent_allowed}
 use Rattle.brc_model.proofs.Dispatch.Counting.{counting_silent, counting_done}
+use Rattle.brc_model.proofs.Dispatch.Unlocked.{locking, plain_after, plain_locked}
 use Rattle.brc_model.proofs.Dispatch.Actions.{ActionFits, action_fits}
 
 -- An action that fits its thread keeps both layers of the invariant and isn't bad.
@@ -53,6 +55,8 @@ action_keeps p n m t a (Silent moves place) whole found fits =
             found
             (record {
               alone = own.alone;
+              unlocked = own.unlocked;
+              plain = own.plain;
               accepted = own.accepted;
               instructions = own.instructions;
               says = fits.says;
@@ -80,6 +84,11 @@ action_keeps p n m t a (Does d rest place) whole found fits =
             coded_set p c m.actors t a (step_actor m.layout t a d rest (place word) word) fits.account found
             (record {
               alone = own.alone;
+              unlocked =
+                  plain_locked a.actor.locked d word (omega (arith, fits.plain, sum_by-cons locking d rest))
+                  ∙ own.unlocked;
+              plain =
+                  plain_after m.layout t a.actor d rest word (omega (arith, fits.plain, sum_by-cons locking d rest));
               accepted = own.accepted;
               instructions = own.instructions;
               says = fits.says;

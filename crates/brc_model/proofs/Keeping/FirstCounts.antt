@@ -15,8 +15,9 @@ use Rattle.brc_model.specs.References.{one_if, held, reference_of}
 use Rattle.brc_model.specs.RowInvariant.{waits, carries, merges, decides, agenda_weight, weight, IsDefault, AboveZero, InOwned, RowInvariant}
 use Rattle.brc_model.specs.Accounts.{Account, Accounts, IsBounded}
 use Rattle.brc_model.specs.Invariant.{numbers_of, Fits, CoreInvariant, Invariant, UsesFit, BlankFits}
-use Rattle.brc_model.specs.OpenWork.{IsSettled, dies_by, GateFits}
-use Rattle.brc_model.proofs.Basics.Lists.{some_is}
+use Rattle.brc_model.specs.OpenWork.{IsSettled, dies_by}
+use Rattle.brc_model.specs.Gates.{IsFree, GateFits}
+use Rattle.brc_model.proofs.Basics.Lists.{some_is, none_some}
 use Rattle.brc_model.proofs.Keeping.Callers.{callers_beyond, callers_off_cells, callers_hold, root_references, other_references}
 use Rattle.brc_model.proofs.Dispatch.Holds.{the_root}
 use Rattle.brc_model.proofs.Frame.Aside.{alone_fits}
@@ -209,10 +210,11 @@ worker_blanks layout workers callers t no_lists =
     }
 
 -- All gates are free, and no row is dying or closed.
-rooted_gates : (workers callers x : ℕ) → GateFits (first_life x) (rooted_memory workers callers (Gate x))
-rooted_gates workers callers zero = refl
-rooted_gates workers callers (suc zero) = refl
-rooted_gates workers callers (suc (suc x)) = refl
+rooted_gates : (actors : List Actor) (workers callers x : ℕ)
+    → GateFits actors x (first_life x) (rooted_memory workers callers (Gate x))
+rooted_gates actors workers callers zero = IsFree refl
+rooted_gates actors workers callers (suc zero) = IsFree refl
+rooted_gates actors workers callers (suc (suc x)) = refl
 
 -- Just the root is born.
 root_is : (x : ℕ) → is_among x (root_row ∷ []) ≡ true → x ≡ root_row
@@ -287,7 +289,7 @@ idle_fits p layout callers hold t used le = (
     head_fits = tt;
     behind = tt;
     chain = record { chained = []; linked = refl; once = λ x. sym (ap one_if (none_dies x t)) };
-    unlocked = refl;
+    locks = λ x e. absurd (none_some x e);
     unlent = refl;
   },
   refl,
@@ -315,7 +317,7 @@ rooted_core p layout callers is hold = record {
       (idle_fits p layout callers hold 0 front_rows (omega arith))
       (λ t low. idle_fits p layout callers hold (suc t) 0 (omega (arith, low)));
   beyond = λ t past k object. callers_beyond callers t k object (omega (arith, past, is.few_callers));
-  gates = rooted_gates layout.workers callers;
+  gates = rooted_gates (rooted_machine layout callers).actors layout.workers callers;
   dying = λ x t past. none_dies x t;
   cells = λ x i. refl;
   uses =

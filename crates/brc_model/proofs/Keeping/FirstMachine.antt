@@ -107,10 +107,26 @@ pub first_coded : (m : Module) (calls : List Call) (t : ℕ) (a : StepActor) →
 first_coded m calls zero a fits accepted are_calls is =
     let function = function_fits m 0 fits accepted fits.some in
     subst (λ (x : StepActor). InCode m x (first_accounts 0)) (some_is main_actor a is)
-    (record { alone = refl; accepted = function.0; instructions = function.1; says = refl; departs = refl })
+    (record {
+      alone = refl;
+      unlocked = refl;
+      plain = refl;
+      accepted = function.0;
+      instructions = function.1;
+      says = refl;
+      departs = refl;
+    })
 first_coded m calls (suc t) a fits accepted are_calls is =
     let call = slice_get-map worker_actor calls t a is in
     let good = all_of_found (IsCall m) calls t call.source are_calls.each call.is_there in
     let function = function_fits m call.source.function fits accepted good.0 in
     subst (λ (x : StepActor). InCode m x (first_accounts (suc t))) call.is_image
-    (record { alone = refl; accepted = function.0; instructions = function.1; says = refl; departs = refl })
+    (record {
+      alone = refl;
+      unlocked = refl;
+      plain = refl;
+      accepted = function.0;
+      instructions = function.1;
+      says = refl;
+      departs = refl;
+    })

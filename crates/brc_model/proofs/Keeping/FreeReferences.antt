@@ -19,6 +19,7 @@ use Rattle.brc_model.specs.Knowledge.{HeadOf, BehindOf}
 use Rattle.brc_model.specs.OpenWork.{is_about, exits, AllWait}
 use Rattle.brc_model.specs.Invariant.{numbers_of, Fits, IsWatched, ByRunning, ByExit, ByLook, CoreInvariant}
 use Rattle.brc_model.specs.Counting.{with_account, with_one_more, IsReady, HasNoneAbout}
+use Rattle.brc_model.proofs.Keeping.Locks.{more_locks}
 use Rattle.brc_model.specs.CountingLaws.{ImmortalsAreFree}
 use Rattle.brc_model.proofs.Basics.Bag.{held-cons, references_to-cons, other_thread}
 use Rattle.brc_model.proofs.Basics.Blocks.{immortal_apart}
@@ -77,6 +78,7 @@ leaves m t x = record {
   stopped = λ u was. was;
   words = λ u ne. refl;
   gates = λ u y ne dies. refl;
+  locks = λ u y c ne found e. refl;
   kinds = λ y was. was;
   lives = λ u y ne. refl;
   born = λ y was. was;
@@ -140,7 +142,7 @@ own_fits p n m t a x core ready alone immortal =
         head_fits = subst (HeadOf (gained m t x) t a) (sym ready.agenda) tt;
         behind = subst (BehindOf (gained m t x) t) (sym ready.agenda) tt;
         chain = record { chained = old.chain.chained; linked = old.chain.linked; once = old.chain.once };
-        unlocked = old.unlocked;
+        locks = more_locks (p t) m t a a x old.locks refl (λ k y. omega arith);
         unlent = old.unlent;
       },
       fits.1,

@@ -14,7 +14,9 @@ use Rattle.brc_model.specs.RowInvariant.{Numbers, RowInvariant}
 use Rattle.brc_model.specs.Accounts.{Account, Accounts, most_lent}
 use Rattle.brc_model.specs.OpenWork.{exits}
 use Rattle.brc_model.specs.Invariant.{Fits, numbers_of, CoreInvariant}
-use Rattle.brc_model.specs.Counting.{Counts, HasNoneAbout, with_account, with_one_less, with_one_more}
+use Rattle.brc_model.specs.Counting.{Counts, HasNoneAbout, with_account, with_one_less, with_one_more, MayGiveUp}
+use Rattle.brc_model.proofs.Stepping.Locked.{making_none}
+use Rattle.brc_model.proofs.Keeping.Locks.{more_locks, less_locks}
 use Rattle.brc_model.proofs.Basics.Bag.{other_thread, references_to-cons, references_to-without}
 use Rattle.brc_model.proofs.Basics.MovesApart.{AreAside, moved_aside}
 use Rattle.brc_model.proofs.Keeping.Replaced.{with_account_other}
@@ -38,6 +40,7 @@ record HandsOver (p : Accounts) (m : Machine) (t u : ℕ) (a b : Actor) (x : ℕ
   pub taker_free : HasNoneAbout b x
   pub taker_stays : exits b.status b.agenda ≡ false
   pub some : 1 ≤ p t AsCaller x
+  pub may : MayGiveUp (p t) a x
   pub room : p u AsCaller x < most_lent
 
 module _ (p : Accounts) (n : ℕ) (m : Machine) (t u : ℕ) (a b : Actor) (x : ℕ) (core : CoreInvariant p n m)
@@ -75,7 +78,9 @@ module _ (p : Accounts) (n : ℕ) (m : Machine) (t u : ℕ) (a b : Actor) (x : �
       let own : Fits account given t a =
       moved_fits m (give_up t x) t a x (λ k y other. held_elsewhere bag t AsCaller x k y has other) (p t) account old
       hands.giver_free giver_stays (holds_less bag t (p t) a.agenda a.aside AsCaller x old.0.holds has hands.some)
-      (bounded_less m.layout (p t) x old.0.bounded) in
+      (bounded_less m.layout (p t) x old.0.bounded)
+      (less_locks (p t) m t a a x old.0.locks refl (λ k y. omega arith) (making_none a AsCaller x old.1 hands.giver_free)
+      hands.may) in
       each_moved p m t a account (give_up t x) hands.giver (λ w k ne. (other_thread w t k AsCaller ne, tt)) own core.each
 
   each_handed : (w : ℕ) (c : Actor) → slice_get m.actors w ≡ Some c → Fits (after_taking w) handed w c
@@ -88,7 +93,8 @@ module _ (p : Accounts) (n : ℕ) (m : Machine) (t u : ℕ) (a b : Actor) (x : �
       let own : Fits account handed u b =
       moved_fits given (gain u AsCaller x) u b x (λ k y other. held_besides bag u AsCaller x k y other) (p u) account
       old hands.taker_free hands.taker_stays (holds_more bag u (p u) b.agenda b.aside AsCaller x old.0.holds)
-      (bounded_more m.layout (p u) x old.0.bounded hands.room) in
+      (bounded_more m.layout (p u) x old.0.bounded hands.room)
+      (more_locks (p u) given u b b x old.0.locks refl (λ k y. omega arith)) in
       each_moved after_giving given u b account (gain u AsCaller x) hands.taker
       (λ w k ne. (other_thread w u k AsCaller ne, tt)) own each_given
 
@@ -168,10 +174,11 @@ module _ (p : Accounts) (n : ℕ) (m : Machine) (t u : ℕ) (a b : Actor) (x : �
 -- A thread that hands a reference over to another thread keeps the invariant.
 pub handed_over : (p : Accounts) (n : ℕ) (m : Machine) (t u : ℕ) (a b : Actor) (x : ℕ) → Counts p n m
     → slice_get m.actors t ≡ Some a → slice_get m.actors u ≡ Some b → t ≢ u → HasNoneAbout a x → HasNoneAbout b x
-    → exits b.status b.agenda ≡ false → IsCounted m.layout x → 1 ≤ p t AsCaller x → p u AsCaller x < most_lent
+    → exits b.status b.agenda ≡ false → IsCounted m.layout x → 1 ≤ p t AsCaller x → MayGiveUp (p t) a x
+    → p u AsCaller x < most_lent
     → Counts (with_account (with_account p t (with_one_less (p t) AsCaller x)) u (with_one_more (p u) AsCaller x)) n
     (with_moves m (PassOn (reference_of t AsCaller x) (ByThread u AsCaller) ∷ []))
-handed_over p n m t u a b x counts giver taker apart giver_free taker_free taker_stays counted some room = record {
+handed_over p n m t u a b x counts giver taker apart giver_free taker_free taker_stays counted some may room = record {
   kept = record {
     core = handed_core p n m t u a b x counts.kept.core (record {
       giver = giver;
@@ -181,6 +188,7 @@ handed_over p n m t u a b x counts giver taker apart giver_free taker_free taker
       taker_free = taker_free;
       taker_stays = taker_stays;
       some = some;
+      may = may;
       room = room;
     });
     settled = counts.kept.settled;

@@ -6,13 +6,14 @@ use Rattle.std.proofs.lemmas.Bool.{false≢true}
 use Rattle.std.proofs.lemmas.List.Sums.{sum_by-cons}
 use Rattle.brc_model.specs.declared.duty.Holding.{Holding}
 use Rattle.brc_model.specs.declared.duty.Duty.{Duty}
-use Rattle.brc_model.specs.declared.duty.Duty.TheVariants.{Die, Settle, SettleKind, SettleCell, TakeSlot, CloseResource, SettleEnd, Leave, Scan, Finish, ClaimMark, BirthKind, BirthSlot, BirthLocal, KindLoad}
+use Rattle.brc_model.specs.declared.duty.Duty.TheVariants.{Die, Settle, SettleKind, SettleCell, TakeSlot, CloseResource, SettleEnd, Leave, Scan, Finish, ClaimMark, BirthKind, BirthSlot, BirthLocal, KindLoad, LockGate, UnlockGate}
 use Rattle.brc_model.specs.AbstractState.{Move, ByThread, moved}
 use Rattle.brc_model.specs.References.{held, one_if, reference_of}
 use Rattle.brc_model.specs.Machine.{Actor, Machine, with_moves}
 use Rattle.brc_model.specs.Accounts.{Account, Accounts, HoldsAt, IsBounded}
 use Rattle.brc_model.specs.Knowledge.{IsNext, BehindFits, HeadFits, HeadOf, AllBehind, BehindOf}
 use Rattle.brc_model.specs.OpenWork.{AllWait, about_of, exits, is_about}
+use Rattle.brc_model.specs.Gates.{LocksFit}
 use Rattle.brc_model.specs.Invariant.{Fits, IsWatched, ByRunning, ByExit, ByLook}
 use Rattle.brc_model.specs.Counting.{HasNoneAbout, with_account}
 use Rattle.brc_model.proofs.Basics.MovesApart.{AreAside, moved_aside}
@@ -37,6 +38,7 @@ moves_leave m t moves own = record {
   stopped = λ u was. was;
   words = λ u ne. refl;
   gates = λ u y ne dies. refl;
+  locks = λ u y c ne found e. refl;
   kinds = λ y was. was;
   lives = λ u y ne. refl;
   born = λ y was. was;
@@ -112,6 +114,16 @@ module _ (m : Machine) (moves : List Move) (t : ℕ) (a : Actor) (x : ℕ) (else
   head_kept (BirthLocal y h) rest other fits = (next_kept y fits.0, fits.1, fits.2)
   head_kept (KindLoad y) rest other fits =
       backed_kept m (with_moves m moves) t a a y (row_left (KindLoad y) y other (eq-eqb y y refl)) fits
+  head_kept (LockGate y) rest other fits = (
+    fits.0,
+    backed_kept m (with_moves m moves) t a a y (row_left (LockGate y) y other (eq-eqb y y refl)) fits.1,
+    fits.2,
+  )
+  head_kept (UnlockGate y) rest other fits = (
+    fits.0,
+    backed_kept m (with_moves m moves) t a a y (row_left (UnlockGate y) y other (eq-eqb y y refl)) fits.1,
+    fits.2,
+  )
   head_kept d rest other fits =
       known_kept m (with_moves m moves) t a a d rest refl (λ y about. row_left d y other about) fits
 
@@ -152,8 +164,8 @@ module _ (m : Machine) (moves : List Move) (t : ℕ) (a : Actor) (x : ℕ) (else
   -- A thread none of whose open work is about the object fits with the account that it has after the moves.
   pub moved_fits : (before after : Account) → Fits before m t a → HasNoneAbout a x → exits a.status a.agenda ≡ false
       → HoldsAt (moved m.abstract moves).references t after a.agenda a.aside → IsBounded m.layout after
-      → Fits after (with_moves m moves) t a
-  moved_fits before after old none runs holds bounded =
+      → LocksFit after m t a → Fits after (with_moves m moves) t a
+  moved_fits before after old none runs holds bounded locks =
       let fits = old.0 in (
         record {
           word = fits.word;
@@ -163,7 +175,7 @@ module _ (m : Machine) (moves : List Move) (t : ℕ) (a : Actor) (x : ℕ) (else
           head_fits = head_of_kept a.agenda (omega (arith, none)) fits.head_fits;
           behind = behind_of_kept a.agenda fits.behind;
           chain = record { chained = fits.chain.chained; linked = fits.chain.linked; once = fits.chain.once };
-          unlocked = fits.unlocked;
+          locks = locks;
           unlent = fits.unlent;
         },
         old.1,

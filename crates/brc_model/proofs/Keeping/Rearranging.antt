@@ -6,7 +6,7 @@ use Rattle.std.proofs.lemmas.Bool.{false≢true}
 use Rattle.std.proofs.lemmas.List.Sums.{sum_by-cons, sum_by-append}
 use Rattle.brc_model.specs.declared.duty.Holding.{Holding}
 use Rattle.brc_model.specs.declared.duty.Duty.{Duty}
-use Rattle.brc_model.specs.declared.duty.Duty.TheVariants.{Die, Settle, SettleKind, SettleCell, TakeSlot, CloseResource, SettleEnd, Leave, Scan, Finish, BirthKind, BirthSlot, BirthLocal, KindLoad}
+use Rattle.brc_model.specs.declared.duty.Duty.TheVariants.{Die, Settle, SettleKind, SettleCell, TakeSlot, CloseResource, SettleEnd, Leave, Scan, Finish, BirthKind, BirthSlot, BirthLocal, KindLoad, LockGate, UnlockGate}
 use Rattle.brc_model.specs.declared.actor.Status.{Status}
 use Rattle.brc_model.specs.declared.actor.Status.TheVariants.{Running, Leaving, Gone}
 use Rattle.brc_model.specs.Machine.{Actor, Machine, with_actor}
@@ -54,6 +54,8 @@ waiting_piece (BirthKind x h w) waits = absurd cc
 waiting_piece (BirthSlot x h) waits = absurd cc
 waiting_piece (BirthLocal x h) waits = absurd cc
 waiting_piece (KindLoad x) waits = absurd cc
+waiting_piece (LockGate x) waits = absurd cc
+waiting_piece (UnlockGate x) waits = absurd cc
 waiting_piece _ waits = waits
 
 waiting_scans : (d : Duty) (x : ℕ) → may_wait d ≡ true → scans x (d ∷ []) ≡ false
@@ -146,13 +148,21 @@ rearranged p n m t a agenda aside kept found new =
             linked = old.chain.linked;
             once = λ x. omega (arith, old.chain.once x, new.hands x);
           };
-          unlocked = old.unlocked;
+          locks = λ x e.
+              let it = old.locks x e in
+              record {
+                counted = it.counted;
+                by = it.by;
+                held_so = omega (arith, it.held_so, new.weighs (λ d. one_if (lacks d it.by x)));
+                gate = it.gate;
+              };
           unlent = old.unlent;
         },
         subst (λ (s : Status). AgendaFits b s) (sym new.running) new.fits,
         new.others,
       );
       used = refl;
+      locked = refl;
       blanks = new.blanks;
       waits = λ x. new.weighs (waits x);
       carries = λ x. new.weighs (carries x);

@@ -8,6 +8,7 @@ use Rattle.std.proofs.lemmas.Bool.Decides.{eqb_tells}
 use Rattle.std.proofs.lemmas.List.{length-set}
 use Rattle.std.proofs.lemmas.Option.{slice_get_within}
 use Rattle.brc_model.specs.declared.duty.Duty.{Duty}
+use Rattle.brc_model.specs.declared.address.Address.TheVariants.{Gate}
 use Rattle.brc_model.specs.Machine.{Actor, Machine, with_actor}
 use Rattle.brc_model.proofs.Basics.Lists.{some_is, slice_get-set_same, slice_get-set_other, written_actor}
 use Rattle.brc_model.proofs.Objects.Weights.{weight-set}
@@ -17,6 +18,7 @@ use Rattle.brc_model.specs.Invariant.{numbers_of, Fits, looks, IsWatched, ByRunn
 use Rattle.brc_model.specs.OpenWork.{scans}
 use Rattle.brc_model.specs.Counting.{with_account}
 use Rattle.brc_model.proofs.Frame.Others.{LeavesOthers, each_fits}
+use Rattle.brc_model.proofs.Frame.Locks.{gate_fits_kept}
 use Rattle.brc_model.specs.Layout.{block_of, index_of}
 
 pub with_account_same : (p : Accounts) (t : ℕ) (account : Account) → account ≡ with_account p t account t
@@ -41,6 +43,7 @@ with_account_itself p t =
 pub record Replaces (m : Machine) (t : ℕ) (a b : Actor) (account : Account) : Type 0 where
   pub fits : Fits account (with_actor m t b) t b
   pub used : b.used ≡ a.used
+  pub locked : b.locked ≡ a.locked
   pub blanks : BlankFits m.layout m.memory t b.used b.agenda
   pub waits : (x : ℕ) → agenda_weight (waits x) b ≡ agenda_weight (waits x) a
   pub carries : (x : ℕ) → agenda_weight (carries x) b ≡ agenda_weight (carries x) a
@@ -98,6 +101,7 @@ nothing_changes m t b = record {
   stopped = λ u was. was;
   words = λ u ne. refl;
   gates = λ u x ne dies. refl;
+  locks = λ u x c ne found e. refl;
   kinds = λ x was. was;
   lives = λ u x ne. refl;
   born = λ x was. was;
@@ -126,7 +130,7 @@ replaced_core p n m t a b account core found new = record {
       (with_account_other p t account)
       (subst (λ (c : Account). Fits c (with_actor m t b) t b) (with_account_same p t account) new.fits) core.each;
   beyond = core.beyond;
-  gates = core.gates;
+  gates = λ x. gate_fits_kept m.actors t a b found x (m.memory (Gate x)) (m.life x) new.locked (core.gates x);
   dying = core.dying;
   cells = core.cells;
   uses =

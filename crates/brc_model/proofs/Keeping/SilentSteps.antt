@@ -8,6 +8,7 @@ use Rattle.std.proofs.lemmas.List.{length-set}
 use Rattle.std.proofs.lemmas.Option.{slice_get_within}
 use Rattle.brc_model.specs.AbstractState.{Holder, ByThread, Reference, AbstractState, same, without, references_to, Move, are_allowed, moved, is_among}
 use Rattle.brc_model.specs.declared.duty.Duty.{Duty}
+use Rattle.brc_model.specs.declared.address.Address.TheVariants.{Gate}
 use Rattle.brc_model.specs.declared.actor.Status.{Status}
 use Rattle.brc_model.specs.Machine.{Actor, Machine, with_actor, with_moves}
 use Rattle.brc_model.proofs.Basics.Lists.{some_is, written_actor, slice_get-set_other}
@@ -17,11 +18,13 @@ use Rattle.brc_model.specs.RowInvariant.{waits, carries, merges, decides, weight
 use Rattle.brc_model.specs.Accounts.{Account, Accounts, HoldsAt, IsBounded}
 use Rattle.brc_model.specs.Invariant.{Fits, numbers_of, UsesFit, looks, IsWatched, ByRunning, ByExit, ByLook, CoreInvariant, BlankFits}
 use Rattle.brc_model.specs.OpenWork.{exits, scans, AgendaFits, ChainFits}
+use Rattle.brc_model.specs.Gates.{LocksFit}
 use Rattle.brc_model.proofs.Basics.MovesApart.{AreAside, IsNoWayOf, moved_aside}
 use Rattle.brc_model.proofs.Frame.Aside.{HoldsAlone, holds_alone, alone_fits}
 use Rattle.brc_lang.specs.declared.kind.Kind.{Kind}
 use Rattle.brc_model.specs.Kinds.{kind_number}
 use Rattle.brc_model.proofs.Frame.Others.{LeavesOthers, each_fits}
+use Rattle.brc_model.proofs.Frame.Locks.{gate_fits_kept}
 use Rattle.brc_model.proofs.Keeping.SilentMoves.{SilentMoves, Stays, GainsNone, PassesOn, bag_after}
 use Rattle.brc_model.proofs.Keeping.Sits.{sitting, AtRest, rest_blanks, same_weight}
 use Rattle.brc_model.specs.Counting.{with_account}
@@ -141,6 +144,7 @@ leaves m t a moves silent = record {
   stopped = λ u was. was;
   words = λ u ne. refl;
   gates = λ u x ne dies. refl;
+  locks = λ u x c ne found e. refl;
   kinds = λ x was. was;
   lives = λ u x ne. refl;
   born = λ x was. was;
@@ -153,6 +157,7 @@ pub record SilentSits (m : Machine) (t : ℕ) (a : Actor) (moves : List Move) (a
   pub moves_fit : SilentMoves m.abstract.references t moves
   pub holds : HoldsAlone (bag_after m.abstract.references moves) t account []
   pub bounded : IsBounded m.layout account
+  pub locks : LocksFit account m t (sitting a [])
 
 thread_after_duty : (p : Accounts) (n : ℕ) (m : Machine) (t : ℕ) (a : Actor) (moves : List Move)
     (account : Account)
@@ -172,7 +177,7 @@ thread_after_duty p n m t a moves account rest taken =
         head_fits = tt;
         behind = tt;
         chain = record { chained = chain.chained; linked = chain.linked; once = chain.once };
-        unlocked = old.unlocked;
+        locks = taken.locks;
         unlent = old.unlent;
       },
       subst (λ (s : Status). AgendaFits (sitting a []) s) (sym rest.running) refl,
@@ -216,7 +221,9 @@ silent_core p n m t a moves account rest taken =
           (silent_aside m.abstract.references (ByThread u k) t moves silent
           (λ h. other_thread u t k h (λ e. absurd (omega (arith, within, past, e)))))
           ∙ rest.core.beyond u past k object;
-      gates = rest.core.gates;
+      gates =
+          λ x. gate_fits_kept m.actors t a (sitting a []) rest.found x (m.memory (Gate x)) (m.life x) refl
+          (rest.core.gates x);
       dying = rest.core.dying;
       cells = rest.core.cells;
       cells_hold =

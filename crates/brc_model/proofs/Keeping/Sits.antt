@@ -11,6 +11,7 @@ use Rattle.brc_model.specs.Machine.{Actor, Machine, with_actor, actor_by, done_b
 use Rattle.brc_model.specs.RowInvariant.{waits, carries, merges, decides, agenda_weight, weight}
 use Rattle.brc_model.specs.Accounts.{Account, Accounts, HoldsAt, HoldsNone, IsBounded}
 use Rattle.brc_model.specs.OpenWork.{AsideFits, Agenda, exits, scans, finalised, AgendaFits}
+use Rattle.brc_model.specs.Gates.{LocksFit}
 use Rattle.brc_model.specs.Invariant.{Fits, looks, CoreInvariant, BlankFits}
 use Rattle.brc_model.specs.Knowledge.{HeadOf, BehindOf}
 use Rattle.brc_model.proofs.Objects.Weights.{weight-set}
@@ -39,6 +40,7 @@ pub record Sits (m : Machine) (t : ℕ) (a : Actor) (agenda : List Duty) (accoun
   pub aside : AsideFits (with_actor m t (sitting a agenda)) t (sitting a agenda)
   pub knows : HeadOf (with_actor m t (sitting a agenda)) t (sitting a agenda) agenda
   pub behind : BehindOf (with_actor m t (sitting a agenda)) t agenda
+  pub locks : LocksFit account m t (sitting a agenda)
   pub fits : Agenda a.used Running agenda
   pub hands : (x : ℕ) → finalised agenda x ≡ 0
   pub no_waits : (x : ℕ) → sum_by (waits x) agenda ≡ 0
@@ -82,7 +84,7 @@ sitting_fits p n m t a agenda account rest sits =
               linked = old.chain.linked;
               once = λ x. omega (arith, old.chain.once x, none x);
             };
-        unlocked = old.unlocked;
+        locks = sits.locks;
         unlent = old.unlent;
       },
       subst (λ (s : Status). AgendaFits (sitting a agenda) s) (sym rest.running) sits.fits,
@@ -115,6 +117,7 @@ sits_core p n m t a agenda account rest sits =
     replaced_core p n m t a (sitting a agenda) account rest.core rest.found (record {
       fits = sitting_fits p n m t a agenda account rest sits;
       used = refl;
+      locked = refl;
       blanks = rest_blanks p n m t a agenda rest;
       waits = λ x. taken_weight (waits x) a agenda rest.agenda (sits.no_waits x);
       carries = λ x. taken_weight (carries x) a agenda rest.agenda (sits.no_carries x);

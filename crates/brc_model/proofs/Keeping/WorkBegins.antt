@@ -18,9 +18,11 @@ use Rattle.brc_model.specs.RowInvariant.{waits, carries, merges, decides}
 use Rattle.brc_model.specs.Accounts.{Account, Accounts, extra, lacks, extra_aside, lacks_aside, HoldsAt, most_lent, IsBounded}
 use Rattle.brc_model.specs.Knowledge.{HeadFits}
 use Rattle.brc_model.specs.OpenWork.{is_about, is_piece, is_finalising, has_leave, Agenda, IsSettled}
+use Rattle.brc_model.specs.Gates.{LocksFit}
 use Rattle.brc_model.specs.Invariant.{looks, CoreInvariant}
 use Rattle.brc_model.specs.Ranges.{IsSmall}
 use Rattle.brc_model.specs.Counting.{Counts, with_account, with_one_more, with_one_less, working, IsReady, HasNoneAbout}
+use Rattle.brc_model.proofs.Keeping.Locks.{more_locks, less_locks}
 use Rattle.brc_model.specs.CountingLaws.{RetainsBegin, ReleasesBegin}
 use Rattle.brc_model.proofs.Basics.Bag.{one_if_low, held-le-references_to}
 use Rattle.brc_model.proofs.Frame.Aside.{lacks_counted, extra_counted}
@@ -92,6 +94,7 @@ pub record TakesUp (m : Machine) (t : ℕ) (a : Actor) (x : ℕ) (d : Duty) (acc
       → held (reference_of t k object) m.abstract.references + one_if (lacks d k object) + lacks_aside a.aside k object
       ≡ account k object + one_if (extra d k object) + extra_aside a.aside k object
   pub bounded : IsBounded m.layout account
+  pub locks : LocksFit account m t (working a (d ∷ []) a.aside)
   pub knows : HeadFits (with_actor m t (working a (d ∷ []) a.aside)) t (working a (d ∷ []) a.aside) d []
   pub small : IsSmall (row_count m.layout) d
 
@@ -133,6 +136,7 @@ work_begins p n m t a x d account counts ready alone new =
       };
       knows = new.knows;
       behind = tt;
+      locks = new.locks;
       fits = begins.fits a.used;
       hands = λ y. ap (λ (b : Bool). cond b 1 0) (begins.hands y);
       no_waits = λ y. one_weight (waits y) d (begins.waits y);
@@ -194,6 +198,11 @@ has_one account x AsCaller object some =
 
 -- ---- retains and releases
 
+-- the references that an agenda of one duty makes
+pub one_makes : (k : Holding) (y : ℕ) (d : Duty)
+    → sum_by (λ (e : Duty). one_if (lacks e k y)) (d ∷ []) ≡ one_if (lacks d k y) + 0
+one_makes k y d = sum_by-cons (λ (e : Duty). one_if (lacks e k y)) d []
+
 -- A retain can begin a piece of work, and so can a release.
 retain_begins : (x : ℕ) → BeginsWork x (RetainLoad x AsCaller)
 retain_begins x = record {
@@ -236,6 +245,9 @@ retains_begin p n m t a x counts ready alone some few =
       begins = retain_begins x;
       holds = λ k object. omega (arith, holds.each k object);
       bounded = more_bounded m.layout (p t) x bounded few;
+      locks =
+          more_locks (p t) m t a (working a (RetainLoad x AsCaller ∷ []) a.aside) x (core.each t a ready.found).0.locks
+          refl (λ k y. omega (arith, one_makes k y (RetainLoad x AsCaller)));
       knows = record { by = AsCaller; held_so = omega (arith, in_bag, some) };
       small =
           row_small (row_count m.layout) x (RetainLoad x AsCaller) (held_row p n m t a x core ready alone some)
@@ -244,7 +256,7 @@ retains_begin p n m t a x counts ready alone some few =
 
 -- The invariant and the ranges hold after a ready thread begins to give up a reference that it holds.
 pub releases_begin : ReleasesBegin
-releases_begin p n m t a x counts ready alone some =
+releases_begin p n m t a x counts ready alone some may =
     let core = counts.kept.core in
     let holds = ready_holds p n m t a core ready in
     let bounded = (core.each t a ready.found).0.bounded in
@@ -252,6 +264,15 @@ releases_begin p n m t a x counts ready alone some =
       begins = release_begins x;
       holds = λ k object. omega (arith, holds.each k object, has_one (p t) x k object some);
       bounded = less_bounded m.layout (p t) x bounded;
+      locks =
+          less_locks (p t) m t a (working a (ReleaseLoad x AsCaller ∷ []) a.aside) x (core.each t a ready.found).0.locks
+          refl (λ k y. omega (arith, one_makes k y (ReleaseLoad x AsCaller)))
+          (omega (
+            arith,
+            one_makes AsCaller x (ReleaseLoad x AsCaller),
+            lacks_counted a.aside AsCaller x,
+            alone,
+          )) may;
       knows = tt;
       small =
           row_small (row_count m.layout) x (ReleaseLoad x AsCaller) (held_row p n m t a x core ready alone some)

@@ -1,4 +1,4 @@
--- A look at the kind, a retain, and a release by the local word keep the row's invariant.
+-- A look at the kind, a lock, a retain, and a release by the local word keep the row's invariant.
 use Rattle.std.proofs.Common.{◌≡◌, ℕ, ◌+◌, ◌-◌, ◌≤◌, Bool, false, cond, List, [], ◌∷◌, ◌++◌, refl, sym, ap, ◌∙◌, arith, inl, inr}
 use Rattle.std.specs.Prelude.{◌&&◌, nat_lt}
 use Rattle.std.proofs.lemmas.Bool.Decides.{eqb_tells}
@@ -8,7 +8,7 @@ use Rattle.brc_model.specs.AbstractState.{without, references_to, AbstractState,
 use Rattle.brc_word.specs.Words.{most_local, local_part, is_immortal_word, fresh_word}
 use Rattle.brc_model.specs.declared.duty.Reason.TheVariants.{Own}
 use Rattle.brc_model.specs.declared.duty.Duty.{Duty}
-use Rattle.brc_model.specs.declared.duty.Duty.TheVariants.{RetainLoad, RetainStore, RetainAdd, ReleaseLoad, ReleaseStore, DecideAtZero, SharedLoad, MergeSwap, Die, KindLoad}
+use Rattle.brc_model.specs.declared.duty.Duty.TheVariants.{RetainLoad, RetainStore, RetainAdd, ReleaseLoad, ReleaseStore, DecideAtZero, SharedLoad, MergeSwap, Die, KindLoad, LockGate, UnlockGate}
 use Rattle.brc_model.specs.declared.address.Address.TheVariants.{Local, Shared}
 use Rattle.brc_model.specs.Duties.{counts_locally}
 use Rattle.brc_model.specs.Machine.{Live, Dying, Actor, Machine}
@@ -29,6 +29,22 @@ use Rattle.brc_model.specs.Layout.{block_of, IsCounted}
 pub row_after_kind_load : {p : Accounts} {n : ℕ} {m : Machine} {t : ℕ} {a : Actor} {y : ℕ} {rest : List Duty}
     → IsCounted m.layout y → AtDuty p n m t a (KindLoad y) rest → KeepsRow m t a (KindLoad y) rest y
 row_after_kind_load {y = y} some s =
+    row_apart s y some refl (none_apart y) (λ life state. refl)
+    (record { local = refl; shared = refl; mark = refl; references = refl })
+
+-- ---- locking
+
+-- The row's invariant holds after `Locks` and `LockHeld`.
+pub row_after_lock_gate : {p : Accounts} {n : ℕ} {m : Machine} {t : ℕ} {a : Actor} {y : ℕ} {rest : List Duty}
+    → IsCounted m.layout y → AtDuty p n m t a (LockGate y) rest → KeepsRow m t a (LockGate y) rest y
+row_after_lock_gate {y = y} some s =
+    row_apart s y some refl (none_apart y) (λ life state. refl)
+    (record { local = refl; shared = refl; mark = refl; references = refl })
+
+-- The row's invariant holds after `Unlocks`.
+pub row_after_unlock_gate : {p : Accounts} {n : ℕ} {m : Machine} {t : ℕ} {a : Actor} {y : ℕ} {rest : List Duty}
+    → IsCounted m.layout y → AtDuty p n m t a (UnlockGate y) rest → KeepsRow m t a (UnlockGate y) rest y
+row_after_unlock_gate {y = y} some s =
     row_apart s y some refl (none_apart y) (λ life state. refl)
     (record { local = refl; shared = refl; mark = refl; references = refl })
 

@@ -4,7 +4,7 @@ use Rattle.std.specs.Prelude.{◌==◌, count_by}
 use Rattle.std.proofs.lemmas.Bool.{eqb-true, cases_lt, false≢true}
 use Rattle.std.proofs.lemmas.Bool.Decides.{eqb_tells}
 use Rattle.std.proofs.lemmas.List.Sums.{sum_by-cons}
-use Rattle.std.proofs.lemmas.Option.{slice_get-get_or}
+use Rattle.std.proofs.lemmas.Option.{slice_get-get_or, slice_get_within}
 use Rattle.brc_lang.specs.declared.module.Module.{Module}
 use Rattle.brc_lang.specs.Grammar.{IsModule}
 use Rattle.brc_model.specs.Paths.{IsAcceptable}
@@ -22,7 +22,8 @@ use Rattle.brc_model.specs.Progress.{Always, GatesTell, BornAreUsed}
 use Rattle.brc_model.specs.References.{one_if}
 use Rattle.brc_model.specs.Accounts.{Accounts}
 use Rattle.brc_model.specs.Knowledge.{IsDyingWord, HeadFits, HeadOf, AllBehind, BehindOf}
-use Rattle.brc_model.specs.OpenWork.{Later, Agenda, AgendaFits, Linked, is_finalising, finalised, dies_by, GateFits}
+use Rattle.brc_model.specs.OpenWork.{Later, Agenda, AgendaFits, Linked, is_finalising, finalised, dies_by}
+use Rattle.brc_model.specs.Gates.{LiveGate, IsFree, IsLocked, GateFits}
 use Rattle.brc_model.specs.Invariant.{CoreInvariant}
 use Rattle.brc_model.proofs.Frame.Others.{dying_is}
 use Rattle.brc_model.proofs.Stepping.Behind.{finalised_first}
@@ -151,11 +152,18 @@ dying_within p n m t x core dies =
       | inr past ↦ absurd (false≢true (sym (core.dying x t (omega (arith, past))) ∙ dying_is (m.life x) t dies))
     ]
 
+-- The gate of a live row isn't the closed word, since threads are few.
+live_unclosed : (p : Accounts) (n : ℕ) (m : Machine) (x : ℕ) → CoreInvariant p n m
+    → LiveGate m.actors x (m.memory (Gate x)) → m.memory (Gate x) ≢ closed_word
+live_unclosed p n m x core (IsFree free) e = absurd (omega (arith, free, e))
+live_unclosed p n m x core (IsLocked t a found locked says) e =
+    absurd (omega (arith, slice_get_within m.actors t a found, core.threads, core.few_threads, says, e))
+
 -- A row whose gate is the closed word is closed.
 closed_by : (p : Accounts) (n : ℕ) (m : Machine) (x : ℕ) (l : Life) → CoreInvariant p n m → m.life x ≡ l
-    → GateFits l (m.memory (Gate x)) → m.memory (Gate x) ≡ closed_word → l ≡ Closed
+    → GateFits m.actors x l (m.memory (Gate x)) → m.memory (Gate x) ≡ closed_word → l ≡ Closed
 closed_by p n m x Unborn core is fits e = absurd (omega (arith, fits, e))
-closed_by p n m x Live core is fits e = absurd (omega (arith, fits, e))
+closed_by p n m x Live core is fits e = absurd (live_unclosed p n m x core fits e)
 closed_by p n m x (Dying t) core is fits e =
     let within = dying_within p n m t x core is in
     elim (dying_gate p n m t x core within is) [
@@ -169,7 +177,8 @@ tell_in p n m whole =
     let core = whole.kept.core in
     λ x. (
       λ e. core.closed_has x (closed_by whole.accounts n (counting m) x (m.life x) core refl (core.gates x) e),
-      λ c. subst (λ (l : Life). GateFits l (m.memory (Gate x))) (core.closed_is x c) (core.gates x),
+      λ c. subst (λ (l : Life). GateFits (counting m).actors x l (m.memory (Gate x))) (core.closed_is x c)
+          (core.gates x),
     )
 
 pub gates_tell : (p : Module) → IsModule p → IsAcceptable p → Always GatesTell p

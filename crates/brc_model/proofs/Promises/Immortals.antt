@@ -2,11 +2,11 @@
 use Rattle.std.proofs.Common.{◌≡◌, ℕ, ◌+◌, ◌-◌, ◌<◌, true, List, inl, inr, refl, sym, ◌∙◌, subst, arith}
 use Rattle.std.proofs.lemmas.Bool.{cases_Bool, eqb-true, ne_eqb}
 use Rattle.brc_lang.specs.declared.module.Module.{Module}
-use Rattle.brc_word.specs.Words.{immortal_local, local_part, is_immortal_word, dying_word, closed_word}
+use Rattle.brc_word.specs.Words.{immortal_local, local_part, is_immortal_word, dying_word, closed_word, free_word}
 use Rattle.brc_model.specs.declared.thread.Choice.{Choice}
 use Rattle.brc_model.specs.declared.duty.Reason.TheVariants.{Own, Handed}
 use Rattle.brc_model.specs.declared.duty.Duty.{Duty}
-use Rattle.brc_model.specs.declared.duty.Duty.TheVariants.{RetainAdd, DecideAtZero, SharedLoad, SharedExchange, MergeLoad, MergeExchange, Die, Settle, SettleKind, SettleEnd, TakeSlot, CloseResource, BirthKind, BirthSlot, KindLoad}
+use Rattle.brc_model.specs.declared.duty.Duty.TheVariants.{RetainAdd, DecideAtZero, SharedLoad, SharedExchange, MergeLoad, MergeExchange, Die, Settle, SettleKind, SettleEnd, TakeSlot, CloseResource, BirthKind, BirthSlot, KindLoad, LockGate, UnlockGate}
 use Rattle.brc_model.specs.declared.address.Address.TheVariants.{Local, Shared, Gate, KindOf, Mark, Slot, Resource}
 use Rattle.brc_model.specs.Machine.{Actor, Life, Unborn, Live, Dying, Closed, Machine, written}
 use Rattle.brc_model.specs.StepMachine.{StepMachine, counting, next_machine}
@@ -84,6 +84,10 @@ immortal_gate p n m t a (Die y) rest x here immortal =
 immortal_gate p n m t a Settle rest x here immortal = written_load m.memory (Gate (a.head - 1)) (Gate x)
 immortal_gate p n m t a (SettleEnd y) rest x here immortal =
     gate_apart m y x closed_word (head_of p n m t a (SettleEnd y) rest here).0 immortal
+immortal_gate p n m t a (LockGate y) rest x here immortal =
+    gate_apart m y x _ (head_of p n m t a (LockGate y) rest here).0 immortal
+immortal_gate p n m t a (UnlockGate y) rest x here immortal =
+    gate_apart m y x free_word (head_of p n m t a (UnlockGate y) rest here).0 immortal
 immortal_gate p n m t a _ rest x here immortal = refl
 
 immortal_kind : (p : Accounts) (n : ℕ) (m : Machine) (t : ℕ) (a : Actor) (d : Duty) (rest : List Duty) (x : ℕ)

@@ -4,12 +4,12 @@ use Rattle.std.proofs.Common.{◌≡◌, ◌≢◌, ℕ, suc, ◌-◌, ◌<◌, 
 use Rattle.std.specs.Prelude.{◌==◌, nat_lt}
 use Rattle.std.proofs.lemmas.Bool.Decides.{eqb_tells, leb_tells}
 use Rattle.std.proofs.lemmas.List.{append-nil}
-use Rattle.brc_word.specs.Words.{most_local, local_part, is_immortal_word, fresh_word, dead_word, merged_word}
+use Rattle.brc_word.specs.Words.{most_local, local_part, is_immortal_word, fresh_word, dead_word, merged_word, free_word}
 use Rattle.brc_model.specs.declared.duty.Holding.{Holding}
 use Rattle.brc_model.specs.declared.duty.Reason.{Reason}
 use Rattle.brc_model.specs.declared.duty.Reason.TheVariants.{Own, Handed}
 use Rattle.brc_model.specs.declared.duty.Duty.{Duty}
-use Rattle.brc_model.specs.declared.duty.Duty.TheVariants.{RetainLoad, RetainStore, RetainAdd, ReleaseLoad, ReleaseStore, DecideAtZero, SharedLoad, SharedExchange, SetMark, Look, TakeMark, MergeSwap, MergeLoad, MergeExchange, Die, Settle, SettleKind, SettleCell, TakeSlot, CloseResource, SettleEnd, Leave, Scan, Finish, ClaimMark, BirthKind, BirthSlot, BirthLocal, KindLoad}
+use Rattle.brc_model.specs.declared.duty.Duty.TheVariants.{RetainLoad, RetainStore, RetainAdd, ReleaseLoad, ReleaseStore, DecideAtZero, SharedLoad, SharedExchange, SetMark, Look, TakeMark, MergeSwap, MergeLoad, MergeExchange, Die, Settle, SettleKind, SettleCell, TakeSlot, CloseResource, SettleEnd, Leave, Scan, Finish, ClaimMark, BirthKind, BirthSlot, BirthLocal, KindLoad, LockGate, UnlockGate}
 use Rattle.brc_model.specs.declared.address.Address.{Address}
 use Rattle.brc_model.specs.Rules.{Goes, IsComputed, given_up, one_shared}
 use Rattle.brc_model.specs.Rules as rules
@@ -76,6 +76,11 @@ module _ (memory : Address → ℕ) (layout : Layout) (t : ℕ) (running : Bool)
       record { left_is = refl; next_is = refl; moves_are = refl }
   computed d found left next moves (rules.Born x h f) = record { left_is = refl; next_is = refl; moves_are = refl }
   computed d found left next moves (rules.KindRead x f) = record { left_is = refl; next_is = refl; moves_are = refl }
+  computed d found left next moves (rules.Locks x f free) =
+      record { left_is = rw free refl; next_is = refl; moves_are = refl }
+  computed d found left next moves (rules.LockHeld x f held) =
+      record { left_is = rw (other_test f free_word held) refl; next_is = refl; moves_are = refl }
+  computed d found left next moves (rules.Unlocks x f) = record { left_is = refl; next_is = refl; moves_are = refl }
   computed d found left next moves (rules.RetainsImmortal x h f is) =
       record { left_is = refl; next_is = rw is refl; moves_are = rw is refl }
   computed d found left next moves (rules.OwnerRetains x h f mortal counts low) =
@@ -248,6 +253,12 @@ module _ (memory : Address → ℕ) (layout : Layout) (t : ℕ) (running : Bool)
   by_rule (BirthSlot x h) found = rules.SlotFilled x h found
   by_rule (BirthLocal x h) found = rules.Born x h found
   by_rule (KindLoad x) found = rules.KindRead x found
+  by_rule (LockGate x) found =
+      elim (eqb_tells found free_word) [
+        | inl free ↦ applies _ _ _ _ _ (rules.Locks x found free.1)
+        | inr held ↦ applies _ _ _ _ _ (rules.LockHeld x found held.1)
+      ]
+  by_rule (UnlockGate x) found = rules.Unlocks x found
   by_rule (RetainLoad x h) found =
       elim (told (is_immortal_word found)) [
         | inl immortal ↦ applies _ _ _ _ _ (rules.RetainsImmortal x h found immortal)

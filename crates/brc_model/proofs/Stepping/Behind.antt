@@ -3,11 +3,11 @@
 use Rattle.std.proofs.Common.{◌≡◌, ℕ, zero, suc, ◌+◌, ◌-◌, ◌<◌, true, false, cond, List, [], ◌∷◌, ◌++◌, Some, refl, sym, ap, ◌∙◌, subst, arith}
 use Rattle.std.proofs.lemmas.Bool.{eq-eqb, eqb-false, false≢true}
 use Rattle.brc_model.specs.declared.duty.Duty.{Duty}
-use Rattle.brc_model.specs.declared.duty.Duty.TheVariants.{Die, Settle, SettleCell, SettleEnd, Scan}
+use Rattle.brc_model.specs.declared.duty.Duty.TheVariants.{Die, Settle, SettleCell, SettleEnd, Scan, LockGate, UnlockGate}
 use Rattle.brc_model.specs.declared.address.Address.TheVariants.{Gate}
 use Rattle.brc_model.specs.declared.layout.Layout.{Layout}
 use Rattle.brc_model.specs.Duties.{address_of, new_word, new_head, ready}
-use Rattle.brc_model.specs.Machine.{Actor, Unborn, Dying, Machine, is_running, ended_row, actor_by, done_by, written}
+use Rattle.brc_model.specs.Machine.{Actor, Life, Unborn, Dying, Machine, is_running, ended_row, actor_by, done_by, written}
 use Rattle.brc_model.specs.References.{one_if}
 use Rattle.brc_model.specs.Accounts.{Accounts}
 use Rattle.brc_model.specs.Knowledge.{BehindFits, AllBehind, BehindOf, IsDyingWord}
@@ -17,6 +17,8 @@ use Rattle.brc_model.proofs.Basics.Bag.{one_if_low}
 use Rattle.brc_model.proofs.Basics.Continuation.{Continuation, Ends, Finishes, GoesOn, Frees, SettlesRow, Claims, ClaimsNone, Exits, Scans, ScansNone, continues}
 use Rattle.brc_model.proofs.Basics.Lists.{some_is, none_some}
 use Rattle.brc_model.proofs.Basics.Written.{written_apart, written_load, apart_gate}
+use Rattle.brc_model.proofs.Frame.Alive.{alive_backed}
+use Rattle.brc_model.proofs.Frame.Leaves.{head_of, living_clash}
 use Rattle.brc_model.proofs.Frame.Lives.{next_of, cell_found}
 use Rattle.brc_model.proofs.Objects.Closing.{GoesOn as LifeGoesOn, BeginsToDie, IsClosed, IsBorn, life_step}
 
@@ -44,15 +46,27 @@ one_finalises p n m t a d rest x here some =
       | false ↦ λ other. other
     ] refl
 
--- A step changes no gate but that of the row that its duty finalises.
-gate_stays : (m : Machine) (t : ℕ) (a : Actor) (d : Duty) (x : ℕ) → is_finalising d x ≡ false
+-- A step changes no gate of the thread's dying rows but that of the row that its duty finalises: what it locks or
+-- unlocks lives.
+gate_stays : (p : Accounts) (n : ℕ) (m : Machine) (t : ℕ) (a : Actor) (d : Duty) (rest : List Duty) (x : ℕ)
+    → AtDuty p n m t a d rest → is_finalising d x ≡ false → m.life x ≡ Dying t
     → written m.memory (address_of m.layout t a.head d)
     (new_word t a.head d (m.memory (address_of m.layout t a.head d))) (Gate x) ≡ m.memory (Gate x)
-gate_stays m t a (Die y) x other = written_apart m.memory (Gate y) (Gate x) _ (apart_gate y x (eqb-false y x other))
-gate_stays m t a Settle x other = written_load m.memory (Gate (a.head - 1)) (Gate x)
-gate_stays m t a (SettleEnd y) x other =
+gate_stays p n m t a (Die y) rest x here other dies = written_apart m.memory (Gate y) (Gate x) _ (apart_gate y x (eqb-false y x other))
+gate_stays p n m t a Settle rest x here other dies = written_load m.memory (Gate (a.head - 1)) (Gate x)
+gate_stays p n m t a (SettleEnd y) rest x here other dies =
     written_apart m.memory (Gate y) (Gate x) _ (apart_gate y x (eqb-false y x other))
-gate_stays m t a _ x other = refl
+gate_stays p n m t a (LockGate y) rest x here other dies =
+    let fits = head_of p n m t a (LockGate y) rest here in
+    let own : dies_by (m.life x) t ≡ true = ap (λ (l : Life). dies_by l t) dies ∙ eq-eqb t t refl in
+    written_apart m.memory (Gate y) (Gate x) _
+    (apart_gate y x (living_clash m t x y (alive_backed p n m t y here.core fits.0 fits.1) own))
+gate_stays p n m t a (UnlockGate y) rest x here other dies =
+    let fits = head_of p n m t a (UnlockGate y) rest here in
+    let own : dies_by (m.life x) t ≡ true = ap (λ (l : Life). dies_by l t) dies ∙ eq-eqb t t refl in
+    written_apart m.memory (Gate y) (Gate x) _
+    (apart_gate y x (living_clash m t x y (alive_backed p n m t y here.core fits.0 fits.1) own))
+gate_stays p n m t a _ rest x here other dies = refl
 
 ended_finalising : (d : Duty) (x : ℕ) → ended_row d ≡ Some x → is_finalising d x ≡ true
 ended_finalising (SettleEnd y) x ended = eq-eqb y x (some_is y x ended)
@@ -78,13 +92,13 @@ module _ (p : Accounts) (n : ℕ) (m : Machine) (t : ℕ) (a : Actor) (d : Duty)
         fits.0,
         life_stays x here other fits.1,
         fits.2,
-        subst (IsDyingWord t) (sym (gate_stays m t a d x other)) fits.3,
+        subst (IsDyingWord t) (sym (gate_stays p n m t a d rest x here other fits.1)) fits.3,
       )
   fits_still (SettleEnd x) here apart fits =
       let other = apart x (eq-eqb x x refl) in (
         fits.0,
         life_stays x here other fits.1,
-        subst (IsDyingWord t) (sym (gate_stays m t a d x other)) fits.2,
+        subst (IsDyingWord t) (sym (gate_stays p n m t a d rest x here other fits.1)) fits.2,
       )
   fits_still _ here apart fits = tt
 

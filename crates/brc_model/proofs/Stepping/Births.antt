@@ -128,7 +128,7 @@ thread_after_birth_local p n m t a x h [] here alive =
       held = held_gained m.abstract.references t x h (d ∷ []) [] (λ k o. refl) (λ k o. refl) (λ k o. refl)
           (λ k o. refl);
       chain = chain_same m new t a.head (d ∷ []) [] (record {
-        gates = λ y. refl;
+        gates = λ y dies. refl;
         hands =
             λ y. let life : one_if (dies_by (new.life y) t) ≡ one_if (dies_by (m.life y) t) =
             ap one_if (born_dies m.life t x y (next_unborn p n m t a x here.core here.found fits.0)) in omega

@@ -88,7 +88,7 @@ claim_step p n m t a d x rest behind here alive step =
             same_head = step.same_head;
             same_status = step.same_status;
             agenda_is = ready_first a.head (MergeSwap x Handed) (behind ++ rest) refl;
-            gates = step.gates;
+            gates = λ y dies. step.gates y;
             word = step.word;
             hands = step.hands;
             held = step.held (MergeSwap x Handed ∷ (behind ++ rest)) (λ h o. refl) (λ h o. refl);
@@ -105,7 +105,7 @@ claim_step p n m t a d x rest behind here alive step =
             same_head = step.same_head;
             same_status = step.same_status;
             agenda_is = refl;
-            gates = step.gates;
+            gates = λ y dies. step.gates y;
             word = step.word;
             hands = λ y. ready_so.hands y ∙ step.hands y;
             held = step.held (ready a.head (behind ++ rest)) ready_so.more ready_so.less;
@@ -172,7 +172,7 @@ exit_chain : (p : Accounts) (n : ℕ) (m : Machine) (t : ℕ) (a : Actor) (d : D
     → ChainFits (done_by m t a d rest) t a.head agenda
 exit_chain p n m t a d rest agenda here gates lives hands =
     chain_same m (done_by m t a d rest) t a.head (d ∷ rest) agenda (record {
-      gates = gates;
+      gates = λ y dies. gates y;
       hands = λ y.
           let life : one_if (dies_by ((done_by m t a d rest).life y) t) ≡ one_if (dies_by (m.life y) t) =
           ap (λ (l : Life). one_if (dies_by l t)) (lives y) in

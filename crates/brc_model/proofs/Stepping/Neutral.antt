@@ -1,5 +1,5 @@
 -- A thread fits after a step that makes no row die and closes none.
-use Rattle.std.proofs.Common.{◌≡◌, ℕ, List, ◌∷◌, ◌++◌, Option, None, refl, sym, ap, ◌∙◌, subst, arith, Some}
+use Rattle.std.proofs.Common.{◌≡◌, ℕ, List, ◌∷◌, ◌++◌, Option, None, refl, sym, ap, ◌∙◌, subst, arith, Some, true}
 use Rattle.brc_model.specs.AbstractState.{Reference, moved}
 use Rattle.brc_model.specs.declared.duty.Duty.{Duty}
 use Rattle.brc_model.specs.declared.address.Address.{Address}
@@ -17,6 +17,7 @@ use Rattle.brc_model.specs.Invariant.{AtDuty, ActorFits}
 use Rattle.brc_model.proofs.Frame.Lives.{next_of}
 use Rattle.brc_model.proofs.Stepping.Behind.{behind_after}
 use Rattle.brc_model.proofs.Stepping.UnderWay.{exits_still}
+use Rattle.brc_model.proofs.Stepping.Locked.{locks_after}
 use Rattle.brc_model.proofs.Stepping.Own.{HeldStep, holds_step, ChainSame, chain_same}
 use Rattle.brc_model.specs.declared.duty.Duty.TheVariants.{BirthLocal}
 
@@ -59,7 +60,7 @@ agenda_here p n m t a d rest here alive =
 -- ---- the step
 
 -- What a neutral step has to show: it makes no row die, closes none and gives birth to none; it changes neither the
--- thread's status nor its chain nor any gate; and the new agenda fits.
+-- thread's status nor its chain nor the gate of a row that it finalises; and the new agenda fits.
 pub record NeutralStep (m : Machine) (t : ℕ) (a : Actor) (d : Duty) (rest next agenda : List Duty) : Type 0 where
   pub next_is : next_of m t a d ≡ next
   pub none_dies : dies_next next ≡ None
@@ -68,7 +69,7 @@ pub record NeutralStep (m : Machine) (t : ℕ) (a : Actor) (d : Duty) (rest next
   pub same_head : new_head a.head d (found_by m t a d) ≡ a.head
   pub same_status : status_by a.status d ≡ a.status
   pub agenda_is : ready a.head (next ++ rest) ≡ agenda
-  pub gates : (x : ℕ) → memory_by m t a d (Gate x) ≡ m.memory (Gate x)
+  pub gates : (x : ℕ) → dies_by (m.life x) t ≡ true → memory_by m t a d (Gate x) ≡ m.memory (Gate x)
   pub word : memory_by m t a d (ThreadWord t) ≡ m.memory (ThreadWord t)
   pub hands : (x : ℕ) → finalised agenda x ≡ finalised (d ∷ rest) x
   pub held : HeldStep m.abstract.references (bag_by m t a d) t (d ∷ rest) agenda
@@ -127,7 +128,7 @@ own_neutral p n m t a d rest next agenda here alive step =
         chain =
             subst (λ (l : List Duty). ChainFits new t after.head l) (sym whole)
             (subst (λ (h : ℕ). ChainFits new t h agenda) (sym step.same_head) chain);
-        unlocked = old.unlocked;
+        locks = locks_after p n m t a d rest here;
         unlent = old.unlent;
       };
       agenda = agenda_out after after.status (λ e. alive (sym step.same_status ∙ e))

@@ -1,5 +1,5 @@
 -- What a thread holds, its agenda and its chain after its own step, put together from what the step changes.
-use Rattle.std.proofs.Common.{◌≡◌, ℕ, zero, suc, ◌+◌, Bool, false, cond, List, [], ◌∷◌, refl, sym, ap, ◌∙◌, arith}
+use Rattle.std.proofs.Common.{◌≡◌, ℕ, zero, suc, ◌+◌, Bool, false, cond, List, [], ◌∷◌, refl, sym, ap, ◌∙◌, arith, true}
 use Rattle.brc_model.specs.declared.duty.Holding.{Holding}
 use Rattle.brc_model.specs.AbstractState.{Reference}
 use Rattle.brc_model.specs.declared.duty.Duty.{Duty}
@@ -13,6 +13,7 @@ use Rattle.brc_model.specs.Accounts.{extra_of, lacks_of, HoldsAt, Account}
 use Rattle.brc_model.specs.Knowledge.{HeadOf, AllBehind}
 use Rattle.brc_model.specs.OpenWork.{Later, Agenda, is_finalising, finalised, dies_by, ChainFits}
 use Rattle.brc_model.proofs.Frame.Others.{linked_kept}
+use Rattle.brc_model.proofs.Basics.Bag.{one_if_true}
 use Rattle.brc_model.specs.declared.layout.Layout.{Layout}
 
 -- ---- what the thread holds
@@ -98,9 +99,9 @@ ready_is layout t used status head _ later = absurd later
 
 -- ---- chains
 
--- No gate changes, and a row begins or ceases to die only as a row that a duty finalises.
+-- No gate of the thread's dying rows changes, and a row begins or ceases to die only as a row that a duty finalises.
 pub record ChainSame (m new : Machine) (t : ℕ) (agenda later : List Duty) : Type 0 where
-  pub gates : (x : ℕ) → new.memory (Gate x) ≡ m.memory (Gate x)
+  pub gates : (x : ℕ) → dies_by (m.life x) t ≡ true → new.memory (Gate x) ≡ m.memory (Gate x)
   pub hands : (x : ℕ)
       → finalised later x + one_if (dies_by (m.life x) t) ≡ finalised agenda x + one_if (dies_by (new.life x) t)
 
@@ -108,6 +109,8 @@ pub chain_same : (m new : Machine) (t head : ℕ) (agenda later : List Duty) →
     → ChainFits m t head agenda → ChainFits new t head later
 chain_same m new t head agenda later same fits = record {
   chained = fits.chained;
-  linked = linked_kept m.memory new.memory t head fits.chained (λ x some. same.gates x) fits.linked;
+  linked =
+      linked_kept m.memory new.memory t head fits.chained
+      (λ x some. same.gates x (one_if_true _ (omega (arith, fits.once x, some)))) fits.linked;
   once = λ x. omega (arith, fits.once x, same.hands x);
 }

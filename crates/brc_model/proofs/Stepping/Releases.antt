@@ -1,5 +1,5 @@
--- A thread fits after its own steps that ask for a kind, make a reference, give one up by the local word, or decide at
--- zero.
+-- A thread fits after its own steps that ask for a kind, lock, unlock, make a reference, give one up by the local word,
+-- or decide at zero.
 use Rattle.std.proofs.Common.{◌≡◌, ℕ, ◌+◌, ◌-◌, ◌<◌, Bool, true, false, cond, List, [], ◌∷◌, ◌++◌, refl, sym, ap, ◌∙◌, subst, arith}
 use Rattle.std.specs.Prelude.{◌==◌, ◌&&◌}
 use Rattle.std.specs.List.{list_any}
@@ -10,7 +10,7 @@ use Rattle.brc_model.specs.AbstractState.{Reference, same_holding, same, without
 use Rattle.brc_word.specs.Words.{immortal_local, owner_part, local_part, is_immortal_word, fresh_word}
 use Rattle.brc_model.specs.declared.duty.Reason.TheVariants.{Own}
 use Rattle.brc_model.specs.declared.duty.Duty.{Duty}
-use Rattle.brc_model.specs.declared.duty.Duty.TheVariants.{RetainStore, RetainAdd, ReleaseLoad, ReleaseStore, DecideAtZero, SharedLoad, MergeSwap, Die, KindLoad}
+use Rattle.brc_model.specs.declared.duty.Duty.TheVariants.{RetainStore, RetainAdd, ReleaseLoad, ReleaseStore, DecideAtZero, SharedLoad, MergeSwap, Die, KindLoad, LockGate, UnlockGate}
 use Rattle.brc_model.specs.declared.address.Address.TheVariants.{Local, Shared}
 use Rattle.brc_model.specs.Duties.{counts_locally}
 use Rattle.brc_model.specs.declared.actor.Status.TheVariants.{Gone}
@@ -44,6 +44,26 @@ pub thread_after_kind_load : (p : Accounts) (n : ℕ) (m : Machine) (t : ℕ) (a
 thread_after_kind_load p n m t a x rest here alive =
     own_done p n m t a (KindLoad x) rest here alive refl refl (agenda_here p n m t a (KindLoad x) rest here alive)
     (held_same m.abstract.references t (KindLoad x ∷ rest) [] (λ k o. refl) (λ k o. refl))
+
+-- ---- locking
+
+-- The thread fits after `Locks` and `LockHeld`.
+pub thread_after_lock_gate : (p : Accounts) (n : ℕ) (m : Machine) (t : ℕ) (a : Actor) (x : ℕ) (rest : List Duty)
+    → AtDuty p n m t a (LockGate x) rest → (a.status ≡ Gone → ⊥)
+    → ThreadFits p (done_by m t a (LockGate x) rest) t
+    (actor_by m.layout t a (LockGate x) rest (found_by m t a (LockGate x)))
+thread_after_lock_gate p n m t a x rest here alive =
+    own_done p n m t a (LockGate x) rest here alive refl refl (agenda_here p n m t a (LockGate x) rest here alive)
+    (held_same m.abstract.references t (LockGate x ∷ rest) [] (λ k o. refl) (λ k o. refl))
+
+-- The thread fits after `Unlocks`.
+pub thread_after_unlock_gate : (p : Accounts) (n : ℕ) (m : Machine) (t : ℕ) (a : Actor) (x : ℕ) (rest : List Duty)
+    → AtDuty p n m t a (UnlockGate x) rest → (a.status ≡ Gone → ⊥)
+    → ThreadFits p (done_by m t a (UnlockGate x) rest) t
+    (actor_by m.layout t a (UnlockGate x) rest (found_by m t a (UnlockGate x)))
+thread_after_unlock_gate p n m t a x rest here alive =
+    own_done p n m t a (UnlockGate x) rest here alive refl refl (agenda_here p n m t a (UnlockGate x) rest here alive)
+    (held_same m.abstract.references t (UnlockGate x ∷ rest) [] (λ k o. refl) (λ k o. refl))
 
 -- ---- the last step of a retain
 

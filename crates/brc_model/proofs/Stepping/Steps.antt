@@ -1,30 +1,40 @@
 -- A thread fits after the step of a duty that keeps lives: one that changes neither the thread's status nor the head of
--- its chain nor any gate. Such a step makes no row die, or makes its own row die, which the thread then finalises.
+-- its chain nor the gate of a row that it finalises. Such a step makes no row die, or makes its own row die, which the
+-- thread then finalises.
 use Rattle.std.proofs.Common.{◌≡◌, ℕ, ◌+◌, Bool, true, false, cond, List, [], ◌∷◌, ◌++◌, inl, inr, Option, None, Some, refl, sym, ap, ◌∙◌, subst, arith}
-use Rattle.std.specs.Prelude.{◌==◌}
+use Rattle.std.specs.Prelude.{◌==◌, slice_get}
 use Rattle.std.proofs.lemmas.Bool.{eq-eqb}
 use Rattle.std.proofs.lemmas.Bool.Decides.{eqb_tells}
 use Rattle.brc_model.specs.declared.duty.Duty.{Duty}
-use Rattle.brc_model.specs.declared.duty.Duty.TheVariants.{Look, Die, Settle, SettleKind, SettleCell, SettleEnd, Leave, Finish, TakeSlot, CloseResource, BirthLocal}
+use Rattle.brc_model.specs.declared.duty.Duty.TheVariants.{Look, Die, Settle, SettleKind, SettleCell, SettleEnd, Leave, Finish, TakeSlot, CloseResource, BirthLocal, LockGate, UnlockGate}
 use Rattle.brc_model.specs.declared.address.Address.TheVariants.{Gate, ThreadWord}
 use Rattle.brc_model.specs.Duties.{new_head, ready}
 use Rattle.brc_model.specs.declared.actor.Status.{Status}
 use Rattle.brc_model.specs.declared.actor.Status.TheVariants.{Gone}
 use Rattle.brc_model.specs.Machine.{Actor, Life, Live, Dying, Closed, Machine, status_by, dies_next, ended_row, with_life, life_by, actor_by, done_by, born_row}
-use Rattle.brc_model.specs.References.{one_if}
+use Rattle.brc_model.specs.References.{one_if, reference_of}
 use Rattle.brc_model.specs.Accounts.{Accounts, extra_of, lacks_of, HoldsAt}
 use Rattle.brc_model.specs.Knowledge.{HeadFits, HeadOf, status_word}
-use Rattle.brc_model.specs.OpenWork.{Later, Agenda, finalised, dies_by, GateFits, ChainFits}
+use Rattle.brc_model.specs.OpenWork.{Later, Agenda, finalised, dies_by, ChainFits}
+use Rattle.brc_model.specs.RowInvariant.{IsDead, RowInvariant}
+use Rattle.brc_model.specs.Gates.{LiveGate, IsFree, IsLocked, GateFits}
 use Rattle.brc_word.specs.Words.{free_word}
-use Rattle.brc_model.proofs.Basics.Written.{written_load}
+use Rattle.brc_model.proofs.Basics.Written.{written_load, written_apart, apart_gate}
+use Rattle.brc_model.proofs.Basics.MovesApart.{moves_apart}
+use Rattle.brc_model.proofs.Basics.Bag.{held-le-references_to}
+use Rattle.brc_model.proofs.Basics.Lists.{some_is}
 use Rattle.brc_model.proofs.Frame.Lives.{next_of}
 use Rattle.brc_model.proofs.Stepping.Behind.{finalised_first, still_behind, behind_after}
+use Rattle.brc_model.proofs.Objects.RowsAfter.{rows_after}
+use Rattle.brc_model.proofs.Frame.Leaves.{head_of, locked_backed, living_clash}
+use Rattle.brc_model.proofs.Frame.Alive.{alive_backed}
 use Rattle.brc_model.proofs.Stepping.UnderWay.{exits_still}
+use Rattle.brc_model.proofs.Stepping.Locked.{locks_after}
 use Rattle.brc_model.proofs.Stepping.Own.{HeldStep, holds_step, ready_is, ChainSame, chain_same}
 use Rattle.brc_model.proofs.Stepping.Neutral.{ThreadFits, found_by, bag_by, memory_by, agenda_out, own_neutral, uses_same}
 use Rattle.brc_model.proofs.Stepping.Retains.{ready_first}
 use Rattle.brc_model.proofs.Basics.Continuation.{is_inner}
-use Rattle.brc_model.specs.Invariant.{AtDuty}
+use Rattle.brc_model.specs.Invariant.{AtDuty, numbers_of}
 use Rattle.brc_model.specs.Layout.{block_of, IsCounted}
 
 -- ---- duties that keep lives
@@ -60,12 +70,31 @@ keeping_status status (Leave x n) kept = absurd cc
 keeping_status status Finish kept = absurd cc
 keeping_status status _ kept = refl
 
-keeping_gates : (m : Machine) (t : ℕ) (a : Actor) (d : Duty) (x : ℕ) → keeps_lives d ≡ true
+keeping_gates : (p : Accounts) (n : ℕ) (m : Machine) (t : ℕ) (a : Actor) (d : Duty) (rest : List Duty) (x : ℕ)
+    → AtDuty p n m t a d rest → keeps_lives d ≡ true → dies_by (m.life x) t ≡ true
     → memory_by m t a d (Gate x) ≡ m.memory (Gate x)
-keeping_gates m t a (Die y) x kept = absurd cc
-keeping_gates m t a Settle x kept = absurd cc
-keeping_gates m t a (SettleEnd y) x kept = absurd cc
-keeping_gates m t a _ x kept = refl
+keeping_gates p n m t a (Die y) rest x here kept dies = absurd cc
+keeping_gates p n m t a Settle rest x here kept dies = absurd cc
+keeping_gates p n m t a (SettleEnd y) rest x here kept dies = absurd cc
+keeping_gates p n m t a (LockGate y) rest x here kept dies =
+    let fits = head_of p n m t a (LockGate y) rest here in
+    written_apart m.memory (Gate y) (Gate x) _
+    (apart_gate y x (living_clash m t x y (alive_backed p n m t y here.core fits.0 fits.1) dies))
+keeping_gates p n m t a (UnlockGate y) rest x here kept dies =
+    let fits = head_of p n m t a (UnlockGate y) rest here in
+    written_apart m.memory (Gate y) (Gate x) _
+    (apart_gate y x (living_clash m t x y (alive_backed p n m t y here.core fits.0 fits.1) dies))
+keeping_gates p n m t a _ rest x here kept dies = refl
+
+-- A step that makes a row die changes no gate.
+dying_gates : (m : Machine) (t : ℕ) (a : Actor) (d : Duty) (x y : ℕ) → keeps_lives d ≡ true
+    → next_of m t a d ≡ Die x ∷ [] → memory_by m t a d (Gate y) ≡ m.memory (Gate y)
+dying_gates m t a (Die z) x y kept next = absurd cc
+dying_gates m t a Settle x y kept next = absurd cc
+dying_gates m t a (SettleEnd z) x y kept next = absurd cc
+dying_gates m t a (LockGate z) x y kept next = absurd (let wrong : [] ≡ Die x ∷ [] = next in cc)
+dying_gates m t a (UnlockGate z) x y kept next = absurd (let wrong : [] ≡ Die x ∷ [] = next in cc)
+dying_gates m t a _ x y kept next = refl
 
 keeping_word : (m : Machine) (t : ℕ) (a : Actor) (d : Duty) → keeps_lives d ≡ true
     → memory_by m t a d (ThreadWord t) ≡ m.memory (ThreadWord t)
@@ -114,7 +143,7 @@ own_keeps p n m t a d rest next agenda here alive kept step =
       same_head = keeping_head a.head (found_by m t a d) d kept;
       same_status = keeping_status a.status d kept;
       agenda_is = step.agenda_is;
-      gates = λ x. keeping_gates m t a d x kept;
+      gates = λ x dies. keeping_gates p n m t a d rest x here kept dies;
       word = keeping_word m t a d kept;
       hands = λ x. step.hands x ∙ sym (keeping_hand d rest x kept);
       held = step.held;
@@ -203,6 +232,53 @@ dying_hands life t x y lived =
           omega (arith, hand, after)
     ]
 
+-- A row that begins to die isn't locked: who has locked it still holds it, and a dying row has no reference.
+dying_unlocked : (p : Accounts) (n : ℕ) (m : Machine) (t : ℕ) (a : Actor) (d : Duty) (rest : List Duty) (x : ℕ)
+    → AtDuty p n m t a d rest → (a.status ≡ Gone → ⊥) → IsCounted m.layout x → (done_by m t a d rest).life x ≡ Dying t
+    → HoldsAt (done_by m t a d rest).abstract.references t (p t) (Die x ∷ rest) a.aside → (u : ℕ) (b : Actor)
+    → slice_get m.actors u ≡ Some b → b.locked ≡ Some x → ⊥
+dying_unlocked p n m t a d rest x here alive counted dies holds u b found e =
+    let new = done_by m t a d rest in
+    let row : IsDead (numbers_of new x) =
+    subst (λ (l : Life). RowInvariant (block_of m.layout x) l (numbers_of new x)) dies
+    (rows_after p n m t a d rest here.core here.found here.agenda alive x counted) in
+    elim (eqb_tells u t) [
+      | inl same ↦
+          let this : b ≡ a = some_is b a (sym found ∙ ap (slice_get m.actors) same.1 ∙ here.found) in
+          let it = (here.core.each t a here.found).0.locks x (ap (λ (c : Actor). c.locked) (sym this) ∙ e) in
+          absurd (omega (
+            arith,
+            holds.each it.by x,
+            it.held_so,
+            held-le-references_to (reference_of t it.by x) new.abstract.references,
+            row.references,
+          ))
+      | inr other ↦
+          let backed = locked_backed p n m u b x here.core found e in
+          absurd (omega (
+            arith,
+            backed.held_so,
+            moves_apart m.memory m.abstract u t backed.by x d (found_by m t a d) other.1,
+            held-le-references_to (reference_of u backed.by x) new.abstract.references,
+            row.references,
+          ))
+    ]
+
+-- So its gate is free.
+dying_free : (p : Accounts) (n : ℕ) (m : Machine) (t : ℕ) (a : Actor) (d : Duty) (rest : List Duty) (x : ℕ)
+    → AtDuty p n m t a d rest → (a.status ≡ Gone → ⊥) → DyingStep m t a d rest x
+    → (done_by m t a d rest).life x ≡ Dying t
+    → HoldsAt (done_by m t a d rest).abstract.references t (p t) (Die x ∷ rest) a.aside
+    → m.memory (Gate x) ≡ free_word
+dying_free p n m t a d rest x here alive step dies holds =
+    let live : LiveGate m.actors x (m.memory (Gate x)) =
+    subst (λ (l : Life). GateFits m.actors x l (m.memory (Gate x))) step.lived (here.core.gates x) in
+    elim live [
+      | IsFree free ↦ free
+      | IsLocked u b found e gate ↦
+          absurd (dying_unlocked p n m t a d rest x here alive step.counted dies holds u b found e)
+    ]
+
 -- The thread fits after a step that keeps lives and makes its row die.
 pub own_dying : (p : Accounts) (n : ℕ) (m : Machine) (t : ℕ) (a : Actor) (d : Duty) (rest : List Duty) (x : ℕ)
     → AtDuty p n m t a d rest → (a.status ≡ Gone → ⊥) → keeps_lives d ≡ true → DyingStep m t a d rest x
@@ -222,7 +298,7 @@ own_dying p n m t a d rest x here alive kept step =
     holds_step m.abstract.references new.abstract.references t (p t) (d ∷ rest) agenda a.aside step.held
     (subst (λ (l : List Duty). HoldsAt m.abstract.references t (p t) l a.aside) here.agenda old.holds) in
     let same : ChainSame m new t a.agenda agenda = record {
-      gates = λ y. keeping_gates m t a d y kept;
+      gates = λ y dies. dying_gates m t a d x y kept step.next_is;
       hands = λ y.
           let before : finalised a.agenda y ≡ finalised rest y =
           ap (λ (l : List Duty). finalised l y) here.agenda ∙ keeping_hand d rest y kept in
@@ -231,10 +307,9 @@ own_dying p n m t a d rest x here alive kept step =
           omega (arith, before, now, finalised_first (Die x) rest y, dying_hands m.life t x y step.lived);
     } in
     let chain : ChainFits new t a.head agenda = chain_same m new t a.head a.agenda agenda same old.chain in
-    let gate : new.memory (Gate x) ≡ free_word =
-    keeping_gates m t a d x kept
-    ∙ subst (λ (l : Life). GateFits l (m.memory (Gate x))) step.lived (here.core.gates x) in
     let dies : new.life x ≡ Dying t = life x ∙ ap (λ (b : Bool). cond b (Dying t) (m.life x)) (eq-eqb x x refl) in
+    let gate : new.memory (Gate x) ≡ free_word =
+    dying_gates m t a d x x kept step.next_is ∙ dying_free p n m t a d rest x here alive step dies holds in
     record {
       actor = record {
         word = keeping_word m t a d kept ∙ old.word ∙ ap status_word (sym same_status);
@@ -246,7 +321,7 @@ own_dying p n m t a d rest x here alive kept step =
         chain =
             subst (λ (l : List Duty). ChainFits new t after.head l) (sym whole)
             (subst (λ (h : ℕ). ChainFits new t h agenda) (sym same_head) chain);
-        unlocked = old.unlocked;
+        locks = locks_after p n m t a d rest here;
         unlent = old.unlent;
       };
       agenda = agenda_out after after.status (λ e. alive (sym same_status ∙ e))

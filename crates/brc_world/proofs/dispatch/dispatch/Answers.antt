@@ -37,7 +37,7 @@ idle c = record {
     aside = [];
     head = c.args.thread.now.head;
     used = c.args.thread.now.used;
-    locked = None;
+    locked = c.args.thread.now.locked;
     lent = None;
   };
 }

@@ -22,6 +22,7 @@ returns-clause-actor c =
       effect.head,
       effect.status,
       effect.used,
+      effect.locked,
       c.doer-by.ensures,
       c.load-found.ensures,
       c.address_of-address.ensures,

@@ -46,3 +46,6 @@ returns-in-BirthLocal c = rw c.in-BirthLocal.is (c.birth_local.ensures _ _ _)
 
 pub returns-in-KindLoad : goal.returns-in-KindLoad
 returns-in-KindLoad c = rw c.in-KindLoad.is (c.kind_load.ensures _)
+
+pub returns-in-UnlockGate : goal.returns-in-UnlockGate
+returns-in-UnlockGate c = rw c.in-UnlockGate.is (c.unlock_gate.ensures _ _)

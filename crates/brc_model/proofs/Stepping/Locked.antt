@@ -1,0 +1,233 @@
+-- After its own step too, a thread holds the list that it has locked, and the list's gate names the thread.
+use Rattle.std.proofs.Common.{◌≡◌, ℕ, ◌+◌, ◌-◌, ◌≤◌, Bool, true, false, cond, List, [], ◌∷◌, ◌++◌, None, Some, refl, sym, ap, ◌∙◌, subst, arith, ◌<◌}
+use Rattle.std.specs.Prelude.{◌==◌, sum_by, count_by}
+use Rattle.std.proofs.lemmas.Bool.{eq-eqb, eqb-true}
+use Rattle.std.proofs.lemmas.List.Sums.{sum_by-cons, sum_by-append}
+use Rattle.brc_word.specs.Words.{free_word, locked_word}
+use Rattle.brc_model.specs.declared.duty.Holding.{Holding}
+use Rattle.brc_model.specs.declared.duty.Holding.TheVariants.{InFlight}
+use Rattle.brc_model.specs.declared.duty.Duty.{Duty}
+use Rattle.brc_model.specs.declared.duty.Duty.TheVariants.{ReleaseLoad, Die, Settle, SettleCell, SettleEnd, Leave, Scan, Finish, LockGate, UnlockGate}
+use Rattle.brc_model.specs.declared.address.Address.TheVariants.{Gate}
+use Rattle.brc_model.specs.declared.actor.Status.{Status}
+use Rattle.brc_model.specs.declared.actor.Status.TheVariants.{Running, Leaving, Gone}
+use Rattle.brc_model.specs.declared.layout.Layout.{Layout}
+use Rattle.brc_model.specs.Duties.{address_of, new_head}
+use Rattle.brc_model.specs.Machine.{Actor, Machine, is_running, actor_by, done_by, is_locking}
+use Rattle.brc_model.specs.References.{one_if}
+use Rattle.brc_model.specs.Accounts.{Accounts, lacks, HoldsAt}
+use Rattle.brc_model.specs.OpenWork.{is_about, about_of, Later, Agenda, AgendaFits}
+use Rattle.brc_model.specs.Gates.{making, HasLocked, LocksFit}
+use Rattle.brc_model.specs.Knowledge.{IsBacked}
+use Rattle.brc_model.specs.Invariant.{AtDuty}
+use Rattle.brc_model.proofs.Basics.Lists.{some_is, none_some}
+use Rattle.brc_model.proofs.Basics.Written.{written_here, written_apart, written_load, apart_gate}
+use Rattle.brc_model.proofs.Basics.Continuation.{Traits, Continuation, GoesOn, Frees, continues}
+use Rattle.brc_model.proofs.Objects.Weights.{IsLight, sum_by-ready}
+use Rattle.brc_model.proofs.Frame.Aside.{lacks_counted, extra_counted, lacks_about}
+use Rattle.brc_model.proofs.Frame.Leaves.{head_of, locked_alive, alive_apart}
+use Rattle.brc_model.proofs.Frame.Lives.{next_of}
+
+-- ---- the references that duties make
+
+-- 1 if the duty makes the reference, else 0.
+abbrev makes : Holding → ℕ → Duty → ℕ
+makes k x d = one_if (lacks d k x)
+
+makes_light : (k : Holding) (x : ℕ) → IsLight (makes k x)
+makes_light k x = record { settle = refl; scan = λ i n. refl }
+
+-- The duties that follow a duty make no more references than it does.
+next_makes : {layout : Layout} {t head found : ℕ} (d : Duty) (next : List Duty) (k : Holding) (x : ℕ)
+    → Continuation layout t head found d next → sum_by (makes k x) next ≤ makes k x d
+next_makes d next k x (GoesOn e leads) =
+    let same : makes k x e ≡ makes k x d = ap (λ (s : Traits). one_if (s.makes k x)) leads.same in
+    omega (arith, sum_by-cons (makes k x) e [], same)
+next_makes d next k x (Frees y i n z e some leads) =
+    let same : makes k x e ≡ 0 = ap (λ (s : Traits). one_if (s.makes k x)) leads.same in
+    omega (arith, sum_by-cons (makes k x) (ReleaseLoad z InFlight) (e ∷ []), sum_by-cons (makes k x) e [], same)
+next_makes d next k x _ = omega arith
+
+-- A step's thread makes no more references afterwards.
+makes_less : (m : Machine) (t : ℕ) (a : Actor) (d : Duty) (rest : List Duty) (k : Holding) (x found : ℕ)
+    → a.agenda ≡ d ∷ rest → m.memory (address_of m.layout t a.head d) ≡ found
+    → making (actor_by m.layout t a d rest found) k x ≤ making a k x
+makes_less m t a d rest k x found is word =
+    let next = next_of m t a d in
+    let old : sum_by (makes k x) a.agenda ≡ makes k x d + sum_by (makes k x) rest =
+    ap (sum_by (makes k x)) is ∙ sum_by-cons (makes k x) d rest in
+    let after = actor_by m.layout t a d rest found in
+    let now : sum_by (makes k x) after.agenda ≡ sum_by (makes k x) next + sum_by (makes k x) rest =
+    ap (λ (w : ℕ). sum_by (makes k x) (actor_by m.layout t a d rest w).agenda) (sym word)
+    ∙ sum_by-ready (makes k x) (makes_light k x)
+    (new_head a.head d (m.memory (address_of m.layout t a.head d))) (next ++ rest)
+    ∙ sum_by-append (makes k x) next rest in
+    let less =
+    next_makes d next k x
+    (continues m.layout t (is_running a.status) a.head d (m.memory (address_of m.layout t a.head d))) in
+    omega (arith, old, now, less)
+
+-- What is for later makes no reference.
+later_makes : (used : ℕ) (status : Status) (rest : List Duty) (k : Holding) (x : ℕ) → Later used status rest
+    → sum_by (makes k x) rest ≡ 0
+later_makes used status [] k x later = refl
+later_makes used status (Settle ∷ rest) k x later =
+    omega (arith, sum_by-cons (makes k x) Settle rest, later_makes used status rest k x later)
+later_makes used status (SettleCell y i n ∷ rest) k x later =
+    omega (arith, sum_by-cons (makes k x) (SettleCell y i n) rest, later_makes used status rest k x later)
+later_makes used status (SettleEnd y ∷ rest) k x later =
+    omega (arith, sum_by-cons (makes k x) (SettleEnd y) rest, later_makes used status rest k x later)
+later_makes used status (Leave i n ∷ []) k x later = omega (arith, sum_by-cons (makes k x) (Leave i n) [])
+later_makes used status (Scan i n ∷ rest) k x later =
+    omega (arith, sum_by-cons (makes k x) (Scan i n) rest, later_makes used status rest k x later.2)
+later_makes used status (Finish ∷ []) k x later = omega (arith, sum_by-cons (makes k x) Finish [])
+later_makes used status _ k x later = absurd later
+
+agenda_makes : (used : ℕ) (status : Status) (d : Duty) (rest : List Duty) (k : Holding) (x : ℕ)
+    → Agenda used status (d ∷ rest) → sum_by (makes k x) rest ≡ 0
+agenda_makes used status Settle rest k x fits = later_makes used status rest k x fits
+agenda_makes used status (Leave i n) [] k x fits = refl
+agenda_makes used status (Leave i n) (e ∷ rest) k x fits = absurd fits
+agenda_makes used status (Scan i n) rest k x fits = later_makes used status rest k x fits.2
+agenda_makes used status Finish [] k x fits = refl
+agenda_makes used status Finish (e ∷ rest) k x fits = absurd fits
+agenda_makes used status _ rest k x fits = later_makes used status rest k x fits
+
+-- No duty behind an agenda's first makes a reference.
+behind_makes : (a : Actor) (status : Status) (d : Duty) (rest : List Duty) (k : Holding) (x : ℕ) → a.agenda ≡ d ∷ rest
+    → AgendaFits a status → sum_by (makes k x) rest ≡ 0
+behind_makes a Gone d rest k x is fits = absurd (let wrong : [] ≡ d ∷ rest = sym fits.0 ∙ is in cc)
+behind_makes a Running d rest k x is fits =
+    agenda_makes a.used Running d rest k x (subst (λ (l : List Duty). Agenda a.used Running l) is fits)
+behind_makes a Leaving d rest k x is fits =
+    agenda_makes a.used Leaving d rest k x (subst (λ (l : List Duty). Agenda a.used Leaving l) is fits)
+
+making_of : (a : Actor) (agenda : List Duty) (k : Holding) (x : ℕ) → a.agenda ≡ agenda → AgendaFits a a.status
+    → one_if (about_of x agenda) + count_by (is_about x) a.aside ≡ 0 → making a k x ≡ 0
+making_of a [] k x is fits none =
+    let agenda : sum_by (makes k x) a.agenda ≡ 0 = ap (sum_by (makes k x)) is in
+    omega (arith, agenda, lacks_counted a.aside k x, none)
+making_of a (d ∷ rest) k x is fits none =
+    let agenda : sum_by (makes k x) a.agenda ≡ makes k x d + sum_by (makes k x) rest =
+    ap (sum_by (makes k x)) is ∙ sum_by-cons (makes k x) d rest in
+    omega (
+      arith,
+      agenda,
+      lacks_about d k x,
+      behind_makes a a.status d rest k x is fits,
+      lacks_counted a.aside k x,
+      none,
+    )
+
+-- A thread none of whose open work is about an object makes no reference to it.
+pub making_none : (a : Actor) (k : Holding) (x : ℕ) → AgendaFits a a.status
+    → one_if (about_of x a.agenda) + count_by (is_about x) a.aside ≡ 0 → making a k x ≡ 0
+making_none a k x fits none = making_of a a.agenda k x refl fits none
+
+-- ---- a lock that is taken
+
+backed_so : (p : Accounts) (n : ℕ) (m : Machine) (t : ℕ) (a : Actor) (x : ℕ) (rest : List Duty)
+    → AtDuty p n m t a (LockGate x) rest → (backed : IsBacked m t x) → sum_by (makes backed.by x) rest ≡ 0
+    → making a backed.by x < p t backed.by x
+backed_so p n m t a x rest here backed none =
+    let fits = here.core.each t a here.found in
+    let k = backed.by in
+    let holds : HoldsAt m.abstract.references t (p t) (LockGate x ∷ rest) a.aside =
+    subst (λ (l : List Duty). HoldsAt m.abstract.references t (p t) l a.aside) here.agenda fits.0.holds in
+    let about : one_if (about_of x a.agenda) ≡ 1 =
+    ap (λ (l : List Duty). one_if (about_of x l)) here.agenda ∙ ap one_if (eq-eqb x x refl) in
+    let agenda : sum_by (makes k x) a.agenda ≡ 0 + sum_by (makes k x) rest =
+    ap (sum_by (makes k x)) here.agenda ∙ sum_by-cons (makes k x) (LockGate x) rest in
+    omega (
+      arith,
+      holds.each k x,
+      backed.held_so,
+      about,
+      fits.2.apart x,
+      lacks_counted a.aside k x,
+      extra_counted a.aside k x,
+      agenda,
+      none,
+    )
+
+-- Of a thread that locks, the account has the reference that backs the lock: none of the thread's work makes or gives up
+-- a reference to the list.
+backed_account : (p : Accounts) (n : ℕ) (m : Machine) (t : ℕ) (a : Actor) (x : ℕ) (rest : List Duty)
+    → AtDuty p n m t a (LockGate x) rest → (backed : IsBacked m t x) → making a backed.by x < p t backed.by x
+backed_account p n m t a x rest here backed =
+    backed_so p n m t a x rest here backed
+    (behind_makes a a.status (LockGate x) rest backed.by x here.agenda (here.core.each t a here.found).1)
+
+-- The thread still holds the list after `Locks`.
+lock_taken : (p : Accounts) (n : ℕ) (m : Machine) (t : ℕ) (a : Actor) (x : ℕ) (rest : List Duty)
+    → AtDuty p n m t a (LockGate x) rest → m.memory (Gate x) ≡ free_word
+    → HasLocked (p t) m.layout (done_by m t a (LockGate x) rest).memory t
+    (actor_by m.layout t a (LockGate x) rest (m.memory (Gate x))) x
+lock_taken p n m t a x rest here free =
+    let fits = head_of p n m t a (LockGate x) rest here in
+    let less = makes_less m t a (LockGate x) rest fits.1.by x (m.memory (Gate x)) here.agenda refl in
+    let had = backed_account p n m t a x rest here fits.1 in
+    let word : cond (m.memory (Gate x) == free_word) (locked_word t) (m.memory (Gate x)) ≡ locked_word t =
+    ap (λ (b : Bool). cond b (locked_word t) (m.memory (Gate x))) (eq-eqb (m.memory (Gate x)) free_word free) in
+    record {
+      counted = fits.0;
+      by = fits.1.by;
+      held_so = omega (arith, less, had);
+      gate = written_here m.memory (Gate x) _ ∙ word;
+    }
+
+-- ---- a lock that was taken before
+
+-- A thread's step doesn't change the gate of the list that it has locked.
+gate_kept : (p : Accounts) (n : ℕ) (m : Machine) (t : ℕ) (a : Actor) (d : Duty) (rest : List Duty) (x : ℕ)
+    → AtDuty p n m t a d rest → a.locked ≡ Some x → is_locking d ≡ false
+    → (done_by m t a d rest).memory (Gate x) ≡ m.memory (Gate x)
+gate_kept p n m t a (Die y) rest x here e other =
+    written_apart m.memory (Gate y) (Gate x) _
+    (apart_gate y x (alive_apart m t x y (head_of p n m t a (Die y) rest here).1
+    (locked_alive p n m t a x here.core here.found e)))
+gate_kept p n m t a Settle rest x here e other = written_load m.memory (Gate (a.head - 1)) (Gate x)
+gate_kept p n m t a (SettleEnd y) rest x here e other =
+    written_apart m.memory (Gate y) (Gate x) _
+    (apart_gate y x (alive_apart m t x y (head_of p n m t a (SettleEnd y) rest here).1
+    (locked_alive p n m t a x here.core here.found e)))
+gate_kept p n m t a (LockGate y) rest x here e other = absurd cc
+gate_kept p n m t a (UnlockGate y) rest x here e other = absurd cc
+gate_kept p n m t a _ rest x here e other = refl
+
+-- The thread still holds the list after a step that neither locks nor unlocks.
+still_locked : (p : Accounts) (n : ℕ) (m : Machine) (t : ℕ) (a : Actor) (d : Duty) (rest : List Duty)
+    → AtDuty p n m t a d rest → is_locking d ≡ false → (x : ℕ) → a.locked ≡ Some x
+    → HasLocked (p t) m.layout (done_by m t a d rest).memory t
+    (actor_by m.layout t a d rest (m.memory (address_of m.layout t a.head d))) x
+still_locked p n m t a d rest here other x e =
+    let it = (here.core.each t a here.found).0.locks x e in
+    let less =
+    makes_less m t a d rest it.by x (m.memory (address_of m.layout t a.head d)) here.agenda refl in
+    record {
+      counted = it.counted;
+      by = it.by;
+      held_so = omega (arith, less, it.held_so);
+      gate = gate_kept p n m t a d rest x here e other ∙ it.gate;
+    }
+
+-- ---- any step
+
+-- After its step a thread holds the list that it has locked, and the gate names the thread.
+pub locks_after : (p : Accounts) (n : ℕ) (m : Machine) (t : ℕ) (a : Actor) (d : Duty) (rest : List Duty)
+    → AtDuty p n m t a d rest
+    → LocksFit (p t) (done_by m t a d rest) t
+    (actor_by m.layout t a d rest (m.memory (address_of m.layout t a.head d)))
+locks_after p n m t a (LockGate y) rest here x e =
+    let none : a.locked ≡ None = (head_of p n m t a (LockGate y) rest here).2 in
+    let found = m.memory (Gate y) in
+    let after = actor_by m.layout t a (LockGate y) rest found in
+    elim (found == free_word) as (λ b. (found == free_word) ≡ b → cond b (Some y) a.locked ≡ Some x
+    → HasLocked (p t) m.layout (done_by m t a (LockGate y) rest).memory t after x) [
+      | true ↦ λ free is.
+          subst (λ (z : ℕ). HasLocked (p t) m.layout (done_by m t a (LockGate y) rest).memory t after z) (some_is y x is)
+          (lock_taken p n m t a y rest here (eqb-true found free_word free))
+      | false ↦ λ held is. absurd (none_some x (sym none ∙ is))
+    ] refl e
+locks_after p n m t a (UnlockGate y) rest here x e = absurd (none_some x e)
+locks_after p n m t a d rest here x e = still_locked p n m t a d rest here refl x e
