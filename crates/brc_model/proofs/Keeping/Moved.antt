@@ -37,6 +37,7 @@ moves_leave m t moves own = record {
   stopped = λ u was. was;
   words = λ u ne. refl;
   gates = λ u y ne dies. refl;
+  cells = λ u y i ne dies was. was;
   kinds = λ y was. was;
   lives = λ u y ne. refl;
   born = λ y was. was;

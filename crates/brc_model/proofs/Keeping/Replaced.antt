@@ -98,6 +98,7 @@ nothing_changes m t b = record {
   stopped = λ u was. was;
   words = λ u ne. refl;
   gates = λ u x ne dies. refl;
+  cells = λ u x i ne dies was. was;
   kinds = λ x was. was;
   lives = λ u x ne. refl;
   born = λ x was. was;
@@ -129,6 +130,7 @@ replaced_core p n m t a b account core found new = record {
   gates = core.gates;
   dying = core.dying;
   cells = core.cells;
+  cells_end = core.cells_end;
   uses =
       λ u c is. written_actor (λ w q. UsesFit m.layout m.life w q.used) m.actors t a b found
       (subst (UsesFit m.layout m.life t) (sym new.used) (core.uses t a found)) core.uses u c is;
