@@ -3,7 +3,7 @@
 -- In order: `RowSteps` and `RowMerges` (one row's numbers, rule by rule), `Weights` (what the duties of all threads
 -- weigh), `RowsAfterStep` and `RowsAfterElsewhere` (rows that the step isn't about), then duty by duty `RowsAfterOwn`
 -- to `RowsAfterBirths`. `Closing` and `ClosedAfter` are about the lives of rows, `UsesAfter` and `BlanksAfter` about
--- used and unused rows, `KindsAfter` about kind words, and `GatesAfter` about gates.
+-- used and unused rows, `KindsAfter` about kind words, `GatesAfter` about gates, and `CellsAfter` about cells.
 
 pub mod RowSteps
 pub mod RowMerges
@@ -22,4 +22,5 @@ pub mod ClosedAfter
 pub mod UsesAfter
 pub mod KindsAfter
 pub mod GatesAfter
+pub mod CellsAfter
 pub mod BlanksAfter

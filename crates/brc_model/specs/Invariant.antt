@@ -10,8 +10,9 @@ use Rattle.brc_model.specs.declared.duty.Duty.TheVariants.{Look, TakeMark, Birth
 use Rattle.brc_model.specs.declared.address.Address.{Address}
 use Rattle.brc_model.specs.declared.address.Address.TheVariants.{Local, Shared, Gate, KindOf, Mark, Cell, Slot, ThreadWord}
 use Rattle.brc_model.specs.Machine.{Actor, Life, Unborn, Live, Closed, Machine}
-use Rattle.brc_model.specs.References.{held, one_if, reference_of, cell_reference}
+use Rattle.brc_model.specs.References.{held, one_if, reference_of, word_holds, cell_reference}
 use Rattle.brc_model.specs.RowInvariant.{waits, carries, merges, decides, weight, Numbers, RowInvariant}
+use Rattle.brc_model.specs.Duties.{cells_of}
 use Rattle.brc_model.specs.Accounts.{Account, Accounts, HoldsAt, IsBounded, HoldsNone}
 use Rattle.brc_model.specs.Knowledge.{status_word, HeadOf, BehindOf}
 use Rattle.brc_model.specs.OpenWork.{exits, scans, AgendaFits, IsSettled, dies_by, ChainFits, AsideFits}
@@ -70,6 +71,14 @@ pub data IsWatched (m : Machine) (x : ℕ) : Type 0 where
       → scans (index_of m.layout (block_of m.layout x) x) a.agenda ≡ true → IsWatched m x
   ByLook : 0 < weight (looks x) m.actors → IsWatched m x
 
+-- ---- cells
+
+-- A cell is empty while its row has no object.
+abbrev pub CellFits : Life → ℕ → Type 0
+CellFits Unborn word = word ≡ 0
+CellFits Closed word = word ≡ 0
+CellFits _ word = Unit {0}
+
 -- ---- births
 
 -- The rows of a thread's block that it has used are born, and the others aren't.
@@ -121,12 +130,15 @@ pub record CoreInvariant (p : Accounts) (n : ℕ) (m : Machine) : Type 0 where
   pub gates : (x : ℕ) → GateFits m.actors x (m.life x) (m.memory (Gate x))
   -- no other thread finalises a row
   pub dying : (x t : ℕ) → n ≤ t → dies_by (m.life x) t ≡ false
-  -- no instruction stores in a cell yet, so cells are empty and hold no reference
-  pub cells : (x i : ℕ) → m.memory (Cell x i) ≡ 0
+  -- a cell holds what its word says
+  pub cells_hold : (x i object : ℕ)
+      → held (cell_reference x i object) m.abstract.references ≡ word_holds (m.memory (Cell x i)) object
+  -- only the cells of an object hold references, and no more of them than its kind word says
+  pub cells : (x i : ℕ) → CellFits (m.life x) (m.memory (Cell x i))
+  pub cells_end : (x i : ℕ) → cells_of (m.memory (KindOf x)) ≤ i → m.memory (Cell x i) ≡ 0
   -- the rows that a thread has used are born; the others of its block are unborn and blank
   pub uses : (t : ℕ) (a : Actor) → slice_get m.actors t ≡ Some a → UsesFit m.layout m.life t a.used
   pub blanks : (t : ℕ) (a : Actor) → slice_get m.actors t ≡ Some a → BlankFits m.layout m.memory t a.used a.agenda
-  pub cells_hold : (x i object : ℕ) → held (cell_reference x i object) m.abstract.references ≡ 0
   -- immortal objects live
   pub immortals_live : (x : ℕ) → is_immortal_row m.layout x ≡ true → m.life x ≡ Live
   -- the lists of the born and the closed have exactly the rows whose lives say so, each once

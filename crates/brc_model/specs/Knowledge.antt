@@ -8,7 +8,7 @@ use Rattle.brc_model.specs.declared.duty.Reason.TheVariants.{Own, Handed}
 use Rattle.brc_model.specs.declared.duty.Duty.{Duty}
 use Rattle.brc_model.specs.declared.duty.Duty.TheVariants.{RetainLoad, RetainStore, RetainAdd, ReleaseLoad, ReleaseStore, DecideAtZero, SharedLoad, SharedExchange, SetMark, Look, TakeMark, MergeSwap, MergeLoad, MergeExchange, Die, Settle, SettleKind, SettleCell, TakeSlot, CloseResource, SettleEnd, Leave, Scan, Finish, ClaimMark, BirthKind, BirthSlot, BirthLocal, KindLoad, LockGate, UnlockGate}
 use Rattle.brc_model.specs.declared.address.Address.{Address}
-use Rattle.brc_model.specs.declared.address.Address.TheVariants.{Local, Shared, Gate, KindOf, ThreadWord}
+use Rattle.brc_model.specs.declared.address.Address.TheVariants.{Local, Shared, Gate, KindOf, Cell, ThreadWord}
 use Rattle.brc_model.specs.declared.actor.Status.{Status}
 use Rattle.brc_model.specs.declared.actor.Status.TheVariants.{Running, Leaving, Gone}
 use Rattle.brc_model.specs.Machine.{Actor, Unborn, Dying, Machine}
@@ -57,12 +57,22 @@ HasCountedKind memory x = is_counted_kind (kind_of_word (memory (KindOf x))) ≡
 abbrev pub IsDyingWord : ℕ → ℕ → Type 0
 IsDyingWord t word = (next : ℕ) × (word ≡ dying_word t next) × (next < half)
 
+-- The row's cells are empty, but perhaps those from `i` on below `n`.
+abbrev pub IsEmptyBut : (Address → ℕ) → ℕ → ℕ → ℕ → Type 0
+IsEmptyBut memory x i n = (j : ℕ) → (j < i) ⊎ (n ≤ j) → memory (Cell x j) ≡ 0
+
+-- All cells of the row are empty.
+abbrev pub IsEmpty : (Address → ℕ) → ℕ → Type 0
+IsEmpty memory x = (j : ℕ) → memory (Cell x j) ≡ 0
+
 -- What a thread knows of a row whose cells it empties, and which it then closes, even while these duties are behind
 -- another one: the thread may release what it found in a cell first.
 abbrev pub BehindFits : Machine → ℕ → Duty → Type 0
 BehindFits m t (SettleCell x i n) =
     (IsCounted m.layout x) × (m.life x ≡ Dying t) × (i < n) × IsDyingWord t (m.memory (Gate x))
-BehindFits m t (SettleEnd x) = (IsCounted m.layout x) × (m.life x ≡ Dying t) × IsDyingWord t (m.memory (Gate x))
+    × IsEmptyBut m.memory x i n
+BehindFits m t (SettleEnd x) =
+    (IsCounted m.layout x) × (m.life x ≡ Dying t) × IsDyingWord t (m.memory (Gate x)) × IsEmpty m.memory x
 BehindFits m t d = Unit {0}
 
 -- What the duty knows when it comes next. `rest` are the duties behind it.
@@ -94,9 +104,10 @@ HeadFits m t a (Die x) rest = (IsCounted m.layout x) × (m.life x ≡ Dying t) �
 HeadFits m t a Settle rest = 0 < a.head
 HeadFits m t a (SettleKind x) rest = (IsCounted m.layout x) × (m.life x ≡ Dying t) × IsDyingWord t (m.memory (Gate x))
 HeadFits m t a (SettleCell x i n) rest = BehindFits m t (SettleCell x i n)
-HeadFits m t a (TakeSlot x) rest = (IsCounted m.layout x) × (m.life x ≡ Dying t) × IsDyingWord t (m.memory (Gate x))
+HeadFits m t a (TakeSlot x) rest =
+    (IsCounted m.layout x) × (m.life x ≡ Dying t) × IsDyingWord t (m.memory (Gate x)) × IsEmpty m.memory x
 HeadFits m t a (CloseResource x) rest =
-    (IsCounted m.layout x) × (m.life x ≡ Dying t) × IsDyingWord t (m.memory (Gate x))
+    (IsCounted m.layout x) × (m.life x ≡ Dying t) × IsDyingWord t (m.memory (Gate x)) × IsEmpty m.memory x
 HeadFits m t a (SettleEnd x) rest = BehindFits m t (SettleEnd x)
 HeadFits m t a (Leave i n) rest = Unit {0}
 HeadFits m t a (Scan i n) rest = 0 < n

@@ -2,7 +2,7 @@
 use Rattle.std.specs.Prelude.{◌≡◌, ℕ, ◌<◌, ◌≤◌, true, List, [], ◌∷◌, Some, slice_get}
 use Rattle.brc_model.specs.declared.duty.Duty.{Duty}
 use Rattle.brc_model.specs.declared.duty.Duty.TheVariants.{SettleCell, BirthKind}
-use Rattle.brc_model.specs.declared.address.Address.TheVariants.{KindOf}
+use Rattle.brc_model.specs.declared.address.Address.TheVariants.{KindOf, Cell}
 use Rattle.brc_model.specs.Duties.{cells_of}
 use Rattle.brc_model.specs.Machine.{Actor, Machine}
 use Rattle.brc_model.specs.OpenWork.{is_about}
@@ -24,7 +24,15 @@ abbrev pub AreSmall : ℕ → List Duty → Type 0
 AreSmall k [] = Unit {0}
 AreSmall k (d ∷ rest) = IsSmall k d × AreSmall k rest
 
+-- No kind word names more cells than a list may have.
+abbrev pub HasFewCells : Machine → Type 0
+HasFewCells m = (x : ℕ) → cells_of (m.memory (KindOf x)) ≤ cell_limit
+
+-- Every cell is empty: no duty stores a reference in one yet.
+abbrev pub HasNoCells : Machine → Type 0
+HasNoCells m = (x i : ℕ) → m.memory (Cell x i) ≡ 0
+
 pub record Ranges (n : ℕ) (m : Machine) : Type 0 where
-  pub kinds : (x : ℕ) → cells_of (m.memory (KindOf x)) ≤ cell_limit
+  pub kinds : HasFewCells m
   pub each : (t : ℕ) (a : Actor) → slice_get m.actors t ≡ Some a → AreSmall (row_count m.layout) a.agenda
   pub aside : (t : ℕ) (a : Actor) → slice_get m.actors t ≡ Some a → AreSmall (row_count m.layout) a.aside

@@ -12,6 +12,7 @@ use Rattle.brc_model.specs.declared.address.Address.TheVariants.{Local, Shared, 
 use Rattle.brc_model.specs.declared.layout.Layout.{Layout}
 use Rattle.brc_model.specs.Layout.{row_count, block_of, IsCounted}
 use Rattle.brc_model.specs.AbstractState.{references_to}
+use Rattle.brc_model.specs.References.{word_holds}
 use Rattle.brc_model.specs.Agreement.{awaits, carries, weighed, IsPhase, biased_total, awaiting}
 use Rattle.brc_model.specs.Machine.{Actor, Life, Unborn, Live, Dying, Closed, Machine, idle_actor}
 use Rattle.brc_model.specs.RowInvariant.{Numbers, Phased, IsDefault, IsQueued, Mode, InOwned, InSwapped, InMerged, IsDead, IsUnborn, RowInvariant}
@@ -178,7 +179,8 @@ module _ (layout : Layout) (words : List ℕ) (views : List View) (s : Stands la
       let made = weight_at (work_of (makes x)) m.actors in
       let given = weight_at (work_of (gives_up x)) m.actors in
       let all = share_all x threads bag (record {
-        cells = λ y i. s.counts.kept.core.cells_hold y i x;
+        cells = λ y i.
+            s.counts.kept.core.cells_hold y i x ∙ ap (λ (w : ℕ). word_holds w x) (s.counts.no_cells y i);
         beyond = λ t past k. s.counts.kept.core.beyond t past k x;
       }) in
       let each =

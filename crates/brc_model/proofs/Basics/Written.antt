@@ -36,6 +36,11 @@ same_address-refl (Slot x) = eq-eqb x x refl
 same_address-refl (Resource x) = eq-eqb x x refl
 same_address-refl (ThreadWord x) = eq-eqb x x refl
 
+-- A word that is 0 stays 0 if the step stores 0 in it or another word.
+pub zero_written : (b : Bool) (v : ℕ) → v ≡ 0 → cond b 0 v ≡ 0
+zero_written true v e = refl
+zero_written false v e = e
+
 pub written_here : (memory : Address → ℕ) (a : Address) (v : ℕ) → written memory a v a ≡ v
 written_here memory a v = ap (λ (b : Bool). cond b v (memory a)) (same_address-refl a)
 

@@ -62,7 +62,7 @@ waits_after p n m t a d rest [] here piece apart waits = tt
 waits_after p n m t a d rest (e ∷ es) here piece apart waits =
     let whole = λ (x : ℕ). sum_by-cons (λ (f : Duty). cond (is_about x f) 1 0) e es in (
       waits.0,
-      beside p n m t a d rest here (piece_status a.status d piece) e
+      beside p n m t a d rest here piece (piece_status a.status d piece) e
           (λ x this. is_false (is_about x e) (omega (arith, whole x, apart x this))) waits.0 waits.1,
       waits_after p n m t a d rest es here piece (λ x this. omega (arith, whole x, apart x this)) waits.2,
     )

@@ -4,21 +4,23 @@ use Rattle.std.specs.Prelude.{◌==◌}
 use Rattle.std.proofs.lemmas.Bool.{ne_eqb, eqb-false, and_right}
 use Rattle.brc_word.specs.Words.{phase_part}
 use Rattle.brc_model.specs.declared.duty.Duty.{Duty}
+use Rattle.brc_model.specs.declared.duty.Duty.TheVariants.{SettleCell}
 use Rattle.brc_model.specs.declared.address.Address.TheVariants.{Local, Shared}
 use Rattle.brc_model.specs.AbstractState.{Reference, AbstractState, same, same_holder, without, Move, Born, Gain, Lose, PassOn, Finalise, move}
 use Rattle.brc_model.specs.Machine.{Actor, Machine, status_by, actor_by, done_by}
 use Rattle.brc_model.proofs.Basics.Bag.{held-cons}
 use Rattle.brc_model.specs.References.{held, one_if, reference_of}
 use Rattle.brc_model.specs.Accounts.{Accounts}
-use Rattle.brc_model.specs.OpenWork.{is_about, may_wait}
+use Rattle.brc_model.specs.OpenWork.{is_about, is_piece, may_wait}
 use Rattle.brc_model.specs.Knowledge.{HeadFits}
 use Rattle.brc_model.proofs.Frame.Known.{LeavesRow, known_kept}
 use Rattle.brc_model.proofs.Frame.Aside.{AreApart, apart_swapped}
 use Rattle.brc_model.proofs.Basics.Written.{written_apart, other_local, other_shared}
 use Rattle.brc_model.proofs.Basics.MovesApart.{held-without_apart}
 use Rattle.brc_model.proofs.Basics.Moves.{IsOfOther, effects_elsewhere, moved_keeps}
+use Rattle.brc_model.proofs.Frame.Cells.{empties_cell, no_cell}
 use Rattle.brc_model.proofs.Frame.Leaves.{stopped_left}
-use Rattle.brc_model.proofs.Frame.Lives.{cell_found, born_left, next_of}
+use Rattle.brc_model.proofs.Frame.Lives.{born_left, next_of}
 use Rattle.brc_model.proofs.Stepping.Neutral.{found_by}
 use Rattle.brc_model.specs.Invariant.{AtDuty}
 
@@ -47,12 +49,17 @@ move_elsewhere q p (Finalise y) other = refl
 
 -- ---- words of other rows
 
+-- No duty that other work may wait beside empties a cell.
+piece_no_cell : (d : Duty) → is_piece d ≡ true → empties_cell d ≡ false
+piece_no_cell (SettleCell x i k) piece = absurd cc
+piece_no_cell _ piece = refl
+
 module _ (p : Accounts) (n : ℕ) (m : Machine) (t : ℕ) (a : Actor) where
   -- A step leaves what a duty about another row relies on.
   pub leaves_beside : (d : Duty) (rest : List Duty) (x : ℕ) → AtDuty p n m t a d rest
-      → status_by a.status d ≡ a.status → is_about x d ≡ false
+      → is_piece d ≡ true → status_by a.status d ≡ a.status → is_about x d ≡ false
       → LeavesRow m (done_by m t a d rest) t a (actor_by m.layout t a d rest (found_by m t a d)) x
-  leaves_beside d rest x here status apart = record {
+  leaves_beside d rest x here piece status apart = record {
     layout = refl;
     status = status;
     local = λ owns. written_apart m.memory _ (Local x) _ (other_local m.layout t a.head d x apart);
@@ -60,15 +67,17 @@ module _ (p : Accounts) (n : ℕ) (m : Machine) (t : ℕ) (a : Actor) where
         ap phase_part (written_apart m.memory _ (Shared x) _ (other_shared m.layout t a.head d x apart)) ∙ was;
     references = λ k.
         moved_keeps (λ q. held (reference_of t k x) q.references) (IsOfOther x) (move_elsewhere (reference_of t k x))
-        m.abstract _ (effects_elsewhere m.memory t d (found_by m t a d) x apart (cell_found p n m t a d here.core));
+        m.abstract _ (effects_elsewhere m.memory t d (found_by m t a d) x apart
+        (no_cell d (found_by m t a d) (piece_no_cell d piece)));
     stopped = λ u was. stopped_left m t a d u was;
     born = λ was. born_left m.life t d (next_of m t a d) x was;
   }
 
   -- A duty that the thread has put aside keeps what it knows through a step of a duty about another row.
-  pub beside : (d : Duty) (rest : List Duty) → AtDuty p n m t a d rest → status_by a.status d ≡ a.status
+  pub beside : (d : Duty) (rest : List Duty) → AtDuty p n m t a d rest → is_piece d ≡ true
+      → status_by a.status d ≡ a.status
       → (e : Duty) → AreApart d e → may_wait e ≡ true → HeadFits m t a e []
       → HeadFits (done_by m t a d rest) t (actor_by m.layout t a d rest (found_by m t a d)) e []
-  beside d rest here status e apart waits fits =
+  beside d rest here piece status e apart waits fits =
       known_kept m (done_by m t a d rest) t a (actor_by m.layout t a d rest (found_by m t a d)) e [] waits
-      (λ x about. leaves_beside d rest x here status (apart_swapped d e apart x about)) fits
+      (λ x about. leaves_beside d rest x here piece status (apart_swapped d e apart x about)) fits

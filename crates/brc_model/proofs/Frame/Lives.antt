@@ -4,20 +4,21 @@ use Rattle.std.specs.Prelude.{◌==◌}
 use Rattle.std.proofs.lemmas.Bool.{ne_eqb}
 use Rattle.std.proofs.lemmas.Bool.Decides.{eqb_tells}
 use Rattle.brc_model.specs.declared.duty.Duty.{Duty}
-use Rattle.brc_model.specs.declared.duty.Duty.TheVariants.{DecideAtZero, SharedExchange, MergeExchange, Die, SettleKind, SettleCell, SettleEnd, BirthKind, BirthLocal, KindLoad}
+use Rattle.brc_model.specs.declared.duty.Duty.TheVariants.{DecideAtZero, SharedExchange, MergeExchange, Die, SettleKind, SettleEnd, BirthKind, BirthLocal, KindLoad}
 use Rattle.brc_model.specs.Duties.{address_of, continuation}
 use Rattle.brc_model.specs.Machine.{Actor, Life, Unborn, Live, Dying, Closed, Machine, is_running, dies_next, ended_row, born_row, with_life, life_by, done_by}
 use Rattle.brc_model.proofs.Basics.Lists.{some_is, none_some}
 use Rattle.brc_model.specs.Accounts.{Accounts}
 use Rattle.brc_model.specs.OpenWork.{dies_by}
 use Rattle.brc_model.specs.Knowledge.{HasCountedKind}
-use Rattle.brc_model.specs.Invariant.{AtDuty, CoreInvariant}
+use Rattle.brc_model.specs.Invariant.{AtDuty}
 use Rattle.brc_model.proofs.Basics.Written.{written_load}
 use Rattle.brc_model.specs.declared.address.Address.TheVariants.{KindOf}
 use Rattle.brc_model.specs.Kinds.{kind_of_word, is_counted_kind}
 use Rattle.brc_model.proofs.Basics.Continuation.{MayDie, Origin, Continuation, GoesOn, continues}
 use Rattle.brc_model.proofs.Frame.Alive.{Alive}
 use Rattle.brc_model.proofs.Basics.Blocks.{next_unborn}
+use Rattle.brc_model.proofs.Frame.Cells.{still_empty}
 use Rattle.brc_model.proofs.Frame.Others.{LeavesOthers}
 use Rattle.brc_model.proofs.Frame.Leaves.{head_of, exchange_alive, decide_alive, merge_alive, locals_left, merged_left, stopped_left, words_left, gates_left, locks_left}
 use Rattle.brc_model.proofs.Basics.MovesApart.{moves_apart}
@@ -52,10 +53,6 @@ pub next_may_die : (m : Machine) (t : ℕ) (a : Actor) (d : Duty) (y : ℕ) → 
 next_may_die m t a d y dies =
     next_dies d (next_of m t a d) y
     (continues m.layout t (is_running a.status) a.head d (m.memory (address_of m.layout t a.head d))) dies
-
-pub cell_found : (p : Accounts) (n : ℕ) (m : Machine) (t : ℕ) (a : Actor) (d : Duty) → CoreInvariant p n m → (x i k : ℕ)
-    → d ≡ SettleCell x i k → m.memory (address_of m.layout t a.head d) ≡ 0
-cell_found p n m t a d core x i k is = ap (λ (e : Duty). m.memory (address_of m.layout t a.head e)) is ∙ core.cells x i
 
 -- A row that a step makes die was live before it.
 pub dying_was_alive : (p : Accounts) (n : ℕ) (m : Machine) (t : ℕ) (a : Actor) (d : Duty) (rest : List Duty) (y : ℕ)
@@ -158,6 +155,7 @@ leaves_others p n m t a d rest here = record {
   words = λ u ne. words_left m t a d u ne;
   gates = λ u x ne dies. gates_left p n m t a d rest here u x ne dies;
   locks = λ u x b ne found e. locks_left p n m t a d rest here u x b ne found e;
+  cells = λ u x i ne dies was. still_empty m t a d x i was;
   kinds = λ x was. kinds_left p n m t a d rest here x was;
   lives = λ u x ne. lives_left p n m t a d rest here u x ne;
   born = λ x was. born_left m.life t d (next_of m t a d) x was;

@@ -10,7 +10,7 @@ use Rattle.brc_word.specs.Words.{phase_part}
 use Rattle.brc_model.specs.declared.duty.Duty.{Duty}
 use Rattle.brc_model.specs.declared.duty.Duty.TheVariants.{Die, Settle, SettleKind, SettleCell, TakeSlot, CloseResource, SettleEnd, Leave, Scan, Finish, ClaimMark, BirthKind, BirthSlot, BirthLocal, KindLoad, LockGate, UnlockGate}
 use Rattle.brc_model.specs.declared.address.Address.{Address}
-use Rattle.brc_model.specs.declared.address.Address.TheVariants.{Local, Shared, Gate, ThreadWord}
+use Rattle.brc_model.specs.declared.address.Address.TheVariants.{Local, Shared, Gate, Cell, ThreadWord}
 use Rattle.brc_model.specs.Machine.{Actor, Life, Unborn, Live, Dying, Closed, Machine}
 use Rattle.brc_model.specs.References.{held, one_if, reference_of}
 use Rattle.brc_model.specs.OpenWork.{AllWait, AsideFits, AgendaFits, Linked, dies_by, ChainFits}
@@ -37,6 +37,9 @@ pub record LeavesOthers (m new : Machine) (t : ℕ) : Type 0 where
   pub gates : (u x : ℕ) → u ≢ t → dies_by (m.life x) u ≡ true → new.memory (Gate x) ≡ m.memory (Gate x)
   pub locks : (u x : ℕ) (b : Actor) → u ≢ t → slice_get m.actors u ≡ Some b → b.locked ≡ Some x
       → new.memory (Gate x) ≡ m.memory (Gate x)
+  -- An empty cell of a row that another thread finalises stays empty.
+  pub cells : (u x i : ℕ) → u ≢ t → dies_by (m.life x) u ≡ true → m.memory (Cell x i) ≡ 0
+      → new.memory (Cell x i) ≡ 0
   -- A kind word that names a counted kind still names one.
   pub kinds : (x : ℕ) → HasCountedKind m.memory x → HasCountedKind new.memory x
   pub lives : (u x : ℕ) → u ≢ t → dies_by (new.life x) u ≡ dies_by (m.life x) u
@@ -79,6 +82,10 @@ dying_word_kept : (m new : Machine) (t u x : ℕ) → LeavesOthers m new t → u
     → IsDyingWord u (m.memory (Gate x)) → IsDyingWord u (new.memory (Gate x))
 dying_word_kept m new t u x leaves ne is word = subst (IsDyingWord u) (sym (gate_kept m new t u x leaves ne is)) word
 
+empty_kept : (m new : Machine) (t u x : ℕ) → LeavesOthers m new t → u ≢ t → m.life x ≡ Dying u → (i : ℕ)
+    → m.memory (Cell x i) ≡ 0 → new.memory (Cell x i) ≡ 0
+empty_kept m new t u x leaves ne is i empty = leaves.cells u x i ne (dying_is (m.life x) u is) empty
+
 next_kept : (m new : Machine) (t u x : ℕ) (b : Actor) → LeavesOthers m new t → IsNext m u b x → IsNext new u b x
 next_kept m new t u x b leaves next = record {
   running = next.running;
@@ -99,11 +106,13 @@ behind_fits_kept m new t u (SettleCell x i n) leaves ne fits = (
   life_kept m new t u x leaves ne fits.1,
   fits.2,
   dying_word_kept m new t u x leaves ne fits.1 fits.3,
+  λ j out. empty_kept m new t u x leaves ne fits.1 j (fits.4 j out),
 )
 behind_fits_kept m new t u (SettleEnd x) leaves ne fits = (
   counted_kept m new t x leaves fits.0,
   life_kept m new t u x leaves ne fits.1,
   dying_word_kept m new t u x leaves ne fits.1 fits.2,
+  λ j. empty_kept m new t u x leaves ne fits.1 j (fits.3 j),
 )
 behind_fits_kept m new t u _ leaves ne fits = tt
 
@@ -126,11 +135,13 @@ head_kept m new t u b (TakeSlot x) rest leaves ne found fits = (
   counted_kept m new t x leaves fits.0,
   life_kept m new t u x leaves ne fits.1,
   dying_word_kept m new t u x leaves ne fits.1 fits.2,
+  λ j. empty_kept m new t u x leaves ne fits.1 j (fits.3 j),
 )
 head_kept m new t u b (CloseResource x) rest leaves ne found fits = (
   counted_kept m new t x leaves fits.0,
   life_kept m new t u x leaves ne fits.1,
   dying_word_kept m new t u x leaves ne fits.1 fits.2,
+  λ j. empty_kept m new t u x leaves ne fits.1 j (fits.3 j),
 )
 head_kept m new t u b (SettleEnd x) rest leaves ne found fits =
     behind_fits_kept m new t u (SettleEnd x) leaves ne fits

@@ -14,7 +14,7 @@ use Rattle.brc_model.specs.declared.duty.Holding.TheVariants.{ByVariable, AsCall
 use Rattle.brc_model.specs.References.{one_if, held, reference_of}
 use Rattle.brc_model.specs.RowInvariant.{waits, carries, merges, decides, agenda_weight, weight, IsDefault, AboveZero, InOwned, RowInvariant}
 use Rattle.brc_model.specs.Accounts.{Account, Accounts, IsBounded}
-use Rattle.brc_model.specs.Invariant.{numbers_of, Fits, CoreInvariant, Invariant, UsesFit, BlankFits}
+use Rattle.brc_model.specs.Invariant.{numbers_of, Fits, CoreInvariant, Invariant, UsesFit, BlankFits, CellFits}
 use Rattle.brc_model.specs.OpenWork.{IsSettled, dies_by}
 use Rattle.brc_model.specs.Gates.{IsFree, GateFits}
 use Rattle.brc_model.proofs.Basics.Lists.{some_is, none_some}
@@ -298,6 +298,12 @@ idle_fits p layout callers hold t used le = (
 
 -- ---- the invariants
 
+-- Cells are empty, whatever their row's life.
+root_cells : (x i : ℕ) → CellFits (first_life x) 0
+root_cells zero i = tt
+root_cells (suc zero) i = tt
+root_cells (suc (suc x)) i = refl
+
 -- The core invariant holds.
 rooted_core : (p : Accounts) (layout : Layout) (callers : ℕ) → IsRooted layout callers
     → AccountsHoldRoot p layout.workers callers
@@ -319,7 +325,8 @@ rooted_core p layout callers is hold = record {
   beyond = λ t past k object. callers_beyond callers t k object (omega (arith, past, is.few_callers));
   gates = rooted_gates (rooted_machine layout callers).actors layout.workers callers;
   dying = λ x t past. none_dies x t;
-  cells = λ x i. refl;
+  cells = λ x i. root_cells x i;
+  cells_end = λ x i past. refl;
   uses =
       each_idle (λ t a. UsesFit layout first_life t a.used) layout.workers (main_uses layout is.no_lists)
       (λ t low. worker_uses layout t is.no_lists);

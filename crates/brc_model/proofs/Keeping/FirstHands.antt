@@ -1,5 +1,5 @@
 -- The first machine of hands has the invariant: main holds the root, and no worker holds anything.
-use Rattle.std.proofs.Common.{◌≡◌, ℕ, zero, suc, ◌+◌, Bool, sym, ap, ◌∙◌, arith}
+use Rattle.std.proofs.Common.{◌≡◌, ℕ, zero, suc, ◌+◌, Bool, refl, sym, ap, ◌∙◌, arith}
 use Rattle.std.specs.Prelude.{◌==◌, ◌&&◌}
 use Rattle.std.proofs.Math.Dec.{eqb-suc-zero}
 use Rattle.brc_model.specs.declared.duty.Holding.{Holding}
@@ -43,4 +43,5 @@ hands_begin layout plain = record {
       rooted_kept hands_accounts layout 1 (hands_rooted layout plain)
       (record { each = λ t le k object. hands_hold t k object });
   ranges = rooted_ranges layout 1;
+  no_cells = λ x i. refl;
 }

@@ -79,6 +79,7 @@ leaves m t x = record {
   words = λ u ne. refl;
   gates = λ u y ne dies. refl;
   locks = λ u y c ne found e. refl;
+  cells = λ u y i ne dies was. was;
   kinds = λ y was. was;
   lives = λ u y ne. refl;
   born = λ y was. was;
@@ -197,6 +198,7 @@ gained_core p n m t a x core ready alone immortal = record {
   gates = core.gates;
   dying = core.dying;
   cells = core.cells;
+  cells_end = core.cells_end;
   uses = core.uses;
   blanks = core.blanks;
   cells_hold = λ y i object.
@@ -225,4 +227,5 @@ immortals_are_free p n m t a x counts ready alone immortal = record {
     each = counts.ranges.each;
     aside = counts.ranges.aside;
   };
+  no_cells = counts.no_cells;
 }

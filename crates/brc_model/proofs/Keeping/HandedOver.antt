@@ -157,6 +157,7 @@ module _ (p : Accounts) (n : ℕ) (m : Machine) (t u : ℕ) (a b : Actor) (x : �
     gates = core.gates;
     dying = core.dying;
     cells = core.cells;
+    cells_end = core.cells_end;
     uses = core.uses;
     blanks = core.blanks;
     cells_hold = λ y i object. others_held (cell_reference y i object) ((refl, refl), tt) ∙ core.cells_hold y i object;
@@ -193,5 +194,10 @@ handed_over p n m t u a b x counts giver taker apart giver_free taker_free taker
     });
     settled = counts.kept.settled;
   };
-  ranges = record { kinds = counts.ranges.kinds; each = counts.ranges.each; aside = counts.ranges.aside };
+  ranges = record {
+    kinds = counts.ranges.kinds;
+    each = counts.ranges.each;
+    aside = counts.ranges.aside;
+  };
+  no_cells = counts.no_cells;
 }

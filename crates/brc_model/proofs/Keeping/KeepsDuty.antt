@@ -4,34 +4,27 @@ use Rattle.std.specs.Prelude.{slice_get, slice_set}
 use Rattle.std.proofs.lemmas.List.{length-set}
 use Rattle.std.proofs.lemmas.Option.{slice_get_within}
 use Rattle.brc_model.specs.declared.duty.Duty.{Duty}
-use Rattle.brc_model.specs.declared.duty.Duty.TheVariants.{SettleCell}
-use Rattle.brc_model.specs.declared.address.Address.TheVariants.{Cell, Mark}
+use Rattle.brc_model.specs.declared.address.Address.TheVariants.{Mark}
 use Rattle.brc_model.specs.declared.actor.Status.TheVariants.{Gone}
-use Rattle.brc_model.specs.Machine.{Actor, Machine, actor_by, done_by, same_address}
+use Rattle.brc_model.specs.Machine.{Actor, Machine, actor_by, done_by}
 use Rattle.brc_model.proofs.Frame.AsideAfter.{aside_after}
 use Rattle.brc_model.specs.OpenWork.{AsideFits}
 use Rattle.brc_model.specs.Accounts.{Accounts}
 use Rattle.brc_model.specs.Invariant.{AtDuty, Fits, IsWatched, CoreInvariant}
 use Rattle.brc_model.proofs.Frame.Others.{each_fits}
-use Rattle.brc_model.proofs.Basics.MovesApart.{moves_apart, moves_off_cells}
-use Rattle.brc_model.proofs.Frame.Lives.{cell_found, leaves_others}
-use Rattle.brc_model.proofs.Stepping.Neutral.{ThreadFits, found_by, memory_by}
+use Rattle.brc_model.proofs.Basics.MovesApart.{moves_apart}
+use Rattle.brc_model.proofs.Frame.Cells.{cells_hold_after}
+use Rattle.brc_model.proofs.Frame.Lives.{leaves_others}
+use Rattle.brc_model.proofs.Stepping.Neutral.{ThreadFits, found_by}
 use Rattle.brc_model.proofs.Objects.RowsAfter.{rows_after}
 use Rattle.brc_model.proofs.Objects.ClosedAfter.{closed_is_after, closed_has_after, closed_once_after, immortals_live_after, dying_after}
 use Rattle.brc_model.proofs.Objects.UsesAfter.{uses_after, born_is_after, born_has_after, born_once_after}
 use Rattle.brc_model.proofs.Objects.KindsAfter.{kinds_after}
 use Rattle.brc_model.proofs.Stepping.Nones.{immortal_word_left}
 use Rattle.brc_model.proofs.Objects.GatesAfter.{gates_after}
-use Rattle.brc_model.proofs.Objects.BlanksAfter.{zero_written, blanks_after}
+use Rattle.brc_model.proofs.Objects.BlanksAfter.{blanks_after}
+use Rattle.brc_model.proofs.Objects.CellsAfter.{cells_after, cells_end_after}
 use Rattle.brc_model.specs.Layout.{IsCounted}
-
--- ---- cells stay empty
-
-cells_left : (m : Machine) (t : ℕ) (a : Actor) (d : Duty) (x i : ℕ) → m.memory (Cell x i) ≡ 0
-    → memory_by m t a d (Cell x i) ≡ 0
-cells_left m t a (SettleCell y j k) x i empty =
-    zero_written (same_address (Cell y j) (Cell x i)) (m.memory (Cell x i)) empty
-cells_left m t a _ x i empty = empty
 
 -- ---- all threads
 
@@ -71,15 +64,14 @@ keeps_by p n m t a d rest here alive own marks =
           (λ e. absurd (omega (arith, within, past, e))) ∙ here.core.beyond u past k object;
       gates = λ x. gates_after p n m t a d rest here x;
       dying = λ x u past. dying_after p n m t a d rest x u here past;
-      cells = λ x i. cells_left m t a d x i (here.core.cells x i);
+      cells_hold = λ x i object. cells_hold_after p n m t a d rest x i object here;
+      cells = λ x i. cells_after p n m t a d rest here x i;
+      cells_end = λ x i past. cells_end_after p n m t a d rest here x i past;
       uses = λ u b is. uses_after p n m t a d rest here u b is;
       blanks = λ u b is. blanks_after p n m t a d rest here u b is;
       born_is = λ x is. born_is_after p n m t a d rest here x is;
       born_has = λ x above is. born_has_after p n m t a d rest here x above is;
       born_once = λ x. born_once_after p n m t a d rest here x;
-      cells_hold =
-          λ x i object. moves_off_cells m.memory m.abstract x i object t d (found_by m t a d)
-          (cell_found p n m t a d here.core) ∙ here.core.cells_hold x i object;
       immortals_live = λ x immortal. immortals_live_after p n m t a d rest x here immortal;
       closed_is = λ x is. closed_is_after p n m t a d rest x here is;
       closed_has = λ x is. closed_has_after p n m t a d rest x here is;

@@ -39,6 +39,7 @@ moves_leave m t moves own = record {
   words = λ u ne. refl;
   gates = λ u y ne dies. refl;
   locks = λ u y c ne found e. refl;
+  cells = λ u y i ne dies was. was;
   kinds = λ y was. was;
   lives = λ u y ne. refl;
   born = λ y was. was;

@@ -1,5 +1,5 @@
 -- A thread's first duty touches no freed row, and makes no move of references that isn't allowed.
-use Rattle.std.proofs.Common.{◌≡◌, ℕ, ◌-◌, ◌<◌, Bool, true, false, cond, not, List, [], ◌∷◌, ◌++◌, refl, sym, ap, ◌∙◌, subst, arith, inl, inr}
+use Rattle.std.proofs.Common.{◌≡◌, ℕ, zero, suc, ◌-◌, ◌<◌, Bool, true, false, cond, not, List, [], ◌∷◌, ◌++◌, refl, sym, ap, ◌∙◌, subst, arith, inl, inr}
 use Rattle.std.specs.Prelude.{◌==◌, ◌&&◌, ◌||◌, count_by, slice_get, Some}
 use Rattle.std.specs.List.{list_any}
 use Rattle.std.proofs.lemmas.Bool.{eq-eqb, ne_eqb, lt-ltb}
@@ -13,21 +13,22 @@ use Rattle.brc_model.specs.declared.duty.Duty.{Duty}
 use Rattle.brc_model.specs.declared.duty.Duty.TheVariants.{RetainLoad, RetainStore, RetainAdd, ReleaseLoad, ReleaseStore, DecideAtZero, SharedLoad, SharedExchange, MergeSwap, MergeLoad, MergeExchange, Die, Settle, SettleKind, SettleCell, SettleEnd, TakeSlot, CloseResource, BirthKind, BirthSlot, BirthLocal, KindLoad, LockGate, UnlockGate}
 use Rattle.brc_lang.specs.declared.kind.Kind.{Kind}
 use Rattle.brc_model.specs.Kinds.{kind_of_word, is_counted_kind}
-use Rattle.brc_model.specs.declared.address.Address.TheVariants.{Local, KindOf}
+use Rattle.brc_model.specs.declared.address.Address.TheVariants.{Local, KindOf, Cell}
 use Rattle.brc_model.specs.Duties.{address_of}
 use Rattle.brc_model.specs.Machine.{Actor, Unborn, Live, Dying, Closed, Machine}
 use Rattle.brc_model.specs.Moves.{put_in_flight, gain, lose, reference_effects, birth, take_out}
 use Rattle.brc_model.specs.BadDuties.{touched_row, is_freed_for, touches_freed, is_bad_duty}
 use Rattle.brc_model.proofs.Basics.Lists.{either}
 use Rattle.brc_model.proofs.Basics.Bag.{same_holding-refl, held_has, held-le-references_to, no_cell_holds, same-refl, one_if_true}
-use Rattle.brc_model.specs.References.{one_if, reference_of}
+use Rattle.brc_model.specs.References.{held, one_if, reference_of, word_holds, cell_reference}
 use Rattle.brc_model.specs.RowInvariant.{decides, InOwned, InSwapped, InMerged}
 use Rattle.brc_model.specs.Accounts.{Accounts, extra_of, lacks_of}
-use Rattle.brc_model.specs.Knowledge.{IsBacked, IsNext}
+use Rattle.brc_model.specs.Knowledge.{IsBacked, IsNext, IsEmpty}
 use Rattle.brc_model.specs.OpenWork.{Linked, dies_by}
 use Rattle.brc_model.specs.Invariant.{AtDuty, CoreInvariant}
 use Rattle.brc_model.proofs.Promises.Agreeing.{is_free_of}
 use Rattle.brc_model.proofs.Frame.Alive.{Alive, first_weighs, alive_deciding, alive_backed}
+use Rattle.brc_model.proofs.Frame.Cells.{cell_held}
 use Rattle.brc_model.proofs.Frame.Others.{is_dying}
 use Rattle.brc_model.proofs.Frame.Leaves.{head_of, load_alive, exchange_alive, decide_alive, merge_load_alive, merge_alive, claim_alive, gives_held, given_alive}
 use Rattle.brc_model.proofs.Basics.Blocks.{next_counted, next_unborn}
@@ -203,9 +204,9 @@ dying_is_not_unborn m t x dying e = let wrong : Dying t ≡ Unborn = sym dying �
 
 -- Finalising a dying row is allowed: it has no reference, its cells hold none, and it wasn't closed before.
 finalise_allowed : (p : Accounts) (n : ℕ) (m : Machine) (t x : ℕ) → CoreInvariant p n m → IsCounted m.layout x
-    → m.life x ≡ Dying t
+    → m.life x ≡ Dying t → IsEmpty m.memory x
     → are_allowed m.layout m.abstract (Finalise x ∷ []) ≡ true
-finalise_allowed p n m t x core pos dying =
+finalise_allowed p n m t x core pos dying cells =
     let free = is_free_of p n m x core pos (dying_is_not_live m t x dying) (dying_is_not_unborn m t x dying) in
     let counted : is_counted m.layout x ≡ true = ap not pos in
     let none : (references_to x m.abstract.references == 0) ≡ true = eq-eqb _ _ free.references in
@@ -215,8 +216,18 @@ finalise_allowed p n m t x core pos dying =
       | false ↦ λ e. refl
     ] refl in
     let empty : holds_by_cells x m.abstract.references ≡ false =
-    no_cell_holds x m.abstract.references (core.cells_hold x) in
+    no_cell_holds x m.abstract.references
+    (λ i object. core.cells_hold x i object ∙ ap (λ (w : ℕ). word_holds w object) (cells i)) in
     one_allowed m.layout m.abstract (Finalise x) (rw (counted, none, open_still, empty) refl)
+
+-- Taking out what a cell holds is allowed.
+taken_allowed : (layout : Layout) (p : AbstractState) (t x i w : ℕ)
+    → ((y : ℕ) → w ≡ suc y → 0 < held (cell_reference x i y) p.references)
+    → are_allowed layout p (take_out t x i w) ≡ true
+taken_allowed layout p t x i zero has = refl
+taken_allowed layout p t x i (suc y) has =
+    one_allowed layout p (PassOn (cell_reference x i y) (ByThread t InFlight))
+    (held_has (cell_reference x i y) p.references (has y refl))
 
 -- The birth of the next row is allowed: the row wasn't born before, and its kind is counted.
 birth_allowed : (p : Accounts) (n : ℕ) (m : Machine) (t : ℕ) (a : Actor) (x : ℕ) (h : Holding) (kind : Kind)
@@ -262,9 +273,11 @@ moves_allowed p n m t a (SharedExchange x Own w) rest here =
     (λ e. one_allowed m.layout m.abstract (Lose (reference_of t InFlight x))
     (given_in_bag p n m t a (SharedExchange x Own w) rest InFlight x here (holder_same InFlight x) refl)) refl
 moves_allowed p n m t a (SettleCell x i k) rest here =
-    ap (λ (w : ℕ). are_allowed m.layout m.abstract (take_out t x i w)) (here.core.cells x i)
+    taken_allowed m.layout m.abstract t x i (m.memory (Cell x i))
+    (λ y is. omega (arith, cell_held p n m x i y here.core is))
 moves_allowed p n m t a (SettleEnd x) rest here =
     let fits = head_of p n m t a (SettleEnd x) rest here in finalise_allowed p n m t x here.core fits.0 fits.1
+    fits.3
 moves_allowed p n m t a (BirthLocal x h) rest here =
     let fits = head_of p n m t a (BirthLocal x h) rest here in
     birth_allowed p n m t a x h (kind_of_word (m.memory (KindOf x))) here.core here.found fits.0 fits.2

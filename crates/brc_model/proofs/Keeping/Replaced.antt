@@ -102,6 +102,7 @@ nothing_changes m t b = record {
   words = λ u ne. refl;
   gates = λ u x ne dies. refl;
   locks = λ u x c ne found e. refl;
+  cells = λ u x i ne dies was. was;
   kinds = λ x was. was;
   lives = λ u x ne. refl;
   born = λ x was. was;
@@ -133,6 +134,7 @@ replaced_core p n m t a b account core found new = record {
   gates = λ x. gate_fits_kept m.actors t a b found x (m.memory (Gate x)) (m.life x) new.locked (core.gates x);
   dying = core.dying;
   cells = core.cells;
+  cells_end = core.cells_end;
   uses =
       λ u c is. written_actor (λ w q. UsesFit m.layout m.life w q.used) m.actors t a b found
       (subst (UsesFit m.layout m.life t) (sym new.used) (core.uses t a found)) core.uses u c is;

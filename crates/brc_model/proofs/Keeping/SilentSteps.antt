@@ -145,6 +145,7 @@ leaves m t a moves silent = record {
   words = λ u ne. refl;
   gates = λ u x ne dies. refl;
   locks = λ u x c ne found e. refl;
+  cells = λ u x i ne dies was. was;
   kinds = λ x was. was;
   lives = λ u x ne. refl;
   born = λ x was. was;
@@ -226,6 +227,7 @@ silent_core p n m t a moves account rest taken =
           (rest.core.gates x);
       dying = rest.core.dying;
       cells = rest.core.cells;
+      cells_end = rest.core.cells_end;
       cells_hold =
           λ x i object. moved_aside m.abstract (cell_reference x i object) moves
           (silent_aside m.abstract.references (cell_reference x i object).holder t moves silent (λ h. refl))

@@ -34,6 +34,7 @@ work_put_aside p n m t a d counts found is waits =
       kept = put_aside p n m t a d counts.kept found is waits;
       ranges =
           working_ranges n m t a [] (d ∷ a.aside) counts.ranges found tt (small.0, counts.ranges.aside t a found);
+      no_cells = counts.no_cells;
     }
 
 -- The duty that the thread takes back is small, and so are those that stay aside.
@@ -53,4 +54,5 @@ work_taken_back p n m t a before after d counts found none is =
       kept = take_back p n m t a before after d counts.kept found none is;
       ranges =
           working_ranges n m t a (d ∷ []) (before ++ after) counts.ranges found (small.0, tt) small.1;
+      no_cells = counts.no_cells;
     }

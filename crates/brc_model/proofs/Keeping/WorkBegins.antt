@@ -152,6 +152,7 @@ work_begins p n m t a x d account counts ready alone new =
       ranges =
           working_ranges n m t a (d ∷ []) a.aside counts.ranges ready.found (new.small, tt)
           (counts.ranges.aside t a ready.found);
+      no_cells = counts.no_cells;
     }
 
 -- ---- accounts

@@ -1,13 +1,13 @@
 -- Bounds of the words that a duty finds at a row: a shared count stays near its bias, and the word suits what the duty
 -- does with it.
-use Rattle.std.proofs.Common.{◌≡◌, ◌≢◌, ℕ, ◌+◌, ◌*◌, ◌≤◌, Bool, true, List, refl, ap, ◌∙◌, arith, inl, inr}
+use Rattle.std.proofs.Common.{◌≡◌, ◌≢◌, ℕ, zero, suc, ◌+◌, ◌*◌, ◌<◌, ◌≤◌, Bool, true, List, refl, ap, ◌∙◌, arith, inl, inr}
 use Rattle.std.specs.Prelude.{◌==◌, ◌&&◌}
 use Rattle.std.proofs.lemmas.Bool.{eq-eqb}
 use Rattle.brc_word.specs.Words.{owner_part, local_part, biased_part, phase_part, bias}
 use Rattle.brc_model.specs.declared.duty.Holding.{Holding}
 use Rattle.brc_model.specs.declared.duty.Duty.{Duty}
 use Rattle.brc_model.specs.declared.duty.Duty.TheVariants.{RetainStore, RetainAdd, ReleaseLoad, ReleaseStore, SharedLoad, SharedExchange, MergeLoad, MergeExchange, SettleCell}
-use Rattle.brc_model.specs.declared.address.Address.TheVariants.{Local, Shared}
+use Rattle.brc_model.specs.declared.address.Address.TheVariants.{Local, Shared, Cell}
 use Rattle.brc_model.specs.Duties.{address_of, counts_locally}
 use Rattle.brc_model.specs.declared.actor.Status.TheVariants.{Gone}
 use Rattle.brc_model.specs.Machine.{Actor, Machine, is_running}
@@ -22,9 +22,11 @@ use Rattle.brc_model.proofs.Stepping.Retains.{counts_owner, count_above, weight_
 use Rattle.brc_model.proofs.Stepping.Releases.{release_alive}
 use Rattle.brc_model.proofs.Work.MergesOnce.{carried_at_load, carried_is}
 use Rattle.brc_model.proofs.Limits.FewHeld.{most_each, references_few}
-use Rattle.brc_model.specs.Limits.{thread_limit}
+use Rattle.brc_model.proofs.Limits.Ranges.{cell_small}
+use Rattle.brc_model.specs.Ranges.{HasFewCells}
+use Rattle.brc_model.specs.Limits.{thread_limit, cell_limit, total_limit}
 use Rattle.std.proofs.lemmas.Bool.{cases_Bool}
-use Rattle.brc_model.specs.Layout.{block_of, is_immortal_row, IsCounted}
+use Rattle.brc_model.specs.Layout.{row_count, block_of, is_immortal_row, IsCounted}
 
 -- ---- the shared word of a live row
 
@@ -40,9 +42,15 @@ live_few owner k live =
       | InMerged g ↦ (g.awaits, λ e. absurd (omega (arith, g.phase, e)))
     ]
 
+-- The machine has few threads, and few cells.
+pub record IsFew (n : ℕ) (m : Machine) : Type 0 where
+  pub threads : n ≤ thread_limit
+  pub cells : HasFewCells m
+
 -- A live row has few references, so its biased shared count is near the bias.
 record NearBias (m : Machine) (x : ℕ) : Type 0 where
-  high : biased_part (m.memory (Shared x)) + weight (carries x) m.actors ≤ bias + thread_limit * most_each + 1
+  high : biased_part (m.memory (Shared x)) + weight (carries x) m.actors
+      ≤ bias + thread_limit * most_each + cell_limit * total_limit + 1
   some : 1 ≤ biased_part (m.memory (Shared x))
   state : phase_part (m.memory (Shared x)) ≢ 1
 
@@ -59,12 +67,19 @@ alive_counted p n m x core alive = elim (cases_Bool (is_immortal_row m.layout x)
   | inr counted ↦ counted
 ]
 
-near_bias : (p : Accounts) (n : ℕ) (m : Machine) (x : ℕ) → CoreInvariant p n m → n ≤ thread_limit → Alive m x
+near_bias : (p : Accounts) (n : ℕ) (m : Machine) (x : ℕ) → CoreInvariant p n m → IsFew n m → Alive m x
     → NearBias m x
 near_bias p n m x core few alive =
     let says = live_few (block_of m.layout x) (numbers_of m x) alive.live in
     record {
-      high = omega (arith, alive.live.sum, says.0, references_few p n m x core (alive_counted p n m x core alive), few);
+      high =
+          omega (
+            arith,
+            alive.live.sum,
+            says.0,
+            references_few p n m x core few.cells (alive_counted p n m x core alive),
+            few.threads,
+          );
       some = shared_range (block_of m.layout x) (numbers_of m x) alive.live;
       state = says.1;
     }
@@ -85,33 +100,38 @@ release_suits p n m t a x h rest here alive runs owner = elim (cases_Bool (is_im
       (weight_here p n m t x a (ReleaseLoad x h) rest here (eq-eqb x x refl) refl) living
 ]
 
-pub duty_suits : (p : Accounts) (n : ℕ) (m : Machine) (t : ℕ) (a : Actor) (d : Duty) (rest : List Duty) (count : ℕ)
-    → AtDuty p n m t a d rest → (a.status ≡ Gone → ⊥) → n ≤ thread_limit
-    → Suits t (is_running a.status) count d (m.memory (address_of m.layout t a.head d))
-duty_suits p n m t a (RetainStore x h w) rest count here alive few =
+-- A cell's word is at most the number of all rows.
+cell_low : (word rows : ℕ) → ((y : ℕ) → word ≡ suc y → y < rows) → word ≤ rows
+cell_low zero rows low = omega arith
+cell_low (suc y) rows low = omega (arith, low y refl)
+
+pub duty_suits : (p : Accounts) (n : ℕ) (m : Machine) (t : ℕ) (a : Actor) (d : Duty) (rest : List Duty)
+    → AtDuty p n m t a d rest → (a.status ≡ Gone → ⊥) → IsFew n m
+    → Suits t (is_running a.status) (row_count m.layout) d (m.memory (address_of m.layout t a.head d))
+duty_suits p n m t a (RetainStore x h w) rest here alive few =
     let (pos, backed, owns, same, some, low) = head_of p n m t a (RetainStore x h w) rest here in low
-duty_suits p n m t a (RetainAdd x h) rest count here alive few =
+duty_suits p n m t a (RetainAdd x h) rest here alive few =
     let fits = head_of p n m t a (RetainAdd x h) rest here in
     let near = near_bias p n m x here.core few (alive_backed p n m t x here.core fits.0 fits.1) in
     (record { low = omega (arith, near.high); state = near.state }, omega (arith, near.high))
-duty_suits p n m t a (ReleaseLoad x h) rest count here alive few = release_suits p n m t a x h rest here alive
-duty_suits p n m t a (ReleaseStore x w) rest count here alive few = (head_of p n m t a (ReleaseStore x w) rest here).3
-duty_suits p n m t a (SharedLoad x r) rest count here alive few =
+duty_suits p n m t a (ReleaseLoad x h) rest here alive few = release_suits p n m t a x h rest here alive
+duty_suits p n m t a (ReleaseStore x w) rest here alive few = (head_of p n m t a (ReleaseStore x w) rest here).3
+duty_suits p n m t a (SharedLoad x r) rest here alive few =
     let near = near_bias p n m x here.core few (load_alive p n m t a x r rest here) in
     (record { low = omega (arith, near.high); state = near.state }, near.some)
-duty_suits p n m t a (SharedExchange x r w) rest count here alive few = λ same.
+duty_suits p n m t a (SharedExchange x r w) rest here alive few = λ same.
     let near = near_bias p n m x here.core few (exchange_alive p n m t a x w r rest here) in
     let word : biased_part (m.memory (Shared x)) ≡ biased_part w = ap biased_part same in (
       record { low = omega (arith, near.high, word); state = λ e. near.state (ap phase_part same ∙ e) },
       omega (arith, near.some, word),
     )
-duty_suits p n m t a (MergeLoad x c r) rest count here alive few =
+duty_suits p n m t a (MergeLoad x c r) rest here alive few =
     let near = near_bias p n m x here.core few (merge_load_alive p n m t a x c r rest here) in (
       (head_of p n m t a (MergeLoad x c r) rest here).1,
       record { low = omega (arith, near.high); state = near.state },
       omega (arith, near.high, carried_at_load p n m t a x c r rest here),
     )
-duty_suits p n m t a (MergeExchange x c w r) rest count here alive few = (
+duty_suits p n m t a (MergeExchange x c w r) rest here alive few = (
   (head_of p n m t a (MergeExchange x c w r) rest here).1,
   λ same.
       let near = near_bias p n m x here.core few (merge_alive p n m t a x c w r rest here) in
@@ -120,5 +140,6 @@ duty_suits p n m t a (MergeExchange x c w r) rest count here alive few = (
         omega (arith, near.high, word, carried_is p n m t a x c w r rest here),
       ),
 )
-duty_suits p n m t a (SettleCell x i k) rest count here alive few = omega (arith, here.core.cells x i)
-duty_suits p n m t a _ rest count here alive few = tt
+duty_suits p n m t a (SettleCell x i k) rest here alive few =
+    cell_low (m.memory (Cell x i)) (row_count m.layout) (λ y is. cell_small p n m x i y here.core is)
+duty_suits p n m t a _ rest here alive few = tt

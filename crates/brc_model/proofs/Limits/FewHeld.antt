@@ -1,4 +1,5 @@
--- A thread holds an object in at most nineteen ways, and in each way within a bound, so an object has few references.
+-- A thread holds an object in at most nineteen ways, in each way within a bound, and there are few cells, so an object
+-- has few references.
 use Rattle.std.proofs.Common.{◌≡◌, ℕ, zero, suc, ◌+◌, ◌*◌, ◌<◌, ◌≤◌, Bool, true, false, cond, List, [], ◌∷◌, Option, Some, inl, inr, refl, sym, ap, ◌∙◌, subst, arith}
 use Rattle.std.specs.Prelude.{◌==◌, ◌||◌, if◌then◌else◌, slice_get, sum_by, count_by}
 use Rattle.std.specs.List.{list_any}
@@ -12,14 +13,18 @@ use Rattle.brc_model.specs.declared.duty.Reason.TheVariants.{Own}
 use Rattle.brc_model.specs.declared.duty.Duty.{Duty}
 use Rattle.brc_model.specs.declared.duty.Duty.TheVariants.{ReleaseLoad, ReleaseStore, SharedLoad, SharedExchange}
 use Rattle.brc_model.specs.AbstractState.{Holder, ByThread, ByCell, Reference, same, references_to}
-use Rattle.brc_model.specs.Machine.{Actor, Machine}
-use Rattle.brc_model.proofs.Basics.Bag.{same_holding-true, same-true, same-refl, held-cons, references_to-cons, one_if_true}
-use Rattle.brc_model.specs.References.{held, one_if, reference_of}
+use Rattle.brc_model.specs.Machine.{Actor, Life, Machine}
+use Rattle.brc_model.proofs.Basics.Bag.{same_holding-true, same-true, same-refl, held-cons, references_to-cons, one_if_true, one_if_low}
+use Rattle.brc_model.specs.References.{held, one_if, reference_of, word_holds, cell_reference}
 use Rattle.brc_model.specs.Accounts.{Account, Accounts, extra, extra_of, extra_aside, most_lent, IsBounded}
 use Rattle.brc_model.specs.OpenWork.{is_about, about_of}
-use Rattle.brc_model.specs.Invariant.{CoreInvariant}
+use Rattle.brc_model.specs.Invariant.{CellFits, CoreInvariant}
+use Rattle.brc_model.specs.declared.address.Address.TheVariants.{Cell}
+use Rattle.brc_model.specs.Ranges.{HasFewCells}
+use Rattle.brc_model.specs.Limits.{cell_limit, total_limit}
+use Rattle.brc_model.proofs.Basics.Blocks.{born_within, rows_low}
 use Rattle.brc_model.specs.declared.layout.Layout.{Layout}
-use Rattle.brc_model.specs.Layout.{IsCounted}
+use Rattle.brc_model.specs.Layout.{row_count, IsCounted}
 use Rattle.brc_model.proofs.Basics.Lists.{and_first}
 use Rattle.brc_model.proofs.Frame.Aside.{extra_about, extra_counted}
 
@@ -83,12 +88,12 @@ covered keys (q ∷ bag) x covers =
     ]
 
 -- A bound on how often one reference is in the bag: as the caller, the most that a thread may lend and one; in any
--- other way, two. The one more is a reference that a duty is just giving up.
+-- other way of a thread, two. The one more is a reference that a duty is just giving up. A cell holds one.
 abbrev most_by : Holder → ℕ
 most_by (ByThread t AsCaller) = most_lent + 1
 most_by (ByThread t (ByVariable v)) = 2
 most_by (ByThread t InFlight) = 2
-most_by (ByCell x i) = 2
+most_by (ByCell x i) = 1
 
 abbrev most_held : Reference → ℕ
 most_held r = most_by r.holder
@@ -243,6 +248,81 @@ among_all own r x t (suc n) low e =
           among_later own r x n (among_all own r x t n below e)
     ]
 
+-- ---- the cells that may hold an object
+
+-- References by a row's cells below a number, in front of a list.
+abbrev row_cells : ℕ → ℕ → ℕ → List Reference → List Reference
+row_cells y x zero tail = tail
+row_cells y x (suc i) tail = cell_reference y i x ∷ row_cells y x i tail
+
+-- References by the cells of the rows below a number, in front of a list.
+abbrev cell_ways : ℕ → ℕ → List Reference → List Reference
+cell_ways x zero tail = tail
+cell_ways x (suc y) tail = row_cells y x cell_limit (cell_ways x y tail)
+
+row_cells_are_of : (y x i : ℕ) (tail : List Reference) → AreOf x tail → AreOf x (row_cells y x i tail)
+row_cells_are_of y x zero tail of_x = of_x
+row_cells_are_of y x (suc i) tail of_x = (refl, row_cells_are_of y x i tail of_x)
+
+cell_ways_are_of : (x y : ℕ) (tail : List Reference) → AreOf x tail → AreOf x (cell_ways x y tail)
+cell_ways_are_of x zero tail of_x = of_x
+cell_ways_are_of x (suc y) tail of_x =
+    row_cells_are_of y x cell_limit (cell_ways x y tail) (cell_ways_are_of x y tail of_x)
+
+most_of_row : (y x i : ℕ) (tail : List Reference)
+    → sum_by most_held (row_cells y x i tail) ≡ i + sum_by most_held tail
+most_of_row y x zero tail = omega arith
+most_of_row y x (suc i) tail =
+    omega (
+      arith,
+      sum_by-cons most_held (cell_reference y i x) (row_cells y x i tail),
+      most_of_row y x i tail,
+    )
+
+most_of_cells : (x y : ℕ) (tail : List Reference)
+    → sum_by most_held (cell_ways x y tail) ≡ cell_limit * y + sum_by most_held tail
+most_of_cells x zero tail = omega arith
+most_of_cells x (suc y) tail =
+    omega (arith, most_of_row y x cell_limit (cell_ways x y tail), most_of_cells x y tail)
+
+among_row_tail : (r : Reference) (y x i : ℕ) (tail : List Reference) → list_any (same r) tail ≡ true
+    → list_any (same r) (row_cells y x i tail) ≡ true
+among_row_tail r y x zero tail e = e
+among_row_tail r y x (suc i) tail e = or_second (same r (cell_reference y i x)) _ (among_row_tail r y x i tail e)
+
+among_row : (y x k i : ℕ) (tail : List Reference) → i < k
+    → list_any (same (cell_reference y i x)) (row_cells y x k tail) ≡ true
+among_row y x zero i tail low = absurd (omega (arith, low))
+among_row y x (suc k) i tail low =
+    let r = cell_reference y i x in
+    elim (eqb_tells i k) [
+      | inl this ↦
+          or_first (same r (cell_reference y k x)) _
+          (subst (λ (j : ℕ). same r (cell_reference y j x) ≡ true) this.1 (same-refl r))
+      | inr other ↦
+          or_second (same r (cell_reference y k x)) _ (among_row y x k i tail (omega (arith, low, other.1)))
+    ]
+
+among_cells_tail : (r : Reference) (x y : ℕ) (tail : List Reference) → list_any (same r) tail ≡ true
+    → list_any (same r) (cell_ways x y tail) ≡ true
+among_cells_tail r x zero tail e = e
+among_cells_tail r x (suc y) tail e =
+    among_row_tail r y x cell_limit (cell_ways x y tail) (among_cells_tail r x y tail e)
+
+among_cells : (x y i rows : ℕ) (tail : List Reference) → y < rows → i < cell_limit
+    → list_any (same (cell_reference y i x)) (cell_ways x rows tail) ≡ true
+among_cells x y i zero tail low few = absurd (omega (arith, low))
+among_cells x y i (suc rows) tail low few =
+    elim (eqb_tells y rows) [
+      | inl this ↦
+          subst (λ (z : ℕ). list_any (same (cell_reference y i x))
+          (row_cells z x cell_limit (cell_ways x rows tail)) ≡ true) this.1
+          (among_row y x cell_limit i (cell_ways x rows tail) few)
+      | inr other ↦
+          among_row_tail (cell_reference y i x) rows x cell_limit (cell_ways x rows tail)
+          (among_cells x y i rows tail (omega (arith, low, other.1)) few)
+    ]
+
 -- ---- the references of one thread
 
 -- A thread that holds an object by a variable holds it by one of the sixteen.
@@ -324,10 +404,15 @@ opened_by _ = []
 abbrev own_way : Machine → ℕ → ℕ → Holding
 own_way m x t = given_in x (opened_by (slice_get m.actors t))
 
+word_holds_one : (w object : ℕ) → word_holds w object ≤ 1
+word_holds_one zero object = omega arith
+word_holds_one (suc y) object = one_if_low (y == object)
+
 within_most : (p : Accounts) (n : ℕ) (m : Machine) (h : Holder) (object : ℕ) → CoreInvariant p n m
     → IsCounted m.layout object
     → held (record { holder = h; object = object }) m.abstract.references ≤ most_by h
-within_most p n m (ByCell x i) object core counted = omega (arith, core.cells_hold x i object)
+within_most p n m (ByCell x i) object core counted =
+    omega (arith, core.cells_hold x i object, word_holds_one (m.memory (Cell x i)) object)
 within_most p n m (ByThread t k) object core counted =
     elim (slice_get_cases m.actors t).1 [
       | inl found ↦
@@ -346,11 +431,10 @@ within_most p n m (ByThread t k) object core counted =
       | inr past ↦ omega (arith, core.beyond t (omega (arith, past.0, core.threads)) k object)
     ]
 
-held_way : (p : Accounts) (n : ℕ) (m : Machine) (h : Holder) (object : ℕ) → CoreInvariant p n m
-    → 0 < held (record { holder = h; object = object }) m.abstract.references
-    → list_any (same (record { holder = h; object = object })) (ways (own_way m object) object n) ≡ true
-held_way p n m (ByCell x i) object core some = absurd (omega (arith, core.cells_hold x i object, some))
-held_way p n m (ByThread t k) object core some =
+thread_way : (p : Accounts) (n : ℕ) (m : Machine) (t : ℕ) (k : Holding) (object : ℕ) → CoreInvariant p n m
+    → 0 < held (reference_of t k object) m.abstract.references
+    → list_any (same (reference_of t k object)) (ways (own_way m object) object n) ≡ true
+thread_way p n m t k object core some =
     let r = reference_of t k object in
     elim (slice_get_cases m.actors t).1 [
       | inl found ↦
@@ -375,22 +459,54 @@ held_way p n m (ByThread t k) object core some =
       | inr past ↦ absurd (omega (arith, core.beyond t (omega (arith, past.0, core.threads)) k object, some))
     ]
 
+-- A cell that holds an object is one of the few cells of a row that there is.
+cell_there : (p : Accounts) (n : ℕ) (m : Machine) (y i object : ℕ) → CoreInvariant p n m → HasFewCells m
+    → 0 < held (cell_reference y i object) m.abstract.references → (y < row_count m.layout) × (i < cell_limit)
+cell_there p n m y i object core few some =
+    let full : m.memory (Cell y i) ≡ 0 → ⊥ = λ empty.
+    let none : word_holds (m.memory (Cell y i)) object ≡ 0 = ap (λ (w : ℕ). word_holds w object) empty in
+    absurd (omega (arith, core.cells_hold y i object, none, some)) in (
+      born_within p n m y core
+          (λ unborn. full (subst (λ (l : Life). CellFits l (m.memory (Cell y i))) unborn (core.cells y i))),
+      elim (cases_lt i cell_limit) [
+        | inl low ↦ low
+        | inr past ↦ absurd (full (core.cells_end y i (omega (arith, past, few y))))
+      ],
+    )
+
+-- the ways in which the object may be held
+abbrev keys_of : Machine → ℕ → ℕ → List Reference
+keys_of m object n = cell_ways object (row_count m.layout) (ways (own_way m object) object n)
+
+held_way : (p : Accounts) (n : ℕ) (m : Machine) (h : Holder) (object : ℕ) → CoreInvariant p n m → HasFewCells m
+    → 0 < held (record { holder = h; object = object }) m.abstract.references
+    → list_any (same (record { holder = h; object = object })) (keys_of m object n) ≡ true
+held_way p n m (ByCell y i) object core few some =
+    let there = cell_there p n m y i object core few some in
+    among_cells object y i (row_count m.layout) (ways (own_way m object) object n) there.0 there.1
+held_way p n m (ByThread t k) object core few some =
+    among_cells_tail (reference_of t k object) object (row_count m.layout) (ways (own_way m object) object n)
+    (thread_way p n m t k object core some)
+
 -- ---- all references to an object
 
--- A counted object has at most `most_each` references for each thread.
-pub references_few : (p : Accounts) (n : ℕ) (m : Machine) (x : ℕ) → CoreInvariant p n m → IsCounted m.layout x
-    → references_to x m.abstract.references ≤ most_each * n
-references_few p n m x core counted =
-    let keys = ways (own_way m x) x n in
+-- A counted object has at most `most_each` references for each thread, and one for each cell.
+pub references_few : (p : Accounts) (n : ℕ) (m : Machine) (x : ℕ) → CoreInvariant p n m → HasFewCells m
+    → IsCounted m.layout x → references_to x m.abstract.references ≤ most_each * n + cell_limit * total_limit
+references_few p n m x core few counted =
+    let keys = keys_of m x n in
     let covers : Covers keys m.abstract.references x =
     record {
-      each = λ r is some. subst (λ (y : ℕ). list_any (same r) (ways (own_way m y) y n) ≡ true) is
-          (held_way p n m r.holder r.object core some);
+      each = λ r is some. subst (λ (y : ℕ). list_any (same r) (keys_of m y n) ≡ true) is
+          (held_way p n m r.holder r.object core few some);
     } in
     omega (
       arith,
       covered keys m.abstract.references x covers,
-      sum_below (λ (r : Reference). held r m.abstract.references) most_held x keys (ways_are_of (own_way m x) x n)
+      sum_below (λ (r : Reference). held r m.abstract.references) most_held x keys
+          (cell_ways_are_of x (row_count m.layout) (ways (own_way m x) x n) (ways_are_of (own_way m x) x n))
           (λ r is. within_most p n m r.holder r.object core (subst (IsCounted m.layout) (sym is) counted)),
+      most_of_cells x (row_count m.layout) (ways (own_way m x) x n),
       most_of_ways (own_way m x) x n,
+      rows_low p n m core,
     )

@@ -4,20 +4,23 @@ use Rattle.std.specs.Prelude.{◌==◌, slice_get, count_by}
 use Rattle.std.proofs.lemmas.Bool.{eq-eqb, eqb-true}
 use Rattle.std.proofs.lemmas.List.Sums.{sum_by-cons}
 use Rattle.brc_model.specs.AbstractState.{references_to}
+use Rattle.brc_model.specs.declared.duty.Holding.TheVariants.{InFlight}
 use Rattle.brc_model.specs.declared.duty.Reason.TheVariants.{Handed}
 use Rattle.brc_model.specs.declared.duty.Duty.{Duty}
-use Rattle.brc_model.specs.declared.duty.Duty.TheVariants.{MergeSwap, Settle, SettleKind, SettleCell, Leave, Scan, Finish, BirthKind, KindLoad}
-use Rattle.brc_model.specs.declared.address.Address.TheVariants.{KindOf, Mark}
+use Rattle.brc_model.specs.declared.duty.Duty.TheVariants.{ReleaseLoad, MergeSwap, Settle, SettleKind, SettleCell, Leave, Scan, Finish, BirthKind, KindLoad}
+use Rattle.brc_model.specs.declared.address.Address.TheVariants.{KindOf, Mark, Cell}
 use Rattle.brc_model.specs.Duties.{address_of, new_word, continuation, ready, cells_of}
 use Rattle.brc_model.specs.Machine.{Actor, Life, Unborn, Live, Machine, written, is_running, actor_by, done_by}
-use Rattle.brc_model.specs.References.{one_if}
+use Rattle.brc_model.specs.References.{one_if, cell_reference}
 use Rattle.brc_model.specs.RowInvariant.{RowInvariant}
 use Rattle.brc_model.specs.Accounts.{Accounts}
 use Rattle.brc_model.specs.Invariant.{numbers_of, CoreInvariant}
 use Rattle.brc_model.specs.OpenWork.{Linked, dies_by, is_about}
 use Rattle.brc_model.specs.Ranges.{cells_named, IsSmall, AreSmall, Ranges}
 use Rattle.brc_model.proofs.Basics.Continuation.{Traits, cells_by, Origin, Continuation, Ends, Finishes, GoesOn, Frees, SettlesRow, Claims, ClaimsNone, Exits, Scans, ScansNone, continues}
+use Rattle.brc_model.proofs.Basics.Bag.{held-le-references_to}
 use Rattle.brc_model.proofs.Basics.Written.{written_load}
+use Rattle.brc_model.proofs.Frame.Cells.{cell_held}
 use Rattle.brc_model.proofs.Basics.Lists.{written_actor}
 use Rattle.brc_model.proofs.Basics.Blocks.{born_within}
 use Rattle.brc_model.proofs.Stepping.Exits.{marked_born}
@@ -39,7 +42,7 @@ row_small k x d low about few = record {
 abbrev pub FindsSmall : ℕ → Layout → ℕ → ℕ → Duty → ℕ → Type 0
 FindsSmall k layout t head Settle found = head - 1 < k
 FindsSmall k layout t head (SettleKind x) found = cells_of found ≤ cell_limit
-FindsSmall k layout t head (SettleCell x i n) found = found ≡ 0
+FindsSmall k layout t head (SettleCell x i n) found = (y : ℕ) → found ≡ suc y → y < k
 FindsSmall k layout t head (Scan i n) found = found ≡ 1 → row_at layout t i < k
 FindsSmall k layout t head _ found = Unit {0}
 
@@ -86,7 +89,16 @@ next_small k {layout = layout} {t = t} {head = head} {found = found} d next (Goe
   },
   tt,
 )
-next_small k d next (Frees x i n y e some leads) small finds = absurd (omega (arith, some, finds))
+next_small k {layout = layout} {t = t} {head = head} {found = found} d next (Frees x i n y e some leads) small finds = (
+  row_small k y (ReleaseLoad y InFlight) (finds y some) (λ z. refl) (omega arith),
+  (
+    record {
+      row = λ z about. small.row z (ap (λ (s : Traits). s.about z) (sym leads.same) ∙ about);
+      cells = origin_small k d found e leads.origin (cells_small k layout t head d found small finds);
+    },
+    tt,
+  ),
+)
 next_small k {head = head} d next SettlesRow small finds =
     (row_small k (head - 1) (SettleKind (head - 1)) finds (λ y. refl) (omega arith), (settle_small k, tt))
 next_small k d next (Claims x set) small finds =
@@ -150,6 +162,14 @@ head_small p n m t a core found =
           omega (arith, linked.0, born_within p n m x core born)
     ] refl chain.linked
 
+-- A cell names a row that there is.
+pub cell_small : (p : Accounts) (n : ℕ) (m : Machine) (x i y : ℕ) → CoreInvariant p n m → m.memory (Cell x i) ≡ suc y
+    → y < row_count m.layout
+cell_small p n m x i y core is =
+    let r = cell_reference x i y in
+    referenced_small p n m y core
+    (omega (arith, cell_held p n m x i y core is, held-le-references_to r m.abstract.references))
+
 -- ---- machines
 
 finds_small : (p : Accounts) (n : ℕ) (m : Machine) (t : ℕ) (a : Actor) (d : Duty) → CoreInvariant p n m → Ranges n m
@@ -157,7 +177,7 @@ finds_small : (p : Accounts) (n : ℕ) (m : Machine) (t : ℕ) (a : Actor) (d : 
     (m.memory (address_of m.layout t a.head d))
 finds_small p n m t a Settle core ranges head = omega (arith, head)
 finds_small p n m t a (SettleKind x) core ranges head = ranges.kinds x
-finds_small p n m t a (SettleCell x i k) core ranges head = core.cells x i
+finds_small p n m t a (SettleCell x i k) core ranges head = λ y is. cell_small p n m x i y core is
 finds_small p n m t a (Scan i k) core ranges head = λ set. marked_small p n m (row_at m.layout t i) core set
 finds_small p n m t a _ core ranges head = tt
 

@@ -6,7 +6,7 @@ use Rattle.std.proofs.lemmas.Bool.Decides.{eqb_tells}
 use Rattle.brc_model.specs.declared.duty.Holding.{Holding}
 use Rattle.brc_model.specs.declared.duty.Holding.TheVariants.{ByVariable, AsCaller, InFlight}
 use Rattle.brc_model.specs.AbstractState.{Holder, ByThread, ByCell, Reference, same, same_holder, references_to}
-use Rattle.brc_model.specs.References.{held, one_if, reference_of, cell_reference}
+use Rattle.brc_model.specs.References.{held, one_if, reference_of, word_holds, cell_reference}
 use Rattle.brc_model.specs.Machine.{Machine}
 use Rattle.brc_model.specs.Accounts.{Accounts}
 use Rattle.brc_model.specs.Counting.{Counts}
@@ -162,6 +162,6 @@ pub shares_of_threads : (p : Accounts) (n : ℕ) (m : Machine) (x : ℕ) → Cou
     → references_to x m.abstract.references ≡ over_threads (thread_references m x) n
 shares_of_threads p n m x counts none = shares_in x n m.abstract.references (record {
   variables = none;
-  cells = λ y i. counts.kept.core.cells_hold y i x;
+  cells = λ y i. counts.kept.core.cells_hold y i x ∙ ap (λ (w : ℕ). word_holds w x) (counts.no_cells y i);
   beyond = λ t past k. counts.kept.core.beyond t past k x;
 })

@@ -34,7 +34,7 @@ use Rattle.brc_model.proofs.Promises.Safe.{first_code_invariant}
 use Rattle.brc_model.specs.Ranges.{IsSmall}
 use Rattle.brc_model.proofs.Limits.Ranges.{head_small}
 use Rattle.brc_model.proofs.Limits.RangesEvents.{Bounded, bounded_after, first_ranges}
-use Rattle.brc_model.proofs.Limits.Bounds.{duty_suits}
+use Rattle.brc_model.proofs.Limits.Bounds.{IsFew, duty_suits}
 use Rattle.brc_model.proofs.Basics.Blocks.{used_low, block_within, size_within, thread_there, rows_low, immortal_block}
 use Rattle.brc_model.specs.Accounts.{Accounts}
 use Rattle.brc_model.specs.Invariant.{AtDuty, CoreInvariant, numbers_of}
@@ -51,7 +51,7 @@ duty_there p n m t a (Look x) rest here alive small =
     omega (arith, block_within m.layout x here.core.some_rows, here.core.threads, here.core.workers)
 duty_there p n m t a Settle rest here alive small = omega (arith, head_small p n m t a here.core here.found)
 duty_there p n m t a (SettleCell x i c) rest here alive small =
-    let (pos, dies, more, gate) = head_of p n m t a (SettleCell x i c) rest here in
+    let (pos, dies, more, gate, empty) = head_of p n m t a (SettleCell x i c) rest here in
     (small.row x (eq-eqb x x refl), omega (arith, more, small.cells))
 duty_there p n m t a (Leave x c) rest here alive small = slice_get_within m.actors t a here.found
 duty_there p n m t a (Scan x c) rest here alive small =
@@ -112,7 +112,7 @@ finds_owner p n m t a _ rest here = tt
 
 -- A thread's next duty can rely on what `DutyWithin` says.
 pub duty_within : (p : Accounts) (n : ℕ) (m : Machine) (t : ℕ) (a : Actor) (d : Duty) (rest : List Duty)
-    → Doing p n m t a d rest → IsSmall (row_count m.layout) d → n ≤ thread_limit → DutyWithin n m t a d
+    → Doing p n m t a d rest → IsSmall (row_count m.layout) d → IsFew n m → DutyWithin n m t a d
 duty_within p n m t a d rest doing small few =
     let core = doing.kept.core in
     let here : AtDuty p n m t a d rest = record { core = core; found = doing.found; agenda = doing.agenda } in
@@ -122,7 +122,7 @@ duty_within p n m t a d rest doing small few =
           (duty_there p n m t a d rest here doing.alive small);
       head = head_small p n m t a core doing.found;
       used = duty_used p n m t a d rest here;
-      suits = duty_suits p n m t a d rest (row_count m.layout) here doing.alive few;
+      suits = duty_suits p n m t a d rest here doing.alive few;
       overwrites = overwritten p n m t a d rest here;
       owner = finds_owner p n m t a d rest here;
     }
@@ -141,7 +141,8 @@ does_within p n m t a d rest place bounded few found fits =
     let now = sitting a.actor (d ∷ rest) in
     let within : DutyWithin n (with_actor (counting m) t now) t now d =
     duty_within (with_account bounded.whole.accounts t fits.account) n (with_actor (counting m) t now) t now d rest
-    fits.doing (fits.small (bounded.ranges.each t a.actor (its_found m t a found))).0 few in
+    fits.doing (fits.small (bounded.ranges.each t a.actor (its_found m t a found))).0
+    (record { threads = few; cells = bounded.ranges.kinds }) in
     let long = threads_in p n m bounded.whole in
     record {
       there =

@@ -11,7 +11,7 @@ use Rattle.brc_model.specs.declared.address.Address.TheVariants.{KindOf, Slot}
 use Rattle.brc_model.specs.Duties.{has_resource, ready}
 use Rattle.brc_model.specs.Machine.{Actor, Machine, used_by, actor_by, done_by}
 use Rattle.brc_model.proofs.Basics.Lists.{some_is, slice_get-set_same, slice_get-set_other}
-use Rattle.brc_model.proofs.Basics.Written.{written_load}
+use Rattle.brc_model.proofs.Basics.Written.{zero_written, written_load}
 use Rattle.brc_model.proofs.Basics.Blocks.{next_block, next_index}
 use Rattle.brc_model.proofs.Frame.Leaves.{head_of}
 use Rattle.brc_model.proofs.Stepping.Neutral.{found_by, memory_by}
@@ -25,10 +25,6 @@ use Rattle.brc_model.specs.Layout.{block_of, index_of}
 -- A word that is 0 stays 0 if the step stores another word.
 still_zero : (b : Bool) (v word : ℕ) → b ≡ false → word ≡ 0 → cond b v word ≡ 0
 still_zero b v word apart zero_before = ap (λ (c : Bool). cond c v word) apart ∙ zero_before
-
-pub zero_written : (b : Bool) (v : ℕ) → v ≡ 0 → cond b 0 v ≡ 0
-zero_written true v e = refl
-zero_written false v e = e
 
 -- After the step on the kind word, the agenda says that the birth has stored it. After the step on the slot, the agenda
 -- says so of both.

@@ -4,11 +4,11 @@ use Rattle.std.specs.List.{list_any}
 use Rattle.std.specs.Prelude.{◌==◌, nat_lt, if◌then◌else◌, sum_by}
 use Rattle.std.proofs.lemmas.List.Sums.{sum_by-cons}
 use Rattle.brc_model.specs.declared.duty.Holding.TheVariants.{InFlight}
-use Rattle.brc_model.specs.AbstractState.{Reference, same, without, references_to, AbstractState, Move, Born, Gain, Lose, PassOn, Finalise, move}
+use Rattle.brc_model.specs.AbstractState.{Reference, same, without, references_to, AbstractState, Move, Born, Gain, Lose, PassOn, Finalise, move, moved}
 use Rattle.brc_model.specs.declared.duty.Reason.TheVariants.{Handed}
 use Rattle.brc_model.specs.declared.duty.Duty.{Duty}
 use Rattle.brc_model.specs.declared.duty.Duty.TheVariants.{RetainLoad, RetainStore, RetainAdd, ReleaseLoad, ReleaseStore, DecideAtZero, SharedLoad, SharedExchange, SetMark, Look, TakeMark, MergeSwap, MergeLoad, MergeExchange, Die, Settle, SettleKind, SettleCell, TakeSlot, CloseResource, SettleEnd, Leave, Scan, Finish, ClaimMark, BirthKind, BirthSlot, BirthLocal, KindLoad, LockGate, UnlockGate}
-use Rattle.brc_model.specs.declared.address.Address.TheVariants.{Local, Shared, Mark}
+use Rattle.brc_model.specs.declared.address.Address.TheVariants.{Local, Shared, Mark, Cell}
 use Rattle.brc_model.specs.Duties.{address_of, new_word, cells_from, release_found}
 use Rattle.brc_model.specs.Machine.{Life, Actor, Machine, is_running, same_address, dies_next, with_life, ended_row, born_row}
 use Rattle.brc_model.specs.Moves.{reference_effects}
@@ -21,7 +21,7 @@ use Rattle.brc_model.specs.Accounts.{Accounts}
 use Rattle.brc_model.specs.OpenWork.{is_about}
 use Rattle.brc_model.proofs.Basics.Lists.{first_false, second_false}
 use Rattle.brc_model.proofs.Basics.Continuation.{Traits, Leads, Continuation, GoesOn, Frees, Claims, Scans, continues}
-use Rattle.brc_model.proofs.Frame.Lives.{cell_found}
+use Rattle.brc_model.proofs.Frame.Cells.{no_cell, cell_held, taken_references}
 use Rattle.brc_model.proofs.Frame.Aside.{waits_of_row, carries_of_row, merges_of_row, decides_of_row}
 use Rattle.brc_model.proofs.Objects.RowsAfterStep.{found_by, following, KeepsRow, RowStays, row_stays}
 use Rattle.brc_model.specs.Invariant.{AtDuty}
@@ -235,6 +235,19 @@ released_apart x (suc y) ds others =
 
 -- ---- the row is unchanged
 
+-- An object that the duty isn't about has as many references as before.
+references_elsewhere : (p : Accounts) (n : ℕ) (m : Machine) (t : ℕ) (a : Actor) (d : Duty) (rest : List Duty) (x : ℕ)
+    → AtDuty p n m t a d rest → is_about x d ≡ false
+    → references_to x (moved m.abstract (reference_effects m.memory t d (found_by m t a d))).references
+    ≡ references_to x m.abstract.references
+references_elsewhere p n m t a (SettleCell y i k) rest x here other =
+    taken_references m.abstract t y i (m.memory (Cell y i)) x
+    (λ z is. omega (arith, cell_held p n m y i z here.core is))
+references_elsewhere p n m t a d rest x here other =
+    moved_keeps (λ q. references_to x q.references) (IsOfOther x) (λ q mv apart. sym (move_elsewhere x q mv apart))
+    m.abstract (reference_effects m.memory t d (found_by m t a d))
+    (effects_elsewhere m.memory t d (found_by m t a d) x other (no_cell d (found_by m t a d) refl))
+
 not_ended : (layout : Layout) (t x : ℕ) (d : Duty) → (subject layout t d == x) ≡ false
     → (life : ℕ → Life) (state : Life)
     → with_life life (ended_row d) state x ≡ life x
@@ -263,10 +276,7 @@ row_elsewhere {p = p} {n = n} {m = m} {t = t} {a = a} {d = d} {rest = rest} s x 
       local = sym (written_apart m.memory at (Local x) left (other_local m.layout t a.head d x about));
       shared = sym (written_apart m.memory at (Shared x) left (other_shared m.layout t a.head d x about));
       mark = sym (written_apart m.memory at (Mark x) left (other_mark m.layout t a.head d x e));
-      references =
-          sym (moved_keeps (λ q. references_to x q.references) (IsOfOther x)
-          (λ q mv other. sym (move_elsewhere x q mv other)) m.abstract (reference_effects m.memory t d found)
-          (effects_elsewhere m.memory t d found x about (cell_found p n m t a d s.core)));
+      references = sym (references_elsewhere p n m t a d rest x s about);
       waiting = next.waiting ∙ sym this.waiting;
       carried = next.carried ∙ sym this.carried;
       merging = next.merging ∙ sym this.merging;

@@ -2,14 +2,14 @@
 use Rattle.std.proofs.Common.{◌≡◌, ℕ, ◌+◌, ◌-◌, ◌≤◌, Bool, true, false, cond, List, [], ◌∷◌, ◌++◌, refl, sym, ap, ◌∙◌, subst, arith, inl, inr}
 use Rattle.std.specs.Prelude.{◌==◌}
 use Rattle.std.proofs.lemmas.List.Sums.{sum_by-append}
-use Rattle.brc_model.specs.AbstractState.{references_to, moved}
+use Rattle.brc_model.specs.AbstractState.{references_to}
 use Rattle.brc_model.specs.declared.duty.Reason.TheVariants.{Handed}
 use Rattle.brc_model.specs.declared.duty.Duty.{Duty}
 use Rattle.brc_model.specs.declared.duty.Duty.TheVariants.{SetMark, Look, TakeMark, MergeSwap, Die, Settle, SettleKind, SettleCell, TakeSlot, CloseResource, SettleEnd, Scan, ClaimMark}
 use Rattle.brc_model.specs.declared.address.Address.TheVariants.{Local, Shared, Mark, Cell, KindOf}
 use Rattle.brc_model.specs.Duties.{claimed, has_resource, cells_of, cells_from}
 use Rattle.brc_model.specs.Machine.{Life, Live, Dying, Closed, Actor, Machine, with_life, dies_next, life_by, done_by}
-use Rattle.brc_model.specs.Moves.{take_out}
+use Rattle.brc_model.proofs.Frame.Cells.{cell_held, taken_references}
 use Rattle.brc_model.specs.RowInvariant.{waits, carries, merges, decides, RowInvariant}
 use Rattle.brc_model.specs.Accounts.{Accounts}
 use Rattle.brc_model.specs.Invariant.{AtDuty, numbers_of}
@@ -247,7 +247,8 @@ row_after_settle_cell {m = m} {t = t} {y = y} {i = i} {cells = cells} some s =
       shared = refl;
       mark = refl;
       references =
-          ap (λ (w : ℕ). references_to y (moved m.abstract (take_out t y i w)).references) (sym (s.core.cells y i));
+          sym (taken_references m.abstract t y i (m.memory (Cell y i)) y
+          (λ z is. omega (arith, cell_held _ _ m y i z s.core is)));
     })
 
 -- The row's invariant holds after `SlotEmptied`.

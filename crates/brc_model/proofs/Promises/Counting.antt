@@ -18,6 +18,7 @@ use Rattle.brc_model.specs.Counting.{Counts}
 use Rattle.brc_model.specs.CountingLaws.{ComesNext, DutiesAreKept, DutiesAreWithin, AccountsAreThere, CountsAgree}
 use Rattle.brc_model.specs.Ranges.{AreSmall}
 use Rattle.brc_model.proofs.Keeping.Kept.{Doing, duty_kept}
+use Rattle.brc_model.proofs.Frame.Cells.{still_empty}
 use Rattle.brc_model.proofs.Limits.Ranges.{head_small, duty_ranges, referenced_small}
 use Rattle.brc_model.proofs.Limits.StepsAreWithin.{duty_within}
 use Rattle.brc_model.proofs.Promises.Agreeing.{agrees_at}
@@ -44,6 +45,7 @@ duties_kept p n m t a d rest counts next =
         ranges = duty_ranges p n m t a a d rest counts.kept.core counts.ranges next.found
             (head_small p n m t a counts.kept.core next.found) (next_small p n m t a d rest counts next)
             (counts.ranges.aside t a next.found);
+        no_cells = λ x i. still_empty m t a d x i (counts.no_cells x i);
       },
     )
 
@@ -51,7 +53,7 @@ duties_kept p n m t a d rest counts next =
 pub duties_within : DutiesAreWithin
 duties_within p n m t a d rest counts next =
     duty_within p n m t a d rest (doing_next p n m t a d rest counts next) (next_small p n m t a d rest counts next).0
-    counts.kept.core.few_threads
+    (record { threads = counts.kept.core.few_threads; cells = counts.ranges.kinds })
 
 -- The counts of each counted object that was born agree.
 pub counts_agree : CountsAgree

@@ -1,13 +1,14 @@
 -- The words of an immortal object never change: every duty about it is a load.
-use Rattle.std.proofs.Common.{◌≡◌, ℕ, ◌+◌, ◌-◌, ◌<◌, true, List, inl, inr, refl, sym, ◌∙◌, subst, arith}
+use Rattle.std.proofs.Common.{◌≡◌, ℕ, ◌+◌, ◌-◌, ◌<◌, Bool, true, List, inl, inr, refl, sym, ap, ◌∙◌, subst, arith}
+use Rattle.std.specs.Prelude.{◌==◌, ◌&&◌}
 use Rattle.std.proofs.lemmas.Bool.{cases_Bool, eqb-true, ne_eqb}
 use Rattle.brc_lang.specs.declared.module.Module.{Module}
 use Rattle.brc_word.specs.Words.{immortal_local, local_part, is_immortal_word, dying_word, closed_word, free_word}
 use Rattle.brc_model.specs.declared.thread.Choice.{Choice}
 use Rattle.brc_model.specs.declared.duty.Reason.TheVariants.{Own, Handed}
 use Rattle.brc_model.specs.declared.duty.Duty.{Duty}
-use Rattle.brc_model.specs.declared.duty.Duty.TheVariants.{RetainAdd, DecideAtZero, SharedLoad, SharedExchange, MergeLoad, MergeExchange, Die, Settle, SettleKind, SettleEnd, TakeSlot, CloseResource, BirthKind, BirthSlot, KindLoad, LockGate, UnlockGate}
-use Rattle.brc_model.specs.declared.address.Address.TheVariants.{Local, Shared, Gate, KindOf, Mark, Slot, Resource}
+use Rattle.brc_model.specs.declared.duty.Duty.TheVariants.{RetainAdd, DecideAtZero, SharedLoad, SharedExchange, MergeLoad, MergeExchange, Die, Settle, SettleKind, SettleEnd, TakeSlot, CloseResource, BirthKind, BirthSlot, KindLoad, LockGate, UnlockGate, SettleCell}
+use Rattle.brc_model.specs.declared.address.Address.TheVariants.{Local, Shared, Gate, KindOf, Mark, Slot, Resource, Cell}
 use Rattle.brc_model.specs.Machine.{Actor, Life, Unborn, Live, Dying, Closed, Machine, written}
 use Rattle.brc_model.specs.StepMachine.{StepMachine, counting, next_machine}
 use Rattle.brc_model.specs.Progress.{StaysAt, ImmortalsStay}
@@ -119,6 +120,14 @@ immortal_resource p n m t a (CloseResource y) rest x here immortal =
     (ne_eqb y x (immortal_apart m.layout y x (head_of p n m t a (CloseResource y) rest here).0 immortal))
 immortal_resource p n m t a _ rest x here immortal = refl
 
+immortal_cell : (p : Accounts) (n : ℕ) (m : Machine) (t : ℕ) (a : Actor) (d : Duty) (rest : List Duty) (x i : ℕ)
+    → AtDuty p n m t a d rest → is_immortal_row m.layout x ≡ true → memory_by m t a d (Cell x i) ≡ m.memory (Cell x i)
+immortal_cell p n m t a (SettleCell y j k) rest x i here immortal =
+    written_apart m.memory (Cell y j) (Cell x i) 0
+    (ap (λ (b : Bool). b && (j == i)) (ne_eqb y x
+    (immortal_apart m.layout y x (head_of p n m t a (SettleCell y j k) rest here).0 immortal)))
+immortal_cell p n m t a _ rest x i here immortal = refl
+
 -- ---- each event
 
 record ImmortalStays (m new : Machine) (x : ℕ) : Type 0 where
@@ -129,6 +138,7 @@ record ImmortalStays (m new : Machine) (x : ℕ) : Type 0 where
   kind : new.memory (KindOf x) ≡ m.memory (KindOf x)
   slot : new.memory (Slot x) ≡ m.memory (Slot x)
   resource : new.memory (Resource x) ≡ m.memory (Resource x)
+  cells : (i : ℕ) → new.memory (Cell x i) ≡ m.memory (Cell x i)
 
 -- every immortal object's
 abbrev AllImmortalsStay : Machine → Machine → Type 0
@@ -136,8 +146,16 @@ AllImmortalsStay m new = (x : ℕ) → is_immortal_row m.layout x ≡ true → I
 
 immortals_shown : (n : ℕ) → ShowsSteps (λ t m new. AllImmortalsStay m new) n
 immortals_shown n = record {
-  stays = λ p t m kept x immortal. record
-      { layout = refl; local = refl; shared = refl; gate = refl; kind = refl; slot = refl; resource = refl };
+  stays = λ p t m kept x immortal. record {
+    layout = refl;
+    local = refl;
+    shared = refl;
+    gate = refl;
+    kind = refl;
+    slot = refl;
+    resource = refl;
+    cells = λ i. refl;
+  };
   sits =
       λ t m new a agenda found shown x immortal. let it = shown x immortal in record {
         layout = it.layout;
@@ -147,10 +165,19 @@ immortals_shown n = record {
         kind = it.kind;
         slot = it.slot;
         resource = it.resource;
+        cells = it.cells;
       };
   moves =
-      λ p t m a moves kept found silent x immortal. record
-      { layout = refl; local = refl; shared = refl; gate = refl; kind = refl; slot = refl; resource = refl };
+      λ p t m a moves kept found silent x immortal. record {
+        layout = refl;
+        local = refl;
+        shared = refl;
+        gate = refl;
+        kind = refl;
+        slot = refl;
+        resource = refl;
+        cells = λ i. refl;
+      };
   does = λ p t m a d rest doing x immortal. record {
     layout = refl;
     local = immortal_word_left p n m t a d rest x (at_duty doing) immortal;
@@ -159,6 +186,7 @@ immortals_shown n = record {
     kind = immortal_kind p n m t a d rest x (at_duty doing) immortal;
     slot = immortal_slot p n m t a d rest x (at_duty doing) immortal;
     resource = immortal_resource p n m t a d rest x (at_duty doing) immortal;
+    cells = λ i. immortal_cell p n m t a d rest x i (at_duty doing) immortal;
   };
 }
 
@@ -187,7 +215,7 @@ immortal_stays p n m event x whole immortal =
       resource = words.resource;
       mark = immortal_mark new.accounts n (counting (next_machine m event)) x new.kept.core still
           ∙ sym (immortal_mark whole.accounts n (counting m) x whole.kept.core immortal);
-      cells = λ i. new.kept.core.cells x i ∙ sym (whole.kept.core.cells x i);
+      cells = words.cells;
     }
 
 pub immortals_stay : (p : Module) (n : ℕ) (m : StepMachine) (event : ℕ × Choice) → CodeInvariant p n m

@@ -18,7 +18,8 @@ use Rattle.brc_model.specs.Machine.{Actor, Life, Unborn, Live, Dying, Closed, Ma
 use Rattle.brc_model.specs.StepMachine.{StepMachine, counting, first_machine}
 use Rattle.brc_model.specs.Safety.{AreCalls, has_gone, AllGone, IsHeldByOpenList, IsSafeNow, Safe}
 use Rattle.brc_model.proofs.Basics.Bag.{empty_bag}
-use Rattle.brc_model.specs.References.{held, one_if, reference_of}
+use Rattle.brc_model.specs.References.{held, one_if, reference_of, word_holds}
+use Rattle.brc_model.specs.Ranges.{HasNoCells}
 use Rattle.brc_model.specs.RowInvariant.{waits, carries, merges, decides, agenda_weight, weight, IsDefault, IsQueued, AtZero, AboveZero, InOwned, InSwapped, InMerged, IsLive, RowInvariant}
 use Rattle.brc_model.specs.Accounts.{Accounts, HoldsAt}
 use Rattle.brc_model.specs.Invariant.{numbers_of, looks, ByRunning, ByExit, ByLook, CoreInvariant}
@@ -26,6 +27,7 @@ use Rattle.brc_model.specs.OpenWork.{AgendaFits, exits, scans, Linked, dies_by, 
 use Rattle.brc_model.specs.Knowledge.{status_word}
 use Rattle.brc_model.proofs.Basics.Lists.{list_all_found}
 use Rattle.brc_model.proofs.Promises.Agreeing.{agrees_at, is_free_of}
+use Rattle.brc_model.proofs.Promises.NoCells.{no_cells_after, first_no_cells}
 use Rattle.brc_model.proofs.Work.Deciders.{sum_zero}
 use Rattle.brc_model.proofs.Keeping.FirstMachine.{first_accounts, first_kept, first_coded}
 use Rattle.brc_model.proofs.Keeping.CodeInvariant.{CodeInvariant}
@@ -73,13 +75,16 @@ gone_holds p n m t k object core done =
       | inr past ↦ core.beyond t (omega (arith, past.0, core.threads)) k object
     ]
 
-none_holds : (p : Accounts) (n : ℕ) (m : Machine) (h : Holder) (object : ℕ) → CoreInvariant p n m → AllGone m
-    → held (record { holder = h; object = object }) m.abstract.references ≡ 0
-none_holds p n m (ByThread t k) object core done = gone_holds p n m t k object core done
-none_holds p n m (ByCell x i) object core done = core.cells_hold x i object
+none_holds : (p : Accounts) (n : ℕ) (m : Machine) (h : Holder) (object : ℕ) → CoreInvariant p n m → HasNoCells m
+    → AllGone m → held (record { holder = h; object = object }) m.abstract.references ≡ 0
+none_holds p n m (ByThread t k) object core none done = gone_holds p n m t k object core done
+none_holds p n m (ByCell x i) object core none done =
+    core.cells_hold x i object ∙ ap (λ (w : ℕ). word_holds w object) (none x i)
 
-pub none_left : (p : Accounts) (n : ℕ) (m : Machine) → CoreInvariant p n m → AllGone m → m.abstract.references ≡ []
-none_left p n m core done = empty_bag m.abstract.references (λ r. none_holds p n m r.holder r.object core done)
+pub none_left : (p : Accounts) (n : ℕ) (m : Machine) → CoreInvariant p n m → HasNoCells m → AllGone m
+    → m.abstract.references ≡ []
+none_left p n m core none done =
+    empty_bag m.abstract.references (λ r. none_holds p n m r.holder r.object core none done)
 
 no_weights : (p : Accounts) (n : ℕ) (m : Machine) (f : Duty → ℕ) → CoreInvariant p n m → AllGone m
     → weight f m.actors ≡ 0
@@ -186,8 +191,9 @@ closed_born p n m x core closed =
 -- ---- the promise
 
 -- A machine of which both layers of the invariant hold is safe.
-pub safe_now : (p : Module) (n : ℕ) (m : StepMachine) → CodeInvariant p n m → 0 < n → IsSafeNow m
-safe_now p n m whole some = record {
+pub safe_now : (p : Module) (n : ℕ) (m : StepMachine) → CodeInvariant p n m → HasNoCells (counting m) → 0 < n
+    → IsSafeNow m
+safe_now p n m whole none some = record {
   none_bad = λ event. (event_keeps p n m event whole).0;
   agrees = λ x pos. agrees_at whole.accounts n (counting m) x whole.kept.core pos;
   kinds = whole.kept.core.kinds;
@@ -198,16 +204,17 @@ safe_now p n m whole some = record {
         let was = closed_born whole.accounts n (counting m) x whole.kept.core (whole.kept.core.closed_is x closed) in (
           whole.kept.core.born_has x was.0 was.1,
           ap (references_to x)
-              (none_left whole.accounts n (counting m) whole.kept.core done),
+              (none_left whole.accounts n (counting m) whole.kept.core none done),
         ),
     λ born.
         let was = whole.kept.core.born_is x born.0 in
         whole.kept.core.closed_has x (born_closed whole.accounts n (counting m) x
         (m.life x) whole.kept.core done was.0 born.1 was.1 refl),
   );
-  none_left = λ done. none_left whole.accounts n (counting m) whole.kept.core done;
+  none_left = λ done. none_left whole.accounts n (counting m) whole.kept.core none done;
   left_in_lists = λ done.
-      subst (All (IsHeldByOpenList m.abstract)) (sym (none_left whole.accounts n (counting m) whole.kept.core done))
+      subst (All (IsHeldByOpenList m.abstract))
+      (sym (none_left whole.accounts n (counting m) whole.kept.core none done))
       (λ i d within. absurd (omega (arith, within)));
 }
 
@@ -224,6 +231,8 @@ first_code_invariant m rows calls fits accepted are_calls some few = record {
 -- Each acceptable module is safe.
 pub accepted_is_safe : (m : Module) → IsModule m → IsAcceptable m → Safe m
 accepted_is_safe m fits accepted = λ rows calls events some most are_calls.
+    let whole = first_code_invariant m rows calls fits accepted are_calls some most in
     safe_now m (1 + length calls) _
-    (code_invariant_after m (1 + length calls) (first_machine m rows calls) events
-    (first_code_invariant m rows calls fits accepted are_calls some most)) (omega arith)
+    (code_invariant_after m (1 + length calls) (first_machine m rows calls) events whole)
+    (no_cells_after m (1 + length calls) (first_machine m rows calls) events whole (first_no_cells m rows calls))
+    (omega arith)

@@ -1,16 +1,18 @@
 -- The duties behind the first know what they knew, after the thread's own step: it closes no row of theirs, and doesn't
 -- change their gates.
 use Rattle.std.proofs.Common.{◌≡◌, ℕ, zero, suc, ◌+◌, ◌-◌, ◌<◌, true, false, cond, List, [], ◌∷◌, ◌++◌, Some, refl, sym, ap, ◌∙◌, subst, arith}
-use Rattle.std.proofs.lemmas.Bool.{eq-eqb, eqb-false, false≢true}
+use Rattle.std.specs.Prelude.{nat_lt}
+use Rattle.std.proofs.lemmas.Bool.{eq-eqb, eqb-false, ltb-true, ltb-false, false≢true}
 use Rattle.brc_model.specs.declared.duty.Duty.{Duty}
 use Rattle.brc_model.specs.declared.duty.Duty.TheVariants.{Die, Settle, SettleCell, SettleEnd, Scan, LockGate, UnlockGate}
-use Rattle.brc_model.specs.declared.address.Address.TheVariants.{Gate}
+use Rattle.brc_model.specs.declared.address.Address.TheVariants.{Gate, Cell}
 use Rattle.brc_model.specs.declared.layout.Layout.{Layout}
-use Rattle.brc_model.specs.Duties.{address_of, new_word, new_head, ready}
+use Rattle.brc_model.specs.Duties.{address_of, new_word, new_head, ready, cells_from, release_found}
 use Rattle.brc_model.specs.Machine.{Actor, Life, Unborn, Dying, Machine, is_running, ended_row, actor_by, done_by, written}
+use Rattle.brc_model.specs.Layout.{IsCounted}
 use Rattle.brc_model.specs.References.{one_if}
 use Rattle.brc_model.specs.Accounts.{Accounts}
-use Rattle.brc_model.specs.Knowledge.{BehindFits, AllBehind, BehindOf, IsDyingWord}
+use Rattle.brc_model.specs.Knowledge.{BehindFits, AllBehind, BehindOf, IsDyingWord, IsEmptyBut}
 use Rattle.brc_model.specs.OpenWork.{is_finalising, finalised, dies_by, ChainFits}
 use Rattle.brc_model.specs.Invariant.{AtDuty}
 use Rattle.brc_model.proofs.Basics.Bag.{one_if_low}
@@ -19,7 +21,8 @@ use Rattle.brc_model.proofs.Basics.Lists.{some_is, none_some}
 use Rattle.brc_model.proofs.Basics.Written.{written_apart, written_load, apart_gate}
 use Rattle.brc_model.proofs.Frame.Alive.{alive_backed}
 use Rattle.brc_model.proofs.Frame.Leaves.{head_of, living_clash}
-use Rattle.brc_model.proofs.Frame.Lives.{next_of, cell_found}
+use Rattle.brc_model.proofs.Frame.Lives.{next_of}
+use Rattle.brc_model.proofs.Frame.Cells.{still_empty, one_emptied, all_emptied, empties_cell}
 use Rattle.brc_model.proofs.Objects.Closing.{GoesOn as LifeGoesOn, BeginsToDie, IsClosed, IsBorn, life_step}
 
 -- ---- the rows of the duties behind
@@ -93,12 +96,14 @@ module _ (p : Accounts) (n : ℕ) (m : Machine) (t : ℕ) (a : Actor) (d : Duty)
         life_stays x here other fits.1,
         fits.2,
         subst (IsDyingWord t) (sym (gate_stays p n m t a d rest x here other fits.1)) fits.3,
+        λ j out. still_empty m t a d x j (fits.4 j out),
       )
   fits_still (SettleEnd x) here apart fits =
       let other = apart x (eq-eqb x x refl) in (
         fits.0,
         life_stays x here other fits.1,
         subst (IsDyingWord t) (sym (gate_stays p n m t a d rest x here other fits.1)) fits.2,
+        λ j. still_empty m t a d x j (fits.3 j),
       )
   fits_still _ here apart fits = tt
 
@@ -138,21 +143,72 @@ behind_ready m t (suc head) (Scan i (suc n) ∷ rest) behind = behind
 behind_ready m t zero (_ ∷ rest) behind = behind
 behind_ready m t (suc head) (_ ∷ rest) behind = behind
 
--- The cells of a dying list are empty, so nothing is released before the next cell.
 behind_next : {layout : Layout} {t head found : ℕ} (m : Machine) (u : ℕ) (d : Duty) (next rest : List Duty)
-    → Continuation layout t head found d next → ((x i k : ℕ) → d ≡ SettleCell x i k → found ≡ 0)
-    → AllBehind m u rest → BehindOf m u (next ++ rest)
-behind_next m u d next rest (Ends inner) empty all = behind_tail m u rest all
-behind_next m u d next rest Finishes empty all = behind_tail m u rest all
-behind_next m u d next rest (GoesOn e leads) empty all = all
-behind_next m u d next rest (Frees x i k y e set leads) empty all =
-    absurd (omega (arith, set, empty x i k refl))
-behind_next m u d next rest SettlesRow empty all = (tt, all)
-behind_next m u d next rest (Claims x set) empty all = (tt, all)
-behind_next m u d next rest (ClaimsNone x) empty all = all
-behind_next m u d next rest (Exits i k) empty all = (tt, all)
-behind_next m u d next rest (Scans i k set) empty all = (tt, (tt, all))
-behind_next m u d next rest (ScansNone i k) empty all = (tt, all)
+    → Continuation layout t head found d next → empties_cell d ≡ false → AllBehind m u rest
+    → BehindOf m u (next ++ rest)
+behind_next m u d next rest (Ends inner) other all = behind_tail m u rest all
+behind_next m u d next rest Finishes other all = behind_tail m u rest all
+behind_next m u d next rest (GoesOn e leads) other all = all
+behind_next m u d next rest (Frees x i k y e set leads) other all = absurd (false≢true (sym other))
+behind_next m u d next rest SettlesRow other all = (tt, all)
+behind_next m u d next rest (Claims x set) other all = (tt, all)
+behind_next m u d next rest (ClaimsNone x) other all = all
+behind_next m u d next rest (Exits i k) other all = (tt, all)
+behind_next m u d next rest (Scans i k set) other all = (tt, (tt, all))
+behind_next m u d next rest (ScansNone i k) other all = (tt, all)
+
+-- ---- the cells of a dying list
+
+-- A release of what a cell held needs to know nothing.
+released_behind : (m : Machine) (t w : ℕ) (next rest : List Duty) → AllBehind m t (next ++ rest)
+    → AllBehind m t ((release_found w ++ next) ++ rest)
+released_behind m t zero next rest all = all
+released_behind m t (suc y) next rest all = (tt, all)
+
+-- The next cell's duty knows what it needs, and so does the row's closing if no cell is left.
+pub cells_known : (m : Machine) (t x i k : ℕ) (rest : List Duty) → IsCounted m.layout x → m.life x ≡ Dying t
+    → IsDyingWord t (m.memory (Gate x)) → IsEmptyBut m.memory x i k → AllBehind m t rest
+    → AllBehind m t (cells_from x i k ++ rest)
+cells_known m t x i k rest counted dies gate empty all =
+    elim (nat_lt i k) as (λ b. nat_lt i k ≡ b
+    → AllBehind m t (cond b (SettleCell x i k ∷ []) (SettleEnd x ∷ []) ++ rest)) [
+      | true ↦ λ e. ((counted, dies, ltb-true i k e, gate, empty), all)
+      | false ↦ λ e. ((counted, dies, gate, all_emptied m.memory x i k (ltb-false i k e) empty), all)
+    ] refl
+
+-- A row whose cells the thread empties is still dying.
+emptying_dies : (p : Accounts) (n : ℕ) (m : Machine) (t : ℕ) (a : Actor) (x i k : ℕ) (rest : List Duty)
+    → AtDuty p n m t a (SettleCell x i k) rest → (done_by m t a (SettleCell x i k) rest).life x ≡ Dying t
+emptying_dies p n m t a x i k rest here =
+    let dies = (head_of p n m t a (SettleCell x i k) rest here).1 in
+    elim (life_step p n m t a (SettleCell x i k) rest x here) [
+      | LifeGoesOn now still ↦ now ∙ dies
+      | BeginsToDie now alive counted none ↦ now
+      | IsClosed now dying counted ended ↦ absurd (none_some x ended)
+      | IsBorn now unborn counted born none ↦ absurd (none_some x born)
+    ]
+
+-- After a cell is emptied, its list's next duty knows what it needs.
+pub emptied_known : (p : Accounts) (n : ℕ) (m : Machine) (t : ℕ) (a : Actor) (x i k : ℕ) (rest : List Duty)
+    → AtDuty p n m t a (SettleCell x i k) rest
+    → AllBehind (done_by m t a (SettleCell x i k) rest) t (cells_from x (i + 1) k ++ rest)
+emptied_known p n m t a x i k rest here =
+    let fits = head_of p n m t a (SettleCell x i k) rest here in
+    cells_known (done_by m t a (SettleCell x i k) rest) t x (i + 1) k rest fits.0
+    (emptying_dies p n m t a x i k rest here) fits.3 (one_emptied m.memory x i k fits.4)
+    (still_behind p n m t a (SettleCell x i k) rest here)
+
+next_behind : (p : Accounts) (n : ℕ) (m : Machine) (t : ℕ) (a : Actor) (d : Duty) (rest : List Duty)
+    → AtDuty p n m t a d rest → BehindOf (done_by m t a d rest) t (next_of m t a d ++ rest)
+next_behind p n m t a (SettleCell x i k) rest here =
+    let new = done_by m t a (SettleCell x i k) rest in
+    behind_tail new t (next_of m t a (SettleCell x i k) ++ rest)
+    (released_behind new t (m.memory (Cell x i)) (cells_from x (i + 1) k) rest
+    (emptied_known p n m t a x i k rest here))
+next_behind p n m t a d rest here =
+    behind_next (done_by m t a d rest) t d (next_of m t a d) rest
+    (continues m.layout t (is_running a.status) a.head d (m.memory (address_of m.layout t a.head d))) refl
+    (still_behind p n m t a d rest here)
 
 -- The duties behind the first of the new agenda know what they need.
 pub behind_after : (p : Accounts) (n : ℕ) (m : Machine) (t : ℕ) (a : Actor) (d : Duty) (rest : List Duty)
@@ -160,9 +216,5 @@ pub behind_after : (p : Accounts) (n : ℕ) (m : Machine) (t : ℕ) (a : Actor) 
     → BehindOf (done_by m t a d rest) t
     (actor_by m.layout t a d rest (m.memory (address_of m.layout t a.head d))).agenda
 behind_after p n m t a d rest here =
-    let found = m.memory (address_of m.layout t a.head d) in
-    let new = done_by m t a d rest in
-    behind_ready new t (new_head a.head d found) (next_of m t a d ++ rest)
-    (behind_next new t d (next_of m t a d) rest
-    (continues m.layout t (is_running a.status) a.head d found)
-    (cell_found p n m t a d here.core) (still_behind p n m t a d rest here))
+    behind_ready (done_by m t a d rest) t (new_head a.head d (m.memory (address_of m.layout t a.head d)))
+    (next_of m t a d ++ rest) (next_behind p n m t a d rest here)

@@ -1,26 +1,32 @@
 -- A thread fits after its own steps on the row that it is finalising: it reads the row's kind, and empties its cells or
 -- closes its resource.
-use Rattle.std.proofs.Common.{◌≡◌, ℕ, ◌+◌, Bool, true, false, cond, List, [], ◌∷◌, ◌++◌, None, refl, sym, ap, ◌∙◌, subst}
-use Rattle.std.specs.Prelude.{◌==◌, nat_lt}
-use Rattle.std.proofs.lemmas.Bool.{ltb-true}
+use Rattle.std.proofs.Common.{◌≡◌, ℕ, zero, suc, ◌+◌, Bool, true, false, cond, List, [], ◌∷◌, ◌++◌, inl, inr, None, refl, sym, ap, ◌∙◌, subst, arith}
+use Rattle.std.specs.Prelude.{◌==◌, ◌&&◌, ◌||◌, nat_lt}
+use Rattle.std.proofs.lemmas.Bool.{ltb-true, ltb-false, ne_eqb, false≢true}
 use Rattle.brc_model.specs.declared.duty.Holding.{Holding}
+use Rattle.brc_model.specs.declared.duty.Holding.TheVariants.{InFlight}
 use Rattle.brc_model.specs.declared.duty.Duty.{Duty}
-use Rattle.brc_model.specs.declared.duty.Duty.TheVariants.{SettleKind, SettleCell, SettleEnd, TakeSlot, CloseResource}
+use Rattle.brc_model.specs.declared.duty.Duty.TheVariants.{ReleaseLoad, SettleKind, SettleCell, SettleEnd, TakeSlot, CloseResource}
 use Rattle.brc_model.specs.declared.address.Address.TheVariants.{Gate, KindOf, Cell, ThreadWord}
 use Rattle.brc_model.specs.Duties.{new_head, cells_of, cells_from, release_found, has_resource}
 use Rattle.brc_model.specs.declared.actor.Status.{Status}
 use Rattle.brc_model.specs.declared.actor.Status.TheVariants.{Gone}
 use Rattle.brc_model.specs.Machine.{Actor, Dying, Machine, status_by, ended_row, actor_by, done_by, born_row, dies_next}
 use Rattle.brc_model.specs.Moves.{take_out}
-use Rattle.brc_model.specs.AbstractState.{moved}
+use Rattle.brc_model.specs.AbstractState.{Reference, same_holding, same, without, moved}
+use Rattle.brc_model.specs.References.{one_if, reference_of, cell_reference}
+use Rattle.brc_word.specs.Words.{kind_part, argument_part}
 use Rattle.brc_model.specs.Accounts.{Accounts, extra_of, lacks_of, extra, lacks}
 use Rattle.brc_model.specs.OpenWork.{Later, Agenda, finalised, is_finalising}
-use Rattle.brc_model.specs.Knowledge.{IsDyingWord, HeadFits}
+use Rattle.brc_model.specs.Knowledge.{IsDyingWord, IsEmptyBut, HeadFits}
 use Rattle.brc_model.proofs.Frame.Leaves.{head_of}
 use Rattle.brc_model.proofs.Frame.Lives.{next_of}
 use Rattle.brc_model.proofs.Stepping.Own.{HeldStep}
 use Rattle.brc_model.proofs.Stepping.Neutral.{ThreadFits, found_by, bag_by, memory_by, agenda_here, life_same, own_neutral}
-use Rattle.brc_model.proofs.Stepping.Counts.{held_same}
+use Rattle.brc_model.proofs.Stepping.Counts.{same_is, held_same}
+use Rattle.brc_model.proofs.Basics.Bag.{held-cons}
+use Rattle.brc_model.proofs.Basics.MovesApart.{held-without_apart}
+use Rattle.brc_model.proofs.Frame.Cells.{one_emptied, all_emptied}
 use Rattle.brc_model.proofs.Stepping.Retains.{ready_first}
 use Rattle.brc_model.proofs.Basics.Continuation.{is_inner}
 use Rattle.brc_model.specs.Invariant.{AtDuty}
@@ -130,23 +136,32 @@ keeps_close x =
 -- The next cell follows, or the row's closing if no cell is left.
 cells_step : (p : Accounts) (n : ℕ) (m : Machine) (t : ℕ) (a : Actor) (d : Duty) (x i k : ℕ) (rest : List Duty)
     → AtDuty p n m t a d rest → (a.status ≡ Gone → ⊥) → SettlingStep m t a d x rest → next_of m t a d ≡ cells_from x i k
+    → IsEmptyBut (done_by m t a d rest).memory x i k
     → ThreadFits p (done_by m t a d rest) t (actor_by m.layout t a d rest (found_by m t a d))
-cells_step p n m t a d x i k rest here alive step next_is =
+cells_step p n m t a d x i k rest here alive step next_is empty =
     elim (nat_lt i k) as (λ b. nat_lt i k ≡ b
     → ThreadFits p (done_by m t a d rest) t (actor_by m.layout t a d rest (found_by m t a d))) [
       | true ↦ λ e.
           let next : next_of m t a d ≡ SettleCell x i k ∷ [] =
           next_is ∙ ap (λ (b : Bool). cond b (SettleCell x i k ∷ []) (SettleEnd x ∷ [])) e in
           settles_on p n m t a d (SettleCell x i k) x rest here alive step (keeps_cell x i k) next
-          (λ dies gate b. (step.above, dies, ltb-true i k e, gate))
+          (λ dies gate b. (step.above, dies, ltb-true i k e, gate, empty))
       | false ↦ λ e.
           let next : next_of m t a d ≡ SettleEnd x ∷ [] =
           next_is ∙ ap (λ (b : Bool). cond b (SettleCell x i k ∷ []) (SettleEnd x ∷ [])) e in
+          let none = all_emptied (done_by m t a d rest).memory x i k (ltb-false i k e) empty in
           settles_on p n m t a d (SettleEnd x) x rest here alive step (keeps_end x) next
-          (λ dies gate b. (step.above, dies, gate))
+          (λ dies gate b. (step.above, dies, gate, none))
     ] refl
 
 -- ---- the row's kind
+
+-- A file or a socket has no cells.
+resource_cells : (word : ℕ) → has_resource word ≡ true → cells_of word ≡ 0
+resource_cells word resource =
+    ap (λ (b : Bool). cond b (argument_part word) 0) (ne_eqb (kind_part word) 3 (λ list.
+    let none : has_resource word ≡ false = ap (λ (k : ℕ). (k == 4) || (k == 5)) list in
+    absurd (false≢true (sym none ∙ resource))))
 
 -- `DyingResource` and `DyingCells`: a file or a socket has a resource to close, and a list has cells to empty.
 pub thread_after_settle_kind : (p : Accounts) (n : ℕ) (m : Machine) (t : ℕ) (a : Actor) (x : ℕ) (rest : List Duty)
@@ -175,40 +190,125 @@ thread_after_settle_kind p n m t a x rest here alive =
       | true ↦
           λ e. settles_on p n m t a (SettleKind x) (TakeSlot x) x rest here alive step (keeps_slot x)
           (ap (λ (b : Bool). cond b (TakeSlot x ∷ []) (cells_from x 0 (cells_of word))) e)
-          (λ dies gate b. (fits.0, dies, gate))
+          (λ dies gate b. (
+            fits.0,
+            dies,
+            gate,
+            λ j.
+                let few : cells_of word ≡ 0 = resource_cells word e in here.core.cells_end x j (omega (arith, few)),
+          ))
       | false ↦
           λ e. cells_step p n m t a (SettleKind x) x 0 (cells_of word) rest here alive step
           (ap (λ (b : Bool). cond b (TakeSlot x ∷ []) (cells_from x 0 (cells_of word))) e)
+          (λ j out. here.core.cells_end x j (elim out [
+            | inl low ↦ absurd (omega (arith, low))
+            | inr high ↦ high
+          ]))
     ] refl
 
 -- ---- the row's cells
 
--- `CellEmptied`: the cell is empty, as all cells are, so no release follows.
+-- The bag has the reference in flight that was a cell's.
+held_taken_out : (bag : List Reference) (t x i y : ℕ) (agenda later : List Duty)
+    → ((k : Holding) (object : ℕ) → extra_of agenda k object ≡ false)
+    → ((k : Holding) (object : ℕ) → lacks_of agenda k object ≡ false)
+    → ((k : Holding) (object : ℕ) → extra_of later k object ≡ (same_holding InFlight k && (y == object)))
+    → ((k : Holding) (object : ℕ) → lacks_of later k object ≡ false)
+    → HeldStep bag (reference_of t InFlight y ∷ without (cell_reference x i y) bag) t agenda later
+held_taken_out bag t x i y agenda later no_more no_less more less = record {
+  each = λ k object.
+      let r = reference_of t k object in
+      let gained : one_if (same r (reference_of t InFlight y)) ≡ one_if (extra_of later k object) =
+      ap one_if (same_is t y InFlight k object ∙ sym (more k object)) in
+      let a : one_if (extra_of agenda k object) ≡ 0 = ap one_if (no_more k object) in
+      let b : one_if (lacks_of agenda k object) ≡ 0 = ap one_if (no_less k object) in
+      let c : one_if (lacks_of later k object) ≡ 0 = ap one_if (less k object) in
+      omega (
+        arith,
+        held-cons r (reference_of t InFlight y) (without (cell_reference x i y) bag),
+        held-without_apart r (cell_reference x i y) bag refl,
+        gained,
+        a,
+        b,
+        c,
+      );
+}
+
+-- The row that the list's next duty finalises is the same.
+cells_finalise : (x i k j : ℕ) (rest : List Duty) (z : ℕ)
+    → finalised (cells_from x j k ++ rest) z ≡ finalised (SettleCell x i k ∷ rest) z
+cells_finalise x i k j rest z =
+    elim (nat_lt j k) as
+    (λ b. finalised (cond b (SettleCell x j k ∷ []) (SettleEnd x ∷ []) ++ rest) z ≡ finalised (SettleCell x i k ∷ rest)
+    z) [
+      | true ↦ refl
+      | false ↦ refl
+    ]
+
+cells_later : (used : ℕ) (status : Status) (x j k : ℕ) (rest : List Duty) → Later used status rest
+    → Later used status (cells_from x j k ++ rest)
+cells_later used status x j k rest later =
+    elim (nat_lt j k) as
+    (λ b. Later used status (cond b (SettleCell x j k ∷ []) (SettleEnd x ∷ []) ++ rest)) [
+      | true ↦ later
+      | false ↦ later
+    ]
+
+-- `CellEmptied`: what the cell held is released before the next cell is emptied.
 pub thread_after_settle_cell : (p : Accounts) (n : ℕ) (m : Machine) (t : ℕ) (a : Actor) (x i k : ℕ) (rest : List Duty)
     → AtDuty p n m t a (SettleCell x i k) rest → (a.status ≡ Gone → ⊥)
     → ThreadFits p (done_by m t a (SettleCell x i k) rest) t
     (actor_by m.layout t a (SettleCell x i k) rest (found_by m t a (SettleCell x i k)))
 thread_after_settle_cell p n m t a x i k rest here alive =
     let fits = head_of p n m t a (SettleCell x i k) rest here in
-    let empty : release_found (m.memory (Cell x i)) ≡ [] = ap release_found (here.core.cells x i) in
-    cells_step p n m t a (SettleCell x i k) x (i + 1) k rest here alive (record {
-      above = fits.0;
-      dies = fits.1;
-      gate = fits.3;
-      none_ends = refl;
-      none_born = refl;
-      same_head = refl;
-      same_status = refl;
-      gates = λ y. refl;
-      word = refl;
-      hands = λ y. refl;
-      held =
-          λ e more less. subst
-          (λ (w : ℕ). HeldStep m.abstract.references (moved m.abstract (take_out t x i w)).references t
-          (SettleCell x i k ∷ rest) (e ∷ rest)) (sym (here.core.cells x i))
-          (held_same m.abstract.references t (SettleCell x i k ∷ rest) (e ∷ rest) more less);
-      later = agenda_here p n m t a (SettleCell x i k) rest here alive;
-    }) (ap (λ (l : List Duty). l ++ cells_from x (i + 1) k) empty)
+    let later = agenda_here p n m t a (SettleCell x i k) rest here alive in
+    let bag = m.abstract.references in
+    elim (m.memory (Cell x i)) as (λ w. m.memory (Cell x i) ≡ w
+    → ThreadFits p (done_by m t a (SettleCell x i k) rest) t
+    (actor_by m.layout t a (SettleCell x i k) rest (found_by m t a (SettleCell x i k)))) [
+      | zero ↦ λ is.
+          let empty : release_found (m.memory (Cell x i)) ≡ [] = ap release_found is in
+          cells_step p n m t a (SettleCell x i k) x (i + 1) k rest here alive (record {
+            above = fits.0;
+            dies = fits.1;
+            gate = fits.3;
+            none_ends = refl;
+            none_born = refl;
+            same_head = refl;
+            same_status = refl;
+            gates = λ y. refl;
+            word = refl;
+            hands = λ y. refl;
+            held =
+                λ e more less. subst
+                (λ (w : ℕ). HeldStep bag (moved m.abstract (take_out t x i w)).references t
+                (SettleCell x i k ∷ rest) (e ∷ rest)) (sym is)
+                (held_same bag t (SettleCell x i k ∷ rest) (e ∷ rest) more less);
+            later = later;
+          }) (ap (λ (l : List Duty). l ++ cells_from x (i + 1) k) empty) (one_emptied m.memory x i k fits.4)
+      | suc y ↦ λ is.
+          let next = ReleaseLoad y InFlight ∷ cells_from x (i + 1) k in
+          own_neutral p n m t a (SettleCell x i k) rest next (next ++ rest) here alive (record {
+            next_is = ap (λ (w : ℕ). release_found w ++ cells_from x (i + 1) k) is;
+            none_dies = refl;
+            none_ends = refl;
+            none_born = refl;
+            same_head = refl;
+            same_status = refl;
+            agenda_is = ready_first a.head (ReleaseLoad y InFlight) (cells_from x (i + 1) k ++ rest) refl;
+            gates = λ z own. refl;
+            word = refl;
+            hands = λ z. cells_finalise x i k (i + 1) rest z;
+            held =
+                subst
+                (λ (w : ℕ). HeldStep bag (moved m.abstract (take_out t x i w)).references t
+                (SettleCell x i k ∷ rest) (next ++ rest)) (sym is)
+                (held_taken_out bag t x i y (SettleCell x i k ∷ rest) (next ++ rest) (λ h o. refl) (λ h o. refl)
+                (λ h o. refl) (λ h o. refl));
+            fits = cells_later a.used a.status x (i + 1) k rest later;
+            knows = λ b status head used. tt;
+          })
+    ] refl
 
 -- ---- the row's resource
 
@@ -232,7 +332,7 @@ thread_after_take_slot p n m t a x rest here alive =
       hands = λ y. refl;
       held = λ e more less. held_same m.abstract.references t (TakeSlot x ∷ rest) (e ∷ rest) more less;
       later = agenda_here p n m t a (TakeSlot x) rest here alive;
-    }) (keeps_close x) refl (λ dies gate b. (fits.0, dies, gate))
+    }) (keeps_close x) refl (λ dies gate b. (fits.0, dies, gate, fits.3))
 
 -- The thread fits after `ResourceClosed`.
 pub thread_after_close_resource : (p : Accounts) (n : ℕ) (m : Machine) (t : ℕ) (a : Actor) (x : ℕ) (rest : List Duty)
@@ -254,4 +354,4 @@ thread_after_close_resource p n m t a x rest here alive =
       hands = λ y. refl;
       held = λ e more less. held_same m.abstract.references t (CloseResource x ∷ rest) (e ∷ rest) more less;
       later = agenda_here p n m t a (CloseResource x) rest here alive;
-    }) (keeps_end x) refl (λ dies gate b. (fits.0, dies, gate))
+    }) (keeps_end x) refl (λ dies gate b. (fits.0, dies, gate, fits.3))

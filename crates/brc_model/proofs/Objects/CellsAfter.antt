@@ -1,0 +1,59 @@
+-- After each step too, the cells of rows without an object are empty, and so are those past an object's number of
+-- cells.
+use Rattle.std.proofs.Common.{◌≡◌, ℕ, ◌≤◌, List, inl, inr, Some, sym, subst, arith}
+use Rattle.brc_model.specs.declared.duty.Duty.{Duty}
+use Rattle.brc_model.specs.declared.duty.Duty.TheVariants.{SettleEnd}
+use Rattle.brc_model.specs.declared.address.Address.TheVariants.{KindOf, Cell}
+use Rattle.brc_model.specs.Duties.{cells_of}
+use Rattle.brc_model.specs.Machine.{Actor, Life, Unborn, Live, Dying, Closed, Machine, ended_row, done_by}
+use Rattle.brc_model.specs.Accounts.{Accounts}
+use Rattle.brc_model.specs.Invariant.{AtDuty, CellFits}
+use Rattle.brc_model.proofs.Basics.Lists.{some_is, none_some}
+use Rattle.brc_model.proofs.Frame.Cells.{still_empty}
+use Rattle.brc_model.proofs.Frame.Leaves.{head_of}
+use Rattle.brc_model.proofs.Objects.Closing.{GoesOn, BeginsToDie, IsClosed, IsBorn, life_step}
+use Rattle.brc_model.proofs.Objects.KindsAfter.{stored_at_duty}
+use Rattle.brc_model.proofs.Stepping.Neutral.{memory_by}
+
+-- ---- rows without an object
+
+-- The cell still fits a row whose life doesn't change.
+cell_goes_on : (m : Machine) (t : ℕ) (a : Actor) (d : Duty) (x i : ℕ) (l : Life) → CellFits l (m.memory (Cell x i))
+    → CellFits l (memory_by m t a d (Cell x i))
+cell_goes_on m t a d x i Unborn fits = still_empty m t a d x i fits
+cell_goes_on m t a d x i Live fits = tt
+cell_goes_on m t a d x i (Dying u) fits = tt
+cell_goes_on m t a d x i Closed fits = still_empty m t a d x i fits
+
+-- The cells of a row are empty when it is closed.
+ended_cell : (p : Accounts) (n : ℕ) (m : Machine) (t : ℕ) (a : Actor) (d : Duty) (rest : List Duty) (x i : ℕ)
+    → AtDuty p n m t a d rest → ended_row d ≡ Some x → m.memory (Cell x i) ≡ 0
+ended_cell p n m t a (SettleEnd y) rest x i here ended =
+    subst (λ (z : ℕ). m.memory (Cell z i) ≡ 0) (some_is y x ended)
+    ((head_of p n m t a (SettleEnd y) rest here).3 i)
+ended_cell p n m t a _ rest x i here ended = absurd (none_some x ended)
+
+-- After a thread's step each cell fits its row's life.
+pub cells_after : (p : Accounts) (n : ℕ) (m : Machine) (t : ℕ) (a : Actor) (d : Duty) (rest : List Duty)
+    → AtDuty p n m t a d rest → (x i : ℕ) → CellFits ((done_by m t a d rest).life x) (memory_by m t a d (Cell x i))
+cells_after p n m t a d rest here x i =
+    let Fits : Life → Type 0 = λ l. CellFits l (memory_by m t a d (Cell x i)) in
+    elim (life_step p n m t a d rest x here) [
+      | GoesOn now other ↦ subst Fits (sym now) (cell_goes_on m t a d x i (m.life x) (here.core.cells x i))
+      | BeginsToDie now alive positive none ↦ subst Fits (sym now) tt
+      | IsClosed now dying positive ended ↦
+          subst Fits (sym now) (still_empty m t a d x i (ended_cell p n m t a d rest x i here ended))
+      | IsBorn now unborn above born none ↦ subst Fits (sym now) tt
+    ]
+
+-- ---- cells past an object's number of cells
+
+-- They stay empty.
+pub cells_end_after : (p : Accounts) (n : ℕ) (m : Machine) (t : ℕ) (a : Actor) (d : Duty) (rest : List Duty)
+    → AtDuty p n m t a d rest → (x i : ℕ) → cells_of (memory_by m t a d (KindOf x)) ≤ i
+    → memory_by m t a d (Cell x i) ≡ 0
+cells_end_after p n m t a d rest here x i past =
+    still_empty m t a d x i (here.core.cells_end x i (elim (stored_at_duty p n m t a d rest here x) [
+      | inl none ↦ subst (λ (w : ℕ). cells_of w ≤ i) (sym none) (omega arith)
+      | inr same ↦ subst (λ (w : ℕ). cells_of w ≤ i) same past
+    ]))
