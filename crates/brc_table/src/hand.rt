@@ -1,9 +1,8 @@
 //! The right of one thread to act on a table.
 
-ghost use Rattle.std.specs.Prelude.{◌≡◌, ◌<◌, ◌%◌, slice_set};
-ghost use Rattle.brc_model.specs.Limits.{row_limit, thread_limit};
+ghost use Rattle.std.specs.Prelude.{◌≡◌, ◌<◌};
+ghost use Rattle.brc_model.specs.Limits.{thread_limit};
 ghost use Rattle.brc_model.specs.Machine.{is_running};
-ghost use Rattle.brc_table.specs.Hands.{carried_of};
 ghost use Rattle.brc_table.specs.Views.{RowsAreThere, is_given};
 
 use crate::view::View;
@@ -24,16 +23,21 @@ pub struct Hand<T> {
     pub(crate) used: u32,
     // Of main's hand, by thread: whether its hand was given out.
     pub(crate) given: [bool; THREADS],
-    // Of each begun merge of a row of the thread's own block, the local count that was swapped out, by the row modulo
-    // the most rows of a block.
-    pub(crate) carried: [Option<u32>; BLOCK],
+    pub(crate) merge: Option<Merge>,
+}
+
+/// A merge that a hand has begun: it has swapped the object's local count out, and not yet added it to the shared
+/// count.
+#[derive(Clone, Copy, Debug)]
+pub struct Merge {
+    /// The object's row.
+    pub row: u32,
+    /// The local count that was swapped out.
+    pub carried: u32,
 }
 
 /// The most threads: main and 32 workers.
 pub(crate) const THREADS: usize = 33;
-
-/// The most rows of a thread's block.
-pub(crate) const BLOCK: usize = 1024;
 
 impl<T> Model for Hand<T> {
     ghost use Rattle.std.specs.Prelude.{◌≡◌, []};
@@ -43,7 +47,7 @@ impl<T> Model for Hand<T> {
 
     ghost Value = { HandState };
 
-    ghost view = { λ h. record { table = h.seat.table_id; view = h.seat.me.0; carried = h.carried } };
+    ghost view = { λ h. record { table = h.seat.table_id; view = h.seat.me.0; merge = h.merge } };
 
     ghost invariant = { λ h. (h.seat.me.1 ≡ [])
         × (h.thread ≡ h.seat.me.0.thread)
@@ -84,20 +88,19 @@ impl<T> Hand<T> {
         self.given[thread as usize]
     }
 
-    /// Returns the local count that the hand carries from the row, if it has begun a merge of it.
-    pub fn carried(&self, row: u32) -> Option<u32>
-        ensures { result ≡ carried_of self.now row }
+    /// Returns the merge that the hand remembers.
+    pub fn merge(&self) -> Option<Merge>
+        ensures { result ≡ self.now.merge }
     {
-        self.carried[row as usize % BLOCK]
+        self.merge
     }
 
-    /// Remembers what the hand carries from the row, or that it carries nothing.
-    pub fn remember(&mut self, row: u32, carried: Option<u32>)
-        ensures carried { self.new.carried ≡ slice_set self.old.carried (row % row_limit) carried }
-        ensures row { carried_of self.new row ≡ carried }
+    /// Remembers a merge, or none.
+    pub fn remember(&mut self, merge: Option<Merge>)
+        ensures merge { self.new.merge ≡ merge }
         ensures same { (self.new.table ≡ self.old.table) × (self.new.view ≡ self.old.view) }
     {
-        self.carried[row as usize % BLOCK] = carried;
+        self.merge = merge;
     }
 
     /// States that the objects to which the hand holds references, and those of its duties, have rows.

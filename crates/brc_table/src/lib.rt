@@ -15,7 +15,7 @@ mod steps;
 mod view;
 mod words;
 
-pub use hand::Hand;
+pub use hand::{Hand, Merge};
 pub use laws::counts_agree_in_every_table;
 pub use rule::Counting;
 pub use view::{Event, View};

@@ -1,11 +1,11 @@
 //! Main gives out the hands of the workers.
 
-ghost use Rattle.std.specs.Prelude.{◌≡◌, ℕ};
+ghost use Rattle.std.specs.Prelude.{◌≡◌, ℕ, None};
 ghost use Rattle.brc_table.specs.Views.{giving, worker_view};
-ghost use Rattle.brc_table.specs.Hands.{IsOf, CarriesNothing};
+ghost use Rattle.brc_table.specs.Hands.{IsOf};
 ghost use Rattle.brc_table.specs.Giving.{MayGive};
 
-use crate::hand::{BLOCK, Hand, THREADS};
+use crate::hand::{Hand, THREADS};
 use crate::view::View;
 use crate::words::Words;
 use atomic_table::Split;
@@ -41,8 +41,7 @@ impl<T: Drop> Words<T> {
         ensures worker { IsOf self.now result }
         ensures main_view { main.new.view ≡ giving main.old.view thread }
         ensures worker_view { result.view ≡ worker_view self.now.layout thread }
-        ensures carried { main.new.carried ≡ main.old.carried }
-        ensures none { CarriesNothing result }
+        ensures merges { (main.new.merge ≡ main.old.merge) × (result.merge ≡ None) }
     {
         self.give_out::<Brand>(main, thread)
     }
@@ -56,8 +55,7 @@ impl<T: Drop> Words<T> {
         ensures worker { IsOf self.now result }
         ensures main_view { main.new.view ≡ giving main.old.view thread }
         ensures worker_view { result.view ≡ worker_view self.now.layout thread }
-        ensures carried { main.new.carried ≡ main.old.carried }
-        ensures none { CarriesNothing result }
+        ensures merges { (main.new.merge ≡ main.old.merge) × (result.merge ≡ None) }
     {
         references_are_handed_over();
         self.layout_is_plain();
@@ -70,7 +68,7 @@ impl<T: Drop> Words<T> {
             head: 0,
             used: 0,
             given: [false; THREADS],
-            carried: [None; BLOCK],
+            merge: None,
         }
     }
 }

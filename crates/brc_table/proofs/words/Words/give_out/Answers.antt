@@ -1,12 +1,11 @@
-use Rattle.std.proofs.Common.{◌≡◌, ℕ, ◌<◌, ◌%◌, None, [], true, set, ap, sym, ◌∙◌, subst, arith}
+use Rattle.std.proofs.Common.{◌≡◌, ℕ, ◌<◌, [], true, set, ap, sym, ◌∙◌, subst, arith}
 use Rattle.brc_model.specs.declared.layout.Layout.{Layout}
-use Rattle.brc_model.specs.Limits.{row_limit, thread_limit}
+use Rattle.brc_model.specs.Limits.{thread_limit}
 use Rattle.brc_model.specs.Machine.{is_running}
 use Rattle.brc_table.specs.declared.view.View.{View}
 use Rattle.brc_table.specs.Views.{RowsAreThere, IsGivenBy, giving, worker_view}
 use Rattle.brc_table.specs.Hands.{TableState, HandState}
 use Rattle.brc_table.specs.Giving.{MayGive}
-use Rattle.brc_table.proofs.Lists.{get_or-same}
 use Rattle.brc_table.proofs.Splitting.{splits}
 use Rattle.brc_table.proofs.GivenHands.{giving_there, given_by, parts}
 use Rattle.brc_table.proofs.NewHands.{worker_fits}
@@ -55,7 +54,3 @@ invariant_of-result g c =
     let may = subst (λ (v : View). MayGive v c.args.thread) (sym view_is) c.requires.may_give in
     worker_fits main.layout c.args.thread c.split_seat-seat.result.me may.some_worker may.known_worker
     (c.split_seat-seat.ensures.4 ∙ ap (λ (k : ℕ). (worker_view main.layout k, [])) (sym c.requires.number))
-
--- It carries nothing.
-pub returns-clause-none : goal.returns-clause-none
-returns-clause-none g c = λ x. get_or-same row_limit (x % row_limit) None

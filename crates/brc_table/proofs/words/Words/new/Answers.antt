@@ -1,9 +1,8 @@
-use Rattle.std.proofs.Common.{ℕ, ◌<◌, ◌≤◌, ◌%◌, None, refl, sym, subst}
+use Rattle.std.proofs.Common.{ℕ, ◌<◌, ◌≤◌, refl, sym, subst}
 use Rattle.brc_model.specs.Limits.{worker_limit, row_limit}
 use Rattle.brc_model.specs.Counting.{IsPlainLayout}
 use Rattle.brc_table.specs.Opening.{AreFirst, plain_layout}
 use Rattle.brc_table.proofs.Opening.{opening}
-use Rattle.brc_table.proofs.Lists.{get_or-same}
 use Rattle.brc_table.proofs.NewHands.{main_fits}
 use Rattle.brc_table.proofs.words.Words.new.Goals as goal
 
@@ -28,6 +27,3 @@ pub invariant_of-main : goal.invariant_of-main
 invariant_of-main g c =
     main_fits (plain_layout c.args.workers c.args.rows) c.in_ok-table.seat.me
     (is_plain c.args.workers c.args.rows c.requires.workers c.requires.rows) c.in_ok-table.ensures.4
-
-pub returns-clause-none : goal.returns-clause-none
-returns-clause-none g c = λ x. get_or-same row_limit (x % row_limit) None
