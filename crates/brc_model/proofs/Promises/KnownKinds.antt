@@ -90,7 +90,8 @@ true_put words s rows x slot row in_slots in_rows new old v =
           (sym (row_of-set_same rows x row in_rows)) there)
       | inr other ↦
           let there : HasTrueKind words (slot_of (put s x slot) v) (row_of rows v) =
-          subst (λ (w : Slot). HasTrueKind words w (row_of rows v)) (sym (slot_of-put_other s x v slot other.1)) (old v) in
+          subst (λ (w : Slot). HasTrueKind words w (row_of rows v)) (sym (slot_of-put_other s x v slot other.1))
+          (old v) in
           subst (λ (w : Option ℕ). HasTrueKind words (slot_of (put s x slot) v) w)
           (sym (row_of-set_other rows x v row other.1)) there
     ]
@@ -223,8 +224,8 @@ birth_leaves code words layout t used left at variables s i to word otherwise ki
     empty =
     either (Leaves code words) (has_room layout t used) _ _
     (λ room found stored.
-    goes_on_put code words left at (at + 1) variables s i Success to (Owned kind) (Some (row_at layout t used)) here next
-    owned low
+    goes_on_put code words left at (at + 1) variables s i Success to (Owned kind) (Some (row_at layout t used)) here
+    next owned low
     (λ x is. inr (ap (λ (y : ℕ). kind_of_word (words y)) (sym (some_is (row_at layout t used) x is))
     ∙ ap kind_of_word stored ∙ names)))
     (goes_on_put code words left at otherwise variables s i FaultExit to Empty None here else_at empty low
@@ -286,7 +287,8 @@ instruction_leaves code words layout t used left at variables s (As from kind ot
     (true_with_kind words s variables from kind (omega (arith, here.operands.0, here.inside.slots))
     (λ x this. inr (ap (λ (y : ℕ). kind_of_word (words y)) (some_is x row (sym this ∙ is)) ∙ ap kind_of_word (sym seen)
     ∙ same_kind_is (kind_of_word found) kind same)) here.known))
-    (goes_on code words left at otherwise variables variables s (As from kind otherwise) FaultExit here refl here.known))
+    (goes_on code words left at otherwise variables variables s (As from kind otherwise) FaultExit here refl
+    here.known))
 instruction_leaves code words layout t used left at variables s (Goto to) here =
     goes_on code words left at to variables variables s (Goto to) Success here refl here.known
 instruction_leaves code words layout t used left at variables s (Ret from) here =
