@@ -9,7 +9,8 @@ use Rattle.std.proofs.lemmas.Slice.Eq.{bytes_eq-Decides}
 use Rattle.brc_lang.specs.declared.kind.Kind.{Kind}
 use Rattle.brc_lang.specs.declared.kind.Kind.TheVariants as kinds
 use Rattle.brc_lang.specs.declared.module.Instr.{Instr}
-use Rattle.brc_lang.specs.declared.module.Instr.TheVariants.{Num, List as ListObject, NoneObject, Newref, Move, Drop, Goto, Ret, Fail, As}
+use Rattle.brc_lang.specs.declared.module.Instr.TheVariants.{Num, List as ListObject, NoneObject, Newref, Move}
+use Rattle.brc_lang.specs.declared.module.Instr.TheVariants.{Drop, Lock, Unlock, As, Goto, Ret, Fail}
 use Rattle.brc_lang.specs.declared.fault.FaultCode.{FaultCode}
 use Rattle.brc_lang.specs.declared.fault.FaultCode.TheVariants.{UnknownWord}
 use Rattle.brc_lang.specs.Grammar.{variable, target, instruction_words, instruction, IsInstruction, kind_name}
@@ -257,18 +258,26 @@ words_spelled (w ∷ ws) i read =
     (λ same e. unary (codes "drop") (λ n. Drop n) w ws i (λ n. refl) (λ n lt. lt) (same_text w (codes "drop") same)
     e)
     (λ read6.
-    either_way (bytes_eq w (codes "as")) _ _ (Ok i) read6
-    (λ same e. as_spelled w ws i (same_text w (codes "as") same) e)
+    either_way (bytes_eq w (codes "lock")) _ _ (Ok i) read6
+    (λ same e. unary (codes "lock") (λ n. Lock n) w ws i (λ n. refl) (λ n lt. lt) (same_text w (codes "lock") same)
+    e)
     (λ read7.
-    either_way (bytes_eq w (codes "goto")) _ _ (Ok i) read7
-    (λ same e. goto_spelled w ws i (same_text w (codes "goto") same) e)
+    either_way (bytes_eq w (codes "unlock")) _ _ (Ok i) read7
+    (λ same e. unary (codes "unlock") (λ n. Unlock n) w ws i (λ n. refl) (λ n lt. lt)
+    (same_text w (codes "unlock") same) e)
     (λ read8.
-    either_way (bytes_eq w (codes "ret")) _ _ (Ok i) read8
-    (λ same e. unary (codes "ret") (λ n. Ret n) w ws i (λ n. refl) (λ n lt. lt) (same_text w (codes "ret") same) e)
+    either_way (bytes_eq w (codes "as")) _ _ (Ok i) read8
+    (λ same e. as_spelled w ws i (same_text w (codes "as") same) e)
     (λ read9.
-    either_way (bytes_eq w (codes "fail")) _ (Err UnknownWord) (Ok i) read9
+    either_way (bytes_eq w (codes "goto")) _ _ (Ok i) read9
+    (λ same e. goto_spelled w ws i (same_text w (codes "goto") same) e)
+    (λ read10.
+    either_way (bytes_eq w (codes "ret")) _ _ (Ok i) read10
+    (λ same e. unary (codes "ret") (λ n. Ret n) w ws i (λ n. refl) (λ n lt. lt) (same_text w (codes "ret") same) e)
+    (λ read11.
+    either_way (bytes_eq w (codes "fail")) _ (Err UnknownWord) (Ok i) read11
     (λ same e. fail_spelled w ws i (same_text w (codes "fail") same) e)
-    (λ never. absurd cc))))))))))
+    (λ never. absurd cc))))))))))))
 
 pub instruction_spelled : (text : List ℕ) (i : Instr) → instruction_in (words text) ≡ Ok i
     → (text ≡ instruction i) × IsInstruction i
@@ -295,6 +304,8 @@ words_again (NoneObject to) fits = rw (variable_again to fits) refl
 words_again (Newref to from) fits = rw (variable_again to fits.0, variable_again from fits.1) refl
 words_again (Move to from) fits = rw (variable_again to fits.0, variable_again from fits.1) refl
 words_again (Drop from) fits = rw (variable_again from fits) refl
+words_again (Lock object) fits = rw (variable_again object fits) refl
+words_again (Unlock object) fits = rw (variable_again object fits) refl
 words_again (As from kind otherwise) fits =
     rw (variable_again from fits.0, kind_again kind fits.1, target_again otherwise fits.2) refl
 words_again (Goto to) fits = rw (target_again to fits) refl
@@ -320,6 +331,8 @@ words_plain (NoneObject to) fits = ((refl, refl), (variable_plain to fits, tt))
 words_plain (Newref to from) fits = ((refl, refl), (variable_plain to fits.0, (variable_plain from fits.1, tt)))
 words_plain (Move to from) fits = ((refl, refl), (variable_plain to fits.0, (variable_plain from fits.1, tt)))
 words_plain (Drop from) fits = ((refl, refl), (variable_plain from fits, tt))
+words_plain (Lock object) fits = ((refl, refl), (variable_plain object fits, tt))
+words_plain (Unlock object) fits = ((refl, refl), (variable_plain object fits, tt))
 words_plain (As from kind otherwise) fits = (
   (refl, refl),
   (variable_plain from fits.0, (kind_plain kind, ((refl, refl), (target_plain otherwise fits.2, tt)))),
@@ -343,6 +356,8 @@ instruction_not_end (NoneObject to) = refl
 instruction_not_end (Newref to from) = refl
 instruction_not_end (Move to from) = refl
 instruction_not_end (Drop from) = refl
+instruction_not_end (Lock object) = refl
+instruction_not_end (Unlock object) = refl
 instruction_not_end (As from kind otherwise) = refl
 instruction_not_end (Goto to) = refl
 instruction_not_end (Ret from) = refl

@@ -142,10 +142,12 @@ instruction_own (w ∷ ws) =
     (own_either (bytes_eq w (codes "newref")) _ _ (own_then (two_variables_in ws) _ (two_variables_own ws) (λ v. tt))
     (own_either (bytes_eq w (codes "move")) _ _ (own_then (two_variables_in ws) _ (two_variables_own ws) (λ v. tt))
     (own_either (bytes_eq w (codes "drop")) _ _ (own_then (one_variable_in ws) _ (one_variable_own ws) (λ n. tt))
+    (own_either (bytes_eq w (codes "lock")) _ _ (own_then (one_variable_in ws) _ (one_variable_own ws) (λ n. tt))
+    (own_either (bytes_eq w (codes "unlock")) _ _ (own_then (one_variable_in ws) _ (one_variable_own ws) (λ n. tt))
     (own_either (bytes_eq w (codes "as")) _ _ (as_own ws)
     (own_either (bytes_eq w (codes "goto")) _ _ (own_then (one_target_in ws) _ (one_target_own ws) (λ n. tt))
     (own_either (bytes_eq w (codes "ret")) _ _ (own_then (one_variable_in ws) _ (one_variable_own ws) (λ n. tt))
-    (own_either (bytes_eq w (codes "fail")) _ (Err UnknownWord) (fail_own ws) own_word)))))))))
+    (own_either (bytes_eq w (codes "fail")) _ (Err UnknownWord) (fail_own ws) own_word)))))))))))
 
 -- ---- lines
 

@@ -10,7 +10,8 @@ use Rattle.brc_lang.specs.declared.kind.Kind.{Kind}
 use Rattle.brc_lang.specs.declared.kind.Kind.TheVariants as kinds
 use Rattle.brc_lang.specs.declared.module.Function.{Function}
 use Rattle.brc_lang.specs.declared.module.Instr.{Instr}
-use Rattle.brc_lang.specs.declared.module.Instr.TheVariants.{Num, List as ListObject, NoneObject, Newref, Move, Drop, Goto, Ret, Fail, As}
+use Rattle.brc_lang.specs.declared.module.Instr.TheVariants.{Num, List as ListObject, NoneObject, Newref, Move}
+use Rattle.brc_lang.specs.declared.module.Instr.TheVariants.{Drop, Lock, Unlock, As, Goto, Ret, Fail}
 use Rattle.brc_lang.specs.declared.fault.FaultCode.{FaultCode}
 use Rattle.brc_lang.specs.declared.fault.FaultCode.TheVariants.{FirstLine, UnknownWord, Number, Target, NameTwice}
 use Rattle.brc_lang.specs.declared.fault.FaultCode.TheVariants.{OverLimit, CutOff, NoMemory}
@@ -111,6 +112,8 @@ instruction_in (w ∷ ws) =
     else if bytes_eq w (codes "newref") then (two_variables_in ws >>= λ v. Ok (Newref v.0 v.1))
     else if bytes_eq w (codes "move") then (two_variables_in ws >>= λ v. Ok (Move v.0 v.1))
     else if bytes_eq w (codes "drop") then (one_variable_in ws >>= λ s. Ok (Drop s))
+    else if bytes_eq w (codes "lock") then (one_variable_in ws >>= λ c. Ok (Lock c))
+    else if bytes_eq w (codes "unlock") then (one_variable_in ws >>= λ c. Ok (Unlock c))
     else if bytes_eq w (codes "as") then as_in ws
     else if bytes_eq w (codes "goto") then (one_target_in ws >>= λ l. Ok (Goto l))
     else if bytes_eq w (codes "ret") then (one_variable_in ws >>= λ s. Ok (Ret s))

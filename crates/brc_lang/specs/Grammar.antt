@@ -8,7 +8,8 @@ use Rattle.brc_lang.specs.declared.kind.Kind.TheVariants as kinds
 use Rattle.brc_lang.specs.declared.module.Module.{Module}
 use Rattle.brc_lang.specs.declared.module.Function.{Function}
 use Rattle.brc_lang.specs.declared.module.Instr.{Instr}
-use Rattle.brc_lang.specs.declared.module.Instr.TheVariants.{Num, List as ListObject, NoneObject, Newref, Move, Drop, Goto, Ret, Fail, As}
+use Rattle.brc_lang.specs.declared.module.Instr.TheVariants.{Num, List as ListObject, NoneObject, Newref, Move}
+use Rattle.brc_lang.specs.declared.module.Instr.TheVariants.{Drop, Lock, Unlock, As, Goto, Ret, Fail}
 use Rattle.brc_lang.specs.Limits.{function_limit, instruction_limit, variable_count, target_count, cell_limit, name_rest_limit}
 
 -- ---- spellings
@@ -47,6 +48,8 @@ instruction_words (NoneObject to) = codes "none" ∷ variable to ∷ []
 instruction_words (Newref to from) = codes "newref" ∷ variable to ∷ variable from ∷ []
 instruction_words (Move to from) = codes "move" ∷ variable to ∷ variable from ∷ []
 instruction_words (Drop from) = codes "drop" ∷ variable from ∷ []
+instruction_words (Lock object) = codes "lock" ∷ variable object ∷ []
+instruction_words (Unlock object) = codes "unlock" ∷ variable object ∷ []
 instruction_words (As from kind otherwise) =
     codes "as" ∷ variable from ∷ kind_name kind ∷ codes "else" ∷ target otherwise ∷ []
 instruction_words (Goto to) = codes "goto" ∷ target to ∷ []
@@ -97,6 +100,8 @@ IsInstruction (NoneObject to) = to < variable_count
 IsInstruction (Newref to from) = (to < variable_count) × (from < variable_count)
 IsInstruction (Move to from) = (to < variable_count) × (from < variable_count)
 IsInstruction (Drop from) = from < variable_count
+IsInstruction (Lock object) = object < variable_count
+IsInstruction (Unlock object) = object < variable_count
 IsInstruction (As from kind otherwise) =
     (from < variable_count) × (kind ≢ kinds.Any) × (otherwise < target_count)
 IsInstruction (Goto to) = to < target_count
@@ -111,6 +116,8 @@ jump (NoneObject to) = None
 jump (Newref to from) = None
 jump (Move to from) = None
 jump (Drop from) = None
+jump (Lock object) = None
+jump (Unlock object) = None
 jump (As from kind otherwise) = Some otherwise
 jump (Goto to) = Some to
 jump (Ret from) = None

@@ -67,6 +67,12 @@ fn instruction_with(word: &[u8], operands: &[u8]) -> Result<Instr, FaultCode>
     } else if is_word(word, b"drop") {
         let from = one_variable(operands)?;
         Ok(Instr::Drop { from })
+    } else if is_word(word, b"lock") {
+        let object = one_variable(operands)?;
+        Ok(Instr::Lock { object })
+    } else if is_word(word, b"unlock") {
+        let object = one_variable(operands)?;
+        Ok(Instr::Unlock { object })
     } else if is_word(word, b"as") {
         as_kind(operands)
     } else if is_word(word, b"goto") {

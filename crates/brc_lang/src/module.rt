@@ -56,6 +56,14 @@ pub enum Instr {
     Drop {
         from: Variable,
     },
+    /// `lock vC`: begins the critical section of the object that vC names (`Py_BEGIN_CRITICAL_SECTION`).
+    Lock {
+        object: Variable,
+    },
+    /// `unlock vC`: ends the critical section of the object that vC names (`Py_END_CRITICAL_SECTION`).
+    Unlock {
+        object: Variable,
+    },
     /// `as vS KIND else @L`: goes on at L if the object that vS names isn't of the kind.
     As {
         from: Variable,

@@ -87,6 +87,8 @@ fn write_instruction<W: Write>(instr: Instr, writer: &mut W) -> io::Result<()>
         Instr::Newref { to, from } => write_operands(b"newref ", to, from, writer),
         Instr::Move { to, from } => write_operands(b"move ", to, from, writer),
         Instr::Drop { from } => write_operand(b"drop ", from, writer),
+        Instr::Lock { object } => write_operand(b"lock ", object, writer),
+        Instr::Unlock { object } => write_operand(b"unlock ", object, writer),
         Instr::As {
             from,
             kind,
