@@ -1,9 +1,9 @@
 -- Actions. At an event a thread of the step world does the first duty of its agenda, or what its code dispatches.
 use Rattle.std.specs.Prelude.{ℕ, zero, suc, ◌+◌, ◌*◌, Bool, true, false, ◌&&◌, ◌==◌, nat_lt, if◌then◌else◌, List, [], ◌∷◌, length, Option, None, Some, slice_get, slice_set}
 use Rattle.brc_lang.specs.declared.module.Instr.{Instr}
-use Rattle.brc_lang.specs.declared.module.Instr.TheVariants.{Num, List as ListObject, NoneObject, Newref, Move as MoveReference, Drop, Goto, Ret, Fail, As}
+use Rattle.brc_lang.specs.declared.module.Instr.TheVariants.{Num, List as ListObject, NoneObject, Newref, Move as MoveReference, Drop, Lock, Unlock, Goto, Ret, Fail, As}
 use Rattle.brc_lang.specs.declared.module.Function.{Function}
-use Rattle.brc_word.specs.Words.{half}
+use Rattle.brc_word.specs.Words.{half, free_word}
 use Rattle.brc_model.specs.declared.thread.Choice.{Choice}
 use Rattle.brc_model.specs.declared.thread.Choice.TheVariants.{Ok, Fault, Claim}
 use Rattle.brc_model.specs.declared.actor.Status.{Status}
@@ -12,7 +12,7 @@ use Rattle.brc_model.specs.declared.actor.Place.{Place}
 use Rattle.brc_model.specs.declared.actor.Place.TheVariants.{Idle, InCall, Exiting}
 use Rattle.brc_model.specs.declared.duty.Holding.TheVariants.{ByVariable, AsCaller}
 use Rattle.brc_model.specs.declared.duty.Duty.{Duty}
-use Rattle.brc_model.specs.declared.duty.Duty.TheVariants.{RetainLoad, ReleaseLoad, Settle, Leave, ClaimMark, BirthKind, KindLoad}
+use Rattle.brc_model.specs.declared.duty.Duty.TheVariants.{RetainLoad, ReleaseLoad, Settle, Leave, ClaimMark, BirthKind, KindLoad, LockGate, UnlockGate}
 use Rattle.brc_model.specs.AbstractState.{Move}
 use Rattle.brc_model.specs.Kinds.{same_kind, kind_of_word}
 use Rattle.brc_model.specs.Threads.{code_of, row_of, entry_variables}
@@ -63,36 +63,44 @@ birth_action layout t used left at variables to word otherwise =
     (always (InCall left (at + 1) (slice_set variables to (Some (row_at layout t used)))))
     else Silent [] (InCall left otherwise (slice_set variables to None))
 
--- Returns what a thread does at an instruction, if it has used `used` rows of its block.
-abbrev pub dispatch_instruction : Layout → ℕ → ℕ → ℕ → ℕ → List (Option ℕ) → Option Instr → Action
-dispatch_instruction layout t used left at variables None = Stuck
-dispatch_instruction layout t used left at variables (Some (Num to value otherwise)) =
+-- Returns what a thread does at an instruction, if it has used `used` rows of its block. A lock that another thread
+-- holds isn't got: the instruction hasn't begun, and the thread is where it was, at `before`.
+abbrev pub dispatch_instruction : Layout → ℕ → ℕ → Place → ℕ → ℕ → List (Option ℕ) → Option Instr → Action
+dispatch_instruction layout t used before left at variables None = Stuck
+dispatch_instruction layout t used before left at variables (Some (Num to value otherwise)) =
     birth_action layout t used left at variables to (number_word value) otherwise
-dispatch_instruction layout t used left at variables (Some (ListObject to cells otherwise)) =
+dispatch_instruction layout t used before left at variables (Some (ListObject to cells otherwise)) =
     birth_action layout t used left at variables to (list_word cells) otherwise
-dispatch_instruction layout t used left at variables (Some (NoneObject to)) =
+dispatch_instruction layout t used before left at variables (Some (NoneObject to)) =
     Silent (gain t (ByVariable to) none_row) (InCall left (at + 1) (slice_set variables to (Some none_row)))
-dispatch_instruction layout t used left at variables (Some (Newref to from)) =
+dispatch_instruction layout t used before left at variables (Some (Newref to from)) =
     with_row (row_of variables from)
     (λ row. Does (RetainLoad row (ByVariable to)) []
     (always (InCall left (at + 1) (slice_set variables to (Some row)))))
-dispatch_instruction layout t used left at variables (Some (MoveReference to from)) =
+dispatch_instruction layout t used before left at variables (Some (MoveReference to from)) =
     with_row (row_of variables from)
     (λ row. Silent (pass_on t (ByVariable from) (ByVariable to) row)
     (InCall left (at + 1) (slice_set (slice_set variables from None) to (Some row))))
-dispatch_instruction layout t used left at variables (Some (Drop from)) =
+dispatch_instruction layout t used before left at variables (Some (Drop from)) =
     with_row (row_of variables from)
     (λ row. Does (ReleaseLoad row (ByVariable from)) (Settle ∷ [])
     (always (InCall left (at + 1) (slice_set variables from None))))
-dispatch_instruction layout t used left at variables (Some (As from kind otherwise)) =
+dispatch_instruction layout t used before left at variables (Some (Lock object)) =
+    with_row (row_of variables object)
+    (λ row. Does (LockGate row) []
+    (λ found. if found == free_word then InCall left (at + 1) variables else before))
+dispatch_instruction layout t used before left at variables (Some (Unlock object)) =
+    with_row (row_of variables object)
+    (λ row. Does (UnlockGate row) [] (always (InCall left (at + 1) variables)))
+dispatch_instruction layout t used before left at variables (Some (As from kind otherwise)) =
     with_row (row_of variables from)
     (λ row. Does (KindLoad row) []
     (λ found. InCall left (if same_kind (kind_of_word found) kind then at + 1 else otherwise) variables))
-dispatch_instruction layout t used left at variables (Some (Goto to)) = Silent [] (InCall left to variables)
-dispatch_instruction layout t used left at variables (Some (Ret from)) =
+dispatch_instruction layout t used before left at variables (Some (Goto to)) = Silent [] (InCall left to variables)
+dispatch_instruction layout t used before left at variables (Some (Ret from)) =
     with_row (row_of variables from)
     (λ row. Does (ReleaseLoad row (ByVariable from)) (Settle ∷ []) (always (Idle left)))
-dispatch_instruction layout t used left at variables (Some Fail) = Silent [] (Idle left)
+dispatch_instruction layout t used before left at variables (Some Fail) = Silent [] (Idle left)
 
 -- Returns what a thread with an empty agenda does. With no call left it gives up its reference to the root, settles,
 -- and leaves.
@@ -101,9 +109,9 @@ dispatch layout t used code Exiting = Stuck
 dispatch layout t used code (Idle zero) =
     Does (ReleaseLoad root_row AsCaller) (Settle ∷ Leave 0 used ∷ []) (always Exiting)
 dispatch layout t used code (Idle (suc left)) =
-    dispatch_instruction layout t used left 0 entry_variables (slice_get code 0)
+    dispatch_instruction layout t used (Idle (suc left)) left 0 entry_variables (slice_get code 0)
 dispatch layout t used code (InCall left at variables) =
-    dispatch_instruction layout t used left at variables (slice_get code at)
+    dispatch_instruction layout t used (InCall left at variables) left at variables (slice_get code at)
 
 -- Says whether the place is outside all calls.
 abbrev pub is_idle : Place → Bool

@@ -22,6 +22,7 @@ pub mod Gates
 pub mod Invariant
 pub mod Agreement
 pub mod BadDuties
+pub mod Needs
 pub mod Events
 pub mod Safety
 pub mod World

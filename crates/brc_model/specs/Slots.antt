@@ -1,12 +1,12 @@
 -- Slot states: what each instruction asks of the variables, and what it leaves in them. (Python/C API manual, Reference
 -- Count Details; Extending manual, Ownership Rules: the owner of a reference gives it up once, by a decrement or by
 -- passing it on; a borrower doesn't give it up; a call returns an owned reference.)
-use Rattle.std.specs.Prelude.{ℕ, ◌+◌, Bool, true, false, not, ◌==◌, List, [], ◌∷◌, Option, None, Some, is_some, find, slice_set, replicate}
+use Rattle.std.specs.Prelude.{ℕ, ◌+◌, Bool, true, false, not, ◌==◌, List, [], ◌∷◌, Option, None, Some, is_some, find, slice_set, replicate, map}
 use Rattle.std.specs.List.{list_any, slice_index_or}
 use Rattle.brc_lang.specs.declared.kind.Kind.{Kind}
 use Rattle.brc_lang.specs.declared.kind.Kind.TheVariants as kinds
 use Rattle.brc_lang.specs.declared.module.Instr.{Instr}
-use Rattle.brc_lang.specs.declared.module.Instr.TheVariants.{Num, List as ListObject, NoneObject, Newref, Move, Drop, Goto, Ret, Fail, As}
+use Rattle.brc_lang.specs.declared.module.Instr.TheVariants.{Num, List as ListObject, NoneObject, Newref, Move, Drop, Lock, Unlock, Goto, Ret, Fail, As}
 use Rattle.brc_model.specs.Kinds.{same_kind}
 use Rattle.brc_model.specs.declared.code.CheckCode.{CheckCode}
 use Rattle.brc_model.specs.declared.code.CheckCode.TheVariants.{EmptyUsed, WrongKind, NotOwned, StillOwns, LeftOwned, LeftLocked, SecondLock, NotLocked, LockedChanged}
@@ -40,6 +40,14 @@ kind_of (Owned k) = k
 kind_of (Caller k) = k
 kind_of (Locked k) = k
 
+-- Says whether the kind is one of these. `Any` is no kind of an object.
+abbrev pub is_one_of : Kind → List Kind → Bool
+is_one_of kind asked = list_any (same_kind kind) asked
+
+-- the kinds whose objects a thread may lock
+abbrev pub lockable : List Kind
+lockable = kinds.List ∷ kinds.File ∷ kinds.Sock ∷ []
+
 -- an object of the first kind may be of the second: it is, or its kind isn't known yet
 abbrev pub may_be : Kind → Kind → Bool
 may_be kinds.Any asked = true
@@ -60,6 +68,20 @@ names (Some y) x = x == y
 abbrev pub put : State → ℕ → Slot → State
 put s x slot = record { slots = slice_set s.slots x slot; locked = s.locked }
 
+-- a slot once nothing can be borrowed from the locked list any more
+abbrev pub without_item : Slot → Slot
+without_item (Locked k) = Empty
+without_item slot = slot
+
+-- The state once the locked list is unlocked or changed: each variable that borrowed from it is empty. (Extending
+-- manual, Thin Ice: a borrowed item may be deallocated once its list is changed.)
+abbrev pub without_items : State → State
+without_items s = record { slots = map without_item s.slots; locked = s.locked }
+
+-- the state with this variable's object locked, or none
+abbrev pub with_lock : State → Option ℕ → State
+with_lock s locked = record { slots = s.slots; locked = locked }
+
 -- ---- conditions
 
 -- a condition that an instruction puts on the state before it
@@ -72,12 +94,18 @@ pub data Condition : Type 0 where
   Into : ℕ → Condition
   -- the variable's kind is this one, or isn't known yet
   MayBe : ℕ → Kind → Condition
+  -- the variable's kind is known, and is one of these
+  IsOneOf : ℕ → List Kind → Condition
+  -- the variable's object is locked
+  IsLocked : ℕ → Condition
   -- no variable owns a reference
   NothingOwned : Condition
   -- no variable but this one owns a reference
   NothingOwnedBut : ℕ → Condition
-  -- no list is locked
+  -- nothing is locked at the end of the call
   NothingLocked : Condition
+  -- nothing is locked yet: a thread locks one object at a time
+  NoLockYet : Condition
 
 -- says whether the state breaks the condition in the way that the code names
 abbrev pub breaks : State → CheckCode → Condition → Bool
@@ -91,6 +119,9 @@ breaks s WrongKind (MayBe x kind) = not (may_be (kind_of (slot_of s x)) kind)
 breaks s LeftOwned NothingOwned = list_any is_owned s.slots
 breaks s LeftOwned (NothingOwnedBut x) = list_any is_owned (put s x Empty).slots
 breaks s LeftLocked NothingLocked = is_some s.locked
+breaks s WrongKind (IsOneOf x asked) = not (is_one_of (kind_of (slot_of s x)) asked)
+breaks s SecondLock NoLockYet = is_some s.locked
+breaks s NotLocked (IsLocked x) = not (names s.locked x)
 breaks s _ _ = false
 
 abbrev pub conditions_of : Instr → List Condition
@@ -100,6 +131,8 @@ conditions_of (NoneObject to) = Into to ∷ []
 conditions_of (Newref to from) = Use from ∷ Into to ∷ []
 conditions_of (Move to from) = Give from ∷ Into to ∷ []
 conditions_of (Drop from) = Give from ∷ []
+conditions_of (Lock object) = Use object ∷ IsOneOf object lockable ∷ NoLockYet ∷ []
+conditions_of (Unlock object) = Use object ∷ IsLocked object ∷ []
 conditions_of (As from kind otherwise) = Use from ∷ MayBe from kind ∷ []
 conditions_of (Goto to) = []
 conditions_of (Ret from) = Give from ∷ NothingOwnedBut from ∷ NothingLocked ∷ []
@@ -133,6 +166,8 @@ after (NoneObject to) exit s = put s to (Owned kinds.None)
 after (Newref to from) exit s = put s to (Owned (kind_of (slot_of s from)))
 after (Move to from) exit s = put (put s from Empty) to (Owned (kind_of (slot_of s from)))
 after (Drop from) exit s = put s from Empty
+after (Lock object) exit s = with_lock s (Some object)
+after (Unlock object) exit s = with_lock (without_items s) None
 after (As from kind otherwise) Success s = put s from (with_kind (slot_of s from) kind)
 after (As from kind otherwise) Fault s = s
 after (Goto to) exit s = s
@@ -149,6 +184,8 @@ target (NoneObject to) exit at = Some (at + 1)
 target (Newref to from) exit at = Some (at + 1)
 target (Move to from) exit at = Some (at + 1)
 target (Drop from) exit at = Some (at + 1)
+target (Lock object) exit at = Some (at + 1)
+target (Unlock object) exit at = Some (at + 1)
 target (As from kind otherwise) Success at = Some (at + 1)
 target (As from kind otherwise) Fault at = Some otherwise
 target (Goto to) exit at = Some to

@@ -1,18 +1,22 @@
 -- Worlds. A world is what the threads of a machine see and change: the words, and the threads themselves. A step looks
 -- at nothing else. The abstract state and the lives of the rows are beside it, for what is promised.
-use Rattle.std.specs.Prelude.{◌≡◌, ℕ, ◌<◌, ◌≤◌, List, []}
+use Rattle.std.specs.Prelude.{◌≡◌, ℕ, ◌<◌, ◌≤◌, ◌==◌, Bool, false, not, List, []}
 use Rattle.brc_lang.specs.declared.module.Function.{Function}
 use Rattle.brc_lang.specs.declared.module.Module.{Module}
 use Rattle.brc_lang.specs.Grammar.{IsModule}
 use Rattle.brc_model.specs.declared.address.Address.{Address}
+use Rattle.brc_model.specs.declared.address.Address.TheVariants.{Gate}
+use Rattle.brc_model.specs.declared.duty.Duty.TheVariants.{LockGate}
 use Rattle.brc_model.specs.declared.layout.Layout.{Layout}
 use Rattle.brc_model.specs.declared.thread.Call.{Call}
 use Rattle.brc_model.specs.declared.thread.Choice.{Choice}
+use Rattle.brc_model.specs.declared.thread.Choice.TheVariants.{Ok}
 use Rattle.brc_lang.specs.declared.kind.Kind.TheVariants as kinds
 use Rattle.brc_model.specs.Paths.{IsAcceptable}
 use Rattle.brc_model.specs.Safety.{AreCalls}
 use Rattle.brc_model.specs.Machine.{Unborn}
-use Rattle.brc_model.specs.Actions.{StepActor}
+use Rattle.brc_word.specs.Words.{free_word}
+use Rattle.brc_model.specs.Actions.{StepActor, Action, Does, action_of}
 use Rattle.brc_model.specs.StepMachine.{StepMachine, next_machine, first_machine, machine_after}
 use Rattle.brc_model.specs.Limits.{row_limit}
 
@@ -43,6 +47,15 @@ first_world m rows calls = world_of (first_machine m rows calls)
 -- one step of one thread
 abbrev pub step : World → ℕ → Choice → World
 step w t choice = world_of (next_machine (machine_of w) (t, choice))
+
+-- Says whether the action would lock an object that another thread has locked.
+abbrev pub finds_locked : (Address → ℕ) → Action → Bool
+finds_locked memory (Does (LockGate x) rest place) = not (memory (Gate x) == free_word)
+finds_locked memory _ = false
+
+-- Says whether the thread waits for a lock: its next step would lock an object that another thread has locked.
+abbrev pub waits_for_lock : World → ℕ → StepActor → Bool
+waits_for_lock w t a = finds_locked w.memory (action_of w.functions w.layout t a Ok)
 
 -- A world is reachable if some list of events leads to it from a first world of an acceptable module.
 pub record IsReachable (p : Module) (w : World) : Type 0 where

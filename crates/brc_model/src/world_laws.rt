@@ -14,7 +14,7 @@ ghost use Rattle.brc_model.specs.declared.address.Address.TheVariants.{Mark};
 ghost use Rattle.brc_model.specs.declared.actor.Status.TheVariants.{Gone};
 ghost use Rattle.brc_model.specs.Actions.{StepActor, may_claim};
 ghost use Rattle.brc_model.specs.StepMachine.{StepMachine, next_machine, machine_after};
-ghost use Rattle.brc_model.specs.World.{World, world_of, first_world, step, IsReachable};
+ghost use Rattle.brc_model.specs.World.{World, world_of, first_world, step, waits_for_lock, IsReachable};
 ghost use Rattle.brc_model.specs.Within.{StepsWithin};
 ghost use Rattle.brc_model.specs.Trace.{CanMake, events_on};
 ghost use Rattle.brc_model.specs.Layout.{row_count};
@@ -34,10 +34,12 @@ pub fn worlds_lead_on()
 {}
 
 /// States that each step of a thread that isn't gone changes the world, except a claim that the thread may not make or
-/// that finds no mark.
+/// that finds no mark, and a lock that another thread holds.
 pub fn steps_move()
     ensures goes_on { (p : Module) (w : World) (t : ℕ) (a : StepActor) → IsReachable p w → slice_get w.actors t ≡ Some a
-        → a.actor.status ≢ Gone → (step w t Ok ≢ w) × (step w t Fault ≢ w) }
+        → a.actor.status ≢ Gone → waits_for_lock w t a ≡ false → (step w t Ok ≢ w) × (step w t Fault ≢ w) }
+    ensures waits { (p : Module) (w : World) (t : ℕ) (a : StepActor) → IsReachable p w → slice_get w.actors t ≡ Some a
+        → waits_for_lock w t a ≡ true → (step w t Ok ≡ w) × (step w t Fault ≡ w) }
     ensures claims { (w : World) (t : ℕ) (a : StepActor) (row : ℕ) → slice_get w.actors t ≡ Some a
         → may_claim w.layout t a row ≡ true → w.memory (Mark row) ≢ 0 → step w t (Claim row) ≢ w }
     ensures misses { (p : Module) (w : World) (t : ℕ) (a : StepActor) (row : ℕ) → IsReachable p w → slice_get w.actors t

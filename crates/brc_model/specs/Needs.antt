@@ -1,0 +1,45 @@
+-- What an instruction needs of the world beside its variables: an object of a kind that can be locked, the lock of a
+-- list before its items are used, and no lock at the end of a call. (Python/C API manual, Critical Section API.)
+use Rattle.std.specs.Prelude.{ℕ, zero, suc, Bool, true, false, ◌&&◌, ◌==◌, not, List, [], ◌∷◌, Option, None, Some, is_some, slice_get}
+use Rattle.brc_lang.specs.declared.kind.Kind.{Kind}
+use Rattle.brc_lang.specs.declared.kind.Kind.TheVariants as kinds
+use Rattle.brc_lang.specs.declared.module.Instr.{Instr}
+use Rattle.brc_lang.specs.declared.module.Instr.TheVariants.{Lock, Unlock, Ret, Fail}
+use Rattle.brc_model.specs.declared.actor.Place.{Place}
+use Rattle.brc_model.specs.declared.actor.Place.TheVariants.{Idle, InCall, Exiting}
+use Rattle.brc_model.specs.declared.address.Address.{Address}
+use Rattle.brc_model.specs.declared.address.Address.TheVariants.{KindOf}
+use Rattle.brc_model.specs.Kinds.{kind_of_word}
+use Rattle.brc_model.specs.Slots.{is_one_of, lockable}
+use Rattle.brc_model.specs.Threads.{row_of, entry_variables}
+
+-- the kind of the row's object, by its kind word
+abbrev pub kind_at : (Address → ℕ) → Option ℕ → Kind
+kind_at memory None = kinds.Any
+kind_at memory (Some x) = kind_of_word (memory (KindOf x))
+
+-- Says whether a thread that has locked the first row has locked the second one.
+abbrev pub has_locked : Option ℕ → Option ℕ → Bool
+has_locked (Some x) (Some y) = x == y
+has_locked _ _ = false
+
+-- Says whether the instruction has what it needs: `locked` is the row that the thread has locked.
+abbrev pub has_needs : (Address → ℕ) → Option ℕ → List (Option ℕ) → Instr → Bool
+has_needs memory locked variables (Lock object) =
+    is_one_of (kind_at memory (row_of variables object)) lockable && not (is_some locked)
+has_needs memory locked variables (Unlock object) = has_locked locked (row_of variables object)
+has_needs memory locked variables (Ret from) = not (is_some locked)
+has_needs memory locked variables Fail = not (is_some locked)
+has_needs memory locked variables _ = true
+
+abbrev pub lacks_needs : (Address → ℕ) → Option ℕ → List (Option ℕ) → Option Instr → Bool
+lacks_needs memory locked variables None = false
+lacks_needs memory locked variables (Some i) = not (has_needs memory locked variables i)
+
+-- Says whether the thread's next instruction lacks what it needs. At the end of its code a thread is stuck anyway.
+abbrev pub starts_unfit : (Address → ℕ) → Option ℕ → List Instr → Place → Bool
+starts_unfit memory locked code (Idle zero) = is_some locked
+starts_unfit memory locked code (Idle (suc left)) = lacks_needs memory locked entry_variables (slice_get code 0)
+starts_unfit memory locked code (InCall left at variables) =
+    lacks_needs memory locked variables (slice_get code at)
+starts_unfit memory locked code Exiting = false
