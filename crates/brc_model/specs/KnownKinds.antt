@@ -16,6 +16,7 @@ use Rattle.brc_model.specs.Kinds.{kind_of_word}
 use Rattle.brc_model.specs.Slots.{slot_of, kind_of}
 use Rattle.brc_model.specs.Paths.{At, path_end}
 use Rattle.brc_model.specs.Threads.{code_of, row_of}
+use Rattle.brc_model.specs.Layout.{none_row, root_row}
 use Rattle.brc_model.specs.Actions.{StepActor}
 use Rattle.brc_model.specs.StepMachine.{StepMachine, next_machine}
 
@@ -45,6 +46,16 @@ abbrev pub KindsAreKnown : StepMachine → Type 0
 KindsAreKnown m =
     (t : ℕ) (a : StepActor) → slice_get m.actors t ≡ Some a
     → KnowsKinds (code_of (slice_get m.functions a.function)) (kind_words m) a.place
+
+-- none and the root have their kinds from the start
+pub record AreNamed (words : ℕ → ℕ) : Type 0 where
+  pub none : kind_of_word (words none_row) ≡ kinds.None
+  pub root : kind_of_word (words root_row) ≡ kinds.List
+
+-- Each thread knows the kinds of what its variables name, and none and the root have their kinds.
+pub record KindsHold (m : StepMachine) : Type 0 where
+  pub named : AreNamed (kind_words m)
+  pub known : KindsAreKnown m
 
 -- a kind word that a birth has stored stays
 abbrev pub KindsStay : StepMachine → ℕ × Choice → Type 0

@@ -37,7 +37,7 @@ use Rattle.brc_model.specs.declared.layout.Layout.{Layout}
 use Rattle.brc_model.specs.Machine.{has_room}
 use Rattle.brc_model.specs.Actions.{StepActor, Action, Skip, Stuck, Silent, Does, with_row, number_word, list_word, birth_action, dispatch_instruction, dispatch, may_claim, agenda_action, status_action, action_of}
 use Rattle.brc_model.specs.StepMachine.{StepMachine, counting, of_thread, at_place, step_actor, machine_by, next_machine, first_machine, machine_after, main_actor, worker_actor}
-use Rattle.brc_model.specs.KnownKinds.{IsTrueKind, HasTrueKind, HaveTrueKinds, KnowsKinds, kind_words, KindsAreKnown}
+use Rattle.brc_model.specs.KnownKinds.{IsTrueKind, HasTrueKind, HaveTrueKinds, KnowsKinds, kind_words, KindsAreKnown, AreNamed, KindsHold}
 use Rattle.brc_model.proofs.Basics.Lists.{some_is, written_actor, get_or-replicate_default, either, slice_get-map}
 use Rattle.brc_model.proofs.Dispatch.Grounded.{IsInside, AreInstructions, slot_of-put_same, slot_of-put_other, row_of-set_same, row_of-set_other, entry_in_call}
 use Rattle.brc_model.proofs.Dispatch.Passing.{passes_on}
@@ -137,10 +137,6 @@ true_with_kind words s rows x kind in_slots names old v =
     ]
 
 -- ---- the kind words of none and of the root
-
-pub record AreNamed (words : ℕ → ℕ) : Type 0 where
-  pub none : kind_of_word (words none_row) ≡ kinds.None
-  pub root : kind_of_word (words root_row) ≡ kinds.List
 
 named_stay : (words new : ℕ → ℕ) → StoredStay words new → AreNamed words → AreNamed new
 named_stay words new stays named = record {
@@ -363,11 +359,6 @@ action_leaves functions words layout t a (Claim row) stands =
     (λ may found stored. stands.knows) tt
 
 -- ---- each event
-
--- Each thread knows the kinds of what its variables name, and none and the root have their kinds.
-pub record KindsHold (m : StepMachine) : Type 0 where
-  pub named : AreNamed (kind_words m)
-  pub known : KindsAreKnown m
 
 -- What the duty of the action stores or finds in kind words is there after it.
 sees : (m : StepMachine) (t : ℕ) (a : StepActor) (d : Duty) (rest : List Duty) (place : ℕ → Place)
