@@ -8,10 +8,15 @@ pub mod Holds
 pub mod Passing
 pub mod Grounded
 pub mod Unlocked
+pub mod Guards
 pub mod Coded
 pub mod Begins
-pub mod Taking
+pub mod Standing
+pub mod Lockable
 pub mod TakingSilent
+pub mod TakingBirths
+pub mod TakingLocks
+pub mod Taking
 pub mod TakenSits
 pub mod Claims
 pub mod Counting
