@@ -104,8 +104,8 @@ inside_is : (p : Module) (n : ℕ) (m : StepMachine) (t : ℕ) (a : StepActor) �
     → (s : State) × IsInside (code_of (slice_get m.functions a.function)) at variables s
 inside_is p n m t a whole found left at variables is =
     let code = code_of (slice_get p.functions a.function) in
-    let says : PlaceSays code (InCall left at variables) (whole.accounts t) =
-    subst (λ (x : Place). PlaceSays code x (whole.accounts t)) is (whole.coded t a found).says in (
+    let says : PlaceSays code (InCall left at variables) a.actor.locked (whole.accounts t) =
+    subst (λ (x : Place). PlaceSays code x a.actor.locked (whole.accounts t)) is (whole.coded t a found).says in (
       says.0,
       subst (λ (f : List Function). IsInside (code_of (slice_get f a.function)) at variables says.0)
           (sym whole.functions) says.1,
