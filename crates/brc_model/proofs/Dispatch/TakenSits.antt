@@ -20,7 +20,7 @@ use Rattle.brc_model.specs.RowInvariant.{waits, carries, merges, decides}
 use Rattle.brc_model.specs.Accounts.{Account, Accounts, HoldsAt, HoldsNone, IsBounded}
 use Rattle.brc_model.specs.OpenWork.{Later, Agenda, AgendaFits, finalised, has_leave, exits, IsSettled}
 use Rattle.brc_model.specs.Invariant.{looks, CoreInvariant}
-use Rattle.brc_model.specs.Knowledge.{AllBehind, IsNext}
+use Rattle.brc_model.specs.Knowledge.{AllBehind, IsNext, ByReference}
 use Rattle.brc_model.proofs.Frame.Aside.{HoldsAlone, holds_alone, alone_holds, alone_fits}
 use Rattle.brc_model.proofs.Dispatch.Coded.{PlaceSays, InCode, is_departing, departing_is, stays_elsewhere, place_fits, placed_by, exited_none, says_bounded}
 use Rattle.brc_model.proofs.Dispatch.Begins.{Starts, Gives, Takes, Follows, Nothing, Settles, Leaves, Taken, IsTaken, Bears, Asks}
@@ -128,7 +128,7 @@ starts_sit p n m t a place d rest account at alone unlocked holds bounded exited
       bounded = bounded;
       exited = λ e. (exited e, alone);
       aside = alone_fits (with_actor m t (sitting a (d ∷ rest))) t (sitting a (d ∷ rest)) alone;
-      knows = record { by = by; held_so = some };
+      knows = ByReference by some;
       behind = follows_behind (with_actor m t (sitting a (d ∷ rest))) t m.layout a.used place rest follows;
       locks = λ x e. absurd (none_some x (sym unlocked ∙ e));
       fits = later_follows m.layout t a.used place rest follows;
@@ -166,7 +166,7 @@ starts_sit p n m t a place d rest account at alone unlocked holds bounded exited
       bounded = bounded;
       exited = λ e. (exited e, alone);
       aside = alone_fits (with_actor m t (sitting a (d ∷ rest))) t (sitting a (d ∷ rest)) alone;
-      knows = record { by = by; held_so = some };
+      knows = ByReference by some;
       behind = tt;
       locks = λ x e. absurd (none_some x (sym unlocked ∙ e));
       fits = later_follows m.layout t a.used place [] follows;
