@@ -4,7 +4,7 @@
 -- (no agenda locks or unlocks), `Guards` (what the state says is locked), `Coded` (a thread's lock and account are those
 -- of its place), `Kinds` and `KindsLeft` (instruction by instruction, variables have the kinds that the checker says),
 -- `Begins` (what a thread takes up), `Lockable` and `Standing` (what it knows at an instruction), `TakingSilent`,
--- `TakingBirths`, `TakingLocks` and `Taking` (instruction by instruction), `TakenSits`, `Claims`, `Counting` (the
+-- `TakingBirths`, `TakingLocks` and `Taking` (instruction by instruction), `Begun` and `TakenSits`, `Claims`, `Counting` (the
 -- counting machine below), `Actions`, which has the theorem, and `Fit` (an
 -- instruction has what it needs).
 
@@ -23,6 +23,7 @@ pub mod TakingSilent
 pub mod TakingBirths
 pub mod TakingLocks
 pub mod Taking
+pub mod Begun
 pub mod TakenSits
 pub mod Claims
 pub mod Counting

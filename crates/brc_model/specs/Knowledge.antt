@@ -1,18 +1,19 @@
 -- What a thread's duty knows of memory, of its thread and of its row, until its step.
-use Rattle.std.specs.Prelude.{◌≡◌, ◌≢◌, ◌⊎◌, ℕ, ◌+◌, ◌<◌, ◌≤◌, true, List, [], ◌∷◌, None, Some}
+use Rattle.std.specs.Prelude.{◌≡◌, ◌≢◌, ◌⊎◌, ℕ, ◌+◌, ◌<◌, ◌≤◌, Bool, true, false, List, [], ◌∷◌, None, Some, count_by}
 use Rattle.brc_model.specs.declared.duty.Holding.{Holding}
 use Rattle.brc_word.specs.Words.{half, immortal_local, most_local, owner_part, local_part, phase_part, free_word, dying_word}
 use Rattle.brc_model.specs.Kinds.{kind_of_word, is_counted_kind}
 use Rattle.brc_model.specs.declared.duty.Reason.{Reason}
 use Rattle.brc_model.specs.declared.duty.Reason.TheVariants.{Own, Handed}
 use Rattle.brc_model.specs.declared.duty.Duty.{Duty}
-use Rattle.brc_model.specs.declared.duty.Duty.TheVariants.{RetainLoad, RetainStore, RetainAdd, ReleaseLoad, ReleaseStore, DecideAtZero, SharedLoad, SharedExchange, SetMark, Look, TakeMark, MergeSwap, MergeLoad, MergeExchange, Die, Settle, SettleKind, SettleCell, TakeSlot, CloseResource, SettleEnd, Leave, Scan, Finish, ClaimMark, BirthKind, BirthSlot, BirthLocal, KindLoad, LockGate, UnlockGate}
+use Rattle.brc_model.specs.declared.duty.Duty.TheVariants.{RetainLoad, RetainStore, RetainAdd, ReleaseLoad, ReleaseStore, DecideAtZero, SharedLoad, SharedExchange, SetMark, Look, TakeMark, MergeSwap, MergeLoad, MergeExchange, Die, Settle, SettleKind, SettleCell, TakeSlot, CloseResource, SettleEnd, Leave, Scan, Finish, ClaimMark, BirthKind, BirthSlot, BirthLocal, KindLoad, LockGate, UnlockGate, CellLoad}
 use Rattle.brc_model.specs.declared.address.Address.{Address}
 use Rattle.brc_model.specs.declared.address.Address.TheVariants.{Local, Shared, Gate, KindOf, Cell, ThreadWord}
 use Rattle.brc_model.specs.declared.actor.Status.{Status}
 use Rattle.brc_model.specs.declared.actor.Status.TheVariants.{Running, Leaving, Gone}
 use Rattle.brc_model.specs.Machine.{Actor, Unborn, Dying, Machine}
 use Rattle.brc_model.specs.References.{held, reference_of}
+use Rattle.brc_model.specs.Duties.{cells_of}
 use Rattle.brc_model.specs.Layout.{block_of, block_size, row_at, IsCounted}
 
 -- the thread word of a status
@@ -27,10 +28,24 @@ pub record OwnsLocally (m : Machine) (t : ℕ) (a : Actor) (x : ℕ) : Type 0 wh
   pub owner : owner_part (m.memory (Local x)) ≡ t + 1
   pub low : local_part (m.memory (Local x)) < immortal_local
 
--- The thread holds a reference to the object, so the object lives while the duty is done.
-pub record IsBacked (m : Machine) (t x : ℕ) : Type 0 where
-  pub by : Holding
-  pub held_so : 0 < held (reference_of t by x) m.abstract.references
+-- What keeps the object alive while the thread does a duty about it: the thread holds a reference to it, or a cell of
+-- the list that the thread has locked does. (Python/C API manual, List Objects: `PyList_GetItem` borrows the list's own
+-- reference. While a thread has locked the list, no other thread changes its cells.)
+pub data IsBacked (m : Machine) (t : ℕ) (a : Actor) (x : ℕ) : Type 0 where
+  ByReference : (by : Holding) → 0 < held (reference_of t by x) m.abstract.references → IsBacked m t a x
+  ByItem : (list cell : ℕ) → a.locked ≡ Some list → m.memory (Cell list cell) ≡ x + 1 → IsBacked m t a x
+
+-- Says whether the duty is one of a retain.
+abbrev pub is_retain : Duty → Bool
+is_retain (RetainLoad x h) = true
+is_retain (RetainStore x h w) = true
+is_retain (RetainAdd x h) = true
+is_retain _ = false
+
+-- The thread has put no retain aside. A cell of the locked list may be what keeps the retained object alive, so the
+-- thread ends its retains before it unlocks the list.
+abbrev pub HasNoRetainAside : Actor → Type 0
+HasNoRetainAside a = count_by is_retain a.aside ≡ 0
 
 -- A thread merges an object that was queued if it is the owner, or if the owner no longer runs.
 abbrev pub MayMerge : Machine → ℕ → ℕ → Type 0
@@ -77,11 +92,11 @@ BehindFits m t d = Unit {0}
 
 -- What the duty knows when it comes next. `rest` are the duties behind it.
 abbrev pub HeadFits : Machine → ℕ → Actor → Duty → List Duty → Type 0
-HeadFits m t a (RetainLoad x h) rest = IsBacked m t x
+HeadFits m t a (RetainLoad x h) rest = IsBacked m t a x
 HeadFits m t a (RetainStore x h w) rest =
-    (IsCounted m.layout x) × IsBacked m t x × OwnsLocally m t a x × (m.memory (Local x) ≡ w) × (1 ≤ local_part w)
+    (IsCounted m.layout x) × IsBacked m t a x × OwnsLocally m t a x × (m.memory (Local x) ≡ w) × (1 ≤ local_part w)
     × (local_part w < most_local)
-HeadFits m t a (RetainAdd x h) rest = (IsCounted m.layout x) × IsBacked m t x
+HeadFits m t a (RetainAdd x h) rest = (IsCounted m.layout x) × IsBacked m t a x
 HeadFits m t a (ReleaseLoad x h) rest = Unit {0}
 HeadFits m t a (ReleaseStore x w) rest =
     (IsCounted m.layout x) × OwnsLocally m t a x × (m.memory (Local x) ≡ w) × (1 ≤ local_part w)
@@ -116,9 +131,12 @@ HeadFits m t a (ClaimMark x) rest = block_of m.layout x ≡ t
 HeadFits m t a (BirthKind x h w) rest = IsNext m t a x × (rest ≡ []) × (is_counted_kind (kind_of_word w) ≡ true)
 HeadFits m t a (BirthSlot x h) rest = IsNext m t a x × (rest ≡ []) × HasCountedKind m.memory x
 HeadFits m t a (BirthLocal x h) rest = IsNext m t a x × (rest ≡ []) × HasCountedKind m.memory x
-HeadFits m t a (KindLoad x) rest = IsBacked m t x
-HeadFits m t a (LockGate x) rest = (IsCounted m.layout x) × IsBacked m t x × (a.locked ≡ None)
-HeadFits m t a (UnlockGate x) rest = (IsCounted m.layout x) × IsBacked m t x × (a.locked ≡ Some x)
+HeadFits m t a (KindLoad x) rest = IsBacked m t a x
+HeadFits m t a (LockGate x) rest = (IsCounted m.layout x) × IsBacked m t a x × (a.locked ≡ None)
+HeadFits m t a (UnlockGate x) rest =
+    (IsCounted m.layout x) × IsBacked m t a x × (a.locked ≡ Some x) × HasNoRetainAside a
+HeadFits m t a (CellLoad x i) rest =
+    (IsCounted m.layout x) × IsBacked m t a x × (a.locked ≡ Some x) × (i < cells_of (m.memory (KindOf x)))
 
 abbrev pub HeadOf : Machine → ℕ → Actor → List Duty → Type 0
 HeadOf m t a [] = Unit {0}

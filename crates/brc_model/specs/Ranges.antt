@@ -1,7 +1,7 @@
 -- The rows and cells that threads' duties name exist, in agendas and among the duties put aside.
-use Rattle.std.specs.Prelude.{◌≡◌, ℕ, ◌<◌, ◌≤◌, true, List, [], ◌∷◌, Some, slice_get}
+use Rattle.std.specs.Prelude.{◌≡◌, ℕ, ◌+◌, ◌<◌, ◌≤◌, true, List, [], ◌∷◌, Some, slice_get}
 use Rattle.brc_model.specs.declared.duty.Duty.{Duty}
-use Rattle.brc_model.specs.declared.duty.Duty.TheVariants.{SettleCell, BirthKind}
+use Rattle.brc_model.specs.declared.duty.Duty.TheVariants.{SettleCell, BirthKind, CellLoad}
 use Rattle.brc_model.specs.declared.address.Address.TheVariants.{KindOf, Cell}
 use Rattle.brc_model.specs.Duties.{cells_of}
 use Rattle.brc_model.specs.Machine.{Actor, Machine}
@@ -13,6 +13,7 @@ use Rattle.brc_model.specs.Layout.{row_count}
 abbrev pub cells_named : Duty → ℕ
 cells_named (SettleCell x i n) = n
 cells_named (BirthKind x h w) = cells_of w
+cells_named (CellLoad x i) = i + 1
 cells_named _ = 0
 
 -- The duty's row is below the limit, and it names at most eight cells.

@@ -170,4 +170,9 @@ pub enum Duty {
     UnlockGate {
         row: u32,
     },
+    /// Loads a cell of the list that the thread has locked.
+    CellLoad {
+        row: u32,
+        cell: u32,
+    },
 }

@@ -8,7 +8,7 @@ use Rattle.brc_model.specs.declared.duty.Holding.{Holding}
 use Rattle.brc_model.specs.declared.duty.Holding.TheVariants.{InFlight}
 use Rattle.brc_model.specs.declared.duty.Reason.TheVariants.{Own, Handed}
 use Rattle.brc_model.specs.declared.duty.Duty.{Duty}
-use Rattle.brc_model.specs.declared.duty.Duty.TheVariants.{RetainLoad, RetainStore, RetainAdd, ReleaseLoad, ReleaseStore, DecideAtZero, SharedLoad, SharedExchange, SetMark, Look, TakeMark, MergeSwap, MergeLoad, MergeExchange, Die, Settle, SettleKind, SettleCell, TakeSlot, CloseResource, SettleEnd, Leave, Scan, Finish, ClaimMark, BirthKind, BirthSlot, BirthLocal, KindLoad, LockGate, UnlockGate}
+use Rattle.brc_model.specs.declared.duty.Duty.TheVariants.{RetainLoad, RetainStore, RetainAdd, ReleaseLoad, ReleaseStore, DecideAtZero, SharedLoad, SharedExchange, SetMark, Look, TakeMark, MergeSwap, MergeLoad, MergeExchange, Die, Settle, SettleKind, SettleCell, TakeSlot, CloseResource, SettleEnd, Leave, Scan, Finish, ClaimMark, BirthKind, BirthSlot, BirthLocal, KindLoad, LockGate, UnlockGate, CellLoad}
 use Rattle.brc_model.specs.declared.layout.Layout.{Layout}
 use Rattle.brc_model.specs.Layout.{row_at}
 use Rattle.brc_model.specs.Duties.{continuation, counts_locally, claimed, has_resource, cells_of}
@@ -18,7 +18,7 @@ use Rattle.brc_model.specs.Accounts.{lacks}
 -- ---- one duty that follows another
 
 -- Says whether a duty leaves the dying chain as it is. Retains, births, looks
--- at a kind, locks and the duties of an exit do.
+-- at a kind or a cell, locks and the duties of an exit do.
 abbrev pub leaves_chain : Duty → Bool
 leaves_chain (RetainLoad x h) = true
 leaves_chain (RetainStore x h w) = true
@@ -33,6 +33,7 @@ leaves_chain (BirthLocal x h) = true
 leaves_chain (KindLoad x) = true
 leaves_chain (LockGate x) = true
 leaves_chain (UnlockGate x) = true
+leaves_chain (CellLoad x i) = true
 leaves_chain _ = false
 
 -- Settling empties the chain; all other duties may let a row die.
@@ -86,7 +87,7 @@ cells_by (SettleCell x i n) found = n
 cells_by _ found = 0
 
 -- The duty d, whose step found this word, may be followed by e. Only few duties are followed by one that lets the row
--- die or empties a cell, and none by one that settles, claims, exits, begins a birth, locks or unlocks.
+-- die or empties a cell, and none by one that settles, claims, exits, begins a birth, locks, unlocks or loads a cell.
 abbrev pub Origin : Duty → ℕ → Duty → Type 0
 Origin d found (Die x) = MayDie d x
 Origin d found (SettleCell x i n) = n ≡ cells_by d found
@@ -98,6 +99,7 @@ Origin d found (ClaimMark x) = ⊥
 Origin d found (BirthKind x h w) = ⊥
 Origin d found (LockGate x) = ⊥
 Origin d found (UnlockGate x) = ⊥
+Origin d found (CellLoad x i) = ⊥
 Origin d found _ = Unit {0}
 
 -- The duty e goes on with the work of d, whose step found this word.

@@ -45,7 +45,8 @@ use Rattle.brc_model.proofs.Keeping.SilentMoves.{bag_after}
 use Rattle.brc_model.proofs.Keeping.Sits.{sitting, Sits, AtRest}
 use Rattle.brc_model.specs.Counting.{with_account}
 use Rattle.brc_model.proofs.Keeping.Replaced.{with_account_itself}
-use Rattle.brc_model.proofs.Dispatch.TakenSits.{taken_sits, claim_sits, rests, dispatch_fits, starts_settled, follows_plain}
+use Rattle.brc_model.proofs.Dispatch.Begun.{starts_settled, follows_plain}
+use Rattle.brc_model.proofs.Dispatch.TakenSits.{taken_sits, claim_sits, rests, dispatch_fits}
 use Rattle.brc_model.proofs.Dispatch.Counting.{its_found}
 use Rattle.brc_model.proofs.Stepping.Neutral.{found_by}
 use Rattle.brc_model.proofs.Keeping.Kept.{Doing, sits_down}

@@ -7,11 +7,12 @@ use Rattle.brc_model.specs.AbstractState.{references_to}
 use Rattle.brc_model.specs.declared.duty.Duty.{Duty}
 use Rattle.brc_model.specs.Machine.{Life, Unborn, Live, Dying, Closed, Actor, Machine}
 use Rattle.brc_model.proofs.Basics.Bag.{held-le-references_to}
-use Rattle.brc_model.specs.References.{reference_of}
+use Rattle.brc_model.proofs.Frame.Cells.{cell_held}
+use Rattle.brc_model.specs.References.{reference_of, cell_reference}
 use Rattle.brc_model.specs.RowInvariant.{waits, merges, decides, weight, Numbers, IsLive, RowInvariant}
 use Rattle.brc_model.specs.Accounts.{Accounts}
 use Rattle.brc_model.specs.Invariant.{numbers_of, CoreInvariant}
-use Rattle.brc_model.specs.Knowledge.{IsBacked}
+use Rattle.brc_model.specs.Knowledge.{IsBacked, ByReference, ByItem}
 use Rattle.brc_model.proofs.Objects.Weights.{agenda_weight-le}
 use Rattle.brc_model.specs.Layout.{block_of, IsCounted}
 
@@ -71,9 +72,19 @@ pub alive_merging : (p : Accounts) (n : ℕ) (m : Machine) (x : ℕ) → CoreInv
 alive_merging p n m x core pos some =
     alive_by (block_of m.layout x) (m.life x) (numbers_of m x) (core.rows x pos) (omega (arith, some))
 
-pub alive_backed : (p : Accounts) (n : ℕ) (m : Machine) (t x : ℕ) → CoreInvariant p n m → IsCounted m.layout x
-    → IsBacked m t x
-    → Alive m x
-alive_backed p n m t x core pos backed =
-    alive_referenced p n m x core pos
-    (omega (arith, backed.held_so, held-le-references_to (reference_of t backed.by x) m.abstract.references))
+-- An object that something keeps alive for the thread's duty has a reference: the thread's own, or that of a cell.
+pub backed_referenced : (p : Accounts) (n : ℕ) (m : Machine) (t : ℕ) (a : Actor) (x : ℕ) → CoreInvariant p n m
+    → IsBacked m t a x → 0 < references_to x m.abstract.references
+backed_referenced p n m t a x core (ByReference by some) =
+    omega (arith, some, held-le-references_to (reference_of t by x) m.abstract.references)
+backed_referenced p n m t a x core (ByItem list i locked word) =
+    omega (
+      arith,
+      cell_held p n m list i x core (omega (arith, word)),
+      held-le-references_to (cell_reference list i x) m.abstract.references,
+    )
+
+pub alive_backed : (p : Accounts) (n : ℕ) (m : Machine) (t : ℕ) (a : Actor) (x : ℕ) → CoreInvariant p n m
+    → IsCounted m.layout x → IsBacked m t a x → Alive m x
+alive_backed p n m t a x core pos backed =
+    alive_referenced p n m x core pos (backed_referenced p n m t a x core backed)

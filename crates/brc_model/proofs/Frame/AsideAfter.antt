@@ -10,6 +10,7 @@ use Rattle.brc_model.specs.declared.actor.Status.{Status}
 use Rattle.brc_model.specs.Machine.{Actor, Machine, is_running, status_by, actor_by, done_by}
 use Rattle.brc_model.specs.References.{one_if}
 use Rattle.brc_model.specs.Accounts.{Accounts}
+use Rattle.brc_model.specs.Knowledge.{is_retain}
 use Rattle.brc_model.specs.OpenWork.{is_about, about_of, is_piece, IsPiece, AllWait, AsideFits}
 use Rattle.brc_model.proofs.Frame.Aside.{alone_fits}
 use Rattle.brc_model.proofs.Stepping.Neutral.{found_by}
@@ -17,6 +18,7 @@ use Rattle.brc_model.proofs.Stepping.Settled.{ready_none}
 use Rattle.brc_model.proofs.Stepping.Retains.{ready_first}
 use Rattle.brc_model.proofs.Basics.Continuation.{Traits, next_inner, Continuation, Ends, GoesOn, continues}
 use Rattle.brc_model.proofs.Frame.Beside.{beside}
+use Rattle.brc_model.proofs.Frame.Items.{drops_items, drops_alone}
 use Rattle.brc_model.specs.Invariant.{AtDuty}
 use Rattle.brc_model.specs.declared.layout.Layout.{Layout}
 
@@ -55,16 +57,28 @@ is_false : (b : Bool) → one_if b ≡ 0 → b ≡ false
 is_false true none = absurd (omega (arith, none))
 is_false false none = refl
 
+-- None of the duties is one of a retain, if the step of the duty drops items.
+abbrev KeepsRetains : Duty → List Duty → Type 0
+KeepsRetains d aside = drops_items d ≡ true → count_by is_retain aside ≡ 0
+
+-- So a step beside which there is a retain drops none.
+keeps_items : (b c : Bool) → (b ≡ true → one_if c ≡ 0) → c ≡ true → b ≡ false
+keeps_items true c none retains = absurd (let one : one_if c ≡ 1 = ap one_if retains in omega (arith, one, none refl))
+keeps_items false c none retains = refl
+
 waits_after : (p : Accounts) (n : ℕ) (m : Machine) (t : ℕ) (a : Actor) (d : Duty) (rest aside : List Duty)
-    → AtDuty p n m t a d rest → is_piece d ≡ true → IsBeside d aside → AllWait m t a aside
+    → AtDuty p n m t a d rest → is_piece d ≡ true → IsBeside d aside → KeepsRetains d aside → AllWait m t a aside
     → AllWait (done_by m t a d rest) t (actor_by m.layout t a d rest (found_by m t a d)) aside
-waits_after p n m t a d rest [] here piece apart waits = tt
-waits_after p n m t a d rest (e ∷ es) here piece apart waits =
-    let whole = λ (x : ℕ). sum_by-cons (λ (f : Duty). cond (is_about x f) 1 0) e es in (
+waits_after p n m t a d rest [] here piece apart keeps waits = tt
+waits_after p n m t a d rest (e ∷ es) here piece apart keeps waits =
+    let whole = λ (x : ℕ). sum_by-cons (λ (f : Duty). cond (is_about x f) 1 0) e es in
+    let retains = sum_by-cons (λ (f : Duty). cond (is_retain f) 1 0) e es in (
       waits.0,
       beside p n m t a d rest here piece (piece_status a.status d piece) e
-          (λ x this. is_false (is_about x e) (omega (arith, whole x, apart x this))) waits.0 waits.1,
-      waits_after p n m t a d rest es here piece (λ x this. omega (arith, whole x, apart x this)) waits.2,
+          (λ x this. is_false (is_about x e) (omega (arith, whole x, apart x this))) waits.0
+          (keeps_items (drops_items d) (is_retain e) (λ drops. omega (arith, retains, keeps drops))) waits.1,
+      waits_after p n m t a d rest es here piece (λ x this. omega (arith, whole x, apart x this))
+          (λ drops. omega (arith, retains, keeps drops)) waits.2,
     )
 
 pieces_after : (p : Accounts) (n : ℕ) (m : Machine) (t : ℕ) (a : Actor) (d : Duty) (rest : List Duty)
@@ -82,7 +96,8 @@ pieces_after p n m t a d [] here piece =
     record {
       waits =
           waits_after p n m t a d [] a.aside here piece
-          (λ x this. let one : one_if (is_about x d) ≡ 1 = ap one_if this in omega (arith, apart x, one)) fits.waits;
+          (λ x this. let one : one_if (is_about x d) ≡ 1 = ap one_if this in omega (arith, apart x, one))
+          (drops_alone p n m t a d [] here piece) fits.waits;
       apart = λ x. omega (arith, apart x, on.about x);
       pieces = inr on.piece;
     }

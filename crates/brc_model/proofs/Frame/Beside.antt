@@ -12,13 +12,14 @@ use Rattle.brc_model.proofs.Basics.Bag.{held-cons}
 use Rattle.brc_model.specs.References.{held, one_if, reference_of}
 use Rattle.brc_model.specs.Accounts.{Accounts}
 use Rattle.brc_model.specs.OpenWork.{is_about, is_piece, may_wait}
-use Rattle.brc_model.specs.Knowledge.{HeadFits}
+use Rattle.brc_model.specs.Knowledge.{is_retain, HeadFits}
 use Rattle.brc_model.proofs.Frame.Known.{LeavesRow, known_kept}
 use Rattle.brc_model.proofs.Frame.Aside.{AreApart, apart_swapped}
 use Rattle.brc_model.proofs.Basics.Written.{written_apart, other_local, other_shared}
 use Rattle.brc_model.proofs.Basics.MovesApart.{held-without_apart}
 use Rattle.brc_model.proofs.Basics.Moves.{IsOfOther, effects_elsewhere, moved_keeps}
 use Rattle.brc_model.proofs.Frame.Cells.{empties_cell, no_cell}
+use Rattle.brc_model.proofs.Frame.Items.{drops_items, own_list_kept}
 use Rattle.brc_model.proofs.Frame.Leaves.{stopped_left}
 use Rattle.brc_model.proofs.Frame.Lives.{born_left, next_of}
 use Rattle.brc_model.proofs.Stepping.Neutral.{found_by}
@@ -73,11 +74,14 @@ module _ (p : Accounts) (n : ℕ) (m : Machine) (t : ℕ) (a : Actor) where
     born = λ was. born_left m.life t d (next_of m t a d) x was;
   }
 
-  -- A duty that the thread has put aside keeps what it knows through a step of a duty about another row.
+  -- A duty that the thread has put aside keeps what it knows through a step of a duty about another row. The step drops
+  -- no items if the duty is one of a retain.
   pub beside : (d : Duty) (rest : List Duty) → AtDuty p n m t a d rest → is_piece d ≡ true
       → status_by a.status d ≡ a.status
-      → (e : Duty) → AreApart d e → may_wait e ≡ true → HeadFits m t a e []
+      → (e : Duty) → AreApart d e → may_wait e ≡ true → (is_retain e ≡ true → drops_items d ≡ false)
+      → HeadFits m t a e []
       → HeadFits (done_by m t a d rest) t (actor_by m.layout t a d rest (found_by m t a d)) e []
-  beside d rest here piece status e apart waits fits =
+  beside d rest here piece status e apart waits keeps fits =
       known_kept m (done_by m t a d rest) t a (actor_by m.layout t a d rest (found_by m t a d)) e [] waits
-      (λ x about. leaves_beside d rest x here piece status (apart_swapped d e apart x about)) fits
+      (λ x about. leaves_beside d rest x here piece status (apart_swapped d e apart x about))
+      (λ retains. own_list_kept p n m t a d rest here (keeps retains)) fits

@@ -6,7 +6,7 @@ use Rattle.std.proofs.lemmas.Bool.Decides.{eqb_tells}
 use Rattle.brc_model.specs.declared.duty.Holding.TheVariants.{InFlight}
 use Rattle.brc_model.specs.AbstractState.{AbstractState, ByCell, without, moved, references_to, same}
 use Rattle.brc_model.specs.declared.duty.Duty.{Duty}
-use Rattle.brc_model.specs.declared.duty.Duty.TheVariants.{SettleCell}
+use Rattle.brc_model.specs.declared.duty.Duty.TheVariants.{SettleCell, CellLoad}
 use Rattle.brc_model.specs.declared.address.Address.{Address}
 use Rattle.brc_model.specs.declared.address.Address.TheVariants.{Cell}
 use Rattle.brc_model.specs.Duties.{address_of, new_word}
@@ -19,7 +19,7 @@ use Rattle.brc_model.specs.Invariant.{AtDuty, CoreInvariant}
 use Rattle.brc_model.proofs.Basics.Bag.{held-cons, held-without, held_has, references_to-cons, references_to-without}
 use Rattle.brc_model.proofs.Basics.MovesApart.{AreAside, moves_off_cells, moved_aside}
 use Rattle.brc_model.proofs.Basics.Lists.{and_first, and_second}
-use Rattle.brc_model.proofs.Basics.Written.{zero_written, written_here}
+use Rattle.brc_model.proofs.Basics.Written.{zero_written, written_here, written_load}
 
 -- ---- words
 
@@ -32,6 +32,7 @@ memory_after m t a d =
 pub still_empty : (m : Machine) (t : ℕ) (a : Actor) (d : Duty) (x i : ℕ) → m.memory (Cell x i) ≡ 0
     → memory_after m t a d (Cell x i) ≡ 0
 still_empty m t a (SettleCell y j k) x i empty = zero_written ((y == x) && (j == i)) (m.memory (Cell x i)) empty
+still_empty m t a (CellLoad y j) x i empty = written_load m.memory (Cell y j) (Cell x i) ∙ empty
 still_empty m t a _ x i empty = empty
 
 -- One cell more is empty after it is emptied.
@@ -148,6 +149,9 @@ module _ (p : Accounts) (n : ℕ) (m : Machine) (t : ℕ) (a : Actor) where
             moved_aside m.abstract (cell_reference x i object) (take_out t y j (m.memory (Cell y j)))
             (taken_aside t x i y j (m.memory (Cell y j)) e) ∙ here.core.cells_hold x i object
       ] refl
+  cells_hold_after (CellLoad y j) rest x i object here =
+      here.core.cells_hold x i object
+      ∙ ap (λ (w : ℕ). word_holds w object) (sym (written_load m.memory (Cell y j) (Cell x i)))
   cells_hold_after d rest x i object here =
       moves_off_cells m.memory m.abstract x i object t d (m.memory (address_of m.layout t a.head d))
       (no_cell d (m.memory (address_of m.layout t a.head d)) refl) ∙ here.core.cells_hold x i object

@@ -1,5 +1,5 @@
 -- A duty that may wait keeps what it knows, if a step leaves what the duty relies on at its row.
-use Rattle.std.proofs.Common.{◌≡◌, ◌≢◌, ℕ, ◌<◌, true, inl, inr, refl, sym, ap, ◌∙◌, subst, arith}
+use Rattle.std.proofs.Common.{◌≡◌, ◌≢◌, ℕ, ◌<◌, true, inl, inr, Some, refl, sym, ap, ◌∙◌, subst, arith}
 use Rattle.std.specs.Prelude.{◌==◌, List}
 use Rattle.std.proofs.lemmas.Bool.{eq-eqb}
 use Rattle.brc_word.specs.Words.{immortal_local, owner_part, local_part, phase_part}
@@ -8,11 +8,11 @@ use Rattle.brc_model.specs.declared.duty.Reason.{Reason}
 use Rattle.brc_model.specs.declared.duty.Reason.TheVariants.{Own, Handed}
 use Rattle.brc_model.specs.declared.duty.Duty.{Duty}
 use Rattle.brc_model.specs.declared.duty.Duty.TheVariants.{RetainLoad, RetainStore, RetainAdd, ReleaseLoad, ReleaseStore, DecideAtZero, SharedLoad, SharedExchange, SetMark, Look, TakeMark, MergeSwap, MergeLoad, MergeExchange}
-use Rattle.brc_model.specs.declared.address.Address.TheVariants.{Local, Shared, ThreadWord}
+use Rattle.brc_model.specs.declared.address.Address.TheVariants.{Local, Shared, KindOf, Cell, ThreadWord}
 use Rattle.brc_model.specs.Machine.{Actor, Unborn, Machine}
 use Rattle.brc_model.specs.References.{held, reference_of}
 use Rattle.brc_model.specs.OpenWork.{is_about, may_wait}
-use Rattle.brc_model.specs.Knowledge.{OwnsLocally, IsBacked, MayMerge, MayCarry, HeadFits}
+use Rattle.brc_model.specs.Knowledge.{OwnsLocally, IsBacked, ByReference, ByItem, MayMerge, MayCarry, is_retain, HeadFits}
 use Rattle.brc_model.specs.declared.layout.Layout.{Layout}
 use Rattle.brc_model.specs.Layout.{block_of, IsCounted}
 
@@ -27,6 +27,15 @@ pub record LeavesRow (m new : Machine) (t : ℕ) (a after : Actor) (x : ℕ) : T
   pub stopped : (u : ℕ) → m.memory (ThreadWord u) ≢ 1 → new.memory (ThreadWord u) ≢ 1
   pub born : m.life x ≢ Unborn → new.life x ≢ Unborn
 
+-- What a step leaves unchanged of a list that a thread has locked.
+pub record LeavesList (m new : Machine) (x : ℕ) : Type 0 where
+  pub kind : new.memory (KindOf x) ≡ m.memory (KindOf x)
+  pub cells : (i : ℕ) → new.memory (Cell x i) ≡ m.memory (Cell x i)
+
+-- A thread that has locked a list still has it locked, and the list is as it was.
+abbrev pub KeepsList : Machine → Machine → Actor → Actor → Type 0
+KeepsList m new a after = (x : ℕ) → a.locked ≡ Some x → (after.locked ≡ Some x) × LeavesList m new x
+
 itself : (x : ℕ) → (x == x) ≡ true
 itself x = eq-eqb x x refl
 
@@ -34,9 +43,18 @@ module _ (m new : Machine) (t : ℕ) (a after : Actor) where
   abbrev Leaves : ℕ → Type 0
   Leaves x = LeavesRow m new t a after x
 
-  pub backed_kept : (x : ℕ) → Leaves x → IsBacked m t x → IsBacked new t x
-  backed_kept x leaves backed =
-      record { by = backed.by; held_so = omega (arith, leaves.references backed.by, backed.held_so) }
+  -- What keeps an object alive is left by a step that leaves the thread's references to it and the list that the thread
+  -- has locked.
+  pub still_backed : (x : ℕ)
+      → ((k : Holding)
+      → held (reference_of t k x) new.abstract.references ≡ held (reference_of t k x) m.abstract.references)
+      → KeepsList m new a after → IsBacked m t a x → IsBacked new t after x
+  still_backed x references keeps (ByReference by some) = ByReference by (omega (arith, references by, some))
+  still_backed x references keeps (ByItem list i locked word) =
+      let it = keeps list locked in ByItem list i it.0 (it.1.cells i ∙ word)
+
+  pub backed_kept : (x : ℕ) → Leaves x → KeepsList m new a after → IsBacked m t a x → IsBacked new t after x
+  backed_kept x leaves keeps backed = still_backed x leaves.references keeps backed
 
   owns_kept : (x : ℕ) → Leaves x → OwnsLocally m t a x → OwnsLocally new t after x
   owns_kept x leaves owns =
@@ -67,47 +85,48 @@ module _ (m new : Machine) (t : ℕ) (a after : Actor) where
   counted_kept : (x : ℕ) → Leaves x → IsCounted m.layout x → IsCounted new.layout x
   counted_kept x leaves counted = subst (λ (l : Layout). IsCounted l x) (sym leaves.layout) counted
 
-  -- A duty keeps what it knows if the step leaves what it relies on at its row.
+  -- A duty keeps what it knows if the step leaves what it relies on at its row. A retain also relies on the list that
+  -- the thread has locked.
   pub known_kept : (e : Duty) (rest : List Duty) → may_wait e ≡ true → ((x : ℕ) → is_about x e ≡ true → Leaves x)
-      → HeadFits m t a e rest → HeadFits new t after e rest
-  known_kept (RetainLoad x h) rest waits leaves fits = backed_kept x (leaves x (itself x)) fits
-  known_kept (RetainStore x h w) rest waits leaves fits =
+      → (is_retain e ≡ true → KeepsList m new a after) → HeadFits m t a e rest → HeadFits new t after e rest
+  known_kept (RetainLoad x h) rest waits leaves list fits = backed_kept x (leaves x (itself x)) (list refl) fits
+  known_kept (RetainStore x h w) rest waits leaves list fits =
       let here = leaves x (itself x) in (
         counted_kept x here fits.0,
-        backed_kept x here fits.1,
+        backed_kept x here (list refl) fits.1,
         owns_kept x here fits.2,
         here.local fits.2 ∙ fits.3,
         fits.4,
         fits.5,
       )
-  known_kept (RetainAdd x h) rest waits leaves fits =
-      (counted_kept x (leaves x (itself x)) fits.0, backed_kept x (leaves x (itself x)) fits.1)
-  known_kept (ReleaseLoad x h) rest waits leaves fits = fits
-  known_kept (ReleaseStore x w) rest waits leaves fits =
+  known_kept (RetainAdd x h) rest waits leaves list fits =
+      (counted_kept x (leaves x (itself x)) fits.0, backed_kept x (leaves x (itself x)) (list refl) fits.1)
+  known_kept (ReleaseLoad x h) rest waits leaves list fits = fits
+  known_kept (ReleaseStore x w) rest waits leaves list fits =
       let here = leaves x (itself x) in
       (counted_kept x here fits.0, owns_kept x here fits.1, here.local fits.1 ∙ fits.2, fits.3)
-  known_kept (DecideAtZero x) rest waits leaves fits =
+  known_kept (DecideAtZero x) rest waits leaves list fits =
       let here = leaves x (itself x) in
       (counted_kept x here fits.0, owns_kept x here fits.1, ap local_part (here.local fits.1) ∙ fits.2)
-  known_kept (SharedLoad x Own) rest waits leaves fits = counted_kept x (leaves x (itself x)) fits
-  known_kept (SharedLoad x Handed) rest waits leaves fits =
+  known_kept (SharedLoad x Own) rest waits leaves list fits = counted_kept x (leaves x (itself x)) fits
+  known_kept (SharedLoad x Handed) rest waits leaves list fits =
       (counted_kept x (leaves x (itself x)) fits.0, (leaves x (itself x)).merged fits.1)
-  known_kept (SharedExchange x Own w) rest waits leaves fits = counted_kept x (leaves x (itself x)) fits
-  known_kept (SharedExchange x Handed w) rest waits leaves fits =
+  known_kept (SharedExchange x Own w) rest waits leaves list fits = counted_kept x (leaves x (itself x)) fits
+  known_kept (SharedExchange x Handed w) rest waits leaves list fits =
       (counted_kept x (leaves x (itself x)) fits.0, (leaves x (itself x)).merged fits.1)
-  known_kept (SetMark x) rest waits leaves fits = counted_kept x (leaves x (itself x)) fits
-  known_kept (Look x) rest waits leaves fits =
+  known_kept (SetMark x) rest waits leaves list fits = counted_kept x (leaves x (itself x)) fits
+  known_kept (Look x) rest waits leaves list fits =
       (counted_kept x (leaves x (itself x)) fits.0, (leaves x (itself x)).born fits.1)
-  known_kept (TakeMark x) rest waits leaves fits =
+  known_kept (TakeMark x) rest waits leaves list fits =
       let here = leaves x (itself x) in
       (counted_kept x here fits.0, stopped_kept x here fits.1, here.born fits.2)
-  known_kept (MergeSwap x Own) rest waits leaves fits =
+  known_kept (MergeSwap x Own) rest waits leaves list fits =
       let here = leaves x (itself x) in
       (counted_kept x here fits.0, owns_kept x here fits.1, ap local_part (here.local fits.1) ∙ fits.2)
-  known_kept (MergeSwap x Handed) rest waits leaves fits =
+  known_kept (MergeSwap x Handed) rest waits leaves list fits =
       (counted_kept x (leaves x (itself x)) fits.0, may_merge_kept x (leaves x (itself x)) fits.1)
-  known_kept (MergeLoad x c r) rest waits leaves fits =
+  known_kept (MergeLoad x c r) rest waits leaves list fits =
       (counted_kept x (leaves x (itself x)) fits.0, fits.1, may_carry_kept x r (leaves x (itself x)) fits.2)
-  known_kept (MergeExchange x c w r) rest waits leaves fits =
+  known_kept (MergeExchange x c w r) rest waits leaves list fits =
       (counted_kept x (leaves x (itself x)) fits.0, fits.1, may_carry_kept x r (leaves x (itself x)) fits.2)
-  known_kept _ rest waits leaves fits = absurd cc
+  known_kept _ rest waits leaves list fits = absurd cc

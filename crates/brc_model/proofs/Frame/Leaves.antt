@@ -19,7 +19,7 @@ use Rattle.brc_model.proofs.Basics.Bag.{held-le-references_to}
 use Rattle.brc_model.specs.References.{held, one_if, reference_of}
 use Rattle.brc_model.specs.RowInvariant.{waits, decides, merges, InOwned, InSwapped, InMerged, RowInvariant}
 use Rattle.brc_model.specs.Accounts.{Accounts, extra_of, lacks_of, Account, HoldsAt, lacks, HoldsNone}
-use Rattle.brc_model.specs.Knowledge.{OwnsLocally, HeadFits, HeadOf, status_word, IsBacked}
+use Rattle.brc_model.specs.Knowledge.{OwnsLocally, HeadFits, HeadOf, status_word, IsBacked, ByReference}
 use Rattle.brc_model.specs.OpenWork.{dies_by, exits}
 use Rattle.brc_model.specs.AbstractState.{Reference}
 use Rattle.brc_model.specs.Gates.{making, LocksFit}
@@ -283,17 +283,17 @@ locked_held bag t account a k x holds some =
 
 -- A thread holds a reference to the list that it has locked.
 pub locked_backed : (p : Accounts) (n : ℕ) (m : Machine) (t : ℕ) (a : Actor) (x : ℕ) → CoreInvariant p n m
-    → slice_get m.actors t ≡ Some a → a.locked ≡ Some x → IsBacked m t x
+    → slice_get m.actors t ≡ Some a → a.locked ≡ Some x → IsBacked m t a x
 locked_backed p n m t a x core found e =
     let fits = (core.each t a found).0 in
     let it = fits.locks x e in
-    record { by = it.by; held_so = locked_held m.abstract.references t (p t) a it.by x fits.holds it.held_so }
+    ByReference it.by (locked_held m.abstract.references t (p t) a it.by x fits.holds it.held_so)
 
 -- So the list lives.
 pub locked_alive : (p : Accounts) (n : ℕ) (m : Machine) (t : ℕ) (a : Actor) (x : ℕ) → CoreInvariant p n m
     → slice_get m.actors t ≡ Some a → a.locked ≡ Some x → Alive m x
 locked_alive p n m t a x core found e =
-    alive_backed p n m t x core ((core.each t a found).0.locks x e).counted (locked_backed p n m t a x core found e)
+    alive_backed p n m t a x core ((core.each t a found).0.locks x e).counted (locked_backed p n m t a x core found e)
 
 unlocked_by : (account : Account) (m : Machine) (t : ℕ) (a : Actor) (locked : Option ℕ) → a.locked ≡ locked
     → LocksFit account m t a → HoldsNone account → locked ≡ None
@@ -376,9 +376,9 @@ gates_left p n m t a (SettleEnd y) rest here u x ne dies =
 gates_left p n m t a (LockGate y) rest here u x ne dies =
     let fits = head_of p n m t a (LockGate y) rest here in
     written_apart m.memory (Gate y) (Gate x) _
-    (apart_gate y x (living_clash m u x y (alive_backed p n m t y here.core fits.0 fits.1) dies))
+    (apart_gate y x (living_clash m u x y (alive_backed p n m t a y here.core fits.0 fits.1) dies))
 gates_left p n m t a (UnlockGate y) rest here u x ne dies =
     let fits = head_of p n m t a (UnlockGate y) rest here in
     written_apart m.memory (Gate y) (Gate x) _
-    (apart_gate y x (living_clash m u x y (alive_backed p n m t y here.core fits.0 fits.1) dies))
+    (apart_gate y x (living_clash m u x y (alive_backed p n m t a y here.core fits.0 fits.1) dies))
 gates_left p n m t a _ rest here u x ne dies = refl

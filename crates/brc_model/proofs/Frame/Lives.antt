@@ -19,6 +19,7 @@ use Rattle.brc_model.proofs.Basics.Continuation.{MayDie, Origin, Continuation, G
 use Rattle.brc_model.proofs.Frame.Alive.{Alive}
 use Rattle.brc_model.proofs.Basics.Blocks.{next_unborn}
 use Rattle.brc_model.proofs.Frame.Cells.{still_empty}
+use Rattle.brc_model.proofs.Frame.Items.{lists_left}
 use Rattle.brc_model.proofs.Frame.Others.{LeavesOthers}
 use Rattle.brc_model.proofs.Frame.Leaves.{head_of, exchange_alive, decide_alive, merge_alive, locals_left, merged_left, stopped_left, words_left, gates_left, locks_left}
 use Rattle.brc_model.proofs.Basics.MovesApart.{moves_apart}
@@ -155,6 +156,7 @@ leaves_others p n m t a d rest here = record {
   words = λ u ne. words_left m t a d u ne;
   gates = λ u x ne dies. gates_left p n m t a d rest here u x ne dies;
   locks = λ u x b ne found e. locks_left p n m t a d rest here u x b ne found e;
+  lists = λ u x b ne found e. lists_left p n m t a d rest here u x b ne found e;
   cells = λ u x i ne dies was. still_empty m t a d x i was;
   kinds = λ x was. kinds_left p n m t a d rest here x was;
   lives = λ u x ne. lives_left p n m t a d rest here u x ne;

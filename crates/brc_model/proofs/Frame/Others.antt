@@ -8,16 +8,17 @@ use Rattle.std.proofs.lemmas.Option.{slice_get_within}
 use Rattle.brc_model.specs.declared.duty.Holding.{Holding}
 use Rattle.brc_word.specs.Words.{phase_part}
 use Rattle.brc_model.specs.declared.duty.Duty.{Duty}
-use Rattle.brc_model.specs.declared.duty.Duty.TheVariants.{Die, Settle, SettleKind, SettleCell, TakeSlot, CloseResource, SettleEnd, Leave, Scan, Finish, ClaimMark, BirthKind, BirthSlot, BirthLocal, KindLoad, LockGate, UnlockGate}
+use Rattle.brc_model.specs.declared.duty.Duty.TheVariants.{Die, Settle, SettleKind, SettleCell, TakeSlot, CloseResource, SettleEnd, Leave, Scan, Finish, ClaimMark, BirthKind, BirthSlot, BirthLocal, KindLoad, LockGate, UnlockGate, CellLoad}
 use Rattle.brc_model.specs.declared.address.Address.{Address}
 use Rattle.brc_model.specs.declared.address.Address.TheVariants.{Local, Shared, Gate, Cell, ThreadWord}
 use Rattle.brc_model.specs.Machine.{Actor, Life, Unborn, Live, Dying, Closed, Machine}
+use Rattle.brc_model.specs.Duties.{cells_of}
 use Rattle.brc_model.specs.References.{held, one_if, reference_of}
 use Rattle.brc_model.specs.OpenWork.{AllWait, AsideFits, AgendaFits, Linked, dies_by, ChainFits}
 use Rattle.brc_model.specs.Gates.{LocksFit}
 use Rattle.brc_model.specs.Invariant.{Fits, ActorFits}
 use Rattle.brc_model.specs.Accounts.{Accounts, HoldsAt, Account, IsBounded}
-use Rattle.brc_model.proofs.Frame.Known.{LeavesRow, backed_kept, known_kept}
+use Rattle.brc_model.proofs.Frame.Known.{LeavesRow, LeavesList, KeepsList, backed_kept, known_kept}
 use Rattle.brc_model.specs.Knowledge.{OwnsLocally, IsNext, HasCountedKind, BehindFits, HeadFits, HeadOf, AllBehind, BehindOf, IsDyingWord}
 use Rattle.brc_model.proofs.Basics.Lists.{some_is, slice_get-set_same, slice_get-set_other}
 use Rattle.brc_model.proofs.Basics.Bag.{one_if_true}
@@ -37,6 +38,8 @@ pub record LeavesOthers (m new : Machine) (t : ℕ) : Type 0 where
   pub gates : (u x : ℕ) → u ≢ t → dies_by (m.life x) u ≡ true → new.memory (Gate x) ≡ m.memory (Gate x)
   pub locks : (u x : ℕ) (b : Actor) → u ≢ t → slice_get m.actors u ≡ Some b → b.locked ≡ Some x
       → new.memory (Gate x) ≡ m.memory (Gate x)
+  -- The list that another thread has locked is as it was.
+  pub lists : (u x : ℕ) (b : Actor) → u ≢ t → slice_get m.actors u ≡ Some b → b.locked ≡ Some x → LeavesList m new x
   -- An empty cell of a row that another thread finalises stays empty.
   pub cells : (u x i : ℕ) → u ≢ t → dies_by (m.life x) u ≡ true → m.memory (Cell x i) ≡ 0
       → new.memory (Cell x i) ≡ 0
@@ -61,6 +64,10 @@ row_left m new t u b leaves ne found x = record {
   stopped = leaves.stopped;
   born = leaves.born x;
 }
+
+list_left : (m new : Machine) (t u : ℕ) (b : Actor) → LeavesOthers m new t → u ≢ t → slice_get m.actors u ≡ Some b
+    → KeepsList m new b b
+list_left m new t u b leaves ne found x locked = (locked, leaves.lists u x b ne found locked)
 
 pub dying_is : (l : Life) (u : ℕ) → l ≡ Dying u → dies_by l u ≡ true
 dying_is l u is = ap (λ (k : Life). dies_by k u) is ∙ eq-eqb u u refl
@@ -156,19 +163,27 @@ head_kept m new t u b (BirthSlot x h) rest leaves ne found fits =
 head_kept m new t u b (BirthLocal x h) rest leaves ne found fits =
     (next_kept m new t u x b leaves fits.0, fits.1, leaves.kinds x fits.2)
 head_kept m new t u b (KindLoad x) rest leaves ne found fits =
-    backed_kept m new u b b x (row_left m new t u b leaves ne found x) fits
+    backed_kept m new u b b x (row_left m new t u b leaves ne found x) (list_left m new t u b leaves ne found) fits
 head_kept m new t u b (LockGate x) rest leaves ne found fits = (
   counted_kept m new t x leaves fits.0,
-  backed_kept m new u b b x (row_left m new t u b leaves ne found x) fits.1,
+  backed_kept m new u b b x (row_left m new t u b leaves ne found x) (list_left m new t u b leaves ne found) fits.1,
   fits.2,
 )
 head_kept m new t u b (UnlockGate x) rest leaves ne found fits = (
   counted_kept m new t x leaves fits.0,
-  backed_kept m new u b b x (row_left m new t u b leaves ne found x) fits.1,
+  backed_kept m new u b b x (row_left m new t u b leaves ne found x) (list_left m new t u b leaves ne found) fits.1,
   fits.2,
+  fits.3,
+)
+head_kept m new t u b (CellLoad x i) rest leaves ne found fits = (
+  counted_kept m new t x leaves fits.0,
+  backed_kept m new u b b x (row_left m new t u b leaves ne found x) (list_left m new t u b leaves ne found) fits.1,
+  fits.2,
+  subst (λ (w : ℕ). i < cells_of w) (sym (leaves.lists u x b ne found fits.2).kind) fits.3,
 )
 head_kept m new t u b d rest leaves ne found fits =
-    known_kept m new u b b d rest refl (λ x about. row_left m new t u b leaves ne found x) fits
+    known_kept m new u b b d rest refl (λ x about. row_left m new t u b leaves ne found x)
+    (λ retains. list_left m new t u b leaves ne found) fits
 
 head_of_kept : (m new : Machine) (t u : ℕ) (b : Actor) (agenda : List Duty) → LeavesOthers m new t → u ≢ t
     → slice_get m.actors u ≡ Some b → HeadOf m u b agenda → HeadOf new u b agenda

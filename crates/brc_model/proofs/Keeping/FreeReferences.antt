@@ -79,6 +79,7 @@ leaves m t x = record {
   words = λ u ne. refl;
   gates = λ u y ne dies. refl;
   locks = λ u y c ne found e. refl;
+  lists = λ u y c ne found e. record { kind = refl; cells = λ i. refl };
   cells = λ u y i ne dies was. was;
   kinds = λ y was. was;
   lives = λ u y ne. refl;
@@ -115,7 +116,8 @@ still_wait m t a x [] none waits = tt
 still_wait m t a x (d ∷ ds) none waits = (
   waits.0,
   known_kept m (gained m t x) t a a d [] waits.0
-      (λ y about. leaves_row m t a x y (about_other x y d ds none about)) waits.1,
+      (λ y about. leaves_row m t a x y (about_other x y d ds none about))
+      (λ retains y locked. (locked, record { kind = refl; cells = λ i. refl })) waits.1,
   still_wait m t a x ds (omega (arith, none, sum_by-cons (λ (e : Duty). cond (is_about x e) 1 0) d ds)) waits.2,
 )
 

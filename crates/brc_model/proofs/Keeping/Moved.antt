@@ -6,7 +6,7 @@ use Rattle.std.proofs.lemmas.Bool.{false≢true}
 use Rattle.std.proofs.lemmas.List.Sums.{sum_by-cons}
 use Rattle.brc_model.specs.declared.duty.Holding.{Holding}
 use Rattle.brc_model.specs.declared.duty.Duty.{Duty}
-use Rattle.brc_model.specs.declared.duty.Duty.TheVariants.{Die, Settle, SettleKind, SettleCell, TakeSlot, CloseResource, SettleEnd, Leave, Scan, Finish, ClaimMark, BirthKind, BirthSlot, BirthLocal, KindLoad, LockGate, UnlockGate}
+use Rattle.brc_model.specs.declared.duty.Duty.TheVariants.{Die, Settle, SettleKind, SettleCell, TakeSlot, CloseResource, SettleEnd, Leave, Scan, Finish, ClaimMark, BirthKind, BirthSlot, BirthLocal, KindLoad, LockGate, UnlockGate, CellLoad}
 use Rattle.brc_model.specs.AbstractState.{Move, ByThread, moved}
 use Rattle.brc_model.specs.References.{held, one_if, reference_of}
 use Rattle.brc_model.specs.Machine.{Actor, Machine, with_moves}
@@ -17,7 +17,7 @@ use Rattle.brc_model.specs.Gates.{LocksFit}
 use Rattle.brc_model.specs.Invariant.{Fits, IsWatched, ByRunning, ByExit, ByLook}
 use Rattle.brc_model.specs.Counting.{HasNoneAbout, with_account}
 use Rattle.brc_model.proofs.Basics.MovesApart.{AreAside, moved_aside}
-use Rattle.brc_model.proofs.Frame.Known.{LeavesRow, backed_kept, known_kept}
+use Rattle.brc_model.proofs.Frame.Known.{LeavesRow, KeepsList, backed_kept, known_kept}
 use Rattle.brc_model.proofs.Frame.Others.{LeavesOthers, each_fits}
 use Rattle.brc_model.proofs.Basics.Lists.{set_found}
 use Rattle.brc_model.proofs.Keeping.Replaced.{with_account_same, with_account_other}
@@ -39,6 +39,7 @@ moves_leave m t moves own = record {
   words = λ u ne. refl;
   gates = λ u y ne dies. refl;
   locks = λ u y c ne found e. refl;
+  lists = λ u y c ne found e. record { kind = refl; cells = λ i. refl };
   cells = λ u y i ne dies was. was;
   kinds = λ y was. was;
   lives = λ u y ne. refl;
@@ -96,6 +97,10 @@ module _ (m : Machine) (moves : List Move) (t : ℕ) (a : Actor) (x : ℕ) (else
     born = λ was. was;
   }
 
+  -- They leave the list that the thread has locked.
+  list_left : KeepsList m (with_moves m moves) a a
+  list_left y locked = (locked, record { kind = refl; cells = λ i. refl })
+
   -- A duty about another row knows what it knew.
   head_kept : (d : Duty) (rest : List Duty) → is_about x d ≡ false → HeadFits m t a d rest
       → HeadFits (with_moves m moves) t a d rest
@@ -114,19 +119,27 @@ module _ (m : Machine) (moves : List Move) (t : ℕ) (a : Actor) (x : ℕ) (else
   head_kept (BirthSlot y h) rest other fits = (next_kept y fits.0, fits.1, fits.2)
   head_kept (BirthLocal y h) rest other fits = (next_kept y fits.0, fits.1, fits.2)
   head_kept (KindLoad y) rest other fits =
-      backed_kept m (with_moves m moves) t a a y (row_left (KindLoad y) y other (eq-eqb y y refl)) fits
+      backed_kept m (with_moves m moves) t a a y (row_left (KindLoad y) y other (eq-eqb y y refl)) list_left fits
   head_kept (LockGate y) rest other fits = (
     fits.0,
-    backed_kept m (with_moves m moves) t a a y (row_left (LockGate y) y other (eq-eqb y y refl)) fits.1,
+    backed_kept m (with_moves m moves) t a a y (row_left (LockGate y) y other (eq-eqb y y refl)) list_left fits.1,
     fits.2,
   )
   head_kept (UnlockGate y) rest other fits = (
     fits.0,
-    backed_kept m (with_moves m moves) t a a y (row_left (UnlockGate y) y other (eq-eqb y y refl)) fits.1,
+    backed_kept m (with_moves m moves) t a a y (row_left (UnlockGate y) y other (eq-eqb y y refl)) list_left fits.1,
     fits.2,
+    fits.3,
+  )
+  head_kept (CellLoad y i) rest other fits = (
+    fits.0,
+    backed_kept m (with_moves m moves) t a a y (row_left (CellLoad y i) y other (eq-eqb y y refl)) list_left fits.1,
+    fits.2,
+    fits.3,
   )
   head_kept d rest other fits =
-      known_kept m (with_moves m moves) t a a d rest refl (λ y about. row_left d y other about) fits
+      known_kept m (with_moves m moves) t a a d rest refl (λ y about. row_left d y other about)
+      (λ retains. list_left) fits
 
   -- No duty is about the object if their number is zero.
   none_about : (b : Bool) → one_if b ≡ 0 → b ≡ false

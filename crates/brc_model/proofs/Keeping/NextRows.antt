@@ -1,6 +1,6 @@
 -- No duty that a thread has put aside is about a row that isn't born: each such duty knows, makes or weighs something
 -- that only a born row has.
-use Rattle.std.proofs.Common.{◌≡◌, ℕ, ◌<◌, ◌≤◌, Bool, true, false, cond, List, [], ◌∷◌, refl, ap, ◌∙◌, subst, arith}
+use Rattle.std.proofs.Common.{◌≡◌, ◌≢◌, ℕ, ◌+◌, ◌<◌, ◌≤◌, Bool, true, false, cond, List, [], ◌∷◌, refl, ap, ◌∙◌, subst, arith}
 use Rattle.std.specs.Prelude.{◌==◌, ◌&&◌, count_by, sum_by}
 use Rattle.std.proofs.lemmas.Bool.{eqb-true}
 use Rattle.std.proofs.lemmas.List.Sums.{sum_by-cons}
@@ -9,18 +9,19 @@ use Rattle.brc_model.specs.declared.duty.Holding.TheVariants.{InFlight}
 use Rattle.brc_model.specs.declared.duty.Reason.TheVariants.{Own, Handed}
 use Rattle.brc_model.specs.declared.duty.Duty.{Duty}
 use Rattle.brc_model.specs.declared.duty.Duty.TheVariants.{RetainLoad, RetainStore, RetainAdd, ReleaseLoad, ReleaseStore, DecideAtZero, SharedLoad, SharedExchange, SetMark, Look, TakeMark, MergeSwap, MergeLoad, MergeExchange}
-use Rattle.brc_model.specs.declared.address.Address.TheVariants.{Local}
+use Rattle.brc_model.specs.declared.address.Address.TheVariants.{Local, Cell}
 use Rattle.brc_model.specs.AbstractState.{same_holding, references_to}
 use Rattle.brc_model.specs.Layout.{block_of, IsCounted}
 use Rattle.brc_model.specs.Machine.{Actor, Life, Unborn, Machine}
-use Rattle.brc_model.specs.References.{held, one_if, reference_of}
+use Rattle.brc_model.specs.References.{held, one_if, reference_of, cell_reference}
 use Rattle.brc_model.specs.RowInvariant.{waits, merges, RowInvariant, IsUnborn}
 use Rattle.brc_model.specs.Accounts.{Accounts, extra, lacks, extra_aside, lacks_aside}
-use Rattle.brc_model.specs.Knowledge.{IsBacked, OwnsLocally, HeadFits}
+use Rattle.brc_model.specs.Knowledge.{IsBacked, ByReference, ByItem, OwnsLocally, HeadFits}
 use Rattle.brc_model.specs.OpenWork.{is_about, about_of, may_wait, AllWait}
 use Rattle.brc_model.specs.Invariant.{CoreInvariant, numbers_of}
 use Rattle.brc_model.specs.Counting.{IsReady, HasNoneAbout}
 use Rattle.brc_model.proofs.Basics.Bag.{same_holding-refl, held-le-references_to}
+use Rattle.brc_model.proofs.Frame.Cells.{cell_held}
 use Rattle.brc_model.proofs.Frame.Aside.{lacks_about, extra_about, lacks_counted}
 use Rattle.brc_model.proofs.Objects.Weights.{agenda_weight-le}
 use Rattle.brc_model.proofs.Keeping.WorkBegins.{ready_holds}
@@ -30,18 +31,20 @@ record IsBlank (m : Machine) (x : ℕ) : Type 0 where
   life : m.life x ≡ Unborn
   local : m.memory (Local x) ≡ 0
   references : references_to x m.abstract.references ≡ 0
+  cells : (list i : ℕ) → m.memory (Cell list i) ≢ x + 1
 
--- The thread holds no reference to it.
-backs_none : (m : Machine) (t x y : ℕ) → IsBlank m x → y ≡ x → IsBacked m t y → ⊥
-backs_none m t x y blank is backed =
-    let here : 0 < held (reference_of t backed.by x) m.abstract.references =
-    subst (λ (z : ℕ). 0 < held (reference_of t backed.by z) m.abstract.references) is backed.held_so in
+-- Neither the thread nor a cell holds a reference to it.
+backs_none : (m : Machine) (t : ℕ) (a : Actor) (x y : ℕ) → IsBlank m x → y ≡ x → IsBacked m t a y → ⊥
+backs_none m t a x y blank is (ByReference by some) =
+    let here : 0 < held (reference_of t by x) m.abstract.references =
+    subst (λ (z : ℕ). 0 < held (reference_of t by z) m.abstract.references) is some in
     absurd (omega (
       arith,
       here,
-      held-le-references_to (reference_of t backed.by x) m.abstract.references,
+      held-le-references_to (reference_of t by x) m.abstract.references,
       blank.references,
     ))
+backs_none m t a x y blank is (ByItem list i locked word) = blank.cells list i (word ∙ ap (λ (z : ℕ). z + 1) is)
 
 -- No thread owns it.
 owns_none : (m : Machine) (t : ℕ) (a : Actor) (x y : ℕ) → IsBlank m x → y ≡ x → OwnsLocally m t a y → ⊥
@@ -73,10 +76,10 @@ record AddsNothing (x : ℕ) (d : Duty) : Type 0 where
 -- A duty that may wait isn't about a row that isn't born.
 waits_elsewhere : (m : Machine) (t : ℕ) (a : Actor) (x : ℕ) (d : Duty) → IsBlank m x → AddsNothing x d
     → may_wait d ≡ true → HeadFits m t a d [] → is_about x d ≡ true → ⊥
-waits_elsewhere m t a x (RetainLoad y h) blank adds may fits e = backs_none m t x y blank (eqb-true y x e) fits
+waits_elsewhere m t a x (RetainLoad y h) blank adds may fits e = backs_none m t a x y blank (eqb-true y x e) fits
 waits_elsewhere m t a x (RetainStore y h w) blank adds may fits e =
-    backs_none m t x y blank (eqb-true y x e) fits.1
-waits_elsewhere m t a x (RetainAdd y h) blank adds may fits e = backs_none m t x y blank (eqb-true y x e) fits.1
+    backs_none m t a x y blank (eqb-true y x e) fits.1
+waits_elsewhere m t a x (RetainAdd y h) blank adds may fits e = backs_none m t a x y blank (eqb-true y x e) fits.1
 waits_elsewhere m t a x (ReleaseLoad y h) blank adds may fits e =
     let more : one_if (same_holding h h && (y == x)) ≡ 1 =
     ap (λ (b : Bool). one_if (b && (y == x))) (same_holding-refl h) ∙ ap one_if e in
@@ -165,7 +168,18 @@ unborn_alone p n m t a x core ready counted unborn =
     let holds = ready_holds p n m t a core ready in
     let row : IsUnborn (numbers_of m x) =
     subst (λ (l : Life). RowInvariant (block_of m.layout x) l (numbers_of m x)) unborn (core.rows x counted) in
-    let blank : IsBlank m x = record { life = unborn; local = row.local; references = row.references } in
+    let blank : IsBlank m x = record {
+      life = unborn;
+      local = row.local;
+      references = row.references;
+      cells = λ list i word.
+          absurd (omega (
+            arith,
+            cell_held p n m list i x core (omega (arith, word)),
+            held-le-references_to (cell_reference list i x) m.abstract.references,
+            row.references,
+          ));
+    } in
     let adds : AddsNone x a.aside = record {
       gives = λ k. omega (
         arith,

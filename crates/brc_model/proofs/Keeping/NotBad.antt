@@ -10,7 +10,7 @@ use Rattle.brc_model.specs.AbstractState.{is_counted, is_among, AbstractState, s
 use Rattle.brc_word.specs.Words.{immortal_local, local_part, is_immortal_word}
 use Rattle.brc_model.specs.declared.duty.Reason.TheVariants.{Own, Handed}
 use Rattle.brc_model.specs.declared.duty.Duty.{Duty}
-use Rattle.brc_model.specs.declared.duty.Duty.TheVariants.{RetainLoad, RetainStore, RetainAdd, ReleaseLoad, ReleaseStore, DecideAtZero, SharedLoad, SharedExchange, MergeSwap, MergeLoad, MergeExchange, Die, Settle, SettleKind, SettleCell, SettleEnd, TakeSlot, CloseResource, BirthKind, BirthSlot, BirthLocal, KindLoad, LockGate, UnlockGate}
+use Rattle.brc_model.specs.declared.duty.Duty.TheVariants.{RetainLoad, RetainStore, RetainAdd, ReleaseLoad, ReleaseStore, DecideAtZero, SharedLoad, SharedExchange, MergeSwap, MergeLoad, MergeExchange, Die, Settle, SettleKind, SettleCell, SettleEnd, TakeSlot, CloseResource, BirthKind, BirthSlot, BirthLocal, KindLoad, LockGate, UnlockGate, CellLoad}
 use Rattle.brc_lang.specs.declared.kind.Kind.{Kind}
 use Rattle.brc_model.specs.Kinds.{kind_of_word, is_counted_kind}
 use Rattle.brc_model.specs.declared.address.Address.TheVariants.{Local, KindOf, Cell}
@@ -19,7 +19,7 @@ use Rattle.brc_model.specs.Machine.{Actor, Unborn, Live, Dying, Closed, Machine}
 use Rattle.brc_model.specs.Moves.{put_in_flight, gain, lose, reference_effects, birth, take_out}
 use Rattle.brc_model.specs.BadDuties.{touched_row, is_freed_for, touches_freed, is_bad_duty}
 use Rattle.brc_model.proofs.Basics.Lists.{either}
-use Rattle.brc_model.proofs.Basics.Bag.{same_holding-refl, held_has, held-le-references_to, no_cell_holds, same-refl, one_if_true}
+use Rattle.brc_model.proofs.Basics.Bag.{same_holding-refl, held_has, no_cell_holds, same-refl, one_if_true}
 use Rattle.brc_model.specs.References.{held, one_if, reference_of, word_holds, cell_reference}
 use Rattle.brc_model.specs.RowInvariant.{decides, InOwned, InSwapped, InMerged}
 use Rattle.brc_model.specs.Accounts.{Accounts, extra_of, lacks_of}
@@ -27,7 +27,7 @@ use Rattle.brc_model.specs.Knowledge.{IsBacked, IsNext, IsEmpty}
 use Rattle.brc_model.specs.OpenWork.{Linked, dies_by}
 use Rattle.brc_model.specs.Invariant.{AtDuty, CoreInvariant}
 use Rattle.brc_model.proofs.Promises.Agreeing.{is_free_of}
-use Rattle.brc_model.proofs.Frame.Alive.{Alive, first_weighs, alive_deciding, alive_backed}
+use Rattle.brc_model.proofs.Frame.Alive.{Alive, first_weighs, alive_deciding, alive_backed, backed_referenced}
 use Rattle.brc_model.proofs.Frame.Cells.{cell_held}
 use Rattle.brc_model.proofs.Frame.Others.{is_dying}
 use Rattle.brc_model.proofs.Frame.Leaves.{head_of, load_alive, exchange_alive, decide_alive, merge_load_alive, merge_alive, claim_alive, gives_held, given_alive}
@@ -77,25 +77,25 @@ next_free : (p : Accounts) (n : ℕ) (m : Machine) (t : ℕ) (a : Actor) (x : �
     → IsNext m t a x → touches_freed m t (Some x) ≡ false
 next_free p n m t a x core found next = ap (is_freed_for t) (next_unborn p n m t a x core found next)
 
--- An object to which the thread holds a reference isn't freed.
-backed_free : (p : Accounts) (n : ℕ) (m : Machine) (t x : ℕ) → CoreInvariant p n m → IsBacked m t x
+-- An object that something keeps alive for the thread's duty isn't freed.
+backed_free : (p : Accounts) (n : ℕ) (m : Machine) (t : ℕ) (a : Actor) (x : ℕ) → CoreInvariant p n m → IsBacked m t a x
     → is_freed_for t (m.life x) ≡ false
-backed_free p n m t x core backed =
+backed_free p n m t a x core backed =
     elim (cases_Bool (is_immortal_row m.layout x)) [
       | inl immortal ↦ ap (is_freed_for t) (core.immortals_live x immortal)
-      | inr counted ↦ alive_free m t x (alive_backed p n m t x core counted backed)
+      | inr counted ↦ alive_free m t x (alive_backed p n m t a x core counted backed)
     ]
 
 touches_none : (p : Accounts) (n : ℕ) (m : Machine) (t : ℕ) (a : Actor) (d : Duty) (rest : List Duty)
     → AtDuty p n m t a d rest → touches_freed m t (touched_row (address_of m.layout t a.head d)) ≡ false
 touches_none p n m t a (RetainLoad x h) rest here =
-    backed_free p n m t x here.core (head_of p n m t a (RetainLoad x h) rest here)
+    backed_free p n m t a x here.core (head_of p n m t a (RetainLoad x h) rest here)
 touches_none p n m t a (RetainStore x h w) rest here =
     let fits = head_of p n m t a (RetainStore x h w) rest here in
-    alive_free m t x (alive_backed p n m t x here.core fits.0 fits.1)
+    alive_free m t x (alive_backed p n m t a x here.core fits.0 fits.1)
 touches_none p n m t a (RetainAdd x h) rest here =
     let fits = head_of p n m t a (RetainAdd x h) rest here in
-    alive_free m t x (alive_backed p n m t x here.core fits.0 fits.1)
+    alive_free m t x (alive_backed p n m t a x here.core fits.0 fits.1)
 touches_none p n m t a (ReleaseLoad x h) rest here =
     elim (cases_Bool (is_immortal_row m.layout x)) [
       | inl immortal ↦ ap (is_freed_for t) (here.core.immortals_live x immortal)
@@ -129,11 +129,13 @@ touches_none p n m t a (BirthLocal x h) rest here =
     next_free p n m t a x here.core here.found (head_of p n m t a (BirthLocal x h) rest here).0
 touches_none p n m t a (SettleEnd x) rest here = dying_free m t x (head_of p n m t a (SettleEnd x) rest here).1
 touches_none p n m t a (KindLoad x) rest here =
-    backed_free p n m t x here.core (head_of p n m t a (KindLoad x) rest here)
+    backed_free p n m t a x here.core (head_of p n m t a (KindLoad x) rest here)
 touches_none p n m t a (LockGate x) rest here =
-    backed_free p n m t x here.core (head_of p n m t a (LockGate x) rest here).1
+    backed_free p n m t a x here.core (head_of p n m t a (LockGate x) rest here).1
 touches_none p n m t a (UnlockGate x) rest here =
-    backed_free p n m t x here.core (head_of p n m t a (UnlockGate x) rest here).1
+    backed_free p n m t a x here.core (head_of p n m t a (UnlockGate x) rest here).1
+touches_none p n m t a (CellLoad x i) rest here =
+    backed_free p n m t a x here.core (head_of p n m t a (CellLoad x i) rest here).1
 touches_none p n m t a _ rest here = refl
 
 -- ---- moves of references
@@ -146,11 +148,10 @@ or_true : (a : Bool) → (a || true) ≡ true
 or_true true = refl
 or_true false = refl
 
-backed_gain : (m : Machine) (t x : ℕ) (h : Holding) → IsBacked m t x
-    → are_allowed m.layout m.abstract (gain t h x) ≡ true
-backed_gain m t x h backed =
-    let some : 0 < references_to x m.abstract.references =
-    omega (arith, backed.held_so, held-le-references_to (reference_of t backed.by x) m.abstract.references) in
+backed_gain : (p : Accounts) (n : ℕ) (m : Machine) (t : ℕ) (a : Actor) (x : ℕ) (h : Holding) → CoreInvariant p n m
+    → IsBacked m t a x → are_allowed m.layout m.abstract (gain t h x) ≡ true
+backed_gain p n m t a x h core backed =
+    let some = backed_referenced p n m t a x core backed in
     one_allowed m.layout m.abstract (Gain (reference_of t h x))
     (ap (λ (b : Bool). is_immortal_row m.layout x || b) (lt-ltb 0 _ some) ∙ or_true (is_immortal_row m.layout x))
 
@@ -248,10 +249,11 @@ moves_allowed : (p : Accounts) (n : ℕ) (m : Machine) (t : ℕ) (a : Actor) (d 
     (reference_effects m.memory t d (m.memory (address_of m.layout t a.head d))) ≡ true
 moves_allowed p n m t a (RetainLoad x h) rest here =
     either (λ mvs. are_allowed m.layout m.abstract mvs ≡ true) (is_immortal_word (m.memory (Local x))) (gain t h x) []
-    (λ e. backed_gain m t x h (head_of p n m t a (RetainLoad x h) rest here)) refl
+    (λ e. backed_gain p n m t a x h here.core (head_of p n m t a (RetainLoad x h) rest here)) refl
 moves_allowed p n m t a (RetainStore x h w) rest here =
-    backed_gain m t x h (head_of p n m t a (RetainStore x h w) rest here).1
-moves_allowed p n m t a (RetainAdd x h) rest here = backed_gain m t x h (head_of p n m t a (RetainAdd x h) rest here).1
+    backed_gain p n m t a x h here.core (head_of p n m t a (RetainStore x h w) rest here).1
+moves_allowed p n m t a (RetainAdd x h) rest here =
+    backed_gain p n m t a x h here.core (head_of p n m t a (RetainAdd x h) rest here).1
 moves_allowed p n m t a (ReleaseLoad x h) rest here =
     let has = given_in_bag p n m t a (ReleaseLoad x h) rest h x here (holder_same h x) refl in
     elim (cases_Bool (is_immortal_row m.layout x)) [

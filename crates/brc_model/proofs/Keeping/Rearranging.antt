@@ -6,7 +6,7 @@ use Rattle.std.proofs.lemmas.Bool.{false≢true}
 use Rattle.std.proofs.lemmas.List.Sums.{sum_by-cons, sum_by-append}
 use Rattle.brc_model.specs.declared.duty.Holding.{Holding}
 use Rattle.brc_model.specs.declared.duty.Duty.{Duty}
-use Rattle.brc_model.specs.declared.duty.Duty.TheVariants.{Die, Settle, SettleKind, SettleCell, TakeSlot, CloseResource, SettleEnd, Leave, Scan, Finish, BirthKind, BirthSlot, BirthLocal, KindLoad, LockGate, UnlockGate}
+use Rattle.brc_model.specs.declared.duty.Duty.TheVariants.{Die, Settle, SettleKind, SettleCell, TakeSlot, CloseResource, SettleEnd, Leave, Scan, Finish, BirthKind, BirthSlot, BirthLocal, KindLoad, LockGate, UnlockGate, CellLoad}
 use Rattle.brc_model.specs.declared.actor.Status.{Status}
 use Rattle.brc_model.specs.declared.actor.Status.TheVariants.{Running, Leaving, Gone}
 use Rattle.brc_model.specs.Machine.{Actor, Machine, with_actor}
@@ -56,6 +56,7 @@ waiting_piece (BirthLocal x h) waits = absurd cc
 waiting_piece (KindLoad x) waits = absurd cc
 waiting_piece (LockGate x) waits = absurd cc
 waiting_piece (UnlockGate x) waits = absurd cc
+waiting_piece (CellLoad x i) waits = absurd cc
 waiting_piece _ waits = waits
 
 waiting_scans : (d : Duty) (x : ℕ) → may_wait d ≡ true → scans x (d ∷ []) ≡ false
@@ -95,7 +96,8 @@ still_known : (m : Machine) (t : ℕ) (a : Actor) (agenda aside : List Duty) (d 
     → HeadFits (with_actor m t (working a agenda aside)) t (working a agenda aside) d []
 still_known m t a agenda aside d waits knows =
     known_kept m (with_actor m t (working a agenda aside)) t a (working a agenda aside) d [] waits
-    (λ x about. all_left m t a agenda aside x) knows
+    (λ x about. all_left m t a agenda aside x)
+    (λ retains x locked. (locked, record { kind = refl; cells = λ i. refl })) knows
 
 -- The duties put aside still know what they know.
 pub still_wait : (m : Machine) (t : ℕ) (a : Actor) (agenda aside ds : List Duty) → AllWait m t a ds

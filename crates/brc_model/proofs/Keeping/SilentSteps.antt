@@ -145,6 +145,7 @@ leaves m t a moves silent = record {
   words = λ u ne. refl;
   gates = λ u x ne dies. refl;
   locks = λ u x c ne found e. refl;
+  lists = λ u x c ne found e. record { kind = refl; cells = λ i. refl };
   cells = λ u x i ne dies was. was;
   kinds = λ x was. was;
   lives = λ u x ne. refl;

@@ -16,7 +16,7 @@ use Rattle.brc_model.specs.Machine.{Actor, Machine, with_actor}
 use Rattle.brc_model.specs.References.{held, one_if, reference_of}
 use Rattle.brc_model.specs.RowInvariant.{waits, carries, merges, decides}
 use Rattle.brc_model.specs.Accounts.{Account, Accounts, extra, lacks, extra_aside, lacks_aside, HoldsAt, most_lent, IsBounded}
-use Rattle.brc_model.specs.Knowledge.{HeadFits}
+use Rattle.brc_model.specs.Knowledge.{ByReference, HeadFits}
 use Rattle.brc_model.specs.OpenWork.{is_about, is_piece, is_finalising, has_leave, Agenda, IsSettled}
 use Rattle.brc_model.specs.Gates.{LocksFit}
 use Rattle.brc_model.specs.Invariant.{looks, CoreInvariant}
@@ -249,7 +249,7 @@ retains_begin p n m t a x counts ready alone some few =
       locks =
           more_locks (p t) m t a (working a (RetainLoad x AsCaller ∷ []) a.aside) x (core.each t a ready.found).0.locks
           refl (λ k y. omega (arith, one_makes k y (RetainLoad x AsCaller)));
-      knows = record { by = AsCaller; held_so = omega (arith, in_bag, some) };
+      knows = ByReference AsCaller (omega (arith, in_bag, some));
       small =
           row_small (row_count m.layout) x (RetainLoad x AsCaller) (held_row p n m t a x core ready alone some)
           (λ y. refl) (omega arith);

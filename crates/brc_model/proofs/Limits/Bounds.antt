@@ -6,7 +6,7 @@ use Rattle.std.proofs.lemmas.Bool.{eq-eqb}
 use Rattle.brc_word.specs.Words.{owner_part, local_part, biased_part, phase_part, bias}
 use Rattle.brc_model.specs.declared.duty.Holding.{Holding}
 use Rattle.brc_model.specs.declared.duty.Duty.{Duty}
-use Rattle.brc_model.specs.declared.duty.Duty.TheVariants.{RetainStore, RetainAdd, ReleaseLoad, ReleaseStore, SharedLoad, SharedExchange, MergeLoad, MergeExchange, SettleCell}
+use Rattle.brc_model.specs.declared.duty.Duty.TheVariants.{RetainStore, RetainAdd, ReleaseLoad, ReleaseStore, SharedLoad, SharedExchange, MergeLoad, MergeExchange, SettleCell, CellLoad}
 use Rattle.brc_model.specs.declared.address.Address.TheVariants.{Local, Shared, Cell}
 use Rattle.brc_model.specs.Duties.{address_of, counts_locally}
 use Rattle.brc_model.specs.declared.actor.Status.TheVariants.{Gone}
@@ -112,7 +112,7 @@ duty_suits p n m t a (RetainStore x h w) rest here alive few =
     let (pos, backed, owns, same, some, low) = head_of p n m t a (RetainStore x h w) rest here in low
 duty_suits p n m t a (RetainAdd x h) rest here alive few =
     let fits = head_of p n m t a (RetainAdd x h) rest here in
-    let near = near_bias p n m x here.core few (alive_backed p n m t x here.core fits.0 fits.1) in
+    let near = near_bias p n m x here.core few (alive_backed p n m t a x here.core fits.0 fits.1) in
     (record { low = omega (arith, near.high); state = near.state }, omega (arith, near.high))
 duty_suits p n m t a (ReleaseLoad x h) rest here alive few = release_suits p n m t a x h rest here alive
 duty_suits p n m t a (ReleaseStore x w) rest here alive few = (head_of p n m t a (ReleaseStore x w) rest here).3
@@ -141,5 +141,7 @@ duty_suits p n m t a (MergeExchange x c w r) rest here alive few = (
       ),
 )
 duty_suits p n m t a (SettleCell x i k) rest here alive few =
+    cell_low (m.memory (Cell x i)) (row_count m.layout) (λ y is. cell_small p n m x i y here.core is)
+duty_suits p n m t a (CellLoad x i) rest here alive few =
     cell_low (m.memory (Cell x i)) (row_count m.layout) (λ y is. cell_small p n m x i y here.core is)
 duty_suits p n m t a _ rest here alive few = tt

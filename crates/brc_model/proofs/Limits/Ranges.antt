@@ -7,7 +7,7 @@ use Rattle.brc_model.specs.AbstractState.{references_to}
 use Rattle.brc_model.specs.declared.duty.Holding.TheVariants.{InFlight}
 use Rattle.brc_model.specs.declared.duty.Reason.TheVariants.{Handed}
 use Rattle.brc_model.specs.declared.duty.Duty.{Duty}
-use Rattle.brc_model.specs.declared.duty.Duty.TheVariants.{ReleaseLoad, MergeSwap, Settle, SettleKind, SettleCell, Leave, Scan, Finish, BirthKind, KindLoad}
+use Rattle.brc_model.specs.declared.duty.Duty.TheVariants.{ReleaseLoad, MergeSwap, Settle, SettleKind, SettleCell, Leave, Scan, Finish, BirthKind, KindLoad, CellLoad}
 use Rattle.brc_model.specs.declared.address.Address.TheVariants.{KindOf, Mark, Cell}
 use Rattle.brc_model.specs.Duties.{address_of, new_word, continuation, ready, cells_of}
 use Rattle.brc_model.specs.Machine.{Actor, Life, Unborn, Live, Machine, written, is_running, actor_by, done_by}
@@ -76,6 +76,7 @@ origin_small : (k : ℕ) (d : Duty) (found : ℕ) (e : Duty) → Origin d found 
     → cells_named e ≤ cell_limit
 origin_small k d found (SettleCell x i n) origin few = omega (arith, origin, few)
 origin_small k d found (BirthKind x h w) origin few = absurd origin
+origin_small k d found (CellLoad x i) origin few = absurd origin
 origin_small k d found _ origin few = omega arith
 
 next_small : (k : ℕ) {layout : Layout} {t head found : ℕ} (d : Duty) (next : List Duty)

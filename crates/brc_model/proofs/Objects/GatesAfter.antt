@@ -44,11 +44,11 @@ dead_gate_stays : (p : Accounts) (n : ℕ) (m : Machine) (t : ℕ) (a : Actor) (
 dead_gate_stays p n m t a (LockGate y) rest x here other dead =
     let fits = head_of p n m t a (LockGate y) rest here in
     written_apart m.memory (Gate y) (Gate x) _
-    (apart_gate y x (λ e. dead (ap m.life (sym e) ∙ (alive_backed p n m t y here.core fits.0 fits.1).life)))
+    (apart_gate y x (λ e. dead (ap m.life (sym e) ∙ (alive_backed p n m t a y here.core fits.0 fits.1).life)))
 dead_gate_stays p n m t a (UnlockGate y) rest x here other dead =
     let fits = head_of p n m t a (UnlockGate y) rest here in
     written_apart m.memory (Gate y) (Gate x) _
-    (apart_gate y x (λ e. dead (ap m.life (sym e) ∙ (alive_backed p n m t y here.core fits.0 fits.1).life)))
+    (apart_gate y x (λ e. dead (ap m.life (sym e) ∙ (alive_backed p n m t a y here.core fits.0 fits.1).life)))
 dead_gate_stays p n m t a d rest x here other dead = gate_stays p n m t a d rest x here other refl
 
 ended_gate : (m : Machine) (t : ℕ) (a : Actor) (d : Duty) (x : ℕ) → ended_row d ≡ Some x

@@ -16,6 +16,7 @@ use Rattle.brc_model.specs.Machine.{Actor, Unborn, Machine, born_row, done_by}
 use Rattle.brc_model.specs.Moves.{reference_effects}
 use Rattle.brc_model.proofs.Basics.Written.{written_apart, written_load}
 use Rattle.brc_model.proofs.Basics.Blocks.{next_block, next_index, next_unborn}
+use Rattle.brc_model.proofs.Frame.Items.{word_stays}
 use Rattle.brc_model.proofs.Frame.Leaves.{head_of}
 use Rattle.brc_model.proofs.Stepping.Neutral.{found_by, memory_by}
 use Rattle.brc_model.proofs.Basics.Moves.{moved_keeps}
@@ -60,17 +61,6 @@ same_kinds : (m : Machine) (t : ℕ) (d : Duty) (found : ℕ) → born_row d ≡
 same_kinds m t d found none =
     moved_keeps (λ p. p.kinds) BearsNone move_kinds m.abstract (reference_effects m.memory t d found)
     (moves_none m.memory t d found none)
-
--- No step changes the kind word of a born row.
-word_stays : (p : Accounts) (n : ℕ) (m : Machine) (t : ℕ) (a : Actor) (d : Duty) (rest : List Duty) (x : ℕ)
-    → AtDuty p n m t a d rest → m.life x ≢ Unborn → memory_by m t a d (KindOf x) ≡ m.memory (KindOf x)
-word_stays p n m t a (SettleKind y) rest x here born = written_load m.memory (KindOf y) (KindOf x)
-word_stays p n m t a (KindLoad y) rest x here born = written_load m.memory (KindOf y) (KindOf x)
-word_stays p n m t a (BirthKind y h w) rest x here born =
-    let next = (head_of p n m t a (BirthKind y h w) rest here).0 in
-    let apart : y ≡ x → ⊥ = λ e. born (ap m.life (sym e) ∙ next_unborn p n m t a y here.core here.found next) in
-    written_apart m.memory (KindOf y) (KindOf x) w (ne_eqb y x apart)
-word_stays p n m t a _ rest x here born = refl
 
 -- No step changes the kind of a born row.
 kind_stays : (p : Accounts) (n : ℕ) (m : Machine) (t : ℕ) (a : Actor) (d : Duty) (rest : List Duty) (x : ℕ)

@@ -8,7 +8,7 @@ use Rattle.brc_model.specs.AbstractState.{without, references_to, AbstractState,
 use Rattle.brc_word.specs.Words.{most_local, local_part, is_immortal_word, fresh_word}
 use Rattle.brc_model.specs.declared.duty.Reason.TheVariants.{Own}
 use Rattle.brc_model.specs.declared.duty.Duty.{Duty}
-use Rattle.brc_model.specs.declared.duty.Duty.TheVariants.{RetainLoad, RetainStore, RetainAdd, ReleaseLoad, ReleaseStore, DecideAtZero, SharedLoad, MergeSwap, Die, KindLoad, LockGate, UnlockGate}
+use Rattle.brc_model.specs.declared.duty.Duty.TheVariants.{RetainLoad, RetainStore, RetainAdd, ReleaseLoad, ReleaseStore, DecideAtZero, SharedLoad, MergeSwap, Die, KindLoad, LockGate, UnlockGate, CellLoad}
 use Rattle.brc_model.specs.declared.address.Address.TheVariants.{Local, Shared}
 use Rattle.brc_model.specs.Duties.{counts_locally}
 use Rattle.brc_model.specs.Machine.{Live, Dying, Actor, Machine}
@@ -45,6 +45,15 @@ row_after_lock_gate {y = y} some s =
 pub row_after_unlock_gate : {p : Accounts} {n : ℕ} {m : Machine} {t : ℕ} {a : Actor} {y : ℕ} {rest : List Duty}
     → IsCounted m.layout y → AtDuty p n m t a (UnlockGate y) rest → KeepsRow m t a (UnlockGate y) rest y
 row_after_unlock_gate {y = y} some s =
+    row_apart s y some refl (none_apart y) (λ life state. refl)
+    (record { local = refl; shared = refl; mark = refl; references = refl })
+
+-- ---- loading a cell
+
+-- The row's invariant holds after `CellRead`.
+pub row_after_cell_load : {p : Accounts} {n : ℕ} {m : Machine} {t : ℕ} {a : Actor} {y i : ℕ} {rest : List Duty}
+    → IsCounted m.layout y → AtDuty p n m t a (CellLoad y i) rest → KeepsRow m t a (CellLoad y i) rest y
+row_after_cell_load {y = y} some s =
     row_apart s y some refl (none_apart y) (λ life state. refl)
     (record { local = refl; shared = refl; mark = refl; references = refl })
 

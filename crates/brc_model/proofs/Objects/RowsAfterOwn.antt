@@ -16,6 +16,7 @@ use Rattle.brc_model.specs.RowInvariant.{Numbers, InOwned, InSwapped, InMerged, 
 use Rattle.brc_model.specs.Accounts.{Accounts, extra, lacks, extra_of, lacks_of}
 use Rattle.brc_model.specs.Invariant.{AtDuty, numbers_of}
 use Rattle.brc_model.specs.Knowledge.{IsBacked}
+use Rattle.brc_model.proofs.Frame.Alive.{backed_referenced}
 use Rattle.brc_model.proofs.Frame.Aside.{extra_held}
 use Rattle.brc_model.proofs.Objects.RowsAfterStep.{following, KeepsRow, RowStays, row_stays, Lives, row_lives}
 use Rattle.brc_model.proofs.Objects.RowsAfterElsewhere.{AreApart, weighs, light_apart}
@@ -71,14 +72,10 @@ lives_so {m = m} s y some counted =
     row_lives (block_of m.layout y) (m.life y) (numbers_of m y) (s.core.rows y some) counted
 
 pub lives_backed : {p : Accounts} {n : ℕ} {m : Machine} {t : ℕ} {a : Actor} {d : Duty} {rest : List Duty}
-    → AtDuty p n m t a d rest → (y : ℕ) → IsCounted m.layout y → IsBacked m t y
+    → AtDuty p n m t a d rest → (y : ℕ) → IsCounted m.layout y → IsBacked m t a y
     → Lives (block_of m.layout y) (m.life y) (numbers_of m y)
-lives_backed {m = m} {t = t} s y some backed =
-    lives_so s y some (omega (
-      arith,
-      held-le-references_to (reference_of t backed.by y) m.abstract.references,
-      backed.held_so,
-    ))
+lives_backed {p = p} {n = n} {m = m} {t = t} {a = a} s y some backed =
+    lives_so s y some (omega (arith, backed_referenced p n m t a y s.core backed))
 
 -- A live counted row isn't immortal.
 pub counted_word : (owner : ℕ) (n : Numbers) → IsLive owner n → is_immortal_word n.local ≡ false

@@ -63,12 +63,12 @@ gate_stays p n m t a (LockGate y) rest x here other dies =
     let fits = head_of p n m t a (LockGate y) rest here in
     let own : dies_by (m.life x) t ≡ true = ap (λ (l : Life). dies_by l t) dies ∙ eq-eqb t t refl in
     written_apart m.memory (Gate y) (Gate x) _
-    (apart_gate y x (living_clash m t x y (alive_backed p n m t y here.core fits.0 fits.1) own))
+    (apart_gate y x (living_clash m t x y (alive_backed p n m t a y here.core fits.0 fits.1) own))
 gate_stays p n m t a (UnlockGate y) rest x here other dies =
     let fits = head_of p n m t a (UnlockGate y) rest here in
     let own : dies_by (m.life x) t ≡ true = ap (λ (l : Life). dies_by l t) dies ∙ eq-eqb t t refl in
     written_apart m.memory (Gate y) (Gate x) _
-    (apart_gate y x (living_clash m t x y (alive_backed p n m t y here.core fits.0 fits.1) own))
+    (apart_gate y x (living_clash m t x y (alive_backed p n m t a y here.core fits.0 fits.1) own))
 gate_stays p n m t a _ rest x here other dies = refl
 
 ended_finalising : (d : Duty) (x : ℕ) → ended_row d ≡ Some x → is_finalising d x ≡ true

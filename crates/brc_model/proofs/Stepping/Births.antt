@@ -63,7 +63,7 @@ thread_after_birth_kind p n m t a x h w rest here alive =
             hands = λ y. refl;
             held = held_same m.abstract.references t (d ∷ rest) (BirthSlot x h ∷ rest) (λ k o. refl) (λ k o. refl);
             fits = agenda_here p n m t a d rest here alive;
-            knows = λ b status head used. (still_next m new t a b x refl status used fits.0, fits.1, said);
+            knows = λ b status head used locked. (still_next m new t a b x refl status used fits.0, fits.1, said);
           })
       | false ↦ λ e.
           own_keeps p n m t a d rest (BirthLocal x h ∷ []) (BirthLocal x h ∷ rest) here alive refl (record {
@@ -73,7 +73,7 @@ thread_after_birth_kind p n m t a x h w rest here alive =
             hands = λ y. refl;
             held = held_same m.abstract.references t (d ∷ rest) (BirthLocal x h ∷ rest) (λ k o. refl) (λ k o. refl);
             fits = agenda_here p n m t a d rest here alive;
-            knows = λ b status head used. (still_next m new t a b x refl status used fits.0, fits.1, said);
+            knows = λ b status head used locked. (still_next m new t a b x refl status used fits.0, fits.1, said);
           })
     ] refl
 
@@ -94,7 +94,7 @@ thread_after_birth_slot p n m t a x h rest here alive =
       hands = λ y. refl;
       held = held_same m.abstract.references t (d ∷ rest) (BirthLocal x h ∷ rest) (λ k o. refl) (λ k o. refl);
       fits = agenda_here p n m t a d rest here alive;
-      knows = λ b status head used. (still_next m new t a b x refl status used fits.0, fits.1, fits.2);
+      knows = λ b status head used locked. (still_next m new t a b x refl status used fits.0, fits.1, fits.2);
     })
 
 -- A birth doesn't change which rows the thread is finalising.

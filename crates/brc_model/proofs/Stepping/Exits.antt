@@ -93,7 +93,7 @@ claim_step p n m t a d x rest behind here alive step =
             hands = step.hands;
             held = step.held (MergeSwap x Handed ∷ (behind ++ rest)) (λ h o. refl) (λ h o. refl);
             fits = step.later;
-            knows = λ b status head used. (above, inl (step.block marked));
+            knows = λ b status head used locked. (above, inl (step.block marked));
           })
       | false ↦ λ e.
           let ready_so = ready_is m.layout t a.used a.status a.head (behind ++ rest) step.later in
@@ -111,7 +111,7 @@ claim_step p n m t a d x rest behind here alive step =
             held = step.held (ready a.head (behind ++ rest)) ready_so.more ready_so.less;
             fits = ready_so.fits;
             knows =
-                λ b status head used. ready_so.knows (done_by m t a d rest) b head
+                λ b status head used locked. ready_so.knows (done_by m t a d rest) b head
                 (step.knows (done_by m t a d rest) (still_behind p n m t a d rest here));
           })
     ] refl

@@ -14,11 +14,11 @@ use Rattle.brc_model.specs.declared.actor.Status.TheVariants.{Running, Leaving, 
 use Rattle.brc_model.specs.declared.layout.Layout.{Layout}
 use Rattle.brc_model.specs.Duties.{address_of, new_head}
 use Rattle.brc_model.specs.Machine.{Actor, Machine, is_running, actor_by, done_by, is_locking}
-use Rattle.brc_model.specs.References.{one_if}
+use Rattle.brc_model.specs.References.{held, one_if, reference_of}
 use Rattle.brc_model.specs.Accounts.{Accounts, lacks, HoldsAt}
 use Rattle.brc_model.specs.OpenWork.{is_about, about_of, Later, Agenda, AgendaFits}
 use Rattle.brc_model.specs.Gates.{making, HasLocked, LocksFit}
-use Rattle.brc_model.specs.Knowledge.{IsBacked}
+use Rattle.brc_model.specs.Knowledge.{IsBacked, ByReference, ByItem}
 use Rattle.brc_model.specs.Invariant.{AtDuty}
 use Rattle.brc_model.proofs.Basics.Lists.{some_is, none_some}
 use Rattle.brc_model.proofs.Basics.Written.{written_here, written_apart, written_load, apart_gate}
@@ -126,8 +126,18 @@ making_none a k x fits none = making_of a a.agenda k x refl fits none
 
 -- ---- a lock that is taken
 
+-- A reference of the thread to an object.
+record IsHeld (m : Machine) (t x : ℕ) : Type 0 where
+  by : Holding
+  held_so : 0 < held (reference_of t by x) m.abstract.references
+
+-- A thread that is about to lock a list holds a reference to it: it has locked no other list, whose item it could be.
+lock_held : (m : Machine) (t : ℕ) (a : Actor) (x : ℕ) → a.locked ≡ None → IsBacked m t a x → IsHeld m t x
+lock_held m t a x unlocked (ByReference by some) = record { by = by; held_so = some }
+lock_held m t a x unlocked (ByItem list i e word) = absurd (none_some list (sym unlocked ∙ e))
+
 backed_so : (p : Accounts) (n : ℕ) (m : Machine) (t : ℕ) (a : Actor) (x : ℕ) (rest : List Duty)
-    → AtDuty p n m t a (LockGate x) rest → (backed : IsBacked m t x) → sum_by (makes backed.by x) rest ≡ 0
+    → AtDuty p n m t a (LockGate x) rest → (backed : IsHeld m t x) → sum_by (makes backed.by x) rest ≡ 0
     → making a backed.by x < p t backed.by x
 backed_so p n m t a x rest here backed none =
     let fits = here.core.each t a here.found in
@@ -153,7 +163,7 @@ backed_so p n m t a x rest here backed none =
 -- Of a thread that locks, the account has the reference that backs the lock: none of the thread's work makes or gives up
 -- a reference to the list.
 backed_account : (p : Accounts) (n : ℕ) (m : Machine) (t : ℕ) (a : Actor) (x : ℕ) (rest : List Duty)
-    → AtDuty p n m t a (LockGate x) rest → (backed : IsBacked m t x) → making a backed.by x < p t backed.by x
+    → AtDuty p n m t a (LockGate x) rest → (backed : IsHeld m t x) → making a backed.by x < p t backed.by x
 backed_account p n m t a x rest here backed =
     backed_so p n m t a x rest here backed
     (behind_makes a a.status (LockGate x) rest backed.by x here.agenda (here.core.each t a here.found).1)
@@ -165,13 +175,14 @@ lock_taken : (p : Accounts) (n : ℕ) (m : Machine) (t : ℕ) (a : Actor) (x : �
     (actor_by m.layout t a (LockGate x) rest (m.memory (Gate x))) x
 lock_taken p n m t a x rest here free =
     let fits = head_of p n m t a (LockGate x) rest here in
-    let less = makes_less m t a (LockGate x) rest fits.1.by x (m.memory (Gate x)) here.agenda refl in
-    let had = backed_account p n m t a x rest here fits.1 in
+    let holds = lock_held m t a x fits.2 fits.1 in
+    let less = makes_less m t a (LockGate x) rest holds.by x (m.memory (Gate x)) here.agenda refl in
+    let had = backed_account p n m t a x rest here holds in
     let word : cond (m.memory (Gate x) == free_word) (locked_word t) (m.memory (Gate x)) ≡ locked_word t =
     ap (λ (b : Bool). cond b (locked_word t) (m.memory (Gate x))) (eq-eqb (m.memory (Gate x)) free_word free) in
     record {
       counted = fits.0;
-      by = fits.1.by;
+      by = holds.by;
       held_so = omega (arith, less, had);
       gate = written_here m.memory (Gate x) _ ∙ word;
     }

@@ -49,7 +49,7 @@ thread_after_set_mark p n m t a x rest here alive =
     own_next p n m t a d (Look x) rest here alive refl refl refl refl
     (held_same m.abstract.references t (d ∷ rest) (Look x ∷ rest) (λ k o. refl) (λ k o. refl))
     (agenda_here p n m t a d rest here alive)
-    (λ b status head used. (
+    (λ b status head used locked. (
       head_of p n m t a d rest here,
       (leaves_others p n m t a d rest here).born x (alive_born m x (mark_alive p n m t a x rest here)),
     ))
@@ -71,7 +71,7 @@ thread_after_look p n m t a x rest here alive =
           own_next p n m t a d (TakeMark x) rest here alive refl refl refl
           (ap (λ (b : Bool). cond b [] (TakeMark x ∷ [])) e)
           (held_same m.abstract.references t (d ∷ rest) (TakeMark x ∷ rest) (λ k o. refl) (λ k o. refl))
-          later (λ b status head used. (
+          later (λ b status head used locked. (
             (head_of p n m t a d rest here).0,
             (leaves_others p n m t a d rest here).stopped (block_of m.layout x) (eqb-false found 1 e),
             (leaves_others p n m t a d rest here).born x (head_of p n m t a d rest here).1,
@@ -94,7 +94,7 @@ thread_after_take_mark p n m t a x rest here alive =
           own_next p n m t a d (MergeSwap x Handed) rest here alive refl refl refl
           (ap (λ (b : Bool). cond b (MergeSwap x Handed ∷ []) []) e)
           (held_same m.abstract.references t (d ∷ rest) (MergeSwap x Handed ∷ rest) (λ k o. refl) (λ k o. refl))
-          later (λ b status head used. (fits.0, inr fits.1))
+          later (λ b status head used locked. (fits.0, inr fits.1))
       | false ↦ λ e.
           own_done p n m t a d rest here alive refl (ap (λ (b : Bool). cond b (MergeSwap x Handed ∷ []) []) e) later
           (held_same m.abstract.references t (d ∷ rest) [] (λ k o. refl) (λ k o. refl))
@@ -134,7 +134,7 @@ thread_after_merge_swap_own p n m t a x rest here alive =
     own_next p n m t a d e rest here alive refl refl refl (ap (λ (b : Bool). cond b [] (e ∷ [])) some)
     (held_same m.abstract.references t (d ∷ rest) (e ∷ rest) (λ k o. refl) (λ k o. refl))
     (agenda_here p n m t a d rest here alive)
-    (λ b status head used. (
+    (λ b status head used locked. (
       fits.0,
       omega (arith, fits.1.low),
       (status ∙ fits.1.running, swap_own p n m t a x rest here),
@@ -159,12 +159,12 @@ thread_after_merge_swap_handed p n m t a x rest here alive =
           (ap (λ (b : Bool). cond b (gives ∷ []) (e ∷ [])) none)
           (held_same m.abstract.references t (d ∷ rest) (gives ∷ rest) (λ k o. refl) (λ k o. refl))
           later
-          (λ b status head used. (fits.0, swapped_apart p n m t a x rest here (eqb-true found 0 none)))
+          (λ b status head used locked. (fits.0, swapped_apart p n m t a x rest here (eqb-true found 0 none)))
       | false ↦ λ some.
           own_next p n m t a d e rest here alive refl refl refl
           (ap (λ (b : Bool). cond b (gives ∷ []) (e ∷ [])) some)
           (held_same m.abstract.references t (d ∷ rest) (e ∷ rest) (λ k o. refl) (λ k o. refl))
-          later (λ b status head used. (fits.0, omega arith, tt))
+          later (λ b status head used locked. (fits.0, omega arith, tt))
     ] refl
 
 -- ---- the shared word
@@ -187,7 +187,7 @@ thread_after_merge_load p n m t a x c r rest here alive =
     own_next p n m t a d e rest here alive refl refl refl refl
     (held_same m.abstract.references t (d ∷ rest) (e ∷ rest) (λ k o. refl) (λ k o. refl))
     (agenda_here p n m t a d rest here alive)
-    (λ b status head used. (
+    (λ b status head used locked. (
       fits.0,
       fits.1,
       may_carry_stays m (done_by m t a d rest) t x a b r refl status fits.2,
@@ -235,7 +235,7 @@ merge_won p n m t a x c w Handed rest here alive won =
     (ap (λ (b : Bool). cond b (gives ∷ []) (MergeLoad x c Handed ∷ [])) won)
     (held_same m.abstract.references t (d ∷ rest) (gives ∷ rest) (λ k o. refl) (λ k o. refl))
     (agenda_here p n m t a d rest here alive)
-    (λ b status head used. (
+    (λ b status head used locked. (
       (head_of p n m t a d rest here).0,
       ap phase_part wrote ∙ (shared_merged w c).1,
     ))
@@ -259,7 +259,7 @@ thread_after_merge_exchange p n m t a x c w r rest here alive =
           (ap (λ (b : Bool). cond b (merge_result x r (merged_word w c)) (again ∷ [])) lost)
           (held_same m.abstract.references t (d ∷ rest) (again ∷ rest) (λ k o. refl) (λ k o. refl))
           (agenda_here p n m t a d rest here alive)
-          (λ b status head used. (
+          (λ b status head used locked. (
             fits.0,
             fits.1,
             may_carry_stays m (done_by m t a d rest) t x a b r refl status fits.2,

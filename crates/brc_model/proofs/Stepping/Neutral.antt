@@ -7,7 +7,7 @@ use Rattle.brc_model.specs.declared.address.Address.TheVariants.{Gate, ThreadWor
 use Rattle.brc_model.specs.Duties.{address_of, new_word, new_head, ready}
 use Rattle.brc_model.specs.declared.actor.Status.{Status}
 use Rattle.brc_model.specs.declared.actor.Status.TheVariants.{Running, Leaving, Gone}
-use Rattle.brc_model.specs.Machine.{Actor, Life, Dying, Closed, Machine, status_by, dies_next, ended_row, with_life, life_by, actor_by, done_by, written, born_row, used_by, Live}
+use Rattle.brc_model.specs.Machine.{Actor, Life, Dying, Closed, Machine, status_by, dies_next, ended_row, with_life, life_by, actor_by, done_by, written, born_row, used_by, locked_by, Live}
 use Rattle.brc_model.specs.Moves.{reference_effects}
 use Rattle.brc_model.specs.References.{one_if}
 use Rattle.brc_model.specs.Accounts.{Accounts, HoldsAt}
@@ -75,7 +75,7 @@ pub record NeutralStep (m : Machine) (t : ℕ) (a : Actor) (d : Duty) (rest next
   pub held : HeldStep m.abstract.references (bag_by m t a d) t (d ∷ rest) agenda
   pub fits : Agenda a.used a.status agenda
   pub knows : (b : Actor) → b.status ≡ a.status → b.head ≡ a.head → b.used ≡ a.used
-      → HeadOf (done_by m t a d rest) t b agenda
+      → b.locked ≡ locked_by a.locked d (found_by m t a d) → HeadOf (done_by m t a d rest) t b agenda
 
 -- Only a birth raises the number of used rows.
 pub uses_same : (used : ℕ) (d : Duty) → born_row d ≡ None → used_by used d ≡ used
@@ -123,7 +123,7 @@ own_neutral p n m t a d rest next agenda here alive step =
         exited = λ e. old.exited (sym (exits_still p n m t a d rest (found_by m t a d) here) ∙ e);
         head_fits =
             subst (λ (l : List Duty). HeadOf new t after l) (sym whole)
-            (step.knows after step.same_status step.same_head (uses_same a.used d step.none_born));
+            (step.knows after step.same_status step.same_head (uses_same a.used d step.none_born) refl);
         behind = behind_after p n m t a d rest here;
         chain =
             subst (λ (l : List Duty). ChainFits new t after.head l) (sym whole)

@@ -1,5 +1,5 @@
--- A thread fits after its own steps that ask for a kind, lock, unlock, make a reference, give one up by the local word,
--- or decide at zero.
+-- A thread fits after its own steps that ask for a kind, lock, unlock, load a cell, make a reference, give one up by
+-- the local word, or decide at zero.
 use Rattle.std.proofs.Common.{◌≡◌, ℕ, ◌+◌, ◌-◌, ◌<◌, Bool, true, false, cond, List, [], ◌∷◌, ◌++◌, refl, sym, ap, ◌∙◌, subst, arith}
 use Rattle.std.specs.Prelude.{◌==◌, ◌&&◌}
 use Rattle.std.specs.List.{list_any}
@@ -10,7 +10,7 @@ use Rattle.brc_model.specs.AbstractState.{Reference, same_holding, same, without
 use Rattle.brc_word.specs.Words.{immortal_local, owner_part, local_part, is_immortal_word, fresh_word}
 use Rattle.brc_model.specs.declared.duty.Reason.TheVariants.{Own}
 use Rattle.brc_model.specs.declared.duty.Duty.{Duty}
-use Rattle.brc_model.specs.declared.duty.Duty.TheVariants.{RetainStore, RetainAdd, ReleaseLoad, ReleaseStore, DecideAtZero, SharedLoad, MergeSwap, Die, KindLoad, LockGate, UnlockGate}
+use Rattle.brc_model.specs.declared.duty.Duty.TheVariants.{RetainStore, RetainAdd, ReleaseLoad, ReleaseStore, DecideAtZero, SharedLoad, MergeSwap, Die, KindLoad, LockGate, UnlockGate, CellLoad}
 use Rattle.brc_model.specs.declared.address.Address.TheVariants.{Local, Shared}
 use Rattle.brc_model.specs.Duties.{counts_locally}
 use Rattle.brc_model.specs.declared.actor.Status.TheVariants.{Gone}
@@ -64,6 +64,17 @@ pub thread_after_unlock_gate : (p : Accounts) (n : ℕ) (m : Machine) (t : ℕ) 
 thread_after_unlock_gate p n m t a x rest here alive =
     own_done p n m t a (UnlockGate x) rest here alive refl refl (agenda_here p n m t a (UnlockGate x) rest here alive)
     (held_same m.abstract.references t (UnlockGate x ∷ rest) [] (λ k o. refl) (λ k o. refl))
+
+-- ---- loading a cell
+
+-- The thread fits after `CellRead`.
+pub thread_after_cell_load : (p : Accounts) (n : ℕ) (m : Machine) (t : ℕ) (a : Actor) (x i : ℕ) (rest : List Duty)
+    → AtDuty p n m t a (CellLoad x i) rest → (a.status ≡ Gone → ⊥)
+    → ThreadFits p (done_by m t a (CellLoad x i) rest) t
+    (actor_by m.layout t a (CellLoad x i) rest (found_by m t a (CellLoad x i)))
+thread_after_cell_load p n m t a x i rest here alive =
+    own_done p n m t a (CellLoad x i) rest here alive refl refl (agenda_here p n m t a (CellLoad x i) rest here alive)
+    (held_same m.abstract.references t (CellLoad x i ∷ rest) [] (λ k o. refl) (λ k o. refl))
 
 -- ---- the last step of a retain
 
@@ -202,7 +213,7 @@ thread_after_release_counted p n m t a x h rest pos here alive =
           own_next p n m t a d (ReleaseStore x word) rest here alive refl refl refl
           (first ∙ ap (λ (b : Bool). cond b (ReleaseStore x word ∷ []) (SharedLoad x Own ∷ [])) e)
           (keeps (ReleaseStore x word) (λ k o. refl) (λ k o. refl)) later
-          (λ b status head used. (
+          (λ b status head used locked. (
             pos,
             record {
               running = status ∙ owns.running;
@@ -216,7 +227,7 @@ thread_after_release_counted p n m t a x h rest pos here alive =
           own_next p n m t a d (SharedLoad x Own) rest here alive refl refl refl
           (first ∙ ap (λ (b : Bool). cond b (ReleaseStore x word ∷ []) (SharedLoad x Own ∷ [])) e)
           (keeps (SharedLoad x Own) (λ k o. refl) (λ k o. refl)) later
-          (λ b status head used. pos)
+          (λ b status head used locked. pos)
     ] refl
 
 -- ---- the owner's release
@@ -258,7 +269,7 @@ thread_after_release_store p n m t a x w rest here alive =
           own_next p n m t a d (DecideAtZero x) rest here alive refl refl refl
           (ap (λ (b : Bool). cond b (DecideAtZero x ∷ []) []) e)
           (lost (DecideAtZero x ∷ rest) (λ k o. refl) (λ k o. refl)) later
-          (λ b status head used. (
+          (λ b status head used locked. (
             fits.0,
             record {
               running = status ∙ fits.1.running;
@@ -299,7 +310,7 @@ thread_after_decide_at_zero p n m t a x rest here alive =
           own_next p n m t a d (MergeSwap x Own) rest here alive refl refl refl
           (ap (λ (b : Bool). cond b (Die x ∷ []) (MergeSwap x Own ∷ [])) e)
           (held_same m.abstract.references t (d ∷ rest) (MergeSwap x Own ∷ rest) (λ k o. refl) (λ k o. refl)) later
-          (λ b status head used. (
+          (λ b status head used locked. (
             fits.0,
             record { running = status ∙ fits.1.running; owner = fits.1.owner; low = fits.1.low },
             fits.2,

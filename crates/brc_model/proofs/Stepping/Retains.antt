@@ -22,6 +22,7 @@ use Rattle.brc_model.specs.OpenWork.{is_about}
 use Rattle.brc_model.specs.Knowledge.{OwnsLocally, IsBacked}
 use Rattle.brc_model.specs.Invariant.{AtDuty, CoreInvariant}
 use Rattle.brc_model.proofs.Frame.Alive.{Alive, alive_backed}
+use Rattle.brc_model.proofs.Frame.Known.{still_backed}
 use Rattle.brc_model.proofs.Basics.Written.{written_here}
 use Rattle.brc_model.proofs.Frame.Leaves.{head_of}
 use Rattle.brc_model.proofs.Stepping.Own.{HeldStep}
@@ -94,15 +95,12 @@ thread_after_retain_counted p n m t a x h rest pos here alive =
     let word = m.memory (Local x) in
     let fits = head_of p n m t a (RetainLoad x h) rest here in
     let mortal = backed_not_immortal p n m t a x h rest pos here in
-    let living = alive_backed p n m t x here.core pos fits in
+    let living = alive_backed p n m t a x here.core pos fits in
     let bag = retain_bag m t a x h mortal in
     let new = done_by m t a (RetainLoad x h) rest in
-    let backed : IsBacked new t x =
-    record {
-      by = fits.by;
-      held_so =
-          subst (λ (l : List Reference). 0 < held (reference_of t fits.by x) l) (sym bag) fits.held_so;
-    } in
+    let backed : (b : Actor) → b.locked ≡ a.locked → IsBacked new t b x =
+    λ b locked. still_backed m new t a b x (λ k. ap (held (reference_of t k x)) bag)
+    (λ y e. (locked ∙ e, record { kind = refl; cells = λ i. refl })) fits in
     let first : continuation m.layout t (is_running a.status) a.head (RetainLoad x h) word
     ≡ cond (counts_locally t (is_running a.status) word && nat_lt (local_part word) most_local)
     (RetainStore x h word ∷ []) (RetainAdd x h ∷ []) =
@@ -142,9 +140,9 @@ thread_after_retain_counted p n m t a x h rest pos here alive =
             held = keeps (RetainStore x h word) (λ k o. refl) (λ k o. refl);
             fits = agenda_here p n m t a (RetainLoad x h) rest here alive;
             knows =
-                λ b status head used. (
+                λ b status head used locked. (
                   pos,
-                  backed,
+                  backed b locked,
                   record {
                     running = status ∙ owns.running;
                     owner = ap owner_part same ∙ owns.owner;
@@ -169,6 +167,6 @@ thread_after_retain_counted p n m t a x h rest pos here alive =
             hands = λ y. refl;
             held = keeps (RetainAdd x h) (λ k o. refl) (λ k o. refl);
             fits = agenda_here p n m t a (RetainLoad x h) rest here alive;
-            knows = λ b status head used. (pos, backed);
+            knows = λ b status head used locked. (pos, backed b locked);
           })
     ] refl

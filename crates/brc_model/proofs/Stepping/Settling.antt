@@ -85,8 +85,9 @@ settles_on p n m t a d e x rest here alive step keeps next knows =
       held = step.held e keeps.extra_none keeps.lacks_none;
       fits = keeps.later m.layout t a.used a.status rest step.later;
       knows =
-          λ b status head used. knows (life_same m t a d (e ∷ []) x next keeps.lives step.none_ends step.none_born
-          ∙ step.dies) (subst (IsDyingWord t) (sym (step.gates x)) step.gate) b;
+          λ b status head used locked. knows
+          (life_same m t a d (e ∷ []) x next keeps.lives step.none_ends step.none_born ∙ step.dies)
+          (subst (IsDyingWord t) (sym (step.gates x)) step.gate) b;
     })
 
 keeps_cell : (x i k : ℕ) → KeepsHand (SettleCell x i k) x
@@ -306,7 +307,7 @@ thread_after_settle_cell p n m t a x i k rest here alive =
                 (held_taken_out bag t x i y (SettleCell x i k ∷ rest) (next ++ rest) (λ h o. refl) (λ h o. refl)
                 (λ h o. refl) (λ h o. refl));
             fits = cells_later a.used a.status x (i + 1) k rest later;
-            knows = λ b status head used. tt;
+            knows = λ b status head used locked. tt;
           })
     ] refl
 

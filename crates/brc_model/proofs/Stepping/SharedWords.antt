@@ -41,7 +41,7 @@ thread_after_shared_load p n m t a x Own rest here alive =
     (held_same m.abstract.references t (d ∷ rest) (SharedExchange x Own (m.memory (Shared x)) ∷ rest) (λ k o. refl)
     (λ k o. refl))
     (agenda_here p n m t a d rest here alive)
-    (λ b status head used. head_of p n m t a d rest here)
+    (λ b status head used locked. head_of p n m t a d rest here)
 thread_after_shared_load p n m t a x Handed rest here alive =
     let d : Duty = SharedLoad x Handed in
     let fits = head_of p n m t a d rest here in
@@ -49,7 +49,7 @@ thread_after_shared_load p n m t a x Handed rest here alive =
     (held_same m.abstract.references t (d ∷ rest) (SharedExchange x Handed (m.memory (Shared x)) ∷ rest) (λ k o. refl)
     (λ k o. refl))
     (agenda_here p n m t a d rest here alive)
-    (λ b status head used. (fits.0, ap phase_part (written_load m.memory (Shared x) (Shared x)) ∙ fits.1))
+    (λ b status head used locked. (fits.0, ap phase_part (written_load m.memory (Shared x) (Shared x)) ∙ fits.1))
 
 exchange_next : (x w found : ℕ) (r : Reason) (fresh dead : Bool) → (found == w) ≡ true → (w == fresh_word) ≡ fresh
     → (released_word w == dead_word) ≡ dead
@@ -77,7 +77,7 @@ exchange_won p n m t a x w r rest here alive pos won moves =
       | true ↦ λ fresh.
           own_next p n m t a d (SetMark x) rest here alive refl refl refl
           (exchange_next x w (m.memory (Shared x)) r true (released_word w == dead_word) won fresh refl)
-          (moves (SetMark x ∷ rest) (λ k o. refl) (λ k o. refl)) later (λ b status head used. pos)
+          (moves (SetMark x ∷ rest) (λ k o. refl) (λ k o. refl)) later (λ b status head used locked. pos)
       | false ↦ λ other.
           elim (released_word w == dead_word) as
           (λ b. (released_word w == dead_word) ≡ b
@@ -123,7 +123,7 @@ thread_after_shared_exchange p n m t a x Own w rest here alive =
           (subst (λ (l : List Reference). HeldStep m.abstract.references l t (d ∷ rest) (SharedLoad x Own ∷ rest))
           (sym bag) (held_same m.abstract.references t (d ∷ rest) (SharedLoad x Own ∷ rest) (λ k o. refl)
           (λ k o. refl)))
-          (agenda_here p n m t a d rest here alive) (λ b status head used. pos)
+          (agenda_here p n m t a d rest here alive) (λ b status head used locked. pos)
     ] refl
 thread_after_shared_exchange p n m t a x Handed w rest here alive =
     let found = m.memory (Shared x) in
@@ -139,5 +139,5 @@ thread_after_shared_exchange p n m t a x Handed w rest here alive =
           (ap (λ (b : Bool). cond b (shared_result x w) (SharedLoad x Handed ∷ [])) lost)
           (held_same m.abstract.references t (d ∷ rest) (SharedLoad x Handed ∷ rest) (λ k o. refl) (λ k o. refl))
           (agenda_here p n m t a d rest here alive)
-          (λ b status head used. (fits.0, (leaves_others p n m t a d rest here).merged x fits.1))
+          (λ b status head used locked. (fits.0, (leaves_others p n m t a d rest here).merged x fits.1))
     ] refl

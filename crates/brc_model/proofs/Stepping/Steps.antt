@@ -11,7 +11,7 @@ use Rattle.brc_model.specs.declared.address.Address.TheVariants.{Gate, ThreadWor
 use Rattle.brc_model.specs.Duties.{new_head, ready}
 use Rattle.brc_model.specs.declared.actor.Status.{Status}
 use Rattle.brc_model.specs.declared.actor.Status.TheVariants.{Gone}
-use Rattle.brc_model.specs.Machine.{Actor, Life, Live, Dying, Closed, Machine, status_by, dies_next, ended_row, with_life, life_by, actor_by, done_by, born_row}
+use Rattle.brc_model.specs.Machine.{Actor, Life, Live, Dying, Closed, Machine, status_by, dies_next, ended_row, with_life, life_by, actor_by, done_by, born_row, locked_by}
 use Rattle.brc_model.specs.References.{one_if, reference_of}
 use Rattle.brc_model.specs.Accounts.{Accounts, extra_of, lacks_of, HoldsAt}
 use Rattle.brc_model.specs.Knowledge.{HeadFits, HeadOf, status_word}
@@ -26,7 +26,7 @@ use Rattle.brc_model.proofs.Basics.Lists.{some_is}
 use Rattle.brc_model.proofs.Frame.Lives.{next_of}
 use Rattle.brc_model.proofs.Stepping.Behind.{finalised_first, still_behind, behind_after}
 use Rattle.brc_model.proofs.Objects.RowsAfter.{rows_after}
-use Rattle.brc_model.proofs.Frame.Leaves.{head_of, locked_backed, living_clash}
+use Rattle.brc_model.proofs.Frame.Leaves.{head_of, locked_held, living_clash}
 use Rattle.brc_model.proofs.Frame.Alive.{alive_backed}
 use Rattle.brc_model.proofs.Stepping.UnderWay.{exits_still}
 use Rattle.brc_model.proofs.Stepping.Locked.{locks_after}
@@ -79,11 +79,11 @@ keeping_gates p n m t a (SettleEnd y) rest x here kept dies = absurd cc
 keeping_gates p n m t a (LockGate y) rest x here kept dies =
     let fits = head_of p n m t a (LockGate y) rest here in
     written_apart m.memory (Gate y) (Gate x) _
-    (apart_gate y x (living_clash m t x y (alive_backed p n m t y here.core fits.0 fits.1) dies))
+    (apart_gate y x (living_clash m t x y (alive_backed p n m t a y here.core fits.0 fits.1) dies))
 keeping_gates p n m t a (UnlockGate y) rest x here kept dies =
     let fits = head_of p n m t a (UnlockGate y) rest here in
     written_apart m.memory (Gate y) (Gate x) _
-    (apart_gate y x (living_clash m t x y (alive_backed p n m t y here.core fits.0 fits.1) dies))
+    (apart_gate y x (living_clash m t x y (alive_backed p n m t a y here.core fits.0 fits.1) dies))
 keeping_gates p n m t a _ rest x here kept dies = refl
 
 -- A step that makes a row die changes no gate.
@@ -128,7 +128,7 @@ pub record KeepingStep (m : Machine) (t : ℕ) (a : Actor) (d : Duty) (rest next
   pub held : HeldStep m.abstract.references (bag_by m t a d) t (d ∷ rest) agenda
   pub fits : Agenda a.used a.status agenda
   pub knows : (b : Actor) → b.status ≡ a.status → b.head ≡ a.head → b.used ≡ a.used
-      → HeadOf (done_by m t a d rest) t b agenda
+      → b.locked ≡ locked_by a.locked d (found_by m t a d) → HeadOf (done_by m t a d rest) t b agenda
 
 -- The thread fits after a step that keeps lives and makes no row die.
 pub own_keeps : (p : Accounts) (n : ℕ) (m : Machine) (t : ℕ) (a : Actor) (d : Duty) (rest next agenda : List Duty)
@@ -172,7 +172,7 @@ own_done p n m t a d rest here alive kept next later moves =
       };
       fits = then.fits;
       knows =
-          λ b status head used. then.knows (done_by m t a d rest) b head (still_behind p n m t a d rest here);
+          λ b status head used locked. then.knows (done_by m t a d rest) b head (still_behind p n m t a d rest here);
     })
 
 -- If one duty follows, it is the first of the new agenda.
@@ -182,7 +182,7 @@ pub own_next : (p : Accounts) (n : ℕ) (m : Machine) (t : ℕ) (a : Actor) (d e
     → next_of m t a d ≡ e ∷ [] → HeldStep m.abstract.references (bag_by m t a d) t (d ∷ rest) (e ∷ rest)
     → Agenda a.used a.status (e ∷ rest)
     → ((b : Actor) → b.status ≡ a.status → b.head ≡ a.head → b.used ≡ a.used
-    → HeadFits (done_by m t a d rest) t b e rest)
+    → b.locked ≡ locked_by a.locked d (found_by m t a d) → HeadFits (done_by m t a d rest) t b e rest)
     → ThreadFits p (done_by m t a d rest) t (actor_by m.layout t a d rest (found_by m t a d))
 own_next p n m t a d e rest here alive kept other stays next moves fits knows =
     own_keeps p n m t a d rest (e ∷ []) (e ∷ rest) here alive kept (record {
@@ -254,12 +254,13 @@ dying_unlocked p n m t a d rest x here alive counted dies holds u b found e =
             row.references,
           ))
       | inr other ↦
-          let backed = locked_backed p n m u b x here.core found e in
+          let fits = (here.core.each u b found).0 in
+          let it = fits.locks x e in
           absurd (omega (
             arith,
-            backed.held_so,
-            moves_apart m.memory m.abstract u t backed.by x d (found_by m t a d) other.1,
-            held-le-references_to (reference_of u backed.by x) new.abstract.references,
+            locked_held m.abstract.references u (p u) b it.by x fits.holds it.held_so,
+            moves_apart m.memory m.abstract u t it.by x d (found_by m t a d) other.1,
+            held-le-references_to (reference_of u it.by x) new.abstract.references,
             row.references,
           ))
     ]
