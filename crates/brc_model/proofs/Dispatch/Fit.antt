@@ -1,7 +1,7 @@
 -- Each instruction that a thread of accepted code begins has what it needs: the kind of the object that it locks, the
 -- lock that it ends, and no lock at the end of a call.
-use Rattle.std.proofs.Common.{◌≡◌, ℕ, zero, suc, true, false, List, [], ◌∷◌, Option, None, Some, refl, sym, ap, ◌∙◌, subst, Bool}
-use Rattle.std.specs.Prelude.{◌==◌, ◌&&◌, not, is_some, slice_get}
+use Rattle.std.proofs.Common.{◌≡◌, ℕ, zero, suc, true, false, List, [], ◌∷◌, Option, None, Some, refl, ap, ◌∙◌, subst, Bool}
+use Rattle.std.specs.Prelude.{◌&&◌, not, is_some, slice_get}
 use Rattle.std.proofs.lemmas.Bool.{eq-eqb}
 use Rattle.brc_lang.specs.declared.module.Function.{Function}
 use Rattle.brc_lang.specs.declared.module.Instr.{Instr}
@@ -17,7 +17,7 @@ use Rattle.brc_model.specs.declared.address.Address.TheVariants.{KindOf}
 use Rattle.brc_model.specs.declared.duty.Duty.{Duty}
 use Rattle.brc_model.specs.declared.thread.Choice.{Choice}
 use Rattle.brc_model.specs.declared.thread.Choice.TheVariants.{Ok, Fault, Claim}
-use Rattle.brc_model.specs.Slots.{slot_of, is_empty, kind_of, names, entry, is_one_of, lockable}
+use Rattle.brc_model.specs.Slots.{slot_of, is_empty, kind_of, entry, is_one_of, lockable}
 use Rattle.brc_model.specs.Paths.{IsAcceptableCode}
 use Rattle.brc_model.specs.Threads.{code_of, row_of, entry_variables}
 use Rattle.brc_model.specs.KnownKinds.{HaveTrueKinds, KnowsKinds, kind_words}
@@ -27,7 +27,7 @@ use Rattle.brc_model.specs.Accounts.{Account}
 use Rattle.brc_model.specs.Actions.{StepActor}
 use Rattle.brc_model.specs.StepMachine.{StepMachine}
 use Rattle.brc_model.proofs.Basics.Lists.{first_false}
-use Rattle.brc_model.proofs.Dispatch.Grounded.{IsGrounded, IsInside, AreInstructions, entry_in_call}
+use Rattle.brc_model.proofs.Dispatch.Grounded.{IsGrounded, IsInside, entry_in_call}
 use Rattle.brc_model.proofs.Dispatch.Guards.{LocksAgree, guards_none, guards_row}
 use Rattle.brc_model.proofs.Dispatch.Passing.{AreMet, passes_on}
 use Rattle.brc_model.proofs.Dispatch.Coded.{PlaceSays}

@@ -1,6 +1,6 @@
 -- A thread in a call is at a point that some path reaches, and what the path's state says of each variable is true of
 -- the row in that variable.
-use Rattle.std.proofs.Common.{◌≡◌, ◌≢◌, ℕ, zero, suc, ◌<◌, Bool, true, false, List, [], ◌∷◌, ◌++◌, length, Option, None, Some, refl, sym, ap, ◌∙◌, subst, arith, inl, inr, get_or-set_same, get_or-set_other}
+use Rattle.std.proofs.Common.{◌≡◌, ◌≢◌, ℕ, zero, suc, ◌<◌, Bool, true, false, List, [], length, Option, None, Some, refl, sym, ap, ◌∙◌, subst, arith, inl, inr, get_or-set_same, get_or-set_other}
 use Rattle.std.specs.Prelude.{◌&&◌, slice_get, slice_set}
 use Rattle.std.proofs.lemmas.Bool.{cases_lt}
 use Rattle.std.proofs.lemmas.Bool.Decides.{eqb_tells}
@@ -12,7 +12,7 @@ use Rattle.brc_model.specs.declared.slot.Slot.{Slot}
 use Rattle.brc_model.specs.declared.slot.Slot.TheVariants.{Empty, Owned, Caller, Locked}
 use Rattle.brc_model.specs.declared.slot.State.{State}
 use Rattle.brc_model.specs.declared.slot.Exit.{Exit}
-use Rattle.brc_model.specs.Slots.{slot_of, is_empty, is_owned, is_borrowed, with_kind, names, put, after, target, entry}
+use Rattle.brc_model.specs.Slots.{slot_of, is_empty, is_owned, is_borrowed, with_kind, names, put, entry}
 use Rattle.brc_model.specs.Paths.{At, path_end}
 use Rattle.brc_model.specs.declared.duty.Holding.{Holding}
 use Rattle.brc_model.specs.declared.duty.Holding.TheVariants.{ByVariable, AsCaller, InFlight}

@@ -1,20 +1,19 @@
 -- The lock of a thread in a call: what the state says is locked is what the thread has locked, and the thread keeps a
 -- reference to it.
-use Rattle.std.proofs.Common.{◌≡◌, ◌≢◌, ℕ, ◌<◌, ◌⊎◌, Bool, true, false, List, [], ◌∷◌, inl, inr, length, Option, None, Some, refl, sym, ap, ◌∙◌, subst, arith}
-use Rattle.std.specs.Prelude.{◌==◌, ◌&&◌, slice_set, is_some, map}
-use Rattle.std.specs.List.{slice_index_or}
+use Rattle.std.proofs.Common.{◌≡◌, ◌≢◌, ℕ, ◌<◌, ◌⊎◌, Bool, true, false, List, inl, inr, length, Option, None, Some, refl, sym, ap, ◌∙◌, subst, arith}
+use Rattle.std.specs.Prelude.{◌==◌, ◌&&◌, slice_set, is_some}
 use Rattle.std.proofs.lemmas.Bool.{false≢true, eq-eqb, eqb-true}
 use Rattle.std.proofs.lemmas.Bool.Decides.{eqb_tells}
 use Rattle.brc_lang.specs.declared.kind.Kind.{Kind}
 use Rattle.brc_model.specs.declared.slot.Slot.{Slot}
 use Rattle.brc_model.specs.declared.slot.Slot.TheVariants.{Empty, Owned, Caller, Locked}
 use Rattle.brc_model.specs.declared.slot.State.{State}
-use Rattle.brc_model.specs.Slots.{slot_of, is_empty, is_owned, with_kind, names, put, without_item, without_items, with_lock}
+use Rattle.brc_model.specs.Slots.{slot_of, is_owned, with_kind, names, put}
 use Rattle.brc_model.specs.declared.duty.Holding.{Holding}
-use Rattle.brc_model.specs.declared.duty.Holding.TheVariants.{ByVariable, AsCaller, InFlight}
+use Rattle.brc_model.specs.declared.duty.Holding.TheVariants.{ByVariable, AsCaller}
 use Rattle.brc_model.specs.declared.duty.Duty.{Duty}
 use Rattle.brc_model.specs.declared.duty.Duty.TheVariants.{ReleaseLoad}
-use Rattle.brc_model.specs.AbstractState.{Reference, same_holding}
+use Rattle.brc_model.specs.AbstractState.{Reference}
 use Rattle.brc_model.specs.Threads.{row_of}
 use Rattle.brc_model.specs.References.{held, reference_of}
 use Rattle.brc_model.specs.Accounts.{extra}

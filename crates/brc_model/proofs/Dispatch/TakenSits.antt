@@ -5,7 +5,6 @@ use Rattle.std.proofs.lemmas.Bool.{false≢true}
 use Rattle.std.proofs.lemmas.List.Sums.{sum_by-cons}
 use Rattle.brc_lang.specs.declared.module.Function.{Function}
 use Rattle.brc_lang.specs.declared.module.Module.{Module}
-use Rattle.brc_model.specs.AbstractState.{Reference}
 use Rattle.brc_model.specs.Threads.{code_of}
 use Rattle.brc_model.specs.declared.duty.Duty.{Duty}
 use Rattle.brc_model.specs.declared.duty.Duty.TheVariants.{RetainLoad, ReleaseLoad, Settle, Leave, ClaimMark, BirthKind, KindLoad, LockGate, UnlockGate}
@@ -40,10 +39,10 @@ use Rattle.brc_model.specs.Layout.{block_of, block_size, row_at}
 -- The account of the place where the thread then is, with which the work fits the thread.
 pub record TakenSits (p : Module) (m : Machine) (t : ℕ) (a : StepActor) (place : Place) (locked : Option ℕ)
     (agenda : List Duty) : Type 0 where
-    pub account : Account
-    pub says : PlaceSays (code_of (slice_get p.functions a.function)) place locked account
-    pub departs : exits Running agenda ≡ is_departing place
-    pub sits : Sits m t a.actor agenda account
+  pub account : Account
+  pub says : PlaceSays (code_of (slice_get p.functions a.function)) place locked account
+  pub departs : exits Running agenda ≡ is_departing place
+  pub sits : Sits m t a.actor agenda account
 
 pub taken_sits : (p : Module) (c : Accounts) (n : ℕ) (m : Machine) (t : ℕ) (a : StepActor) (found : ℕ) (place : Place)
     (d : Duty) (rest : List Duty)

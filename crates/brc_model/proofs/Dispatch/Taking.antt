@@ -1,33 +1,29 @@
 -- What a thread of accepted code takes up at each instruction meets its condition.
-use Rattle.std.proofs.Common.{◌≡◌, ◌≢◌, ℕ, zero, suc, ◌+◌, ◌<◌, true, false, List, [], ◌∷◌, ◌++◌, length, Option, None, Some, refl, sym, ap, ◌∙◌, subst, arith, ◌≤◌, Bool, cond}
+use Rattle.std.proofs.Common.{◌≡◌, ◌≢◌, ℕ, zero, suc, ◌+◌, ◌<◌, false, List, [], ◌∷◌, ◌++◌, length, Option, None, Some, refl, sym, ap, ◌∙◌, subst, arith, cond}
 use Rattle.std.specs.Prelude.{◌==◌, ◌&&◌, slice_get, slice_set}
 use Rattle.std.specs.List.{list_any}
 use Rattle.std.proofs.lemmas.List.{length-set}
 use Rattle.brc_lang.specs.declared.module.Instr.{Instr}
 use Rattle.brc_lang.specs.declared.module.Instr.TheVariants.{Num, List as ListObject, NoneObject, Newref, Move as MoveReference, Drop, Lock, Unlock, Goto, Ret, Fail, As}
 use Rattle.brc_lang.specs.declared.kind.Kind.{Kind}
-use Rattle.brc_lang.specs.declared.kind.Kind.TheVariants as kinds
-use Rattle.brc_lang.specs.Limits.{variable_count}
-use Rattle.brc_model.specs.declared.slot.Slot.{Slot}
-use Rattle.brc_model.specs.declared.slot.Slot.TheVariants.{Empty, Owned, Caller, Locked}
+use Rattle.brc_model.specs.declared.slot.Slot.TheVariants.{Empty, Owned}
 use Rattle.brc_model.specs.declared.slot.State.{State}
 use Rattle.brc_model.specs.declared.slot.Exit.TheVariants.{Success, Fault}
 use Rattle.brc_model.specs.Slots.{slot_of, is_empty, is_owned, kind_of, put, entry, with_kind, names}
-use Rattle.brc_model.specs.Paths.{At, path_end, IsAcceptableCode}
+use Rattle.brc_model.specs.Paths.{IsAcceptableCode}
 use Rattle.brc_model.specs.declared.duty.Holding.{Holding}
 use Rattle.brc_model.specs.declared.duty.Holding.TheVariants.{ByVariable, AsCaller, InFlight}
-use Rattle.brc_model.specs.AbstractState.{Reference, same_holding, references_to}
+use Rattle.brc_model.specs.AbstractState.{Reference, same_holding}
 use Rattle.brc_model.specs.Threads.{row_of, entry_variables}
-use Rattle.brc_model.specs.declared.duty.Duty.TheVariants.{RetainLoad, ReleaseLoad, Settle, BirthKind, Leave, KindLoad}
-use Rattle.brc_model.specs.Kinds.{kind_numbered, kind_of_word, same_kind, is_counted_kind}
+use Rattle.brc_model.specs.declared.duty.Duty.TheVariants.{RetainLoad, ReleaseLoad, Settle, Leave, KindLoad}
+use Rattle.brc_model.specs.Kinds.{kind_of_word, same_kind}
 use Rattle.brc_model.specs.declared.actor.Place.{Place}
 use Rattle.brc_model.specs.declared.actor.Place.TheVariants.{Idle, InCall, Exiting}
-use Rattle.brc_model.specs.Machine.{has_room}
-use Rattle.brc_model.specs.Actions.{Does, always, birth_action, dispatch_instruction, dispatch, number_word, list_word}
+use Rattle.brc_model.specs.Actions.{Does, always, dispatch_instruction, dispatch}
 use Rattle.brc_model.proofs.Basics.Bag.{held-le-references_to}
 use Rattle.brc_model.specs.References.{held, one_if, reference_of}
-use Rattle.brc_model.proofs.Basics.Lists.{either, first_false, second_false, none_some}
-use Rattle.brc_model.proofs.Dispatch.Holds.{the_root, of_variables, Holds, owned_has, caller_has, holds-ended, holds-entered}
+use Rattle.brc_model.proofs.Basics.Lists.{either, first_false, none_some}
+use Rattle.brc_model.proofs.Dispatch.Holds.{the_root, of_variables, Holds, holds-ended, holds-entered}
 use Rattle.brc_model.proofs.Dispatch.Grounded.{IsInside, AreInstructions, live_slot, owned_slot, owned_row, grounded-put, grounded-with_kind, says-with_kind, entry_in_call}
 use Rattle.brc_model.proofs.Dispatch.Guards.{LocksAgree, HeldBeside, guards-put, guards-with_kind, guards_none}
 use Rattle.brc_model.proofs.Dispatch.Standing.{backed_slot, given_referenced, keeps_all, keeps_given}
@@ -38,15 +34,10 @@ use Rattle.brc_model.proofs.Dispatch.Passing.{passes_on}
 use Rattle.brc_model.proofs.Stepping.Counts.{flip_eqb}
 use Rattle.brc_model.proofs.Frame.Aside.{HoldsAlone}
 use Rattle.brc_model.proofs.Dispatch.Coded.{once_each, PlaceFits}
-use Rattle.brc_model.proofs.Dispatch.Begins.{Scene, words_of, CountsLockable, StandsAt, holds_plain, holds_at_none, Gives, Takes, Asks, Nothing, Settles, Leaves, Taken, IsTaken, taken_with_row, idle_stays, in_call_stays, newref_held, emptied_held, ended_says, Bears, SilentTaken, cleared_held}
+use Rattle.brc_model.proofs.Dispatch.Begins.{Scene, words_of, CountsLockable, StandsAt, holds_plain, holds_at_none, Gives, Takes, Asks, Nothing, Settles, Leaves, Taken, IsTaken, taken_with_row, idle_stays, in_call_stays, newref_held, emptied_held, ended_says, SilentTaken}
 use Rattle.brc_model.proofs.Keeping.SilentMoves.{Stays}
-use Rattle.brc_model.specs.Duties.{cells_of}
-use Rattle.brc_word.specs.Words.{half, kind_part, argument_part}
-use Rattle.std.proofs.lemmas.Bool.{ltb-true, ne_eqb}
 use Rattle.brc_model.proofs.Dispatch.TakingSilent.{none_taken, move_taken, goto_taken}
-use Rattle.brc_model.specs.Limits.{cell_limit}
-use Rattle.brc_model.specs.declared.layout.Layout.{Layout}
-use Rattle.brc_model.specs.Layout.{root_row, block_size, row_at}
+use Rattle.brc_model.specs.Layout.{root_row}
 
 newref_taken : (code : List Instr) (g : Scene) (before : Place) (left at : ℕ)
     (variables : List (Option ℕ))

@@ -198,4 +198,3 @@ list_taken code g before left at variables s to cells otherwise here =
       owned_next = here.leads Success (at + 1) refl;
       empty_next = here.leads Fault otherwise refl;
     })
-

@@ -29,7 +29,6 @@ use Rattle.brc_model.proofs.Dispatch.Guards.{guards-put}
 use Rattle.brc_model.proofs.Dispatch.Begins.{Scene, StandsAt, holds_at_none, IsTaken, taken_with_row, in_call_stays, newref_held, emptied_held, SilentTaken}
 use Rattle.brc_model.proofs.Keeping.SilentMoves.{Stays, GainsNone, PassesOn}
 use Rattle.std.proofs.lemmas.Bool.Decides.{eqb_tells}
-use Rattle.brc_model.specs.declared.layout.Layout.{Layout}
 use Rattle.brc_model.specs.Layout.{none_row}
 
 -- Gaining the reference that the thread lacks makes the bag fit what the thread is to hold.

@@ -110,7 +110,7 @@ thread_keeps p n m t choice None whole found = (refl, whole)
 thread_keeps p n m t choice (Some a) whole found =
     let kept =
     action_keeps p n m t a (action_of m.functions m.layout t a choice) whole found
-    (action_fits p n m t a choice whole found) (thread_holds p n m t choice (Some a) whole whole.kinds found) in
+    (action_fits p n m t a choice whole found) (thread_holds p n m t choice (Some a) whole found) in
     (ap (λ (b : Bool). b || chooses_unfit m a choice) kept.0 ∙ choice_fit p n m t a choice whole found, kept.1)
 
 -- No event is bad, and each keeps both layers of the invariant.

@@ -111,19 +111,20 @@ inside_is p n m t a whole found left at variables is =
           (sym whole.functions) says.1,
     )
 
--- What a thread does at an event leaves the kinds known.
+-- The kinds hold after each event, whatever thread and choice it has.
 pub thread_holds : (p : Module) (n : ℕ) (m : StepMachine) (t : ℕ) (choice : Choice) (o : Option StepActor)
-    → CodeInvariant p n m → KindsHold m → slice_get m.actors t ≡ o
+    → CodeInvariant p n m → slice_get m.actors t ≡ o
     → KindsHold (of_thread m (λ a. machine_by m t a (action_of m.functions m.layout t a choice)) o)
-thread_holds p n m t choice None whole holds found = holds
-thread_holds p n m t choice (Some a) whole holds found =
+thread_holds p n m t choice None whole found = whole.kinds
+thread_holds p n m t choice (Some a) whole found =
     let x = action_of m.functions m.layout t a choice in
     let new = kind_words (machine_by m t a x) in
     let stays : StoredStay (kind_words m) new = thread_stored p n m t choice (Some a) whole found in
-    let named = named_stay (kind_words m) new stays holds.named in
+    let named = named_stay (kind_words m) new stays whole.kinds.named in
     let others : (u : ℕ) (b : StepActor) → slice_get m.actors u ≡ Some b
     → KnowsKinds (code_of (slice_get m.functions b.function)) new b.place = λ u b is.
-    knows_still (code_of (slice_get m.functions b.function)) (kind_words m) new stays b.place (holds.known u b is) in
+    knows_still (code_of (slice_get m.functions b.function)) (kind_words m) new stays b.place
+    (whole.kinds.known u b is) in
     let coded = whole.coded t a found in
     let stands : StandsKnowing (code_of (slice_get m.functions a.function)) new a.place = record {
       accepted =
@@ -141,7 +142,3 @@ thread_holds p n m t choice (Some a) whole holds found =
       known =
           acted m t a x found others (action_leaves m.functions new m.layout t a choice stands);
     }
-
-pub event_holds : (p : Module) (n : ℕ) (m : StepMachine) (event : ℕ × Choice) → CodeInvariant p n m → KindsHold m
-    → KindsHold (next_machine m event)
-event_holds p n m event whole holds = thread_holds p n m event.0 event.1 (slice_get m.actors event.0) whole holds refl
