@@ -1,7 +1,7 @@
 -- Actions. At an event a thread of the step world does the first duty of its agenda, or what its code dispatches.
 use Rattle.std.specs.Prelude.{ℕ, zero, suc, ◌+◌, ◌*◌, Bool, true, false, ◌&&◌, ◌==◌, nat_lt, if◌then◌else◌, List, [], ◌∷◌, length, Option, None, Some, slice_get, slice_set}
 use Rattle.brc_lang.specs.declared.module.Instr.{Instr}
-use Rattle.brc_lang.specs.declared.module.Instr.TheVariants.{Num, List as ListObject, NoneObject, Newref, Move as MoveReference, Drop, Lock, Unlock, Goto, Ret, Fail, As}
+use Rattle.brc_lang.specs.declared.module.Instr.TheVariants.{Num, List as ListObject, NoneObject, Newref, Move as MoveReference, Drop, Lock, Unlock, Borrow, Fetch, Set, Put, Goto, Ret, Fail, As}
 use Rattle.brc_lang.specs.declared.module.Function.{Function}
 use Rattle.brc_word.specs.Words.{half, free_word}
 use Rattle.brc_model.specs.declared.thread.Choice.{Choice}
@@ -9,13 +9,16 @@ use Rattle.brc_model.specs.declared.thread.Choice.TheVariants.{Ok, Fault, Claim}
 use Rattle.brc_model.specs.declared.actor.Status.{Status}
 use Rattle.brc_model.specs.declared.actor.Status.TheVariants.{Running, Leaving, Gone}
 use Rattle.brc_model.specs.declared.actor.Place.{Place}
-use Rattle.brc_model.specs.declared.actor.Place.TheVariants.{Idle, InCall, Exiting}
-use Rattle.brc_model.specs.declared.duty.Holding.TheVariants.{ByVariable, AsCaller}
+use Rattle.brc_model.specs.declared.actor.Place.TheVariants.{Idle, InCall, Inside, Exiting}
+use Rattle.brc_model.specs.declared.actor.Stage.{Stage}
+use Rattle.brc_model.specs.declared.actor.Stage.TheVariants.{InRange, OutOfRange, Found, Retained}
+use Rattle.brc_model.specs.declared.duty.Holding.TheVariants.{ByVariable, AsCaller, InFlight}
 use Rattle.brc_model.specs.declared.duty.Duty.{Duty}
-use Rattle.brc_model.specs.declared.duty.Duty.TheVariants.{RetainLoad, ReleaseLoad, Settle, Leave, ClaimMark, BirthKind, KindLoad, LockGate, UnlockGate}
+use Rattle.brc_model.specs.declared.duty.Duty.TheVariants.{RetainLoad, ReleaseLoad, Settle, Leave, ClaimMark, BirthKind, KindLoad, LockGate, UnlockGate, CellLoad}
 use Rattle.brc_model.specs.AbstractState.{Move}
 use Rattle.brc_model.specs.Kinds.{same_kind, kind_of_word}
 use Rattle.brc_model.specs.Threads.{code_of, row_of, entry_variables}
+use Rattle.brc_model.specs.Duties.{cells_of}
 use Rattle.brc_model.specs.Moves.{pass_on, gain}
 use Rattle.brc_model.specs.declared.layout.Layout.{Layout}
 use Rattle.brc_model.specs.Layout.{none_row, root_row, block_of, row_at, index_of}
@@ -63,6 +66,15 @@ birth_action layout t used left at variables to word otherwise =
     (always (InCall left (at + 1) (slice_set variables to (Some (row_at layout t used)))))
     else Silent [] (InCall left otherwise (slice_set variables to None))
 
+-- The place that the list's kind word decides: whether the list has the cell.
+abbrev pub by_range : ℕ → Place → Place → ℕ → Place
+by_range index inside outside found = if nat_lt index (cells_of found) then inside else outside
+
+-- The place that the cell's word decides: whether the cell is empty, or else which row it holds.
+abbrev pub by_item : Place → (ℕ → Place) → ℕ → Place
+by_item empty holds zero = empty
+by_item empty holds (suc row) = holds row
+
 -- Returns what a thread does at an instruction, if it has used `used` rows of its block. A lock that another thread
 -- holds isn't got: the instruction hasn't begun, and the thread is where it was, at `before`.
 abbrev pub dispatch_instruction : Layout → ℕ → ℕ → Place → ℕ → ℕ → List (Option ℕ) → Option Instr → Action
@@ -92,6 +104,22 @@ dispatch_instruction layout t used before left at variables (Some (Lock object))
 dispatch_instruction layout t used before left at variables (Some (Unlock object)) =
     with_row (row_of variables object)
     (λ row. Does (UnlockGate row) [] (always (InCall left (at + 1) variables)))
+dispatch_instruction layout t used before left at variables (Some (Borrow to list index otherwise)) =
+    with_row (row_of variables list)
+    (λ row. Does (KindLoad row) []
+    (by_range index (Inside left at variables InRange) (InCall left otherwise (slice_set variables to None))))
+dispatch_instruction layout t used before left at variables (Some (Fetch to list index otherwise)) =
+    with_row (row_of variables list)
+    (λ row. Does (KindLoad row) []
+    (by_range index (Inside left at variables InRange) (InCall left otherwise (slice_set variables to None))))
+dispatch_instruction layout t used before left at variables (Some (Set list index from otherwise)) =
+    with_row (row_of variables list)
+    (λ row. Does (KindLoad row) []
+    (by_range index (Inside left at variables InRange) (Inside left at variables OutOfRange)))
+dispatch_instruction layout t used before left at variables (Some (Put list index from otherwise)) =
+    with_row (row_of variables list)
+    (λ row. Does (KindLoad row) []
+    (by_range index (Inside left at variables InRange) (InCall left otherwise variables)))
 dispatch_instruction layout t used before left at variables (Some (As from kind otherwise)) =
     with_row (row_of variables from)
     (λ row. Does (KindLoad row) []
@@ -101,6 +129,39 @@ dispatch_instruction layout t used before left at variables (Some (Ret from)) =
     with_row (row_of variables from)
     (λ row. Does (ReleaseLoad row (ByVariable from)) (Settle ∷ []) (always (Idle left)))
 dispatch_instruction layout t used before left at variables (Some Fail) = Silent [] (Idle left)
+
+-- Returns what a thread does inside an instruction that uses a cell, by how far it is. An item is borrowed as it is
+-- found, or fetched with a reference of its own. A stored item's reference is the variable's (`set`), or a new one
+-- (`put`); the item that stood in the cell is released. (Python/C API manual, List Objects.)
+abbrev pub dispatch_inside : ℕ → ℕ → List (Option ℕ) → Stage → Option Instr → Action
+dispatch_inside left at variables InRange (Some (Borrow to list index otherwise)) =
+    with_row (row_of variables list)
+    (λ row. Does (CellLoad row index) []
+    (by_item (InCall left otherwise (slice_set variables to None))
+    (λ item. InCall left (at + 1) (slice_set variables to (Some item)))))
+dispatch_inside left at variables InRange (Some (Fetch to list index otherwise)) =
+    with_row (row_of variables list)
+    (λ row. Does (CellLoad row index) []
+    (by_item (InCall left otherwise (slice_set variables to None)) (λ item. Inside left at variables (Found item))))
+dispatch_inside left at variables (Found item) (Some (Fetch to list index otherwise)) =
+    Does (RetainLoad item (ByVariable to)) [] (always (InCall left (at + 1) (slice_set variables to (Some item))))
+dispatch_inside left at variables InRange (Some (Set list index from otherwise)) =
+    with_row (row_of variables list)
+    (λ row. with_row (row_of variables from)
+    (λ item. Does (CellSwap row index item (ByVariable from)) (Settle ∷ [])
+    (always (InCall left (at + 1) (slice_set variables from None)))))
+dispatch_inside left at variables OutOfRange (Some (Set list index from otherwise)) =
+    with_row (row_of variables from)
+    (λ item. Does (ReleaseLoad item (ByVariable from)) (Settle ∷ [])
+    (always (InCall left otherwise (slice_set variables from None))))
+dispatch_inside left at variables InRange (Some (Put list index from otherwise)) =
+    with_row (row_of variables from)
+    (λ item. Does (RetainLoad item InFlight) [] (always (Inside left at variables Retained)))
+dispatch_inside left at variables Retained (Some (Put list index from otherwise)) =
+    with_row (row_of variables list)
+    (λ row. with_row (row_of variables from)
+    (λ item. Does (CellSwap row index item InFlight) (Settle ∷ []) (always (InCall left (at + 1) variables))))
+dispatch_inside left at variables stage i = Stuck
 
 -- Returns what a thread with an empty agenda does. With no call left it gives up its reference to the root, settles,
 -- and leaves.
@@ -112,11 +173,14 @@ dispatch layout t used code (Idle (suc left)) =
     dispatch_instruction layout t used (Idle (suc left)) left 0 entry_variables (slice_get code 0)
 dispatch layout t used code (InCall left at variables) =
     dispatch_instruction layout t used (InCall left at variables) left at variables (slice_get code at)
+dispatch layout t used code (Inside left at variables stage) =
+    dispatch_inside left at variables stage (slice_get code at)
 
 -- Says whether the place is outside all calls.
 abbrev pub is_idle : Place → Bool
 is_idle (Idle left) = true
 is_idle (InCall left at variables) = false
+is_idle (Inside left at variables stage) = false
 is_idle Exiting = false
 
 -- Says whether the thread may claim the row: it runs, is outside its calls with nothing to do, and has used the row,

@@ -9,7 +9,7 @@ use Rattle.brc_model.specs.declared.slot.Slot.{Slot}
 use Rattle.brc_model.specs.declared.slot.State.{State}
 use Rattle.brc_model.specs.declared.slot.Exit.{Exit}
 use Rattle.brc_model.specs.declared.actor.Place.{Place}
-use Rattle.brc_model.specs.declared.actor.Place.TheVariants.{Idle, InCall, Exiting}
+use Rattle.brc_model.specs.declared.actor.Place.TheVariants.{Idle, InCall, Inside, Exiting}
 use Rattle.brc_model.specs.declared.address.Address.TheVariants.{KindOf}
 use Rattle.brc_model.specs.declared.thread.Choice.{Choice}
 use Rattle.brc_model.specs.Kinds.{kind_of_word}
@@ -35,6 +35,8 @@ HaveTrueKinds words s variables = (v : ℕ) → HasTrueKind words (slot_of s v) 
 abbrev pub KnowsKinds : List Instr → (ℕ → ℕ) → Place → Type 0
 KnowsKinds code words (Idle left) = Unit {0}
 KnowsKinds code words (InCall left at variables) =
+    (exits : List Exit) (s : State) → path_end code exits ≡ At at s → HaveTrueKinds words s variables
+KnowsKinds code words (Inside left at variables stage) =
     (exits : List Exit) (s : State) → path_end code exits ≡ At at s → HaveTrueKinds words s variables
 KnowsKinds code words Exiting = Unit {0}
 

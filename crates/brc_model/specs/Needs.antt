@@ -4,9 +4,9 @@ use Rattle.std.specs.Prelude.{ℕ, zero, suc, Bool, true, false, ◌&&◌, ◌==
 use Rattle.brc_lang.specs.declared.kind.Kind.{Kind}
 use Rattle.brc_lang.specs.declared.kind.Kind.TheVariants as kinds
 use Rattle.brc_lang.specs.declared.module.Instr.{Instr}
-use Rattle.brc_lang.specs.declared.module.Instr.TheVariants.{Lock, Unlock, Ret, Fail}
+use Rattle.brc_lang.specs.declared.module.Instr.TheVariants.{Lock, Unlock, Borrow, Fetch, Set, Put, Ret, Fail}
 use Rattle.brc_model.specs.declared.actor.Place.{Place}
-use Rattle.brc_model.specs.declared.actor.Place.TheVariants.{Idle, InCall, Exiting}
+use Rattle.brc_model.specs.declared.actor.Place.TheVariants.{Idle, InCall, Inside, Exiting}
 use Rattle.brc_model.specs.declared.address.Address.{Address}
 use Rattle.brc_model.specs.declared.address.Address.TheVariants.{KindOf}
 use Rattle.brc_model.specs.Kinds.{kind_of_word}
@@ -23,11 +23,24 @@ abbrev pub has_locked : Option ℕ → Option ℕ → Bool
 has_locked (Some x) (Some y) = x == y
 has_locked _ _ = false
 
+-- Says whether the row is a list's, and the thread has locked it.
+abbrev pub has_locked_list : (Address → ℕ) → Option ℕ → Option ℕ → Bool
+has_locked_list memory locked row =
+    is_one_of (kind_at memory row) (kinds.List ∷ []) && has_locked locked row
+
 -- Says whether the instruction has what it needs: `locked` is the row that the thread has locked.
 abbrev pub has_needs : (Address → ℕ) → Option ℕ → List (Option ℕ) → Instr → Bool
 has_needs memory locked variables (Lock object) =
     is_one_of (kind_at memory (row_of variables object)) lockable && not (is_some locked)
 has_needs memory locked variables (Unlock object) = has_locked locked (row_of variables object)
+has_needs memory locked variables (Borrow to list index otherwise) =
+    has_locked_list memory locked (row_of variables list)
+has_needs memory locked variables (Fetch to list index otherwise) =
+    has_locked_list memory locked (row_of variables list)
+has_needs memory locked variables (Set list index from otherwise) =
+    has_locked_list memory locked (row_of variables list)
+has_needs memory locked variables (Put list index from otherwise) =
+    has_locked_list memory locked (row_of variables list)
 has_needs memory locked variables (Ret from) = not (is_some locked)
 has_needs memory locked variables Fail = not (is_some locked)
 has_needs memory locked variables _ = true
@@ -41,5 +54,7 @@ abbrev pub starts_unfit : (Address → ℕ) → Option ℕ → List Instr → Pl
 starts_unfit memory locked code (Idle zero) = is_some locked
 starts_unfit memory locked code (Idle (suc left)) = lacks_needs memory locked entry_variables (slice_get code 0)
 starts_unfit memory locked code (InCall left at variables) =
+    lacks_needs memory locked variables (slice_get code at)
+starts_unfit memory locked code (Inside left at variables stage) =
     lacks_needs memory locked variables (slice_get code at)
 starts_unfit memory locked code Exiting = false

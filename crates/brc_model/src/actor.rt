@@ -22,6 +22,28 @@ pub enum Place {
         at: usize,
         variables: [Option<u32>; 16],
     },
+    /// Inside the instruction `at`, which uses a cell of the locked list, after its first step.
+    Inside {
+        left: u32,
+        at: usize,
+        variables: [Option<u32>; 16],
+        stage: Stage,
+    },
     /// It has dispatched its exit.
     Exiting,
+}
+
+/// How far a thread is inside an instruction that uses a cell.
+#[derive(Clone, Copy, Debug)]
+pub enum Stage {
+    /// The list has the cell.
+    InRange,
+    /// The list has no such cell.
+    OutOfRange,
+    /// The cell holds this row.
+    Found {
+        row: u32,
+    },
+    /// The thread has made a reference for the cell, in flight.
+    Retained,
 }
