@@ -6,7 +6,7 @@ use Rattle.brc_model.specs.declared.address.Address.TheVariants.{KindOf}
 use Rattle.brc_model.specs.Machine.{Machine}
 use Rattle.brc_model.specs.StepMachine.{StepMachine, next_machine}
 use Rattle.brc_model.specs.KnownKinds.{KindsStay}
-use Rattle.brc_model.proofs.Objects.KindsAfter.{StoredStay, stored_at_duty}
+use Rattle.brc_model.proofs.Frame.Kinds.{StoredStay, stored_at_duty}
 use Rattle.brc_model.proofs.Keeping.CodeInvariant.{CodeInvariant}
 use Rattle.brc_model.proofs.Promises.StepCases.{ShowsSteps, at_duty, event_shows}
 

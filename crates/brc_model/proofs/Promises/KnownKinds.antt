@@ -50,7 +50,7 @@ use Rattle.brc_model.proofs.Stepping.Neutral.{found_by}
 use Rattle.brc_model.specs.Paths.{IsAcceptable}
 use Rattle.brc_model.specs.Progress.{Always}
 use Rattle.brc_lang.specs.Grammar.{IsModule}
-use Rattle.brc_model.proofs.Objects.KindsAfter.{StoredStay}
+use Rattle.brc_model.proofs.Frame.Kinds.{StoredStay}
 use Rattle.brc_model.proofs.Promises.KindWords.{stored_stay}
 
 -- ---- kinds of variables
