@@ -1,13 +1,12 @@
 -- What is promised of an accepted module (`Safe.accepted_is_safe`) and of each event follows from the invariant.
 --
--- In order: `Agreeing`; `NoCells`, over `Keeping/StepCases`, which `Safe` needs; `Counting`, the laws of the counting
--- machine; `StatesRise` to `ClosedOnce`; `Gates`, `Births`, `MarksWatched` and `KindWords`; `RowLaws`, which extends
--- these laws to every list of events; `KnownKinds`, what the checker says of kinds; then the laws of the world: `Worlds`,
--- `AgendaMoves`, `Emptied`, `StepsMove`, `LocksWait`, `Trace`. `Rules` proves that the named rules are the steps. `Worked` computes
--- three schedules.
+-- In order: `Agreeing`; `Safe`, over `Keeping/StepCases`; `Counting`, the laws of the counting machine; `StatesRise` to
+-- `ClosedOnce`; `Gates`, `Births`, `MarksWatched`, `KindWords` and `CellsUnderLock`; `RowLaws`, which extends these laws to
+-- every list of events; `KnownKinds`, what the checker says of kinds; then the laws of the world: `Worlds`,
+-- `AgendaMoves`, `Emptied`, `StepsMove`, `LocksWait`, `Trace`. `Rules` proves that the named rules are the steps. `Worked`
+-- computes three schedules.
 
 pub mod Agreeing
-pub mod NoCells
 pub mod Safe
 pub mod Counting
 pub mod StatesRise
@@ -18,6 +17,7 @@ pub mod Gates
 pub mod Births
 pub mod MarksWatched
 pub mod KindWords
+pub mod CellsUnderLock
 pub mod RowLaws
 pub mod KnownKinds
 pub mod Worlds

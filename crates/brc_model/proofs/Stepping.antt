@@ -21,6 +21,7 @@ pub mod SharedWords
 pub mod Merges
 pub mod Chains
 pub mod Settling
+pub mod CellSwaps
 pub mod Exits
 pub mod Births
 pub mod Nones

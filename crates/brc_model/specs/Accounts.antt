@@ -6,7 +6,7 @@ use Rattle.brc_model.specs.declared.duty.Holding.TheVariants.{ByVariable, AsCall
 use Rattle.brc_model.specs.AbstractState.{Reference, same_holding}
 use Rattle.brc_model.specs.declared.duty.Reason.TheVariants.{Own}
 use Rattle.brc_model.specs.declared.duty.Duty.{Duty}
-use Rattle.brc_model.specs.declared.duty.Duty.TheVariants.{RetainLoad, RetainStore, RetainAdd, ReleaseLoad, ReleaseStore, SharedLoad, SharedExchange, BirthKind, BirthSlot, BirthLocal}
+use Rattle.brc_model.specs.declared.duty.Duty.TheVariants.{RetainLoad, RetainStore, RetainAdd, ReleaseLoad, ReleaseStore, SharedLoad, SharedExchange, BirthKind, BirthSlot, BirthLocal, CellSwap}
 use Rattle.brc_model.specs.References.{held, one_if, reference_of}
 use Rattle.brc_word.specs.Words.{half}
 use Rattle.brc_model.specs.declared.layout.Layout.{Layout}
@@ -18,6 +18,7 @@ extra (ReleaseLoad x h) k object = same_holding h k && (x == object)
 extra (ReleaseStore x w) k object = same_holding InFlight k && (x == object)
 extra (SharedLoad x Own) k object = same_holding InFlight k && (x == object)
 extra (SharedExchange x Own w) k object = same_holding InFlight k && (x == object)
+extra (CellSwap x i y h) k object = same_holding h k && (y == object)
 extra _ k object = false
 
 -- Says whether the duty makes this reference: the account has it already, and the bag doesn't yet.

@@ -15,14 +15,15 @@ use Rattle.brc_model.specs.Machine.{Actor, Machine, idle_actor}
 use Rattle.brc_model.specs.StepMachine.{rooted_memory, first_life, first_kinds, caller_reference}
 use Rattle.brc_model.specs.OpenWork.{is_about, about_of}
 use Rattle.brc_model.specs.Invariant.{Invariant}
-use Rattle.brc_model.specs.Ranges.{HasNoCells, Ranges}
+use Rattle.brc_model.specs.Ranges.{HasNoCells, HasNoSwaps, Ranges}
 
 -- What holds between any two steps of running threads with these accounts: the invariant, and the rows of all duties are
--- rows of the machine. Cells are empty.
+-- rows of the machine. Cells are empty, and no thread is about to fill one.
 pub record Counts (p : Accounts) (n : ℕ) (m : Machine) : Type 0 where
   pub kept : Invariant p n m
   pub ranges : Ranges n m
   pub no_cells : HasNoCells m
+  pub no_swaps : HasNoSwaps m
 
 -- ---- accounts
 

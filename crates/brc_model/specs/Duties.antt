@@ -5,7 +5,7 @@ use Rattle.brc_model.specs.declared.duty.Holding.TheVariants.{InFlight}
 use Rattle.brc_model.specs.declared.duty.Reason.{Reason}
 use Rattle.brc_model.specs.declared.duty.Reason.TheVariants.{Own, Handed}
 use Rattle.brc_model.specs.declared.duty.Duty.{Duty}
-use Rattle.brc_model.specs.declared.duty.Duty.TheVariants.{RetainLoad, RetainStore, RetainAdd, ReleaseLoad, ReleaseStore, DecideAtZero, SharedLoad, SharedExchange, SetMark, Look, TakeMark, MergeSwap, MergeLoad, MergeExchange, Die, Settle, SettleKind, SettleCell, TakeSlot, CloseResource, SettleEnd, Leave, Scan, Finish, ClaimMark, BirthKind, BirthSlot, BirthLocal, KindLoad, LockGate, UnlockGate, CellLoad}
+use Rattle.brc_model.specs.declared.duty.Duty.TheVariants.{RetainLoad, RetainStore, RetainAdd, ReleaseLoad, ReleaseStore, DecideAtZero, SharedLoad, SharedExchange, SetMark, Look, TakeMark, MergeSwap, MergeLoad, MergeExchange, Die, Settle, SettleKind, SettleCell, TakeSlot, CloseResource, SettleEnd, Leave, Scan, Finish, ClaimMark, BirthKind, BirthSlot, BirthLocal, KindLoad, LockGate, UnlockGate, CellLoad, CellSwap}
 use Rattle.brc_model.specs.declared.address.Address.{Address}
 use Rattle.brc_model.specs.declared.layout.Layout.{Layout}
 use Rattle.brc_model.specs.declared.address.Address.TheVariants.{Local, Shared, Gate, KindOf, Mark, Cell, Slot, Resource, ThreadWord}
@@ -48,6 +48,7 @@ address_of layout t head (KindLoad x) = KindOf x
 address_of layout t head (LockGate x) = Gate x
 address_of layout t head (UnlockGate x) = Gate x
 address_of layout t head (CellLoad x i) = Cell x i
+address_of layout t head (CellSwap x i y h) = Cell x i
 
 -- Returns the new value of the word that the step accesses.
 abbrev pub new_word : ℕ → ℕ → Duty → ℕ → ℕ
@@ -83,6 +84,7 @@ new_word t head (KindLoad x) found = found
 new_word t head (LockGate x) found = if found == free_word then locked_word t else found
 new_word t head (UnlockGate x) found = free_word
 new_word t head (CellLoad x i) found = found
+new_word t head (CellSwap x i y h) found = y + 1
 
 -- ---- what follows a step
 
@@ -171,6 +173,7 @@ continuation layout t running head (KindLoad x) found = []
 continuation layout t running head (LockGate x) found = []
 continuation layout t running head (UnlockGate x) found = []
 continuation layout t running head (CellLoad x i) found = []
+continuation layout t running head (CellSwap x i y h) found = release_found found
 
 -- the head of the dying chain after the step: 0, or a row plus 1
 abbrev pub new_head : ℕ → Duty → ℕ → ℕ

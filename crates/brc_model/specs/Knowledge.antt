@@ -6,11 +6,12 @@ use Rattle.brc_model.specs.Kinds.{kind_of_word, is_counted_kind}
 use Rattle.brc_model.specs.declared.duty.Reason.{Reason}
 use Rattle.brc_model.specs.declared.duty.Reason.TheVariants.{Own, Handed}
 use Rattle.brc_model.specs.declared.duty.Duty.{Duty}
-use Rattle.brc_model.specs.declared.duty.Duty.TheVariants.{RetainLoad, RetainStore, RetainAdd, ReleaseLoad, ReleaseStore, DecideAtZero, SharedLoad, SharedExchange, SetMark, Look, TakeMark, MergeSwap, MergeLoad, MergeExchange, Die, Settle, SettleKind, SettleCell, TakeSlot, CloseResource, SettleEnd, Leave, Scan, Finish, ClaimMark, BirthKind, BirthSlot, BirthLocal, KindLoad, LockGate, UnlockGate, CellLoad}
+use Rattle.brc_model.specs.declared.duty.Duty.TheVariants.{RetainLoad, RetainStore, RetainAdd, ReleaseLoad, ReleaseStore, DecideAtZero, SharedLoad, SharedExchange, SetMark, Look, TakeMark, MergeSwap, MergeLoad, MergeExchange, Die, Settle, SettleKind, SettleCell, TakeSlot, CloseResource, SettleEnd, Leave, Scan, Finish, ClaimMark, BirthKind, BirthSlot, BirthLocal, KindLoad, LockGate, UnlockGate, CellLoad, CellSwap}
 use Rattle.brc_model.specs.declared.address.Address.{Address}
 use Rattle.brc_model.specs.declared.address.Address.TheVariants.{Local, Shared, Gate, KindOf, Cell, ThreadWord}
 use Rattle.brc_model.specs.declared.actor.Status.{Status}
 use Rattle.brc_model.specs.declared.actor.Status.TheVariants.{Running, Leaving, Gone}
+use Rattle.brc_model.specs.Duties.{cells_of}
 use Rattle.brc_model.specs.Machine.{Actor, Unborn, Dying, Machine}
 use Rattle.brc_model.specs.References.{held, reference_of}
 use Rattle.brc_model.specs.Duties.{cells_of}
@@ -90,7 +91,8 @@ BehindFits m t (SettleEnd x) =
     (IsCounted m.layout x) × (m.life x ≡ Dying t) × IsDyingWord t (m.memory (Gate x)) × IsEmpty m.memory x
 BehindFits m t d = Unit {0}
 
--- What the duty knows when it comes next. `rest` are the duties behind it.
+-- What the duty knows when it comes next. `rest` are the duties behind it. A swap of a cell needs to know no more: the
+-- thread's account has the reference that keeps the locked list alive, and no longer the one that goes into the cell.
 abbrev pub HeadFits : Machine → ℕ → Actor → Duty → List Duty → Type 0
 HeadFits m t a (RetainLoad x h) rest = IsBacked m t a x
 HeadFits m t a (RetainStore x h w) rest =
@@ -137,6 +139,7 @@ HeadFits m t a (UnlockGate x) rest =
     (IsCounted m.layout x) × IsBacked m t a x × (a.locked ≡ Some x) × HasNoRetainAside a
 HeadFits m t a (CellLoad x i) rest =
     (IsCounted m.layout x) × IsBacked m t a x × (a.locked ≡ Some x) × (i < cells_of (m.memory (KindOf x)))
+HeadFits m t a (CellSwap x i y h) rest = (a.locked ≡ Some x) × (i < cells_of (m.memory (KindOf x)))
 
 abbrev pub HeadOf : Machine → ℕ → Actor → List Duty → Type 0
 HeadOf m t a [] = Unit {0}

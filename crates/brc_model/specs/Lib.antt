@@ -12,6 +12,7 @@ pub mod Machine
 pub mod Actions
 pub mod StepMachine
 pub mod KnownKinds
+pub mod Items
 pub mod Rules
 pub mod References
 pub mod RowInvariant

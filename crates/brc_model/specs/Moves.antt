@@ -6,7 +6,7 @@ use Rattle.brc_model.specs.declared.duty.Holding.{Holding}
 use Rattle.brc_model.specs.declared.duty.Holding.TheVariants.{ByVariable, AsCaller, InFlight}
 use Rattle.brc_model.specs.declared.duty.Reason.TheVariants.{Own}
 use Rattle.brc_model.specs.declared.duty.Duty.{Duty}
-use Rattle.brc_model.specs.declared.duty.Duty.TheVariants.{RetainLoad, RetainStore, RetainAdd, ReleaseLoad, ReleaseStore, SharedExchange, SettleCell, SettleEnd, BirthLocal}
+use Rattle.brc_model.specs.declared.duty.Duty.TheVariants.{RetainLoad, RetainStore, RetainAdd, ReleaseLoad, ReleaseStore, SharedExchange, SettleCell, SettleEnd, BirthLocal, CellSwap}
 use Rattle.brc_model.specs.declared.address.Address.{Address}
 use Rattle.brc_model.specs.declared.address.Address.TheVariants.{KindOf}
 use Rattle.brc_model.specs.Kinds.{kind_of_word}
@@ -38,6 +38,10 @@ abbrev pub take_out : ℕ → ℕ → ℕ → ℕ → List Move
 take_out t x i zero = []
 take_out t x i (suc y) = PassOn (record { holder = ByCell x i; object = y }) (ByThread t InFlight) ∷ []
 
+-- the thread's reference goes into a cell
+abbrev pub put_in : ℕ → Holding → ℕ → ℕ → ℕ → List Move
+put_in t h y x i = PassOn (record { holder = ByThread t h; object = y }) (ByCell x i) ∷ []
+
 -- ---- the moves of references of a step
 
 -- Returns the moves that the duty's step makes. The kind of an object that is born is read in the memory.
@@ -52,4 +56,5 @@ reference_effects memory t (SharedExchange x Own w) found = if found == w then l
 reference_effects memory t (SettleCell x i n) found = take_out t x i found
 reference_effects memory t (SettleEnd x) found = Finalise x ∷ []
 reference_effects memory t (BirthLocal x h) found = birth t h x (kind_of_word (memory (KindOf x)))
+reference_effects memory t (CellSwap x i y h) found = put_in t h y x i ++ take_out t x i found
 reference_effects memory t _ found = []

@@ -10,7 +10,7 @@ use Rattle.brc_model.specs.Safety.{AreCalls}
 use Rattle.brc_word.specs.Words.{owner_part, phase_part, is_immortal_word, closed_word}
 use Rattle.brc_model.specs.declared.actor.Status.TheVariants.{Running}
 use Rattle.brc_model.specs.declared.address.Address.TheVariants.{Local, Shared, Gate, KindOf, Mark, Cell, Slot, Resource}
-use Rattle.brc_model.specs.Machine.{Actor, Unborn, Machine}
+use Rattle.brc_model.specs.Machine.{Actor, Unborn, Dying, Machine}
 use Rattle.brc_model.specs.Actions.{StepActor}
 use Rattle.brc_model.specs.StepMachine.{StepMachine, counting, next_machine, first_machine, machine_after}
 use Rattle.brc_model.specs.Limits.{row_limit}
@@ -76,6 +76,16 @@ pub record StaysAt (m next : StepMachine) (x : ℕ) : Type 0 where
 -- no event changes an immortal row's words
 abbrev pub ImmortalsStay : StepMachine → ℕ × Choice → Type 0
 ImmortalsStay m event = (x : ℕ) → is_immortal_word (m.memory (Local x)) ≡ true → StaysAt m (next_machine m event) x
+
+-- the thread has locked the list
+abbrev pub HasLock : Machine → ℕ → ℕ → Type 0
+HasLock m t x = (a : Actor) × (slice_get m.actors t ≡ Some a) × (a.locked ≡ Some x)
+
+-- only the thread that has locked a list, or that deallocates it, changes the list's cells
+abbrev pub CellsChangeUnderLock : StepMachine → ℕ × Choice → Type 0
+CellsChangeUnderLock m event =
+    (x i : ℕ) → (next_machine m event).memory (Cell x i) ≢ m.memory (Cell x i)
+    → HasLock (counting m) event.0 x ⊎ (m.life x ≡ Dying event.0)
 
 -- ---- laws of each machine: born rows
 

@@ -1,10 +1,11 @@
 -- The rows and cells that threads' duties name exist, in agendas and among the duties put aside.
 use Rattle.std.specs.Prelude.{◌≡◌, ℕ, ◌+◌, ◌<◌, ◌≤◌, true, List, [], ◌∷◌, Some, slice_get}
 use Rattle.brc_model.specs.declared.duty.Duty.{Duty}
-use Rattle.brc_model.specs.declared.duty.Duty.TheVariants.{SettleCell, BirthKind, CellLoad}
+use Rattle.brc_model.specs.declared.duty.Duty.TheVariants.{SettleCell, BirthKind, CellLoad, CellSwap}
 use Rattle.brc_model.specs.declared.address.Address.TheVariants.{KindOf, Cell}
 use Rattle.brc_model.specs.Duties.{cells_of}
 use Rattle.brc_model.specs.Machine.{Actor, Machine}
+use Rattle.brc_model.specs.RowInvariant.{weight}
 use Rattle.brc_model.specs.OpenWork.{is_about}
 use Rattle.brc_model.specs.Limits.{cell_limit}
 use Rattle.brc_model.specs.Layout.{row_count}
@@ -14,6 +15,7 @@ abbrev pub cells_named : Duty → ℕ
 cells_named (SettleCell x i n) = n
 cells_named (BirthKind x h w) = cells_of w
 cells_named (CellLoad x i) = i + 1
+cells_named (CellSwap x i y h) = i + 1
 cells_named _ = 0
 
 -- The duty's row is below the limit, and it names at most eight cells.
@@ -29,9 +31,18 @@ AreSmall k (d ∷ rest) = IsSmall k d × AreSmall k rest
 abbrev pub HasFewCells : Machine → Type 0
 HasFewCells m = (x : ℕ) → cells_of (m.memory (KindOf x)) ≤ cell_limit
 
--- Every cell is empty: no duty stores a reference in one yet.
+-- Every cell is empty.
 abbrev pub HasNoCells : Machine → Type 0
 HasNoCells m = (x i : ℕ) → m.memory (Cell x i) ≡ 0
+
+-- 1 if the duty stores a reference in a cell, else 0.
+abbrev pub swaps : Duty → ℕ
+swaps (CellSwap x i y h) = 1
+swaps _ = 0
+
+-- No thread is about to store a reference in a cell.
+abbrev pub HasNoSwaps : Machine → Type 0
+HasNoSwaps m = weight swaps m.actors ≡ 0
 
 pub record Ranges (n : ℕ) (m : Machine) : Type 0 where
   pub kinds : HasFewCells m

@@ -6,7 +6,7 @@ use Rattle.brc_model.specs.declared.duty.Holding.{Holding}
 use Rattle.brc_model.specs.declared.duty.Reason.{Reason}
 use Rattle.brc_model.specs.declared.duty.Reason.TheVariants.{Own, Handed}
 use Rattle.brc_model.specs.declared.duty.Duty.{Duty}
-use Rattle.brc_model.specs.declared.duty.Duty.TheVariants.{RetainLoad, RetainStore, RetainAdd, ReleaseLoad, ReleaseStore, DecideAtZero, SharedLoad, SharedExchange, SetMark, Look, TakeMark, MergeSwap, MergeLoad, MergeExchange, Die, Settle, SettleKind, SettleCell, TakeSlot, CloseResource, SettleEnd, Leave, Scan, Finish, ClaimMark, BirthKind, BirthSlot, BirthLocal, KindLoad, LockGate, UnlockGate, CellLoad}
+use Rattle.brc_model.specs.declared.duty.Duty.TheVariants.{RetainLoad, RetainStore, RetainAdd, ReleaseLoad, ReleaseStore, DecideAtZero, SharedLoad, SharedExchange, SetMark, Look, TakeMark, MergeSwap, MergeLoad, MergeExchange, Die, Settle, SettleKind, SettleCell, TakeSlot, CloseResource, SettleEnd, Leave, Scan, Finish, ClaimMark, BirthKind, BirthSlot, BirthLocal, KindLoad, LockGate, UnlockGate, CellLoad, CellSwap}
 use Rattle.brc_model.specs.declared.address.Address.{Address}
 use Rattle.brc_model.specs.declared.address.Address.TheVariants.{KindOf}
 use Rattle.brc_word.specs.Words.{most_local, local_word, local_part, is_immortal_word, fresh_word, dead_word, merged_word, free_word, locked_word, dying_word, closed_word}
@@ -15,7 +15,7 @@ use Rattle.brc_model.specs.AbstractState.{Move, Finalise}
 use Rattle.brc_model.specs.Duties.{new_word, continuation, counts_locally, once_merged, has_resource, cells_of, cells_from, release_found}
 use Rattle.brc_model.specs.declared.layout.Layout.{Layout}
 use Rattle.brc_model.specs.Layout.{row_at}
-use Rattle.brc_model.specs.Moves.{reference_effects, gain, lose, put_in_flight, take_out, birth}
+use Rattle.brc_model.specs.Moves.{reference_effects, gain, lose, put_in_flight, take_out, put_in, birth}
 
 -- one reference in the shared word, whose two lowest bits are the state
 abbrev pub one_shared : ℕ
@@ -64,6 +64,12 @@ module _ (memory : Address → ℕ) (layout : Layout) (t : ℕ) (running : Bool)
 
     CellRead : (x cell found : ℕ)
         → Goes (CellLoad x cell) found found [] []
+    -- ---- a cell of a locked list
+
+    -- the list steals the thread's reference, and what the cell held is released next
+    ItemStored : (x cell item : ℕ) (h : Holding) (found : ℕ)
+        → Goes (CellSwap x cell item h) found (item + 1) (release_found found)
+        (put_in t h item x cell ++ take_out t x cell found)
     -- ---- a new reference
 
     -- an immortal object is never counted

@@ -1,5 +1,5 @@
 -- The safety of an accepted module.
-use Rattle.std.specs.Prelude.{◌≡◌, ◌≢◌, ℕ, ◌<◌, ◌≤◌, Bool, true, false, List, [], length, AllPairs, ◌↔◌}
+use Rattle.std.specs.Prelude.{◌≡◌, ◌≢◌, ℕ, ◌<◌, ◌≤◌, Bool, true, false, List, length, AllPairs, ◌↔◌}
 use Rattle.std.specs.List.{All, AllByRecursion, list_all}
 use Rattle.brc_lang.specs.declared.module.Module.{Module}
 use Rattle.brc_model.specs.declared.thread.Call.{Call}
@@ -59,15 +59,13 @@ pub record IsSafeNow (m : StepMachine) : Type 0 where
   pub closed_at_end : AllGone (counting m) → (x : ℕ)
       → (is_among x m.abstract.closed ≡ true)
       ↔ ((is_among x m.abstract.born ≡ true) × (references_to x m.abstract.references ≡ 0))
-  -- once all threads are gone, no reference is left
-  pub none_left : AllGone (counting m) → m.abstract.references ≡ []
   -- once all threads are gone, a cell of an open list holds each reference that is left
   pub left_in_lists : AllGone (counting m) → All (IsHeldByOpenList m.abstract) m.abstract.references
 
 -- The module is safe, for every number of workers and rows, every list of calls and every list of steps and choices,
 -- wherever the list stops: no event is bad, the counts of each row add up to the references that are held and the
--- pending decrements, and nothing is closed twice. Once all threads are gone, no reference is left, and exactly the
--- objects to which none is left have been closed.
+-- pending decrements, and nothing is closed twice. Once all threads are gone, a cell of an open list holds each
+-- reference that is left, and exactly the objects to which none is left have been closed.
 abbrev pub Safe : Module → Type 0
 Safe m =
     (rows : ℕ) (calls : List Call) (events : List (ℕ × Choice)) → 0 < rows → rows ≤ row_limit → AreCalls m calls

@@ -175,4 +175,12 @@ pub enum Duty {
         row: u32,
         cell: u32,
     },
+    /// Swaps a cell of the list that the thread has locked: the reference to `item`, which the thread has by the
+    /// holding, goes into the cell, and what the cell held is released next.
+    CellSwap {
+        row: u32,
+        cell: u32,
+        item: u32,
+        holding: Holding,
+    },
 }

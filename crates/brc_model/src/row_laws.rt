@@ -3,7 +3,7 @@
 ghost use Rattle.brc_lang.specs.declared.module.Module.{Module};
 ghost use Rattle.brc_lang.specs.Grammar.{IsModule};
 ghost use Rattle.brc_model.specs.Paths.{IsAcceptable};
-ghost use Rattle.brc_model.specs.Progress.{Always, AtEachEvent, StatesRise, OnlyOwnersCount, OwnersStay, ClosedStays, ClosesAnew, ImmortalsStay, ClosedOnce, GatesTell, BornAreUsed, BornOnce, BornListed, BornAreThere, UsedAreBorn, ClosedWereBorn};
+ghost use Rattle.brc_model.specs.Progress.{Always, AtEachEvent, StatesRise, OnlyOwnersCount, OwnersStay, ClosedStays, ClosesAnew, ImmortalsStay, ClosedOnce, GatesTell, BornAreUsed, BornOnce, BornListed, BornAreThere, UsedAreBorn, ClosedWereBorn, CellsChangeUnderLock};
 ghost use Rattle.brc_model.specs.Watched.{MarksWatched};
 ghost use Rattle.brc_model.specs.KnownKinds.{KindsAreKnown, KindsStay};
 
@@ -25,6 +25,11 @@ pub fn nobody_takes_a_row_over()
 /// States that no event changes the words of an immortal row. Only none's row is immortal today.
 pub fn immortal_words_stay()
     ensures { (m : Module) → IsModule m → IsAcceptable m → AtEachEvent ImmortalsStay m }
+{}
+
+/// States that only the thread that has locked a list, or that deallocates it, changes the list's cells.
+pub fn cells_change_under_lock()
+    ensures { (m : Module) → IsModule m → IsAcceptable m → AtEachEvent CellsChangeUnderLock m }
 {}
 
 /// States that a closed row stays closed.

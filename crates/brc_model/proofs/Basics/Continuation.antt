@@ -8,7 +8,7 @@ use Rattle.brc_model.specs.declared.duty.Holding.{Holding}
 use Rattle.brc_model.specs.declared.duty.Holding.TheVariants.{InFlight}
 use Rattle.brc_model.specs.declared.duty.Reason.TheVariants.{Own, Handed}
 use Rattle.brc_model.specs.declared.duty.Duty.{Duty}
-use Rattle.brc_model.specs.declared.duty.Duty.TheVariants.{RetainLoad, RetainStore, RetainAdd, ReleaseLoad, ReleaseStore, DecideAtZero, SharedLoad, SharedExchange, SetMark, Look, TakeMark, MergeSwap, MergeLoad, MergeExchange, Die, Settle, SettleKind, SettleCell, TakeSlot, CloseResource, SettleEnd, Leave, Scan, Finish, ClaimMark, BirthKind, BirthSlot, BirthLocal, KindLoad, LockGate, UnlockGate, CellLoad}
+use Rattle.brc_model.specs.declared.duty.Duty.TheVariants.{RetainLoad, RetainStore, RetainAdd, ReleaseLoad, ReleaseStore, DecideAtZero, SharedLoad, SharedExchange, SetMark, Look, TakeMark, MergeSwap, MergeLoad, MergeExchange, Die, Settle, SettleKind, SettleCell, TakeSlot, CloseResource, SettleEnd, Leave, Scan, Finish, ClaimMark, BirthKind, BirthSlot, BirthLocal, KindLoad, LockGate, UnlockGate, CellLoad, CellSwap}
 use Rattle.brc_model.specs.declared.layout.Layout.{Layout}
 use Rattle.brc_model.specs.Layout.{row_at}
 use Rattle.brc_model.specs.Duties.{continuation, counts_locally, claimed, has_resource, cells_of}
@@ -87,7 +87,8 @@ cells_by (SettleCell x i n) found = n
 cells_by _ found = 0
 
 -- The duty d, whose step found this word, may be followed by e. Only few duties are followed by one that lets the row
--- die or empties a cell, and none by one that settles, claims, exits, begins a birth, locks, unlocks or loads a cell.
+-- die or empties a cell, and none by one that settles, claims, exits, begins a birth, locks, unlocks, or loads or swaps a
+-- cell.
 abbrev pub Origin : Duty → ℕ → Duty → Type 0
 Origin d found (Die x) = MayDie d x
 Origin d found (SettleCell x i n) = n ≡ cells_by d found
@@ -100,6 +101,7 @@ Origin d found (BirthKind x h w) = ⊥
 Origin d found (LockGate x) = ⊥
 Origin d found (UnlockGate x) = ⊥
 Origin d found (CellLoad x i) = ⊥
+Origin d found (CellSwap x i y h) = ⊥
 Origin d found _ = Unit {0}
 
 -- The duty e goes on with the work of d, whose step found this word.
@@ -135,6 +137,9 @@ pub data Continuation (layout : Layout) (t head found : ℕ) : Duty → List Dut
   -- the reference in a dying list's cell is released before the work goes on
   Frees : (x i n y : ℕ) (e : Duty) → found ≡ suc y → Leads found (SettleCell x i n) e
       → Continuation layout t head found (SettleCell x i n) (ReleaseLoad y InFlight ∷ e ∷ [])
+  -- the reference that was in a locked list's cell is released
+  FreesOld : (x i y z : ℕ) (h : Holding) → found ≡ suc z
+      → Continuation layout t head found (CellSwap x i y h) (ReleaseLoad z InFlight ∷ [])
   -- the first row of the dying chain is finalised, and the chain is settled again
   SettlesRow : Continuation layout t head found Settle (SettleKind (head - 1) ∷ Settle ∷ [])
   -- a mark was set, and the object is merged first; the chain is settled next
@@ -235,4 +240,6 @@ continues layout t running head (ClaimMark x) found = claims (ClaimMark x) x fou
 continues layout t running head (BirthKind x h w) found =
     on (has_resource w) (goes (BirthSlot x h) refl (λ e. cc) tt) (goes (BirthLocal x h) refl (λ e. cc) tt)
 continues layout t running head (BirthSlot x h) found = goes (BirthLocal x h) refl (λ e. cc) tt
+continues layout t running head (CellSwap x i y h) zero = Ends refl
+continues layout t running head (CellSwap x i y h) (suc z) = FreesOld x i y z h refl
 continues layout t running head _ found = Ends refl

@@ -1,15 +1,17 @@
 -- A step moves references of its own thread alone. The references of other threads don't change, nor do those of cells,
--- except for a cell that the step finds full.
-use Rattle.std.proofs.Common.{◌≡◌, ◌≢◌, ℕ, true, false, cond, List, [], ◌∷◌, ◌⊎◌, inl, inr, refl, sym, ap, ◌∙◌, arith}
+-- but for the cell that the step changes.
+use Rattle.std.proofs.Common.{◌≡◌, ◌≢◌, ℕ, true, false, cond, List, [], ◌∷◌, refl, sym, ap, ◌∙◌, arith}
+use Rattle.std.specs.Prelude.{◌==◌}
+use Rattle.std.proofs.lemmas.Bool.{eqb-true, false≢true}
+use Rattle.brc_model.proofs.Basics.Lists.{and_first, and_second}
 use Rattle.brc_model.specs.declared.duty.Holding.{Holding}
 use Rattle.brc_model.specs.declared.duty.Holding.TheVariants.{InFlight}
 use Rattle.brc_model.specs.AbstractState.{Reference, AbstractState, same, without, Move, Born, Gain, Lose, PassOn, Finalise, move, moved, Holder, ByThread, ByCell, same_holder}
 use Rattle.brc_model.specs.declared.duty.Duty.{Duty}
-use Rattle.brc_model.specs.declared.duty.Duty.TheVariants.{SettleCell}
 use Rattle.brc_model.specs.declared.address.Address.{Address}
 use Rattle.brc_model.specs.Moves.{reference_effects}
 use Rattle.std.specs.List.{AllByRecursion}
-use Rattle.brc_model.proofs.Basics.Moves.{MoveOf, Gains, PutsInFlight, Loses, TakesOut, Finalises, Bears, each_effect, moved_keeps}
+use Rattle.brc_model.proofs.Basics.Moves.{MoveOf, Gains, PutsInFlight, Loses, PutsIn, TakesOut, Finalises, Bears, changes_cell, each_effect, moved_keeps}
 use Rattle.brc_model.proofs.Basics.Bag.{same-true, held-cons, same-other_holder, other_thread}
 use Rattle.brc_model.specs.References.{held, one_if, cell_reference, reference_of}
 
@@ -61,22 +63,19 @@ abbrev pub IsNoWayOf : ℕ → Holder → Type 0
 IsNoWayOf t h = (k : Holding) → same_holder h (ByThread t k) ≡ false
 
 effect_aside : {t found : ℕ} (d : Duty) (h : Holder) (mv : Move) → IsNoWayOf t h
-    → ((x i n : ℕ) → d ≡ SettleCell x i n → (found ≡ 0) ⊎ (same_holder h (ByCell x i) ≡ false))
+    → ((x i : ℕ) → changes_cell x i d ≡ true → same_holder h (ByCell x i) ≡ false)
     → MoveOf t found d mv → IsAside h mv
 effect_aside d h mv other cell (Gains x k of) = other k
 effect_aside d h mv other cell (PutsInFlight x k of) = (other k, other InFlight)
 effect_aside d h mv other cell (Loses x of) = other InFlight
-effect_aside d h mv other cell (TakesOut x i n y is some) =
-    elim (cell x i n is) [
-      | inl none ↦ absurd (omega (arith, none, some))
-      | inr apart ↦ (apart, other InFlight)
-    ]
+effect_aside d h mv other cell (PutsIn x i y k this) = (other k, cell x i this)
+effect_aside d h mv other cell (TakesOut x i y this) = (cell x i this, other InFlight)
 effect_aside d h mv other cell (Finalises x of ended) = tt
 effect_aside d h mv other cell (Bears x k kind of born) = other k
 
--- A step changes no reference of a holder that isn't its thread and isn't a cell that the step finds full.
+-- A step changes no reference of a holder that isn't its thread and isn't the cell that it changes.
 pub moves_aside : (memory : Address → ℕ) (h : Holder) (t : ℕ) (d : Duty) (found : ℕ) → IsNoWayOf t h
-    → ((x i n : ℕ) → d ≡ SettleCell x i n → (found ≡ 0) ⊎ (same_holder h (ByCell x i) ≡ false))
+    → ((x i : ℕ) → changes_cell x i d ≡ true → same_holder h (ByCell x i) ≡ false)
     → AreAside h (reference_effects memory t d found)
 moves_aside memory h t d found other cell =
     each_effect (IsAside h) memory t d found (λ mv sort. effect_aside d h mv other cell sort)
@@ -87,13 +86,27 @@ pub moves_apart : (memory : Address → ℕ) (p : AbstractState) (u t : ℕ) (k 
     ≡ held (reference_of u k object) p.references
 moves_apart memory p u t k object d found ne =
     moved_aside p (reference_of u k object) (reference_effects memory t d found)
-    (moves_aside memory (ByThread u k) t d found (λ h. other_thread u t k h ne) (λ x i n is. inr refl))
+    (moves_aside memory (ByThread u k) t d found (λ h. other_thread u t k h ne) (λ x i this. refl))
 
--- A step that finds no cell full changes no reference of any cell.
-pub moves_off_cells : (memory : Address → ℕ) (p : AbstractState) (x i object t : ℕ) (d : Duty) (found : ℕ)
-    → ((y j n : ℕ) → d ≡ SettleCell y j n → found ≡ 0)
+-- The cell that a step changes is another one.
+other_cell : (d : Duty) (x i y j : ℕ) → changes_cell x i d ≡ false → changes_cell y j d ≡ true
+    → same_holder (ByCell x i) (ByCell y j) ≡ false
+other_cell d x i y j off this =
+    elim (same_holder (ByCell x i) (ByCell y j)) as
+    (λ b. same_holder (ByCell x i) (ByCell y j) ≡ b → same_holder (ByCell x i) (ByCell y j) ≡ false) [
+      | true ↦ λ e.
+          let lists : x ≡ y = eqb-true x y (and_first (x == y) (i == j) e) in
+          let cells : i ≡ j = eqb-true i j (and_second (x == y) (i == j) e) in
+          let same : changes_cell x i d ≡ changes_cell y j d = λ k. changes_cell (lists k) (cells k) d in
+          absurd (false≢true (sym off ∙ same ∙ this))
+      | false ↦ λ e. e
+    ] refl
+
+-- A step doesn't change what a cell holds, but for the cell that it changes.
+pub moves_off_cell : (memory : Address → ℕ) (p : AbstractState) (x i object t : ℕ) (d : Duty) (found : ℕ)
+    → changes_cell x i d ≡ false
     → held (cell_reference x i object) (moved p (reference_effects memory t d found)).references
     ≡ held (cell_reference x i object) p.references
-moves_off_cells memory p x i object t d found empty =
+moves_off_cell memory p x i object t d found off =
     moved_aside p (cell_reference x i object) (reference_effects memory t d found)
-    (moves_aside memory (ByCell x i) t d found (λ h. refl) (λ y j n is. inl (empty y j n is)))
+    (moves_aside memory (ByCell x i) t d found (λ h. refl) (λ y j this. other_cell d x i y j off this))

@@ -18,7 +18,7 @@ use Rattle.brc_model.specs.Layout.{none_row, root_row}
 use Rattle.brc_model.specs.KnownKinds.{IsTrueKind, HasTrueKind, HaveTrueKinds, KnowsKinds, AreNamed}
 use Rattle.brc_model.proofs.Basics.Lists.{some_is, get_or-replicate_default}
 use Rattle.brc_model.proofs.Dispatch.Grounded.{slot_of-put_same, slot_of-put_other, row_of-set_same, row_of-set_other}
-use Rattle.brc_model.proofs.Objects.KindsAfter.{StoredStay}
+use Rattle.brc_model.proofs.Frame.Kinds.{StoredStay}
 
 -- ---- kinds of variables
 

@@ -7,7 +7,7 @@ use Rattle.brc_model.specs.AbstractState.{references_to}
 use Rattle.brc_model.specs.declared.duty.Duty.{Duty}
 use Rattle.brc_model.specs.Machine.{Life, Unborn, Live, Dying, Closed, Actor, Machine}
 use Rattle.brc_model.proofs.Basics.Bag.{held-le-references_to}
-use Rattle.brc_model.proofs.Frame.Cells.{cell_held}
+use Rattle.brc_model.proofs.Frame.CellsHeld.{cell_held}
 use Rattle.brc_model.specs.References.{reference_of, cell_reference}
 use Rattle.brc_model.specs.RowInvariant.{waits, merges, decides, weight, Numbers, IsLive, RowInvariant}
 use Rattle.brc_model.specs.Accounts.{Accounts}

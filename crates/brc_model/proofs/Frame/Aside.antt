@@ -1,19 +1,20 @@
 -- The duties that a thread has put aside: a duty makes references to, gives up references to and weighs something at
--- the row that it is about, and at no other row.
-use Rattle.std.proofs.Common.{◌≡◌, ℕ, ◌+◌, ◌<◌, ◌≤◌, Bool, true, false, cond, List, [], ◌∷◌, inl, refl, sym, ap, ◌∙◌, subst, arith}
+-- the row that it is about, and at no other row. Only a swap of a cell gives up a reference to another object, and a
+-- thread at a swap has put nothing aside.
+use Rattle.std.proofs.Common.{◌≡◌, ℕ, ◌+◌, ◌<◌, ◌≤◌, Bool, true, false, cond, List, [], ◌∷◌, inl, inr, refl, sym, ap, ◌∙◌, subst, arith}
 use Rattle.std.specs.Prelude.{◌==◌, ◌&&◌, count_by, sum_by}
 use Rattle.std.proofs.lemmas.List.Sums.{sum_by-cons}
 use Rattle.brc_model.specs.declared.duty.Holding.{Holding}
 use Rattle.brc_model.specs.declared.duty.Holding.TheVariants.{InFlight}
 use Rattle.brc_model.specs.declared.duty.Reason.TheVariants.{Own, Handed}
 use Rattle.brc_model.specs.declared.duty.Duty.{Duty}
-use Rattle.brc_model.specs.declared.duty.Duty.TheVariants.{RetainLoad, RetainStore, RetainAdd, ReleaseLoad, ReleaseStore, DecideAtZero, SharedLoad, SharedExchange, SetMark, Look, TakeMark, MergeSwap, MergeLoad, MergeExchange, SettleCell, SettleEnd, BirthKind, BirthSlot, BirthLocal}
+use Rattle.brc_model.specs.declared.duty.Duty.TheVariants.{RetainLoad, RetainStore, RetainAdd, ReleaseLoad, ReleaseStore, DecideAtZero, SharedLoad, SharedExchange, SetMark, Look, TakeMark, MergeSwap, MergeLoad, MergeExchange, Die, SettleCell, SettleEnd, BirthKind, BirthSlot, BirthLocal, KindLoad, LockGate, UnlockGate, CellLoad, CellSwap}
 use Rattle.brc_model.specs.AbstractState.{Reference, same_holding}
 use Rattle.brc_model.specs.Machine.{Actor, Machine}
 use Rattle.brc_model.specs.References.{held, one_if, reference_of}
 use Rattle.brc_model.specs.RowInvariant.{waits, carries, merges, decides}
 use Rattle.brc_model.specs.Accounts.{Account, extra, lacks, extra_of, lacks_of, extra_aside, lacks_aside, HoldsAt}
-use Rattle.brc_model.specs.OpenWork.{is_about, about_of, AsideFits}
+use Rattle.brc_model.specs.OpenWork.{is_about, about_of, may_wait, is_piece, IsPiece, AllWait, AsideFits}
 use Rattle.brc_model.specs.Invariant.{looks}
 use Rattle.brc_model.proofs.Basics.Bag.{one_if_low}
 
@@ -47,13 +48,46 @@ lacks_about (BirthSlot y h) k x = and_at_most (same_holding h k) (y == x)
 lacks_about (BirthLocal y h) k x = and_at_most (same_holding h k) (y == x)
 lacks_about _ k x = omega arith
 
--- A duty that gives up a reference to an object is about the object's row.
-pub extra_about : (d : Duty) (k : Holding) (x : ℕ) → one_if (extra d k x) ≤ one_if (is_about x d)
-extra_about (ReleaseLoad y h) k x = and_at_most (same_holding h k) (y == x)
-extra_about (ReleaseStore y w) k x = and_at_most (same_holding InFlight k) (y == x)
-extra_about (SharedLoad y Own) k x = and_at_most (same_holding InFlight k) (y == x)
-extra_about (SharedExchange y Own w) k x = and_at_most (same_holding InFlight k) (y == x)
-extra_about _ k x = omega arith
+-- Says whether the duty gives up a reference to the object.
+abbrev pub gives : ℕ → Duty → Bool
+gives x (ReleaseLoad y h) = y == x
+gives x (ReleaseStore y w) = y == x
+gives x (SharedLoad y Own) = y == x
+gives x (SharedExchange y Own w) = y == x
+gives x (CellSwap y i z h) = z == x
+gives x _ = false
+
+pub extra_gives : (d : Duty) (k : Holding) (x : ℕ) → one_if (extra d k x) ≤ one_if (gives x d)
+extra_gives (ReleaseLoad y h) k x = and_at_most (same_holding h k) (y == x)
+extra_gives (ReleaseStore y w) k x = and_at_most (same_holding InFlight k) (y == x)
+extra_gives (SharedLoad y Own) k x = and_at_most (same_holding InFlight k) (y == x)
+extra_gives (SharedExchange y Own w) k x = and_at_most (same_holding InFlight k) (y == x)
+extra_gives (CellSwap y i z h) k x = and_at_most (same_holding h k) (z == x)
+extra_gives _ k x = omega arith
+
+-- A piece of work that gives up a reference to an object is about the object's row.
+gives_about : (d : Duty) (x : ℕ) → is_piece d ≡ true → one_if (gives x d) ≤ one_if (is_about x d)
+gives_about (ReleaseLoad y h) x piece = omega arith
+gives_about (ReleaseStore y w) x piece = omega arith
+gives_about (SharedLoad y Own) x piece = omega arith
+gives_about (SharedExchange y Own w) x piece = omega arith
+gives_about (CellSwap y i z h) x piece = absurd cc
+gives_about _ x piece = omega arith
+
+pub extra_about : (d : Duty) (k : Holding) (x : ℕ) → is_piece d ≡ true → one_if (extra d k x) ≤ one_if (is_about x d)
+extra_about d k x piece = omega (arith, extra_gives d k x, gives_about d x piece)
+
+-- A duty that may wait is a piece of work.
+pub waiting_piece : (d : Duty) → may_wait d ≡ true → is_piece d ≡ true
+waiting_piece (Die x) waits = absurd cc
+waiting_piece (BirthKind x h w) waits = absurd cc
+waiting_piece (BirthSlot x h) waits = absurd cc
+waiting_piece (BirthLocal x h) waits = absurd cc
+waiting_piece (KindLoad x) waits = absurd cc
+waiting_piece (LockGate x) waits = absurd cc
+waiting_piece (UnlockGate x) waits = absurd cc
+waiting_piece (CellLoad x i) waits = absurd cc
+waiting_piece _ waits = waits
 
 -- The weight counts duties about the row alone, and none that empties a cell or closes a row.
 pub record IsOfRow (x : ℕ) (f : Duty → ℕ) : Type 0 where
@@ -122,8 +156,20 @@ counts_below f g each (d ∷ ds) =
 pub lacks_counted : (aside : List Duty) (k : Holding) (x : ℕ) → lacks_aside aside k x ≤ count_by (is_about x) aside
 lacks_counted aside k x = counts_below (λ d. lacks d k x) (is_about x) (λ d. lacks_about d k x) aside
 
-pub extra_counted : (aside : List Duty) (k : Holding) (x : ℕ) → extra_aside aside k x ≤ count_by (is_about x) aside
-extra_counted aside k x = counts_below (λ d. extra d k x) (is_about x) (λ d. extra_about d k x) aside
+pub extra_counted : (ds : List Duty) (k : Holding) (x : ℕ) → extra_aside ds k x ≤ count_by (gives x) ds
+extra_counted ds k x = counts_below (λ d. extra d k x) (gives x) (λ d. extra_gives d k x) ds
+
+pub gives_counted : (m : Machine) (t : ℕ) (a : Actor) (aside : List Duty) (x : ℕ) → AllWait m t a aside
+    → count_by (gives x) aside ≤ count_by (is_about x) aside
+gives_counted m t a [] x waits = omega arith
+gives_counted m t a (d ∷ ds) x waits =
+    omega (
+      arith,
+      sum_by-cons (λ (e : Duty). cond (gives x e) 1 0) d ds,
+      sum_by-cons (λ (e : Duty). cond (is_about x e) 1 0) d ds,
+      gives_about d x (waiting_piece d waits.0),
+      gives_counted m t a ds x waits.2,
+    )
 
 -- If none of the duties put aside is about a row, they weigh nothing there.
 pub aside_weighs : (x : ℕ) (f : Duty → ℕ) → IsOfRow x f → (aside : List Duty) → count_by (is_about x) aside ≡ 0
@@ -145,15 +191,54 @@ aside_weighs x f of_row (d ∷ ds) none =
 
 -- ---- references given up
 
+-- Says whether an agenda's first duty gives up a reference to the object.
+abbrev pub gives_of : ℕ → List Duty → Bool
+gives_of x [] = false
+gives_of x (d ∷ rest) = gives x d
+
+extra_of_gives : (agenda : List Duty) (k : Holding) (x : ℕ)
+    → one_if (extra_of agenda k x) ≤ one_if (gives_of x agenda)
+extra_of_gives [] k x = omega arith
+extra_of_gives (d ∷ rest) k x = extra_gives d k x
+
+piece_gives : (agenda : List Duty) (x : ℕ) → IsPiece agenda → one_if (gives_of x agenda) ≤ one_if (about_of x agenda)
+piece_gives [] x piece = omega arith
+piece_gives (d ∷ []) x piece = gives_about d x piece
+piece_gives (d ∷ e ∷ rest) x piece = absurd piece
+
+-- A thread's open work gives up at most one reference to an object.
+pub gives_one : (m : Machine) (t : ℕ) (a : Actor) (x : ℕ) → AsideFits m t a
+    → one_if (gives_of x a.agenda) + count_by (gives x) a.aside ≤ 1
+gives_one m t a x fits =
+    elim fits.pieces [
+      | inl none ↦
+          let alone : count_by (gives x) a.aside ≡ 0 = ap (count_by (gives x)) none in
+          omega (arith, alone, one_if_low (gives_of x a.agenda))
+      | inr piece ↦
+          omega (arith, piece_gives a.agenda x piece, gives_counted m t a a.aside x fits.waits, fits.apart x)
+    ]
+
+-- No duty put aside makes a reference to the object to which the first duty gives up one.
+makes_none : (m : Machine) (t : ℕ) (a : Actor) (k : Holding) (x : ℕ) → AsideFits m t a
+    → one_if (gives_of x a.agenda) ≡ 1 → lacks_aside a.aside k x ≡ 0
+makes_none m t a k x fits one =
+    elim fits.pieces [
+      | inl none ↦ ap (λ (l : List Duty). lacks_aside l k x) none
+      | inr piece ↦
+          omega (arith, one, piece_gives a.agenda x piece, fits.apart x, lacks_counted a.aside k x)
+    ]
+
 -- The bag has the reference that the first duty gives up.
-pub extra_held : (bag : List Reference) (t : ℕ) (account : Account) (agenda aside : List Duty) (k : Holding) (x : ℕ)
-    → HoldsAt bag t account agenda aside → one_if (about_of x agenda) + count_by (is_about x) aside ≤ 1
-    → extra_of agenda k x ≡ true → lacks_of agenda k x ≡ false → 0 < held (reference_of t k x) bag
-extra_held bag t account [] aside k x holds apart more less = absurd cc
-extra_held bag t account (d ∷ rest) aside k x holds apart more less =
-    let a : one_if (extra d k x) ≡ 1 = ap one_if more in
-    let b : one_if (lacks d k x) ≡ 0 = ap one_if less in
-    omega (arith, holds.each k x, a, b, extra_about d k x, apart, lacks_counted aside k x)
+pub extra_held : (m : Machine) (t : ℕ) (account : Account) (a : Actor) (k : Holding) (x : ℕ)
+    → HoldsAt m.abstract.references t account a.agenda a.aside → AsideFits m t a
+    → extra_of a.agenda k x ≡ true → lacks_of a.agenda k x ≡ false
+    → 0 < held (reference_of t k x) m.abstract.references
+extra_held m t account a k x holds fits more less =
+    let one : one_if (extra_of a.agenda k x) ≡ 1 = ap one_if more in
+    let none : one_if (lacks_of a.agenda k x) ≡ 0 = ap one_if less in
+    let given : one_if (gives_of x a.agenda) ≡ 1 =
+    omega (arith, one, extra_of_gives a.agenda k x, one_if_low (gives_of x a.agenda)) in
+    omega (arith, holds.each k x, one, none, makes_none m t a k x fits given)
 
 -- ---- nothing put aside
 

@@ -4,7 +4,7 @@ use Rattle.std.specs.Prelude.{◌==◌}
 use Rattle.std.proofs.lemmas.Bool.{ne_eqb, eqb-false, and_right}
 use Rattle.brc_word.specs.Words.{phase_part}
 use Rattle.brc_model.specs.declared.duty.Duty.{Duty}
-use Rattle.brc_model.specs.declared.duty.Duty.TheVariants.{SettleCell}
+use Rattle.brc_model.specs.declared.duty.Duty.TheVariants.{SettleCell, CellSwap}
 use Rattle.brc_model.specs.declared.address.Address.TheVariants.{Local, Shared}
 use Rattle.brc_model.specs.AbstractState.{Reference, AbstractState, same, same_holder, without, Move, Born, Gain, Lose, PassOn, Finalise, move}
 use Rattle.brc_model.specs.Machine.{Actor, Machine, status_by, actor_by, done_by}
@@ -17,8 +17,7 @@ use Rattle.brc_model.proofs.Frame.Known.{LeavesRow, known_kept}
 use Rattle.brc_model.proofs.Frame.Aside.{AreApart, apart_swapped}
 use Rattle.brc_model.proofs.Basics.Written.{written_apart, other_local, other_shared}
 use Rattle.brc_model.proofs.Basics.MovesApart.{held-without_apart}
-use Rattle.brc_model.proofs.Basics.Moves.{IsOfOther, effects_elsewhere, moved_keeps}
-use Rattle.brc_model.proofs.Frame.Cells.{empties_cell, no_cell}
+use Rattle.brc_model.proofs.Basics.Moves.{IsOfOther, effects_elsewhere, moved_keeps, changes_cell}
 use Rattle.brc_model.proofs.Frame.Items.{drops_items, own_list_kept}
 use Rattle.brc_model.proofs.Frame.Leaves.{stopped_left}
 use Rattle.brc_model.proofs.Frame.Lives.{born_left, next_of}
@@ -50,10 +49,11 @@ move_elsewhere q p (Finalise y) other = refl
 
 -- ---- words of other rows
 
--- No duty that other work may wait beside empties a cell.
-piece_no_cell : (d : Duty) → is_piece d ≡ true → empties_cell d ≡ false
-piece_no_cell (SettleCell x i k) piece = absurd cc
-piece_no_cell _ piece = refl
+-- No duty that other work may wait beside changes a cell.
+piece_no_cell : (d : Duty) → is_piece d ≡ true → (x i : ℕ) → changes_cell x i d ≡ false
+piece_no_cell (SettleCell y j k) piece x i = absurd cc
+piece_no_cell (CellSwap y j z h) piece x i = absurd cc
+piece_no_cell _ piece x i = refl
 
 module _ (p : Accounts) (n : ℕ) (m : Machine) (t : ℕ) (a : Actor) where
   -- A step leaves what a duty about another row relies on.
@@ -68,8 +68,7 @@ module _ (p : Accounts) (n : ℕ) (m : Machine) (t : ℕ) (a : Actor) where
         ap phase_part (written_apart m.memory _ (Shared x) _ (other_shared m.layout t a.head d x apart)) ∙ was;
     references = λ k.
         moved_keeps (λ q. held (reference_of t k x) q.references) (IsOfOther x) (move_elsewhere (reference_of t k x))
-        m.abstract _ (effects_elsewhere m.memory t d (found_by m t a d) x apart
-        (no_cell d (found_by m t a d) (piece_no_cell d piece)));
+        m.abstract _ (effects_elsewhere m.memory t d (found_by m t a d) x apart (piece_no_cell d piece));
     stopped = λ u was. stopped_left m t a d u was;
     born = λ was. born_left m.life t d (next_of m t a d) x was;
   }

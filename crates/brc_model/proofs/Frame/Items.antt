@@ -1,15 +1,17 @@
 -- The list that a thread has locked: no step of another thread changes its kind word or a cell of it. Of the thread's own
 -- steps only those that drop items do.
-use Rattle.std.proofs.Common.{◌≡◌, ◌≢◌, ℕ, Bool, true, false, List, Some, refl, sym, ap, ◌∙◌}
+use Rattle.std.proofs.Common.{◌≡◌, ◌≢◌, ℕ, ◌+◌, Bool, true, false, List, Some, refl, sym, ap, ◌∙◌, subst, arith}
 use Rattle.std.specs.Prelude.{◌==◌, ◌&&◌, slice_get}
 use Rattle.std.proofs.lemmas.Bool.{ne_eqb}
 use Rattle.brc_model.specs.declared.duty.Duty.{Duty}
-use Rattle.brc_model.specs.declared.duty.Duty.TheVariants.{SettleKind, SettleCell, BirthKind, KindLoad, LockGate, UnlockGate, CellLoad}
+use Rattle.brc_model.specs.declared.duty.Duty.TheVariants.{SettleKind, SettleCell, BirthKind, KindLoad, LockGate, UnlockGate, CellLoad, CellSwap}
+use Rattle.brc_model.specs.declared.duty.Holding.{Holding}
 use Rattle.brc_model.specs.declared.address.Address.TheVariants.{KindOf, Cell}
 use Rattle.brc_model.specs.Duties.{address_of}
 use Rattle.brc_model.specs.Machine.{Actor, Machine, Unborn, actor_by, done_by}
 use Rattle.brc_model.specs.Accounts.{Accounts}
-use Rattle.brc_model.specs.Invariant.{AtDuty}
+use Rattle.brc_word.specs.Words.{locked_word}
+use Rattle.brc_model.specs.Invariant.{CoreInvariant, AtDuty}
 use Rattle.brc_model.specs.Knowledge.{HasNoRetainAside}
 use Rattle.brc_model.specs.OpenWork.{is_piece}
 use Rattle.brc_model.proofs.Basics.Blocks.{next_unborn}
@@ -19,9 +21,10 @@ use Rattle.brc_model.proofs.Frame.Alive.{Alive, alive_born}
 use Rattle.brc_model.proofs.Frame.Known.{LeavesList, KeepsList}
 use Rattle.brc_model.proofs.Frame.Leaves.{head_of, locked_alive, alive_apart}
 
--- Says whether the step may take items away from its own thread: it unlocks the list.
+-- Says whether the step may take items away from its own thread: it unlocks the list or changes a cell of it.
 abbrev pub drops_items : Duty → Bool
 drops_items (UnlockGate x) = true
+drops_items (CellSwap x i y h) = true
 drops_items _ = false
 
 module _ (p : Accounts) (n : ℕ) (m : Machine) (t : ℕ) (a : Actor) where
@@ -48,6 +51,24 @@ module _ (p : Accounts) (n : ℕ) (m : Machine) (t : ℕ) (a : Actor) where
       written_apart m.memory (Cell y j) (Cell x i) 0
       (ap (λ (b : Bool). b && (j == i)) (ne_eqb y x (alive_apart m t x y dies alive)))
 
+  -- Two threads that have locked one row are the same thread: the row's gate names it.
+  one_locker : (u x : ℕ) (b : Actor) → CoreInvariant p n m → slice_get m.actors t ≡ Some a
+      → slice_get m.actors u ≡ Some b → b.locked ≡ Some x → a.locked ≡ Some x → u ≡ t
+  one_locker u x b core own other theirs mine =
+      let same : locked_word u ≡ locked_word t =
+      sym ((core.each u b other).0.locks x theirs).gate ∙ ((core.each t a own).0.locks x mine).gate in
+      omega (arith, same)
+
+  -- A thread that fills a cell leaves those of a list that another thread has locked.
+  swapped_apart : (y j z : ℕ) (h : Holding) (rest : List Duty) (u x i : ℕ) (b : Actor)
+      → AtDuty p n m t a (CellSwap y j z h) rest → u ≢ t → slice_get m.actors u ≡ Some b → b.locked ≡ Some x
+      → (done_by m t a (CellSwap y j z h) rest).memory (Cell x i) ≡ m.memory (Cell x i)
+  swapped_apart y j z h rest u x i b here ne found e =
+      let mine = (head_of p n m t a (CellSwap y j z h) rest here).0 in
+      let apart : y ≡ x → ⊥ = λ same. ne (one_locker u x b here.core here.found found e
+      (subst (λ (w : ℕ). a.locked ≡ Some w) same mine)) in
+      written_apart m.memory (Cell y j) (Cell x i) (z + 1) (ap (λ (b : Bool). b && (j == i)) (ne_eqb y x apart))
+
   -- A step of another thread leaves the cells of a list that a thread has locked.
   pub items_left : (d : Duty) (rest : List Duty) → AtDuty p n m t a d rest → (u x i : ℕ) (b : Actor) → u ≢ t
       → slice_get m.actors u ≡ Some b → b.locked ≡ Some x
@@ -55,6 +76,8 @@ module _ (p : Accounts) (n : ℕ) (m : Machine) (t : ℕ) (a : Actor) where
   items_left (SettleCell y j k) rest here u x i b ne found e =
       settled_apart y j k rest x i here (locked_alive p n m u b x here.core found e)
   items_left (CellLoad y j) rest here u x i b ne found e = written_load m.memory (Cell y j) (Cell x i)
+  items_left (CellSwap y j z h) rest here u x i b ne found e =
+      swapped_apart y j z h rest u x i b here ne found e
   items_left _ rest here u x i b ne found e = refl
 
   -- So does the thread's own step, unless it drops items.
@@ -63,6 +86,7 @@ module _ (p : Accounts) (n : ℕ) (m : Machine) (t : ℕ) (a : Actor) where
   own_items_left (SettleCell y j k) rest here keeps x i e =
       settled_apart y j k rest x i here (locked_alive p n m t a x here.core here.found e)
   own_items_left (CellLoad y j) rest here keeps x i e = written_load m.memory (Cell y j) (Cell x i)
+  own_items_left (CellSwap y j z h) rest here keeps x i e = absurd cc
   own_items_left _ rest here keeps x i e = refl
 
   -- ---- lists
@@ -101,4 +125,5 @@ module _ (p : Accounts) (n : ℕ) (m : Machine) (t : ℕ) (a : Actor) where
   pub drops_alone : (d : Duty) (rest : List Duty) → AtDuty p n m t a d rest → is_piece d ≡ true → drops_items d ≡ true
       → HasNoRetainAside a
   drops_alone (UnlockGate y) rest here piece drops = (head_of p n m t a (UnlockGate y) rest here).3
+  drops_alone (CellSwap y j z h) rest here piece drops = absurd cc
   drops_alone _ rest here piece drops = absurd cc

@@ -46,7 +46,7 @@ pub gives_held : (p : Accounts) (n : ℕ) (m : Machine) (t : ℕ) (a : Actor) (d
     → 0 < held (reference_of t k x) m.abstract.references
 gives_held p n m t a d rest k x here more less =
     let fits = here.core.each t a here.found in
-    extra_held m.abstract.references t (p t) a.agenda a.aside k x fits.0.holds (fits.2.apart x)
+    extra_held m t (p t) a k x fits.0.holds fits.2
     (ap (λ (l : List Duty). extra_of l k x) here.agenda ∙ more)
     (ap (λ (l : List Duty). lacks_of l k x) here.agenda ∙ less)
 

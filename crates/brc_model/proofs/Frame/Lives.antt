@@ -1,7 +1,7 @@
 -- Which rows a step can make die. A step doesn't change the lives of the rows that other threads are finalising.
 use Rattle.std.proofs.Common.{◌≡◌, ◌≢◌, ℕ, Bool, true, false, cond, List, [], ◌∷◌, inl, inr, Option, None, Some, refl, sym, ap, ◌∙◌, subst}
 use Rattle.std.specs.Prelude.{◌==◌}
-use Rattle.std.proofs.lemmas.Bool.{ne_eqb}
+use Rattle.std.proofs.lemmas.Bool.{ne_eqb, false≢true}
 use Rattle.std.proofs.lemmas.Bool.Decides.{eqb_tells}
 use Rattle.brc_model.specs.declared.duty.Duty.{Duty}
 use Rattle.brc_model.specs.declared.duty.Duty.TheVariants.{DecideAtZero, SharedExchange, MergeExchange, Die, SettleKind, SettleEnd, BirthKind, BirthLocal, KindLoad}
@@ -18,8 +18,9 @@ use Rattle.brc_model.specs.Kinds.{kind_of_word, is_counted_kind}
 use Rattle.brc_model.proofs.Basics.Continuation.{MayDie, Origin, Continuation, GoesOn, continues}
 use Rattle.brc_model.proofs.Frame.Alive.{Alive}
 use Rattle.brc_model.proofs.Basics.Blocks.{next_unborn}
-use Rattle.brc_model.proofs.Frame.Cells.{still_empty}
+use Rattle.brc_model.proofs.Frame.Cells.{stays_empty}
 use Rattle.brc_model.proofs.Frame.Items.{lists_left}
+use Rattle.brc_model.proofs.Frame.Kinds.{kind_stays}
 use Rattle.brc_model.proofs.Frame.Others.{LeavesOthers}
 use Rattle.brc_model.proofs.Frame.Leaves.{head_of, exchange_alive, decide_alive, merge_alive, locals_left, merged_left, stopped_left, words_left, gates_left, locks_left}
 use Rattle.brc_model.proofs.Basics.MovesApart.{moves_apart}
@@ -144,6 +145,10 @@ kinds_left p n m t a _ rest here x was = was
 
 -- ---- everything that other threads rely on
 
+dying_unlive : (l : Life) (u : ℕ) → dies_by l u ≡ true → l ≡ Live → ⊥
+dying_unlive l u dies lives =
+    absurd (false≢true (sym (ap (λ (k : Life). dies_by k u) lives) ∙ dies))
+
 -- A thread's step leaves what the other threads rely on.
 pub leaves_others : (p : Accounts) (n : ℕ) (m : Machine) (t : ℕ) (a : Actor) (d : Duty) (rest : List Duty)
     → AtDuty p n m t a d rest → LeavesOthers m (done_by m t a d rest) t
@@ -157,8 +162,10 @@ leaves_others p n m t a d rest here = record {
   gates = λ u x ne dies. gates_left p n m t a d rest here u x ne dies;
   locks = λ u x b ne found e. locks_left p n m t a d rest here u x b ne found e;
   lists = λ u x b ne found e. lists_left p n m t a d rest here u x b ne found e;
-  cells = λ u x i ne dies was. still_empty m t a d x i was;
+  cells = λ u x i ne dies was.
+      stays_empty p n m t a d rest x i here (dying_unlive (m.life x) u dies) was;
   kinds = λ x was. kinds_left p n m t a d rest here x was;
   lives = λ u x ne. lives_left p n m t a d rest here u x ne;
   born = λ x was. born_left m.life t d (next_of m t a d) x was;
+  stored = λ x some. kind_stays p n m t a d rest x here some;
 }

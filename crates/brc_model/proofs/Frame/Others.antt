@@ -8,9 +8,10 @@ use Rattle.std.proofs.lemmas.Option.{slice_get_within}
 use Rattle.brc_model.specs.declared.duty.Holding.{Holding}
 use Rattle.brc_word.specs.Words.{phase_part}
 use Rattle.brc_model.specs.declared.duty.Duty.{Duty}
-use Rattle.brc_model.specs.declared.duty.Duty.TheVariants.{Die, Settle, SettleKind, SettleCell, TakeSlot, CloseResource, SettleEnd, Leave, Scan, Finish, ClaimMark, BirthKind, BirthSlot, BirthLocal, KindLoad, LockGate, UnlockGate, CellLoad}
+use Rattle.brc_model.specs.declared.duty.Duty.TheVariants.{Die, Settle, SettleKind, SettleCell, TakeSlot, CloseResource, SettleEnd, Leave, Scan, Finish, ClaimMark, BirthKind, BirthSlot, BirthLocal, KindLoad, LockGate, UnlockGate, CellLoad, CellSwap}
 use Rattle.brc_model.specs.declared.address.Address.{Address}
-use Rattle.brc_model.specs.declared.address.Address.TheVariants.{Local, Shared, Gate, Cell, ThreadWord}
+use Rattle.brc_model.specs.declared.address.Address.TheVariants.{Local, Shared, Gate, KindOf, Cell, ThreadWord}
+use Rattle.brc_model.specs.Duties.{cells_of}
 use Rattle.brc_model.specs.Machine.{Actor, Life, Unborn, Live, Dying, Closed, Machine}
 use Rattle.brc_model.specs.Duties.{cells_of}
 use Rattle.brc_model.specs.References.{held, one_if, reference_of}
@@ -47,6 +48,8 @@ pub record LeavesOthers (m new : Machine) (t : ℕ) : Type 0 where
   pub kinds : (x : ℕ) → HasCountedKind m.memory x → HasCountedKind new.memory x
   pub lives : (u x : ℕ) → u ≢ t → dies_by (new.life x) u ≡ dies_by (m.life x) u
   pub born : (x : ℕ) → m.life x ≢ Unborn → new.life x ≢ Unborn
+  -- A kind word that is stored stays.
+  pub stored : (x : ℕ) → m.memory (KindOf x) ≢ 0 → new.memory (KindOf x) ≡ m.memory (KindOf x)
 
 holds_kept : (m new : Machine) (t u : ℕ) (account : Account) (agenda aside : List Duty) → LeavesOthers m new t → u ≢ t
     → HoldsAt m.abstract.references u account agenda aside → HoldsAt new.abstract.references u account agenda aside
@@ -104,6 +107,13 @@ next_kept m new t u x b leaves next = record {
 
 counted_kept : (m new : Machine) (t x : ℕ) → LeavesOthers m new t → IsCounted m.layout x → IsCounted new.layout x
 counted_kept m new t x leaves counted = subst (λ (l : Layout). IsCounted l x) (sym leaves.layout) counted
+
+-- A list has as many cells as before.
+cells_kept : (m new : Machine) (t x i : ℕ) → LeavesOthers m new t → i < cells_of (m.memory (KindOf x))
+    → i < cells_of (new.memory (KindOf x))
+cells_kept m new t x i leaves some =
+    let stored : m.memory (KindOf x) ≢ 0 = λ none. absurd (omega (arith, some, ap cells_of none)) in
+    subst (λ (w : ℕ). i < cells_of w) (sym (leaves.stored x stored)) some
 
 -- A duty behind the first knows what it knew.
 behind_fits_kept : (m new : Machine) (t u : ℕ) (d : Duty) → LeavesOthers m new t → u ≢ t → BehindFits m u d
@@ -181,6 +191,8 @@ head_kept m new t u b (CellLoad x i) rest leaves ne found fits = (
   fits.2,
   subst (λ (w : ℕ). i < cells_of w) (sym (leaves.lists u x b ne found fits.2).kind) fits.3,
 )
+head_kept m new t u b (CellSwap x i y h) rest leaves ne found fits =
+    (fits.0, cells_kept m new t x i leaves fits.1)
 head_kept m new t u b d rest leaves ne found fits =
     known_kept m new u b b d rest refl (λ x about. row_left m new t u b leaves ne found x)
     (λ retains. list_left m new t u b leaves ne found) fits

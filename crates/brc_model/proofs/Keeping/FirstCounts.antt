@@ -85,7 +85,7 @@ workers_weight f zero = refl
 workers_weight f (suc n) =
     omega (arith, sum_by-cons (agenda_weight f) (idle_actor 0) (replicate n (idle_actor 0)), workers_weight f n)
 
-no_weight : (f : Duty → ℕ) (workers : ℕ) → weight f (idle_actors workers) ≡ 0
+pub no_weight : (f : Duty → ℕ) (workers : ℕ) → weight f (idle_actors workers) ≡ 0
 no_weight f workers =
     omega (
       arith,

@@ -8,11 +8,12 @@ use Rattle.brc_model.specs.declared.layout.Layout.{Layout}
 use Rattle.brc_model.specs.Layout.{root_row}
 use Rattle.brc_model.specs.References.{held, one_if, reference_of}
 use Rattle.brc_model.specs.StepMachine.{callers_below}
+use Rattle.brc_model.specs.Ranges.{swaps}
 use Rattle.brc_model.specs.Counting.{Counts, IsPlainLayout, hands_machine, hands_accounts}
 use Rattle.brc_model.specs.AbstractState.{same_holding}
 use Rattle.brc_model.proofs.Basics.Bag.{eqb_swapped}
 use Rattle.brc_model.proofs.Keeping.Callers.{callers_hold, callers_beyond}
-use Rattle.brc_model.proofs.Keeping.FirstCounts.{IsRooted, rooted_kept, rooted_ranges}
+use Rattle.brc_model.proofs.Keeping.FirstCounts.{IsRooted, no_weight, rooted_kept, rooted_ranges}
 
 -- The account of each thread says what the bag has.
 hands_hold : (t : ℕ) (k : Holding) (object : ℕ)
@@ -44,4 +45,5 @@ hands_begin layout plain = record {
       (record { each = λ t le k object. hands_hold t k object });
   ranges = rooted_ranges layout 1;
   no_cells = λ x i. refl;
+  no_swaps = no_weight swaps layout.workers;
 }

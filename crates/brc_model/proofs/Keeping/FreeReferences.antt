@@ -84,6 +84,7 @@ leaves m t x = record {
   kinds = λ y was. was;
   lives = λ u y ne. refl;
   born = λ y was. was;
+  stored = λ y some. refl;
 }
 
 -- ---- the thread itself
@@ -230,4 +231,5 @@ immortals_are_free p n m t a x counts ready alone immortal = record {
     aside = counts.ranges.aside;
   };
   no_cells = counts.no_cells;
+  no_swaps = counts.no_swaps;
 }

@@ -200,4 +200,5 @@ handed_over p n m t u a b x counts giver taker apart giver_free taker_free taker
     aside = counts.ranges.aside;
   };
   no_cells = counts.no_cells;
+  no_swaps = counts.no_swaps;
 }

@@ -6,7 +6,7 @@ use Rattle.std.specs.Prelude.{slice_get}
 use Rattle.std.proofs.lemmas.Option.{slice_get_within}
 use Rattle.brc_model.specs.declared.duty.Reason.TheVariants.{Own, Handed}
 use Rattle.brc_model.specs.declared.duty.Duty.{Duty}
-use Rattle.brc_model.specs.declared.duty.Duty.TheVariants.{RetainLoad, RetainStore, RetainAdd, ReleaseLoad, ReleaseStore, DecideAtZero, SharedLoad, SharedExchange, SetMark, Look, TakeMark, MergeSwap, MergeLoad, MergeExchange, Die, Settle, SettleKind, SettleCell, TakeSlot, CloseResource, SettleEnd, Leave, Scan, Finish, ClaimMark, BirthKind, BirthSlot, BirthLocal, KindLoad, LockGate, UnlockGate, CellLoad}
+use Rattle.brc_model.specs.declared.duty.Duty.TheVariants.{RetainLoad, RetainStore, RetainAdd, ReleaseLoad, ReleaseStore, DecideAtZero, SharedLoad, SharedExchange, SetMark, Look, TakeMark, MergeSwap, MergeLoad, MergeExchange, Die, Settle, SettleKind, SettleCell, TakeSlot, CloseResource, SettleEnd, Leave, Scan, Finish, ClaimMark, BirthKind, BirthSlot, BirthLocal, KindLoad, LockGate, UnlockGate, CellLoad, CellSwap}
 use Rattle.brc_model.specs.declared.actor.Status.TheVariants.{Running, Gone}
 use Rattle.brc_model.specs.Machine.{Actor, Machine, actor_by, done_by, with_actor}
 use Rattle.brc_model.specs.BadDuties.{is_bad_duty}
@@ -21,6 +21,7 @@ use Rattle.brc_model.proofs.Stepping.SharedWords.{thread_after_shared_load, thre
 use Rattle.brc_model.proofs.Stepping.Merges.{thread_after_set_mark, thread_after_look, thread_after_take_mark, thread_after_merge_swap_own, thread_after_merge_swap_handed, thread_after_merge_load, thread_after_merge_exchange}
 use Rattle.brc_model.proofs.Stepping.Chains.{thread_after_die, thread_after_settle, thread_after_settle_end}
 use Rattle.brc_model.proofs.Stepping.Settling.{thread_after_settle_kind, thread_after_settle_cell, thread_after_take_slot, thread_after_close_resource}
+use Rattle.brc_model.proofs.Stepping.CellSwaps.{thread_after_cell_swap}
 use Rattle.brc_model.proofs.Stepping.Exits.{thread_after_leave, thread_after_scan, thread_after_finish, thread_after_claim_mark}
 use Rattle.brc_model.proofs.Stepping.Settled.{settled_after}
 use Rattle.brc_model.proofs.Work.Watches.{marks_after}
@@ -98,6 +99,8 @@ thread_after_duty p n m t a (UnlockGate x) rest here alive settled =
     thread_after_unlock_gate p n m t a x rest here alive
 thread_after_duty p n m t a (CellLoad x i) rest here alive settled =
     thread_after_cell_load p n m t a x i rest here alive
+thread_after_duty p n m t a (CellSwap x i y h) rest here alive settled =
+    thread_after_cell_swap p n m t a x i y h rest here alive
 
 -- What `duty_kept` needs: the invariant holds, and the thread isn't gone and has the duty next.
 pub record Doing (p : Accounts) (n : ℕ) (m : Machine) (t : ℕ) (a : Actor) (d : Duty) (rest : List Duty) : Type 0 where

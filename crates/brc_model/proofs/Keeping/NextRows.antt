@@ -21,8 +21,8 @@ use Rattle.brc_model.specs.OpenWork.{is_about, about_of, may_wait, AllWait}
 use Rattle.brc_model.specs.Invariant.{CoreInvariant, numbers_of}
 use Rattle.brc_model.specs.Counting.{IsReady, HasNoneAbout}
 use Rattle.brc_model.proofs.Basics.Bag.{same_holding-refl, held-le-references_to}
-use Rattle.brc_model.proofs.Frame.Cells.{cell_held}
-use Rattle.brc_model.proofs.Frame.Aside.{lacks_about, extra_about, lacks_counted}
+use Rattle.brc_model.proofs.Frame.CellsHeld.{cell_held}
+use Rattle.brc_model.proofs.Frame.Aside.{lacks_about, extra_about, lacks_counted, waiting_piece}
 use Rattle.brc_model.proofs.Objects.Weights.{agenda_weight-le}
 use Rattle.brc_model.proofs.Keeping.WorkBegins.{ready_holds}
 
@@ -127,8 +127,9 @@ first_adds x d ds adds few about =
     }
 
 -- If the first duty isn't about the row, the others add as much as all.
-others_add : (x : ℕ) (d : Duty) (ds : List Duty) → AddsNone x (d ∷ ds) → is_about x d ≡ false → AddsNone x ds
-others_add x d ds adds apart =
+others_add : (x : ℕ) (d : Duty) (ds : List Duty) → AddsNone x (d ∷ ds) → may_wait d ≡ true → is_about x d ≡ false
+    → AddsNone x ds
+others_add x d ds adds may apart =
     let none : one_if (is_about x d) ≡ 0 = ap one_if apart in
     record {
       gives = λ k. omega (
@@ -137,7 +138,7 @@ others_add x d ds adds apart =
         sum_by-cons (λ (e : Duty). cond (extra e k x) 1 0) d ds,
         sum_by-cons (λ (e : Duty). cond (lacks e k x) 1 0) d ds,
         lacks_about d k x,
-        extra_about d k x,
+        extra_about d k x (waiting_piece d may),
         none,
       );
       waits = omega (arith, adds.waits, sum_by-cons (waits x) d ds);
@@ -156,7 +157,7 @@ none_waits_about m t a x (d ∷ ds) blank adds few waits =
       | false ↦ λ e.
           let none : one_if (is_about x d) ≡ 0 = ap one_if e in
           let rest : count_by (is_about x) ds ≡ 0 =
-          none_waits_about m t a x ds blank (others_add x d ds adds e) (omega (arith, all, few)) waits.2 in
+          none_waits_about m t a x ds blank (others_add x d ds adds waits.0 e) (omega (arith, all, few)) waits.2 in
           omega (arith, all, none, rest)
     ] refl
 

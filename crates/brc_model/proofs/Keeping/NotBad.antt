@@ -10,13 +10,13 @@ use Rattle.brc_model.specs.AbstractState.{is_counted, is_among, AbstractState, s
 use Rattle.brc_word.specs.Words.{immortal_local, local_part, is_immortal_word}
 use Rattle.brc_model.specs.declared.duty.Reason.TheVariants.{Own, Handed}
 use Rattle.brc_model.specs.declared.duty.Duty.{Duty}
-use Rattle.brc_model.specs.declared.duty.Duty.TheVariants.{RetainLoad, RetainStore, RetainAdd, ReleaseLoad, ReleaseStore, DecideAtZero, SharedLoad, SharedExchange, MergeSwap, MergeLoad, MergeExchange, Die, Settle, SettleKind, SettleCell, SettleEnd, TakeSlot, CloseResource, BirthKind, BirthSlot, BirthLocal, KindLoad, LockGate, UnlockGate, CellLoad}
+use Rattle.brc_model.specs.declared.duty.Duty.TheVariants.{RetainLoad, RetainStore, RetainAdd, ReleaseLoad, ReleaseStore, DecideAtZero, SharedLoad, SharedExchange, MergeSwap, MergeLoad, MergeExchange, Die, Settle, SettleKind, SettleCell, SettleEnd, TakeSlot, CloseResource, BirthKind, BirthSlot, BirthLocal, KindLoad, LockGate, UnlockGate, CellLoad, CellSwap}
 use Rattle.brc_lang.specs.declared.kind.Kind.{Kind}
 use Rattle.brc_model.specs.Kinds.{kind_of_word, is_counted_kind}
 use Rattle.brc_model.specs.declared.address.Address.TheVariants.{Local, KindOf, Cell}
 use Rattle.brc_model.specs.Duties.{address_of}
 use Rattle.brc_model.specs.Machine.{Actor, Unborn, Live, Dying, Closed, Machine}
-use Rattle.brc_model.specs.Moves.{put_in_flight, gain, lose, reference_effects, birth, take_out}
+use Rattle.brc_model.specs.Moves.{put_in_flight, gain, lose, reference_effects, birth, take_out, put_in}
 use Rattle.brc_model.specs.BadDuties.{touched_row, is_freed_for, touches_freed, is_bad_duty}
 use Rattle.brc_model.proofs.Basics.Lists.{either}
 use Rattle.brc_model.proofs.Basics.Bag.{same_holding-refl, held_has, no_cell_holds, same-refl, one_if_true}
@@ -28,9 +28,10 @@ use Rattle.brc_model.specs.OpenWork.{Linked, dies_by}
 use Rattle.brc_model.specs.Invariant.{AtDuty, CoreInvariant}
 use Rattle.brc_model.proofs.Promises.Agreeing.{is_free_of}
 use Rattle.brc_model.proofs.Frame.Alive.{Alive, first_weighs, alive_deciding, alive_backed, backed_referenced}
-use Rattle.brc_model.proofs.Frame.Cells.{cell_held}
+use Rattle.brc_model.proofs.Frame.CellsHeld.{cell_held}
+use Rattle.brc_model.proofs.Frame.Cells.{filled, filled_held}
 use Rattle.brc_model.proofs.Frame.Others.{is_dying}
-use Rattle.brc_model.proofs.Frame.Leaves.{head_of, load_alive, exchange_alive, decide_alive, merge_load_alive, merge_alive, claim_alive, gives_held, given_alive}
+use Rattle.brc_model.proofs.Frame.Leaves.{head_of, load_alive, exchange_alive, decide_alive, merge_load_alive, merge_alive, claim_alive, gives_held, given_alive, locked_alive}
 use Rattle.brc_model.proofs.Basics.Blocks.{next_counted, next_unborn}
 use Rattle.brc_model.proofs.Stepping.Nones.{immortal_row}
 use Rattle.std.proofs.lemmas.Bool.{cases_Bool}
@@ -136,6 +137,9 @@ touches_none p n m t a (UnlockGate x) rest here =
     backed_free p n m t a x here.core (head_of p n m t a (UnlockGate x) rest here).1
 touches_none p n m t a (CellLoad x i) rest here =
     backed_free p n m t a x here.core (head_of p n m t a (CellLoad x i) rest here).1
+touches_none p n m t a (CellSwap x i y h) rest here =
+    let locked = (head_of p n m t a (CellSwap x i y h) rest here).0 in
+    alive_free m t x (locked_alive p n m t a x here.core here.found locked)
 touches_none p n m t a _ rest here = refl
 
 -- ---- moves of references
@@ -230,6 +234,16 @@ taken_allowed layout p t x i (suc y) has =
     one_allowed layout p (PassOn (cell_reference x i y) (ByThread t InFlight))
     (held_has (cell_reference x i y) p.references (has y refl))
 
+-- So is putting a reference in its place.
+swap_allowed : (layout : Layout) (p : AbstractState) (t y x i w : ℕ) (h : Holding)
+    → list_any (same (reference_of t h y)) p.references ≡ true
+    → ((z : ℕ) → w ≡ suc z → 0 < held (cell_reference x i z) p.references)
+    → are_allowed layout p (put_in t h y x i ++ take_out t x i w) ≡ true
+swap_allowed layout p t y x i w h some has =
+    ap (λ (b : Bool). b && are_allowed layout (filled p t h y x i) (take_out t x i w)) some
+    ∙ taken_allowed layout (filled p t h y x i) t x i w
+    (λ z is. omega (arith, has z is, filled_held p t y x i h x i z))
+
 -- The birth of the next row is allowed: the row wasn't born before, and its kind is counted.
 birth_allowed : (p : Accounts) (n : ℕ) (m : Machine) (t : ℕ) (a : Actor) (x : ℕ) (h : Holding) (kind : Kind)
     → CoreInvariant p n m → slice_get m.actors t ≡ Some a → IsNext m t a x
@@ -283,6 +297,10 @@ moves_allowed p n m t a (SettleEnd x) rest here =
 moves_allowed p n m t a (BirthLocal x h) rest here =
     let fits = head_of p n m t a (BirthLocal x h) rest here in
     birth_allowed p n m t a x h (kind_of_word (m.memory (KindOf x))) here.core here.found fits.0 fits.2
+moves_allowed p n m t a (CellSwap x i y h) rest here =
+    swap_allowed m.layout m.abstract t y x i (m.memory (Cell x i)) h
+    (given_in_bag p n m t a (CellSwap x i y h) rest h y here (holder_same h y) refl)
+    (λ z is. omega (arith, cell_held p n m x i z here.core is))
 moves_allowed p n m t a _ rest here = refl
 
 pub duty_not_bad : (p : Accounts) (n : ℕ) (m : Machine) (t : ℕ) (a : Actor) (d : Duty) (rest : List Duty)

@@ -6,7 +6,7 @@ use Rattle.std.proofs.lemmas.Bool.{false≢true}
 use Rattle.std.proofs.lemmas.List.Sums.{sum_by-cons, sum_by-append}
 use Rattle.brc_model.specs.declared.duty.Holding.{Holding}
 use Rattle.brc_model.specs.declared.duty.Duty.{Duty}
-use Rattle.brc_model.specs.declared.duty.Duty.TheVariants.{Die, Settle, SettleKind, SettleCell, TakeSlot, CloseResource, SettleEnd, Leave, Scan, Finish, BirthKind, BirthSlot, BirthLocal, KindLoad, LockGate, UnlockGate, CellLoad}
+use Rattle.brc_model.specs.declared.duty.Duty.TheVariants.{Die, Settle, SettleKind, SettleCell, TakeSlot, CloseResource, SettleEnd, Leave, Scan, Finish, BirthSlot, BirthLocal, CellLoad}
 use Rattle.brc_model.specs.declared.actor.Status.{Status}
 use Rattle.brc_model.specs.declared.actor.Status.TheVariants.{Running, Leaving, Gone}
 use Rattle.brc_model.specs.Machine.{Actor, Machine, with_actor}
@@ -14,9 +14,10 @@ use Rattle.brc_model.specs.References.{one_if}
 use Rattle.brc_model.specs.RowInvariant.{waits, carries, merges, decides, agenda_weight}
 use Rattle.brc_model.specs.Accounts.{Accounts, extra, lacks, extra_of, lacks_of, extra_aside, lacks_aside}
 use Rattle.brc_model.specs.Knowledge.{HeadFits, HeadOf, BehindOf}
-use Rattle.brc_model.specs.OpenWork.{Later, Agenda, AgendaFits, has_leave, exits, is_about, about_of, finalised, scans, may_wait, is_piece, AllWait, AsideFits, IsSettled}
+use Rattle.brc_model.specs.OpenWork.{Later, Agenda, AgendaFits, has_leave, exits, is_about, about_of, finalised, scans, may_wait, AllWait, AsideFits, IsSettled}
 use Rattle.brc_model.specs.Invariant.{looks, kind_stored, slot_stored, BlankFits, CoreInvariant, Invariant}
 use Rattle.brc_model.proofs.Basics.Lists.{written_actor}
+use Rattle.brc_model.proofs.Frame.Aside.{waiting_piece}
 use Rattle.brc_model.proofs.Frame.Known.{LeavesRow, known_kept}
 use Rattle.brc_model.specs.Counting.{with_account, working}
 use Rattle.brc_model.proofs.Keeping.Replaced.{with_account_itself, replaced_core}
@@ -47,17 +48,6 @@ waiting_hand (TakeSlot y) x waits = absurd cc
 waiting_hand (CloseResource y) x waits = absurd cc
 waiting_hand (SettleEnd y) x waits = absurd cc
 waiting_hand _ x waits = refl
-
-waiting_piece : (d : Duty) → may_wait d ≡ true → is_piece d ≡ true
-waiting_piece (Die x) waits = absurd cc
-waiting_piece (BirthKind x h w) waits = absurd cc
-waiting_piece (BirthSlot x h) waits = absurd cc
-waiting_piece (BirthLocal x h) waits = absurd cc
-waiting_piece (KindLoad x) waits = absurd cc
-waiting_piece (LockGate x) waits = absurd cc
-waiting_piece (UnlockGate x) waits = absurd cc
-waiting_piece (CellLoad x i) waits = absurd cc
-waiting_piece _ waits = waits
 
 waiting_scans : (d : Duty) (x : ℕ) → may_wait d ≡ true → scans x (d ∷ []) ≡ false
 waiting_scans (Scan y n) x waits = absurd cc
@@ -241,7 +231,7 @@ put_aside p n m t a d kept found is waits =
 
 -- ---- a duty is taken back
 
-sum_split : (f : Duty → ℕ) (before after : List Duty) (d : Duty)
+pub sum_split : (f : Duty → ℕ) (before after : List Duty) (d : Duty)
     → sum_by f (before ++ d ∷ after) ≡ f d + sum_by f (before ++ after)
 sum_split f before after d =
     omega (

@@ -107,6 +107,7 @@ nothing_changes m t b = record {
   kinds = λ x was. was;
   lives = λ u x ne. refl;
   born = λ x was. was;
+  stored = λ x some. refl;
 }
 
 pub replaced_core : (p : Accounts) (n : ℕ) (m : Machine) (t : ℕ) (a b : Actor) (account : Account) → CoreInvariant p n m

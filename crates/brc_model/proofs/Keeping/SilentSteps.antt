@@ -150,6 +150,7 @@ leaves m t a moves silent = record {
   kinds = λ x was. was;
   lives = λ u x ne. refl;
   born = λ x was. was;
+  stored = λ x some. refl;
 }
 
 -- What a thread has to show to take a silent step.

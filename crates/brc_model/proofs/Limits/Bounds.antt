@@ -6,7 +6,7 @@ use Rattle.std.proofs.lemmas.Bool.{eq-eqb}
 use Rattle.brc_word.specs.Words.{owner_part, local_part, biased_part, phase_part, bias}
 use Rattle.brc_model.specs.declared.duty.Holding.{Holding}
 use Rattle.brc_model.specs.declared.duty.Duty.{Duty}
-use Rattle.brc_model.specs.declared.duty.Duty.TheVariants.{RetainStore, RetainAdd, ReleaseLoad, ReleaseStore, SharedLoad, SharedExchange, MergeLoad, MergeExchange, SettleCell, CellLoad}
+use Rattle.brc_model.specs.declared.duty.Duty.TheVariants.{RetainStore, RetainAdd, ReleaseLoad, ReleaseStore, SharedLoad, SharedExchange, MergeLoad, MergeExchange, SettleCell, CellLoad, CellSwap}
 use Rattle.brc_model.specs.declared.address.Address.TheVariants.{Local, Shared, Cell}
 use Rattle.brc_model.specs.Duties.{address_of, counts_locally}
 use Rattle.brc_model.specs.declared.actor.Status.TheVariants.{Gone}
@@ -15,14 +15,17 @@ use Rattle.brc_model.specs.Within.{Suits}
 use Rattle.brc_model.specs.RowInvariant.{carries, weight, Numbers, Phased, IsDefault, IsQueued, InOwned, InSwapped, InMerged, IsLive}
 use Rattle.brc_model.specs.Accounts.{Accounts}
 use Rattle.brc_model.specs.Invariant.{AtDuty, numbers_of, CoreInvariant}
+use Rattle.brc_model.specs.References.{reference_of}
+use Rattle.brc_model.proofs.Basics.Bag.{held-le-references_to}
 use Rattle.brc_model.proofs.Objects.RowSteps.{shared_range}
 use Rattle.brc_model.proofs.Frame.Alive.{Alive, alive_backed}
+use Rattle.brc_model.proofs.Frame.Cells.{stolen_held}
 use Rattle.brc_model.proofs.Frame.Leaves.{head_of, load_alive, exchange_alive, merge_load_alive, merge_alive}
 use Rattle.brc_model.proofs.Stepping.Retains.{counts_owner, count_above, weight_here}
 use Rattle.brc_model.proofs.Stepping.Releases.{release_alive}
 use Rattle.brc_model.proofs.Work.MergesOnce.{carried_at_load, carried_is}
 use Rattle.brc_model.proofs.Limits.FewHeld.{most_each, references_few}
-use Rattle.brc_model.proofs.Limits.Ranges.{cell_small}
+use Rattle.brc_model.proofs.Limits.Ranges.{referenced_small, cell_small}
 use Rattle.brc_model.specs.Ranges.{HasFewCells}
 use Rattle.brc_model.specs.Limits.{thread_limit, cell_limit, total_limit}
 use Rattle.std.proofs.lemmas.Bool.{cases_Bool}
@@ -144,4 +147,12 @@ duty_suits p n m t a (SettleCell x i k) rest here alive few =
     cell_low (m.memory (Cell x i)) (row_count m.layout) (λ y is. cell_small p n m x i y here.core is)
 duty_suits p n m t a (CellLoad x i) rest here alive few =
     cell_low (m.memory (Cell x i)) (row_count m.layout) (λ y is. cell_small p n m x i y here.core is)
+duty_suits p n m t a (CellSwap x i y h) rest here alive few = (
+  referenced_small p n m y here.core (omega (
+    arith,
+    stolen_held p n m t a x i y h rest here,
+    held-le-references_to (reference_of t h y) m.abstract.references,
+  )),
+  cell_low (m.memory (Cell x i)) (row_count m.layout) (λ z is. cell_small p n m x i z here.core is),
+)
 duty_suits p n m t a _ rest here alive few = tt

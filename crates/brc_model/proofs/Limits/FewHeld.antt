@@ -11,13 +11,12 @@ use Rattle.brc_model.specs.declared.duty.Holding.{Holding}
 use Rattle.brc_model.specs.declared.duty.Holding.TheVariants.{ByVariable, AsCaller, InFlight}
 use Rattle.brc_model.specs.declared.duty.Reason.TheVariants.{Own}
 use Rattle.brc_model.specs.declared.duty.Duty.{Duty}
-use Rattle.brc_model.specs.declared.duty.Duty.TheVariants.{ReleaseLoad, ReleaseStore, SharedLoad, SharedExchange}
+use Rattle.brc_model.specs.declared.duty.Duty.TheVariants.{ReleaseLoad, ReleaseStore, SharedLoad, SharedExchange, CellSwap}
 use Rattle.brc_model.specs.AbstractState.{Holder, ByThread, ByCell, Reference, same, references_to}
 use Rattle.brc_model.specs.Machine.{Actor, Life, Machine}
 use Rattle.brc_model.proofs.Basics.Bag.{same_holding-true, same-true, same-refl, held-cons, references_to-cons, one_if_true, one_if_low}
 use Rattle.brc_model.specs.References.{held, one_if, reference_of, word_holds, cell_reference}
 use Rattle.brc_model.specs.Accounts.{Account, Accounts, extra, extra_of, extra_aside, most_lent, IsBounded}
-use Rattle.brc_model.specs.OpenWork.{is_about, about_of}
 use Rattle.brc_model.specs.Invariant.{CellFits, CoreInvariant}
 use Rattle.brc_model.specs.declared.address.Address.TheVariants.{Cell}
 use Rattle.brc_model.specs.Ranges.{HasFewCells}
@@ -26,7 +25,7 @@ use Rattle.brc_model.proofs.Basics.Blocks.{born_within, rows_low}
 use Rattle.brc_model.specs.declared.layout.Layout.{Layout}
 use Rattle.brc_model.specs.Layout.{row_count, IsCounted}
 use Rattle.brc_model.proofs.Basics.Lists.{and_first}
-use Rattle.brc_model.proofs.Frame.Aside.{extra_about, extra_counted}
+use Rattle.brc_model.proofs.Frame.Aside.{gives, gives_of, gives_one, extra_gives, extra_counted}
 
 -- ---- counting references by a list of keys
 
@@ -344,6 +343,7 @@ account_most layout account t InFlight object bounded counted = omega (arith, bo
 -- How the thread holds the reference that a duty gives up.
 abbrev given_by : Duty → Holding
 given_by (ReleaseLoad x h) = h
+given_by (CellSwap x i y h) = h
 given_by _ = InFlight
 
 extra_given : (d : Duty) (k : Holding) (object : ℕ) → extra d k object ≡ true → k ≡ given_by d
@@ -351,26 +351,27 @@ extra_given (ReleaseLoad x h) k object e = sym (same_holding-true h k (and_first
 extra_given (ReleaseStore x w) k object e = sym (same_holding-true InFlight k (and_first _ _ e))
 extra_given (SharedLoad x Own) k object e = sym (same_holding-true InFlight k (and_first _ _ e))
 extra_given (SharedExchange x Own w) k object e = sym (same_holding-true InFlight k (and_first _ _ e))
+extra_given (CellSwap x i y h) k object e = sym (same_holding-true h k (and_first _ _ e))
 extra_given _ k object e = absurd cc
 
--- How the thread holds the reference that the first duty about the object gives up. It is in flight if there is no such
--- duty.
+-- How the thread holds the reference to the object that the first of the duties gives up. It is in flight if no duty
+-- gives one up.
 abbrev given_in : ℕ → List Duty → Holding
 given_in x [] = InFlight
-given_in x (d ∷ rest) = if is_about x d then given_by d else given_in x rest
+given_in x (d ∷ rest) = if gives x d then given_by d else given_in x rest
 
-given_as : (x : ℕ) (ds : List Duty) (k : Holding) → count_by (is_about x) ds ≤ 1
+given_as : (x : ℕ) (ds : List Duty) (k : Holding) → count_by (gives x) ds ≤ 1
     → 0 < count_by (λ d. extra d k x) ds → k ≡ given_in x ds
 given_as x [] k few some = absurd (omega (arith, some))
 given_as x (d ∷ rest) k few some =
-    let about = sum_by-cons (λ (e : Duty). cond (is_about x e) 1 0) d rest in
+    let all = sum_by-cons (λ (e : Duty). cond (gives x e) 1 0) d rest in
     let given = sum_by-cons (λ (e : Duty). cond (extra e k x) 1 0) d rest in
-    elim (is_about x d) as (λ b. is_about x d ≡ b → k ≡ cond b (given_by d) (given_in x rest)) [
+    elim (gives x d) as (λ b. gives x d ≡ b → k ≡ cond b (given_by d) (given_in x rest)) [
       | true ↦ λ e.
-          let one : one_if (is_about x d) ≡ 1 = ap one_if e in
+          let one : one_if (gives x d) ≡ 1 = ap one_if e in
           extra_given d k x (one_if_true (extra d k x) (omega (
             arith,
-            about,
+            all,
             given,
             few,
             some,
@@ -378,8 +379,8 @@ given_as x (d ∷ rest) k few some =
             extra_counted rest k x,
           )))
       | false ↦ λ e.
-          let none : one_if (is_about x d) ≡ 0 = ap one_if e in
-          given_as x rest k (omega (arith, about, few)) (omega (arith, given, some, none, extra_about d k x))
+          let none : one_if (gives x d) ≡ 0 = ap one_if e in
+          given_as x rest k (omega (arith, all, few)) (omega (arith, given, some, none, extra_gives d k x))
     ] refl
 
 -- The first duty of an agenda, and the duties put aside.
@@ -387,10 +388,10 @@ abbrev opened : List Duty → List Duty → List Duty
 opened [] aside = aside
 opened (d ∷ rest) aside = d ∷ aside
 
-opened_about : (x : ℕ) (agenda aside : List Duty)
-    → count_by (is_about x) (opened agenda aside) ≡ one_if (about_of x agenda) + count_by (is_about x) aside
-opened_about x [] aside = omega arith
-opened_about x (d ∷ rest) aside = sum_by-cons (λ (e : Duty). cond (is_about x e) 1 0) d aside
+opened_gives : (x : ℕ) (agenda aside : List Duty)
+    → count_by (gives x) (opened agenda aside) ≡ one_if (gives_of x agenda) + count_by (gives x) aside
+opened_gives x [] aside = omega arith
+opened_gives x (d ∷ rest) aside = sum_by-cons (λ (e : Duty). cond (gives x e) 1 0) d aside
 
 opened_extra : (x : ℕ) (k : Holding) (agenda aside : List Duty)
     → count_by (λ d. extra d k x) (opened agenda aside) ≡ one_if (extra_of agenda k x) + extra_aside aside k x
@@ -424,8 +425,8 @@ within_most p n m (ByThread t k) object core counted =
             fits.0.holds.each k object,
             extra,
             opened_extra object k a.agenda a.aside,
-            opened_about object a.agenda a.aside,
-            fits.2.apart object,
+            opened_gives object a.agenda a.aside,
+            gives_one m t a object fits.2,
             account_most m.layout (p t) t k object fits.0.bounded counted,
           )
       | inr past ↦ omega (arith, core.beyond t (omega (arith, past.0, core.threads)) k object)
@@ -442,7 +443,7 @@ thread_way p n m t k object core some =
           let fits = core.each t a found.2 in
           let within : t < n = omega (arith, found.1, core.threads) in
           let all = opened a.agenda a.aside in
-          let about = opened_about object a.agenda a.aside in
+          let given = opened_gives object a.agenda a.aside in
           let extra = opened_extra object k a.agenda a.aside in
           let at_thread : list_any (same r) (ways (own_way m object) object (suc t)) ≡ true =
           elim (eqb_tells (count_by (λ d. Rattle.brc_model.specs.Accounts.extra d k object) all) 0) [
@@ -453,7 +454,8 @@ thread_way p n m t k object core some =
                 let own : own_way m object t ≡ given_in object all =
                 ap (λ (o : Option Actor). given_in object (opened_by o)) found.2 in
                 among_own (own_way m object) object t k
-                (given_as object all k (omega (arith, about, fits.2.apart object)) (omega (arith, more.1)) ∙ sym own)
+                (given_as object all k (omega (arith, given, gives_one m t a object fits.2)) (omega (arith, more.1))
+                ∙ sym own)
           ] in
           among_all (own_way m object) r object t n within at_thread
       | inr past ↦ absurd (omega (arith, core.beyond t (omega (arith, past.0, core.threads)) k object, some))

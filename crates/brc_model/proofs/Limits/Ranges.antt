@@ -7,7 +7,7 @@ use Rattle.brc_model.specs.AbstractState.{references_to}
 use Rattle.brc_model.specs.declared.duty.Holding.TheVariants.{InFlight}
 use Rattle.brc_model.specs.declared.duty.Reason.TheVariants.{Handed}
 use Rattle.brc_model.specs.declared.duty.Duty.{Duty}
-use Rattle.brc_model.specs.declared.duty.Duty.TheVariants.{ReleaseLoad, MergeSwap, Settle, SettleKind, SettleCell, Leave, Scan, Finish, BirthKind, KindLoad, CellLoad}
+use Rattle.brc_model.specs.declared.duty.Duty.TheVariants.{ReleaseLoad, MergeSwap, Settle, SettleKind, SettleCell, Leave, Scan, Finish, BirthKind, KindLoad, CellLoad, CellSwap}
 use Rattle.brc_model.specs.declared.address.Address.TheVariants.{KindOf, Mark, Cell}
 use Rattle.brc_model.specs.Duties.{address_of, new_word, continuation, ready, cells_of}
 use Rattle.brc_model.specs.Machine.{Actor, Life, Unborn, Live, Machine, written, is_running, actor_by, done_by}
@@ -17,10 +17,10 @@ use Rattle.brc_model.specs.Accounts.{Accounts}
 use Rattle.brc_model.specs.Invariant.{numbers_of, CoreInvariant}
 use Rattle.brc_model.specs.OpenWork.{Linked, dies_by, is_about}
 use Rattle.brc_model.specs.Ranges.{cells_named, IsSmall, AreSmall, Ranges}
-use Rattle.brc_model.proofs.Basics.Continuation.{Traits, cells_by, Origin, Continuation, Ends, Finishes, GoesOn, Frees, SettlesRow, Claims, ClaimsNone, Exits, Scans, ScansNone, continues}
+use Rattle.brc_model.proofs.Basics.Continuation.{Traits, cells_by, Origin, Continuation, Ends, Finishes, GoesOn, Frees, FreesOld, SettlesRow, Claims, ClaimsNone, Exits, Scans, ScansNone, continues}
 use Rattle.brc_model.proofs.Basics.Bag.{held-le-references_to}
 use Rattle.brc_model.proofs.Basics.Written.{written_load}
-use Rattle.brc_model.proofs.Frame.Cells.{cell_held}
+use Rattle.brc_model.proofs.Frame.CellsHeld.{cell_held}
 use Rattle.brc_model.proofs.Basics.Lists.{written_actor}
 use Rattle.brc_model.proofs.Basics.Blocks.{born_within}
 use Rattle.brc_model.proofs.Stepping.Exits.{marked_born}
@@ -43,6 +43,7 @@ abbrev pub FindsSmall : ℕ → Layout → ℕ → ℕ → Duty → ℕ → Type
 FindsSmall k layout t head Settle found = head - 1 < k
 FindsSmall k layout t head (SettleKind x) found = cells_of found ≤ cell_limit
 FindsSmall k layout t head (SettleCell x i n) found = (y : ℕ) → found ≡ suc y → y < k
+FindsSmall k layout t head (CellSwap x i y h) found = (z : ℕ) → found ≡ suc z → z < k
 FindsSmall k layout t head (Scan i n) found = found ≡ 1 → row_at layout t i < k
 FindsSmall k layout t head _ found = Unit {0}
 
@@ -77,6 +78,7 @@ origin_small : (k : ℕ) (d : Duty) (found : ℕ) (e : Duty) → Origin d found 
 origin_small k d found (SettleCell x i n) origin few = omega (arith, origin, few)
 origin_small k d found (BirthKind x h w) origin few = absurd origin
 origin_small k d found (CellLoad x i) origin few = absurd origin
+origin_small k d found (CellSwap x i y h) origin few = absurd origin
 origin_small k d found _ origin few = omega arith
 
 next_small : (k : ℕ) {layout : Layout} {t head found : ℕ} (d : Duty) (next : List Duty)
@@ -100,6 +102,8 @@ next_small k {layout = layout} {t = t} {head = head} {found = found} d next (Fre
     tt,
   ),
 )
+next_small k d next (FreesOld x i y z h some) small finds =
+    (row_small k z (ReleaseLoad z InFlight) (finds z some) (λ v. refl) (omega arith), tt)
 next_small k {head = head} d next SettlesRow small finds =
     (row_small k (head - 1) (SettleKind (head - 1)) finds (λ y. refl) (omega arith), (settle_small k, tt))
 next_small k d next (Claims x set) small finds =
@@ -179,6 +183,7 @@ finds_small : (p : Accounts) (n : ℕ) (m : Machine) (t : ℕ) (a : Actor) (d : 
 finds_small p n m t a Settle core ranges head = omega (arith, head)
 finds_small p n m t a (SettleKind x) core ranges head = ranges.kinds x
 finds_small p n m t a (SettleCell x i k) core ranges head = λ y is. cell_small p n m x i y core is
+finds_small p n m t a (CellSwap x i y h) core ranges head = λ z is. cell_small p n m x i z core is
 finds_small p n m t a (Scan i k) core ranges head = λ set. marked_small p n m (row_at m.layout t i) core set
 finds_small p n m t a _ core ranges head = tt
 

@@ -6,7 +6,7 @@ use Rattle.std.proofs.lemmas.Bool.{eq-eqb, cases_Bool}
 use Rattle.std.proofs.lemmas.Option.{slice_get_within}
 use Rattle.brc_lang.specs.declared.module.Module.{Module}
 use Rattle.brc_model.specs.declared.duty.Duty.{Duty}
-use Rattle.brc_model.specs.declared.duty.Duty.TheVariants.{RetainLoad, ReleaseLoad, Look, Settle, SettleCell, Leave, Scan, Finish, CellLoad}
+use Rattle.brc_model.specs.declared.duty.Duty.TheVariants.{RetainLoad, ReleaseLoad, Look, Settle, SettleCell, Leave, Scan, Finish, CellLoad, CellSwap}
 use Rattle.brc_model.specs.declared.actor.Status.TheVariants.{Gone}
 use Rattle.brc_model.specs.declared.address.Address.TheVariants.{Local}
 use Rattle.brc_word.specs.Words.{owner_part}
@@ -54,6 +54,8 @@ duty_there p n m t a (SettleCell x i c) rest here alive small =
     let (pos, dies, more, gate, empty) = head_of p n m t a (SettleCell x i c) rest here in
     (small.row x (eq-eqb x x refl), omega (arith, more, small.cells))
 duty_there p n m t a (CellLoad x i) rest here alive small =
+    (small.row x (eq-eqb x x refl), omega (arith, small.cells))
+duty_there p n m t a (CellSwap x i y h) rest here alive small =
     (small.row x (eq-eqb x x refl), omega (arith, small.cells))
 duty_there p n m t a (Leave x c) rest here alive small = slice_get_within m.actors t a here.found
 duty_there p n m t a (Scan x c) rest here alive small =

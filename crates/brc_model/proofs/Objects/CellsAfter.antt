@@ -1,6 +1,6 @@
 -- After each step too, the cells of rows without an object are empty, and so are those past an object's number of
 -- cells.
-use Rattle.std.proofs.Common.{◌≡◌, ℕ, ◌≤◌, List, inl, inr, Some, sym, subst, arith}
+use Rattle.std.proofs.Common.{◌≡◌, ℕ, ◌≤◌, List, inl, inr, Some, refl, sym, ◌∙◌, subst, arith}
 use Rattle.brc_model.specs.declared.duty.Duty.{Duty}
 use Rattle.brc_model.specs.declared.duty.Duty.TheVariants.{SettleEnd}
 use Rattle.brc_model.specs.declared.address.Address.TheVariants.{KindOf, Cell}
@@ -9,21 +9,25 @@ use Rattle.brc_model.specs.Machine.{Actor, Life, Unborn, Live, Dying, Closed, Ma
 use Rattle.brc_model.specs.Accounts.{Accounts}
 use Rattle.brc_model.specs.Invariant.{AtDuty, CellFits}
 use Rattle.brc_model.proofs.Basics.Lists.{some_is, none_some}
-use Rattle.brc_model.proofs.Frame.Cells.{still_empty}
+use Rattle.brc_model.proofs.Frame.Cells.{still_empty, past_unfilled, stays_empty}
 use Rattle.brc_model.proofs.Frame.Leaves.{head_of}
 use Rattle.brc_model.proofs.Objects.Closing.{GoesOn, BeginsToDie, IsClosed, IsBorn, life_step}
-use Rattle.brc_model.proofs.Objects.KindsAfter.{stored_at_duty}
+use Rattle.brc_model.proofs.Frame.Kinds.{stored_at_duty}
 use Rattle.brc_model.proofs.Stepping.Neutral.{memory_by}
 
 -- ---- rows without an object
 
 -- The cell still fits a row whose life doesn't change.
-cell_goes_on : (m : Machine) (t : ℕ) (a : Actor) (d : Duty) (x i : ℕ) (l : Life) → CellFits l (m.memory (Cell x i))
+cell_goes_on : (p : Accounts) (n : ℕ) (m : Machine) (t : ℕ) (a : Actor) (d : Duty) (rest : List Duty) (x i : ℕ)
+    (l : Life)
+    → AtDuty p n m t a d rest → m.life x ≡ l → CellFits l (m.memory (Cell x i))
     → CellFits l (memory_by m t a d (Cell x i))
-cell_goes_on m t a d x i Unborn fits = still_empty m t a d x i fits
-cell_goes_on m t a d x i Live fits = tt
-cell_goes_on m t a d x i (Dying u) fits = tt
-cell_goes_on m t a d x i Closed fits = still_empty m t a d x i fits
+cell_goes_on p n m t a d rest x i Unborn here is fits =
+    stays_empty p n m t a d rest x i here (λ live. let wrong : Unborn ≡ Live = sym is ∙ live in cc) fits
+cell_goes_on p n m t a d rest x i Live here is fits = tt
+cell_goes_on p n m t a d rest x i (Dying u) here is fits = tt
+cell_goes_on p n m t a d rest x i Closed here is fits =
+    stays_empty p n m t a d rest x i here (λ live. let wrong : Closed ≡ Live = sym is ∙ live in cc) fits
 
 -- The cells of a row are empty when it is closed.
 ended_cell : (p : Accounts) (n : ℕ) (m : Machine) (t : ℕ) (a : Actor) (d : Duty) (rest : List Duty) (x i : ℕ)
@@ -39,10 +43,13 @@ pub cells_after : (p : Accounts) (n : ℕ) (m : Machine) (t : ℕ) (a : Actor) (
 cells_after p n m t a d rest here x i =
     let Fits : Life → Type 0 = λ l. CellFits l (memory_by m t a d (Cell x i)) in
     elim (life_step p n m t a d rest x here) [
-      | GoesOn now other ↦ subst Fits (sym now) (cell_goes_on m t a d x i (m.life x) (here.core.cells x i))
+      | GoesOn now other ↦
+          subst Fits (sym now) (cell_goes_on p n m t a d rest x i (m.life x) here refl (here.core.cells x i))
       | BeginsToDie now alive positive none ↦ subst Fits (sym now) tt
       | IsClosed now dying positive ended ↦
-          subst Fits (sym now) (still_empty m t a d x i (ended_cell p n m t a d rest x i here ended))
+          subst Fits (sym now)
+          (stays_empty p n m t a d rest x i here (λ live. let wrong : Dying t ≡ Live = sym dying ∙ live in cc)
+          (ended_cell p n m t a d rest x i here ended))
       | IsBorn now unborn above born none ↦ subst Fits (sym now) tt
     ]
 
@@ -53,7 +60,8 @@ pub cells_end_after : (p : Accounts) (n : ℕ) (m : Machine) (t : ℕ) (a : Acto
     → AtDuty p n m t a d rest → (x i : ℕ) → cells_of (memory_by m t a d (KindOf x)) ≤ i
     → memory_by m t a d (Cell x i) ≡ 0
 cells_end_after p n m t a d rest here x i past =
-    still_empty m t a d x i (here.core.cells_end x i (elim (stored_at_duty p n m t a d rest here x) [
+    let was : cells_of (m.memory (KindOf x)) ≤ i = elim (stored_at_duty p n m t a d rest here x) [
       | inl none ↦ subst (λ (w : ℕ). cells_of w ≤ i) (sym none) (omega arith)
       | inr same ↦ subst (λ (w : ℕ). cells_of w ≤ i) same past
-    ]))
+    ] in
+    still_empty m t a d x i (past_unfilled p n m t a d rest x i here was) (here.core.cells_end x i was)

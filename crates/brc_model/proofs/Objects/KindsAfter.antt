@@ -1,6 +1,5 @@
--- After each step too, a born object is of the kind that its kind word names. A kind word is stored once.
-use Rattle.std.proofs.Common.{◌≡◌, ◌≢◌, ℕ, Bool, true, false, cond, List, None, Some, ◌⊎◌, inl, inr, refl, sym, ap, subst, arith}
-use Rattle.std.proofs.Common.{◌∙◌}
+-- After each step too, a born object is of the kind that its kind word names.
+use Rattle.std.proofs.Common.{◌≡◌, ◌≢◌, ℕ, Bool, true, false, cond, List, None, Some, inl, inr, refl, sym, ap, ◌∙◌}
 use Rattle.std.proofs.lemmas.Bool.{ne_eqb, eq-eqb}
 use Rattle.std.proofs.lemmas.Bool.Decides.{eqb_tells}
 use Rattle.brc_lang.specs.declared.kind.Kind.{Kind}
@@ -8,14 +7,13 @@ use Rattle.brc_lang.specs.declared.kind.Kind.TheVariants as kinds
 use Rattle.brc_word.specs.Words.{kind_part}
 use Rattle.brc_model.specs.Kinds.{kind_number, kind_numbered, kind_of_word, is_counted_kind}
 use Rattle.brc_model.specs.AbstractState.{AbstractState, Move, Born, move, moved}
-use Rattle.brc_model.specs.declared.duty.Holding.{Holding}
 use Rattle.brc_model.specs.declared.duty.Duty.{Duty}
 use Rattle.brc_model.specs.declared.duty.Duty.TheVariants.{SettleKind, BirthKind, BirthLocal, KindLoad}
 use Rattle.brc_model.specs.declared.address.Address.TheVariants.{KindOf}
 use Rattle.brc_model.specs.Machine.{Actor, Unborn, Machine, born_row, done_by}
 use Rattle.brc_model.specs.Moves.{reference_effects}
 use Rattle.brc_model.proofs.Basics.Written.{written_apart, written_load}
-use Rattle.brc_model.proofs.Basics.Blocks.{next_block, next_index, next_unborn}
+use Rattle.brc_model.proofs.Basics.Blocks.{next_unborn}
 use Rattle.brc_model.proofs.Frame.Items.{word_stays}
 use Rattle.brc_model.proofs.Frame.Leaves.{head_of}
 use Rattle.brc_model.proofs.Stepping.Neutral.{found_by, memory_by}
@@ -23,7 +21,7 @@ use Rattle.brc_model.proofs.Basics.Moves.{moved_keeps}
 use Rattle.brc_model.proofs.Objects.UsesAfter.{BearsNone, moves_none, before_or_now}
 use Rattle.brc_model.proofs.Basics.Lists.{some_is}
 use Rattle.brc_model.specs.Accounts.{Accounts}
-use Rattle.brc_model.specs.Invariant.{AtDuty, kind_stored}
+use Rattle.brc_model.specs.Invariant.{AtDuty}
 
 -- ---- numbers and kinds
 
@@ -98,31 +96,3 @@ kinds_after p n m t a d rest here x born =
           ∙ ap kind_number (sym (kind_stays p n m t a d rest x here was))
       | inr now ↦ kind_is_said p n m t a d rest x here now
     ]
-
--- ---- kind words
-
--- The row's kind word isn't stored yet, or it stays.
-abbrev pub StoredStay : (ℕ → ℕ) → (ℕ → ℕ) → Type 0
-StoredStay words new = (x : ℕ) → (words x ≡ 0) ⊎ (new x ≡ words x)
-
--- The row of a birth that is about to store its kind word has none yet.
-blank_kind : (p : Accounts) (n : ℕ) (m : Machine) (t : ℕ) (a : Actor) (y : ℕ) (h : Holding) (w : ℕ) (rest : List Duty)
-    → AtDuty p n m t a (BirthKind y h w) rest → m.memory (KindOf y) ≡ 0
-blank_kind p n m t a y h w rest here =
-    let next = (head_of p n m t a (BirthKind y h w) rest here).0 in
-    let index = next_index m t a y next in
-    (here.core.blanks t a here.found).kinds y (next_block m t a y next) (omega (arith, index))
-    (ap (λ (l : List Duty). kind_stored l y) here.agenda)
-
--- A step stores a kind word in a row that has none.
-pub stored_at_duty : (p : Accounts) (n : ℕ) (m : Machine) (t : ℕ) (a : Actor) (d : Duty) (rest : List Duty)
-    → AtDuty p n m t a d rest → StoredStay (λ x. m.memory (KindOf x)) (λ x. memory_by m t a d (KindOf x))
-stored_at_duty p n m t a (SettleKind y) rest here = λ x. inr (written_load m.memory (KindOf y) (KindOf x))
-stored_at_duty p n m t a (KindLoad y) rest here = λ x. inr (written_load m.memory (KindOf y) (KindOf x))
-stored_at_duty p n m t a (BirthKind y h w) rest here = λ x.
-    elim (eqb_tells y x) [
-      | inl same ↦
-          inl (subst (λ (z : ℕ). m.memory (KindOf z) ≡ 0) same.1 (blank_kind p n m t a y h w rest here))
-      | inr other ↦ inr (written_apart m.memory (KindOf y) (KindOf x) w other.0)
-    ]
-stored_at_duty p n m t a _ rest here = λ x. inr refl

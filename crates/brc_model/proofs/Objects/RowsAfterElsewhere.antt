@@ -7,7 +7,7 @@ use Rattle.brc_model.specs.declared.duty.Holding.TheVariants.{InFlight}
 use Rattle.brc_model.specs.AbstractState.{Reference, same, without, references_to, AbstractState, Move, Born, Gain, Lose, PassOn, Finalise, move, moved}
 use Rattle.brc_model.specs.declared.duty.Reason.TheVariants.{Handed}
 use Rattle.brc_model.specs.declared.duty.Duty.{Duty}
-use Rattle.brc_model.specs.declared.duty.Duty.TheVariants.{RetainLoad, RetainStore, RetainAdd, ReleaseLoad, ReleaseStore, DecideAtZero, SharedLoad, SharedExchange, SetMark, Look, TakeMark, MergeSwap, MergeLoad, MergeExchange, Die, Settle, SettleKind, SettleCell, TakeSlot, CloseResource, SettleEnd, Leave, Scan, Finish, ClaimMark, BirthKind, BirthSlot, BirthLocal, KindLoad, LockGate, UnlockGate, CellLoad}
+use Rattle.brc_model.specs.declared.duty.Duty.TheVariants.{RetainLoad, RetainStore, RetainAdd, ReleaseLoad, ReleaseStore, DecideAtZero, SharedLoad, SharedExchange, SetMark, Look, TakeMark, MergeSwap, MergeLoad, MergeExchange, Die, Settle, SettleKind, SettleCell, TakeSlot, CloseResource, SettleEnd, Leave, Scan, Finish, ClaimMark, BirthKind, BirthSlot, BirthLocal, KindLoad, LockGate, UnlockGate, CellLoad, CellSwap}
 use Rattle.brc_model.specs.declared.address.Address.TheVariants.{Local, Shared, Mark, Cell}
 use Rattle.brc_model.specs.Duties.{address_of, new_word, cells_from, release_found}
 use Rattle.brc_model.specs.Machine.{Life, Actor, Machine, is_running, same_address, dies_next, with_life, ended_row, born_row}
@@ -21,7 +21,8 @@ use Rattle.brc_model.specs.Accounts.{Accounts}
 use Rattle.brc_model.specs.OpenWork.{is_about}
 use Rattle.brc_model.proofs.Basics.Lists.{first_false, second_false}
 use Rattle.brc_model.proofs.Basics.Continuation.{Traits, Leads, Continuation, GoesOn, Frees, Claims, Scans, continues}
-use Rattle.brc_model.proofs.Frame.Cells.{no_cell, cell_held, taken_references}
+use Rattle.brc_model.proofs.Frame.CellsHeld.{cell_held}
+use Rattle.brc_model.proofs.Frame.Cells.{taken_references, swapped_references, stolen_held}
 use Rattle.brc_model.proofs.Frame.Aside.{waits_of_row, carries_of_row, merges_of_row, decides_of_row}
 use Rattle.brc_model.proofs.Objects.RowsAfterStep.{found_by, following, KeepsRow, RowStays, row_stays}
 use Rattle.brc_model.specs.Invariant.{AtDuty}
@@ -62,6 +63,7 @@ subject layout t (KindLoad x) = x
 subject layout t (LockGate x) = x
 subject layout t (UnlockGate x) = x
 subject layout t (CellLoad x i) = x
+subject layout t (CellSwap x i y h) = x
 
 -- ---- words
 
@@ -234,6 +236,10 @@ released_apart x zero ds others = others
 released_apart x (suc y) ds others =
     more_apart x (ReleaseLoad y InFlight) ds (light_apart x (ReleaseLoad y InFlight) refl) others
 
+pub found_apart : (x found : ℕ) → AreApart x (release_found found)
+found_apart x zero = none_apart x
+found_apart x (suc y) = all_light x (ReleaseLoad y InFlight ∷ []) refl
+
 -- ---- the row is unchanged
 
 -- An object that the duty isn't about has as many references as before.
@@ -244,10 +250,13 @@ references_elsewhere : (p : Accounts) (n : ℕ) (m : Machine) (t : ℕ) (a : Act
 references_elsewhere p n m t a (SettleCell y i k) rest x here other =
     taken_references m.abstract t y i (m.memory (Cell y i)) x
     (λ z is. omega (arith, cell_held p n m y i z here.core is))
+references_elsewhere p n m t a (CellSwap y i z h) rest x here other =
+    swapped_references m.abstract t z y i (m.memory (Cell y i)) x h (stolen_held p n m t a y i z h rest here)
+    (λ v is. omega (arith, cell_held p n m y i v here.core is))
 references_elsewhere p n m t a d rest x here other =
     moved_keeps (λ q. references_to x q.references) (IsOfOther x) (λ q mv apart. sym (move_elsewhere x q mv apart))
     m.abstract (reference_effects m.memory t d (found_by m t a d))
-    (effects_elsewhere m.memory t d (found_by m t a d) x other (no_cell d (found_by m t a d) refl))
+    (effects_elsewhere m.memory t d (found_by m t a d) x other (λ y i. refl))
 
 not_ended : (layout : Layout) (t x : ℕ) (d : Duty) → (subject layout t d == x) ≡ false
     → (life : ℕ → Life) (state : Life)

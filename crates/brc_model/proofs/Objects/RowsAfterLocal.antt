@@ -1,4 +1,4 @@
--- A look at the kind, a lock, a retain, and a release by the local word keep the row's invariant.
+-- A look at the kind, a lock, a swap of a cell, a retain, and a release by the local word keep the row's invariant.
 use Rattle.std.proofs.Common.{◌≡◌, ℕ, ◌+◌, ◌-◌, ◌≤◌, Bool, false, cond, List, [], ◌∷◌, ◌++◌, refl, sym, ap, ◌∙◌, arith, inl, inr}
 use Rattle.std.specs.Prelude.{◌&&◌, nat_lt}
 use Rattle.std.proofs.lemmas.Bool.Decides.{eqb_tells}
@@ -8,8 +8,8 @@ use Rattle.brc_model.specs.AbstractState.{without, references_to, AbstractState,
 use Rattle.brc_word.specs.Words.{most_local, local_part, is_immortal_word, fresh_word}
 use Rattle.brc_model.specs.declared.duty.Reason.TheVariants.{Own}
 use Rattle.brc_model.specs.declared.duty.Duty.{Duty}
-use Rattle.brc_model.specs.declared.duty.Duty.TheVariants.{RetainLoad, RetainStore, RetainAdd, ReleaseLoad, ReleaseStore, DecideAtZero, SharedLoad, MergeSwap, Die, KindLoad, LockGate, UnlockGate, CellLoad}
-use Rattle.brc_model.specs.declared.address.Address.TheVariants.{Local, Shared}
+use Rattle.brc_model.specs.declared.duty.Duty.TheVariants.{RetainLoad, RetainStore, RetainAdd, ReleaseLoad, ReleaseStore, DecideAtZero, SharedLoad, MergeSwap, Die, KindLoad, LockGate, UnlockGate, CellLoad, CellSwap}
+use Rattle.brc_model.specs.declared.address.Address.TheVariants.{Local, Shared, Cell}
 use Rattle.brc_model.specs.Duties.{counts_locally}
 use Rattle.brc_model.specs.Machine.{Live, Dying, Actor, Machine}
 use Rattle.brc_model.specs.Moves.{gain, lose, put_in_flight}
@@ -19,7 +19,9 @@ use Rattle.brc_model.specs.Accounts.{Accounts}
 use Rattle.brc_model.specs.Invariant.{AtDuty, numbers_of}
 use Rattle.brc_model.proofs.Objects.RowSteps.{local_up, local_down, local_to_zero, zero_dies, shared_gained}
 use Rattle.brc_model.proofs.Objects.RowsAfterStep.{head_fits_of, KeepsRow, weighed, row_becomes, row_stays}
-use Rattle.brc_model.proofs.Objects.RowsAfterElsewhere.{none_apart, apart_if, all_light}
+use Rattle.brc_model.proofs.Objects.RowsAfterElsewhere.{none_apart, apart_if, all_light, found_apart}
+use Rattle.brc_model.proofs.Frame.CellsHeld.{cell_held}
+use Rattle.brc_model.proofs.Frame.Cells.{swapped_references, stolen_held}
 use Rattle.brc_model.proofs.Objects.RowsAfterOwn.{own, one_own, written_here, gives_up, IsLost, is_lost, lives_so, lives_backed, counted_word, row_apart}
 use Rattle.brc_model.specs.Layout.{block_of, IsCounted}
 
@@ -56,6 +58,20 @@ pub row_after_cell_load : {p : Accounts} {n : ℕ} {m : Machine} {t : ℕ} {a : 
 row_after_cell_load {y = y} some s =
     row_apart s y some refl (none_apart y) (λ life state. refl)
     (record { local = refl; shared = refl; mark = refl; references = refl })
+
+-- The row's invariant holds after `ItemStored`.
+pub row_after_cell_swap : {p : Accounts} {n : ℕ} {m : Machine} {t : ℕ} {a : Actor} {y i z : ℕ} {h : Holding}
+    {rest : List Duty}
+    → IsCounted m.layout y → AtDuty p n m t a (CellSwap y i z h) rest → KeepsRow m t a (CellSwap y i z h) rest y
+row_after_cell_swap {p = p} {n = n} {m = m} {t = t} {a = a} {y = y} {i = i} {z = z} {h = h} {rest = rest} some s =
+    row_apart s y some refl (found_apart y (m.memory (Cell y i))) (λ life state. refl) (record {
+      local = refl;
+      shared = refl;
+      mark = refl;
+      references =
+          sym (swapped_references m.abstract t z y i (m.memory (Cell y i)) y h (stolen_held p n m t a y i z h rest s)
+          (λ v is. omega (arith, cell_held p n m y i v s.core is)));
+    })
 
 -- ---- retaining
 

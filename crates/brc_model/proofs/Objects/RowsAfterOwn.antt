@@ -41,7 +41,7 @@ pub gives_up : {p : Accounts} {n : ℕ} {m : Machine} {t : ℕ} {a : Actor} {d :
     → 0 < held (reference_of t k object) m.abstract.references
 gives_up {p = p} {m = m} {t = t} {a = a} s k object more less =
     let fits = s.core.each t a s.found in
-    extra_held m.abstract.references t (p t) a.agenda a.aside k object fits.0.holds (fits.2.apart object)
+    extra_held m t (p t) a k object fits.0.holds fits.2
     (ap (λ (ds : List Duty). extra_of ds k object) s.agenda ∙ more)
     (ap (λ (ds : List Duty). lacks_of ds k object) s.agenda ∙ less)
 

@@ -4,7 +4,7 @@ use Rattle.brc_model.specs.declared.duty.Duty.{Duty}
 use Rattle.brc_model.specs.declared.duty.Duty.TheVariants.{Settle, SettleKind, Scan}
 use Rattle.brc_model.specs.Duties.{continuation, ready}
 use Rattle.brc_model.proofs.Stepping.Retains.{ready_first}
-use Rattle.brc_model.proofs.Basics.Continuation.{Continuation, GoesOn, Frees, SettlesRow, Claims, ClaimsNone, Exits, Scans, ScansNone, continues}
+use Rattle.brc_model.proofs.Basics.Continuation.{Continuation, GoesOn, Frees, FreesOld, SettlesRow, Claims, ClaimsNone, Exits, Scans, ScansNone, continues}
 use Rattle.brc_model.specs.declared.layout.Layout.{Layout}
 
 -- Skipping duties makes an agenda no longer.
@@ -56,6 +56,7 @@ moves : {layout : Layout} {t before found : ℕ} (head : ℕ) (d : Duty) (rest n
     → Continuation layout t before found d next → IsOther head d rest next
 moves head d rest next (GoesOn e leads) = others_follow head d rest next (leads.other, tt)
 moves head d rest next (Frees x i n y e some leads) = others_follow head d rest next ((λ e. cc), (leads.other, tt))
+moves head d rest next (FreesOld x i y z h some) = others_follow head d rest next ((λ e. cc), tt)
 -- the settling comes again, behind another duty that isn't passed over
 moves {before = before} head d rest next SettlesRow = λ is.
     let first = sym (ready_first head (SettleKind (before - 1)) (Settle ∷ rest) refl) ∙ is in

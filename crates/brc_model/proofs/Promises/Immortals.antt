@@ -7,7 +7,7 @@ use Rattle.brc_word.specs.Words.{immortal_local, local_part, is_immortal_word, d
 use Rattle.brc_model.specs.declared.thread.Choice.{Choice}
 use Rattle.brc_model.specs.declared.duty.Reason.TheVariants.{Own, Handed}
 use Rattle.brc_model.specs.declared.duty.Duty.{Duty}
-use Rattle.brc_model.specs.declared.duty.Duty.TheVariants.{RetainAdd, DecideAtZero, SharedLoad, SharedExchange, MergeLoad, MergeExchange, Die, Settle, SettleKind, SettleEnd, TakeSlot, CloseResource, BirthKind, BirthSlot, KindLoad, LockGate, UnlockGate, SettleCell, CellLoad}
+use Rattle.brc_model.specs.declared.duty.Duty.TheVariants.{RetainAdd, DecideAtZero, SharedLoad, SharedExchange, MergeLoad, MergeExchange, Die, Settle, SettleKind, SettleEnd, TakeSlot, CloseResource, BirthKind, BirthSlot, KindLoad, LockGate, UnlockGate, SettleCell, CellLoad, CellSwap}
 use Rattle.brc_model.specs.declared.address.Address.TheVariants.{Local, Shared, Gate, KindOf, Mark, Slot, Resource, Cell}
 use Rattle.brc_model.specs.Machine.{Actor, Life, Unborn, Live, Dying, Closed, Machine, written}
 use Rattle.brc_model.specs.StepMachine.{StepMachine, counting, next_machine}
@@ -127,6 +127,11 @@ immortal_cell p n m t a (SettleCell y j k) rest x i here immortal =
     (ap (λ (b : Bool). b && (j == i)) (ne_eqb y x
     (immortal_apart m.layout y x (head_of p n m t a (SettleCell y j k) rest here).0 immortal)))
 immortal_cell p n m t a (CellLoad y j) rest x i here immortal = written_load m.memory (Cell y j) (Cell x i)
+immortal_cell p n m t a (CellSwap y j z h) rest x i here immortal =
+    let locked = (head_of p n m t a (CellSwap y j z h) rest here).0 in
+    let counted = ((here.core.each t a here.found).0.locks y locked).counted in
+    written_apart m.memory (Cell y j) (Cell x i) (z + 1)
+    (ap (λ (b : Bool). b && (j == i)) (ne_eqb y x (immortal_apart m.layout y x counted immortal)))
 immortal_cell p n m t a _ rest x i here immortal = refl
 
 -- ---- each event

@@ -6,7 +6,7 @@ use Rattle.brc_lang.specs.Grammar.{IsModule}
 use Rattle.brc_model.specs.declared.thread.Choice.{Choice}
 use Rattle.brc_model.specs.Paths.{IsAcceptable}
 use Rattle.brc_model.specs.StepMachine.{StepMachine, first_machine}
-use Rattle.brc_model.specs.Progress.{Always, AtEachEvent, StatesRise, OnlyOwnersCount, OwnersStay, ClosedStays, ClosesAnew, ImmortalsStay, ClosedOnce}
+use Rattle.brc_model.specs.Progress.{Always, AtEachEvent, StatesRise, OnlyOwnersCount, OwnersStay, ClosedStays, ClosesAnew, ImmortalsStay, ClosedOnce, CellsChangeUnderLock}
 use Rattle.brc_model.proofs.Keeping.CodeInvariant.{CodeInvariant}
 use Rattle.brc_model.proofs.Keeping.CodeEvents.{code_invariant_after}
 use Rattle.brc_model.proofs.Promises.Safe.{first_code_invariant}
@@ -15,6 +15,7 @@ use Rattle.brc_model.proofs.Promises.Owners as owners
 use Rattle.brc_model.proofs.Promises.ClosedOnce as closed
 use Rattle.brc_model.proofs.Promises.Immortals as immortals
 use Rattle.brc_model.proofs.Promises.KindWords as words
+use Rattle.brc_model.proofs.Promises.CellsUnderLock as cells
 use Rattle.brc_model.specs.KnownKinds.{KindsStay}
 
 -- What both layers of the invariant imply holds of every machine that an accepted module's events lead to.
@@ -56,3 +57,6 @@ immortals_stay = at_each_event ImmortalsStay immortals.immortals_stay
 
 pub kinds_stay : (p : Module) → IsModule p → IsAcceptable p → AtEachEvent KindsStay p
 kinds_stay = at_each_event KindsStay words.kinds_stay
+
+pub cells_under_lock : (p : Module) → IsModule p → IsAcceptable p → AtEachEvent CellsChangeUnderLock p
+cells_under_lock = at_each_event CellsChangeUnderLock cells.cells_under_lock

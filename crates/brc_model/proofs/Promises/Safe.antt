@@ -1,7 +1,8 @@
 -- The invariant implies what an accepted module promises, so each accepted module is safe.
-use Rattle.std.proofs.Common.{◌≡◌, ℕ, ◌+◌, ◌<◌, true, List, [], ◌∷◌, inl, inr, length, Some, refl, sym, ap, ◌∙◌, subst, arith, ◌≢◌, ◌≤◌}
+use Rattle.std.proofs.Common.{◌≡◌, ℕ, ◌+◌, ◌<◌, true, false, List, [], ◌∷◌, inl, inr, length, Some, refl, sym, ap, ◌∙◌, subst, arith, ◌≢◌, ◌≤◌}
 use Rattle.std.specs.Prelude.{◌==◌, slice_get, count_by, sum_by}
 use Rattle.std.specs.List.{All}
+use Rattle.std.proofs.lemmas.List.Elements.{All-nil, All-cons}
 use Rattle.std.proofs.lemmas.Bool.{eq-eqb, false≢true}
 use Rattle.std.proofs.lemmas.Option.{slice_get_cases, slice_get_within}
 use Rattle.brc_lang.specs.declared.module.Module.{Module}
@@ -9,25 +10,23 @@ use Rattle.brc_lang.specs.Grammar.{IsModule}
 use Rattle.brc_model.specs.declared.thread.Call.{Call}
 use Rattle.brc_model.specs.Paths.{IsAcceptable}
 use Rattle.brc_model.specs.declared.duty.Holding.{Holding}
-use Rattle.brc_model.specs.AbstractState.{Holder, ByThread, ByCell, references_to}
+use Rattle.brc_model.specs.AbstractState.{Holder, ByThread, ByCell, Reference, is_among, references_to}
 use Rattle.brc_model.specs.declared.duty.Duty.{Duty}
-use Rattle.brc_model.specs.declared.address.Address.TheVariants.{Mark, ThreadWord}
+use Rattle.brc_model.specs.declared.address.Address.TheVariants.{Mark, Cell, ThreadWord}
 use Rattle.brc_model.specs.declared.actor.Status.{Status}
 use Rattle.brc_model.specs.declared.actor.Status.TheVariants.{Running, Leaving, Gone}
 use Rattle.brc_model.specs.Machine.{Actor, Life, Unborn, Live, Dying, Closed, Machine}
 use Rattle.brc_model.specs.StepMachine.{StepMachine, counting, first_machine}
 use Rattle.brc_model.specs.Safety.{AreCalls, has_gone, AllGone, IsHeldByOpenList, IsSafeNow, Safe}
-use Rattle.brc_model.proofs.Basics.Bag.{empty_bag}
-use Rattle.brc_model.specs.References.{held, one_if, reference_of, word_holds}
-use Rattle.brc_model.specs.Ranges.{HasNoCells}
+use Rattle.brc_model.proofs.Basics.Bag.{held-cons, held_itself}
+use Rattle.brc_model.specs.References.{held, one_if, reference_of, word_holds, cell_reference}
 use Rattle.brc_model.specs.RowInvariant.{waits, carries, merges, decides, agenda_weight, weight, IsDefault, IsQueued, AtZero, AboveZero, InOwned, InSwapped, InMerged, IsLive, RowInvariant}
 use Rattle.brc_model.specs.Accounts.{Accounts, HoldsAt}
-use Rattle.brc_model.specs.Invariant.{numbers_of, looks, ByRunning, ByExit, ByLook, CoreInvariant}
+use Rattle.brc_model.specs.Invariant.{numbers_of, looks, ByRunning, ByExit, ByLook, CellFits, CoreInvariant}
 use Rattle.brc_model.specs.OpenWork.{AgendaFits, exits, scans, Linked, dies_by, finalised}
 use Rattle.brc_model.specs.Knowledge.{status_word}
 use Rattle.brc_model.proofs.Basics.Lists.{list_all_found}
 use Rattle.brc_model.proofs.Promises.Agreeing.{agrees_at, is_free_of}
-use Rattle.brc_model.proofs.Promises.NoCells.{no_cells_after, first_no_cells}
 use Rattle.brc_model.proofs.Work.Deciders.{sum_zero}
 use Rattle.brc_model.proofs.Keeping.FirstMachine.{first_accounts, first_kept, first_coded}
 use Rattle.brc_model.proofs.Keeping.KindsHold.{first_holds}
@@ -37,6 +36,15 @@ use Rattle.brc_model.proofs.Basics.Blocks.{born_used}
 use Rattle.brc_model.specs.Limits.{row_limit}
 use Rattle.std.proofs.lemmas.Bool.{cases_Bool}
 use Rattle.brc_model.specs.Layout.{block_of, index_of, is_immortal_row, IsCounted}
+
+-- ---- each reference of a bag
+
+-- What holds of each reference that the bag has holds of all of them.
+each_held : (P : Reference → Type 0) (bag : List Reference) → ((r : Reference) → 0 < held r bag → P r) → All P bag
+each_held P [] each = All-nil P
+each_held P (q ∷ qs) each =
+    All-cons P q qs (each q (omega (arith, held_itself q qs)))
+    (each_held P qs (λ r some. each r (omega (arith, some, held-cons r q qs))))
 
 -- ---- when all threads are gone
 
@@ -76,16 +84,33 @@ gone_holds p n m t k object core done =
       | inr past ↦ core.beyond t (omega (arith, past.0, core.threads)) k object
     ]
 
-none_holds : (p : Accounts) (n : ℕ) (m : Machine) (h : Holder) (object : ℕ) → CoreInvariant p n m → HasNoCells m
-    → AllGone m → held (record { holder = h; object = object }) m.abstract.references ≡ 0
-none_holds p n m (ByThread t k) object core none done = gone_holds p n m t k object core done
-none_holds p n m (ByCell x i) object core none done =
-    core.cells_hold x i object ∙ ap (λ (w : ℕ). word_holds w object) (none x i)
+-- A list whose cell holds a reference isn't closed.
+cell_open : (p : Accounts) (n : ℕ) (m : Machine) (x i object : ℕ) → CoreInvariant p n m
+    → 0 < held (cell_reference x i object) m.abstract.references → is_among x m.abstract.closed ≡ false
+cell_open p n m x i object core some =
+    elim (cases_Bool (is_among x m.abstract.closed)) [
+      | inl closed ↦
+          let empty : m.memory (Cell x i) ≡ 0 =
+          subst (λ (l : Life). CellFits l (m.memory (Cell x i))) (core.closed_is x closed) (core.cells x i) in
+          let none : word_holds (m.memory (Cell x i)) object ≡ 0 = ap (λ (w : ℕ). word_holds w object) empty in
+          absurd (omega (arith, some, core.cells_hold x i object, none))
+      | inr open_still ↦ open_still
+    ]
 
-pub none_left : (p : Accounts) (n : ℕ) (m : Machine) → CoreInvariant p n m → HasNoCells m → AllGone m
-    → m.abstract.references ≡ []
-none_left p n m core none done =
-    empty_bag m.abstract.references (λ r. none_holds p n m r.holder r.object core none done)
+-- Once all threads are gone, a cell of an open list holds each reference that is left.
+held_left : (p : Accounts) (n : ℕ) (m : Machine) (h : Holder) (object : ℕ) → CoreInvariant p n m → AllGone m
+    → 0 < held (record { holder = h; object = object }) m.abstract.references
+    → IsHeldByOpenList m.abstract (record { holder = h; object = object })
+held_left p n m (ByThread t k) object core done some =
+    absurd (omega (arith, some, gone_holds p n m t k object core done))
+held_left p n m (ByCell x i) object core done some =
+    record { list = x; cell = i; holder = refl; not_closed = cell_open p n m x i object core some }
+
+pub left_in_lists : (p : Accounts) (n : ℕ) (m : Machine) → CoreInvariant p n m → AllGone m
+    → All (IsHeldByOpenList m.abstract) m.abstract.references
+left_in_lists p n m core done =
+    each_held (IsHeldByOpenList m.abstract) m.abstract.references
+    (λ r some. held_left p n m r.holder r.object core done some)
 
 no_weights : (p : Accounts) (n : ℕ) (m : Machine) (f : Duty → ℕ) → CoreInvariant p n m → AllGone m
     → weight f m.actors ≡ 0
@@ -189,12 +214,18 @@ closed_born p n m x core closed =
       | inr counted ↦ (counted, λ e. let wrong : Closed ≡ Unborn = sym closed ∙ e in cc)
     ]
 
+-- A closed row has no reference.
+closed_free : (p : Accounts) (n : ℕ) (m : Machine) (x : ℕ) → CoreInvariant p n m → IsCounted m.layout x
+    → m.life x ≡ Closed → references_to x m.abstract.references ≡ 0
+closed_free p n m x core counted closed =
+    (subst (λ (l : Life). RowInvariant (block_of m.layout x) l (numbers_of m x)) closed
+    (core.rows x counted)).references
+
 -- ---- the promise
 
 -- A machine of which both layers of the invariant hold is safe.
-pub safe_now : (p : Module) (n : ℕ) (m : StepMachine) → CodeInvariant p n m → HasNoCells (counting m) → 0 < n
-    → IsSafeNow m
-safe_now p n m whole none some = record {
+pub safe_now : (p : Module) (n : ℕ) (m : StepMachine) → CodeInvariant p n m → 0 < n → IsSafeNow m
+safe_now p n m whole some = record {
   none_bad = λ event. (event_keeps p n m event whole).0;
   agrees = λ x pos. agrees_at whole.accounts n (counting m) x whole.kept.core pos;
   kinds = whole.kept.core.kinds;
@@ -204,19 +235,14 @@ safe_now p n m whole none some = record {
     λ closed.
         let was = closed_born whole.accounts n (counting m) x whole.kept.core (whole.kept.core.closed_is x closed) in (
           whole.kept.core.born_has x was.0 was.1,
-          ap (references_to x)
-              (none_left whole.accounts n (counting m) whole.kept.core none done),
+          closed_free whole.accounts n (counting m) x whole.kept.core was.0 (whole.kept.core.closed_is x closed),
         ),
     λ born.
         let was = whole.kept.core.born_is x born.0 in
         whole.kept.core.closed_has x (born_closed whole.accounts n (counting m) x
         (m.life x) whole.kept.core done was.0 born.1 was.1 refl),
   );
-  none_left = λ done. none_left whole.accounts n (counting m) whole.kept.core none done;
-  left_in_lists = λ done.
-      subst (All (IsHeldByOpenList m.abstract))
-      (sym (none_left whole.accounts n (counting m) whole.kept.core none done))
-      (λ i d within. absurd (omega (arith, within)));
+  left_in_lists = λ done. left_in_lists whole.accounts n (counting m) whole.kept.core done;
 }
 
 -- Both layers of the invariant hold of the first machine.
@@ -236,6 +262,4 @@ pub accepted_is_safe : (m : Module) → IsModule m → IsAcceptable m → Safe m
 accepted_is_safe m fits accepted = λ rows calls events some most are_calls.
     let whole = first_code_invariant m rows calls fits accepted are_calls some most in
     safe_now m (1 + length calls) _
-    (code_invariant_after m (1 + length calls) (first_machine m rows calls) events whole)
-    (no_cells_after m (1 + length calls) (first_machine m rows calls) events whole (first_no_cells m rows calls))
-    (omega arith)
+    (code_invariant_after m (1 + length calls) (first_machine m rows calls) events whole) (omega arith)

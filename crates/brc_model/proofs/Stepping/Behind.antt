@@ -1,6 +1,6 @@
 -- The duties behind the first know what they knew, after the thread's own step: it closes no row of theirs, and doesn't
 -- change their gates.
-use Rattle.std.proofs.Common.{◌≡◌, ℕ, zero, suc, ◌+◌, ◌-◌, ◌<◌, true, false, cond, List, [], ◌∷◌, ◌++◌, Some, refl, sym, ap, ◌∙◌, subst, arith}
+use Rattle.std.proofs.Common.{◌≡◌, ℕ, zero, suc, ◌+◌, ◌-◌, ◌<◌, Bool, true, false, cond, List, [], ◌∷◌, ◌++◌, Some, refl, sym, ap, ◌∙◌, subst, arith}
 use Rattle.std.specs.Prelude.{nat_lt}
 use Rattle.std.proofs.lemmas.Bool.{eq-eqb, eqb-false, ltb-true, ltb-false, false≢true}
 use Rattle.brc_model.specs.declared.duty.Duty.{Duty}
@@ -8,7 +8,7 @@ use Rattle.brc_model.specs.declared.duty.Duty.TheVariants.{Die, Settle, SettleCe
 use Rattle.brc_model.specs.declared.address.Address.TheVariants.{Gate, Cell}
 use Rattle.brc_model.specs.declared.layout.Layout.{Layout}
 use Rattle.brc_model.specs.Duties.{address_of, new_word, new_head, ready, cells_from, release_found}
-use Rattle.brc_model.specs.Machine.{Actor, Life, Unborn, Dying, Machine, is_running, ended_row, actor_by, done_by, written}
+use Rattle.brc_model.specs.Machine.{Actor, Life, Unborn, Live, Dying, Machine, is_running, ended_row, actor_by, done_by, written}
 use Rattle.brc_model.specs.Layout.{IsCounted}
 use Rattle.brc_model.specs.References.{one_if}
 use Rattle.brc_model.specs.Accounts.{Accounts}
@@ -16,13 +16,13 @@ use Rattle.brc_model.specs.Knowledge.{BehindFits, AllBehind, BehindOf, IsDyingWo
 use Rattle.brc_model.specs.OpenWork.{is_finalising, finalised, dies_by, ChainFits}
 use Rattle.brc_model.specs.Invariant.{AtDuty}
 use Rattle.brc_model.proofs.Basics.Bag.{one_if_low}
-use Rattle.brc_model.proofs.Basics.Continuation.{Continuation, Ends, Finishes, GoesOn, Frees, SettlesRow, Claims, ClaimsNone, Exits, Scans, ScansNone, continues}
+use Rattle.brc_model.proofs.Basics.Continuation.{Continuation, Ends, Finishes, GoesOn, Frees, FreesOld, SettlesRow, Claims, ClaimsNone, Exits, Scans, ScansNone, continues}
 use Rattle.brc_model.proofs.Basics.Lists.{some_is, none_some}
 use Rattle.brc_model.proofs.Basics.Written.{written_apart, written_load, apart_gate}
 use Rattle.brc_model.proofs.Frame.Alive.{alive_backed}
 use Rattle.brc_model.proofs.Frame.Leaves.{head_of, living_clash}
 use Rattle.brc_model.proofs.Frame.Lives.{next_of}
-use Rattle.brc_model.proofs.Frame.Cells.{still_empty, one_emptied, all_emptied, empties_cell}
+use Rattle.brc_model.proofs.Frame.Cells.{stays_empty, one_emptied, all_emptied}
 use Rattle.brc_model.proofs.Objects.Closing.{GoesOn as LifeGoesOn, BeginsToDie, IsClosed, IsBorn, life_step}
 
 -- ---- the rows of the duties behind
@@ -71,6 +71,9 @@ gate_stays p n m t a (UnlockGate y) rest x here other dies =
     (apart_gate y x (living_clash m t x y (alive_backed p n m t a y here.core fits.0 fits.1) own))
 gate_stays p n m t a _ rest x here other dies = refl
 
+dying_unlive : (t : ℕ) → Dying t ≡ Live → ⊥
+dying_unlive t e = cc
+
 ended_finalising : (d : Duty) (x : ℕ) → ended_row d ≡ Some x → is_finalising d x ≡ true
 ended_finalising (SettleEnd y) x ended = eq-eqb y x (some_is y x ended)
 ended_finalising _ x ended = absurd (none_some x ended)
@@ -96,14 +99,14 @@ module _ (p : Accounts) (n : ℕ) (m : Machine) (t : ℕ) (a : Actor) (d : Duty)
         life_stays x here other fits.1,
         fits.2,
         subst (IsDyingWord t) (sym (gate_stays p n m t a d rest x here other fits.1)) fits.3,
-        λ j out. still_empty m t a d x j (fits.4 j out),
+        λ j out. stays_empty p n m t a d rest x j here (λ live. dying_unlive t (sym fits.1 ∙ live)) (fits.4 j out),
       )
   fits_still (SettleEnd x) here apart fits =
       let other = apart x (eq-eqb x x refl) in (
         fits.0,
         life_stays x here other fits.1,
         subst (IsDyingWord t) (sym (gate_stays p n m t a d rest x here other fits.1)) fits.2,
-        λ j. still_empty m t a d x j (fits.3 j),
+        λ j. stays_empty p n m t a d rest x j here (λ live. dying_unlive t (sym fits.1 ∙ live)) (fits.3 j),
       )
   fits_still _ here apart fits = tt
 
@@ -143,6 +146,10 @@ behind_ready m t (suc head) (Scan i (suc n) ∷ rest) behind = behind
 behind_ready m t zero (_ ∷ rest) behind = behind
 behind_ready m t (suc head) (_ ∷ rest) behind = behind
 
+abbrev empties_cell : Duty → Bool
+empties_cell (SettleCell x i n) = true
+empties_cell _ = false
+
 behind_next : {layout : Layout} {t head found : ℕ} (m : Machine) (u : ℕ) (d : Duty) (next rest : List Duty)
     → Continuation layout t head found d next → empties_cell d ≡ false → AllBehind m u rest
     → BehindOf m u (next ++ rest)
@@ -150,6 +157,7 @@ behind_next m u d next rest (Ends inner) other all = behind_tail m u rest all
 behind_next m u d next rest Finishes other all = behind_tail m u rest all
 behind_next m u d next rest (GoesOn e leads) other all = all
 behind_next m u d next rest (Frees x i k y e set leads) other all = absurd (false≢true (sym other))
+behind_next m u d next rest (FreesOld x i y z h set) other all = all
 behind_next m u d next rest SettlesRow other all = (tt, all)
 behind_next m u d next rest (Claims x set) other all = (tt, all)
 behind_next m u d next rest (ClaimsNone x) other all = all

@@ -22,9 +22,9 @@ use Rattle.brc_model.specs.Knowledge.{IsBacked, ByReference, ByItem}
 use Rattle.brc_model.specs.Invariant.{AtDuty}
 use Rattle.brc_model.proofs.Basics.Lists.{some_is, none_some}
 use Rattle.brc_model.proofs.Basics.Written.{written_here, written_apart, written_load, apart_gate}
-use Rattle.brc_model.proofs.Basics.Continuation.{Traits, Continuation, GoesOn, Frees, continues}
+use Rattle.brc_model.proofs.Basics.Continuation.{Traits, Continuation, GoesOn, Frees, FreesOld, continues}
 use Rattle.brc_model.proofs.Objects.Weights.{IsLight, sum_by-ready}
-use Rattle.brc_model.proofs.Frame.Aside.{lacks_counted, extra_counted, lacks_about}
+use Rattle.brc_model.proofs.Frame.Aside.{lacks_counted, extra_counted, gives_counted, lacks_about}
 use Rattle.brc_model.proofs.Frame.Leaves.{head_of, locked_alive, alive_apart}
 use Rattle.brc_model.proofs.Frame.Lives.{next_of}
 
@@ -46,6 +46,8 @@ next_makes d next k x (GoesOn e leads) =
 next_makes d next k x (Frees y i n z e some leads) =
     let same : makes k x e ≡ 0 = ap (λ (s : Traits). one_if (s.makes k x)) leads.same in
     omega (arith, sum_by-cons (makes k x) (ReleaseLoad z InFlight) (e ∷ []), sum_by-cons (makes k x) e [], same)
+next_makes d next k x (FreesOld y i w z h some) =
+    omega (arith, sum_by-cons (makes k x) (ReleaseLoad z InFlight) [])
 next_makes d next k x _ = omega arith
 
 -- A step's thread makes no more references afterwards.
@@ -156,6 +158,7 @@ backed_so p n m t a x rest here backed none =
       fits.2.apart x,
       lacks_counted a.aside k x,
       extra_counted a.aside k x,
+      gives_counted m t a a.aside x fits.2.waits,
       agenda,
       none,
     )

@@ -110,7 +110,7 @@ extra_here : (p : Accounts) (n : ℕ) (m : Machine) (t : ℕ) (a : Actor) (d : D
     → 0 < held (reference_of t h x) m.abstract.references
 extra_here p n m t a d rest h x here more less =
     let fits = here.core.each t a here.found in
-    extra_held m.abstract.references t (p t) a.agenda a.aside h x fits.0.holds (fits.2.apart x)
+    extra_held m t (p t) a h x fits.0.holds fits.2
     (ap (λ (l : List Duty). extra_of l h x) here.agenda ∙ more)
     (ap (λ (l : List Duty). lacks_of l h x) here.agenda ∙ less)
 

@@ -8,7 +8,7 @@ use Rattle.brc_model.specs.Machine.{Actor, Machine, is_running, actor_by}
 use Rattle.brc_model.specs.OpenWork.{IsSettled}
 use Rattle.brc_model.proofs.Frame.Lives.{next_of}
 use Rattle.brc_model.proofs.Stepping.Neutral.{found_by}
-use Rattle.brc_model.proofs.Basics.Continuation.{is_inner, next_inner, first_inner, Continuation, Ends, Finishes, GoesOn, Frees, SettlesRow, Claims, ClaimsNone, Exits, Scans, ScansNone, continues}
+use Rattle.brc_model.proofs.Basics.Continuation.{is_inner, next_inner, first_inner, Continuation, Ends, Finishes, GoesOn, Frees, FreesOld, SettlesRow, Claims, ClaimsNone, Exits, Scans, ScansNone, continues}
 use Rattle.brc_model.specs.declared.layout.Layout.{Layout}
 
 -- ---- agendas
@@ -69,6 +69,7 @@ settled_next {head = head} new d next rest (GoesOn e leads) is settled =
     settled_inner new e rest (next_inner e leads) (inner_settled head d rest (first_inner d e leads) settled)
 settled_next new d next rest (Frees x i n y e set leads) is settled =
     settled_inner 1 e rest (next_inner e leads) settled
+settled_next new d next rest (FreesOld x i y z h set) is settled = settled
 settled_next new d next rest SettlesRow is settled = settled
 settled_next new d next rest (Claims x set) is settled = settled_any 0 rest settled
 settled_next new d next rest (ClaimsNone x) is settled = settled_any 0 rest settled

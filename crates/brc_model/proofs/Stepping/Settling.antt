@@ -210,7 +210,7 @@ thread_after_settle_kind p n m t a x rest here alive =
 -- ---- the row's cells
 
 -- The bag has the reference in flight that was a cell's.
-held_taken_out : (bag : List Reference) (t x i y : ℕ) (agenda later : List Duty)
+pub held_taken_out : (bag : List Reference) (t x i y : ℕ) (agenda later : List Duty)
     → ((k : Holding) (object : ℕ) → extra_of agenda k object ≡ false)
     → ((k : Holding) (object : ℕ) → lacks_of agenda k object ≡ false)
     → ((k : Holding) (object : ℕ) → extra_of later k object ≡ (same_holding InFlight k && (y == object)))
