@@ -69,13 +69,13 @@ abbrev pub most_lent : ℕ
 most_lent = half
 
 -- A thread holds at most one reference by each of its sixteen variables, and as the caller at most `most_lent` to one
--- counted object. References to immortal objects aren't counted, so it may hold any number of them. A reference in
--- flight is part of no account.
+-- counted object. References to immortal objects aren't counted, so it may hold any number of them. In
+-- flight an account has at most one.
 pub record IsBounded (layout : Layout) (account : Account) : Type 0 where
   pub by_variable : (v object : ℕ) → account (ByVariable v) object ≤ 1
   pub sixteen : (v object : ℕ) → 16 ≤ v → account (ByVariable v) object ≡ 0
   pub lent : (object : ℕ) → IsCounted layout object → account AsCaller object ≤ most_lent
-  pub in_flight : (object : ℕ) → account InFlight object ≡ 0
+  pub in_flight : (object : ℕ) → account InFlight object ≤ 1
 
 -- The account is empty, as that of a thread whose exit is under way or done.
 abbrev pub HoldsNone : Account → Type 0

@@ -11,7 +11,7 @@ use Rattle.brc_model.specs.declared.duty.Duty.TheVariants.{ClaimMark}
 use Rattle.brc_model.specs.declared.actor.Status.{Status}
 use Rattle.brc_model.specs.declared.actor.Status.TheVariants.{Running, Leaving, Gone}
 use Rattle.brc_model.specs.declared.actor.Place.{Place}
-use Rattle.brc_model.specs.declared.actor.Place.TheVariants.{Idle, InCall, Exiting}
+use Rattle.brc_model.specs.declared.actor.Place.TheVariants.{Idle, InCall, Inside, Exiting}
 use Rattle.brc_model.specs.declared.thread.Choice.{Choice}
 use Rattle.brc_model.specs.declared.thread.Choice.TheVariants.{Ok, Fault, Claim}
 use Rattle.brc_model.specs.Machine.{Actor, Machine, with_actor, locked_by}
@@ -21,6 +21,7 @@ use Rattle.brc_model.proofs.Basics.Bag.{held-le-references_to}
 use Rattle.brc_model.proofs.Basics.Lists.{either, slice_get-set_same, set_found, none_some}
 use Rattle.brc_model.specs.References.{held, one_if, reference_of}
 use Rattle.brc_model.specs.KnownKinds.{KnowsKinds, kind_words}
+use Rattle.brc_model.specs.Items.{KnowsItems}
 use Rattle.brc_model.specs.Gates.{LocksFit}
 use Rattle.brc_model.specs.declared.duty.Holding.{Holding}
 use Rattle.brc_model.specs.AbstractState.{Reference}
@@ -28,7 +29,7 @@ use Rattle.brc_lang.specs.declared.module.Instr.{Instr}
 use Rattle.brc_lang.specs.declared.module.Function.{Function}
 use Rattle.brc_model.specs.Limits.{cell_limit}
 use Rattle.brc_model.proofs.Frame.Aside.{HoldsAlone}
-use Rattle.brc_model.proofs.Dispatch.Holds.{of_variables}
+use Rattle.brc_model.proofs.Dispatch.Holds.{of_variables, of_inside, holds_variables, holds_inside}
 use Rattle.brc_model.proofs.Dispatch.Guards.{guards_held}
 use Rattle.brc_model.proofs.Dispatch.Kinds.{entry_true}
 use Rattle.brc_model.proofs.Dispatch.Lockable.{lockable_counted}
@@ -37,10 +38,10 @@ use Rattle.std.proofs.lemmas.List.Sums.{sum_by-cons}
 use Rattle.brc_model.specs.Accounts.{Account, Accounts, lacks}
 use Rattle.brc_model.specs.OpenWork.{exits, is_about}
 use Rattle.brc_model.specs.Invariant.{CoreInvariant, Invariant}
-use Rattle.brc_model.proofs.Dispatch.Coded.{PlaceSays, PlaceFits, idle_unlocked, is_departing, stays_elsewhere, placed_by, says_bounded}
+use Rattle.brc_model.proofs.Dispatch.Coded.{PlaceSays, PlaceFits, in_flight, idle_unlocked, is_departing, stays_elsewhere, placed_by, says_bounded}
 use Rattle.brc_model.proofs.Dispatch.Unlocked.{locking, plain_locked}
 use Rattle.brc_model.proofs.Keeping.SilentSteps.{SilentSits}
-use Rattle.brc_model.proofs.Dispatch.Begins.{scene_of, holds_plain, Starts, Gives, Takes, Bears, Asks, Locks, Unlocks, Follows, Nothing, Settles, Leaves, IsTaken}
+use Rattle.brc_model.proofs.Dispatch.Begins.{scene_of, holds_plain, Backs, ByOwn, ByList, Starts, Gives, Takes, Bears, Asks, Locks, Unlocks, Loads, Swaps, Follows, Nothing, Settles, Leaves, IsTaken}
 use Rattle.brc_model.proofs.Keeping.SilentMoves.{bag_after}
 use Rattle.brc_model.proofs.Keeping.Sits.{sitting, Sits, AtRest}
 use Rattle.brc_model.specs.Counting.{with_account}
@@ -52,7 +53,9 @@ use Rattle.brc_model.proofs.Stepping.Neutral.{found_by}
 use Rattle.brc_model.proofs.Keeping.Kept.{Doing, sits_down}
 use Rattle.brc_model.proofs.Keeping.CodeInvariant.{CodeInvariant}
 use Rattle.brc_model.proofs.Basics.Blocks.{used_row, next_within}
-use Rattle.brc_model.specs.Ranges.{IsSmall, AreSmall, cells_named}
+use Rattle.brc_model.specs.Ranges.{IsSmall, AreSmall, HasFewCells, cells_named}
+use Rattle.brc_model.specs.Knowledge.{ByReference, ByItem}
+use Rattle.brc_model.proofs.Frame.Alive.{backed_referenced}
 use Rattle.brc_model.proofs.Limits.Ranges.{row_small, settle_small, leave_small, referenced_small}
 use Rattle.brc_model.proofs.Dispatch.Claims.{claimer}
 use Rattle.brc_model.specs.declared.layout.Layout.{Layout}
@@ -77,7 +80,8 @@ pub record DutyFits (p : Module) (c : Accounts) (n : ℕ) (m : StepMachine) (t :
   pub departs : exits a.actor.status (d ∷ rest) ≡ is_departing place
   pub doing : Doing (with_account c t account) n (with_actor (counting m) t (sitting a.actor (d ∷ rest))) t
       (sitting a.actor (d ∷ rest)) d rest
-  pub small : AreSmall (row_count m.layout) a.actor.agenda → AreSmall (row_count m.layout) (d ∷ rest)
+  pub small : HasFewCells (counting m) → AreSmall (row_count m.layout) a.actor.agenda
+      → AreSmall (row_count m.layout) (d ∷ rest)
   pub plain : sum_by locking rest ≡ 0
 
 abbrev pub ActionFits : Module → Accounts → ℕ → StepMachine → ℕ → StepActor → Action → Type 0
@@ -123,34 +127,42 @@ duty_fits p n m t a d rest whole found alive is =
         agenda = refl;
         alive = alive;
       };
-      small = λ was. subst (AreSmall (row_count m.layout)) is was;
+      small = λ few was. subst (AreSmall (row_count m.layout)) is was;
       plain = omega (arith, plain, sum_by-cons locking d rest);
     }
 
 -- ---- the duty is dispatched
 
-held_small : (p : Accounts) (n : ℕ) (m : Machine) (t row : ℕ) (by : Holding) (d : Duty) → CoreInvariant p n m
-    → 0 < held (reference_of t by row) m.abstract.references → ((y : ℕ) → is_about y d ≡ (row == y))
-    → cells_named d ≤ cell_limit → IsSmall (row_count m.layout) d
-held_small p n m t row by d core some about few =
-    row_small (row_count m.layout) row d (referenced_small p n m row core
-    (omega (arith, some, held-le-references_to (reference_of t by row) m.abstract.references))) about few
+backs_small : (p : Accounts) (n : ℕ) (m : Machine) (t row : ℕ) (a : Actor) (d : Duty) → CoreInvariant p n m
+    → Backs (scene_of m t a) row → ((y : ℕ) → is_about y d ≡ (row == y)) → cells_named d ≤ cell_limit
+    → IsSmall (row_count m.layout) d
+backs_small p n m t row a d core (ByOwn by some) about few =
+    row_small (row_count m.layout) row d
+    (referenced_small p n m row core (backed_referenced p n m t a row core (ByReference by some))) about few
+backs_small p n m t row a d core (ByList list cell has holds) about few =
+    row_small (row_count m.layout) row d
+    (referenced_small p n m row core (backed_referenced p n m t a row core (ByItem list cell has holds))) about few
 
 pub starts_small : (p : Accounts) (n : ℕ) (m : Machine) (t : ℕ) (a : Actor) (d : Duty) (rest : List Duty)
-    → CoreInvariant p n m → slice_get m.actors t ≡ Some a → Starts (scene_of m t a) d rest
+    → CoreInvariant p n m → HasFewCells m → slice_get m.actors t ≡ Some a → Starts (scene_of m t a) d rest
     → IsSmall (row_count m.layout) d
-starts_small p n m t a d rest core found (Gives row h behind some) =
+starts_small p n m t a d rest core few found (Gives row h behind some) =
     row_small (row_count m.layout) row d (referenced_small p n m row core some) (λ y. refl) (omega arith)
-starts_small p n m t a d rest core found (Takes row h by behind some) =
-    held_small p n m t row by d core some (λ y. refl) (omega arith)
-starts_small p n m t a d rest core found (Bears h w room few said) =
-    row_small (row_count m.layout) (row_at m.layout t a.used) d (next_within p n m t a core found room) (λ y. refl) few
-starts_small p n m t a d rest core found (Asks row by some) =
-    held_small p n m t row by d core some (λ y. refl) (omega arith)
-starts_small p n m t a d rest core found (Locks row by some counted none) =
-    held_small p n m t row by d core some (λ y. refl) (omega arith)
-starts_small p n m t a d rest core found (Unlocks row by some has) =
-    held_small p n m t row by d core some (λ y. refl) (omega arith)
+starts_small p n m t a d rest core few found (Takes row h behind backs) =
+    backs_small p n m t row a d core backs (λ y. refl) (omega arith)
+starts_small p n m t a d rest core few found (Bears h w room below said) =
+    row_small (row_count m.layout) (row_at m.layout t a.used) d (next_within p n m t a core found room) (λ y. refl)
+    below
+starts_small p n m t a d rest core few found (Asks row backs) =
+    backs_small p n m t row a d core backs (λ y. refl) (omega arith)
+starts_small p n m t a d rest core few found (Locks row backs counted none) =
+    backs_small p n m t row a d core backs (λ y. refl) (omega arith)
+starts_small p n m t a d rest core few found (Unlocks row backs has) =
+    backs_small p n m t row a d core backs (λ y. refl) (omega arith)
+starts_small p n m t a d rest core few found (Loads row i backs has within) =
+    backs_small p n m t row a d core backs (λ y. refl) (omega (arith, within, few row))
+starts_small p n m t a d rest core few found (Swaps row i item h behind backs has within some) =
+    backs_small p n m t row a d core backs (λ y. refl) (omega (arith, within, few row))
 
 follows_small : (k : ℕ) (layout : Layout) (t used : ℕ) (place : Place) (rest : List Duty)
     → Follows layout t used place rest
@@ -166,7 +178,13 @@ place_held code bag t x locked (Idle left) fits is = absurd (none_some x (sym fi
 place_held code bag t x locked (InCall left at variables) fits is =
     let lock =
     guards_held bag t fits.0 variables fits.0.locked locked x fits.2 is fits.1.grounded
-    (holds_plain bag t (of_variables fits.0 variables) fits.3) in
+    (holds_variables bag t fits.0 variables (holds_plain bag t (of_variables fits.0 variables) fits.3)) in
+    (lock.by, lock.held_so)
+place_held code bag t x locked (Inside left at variables stage) fits is =
+    let flight = in_flight (slice_get code at) stage variables in
+    let lock =
+    guards_held bag t fits.0 variables fits.0.locked locked x fits.2 is fits.1.grounded
+    (holds_inside bag t flight fits.0 variables (holds_plain bag t (of_inside flight fits.0 variables) fits.3)) in
     (lock.by, lock.held_so)
 place_held code bag t x locked Exiting fits is = absurd (none_some x (sym fits.0 ∙ is))
 
@@ -225,8 +243,8 @@ taken_fits p n m t a (Does d rest place) whole found at taken =
       doing =
           sits_down c n (counting m) t a.actor d rest here.account whole.kept at here.sits
           (starts_settled (scene_of (counting m) t a.actor) a.actor.head there d rest begun.starts begun.follows);
-      small = λ _. (
-        starts_small c n (counting m) t a.actor d rest at.core at.found begun.starts,
+      small = λ few _. (
+        starts_small c n (counting m) t a.actor d rest at.core few at.found begun.starts,
         follows_small (row_count m.layout) m.layout t a.actor.used there rest begun.follows,
       );
       plain = follows_plain m.layout t a.actor.used there rest begun.follows;
@@ -240,6 +258,8 @@ sees_kinds p n m t a whole found = record {
   begins = entry_true (kind_words m) whole.kinds.named;
   knows = subst (λ (f : List Function). KnowsKinds (code_of (slice_get f a.function)) (kind_words m) a.place)
       whole.functions (whole.kinds.known t a found);
+  items = subst (λ (f : List Function). KnowsItems (code_of (slice_get f a.function)) m.memory a.actor.locked a.place)
+      whole.functions (whole.items t a found);
   counted = λ x can. lockable_counted m.layout (kind_words m) x whole.kinds.named whole.mortal can;
 }
 
@@ -287,7 +307,7 @@ claim_fits p n m t a row whole found may =
       departs =
           ap (λ (s : Status). exits s (ClaimMark row ∷ [])) claims.running ∙ sym (ap is_departing claims.idle);
       doing = sits_down c n (counting m) t a.actor (ClaimMark row) [] (c t) whole.kept at sits tt;
-      small = λ _. (
+      small = λ _ _. (
         row_small (row_count m.layout) row (ClaimMark row)
             (used_row c n (counting m) t a.actor row core there claims.block claims.low)
             (λ y. refl) (omega arith),

@@ -14,7 +14,8 @@ use Rattle.brc_model.specs.Paths.{At, path_end}
 use Rattle.brc_model.specs.KnownKinds.{HaveTrueKinds}
 use Rattle.brc_lang.specs.Grammar.{IsInstruction}
 use Rattle.brc_model.specs.declared.address.Address.{Address}
-use Rattle.brc_model.specs.declared.address.Address.TheVariants.{KindOf}
+use Rattle.brc_model.specs.declared.address.Address.TheVariants.{KindOf, Cell}
+use Rattle.brc_model.specs.Items.{HaveItems}
 use Rattle.brc_model.specs.Machine.{Actor, Machine, locked_by}
 use Rattle.brc_model.proofs.Dispatch.Passing.{AreMet}
 use Rattle.brc_model.proofs.Dispatch.Guards.{LocksAgree, HeldBeside}
@@ -23,9 +24,10 @@ use Rattle.brc_model.specs.declared.duty.Holding.TheVariants.{ByVariable, AsCall
 use Rattle.brc_model.specs.AbstractState.{Reference, same_holding, references_to, Move}
 use Rattle.brc_model.specs.Threads.{row_of}
 use Rattle.brc_model.specs.declared.duty.Duty.{Duty}
-use Rattle.brc_model.specs.declared.duty.Duty.TheVariants.{RetainLoad, ReleaseLoad, Settle, Leave, BirthKind, KindLoad, LockGate, UnlockGate}
+use Rattle.brc_model.specs.declared.duty.Duty.TheVariants.{RetainLoad, ReleaseLoad, Settle, Leave, BirthKind, KindLoad, LockGate, UnlockGate, CellLoad, CellSwap}
 use Rattle.brc_model.specs.declared.actor.Place.{Place}
-use Rattle.brc_model.specs.declared.actor.Place.TheVariants.{Idle, InCall, Exiting}
+use Rattle.brc_model.specs.declared.actor.Place.TheVariants.{Idle, InCall, Inside, Exiting}
+use Rattle.brc_model.specs.declared.actor.Stage.{Stage}
 use Rattle.brc_model.specs.Actions.{Action, Skip, Stuck, Silent, Does, with_row}
 use Rattle.brc_model.specs.References.{held, one_if, reference_of}
 use Rattle.brc_model.proofs.Basics.Lists.{none_at}
@@ -82,7 +84,7 @@ abbrev pub CountsLockable : Scene → Type 0
 CountsLockable g = (x : ℕ) → is_one_of (kind_of_word (words_of g x)) lockable ≡ true → IsCounted g.layout x
 
 -- A thread at an instruction whose conditions are met: some path reaches the point and goes on from it, and what the
--- path's state says of references, of the lock and of kinds is true. The thread got to the instruction at the place
+-- path's state says of references, of the lock, of kinds and of items is true. The thread got to the instruction at the place
 -- `before`.
 pub record StandsAt (code : List Instr) (g : Scene) (before : Place) (at : ℕ) (rows : List (Option ℕ)) (s : State)
     (i : Instr) : Type 0 where
@@ -90,6 +92,7 @@ pub record StandsAt (code : List Instr) (g : Scene) (before : Place) (at : ℕ) 
   pub holds : Holds g.bag g.thread (of_variables s rows)
   pub guards : LocksAgree s rows g.locked
   pub kinds : HaveTrueKinds (words_of g) s rows
+  pub items : HaveItems g.memory g.locked s rows
   pub counted : CountsLockable g
   pub back : PlaceFits code g.bag g.thread [] g.locked before
   pub remains : before ≢ Exiting
@@ -100,22 +103,28 @@ pub record StandsAt (code : List Instr) (g : Scene) (before : Place) (at : ℕ) 
 
 -- ---- work that a thread takes up
 
--- The first duty gives up a reference of an object that has one, makes a reference to an object that the thread holds,
--- begins the birth of the next row, loads the kind of an object that the thread holds, locks such an object, or unlocks
--- the one that the thread has locked.
+-- The thread holds the object, or it is an item of the list that the thread has locked.
+pub data Backs (g : Scene) (row : ℕ) : Type 0 where
+  ByOwn : (by : Holding) → 0 < held (reference_of g.thread by row) g.bag → Backs g row
+  ByList : (list cell : ℕ) → g.locked ≡ Some list → g.memory (Cell list cell) ≡ row + 1 → Backs g row
+
+-- The first duty gives up a reference of an object that has one; makes a reference to an object, loads an object's kind
+-- or locks an object that the thread may rely on; begins the birth of the next row; or unlocks the list that the thread
+-- has locked, or loads or swaps a cell of it.
 pub data Starts (g : Scene) : Duty → List Duty → Type 0 where
   Gives : (row : ℕ) (h : Holding) (rest : List Duty) → 0 < references_to row g.bag
       → Starts g (ReleaseLoad row h) rest
-  Takes : (row : ℕ) (h by : Holding) (rest : List Duty) → 0 < held (reference_of g.thread by row) g.bag
-      → Starts g (RetainLoad row h) rest
+  Takes : (row : ℕ) (h : Holding) (rest : List Duty) → Backs g row → Starts g (RetainLoad row h) rest
   Bears : (h : Holding) (w : ℕ) → g.used < block_size g.layout g.thread → cells_of w ≤ cell_limit
       → is_counted_kind (kind_of_word w) ≡ true
       → Starts g (BirthKind (row_at g.layout g.thread g.used) h w) []
-  Asks : (row : ℕ) (by : Holding) → 0 < held (reference_of g.thread by row) g.bag → Starts g (KindLoad row) []
-  Locks : (row : ℕ) (by : Holding) → 0 < held (reference_of g.thread by row) g.bag → IsCounted g.layout row
-      → g.locked ≡ None → Starts g (LockGate row) []
-  Unlocks : (row : ℕ) (by : Holding) → 0 < held (reference_of g.thread by row) g.bag → g.locked ≡ Some row
-      → Starts g (UnlockGate row) []
+  Asks : (row : ℕ) → Backs g row → Starts g (KindLoad row) []
+  Locks : (row : ℕ) → Backs g row → IsCounted g.layout row → g.locked ≡ None → Starts g (LockGate row) []
+  Unlocks : (row : ℕ) → Backs g row → g.locked ≡ Some row → Starts g (UnlockGate row) []
+  Loads : (row i : ℕ) → Backs g row → g.locked ≡ Some row → i < cells_of (words_of g row)
+      → Starts g (CellLoad row i) []
+  Swaps : (row i item : ℕ) (h : Holding) (rest : List Duty) → Backs g row → g.locked ≡ Some row
+      → i < cells_of (words_of g row) → 0 < references_to item g.bag → Starts g (CellSwap row i item h) rest
 
 -- The duties behind the first one settle, and leave if the thread is to leave.
 pub data Follows (layout : Layout) (t used : ℕ) (place : Place) : List Duty → Type 0 where
@@ -150,6 +159,9 @@ taken_with_row code g object row work is taken =
 
 pub idle_stays : (left : ℕ) → Idle left ≢ Exiting
 idle_stays left e = cc
+
+pub inside_stays : (left at : ℕ) (variables : List (Option ℕ)) (stage : Stage) → Inside left at variables stage ≢ Exiting
+inside_stays left at variables stage e = cc
 
 pub in_call_stays : (left at : ℕ) (variables : List (Option ℕ)) → InCall left at variables ≢ Exiting
 in_call_stays left at variables e = cc

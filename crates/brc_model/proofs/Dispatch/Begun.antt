@@ -1,6 +1,6 @@
 -- Work that a thread begins fits it: it weighs nothing, finalises nothing, and knows what it has to know.
 use Rattle.std.proofs.Common.{◌≡◌, ◌≢◌, ℕ, zero, suc, ◌<◌, true, false, List, [], ◌∷◌, Some, refl, sym, ap, ◌∙◌, subst, arith, None, Option}
-use Rattle.std.specs.Prelude.{slice_get, sum_by}
+use Rattle.std.specs.Prelude.{count_by, slice_get, sum_by}
 use Rattle.std.proofs.lemmas.Bool.{false≢true}
 use Rattle.std.proofs.lemmas.List.Sums.{sum_by-cons}
 use Rattle.brc_lang.specs.declared.module.Function.{Function}
@@ -8,7 +8,7 @@ use Rattle.brc_lang.specs.declared.module.Module.{Module}
 use Rattle.brc_model.specs.AbstractState.{Reference}
 use Rattle.brc_model.specs.Threads.{code_of}
 use Rattle.brc_model.specs.declared.duty.Duty.{Duty}
-use Rattle.brc_model.specs.declared.duty.Duty.TheVariants.{RetainLoad, ReleaseLoad, Settle, Leave, ClaimMark, BirthKind, KindLoad, LockGate, UnlockGate}
+use Rattle.brc_model.specs.declared.duty.Duty.TheVariants.{RetainLoad, ReleaseLoad, Settle, Leave, ClaimMark, BirthKind, KindLoad, LockGate, UnlockGate, CellLoad, CellSwap}
 use Rattle.brc_model.specs.declared.actor.Status.{Status}
 use Rattle.brc_model.specs.declared.actor.Status.TheVariants.{Running, Leaving, Gone}
 use Rattle.brc_model.specs.declared.actor.Place.{Place}
@@ -24,10 +24,10 @@ use Rattle.brc_model.specs.declared.duty.Holding.{Holding}
 use Rattle.brc_model.proofs.Dispatch.Guards.{HeldBeside}
 use Rattle.brc_model.specs.OpenWork.{Later, Agenda, AgendaFits, finalised, has_leave, exits, IsSettled}
 use Rattle.brc_model.specs.Invariant.{looks, CoreInvariant}
-use Rattle.brc_model.specs.Knowledge.{AllBehind, IsNext, ByReference, HeadOf}
+use Rattle.brc_model.specs.Knowledge.{AllBehind, IsBacked, IsNext, ByReference, ByItem, HeadOf, is_retain}
 use Rattle.brc_model.proofs.Frame.Aside.{HoldsAlone, holds_alone, alone_holds, alone_fits}
 use Rattle.brc_model.proofs.Dispatch.Coded.{PlaceSays, InCode, is_departing, departing_is, stays_elsewhere, place_fits, placed_by, exited_none, says_bounded}
-use Rattle.brc_model.proofs.Dispatch.Begins.{Scene, scene_of, Starts, Gives, Takes, Bears, Asks, Locks, Unlocks, Follows, Nothing, Settles, Leaves, Taken, IsTaken}
+use Rattle.brc_model.proofs.Dispatch.Begins.{Scene, scene_of, Backs, ByOwn, ByList, Starts, Gives, Takes, Bears, Asks, Locks, Unlocks, Loads, Swaps, Follows, Nothing, Settles, Leaves, Taken, IsTaken}
 use Rattle.brc_model.proofs.Basics.Lists.{none_some}
 use Rattle.brc_model.proofs.Dispatch.Unlocked.{locking}
 use Rattle.brc_model.proofs.Dispatch.Taking.{SeesKinds, dispatch_taken}
@@ -79,11 +79,13 @@ follows_leave layout t used place rest (Leaves leaves) = sym (ap is_departing le
 
 pub starts_leave : (g : Scene) (d : Duty) (rest : List Duty) → Starts g d rest → has_leave (d ∷ rest) ≡ has_leave rest
 starts_leave g d rest (Gives row h behind some) = refl
-starts_leave g d rest (Takes row h by behind some) = refl
+starts_leave g d rest (Takes row h behind backs) = refl
 starts_leave g d rest (Bears h w room few said) = refl
-starts_leave g d rest (Asks row by some) = refl
-starts_leave g d rest (Locks row by some counted none) = refl
-starts_leave g d rest (Unlocks row by some has) = refl
+starts_leave g d rest (Asks row backs) = refl
+starts_leave g d rest (Locks row backs counted none) = refl
+starts_leave g d rest (Unlocks row backs has) = refl
+starts_leave g d rest (Loads row i backs has within) = refl
+starts_leave g d rest (Swaps row i item h behind backs has within some) = refl
 
 -- ---- what is begun weighs nothing
 
@@ -95,16 +97,20 @@ record IsLight (f : Duty → ℕ) : Type 0 where
   asks : (row : ℕ) → f (KindLoad row) ≡ 0
   locks : (row : ℕ) → f (LockGate row) ≡ 0
   unlocks : (row : ℕ) → f (UnlockGate row) ≡ 0
+  loads : (row i : ℕ) → f (CellLoad row i) ≡ 0
+  swaps : (row i item : ℕ) (h : Holding) → f (CellSwap row i item h) ≡ 0
   settles : f Settle ≡ 0
   leaves : (x k : ℕ) → f (Leave x k) ≡ 0
 
 starts_light : (f : Duty → ℕ) (g : Scene) (d : Duty) (rest : List Duty) → IsLight f → Starts g d rest → f d ≡ 0
 starts_light f g d rest light (Gives row h behind some) = light.gives row h
-starts_light f g d rest light (Takes row h by behind some) = light.takes row h
+starts_light f g d rest light (Takes row h behind backs) = light.takes row h
 starts_light f g d rest light (Bears h w room few said) = light.bears (row_at g.layout g.thread g.used) h w
-starts_light f g d rest light (Asks row by some) = light.asks row
-starts_light f g d rest light (Locks row by some counted none) = light.locks row
-starts_light f g d rest light (Unlocks row by some has) = light.unlocks row
+starts_light f g d rest light (Asks row backs) = light.asks row
+starts_light f g d rest light (Locks row backs counted none) = light.locks row
+starts_light f g d rest light (Unlocks row backs has) = light.unlocks row
+starts_light f g d rest light (Loads row i backs has within) = light.loads row i
+starts_light f g d rest light (Swaps row i item h behind backs has within some) = light.swaps row i item h
 
 -- The duties behind the first one weigh nothing.
 follows_weigh : (layout : Layout) (t used : ℕ) (place : Place) (rest : List Duty) (f : Duty → ℕ) → f Settle ≡ 0
@@ -132,6 +138,8 @@ light_waits x = record {
   asks = λ row. refl;
   locks = λ row. refl;
   unlocks = λ row. refl;
+  loads = λ row i. refl;
+  swaps = λ row i item h. refl;
   settles = refl;
   leaves = λ y k. refl;
 }
@@ -144,6 +152,8 @@ light_carries x = record {
   asks = λ row. refl;
   locks = λ row. refl;
   unlocks = λ row. refl;
+  loads = λ row i. refl;
+  swaps = λ row i item h. refl;
   settles = refl;
   leaves = λ y k. refl;
 }
@@ -156,6 +166,8 @@ light_merges x = record {
   asks = λ row. refl;
   locks = λ row. refl;
   unlocks = λ row. refl;
+  loads = λ row i. refl;
+  swaps = λ row i item h. refl;
   settles = refl;
   leaves = λ y k. refl;
 }
@@ -168,6 +180,8 @@ light_decides x = record {
   asks = λ row. refl;
   locks = λ row. refl;
   unlocks = λ row. refl;
+  loads = λ row i. refl;
+  swaps = λ row i item h. refl;
   settles = refl;
   leaves = λ y k. refl;
 }
@@ -180,6 +194,8 @@ light_looks x = record {
   asks = λ row. refl;
   locks = λ row. refl;
   unlocks = λ row. refl;
+  loads = λ row i. refl;
+  swaps = λ row i item h. refl;
   settles = refl;
   leaves = λ y k. refl;
 }
@@ -191,40 +207,61 @@ begun_hands : (g : Scene) (x : ℕ) (place : Place) (d : Duty) (rest : List Duty
     → Follows g.layout g.thread g.used place rest → finalised (d ∷ rest) x ≡ 0
 begun_hands g x place d rest (Gives row h behind some) follows =
     follows_hands g.layout g.thread g.used x place rest follows
-begun_hands g x place d rest (Takes row h by behind some) follows =
+begun_hands g x place d rest (Takes row h behind backs) follows =
     follows_hands g.layout g.thread g.used x place rest follows
 begun_hands g x place d rest (Bears h w room few said) follows = refl
-begun_hands g x place d rest (Asks row by some) follows = refl
-begun_hands g x place d rest (Locks row by some counted none) follows = refl
-begun_hands g x place d rest (Unlocks row by some has) follows = refl
+begun_hands g x place d rest (Asks row backs) follows = refl
+begun_hands g x place d rest (Locks row backs counted none) follows = refl
+begun_hands g x place d rest (Unlocks row backs has) follows = refl
+begun_hands g x place d rest (Loads row i backs has within) follows = refl
+begun_hands g x place d rest (Swaps row i item h behind backs has within some) follows =
+    follows_hands g.layout g.thread g.used x place rest follows
 
 begun_fits : (g : Scene) (place : Place) (d : Duty) (rest : List Duty) → Starts g d rest
     → Follows g.layout g.thread g.used place rest → Agenda g.used Running (d ∷ rest)
 begun_fits g place d rest (Gives row h behind some) follows =
     later_follows g.layout g.thread g.used place rest follows
-begun_fits g place d rest (Takes row h by behind some) follows =
+begun_fits g place d rest (Takes row h behind backs) follows =
     later_follows g.layout g.thread g.used place rest follows
 begun_fits g place d rest (Bears h w room few said) follows =
     later_follows g.layout g.thread g.used place rest follows
-begun_fits g place d rest (Asks row by some) follows = later_follows g.layout g.thread g.used place rest follows
-begun_fits g place d rest (Locks row by some counted none) follows =
+begun_fits g place d rest (Asks row backs) follows = later_follows g.layout g.thread g.used place rest follows
+begun_fits g place d rest (Locks row backs counted none) follows =
     later_follows g.layout g.thread g.used place rest follows
-begun_fits g place d rest (Unlocks row by some has) follows =
+begun_fits g place d rest (Unlocks row backs has) follows =
     later_follows g.layout g.thread g.used place rest follows
+begun_fits g place d rest (Loads row i backs has within) follows =
+    later_follows g.layout g.thread g.used place rest follows
+begun_fits g place d rest (Swaps row i item h behind backs has within some) follows =
+    later_follows g.layout g.thread g.used place rest follows
+
+-- What the thread may rely on is what its duty may rely on.
+backs_duty : (m : Machine) (t : ℕ) (a : Actor) (agenda : List Duty) (row : ℕ) → Backs (scene_of m t a) row
+    → IsBacked (with_actor m t (sitting a agenda)) t (sitting a agenda) row
+backs_duty m t a agenda row (ByOwn by some) = ByReference by some
+backs_duty m t a agenda row (ByList list cell has holds) = ByItem list cell has holds
 
 -- The thread knows what its first duty has to know.
 begun_knows : (p : Accounts) (n : ℕ) (m : Machine) (t : ℕ) (a : Actor) (d : Duty) (rest : List Duty)
-    → AtRest p n m t a → Starts (scene_of m t a) d rest
+    → AtRest p n m t a → a.aside ≡ [] → Starts (scene_of m t a) d rest
     → HeadOf (with_actor m t (sitting a (d ∷ rest))) t (sitting a (d ∷ rest)) (d ∷ rest)
-begun_knows p n m t a d rest at (Gives row h behind some) = tt
-begun_knows p n m t a d rest at (Takes row h by behind some) = ByReference by some
-begun_knows p n m t a d rest at (Bears h w room few said) =
+begun_knows p n m t a d rest at alone (Gives row h behind some) = tt
+begun_knows p n m t a d rest at alone (Takes row h behind backs) = backs_duty m t a (d ∷ rest) row backs
+begun_knows p n m t a d rest at alone (Bears h w room few said) =
     (next_is p n m t a (BirthKind (row_at m.layout t a.used) h w ∷ []) at room, refl, said)
-begun_knows p n m t a d rest at (Asks row by some) = ByReference by some
-begun_knows p n m t a d rest at (Locks row by some counted none) =
-    (counted, ByReference by some, none)
-begun_knows p n m t a d rest at (Unlocks row by some has) =
-    (((at.core.each t a at.found).0.locks row has).counted, ByReference by some, has)
+begun_knows p n m t a d rest at alone (Asks row backs) = backs_duty m t a (d ∷ rest) row backs
+begun_knows p n m t a d rest at alone (Locks row backs counted none) =
+    (counted, backs_duty m t a (d ∷ rest) row backs, none)
+begun_knows p n m t a d rest at alone (Unlocks row backs has) =
+    (
+      ((at.core.each t a at.found).0.locks row has).counted,
+      backs_duty m t a (d ∷ rest) row backs,
+      has,
+      ap (count_by is_retain) alone,
+    )
+begun_knows p n m t a d rest at alone (Loads row i backs has within) =
+    (((at.core.each t a at.found).0.locks row has).counted, backs_duty m t a (d ∷ rest) row backs, has, within)
+begun_knows p n m t a d rest at alone (Swaps row i item h behind backs has within some) = (has, within)
 
 -- The thread still holds what it has locked.
 begun_locks : (p : Accounts) (n : ℕ) (m : Machine) (t : ℕ) (a : Actor) (place : Place) (d : Duty) (rest : List Duty)
@@ -267,7 +304,7 @@ starts_sit p n m t a place d rest account at alone holds bounded exited keeps st
       bounded = bounded;
       exited = λ e. (exited e, alone);
       aside = alone_fits (with_actor m t (sitting a (d ∷ rest))) t (sitting a (d ∷ rest)) alone;
-      knows = begun_knows p n m t a d rest at starts;
+      knows = begun_knows p n m t a d rest at alone starts;
       behind = follows_behind (with_actor m t (sitting a (d ∷ rest))) t m.layout a.used place rest follows;
       locks = begun_locks p n m t a place d rest account at alone holds keeps follows;
       fits = begun_fits g place d rest starts follows;
@@ -291,11 +328,15 @@ pub starts_settled : (g : Scene) (head : ℕ) (place : Place) (d : Duty) (rest :
 starts_settled g head place d rest (Gives row h behind some) (Nothing stays) = tt
 starts_settled g head place d rest (Gives row h behind some) (Settles stays) = tt
 starts_settled g head place d rest (Gives row h behind some) (Leaves leaves) = (refl, tt)
-starts_settled g head place d rest (Takes row h by behind some) (Nothing stays) = tt
-starts_settled g head place d rest (Takes row h by behind some) (Settles stays) = tt
-starts_settled g head place d rest (Takes row h by behind some) (Leaves leaves) = (refl, tt)
+starts_settled g head place d rest (Takes row h behind backs) (Nothing stays) = tt
+starts_settled g head place d rest (Takes row h behind backs) (Settles stays) = tt
+starts_settled g head place d rest (Takes row h behind backs) (Leaves leaves) = (refl, tt)
 starts_settled g head place d rest (Bears h w room few said) follows = tt
-starts_settled g head place d rest (Asks row by some) follows = tt
-starts_settled g head place d rest (Locks row by some counted none) follows = tt
-starts_settled g head place d rest (Unlocks row by some has) follows = tt
+starts_settled g head place d rest (Asks row backs) follows = tt
+starts_settled g head place d rest (Locks row backs counted none) follows = tt
+starts_settled g head place d rest (Unlocks row backs has) follows = tt
+starts_settled g head place d rest (Loads row i backs has within) follows = tt
+starts_settled g head place d rest (Swaps row i item h behind backs has within some) (Nothing stays) = tt
+starts_settled g head place d rest (Swaps row i item h behind backs has within some) (Settles stays) = tt
+starts_settled g head place d rest (Swaps row i item h behind backs has within some) (Leaves leaves) = (refl, tt)
 

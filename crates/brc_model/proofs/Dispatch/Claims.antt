@@ -4,7 +4,7 @@ use Rattle.std.proofs.lemmas.Bool.{cases_Bool, and_parts, eqb-true, ltb-true}
 use Rattle.std.proofs.lemmas.List.{nil_from_length}
 use Rattle.brc_model.specs.declared.actor.Status.TheVariants.{Running, Gone}
 use Rattle.brc_model.specs.declared.actor.Place.{Place}
-use Rattle.brc_model.specs.declared.actor.Place.TheVariants.{Idle, InCall, Exiting}
+use Rattle.brc_model.specs.declared.actor.Place.TheVariants.{Idle, InCall, Inside, Exiting}
 use Rattle.brc_model.specs.Actions.{StepActor, is_idle, may_claim}
 use Rattle.brc_model.proofs.Stepping.Retains.{running_is}
 use Rattle.brc_model.specs.declared.layout.Layout.{Layout}
@@ -22,6 +22,7 @@ pub record IsClaimer (layout : Layout) (t : ℕ) (a : StepActor) (row : ℕ) : T
 idle_is : (place : Place) → is_idle place ≡ true → (left : ℕ) × (place ≡ Idle left)
 idle_is (Idle left) e = (left, refl)
 idle_is (InCall left at variables) e = absurd cc
+idle_is (Inside left at variables stage) e = absurd cc
 idle_is Exiting e = absurd cc
 
 pub claimer : (layout : Layout) (t : ℕ) (a : StepActor) (row : ℕ) → may_claim layout t a row ≡ true

@@ -1,6 +1,6 @@
 -- The account of a thread of accepted code is the one that its place gives, and its place says whether its exit is
 -- under way. The step world has this layer of the invariant on top of what holds of any thread.
-use Rattle.std.proofs.Common.{◌≡◌, ◌≢◌, ℕ, ◌≤◌, Bool, true, false, List, [], Option, length, refl, sym, ap, subst, arith, None}
+use Rattle.std.proofs.Common.{◌≡◌, ◌≢◌, ℕ, ◌≤◌, Bool, true, false, List, [], Option, length, refl, sym, ap, subst, arith, None, Some}
 use Rattle.std.specs.Prelude.{◌==◌, ◌&&◌, slice_get, sum_by}
 use Rattle.std.proofs.lemmas.List.{get_or_past}
 use Rattle.brc_model.specs.declared.slot.Slot.TheVariants.{Empty}
@@ -15,12 +15,15 @@ use Rattle.brc_model.specs.AbstractState.{Reference}
 use Rattle.brc_model.specs.Threads.{code_of}
 use Rattle.brc_model.specs.declared.duty.Duty.{Duty}
 use Rattle.brc_model.specs.declared.actor.Place.{Place}
-use Rattle.brc_model.specs.declared.actor.Place.TheVariants.{Idle, InCall, Exiting}
+use Rattle.brc_model.specs.declared.actor.Place.TheVariants.{Idle, InCall, Inside, Exiting}
+use Rattle.brc_model.specs.declared.actor.Stage.{Stage}
+use Rattle.brc_model.specs.declared.actor.Stage.TheVariants.{InRange, OutOfRange, Found, Retained}
+use Rattle.brc_lang.specs.declared.module.Instr.TheVariants.{Borrow, Fetch, Set, Put}
 use Rattle.brc_model.specs.Actions.{StepActor}
 use Rattle.brc_model.specs.References.{one_if}
 use Rattle.brc_model.specs.Accounts.{Account, HoldsNone, IsBounded, lacks_of, extra_of}
 use Rattle.brc_model.specs.OpenWork.{exits}
-use Rattle.brc_model.proofs.Dispatch.Holds.{nothing, the_root, of_variables}
+use Rattle.brc_model.proofs.Dispatch.Holds.{nothing, the_root, of_variables, of_inside}
 use Rattle.brc_model.proofs.Dispatch.Unlocked.{locking}
 use Rattle.brc_model.proofs.Dispatch.Guards.{LocksAgree}
 use Rattle.brc_model.proofs.Dispatch.Grounded.{IsInside, AreInstructions}
@@ -33,6 +36,22 @@ use Rattle.brc_model.specs.Layout.{root_row}
 abbrev pub once_each : (Holding → ℕ → Bool) → Account
 once_each holds k object = one_if (holds k object)
 
+-- Says whether a thread can be so far inside the instruction.
+abbrev pub has_stage : Option Instr → Stage → Bool
+has_stage (Some (Borrow to list index otherwise)) InRange = true
+has_stage (Some (Fetch to list index otherwise)) InRange = true
+has_stage (Some (Fetch to list index otherwise)) (Found item) = true
+has_stage (Some (Set list index from otherwise)) InRange = true
+has_stage (Some (Set list index from otherwise)) OutOfRange = true
+has_stage (Some (Put list index from otherwise)) InRange = true
+has_stage (Some (Put list index from otherwise)) Retained = true
+has_stage i stage = false
+
+-- The row to which a thread so far inside the instruction has a reference in flight: `put` makes one for the cell.
+abbrev pub in_flight : Option Instr → Stage → List (Option ℕ) → Option ℕ
+in_flight (Some (Put list index from otherwise)) Retained variables = row_of variables from
+in_flight i stage variables = None
+
 -- What the place says of the row that the thread has locked, and the account that it gives the thread, which the thread
 -- has once its agenda is done.
 abbrev pub PlaceSays : List Instr → Place → Option ℕ → Account → Type 0
@@ -40,22 +59,29 @@ PlaceSays code (Idle left) locked account = (locked ≡ None) × (account ≡ on
 PlaceSays code (InCall left at variables) locked account =
     (s : State) × IsInside code at variables s × LocksAgree s variables locked
     × (account ≡ once_each (of_variables s variables))
+PlaceSays code (Inside left at variables stage) locked account =
+    (s : State) × IsInside code at variables s × LocksAgree s variables locked
+    × (account ≡ once_each (of_inside (in_flight (slice_get code at) stage variables) s variables))
+    × (has_stage (slice_get code at) stage ≡ true)
 PlaceSays code Exiting locked account = (locked ≡ None) × (account ≡ once_each nothing)
 
 -- Says whether the place is that of a thread whose exit is under way or done.
 abbrev pub is_departing : Place → Bool
 is_departing (Idle left) = false
 is_departing (InCall left at variables) = false
+is_departing (Inside left at variables stage) = false
 is_departing Exiting = true
 
 pub departing_is : (place : Place) → is_departing place ≡ true → place ≡ Exiting
 departing_is (Idle left) e = absurd cc
 departing_is (InCall left at variables) e = absurd cc
+departing_is (Inside left at variables stage) e = absurd cc
 departing_is Exiting e = refl
 
 pub stays_elsewhere : (place : Place) → place ≢ Exiting → is_departing place ≡ false
 stays_elsewhere (Idle left) stays = refl
 stays_elsewhere (InCall left at variables) stays = refl
+stays_elsewhere (Inside left at variables stage) stays = refl
 stays_elsewhere Exiting stays = absurd (stays refl)
 
 pub record InCode (p : Module) (a : StepActor) (account : Account) : Type 0 where
@@ -86,6 +112,10 @@ PlaceFits code bag t agenda locked (Idle left) = (locked ≡ None) × HoldsAlone
 PlaceFits code bag t agenda locked (InCall left at variables) =
     (s : State) × IsInside code at variables s × LocksAgree s variables locked
     × HoldsAlone bag t (once_each (of_variables s variables)) agenda
+PlaceFits code bag t agenda locked (Inside left at variables stage) =
+    (s : State) × IsInside code at variables s × LocksAgree s variables locked
+    × HoldsAlone bag t (once_each (of_inside (in_flight (slice_get code at) stage variables) s variables)) agenda
+    × (has_stage (slice_get code at) stage ≡ true)
 PlaceFits code bag t agenda locked Exiting = (locked ≡ None) × HoldsAlone bag t (once_each nothing) agenda
 
 pub place_fits : (code : List Instr) (bag : List Reference) (t : ℕ) (agenda : List Duty) (locked : Option ℕ)
@@ -96,6 +126,8 @@ place_fits code bag t agenda locked (Idle left) account says holds =
     (says.0, subst (λ (c : Account). HoldsAlone bag t c agenda) says.1 holds)
 place_fits code bag t agenda locked (InCall left at variables) account says holds =
     (says.0, says.1, says.2, subst (λ (c : Account). HoldsAlone bag t c agenda) says.3 holds)
+place_fits code bag t agenda locked (Inside left at variables stage) account says holds =
+    (says.0, says.1, says.2, subst (λ (c : Account). HoldsAlone bag t c agenda) says.3 holds, says.4)
 place_fits code bag t agenda locked Exiting account says holds =
     (says.0, subst (λ (c : Account). HoldsAlone bag t c agenda) says.1 holds)
 
@@ -117,6 +149,12 @@ placed_by code bag t agenda locked (InCall left at variables) fits =
       says = (fits.0, fits.1, fits.2, refl);
       holds = fits.3;
     }
+placed_by code bag t agenda locked (Inside left at variables stage) fits =
+    record {
+      account = once_each (of_inside (in_flight (slice_get code at) stage variables) fits.0 variables);
+      says = (fits.0, fits.1, fits.2, refl, fits.4);
+      holds = fits.3;
+    }
 placed_by code bag t agenda locked Exiting fits =
     record { account = once_each nothing; says = (fits.0, refl); holds = fits.1 }
 
@@ -130,6 +168,9 @@ fits_with code bag t agenda locked (Idle left) lacks extra fits =
     (fits.0, alone_with bag t (once_each the_root) agenda lacks extra fits.1)
 fits_with code bag t agenda locked (InCall left at variables) lacks extra fits =
     (fits.0, fits.1, fits.2, alone_with bag t (once_each (of_variables fits.0 variables)) agenda lacks extra fits.3)
+fits_with code bag t agenda locked (Inside left at variables stage) lacks extra fits =
+    let holds = once_each (of_inside (in_flight (slice_get code at) stage variables) fits.0 variables) in
+    (fits.0, fits.1, fits.2, alone_with bag t holds agenda lacks extra fits.3, fits.4)
 fits_with code bag t agenda locked Exiting lacks extra fits =
     (fits.0, alone_with bag t (once_each nothing) agenda lacks extra fits.1)
 
@@ -141,6 +182,8 @@ exited_none code (Idle left) locked account says e k object =
     absurd (let wrong : Idle left ≡ Exiting = e in cc)
 exited_none code (InCall left at variables) locked account says e k object =
     absurd (let wrong : InCall left at variables ≡ Exiting = e in cc)
+exited_none code (Inside left at variables stage) locked account says e k object =
+    absurd (let wrong : Inside left at variables stage ≡ Exiting = e in cc)
 exited_none code Exiting locked account says e k object = ap (λ (c : Account). c k object) says.1
 
 -- A thread outside its calls has locked nothing.
@@ -149,6 +192,8 @@ pub idle_unlocked : (code : List Instr) (left : ℕ) (place : Place) (locked : O
 idle_unlocked code left (Idle other) locked account says e = says.0
 idle_unlocked code left (InCall other at variables) locked account says e =
     absurd (let wrong : InCall other at variables ≡ Idle left = e in cc)
+idle_unlocked code left (Inside other at variables stage) locked account says e =
+    absurd (let wrong : Inside other at variables stage ≡ Idle left = e in cc)
 idle_unlocked code left Exiting locked account says e = says.0
 
 -- ---- how much the thread holds
@@ -158,7 +203,7 @@ root_bounded layout = record {
   by_variable = λ v object. omega arith;
   sixteen = λ v object past. refl;
   lent = λ object counted. omega (arith, one_if_low (object == root_row));
-  in_flight = λ object. refl;
+  in_flight = λ object. omega arith;
 }
 
 nothing_bounded : (layout : Layout) → IsBounded layout (once_each nothing)
@@ -166,7 +211,7 @@ nothing_bounded layout = record {
   by_variable = λ v object. omega arith;
   sixteen = λ v object past. refl;
   lent = λ object counted. omega arith;
-  in_flight = λ object. refl;
+  in_flight = λ object. omega arith;
 }
 
 -- A variable past the sixteenth owns nothing.
@@ -180,7 +225,17 @@ variables_bounded layout s variables slots = record {
   sixteen = λ v object past.
       ap (λ (b : Bool). one_if (b && names (row_of variables v) object)) (past_owns_none s v slots past);
   lent = λ object counted. omega (arith, one_if_low (object == root_row));
-  in_flight = λ object. refl;
+  in_flight = λ object. omega arith;
+}
+
+inside_bounded : (layout : Layout) (flight : Option ℕ) (s : State) (variables : List (Option ℕ)) → length s.slots ≡ 16
+    → IsBounded layout (once_each (of_inside flight s variables))
+inside_bounded layout flight s variables slots = record {
+  by_variable = λ v object. one_if_low (is_owned (slot_of s v) && names (row_of variables v) object);
+  sixteen = λ v object past.
+      ap (λ (b : Bool). one_if (b && names (row_of variables v) object)) (past_owns_none s v slots past);
+  lent = λ object counted. omega (arith, one_if_low (object == root_row));
+  in_flight = λ object. one_if_low (names flight object);
 }
 
 pub says_bounded : (layout : Layout) (code : List Instr) (place : Place) (locked : Option ℕ) (account : Account)
@@ -189,5 +244,8 @@ says_bounded layout code (Idle left) locked account says =
     subst (IsBounded layout) (sym says.1) (root_bounded layout)
 says_bounded layout code (InCall left at variables) locked account says =
     subst (IsBounded layout) (sym says.3) (variables_bounded layout says.0 variables says.1.slots)
+says_bounded layout code (Inside left at variables stage) locked account says =
+    let flight = in_flight (slice_get code at) stage variables in
+    subst (IsBounded layout) (sym says.3) (inside_bounded layout flight says.0 variables says.1.slots)
 says_bounded layout code Exiting locked account says =
     subst (IsBounded layout) (sym says.1) (nothing_bounded layout)

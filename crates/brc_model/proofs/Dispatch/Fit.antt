@@ -1,46 +1,42 @@
 -- Each instruction that a thread of accepted code begins has what it needs: the kind of the object that it locks, the
 -- lock that it ends, and no lock at the end of a call.
-use Rattle.std.proofs.Common.{◌≡◌, ℕ, zero, suc, true, false, List, [], ◌∷◌, Option, None, Some, refl, ap, ◌∙◌, subst, Bool}
+use Rattle.std.proofs.Common.{◌≡◌, ℕ, zero, suc, true, false, List, [], ◌∷◌, Option, None, Some, refl, ap, ◌∙◌, subst, Bool, inl, inr, sym}
 use Rattle.std.specs.Prelude.{◌&&◌, not, is_some, slice_get}
 use Rattle.std.proofs.lemmas.Bool.{eq-eqb}
 use Rattle.brc_lang.specs.declared.module.Function.{Function}
 use Rattle.brc_lang.specs.declared.module.Instr.{Instr}
-use Rattle.brc_lang.specs.declared.module.Instr.TheVariants.{Lock, Unlock, Ret, Fail}
+use Rattle.brc_lang.specs.declared.module.Instr.TheVariants.{Lock, Unlock, Borrow, Fetch, Set, Put, Ret, Fail}
+use Rattle.brc_lang.specs.declared.kind.Kind.{Kind}
+use Rattle.brc_lang.specs.declared.kind.Kind.TheVariants as kinds
+use Rattle.brc_model.specs.Kinds.{kind_of_word}
 use Rattle.brc_lang.specs.declared.module.Module.{Module}
 use Rattle.brc_model.specs.declared.slot.Slot.{Slot}
 use Rattle.brc_model.specs.declared.slot.Slot.TheVariants.{Empty, Owned, Caller, Locked}
 use Rattle.brc_model.specs.declared.slot.State.{State}
 use Rattle.brc_model.specs.declared.actor.Place.{Place}
-use Rattle.brc_model.specs.declared.actor.Place.TheVariants.{Idle, InCall, Exiting}
+use Rattle.brc_model.specs.declared.actor.Place.TheVariants.{Idle, InCall, Inside, Exiting}
 use Rattle.brc_model.specs.declared.address.Address.{Address}
 use Rattle.brc_model.specs.declared.address.Address.TheVariants.{KindOf}
 use Rattle.brc_model.specs.declared.duty.Duty.{Duty}
 use Rattle.brc_model.specs.declared.thread.Choice.{Choice}
 use Rattle.brc_model.specs.declared.thread.Choice.TheVariants.{Ok, Fault, Claim}
-use Rattle.brc_model.specs.Slots.{slot_of, is_empty, kind_of, entry, is_one_of, lockable}
+use Rattle.brc_model.specs.Slots.{slot_of, is_empty, kind_of, names, entry, is_one_of, lockable}
 use Rattle.brc_model.specs.Paths.{IsAcceptableCode}
 use Rattle.brc_model.specs.Threads.{code_of, row_of, entry_variables}
-use Rattle.brc_model.specs.KnownKinds.{HaveTrueKinds, KnowsKinds, kind_words}
-use Rattle.brc_model.specs.Needs.{kind_at, has_locked, has_needs, lacks_needs, starts_unfit}
+use Rattle.brc_model.specs.KnownKinds.{IsTrueKind, HaveTrueKinds, KnowsKinds, kind_words}
+use Rattle.brc_model.specs.Needs.{kind_at, has_locked, has_locked_list, has_needs, lacks_needs, starts_unfit}
 use Rattle.brc_model.specs.Events.{begins_unfit, chooses_unfit}
 use Rattle.brc_model.specs.Accounts.{Account}
 use Rattle.brc_model.specs.Actions.{StepActor}
 use Rattle.brc_model.specs.StepMachine.{StepMachine}
-use Rattle.brc_model.proofs.Basics.Lists.{first_false}
-use Rattle.brc_model.proofs.Dispatch.Grounded.{IsGrounded, IsInside, entry_in_call}
+use Rattle.brc_model.proofs.Basics.Lists.{first_false, second_false}
+use Rattle.brc_model.proofs.Dispatch.Grounded.{IsGrounded, IsInside, named_row, entry_in_call}
 use Rattle.brc_model.proofs.Dispatch.Guards.{LocksAgree, guards_none, guards_row}
 use Rattle.brc_model.proofs.Dispatch.Passing.{AreMet, passes_on}
 use Rattle.brc_model.proofs.Dispatch.Coded.{PlaceSays}
 use Rattle.brc_model.proofs.Dispatch.Lockable.{lockable_word}
 use Rattle.brc_model.proofs.Dispatch.Kinds.{entry_true}
 use Rattle.brc_model.proofs.Keeping.CodeInvariant.{CodeInvariant}
-
--- A variable that isn't empty names a row.
-named_row : (slot : Slot) (row : Option ℕ) → is_empty slot ≡ false → IsGrounded slot row → (x : ℕ) × (row ≡ Some x)
-named_row Empty row some grounded = absurd cc
-named_row (Owned k) row some grounded = grounded
-named_row (Caller k) row some grounded = (_, grounded)
-named_row (Locked k) row some grounded = absurd grounded
 
 -- What a thread knows at an instruction whose conditions are met.
 record Meets (memory : Address → ℕ) (locked : Option ℕ) (variables : List (Option ℕ)) (s : State) (i : Instr) : Type 0
@@ -56,6 +52,27 @@ not_false false e = absurd cc
 
 no_lock : (locked : Option ℕ) → locked ≡ None → not (is_some locked) ≡ true
 no_lock locked none = ap (λ (o : Option ℕ). not (is_some o)) none
+
+-- A list that the thread has locked: its kind word says that it is one.
+list_word_fits : (kind : Kind) (word : ℕ) → IsTrueKind kind word → is_one_of kind (kinds.List ∷ []) ≡ true
+    → is_one_of (kind_of_word word) (kinds.List ∷ []) ≡ true
+list_word_fits kind word (inl any) can =
+    absurd (let wrong : false ≡ true = sym (ap (λ (k : Kind). is_one_of k (kinds.List ∷ [])) any) ∙ can in cc)
+list_word_fits kind word (inr names) can = ap (λ (k : Kind). is_one_of k (kinds.List ∷ [])) names ∙ can
+
+list_fit : (memory : Address → ℕ) (locked : Option ℕ) (variables : List (Option ℕ)) (s : State) (list : ℕ)
+    → is_empty (slot_of s list) ≡ false → is_one_of (kind_of (slot_of s list)) (kinds.List ∷ []) ≡ true
+    → names s.locked list ≡ true → ((v : ℕ) → IsGrounded (slot_of s v) (row_of variables v))
+    → LocksAgree s variables locked → HaveTrueKinds (λ x. memory (KindOf x)) s variables
+    → has_locked_list memory locked (row_of variables list) ≡ true
+list_fit memory locked variables s list some can this grounded guards kinds_known =
+    let row = named_row (slot_of s list) (row_of variables list) some (grounded list) in
+    let word =
+    list_word_fits (kind_of (slot_of s list)) (memory (KindOf row.0)) (kinds_known list row.0 row.1) can in
+    let has = guards_row s variables list row.0 s.locked locked this row.1 guards in
+    ap (has_locked_list memory locked) row.1
+    ∙ ap (λ (b : Bool). b && has_locked locked (Some row.0)) word
+    ∙ ap (λ (o : Option ℕ). has_locked o (Some row.0)) has ∙ eq-eqb row.0 row.0 refl
 
 instruction_fit : (memory : Address → ℕ) (locked : Option ℕ) (variables : List (Option ℕ)) (s : State) (i : Instr)
     → Meets memory locked variables s i → has_needs memory locked variables i ≡ true
@@ -74,6 +91,22 @@ instruction_fit memory locked variables s (Unlock object) meets =
     let has = guards_row s variables object row.0 s.locked locked this row.1 meets.guards in
     ap (λ (o : Option ℕ). has_locked o (row_of variables object)) has
     ∙ ap (λ (o : Option ℕ). has_locked (Some row.0) o) row.1 ∙ eq-eqb row.0 row.0 refl
+instruction_fit memory locked variables s (Borrow to list index otherwise) meets =
+    list_fit memory locked variables s list (first_false _ _ meets.met.not_empty)
+    (not_false _ (first_false _ _ meets.met.right_kind)) (not_false _ (first_false _ _ meets.met.has_lock))
+    meets.grounded meets.guards meets.kinds
+instruction_fit memory locked variables s (Fetch to list index otherwise) meets =
+    list_fit memory locked variables s list (first_false _ _ meets.met.not_empty)
+    (not_false _ (first_false _ _ meets.met.right_kind)) (not_false _ (first_false _ _ meets.met.has_lock))
+    meets.grounded meets.guards meets.kinds
+instruction_fit memory locked variables s (Set list index from otherwise) meets =
+    list_fit memory locked variables s list (first_false _ _ (second_false _ _ meets.met.not_empty))
+    (not_false _ (first_false _ _ meets.met.right_kind)) (not_false _ (first_false _ _ meets.met.has_lock))
+    meets.grounded meets.guards meets.kinds
+instruction_fit memory locked variables s (Put list index from otherwise) meets =
+    list_fit memory locked variables s list (first_false _ _ (second_false _ _ meets.met.not_empty))
+    (not_false _ (first_false _ _ meets.met.right_kind)) (not_false _ (first_false _ _ meets.met.has_lock))
+    meets.grounded meets.guards meets.kinds
 instruction_fit memory locked variables s (Ret from) meets =
     no_lock locked (guards_none s variables s.locked locked (first_false _ _ meets.met.no_lock_left) meets.guards)
 instruction_fit memory locked variables s Fail meets =
@@ -103,6 +136,9 @@ place_fit code memory locked (Idle zero) account accepted says begins knows = ap
 place_fit code memory locked (Idle (suc left)) account accepted says begins knows =
     in_call_fit code memory locked 0 entry_variables entry accepted (entry_in_call code) says.0 begins
 place_fit code memory locked (InCall left at variables) account accepted says begins knows =
+    in_call_fit code memory locked at variables says.0 accepted says.1 says.2
+    (knows says.1.exits says.0 says.1.arrived)
+place_fit code memory locked (Inside left at variables stage) account accepted says begins knows =
     in_call_fit code memory locked at variables says.0 accepted says.1 says.2
     (knows says.1.exits says.0 says.1.arrived)
 place_fit code memory locked Exiting account accepted says begins knows = refl

@@ -29,7 +29,7 @@ abbrev pub IsGrounded : Slot → Option ℕ → Type 0
 IsGrounded Empty row = Unit {0}
 IsGrounded (Owned k) row = (r : ℕ) × (row ≡ Some r)
 IsGrounded (Caller k) row = row ≡ Some root_row
-IsGrounded (Locked k) row = ⊥
+IsGrounded (Locked k) row = (r : ℕ) × (row ≡ Some r)
 
 -- Some path reaches the point in this state, and the state is true of the variables.
 pub record IsInside (code : List Instr) (at : ℕ) (variables : List (Option ℕ)) (s : State) : Type 0 where
@@ -84,7 +84,7 @@ kind_grounded : (slot : Slot) (k : Kind) (row : Option ℕ) → IsGrounded slot 
 kind_grounded Empty k row grounded = tt
 kind_grounded (Owned old) k row grounded = grounded
 kind_grounded (Caller old) k row grounded = grounded
-kind_grounded (Locked old) k row grounded = absurd grounded
+kind_grounded (Locked old) k row grounded = grounded
 
 pub grounded-with_kind : (s : State) (rows : List (Option ℕ)) (x : ℕ) (k : Kind) → x < length s.slots
     → ((v : ℕ) → IsGrounded (slot_of s v) (row_of rows v)) → (v : ℕ)
@@ -139,25 +139,13 @@ owned_low s v slots owned =
           absurd cc
     ]
 
--- The variable names an object that has a reference.
-pub record NamesLive (bag : List Reference) (row : Option ℕ) : Type 0 where
-  pub object : ℕ
-  pub is_row : row ≡ Some object
-  pub live : 0 < references_to object bag
-
-pub live_slot : (bag : List Reference) (t : ℕ) (s : State) (rows : List (Option ℕ)) (v : ℕ) (slot : Slot)
-    → slot_of s v ≡ slot → is_empty slot ≡ false → IsGrounded slot (row_of rows v)
-    → Holds bag t (of_variables s rows) → NamesLive bag (row_of rows v)
-live_slot bag t s rows v Empty is some grounded holds = absurd cc
-live_slot bag t s rows v (Owned k) is some grounded holds =
-    let r = reference_of t (ByVariable v) grounded.0 in
-    let one : held r bag ≡ 1 = owned_has bag t s rows v grounded.0 (ap is_owned is) grounded.1 holds in
-    record { object = grounded.0; is_row = grounded.1; live = omega (arith, one, held-le-references_to r bag) }
-live_slot bag t s rows v (Caller k) is some grounded holds =
-    let r = reference_of t AsCaller root_row in
-    let one : held r bag ≡ 1 = caller_has bag t s rows holds in
-    record { object = root_row; is_row = grounded; live = omega (arith, one, held-le-references_to r bag) }
-live_slot bag t s rows v (Locked k) is some grounded holds = absurd grounded
+-- A variable that isn't empty names a row.
+pub named_row : (slot : Slot) (row : Option ℕ) → is_empty slot ≡ false → IsGrounded slot row
+    → (x : ℕ) × (row ≡ Some x)
+named_row Empty row some grounded = absurd cc
+named_row (Owned k) row some grounded = grounded
+named_row (Caller k) row some grounded = (_, grounded)
+named_row (Locked k) row some grounded = grounded
 
 -- A slot that is neither empty nor borrowed owns its reference.
 pub owned_slot : (slot : Slot) → is_empty slot ≡ false → is_borrowed slot ≡ false → is_owned slot ≡ true
@@ -170,7 +158,7 @@ pub owned_row : (slot : Slot) (row : Option ℕ) → is_owned slot ≡ true → 
 owned_row Empty row owned grounded = absurd cc
 owned_row (Owned k) row owned grounded = grounded
 owned_row (Caller k) row owned grounded = absurd cc
-owned_row (Locked k) row owned grounded = absurd grounded
+owned_row (Locked k) row owned grounded = absurd cc
 
 -- ---- the beginning of a call
 

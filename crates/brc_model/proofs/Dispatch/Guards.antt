@@ -18,7 +18,7 @@ use Rattle.brc_model.specs.Threads.{row_of}
 use Rattle.brc_model.specs.References.{held, reference_of}
 use Rattle.brc_model.specs.Accounts.{extra}
 use Rattle.brc_model.specs.Layout.{root_row}
-use Rattle.brc_model.proofs.Dispatch.Holds.{of_variables, Holds, owned_has, caller_has}
+use Rattle.brc_model.proofs.Dispatch.Holds.{HoldsVariables, variable_has}
 use Rattle.brc_model.proofs.Dispatch.Grounded.{IsGrounded, slot_of-put_same, slot_of-put_other, row_of-set_other}
 
 -- The slot's reference doesn't hang on the locked list.
@@ -112,15 +112,15 @@ pub record HeldLocked (bag : List Reference) (t x : ℕ) (o : Option ℕ) : Type
 
 kept_held : (bag : List Reference) (t : ℕ) (s : State) (variables : List (Option ℕ)) (c x : ℕ) (slot : Slot)
     → slot_of s c ≡ slot → is_kept slot ≡ true → row_of variables c ≡ Some x → IsGrounded slot (row_of variables c)
-    → Holds bag t (of_variables s variables) → HeldLocked bag t x (Some c)
+    → HoldsVariables bag t s variables → HeldLocked bag t x (Some c)
 kept_held bag t s variables c x Empty is kept named grounded holds = absurd cc
 kept_held bag t s variables c x (Owned k) is kept named grounded holds =
     let one : held (reference_of t (ByVariable c) x) bag ≡ 1 =
-    owned_has bag t s variables c x (ap is_owned is) named holds in
+    variable_has bag t s variables c x (ap is_owned is) named holds in
     record { variable = c; is = refl; by = ByVariable c; sort = inl refl; held_so = omega (arith, one) }
 kept_held bag t s variables c x (Caller k) is kept named grounded holds =
     let this : x ≡ root_row = (let e : Some x ≡ Some root_row = sym named ∙ grounded in cc) in
-    let one : held (reference_of t AsCaller root_row) bag ≡ 1 = caller_has bag t s variables holds in
+    let one : held (reference_of t AsCaller root_row) bag ≡ 1 = holds.as_caller root_row in
     record {
       variable = c;
       is = refl;
@@ -133,7 +133,7 @@ kept_held bag t s variables c x (Locked k) is kept named grounded holds = absurd
 pub guards_held : (bag : List Reference) (t : ℕ) (s : State) (variables : List (Option ℕ)) (o locked : Option ℕ) (x : ℕ)
     → Guards s variables o locked → locked ≡ Some x
     → ((v : ℕ) → IsGrounded (slot_of s v) (row_of variables v))
-    → Holds bag t (of_variables s variables) → HeldLocked bag t x o
+    → HoldsVariables bag t s variables → HeldLocked bag t x o
 guards_held bag t s variables None locked x guards is grounded holds =
     let wrong : None ≡ Some x = sym guards ∙ is in absurd cc
 guards_held bag t s variables (Some c) locked x guards is grounded holds =

@@ -1,6 +1,6 @@
 -- What a thread holds by its place, each reference once: the root as the caller that lends it, and in a call what the
 -- variables name that own a reference in the path's state.
-use Rattle.std.proofs.Common.{◌≡◌, ℕ, zero, suc, Bool, true, false, List, Option, Some, refl, sym, ap, ◌∙◌}
+use Rattle.std.proofs.Common.{◌≡◌, ℕ, zero, suc, Bool, true, false, List, Option, None, Some, refl, sym, ap, ◌∙◌}
 use Rattle.std.specs.Prelude.{◌==◌, ◌&&◌}
 use Rattle.std.specs.List.{list_any}
 use Rattle.std.proofs.lemmas.Bool.{eq-eqb}
@@ -29,9 +29,23 @@ of_variables s variables (ByVariable v) object = is_owned (slot_of s v) && names
 of_variables s variables AsCaller object = object == root_row
 of_variables s variables InFlight object = false
 
+-- The references of a thread in a call that has one more in flight, or none: inside an instruction it may have made a
+-- reference for a cell.
+abbrev pub of_inside : Option ℕ → State → List (Option ℕ) → Holding → ℕ → Bool
+of_inside flight s variables (ByVariable v) object = is_owned (slot_of s v) && names (row_of variables v) object
+of_inside flight s variables AsCaller object = object == root_row
+of_inside flight s variables InFlight object = names flight object
+
 -- The thread holds just these references, each once.
 pub record Holds (bag : List Reference) (t : ℕ) (holds : Holding → ℕ → Bool) : Type 0 where
   pub each : (h : Holding) (object : ℕ) → held (reference_of t h object) bag ≡ one_if (holds h object)
+
+-- With nothing in flight they are those of its variables.
+pub inside_none : (s : State) (variables : List (Option ℕ)) (h : Holding) (object : ℕ)
+    → of_inside None s variables h object ≡ of_variables s variables h object
+inside_none s variables (ByVariable v) object = refl
+inside_none s variables AsCaller object = refl
+inside_none s variables InFlight object = refl
 
 -- ---- single references
 
@@ -45,6 +59,29 @@ owned_has bag t s rows from row owned is holds =
 pub caller_has : (bag : List Reference) (t : ℕ) (s : State) (rows : List (Option ℕ)) → Holds bag t (of_variables s rows)
     → held (reference_of t AsCaller root_row) bag ≡ 1
 caller_has bag t s rows holds = holds.each AsCaller root_row
+
+-- What the thread holds by its variables and as the caller, whatever it has in flight.
+pub record HoldsVariables (bag : List Reference) (t : ℕ) (s : State) (rows : List (Option ℕ)) : Type 0 where
+  pub by_variable : (v object : ℕ) → held (reference_of t (ByVariable v) object) bag
+      ≡ one_if (is_owned (slot_of s v) && names (row_of rows v) object)
+  pub as_caller : (object : ℕ) → held (reference_of t AsCaller object) bag ≡ one_if (object == root_row)
+
+pub holds_variables : (bag : List Reference) (t : ℕ) (s : State) (rows : List (Option ℕ))
+    → Holds bag t (of_variables s rows) → HoldsVariables bag t s rows
+holds_variables bag t s rows holds =
+    record { by_variable = λ v object. holds.each (ByVariable v) object; as_caller = λ object. holds.each AsCaller object }
+
+pub holds_inside : (bag : List Reference) (t : ℕ) (flight : Option ℕ) (s : State) (rows : List (Option ℕ))
+    → Holds bag t (of_inside flight s rows) → HoldsVariables bag t s rows
+holds_inside bag t flight s rows holds =
+    record { by_variable = λ v object. holds.each (ByVariable v) object; as_caller = λ object. holds.each AsCaller object }
+
+pub variable_has : (bag : List Reference) (t : ℕ) (s : State) (rows : List (Option ℕ)) (from row : ℕ)
+    → is_owned (slot_of s from) ≡ true → row_of rows from ≡ Some row
+    → HoldsVariables bag t s rows → held (reference_of t (ByVariable from) row) bag ≡ 1
+variable_has bag t s rows from row owned is holds =
+    holds.by_variable from row ∙ ap (λ (b : Bool). one_if (b && names (row_of rows from) row)) owned
+    ∙ ap (λ (o : Option ℕ). one_if (names o row)) is ∙ ap one_if (eq-eqb row row refl)
 
 -- ---- the beginning and the end of a call
 

@@ -7,7 +7,7 @@ use Rattle.brc_lang.specs.declared.kind.Kind.{Kind}
 use Rattle.brc_lang.specs.declared.kind.Kind.TheVariants as kinds
 use Rattle.brc_lang.specs.declared.module.Instr.{Instr}
 use Rattle.brc_model.specs.declared.actor.Place.{Place}
-use Rattle.brc_model.specs.declared.actor.Place.TheVariants.{Idle, InCall, Exiting}
+use Rattle.brc_model.specs.declared.actor.Place.TheVariants.{Idle, InCall, Inside, Exiting}
 use Rattle.brc_model.specs.declared.slot.Slot.{Slot}
 use Rattle.brc_model.specs.declared.slot.Slot.TheVariants.{Empty, Owned, Caller, Locked}
 use Rattle.brc_model.specs.declared.slot.State.{State}
@@ -40,6 +40,8 @@ pub knows_still : (code : List Instr) (words new : ℕ → ℕ) → StoredStay w
     → KnowsKinds code words place → KnowsKinds code new place
 knows_still code words new stays (Idle left) knows = tt
 knows_still code words new stays (InCall left at variables) knows =
+    λ exits s arrived. true_kinds_stay words new stays s variables (knows exits s arrived)
+knows_still code words new stays (Inside left at variables stage) knows =
     λ exits s arrived. true_kinds_stay words new stays s variables (knows exits s arrived)
 knows_still code words new stays Exiting knows = tt
 

@@ -22,19 +22,22 @@ use Rattle.brc_model.specs.declared.actor.Place.TheVariants.{Idle, InCall, Exiti
 use Rattle.brc_model.specs.Actions.{Does, always, dispatch_instruction, dispatch}
 use Rattle.brc_model.proofs.Basics.Bag.{held-le-references_to}
 use Rattle.brc_model.specs.References.{held, one_if, reference_of}
-use Rattle.brc_model.proofs.Basics.Lists.{either, first_false, none_some}
+use Rattle.brc_model.proofs.Basics.Lists.{either, first_false, none_some, get_or-replicate_default}
 use Rattle.brc_model.proofs.Dispatch.Holds.{the_root, of_variables, Holds, holds-ended, holds-entered}
-use Rattle.brc_model.proofs.Dispatch.Grounded.{IsInside, AreInstructions, live_slot, owned_slot, owned_row, grounded-put, grounded-with_kind, says-with_kind, entry_in_call}
+use Rattle.brc_model.proofs.Dispatch.Grounded.{IsInside, AreInstructions, owned_slot, owned_row, grounded-put, grounded-with_kind, says-with_kind, entry_in_call}
 use Rattle.brc_model.proofs.Dispatch.Guards.{LocksAgree, HeldBeside, guards-put, guards-with_kind, guards_none}
-use Rattle.brc_model.proofs.Dispatch.Standing.{backed_slot, given_referenced, keeps_all, keeps_given}
+use Rattle.brc_model.proofs.Dispatch.Standing.{named_at, given_referenced, keeps_all, keeps_given}
 use Rattle.brc_model.specs.KnownKinds.{HaveTrueKinds, KnowsKinds}
+use Rattle.brc_model.specs.Items.{borrows_item, HaveItems, KnowsItems}
+use Rattle.brc_model.specs.declared.address.Address.{Address}
+use Rattle.std.proofs.lemmas.Bool.{false≢true}
 use Rattle.brc_model.proofs.Dispatch.TakingBirths.{num_taken, list_taken}
 use Rattle.brc_model.proofs.Dispatch.TakingLocks.{lock_taken, unlock_taken}
 use Rattle.brc_model.proofs.Dispatch.Passing.{passes_on}
 use Rattle.brc_model.proofs.Stepping.Counts.{flip_eqb}
 use Rattle.brc_model.proofs.Frame.Aside.{HoldsAlone}
 use Rattle.brc_model.proofs.Dispatch.Coded.{once_each, PlaceFits}
-use Rattle.brc_model.proofs.Dispatch.Begins.{Scene, words_of, CountsLockable, StandsAt, holds_plain, holds_at_none, Gives, Takes, Asks, Nothing, Settles, Leaves, Taken, IsTaken, taken_with_row, idle_stays, in_call_stays, newref_held, emptied_held, ended_says, SilentTaken}
+use Rattle.brc_model.proofs.Dispatch.Begins.{Scene, words_of, CountsLockable, Backs, StandsAt, holds_plain, holds_at_none, Gives, Takes, Asks, Nothing, Settles, Leaves, Taken, IsTaken, taken_with_row, idle_stays, in_call_stays, newref_held, emptied_held, ended_says, SilentTaken}
 use Rattle.brc_model.proofs.Keeping.SilentMoves.{Stays}
 use Rattle.brc_model.proofs.Dispatch.TakingSilent.{none_taken, move_taken, goto_taken}
 use Rattle.brc_model.specs.Layout.{root_row}
@@ -47,10 +50,7 @@ newref_taken : (code : List Instr) (g : Scene) (before : Place) (left at : ℕ)
 newref_taken code g before left at variables s to from here =
     let some : is_empty (slot_of s from) ≡ false = first_false _ _ here.met.not_empty in
     let free : is_owned (slot_of s to) ≡ false = first_false _ _ here.met.free in
-    let live = live_slot g.bag g.thread s variables from (slot_of s from) refl some (here.inside.grounded from) here.holds in
-    let backed =
-    backed_slot g.bag g.thread s variables from live.object (slot_of s from) refl live.is_row some
-    (here.inside.grounded from) here.holds in
+    let live = named_at code g before at variables s (Newref to from) from here some in
     let in_slots : to < length s.slots = omega (arith, here.variables.0, here.inside.slots) in
     let in_rows : to < length variables = omega (arith, here.variables.0, here.inside.rows) in
     let slot = Owned (kind_of (slot_of s from)) in
@@ -75,7 +75,7 @@ newref_taken code g before left at variables s to from here =
             here.guards,
         held_now,
       );
-      starts = Takes live.object (ByVariable to) backed.0 [] backed.1;
+      starts = Takes live.object (ByVariable to) [] live.backs;
       follows = Nothing (in_call_stays left (at + 1) (slice_set variables to (Some live.object)));
       keeps = keeps_all code g before at variables s (Newref to from) (RetainLoad live.object (ByVariable to)) here
           (λ k object. refl);
@@ -158,17 +158,17 @@ ret_taken code g before left at variables s from here =
 
 -- The thread holds what it held, wherever it goes on after it has loaded the kind.
 asks_taken : (code : List Instr) (g : Scene) (left next found : ℕ)
-    (variables : List (Option ℕ)) (s : State) (row : ℕ) (by : Holding)
+    (variables : List (Option ℕ)) (s : State) (row : ℕ)
     → IsInside code next variables s → LocksAgree s variables g.locked → Holds g.bag g.thread (of_variables s variables)
-    → 0 < held (reference_of g.thread by row) g.bag
+    → Backs g row
     → ((x : ℕ) → g.locked ≡ Some x → HeldBeside g.bag g.thread x (KindLoad row))
     → Taken code g found (InCall left next variables) (KindLoad row) []
-asks_taken code g left next found variables s row by inside guards holds some keeps =
+asks_taken code g left next found variables s row inside guards holds backs keeps =
     let held_now : HoldsAlone g.bag g.thread (once_each (of_variables s variables)) (KindLoad row ∷ []) =
     record { each = λ k object. omega (arith, holds.each k object) } in
     record {
       placed = (s, inside, guards, held_now);
-      starts = Asks row by some;
+      starts = Asks row backs;
       follows = Nothing (in_call_stays left next variables);
       keeps = keeps;
     }
@@ -180,10 +180,7 @@ as_taken : (code : List Instr) (g : Scene) (before : Place) (left at : ℕ)
     (dispatch_instruction g.layout g.thread g.used before left at variables (Some (As from kind otherwise)))
 as_taken code g before left at variables s from kind otherwise here =
     let some : is_empty (slot_of s from) ≡ false = first_false _ _ here.met.not_empty in
-    let live = live_slot g.bag g.thread s variables from (slot_of s from) refl some (here.inside.grounded from) here.holds in
-    let backed =
-    backed_slot g.bag g.thread s variables from live.object (slot_of s from) refl live.is_row some
-    (here.inside.grounded from) here.holds in
+    let live = named_at code g before at variables s (As from kind otherwise) from here some in
     let in_slots : from < length s.slots = omega (arith, here.variables.0, here.inside.slots) in
     let narrowed = put s from (with_kind (slot_of s from) kind) in
     let next : IsInside code (at + 1) variables narrowed = record {
@@ -212,9 +209,9 @@ as_taken code g before left at variables s from kind otherwise here =
     λ found. either (λ (next : ℕ). Taken code g found (InCall left next variables) (KindLoad live.object) [])
     (same_kind (kind_of_word found) kind) _ _
     (λ same.
-    asks_taken code g left (at + 1) found variables narrowed live.object backed.0 next
-    (guards-with_kind s variables from kind s.locked g.locked in_slots here.guards) holds backed.1 keeps)
-    (asks_taken code g left otherwise found variables s live.object backed.0 aside here.guards here.holds backed.1 keeps)
+    asks_taken code g left (at + 1) found variables narrowed live.object next
+    (guards-with_kind s variables from kind s.locked g.locked in_slots here.guards) holds live.backs keeps)
+    (asks_taken code g left otherwise found variables s live.object aside here.guards here.holds live.backs keeps)
     in
     taken_with_row code g live.object (row_of variables from)
     (λ row. Does (KindLoad row) []
@@ -262,18 +259,21 @@ instruction_taken code g before left at variables s Fail here =
     } in
     taken
 
--- What the thread's words say of kinds, at its place and at the beginning of a call.
+-- What the thread's words say of kinds and items, at its place and at the beginning of a call.
 pub record SeesKinds (code : List Instr) (g : Scene) (place : Place) : Type 0 where
   pub begins : HaveTrueKinds (words_of g) entry entry_variables
   pub knows : KnowsKinds code (words_of g) place
+  pub items : KnowsItems code g.memory g.locked place
   pub counted : CountsLockable g
 
 in_call_taken : (code : List Instr) (g : Scene) (before : Place) (left at : ℕ) (variables : List (Option ℕ)) (s : State)
     → IsAcceptableCode code → AreInstructions code → IsInside code at variables s → LocksAgree s variables g.locked
-    → Holds g.bag g.thread (of_variables s variables) → HaveTrueKinds (words_of g) s variables → CountsLockable g
+    → Holds g.bag g.thread (of_variables s variables) → HaveTrueKinds (words_of g) s variables
+    → HaveItems g.memory g.locked s variables → CountsLockable g
     → PlaceFits code g.bag g.thread [] g.locked before → (before ≢ Exiting)
     → IsTaken code g (dispatch_instruction g.layout g.thread g.used before left at variables (slice_get code at))
-in_call_taken code g before left at variables s accepted instructions inside guards holds kinds counted back remains =
+in_call_taken code g before left at variables s accepted instructions inside guards holds kinds items counted back
+    remains =
     let on = passes_on code inside.exits at s accepted inside.arrived in
     let here : StandsAt code g before at variables s on.here =
     record {
@@ -281,6 +281,7 @@ in_call_taken code g before left at variables s accepted instructions inside gua
       holds = holds;
       guards = guards;
       kinds = kinds;
+      items = items;
       counted = counted;
       back = back;
       remains = remains;
@@ -301,6 +302,14 @@ exit_held bag t holds AsCaller object =
 exit_held bag t holds InFlight object = omega (arith, holds.each InFlight object)
 exit_held bag t holds (ByVariable v) object = omega (arith, holds.each (ByVariable v) object)
 
+-- At the beginning of a call no variable borrows from a list.
+entry_items : (memory : Address → ℕ) (locked : Option ℕ) → HaveItems memory locked entry entry_variables
+entry_items memory locked zero x borrows is = absurd cc
+entry_items memory locked (suc v) x borrows is =
+    let none : borrows_item (slot_of entry (suc v)) ≡ false =
+    ap borrows_item (get_or-replicate_default 15 v Empty) in
+    absurd (false≢true (sym none ∙ borrows))
+
 -- What a thread at rest takes up meets its condition, whatever it dispatches.
 pub dispatch_taken : (code : List Instr) (g : Scene) (place : Place)
     → IsAcceptableCode code → AreInstructions code → (place ≢ Exiting)
@@ -320,8 +329,9 @@ dispatch_taken code g (Idle zero) accepted instructions stays fits sees =
     }
 dispatch_taken code g (Idle (suc left)) accepted instructions stays fits sees =
     in_call_taken code g (Idle (suc left)) left 0 entry_variables entry accepted instructions (entry_in_call code)
-    fits.0 (holds-entered g.bag g.thread (holds_plain g.bag g.thread the_root fits.1)) sees.begins sees.counted fits stays
+    fits.0 (holds-entered g.bag g.thread (holds_plain g.bag g.thread the_root fits.1)) sees.begins (entry_items g.memory g.locked)
+    sees.counted fits stays
 dispatch_taken code g (InCall left at variables) accepted instructions stays fits sees =
     in_call_taken code g (InCall left at variables) left at variables fits.0 accepted instructions fits.1 fits.2
     (holds_plain g.bag g.thread (of_variables fits.0 variables) fits.3)
-    (sees.knows fits.1.exits fits.0 fits.1.arrived) sees.counted fits stays
+    (sees.knows fits.1.exits fits.0 fits.1.arrived) (sees.items fits.1.exits fits.0 fits.1.arrived) sees.counted fits stays

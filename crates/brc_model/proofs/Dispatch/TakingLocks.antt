@@ -19,24 +19,25 @@ use Rattle.brc_model.specs.Slots.{slot_of, is_empty, is_owned, kind_of, names, w
 use Rattle.brc_model.specs.Threads.{row_of}
 use Rattle.brc_model.specs.References.{one_if}
 use Rattle.brc_model.specs.Actions.{Does, always, dispatch_instruction}
-use Rattle.brc_model.proofs.Basics.Lists.{first_false}
+use Rattle.brc_model.specs.Items.{borrows_item}
+use Rattle.brc_model.proofs.Basics.Lists.{first_false, none_some}
 use Rattle.brc_model.proofs.Frame.Aside.{HoldsAlone}
 use Rattle.brc_model.proofs.Dispatch.Holds.{of_variables}
-use Rattle.brc_model.proofs.Dispatch.Grounded.{IsGrounded, IsInside, live_slot}
+use Rattle.brc_model.proofs.Dispatch.Grounded.{IsGrounded, IsInside}
 use Rattle.brc_model.proofs.Dispatch.Guards.{is_kept, guards_none, guards_row}
 use Rattle.brc_model.proofs.Dispatch.Coded.{once_each, PlaceFits, fits_with}
 use Rattle.brc_model.proofs.Dispatch.Lockable.{lockable_word}
 use Rattle.brc_model.proofs.Dispatch.Begins.{Scene, StandsAt, Locks, Unlocks, Nothing, Taken, IsTaken, taken_with_row, in_call_stays, words_of}
-use Rattle.brc_model.proofs.Dispatch.Standing.{backed_slot, keeps_all}
+use Rattle.brc_model.proofs.Dispatch.Standing.{named_at, keeps_all}
 
 -- ---- lock
 
--- A variable that isn't empty and borrows nothing from the locked list keeps its object.
-slot_kept : (slot : Slot) (row : Option ℕ) → is_empty slot ≡ false → IsGrounded slot row → is_kept slot ≡ true
-slot_kept Empty row some grounded = absurd cc
-slot_kept (Owned k) row some grounded = refl
-slot_kept (Caller k) row some grounded = refl
-slot_kept (Locked k) row some grounded = absurd grounded
+-- A variable that isn't empty keeps its object, since no variable borrows an item while nothing is locked.
+slot_kept : (slot : Slot) → is_empty slot ≡ false → (borrows_item slot ≡ true → ⊥) → is_kept slot ≡ true
+slot_kept Empty some none = absurd cc
+slot_kept (Owned k) some none = refl
+slot_kept (Caller k) some none = refl
+slot_kept (Locked k) some none = absurd (none refl)
 
 not_false : (b : Bool) → not b ≡ false → b ≡ true
 not_false true e = refl
@@ -71,13 +72,11 @@ pub lock_taken : (code : List Instr) (g : Scene) (before : Place) (left at : ℕ
     → IsTaken code g (dispatch_instruction g.layout g.thread g.used before left at variables (Some (Lock object)))
 lock_taken code g before left at variables s object here =
     let some : is_empty (slot_of s object) ≡ false = first_false _ _ here.met.not_empty in
-    let grounded = here.inside.grounded object in
-    let live = live_slot g.bag g.thread s variables object (slot_of s object) refl some grounded here.holds in
-    let backed =
-    backed_slot g.bag g.thread s variables object live.object (slot_of s object) refl live.is_row some grounded
-    here.holds in
+    let live = named_at code g before at variables s (Lock object) object here some in
     let none : g.locked ≡ None =
     guards_none s variables s.locked g.locked (first_false _ _ here.met.first_lock) here.guards in
+    let no_items : borrows_item (slot_of s object) ≡ true → ⊥ = λ borrows.
+    none_some _ (sym none ∙ (here.items object live.object borrows live.is_row).is_locked) in
     let can : is_one_of (kind_of (slot_of s object)) lockable ≡ true =
     not_false _ (first_false _ _ here.met.right_kind) in
     let locked = with_lock s (Some object) in
@@ -92,7 +91,7 @@ lock_taken code g before left at variables s object here =
     record { each = λ k o. omega (arith, here.holds.each k o, ap one_if (says_locked s variables (Some object) k o)) } in
     let goes : PlaceFits code g.bag g.thread (LockGate live.object ∷ []) (Some live.object)
     (InCall left (at + 1) variables) =
-    (locked, next, (live.object, refl, live.is_row, slot_kept (slot_of s object) (row_of variables object) some grounded), held_now)
+    (locked, next, (live.object, refl, live.is_row, slot_kept (slot_of s object) some no_items), held_now)
     in
     let back = fits_with code g.bag g.thread (LockGate live.object ∷ []) g.locked before (λ k o. refl) (λ k o. refl)
     here.back in
@@ -103,7 +102,7 @@ lock_taken code g before left at variables s object here =
     (in_call_stays left (at + 1) variables) back here.remains in
     record {
       placed = placed.0;
-      starts = Locks live.object backed.0 backed.1 (here.counted live.object (lockable_word (kind_of (slot_of s object)) (words_of g live.object) (here.kinds object live.object live.is_row) can)) none;
+      starts = Locks live.object live.backs (here.counted live.object (lockable_word (kind_of (slot_of s object)) (words_of g live.object) (here.kinds object live.object live.is_row) can)) none;
       follows = Nothing placed.1;
       keeps = λ x is. absurd (let wrong : None ≡ Some x = sym none ∙ is in cc);
     } in
@@ -150,11 +149,7 @@ pub unlock_taken : (code : List Instr) (g : Scene) (before : Place) (left at : �
     → IsTaken code g (dispatch_instruction g.layout g.thread g.used before left at variables (Some (Unlock object)))
 unlock_taken code g before left at variables s object here =
     let some : is_empty (slot_of s object) ≡ false = first_false _ _ here.met.not_empty in
-    let grounded = here.inside.grounded object in
-    let live = live_slot g.bag g.thread s variables object (slot_of s object) refl some grounded here.holds in
-    let backed =
-    backed_slot g.bag g.thread s variables object live.object (slot_of s object) refl live.is_row some grounded
-    here.holds in
+    let live = named_at code g before at variables s (Unlock object) object here some in
     let this : names s.locked object ≡ true = not_false _ (first_false _ _ here.met.has_lock) in
     let has : g.locked ≡ Some live.object =
     guards_row s variables object live.object s.locked g.locked this live.is_row here.guards in
@@ -176,7 +171,7 @@ unlock_taken code g before left at variables s object here =
     let taken : (found : ℕ) → Taken code g found (InCall left (at + 1) variables) (UnlockGate live.object) [] =
     λ found. record {
       placed = (unlocked, next, refl, held_now);
-      starts = Unlocks live.object backed.0 backed.1 has;
+      starts = Unlocks live.object live.backs has;
       follows = Nothing (in_call_stays left (at + 1) variables);
       keeps = keeps_all code g before at variables s (Unlock object) (UnlockGate live.object) here (λ k o. refl);
     } in

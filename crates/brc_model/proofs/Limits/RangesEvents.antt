@@ -39,7 +39,7 @@ action_ranges p n m t a (Does d rest place) whole ranges found fits =
     let core = whole.kept.core in
     subst (Ranges n) (counting_done m t a d rest place)
     (duty_ranges whole.accounts n (counting m) t a.actor a.actor d rest core ranges there
-    (head_small whole.accounts n (counting m) t a.actor core there) (fits.small (ranges.each t a.actor there))
+    (head_small whole.accounts n (counting m) t a.actor core there) (fits.small ranges.kinds (ranges.each t a.actor there))
     (ranges.aside t a.actor there))
 
 thread_ranges : (p : Module) (n : ℕ) (m : StepMachine) (t : ℕ) (choice : Choice) (o : Option StepActor)

@@ -145,7 +145,7 @@ does_within p n m t a d rest place bounded few found fits =
     let now = sitting a.actor (d ∷ rest) in
     let within : DutyWithin n (with_actor (counting m) t now) t now d =
     duty_within (with_account bounded.whole.accounts t fits.account) n (with_actor (counting m) t now) t now d rest
-    fits.doing (fits.small (bounded.ranges.each t a.actor (its_found m t a found))).0
+    fits.doing (fits.small bounded.ranges.kinds (bounded.ranges.each t a.actor (its_found m t a found))).0
     (record { threads = few; cells = bounded.ranges.kinds }) in
     let long = threads_in p n m bounded.whole in
     record {
