@@ -36,4 +36,5 @@ pub mod FirstMachine
 pub mod CodeInvariant
 pub mod StepCases
 pub mod KindsHold
+pub mod ItemsHold
 pub mod CodeEvents

@@ -108,7 +108,7 @@ true_with_kind words s rows x kind in_slots names old v =
 -- ---- once nothing is borrowed from the locked list any more
 
 -- A variable that borrowed from the locked list is empty, and the others are as they were.
-slot_without_items : (slots : List Slot) (v : ℕ)
+pub slot_without_items : (slots : List Slot) (v : ℕ)
     → get_or (map without_item slots) v Empty ≡ without_item (get_or slots v Empty)
 slot_without_items [] v = refl
 slot_without_items (slot ∷ slots) zero = refl
