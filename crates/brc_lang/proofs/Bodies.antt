@@ -18,7 +18,8 @@ use Rattle.brc_lang.specs.Fault.{next_instruction_fault_of, fault_of}
 use Rattle.brc_lang.specs.Progress.{IsFirstLineOf, Passes, IsLineFault, Appends, opened, Ends, HasFaultInside}
 use Rattle.brc_lang.specs.Progress.{IsFaultInside}
 use Rattle.brc_lang.proofs.Lines.{line_any, line_before, line_count-append, line_count_one}
-use Rattle.brc_lang.proofs.Instructions.{chosen, instruction_spelled}
+use Rattle.brc_lang.proofs.Tests.{chosen}
+use Rattle.brc_lang.proofs.Instructions.{instruction_spelled}
 use Rattle.brc_lang.proofs.Forward.{leads_means}
 
 -- ---- places

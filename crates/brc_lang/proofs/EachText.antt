@@ -25,7 +25,8 @@ use Rattle.brc_lang.specs.EachText.{SpellsAModule, HasAFault}
 use Rattle.brc_lang.specs.Limits.{function_limit, instruction_limit}
 use Rattle.brc_lang.proofs.Cuts.{lacks_append}
 use Rattle.brc_lang.proofs.Lines.{line_at, line_any, line_before}
-use Rattle.brc_lang.proofs.Instructions.{chosen, same_text, instruction_spelled}
+use Rattle.brc_lang.proofs.Tests.{chosen, same_text}
+use Rattle.brc_lang.proofs.Instructions.{instruction_spelled}
 use Rattle.brc_lang.proofs.Headings.{has_name, opens, new_name_from, apart_push}
 use Rattle.brc_lang.proofs.Machine.{done_apart}
 use Rattle.brc_lang.proofs.Bodies.{all_push, instructions_push, ends_well}

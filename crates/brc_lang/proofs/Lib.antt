@@ -2,8 +2,11 @@ mod Cuts
 mod Lines
 mod Numbers
 mod Words
+mod Tests
 mod Spelling
 mod RoundTrips
+mod KindWords
+mod OperandForms
 mod Instructions
 mod Forward
 mod Headings

@@ -21,7 +21,8 @@ use Rattle.brc_lang.specs.Limits.{function_limit, instruction_limit}
 use Rattle.brc_lang.proofs.Cuts.{first_part, one_part, parts_some}
 use Rattle.brc_lang.proofs.Lines.{line_at, line_cut, line_count-append, line_count_one}
 use Rattle.brc_lang.proofs.Spelling.{name_plain}
-use Rattle.brc_lang.proofs.Instructions.{chosen, instruction_again, instruction_plain, instruction_not_end}
+use Rattle.brc_lang.proofs.Tests.{chosen}
+use Rattle.brc_lang.proofs.Instructions.{instruction_again, instruction_plain, instruction_not_end}
 use Rattle.brc_lang.proofs.Forward.{means_leads}
 use Rattle.brc_lang.proofs.Headings.{has_name, heading_again, new_name_from}
 

@@ -12,11 +12,13 @@ use Rattle.brc_lang.specs.declared.fault.FaultCode.TheVariants.{FirstLine, Unkno
 use Rattle.brc_lang.specs.declared.fault.FaultCode.TheVariants.{OverLimit, CutOff, NoMemory}
 use Rattle.brc_lang.specs.Grammar.{is_name}
 use Rattle.brc_lang.specs.Fault.{words, is_numeral, number_in, variable_in, target_in, ◌>>=◌, one_variable_in}
-use Rattle.brc_lang.specs.Fault.{two_variables_in, one_target_in, number_between, birth_in, fail_in, instruction_in, leads_forward, kind_in, as_in}
+use Rattle.brc_lang.specs.Fault.{two_variables_in, one_target_in, number_between, birth_in, item_in, store_in, kind_in}
+use Rattle.brc_lang.specs.Fault.{as_in, fail_in, path_instruction_in, item_instruction_in, instruction_in}
+use Rattle.brc_lang.specs.Fault.{leads_forward}
 use Rattle.brc_lang.specs.Fault.{Beginning, heading_fault_of, end_fault_of, next_instruction_fault_of, line_fault_of}
 use Rattle.brc_lang.specs.Fault.{is_whole, is_line_feed, fault_of, HasFault, IsOwn, IsOwnFault}
 use Rattle.brc_lang.specs.Limits.{function_limit, instruction_limit, last_variable, last_target, value_limit}
-use Rattle.brc_lang.specs.Limits.{cell_limit}
+use Rattle.brc_lang.specs.Limits.{cell_limit, last_index}
 use Rattle.brc_lang.proofs.Headings.{has_name}
 
 -- ---- results and options whose fault, if any, is the text's own
@@ -107,6 +109,34 @@ birth_own low high (a ∷ b ∷ c ∷ d ∷ []) =
     own_then (target_in d) _ (target_own d) (λ l. tt)))) own_word
 birth_own low high (a ∷ b ∷ c ∷ d ∷ x ∷ ws) = own_word
 
+item_own : (ws : List (List ℕ)) → IsOwn (item_in ws)
+item_own [] = own_word
+item_own (a ∷ []) = own_word
+item_own (a ∷ b ∷ []) = own_word
+item_own (a ∷ b ∷ c ∷ []) = own_word
+item_own (a ∷ b ∷ c ∷ d ∷ []) = own_word
+item_own (a ∷ b ∷ c ∷ d ∷ f ∷ []) =
+    own_either (bytes_eq d (codes "else")) _ (Err UnknownWord)
+    (own_then (variable_in a) _ (variable_own a) (λ to.
+    own_then (variable_in b) _ (variable_own b) (λ list.
+    own_then (number_in last_index c) _ (number_own last_index c) (λ k.
+    own_then (target_in f) _ (target_own f) (λ l. tt))))) own_word
+item_own (a ∷ b ∷ c ∷ d ∷ f ∷ x ∷ ws) = own_word
+
+store_own : (ws : List (List ℕ)) → IsOwn (store_in ws)
+store_own [] = own_word
+store_own (a ∷ []) = own_word
+store_own (a ∷ b ∷ []) = own_word
+store_own (a ∷ b ∷ c ∷ []) = own_word
+store_own (a ∷ b ∷ c ∷ d ∷ []) = own_word
+store_own (a ∷ b ∷ c ∷ d ∷ f ∷ []) =
+    own_either (bytes_eq d (codes "else")) _ (Err UnknownWord)
+    (own_then (variable_in a) _ (variable_own a) (λ list.
+    own_then (number_in last_index b) _ (number_own last_index b) (λ k.
+    own_then (variable_in c) _ (variable_own c) (λ from.
+    own_then (target_in f) _ (target_own f) (λ l. tt))))) own_word
+store_own (a ∷ b ∷ c ∷ d ∷ f ∷ x ∷ ws) = own_word
+
 kind_own : (word : List ℕ) → IsOwn (kind_in word)
 kind_own word =
     own_either (bytes_eq word (codes "none")) _ _ tt
@@ -131,23 +161,35 @@ fail_own : (ws : List (List ℕ)) → IsOwn (fail_in ws)
 fail_own [] = tt
 fail_own (a ∷ ws) = own_word
 
+path_instruction_own : (w : List ℕ) (ws : List (List ℕ)) → IsOwn (path_instruction_in w ws)
+path_instruction_own w ws =
+    own_either (bytes_eq w (codes "as")) _ _ (own_then (as_in ws) _ (as_own ws) (λ v. tt))
+    (own_either (bytes_eq w (codes "goto")) _ _ (own_then (one_target_in ws) _ (one_target_own ws) (λ v. tt))
+    (own_either (bytes_eq w (codes "ret")) _ _ (own_then (one_variable_in ws) _ (one_variable_own ws) (λ v. tt))
+    (own_either (bytes_eq w (codes "fail")) _ (Err UnknownWord) (fail_own ws) own_word)))
+
+item_instruction_own : (w : List ℕ) (ws : List (List ℕ)) → IsOwn (item_instruction_in w ws)
+item_instruction_own w ws =
+    own_either (bytes_eq w (codes "borrow")) _ _ (own_then (item_in ws) _ (item_own ws) (λ v. tt))
+    (own_either (bytes_eq w (codes "fetch")) _ _ (own_then (item_in ws) _ (item_own ws) (λ v. tt))
+    (own_either (bytes_eq w (codes "set")) _ _ (own_then (store_in ws) _ (store_own ws) (λ v. tt))
+    (own_either (bytes_eq w (codes "put")) _ _ (own_then (store_in ws) _ (store_own ws) (λ v. tt))
+    (path_instruction_own w ws))))
+
 instruction_own : (ws : List (List ℕ)) → IsOwn (instruction_in ws)
 instruction_own [] = own_word
 instruction_own (w ∷ ws) =
     own_either (bytes_eq w (codes "num")) _ _
-    (own_then (birth_in 0 value_limit ws) _ (birth_own 0 value_limit ws) (λ b. tt))
+    (own_then (birth_in 0 value_limit ws) _ (birth_own 0 value_limit ws) (λ v. tt))
     (own_either (bytes_eq w (codes "list")) _ _
-    (own_then (birth_in 1 cell_limit ws) _ (birth_own 1 cell_limit ws) (λ b. tt))
-    (own_either (bytes_eq w (codes "none")) _ _ (own_then (one_variable_in ws) _ (one_variable_own ws) (λ n. tt))
+    (own_then (birth_in 1 cell_limit ws) _ (birth_own 1 cell_limit ws) (λ v. tt))
+    (own_either (bytes_eq w (codes "none")) _ _ (own_then (one_variable_in ws) _ (one_variable_own ws) (λ v. tt))
     (own_either (bytes_eq w (codes "newref")) _ _ (own_then (two_variables_in ws) _ (two_variables_own ws) (λ v. tt))
     (own_either (bytes_eq w (codes "move")) _ _ (own_then (two_variables_in ws) _ (two_variables_own ws) (λ v. tt))
-    (own_either (bytes_eq w (codes "drop")) _ _ (own_then (one_variable_in ws) _ (one_variable_own ws) (λ n. tt))
-    (own_either (bytes_eq w (codes "lock")) _ _ (own_then (one_variable_in ws) _ (one_variable_own ws) (λ n. tt))
-    (own_either (bytes_eq w (codes "unlock")) _ _ (own_then (one_variable_in ws) _ (one_variable_own ws) (λ n. tt))
-    (own_either (bytes_eq w (codes "as")) _ _ (as_own ws)
-    (own_either (bytes_eq w (codes "goto")) _ _ (own_then (one_target_in ws) _ (one_target_own ws) (λ n. tt))
-    (own_either (bytes_eq w (codes "ret")) _ _ (own_then (one_variable_in ws) _ (one_variable_own ws) (λ n. tt))
-    (own_either (bytes_eq w (codes "fail")) _ (Err UnknownWord) (fail_own ws) own_word)))))))))))
+    (own_either (bytes_eq w (codes "drop")) _ _ (own_then (one_variable_in ws) _ (one_variable_own ws) (λ v. tt))
+    (own_either (bytes_eq w (codes "lock")) _ _ (own_then (one_variable_in ws) _ (one_variable_own ws) (λ v. tt))
+    (own_either (bytes_eq w (codes "unlock")) _ _ (own_then (one_variable_in ws) _ (one_variable_own ws) (λ v. tt))
+    (item_instruction_own w ws))))))))
 
 -- ---- lines
 

@@ -1,4 +1,4 @@
--- The one spelling of a number, of a variable, of a target and of a name.
+-- The one spelling of a number, of an index, of a variable, of a target and of a name.
 use Rattle.std.proofs.Common.{◌≡◌, ℕ, zero, suc, ◌^◌, ◌<◌, ◌≤◌, Bool, true, false, cond, leb, eqb, not, ◌&&◌, ◌||◌}
 use Rattle.std.proofs.Common.{List, [], ◌∷◌, length, get_or, Result, Ok, Err, refl, sym, ap, ◌∙◌, arith, inl, inr}
 use Rattle.std.specs.List.{list_all, list_any}
@@ -16,7 +16,8 @@ use Rattle.brc_lang.specs.declared.fault.FaultCode.TheVariants.{UnknownWord, Num
 use Rattle.brc_lang.specs.Grammar.{variable, target, is_name, is_letter, is_name_byte}
 use Rattle.brc_lang.specs.Fault.{is_numeral, number_in, number_between, variable_in, target_in, is_line_feed, ◌>>=◌}
 use Rattle.brc_lang.specs.RoundTrips.{is_space, IsPlain}
-use Rattle.brc_lang.specs.Limits.{variable_count, last_variable, target_count, last_target, name_rest_limit}
+use Rattle.brc_lang.specs.Limits.{variable_count, last_variable, target_count, last_target, index_count, last_index}
+use Rattle.brc_lang.specs.Limits.{name_rest_limit}
 use Rattle.brc_lang.proofs.Words.{lacks_from_all}
 
 -- ---- numbers
@@ -96,6 +97,9 @@ pub bind_ok : {A B : Type 0} (r : Result A FaultCode) (f : A → Result B FaultC
 bind_ok (Ok x) f y e = (x, refl, e)
 bind_ok (Err d) f y e = absurd cc
 
+pub ok_is : {A : Type 0} (x y : A) → ◌≡◌ {A = Result A FaultCode} (Ok x) (Ok y) → x ≡ y
+ok_is x y e = cc
+
 pub between_spelled : (low high : ℕ) (word : List ℕ) (n : ℕ) → high < 2 ^ 64 → number_between low high word ≡ Ok n
     → (word ≡ decimal n) × (low ≤ n) × (n ≤ high)
 between_spelled low high word n small e =
@@ -106,6 +110,14 @@ between_spelled low high word n small e =
 
 pub between_again : (low high n : ℕ) → low ≤ n → n ≤ high → high < 2 ^ 64 → number_between low high (decimal n) ≡ Ok n
 between_again low high n from to small = rw (number_again high n to (omega arith), le-leb low n from) refl
+
+-- ---- the index of an item
+
+pub index_spelled : (word : List ℕ) (n : ℕ) → number_in last_index word ≡ Ok n → (word ≡ decimal n) × (n < index_count)
+index_spelled word n e = let s = number_spelled last_index word n (omega arith) e in (s.0, omega (arith, s.1))
+
+pub index_again : (n : ℕ) → n < index_count → number_in last_index (decimal n) ≡ Ok n
+index_again n lt = number_again last_index n (omega arith) (omega arith)
 
 -- ---- variables and targets: a mark, and a number
 
@@ -160,6 +172,9 @@ variable_plain n lt = number_plain n (omega arith)
 
 pub target_plain : (n : ℕ) → n < target_count → IsPlain (target n)
 target_plain n lt = number_plain n (omega arith)
+
+pub index_plain : (n : ℕ) → n < index_count → IsPlain (decimal n)
+index_plain n lt = number_plain n (omega arith)
 
 letter_from : (c : ℕ) → is_letter c ≡ true → 97 ≤ c
 letter_from c e = leb-true 97 c (and_parts (leb 97 c) (leb c 122) e).0

@@ -11,7 +11,8 @@ use Rattle.brc_lang.specs.declared.kind.Kind.TheVariants as kinds
 use Rattle.brc_lang.specs.declared.module.Function.{Function}
 use Rattle.brc_lang.specs.declared.module.Instr.{Instr}
 use Rattle.brc_lang.specs.declared.module.Instr.TheVariants.{Num, List as ListObject, NoneObject, Newref, Move}
-use Rattle.brc_lang.specs.declared.module.Instr.TheVariants.{Drop, Lock, Unlock, As, Goto, Ret, Fail}
+use Rattle.brc_lang.specs.declared.module.Instr.TheVariants.{Drop, Lock, Unlock, Borrow, Fetch, Set, Put, As}
+use Rattle.brc_lang.specs.declared.module.Instr.TheVariants.{Goto, Ret, Fail}
 use Rattle.brc_lang.specs.declared.fault.FaultCode.{FaultCode}
 use Rattle.brc_lang.specs.declared.fault.FaultCode.TheVariants.{FirstLine, UnknownWord, Number, Target, NameTwice}
 use Rattle.brc_lang.specs.declared.fault.FaultCode.TheVariants.{OverLimit, CutOff, NoMemory}
@@ -20,7 +21,7 @@ use Rattle.brc_lang.specs.declared.module.Module.{Module}
 use Rattle.brc_lang.specs.Grammar.{is_name, IsInstruction, jump, IsFunction, AreNamedApart, heading, instructions}
 use Rattle.brc_lang.specs.Grammar.{functions, first_line}
 use Rattle.brc_lang.specs.Limits.{function_limit, instruction_limit, last_variable, last_target, value_limit}
-use Rattle.brc_lang.specs.Limits.{cell_limit}
+use Rattle.brc_lang.specs.Limits.{cell_limit, last_index}
 
 -- ---- one line
 
@@ -90,19 +91,56 @@ birth_in low high (to ∷ number ∷ word ∷ otherwise ∷ []) =
 birth_in low high _ = Err UnknownWord
 
 -- a variable, a kind, `else` and a target; `else` is compared first
-abbrev pub as_in : List (List ℕ) → Result Instr FaultCode
+abbrev pub as_in : List (List ℕ) → Result (ℕ × Kind × ℕ) FaultCode
 as_in (from ∷ kind ∷ word ∷ otherwise ∷ []) =
     if bytes_eq word (codes "else")
-    then (variable_in from >>= λ s. kind_in kind >>= λ k. target_in otherwise >>= λ l. Ok (As s k l))
+    then (variable_in from >>= λ s. kind_in kind >>= λ k. target_in otherwise >>= λ l. Ok (s, k, l))
     else Err UnknownWord
 as_in _ = Err UnknownWord
+
+-- an item and where it goes: a variable, a list and an index, `else` and a target; `else` is compared first
+abbrev pub item_in : List (List ℕ) → Result (ℕ × ℕ × ℕ × ℕ) FaultCode
+item_in (to ∷ list ∷ index ∷ word ∷ otherwise ∷ []) =
+    if bytes_eq word (codes "else")
+    then (variable_in to >>= λ d. variable_in list >>= λ c. number_in last_index index >>= λ k.
+    target_in otherwise >>= λ l. Ok (d, c, k, l))
+    else Err UnknownWord
+item_in _ = Err UnknownWord
+
+-- an item and what it becomes: a list and an index, a variable, `else` and a target; `else` is compared first
+abbrev pub store_in : List (List ℕ) → Result (ℕ × ℕ × ℕ × ℕ) FaultCode
+store_in (list ∷ index ∷ from ∷ word ∷ otherwise ∷ []) =
+    if bytes_eq word (codes "else")
+    then (variable_in list >>= λ c. number_in last_index index >>= λ k. variable_in from >>= λ s.
+    target_in otherwise >>= λ l. Ok (c, k, s, l))
+    else Err UnknownWord
+store_in _ = Err UnknownWord
 
 abbrev pub fail_in : List (List ℕ) → Result Instr FaultCode
 fail_in [] = Ok Fail
 fail_in _ = Err UnknownWord
 
--- the instruction of a line, or its fault: the first word, the number of words and `else` first, then the words from
--- left to right
+-- ---- the instruction of a line, or its fault: the first word, the number of words and `else` come first, then the
+-- words from left to right
+
+-- one that says where the call goes on, or what it returns
+abbrev pub path_instruction_in : List ℕ → List (List ℕ) → Result Instr FaultCode
+path_instruction_in w ws =
+    if bytes_eq w (codes "as") then (as_in ws >>= λ b. Ok (As b.0 b.1 b.2))
+    else if bytes_eq w (codes "goto") then (one_target_in ws >>= λ l. Ok (Goto l))
+    else if bytes_eq w (codes "ret") then (one_variable_in ws >>= λ s. Ok (Ret s))
+    else if bytes_eq w (codes "fail") then fail_in ws
+    else Err UnknownWord
+
+-- one that reads or stores an item of a list, or one of those above
+abbrev pub item_instruction_in : List ℕ → List (List ℕ) → Result Instr FaultCode
+item_instruction_in w ws =
+    if bytes_eq w (codes "borrow") then (item_in ws >>= λ b. Ok (Borrow b.0 b.1 b.2 b.3))
+    else if bytes_eq w (codes "fetch") then (item_in ws >>= λ b. Ok (Fetch b.0 b.1 b.2 b.3))
+    else if bytes_eq w (codes "set") then (store_in ws >>= λ b. Ok (Set b.0 b.1 b.2 b.3))
+    else if bytes_eq w (codes "put") then (store_in ws >>= λ b. Ok (Put b.0 b.1 b.2 b.3))
+    else path_instruction_in w ws
+
 abbrev pub instruction_in : List (List ℕ) → Result Instr FaultCode
 instruction_in [] = Err UnknownWord
 instruction_in (w ∷ ws) =
@@ -114,11 +152,7 @@ instruction_in (w ∷ ws) =
     else if bytes_eq w (codes "drop") then (one_variable_in ws >>= λ s. Ok (Drop s))
     else if bytes_eq w (codes "lock") then (one_variable_in ws >>= λ c. Ok (Lock c))
     else if bytes_eq w (codes "unlock") then (one_variable_in ws >>= λ c. Ok (Unlock c))
-    else if bytes_eq w (codes "as") then as_in ws
-    else if bytes_eq w (codes "goto") then (one_target_in ws >>= λ l. Ok (Goto l))
-    else if bytes_eq w (codes "ret") then (one_variable_in ws >>= λ s. Ok (Ret s))
-    else if bytes_eq w (codes "fail") then fail_in ws
-    else Err UnknownWord
+    else item_instruction_in w ws
 
 -- ---- the targets of a function
 

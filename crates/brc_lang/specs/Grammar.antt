@@ -9,8 +9,10 @@ use Rattle.brc_lang.specs.declared.module.Module.{Module}
 use Rattle.brc_lang.specs.declared.module.Function.{Function}
 use Rattle.brc_lang.specs.declared.module.Instr.{Instr}
 use Rattle.brc_lang.specs.declared.module.Instr.TheVariants.{Num, List as ListObject, NoneObject, Newref, Move}
-use Rattle.brc_lang.specs.declared.module.Instr.TheVariants.{Drop, Lock, Unlock, As, Goto, Ret, Fail}
-use Rattle.brc_lang.specs.Limits.{function_limit, instruction_limit, variable_count, target_count, cell_limit, name_rest_limit}
+use Rattle.brc_lang.specs.declared.module.Instr.TheVariants.{Drop, Lock, Unlock, Borrow, Fetch, Set, Put, As}
+use Rattle.brc_lang.specs.declared.module.Instr.TheVariants.{Goto, Ret, Fail}
+use Rattle.brc_lang.specs.Limits.{function_limit, instruction_limit, variable_count, target_count, cell_limit}
+use Rattle.brc_lang.specs.Limits.{index_count, name_rest_limit}
 
 -- ---- spellings
 
@@ -50,6 +52,14 @@ instruction_words (Move to from) = codes "move" ∷ variable to ∷ variable fro
 instruction_words (Drop from) = codes "drop" ∷ variable from ∷ []
 instruction_words (Lock object) = codes "lock" ∷ variable object ∷ []
 instruction_words (Unlock object) = codes "unlock" ∷ variable object ∷ []
+instruction_words (Borrow to list index otherwise) =
+    codes "borrow" ∷ variable to ∷ variable list ∷ decimal index ∷ codes "else" ∷ target otherwise ∷ []
+instruction_words (Fetch to list index otherwise) =
+    codes "fetch" ∷ variable to ∷ variable list ∷ decimal index ∷ codes "else" ∷ target otherwise ∷ []
+instruction_words (Set list index from otherwise) =
+    codes "set" ∷ variable list ∷ decimal index ∷ variable from ∷ codes "else" ∷ target otherwise ∷ []
+instruction_words (Put list index from otherwise) =
+    codes "put" ∷ variable list ∷ decimal index ∷ variable from ∷ codes "else" ∷ target otherwise ∷ []
 instruction_words (As from kind otherwise) =
     codes "as" ∷ variable from ∷ kind_name kind ∷ codes "else" ∷ target otherwise ∷ []
 instruction_words (Goto to) = codes "goto" ∷ target to ∷ []
@@ -102,6 +112,14 @@ IsInstruction (Move to from) = (to < variable_count) × (from < variable_count)
 IsInstruction (Drop from) = from < variable_count
 IsInstruction (Lock object) = object < variable_count
 IsInstruction (Unlock object) = object < variable_count
+IsInstruction (Borrow to list index otherwise) =
+    (to < variable_count) × (list < variable_count) × (index < index_count) × (otherwise < target_count)
+IsInstruction (Fetch to list index otherwise) =
+    (to < variable_count) × (list < variable_count) × (index < index_count) × (otherwise < target_count)
+IsInstruction (Set list index from otherwise) =
+    (list < variable_count) × (index < index_count) × (from < variable_count) × (otherwise < target_count)
+IsInstruction (Put list index from otherwise) =
+    (list < variable_count) × (index < index_count) × (from < variable_count) × (otherwise < target_count)
 IsInstruction (As from kind otherwise) =
     (from < variable_count) × (kind ≢ kinds.Any) × (otherwise < target_count)
 IsInstruction (Goto to) = to < target_count
@@ -118,6 +136,10 @@ jump (Move to from) = None
 jump (Drop from) = None
 jump (Lock object) = None
 jump (Unlock object) = None
+jump (Borrow to list index otherwise) = Some otherwise
+jump (Fetch to list index otherwise) = Some otherwise
+jump (Set list index from otherwise) = Some otherwise
+jump (Put list index from otherwise) = Some otherwise
 jump (As from kind otherwise) = Some otherwise
 jump (Goto to) = Some to
 jump (Ret from) = None

@@ -30,6 +30,13 @@ value_limit = 2 ^ 32 - 1
 abbrev pub cell_limit : ℕ
 cell_limit = 8
 
+-- the index of an item, from 0; a list may have fewer cells
+abbrev pub index_count : ℕ
+index_count = 256
+
+abbrev pub last_index : ℕ
+last_index = 255
+
 -- the bytes of a name, and those after its first letter
 abbrev pub name_limit : ℕ
 name_limit = 16

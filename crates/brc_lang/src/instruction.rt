@@ -1,14 +1,12 @@
 //! The instruction of a line.
 
-ghost use Rattle.std.specs.Prelude.{◌≡◌, ◌≤◌, ◌∷◌, [], IfOk};
-ghost use Rattle.brc_lang.specs.Fault.{words, one_variable_in, two_variables_in, one_target_in, birth_in, instruction_in, as_in};
+ghost use Rattle.std.specs.Prelude.{◌≡◌, ◌∷◌, []};
+ghost use Rattle.brc_lang.specs.Fault.{words, instruction_in, item_instruction_in, path_instruction_in};
 
 use crate::fault::FaultCode;
-use crate::lexing::{
-    four_words, is_word, kind, number_between, one_word, split_word, target, two_words, variable,
-};
+use crate::lexing::{is_word, split_word};
 use crate::module::Instr;
-use crate::variable::Variable;
+use crate::operands::{asked_kind, birth, item, one_target, one_variable, store, two_variables};
 
 /// The most cells of a list.
 const MOST_CELLS: u32 = 8;
@@ -73,8 +71,63 @@ fn instruction_with(word: &[u8], operands: &[u8]) -> Result<Instr, FaultCode>
     } else if is_word(word, b"unlock") {
         let object = one_variable(operands)?;
         Ok(Instr::Unlock { object })
-    } else if is_word(word, b"as") {
-        as_kind(operands)
+    } else {
+        item_instruction(word, operands)
+    }
+}
+
+/// Reads an instruction that reads or stores an item of a list, or one of `path_instruction`.
+fn item_instruction(word: &[u8], operands: &[u8]) -> Result<Instr, FaultCode>
+    ensures { result ≡ item_instruction_in word.now (words operands.now) }
+{
+    if is_word(word, b"borrow") {
+        let (to, list, index, otherwise) = item(operands)?;
+        Ok(Instr::Borrow {
+            to,
+            list,
+            index,
+            otherwise,
+        })
+    } else if is_word(word, b"fetch") {
+        let (to, list, index, otherwise) = item(operands)?;
+        Ok(Instr::Fetch {
+            to,
+            list,
+            index,
+            otherwise,
+        })
+    } else if is_word(word, b"set") {
+        let (list, index, from, otherwise) = store(operands)?;
+        Ok(Instr::Set {
+            list,
+            index,
+            from,
+            otherwise,
+        })
+    } else if is_word(word, b"put") {
+        let (list, index, from, otherwise) = store(operands)?;
+        Ok(Instr::Put {
+            list,
+            index,
+            from,
+            otherwise,
+        })
+    } else {
+        path_instruction(word, operands)
+    }
+}
+
+/// Reads an instruction that says where the call goes on, or what it returns.
+fn path_instruction(word: &[u8], operands: &[u8]) -> Result<Instr, FaultCode>
+    ensures { result ≡ path_instruction_in word.now (words operands.now) }
+{
+    if is_word(word, b"as") {
+        let (from, kind, otherwise) = asked_kind(operands)?;
+        Ok(Instr::As {
+            from,
+            kind,
+            otherwise,
+        })
     } else if is_word(word, b"goto") {
         let target = one_target(operands)?;
         Ok(Instr::Goto { target })
@@ -83,71 +136,5 @@ fn instruction_with(word: &[u8], operands: &[u8]) -> Result<Instr, FaultCode>
         Ok(Instr::Ret { from })
     } else {
         Err(FaultCode::UnknownWord)
-    }
-}
-
-/// Reads the operands of `num` or `list`: a variable, a number from `low` to `high`, `else` and a target.
-fn birth(low: u32, high: u32, operands: &[u8]) -> Result<(Variable, u32, u8), FaultCode>
-    ensures read { result ≡ birth_in low high (words operands.now) }
-    ensures in_range { IfOk result (λ b. b.1 ≤ high) }
-{
-    let Some((to, number, word, otherwise)) = four_words(operands) else {
-        return Err(FaultCode::UnknownWord);
-    };
-    if !is_word(word, b"else") {
-        return Err(FaultCode::UnknownWord);
-    }
-    let to = variable(to)?;
-    let number = number_between(low, high, number)?;
-    let otherwise = target(otherwise)?;
-    Ok((to, number, otherwise))
-}
-
-/// Reads the operands of `as`: a variable, a kind, `else` and a target.
-fn as_kind(operands: &[u8]) -> Result<Instr, FaultCode>
-    ensures { result ≡ as_in (words operands.now) }
-{
-    let Some((from, asked, word, otherwise)) = four_words(operands) else {
-        return Err(FaultCode::UnknownWord);
-    };
-    if !is_word(word, b"else") {
-        return Err(FaultCode::UnknownWord);
-    }
-    let from = variable(from)?;
-    let kind = kind(asked)?;
-    let otherwise = target(otherwise)?;
-    Ok(Instr::As {
-        from,
-        kind,
-        otherwise,
-    })
-}
-
-fn one_variable(operands: &[u8]) -> Result<Variable, FaultCode>
-    ensures { result ≡ one_variable_in (words operands.now) }
-{
-    match one_word(operands) {
-        Some(word) => variable(word),
-        None => Err(FaultCode::UnknownWord),
-    }
-}
-
-fn two_variables(operands: &[u8]) -> Result<(Variable, Variable), FaultCode>
-    ensures { result ≡ two_variables_in (words operands.now) }
-{
-    let Some((first, second)) = two_words(operands) else {
-        return Err(FaultCode::UnknownWord);
-    };
-    let to = variable(first)?;
-    let from = variable(second)?;
-    Ok((to, from))
-}
-
-fn one_target(operands: &[u8]) -> Result<u8, FaultCode>
-    ensures { result ≡ one_target_in (words operands.now) }
-{
-    match one_word(operands) {
-        Some(word) => target(word),
-        None => Err(FaultCode::UnknownWord),
     }
 }

@@ -9,6 +9,7 @@ ghost use Rattle.brc_lang.specs.declared.fault.FaultCode.TheVariants.{Number};
 ghost use Rattle.std.specs.Str.{bytes_eq};
 ghost use Rattle.brc_lang.specs.Grammar.{is_name, is_name_byte};
 ghost use Rattle.brc_lang.specs.Fault.{words, number_in, number_between, variable_in, target_in, is_line_feed, kind_in};
+ghost use Rattle.brc_lang.specs.Limits.{last_index};
 ghost use Rattle.brc_lang.specs.Progress.{IsFirstLineOf};
 
 use crate::fault::FaultCode;
@@ -18,6 +19,8 @@ use crate::variable::Variable;
 const LAST_VARIABLE: u32 = 15;
 
 const LAST_TARGET: u32 = 255;
+
+const LAST_INDEX: u32 = 255;
 
 /// Returns the first line without its line feed and the text below it, or `None` if the text has no line feed.
 pub fn split_line(text: &[u8]) -> Option<(&[u8], &[u8])>
@@ -79,6 +82,18 @@ pub fn four_words(line: &[u8]) -> Option<FourWords<'_>>
     let (first, rest) = split_word(line);
     let (second, third, fourth) = three_words(rest?)?;
     Some((first, second, third, fourth))
+}
+
+type FiveWords<'a> = (&'a [u8], &'a [u8], &'a [u8], &'a [u8], &'a [u8]);
+
+/// Returns the five words of the line, or `None` if it has another number of words.
+pub(crate) fn five_words(line: &[u8]) -> Option<FiveWords<'_>>
+    ensures { MatchOption result (length (words line.now) ≢ 5)
+        (λ w. words line.now ≡ w.0.now ∷ w.1.now ∷ w.2.now ∷ w.3.now ∷ w.4.now ∷ []) }
+{
+    let (first, rest) = split_word(line);
+    let (second, third, fourth, fifth) = four_words(rest?)?;
+    Some((first, second, third, fourth, fifth))
 }
 
 fn position_of(wanted: u8, text: &[u8]) -> Option<usize>
@@ -177,6 +192,13 @@ pub(crate) fn target(word: &[u8]) -> Result<u8, FaultCode>
         [b'@', digits @ ..] => Ok(number(LAST_TARGET, digits)? as u8),
         _ => Err(FaultCode::UnknownWord),
     }
+}
+
+/// Reads the index of an item: a number below 256. Returns `Number` for another word.
+pub(crate) fn index(word: &[u8]) -> Result<u8, FaultCode>
+    ensures { result ≡ number_in last_index word.now }
+{
+    Ok(number(LAST_INDEX, word)? as u8)
 }
 
 /// Reads a kind: `none`, `num`, `list`, `file` or `sock`. Returns `UnknownWord` for another word.

@@ -9,6 +9,7 @@ mod laws;
 mod lexing;
 mod module;
 mod name;
+mod operands;
 mod output;
 mod reading;
 mod sequence;

@@ -64,6 +64,40 @@ pub enum Instr {
     Unlock {
         object: Variable,
     },
+    /// `borrow vD vC I else @L`: borrows in vD the item at index I of the list that vC names (`PyList_GetItem`); goes
+    /// on at L if the index is out of range or the cell is empty.
+    Borrow {
+        to: Variable,
+        list: Variable,
+        index: u8,
+        otherwise: u8,
+    },
+    /// `fetch vD vC I else @L`: owns in vD a new strong reference to the item at index I of the list that vC names
+    /// (`PyList_GetItemRef`); goes on at L if the index is out of range or the cell is empty.
+    Fetch {
+        to: Variable,
+        list: Variable,
+        index: u8,
+        otherwise: u8,
+    },
+    /// `set vC I vS else @L`: moves the reference from vS to the cell at index I of the list that vC names, and
+    /// releases the old item (`PyList_SetItem`); goes on at L if the index is out of range. It steals the reference on
+    /// both exits: vS is empty afterwards, and at L the reference is released.
+    Set {
+        list: Variable,
+        index: u8,
+        from: Variable,
+        otherwise: u8,
+    },
+    /// `put vC I vS else @L`: stores a new strong reference to the object that vS names in the cell at index I of the
+    /// list that vC names, and releases the old item; goes on at L if the index is out of range. It steals nothing
+    /// (as `PyDict_SetItem`).
+    Put {
+        list: Variable,
+        index: u8,
+        from: Variable,
+        otherwise: u8,
+    },
     /// `as vS KIND else @L`: goes on at L if the object that vS names isn't of the kind.
     As {
         from: Variable,
@@ -90,6 +124,10 @@ impl Instr {
         match self {
             Instr::Num { otherwise, .. }
             | Instr::List { otherwise, .. }
+            | Instr::Borrow { otherwise, .. }
+            | Instr::Fetch { otherwise, .. }
+            | Instr::Set { otherwise, .. }
+            | Instr::Put { otherwise, .. }
             | Instr::As { otherwise, .. } => Some(otherwise),
             Instr::Goto { target } => Some(target),
             _ => None,

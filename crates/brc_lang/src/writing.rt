@@ -1,7 +1,8 @@
 ghost use Rattle.std.specs.Prelude.{[], ◌∷◌, ◌++◌, OnOk, OnErr, codes, decimal};
 ghost use Rattle.std.specs.Io.KnownBytes.{Appends};
 ghost use Rattle.brc_lang.specs.Written.{AppendsBeginning};
-ghost use Rattle.brc_lang.specs.Grammar.{spaced, variable as variable_text, target as target_text, instruction as instruction_text, kind_name};
+ghost use Rattle.brc_lang.specs.Grammar.{spaced, variable as variable_text, target as target_text, kind_name};
+ghost use Rattle.brc_lang.specs.Grammar.{instruction as instruction_text};
 ghost use Rattle.brc_lang.specs.declared.module.Instr.TheVariants.{Num, As};
 ghost use Rattle.brc_lang.specs.Grammar.{instructions as instructions_text, line as line_text, heading as heading_text};
 ghost use Rattle.brc_lang.specs.Grammar.{function as function_text, text as module_text};
@@ -89,6 +90,30 @@ fn write_instruction<W: Write>(instr: Instr, writer: &mut W) -> io::Result<()>
         Instr::Drop { from } => write_operand(b"drop ", from, writer),
         Instr::Lock { object } => write_operand(b"lock ", object, writer),
         Instr::Unlock { object } => write_operand(b"unlock ", object, writer),
+        Instr::Borrow {
+            to,
+            list,
+            index,
+            otherwise,
+        } => write_item(b"borrow ", to, list, index, otherwise, writer),
+        Instr::Fetch {
+            to,
+            list,
+            index,
+            otherwise,
+        } => write_item(b"fetch ", to, list, index, otherwise, writer),
+        Instr::Set {
+            list,
+            index,
+            from,
+            otherwise,
+        } => write_store(b"set ", list, index, from, otherwise, writer),
+        Instr::Put {
+            list,
+            index,
+            from,
+            otherwise,
+        } => write_store(b"put ", list, index, from, otherwise, writer),
         Instr::As {
             from,
             kind,
@@ -115,6 +140,49 @@ fn write_birth<W: Write>(
 {
     write_operand(before, to, writer)?;
     write_numeral(b" ", u64::from(number), writer)?;
+    write_numeral(b" else @", u64::from(otherwise), writer)
+}
+
+/// Writes the bytes and then the variable, the list, the index, `else` and the target.
+fn write_item<W: Write>(
+    before: &[u8],
+    to: Variable,
+    list: Variable,
+    index: u8,
+    otherwise: u8,
+    writer: &mut W,
+) -> io::Result<()>
+    ensures whole { OnOk result (Appends (W.contents writer.old) (W.contents writer.new)
+        (before.now ++ spaced (variable_text to ∷ variable_text list ∷ decimal index ∷ codes "else"
+        ∷ target_text otherwise ∷ []))) }
+    ensures begun { OnErr result (AppendsBeginning (W.contents writer.old) (W.contents writer.new)
+        (before.now ++ spaced (variable_text to ∷ variable_text list ∷ decimal index ∷ codes "else"
+        ∷ target_text otherwise ∷ []))) }
+{
+    write_operands(before, to, list, writer)?;
+    write_numeral(b" ", u64::from(index), writer)?;
+    write_numeral(b" else @", u64::from(otherwise), writer)
+}
+
+/// Writes the bytes and then the list, the index, the variable, `else` and the target.
+fn write_store<W: Write>(
+    before: &[u8],
+    list: Variable,
+    index: u8,
+    from: Variable,
+    otherwise: u8,
+    writer: &mut W,
+) -> io::Result<()>
+    ensures whole { OnOk result (Appends (W.contents writer.old) (W.contents writer.new)
+        (before.now ++ spaced (variable_text list ∷ decimal index ∷ variable_text from ∷ codes "else"
+        ∷ target_text otherwise ∷ []))) }
+    ensures begun { OnErr result (AppendsBeginning (W.contents writer.old) (W.contents writer.new)
+        (before.now ++ spaced (variable_text list ∷ decimal index ∷ variable_text from ∷ codes "else"
+        ∷ target_text otherwise ∷ []))) }
+{
+    write_operand(before, list, writer)?;
+    write_numeral(b" ", u64::from(index), writer)?;
+    write_operand(b" ", from, writer)?;
     write_numeral(b" else @", u64::from(otherwise), writer)
 }
 
