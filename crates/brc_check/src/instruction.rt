@@ -1,13 +1,14 @@
 //! One instruction: the code that it reports in a state, the state that it leaves, and the point to which it leads.
 
 ghost use Rattle.std.specs.Prelude.{◌≡◌, ◌+◌, ◌<◌, ◌^◌};
-ghost use Rattle.brc_model.specs.Slots.{lowest, birth_slot, after, target};
+ghost use Rattle.brc_model.specs.Slots.{lowest, after, target};
 
 use crate::refusing::{
     as_refusal, drop_refusal, fail_refusal, into_refusal, move_refusal, newref_refusal, ret_refusal,
 };
+use crate::refusing_items::{put_refusal, read_refusal, set_refusal};
 use crate::refusing_locks::{lock_refusal, unlock_refusal};
-use crate::slots::{forget_items, kind_of, slot, with_kind};
+use crate::slots::{forget_items, kind_of, put, slot, with_kind};
 use brc_lang::{Instr, Kind};
 use brc_model::{CheckCode, Exit, Slot, State};
 
@@ -24,6 +25,11 @@ pub fn refusal(instr: Instr, state: &State) -> Option<CheckCode>
         Instr::Drop { from } => drop_refusal(state, from),
         Instr::Lock { object } => lock_refusal(state, object),
         Instr::Unlock { object } => unlock_refusal(state, object),
+        Instr::Borrow { to, list, .. } | Instr::Fetch { to, list, .. } => {
+            read_refusal(state, to, list)
+        }
+        Instr::Set { list, from, .. } => set_refusal(state, list, from),
+        Instr::Put { list, from, .. } => put_refusal(state, list, from),
         Instr::As { from, kind, .. } => as_refusal(state, from, kind),
         Instr::Goto { .. } => None,
         Instr::Ret { from } => ret_refusal(state, from),
@@ -31,12 +37,13 @@ pub fn refusal(instr: Instr, state: &State) -> Option<CheckCode>
     }
 }
 
-/// Returns what an exit of a birth leaves in its variable: an owned reference to the new object, or nothing.
-fn birth_slot(kind: Kind, exit: Exit) -> Slot
-    ensures { result ≡ birth_slot kind exit }
+/// Returns what the exit leaves in the variable that the instruction fills: a fault leaves nothing.
+fn filled(slot: Slot, exit: Exit) -> Slot
+    ensures success { exit ≡ Exit.Success → result ≡ slot }
+    ensures fault { exit ≡ Exit.Fault → result ≡ Slot.Empty }
 {
     match exit {
-        Exit::Success => Slot::Owned(kind),
+        Exit::Success => slot,
         Exit::Fault => Slot::Empty,
     }
 }
@@ -46,30 +53,38 @@ pub fn apply(instr: Instr, exit: Exit, state: &mut State)
     ensures { state.new ≡ after instr exit state.old }
 {
     match instr {
-        Instr::Num { to, .. } => state.slots[to.number() as usize] = birth_slot(Kind::Num, exit),
-        Instr::List { to, .. } => state.slots[to.number() as usize] = birth_slot(Kind::List, exit),
-        Instr::NoneObject { to } => state.slots[to.number() as usize] = Slot::Owned(Kind::None),
+        Instr::Num { to, .. } => put(state, to, filled(Slot::Owned(Kind::Num), exit)),
+        Instr::List { to, .. } => put(state, to, filled(Slot::Owned(Kind::List), exit)),
+        Instr::NoneObject { to } => put(state, to, Slot::Owned(Kind::None)),
         Instr::Newref { to, from } => {
             let kind = kind_of(slot(state, from));
-            state.slots[to.number() as usize] = Slot::Owned(kind);
+            put(state, to, Slot::Owned(kind));
         }
         Instr::Move { to, from } => {
             let handed = Slot::Owned(kind_of(slot(state, from)));
-            state.slots[from.number() as usize] = Slot::Empty;
-            state.slots[to.number() as usize] = handed;
+            put(state, from, Slot::Empty);
+            put(state, to, handed);
         }
-        Instr::Drop { from } => state.slots[from.number() as usize] = Slot::Empty,
+        Instr::Drop { from } => put(state, from, Slot::Empty),
         Instr::Lock { object } => state.locked = Some(object),
         Instr::Unlock { .. } => {
             forget_items(state);
             state.locked = None;
         }
-        Instr::As { from, kind, .. } => match exit {
-            Exit::Success => {
-                state.slots[from.number() as usize] = with_kind(slot(state, from), kind);
+        Instr::Borrow { to, .. } => put(state, to, filled(Slot::Locked(Kind::Any), exit)),
+        Instr::Fetch { to, .. } => put(state, to, filled(Slot::Owned(Kind::Any), exit)),
+        // `PyList_SetItem` steals the reference, also if the index is out of range.
+        Instr::Set { from, .. } => {
+            put(state, from, Slot::Empty);
+            forget_items(state);
+        }
+        Instr::Put { .. } => forget_items(state),
+        Instr::As { from, kind, .. } => {
+            if let Exit::Success = exit {
+                let asked = with_kind(slot(state, from), kind);
+                put(state, from, asked);
             }
-            Exit::Fault => (),
-        },
+        }
         Instr::Goto { .. } | Instr::Ret { .. } | Instr::Fail => (),
     }
 }
@@ -82,6 +97,10 @@ pub fn target_of(instr: Instr, exit: Exit, at: usize) -> Option<usize>
     match instr {
         Instr::Num { otherwise, .. }
         | Instr::List { otherwise, .. }
+        | Instr::Borrow { otherwise, .. }
+        | Instr::Fetch { otherwise, .. }
+        | Instr::Set { otherwise, .. }
+        | Instr::Put { otherwise, .. }
         | Instr::As { otherwise, .. } => Some(match exit {
             Exit::Success => at + 1,
             Exit::Fault => otherwise as usize,

@@ -11,6 +11,7 @@ mod inferring;
 mod instruction;
 mod refused;
 mod refusing;
+mod refusing_items;
 mod refusing_locks;
 mod slots;
 mod state;

@@ -3,7 +3,7 @@
 ghost use Rattle.std.specs.Prelude.{◌≡◌};
 ghost use Rattle.brc_model.specs.Slots.{lowest};
 
-use crate::slots::{any_owned, is_locked, kind_of, may_be, slot};
+use crate::slots::{any_owned, is_locked, kind_of, may_be, put, slot};
 use brc_lang::{Instr, Kind, Variable};
 use brc_model::{CheckCode, Slot, State};
 
@@ -70,14 +70,12 @@ pub fn ret_refusal(state: &State, from: Variable) -> Option<CheckCode>
         Slot::Caller(_) | Slot::Locked(_) => return Some(CheckCode::NotOwned),
         Slot::Owned(_) => (),
     }
-    let mut others = state.slots;
-    others[from.number() as usize] = Slot::Empty;
-    if any_owned(&others) {
-        return Some(CheckCode::LeftOwned);
-    }
-    state.locked.is_some().then_some(CheckCode::LeftLocked)
+    let mut given_up = *state;
+    put(&mut given_up, from, Slot::Empty);
+    fail_refusal(&given_up)
 }
 
+/// Returns the lowest code that the end of a call reports in the state.
 pub fn fail_refusal(state: &State) -> Option<CheckCode>
     ensures { result ≡ lowest Instr.Fail state.now }
 {

@@ -1,9 +1,10 @@
 //! What a state knows of its variables, and how it forgets what was borrowed from the locked list.
 
-ghost use Rattle.std.specs.Prelude.{◌≡◌, map};
+ghost use Rattle.std.specs.Prelude.{◌≡◌, [], ◌∷◌, map};
 ghost use Rattle.std.specs.List.{list_any};
+ghost use Rattle.brc_lang.specs.declared.kind.Kind.TheVariants as kinds;
 ghost use Rattle.brc_model.specs.Slots.{slot_of, is_owned, kind_of, is_one_of, lockable, names, may_be, with_kind};
-ghost use Rattle.brc_model.specs.Slots.{without_item, without_items};
+ghost use Rattle.brc_model.specs.Slots.{put, without_item, without_items};
 
 use brc_lang::{Kind, Variable};
 use brc_model::{Slot, State};
@@ -12,6 +13,13 @@ pub fn slot(state: &State, variable: Variable) -> Slot
     ensures { result ≡ slot_of state.now variable }
 {
     state.slots[variable.number() as usize]
+}
+
+/// Replaces the variable's slot.
+pub fn put(state: &mut State, variable: Variable, slot: Slot)
+    ensures { state.new ≡ put state.old variable slot }
+{
+    state.slots[variable.number() as usize] = slot;
 }
 
 pub fn kind_of(slot: Slot) -> Kind
@@ -28,6 +36,13 @@ pub fn may_be(known: Kind, asked: Kind) -> bool
     ensures { result ≡ may_be known asked }
 {
     known == Kind::Any || known == asked
+}
+
+/// Returns whether the slot is known to name a list.
+pub fn is_list(slot: Slot) -> bool
+    ensures { result ≡ is_one_of (kind_of slot) (kinds.List ∷ []) }
+{
+    kind_of(slot) == Kind::List
 }
 
 /// Returns whether objects of the kind can be locked.

@@ -1,7 +1,7 @@
 -- Actions. At an event a thread of the step world does the first duty of its agenda, or what its code dispatches.
 use Rattle.std.specs.Prelude.{ℕ, zero, suc, ◌+◌, ◌*◌, Bool, true, false, ◌&&◌, ◌==◌, nat_lt, if◌then◌else◌, List, [], ◌∷◌, length, Option, None, Some, slice_get, slice_set}
 use Rattle.brc_lang.specs.declared.module.Instr.{Instr}
-use Rattle.brc_lang.specs.declared.module.Instr.TheVariants.{Num, List as ListObject, NoneObject, Newref, Move as MoveReference, Drop, Lock, Unlock, Goto, Ret, Fail, As}
+use Rattle.brc_lang.specs.declared.module.Instr.TheVariants.{Num, List as ListObject, NoneObject, Newref, Move as MoveReference, Drop, Lock, Unlock, Borrow, Fetch, Set, Put, Goto, Ret, Fail, As}
 use Rattle.brc_lang.specs.declared.module.Function.{Function}
 use Rattle.brc_word.specs.Words.{half, free_word}
 use Rattle.brc_model.specs.declared.thread.Choice.{Choice}
@@ -92,6 +92,10 @@ dispatch_instruction layout t used before left at variables (Some (Lock object))
 dispatch_instruction layout t used before left at variables (Some (Unlock object)) =
     with_row (row_of variables object)
     (λ row. Does (UnlockGate row) [] (always (InCall left (at + 1) variables)))
+dispatch_instruction layout t used before left at variables (Some (Borrow to list index otherwise)) = Stuck
+dispatch_instruction layout t used before left at variables (Some (Fetch to list index otherwise)) = Stuck
+dispatch_instruction layout t used before left at variables (Some (Set list index from otherwise)) = Stuck
+dispatch_instruction layout t used before left at variables (Some (Put list index from otherwise)) = Stuck
 dispatch_instruction layout t used before left at variables (Some (As from kind otherwise)) =
     with_row (row_of variables from)
     (λ row. Does (KindLoad row) []

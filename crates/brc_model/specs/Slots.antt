@@ -6,7 +6,7 @@ use Rattle.std.specs.List.{list_any, slice_index_or}
 use Rattle.brc_lang.specs.declared.kind.Kind.{Kind}
 use Rattle.brc_lang.specs.declared.kind.Kind.TheVariants as kinds
 use Rattle.brc_lang.specs.declared.module.Instr.{Instr}
-use Rattle.brc_lang.specs.declared.module.Instr.TheVariants.{Num, List as ListObject, NoneObject, Newref, Move, Drop, Lock, Unlock, Goto, Ret, Fail, As}
+use Rattle.brc_lang.specs.declared.module.Instr.TheVariants.{Num, List as ListObject, NoneObject, Newref, Move, Drop, Lock, Unlock, Borrow, Fetch, Set, Put, Goto, Ret, Fail, As}
 use Rattle.brc_model.specs.Kinds.{same_kind}
 use Rattle.brc_model.specs.declared.code.CheckCode.{CheckCode}
 use Rattle.brc_model.specs.declared.code.CheckCode.TheVariants.{EmptyUsed, WrongKind, NotOwned, StillOwns, LeftOwned, LeftLocked, SecondLock, NotLocked, LockedChanged}
@@ -133,6 +133,14 @@ conditions_of (Move to from) = Give from ∷ Into to ∷ []
 conditions_of (Drop from) = Give from ∷ []
 conditions_of (Lock object) = Use object ∷ IsOneOf object lockable ∷ NoLockYet ∷ []
 conditions_of (Unlock object) = Use object ∷ IsLocked object ∷ []
+conditions_of (Borrow to list index otherwise) =
+    Into to ∷ Use list ∷ IsOneOf list (kinds.List ∷ []) ∷ IsLocked list ∷ []
+conditions_of (Fetch to list index otherwise) =
+    Into to ∷ Use list ∷ IsOneOf list (kinds.List ∷ []) ∷ IsLocked list ∷ []
+conditions_of (Set list index from otherwise) =
+    Give from ∷ Use list ∷ IsOneOf list (kinds.List ∷ []) ∷ IsLocked list ∷ []
+conditions_of (Put list index from otherwise) =
+    Use from ∷ Use list ∷ IsOneOf list (kinds.List ∷ []) ∷ IsLocked list ∷ []
 conditions_of (As from kind otherwise) = Use from ∷ MayBe from kind ∷ []
 conditions_of (Goto to) = []
 conditions_of (Ret from) = Give from ∷ NothingOwnedBut from ∷ NothingLocked ∷ []
@@ -168,6 +176,12 @@ after (Move to from) exit s = put (put s from Empty) to (Owned (kind_of (slot_of
 after (Drop from) exit s = put s from Empty
 after (Lock object) exit s = with_lock s (Some object)
 after (Unlock object) exit s = with_lock (without_items s) None
+after (Borrow to list index otherwise) Success s = put s to (Locked kinds.Any)
+after (Borrow to list index otherwise) Fault s = put s to Empty
+after (Fetch to list index otherwise) Success s = put s to (Owned kinds.Any)
+after (Fetch to list index otherwise) Fault s = put s to Empty
+after (Set list index from otherwise) exit s = without_items (put s from Empty)
+after (Put list index from otherwise) exit s = without_items s
 after (As from kind otherwise) Success s = put s from (with_kind (slot_of s from) kind)
 after (As from kind otherwise) Fault s = s
 after (Goto to) exit s = s
@@ -186,6 +200,14 @@ target (Move to from) exit at = Some (at + 1)
 target (Drop from) exit at = Some (at + 1)
 target (Lock object) exit at = Some (at + 1)
 target (Unlock object) exit at = Some (at + 1)
+target (Borrow to list index otherwise) Success at = Some (at + 1)
+target (Borrow to list index otherwise) Fault at = Some otherwise
+target (Fetch to list index otherwise) Success at = Some (at + 1)
+target (Fetch to list index otherwise) Fault at = Some otherwise
+target (Set list index from otherwise) Success at = Some (at + 1)
+target (Set list index from otherwise) Fault at = Some otherwise
+target (Put list index from otherwise) Success at = Some (at + 1)
+target (Put list index from otherwise) Fault at = Some otherwise
 target (As from kind otherwise) Success at = Some (at + 1)
 target (As from kind otherwise) Fault at = Some otherwise
 target (Goto to) exit at = Some to
