@@ -1,16 +1,6 @@
-<<<<<<< o
--- The list that a thread has locked: no step of another thread changes its kind word or a cell of it. Of the thread's own
--- steps only those that drop items do.
-use Rattle.std.proofs.Common.{◌≡◌, ◌≢◌, ℕ, ◌+◌, Bool, true, false, List, Some, refl, sym, ap, ◌∙◌, subst, arith}
-||||||| b
--- The list that a thread has locked: no step of another thread changes its kind word or a cell of it. Of the thread's own
--- steps only those that drop items do.
-use Rattle.std.proofs.Common.{◌≡◌, ◌≢◌, ℕ, Bool, true, false, List, Some, refl, sym, ap, ◌∙◌}
-=======
 -- The list that a thread has locked: no step of another thread changes its kind word or a cell of it. A step of the
 -- thread itself may only if it drops items.
-use Rattle.std.proofs.Common.{◌≡◌, ◌≢◌, ℕ, Bool, true, false, List, Some, refl, sym, ap, ◌∙◌}
->>>>>>> t
+use Rattle.std.proofs.Common.{◌≡◌, ◌≢◌, ℕ, ◌+◌, Bool, true, false, List, Some, refl, sym, ap, ◌∙◌, subst, arith}
 use Rattle.std.specs.Prelude.{◌==◌, ◌&&◌, slice_get}
 use Rattle.std.proofs.lemmas.Bool.{ne_eqb}
 use Rattle.brc_model.specs.declared.duty.Duty.{Duty}
