@@ -3,7 +3,7 @@
 -- In order: `Agreeing`; `Safe`, over `Keeping/StepCases`; `Counting`, the laws of the counting machine; `StatesRise` to
 -- `ClosedOnce`; `Gates`, `Births`, `MarksWatched`, `KindWords` and `CellsUnderLock`; `RowLaws`, which extends these laws to
 -- every list of events; `KnownKinds`, what the checker says of kinds; then the laws of the world: `Worlds`,
--- `AgendaMoves`, `Emptied`, `StepsMove`, `LocksWait`, `Trace`. `Rules` proves that the named rules are the steps. `Worked`
+-- `AgendaMoves`, `Emptied`, `Elsewhere`, `StepsMove`, `LocksWait`, `Trace`. `Rules` proves that the named rules are the steps. `Worked`
 -- computes three schedules.
 
 pub mod Agreeing
@@ -23,6 +23,7 @@ pub mod KnownKinds
 pub mod Worlds
 pub mod AgendaMoves
 pub mod Emptied
+pub mod Elsewhere
 pub mod StepsMove
 pub mod LocksWait
 pub mod Trace

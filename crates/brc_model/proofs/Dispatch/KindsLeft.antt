@@ -1,12 +1,12 @@
 -- What each instruction leaves in the variables: objects of the kinds that the checker says.
-use Rattle.std.proofs.Common.{◌≡◌, ℕ, zero, suc, ◌+◌, ◌<◌, ◌≤◌, List, [], ◌∷◌, ◌++◌, inr, Option, None, Some, refl, sym, ap, ◌∙◌, subst, arith}
-use Rattle.std.specs.Prelude.{◌==◌, slice_get, slice_set}
+use Rattle.std.proofs.Common.{◌≡◌, ℕ, zero, suc, ◌+◌, ◌<◌, ◌≤◌, List, [], ◌∷◌, ◌++◌, inl, inr, Option, None, Some, refl, sym, ap, ◌∙◌, subst, arith}
+use Rattle.std.specs.Prelude.{◌==◌, nat_lt, slice_get, slice_set}
 use Rattle.std.proofs.lemmas.List.{length-set}
 use Rattle.brc_lang.specs.declared.kind.Kind.{Kind}
 use Rattle.brc_lang.specs.declared.kind.Kind.TheVariants as kinds
 use Rattle.brc_lang.specs.declared.module.Function.{Function}
 use Rattle.brc_lang.specs.declared.module.Instr.{Instr}
-use Rattle.brc_lang.specs.declared.module.Instr.TheVariants.{Num, List as ListObject, NoneObject, Newref, Move as MoveReference, Drop, As, Lock, Unlock, Goto, Ret, Fail}
+use Rattle.brc_lang.specs.declared.module.Instr.TheVariants.{Num, List as ListObject, NoneObject, Newref, Move as MoveReference, Drop, As, Lock, Unlock, Borrow, Fetch, Set, Put, Goto, Ret, Fail}
 use Rattle.brc_lang.specs.Grammar.{IsInstruction}
 use Rattle.brc_word.specs.Words.{free_word, half, kind_part}
 use Rattle.brc_model.specs.declared.thread.Choice.{Choice}
@@ -14,26 +14,31 @@ use Rattle.brc_model.specs.declared.thread.Choice.TheVariants.{Ok, Fault, Claim}
 use Rattle.brc_model.specs.declared.actor.Status.{Status}
 use Rattle.brc_model.specs.declared.actor.Status.TheVariants.{Running, Leaving, Gone}
 use Rattle.brc_model.specs.declared.actor.Place.{Place}
-use Rattle.brc_model.specs.declared.actor.Place.TheVariants.{Idle, InCall, Exiting}
+use Rattle.brc_model.specs.declared.actor.Place.TheVariants.{Idle, InCall, Inside, Exiting}
+use Rattle.brc_model.specs.declared.actor.Stage.{Stage}
+use Rattle.brc_model.specs.declared.actor.Stage.TheVariants.{InRange, OutOfRange, Found, Retained}
 use Rattle.brc_model.specs.declared.duty.Duty.{Duty}
 use Rattle.brc_model.specs.declared.duty.Duty.TheVariants.{KindLoad, BirthKind}
 use Rattle.brc_model.specs.declared.slot.Slot.{Slot}
-use Rattle.brc_model.specs.declared.slot.Slot.TheVariants.{Empty, Owned}
+use Rattle.brc_model.specs.declared.slot.Slot.TheVariants.{Empty, Owned, Locked}
 use Rattle.brc_model.specs.declared.slot.State.{State}
 use Rattle.brc_model.specs.declared.slot.Exit.{Exit}
 use Rattle.brc_model.specs.declared.slot.Exit.TheVariants.{Success, Fault as FaultExit}
 use Rattle.brc_model.specs.Kinds.{kind_numbered, kind_of_word, same_kind}
-use Rattle.brc_model.specs.Slots.{slot_of, kind_of, put, after, target, entry}
+use Rattle.brc_model.specs.Slots.{slot_of, kind_of, put, without_items, after, target, entry}
 use Rattle.brc_model.specs.Paths.{At, path_end, IsAcceptableCode}
 use Rattle.brc_model.specs.Threads.{code_of, row_of, entry_variables}
 use Rattle.brc_model.specs.Layout.{none_row, row_at}
 use Rattle.brc_model.specs.declared.layout.Layout.{Layout}
+use Rattle.brc_model.specs.Duties.{cells_of}
 use Rattle.brc_model.specs.Machine.{has_room}
-use Rattle.brc_model.specs.Actions.{StepActor, Action, Skip, Stuck, Silent, Does, with_row, number_word, list_word, birth_action, dispatch_instruction, dispatch, may_claim, agenda_action, status_action, action_of}
+use Rattle.brc_model.specs.Actions.{StepActor, Action, Skip, Stuck, Silent, Does, with_row, by_range, by_item, number_word, list_word, birth_action, dispatch_instruction, dispatch_inside, dispatch, may_claim, agenda_action, status_action, action_of}
 use Rattle.brc_model.specs.KnownKinds.{IsTrueKind, HasTrueKind, HaveTrueKinds, KnowsKinds, AreNamed}
 use Rattle.brc_model.proofs.Basics.Lists.{some_is, either}
 use Rattle.brc_model.proofs.Dispatch.Grounded.{IsInside, AreInstructions, entry_in_call}
 use Rattle.brc_model.proofs.Dispatch.Passing.{passes_on}
+use Rattle.brc_model.specs.Accounts.{Account}
+use Rattle.brc_model.proofs.Dispatch.Coded.{PlaceSays}
 use Rattle.brc_model.proofs.Dispatch.Kinds.{true_put, empty_true, same_kind_is, true_with_kind, entry_true, true_without_items}
 
 -- ---- what an instruction leaves
@@ -87,6 +92,26 @@ goes_on_put code words left at next variables s i exit x slot row here to is low
     (subst (λ (state : State). HaveTrueKinds words state (slice_set variables x row)) (sym is)
     (true_put words s variables x slot row (omega (arith, low, here.inside.slots))
     (omega (arith, low, here.inside.rows)) new here.known))
+
+-- The same at a point, or inside the instruction there, of a thread whose variables haven't changed.
+knows_here : (code : List Instr) (words : ℕ → ℕ) (at : ℕ) (variables : List (Option ℕ)) (s : State) (i : Instr)
+    → KnowsAt code words at variables s i → (exits : List Exit) (other : State) → path_end code exits ≡ At at other
+    → HaveTrueKinds words other variables
+knows_here code words at variables s i here exits other arrived =
+    subst (λ (state : State). HaveTrueKinds words state variables)
+    (here.accepted.states_agree here.inside.exits exits at s other here.inside.arrived arrived) here.known
+
+-- What holds of the places for each answer of the list's kind word holds of the one that it decides.
+range_leaves : (P : Place → Type 0) (inside outside : Place) (index found : ℕ) → P inside → P outside
+    → P (by_range index inside outside found)
+range_leaves P inside outside index found within past =
+    either P (nat_lt index (cells_of found)) inside outside (λ has. within) past
+
+-- The same for each word of a cell.
+item_leaves : (P : Place → Type 0) (empty : Place) (holds : ℕ → Place) (found : ℕ) → P empty
+    → ((item : ℕ) → P (holds item)) → P (by_item empty holds found)
+item_leaves P empty holds zero none some = none
+item_leaves P empty holds (suc item) none some = some item
 
 -- A birth leaves an object of its kind word's kind.
 birth_leaves : (code : List Instr) (words : ℕ → ℕ) (layout : Layout) (t used left at : ℕ) (variables : List (Option ℕ))
@@ -165,6 +190,31 @@ instruction_leaves code words layout t used before left at variables s (Unlock o
     row_leaves code words (row_of variables object) _ (λ row is found seen.
     goes_on code words left at (at + 1) variables variables s (Unlock object) Success here refl
     (true_without_items words s variables here.known))
+instruction_leaves code words layout t used before left at variables s (Borrow to list index otherwise) knew here =
+    row_leaves code words (row_of variables list) _ (λ row is found seen.
+    range_leaves (KnowsKinds code words) (Inside left at variables InRange)
+    (InCall left otherwise (slice_set variables to None)) index found
+    (knows_here code words at variables s (Borrow to list index otherwise) here)
+    (goes_on_put code words left at otherwise variables s (Borrow to list index otherwise) FaultExit to Empty None here
+    refl refl here.operands.0 (empty_true words None)))
+instruction_leaves code words layout t used before left at variables s (Fetch to list index otherwise) knew here =
+    row_leaves code words (row_of variables list) _ (λ row is found seen.
+    range_leaves (KnowsKinds code words) (Inside left at variables InRange)
+    (InCall left otherwise (slice_set variables to None)) index found
+    (knows_here code words at variables s (Fetch to list index otherwise) here)
+    (goes_on_put code words left at otherwise variables s (Fetch to list index otherwise) FaultExit to Empty None here
+    refl refl here.operands.0 (empty_true words None)))
+instruction_leaves code words layout t used before left at variables s (Set list index from otherwise) knew here =
+    row_leaves code words (row_of variables list) _ (λ row is found seen.
+    let within = knows_here code words at variables s (Set list index from otherwise) here in
+    range_leaves (KnowsKinds code words) (Inside left at variables InRange) (Inside left at variables OutOfRange) index
+    found within within)
+instruction_leaves code words layout t used before left at variables s (Put list index from otherwise) knew here =
+    row_leaves code words (row_of variables list) _ (λ row is found seen.
+    range_leaves (KnowsKinds code words) (Inside left at variables InRange) (InCall left otherwise variables) index found
+    (knows_here code words at variables s (Put list index from otherwise) here)
+    (goes_on code words left at otherwise variables variables s (Put list index from otherwise) FaultExit here refl
+    (true_without_items words s variables here.known)))
 instruction_leaves code words layout t used before left at variables s (As from kind otherwise) knew here =
     row_leaves code words (row_of variables from) _ (λ row is found seen.
     either (λ (next : ℕ). KnowsKinds code words (InCall left next variables)) (same_kind (kind_of_word found) kind) _ _
@@ -181,16 +231,93 @@ instruction_leaves code words layout t used before left at variables s (Ret from
     row_leaves code words (row_of variables from) _ (λ row is found stored. tt)
 instruction_leaves code words layout t used before left at variables s Fail knew here = tt
 
+-- ---- what a step inside an instruction leaves
+
+-- `set` empties the variable whose reference it stores, and those that borrowed from the list.
+set_leaves : (code : List Instr) (words : ℕ → ℕ) (left at next : ℕ) (variables : List (Option ℕ)) (s : State)
+    (list index from otherwise : ℕ) (exit : Exit)
+    → (here : KnowsAt code words at variables s (Set list index from otherwise))
+    → target (Set list index from otherwise) exit at ≡ Some next
+    → KnowsKinds code words (InCall left next (slice_set variables from None))
+set_leaves code words left at next variables s list index from otherwise exit here to =
+    goes_on code words left at next variables (slice_set variables from None) s (Set list index from otherwise) exit here
+    to (true_without_items words (put s from Empty) (slice_set variables from None)
+    (true_put words s variables from Empty None (omega (arith, here.operands.0, here.inside.slots))
+    (omega (arith, here.operands.0, here.inside.rows)) (empty_true words None) here.known))
+
+-- A variable whose kind isn't known yet says nothing.
+any_true : (words : ℕ → ℕ) (slot : Slot) (row : Option ℕ) → kind_of slot ≡ kinds.Any → HasTrueKind words slot row
+any_true words slot row any x is = inl any
+
+inside_leaves : (code : List Instr) (words : ℕ → ℕ) (left at : ℕ) (variables : List (Option ℕ)) (stage : Stage)
+    (s : State) (i : Instr) → KnowsAt code words at variables s i
+    → Leaves code words (dispatch_inside left at variables stage (Some i))
+inside_leaves code words left at variables InRange s (Borrow to list index otherwise) here =
+    row_leaves code words (row_of variables list) _ (λ row is found seen.
+    item_leaves (KnowsKinds code words) (InCall left otherwise (slice_set variables to None))
+    (λ item. InCall left (at + 1) (slice_set variables to (Some item))) found
+    (goes_on_put code words left at otherwise variables s (Borrow to list index otherwise) FaultExit to Empty None here
+    refl refl here.operands.0 (empty_true words None))
+    (λ item.
+    goes_on_put code words left at (at + 1) variables s (Borrow to list index otherwise) Success to (Locked kinds.Any)
+    (Some item) here refl refl here.operands.0 (any_true words (Locked kinds.Any) (Some item) refl)))
+inside_leaves code words left at variables InRange s (Fetch to list index otherwise) here =
+    row_leaves code words (row_of variables list) _ (λ row is found seen.
+    item_leaves (KnowsKinds code words) (InCall left otherwise (slice_set variables to None))
+    (λ item. Inside left at variables (Found item)) found
+    (goes_on_put code words left at otherwise variables s (Fetch to list index otherwise) FaultExit to Empty None here
+    refl refl here.operands.0 (empty_true words None))
+    (λ item. knows_here code words at variables s (Fetch to list index otherwise) here))
+inside_leaves code words left at variables (Found item) s (Fetch to list index otherwise) here = λ found seen.
+    goes_on_put code words left at (at + 1) variables s (Fetch to list index otherwise) Success to (Owned kinds.Any)
+    (Some item) here refl refl here.operands.0 (any_true words (Owned kinds.Any) (Some item) refl)
+inside_leaves code words left at variables InRange s (Set list index from otherwise) here =
+    row_leaves code words (row_of variables list) _ (λ row is.
+    row_leaves code words (row_of variables from) _ (λ item this found seen.
+    set_leaves code words left at (at + 1) variables s list index from otherwise Success here refl))
+inside_leaves code words left at variables OutOfRange s (Set list index from otherwise) here =
+    row_leaves code words (row_of variables from) _ (λ item this found seen.
+    set_leaves code words left at otherwise variables s list index from otherwise FaultExit here refl)
+inside_leaves code words left at variables InRange s (Put list index from otherwise) here =
+    row_leaves code words (row_of variables from) _ (λ item is found seen.
+    knows_here code words at variables s (Put list index from otherwise) here)
+inside_leaves code words left at variables Retained s (Put list index from otherwise) here =
+    row_leaves code words (row_of variables list) _ (λ row is.
+    row_leaves code words (row_of variables from) _ (λ item this found seen.
+    goes_on code words left at (at + 1) variables variables s (Put list index from otherwise) Success here refl
+    (true_without_items words s variables here.known)))
+inside_leaves code words left at variables stage s i here = tt
+
 -- ---- what a thread does
 
 -- The thread's place before its step, by the words after it.
 pub record StandsKnowing (code : List Instr) (words : ℕ → ℕ) (place : Place) : Type 0 where
   pub accepted : IsAcceptableCode code
   pub instructions : AreInstructions code
-  pub inside : (left at : ℕ) (variables : List (Option ℕ)) → place ≡ InCall left at variables
-      → (s : State) × IsInside code at variables s
+  pub locked : Option ℕ
+  pub account : Account
+  pub says : PlaceSays code place locked account
   pub named : AreNamed words
   pub knows : KnowsKinds code words place
+
+-- The thread is at the instruction that its point has, in the state in which a path reaches it.
+knows_at : (code : List Instr) (words : ℕ → ℕ) (at : ℕ) (variables : List (Option ℕ)) (s : State)
+    → IsAcceptableCode code → AreInstructions code → IsInside code at variables s → AreNamed words
+    → HaveTrueKinds words s variables
+    → (i : Instr) × (slice_get code at ≡ Some i) × KnowsAt code words at variables s i
+knows_at code words at variables s accepted instructions inside named known =
+    let on = passes_on code inside.exits at s accepted inside.arrived in (
+      on.here,
+      on.found,
+      record {
+        accepted = accepted;
+        inside = inside;
+        leads = on.leads;
+        operands = instructions.each at on.here on.found;
+        named = named;
+        known = known;
+      },
+    )
 
 in_call_leaves : (code : List Instr) (words : ℕ → ℕ) (layout : Layout) (t used : ℕ) (before : Place) (left at : ℕ)
     (variables : List (Option ℕ)) (s : State) → KnowsKinds code words before
@@ -198,17 +325,9 @@ in_call_leaves : (code : List Instr) (words : ℕ → ℕ) (layout : Layout) (t 
     → HaveTrueKinds words s variables
     → Leaves code words (dispatch_instruction layout t used before left at variables (slice_get code at))
 in_call_leaves code words layout t used before left at variables s knew accepted instructions inside named known =
-    let on = passes_on code inside.exits at s accepted inside.arrived in
-    let here : KnowsAt code words at variables s on.here = record {
-      accepted = accepted;
-      inside = inside;
-      leads = on.leads;
-      operands = instructions.each at on.here on.found;
-      named = named;
-      known = known;
-    } in
+    let here = knows_at code words at variables s accepted instructions inside named known in
     subst (λ (o : Option Instr). Leaves code words (dispatch_instruction layout t used before left at variables o))
-    (sym on.found) (instruction_leaves code words layout t used before left at variables s on.here knew here)
+    (sym here.1) (instruction_leaves code words layout t used before left at variables s here.0 knew here.2)
 
 dispatch_leaves : (code : List Instr) (words : ℕ → ℕ) (layout : Layout) (t used : ℕ) (place : Place)
     → StandsKnowing code words place → Leaves code words (dispatch layout t used code place)
@@ -218,9 +337,15 @@ dispatch_leaves code words layout t used (Idle (suc left)) stands =
     in_call_leaves code words layout t used (Idle (suc left)) left 0 entry_variables entry tt stands.accepted
     stands.instructions (entry_in_call code) stands.named (entry_true words stands.named)
 dispatch_leaves code words layout t used (InCall left at variables) stands =
-    let here = stands.inside left at variables refl in
-    in_call_leaves code words layout t used (InCall left at variables) left at variables here.0 stands.knows
-    stands.accepted stands.instructions here.1 stands.named (stands.knows here.1.exits here.0 here.1.arrived)
+    let says = stands.says in
+    in_call_leaves code words layout t used (InCall left at variables) left at variables says.0 stands.knows
+    stands.accepted stands.instructions says.1 stands.named (stands.knows says.1.exits says.0 says.1.arrived)
+dispatch_leaves code words layout t used (Inside left at variables stage) stands =
+    let says = stands.says in
+    let here = knows_at code words at variables says.0 stands.accepted stands.instructions says.1 stands.named
+    (stands.knows says.1.exits says.0 says.1.arrived) in
+    subst (λ (o : Option Instr). Leaves code words (dispatch_inside left at variables stage o)) (sym here.1)
+    (inside_leaves code words left at variables stage says.0 here.0 here.2)
 
 agenda_leaves : (functions : List Function) (words : ℕ → ℕ) (layout : Layout) (t : ℕ) (a : StepActor)
     (agenda : List Duty) → StandsKnowing (code_of (slice_get functions a.function)) words a.place

@@ -18,7 +18,7 @@ use Rattle.brc_model.specs.Actions.{StepActor, Action, Skip, Stuck, Silent, Does
 use Rattle.brc_model.specs.StepMachine.{StepMachine, counting, of_thread, at_place, step_actor, machine_by, next_machine, first_machine, main_actor, worker_actor}
 use Rattle.brc_model.specs.KnownKinds.{KnowsKinds, kind_words, KindsAreKnown, KindsHold}
 use Rattle.brc_model.proofs.Basics.Lists.{some_is, slice_get-map, written_actor}
-use Rattle.brc_model.proofs.Dispatch.Grounded.{IsInside, AreInstructions}
+use Rattle.brc_model.proofs.Dispatch.Grounded.{AreInstructions}
 use Rattle.brc_model.proofs.Keeping.CodeInvariant.{CodeInvariant}
 use Rattle.brc_model.proofs.Dispatch.Coded.{PlaceSays}
 use Rattle.brc_model.proofs.Basics.Written.{written_here, written_load}
@@ -98,19 +98,6 @@ acted m t a (Does d rest place) found others own =
     (kind_words (machine_by m t a (Does d rest place))) b.place) m.actors t a
     (step_actor m.layout t a d rest (place word) word) found (own word (sees m t a d rest place)) others
 
-inside_is : (p : Module) (n : ℕ) (m : StepMachine) (t : ℕ) (a : StepActor) → (whole : CodeInvariant p n m)
-    → slice_get m.actors t ≡ Some a → (left at : ℕ) (variables : List (Option ℕ))
-    → a.place ≡ InCall left at variables
-    → (s : State) × IsInside (code_of (slice_get m.functions a.function)) at variables s
-inside_is p n m t a whole found left at variables is =
-    let code = code_of (slice_get p.functions a.function) in
-    let says : PlaceSays code (InCall left at variables) a.actor.locked (whole.accounts t) =
-    subst (λ (x : Place). PlaceSays code x a.actor.locked (whole.accounts t)) is (whole.coded t a found).says in (
-      says.0,
-      subst (λ (f : List Function). IsInside (code_of (slice_get f a.function)) at variables says.0)
-          (sym whole.functions) says.1,
-    )
-
 -- The kinds hold after each event, whatever thread and choice it has.
 pub thread_holds : (p : Module) (n : ℕ) (m : StepMachine) (t : ℕ) (choice : Choice) (o : Option StepActor)
     → CodeInvariant p n m → slice_get m.actors t ≡ o
@@ -133,7 +120,11 @@ thread_holds p n m t choice (Some a) whole found =
       instructions =
           subst (λ (f : List Function). AreInstructions (code_of (slice_get f a.function))) (sym whole.functions)
           coded.instructions;
-      inside = inside_is p n m t a whole found;
+      locked = a.actor.locked;
+      account = whole.accounts t;
+      says =
+          subst (λ (f : List Function). PlaceSays (code_of (slice_get f a.function)) a.place a.actor.locked
+          (whole.accounts t)) (sym whole.functions) coded.says;
       named = named;
       knows = others t a found;
     } in

@@ -18,7 +18,7 @@ use Rattle.brc_model.proofs.Frame.Leaves.{head_of}
 use Rattle.brc_model.proofs.Stepping.Neutral.{memory_by}
 use Rattle.brc_model.proofs.Keeping.Sits.{sitting}
 use Rattle.brc_model.proofs.Keeping.CodeInvariant.{CodeInvariant}
-use Rattle.brc_model.proofs.Promises.StepCases.{ShowsSteps, at_duty, event_shows}
+use Rattle.brc_model.proofs.Keeping.StepCases.{ShowsSteps, at_duty, event_shows}
 
 abbrev MayChange : Machine → ℕ → ℕ → Type 0
 MayChange m t x = HasLock m t x ⊎ (m.life x ≡ Dying t)

@@ -2,7 +2,7 @@
 use Rattle.std.proofs.Common.{◌≡◌, ℕ, zero, suc, Bool, true, false, cond, List, [], ◌∷◌, ◌++◌, Option, None, Some, refl, sym, ap, ◌∙◌, subst}
 use Rattle.std.specs.Prelude.{not, slice_get, slice_set}
 use Rattle.brc_lang.specs.declared.module.Instr.{Instr}
-use Rattle.brc_lang.specs.declared.module.Instr.TheVariants.{Num, List as ListObject, NoneObject, Newref, Move as MoveReference, Drop, Lock, Unlock, Goto, Ret, Fail, As}
+use Rattle.brc_lang.specs.declared.module.Instr.TheVariants.{Num, List as ListObject, NoneObject, Newref, Move as MoveReference, Drop, Lock, Unlock, Borrow, Fetch, Set, Put, Goto, Ret, Fail, As}
 use Rattle.brc_lang.specs.declared.module.Module.{Module}
 use Rattle.brc_model.specs.declared.thread.Call.{Call}
 use Rattle.brc_model.specs.declared.thread.Choice.{Choice}
@@ -14,9 +14,11 @@ use Rattle.brc_model.specs.Duties.{address_of, continuation, new_head, ready}
 use Rattle.brc_model.specs.declared.actor.Status.{Status}
 use Rattle.brc_model.specs.declared.actor.Status.TheVariants.{Running, Leaving, Gone}
 use Rattle.brc_model.specs.declared.actor.Place.{Place}
-use Rattle.brc_model.specs.declared.actor.Place.TheVariants.{Idle, InCall, Exiting}
+use Rattle.brc_model.specs.declared.actor.Place.TheVariants.{Idle, InCall, Inside, Exiting}
+use Rattle.brc_model.specs.declared.actor.Stage.{Stage}
+use Rattle.brc_model.specs.declared.actor.Stage.TheVariants.{InRange, OutOfRange, Found, Retained}
 use Rattle.brc_model.specs.Machine.{Actor, Machine, is_running, actor_by, done_by, has_room}
-use Rattle.brc_model.specs.Actions.{StepActor, Action, Skip, Stuck, Silent, Does, always, with_row, dispatch_instruction, dispatch, may_claim, agenda_action, status_action, action_of}
+use Rattle.brc_model.specs.Actions.{StepActor, Action, Skip, Stuck, Silent, Does, always, with_row, dispatch_instruction, dispatch_inside, dispatch, may_claim, agenda_action, status_action, action_of}
 use Rattle.brc_model.specs.StepMachine.{StepMachine, counting, of_thread, machine_by, next_machine, machine_after, first_machine}
 use Rattle.brc_lang.specs.declared.module.Function.{Function}
 use Rattle.brc_model.proofs.Basics.Lists.{written_actor, either}
@@ -156,12 +158,37 @@ instruction_empties layout t used before left at variables (Some (Lock object)) 
     row_empties (row_of variables object) _ (λ row. refl)
 instruction_empties layout t used before left at variables (Some (Unlock object)) =
     row_empties (row_of variables object) _ (λ row. refl)
+instruction_empties layout t used before left at variables (Some (Borrow to list index otherwise)) =
+    row_empties (row_of variables list) _ (λ row. refl)
+instruction_empties layout t used before left at variables (Some (Fetch to list index otherwise)) =
+    row_empties (row_of variables list) _ (λ row. refl)
+instruction_empties layout t used before left at variables (Some (Set list index from otherwise)) =
+    row_empties (row_of variables list) _ (λ row. refl)
+instruction_empties layout t used before left at variables (Some (Put list index from otherwise)) =
+    row_empties (row_of variables list) _ (λ row. refl)
 instruction_empties layout t used before left at variables (Some (As from kind otherwise)) =
     row_empties (row_of variables from) _ (λ row. refl)
 instruction_empties layout t used before left at variables (Some (Goto to)) = tt
 instruction_empties layout t used before left at variables (Some (Ret from)) =
     row_empties (row_of variables from) _ (λ row. refl)
 instruction_empties layout t used before left at variables (Some Fail) = tt
+
+inside_empties : (left at : ℕ) (variables : List (Option ℕ)) (stage : Stage) (i : Option Instr)
+    → ActionEmpties 0 (dispatch_inside left at variables stage i)
+inside_empties left at variables InRange (Some (Borrow to list index otherwise)) =
+    row_empties (row_of variables list) _ (λ row. refl)
+inside_empties left at variables InRange (Some (Fetch to list index otherwise)) =
+    row_empties (row_of variables list) _ (λ row. refl)
+inside_empties left at variables (Found item) (Some (Fetch to list index otherwise)) = refl
+inside_empties left at variables InRange (Some (Set list index from otherwise)) =
+    row_empties (row_of variables list) _ (λ row. row_empties (row_of variables from) _ (λ item. refl))
+inside_empties left at variables OutOfRange (Some (Set list index from otherwise)) =
+    row_empties (row_of variables from) _ (λ item. refl)
+inside_empties left at variables InRange (Some (Put list index from otherwise)) =
+    row_empties (row_of variables from) _ (λ item. refl)
+inside_empties left at variables Retained (Some (Put list index from otherwise)) =
+    row_empties (row_of variables list) _ (λ row. row_empties (row_of variables from) _ (λ item. refl))
+inside_empties left at variables stage i = tt
 
 dispatch_empties : (layout : Layout) (t used : ℕ) (code : List Instr) (place : Place)
     → ActionEmpties 0 (dispatch layout t used code place)
@@ -171,6 +198,8 @@ dispatch_empties layout t used code (Idle (suc left)) =
     instruction_empties layout t used (Idle (suc left)) left 0 entry_variables (slice_get code 0)
 dispatch_empties layout t used code (InCall left at variables) =
     instruction_empties layout t used (InCall left at variables) left at variables (slice_get code at)
+dispatch_empties layout t used code (Inside left at variables stage) =
+    inside_empties left at variables stage (slice_get code at)
 
 no_chain : (head : ℕ) → Empties head [] → head ≡ 0
 no_chain zero e = refl

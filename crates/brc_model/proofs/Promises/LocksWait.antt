@@ -5,7 +5,7 @@ use Rattle.std.specs.Prelude.{◌==◌, not, slice_get, slice_set, sum_by}
 use Rattle.std.proofs.Math.Path.{fun_ext}
 use Rattle.std.proofs.lemmas.List.Sums.{sum_by-cons}
 use Rattle.brc_lang.specs.declared.module.Instr.{Instr}
-use Rattle.brc_lang.specs.declared.module.Instr.TheVariants.{Num, List as ListObject, NoneObject, Newref, Move as MoveReference, Drop, Lock, Unlock, Goto, Ret, Fail, As}
+use Rattle.brc_lang.specs.declared.module.Instr.TheVariants.{Num, List as ListObject, NoneObject, Newref, Move as MoveReference, Drop, Lock, Unlock, Borrow, Fetch, Set, Put, Goto, Ret, Fail, As}
 use Rattle.brc_lang.specs.declared.module.Module.{Module}
 use Rattle.brc_lang.specs.declared.module.Function.{Function}
 use Rattle.brc_word.specs.Words.{free_word, locked_word}
@@ -17,12 +17,14 @@ use Rattle.brc_model.specs.declared.address.Address.TheVariants.{Gate}
 use Rattle.brc_model.specs.declared.actor.Status.{Status}
 use Rattle.brc_model.specs.declared.actor.Status.TheVariants.{Running, Leaving, Gone}
 use Rattle.brc_model.specs.declared.actor.Place.{Place}
-use Rattle.brc_model.specs.declared.actor.Place.TheVariants.{Idle, InCall, Exiting}
+use Rattle.brc_model.specs.declared.actor.Place.TheVariants.{Idle, InCall, Inside, Exiting}
+use Rattle.brc_model.specs.declared.actor.Stage.{Stage}
+use Rattle.brc_model.specs.declared.actor.Stage.TheVariants.{InRange, OutOfRange, Found, Retained}
 use Rattle.brc_model.specs.declared.layout.Layout.{Layout}
 use Rattle.brc_model.specs.Threads.{row_of, entry_variables, code_of}
 use Rattle.brc_model.specs.Duties.{ready}
 use Rattle.brc_model.specs.Machine.{has_room, written}
-use Rattle.brc_model.specs.Actions.{StepActor, Action, Does, with_row, dispatch_instruction, dispatch, agenda_action, status_action, action_of}
+use Rattle.brc_model.specs.Actions.{StepActor, Action, Does, with_row, dispatch_instruction, dispatch_inside, dispatch, agenda_action, status_action, action_of}
 use Rattle.brc_model.specs.StepMachine.{step_actor, machine_by}
 use Rattle.brc_model.specs.World.{World, world_of, machine_of, step, finds_locked, waits_for_lock, IsReachable}
 use Rattle.brc_model.proofs.Basics.Lists.{either, set_found}
@@ -69,12 +71,37 @@ instruction_waits layout t used place left at variables (Some (Lock object)) =
     })
 instruction_waits layout t used place left at variables (Some (Unlock object)) =
     row_waits place (row_of variables object) _ (λ row. tt)
+instruction_waits layout t used place left at variables (Some (Borrow to list index otherwise)) =
+    row_waits place (row_of variables list) _ (λ row. tt)
+instruction_waits layout t used place left at variables (Some (Fetch to list index otherwise)) =
+    row_waits place (row_of variables list) _ (λ row. tt)
+instruction_waits layout t used place left at variables (Some (Set list index from otherwise)) =
+    row_waits place (row_of variables list) _ (λ row. tt)
+instruction_waits layout t used place left at variables (Some (Put list index from otherwise)) =
+    row_waits place (row_of variables list) _ (λ row. tt)
 instruction_waits layout t used place left at variables (Some (As from kind otherwise)) =
     row_waits place (row_of variables from) _ (λ row. tt)
 instruction_waits layout t used place left at variables (Some (Goto to)) = tt
 instruction_waits layout t used place left at variables (Some (Ret from)) =
     row_waits place (row_of variables from) _ (λ row. tt)
 instruction_waits layout t used place left at variables (Some Fail) = tt
+
+inside_waits : (place : Place) (left at : ℕ) (variables : List (Option ℕ)) (stage : Stage) (i : Option Instr)
+    → WaitsAt place (dispatch_inside left at variables stage i)
+inside_waits place left at variables InRange (Some (Borrow to list index otherwise)) =
+    row_waits place (row_of variables list) _ (λ row. tt)
+inside_waits place left at variables InRange (Some (Fetch to list index otherwise)) =
+    row_waits place (row_of variables list) _ (λ row. tt)
+inside_waits place left at variables (Found item) (Some (Fetch to list index otherwise)) = tt
+inside_waits place left at variables InRange (Some (Set list index from otherwise)) =
+    row_waits place (row_of variables list) _ (λ row. row_waits place (row_of variables from) _ (λ item. tt))
+inside_waits place left at variables OutOfRange (Some (Set list index from otherwise)) =
+    row_waits place (row_of variables from) _ (λ item. tt)
+inside_waits place left at variables InRange (Some (Put list index from otherwise)) =
+    row_waits place (row_of variables from) _ (λ item. tt)
+inside_waits place left at variables Retained (Some (Put list index from otherwise)) =
+    row_waits place (row_of variables list) _ (λ row. row_waits place (row_of variables from) _ (λ item. tt))
+inside_waits place left at variables stage i = tt
 
 dispatch_waits : (layout : Layout) (t used : ℕ) (code : List Instr) (place : Place)
     → WaitsAt place (dispatch layout t used code place)
@@ -84,6 +111,8 @@ dispatch_waits layout t used code (Idle (suc left)) =
     instruction_waits layout t used (Idle (suc left)) left 0 entry_variables (slice_get code 0)
 dispatch_waits layout t used code (InCall left at variables) =
     instruction_waits layout t used (InCall left at variables) left at variables (slice_get code at)
+dispatch_waits layout t used code (Inside left at variables stage) =
+    inside_waits (Inside left at variables stage) left at variables stage (slice_get code at)
 
 -- A thread waits with an empty agenda.
 abbrev WaitsIdly : StepActor → Action → Type 0

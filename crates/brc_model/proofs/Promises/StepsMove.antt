@@ -1,18 +1,15 @@
 -- Which steps change the world: every step of a thread that isn't gone, except for a claim that isn't allowed or finds
 -- no mark, and for a lock that another thread holds (`LocksWait`).
-use Rattle.std.proofs.Common.{◌≡◌, ◌≢◌, ℕ, zero, suc, ◌+◌, Bool, true, false, cond, List, [], ◌∷◌, ◌++◌, length, inl, inr, Option, None, Some, refl, sym, ap, ◌∙◌, subst, arith, ◌<◌, ◌⊎◌}
+use Rattle.std.proofs.Common.{◌≡◌, ◌≢◌, ℕ, ◌+◌, Bool, true, false, cond, List, [], ◌∷◌, ◌++◌, length, inl, inr, Option, Some, refl, sym, ap, ◌∙◌, subst, ◌⊎◌}
 use Rattle.std.specs.Prelude.{not, ◌==◌, slice_get, slice_set}
 use Rattle.std.proofs.Math.Path.{fun_ext}
 use Rattle.std.proofs.lemmas.Option.{slice_get_within}
 use Rattle.std.proofs.lemmas.Bool.{eqb-true}
-use Rattle.brc_lang.specs.declared.module.Instr.{Instr}
-use Rattle.brc_lang.specs.declared.module.Instr.TheVariants.{Num, List as ListObject, NoneObject, Newref, Move as MoveReference, Drop, Lock, Unlock, Goto, Ret, Fail, As}
 use Rattle.brc_lang.specs.declared.module.Module.{Module}
 use Rattle.brc_model.specs.declared.thread.Choice.{Choice}
 use Rattle.brc_model.specs.declared.thread.Choice.TheVariants.{Ok, Fault, Claim}
 use Rattle.brc_word.specs.Words.{free_word}
-use Rattle.brc_model.specs.Kinds.{same_kind, kind_of_word}
-use Rattle.brc_model.specs.Threads.{row_of, entry_variables, code_of}
+use Rattle.brc_model.specs.Threads.{code_of}
 use Rattle.brc_model.specs.declared.duty.Reason.TheVariants.{Handed}
 use Rattle.brc_model.specs.declared.duty.Duty.{Duty}
 use Rattle.brc_model.specs.declared.duty.Duty.TheVariants.{MergeSwap, Settle, ClaimMark, LockGate}
@@ -22,12 +19,11 @@ use Rattle.brc_model.specs.Duties.{address_of, new_head, ready}
 use Rattle.brc_model.specs.declared.actor.Status.{Status}
 use Rattle.brc_model.specs.declared.actor.Status.TheVariants.{Running, Leaving, Gone}
 use Rattle.brc_model.specs.declared.actor.Place.{Place}
-use Rattle.brc_model.specs.declared.actor.Place.TheVariants.{Idle, InCall, Exiting}
-use Rattle.brc_model.specs.Machine.{is_running, written, has_room}
-use Rattle.brc_model.specs.Actions.{StepActor, Action, Skip, Stuck, Silent, Does, always, with_row, birth_action, dispatch_instruction, dispatch, may_claim, agenda_action, status_action, action_of, number_word, list_word}
+use Rattle.brc_model.specs.Machine.{is_running, written}
+use Rattle.brc_model.specs.Actions.{StepActor, Action, Skip, Stuck, Silent, Does, always, may_claim, agenda_action, status_action, action_of}
 use Rattle.brc_model.specs.StepMachine.{StepMachine, of_thread, at_place, step_actor, does_by, machine_by, next_machine, first_machine, machine_after}
 use Rattle.brc_model.specs.World.{World, world_of, machine_of, step, finds_locked, waits_for_lock, IsReachable}
-use Rattle.brc_model.proofs.Basics.Lists.{either, some_is, slice_get-set_same, set_found}
+use Rattle.brc_model.proofs.Basics.Lists.{some_is, slice_get-set_same, set_found}
 use Rattle.brc_model.proofs.Basics.Written.{written_here, written_load}
 use Rattle.brc_model.proofs.Dispatch.Claims.{claimer, gone_claims_none}
 use Rattle.brc_model.proofs.Dispatch.Actions.{ActionFits, action_fits}
@@ -37,11 +33,11 @@ use Rattle.brc_model.proofs.Keeping.CodeEvents.{code_invariant_after}
 use Rattle.brc_model.proofs.Promises.Safe.{first_code_invariant}
 use Rattle.brc_model.proofs.Promises.Worlds.{worlds_follow}
 use Rattle.brc_model.proofs.Promises.AgendaMoves.{agenda_moves}
+use Rattle.brc_model.proofs.Promises.Elsewhere.{FindsFree, IsElsewhere, dispatch_elsewhere}
 use Rattle.brc_model.proofs.Promises.Emptied.{chain_empty}
 use Rattle.brc_lang.specs.Grammar.{LeadsForward}
 use Rattle.brc_lang.specs.declared.module.Function.{Function}
 use Rattle.brc_model.specs.declared.layout.Layout.{Layout}
-use Rattle.brc_model.specs.Layout.{none_row, row_at}
 
 -- ---- a thread that isn't gone
 
@@ -56,102 +52,6 @@ actor_apart : (v w : World) (t : ℕ) (a b : StepActor) → slice_get w.actors t
 actor_apart v w t a b found set apart e =
     apart (some_is b a (sym (slice_get-set_same w.actors t b (slice_get_within w.actors t a found))
     ∙ ap (λ (l : List StepActor). slice_get l t) (sym set ∙ ap (λ (u : World). u.actors) e) ∙ found))
-
--- What a duty finds where it can go on: a lock's gate is free.
-abbrev FindsFree : Duty → ℕ → Type 0
-FindsFree (LockGate x) found = found ≡ free_word
-FindsFree d found = Unit {0}
-
--- The action leads the thread to another place, unless it waits for a lock.
-abbrev IsElsewhere : Place → Action → Type 0
-IsElsewhere place Skip = ⊥
-IsElsewhere place Stuck = Unit {0}
-IsElsewhere place (Silent moves next) = next ≢ place
-IsElsewhere place (Does d rest next) = (found : ℕ) → FindsFree d found → next found ≢ place
-
-row_elsewhere : (place : Place) (o : Option ℕ) (work : ℕ → Action) → ((row : ℕ) → IsElsewhere place (work row))
-    → IsElsewhere place (with_row o work)
-row_elsewhere place None work each = tt
-row_elsewhere place (Some row) work each = each row
-
-birth_elsewhere : (place : Place) (layout : Layout) (t used left at : ℕ) (variables : List (Option ℕ))
-    (to word otherwise : ℕ)
-    → at < otherwise
-    → ((next : ℕ) (later : List (Option ℕ)) → at < next → InCall left next later ≢ place)
-    → IsElsewhere place (birth_action layout t used left at variables to word otherwise)
-birth_elsewhere place layout t used left at variables to word otherwise ahead inside =
-    either (IsElsewhere place) (has_room layout t used) _ _
-    (λ room found free. inside (at + 1) (slice_set variables to (Some (row_at layout t used))) (omega arith))
-    (inside otherwise (slice_set variables to None) ahead)
-
--- An instruction leads to another place: a later point of its call, or the end of the call.
-instruction_elsewhere : (place : Place) (layout : Layout) (t used left at : ℕ) (variables : List (Option ℕ))
-    (code : List Instr)
-    (i : Option Instr)
-    → LeadsForward code → slice_get code at ≡ i
-    → ((next : ℕ) (later : List (Option ℕ)) → at < next → InCall left next later ≢ place) → Idle left ≢ place
-    → IsElsewhere place (dispatch_instruction layout t used place left at variables i)
-instruction_elsewhere place layout t used left at variables code None forward found inside ends = tt
-instruction_elsewhere place layout t used left at variables code (Some (Num to value otherwise)) forward found inside
-    ends =
-    birth_elsewhere place layout t used left at variables to (number_word value) otherwise
-    (forward at (Num to value otherwise) otherwise found refl).0 inside
-instruction_elsewhere place layout t used left at variables code
-    (Some (ListObject to cells otherwise)) forward found inside ends
-    =
-    birth_elsewhere place layout t used left at variables to (list_word cells) otherwise
-    (forward at (ListObject to cells otherwise) otherwise found refl).0 inside
-instruction_elsewhere place layout t used left at variables code (Some (NoneObject to)) forward found inside ends =
-    inside (at + 1) (slice_set variables to (Some none_row)) (omega arith)
-instruction_elsewhere place layout t used left at variables code (Some (Newref to from)) forward found inside ends =
-    row_elsewhere place (row_of variables from) _
-    (λ row found free. inside (at + 1) (slice_set variables to (Some row)) (omega arith))
-instruction_elsewhere place layout t used left at variables code
-    (Some (MoveReference to from)) forward found inside ends
-    =
-    row_elsewhere place (row_of variables from) _
-    (λ row. inside (at + 1) (slice_set (slice_set variables from None) to (Some row)) (omega arith))
-instruction_elsewhere place layout t used left at variables code (Some (Drop from)) forward found inside ends =
-    row_elsewhere place (row_of variables from) _
-    (λ row found free. inside (at + 1) (slice_set variables from None) (omega arith))
-instruction_elsewhere place layout t used left at variables code (Some (Lock object)) forward found inside ends =
-    row_elsewhere place (row_of variables object) _
-    (λ row word free. subst (λ (next : Place). next ≢ place)
-    (sym (ap (λ (w : ℕ). cond (w == free_word) (InCall left (at + 1) variables) place) free))
-    (inside (at + 1) variables (omega arith)))
-instruction_elsewhere place layout t used left at variables code (Some (Unlock object)) forward found inside ends =
-    row_elsewhere place (row_of variables object) _
-    (λ row found free. inside (at + 1) variables (omega arith))
-instruction_elsewhere place layout t used left at variables code (Some (As from kind otherwise)) forward found inside
-    ends =
-    row_elsewhere place (row_of variables from) _
-    (λ row word free. inside (cond (same_kind (kind_of_word word) kind) (at + 1) otherwise) variables
-    (either (λ (next : ℕ). at < next) (same_kind (kind_of_word word) kind) (at + 1) otherwise (λ same. omega arith)
-    (forward at (As from kind otherwise) otherwise found refl).0))
-instruction_elsewhere place layout t used left at variables code (Some (Goto to)) forward found inside ends =
-    inside to variables (forward at (Goto to) to found refl).0
-instruction_elsewhere place layout t used left at variables code (Some (Ret from)) forward found inside ends =
-    row_elsewhere place (row_of variables from) _ (λ row found free. ends)
-instruction_elsewhere place layout t used left at variables code (Some Fail) forward found inside ends = ends
-
-one_call_less : (left : ℕ) → Idle left ≢ Idle (suc left)
-one_call_less left e = (let same : left ≡ suc left = cc in omega (arith, same))
-
-one_point_on : (left at next : ℕ) (variables later : List (Option ℕ)) → at < next
-    → InCall left next later ≢ InCall left at variables
-one_point_on left at next variables later on e = (let same : next ≡ at = cc in omega (arith, same, on))
-
-dispatch_elsewhere : (layout : Layout) (t used : ℕ) (code : List Instr) (place : Place) → LeadsForward code
-    → IsElsewhere place (dispatch layout t used code place)
-dispatch_elsewhere layout t used code Exiting forward = tt
-dispatch_elsewhere layout t used code (Idle zero) forward = λ found free e. cc
-dispatch_elsewhere layout t used code (Idle (suc left)) forward =
-    instruction_elsewhere (Idle (suc left)) layout t used left 0 entry_variables code
-    (slice_get code 0) forward refl
-    (λ next later on e. cc) (one_call_less left)
-dispatch_elsewhere layout t used code (InCall left at variables) forward =
-    instruction_elsewhere (InCall left at variables) layout t used left at variables code (slice_get code at) forward
-    refl (λ next later on e. one_point_on left at next variables later on e) (λ e. cc)
 
 -- The action leads the thread to another place, unless it waits for a lock, or is the first duty of its agenda.
 abbrev Moves : StepActor → Action → Type 0
