@@ -4,3 +4,4 @@ mod Paths
 mod Filling
 mod Points
 mod Tables
+mod Mapping

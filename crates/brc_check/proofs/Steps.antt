@@ -3,8 +3,8 @@ use Rattle.std.proofs.Common.{◌≡◌, ℕ, ◌+◌, ◌<◌, Bool, true, fals
 use Rattle.std.specs.Prelude.{None, Some, slice_get, nat_lt}
 use Rattle.std.proofs.lemmas.Bool.{ltb-true}
 use Rattle.brc_lang.specs.declared.module.Instr.{Instr}
-use Rattle.brc_lang.specs.declared.module.Instr.TheVariants.{Num, List as ListObject, NoneObject, Newref, Move, Drop}
-use Rattle.brc_lang.specs.declared.module.Instr.TheVariants.{As, Goto, Ret, Fail}
+use Rattle.brc_lang.specs.declared.module.Instr.TheVariants.{Num, List as ListObject, NoneObject, Newref, Move, Drop, Lock, Unlock}
+use Rattle.brc_lang.specs.declared.module.Instr.TheVariants.{Borrow, Fetch, Set, Put, As, Goto, Ret, Fail}
 use Rattle.brc_lang.specs.Grammar.{jump, LeadsForward}
 use Rattle.brc_model.specs.declared.code.CheckCode.{CheckCode}
 use Rattle.brc_model.specs.declared.code.CheckCode.TheVariants.{RunsOff}
@@ -25,6 +25,16 @@ forward (NoneObject to) exit at next jumps e = let same : at + 1 ≡ next = cc i
 forward (Newref to from) exit at next jumps e = let same : at + 1 ≡ next = cc in omega arith
 forward (Move to from) exit at next jumps e = let same : at + 1 ≡ next = cc in omega arith
 forward (Drop from) exit at next jumps e = let same : at + 1 ≡ next = cc in omega arith
+forward (Lock object) exit at next jumps e = let same : at + 1 ≡ next = cc in omega arith
+forward (Unlock object) exit at next jumps e = let same : at + 1 ≡ next = cc in omega arith
+forward (Borrow to list index otherwise) Success at next jumps e = let same : at + 1 ≡ next = cc in omega arith
+forward (Borrow to list index otherwise) Fault at next jumps e = jumps next e
+forward (Fetch to list index otherwise) Success at next jumps e = let same : at + 1 ≡ next = cc in omega arith
+forward (Fetch to list index otherwise) Fault at next jumps e = jumps next e
+forward (Set list index from otherwise) Success at next jumps e = let same : at + 1 ≡ next = cc in omega arith
+forward (Set list index from otherwise) Fault at next jumps e = jumps next e
+forward (Put list index from otherwise) Success at next jumps e = let same : at + 1 ≡ next = cc in omega arith
+forward (Put list index from otherwise) Fault at next jumps e = jumps next e
 forward (As from kind otherwise) Success at next jumps e = let same : at + 1 ≡ next = cc in omega arith
 forward (As from kind otherwise) Fault at next jumps e = jumps next e
 forward (Goto to) exit at next jumps e = jumps next e

@@ -1,140 +1,16 @@
-//! One instruction: the conditions that it has on a state, and the state that it leaves.
+//! One instruction: the code that it reports in a state, the state that it leaves, and the point to which it leads.
 
 ghost use Rattle.std.specs.Prelude.{◌≡◌, ◌+◌, ◌<◌, ◌^◌};
-ghost use Rattle.std.specs.List.{list_any};
-ghost use Rattle.brc_model.specs.Slots.{slot_of, is_owned, kind_of, names, lowest, birth_slot, after, target, may_be, with_kind};
+ghost use Rattle.brc_model.specs.Slots.{lowest, after, target};
 
-use brc_lang::{Instr, Kind, Variable};
+use crate::refusing::{
+    as_refusal, drop_refusal, fail_refusal, into_refusal, move_refusal, newref_refusal, ret_refusal,
+};
+use crate::refusing_items::{put_refusal, read_refusal, set_refusal};
+use crate::refusing_locks::{lock_refusal, unlock_refusal};
+use crate::slots::{forget_items, kind_of, put, slot, with_kind};
+use brc_lang::{Instr, Kind};
 use brc_model::{CheckCode, Exit, Slot, State};
-
-fn slot(state: &State, variable: Variable) -> Slot
-    ensures { result ≡ slot_of state.now variable }
-{
-    state.slots[variable.number() as usize]
-}
-
-fn kind_of(slot: Slot) -> Kind
-    ensures { result ≡ kind_of slot }
-{
-    match slot {
-        Slot::Empty => Kind::Any,
-        Slot::Owned(kind) | Slot::Caller(kind) | Slot::Locked(kind) => kind,
-    }
-}
-
-/// Returns whether an object of the kind `known` may be of the kind `asked`.
-fn may_be(known: Kind, asked: Kind) -> bool
-    ensures { result ≡ may_be known asked }
-{
-    known == Kind::Any || known == asked
-}
-
-/// Returns the slot with another kind.
-fn with_kind(slot: Slot, kind: Kind) -> Slot
-    ensures { result ≡ with_kind slot kind }
-{
-    match slot {
-        Slot::Empty => Slot::Empty,
-        Slot::Owned(_) => Slot::Owned(kind),
-        Slot::Caller(_) => Slot::Caller(kind),
-        Slot::Locked(_) => Slot::Locked(kind),
-    }
-}
-
-fn is_locked(state: &State, variable: Variable) -> bool
-    ensures { result ≡ names state.now.locked variable }
-{
-    match state.locked {
-        None => false,
-        Some(locked) => variable.number() == locked.number(),
-    }
-}
-
-fn any_owned(slots: &[Slot; 16]) -> bool
-    ensures { result ≡ list_any is_owned slots.now }
-{
-    slots.iter().any(|slot| matches!(slot, Slot::Owned(_)))
-}
-
-/// Returns the lowest code that `none`, `num` or `list` reports in the state.
-fn into_refusal(state: &State, to: Variable) -> Option<CheckCode>
-    ensures { result ≡ lowest (Instr.NoneObject to) state.now }
-{
-    if let Slot::Owned(_) = slot(state, to) {
-        return Some(CheckCode::StillOwns);
-    }
-    is_locked(state, to).then_some(CheckCode::LockedChanged)
-}
-
-fn newref_refusal(state: &State, to: Variable, from: Variable) -> Option<CheckCode>
-    ensures { result ≡ lowest (Instr.Newref to from) state.now }
-{
-    if let Slot::Empty = slot(state, from) {
-        return Some(CheckCode::EmptyUsed);
-    }
-    into_refusal(state, to)
-}
-
-fn move_refusal(state: &State, to: Variable, from: Variable) -> Option<CheckCode>
-    ensures { result ≡ lowest (Instr.Move to from) state.now }
-{
-    let source = slot(state, from);
-    if let Slot::Empty = source {
-        return Some(CheckCode::EmptyUsed);
-    }
-    if let Slot::Caller(_) | Slot::Locked(_) = source {
-        return Some(CheckCode::NotOwned);
-    }
-    if let Some(code) = into_refusal(state, to) {
-        return Some(code);
-    }
-    is_locked(state, from).then_some(CheckCode::LockedChanged)
-}
-
-fn drop_refusal(state: &State, from: Variable) -> Option<CheckCode>
-    ensures { result ≡ lowest (Instr.Drop from) state.now }
-{
-    match slot(state, from) {
-        Slot::Empty => Some(CheckCode::EmptyUsed),
-        Slot::Caller(_) | Slot::Locked(_) => Some(CheckCode::NotOwned),
-        Slot::Owned(_) => is_locked(state, from).then_some(CheckCode::LockedChanged),
-    }
-}
-
-fn as_refusal(state: &State, from: Variable, kind: Kind) -> Option<CheckCode>
-    ensures { result ≡ lowest (Instr.As from kind 0) state.now }
-{
-    let source = slot(state, from);
-    if let Slot::Empty = source {
-        return Some(CheckCode::EmptyUsed);
-    }
-    (!may_be(kind_of(source), kind)).then_some(CheckCode::WrongKind)
-}
-
-fn ret_refusal(state: &State, from: Variable) -> Option<CheckCode>
-    ensures { result ≡ lowest (Instr.Ret from) state.now }
-{
-    match slot(state, from) {
-        Slot::Empty => return Some(CheckCode::EmptyUsed),
-        Slot::Caller(_) | Slot::Locked(_) => return Some(CheckCode::NotOwned),
-        Slot::Owned(_) => (),
-    }
-    let mut others = state.slots;
-    others[from.number() as usize] = Slot::Empty;
-    if any_owned(&others) {
-        return Some(CheckCode::LeftOwned);
-    }
-    state.locked.is_some().then_some(CheckCode::LeftLocked)
-}
-
-fn fail_refusal(state: &State) -> Option<CheckCode>
-    ensures { result ≡ lowest Instr.Fail state.now }
-{
-    if any_owned(&state.slots) {
-        return Some(CheckCode::LeftOwned);
-    }
-    state.locked.is_some().then_some(CheckCode::LeftLocked)
-}
 
 /// Returns the lowest code that the instruction reports in the state, or `None`.
 pub fn refusal(instr: Instr, state: &State) -> Option<CheckCode>
@@ -147,6 +23,13 @@ pub fn refusal(instr: Instr, state: &State) -> Option<CheckCode>
         Instr::Newref { to, from } => newref_refusal(state, to, from),
         Instr::Move { to, from } => move_refusal(state, to, from),
         Instr::Drop { from } => drop_refusal(state, from),
+        Instr::Lock { object } => lock_refusal(state, object),
+        Instr::Unlock { object } => unlock_refusal(state, object),
+        Instr::Borrow { to, list, .. } | Instr::Fetch { to, list, .. } => {
+            read_refusal(state, to, list)
+        }
+        Instr::Set { list, from, .. } => set_refusal(state, list, from),
+        Instr::Put { list, from, .. } => put_refusal(state, list, from),
         Instr::As { from, kind, .. } => as_refusal(state, from, kind),
         Instr::Goto { .. } => None,
         Instr::Ret { from } => ret_refusal(state, from),
@@ -154,12 +37,13 @@ pub fn refusal(instr: Instr, state: &State) -> Option<CheckCode>
     }
 }
 
-/// Returns what an exit of a birth leaves in its variable: an owned reference to the new object, or nothing.
-fn birth_slot(kind: Kind, exit: Exit) -> Slot
-    ensures { result ≡ birth_slot kind exit }
+/// Returns what the exit leaves in the variable that the instruction fills: a fault leaves nothing.
+fn filled(slot: Slot, exit: Exit) -> Slot
+    ensures success { exit ≡ Exit.Success → result ≡ slot }
+    ensures fault { exit ≡ Exit.Fault → result ≡ Slot.Empty }
 {
     match exit {
-        Exit::Success => Slot::Owned(kind),
+        Exit::Success => slot,
         Exit::Fault => Slot::Empty,
     }
 }
@@ -169,25 +53,38 @@ pub fn apply(instr: Instr, exit: Exit, state: &mut State)
     ensures { state.new ≡ after instr exit state.old }
 {
     match instr {
-        Instr::Num { to, .. } => state.slots[to.number() as usize] = birth_slot(Kind::Num, exit),
-        Instr::List { to, .. } => state.slots[to.number() as usize] = birth_slot(Kind::List, exit),
-        Instr::NoneObject { to } => state.slots[to.number() as usize] = Slot::Owned(Kind::None),
+        Instr::Num { to, .. } => put(state, to, filled(Slot::Owned(Kind::Num), exit)),
+        Instr::List { to, .. } => put(state, to, filled(Slot::Owned(Kind::List), exit)),
+        Instr::NoneObject { to } => put(state, to, Slot::Owned(Kind::None)),
         Instr::Newref { to, from } => {
             let kind = kind_of(slot(state, from));
-            state.slots[to.number() as usize] = Slot::Owned(kind);
+            put(state, to, Slot::Owned(kind));
         }
         Instr::Move { to, from } => {
             let handed = Slot::Owned(kind_of(slot(state, from)));
-            state.slots[from.number() as usize] = Slot::Empty;
-            state.slots[to.number() as usize] = handed;
+            put(state, from, Slot::Empty);
+            put(state, to, handed);
         }
-        Instr::Drop { from } => state.slots[from.number() as usize] = Slot::Empty,
-        Instr::As { from, kind, .. } => match exit {
-            Exit::Success => {
-                state.slots[from.number() as usize] = with_kind(slot(state, from), kind);
+        Instr::Drop { from } => put(state, from, Slot::Empty),
+        Instr::Lock { object } => state.locked = Some(object),
+        Instr::Unlock { .. } => {
+            forget_items(state);
+            state.locked = None;
+        }
+        Instr::Borrow { to, .. } => put(state, to, filled(Slot::Locked(Kind::Any), exit)),
+        Instr::Fetch { to, .. } => put(state, to, filled(Slot::Owned(Kind::Any), exit)),
+        // `PyList_SetItem` steals the reference, also if the index is out of range.
+        Instr::Set { from, .. } => {
+            put(state, from, Slot::Empty);
+            forget_items(state);
+        }
+        Instr::Put { .. } => forget_items(state),
+        Instr::As { from, kind, .. } => {
+            if let Exit::Success = exit {
+                let asked = with_kind(slot(state, from), kind);
+                put(state, from, asked);
             }
-            Exit::Fault => (),
-        },
+        }
         Instr::Goto { .. } | Instr::Ret { .. } | Instr::Fail => (),
     }
 }
@@ -200,12 +97,20 @@ pub fn target_of(instr: Instr, exit: Exit, at: usize) -> Option<usize>
     match instr {
         Instr::Num { otherwise, .. }
         | Instr::List { otherwise, .. }
+        | Instr::Borrow { otherwise, .. }
+        | Instr::Fetch { otherwise, .. }
+        | Instr::Set { otherwise, .. }
+        | Instr::Put { otherwise, .. }
         | Instr::As { otherwise, .. } => Some(match exit {
             Exit::Success => at + 1,
             Exit::Fault => otherwise as usize,
         }),
-        Instr::NoneObject { .. } | Instr::Newref { .. } | Instr::Move { .. } | Instr::Drop { .. } =>
-            Some(at + 1),
+        Instr::NoneObject { .. }
+        | Instr::Newref { .. }
+        | Instr::Move { .. }
+        | Instr::Drop { .. }
+        | Instr::Lock { .. }
+        | Instr::Unlock { .. } => Some(at + 1),
         Instr::Goto { target } => Some(target as usize),
         Instr::Ret { .. } | Instr::Fail => None,
     }

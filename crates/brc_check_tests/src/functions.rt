@@ -7,10 +7,10 @@ use std::alloc::Global;
 use std::test::*;
 
 /// A point, and the code that is reported there.
-type CodeAt = (usize, CheckCode);
+pub type CodeAt = (usize, CheckCode);
 
 /// A function's lines, and where it is refused and for what, or `None` where it is accepted.
-type Case<'a> = (&'a [u8], Option<CodeAt>);
+pub type Case<'a> = (&'a [u8], Option<CodeAt>);
 
 /// A number by one path and none by the other.
 const TWO_KINDS: &[u8] = b"num v1 1 else @2\ngoto @3\nnone v1\nret v1\n";
@@ -185,7 +185,7 @@ fn refusal_of(alloc: Global, lines: &[u8]) -> Result<Option<CodeAt>, Fail> {
 }
 
 /// The number of the first case with another answer.
-fn first_other(alloc: Global, cases: &[Case]) -> Result<Option<usize>, Fail> {
+pub fn first_other(alloc: Global, cases: &[Case]) -> Result<Option<usize>, Fail> {
     for (number, (lines, answer)) in cases.iter().enumerate() {
         if refusal_of(alloc, lines)? != *answer {
             return Ok(Some(number));

@@ -4,4 +4,10 @@
 #[cfg(test)]
 mod functions;
 #[cfg(test)]
+mod items;
+#[cfg(test)]
+mod locked_tables;
+#[cfg(test)]
+mod locks;
+#[cfg(test)]
 mod tables;

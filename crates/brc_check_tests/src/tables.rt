@@ -123,16 +123,12 @@ fn table_of(alloc: Global, module: &Module) -> Result<Table, Fail>
 }
 
 /// The first point whose entry is another one, in the table of one function; a second function has no entries.
-fn other_entry(table: &Table, entries: &[Option<Slots>]) -> Option<usize> {
+fn other_entry(table: &Table, entries: &[Option<State>]) -> Option<usize> {
     if table.entry(1, 0).is_some() {
         return Some(0);
     }
-    for (at, slots) in entries.iter().enumerate() {
-        let entry = match slots {
-            Some(slots) => Some(state(*slots)),
-            None => None,
-        };
-        if table.entry(0, at) != entry {
+    for (at, entry) in entries.iter().enumerate() {
+        if table.entry(0, at) != *entry {
             return Some(at);
         }
     }
@@ -140,10 +136,10 @@ fn other_entry(table: &Table, entries: &[Option<Slots>]) -> Option<usize> {
 }
 
 /// The first point whose entry is another one, in the table that `infer` gives or in the one that `verify` hands on.
-fn first_other(
+pub fn first_difference(
     alloc: Global,
     lines: &[u8],
-    entries: &[Option<Slots>],
+    entries: &[Option<State>],
 ) -> Result<Option<usize>, Fail> {
     let module = function_of(alloc, lines)?;
     let table = table_of(alloc, &module)?;
@@ -159,7 +155,14 @@ fn first_other(
 /// The number of the first table that is another one, and the point at which it is.
 fn first_other_table(alloc: Global) -> Result<Option<(usize, usize)>, Fail> {
     for (number, (lines, entries)) in TABLES.iter().enumerate() {
-        if let Some(at) = first_other(alloc, lines, entries)? {
+        let mut states = Vec::new(alloc);
+        for slots in entries.iter() {
+            states.push(match slots {
+                Some(slots) => Some(state(*slots)),
+                None => None,
+            })?;
+        }
+        if let Some(at) = first_difference(alloc, lines, &states)? {
             return Ok(Some((number, at)));
         }
     }
@@ -213,7 +216,7 @@ fn is_noticed(
 }
 
 /// Whether a table whose entry is overwritten is refused there.
-fn is_refused_at(
+pub fn is_refused_at(
     alloc: Global,
     lines: &[u8],
     at: usize,

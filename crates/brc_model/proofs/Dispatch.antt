@@ -25,6 +25,9 @@ pub mod Standing
 pub mod TakingSilent
 pub mod TakingBirths
 pub mod TakingLocks
+pub mod TakingItems
+pub mod TakingInside
+pub mod TakingStores
 pub mod Taking
 pub mod Begun
 pub mod TakenSits

@@ -1,14 +1,18 @@
 -- A step's answer says whether the world changed.
-use Rattle.std.proofs.Common.{◌≡◌, ◌≢◌, ℕ, Bool, true, false, Some, refl, ap, ◌∙◌}
+use Rattle.std.proofs.Common.{◌≡◌, ◌≢◌, ℕ, Bool, true, false, List, [], ◌∷◌, Some, refl, ap, ◌∙◌}
 use Rattle.std.specs.Prelude.{if◌then◌else◌, slice_get}
+use Rattle.brc_model.specs.AbstractState.{Move}
+use Rattle.brc_model.specs.declared.actor.Place.{Place}
 use Rattle.brc_model.specs.declared.actor.Status.{Status}
 use Rattle.brc_model.specs.declared.actor.Status.TheVariants.{Running, Leaving, Gone}
+use Rattle.brc_model.specs.declared.address.Address.{Address}
+use Rattle.brc_model.specs.declared.duty.Duty.{Duty}
 use Rattle.brc_model.specs.declared.thread.Choice.TheVariants.{Ok, Claim}
 use Rattle.brc_model.specs.Safety.{has_gone}
 use Rattle.brc_model.specs.Actions.{StepActor, Action, Skip, Stuck, Silent, Does, status_action}
 use Rattle.brc_model.specs.World.{World, step}
 use Rattle.brc_world.specs.declared.did.Did.TheVariants as answers
-use Rattle.brc_world.specs.Actors.{memory_by, actor_by, did_by, finds_mark, did_claim}
+use Rattle.brc_world.specs.Actors.{memory_by, actor_by, waits, did_by, finds_mark, did_claim}
 use Rattle.brc_world.specs.Answers.{is_gone, is_gone_at, IsAnswer}
 use Rattle.brc_world.proofs.Stepping.{with_words, unchanged}
 
@@ -18,29 +22,52 @@ gone_is w t a s found is = ap is_gone found ∙ ap has_gone is
 
 -- ---- next steps
 
+-- A thread that takes no step on a word doesn't wait.
+skip_goes_on : (memory : Address → ℕ) (agenda : List Duty) → waits memory agenda Skip ≡ false
+skip_goes_on memory [] = refl
+skip_goes_on memory (d ∷ rest) = refl
+
+silent_goes_on : (memory : Address → ℕ) (agenda : List Duty) (moves : List Move) (place : Place)
+    → waits memory agenda (Silent moves place) ≡ false
+silent_goes_on memory [] moves place = refl
+silent_goes_on memory (d ∷ rest) moves place = refl
+
+-- The answer of a step is Same if the thread waits for a lock.
+waiting_answers : (w : World) (t : ℕ) (waiting : Bool) → is_gone_at w t ≡ false
+    → (waiting ≡ false → step w t Ok ≢ w) → (waiting ≡ true → step w t Ok ≡ w)
+    → IsAnswer w t (step w t Ok) (if waiting then answers.Same else answers.Moved)
+waiting_answers w t true here moves stays = (here, stays refl)
+waiting_answers w t false here moves stays = (here, moves refl)
+
 action_answers : (w : World) (t : ℕ) (a : StepActor) (x : Action) → slice_get w.actors t ≡ Some a
-    → is_gone_at w t ≡ false → step w t Ok ≢ w
+    → is_gone_at w t ≡ false → (waits w.memory a.actor.agenda x ≡ false → step w t Ok ≢ w)
+    → (waits w.memory a.actor.agenda x ≡ true → step w t Ok ≡ w)
     → step w t Ok ≡ with_words w t (memory_by w.layout t w.memory a x) (actor_by w.layout t w.memory a x)
-    → IsAnswer w t (step w t Ok) (did_by x)
-action_answers w t a Skip found here moves is = absurd (moves (is ∙ unchanged w t a found))
-action_answers w t a Stuck found here moves is = (here, is ∙ unchanged w t a found)
-action_answers w t a (Silent refs place) found here moves is = (here, moves)
-action_answers w t a (Does d rest place) found here moves is = (here, moves)
+    → IsAnswer w t (step w t Ok) (did_by w.memory a.actor.agenda x)
+action_answers w t a Skip found here moves stays is =
+    absurd (moves (skip_goes_on w.memory a.actor.agenda) (is ∙ unchanged w t a found))
+action_answers w t a Stuck found here moves stays is = (here, is ∙ unchanged w t a found)
+action_answers w t a (Silent refs place) found here moves stays is =
+    (here, moves (silent_goes_on w.memory a.actor.agenda refs place))
+action_answers w t a (Does d rest place) found here moves stays is =
+    waiting_answers w t (waits w.memory a.actor.agenda (Does d rest place)) here moves stays
 
 -- The answer of a thread's next step says whether the step changed the world.
 pub going_answers : (w : World) (t : ℕ) (a : StepActor) (s : Status) → slice_get w.actors t ≡ Some a
     → a.actor.status ≡ s
-    → (s ≢ Gone → step w t Ok ≢ w)
+    → (s ≢ Gone → waits w.memory a.actor.agenda (status_action w.functions w.layout t a s) ≡ false
+    → step w t Ok ≢ w)
+    → (waits w.memory a.actor.agenda (status_action w.functions w.layout t a s) ≡ true → step w t Ok ≡ w)
     → step w t Ok ≡ with_words w t (memory_by w.layout t w.memory a (status_action w.functions w.layout t a s))
     (actor_by w.layout t w.memory a (status_action w.functions w.layout t a s))
-    → IsAnswer w t (step w t Ok) (did_by (status_action w.functions w.layout t a s))
-going_answers w t a Gone found at moves is = gone_is w t a Gone found at
-going_answers w t a Running found at moves is =
+    → IsAnswer w t (step w t Ok) (did_by w.memory a.actor.agenda (status_action w.functions w.layout t a s))
+going_answers w t a Gone found at moves stays is = gone_is w t a Gone found at
+going_answers w t a Running found at moves stays is =
     action_answers w t a (status_action w.functions w.layout t a Running) found (gone_is w t a Running found at)
-    (moves (λ e. cc)) is
-going_answers w t a Leaving found at moves is =
+    (moves (λ e. cc)) stays is
+going_answers w t a Leaving found at moves stays is =
     action_answers w t a (status_action w.functions w.layout t a Leaving) found (gone_is w t a Leaving found at)
-    (moves (λ e. cc)) is
+    (moves (λ e. cc)) stays is
 
 -- ---- claims
 

@@ -2,7 +2,7 @@
 use Rattle.std.proofs.Common.{ℕ, zero, suc, Bool, true, false, cond, List, [], ◌∷◌, Option, None, Some}
 use Rattle.std.specs.Prelude.{slice_get}
 use Rattle.brc_lang.specs.declared.module.Instr.{Instr}
-use Rattle.brc_lang.specs.declared.module.Instr.TheVariants.{Num, List as ListObject, NoneObject, Newref, Move as MoveReference, Drop, Goto, Ret, Fail, As}
+use Rattle.brc_lang.specs.declared.module.Instr.TheVariants.{Num, List as ListObject, NoneObject, Newref, Move as MoveReference, Drop, Lock, Unlock, Goto, Ret, Fail, As}
 use Rattle.brc_lang.specs.declared.module.Function.{Function}
 use Rattle.brc_model.specs.Threads.{code_of, row_of, entry_variables}
 use Rattle.brc_model.specs.declared.duty.Duty.{Duty}
@@ -25,33 +25,40 @@ either_steps : (b : Bool) (one two : Action) → TakesStep one → TakesStep two
 either_steps true one two first second = first
 either_steps false one two first second = second
 
-instruction_steps : (layout : Layout) (t used left at : ℕ) (variables : List (Option ℕ)) (i : Option Instr)
-    → TakesStep (dispatch_instruction layout t used left at variables i)
-instruction_steps layout t used left at variables None = tt
-instruction_steps layout t used left at variables (Some (Num to value otherwise)) =
+instruction_steps : (layout : Layout) (t used : ℕ) (before : Place) (left at : ℕ) (variables : List (Option ℕ))
+    (i : Option Instr)
+    → TakesStep (dispatch_instruction layout t used before left at variables i)
+instruction_steps layout t used before left at variables None = tt
+instruction_steps layout t used before left at variables (Some (Num to value otherwise)) =
     either_steps (has_room layout t used) _ _ tt tt
-instruction_steps layout t used left at variables (Some (ListObject to cells otherwise)) =
+instruction_steps layout t used before left at variables (Some (ListObject to cells otherwise)) =
     either_steps (has_room layout t used) _ _ tt tt
-instruction_steps layout t used left at variables (Some (NoneObject to)) = tt
-instruction_steps layout t used left at variables (Some (Newref to from)) =
+instruction_steps layout t used before left at variables (Some (NoneObject to)) = tt
+instruction_steps layout t used before left at variables (Some (Newref to from)) =
     row_steps (row_of variables from) _ (λ row. tt)
-instruction_steps layout t used left at variables (Some (MoveReference to from)) =
+instruction_steps layout t used before left at variables (Some (MoveReference to from)) =
     row_steps (row_of variables from) _ (λ row. tt)
-instruction_steps layout t used left at variables (Some (Drop from)) = row_steps (row_of variables from) _ (λ row. tt)
-instruction_steps layout t used left at variables (Some (As from kind otherwise)) =
+instruction_steps layout t used before left at variables (Some (Drop from)) =
     row_steps (row_of variables from) _ (λ row. tt)
-instruction_steps layout t used left at variables (Some (Goto to)) = tt
-instruction_steps layout t used left at variables (Some (Ret from)) = row_steps (row_of variables from) _ (λ row. tt)
-instruction_steps layout t used left at variables (Some Fail) = tt
+instruction_steps layout t used before left at variables (Some (Lock object)) =
+    row_steps (row_of variables object) _ (λ row. tt)
+instruction_steps layout t used before left at variables (Some (Unlock object)) =
+    row_steps (row_of variables object) _ (λ row. tt)
+instruction_steps layout t used before left at variables (Some (As from kind otherwise)) =
+    row_steps (row_of variables from) _ (λ row. tt)
+instruction_steps layout t used before left at variables (Some (Goto to)) = tt
+instruction_steps layout t used before left at variables (Some (Ret from)) =
+    row_steps (row_of variables from) _ (λ row. tt)
+instruction_steps layout t used before left at variables (Some Fail) = tt
 
 dispatch_steps : (layout : Layout) (t used : ℕ) (code : List Instr) (place : Place)
     → TakesStep (dispatch layout t used code place)
 dispatch_steps layout t used code Exiting = tt
 dispatch_steps layout t used code (Idle zero) = tt
 dispatch_steps layout t used code (Idle (suc left)) =
-    instruction_steps layout t used left 0 entry_variables (slice_get code 0)
+    instruction_steps layout t used (Idle (suc left)) left 0 entry_variables (slice_get code 0)
 dispatch_steps layout t used code (InCall left at variables) =
-    instruction_steps layout t used left at variables (slice_get code at)
+    instruction_steps layout t used (InCall left at variables) left at variables (slice_get code at)
 
 -- Neither an agenda's first duty nor a dispatch is `Skip`.
 pub agenda_steps : (functions : List Function) (layout : Layout) (t : ℕ) (a : StepActor) (agenda : List Duty)

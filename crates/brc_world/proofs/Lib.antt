@@ -4,6 +4,7 @@ pub mod Indices
 pub mod Dispatching
 pub mod Acting
 pub mod Stepping
+pub mod Waiting
 pub mod Outcomes
 pub mod Answering
 pub mod Tallying

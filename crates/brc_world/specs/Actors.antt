@@ -1,30 +1,25 @@
 -- The model's view of a thread, and what a step changes in the words and in its thread, by the thread's action.
 use Rattle.std.specs.Prelude.{◌≡◌, ℕ, ◌≤◌, Bool, true, false, ◌==◌, ◌&&◌, not, if◌then◌else◌, List, [], ◌∷◌, reverse, Option, None}
-use Rattle.brc_lang.specs.declared.kind.Kind.{Kind}
 use Rattle.brc_model.specs.declared.actor.Status.{Status}
 use Rattle.brc_model.specs.declared.actor.Status.TheVariants.{Running, Leaving, Gone}
 use Rattle.brc_model.specs.declared.address.Address.{Address}
 use Rattle.brc_model.specs.declared.address.Address.TheVariants.{Mark}
 use Rattle.brc_model.specs.declared.duty.Duty.{Duty}
-use Rattle.brc_model.specs.declared.duty.Duty.TheVariants.{ReleaseLoad, Settle, Leave, Scan, ClaimMark}
-use Rattle.brc_model.specs.declared.duty.Holding.TheVariants.{AsCaller}
+use Rattle.brc_model.specs.declared.duty.Duty.TheVariants.{Settle, Scan, ClaimMark}
 use Rattle.brc_model.specs.declared.actor.Place.{Place}
 use Rattle.brc_model.specs.declared.actor.Place.TheVariants.{Idle, InCall, Exiting}
-use Rattle.brc_model.specs.Kinds.{same_kind, kind_of_word}
 use Rattle.brc_model.specs.Duties.{address_of, new_word}
 use Rattle.brc_model.specs.Within.{IsThere, Suits}
 use Rattle.brc_model.specs.Machine as model
-use Rattle.brc_model.specs.Actions.{StepActor, Action, Skip, Stuck, Silent, Does, always, may_claim}
+use Rattle.brc_model.specs.Actions.{StepActor, Action, Skip, Stuck, Silent, Does, may_claim}
 use Rattle.brc_model.specs.StepMachine.{at_place, step_actor}
+use Rattle.brc_model.specs.World.{finds_locked}
 use Rattle.brc_world.specs.declared.did.Did.{Did}
 use Rattle.brc_world.specs.declared.did.Did.TheVariants as answers
-use Rattle.brc_world.specs.declared.dispatch.Start.{Start}
-use Rattle.brc_world.specs.declared.dispatch.Start.TheVariants as starts
 use Rattle.brc_world.specs.declared.thread.Stage.{Stage}
 use Rattle.brc_world.specs.declared.thread.Stage.TheVariants as stages
 use Rattle.brc_world.specs.declared.thread.Thread.{Thread}
 use Rattle.brc_model.specs.declared.layout.Layout.{Layout}
-use Rattle.brc_model.specs.Layout.{root_row}
 
 -- the model's place of a thread; only a call has an instruction and variables
 abbrev pub place_of : Stage → ℕ → ℕ → List (Option ℕ) → Place
@@ -64,46 +59,6 @@ with_agenda a agenda =
       };
     }
 
--- the exit of a thread with no call left: it releases its reference to the root, settles, and leaves
-abbrev pub exit_action : ℕ → Action
-exit_action used = Does (ReleaseLoad root_row AsCaller) (Settle ∷ Leave 0 used ∷ []) (always Exiting)
-
--- Returns the start of a step with the action, but for what the step asks of the word found.
-abbrev pub start_by : Action → Start
-start_by Skip = starts.Stuck
-start_by Stuck = starts.Stuck
-start_by (Silent moves place) = starts.Moved
-start_by (Does d rest place) = starts.Doing d
-
--- the start without what it asks of the word found
-abbrev pub unasking : Start → Start
-unasking (starts.Asking d kind otherwise) = starts.Doing d
-unasking start = start
-
--- the place with another point, if it is in a call
-abbrev pub with_point : (ℕ → ℕ) → Place → Place
-with_point point (Idle left) = Idle left
-with_point point (InCall left at variables) = InCall left (point at) variables
-with_point point Exiting = Exiting
-
--- the thread, which goes on at `otherwise` if the kind word found is of another kind than this one
-abbrev pub asked : Kind → ℕ → ℕ → StepActor → StepActor
-asked kind otherwise found a =
-    at_place a (with_point (λ at. if same_kind (kind_of_word found) kind then at else otherwise) a.place)
-
--- the thread once the word found has answered what its step's start asks
-abbrev pub answered : Start → ℕ → StepActor → StepActor
-answered (starts.Asking d kind otherwise) found a = asked kind otherwise found a
-answered _ found a = a
-
--- Returns the thread once its step has started: the duty that it does is no longer in its agenda, and the thread is at
--- the place that the word found decides.
-abbrev pub started : StepActor → Action → ℕ → StepActor
-started a Skip found = a
-started a Stuck found = a
-started a (Silent moves place) found = at_place a place
-started a (Does d rest place) found = with_agenda (at_place a (place found)) rest
-
 -- a duty that needs no step: to settle an empty chain, or to scan no rows
 abbrev pub is_idle : ℕ → Duty → Bool
 is_idle head Settle = head == 0
@@ -140,12 +95,19 @@ actor_by layout t memory a (Silent moves place) = at_place a place
 actor_by layout t memory a (Does d rest place) =
     actor_done layout t memory (with_agenda (at_place a (place (found_by layout t memory a d))) rest) d
 
--- Returns the answer of a step with the action.
-abbrev pub did_by : Action → Did
-did_by Skip = answers.Gone
-did_by Stuck = answers.Same
-did_by (Silent moves place) = answers.Moved
-did_by (Does d rest place) = answers.Moved
+-- Says whether the thread with this agenda waits for a lock: it begins with an instruction whose object another thread
+-- has locked. An agenda never has a lock in it.
+abbrev pub waits : (Address → ℕ) → List Duty → Action → Bool
+waits memory [] x = finds_locked memory x
+waits memory (d ∷ rest) x = false
+
+-- Returns the answer of a step with the action, of a thread with this agenda. A thread that waits changes nothing.
+abbrev pub did_by : (Address → ℕ) → List Duty → Action → Did
+did_by memory agenda Skip = answers.Gone
+did_by memory agenda Stuck = answers.Same
+did_by memory agenda (Silent moves place) = answers.Moved
+did_by memory agenda (Does d rest place) =
+    if waits memory agenda (Does d rest place) then answers.Same else answers.Moved
 
 -- the thread can do the duty, in a world of n rows: the duty's word is there, its value suits the duty, and the thread
 -- uses no more than n rows afterwards

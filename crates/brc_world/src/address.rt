@@ -52,5 +52,6 @@ pub fn address_of(layout: Layout, thread: u8, head: u32, duty: Duty) -> Address
         Duty::Leave { .. } | Duty::Finish => Address::ThreadWord {
             thread: u32::from(thread),
         },
+        Duty::CellLoad { row, cell } => Address::Cell { row, cell },
     }
 }

@@ -12,7 +12,8 @@ use brc_model::{Duty, Holding};
 #[inline(always)]
 pub fn push(agenda: &mut Vec<Duty>, next: Next)
     requires room { vec_len agenda.old + 4 ≤ vec_capacity agenda.old }
-    ensures { reverse agenda.new.items ≡ duties_of next ++ reverse agenda.old.items }
+    ensures duties { reverse agenda.new.items ≡ duties_of next ++ reverse agenda.old.items }
+    ensures room { vec_capacity agenda.old ≤ vec_capacity agenda.new }
 {
     match next {
         Next::Nothing => (),
@@ -39,7 +40,8 @@ pub fn push(agenda: &mut Vec<Duty>, next: Next)
 /// Removes the next duties for as long as they need no step: `Settle` with an empty chain, and `Scan` of no rows.
 #[inline(always)]
 pub fn pass_over(agenda: &mut Vec<Duty>, head: u32)
-    ensures { reverse agenda.new.items ≡ ready head (reverse agenda.old.items) }
+    ensures duties { reverse agenda.new.items ≡ ready head (reverse agenda.old.items) }
+    ensures room { vec_capacity agenda.old ≤ vec_capacity agenda.new }
 {
     while let Some(duty) = agenda.last() {
         if !is_idle(*duty, head) {

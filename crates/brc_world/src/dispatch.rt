@@ -1,21 +1,27 @@
 //! The start of a thread's step: the first duty of its agenda, or the dispatch of its next instruction or of its exit.
 
-ghost use Rattle.std.specs.Prelude.{◌≡◌, ℕ, ◌+◌, ◌<◌, ◌≤◌, ◌^◌, if◌then◌else◌, slice_get, None, Some};
-ghost use Rattle.std.specs.Prelude.{[], ◌∷◌, reverse, vec_len, vec_capacity};
-ghost use Rattle.brc_model.specs.declared.duty.Duty.TheVariants.{ReleaseLoad, Settle};
-ghost use Rattle.brc_model.specs.declared.duty.Holding.TheVariants.{ByVariable};
+ghost use Rattle.std.specs.Prelude.{◌≡◌, ℕ, ◌+◌, ◌≤◌, slice_get, Some};
+ghost use Rattle.std.specs.Prelude.{[], reverse, vec_len, vec_capacity};
 ghost use Rattle.brc_model.specs.Threads.{code_of, entry_variables};
-ghost use Rattle.brc_model.specs.Actions.{agenda_action, dispatch_instruction, birth_action};
-ghost use Rattle.brc_model.specs.Machine.{has_room};
-ghost use Rattle.brc_world.specs.Actors.{actor_of, with_agenda, exit_action, start_by, unasking, answered, started};
-ghost use Rattle.brc_model.specs.Layout.{row_at};
+ghost use Rattle.brc_model.specs.Actions.{agenda_action, dispatch};
+ghost use Rattle.brc_world.specs.Actors.{actor_of};
+ghost use Rattle.brc_world.specs.Starts.{first_start, exit_action, action_at, unasking, answered, started, CanBegin, Begins};
 
-use crate::rows::{NONE_ROW, ROOT, block_size, row_at};
+use crate::dispatch::birth::birth;
+use crate::dispatch::kinds::ask_kind;
+use crate::dispatch::locks::{lock, unlock};
+use crate::dispatch::references::{give_up, hand_on, name_again, name_none, return_object};
+use crate::rows::ROOT;
 use crate::states::{LIST, NUM};
 use crate::thread::{Stage, Thread, Variables};
-use brc_lang::{Function, Instr, Kind, Variable};
+use brc_lang::{Function, Instr, Kind};
 use brc_model::{Duty, Holding, Layout};
 use brc_word::kind_word;
+
+mod birth;
+mod kinds;
+mod locks;
+mod references;
 
 /// The start of a thread's step.
 #[derive(Clone, Copy, Debug)]
@@ -33,15 +39,23 @@ pub enum Start {
         kind: Kind,
         otherwise: u8,
     },
+    /// The thread locks the row's object. If it finds the gate free, it goes on at the instruction `next` of a call
+    /// after which `left` calls remain. Otherwise it stays where it was, and has begun neither the instruction nor, if
+    /// the instruction is the first one, the call.
+    Locking {
+        row: u32,
+        left: u32,
+        next: usize,
+    },
 }
 
 /// Takes the first duty off the agenda or, if the agenda is empty, dispatches the next instruction or the exit.
 #[inline(always)]
 pub fn first_duty(functions: &[Function], layout: Layout, number: u8, thread: &mut Thread) -> Start
     requires room { vec_len thread.old.agenda + 8 ≤ vec_capacity thread.old.agenda }
-    ensures starts { unasking result ≡ start_by (agenda_action functions.now layout number (actor_of thread.old)
-        (reverse thread.old.agenda.items)) }
-    ensures actor { (found : ℕ) → answered result found (actor_of thread.new) ≡ started (actor_of thread.old)
+    ensures starts { unasking result ≡ first_start functions.now layout number (actor_of thread.old)
+        (reverse thread.old.agenda.items) }
+    ensures actor { (found : ℕ) → answered result found thread.new ≡ started (actor_of thread.old)
         (agenda_action functions.now layout number (actor_of thread.old) (reverse thread.old.agenda.items)) found }
     ensures room { vec_len thread.new.agenda + 4 ≤ vec_capacity thread.new.agenda }
 {
@@ -57,10 +71,8 @@ pub fn first_duty(functions: &[Function], layout: Layout, number: u8, thread: &m
 fn dispatch(functions: &[Function], layout: Layout, number: u8, thread: &mut Thread) -> Start
     requires empty { thread.old.agenda.items ≡ [] }
     requires room { 8 ≤ vec_capacity thread.old.agenda }
-    ensures starts { unasking result ≡ start_by (agenda_action functions.now layout number (actor_of thread.old) []) }
-    ensures actor { (found : ℕ) → answered result found (actor_of thread.new) ≡ started (actor_of thread.old)
-        (agenda_action functions.now layout number (actor_of thread.old) []) found }
-    ensures room { vec_len thread.new.agenda + 4 ≤ vec_capacity thread.new.agenda }
+    ensures { Begins thread.old (dispatch layout number thread.old.used (code_of (slice_get functions.now
+        thread.old.function)) (actor_of thread.old).place) result thread.new }
 {
     match thread.stage {
         Stage::Exiting => Start::Stuck,
@@ -84,10 +96,7 @@ fn dispatch(functions: &[Function], layout: Layout, number: u8, thread: &mut Thr
 fn exit(thread: &mut Thread) -> Start
     requires empty { thread.old.agenda.items ≡ [] }
     requires room { 8 ≤ vec_capacity thread.old.agenda }
-    ensures starts { unasking result ≡ start_by (exit_action thread.old.used) }
-    ensures actor { (found : ℕ) → answered result found (actor_of thread.new)
-        ≡ started (actor_of thread.old) (exit_action thread.old.used) found }
-    ensures room { vec_len thread.new.agenda + 4 ≤ vec_capacity thread.new.agenda }
+    ensures { Begins thread.old (exit_action thread.old.used) result thread.new }
 {
     thread.stage = Stage::Exiting;
     thread.agenda.push_reserved(Duty::Leave {
@@ -113,12 +122,8 @@ fn next_instruction(
 ) -> Start
     requires empty { thread.old.agenda.items ≡ [] }
     requires room { 8 ≤ vec_capacity thread.old.agenda }
-    ensures starts { unasking result ≡ start_by (dispatch_instruction layout number thread.old.used left thread.old.at
-        thread.old.variables (slice_get (code_of (slice_get functions.now thread.old.function)) thread.old.at)) }
-    ensures actor { (found : ℕ) → answered result found (actor_of thread.new) ≡ started (actor_of thread.old)
-        (dispatch_instruction layout number thread.old.used left thread.old.at thread.old.variables
-        (slice_get (code_of (slice_get functions.now thread.old.function)) thread.old.at)) found }
-    ensures room { vec_len thread.new.agenda + 4 ≤ vec_capacity thread.new.agenda }
+    ensures { Begins thread.old (action_at layout number left
+        (slice_get (code_of (slice_get functions.now thread.old.function)) thread.old.at) thread.old) result thread.new }
 {
     match code_of(functions, thread.function).get(thread.at) {
         Some(instr) => begin(*instr, layout, number, thread, left),
@@ -127,7 +132,7 @@ fn next_instruction(
 }
 
 /// Returns the function's instructions, or none if there is no such function.
-fn code_of(functions: &[Function], function: usize) -> &[Instr]
+pub fn code_of(functions: &[Function], function: usize) -> &[Instr]
     ensures { result.now ≡ code_of (slice_get functions.now function) }
 {
     match functions.get(function) {
@@ -137,7 +142,7 @@ fn code_of(functions: &[Function], function: usize) -> &[Instr]
 }
 
 /// Returns the variables at the start of a call: v0 names the root, and the others are empty.
-fn entry_variables() -> Variables
+pub fn entry_variables() -> Variables
     ensures { result ≡ entry_variables }
 {
     let mut variables = [None; 16];
@@ -145,65 +150,12 @@ fn entry_variables() -> Variables
     variables
 }
 
-/// Returns the row of the thread's next birth, or `None` if its block is full, as main's always is.
-fn next_row(layout: Layout, number: u8, used: u32) -> Option<u32>
-    ensures { result ≡ (if has_room layout number used then Some (row_at layout number used) else None) }
-{
-    (used < block_size(layout, number)).then(|| row_at(layout, number, used))
-}
-
-/// Begins the birth of an object of the kind word in the variable. If the thread has no row left, it empties the
-/// variable and goes on at `otherwise`.
-#[inline(always)]
-fn birth(
-    to: Variable,
-    word: u64,
-    otherwise: u8,
-    layout: Layout,
-    number: u8,
-    thread: &mut Thread,
-    left: u32,
-) -> Start
-    requires empty { thread.old.agenda.items ≡ [] }
-    requires room { 8 ≤ vec_capacity thread.old.agenda }
-    requires next { thread.old.at + 1 < 2 ^ 64 }
-    ensures starts { unasking result ≡ start_by (birth_action layout number thread.old.used left thread.old.at
-        thread.old.variables to word otherwise) }
-    ensures actor { (found : ℕ) → answered result found (actor_of thread.new) ≡ started (actor_of thread.old)
-        (birth_action layout number thread.old.used left thread.old.at thread.old.variables to word otherwise) found }
-    ensures room { vec_len thread.new.agenda + 4 ≤ vec_capacity thread.new.agenda }
-{
-    let next = thread.at + 1;
-    match next_row(layout, number, thread.used) {
-        Some(row) => {
-            thread.set(to, Some(row));
-            thread.go_to(left, next);
-            Start::Doing(Duty::BirthKind {
-                row,
-                holding: Holding::ByVariable(to),
-                word,
-            })
-        }
-        None => {
-            thread.set(to, None);
-            thread.go_to(left, usize::from(otherwise));
-            Start::Moved
-        }
-    }
-}
-
+/// Begins the instruction, in a call after which `left` calls remain.
 #[inline(always)]
 fn begin(instr: Instr, layout: Layout, number: u8, thread: &mut Thread, left: u32) -> Start
-    requires empty { thread.old.agenda.items ≡ [] }
-    requires room { 8 ≤ vec_capacity thread.old.agenda }
-    requires next { thread.old.at + 1 < 2 ^ 64 }
-    ensures starts { unasking result ≡ start_by (dispatch_instruction layout number thread.old.used left thread.old.at
-        thread.old.variables (Some instr)) }
-    ensures actor { (found : ℕ) → answered result found (actor_of thread.new) ≡ started (actor_of thread.old)
-        (dispatch_instruction layout number thread.old.used left thread.old.at thread.old.variables (Some instr)) found }
-    ensures room { vec_len thread.new.agenda + 4 ≤ vec_capacity thread.new.agenda }
+    requires { CanBegin thread.old }
+    ensures { Begins thread.old (action_at layout number left (Some instr) thread.old) result thread.new }
 {
-    let next = thread.at + 1;
     match instr {
         Instr::Num {
             to,
@@ -221,83 +173,25 @@ fn begin(instr: Instr, layout: Layout, number: u8, thread: &mut Thread, left: u3
             let word = kind_word(LIST, u32::from(cells));
             birth(to, word, otherwise, layout, number, thread, left)
         }
-        Instr::NoneObject { to } => {
-            thread.set(to, Some(NONE_ROW));
-            thread.go_to(left, next);
-            Start::Moved
-        }
-        Instr::Move { to, from } => match thread.row_of(from) {
-            Some(row) => {
-                thread.set(from, None);
-                thread.set(to, Some(row));
-                thread.go_to(left, next);
-                Start::Moved
-            }
-            None => Start::Stuck,
-        },
-        Instr::Goto { target } => {
-            thread.go_to(left, usize::from(target));
-            Start::Moved
-        }
-        Instr::Newref { to, from } => match thread.row_of(from) {
-            Some(row) => {
-                thread.set(to, Some(row));
-                thread.go_to(left, next);
-                Start::Doing(Duty::RetainLoad {
-                    row,
-                    holding: Holding::ByVariable(to),
-                })
-            }
-            None => Start::Stuck,
-        },
-        Instr::Drop { from } => match thread.row_of(from) {
-            Some(row) => {
-                thread.set(from, None);
-                thread.go_to(left, next);
-                release(thread, row, from)
-            }
-            None => Start::Stuck,
-        },
+        Instr::NoneObject { to } => name_none(to, thread, left),
+        Instr::Newref { to, from } => name_again(to, from, thread, left),
+        Instr::Move { to, from } => hand_on(to, from, thread, left),
+        Instr::Drop { from } => give_up(from, thread, left),
+        Instr::Lock { object } => lock(object, thread, left),
+        Instr::Unlock { object } => unlock(object, thread, left),
         Instr::As {
             from,
             kind,
             otherwise,
-        } => match thread.row_of(from) {
-            Some(row) => {
-                thread.go_to(left, next);
-                Start::Asking {
-                    duty: Duty::KindLoad { row },
-                    kind,
-                    otherwise,
-                }
-            }
-            None => Start::Stuck,
-        },
-        Instr::Ret { from } => match thread.row_of(from) {
-            Some(row) => {
-                thread.rest(left);
-                release(thread, row, from)
-            }
-            None => Start::Stuck,
-        },
+        } => ask_kind(from, kind, otherwise, thread, left),
+        Instr::Goto { target } => {
+            thread.go_to(left, usize::from(target));
+            Start::Moved
+        }
+        Instr::Ret { from } => return_object(from, thread, left),
         Instr::Fail => {
             thread.rest(left);
             Start::Moved
         }
     }
-}
-
-/// Begins the release of the variable's reference to the row's object. The thread deallocates its dying chain next.
-fn release(thread: &mut Thread, row: u32, from: Variable) -> Start
-    requires empty { thread.old.agenda.items ≡ [] }
-    requires room { 8 ≤ vec_capacity thread.old.agenda }
-    ensures starts { result ≡ Start.Doing (ReleaseLoad row (ByVariable from)) }
-    ensures actor { actor_of thread.new ≡ with_agenda (actor_of thread.old) (Settle ∷ []) }
-    ensures room { vec_len thread.new.agenda + 4 ≤ vec_capacity thread.new.agenda }
-{
-    thread.agenda.push_reserved(Duty::Settle);
-    Start::Doing(Duty::ReleaseLoad {
-        row,
-        holding: Holding::ByVariable(from),
-    })
 }

@@ -1,16 +1,19 @@
 //! One step of one thread: it changes a word, the thread, or both.
 
-ghost use Rattle.std.specs.Prelude.{◌≡◌, ◌≢◌, ◌+◌, ◌<◌, ◌≤◌, true, length, OnOk, OnErr, IfOk, IfErr};
-ghost use Rattle.std.specs.Prelude.{vec_len, vec_capacity};
+ghost use Rattle.std.specs.Prelude.{◌≡◌, ◌≢◌, ◌+◌, ◌<◌, ◌≤◌, ◌==◌, true, false, if◌then◌else◌, length, OnOk, OnErr, IfOk, IfErr};
+ghost use Rattle.std.specs.Prelude.{reverse, vec_len, vec_capacity};
+ghost use Rattle.brc_word.specs.Words.{free_word};
 ghost use Rattle.brc_model.specs.declared.actor.Status.TheVariants.{Gone};
 ghost use Rattle.brc_model.specs.Duties.{address_of, new_word};
 ghost use Rattle.brc_model.specs.Machine.{is_running, used_by};
 ghost use Rattle.brc_model.specs.Actions.{may_claim, status_action};
 ghost use Rattle.brc_model.specs.Limits.{worker_limit, total_limit};
 ghost use Rattle.brc_model.specs.Kinds.{same_kind, kind_of_word};
+ghost use Rattle.brc_model.specs.StepMachine.{at_place};
 ghost use Rattle.brc_model.specs.Within.{IsThere, Suits};
 ghost use Rattle.brc_world.specs.Storage.{word_in, IsStored};
-ghost use Rattle.brc_world.specs.Actors.{actor_of, asked, found_by, actor_done, memory_by, actor_by, did_by, CanAct, finds_mark, memory_claimed, actor_claimed, did_claim, CanClaim};
+ghost use Rattle.brc_world.specs.Actors.{actor_of, found_by, actor_done, memory_by, actor_by, waits, did_by, CanAct, finds_mark, memory_claimed, actor_claimed, did_claim, CanClaim};
+ghost use Rattle.brc_world.specs.Starts.{asked, let_in};
 
 use crate::address::address_of;
 use crate::agenda::{pass_over, push};
@@ -20,14 +23,12 @@ use crate::effect::Doer;
 use crate::memory::Memory;
 use crate::no_memory::NoMemory;
 use crate::rows::{block_of, index_of};
+use crate::states::FREE;
 use crate::tally::kind_numbered;
-use crate::thread::{Stage, Thread};
+use crate::thread::{ROOM, Stage, Thread};
 use brc_lang::{Function, Kind};
 use brc_model::{Address, Duty, Layout, Status};
 use brc_word::kind_number;
-
-/// The room in the agenda that a step reserves: four duties when it starts, and four when its duty is done.
-const ROOM: usize = 8;
 
 /// Does the thread's duty, which is no longer in its agenda, on the duty's word. Returns the value that it found there.
 #[inline(always)]
@@ -52,6 +53,7 @@ pub fn do_duty(
         (found_by layout number (word_in memory.old) (actor_of thread.old) duty.now)) memory.new }
     ensures actor { actor_of thread.new ≡ actor_done layout number (word_in memory.old) (actor_of thread.old) duty.now }
     ensures found { result ≡ found_by layout number (word_in memory.old) (actor_of thread.old) duty.now }
+    ensures variables { thread.new.variables ≡ thread.old.variables }
 {
     let all = memory.rows() as u32;
     let address = address_of(layout, number, thread.head, *duty);
@@ -70,11 +72,26 @@ pub fn do_duty(
 
 /// Sends a thread in a call on to the instruction `otherwise`, if the kind word that it found is of another kind.
 fn answer(thread: &mut Thread, kind: Kind, otherwise: u8, found: u64)
-    ensures { actor_of thread.new ≡ asked kind otherwise found (actor_of thread.old) }
+    ensures { actor_of thread.new
+        ≡ at_place (actor_of thread.old) (asked kind otherwise found (actor_of thread.old).place) }
 {
     if !is_of_kind(found, kind) {
         thread.at = usize::from(otherwise);
     }
+}
+
+/// Sends a thread on to the instruction `next` of its call if the gate that it found was free: it has the lock.
+/// Otherwise the thread stays where it is, and its step has changed nothing. Returns what the step did.
+fn enter(thread: &mut Thread, left: u32, next: usize, found: u64) -> Did
+    ensures actor { actor_of thread.new ≡ at_place (actor_of thread.old)
+        (let_in left next thread.old.variables found (actor_of thread.old).place) }
+    ensures did { result ≡ (if found == free_word then Did.Moved else Did.Same) }
+{
+    if found != FREE {
+        return Did::Same;
+    }
+    thread.go_to(left, next);
+    Did::Moved
 }
 
 /// Returns whether a kind word is of the kind.
@@ -129,13 +146,15 @@ pub fn act(
     requires known { number ≤ worker_limit }
     requires can { CanAct layout number (length memory.old.local) (length memory.old.thread) (word_in memory.old)
         (actor_of thread.old) (status_action functions.now layout number (actor_of thread.old) thread.old.status) }
-    ensures did { IfOk result (λ did. did
-        ≡ did_by (status_action functions.now layout number (actor_of thread.old) thread.old.status)) }
+    ensures did { IfOk result (λ did. did ≡ did_by (word_in memory.old) (reverse thread.old.agenda.items)
+        (status_action functions.now layout number (actor_of thread.old) thread.old.status)) }
     ensures words { OnOk result (word_in memory.new ≡ memory_by layout number (word_in memory.old) (actor_of thread.old)
         (status_action functions.now layout number (actor_of thread.old) thread.old.status)) }
     ensures actor { OnOk result (actor_of thread.new ≡ actor_by layout number (word_in memory.old) (actor_of thread.old)
         (status_action functions.now layout number (actor_of thread.old) thread.old.status)) }
-    ensures refused { IfErr result (λ _. thread.old.status ≢ Gone) }
+    ensures refused { IfErr result (λ _. (thread.old.status ≢ Gone)
+        × (waits (word_in memory.old) (reverse thread.old.agenda.items)
+        (status_action functions.now layout number (actor_of thread.old) thread.old.status) ≡ false)) }
     ensures same_words { OnErr result (memory.new ≡ memory.old) }
     ensures same_actor { OnErr result (actor_of thread.new ≡ actor_of thread.old) }
     ensures as_many_rows { length memory.new.local ≡ length memory.old.local }
@@ -160,6 +179,10 @@ pub fn act(
             let found = do_duty(memory, layout, number, thread, &duty);
             answer(thread, kind, otherwise, found);
             Ok(Did::Moved)
+        }
+        Start::Locking { row, left, next } => {
+            let found = do_duty(memory, layout, number, thread, &Duty::LockGate { row });
+            Ok(enter(thread, left, next, found))
         }
     }
 }

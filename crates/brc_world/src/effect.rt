@@ -9,6 +9,7 @@ ghost use Rattle.brc_world.specs.Effects.{IsIndexed, IsNumbered, IsEffect};
 use brc_model::{Duty, Layout, Status};
 
 mod birth;
+mod cell;
 mod dying;
 mod exit;
 mod kind;
@@ -115,6 +116,7 @@ impl Doer {
             Duty::KindLoad { .. } => self.kind_load(found),
             Duty::LockGate { row } => self.lock_gate(row, found),
             Duty::UnlockGate { .. } => self.unlock_gate(),
+            Duty::CellLoad { .. } => self.cell_load(found),
         }
     }
 

@@ -4,7 +4,7 @@ ghost use Rattle.brc_world.specs.Actors.{actor_of};
 
 use crate::no_memory::NoMemory;
 use crate::rows::FRONT_ROWS;
-use crate::thread::{Stage, Thread};
+use crate::thread::{ROOM, Stage, Thread};
 use brc_model::{Call, Status};
 use std::alloc::Global;
 
@@ -21,7 +21,7 @@ pub fn first_threads(alloc: Global, calls: &[Call]) -> Result<Vec<Thread>, NoMem
         at: 0,
         variables: [None; 16],
         status: Status::Running,
-        agenda: Vec::new(alloc),
+        agenda: Vec::with_capacity(alloc, ROOM)?,
         head: 0,
         used: FRONT_ROWS,
         locked: None,
@@ -34,7 +34,7 @@ pub fn first_threads(alloc: Global, calls: &[Call]) -> Result<Vec<Thread>, NoMem
             at: 0,
             variables: [None; 16],
             status: Status::Running,
-            agenda: Vec::new(alloc),
+            agenda: Vec::with_capacity(alloc, ROOM)?,
             head: 0,
             used: 0,
             locked: None,

@@ -1,6 +1,6 @@
 //! A thread of the step world.
 
-ghost use Rattle.std.specs.Prelude.{◌≡◌, slice_set};
+ghost use Rattle.std.specs.Prelude.{◌≡◌, ◌≤◌, slice_set, vec_capacity};
 ghost use Rattle.brc_model.specs.Threads.{row_of};
 
 use brc_lang::Variable;
@@ -9,6 +9,10 @@ use std::fmt;
 
 /// The row that each variable names, or `None` for an empty variable.
 pub type Variables = [Option<u32>; Variable::COUNT];
+
+/// The room for duties that each thread's agenda has from the start: four when a step starts, and four when its duty is
+/// done. So a step that begins an instruction is never refused memory.
+pub const ROOM: usize = 8;
 
 /// Whether a thread is in a call, between calls or exiting.
 #[derive(Clone, Copy, Debug)]
@@ -40,8 +44,9 @@ pub struct Thread {
     pub head: u32,
     /// The number of rows of its block that it has used.
     pub used: u32,
-    /// The row of the list that it has locked. No instruction locks yet.
+    /// The row of the object that it has locked.
     pub locked: Option<u32>,
+    ghost has_room: { 8 ≤ vec_capacity agenda },
 }
 
 impl Thread {

@@ -1,6 +1,6 @@
--- Births, looks at a kind, locks and deallocations, computed by the definitions that the code's contracts cite. Today's
--- instructions make numbers and lists alone, so no run of a module shows files and sockets. The object is in row 7, and
--- thread 3, which has used four rows, makes and deallocates it.
+-- Births, looks at a kind and a cell, locks and deallocations, computed by the definitions that the code's contracts
+-- cite. Today's instructions make numbers and lists alone, so no run of a module shows files and sockets. The object is
+-- in row 7, and thread 3, which has used four rows, makes and deallocates it.
 use Rattle.std.proofs.Common.{◌≡◌, ℕ, List, [], ◌∷◌, true, map, refl, None, Some}
 use Rattle.brc_model.specs.declared.duty.Duty.{Duty}
 use Rattle.brc_model.specs.declared.duty.Duty.TheVariants.{
@@ -15,10 +15,10 @@ use Rattle.brc_model.specs.declared.duty.Duty.TheVariants.{
   KindLoad,
   LockGate,
   UnlockGate,
+  CellLoad,
 }
 use Rattle.brc_model.specs.declared.duty.Holding.TheVariants.{InFlight}
-use Rattle.brc_model.specs.declared.address.Address.{Address}
-use Rattle.brc_model.specs.declared.address.Address.TheVariants.{KindOf, Slot, Local, Resource, Gate}
+use Rattle.brc_model.specs.declared.address.Address.TheVariants.{KindOf, Cell, Slot, Local, Resource, Gate}
 use Rattle.brc_model.specs.declared.layout.Layout.{Layout}
 use Rattle.brc_model.specs.Duties.{address_of, new_word, continuation}
 use Rattle.brc_model.specs.Machine.{used_by, locked_by}
@@ -121,3 +121,16 @@ unlocks-hold = refl
 
 unlocks-lead_to : continuation four 3 true 0 (UnlockGate 7) 5 ≡ []
 unlocks-lead_to = refl
+
+-- A look at the cell 2 leaves what it finds, be it nothing or the object of row 8, and nothing follows.
+items-are_at : address_of four 3 0 (CellLoad 7 2) ≡ Cell 7 2
+items-are_at = refl
+
+items-leave : map (λ (w : ℕ). new_word 3 0 (CellLoad 7 2) w) (0 ∷ 9 ∷ []) ≡ 0 ∷ 9 ∷ []
+items-leave = refl
+
+items-hold : map (λ (w : ℕ). locked_by (Some 7) (CellLoad 7 2) w) (0 ∷ 9 ∷ []) ≡ Some 7 ∷ Some 7 ∷ []
+items-hold = refl
+
+items-lead_to : map (λ (w : ℕ). continuation four 3 true 0 (CellLoad 7 2) w) (0 ∷ 9 ∷ []) ≡ [] ∷ [] ∷ []
+items-lead_to = refl

@@ -1,6 +1,6 @@
 -- The condition under which a thread takes up work: its new agenda fits the place where it then is.
 use Rattle.std.proofs.Common.{◌≡◌, ◌≢◌, ℕ, ◌+◌, ◌<◌, Bool, true, false, List, [], ◌∷◌, ◌++◌, inl, inr, length, Option, None, Some, refl, sym, ap, ◌∙◌, subst, arith, ◌≤◌}
-use Rattle.std.specs.Prelude.{◌==◌, ◌&&◌, slice_set}
+use Rattle.std.specs.Prelude.{◌==◌, ◌&&◌, slice_set, slice_get}
 use Rattle.std.specs.List.{list_any}
 use Rattle.std.proofs.lemmas.Bool.{eq-eqb}
 use Rattle.std.proofs.lemmas.Bool.Decides.{eqb_tells}
@@ -15,7 +15,7 @@ use Rattle.brc_model.specs.KnownKinds.{HaveTrueKinds}
 use Rattle.brc_lang.specs.Grammar.{IsInstruction}
 use Rattle.brc_model.specs.declared.address.Address.{Address}
 use Rattle.brc_model.specs.declared.address.Address.TheVariants.{KindOf, Cell}
-use Rattle.brc_model.specs.Items.{HaveItems}
+use Rattle.brc_model.specs.Items.{HaveItems, StageKnows}
 use Rattle.brc_model.specs.Machine.{Actor, Machine, locked_by}
 use Rattle.brc_model.proofs.Dispatch.Passing.{AreMet}
 use Rattle.brc_model.proofs.Dispatch.Guards.{LocksAgree, HeldBeside}
@@ -31,12 +31,12 @@ use Rattle.brc_model.specs.declared.actor.Stage.{Stage}
 use Rattle.brc_model.specs.Actions.{Action, Skip, Stuck, Silent, Does, with_row}
 use Rattle.brc_model.specs.References.{held, one_if, reference_of}
 use Rattle.brc_model.proofs.Basics.Lists.{none_at}
-use Rattle.brc_model.proofs.Dispatch.Holds.{the_root, of_variables, Holds}
+use Rattle.brc_model.proofs.Dispatch.Holds.{the_root, of_variables, of_inside, Holds}
 use Rattle.brc_model.proofs.Dispatch.Grounded.{IsInside, slot_of-put_same, slot_of-put_other, row_of-set_same, row_of-set_other}
 use Rattle.brc_model.proofs.Stepping.Counts.{flip_eqb}
 use Rattle.brc_model.proofs.Frame.Aside.{HoldsAlone}
 use Rattle.brc_model.proofs.Keeping.SilentMoves.{SilentMoves, bag_after}
-use Rattle.brc_model.proofs.Dispatch.Coded.{once_each, PlaceFits}
+use Rattle.brc_model.proofs.Dispatch.Coded.{once_each, has_stage, in_flight, PlaceFits}
 use Rattle.brc_model.specs.Duties.{cells_of}
 use Rattle.brc_model.specs.Kinds.{kind_of_word, is_counted_kind}
 use Rattle.brc_model.specs.Limits.{cell_limit}
@@ -88,6 +88,7 @@ CountsLockable g = (x : ℕ) → is_one_of (kind_of_word (words_of g x)) lockabl
 -- `before`.
 pub record StandsAt (code : List Instr) (g : Scene) (before : Place) (at : ℕ) (rows : List (Option ℕ)) (s : State)
     (i : Instr) : Type 0 where
+  pub found : slice_get code at ≡ Some i
   pub inside : IsInside code at rows s
   pub holds : Holds g.bag g.thread (of_variables s rows)
   pub guards : LocksAgree s rows g.locked
@@ -96,6 +97,22 @@ pub record StandsAt (code : List Instr) (g : Scene) (before : Place) (at : ℕ) 
   pub counted : CountsLockable g
   pub back : PlaceFits code g.bag g.thread [] g.locked before
   pub remains : before ≢ Exiting
+  pub variables : IsInstruction i
+  pub met : AreMet i s
+  pub leads : (exit : Exit) (next : ℕ) → target i exit at ≡ Some next
+      → path_end code (inside.exits ++ exit ∷ []) ≡ At next (after i exit s)
+
+-- A thread inside an instruction that uses a cell of the locked list: what the state before the instruction says is still
+-- true, and beside that what the stage says.
+pub record StandsInside (code : List Instr) (g : Scene) (at : ℕ) (rows : List (Option ℕ)) (s : State) (stage : Stage)
+    (i : Instr) : Type 0 where
+  pub found : slice_get code at ≡ Some i
+  pub inside : IsInside code at rows s
+  pub holds : Holds g.bag g.thread (of_inside (in_flight (Some i) stage rows) s rows)
+  pub guards : LocksAgree s rows g.locked
+  pub items : HaveItems g.memory g.locked s rows
+  pub cell : StageKnows g.memory g.locked rows stage (Some i)
+  pub staged : has_stage (Some i) stage ≡ true
   pub variables : IsInstruction i
   pub met : AreMet i s
   pub leads : (exit : Exit) (next : ℕ) → target i exit at ≡ Some next
@@ -266,32 +283,44 @@ ended_says s variables InFlight object none = refl
 ended_says s variables (ByVariable v) object none =
     ap (λ (b : Bool). b && names (row_of variables v) object) (none_at is_owned s.slots v Empty none refl)
 
--- Emptying a variable that owns nothing doesn't change what the thread is to hold.
-pub cleared_held : (bag : List Reference) (t : ℕ) (s : State) (variables : List (Option ℕ)) (to : ℕ)
-    → to < length s.slots → is_owned (slot_of s to) ≡ false → Holds bag t (of_variables s variables)
+-- A variable that owns nothing and comes to name an object that it doesn't own, or none, doesn't change what the thread
+-- is to hold.
+pub unowned_held : (bag : List Reference) (t : ℕ) (s : State) (variables : List (Option ℕ)) (to : ℕ) (slot : Slot)
+    (row : Option ℕ)
+    → to < length s.slots → is_owned (slot_of s to) ≡ false → is_owned slot ≡ false
+    → Holds bag t (of_variables s variables)
     → (k : Holding) (object : ℕ)
-    → held (reference_of t k object) bag ≡ one_if (of_variables (put s to Empty) (slice_set variables to None) k object)
-cleared_held bag t s variables to in_slots free holds AsCaller object = holds.each AsCaller object
-cleared_held bag t s variables to in_slots free holds InFlight object = holds.each InFlight object
-cleared_held bag t s variables to in_slots free holds (ByVariable v) object =
+    → held (reference_of t k object) bag ≡ one_if (of_variables (put s to slot) (slice_set variables to row) k object)
+unowned_held bag t s variables to slot row in_slots free none holds AsCaller object = holds.each AsCaller object
+unowned_held bag t s variables to slot row in_slots free none holds InFlight object = holds.each InFlight object
+unowned_held bag t s variables to slot row in_slots free none holds (ByVariable v) object =
     elim (eqb_tells to v) [
       | inl this ↦
           let P : ℕ
           → Type 0 = λ w. held (reference_of t (ByVariable w) object) bag
-          ≡ one_if (of_variables (put s to Empty) (slice_set variables to None) (ByVariable w) object) in
+          ≡ one_if (of_variables (put s to slot) (slice_set variables to row) (ByVariable w) object) in
           let before : held (reference_of t (ByVariable to) object) bag ≡ 0 =
           holds.each (ByVariable to) object
           ∙ ap (λ (b : Bool). one_if (b && names (row_of variables to) object)) free in
-          let said : by_variable (slot_of (put s to Empty) to) (row_of (slice_set variables to None) to) object ≡ 0 =
-          ap (λ (x : Slot). by_variable x (row_of (slice_set variables to None) to) object)
-          (slot_of-put_same s to Empty in_slots) in
+          let said : by_variable (slot_of (put s to slot) to) (row_of (slice_set variables to row) to) object ≡ 0 =
+          ap (λ (x : Slot). by_variable x (row_of (slice_set variables to row) to) object)
+          (slot_of-put_same s to slot in_slots)
+          ∙ ap (λ (b : Bool). one_if (b && names (row_of (slice_set variables to row) to) object)) none in
           subst P this.1 (before ∙ sym said)
       | inr other ↦
           let apart : v ≢ to = λ e. other.1 (sym e) in
-          let said : by_variable (slot_of (put s to Empty) v) (row_of (slice_set variables to None) v) object
+          let said : by_variable (slot_of (put s to slot) v) (row_of (slice_set variables to row) v) object
           ≡ by_variable (slot_of s v) (row_of variables v) object =
-          ap (λ (x : Slot). by_variable x (row_of (slice_set variables to None) v) object)
-          (slot_of-put_other s to v Empty apart)
-          ∙ ap (λ (x : Option ℕ). by_variable (slot_of s v) x object) (row_of-set_other variables to v None apart) in
+          ap (λ (x : Slot). by_variable x (row_of (slice_set variables to row) v) object)
+          (slot_of-put_other s to v slot apart)
+          ∙ ap (λ (x : Option ℕ). by_variable (slot_of s v) x object) (row_of-set_other variables to v row apart) in
           holds.each (ByVariable v) object ∙ sym said
     ]
+
+-- So it is if the variable becomes empty.
+pub cleared_held : (bag : List Reference) (t : ℕ) (s : State) (variables : List (Option ℕ)) (to : ℕ)
+    → to < length s.slots → is_owned (slot_of s to) ≡ false → Holds bag t (of_variables s variables)
+    → (k : Holding) (object : ℕ)
+    → held (reference_of t k object) bag ≡ one_if (of_variables (put s to Empty) (slice_set variables to None) k object)
+cleared_held bag t s variables to in_slots free holds =
+    unowned_held bag t s variables to Empty None in_slots free refl holds

@@ -29,7 +29,7 @@ use Rattle.brc_model.specs.Events.{begins_unfit, chooses_unfit}
 use Rattle.brc_model.specs.Accounts.{Account}
 use Rattle.brc_model.specs.Actions.{StepActor}
 use Rattle.brc_model.specs.StepMachine.{StepMachine}
-use Rattle.brc_model.proofs.Basics.Lists.{first_false, second_false}
+use Rattle.brc_model.proofs.Basics.Lists.{first_false, second_false, not_false}
 use Rattle.brc_model.proofs.Dispatch.Grounded.{IsGrounded, IsInside, named_row, entry_in_call}
 use Rattle.brc_model.proofs.Dispatch.Guards.{LocksAgree, guards_none, guards_row}
 use Rattle.brc_model.proofs.Dispatch.Passing.{AreMet, passes_on}
@@ -45,10 +45,6 @@ record Meets (memory : Address → ℕ) (locked : Option ℕ) (variables : List 
     guards : LocksAgree s variables locked
     kinds : HaveTrueKinds (λ x. memory (KindOf x)) s variables
     met : AreMet i s
-
-not_false : (b : Bool) → not b ≡ false → b ≡ true
-not_false true e = refl
-not_false false e = absurd cc
 
 no_lock : (locked : Option ℕ) → locked ≡ None → not (is_some locked) ≡ true
 no_lock locked none = ap (λ (o : Option ℕ). not (is_some o)) none

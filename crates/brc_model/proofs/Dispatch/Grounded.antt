@@ -5,6 +5,7 @@ use Rattle.std.specs.Prelude.{◌&&◌, slice_get, slice_set}
 use Rattle.std.proofs.lemmas.Bool.{cases_lt}
 use Rattle.std.proofs.lemmas.Bool.Decides.{eqb_tells}
 use Rattle.std.proofs.lemmas.List.{get_or_past}
+use Rattle.std.proofs.Math.ListN.{get_or-map}
 use Rattle.brc_lang.specs.declared.kind.Kind.{Kind}
 use Rattle.brc_lang.specs.declared.module.Instr.{Instr}
 use Rattle.brc_lang.specs.Grammar.{IsInstruction, LeadsForward}
@@ -12,7 +13,7 @@ use Rattle.brc_model.specs.declared.slot.Slot.{Slot}
 use Rattle.brc_model.specs.declared.slot.Slot.TheVariants.{Empty, Owned, Caller, Locked}
 use Rattle.brc_model.specs.declared.slot.State.{State}
 use Rattle.brc_model.specs.declared.slot.Exit.{Exit}
-use Rattle.brc_model.specs.Slots.{slot_of, is_empty, is_owned, is_borrowed, with_kind, names, put, entry}
+use Rattle.brc_model.specs.Slots.{slot_of, is_empty, is_owned, is_borrowed, with_kind, names, put, entry, without_item, without_items}
 use Rattle.brc_model.specs.Paths.{At, path_end}
 use Rattle.brc_model.specs.declared.duty.Holding.{Holding}
 use Rattle.brc_model.specs.declared.duty.Holding.TheVariants.{ByVariable, AsCaller, InFlight}
@@ -125,6 +126,39 @@ says-with_kind s variables x k AsCaller object in_slots = refl
 says-with_kind s variables x k InFlight object in_slots = refl
 says-with_kind s variables x k (ByVariable v) object in_slots =
     ap (λ (b : Bool). b && names (row_of variables v) object) (sym (slot-with_kind s x v k in_slots))
+
+-- ---- the variables that borrow from the locked list become empty
+
+pub slot_of-without : (s : State) (v : ℕ) → slot_of (without_items s) v ≡ without_item (slot_of s v)
+slot_of-without s v = get_or-map without_item s.slots v Empty
+
+without_grounded : (slot : Slot) (row : Option ℕ) → IsGrounded slot row → IsGrounded (without_item slot) row
+without_grounded Empty row grounded = tt
+without_grounded (Owned k) row grounded = grounded
+without_grounded (Caller k) row grounded = grounded
+without_grounded (Locked k) row grounded = tt
+
+-- What is true of the variables is true of them once those that borrowed from the locked list are empty.
+pub grounded-without : (s : State) (rows : List (Option ℕ)) → ((v : ℕ) → IsGrounded (slot_of s v) (row_of rows v))
+    → (v : ℕ) → IsGrounded (slot_of (without_items s) v) (row_of rows v)
+grounded-without s rows old v =
+    subst (λ (slot : Slot). IsGrounded slot (row_of rows v)) (sym (slot_of-without s v))
+    (without_grounded (slot_of s v) (row_of rows v) (old v))
+
+without_owned : (slot : Slot) → is_owned (without_item slot) ≡ is_owned slot
+without_owned Empty = refl
+without_owned (Owned k) = refl
+without_owned (Caller k) = refl
+without_owned (Locked k) = refl
+
+-- A variable that borrows from the locked list owns nothing, so the thread is to hold what it held.
+pub says-without : (s : State) (variables : List (Option ℕ)) (h : Holding) (object : ℕ)
+    → of_variables s variables h object ≡ of_variables (without_items s) variables h object
+says-without s variables AsCaller object = refl
+says-without s variables InFlight object = refl
+says-without s variables (ByVariable v) object =
+    ap (λ (b : Bool). b && names (row_of variables v) object)
+    (sym (without_owned (slot_of s v)) ∙ ap is_owned (sym (slot_of-without s v)))
 
 -- ---- what a slot says
 

@@ -8,18 +8,17 @@ use Rattle.brc_lang.specs.declared.kind.Kind.{Kind}
 use Rattle.brc_model.specs.declared.slot.Slot.{Slot}
 use Rattle.brc_model.specs.declared.slot.Slot.TheVariants.{Empty, Owned, Caller, Locked}
 use Rattle.brc_model.specs.declared.slot.State.{State}
-use Rattle.brc_model.specs.Slots.{slot_of, is_owned, with_kind, names, put}
+use Rattle.brc_model.specs.Slots.{slot_of, is_owned, with_kind, names, put, without_item, without_items}
 use Rattle.brc_model.specs.declared.duty.Holding.{Holding}
 use Rattle.brc_model.specs.declared.duty.Holding.TheVariants.{ByVariable, AsCaller}
 use Rattle.brc_model.specs.declared.duty.Duty.{Duty}
-use Rattle.brc_model.specs.declared.duty.Duty.TheVariants.{ReleaseLoad}
-use Rattle.brc_model.specs.AbstractState.{Reference}
+use Rattle.brc_model.specs.AbstractState.{Reference, same_holding}
 use Rattle.brc_model.specs.Threads.{row_of}
 use Rattle.brc_model.specs.References.{held, reference_of}
 use Rattle.brc_model.specs.Accounts.{extra}
 use Rattle.brc_model.specs.Layout.{root_row}
 use Rattle.brc_model.proofs.Dispatch.Holds.{HoldsVariables, variable_has}
-use Rattle.brc_model.proofs.Dispatch.Grounded.{IsGrounded, slot_of-put_same, slot_of-put_other, row_of-set_other}
+use Rattle.brc_model.proofs.Dispatch.Grounded.{IsGrounded, slot_of-put_same, slot_of-put_other, row_of-set_other, slot_of-without}
 
 -- The slot's reference doesn't hang on the locked list.
 abbrev pub is_kept : Slot → Bool
@@ -79,6 +78,19 @@ pub guards-with_kind : (s : State) (variables : List (Option ℕ)) (x : ℕ) (k 
 guards-with_kind s variables x k None locked in_slots guards = guards
 guards-with_kind s variables x k (Some c) locked in_slots guards =
     (guards.0, guards.1, guards.2, kept-with_kind s x c k in_slots ∙ guards.3)
+
+without_kept : (slot : Slot) → is_kept slot ≡ true → is_kept (without_item slot) ≡ true
+without_kept Empty kept = absurd cc
+without_kept (Owned k) kept = refl
+without_kept (Caller k) kept = refl
+without_kept (Locked k) kept = absurd cc
+
+-- The variables that borrow from the locked list become empty.
+pub guards-without : (s : State) (variables : List (Option ℕ)) (o locked : Option ℕ) → Guards s variables o locked
+    → Guards (without_items s) variables o locked
+guards-without s variables None locked guards = guards
+guards-without s variables (Some c) locked guards =
+    (guards.0, guards.1, guards.2, ap is_kept (slot_of-without s c) ∙ without_kept (slot_of s c) guards.3)
 
 -- If the state says that nothing is locked, the thread has locked nothing.
 pub guards_none : (s : State) (variables : List (Option ℕ)) (o locked : Option ℕ) → is_some o ≡ false
@@ -140,21 +152,23 @@ guards_held bag t s variables (Some c) locked x guards is grounded holds =
     let same : Some guards.0 ≡ Some x = sym guards.1 ∙ is in
     kept_held bag t s variables c x (slot_of s c) refl guards.3 (guards.2 ∙ same) (grounded c) holds
 
--- A release of what another variable owns leaves the reference to the locked object.
-release_beside : (row x from c : ℕ) (by : Holding) → names (Some c) from ≡ false
-    → (by ≡ ByVariable c) ⊎ (by ≡ AsCaller) → extra (ReleaseLoad row (ByVariable from)) by x ≡ false
-release_beside row x from c by free (inl variable) =
-    subst (λ (k : Holding). extra (ReleaseLoad row (ByVariable from)) k x ≡ false) (sym variable)
+-- Giving up what another variable owns leaves the reference to the locked object.
+gives_beside : (row x from c : ℕ) (by : Holding) → names (Some c) from ≡ false
+    → (by ≡ ByVariable c) ⊎ (by ≡ AsCaller) → (same_holding (ByVariable from) by && (row == x)) ≡ false
+gives_beside row x from c by free (inl variable) =
+    subst (λ (k : Holding). (same_holding (ByVariable from) k && (row == x)) ≡ false) (sym variable)
     (ap (λ (b : Bool). b && (row == x)) free)
-release_beside row x from c by free (inr caller) =
-    subst (λ (k : Holding). extra (ReleaseLoad row (ByVariable from)) k x ≡ false) (sym caller) refl
+gives_beside row x from c by free (inr caller) =
+    subst (λ (k : Holding). (same_holding (ByVariable from) k && (row == x)) ≡ false) (sym caller) refl
 
-pub release_keeps : (bag : List Reference) (t row x from : ℕ) (o : Option ℕ) → names o from ≡ false
-    → HeldLocked bag t x o → HeldBeside bag t x (ReleaseLoad row (ByVariable from))
-release_keeps bag t row x from o free lock =
+-- A duty that gives up what the variable owns, which isn't the locked one.
+pub gives_keeps : (bag : List Reference) (t row x from : ℕ) (o : Option ℕ) (d : Duty) → names o from ≡ false
+    → ((k : Holding) (object : ℕ) → extra d k object ≡ (same_holding (ByVariable from) k && (row == object)))
+    → HeldLocked bag t x o → HeldBeside bag t x d
+gives_keeps bag t row x from o d free gives lock =
     record {
       by = lock.by;
       held_so = lock.held_so;
-      beside = release_beside row x from lock.variable lock.by
+      beside = gives lock.by x ∙ gives_beside row x from lock.variable lock.by
           (subst (λ (w : Option ℕ). names w from ≡ false) lock.is free) lock.sort;
     }

@@ -19,7 +19,7 @@ use Rattle.brc_model.specs.Layout.{root_row}
 use Rattle.brc_model.proofs.Basics.Bag.{held-le-references_to}
 use Rattle.brc_model.proofs.Dispatch.Holds.{of_variables, Holds, HoldsVariables, holds_variables, variable_has, owned_has}
 use Rattle.brc_model.proofs.Dispatch.Grounded.{IsGrounded}
-use Rattle.brc_model.proofs.Dispatch.Guards.{HeldLocked, HeldBeside, guards_held, release_keeps}
+use Rattle.brc_model.proofs.Dispatch.Guards.{HeldLocked, HeldBeside, guards_held, gives_keeps}
 use Rattle.brc_model.proofs.Dispatch.Begins.{Scene, StandsAt, Backs, ByOwn, ByList}
 
 -- The row that a variable names, and how the thread relies on it.
@@ -88,4 +88,5 @@ pub keeps_given : (code : List Instr) (g : Scene) (before : Place) (at : ℕ) (r
     (i : Instr) (row from : ℕ) → StandsAt code g before at rows s i → names s.locked from ≡ false
     → (x : ℕ) → g.locked ≡ Some x → HeldBeside g.bag g.thread x (ReleaseLoad row (ByVariable from))
 keeps_given code g before at rows s i row from here free x locked =
-    release_keeps g.bag g.thread row x from s.locked free (lock_held code g before at rows s i here x locked)
+    gives_keeps g.bag g.thread row x from s.locked (ReleaseLoad row (ByVariable from)) free (λ k object. refl)
+    (lock_held code g before at rows s i here x locked)

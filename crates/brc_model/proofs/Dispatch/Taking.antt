@@ -1,10 +1,10 @@
 -- What a thread of accepted code takes up at each instruction meets its condition.
-use Rattle.std.proofs.Common.{◌≡◌, ◌≢◌, ℕ, zero, suc, ◌+◌, ◌<◌, false, List, [], ◌∷◌, ◌++◌, length, Option, None, Some, refl, sym, ap, ◌∙◌, subst, arith, cond}
+use Rattle.std.proofs.Common.{◌≡◌, ◌≢◌, ℕ, zero, suc, ◌+◌, ◌<◌, false, List, [], ◌∷◌, ◌++◌, length, Option, None, Some, refl, sym, ap, ◌∙◌, subst, arith, cond, true}
 use Rattle.std.specs.Prelude.{◌==◌, ◌&&◌, slice_get, slice_set}
 use Rattle.std.specs.List.{list_any}
 use Rattle.std.proofs.lemmas.List.{length-set}
 use Rattle.brc_lang.specs.declared.module.Instr.{Instr}
-use Rattle.brc_lang.specs.declared.module.Instr.TheVariants.{Num, List as ListObject, NoneObject, Newref, Move as MoveReference, Drop, Lock, Unlock, Goto, Ret, Fail, As}
+use Rattle.brc_lang.specs.declared.module.Instr.TheVariants.{Num, List as ListObject, NoneObject, Newref, Move as MoveReference, Drop, Lock, Unlock, Borrow, Fetch, Set, Put, Goto, Ret, Fail, As}
 use Rattle.brc_lang.specs.declared.kind.Kind.{Kind}
 use Rattle.brc_model.specs.declared.slot.Slot.TheVariants.{Empty, Owned}
 use Rattle.brc_model.specs.declared.slot.State.{State}
@@ -18,26 +18,29 @@ use Rattle.brc_model.specs.Threads.{row_of, entry_variables}
 use Rattle.brc_model.specs.declared.duty.Duty.TheVariants.{RetainLoad, ReleaseLoad, Settle, Leave, KindLoad}
 use Rattle.brc_model.specs.Kinds.{kind_of_word, same_kind}
 use Rattle.brc_model.specs.declared.actor.Place.{Place}
-use Rattle.brc_model.specs.declared.actor.Place.TheVariants.{Idle, InCall, Exiting}
-use Rattle.brc_model.specs.Actions.{Does, always, dispatch_instruction, dispatch}
+use Rattle.brc_model.specs.declared.actor.Place.TheVariants.{Idle, InCall, Inside, Exiting}
+use Rattle.brc_model.specs.declared.actor.Stage.{Stage}
+use Rattle.brc_model.specs.Actions.{Does, always, dispatch_instruction, dispatch, dispatch_inside}
 use Rattle.brc_model.proofs.Basics.Bag.{held-le-references_to}
 use Rattle.brc_model.specs.References.{held, one_if, reference_of}
 use Rattle.brc_model.proofs.Basics.Lists.{either, first_false, none_some, get_or-replicate_default}
-use Rattle.brc_model.proofs.Dispatch.Holds.{the_root, of_variables, Holds, holds-ended, holds-entered}
+use Rattle.brc_model.proofs.Dispatch.Holds.{the_root, of_variables, Holds, holds-ended, holds-entered, of_inside}
 use Rattle.brc_model.proofs.Dispatch.Grounded.{IsInside, AreInstructions, owned_slot, owned_row, grounded-put, grounded-with_kind, says-with_kind, entry_in_call}
 use Rattle.brc_model.proofs.Dispatch.Guards.{LocksAgree, HeldBeside, guards-put, guards-with_kind, guards_none}
 use Rattle.brc_model.proofs.Dispatch.Standing.{named_at, given_referenced, keeps_all, keeps_given}
 use Rattle.brc_model.specs.KnownKinds.{HaveTrueKinds, KnowsKinds}
-use Rattle.brc_model.specs.Items.{borrows_item, HaveItems, KnowsItems}
+use Rattle.brc_model.specs.Items.{borrows_item, HaveItems, KnowsItems, StageKnows}
 use Rattle.brc_model.specs.declared.address.Address.{Address}
 use Rattle.std.proofs.lemmas.Bool.{false≢true}
 use Rattle.brc_model.proofs.Dispatch.TakingBirths.{num_taken, list_taken}
 use Rattle.brc_model.proofs.Dispatch.TakingLocks.{lock_taken, unlock_taken}
+use Rattle.brc_model.proofs.Dispatch.TakingItems.{borrow_taken, fetch_taken, set_taken, put_taken}
+use Rattle.brc_model.proofs.Dispatch.TakingStores.{inside_taken}
 use Rattle.brc_model.proofs.Dispatch.Passing.{passes_on}
 use Rattle.brc_model.proofs.Stepping.Counts.{flip_eqb}
 use Rattle.brc_model.proofs.Frame.Aside.{HoldsAlone}
-use Rattle.brc_model.proofs.Dispatch.Coded.{once_each, PlaceFits}
-use Rattle.brc_model.proofs.Dispatch.Begins.{Scene, words_of, CountsLockable, Backs, StandsAt, holds_plain, holds_at_none, Gives, Takes, Asks, Nothing, Settles, Leaves, Taken, IsTaken, taken_with_row, idle_stays, in_call_stays, newref_held, emptied_held, ended_says, SilentTaken}
+use Rattle.brc_model.proofs.Dispatch.Coded.{once_each, PlaceFits, has_stage, in_flight}
+use Rattle.brc_model.proofs.Dispatch.Begins.{Scene, words_of, CountsLockable, Backs, StandsAt, holds_plain, holds_at_none, Gives, Takes, Asks, Nothing, Settles, Leaves, Taken, IsTaken, taken_with_row, idle_stays, in_call_stays, newref_held, emptied_held, ended_says, SilentTaken, StandsInside}
 use Rattle.brc_model.proofs.Keeping.SilentMoves.{Stays}
 use Rattle.brc_model.proofs.Dispatch.TakingSilent.{none_taken, move_taken, goto_taken}
 use Rattle.brc_model.specs.Layout.{root_row}
@@ -241,6 +244,14 @@ instruction_taken code g before left at variables s (Lock object) here =
     lock_taken code g before left at variables s object here
 instruction_taken code g before left at variables s (Unlock object) here =
     unlock_taken code g before left at variables s object here
+instruction_taken code g before left at variables s (Borrow to list index otherwise) here =
+    borrow_taken code g before left at variables s to list index otherwise here
+instruction_taken code g before left at variables s (Fetch to list index otherwise) here =
+    fetch_taken code g before left at variables s to list index otherwise here
+instruction_taken code g before left at variables s (Set list index from otherwise) here =
+    set_taken code g before left at variables s list index from otherwise here
+instruction_taken code g before left at variables s (Put list index from otherwise) here =
+    put_taken code g before left at variables s list index from otherwise here
 instruction_taken code g before left at variables s (As from kind otherwise) here =
     as_taken code g before left at variables s from kind otherwise here
 instruction_taken code g before left at variables s (Ret from) here =
@@ -277,6 +288,7 @@ in_call_taken code g before left at variables s accepted instructions inside gua
     let on = passes_on code inside.exits at s accepted inside.arrived in
     let here : StandsAt code g before at variables s on.here =
     record {
+      found = on.found;
       inside = inside;
       holds = holds;
       guards = guards;
@@ -292,6 +304,33 @@ in_call_taken code g before left at variables s accepted instructions inside gua
     subst (λ (o : Option Instr). IsTaken code g
     (dispatch_instruction g.layout g.thread g.used before left at variables o))
     (sym on.found) (instruction_taken code g before left at variables s on.here here)
+
+-- Inside an instruction the state before it still stands.
+inside_call_taken : (code : List Instr) (g : Scene) (left at : ℕ) (variables : List (Option ℕ)) (s : State)
+    (stage : Stage)
+    → IsAcceptableCode code → AreInstructions code → IsInside code at variables s → LocksAgree s variables g.locked
+    → Holds g.bag g.thread (of_inside (in_flight (slice_get code at) stage variables) s variables)
+    → has_stage (slice_get code at) stage ≡ true → HaveItems g.memory g.locked s variables
+    → StageKnows g.memory g.locked variables stage (slice_get code at)
+    → IsTaken code g (dispatch_inside left at variables stage (slice_get code at))
+inside_call_taken code g left at variables s stage accepted instructions inside guards holds staged items cell =
+    let on = passes_on code inside.exits at s accepted inside.arrived in
+    let here : StandsInside code g at variables s stage on.here =
+    record {
+      found = on.found;
+      inside = inside;
+      holds = subst (λ (o : Option Instr). Holds g.bag g.thread (of_inside (in_flight o stage variables) s variables))
+          on.found holds;
+      guards = guards;
+      items = items;
+      cell = subst (λ (o : Option Instr). StageKnows g.memory g.locked variables stage o) on.found cell;
+      staged = ap (λ (o : Option Instr). has_stage o stage) (sym on.found) ∙ staged;
+      variables = instructions.each at on.here on.found;
+      met = on.met;
+      leads = on.leads;
+    } in
+    subst (λ (o : Option Instr). IsTaken code g (dispatch_inside left at variables stage o)) (sym on.found)
+    (inside_taken code g left at variables s on.here stage here)
 
 -- The exit gives up the reference that the thread holds as the caller.
 exit_held : (bag : List Reference) (t : ℕ) → Holds bag t the_root → (k : Holding) (object : ℕ)
@@ -331,6 +370,10 @@ dispatch_taken code g (Idle (suc left)) accepted instructions stays fits sees =
     in_call_taken code g (Idle (suc left)) left 0 entry_variables entry accepted instructions (entry_in_call code)
     fits.0 (holds-entered g.bag g.thread (holds_plain g.bag g.thread the_root fits.1)) sees.begins (entry_items g.memory g.locked)
     sees.counted fits stays
+dispatch_taken code g (Inside left at variables stage) accepted instructions stays fits sees =
+    inside_call_taken code g left at variables fits.0 stage accepted instructions fits.1 fits.2
+    (holds_plain g.bag g.thread (of_inside (in_flight (slice_get code at) stage variables) fits.0 variables) fits.3)
+    fits.4 (sees.items.items fits.1.exits fits.0 fits.1.arrived) sees.items.cell
 dispatch_taken code g (InCall left at variables) accepted instructions stays fits sees =
     in_call_taken code g (InCall left at variables) left at variables fits.0 accepted instructions fits.1 fits.2
     (holds_plain g.bag g.thread (of_variables fits.0 variables) fits.3)

@@ -20,10 +20,10 @@ use Rattle.brc_model.specs.Threads.{row_of}
 use Rattle.brc_model.specs.References.{one_if}
 use Rattle.brc_model.specs.Actions.{Does, always, dispatch_instruction}
 use Rattle.brc_model.specs.Items.{borrows_item}
-use Rattle.brc_model.proofs.Basics.Lists.{first_false, none_some}
+use Rattle.brc_model.proofs.Basics.Lists.{first_false, none_some, not_false}
 use Rattle.brc_model.proofs.Frame.Aside.{HoldsAlone}
 use Rattle.brc_model.proofs.Dispatch.Holds.{of_variables}
-use Rattle.brc_model.proofs.Dispatch.Grounded.{IsGrounded, IsInside}
+use Rattle.brc_model.proofs.Dispatch.Grounded.{IsGrounded, IsInside, grounded-without, says-without}
 use Rattle.brc_model.proofs.Dispatch.Guards.{is_kept, guards_none, guards_row}
 use Rattle.brc_model.proofs.Dispatch.Coded.{once_each, PlaceFits, fits_with}
 use Rattle.brc_model.proofs.Dispatch.Lockable.{lockable_word}
@@ -38,10 +38,6 @@ slot_kept Empty some none = absurd cc
 slot_kept (Owned k) some none = refl
 slot_kept (Caller k) some none = refl
 slot_kept (Locked k) some none = absurd (none refl)
-
-not_false : (b : Bool) → not b ≡ false → b ≡ true
-not_false true e = refl
-not_false false e = absurd cc
 
 -- A lock changes nothing of what the thread is to hold.
 says_locked : (s : State) (variables : List (Option ℕ)) (o : Option ℕ) (h : Holding) (object : ℕ)
@@ -111,37 +107,6 @@ lock_taken code g before left at variables s object here =
     (λ found. cond (found == free_word) (InCall left (at + 1) variables) before)) live.is_row taken
 
 -- ---- unlock
-
-slot_of-without : (s : State) (v : ℕ) → slot_of (without_items s) v ≡ without_item (slot_of s v)
-slot_of-without s v = get_or-map without_item s.slots v Empty
-
-without_grounded : (slot : Slot) (row : Option ℕ) → IsGrounded slot row → IsGrounded (without_item slot) row
-without_grounded Empty row grounded = tt
-without_grounded (Owned k) row grounded = grounded
-without_grounded (Caller k) row grounded = grounded
-without_grounded (Locked k) row grounded = tt
-
--- What is true of the variables is true of them once those that borrowed from the locked list are empty.
-pub grounded-without : (s : State) (rows : List (Option ℕ)) → ((v : ℕ) → IsGrounded (slot_of s v) (row_of rows v))
-    → (v : ℕ) → IsGrounded (slot_of (without_items s) v) (row_of rows v)
-grounded-without s rows old v =
-    subst (λ (slot : Slot). IsGrounded slot (row_of rows v)) (sym (slot_of-without s v))
-    (without_grounded (slot_of s v) (row_of rows v) (old v))
-
-without_owned : (slot : Slot) → is_owned (without_item slot) ≡ is_owned slot
-without_owned Empty = refl
-without_owned (Owned k) = refl
-without_owned (Caller k) = refl
-without_owned (Locked k) = refl
-
--- A variable that borrows from the locked list owns nothing, so the thread is to hold what it held.
-pub says-without : (s : State) (variables : List (Option ℕ)) (h : Holding) (object : ℕ)
-    → of_variables s variables h object ≡ of_variables (without_items s) variables h object
-says-without s variables AsCaller object = refl
-says-without s variables InFlight object = refl
-says-without s variables (ByVariable v) object =
-    ap (λ (b : Bool). b && names (row_of variables v) object)
-    (sym (without_owned (slot_of s v)) ∙ ap is_owned (sym (slot_of-without s v)))
 
 pub unlock_taken : (code : List Instr) (g : Scene) (before : Place) (left at : ℕ) (variables : List (Option ℕ))
     (s : State) (object : ℕ)

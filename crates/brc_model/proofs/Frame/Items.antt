@@ -1,5 +1,5 @@
--- The list that a thread has locked: no step of another thread changes its kind word or a cell of it. Of the thread's own
--- steps only those that drop items do.
+-- The list that a thread has locked: no step of another thread changes its kind word or a cell of it. A step of the
+-- thread itself may only if it drops items.
 use Rattle.std.proofs.Common.{◌≡◌, ◌≢◌, ℕ, ◌+◌, Bool, true, false, List, Some, refl, sym, ap, ◌∙◌, subst, arith}
 use Rattle.std.specs.Prelude.{◌==◌, ◌&&◌, slice_get}
 use Rattle.std.proofs.lemmas.Bool.{ne_eqb}

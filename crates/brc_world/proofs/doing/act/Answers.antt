@@ -1,20 +1,26 @@
 -- The step starts with the thread's action, which the thread can do.
-use Rattle.std.proofs.Common.{ℕ, refl, ap, ◌∙◌}
-use Rattle.brc_world.proofs.Acting.{HasStarted, stuck_step, moved_step, does_step, asks_step, can_do, can_ask}
-use Rattle.brc_world.specs.declared.dispatch.Start.TheVariants.{Doing, Asking}
+use Rattle.std.proofs.Common.{ℕ, List, Option, refl, ap, ◌∙◌}
+use Rattle.brc_world.proofs.Acting.{HasStarted, stuck_step, moved_step, duty_step, can_do, entering}
+use Rattle.brc_world.specs.declared.dispatch.Start.TheVariants.{Doing, Asking, Locking}
+use Rattle.brc_model.specs.declared.duty.Duty.TheVariants.{LockGate}
+use Rattle.brc_model.specs.Actions.{StepActor}
+use Rattle.brc_model.specs.StepMachine.{at_place}
 use Rattle.brc_world.specs.Storage.{word_in}
-use Rattle.brc_world.specs.Actors.{actor_of, asked, actor_done}
+use Rattle.brc_world.specs.Actors.{actor_of, actor_done}
+use Rattle.brc_world.specs.Starts.{asked, let_in}
 use Rattle.brc_world.proofs.doing.act.Goals as goal
+
+-- ---- a duty
 
 pub do_duty-requires : goal.do_duty-requires
 do_duty-requires c =
     let has : HasStarted c.args.functions.now c.args.layout c.args.number (actor_of c.args.thread.now)
-    (actor_of c.first_duty.new.thread) (Doing c.in-Doing.duty) = record {
+    c.first_duty.new.thread (Doing c.in-Doing.duty) = record {
       alive = c.in_default.not-Gone;
       starts = rw c.in_ok-reserve.ensures.items at c.in-Doing.ensures.starts;
       actor = λ found. rw c.in_ok-reserve.ensures.items at (c.in-Doing.ensures.actor found);
     } in
-    let can = can_do _ _ _ _ _ (word_in c.args.memory.now) _ _ _ has c.requires.can in
+    let can = can_do _ _ _ _ _ (word_in c.args.memory.now) _ _ _ _ has refl c.requires.can in
     record {
       some_rows = c.requires.some_rows;
       small = c.requires.small;
@@ -28,12 +34,13 @@ do_duty-requires c =
 pub returns-in-Doing : goal.returns-in-Doing
 returns-in-Doing c =
     let has : HasStarted c.args.functions.now c.args.layout c.args.number (actor_of c.args.thread.now)
-    (actor_of c.first_duty.new.thread) (Doing c.in-Doing.duty) = record {
+    c.first_duty.new.thread (Doing c.in-Doing.duty) = record {
       alive = c.in_default.not-Gone;
       starts = rw c.in_ok-reserve.ensures.items at c.in-Doing.ensures.starts;
       actor = λ found. rw c.in_ok-reserve.ensures.items at (c.in-Doing.ensures.actor found);
     } in
-    let step = does_step c.args.functions.now c.args.layout c.args.number (word_in c.args.memory.now) _ _ _ has in
+    let step =
+    duty_step c.args.functions.now c.args.layout c.args.number (word_in c.args.memory.now) _ _ _ _ has refl in
     record {
       did = step.answer;
       words = c.do_duty.ensures.word.words ∙ step.memory_is;
@@ -45,16 +52,17 @@ returns-in-Doing c =
       as_many_threads = c.do_duty.ensures.word.threads;
     }
 
--- The step starts with a question, which the word that its duty finds answers.
+-- ---- a question, which the word that its duty finds answers
+
 pub do_duty-found-requires : goal.do_duty-found-requires
 do_duty-found-requires c =
     let has : HasStarted c.args.functions.now c.args.layout c.args.number (actor_of c.args.thread.now)
-    (actor_of c.first_duty.new.thread) (Asking c.in-Asking.duty c.in-Asking.kind c.in-Asking.otherwise) = record {
+    c.first_duty.new.thread (Asking c.in-Asking.duty c.in-Asking.kind c.in-Asking.otherwise) = record {
       alive = c.in_default.not-Gone;
       starts = rw c.in_ok-reserve.ensures.items at c.in-Asking.ensures.starts;
       actor = λ found. rw c.in_ok-reserve.ensures.items at (c.in-Asking.ensures.actor found);
     } in
-    let can = can_ask _ _ _ _ _ (word_in c.args.memory.now) _ _ _ _ _ has c.requires.can in
+    let can = can_do _ _ _ _ _ (word_in c.args.memory.now) _ _ _ _ has refl c.requires.can in
     record {
       some_rows = c.requires.some_rows;
       small = c.requires.small;
@@ -68,34 +76,95 @@ do_duty-found-requires c =
 pub returns-in-Asking : goal.returns-in-Asking
 returns-in-Asking c =
     let has : HasStarted c.args.functions.now c.args.layout c.args.number (actor_of c.args.thread.now)
-    (actor_of c.first_duty.new.thread) (Asking c.in-Asking.duty c.in-Asking.kind c.in-Asking.otherwise) = record {
+    c.first_duty.new.thread (Asking c.in-Asking.duty c.in-Asking.kind c.in-Asking.otherwise) = record {
       alive = c.in_default.not-Gone;
       starts = rw c.in_ok-reserve.ensures.items at c.in-Asking.ensures.starts;
       actor = λ found. rw c.in_ok-reserve.ensures.items at (c.in-Asking.ensures.actor found);
     } in
-    let step = asks_step c.args.functions.now c.args.layout c.args.number (word_in c.args.memory.now) _ _ _ _ _ has in
+    let step =
+    duty_step c.args.functions.now c.args.layout c.args.number (word_in c.args.memory.now) _ _ _ _ has refl in
+    let duty = c.do_duty-found.ensures in
+    let goes_on = λ (found : ℕ) (a : StepActor). at_place a (asked c.in-Asking.kind c.in-Asking.otherwise found a.place)
+    in
     let done =
     actor_done c.args.layout c.args.number (word_in c.args.memory.now) (actor_of c.first_duty.new.thread)
     c.in-Asking.duty in
     record {
       did = step.answer;
-      words = c.do_duty-found.ensures.word.words ∙ step.memory_is;
+      words = duty.word.words ∙ step.memory_is;
       actor = c.answer.ensures
-          ∙ ap (asked c.in-Asking.kind c.in-Asking.otherwise c.do_duty-found.result) c.do_duty-found.ensures.actor
-          ∙ ap (λ (found : ℕ). asked c.in-Asking.kind c.in-Asking.otherwise found done) c.do_duty-found.ensures.found
+          ∙ ap (goes_on c.do_duty-found.result) duty.actor
+          ∙ ap (λ (found : ℕ). goes_on found done) duty.found
           ∙ step.actor;
       same_words = tt;
       same_actor = tt;
       refused = tt;
-      as_many_rows = c.do_duty-found.ensures.word.rows;
-      as_many_threads = c.do_duty-found.ensures.word.threads;
+      as_many_rows = duty.word.rows;
+      as_many_threads = duty.word.threads;
     }
+
+-- ---- a lock
+
+pub do_duty-found-requires-in-Locking : goal.do_duty-found-requires-in-Locking
+do_duty-found-requires-in-Locking c =
+    let has : HasStarted c.args.functions.now c.args.layout c.args.number (actor_of c.args.thread.now)
+    c.first_duty.new.thread (Locking c.in-Locking.row c.in-Locking.left c.in-Locking.next) = record {
+      alive = c.in_default.not-Gone;
+      starts = rw c.in_ok-reserve.ensures.items at c.in-Locking.ensures.starts;
+      actor = λ found. rw c.in_ok-reserve.ensures.items at (c.in-Locking.ensures.actor found);
+    } in
+    let can = can_do _ _ _ _ _ (word_in c.args.memory.now) _ _ _ _ has refl c.requires.can in
+    record {
+      some_rows = c.requires.some_rows;
+      small = c.requires.small;
+      known = c.requires.known;
+      there = can.there;
+      suits = can.suits;
+      uses = can.uses;
+      room = c.in-Locking.ensures.room;
+    }
+
+pub returns-in-Locking : goal.returns-in-Locking
+returns-in-Locking c =
+    let has : HasStarted c.args.functions.now c.args.layout c.args.number (actor_of c.args.thread.now)
+    c.first_duty.new.thread (Locking c.in-Locking.row c.in-Locking.left c.in-Locking.next) = record {
+      alive = c.in_default.not-Gone;
+      starts = rw c.in_ok-reserve.ensures.items at c.in-Locking.ensures.starts;
+      actor = λ found. rw c.in_ok-reserve.ensures.items at (c.in-Locking.ensures.actor found);
+    } in
+    let step =
+    duty_step c.args.functions.now c.args.layout c.args.number (word_in c.args.memory.now) _ _ _ _ has refl in
+    let duty = c.do_duty-found-in-Locking.ensures in
+    let enters = λ (variables : List (Option ℕ)) (found : ℕ) (a : StepActor).
+    at_place a (let_in c.in-Locking.left c.in-Locking.next variables found a.place) in
+    let now = c.first_duty.new.thread.variables in
+    let found = c.do_duty-found-in-Locking.result in
+    let done =
+    actor_done c.args.layout c.args.number (word_in c.args.memory.now) (actor_of c.first_duty.new.thread)
+    (LockGate c.in-Locking.row) in
+    record {
+      did = c.enter.ensures.did ∙ ap entering duty.found ∙ step.answer;
+      words = duty.word.words ∙ step.memory_is;
+      actor = c.enter.ensures.actor
+          ∙ ap (λ (variables : List (Option ℕ)). enters variables found (actor_of c.do_duty-found-in-Locking.new.thread))
+          duty.variables
+          ∙ ap (enters now found) duty.actor
+          ∙ ap (λ (word : ℕ). enters now word done) duty.found
+          ∙ step.actor;
+      same_words = tt;
+      same_actor = tt;
+      refused = tt;
+      as_many_rows = duty.word.rows;
+      as_many_threads = duty.word.threads;
+    }
+
+-- ---- no word
 
 pub returns-in-Stuck : goal.returns-in-Stuck
 returns-in-Stuck c =
     let step =
     stuck_step c.args.functions.now c.args.layout c.args.number (word_in c.args.memory.now)
-    (actor_of c.args.thread.now) (actor_of c.first_duty.new.thread)
+    (actor_of c.args.thread.now) c.first_duty.new.thread
     (record {
       alive = c.in_default.not-Gone;
       starts = rw c.in_ok-reserve.ensures.items at c.in-Stuck.ensures.starts;
@@ -116,7 +185,7 @@ pub returns-in-Moved : goal.returns-in-Moved
 returns-in-Moved c =
     let step =
     moved_step c.args.functions.now c.args.layout c.args.number (word_in c.args.memory.now)
-    (actor_of c.args.thread.now) (actor_of c.first_duty.new.thread)
+    (actor_of c.args.thread.now) c.first_duty.new.thread
     (record {
       alive = c.in_default.not-Gone;
       starts = rw c.in_ok-reserve.ensures.items at c.in-Moved.ensures.starts;

@@ -16,8 +16,8 @@ pub returns-clause-actor : goal.returns-clause-actor
 returns-clause-actor c =
     let effect = c.effect-effect.ensures in
     rw (
-      c.pass_over.ensures,
-      c.push.ensures,
+      c.pass_over.ensures.duties,
+      c.push.ensures.duties,
       effect.next,
       effect.head,
       effect.status,

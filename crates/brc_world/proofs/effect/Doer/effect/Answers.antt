@@ -49,3 +49,6 @@ returns-in-KindLoad c = rw c.in-KindLoad.is (c.kind_load.ensures _)
 
 pub returns-in-UnlockGate : goal.returns-in-UnlockGate
 returns-in-UnlockGate c = rw c.in-UnlockGate.is (c.unlock_gate.ensures _ _)
+
+pub returns-in-CellLoad : goal.returns-in-CellLoad
+returns-in-CellLoad c = rw c.in-CellLoad.is (c.cell_load.ensures _ _)

@@ -6,6 +6,7 @@ use Rattle.brc_world.specs.Storage.{word_in}
 use Rattle.brc_world.specs.Worlds.{seen}
 use Rattle.brc_world.proofs.Outcomes.{contents, Turned, Outcome, outcome, answered, refusal, thread_at}
 use Rattle.brc_world.proofs.Answering.{going_answers}
+use Rattle.brc_world.proofs.Waiting.{waits_locked, moves_unless_waiting}
 use Rattle.brc_world.proofs.Stepping.{going_on, can_go_on}
 use Rattle.brc_world.proofs.world.World.go_on.Goals as goal
 
@@ -92,7 +93,12 @@ returns-clause-answer c =
     rw (sym c.self.view_is) (answered w _ _ t c.act.result _ (outcome_of c).made
     (rw c.as_slice.ensures at c.act.ensures.did)
     (going_answers w t (actor_of before) before.status here refl
-    (λ alive. (c.steps_move.ensures.goes_on p w t (actor_of before) c.self.invariant.reachable here alive).0)
+    (λ alive quiet. moves_unless_waiting w t (actor_of before) here
+    (λ free. (c.steps_move.ensures.goes_on p w t (actor_of before) c.self.invariant.reachable here alive free).0)
+    alive quiet)
+    (λ waiting. (c.steps_move.ensures.waits p w t (actor_of before) c.self.invariant.reachable here
+    (waits_locked w.memory (actor_of before).actor.agenda
+    (status_action w.functions w.layout t (actor_of before) before.status) waiting)).0)
     (going_on w t (actor_of before) here)))
 
 pub returns-clause-refused : goal.returns-clause-refused
@@ -107,5 +113,7 @@ returns-clause-refused c =
     thread_at p.functions c.self.inside.layout c.self.inside.memory threads t before c.index_mut.ensures.value within
     in
     rw (sym c.self.view_is) (refusal c.act.result
-    (λ alive. (c.steps_move.ensures.goes_on p w t (actor_of before) c.self.invariant.reachable here alive).0)
-    c.act.ensures.refused)
+    (λ refused. moves_unless_waiting w t (actor_of before) here
+    (λ free. (c.steps_move.ensures.goes_on p w t (actor_of before) c.self.invariant.reachable here refused.0 free).0)
+    refused.0 refused.1)
+    (rw c.as_slice.ensures at c.act.ensures.refused))

@@ -1,0 +1,103 @@
+//! What a state knows of its variables, and how it forgets what was borrowed from the locked list.
+
+ghost use Rattle.std.specs.Prelude.{◌≡◌, [], ◌∷◌, map};
+ghost use Rattle.std.specs.List.{list_any};
+ghost use Rattle.brc_lang.specs.declared.kind.Kind.TheVariants as kinds;
+ghost use Rattle.brc_model.specs.Slots.{slot_of, is_owned, kind_of, is_one_of, lockable, names, may_be, with_kind};
+ghost use Rattle.brc_model.specs.Slots.{put, without_item, without_items};
+
+use brc_lang::{Kind, Variable};
+use brc_model::{Slot, State};
+
+pub fn slot(state: &State, variable: Variable) -> Slot
+    ensures { result ≡ slot_of state.now variable }
+{
+    state.slots[variable.number() as usize]
+}
+
+/// Replaces the variable's slot.
+pub fn put(state: &mut State, variable: Variable, slot: Slot)
+    ensures { state.new ≡ put state.old variable slot }
+{
+    state.slots[variable.number() as usize] = slot;
+}
+
+pub fn kind_of(slot: Slot) -> Kind
+    ensures { result ≡ kind_of slot }
+{
+    match slot {
+        Slot::Empty => Kind::Any,
+        Slot::Owned(kind) | Slot::Caller(kind) | Slot::Locked(kind) => kind,
+    }
+}
+
+/// Returns whether an object of the kind `known` may be of the kind `asked`.
+pub fn may_be(known: Kind, asked: Kind) -> bool
+    ensures { result ≡ may_be known asked }
+{
+    known == Kind::Any || known == asked
+}
+
+/// Returns whether the slot is known to name a list.
+pub fn is_list(slot: Slot) -> bool
+    ensures { result ≡ is_one_of (kind_of slot) (kinds.List ∷ []) }
+{
+    kind_of(slot) == Kind::List
+}
+
+/// Returns whether objects of the kind can be locked.
+pub fn is_lockable(kind: Kind) -> bool
+    ensures { result ≡ is_one_of kind lockable }
+{
+    matches!(kind, Kind::List | Kind::File | Kind::Sock)
+}
+
+/// Returns the slot with another kind.
+pub fn with_kind(slot: Slot, kind: Kind) -> Slot
+    ensures { result ≡ with_kind slot kind }
+{
+    match slot {
+        Slot::Empty => Slot::Empty,
+        Slot::Owned(_) => Slot::Owned(kind),
+        Slot::Caller(_) => Slot::Caller(kind),
+        Slot::Locked(_) => Slot::Locked(kind),
+    }
+}
+
+pub fn is_locked(state: &State, variable: Variable) -> bool
+    ensures { result ≡ names state.now.locked variable }
+{
+    match state.locked {
+        None => false,
+        Some(locked) => variable.number() == locked.number(),
+    }
+}
+
+pub fn any_owned(slots: &[Slot; 16]) -> bool
+    ensures { result ≡ list_any is_owned slots.now }
+{
+    slots.iter().any(|slot| matches!(slot, Slot::Owned(_)))
+}
+
+/// Returns the slot, or an empty one if it borrows from the locked list.
+fn without_item(slot: Slot) -> Slot
+    ensures { result ≡ without_item slot }
+{
+    match slot {
+        Slot::Locked(_) => Slot::Empty,
+        Slot::Empty | Slot::Owned(_) | Slot::Caller(_) => slot,
+    }
+}
+
+fn slots_without_items(slots: [Slot; 16]) -> [Slot; 16]
+    ensures { result ≡ map without_item slots }
+{
+    slots.map(without_item)
+}
+
+/// Empties each variable that borrows from the locked list.
+pub fn forget_items(state: &mut State)
+    ensures { state.new ≡ without_items state.old }
+{
+    state.slots = slots_without_items(state.slots);
+}

@@ -1,0 +1,173 @@
+//! The tables of functions that lock a list and use its items.
+
+use crate::tables::{first_difference, is_refused_at};
+use brc_check::{Slot, State};
+use brc_lang::{Kind, Variable};
+use std::alloc::Global;
+use std::test::*;
+
+/// The slots of v1 and v2 at a point, and the locked variable; v0 is the caller's list, and the others are empty.
+type Entry = (Slot, Slot, Option<u8>);
+
+const NUMBER: Slot = Slot::Owned(Kind::Num);
+
+const LIST: Slot = Slot::Owned(Kind::List);
+
+/// A fetched item, whose kind isn't known.
+const FETCHED: Slot = Slot::Owned(Kind::Any);
+
+/// A borrowed item, whose kind isn't known.
+const BORROWED: Slot = Slot::Locked(Kind::Any);
+
+/// Lines, and the entry of each of their points.
+const TABLES: &[(&[u8], &[Entry])] = &[
+    // A borrowed item is gone once its list is unlocked, and a reference to it stays.
+    (
+        b"lock v0\nborrow v1 v0 0 else @6\nnewref v2 v1\nunlock v0\ndrop v2\nfail\nunlock v0\nfail\n",
+        &[
+            (Slot::Empty, Slot::Empty, None),
+            (Slot::Empty, Slot::Empty, Some(0)),
+            (BORROWED, Slot::Empty, Some(0)),
+            (BORROWED, FETCHED, Some(0)),
+            (Slot::Empty, FETCHED, None),
+            (Slot::Empty, Slot::Empty, None),
+            (Slot::Empty, Slot::Empty, Some(0)),
+            (Slot::Empty, Slot::Empty, None),
+        ],
+    ),
+    // `set` steals on both exits.
+    (
+        b"list v1 1 else @6\nnewref v2 v1\nlock v1\nset v1 0 v2 else @4\nunlock v1\ndrop v1\nfail\n",
+        &[
+            (Slot::Empty, Slot::Empty, None),
+            (LIST, Slot::Empty, None),
+            (LIST, LIST, None),
+            (LIST, LIST, Some(1)),
+            (LIST, Slot::Empty, Some(1)),
+            (LIST, Slot::Empty, None),
+            (Slot::Empty, Slot::Empty, None),
+        ],
+    ),
+    // A fetched item stays when its list is unlocked. Its kind is known where `as` succeeds, and there it may be locked.
+    (
+        b"lock v0\nfetch v1 v0 0 else @9\nunlock v0\nas v1 list else @7\nlock v1\nunlock v1\nret v1\ndrop v1\nfail\n\
+          unlock v0\nfail\n",
+        &[
+            (Slot::Empty, Slot::Empty, None),
+            (Slot::Empty, Slot::Empty, Some(0)),
+            (FETCHED, Slot::Empty, Some(0)),
+            (FETCHED, Slot::Empty, None),
+            (LIST, Slot::Empty, None),
+            (LIST, Slot::Empty, Some(1)),
+            (LIST, Slot::Empty, None),
+            (FETCHED, Slot::Empty, None),
+            (Slot::Empty, Slot::Empty, None),
+            (Slot::Empty, Slot::Empty, Some(0)),
+            (Slot::Empty, Slot::Empty, None),
+        ],
+    ),
+    // `put` leaves its reference, and no borrowed item.
+    (
+        b"num v2 7 else @9\nlock v0\nborrow v1 v0 0 else @5\nas v1 num else @7\nput v0 1 v2 else @5\nunlock v0\n\
+          goto @8\nunlock v0\ndrop v2\nfail\n",
+        &[
+            (Slot::Empty, Slot::Empty, None),
+            (Slot::Empty, NUMBER, None),
+            (Slot::Empty, NUMBER, Some(0)),
+            (BORROWED, NUMBER, Some(0)),
+            (Slot::Locked(Kind::Num), NUMBER, Some(0)),
+            (Slot::Empty, NUMBER, Some(0)),
+            (Slot::Empty, NUMBER, None),
+            (BORROWED, NUMBER, Some(0)),
+            (Slot::Empty, NUMBER, None),
+            (Slot::Empty, Slot::Empty, None),
+        ],
+    ),
+];
+
+/// The slots of v1, and locked variables, that overwrite those of an entry.
+const OVERWRITTEN: &[(Slot, Option<u8>)] = &[
+    (Slot::Empty, None),
+    (Slot::Empty, Some(0)),
+    (Slot::Empty, Some(1)),
+    (BORROWED, None),
+    (BORROWED, Some(0)),
+    (BORROWED, Some(1)),
+    (Slot::Locked(Kind::Num), Some(0)),
+    (Slot::Caller(Kind::Any), Some(0)),
+    (FETCHED, None),
+    (FETCHED, Some(0)),
+    (LIST, None),
+    (LIST, Some(0)),
+    (LIST, Some(1)),
+    (Slot::Locked(Kind::List), Some(0)),
+    (Slot::Caller(Kind::List), Some(1)),
+];
+
+fn state(entry: Entry) -> State {
+    let mut slots = [Slot::Empty; 16];
+    slots[0] = Slot::Caller(Kind::List);
+    slots[1] = entry.0;
+    slots[2] = entry.1;
+    let locked = match entry.2 {
+        Some(0) => Some(Variable::new(0)),
+        Some(_) => Some(Variable::new(1)),
+        None => None,
+    };
+    State { slots, locked }
+}
+
+/// The number of the first table that is another one, and the point at which it is.
+fn first_other_table(alloc: Global) -> Result<Option<(usize, usize)>, Fail> {
+    for (number, (lines, entries)) in TABLES.iter().enumerate() {
+        let mut states = Vec::new(alloc);
+        for entry in entries.iter() {
+            states.push(Some(state(*entry)))?;
+        }
+        if let Some(at) = first_difference(alloc, lines, &states)? {
+            return Ok(Some((number, at)));
+        }
+    }
+    Ok(None)
+}
+
+#[test]
+fn true_tables_of_locks(rt: HostRuntime) -> Result<(), Fail> {
+    assert_eq!(rt; first_other_table(rt.alloc())?, None);
+    Ok(())
+}
+
+/// The number of an overwriting entry that isn't refused at the point, or the true one that is.
+fn first_unnoticed(
+    alloc: Global,
+    lines: &[u8],
+    at: usize,
+    entry: Entry,
+) -> Result<Option<usize>, Fail> {
+    for (number, (slot, locked)) in OVERWRITTEN.iter().enumerate() {
+        let other = (*slot, entry.1, *locked);
+        let is_refused = is_refused_at(alloc, lines, at, Some(state(other)))?;
+        if is_refused == (other == entry) {
+            return Ok(Some(number));
+        }
+    }
+    Ok(None)
+}
+
+/// The numbers of the first table, point and overwriting entry that isn't noticed.
+fn first_unnoticed_change(alloc: Global) -> Result<Option<(usize, usize, usize)>, Fail> {
+    for (number, (lines, entries)) in TABLES.iter().enumerate() {
+        for (at, entry) in entries.iter().enumerate() {
+            if let Some(change) = first_unnoticed(alloc, lines, at, *entry)? {
+                return Ok(Some((number, at, change)));
+            }
+        }
+    }
+    Ok(None)
+}
+
+#[test]
+fn changed_entries_of_locks(rt: HostRuntime) -> Result<(), Fail> {
+    assert_eq!(rt; first_unnoticed_change(rt.alloc())?, None);
+    Ok(())
+}

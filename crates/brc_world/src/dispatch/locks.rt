@@ -1,0 +1,44 @@
+//! The dispatch of `lock` and `unlock`, which begin and end a critical section.
+
+ghost use Rattle.std.specs.Prelude.{ℕ, Some};
+ghost use Rattle.brc_lang.specs.declared.module.Instr.TheVariants as instructions;
+ghost use Rattle.brc_model.specs.declared.layout.Layout.{Layout};
+ghost use Rattle.brc_world.specs.Starts.{action_at, CanBegin, Begins};
+
+use crate::dispatch::Start;
+use crate::thread::Thread;
+use brc_lang::Variable;
+use brc_model::Duty;
+
+/// Begins `lock`: the compare-exchange of the object's gate, which decides whether the thread goes on. Until it has the
+/// lock, the thread stays where it is: the same step is then to be made again (`lost_lock_begins_the_call`,
+/// `lost_lock_passed_over`).
+#[inline(always)]
+pub(super) fn lock(object: Variable, thread: &mut Thread, left: u32) -> Start
+    requires { CanBegin thread.old }
+    ensures { (layout : Layout) (t : ℕ) → Begins thread.old (action_at layout t left
+        (Some (instructions.Lock object)) thread.old) result thread.new }
+{
+    let next = thread.at + 1;
+    match thread.row_of(object) {
+        Some(row) => Start::Locking { row, left, next },
+        None => Start::Stuck,
+    }
+}
+
+/// Begins `unlock`: the store that frees the object's gate.
+#[inline(always)]
+pub(super) fn unlock(object: Variable, thread: &mut Thread, left: u32) -> Start
+    requires { CanBegin thread.old }
+    ensures { (layout : Layout) (t : ℕ) → Begins thread.old (action_at layout t left
+        (Some (instructions.Unlock object)) thread.old) result thread.new }
+{
+    let next = thread.at + 1;
+    match thread.row_of(object) {
+        Some(row) => {
+            thread.go_to(left, next);
+            Start::Doing(Duty::UnlockGate { row })
+        }
+        None => Start::Stuck,
+    }
+}

@@ -1,0 +1,117 @@
+//! The dispatch of the instructions that make, hand on or give up a reference.
+
+ghost use Rattle.std.specs.Prelude.{◌≡◌, ℕ, ◌+◌, ◌≤◌, Some, [], ◌∷◌, vec_len, vec_capacity};
+ghost use Rattle.brc_lang.specs.declared.module.Instr.TheVariants as instructions;
+ghost use Rattle.brc_model.specs.declared.duty.Duty.TheVariants.{ReleaseLoad, Settle};
+ghost use Rattle.brc_model.specs.declared.duty.Holding.TheVariants.{ByVariable};
+ghost use Rattle.brc_model.specs.declared.layout.Layout.{Layout};
+ghost use Rattle.brc_world.specs.Actors.{actor_of, with_agenda};
+ghost use Rattle.brc_world.specs.Starts.{action_at, CanBegin, Begins};
+
+use crate::dispatch::Start;
+use crate::rows::NONE_ROW;
+use crate::thread::Thread;
+use brc_lang::Variable;
+use brc_model::{Duty, Holding};
+
+/// Begins `none`: the variable names the object none.
+#[inline(always)]
+pub(super) fn name_none(to: Variable, thread: &mut Thread, left: u32) -> Start
+    requires { CanBegin thread.old }
+    ensures { (layout : Layout) (t : ℕ) → Begins thread.old (action_at layout t left
+        (Some (instructions.NoneObject to)) thread.old) result thread.new }
+{
+    let next = thread.at + 1;
+    thread.set(to, Some(NONE_ROW));
+    thread.go_to(left, next);
+    Start::Moved
+}
+
+/// Begins `newref`: a retain for the variable `to`, which names the object that `from` names.
+#[inline(always)]
+pub(super) fn name_again(to: Variable, from: Variable, thread: &mut Thread, left: u32) -> Start
+    requires { CanBegin thread.old }
+    ensures { (layout : Layout) (t : ℕ) → Begins thread.old (action_at layout t left
+        (Some (instructions.Newref to from)) thread.old) result thread.new }
+{
+    let next = thread.at + 1;
+    match thread.row_of(from) {
+        Some(row) => {
+            thread.set(to, Some(row));
+            thread.go_to(left, next);
+            Start::Doing(Duty::RetainLoad {
+                row,
+                holding: Holding::ByVariable(to),
+            })
+        }
+        None => Start::Stuck,
+    }
+}
+
+/// Begins `move`: the reference of `from` is handed on to `to`.
+#[inline(always)]
+pub(super) fn hand_on(to: Variable, from: Variable, thread: &mut Thread, left: u32) -> Start
+    requires { CanBegin thread.old }
+    ensures { (layout : Layout) (t : ℕ) → Begins thread.old (action_at layout t left
+        (Some (instructions.Move to from)) thread.old) result thread.new }
+{
+    let next = thread.at + 1;
+    match thread.row_of(from) {
+        Some(row) => {
+            thread.set(from, None);
+            thread.set(to, Some(row));
+            thread.go_to(left, next);
+            Start::Moved
+        }
+        None => Start::Stuck,
+    }
+}
+
+/// Begins `drop`: the release of the variable's reference.
+#[inline(always)]
+pub(super) fn give_up(from: Variable, thread: &mut Thread, left: u32) -> Start
+    requires { CanBegin thread.old }
+    ensures { (layout : Layout) (t : ℕ) → Begins thread.old (action_at layout t left
+        (Some (instructions.Drop from)) thread.old) result thread.new }
+{
+    let next = thread.at + 1;
+    match thread.row_of(from) {
+        Some(row) => {
+            thread.set(from, None);
+            thread.go_to(left, next);
+            release(row, from, thread)
+        }
+        None => Start::Stuck,
+    }
+}
+
+/// Begins `ret`: the call ends, and the release of what it returns begins.
+#[inline(always)]
+pub(super) fn return_object(from: Variable, thread: &mut Thread, left: u32) -> Start
+    requires { CanBegin thread.old }
+    ensures { (layout : Layout) (t : ℕ) → Begins thread.old (action_at layout t left
+        (Some (instructions.Ret from)) thread.old) result thread.new }
+{
+    match thread.row_of(from) {
+        Some(row) => {
+            thread.rest(left);
+            release(row, from, thread)
+        }
+        None => Start::Stuck,
+    }
+}
+
+/// Begins the release of the variable's reference to the row's object. The thread deallocates its dying chain next.
+fn release(row: u32, from: Variable, thread: &mut Thread) -> Start
+    requires empty { thread.old.agenda.items ≡ [] }
+    requires room { 8 ≤ vec_capacity thread.old.agenda }
+    ensures starts { result ≡ Start.Doing (ReleaseLoad row (ByVariable from)) }
+    ensures actor { actor_of thread.new ≡ with_agenda (actor_of thread.old) (Settle ∷ []) }
+    ensures room { vec_len thread.new.agenda + 4 ≤ vec_capacity thread.new.agenda }
+{
+    thread.agenda.push_reserved(Duty::Settle);
+    Start::Doing(Duty::ReleaseLoad {
+        row,
+        holding: Holding::ByVariable(from),
+    })
+}
