@@ -16,12 +16,11 @@ use Rattle.brc_model.specs.declared.slot.Slot.{Slot}
 use Rattle.brc_model.specs.declared.slot.Slot.TheVariants.{Empty, Owned, Caller, Locked}
 use Rattle.brc_model.specs.declared.slot.State.{State}
 use Rattle.brc_model.specs.Slots.{slot_of, with_kind, put, without_item, without_items, entry}
-use Rattle.brc_model.specs.Threads.{row_of}
+use Rattle.brc_model.specs.Threads.{row_of, entry_variables}
 use Rattle.brc_model.specs.Duties.{cells_of}
 use Rattle.brc_model.specs.Items.{IsItem, borrows_item, HaveItems, HasCell, StageKnows, KnowsItems}
 use Rattle.brc_model.proofs.Basics.Lists.{none_some, get_or-replicate_default}
-use Rattle.brc_model.proofs.Dispatch.Grounded.{slot_of-put_same, slot_of-put_other, row_of-set_same, row_of-set_other}
-use Rattle.brc_model.proofs.Dispatch.Kinds.{slot_without_items}
+use Rattle.brc_model.proofs.Dispatch.Grounded.{slot_of-put_same, slot_of-put_other, slot_of-without, row_of-set_same, row_of-set_other}
 use Rattle.brc_model.proofs.Frame.Kinds.{StoredStay}
 
 -- ---- what a step leaves
@@ -143,7 +142,7 @@ without_item_free (Locked k) = refl
 
 -- Once the list is unlocked or changed, no variable borrows from it.
 pub without_items_free : (s : State) → BorrowsNone (without_items s)
-without_items_free s v = ap borrows_item (slot_without_items s.slots v) ∙ without_item_free (slot_of s v)
+without_items_free s v = ap borrows_item (slot_of-without s v) ∙ without_item_free (slot_of s v)
 
 -- A thread that has locked nothing borrows nothing, so it has the items of whatever it locks.
 pub unlocked_items : (memory new : Address → ℕ) (before locked : Option ℕ) (s : State) (rows : List (Option ℕ))
@@ -152,6 +151,9 @@ unlocked_items memory new before locked s rows none items v x borrows is =
     let item = items v x borrows is in absurd (none_some item.list (sym none ∙ item.is_locked))
 
 -- At the beginning of a call no variable borrows from a list.
-pub entry_borrows_none : BorrowsNone entry
+entry_borrows_none : BorrowsNone entry
 entry_borrows_none zero = refl
 entry_borrows_none (suc v) = ap borrows_item (get_or-replicate_default 15 v Empty)
+
+pub entry_items : (memory : Address → ℕ) (locked : Option ℕ) → HaveItems memory locked entry entry_variables
+entry_items memory locked = none_borrowed memory locked entry entry_variables entry_borrows_none

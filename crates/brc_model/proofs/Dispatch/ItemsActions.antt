@@ -27,7 +27,7 @@ use Rattle.brc_model.proofs.Dispatch.Guards.{LocksAgree}
 use Rattle.brc_model.proofs.Dispatch.Passing.{passes_on}
 use Rattle.brc_model.proofs.Dispatch.AtOnce.{at_once, plain_locked, plain_keeps}
 use Rattle.brc_model.proofs.Dispatch.Coded.{PlaceSays}
-use Rattle.brc_model.proofs.Dispatch.Items.{knows_stay, none_borrowed, entry_borrows_none}
+use Rattle.brc_model.proofs.Dispatch.Items.{knows_stay, entry_items}
 use Rattle.brc_model.proofs.Dispatch.ItemsLeft.{LeavesItems, UsesAt, instruction_uses, inside_uses}
 
 -- The thread's place before its step, and what it knows of items there.
@@ -79,7 +79,7 @@ dispatch_uses code memory locked layout t used (Idle zero) stands = λ new found
 dispatch_uses code memory locked layout t used (Idle (suc left)) stands =
     in_call_uses code memory locked layout t used (Idle (suc left)) left 0 entry_variables entry tt stands.accepted
     stands.instructions (entry_in_call code) stands.says.0
-    (none_borrowed memory locked entry entry_variables entry_borrows_none)
+    (entry_items memory locked)
 dispatch_uses code memory locked layout t used (InCall left at variables) stands =
     let says = stands.says in
     in_call_uses code memory locked layout t used (InCall left at variables) left at variables says.0 stands.knows

@@ -1,7 +1,7 @@
 -- What each instruction leaves in the variables: items of the list that the thread has locked, wherever one is borrowed.
-use Rattle.std.proofs.Common.{◌≡◌, ℕ, zero, suc, ◌+◌, ◌<◌, true, false, cond, List, [], ◌∷◌, ◌++◌, Option, None, Some, refl, sym, ap, ◌∙◌, subst, arith}
-use Rattle.std.specs.Prelude.{◌==◌, nat_lt, slice_get, slice_set}
-use Rattle.std.proofs.lemmas.Bool.{ltb-true, not-false}
+use Rattle.std.proofs.Common.{◌≡◌, ℕ, ◌+◌, ◌<◌, true, false, cond, List, [], ◌∷◌, ◌++◌, Option, None, Some, refl, sym, ap, ◌∙◌, subst, arith}
+use Rattle.std.specs.Prelude.{◌==◌, slice_get, slice_set}
+use Rattle.std.proofs.lemmas.Bool.{not-false}
 use Rattle.std.proofs.lemmas.List.{length-set}
 use Rattle.brc_lang.specs.declared.kind.Kind.TheVariants as kinds
 use Rattle.brc_lang.specs.declared.module.Instr.{Instr}
@@ -34,6 +34,7 @@ use Rattle.brc_model.specs.Items.{IsItem, borrows_item, HaveItems, HasCell, Stag
 use Rattle.brc_model.proofs.Basics.Lists.{some_is, either, first_false}
 use Rattle.brc_model.proofs.Dispatch.Grounded.{IsInside}
 use Rattle.brc_model.proofs.Dispatch.Guards.{LocksAgree, guards_none, guards_row}
+use Rattle.brc_model.proofs.Dispatch.Decided.{range_decides, item_decides}
 use Rattle.brc_model.proofs.Dispatch.Passing.{AreMet}
 use Rattle.brc_model.proofs.Dispatch.Items.{ItemsStay, all_stay, items_stay, cell_stays, knows_stay, items_put, needs_none, items_with_kind, BorrowsNone, none_borrowed, without_items_free, unlocked_items}
 use Rattle.brc_model.proofs.Frame.Items.{drops_items}
@@ -142,13 +143,13 @@ module _ (code : List Instr) (memory : Address → ℕ) (locked : Option ℕ) (l
 
   -- The list has the cell, if the kind word that was found says so.
   has_cell : (new : Address → ℕ) (list index row found : ℕ) → ItemsStay memory new locked
-      → row_of variables list ≡ Some row → found ≡ memory (KindOf row) → nat_lt index (cells_of found) ≡ true
+      → row_of variables list ≡ Some row → found ≡ memory (KindOf row) → index < cells_of found
       → HasCell new variables list index
   has_cell new list index row found stays is seen within =
       cell_stays memory new locked stays variables list index
       (λ x this. subst (λ (w : ℕ). index < cells_of w)
       (seen ∙ ap (λ (y : ℕ). memory (KindOf y)) (some_is row x (sym is ∙ this)))
-      (ltb-true index (cells_of found) within))
+      within)
 
   -- The list that the instruction uses is the one that the thread has locked.
   locked_list : (list row : ℕ) → names s.locked list ≡ true → row_of variables list ≡ Some row
@@ -178,7 +179,7 @@ module _ (code : List Instr) (memory : Address → ℕ) (locked : Option ℕ) (l
   range_uses i list index stage outside here cell past =
       row_uses (row_of variables list) _ (λ row is new found done.
       let stays = done.keeps refl in
-      either (KnowsItems code new locked) (nat_lt index (cells_of found)) (Inside left at variables stage) outside
+      range_decides (KnowsItems code new locked) (Inside left at variables stage) outside index found
       (λ within.
       goes_inside new stage i stays here (cell new (has_cell new list index row found stays is done.finds within)))
       (past new stays))
@@ -284,16 +285,15 @@ module _ (code : List Instr) (memory : Address → ℕ) (locked : Option ℕ) (l
       row_uses (row_of variables list) _ (λ row is new found done.
       let stays = done.keeps refl in
       let locks = locked_list list row named is here.guards in
-      (elim found as (λ w. w ≡ memory (Cell row index) → KnowsItems code new locked (by_item empty holds w)) [
-        | zero ↦ λ seen. none new stays
-        | suc item ↦ λ seen.
-            some new item stays (record {
-              list = row;
-              cell = index;
-              is_locked = locks;
-              holds = stays.cells row index locks ∙ sym seen ∙ omega arith;
-            })
-      ]) done.finds)
+      item_decides (λ word place. word ≡ memory (Cell row index) → KnowsItems code new locked place) empty holds
+      (λ seen. none new stays)
+      (λ item seen.
+      some new item stays (record {
+        list = row;
+        cell = index;
+        is_locked = locks;
+        holds = stays.cells row index locks ∙ sym seen ∙ omega arith;
+      })) found done.finds)
 
   pub inside_uses : (stage : Stage) (i : Instr) → StageKnows memory locked variables stage (Some i) → Here i
       → LeavesItems code memory locked (dispatch_inside left at variables stage (Some i))
