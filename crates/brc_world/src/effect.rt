@@ -16,6 +16,7 @@ mod lock;
 mod merge;
 mod release;
 mod retain;
+mod swap;
 
 /// The duties that replace a duty once it is done, in the order in which the thread does them.
 #[derive(Clone, Copy, Debug)]
@@ -115,6 +116,7 @@ impl Doer {
             Duty::KindLoad { .. } => self.kind_load(found),
             Duty::LockGate { row } => self.lock_gate(row, found),
             Duty::UnlockGate { .. } => self.unlock_gate(),
+            Duty::CellSwap { item, .. } => self.cell_swap(item, found),
         }
     }
 

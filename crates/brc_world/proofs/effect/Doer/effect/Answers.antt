@@ -49,3 +49,6 @@ returns-in-KindLoad c = rw c.in-KindLoad.is (c.kind_load.ensures _)
 
 pub returns-in-UnlockGate : goal.returns-in-UnlockGate
 returns-in-UnlockGate c = rw c.in-UnlockGate.is (c.unlock_gate.ensures _ _)
+
+pub returns-in-CellSwap : goal.returns-in-CellSwap
+returns-in-CellSwap c = rw c.in-CellSwap.is (c.cell_swap.ensures _ _ _)
