@@ -14,7 +14,6 @@ use Rattle.brc_model.specs.declared.actor.Stage.{Stage}
 use Rattle.brc_model.specs.declared.actor.Stage.TheVariants.{InRange, OutOfRange, Found, Retained}
 use Rattle.brc_model.specs.Machine.{has_room}
 use Rattle.brc_model.specs.Actions.{Action, Skip, Stuck, Silent, Does, with_row, birth_action, dispatch_instruction, dispatch_inside, dispatch, number_word, list_word}
-use Rattle.brc_model.specs.World.{step}
 use Rattle.brc_model.proofs.Basics.Lists.{either}
 use Rattle.brc_model.proofs.Dispatch.Decided.{range_decides, item_decides}
 use Rattle.brc_lang.specs.Grammar.{LeadsForward}
