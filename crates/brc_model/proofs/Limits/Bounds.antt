@@ -24,7 +24,8 @@ use Rattle.brc_model.proofs.Frame.Leaves.{head_of, load_alive, exchange_alive, m
 use Rattle.brc_model.proofs.Stepping.Retains.{counts_owner, count_above, weight_here}
 use Rattle.brc_model.proofs.Stepping.Releases.{release_alive}
 use Rattle.brc_model.proofs.Work.MergesOnce.{carried_at_load, carried_is}
-use Rattle.brc_model.proofs.Limits.FewHeld.{most_each, references_few}
+use Rattle.brc_model.proofs.Limits.Ways.{most_each}
+use Rattle.brc_model.proofs.Limits.FewHeld.{references_few}
 use Rattle.brc_model.proofs.Limits.Ranges.{referenced_small, cell_small}
 use Rattle.brc_model.specs.Ranges.{HasFewCells}
 use Rattle.brc_model.specs.Limits.{thread_limit, cell_limit, total_limit}
