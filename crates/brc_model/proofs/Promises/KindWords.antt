@@ -5,7 +5,6 @@ use Rattle.brc_model.specs.declared.thread.Choice.{Choice}
 use Rattle.brc_model.specs.StepMachine.{StepMachine}
 use Rattle.brc_model.specs.KnownKinds.{KindsStay}
 use Rattle.brc_model.proofs.Keeping.KindsHold.{stored_stay}
-use Rattle.brc_model.proofs.Frame.Kinds.{StoredStay, stored_at_duty}
 use Rattle.brc_model.proofs.Keeping.CodeInvariant.{CodeInvariant}
 
 pub kinds_stay : (p : Module) (n : ℕ) (m : StepMachine) (event : ℕ × Choice) → CodeInvariant p n m
