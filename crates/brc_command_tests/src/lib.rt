@@ -10,6 +10,8 @@ mod commands;
 #[cfg(test)]
 mod limits;
 #[cfg(test)]
+mod locks;
+#[cfg(test)]
 mod paths;
 #[cfg(test)]
 mod steps;

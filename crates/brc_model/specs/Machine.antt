@@ -26,7 +26,7 @@ pub record Actor : Type 0 where
   pub head : ℕ
   -- the number of rows of its block that it has used
   pub used : ℕ
-  -- the row of the list that it has locked (no instruction locks yet)
+  -- the row of the list that it has locked
   pub locked : Option ℕ
   -- the resource that it has lent to a call (no instruction lends yet)
   pub lent : Option ℕ

@@ -37,7 +37,9 @@ pub fn address_of(layout: Layout, thread: u8, head: u32, duty: Duty) -> Address
         Duty::SettleKind { row } | Duty::BirthKind { row, .. } | Duty::KindLoad { row } => {
             Address::KindOf { row }
         }
-        Duty::SettleCell { row, cell, .. } => Address::Cell { row, cell },
+        Duty::SettleCell { row, cell, .. } | Duty::CellSwap { row, cell, .. } => {
+            Address::Cell { row, cell }
+        }
         Duty::TakeSlot { row } | Duty::BirthSlot { row, .. } => Address::Slot { row },
         Duty::CloseResource { row } => Address::Resource { row },
         Duty::SetMark { row } | Duty::TakeMark { row } | Duty::ClaimMark { row } => Address::Mark {
