@@ -41,9 +41,7 @@ pub enum Stage {
     /// The list has no such cell.
     OutOfRange,
     /// The cell holds this row.
-    Found {
-        row: u32,
-    },
+    Found { row: u32 },
     /// The thread has made a reference for the cell, in flight.
     Retained,
 }

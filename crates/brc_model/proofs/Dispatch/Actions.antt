@@ -17,7 +17,6 @@ use Rattle.brc_model.specs.declared.thread.Choice.TheVariants.{Ok, Fault, Claim}
 use Rattle.brc_model.specs.Machine.{Actor, Machine, with_actor, locked_by}
 use Rattle.brc_model.specs.Actions.{StepActor, Action, Skip, Stuck, Silent, Does, agenda_action, status_action, may_claim, action_of}
 use Rattle.brc_model.specs.StepMachine.{StepMachine, counting}
-use Rattle.brc_model.proofs.Basics.Bag.{held-le-references_to}
 use Rattle.brc_model.proofs.Basics.Lists.{either, slice_get-set_same, set_found, none_some}
 use Rattle.brc_model.specs.References.{held, one_if, reference_of}
 use Rattle.brc_model.specs.KnownKinds.{KnowsKinds, kind_words}

@@ -1,40 +1,29 @@
 -- Work that a thread begins fits it: it weighs nothing, finalises nothing, and knows what it has to know.
-use Rattle.std.proofs.Common.{◌≡◌, ◌≢◌, ℕ, zero, suc, ◌<◌, true, false, List, [], ◌∷◌, Some, refl, sym, ap, ◌∙◌, subst, arith, None, Option}
-use Rattle.std.specs.Prelude.{count_by, slice_get, sum_by}
-use Rattle.std.proofs.lemmas.Bool.{false≢true}
+use Rattle.std.proofs.Common.{◌≡◌, ℕ, zero, suc, ◌<◌, true, List, [], ◌∷◌, Some, refl, sym, ap, arith}
+use Rattle.std.specs.Prelude.{count_by, sum_by}
 use Rattle.std.proofs.lemmas.List.Sums.{sum_by-cons}
-use Rattle.brc_lang.specs.declared.module.Function.{Function}
-use Rattle.brc_lang.specs.declared.module.Module.{Module}
-use Rattle.brc_model.specs.AbstractState.{Reference}
-use Rattle.brc_model.specs.Threads.{code_of}
 use Rattle.brc_model.specs.declared.duty.Duty.{Duty}
-use Rattle.brc_model.specs.declared.duty.Duty.TheVariants.{RetainLoad, ReleaseLoad, Settle, Leave, ClaimMark, BirthKind, KindLoad, LockGate, UnlockGate, CellLoad, CellSwap}
-use Rattle.brc_model.specs.declared.actor.Status.{Status}
-use Rattle.brc_model.specs.declared.actor.Status.TheVariants.{Running, Leaving, Gone}
+use Rattle.brc_model.specs.declared.duty.Duty.TheVariants.{RetainLoad, ReleaseLoad, Settle, Leave, BirthKind, KindLoad, LockGate, UnlockGate, CellLoad, CellSwap}
+use Rattle.brc_model.specs.declared.actor.Status.TheVariants.{Running}
 use Rattle.brc_model.specs.declared.actor.Place.{Place}
-use Rattle.brc_model.specs.declared.actor.Place.TheVariants.{Exiting}
-use Rattle.brc_model.specs.Machine.{Actor, Machine, with_actor, locked_by}
-use Rattle.brc_model.specs.Actions.{StepActor, dispatch, agenda_action}
-use Rattle.brc_model.specs.StepMachine.{StepMachine, counting}
+use Rattle.brc_model.specs.Machine.{Actor, Machine, with_actor}
 use Rattle.brc_model.specs.RowInvariant.{waits, carries, merges, decides}
-use Rattle.brc_model.specs.Accounts.{Account, Accounts, HoldsAt, HoldsNone, IsBounded, lacks}
+use Rattle.brc_model.specs.Accounts.{Account, Accounts, HoldsNone, IsBounded, lacks}
 use Rattle.brc_model.specs.Gates.{LocksFit}
 use Rattle.brc_model.specs.References.{one_if}
 use Rattle.brc_model.specs.declared.duty.Holding.{Holding}
 use Rattle.brc_model.proofs.Dispatch.Guards.{HeldBeside}
-use Rattle.brc_model.specs.OpenWork.{Later, Agenda, AgendaFits, finalised, has_leave, exits, IsSettled}
-use Rattle.brc_model.specs.Invariant.{looks, CoreInvariant}
+use Rattle.brc_model.specs.OpenWork.{Later, Agenda, finalised, has_leave, exits, IsSettled}
+use Rattle.brc_model.specs.Invariant.{looks}
 use Rattle.brc_model.specs.Knowledge.{AllBehind, IsBacked, IsNext, ByReference, ByItem, HeadOf, is_retain}
-use Rattle.brc_model.proofs.Frame.Aside.{HoldsAlone, holds_alone, alone_holds, alone_fits}
-use Rattle.brc_model.proofs.Dispatch.Coded.{PlaceSays, InCode, is_departing, departing_is, stays_elsewhere, place_fits, placed_by, exited_none, says_bounded}
-use Rattle.brc_model.proofs.Dispatch.Begins.{Scene, scene_of, Backs, ByOwn, ByList, Starts, Gives, Takes, Bears, Asks, Locks, Unlocks, Loads, Swaps, Follows, Nothing, Settles, Leaves, Taken, IsTaken}
-use Rattle.brc_model.proofs.Basics.Lists.{none_some}
+use Rattle.brc_model.proofs.Frame.Aside.{HoldsAlone, holds_alone, alone_fits}
+use Rattle.brc_model.proofs.Dispatch.Coded.{is_departing, stays_elsewhere}
+use Rattle.brc_model.proofs.Dispatch.Begins.{Scene, scene_of, Backs, ByOwn, ByList, Starts, Gives, Takes, Bears, Asks, Locks, Unlocks, Loads, Swaps, Follows, Nothing, Settles, Leaves}
 use Rattle.brc_model.proofs.Dispatch.AtOnce.{at_once}
-use Rattle.brc_model.proofs.Dispatch.Taking.{SeesKinds, dispatch_taken}
 use Rattle.brc_model.proofs.Keeping.Sits.{Sits, AtRest, sitting}
 use Rattle.brc_model.specs.declared.layout.Layout.{Layout}
 use Rattle.brc_model.proofs.Basics.Blocks.{thread_there}
-use Rattle.brc_model.specs.Layout.{block_of, block_size, row_at}
+use Rattle.brc_model.specs.Layout.{block_size, row_at}
 
 -- A thread with room for a row is a worker, since main has used all its rows.
 next_is : (p : Accounts) (n : ℕ) (m : Machine) (t : ℕ) (a : Actor) (agenda : List Duty)
@@ -252,13 +241,12 @@ begun_knows p n m t a d rest at alone (Bears h w room few said) =
 begun_knows p n m t a d rest at alone (Asks row backs) = backs_duty m t a (d ∷ rest) row backs
 begun_knows p n m t a d rest at alone (Locks row backs counted none) =
     (counted, backs_duty m t a (d ∷ rest) row backs, none)
-begun_knows p n m t a d rest at alone (Unlocks row backs has) =
-    (
-      ((at.core.each t a at.found).0.locks row has).counted,
-      backs_duty m t a (d ∷ rest) row backs,
-      has,
-      ap (count_by is_retain) alone,
-    )
+begun_knows p n m t a d rest at alone (Unlocks row backs has) = (
+  ((at.core.each t a at.found).0.locks row has).counted,
+  backs_duty m t a (d ∷ rest) row backs,
+  has,
+  ap (count_by is_retain) alone,
+)
 begun_knows p n m t a d rest at alone (Loads row i backs has within) =
     (((at.core.each t a at.found).0.locks row has).counted, backs_duty m t a (d ∷ rest) row backs, has, within)
 begun_knows p n m t a d rest at alone (Swaps row i item h behind backs has within some) = (has, within)
@@ -339,4 +327,3 @@ starts_settled g head place d rest (Loads row i backs has within) follows = tt
 starts_settled g head place d rest (Swaps row i item h behind backs has within some) (Nothing stays) = tt
 starts_settled g head place d rest (Swaps row i item h behind backs has within some) (Settles stays) = tt
 starts_settled g head place d rest (Swaps row i item h behind backs has within some) (Leaves leaves) = (refl, tt)
-

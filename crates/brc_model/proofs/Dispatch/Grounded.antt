@@ -17,12 +17,9 @@ use Rattle.brc_model.specs.Slots.{slot_of, is_empty, is_owned, is_borrowed, with
 use Rattle.brc_model.specs.Paths.{At, path_end}
 use Rattle.brc_model.specs.declared.duty.Holding.{Holding}
 use Rattle.brc_model.specs.declared.duty.Holding.TheVariants.{ByVariable, AsCaller, InFlight}
-use Rattle.brc_model.specs.AbstractState.{Reference, references_to}
 use Rattle.brc_model.specs.Threads.{row_of, entry_variables}
 use Rattle.brc_model.proofs.Basics.Lists.{get_or-replicate_default}
-use Rattle.brc_model.proofs.Basics.Bag.{held-le-references_to}
-use Rattle.brc_model.specs.References.{held, reference_of}
-use Rattle.brc_model.proofs.Dispatch.Holds.{of_variables, Holds, owned_has, caller_has}
+use Rattle.brc_model.proofs.Dispatch.Holds.{of_variables}
 use Rattle.brc_model.specs.Layout.{root_row}
 
 -- What a slot says of the row in its variable.

@@ -1,13 +1,13 @@
 -- What a thread of accepted code takes up fits it: its account is then the one of the place where it is.
-use Rattle.std.proofs.Common.{◌≡◌, ◌≢◌, ℕ, zero, suc, ◌<◌, true, false, List, [], ◌∷◌, Some, refl, sym, ap, ◌∙◌, subst, arith, None, Option}
-use Rattle.std.specs.Prelude.{slice_get, sum_by}
+use Rattle.std.proofs.Common.{◌≡◌, ◌≢◌, ℕ, false, List, [], ◌∷◌, Some, refl, sym, ap, ◌∙◌, subst, None, Option}
+use Rattle.std.specs.Prelude.{slice_get}
 use Rattle.std.proofs.lemmas.Bool.{false≢true}
 use Rattle.std.proofs.lemmas.List.Sums.{sum_by-cons}
 use Rattle.brc_lang.specs.declared.module.Function.{Function}
 use Rattle.brc_lang.specs.declared.module.Module.{Module}
 use Rattle.brc_model.specs.Threads.{code_of}
 use Rattle.brc_model.specs.declared.duty.Duty.{Duty}
-use Rattle.brc_model.specs.declared.duty.Duty.TheVariants.{RetainLoad, ReleaseLoad, Settle, Leave, ClaimMark, BirthKind, KindLoad, LockGate, UnlockGate}
+use Rattle.brc_model.specs.declared.duty.Duty.TheVariants.{ClaimMark}
 use Rattle.brc_model.specs.declared.actor.Status.{Status}
 use Rattle.brc_model.specs.declared.actor.Status.TheVariants.{Running, Leaving, Gone}
 use Rattle.brc_model.specs.declared.actor.Place.{Place}
@@ -16,25 +16,17 @@ use Rattle.brc_model.specs.Machine.{Actor, Machine, with_actor, locked_by}
 use Rattle.brc_model.specs.Actions.{StepActor, dispatch, agenda_action}
 use Rattle.brc_model.specs.StepMachine.{StepMachine, counting}
 use Rattle.brc_model.specs.RowInvariant.{waits, carries, merges, decides}
-use Rattle.brc_model.specs.Accounts.{Account, Accounts, HoldsAt, HoldsNone, IsBounded, lacks}
-use Rattle.brc_model.specs.Gates.{LocksFit}
-use Rattle.brc_model.specs.References.{one_if}
-use Rattle.brc_model.specs.declared.duty.Holding.{Holding}
-use Rattle.brc_model.proofs.Dispatch.Guards.{HeldBeside}
-use Rattle.brc_model.specs.OpenWork.{Later, Agenda, AgendaFits, finalised, has_leave, exits, IsSettled}
+use Rattle.brc_model.specs.Accounts.{Account, Accounts, HoldsAt}
+use Rattle.brc_model.specs.OpenWork.{Agenda, AgendaFits, has_leave, exits}
 use Rattle.brc_model.specs.Invariant.{looks, CoreInvariant}
-use Rattle.brc_model.specs.Knowledge.{AllBehind, IsNext, ByReference, HeadOf}
-use Rattle.brc_model.proofs.Frame.Aside.{HoldsAlone, holds_alone, alone_holds, alone_fits}
+use Rattle.brc_model.proofs.Frame.Aside.{HoldsAlone, alone_holds, alone_fits}
 use Rattle.brc_model.proofs.Dispatch.Begun.{starts_leave, follows_leave, starts_sit}
-use Rattle.brc_model.proofs.Dispatch.Coded.{PlaceSays, InCode, is_departing, departing_is, stays_elsewhere, place_fits, placed_by, exited_none, says_bounded}
-use Rattle.brc_model.proofs.Dispatch.Begins.{Scene, scene_of, Starts, Gives, Takes, Bears, Asks, Locks, Unlocks, Follows, Nothing, Settles, Leaves, Taken, IsTaken}
+use Rattle.brc_model.proofs.Dispatch.Coded.{PlaceSays, InCode, is_departing, departing_is, place_fits, placed_by, exited_none, says_bounded}
+use Rattle.brc_model.proofs.Dispatch.Begins.{scene_of, Taken, IsTaken}
 use Rattle.brc_model.proofs.Basics.Lists.{none_some}
-use Rattle.brc_model.proofs.Dispatch.AtOnce.{at_once}
 use Rattle.brc_model.proofs.Dispatch.Taking.{SeesKinds, dispatch_taken}
 use Rattle.brc_model.proofs.Keeping.Sits.{Sits, AtRest, sitting}
-use Rattle.brc_model.specs.declared.layout.Layout.{Layout}
-use Rattle.brc_model.proofs.Basics.Blocks.{thread_there}
-use Rattle.brc_model.specs.Layout.{block_of, block_size, row_at}
+use Rattle.brc_model.specs.Layout.{block_of}
 
 -- The account of the place where the thread then is, with which the work fits the thread.
 pub record TakenSits (p : Module) (m : Machine) (t : ℕ) (a : StepActor) (place : Place) (locked : Option ℕ)

@@ -1,11 +1,10 @@
 -- What a thread inside `borrow` or `fetch` takes up meets its condition, and what a thread inside an instruction that
 -- uses a cell knows.
-use Rattle.std.proofs.Common.{◌≡◌, ◌≢◌, ℕ, suc, ◌+◌, ◌<◌, Bool, true, false, List, [], ◌∷◌, ◌++◌, length, Option, None, Some, refl, sym, ap, ◌∙◌, subst, arith, inl, inr}
-use Rattle.std.specs.Prelude.{◌==◌, ◌&&◌, slice_get, slice_set}
-use Rattle.std.proofs.lemmas.Bool.{eq-eqb}
+use Rattle.std.proofs.Common.{◌≡◌, ℕ, suc, ◌+◌, ◌<◌, true, false, List, [], ◌∷◌, ◌++◌, length, Option, None, Some, refl, ap, ◌∙◌, arith, inl, inr}
+use Rattle.std.specs.Prelude.{◌==◌, ◌&&◌, slice_set}
 use Rattle.std.proofs.lemmas.List.{length-set, length-map}
 use Rattle.brc_lang.specs.declared.module.Instr.{Instr}
-use Rattle.brc_lang.specs.declared.module.Instr.TheVariants.{Borrow, Fetch, Set, Put}
+use Rattle.brc_lang.specs.declared.module.Instr.TheVariants.{Borrow, Fetch}
 use Rattle.brc_lang.specs.declared.kind.Kind.TheVariants as kinds
 use Rattle.brc_model.specs.declared.slot.Slot.{Slot}
 use Rattle.brc_model.specs.declared.slot.Slot.TheVariants.{Empty, Owned, Locked}
@@ -13,31 +12,28 @@ use Rattle.brc_model.specs.declared.slot.State.{State}
 use Rattle.brc_model.specs.declared.slot.Exit.{Exit}
 use Rattle.brc_model.specs.declared.slot.Exit.TheVariants.{Success, Fault}
 use Rattle.brc_model.specs.declared.duty.Holding.{Holding}
-use Rattle.brc_model.specs.declared.duty.Holding.TheVariants.{ByVariable, AsCaller, InFlight}
+use Rattle.brc_model.specs.declared.duty.Holding.TheVariants.{ByVariable, InFlight}
 use Rattle.brc_model.specs.declared.duty.Duty.{Duty}
-use Rattle.brc_model.specs.declared.duty.Duty.TheVariants.{RetainLoad, ReleaseLoad, Settle, CellLoad, CellSwap}
+use Rattle.brc_model.specs.declared.duty.Duty.TheVariants.{RetainLoad, CellLoad, CellSwap}
 use Rattle.brc_model.specs.declared.actor.Place.{Place}
-use Rattle.brc_model.specs.declared.actor.Place.TheVariants.{InCall, Inside, Exiting}
+use Rattle.brc_model.specs.declared.actor.Place.TheVariants.{InCall, Inside}
 use Rattle.brc_model.specs.declared.actor.Stage.{Stage}
-use Rattle.brc_model.specs.declared.actor.Stage.TheVariants.{InRange, OutOfRange, Found, Retained}
+use Rattle.brc_model.specs.declared.actor.Stage.TheVariants.{InRange, Found}
 use Rattle.brc_model.specs.Slots.{slot_of, is_empty, is_owned, names, put, without_item, without_items}
 use Rattle.brc_model.specs.Paths.{At, path_end}
 use Rattle.brc_model.specs.Threads.{row_of}
 use Rattle.brc_model.specs.Duties.{cells_of}
-use Rattle.brc_model.specs.AbstractState.{Reference, same_holding, references_to}
+use Rattle.brc_model.specs.AbstractState.{same_holding}
 use Rattle.brc_model.specs.Accounts.{extra}
-use Rattle.brc_model.specs.References.{held, one_if, reference_of}
-use Rattle.brc_model.specs.Actions.{Does, always, with_row, by_item, dispatch_inside}
-use Rattle.brc_model.proofs.Basics.Bag.{held-le-references_to}
-use Rattle.brc_model.proofs.Basics.Lists.{first_false, second_false, not_false}
-use Rattle.brc_model.proofs.Stepping.Counts.{flip_eqb}
-use Rattle.brc_model.proofs.Frame.Aside.{HoldsAlone}
+use Rattle.brc_model.specs.References.{one_if}
+use Rattle.brc_model.specs.Actions.{Does, by_item, dispatch_inside}
+use Rattle.brc_model.proofs.Basics.Lists.{first_false, not_false}
 use Rattle.brc_model.proofs.Dispatch.Holds.{of_variables, of_inside, inside_none, Holds, HoldsVariables, holds_inside}
-use Rattle.brc_model.proofs.Dispatch.Grounded.{IsGrounded, IsInside, owned_slot, owned_row, grounded-put, grounded-without, says-without}
-use Rattle.brc_model.proofs.Dispatch.Guards.{HeldLocked, HeldBeside, guards-put, guards-without, guards_row, guards_held, gives_keeps}
-use Rattle.brc_model.proofs.Dispatch.Coded.{once_each, in_flight}
-use Rattle.brc_model.proofs.Dispatch.Begins.{Scene, words_of, StandsInside, Backs, ByOwn, ByList, Gives, Takes, Loads, Swaps, Nothing, Settles, Taken, IsTaken, taken_with_row, in_call_stays, inside_stays, newref_held, emptied_held, unowned_held, cleared_held}
-use Rattle.brc_model.proofs.Dispatch.Standing.{Named, named_slot, given_referenced}
+use Rattle.brc_model.proofs.Dispatch.Grounded.{IsGrounded, IsInside, grounded-put, grounded-without}
+use Rattle.brc_model.proofs.Dispatch.Guards.{HeldLocked, HeldBeside, guards-put, guards_row, guards_held}
+use Rattle.brc_model.proofs.Dispatch.Coded.{in_flight}
+use Rattle.brc_model.proofs.Dispatch.Begins.{Scene, words_of, StandsInside, Backs, ByList, Takes, Loads, Nothing, Taken, IsTaken, taken_with_row, in_call_stays, inside_stays, newref_held, unowned_held, cleared_held}
+use Rattle.brc_model.proofs.Dispatch.Standing.{Named, named_slot}
 use Rattle.brc_model.proofs.Dispatch.Decided.{item_decides}
 use Rattle.brc_model.proofs.Dispatch.TakingItems.{inside_fits, holds_nothing_in_flight}
 

@@ -1,15 +1,13 @@
 -- The first step of each instruction that uses a cell of the locked list meets its condition: it loads the list's kind
 -- word, which says whether the list has the cell.
-use Rattle.std.proofs.Common.{◌≡◌, ◌≢◌, ℕ, ◌+◌, ◌<◌, Bool, true, false, cond, List, [], ◌∷◌, ◌++◌, length, Option, None, Some, refl, sym, ap, ◌∙◌, subst, arith}
-use Rattle.std.specs.Prelude.{◌==◌, ◌&&◌, nat_lt, slice_get, slice_set}
+use Rattle.std.proofs.Common.{◌≡◌, ◌≢◌, ℕ, ◌<◌, true, false, List, [], ◌∷◌, ◌++◌, length, Option, None, Some, refl, sym, ap, ◌∙◌, subst, arith}
+use Rattle.std.specs.Prelude.{nat_lt, slice_get, slice_set}
 use Rattle.std.proofs.lemmas.List.{length-set, length-map}
 use Rattle.brc_lang.specs.declared.module.Instr.{Instr}
 use Rattle.brc_lang.specs.declared.module.Instr.TheVariants.{Borrow, Fetch, Set, Put}
-use Rattle.brc_model.specs.declared.slot.Slot.{Slot}
 use Rattle.brc_model.specs.declared.slot.Slot.TheVariants.{Empty}
 use Rattle.brc_model.specs.declared.slot.State.{State}
-use Rattle.brc_model.specs.declared.slot.Exit.TheVariants.{Success, Fault}
-use Rattle.brc_model.specs.declared.duty.Holding.{Holding}
+use Rattle.brc_model.specs.declared.slot.Exit.TheVariants.{Fault}
 use Rattle.brc_model.specs.declared.duty.Duty.{Duty}
 use Rattle.brc_model.specs.declared.duty.Duty.TheVariants.{KindLoad}
 use Rattle.brc_model.specs.declared.actor.Place.{Place}
@@ -21,13 +19,13 @@ use Rattle.brc_model.specs.Paths.{At, path_end}
 use Rattle.brc_model.specs.Threads.{row_of}
 use Rattle.brc_model.specs.Duties.{cells_of}
 use Rattle.brc_model.specs.AbstractState.{Reference}
-use Rattle.brc_model.specs.References.{held, one_if, reference_of}
+use Rattle.brc_model.specs.References.{one_if}
 use Rattle.brc_model.specs.Actions.{Does, with_row, by_range, dispatch_instruction}
 use Rattle.brc_model.proofs.Basics.Lists.{either, first_false, second_false, some_is}
 use Rattle.brc_model.proofs.Frame.Aside.{HoldsAlone}
 use Rattle.brc_model.proofs.Dispatch.Holds.{of_variables, of_inside, inside_none, Holds}
 use Rattle.brc_model.proofs.Dispatch.Grounded.{IsInside, grounded-put, grounded-without, says-without}
-use Rattle.brc_model.proofs.Dispatch.Guards.{LocksAgree, HeldBeside, guards-put, guards-without}
+use Rattle.brc_model.proofs.Dispatch.Guards.{LocksAgree, guards-put, guards-without}
 use Rattle.brc_model.proofs.Dispatch.Coded.{once_each, has_stage, in_flight, PlaceFits}
 use Rattle.brc_model.proofs.Dispatch.Begins.{Scene, StandsAt, Backs, Asks, Nothing, Taken, IsTaken, taken_with_row, in_call_stays, inside_stays, cleared_held}
 use Rattle.brc_model.proofs.Dispatch.Standing.{named_at, keeps_all}
@@ -42,13 +40,13 @@ pub inside_fits : (code : List Instr) (bag : List Reference) (t : ℕ) (agenda :
     → HoldsAlone bag t (once_each (of_inside flight s variables)) agenda
     → PlaceFits code bag t agenda locked (Inside left at variables stage)
 inside_fits code bag t agenda locked left at variables s stage i flight found is staged inside guards holds = (
-    s,
-    inside,
-    guards,
-    subst (λ (o : Option Instr). HoldsAlone bag t (once_each (of_inside (in_flight o stage variables) s variables)) agenda)
-        (sym found)
-        (subst (λ (f : Option ℕ). HoldsAlone bag t (once_each (of_inside f s variables)) agenda) (sym is) holds),
-    ap (λ (o : Option Instr). has_stage o stage) found ∙ staged,
+  s,
+  inside,
+  guards,
+  subst (λ (o : Option Instr). HoldsAlone bag t (once_each (of_inside (in_flight o stage variables) s variables)) agenda)
+      (sym found)
+      (subst (λ (f : Option ℕ). HoldsAlone bag t (once_each (of_inside f s variables)) agenda) (sym is) holds),
+  ap (λ (o : Option Instr). has_stage o stage) found ∙ staged,
 )
 
 -- A thread that has made no reference for a cell holds what its variables own.

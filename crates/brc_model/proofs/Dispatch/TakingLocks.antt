@@ -1,8 +1,7 @@
 -- A lock and an unlock that a thread of accepted code takes up meet their condition.
-use Rattle.std.proofs.Common.{◌≡◌, ◌≢◌, ℕ, ◌+◌, true, false, List, [], ◌∷◌, ◌++◌, Option, None, Some, refl, sym, ap, ◌∙◌, subst, arith, Bool, cond}
-use Rattle.std.specs.Prelude.{◌==◌, ◌&&◌, not}
+use Rattle.std.proofs.Common.{◌≡◌, ◌≢◌, ℕ, ◌+◌, true, false, List, [], ◌∷◌, ◌++◌, Option, None, Some, refl, sym, ap, ◌∙◌, arith, cond}
+use Rattle.std.specs.Prelude.{◌==◌}
 use Rattle.std.proofs.lemmas.List.{length-map}
-use Rattle.std.proofs.Math.ListN.{get_or-map}
 use Rattle.brc_lang.specs.declared.module.Instr.{Instr}
 use Rattle.brc_lang.specs.declared.module.Instr.TheVariants.{Lock, Unlock}
 use Rattle.brc_word.specs.Words.{free_word}
@@ -15,7 +14,7 @@ use Rattle.brc_model.specs.declared.duty.Holding.TheVariants.{ByVariable, AsCall
 use Rattle.brc_model.specs.declared.duty.Duty.TheVariants.{LockGate, UnlockGate}
 use Rattle.brc_model.specs.declared.actor.Place.{Place}
 use Rattle.brc_model.specs.declared.actor.Place.TheVariants.{InCall, Exiting}
-use Rattle.brc_model.specs.Slots.{slot_of, is_empty, is_owned, kind_of, names, without_item, without_items, with_lock, is_one_of, lockable}
+use Rattle.brc_model.specs.Slots.{slot_of, is_empty, kind_of, names, without_item, without_items, with_lock, is_one_of, lockable}
 use Rattle.brc_model.specs.Threads.{row_of}
 use Rattle.brc_model.specs.References.{one_if}
 use Rattle.brc_model.specs.Actions.{Does, always, dispatch_instruction}
@@ -23,7 +22,7 @@ use Rattle.brc_model.specs.Items.{borrows_item}
 use Rattle.brc_model.proofs.Basics.Lists.{first_false, none_some, not_false}
 use Rattle.brc_model.proofs.Frame.Aside.{HoldsAlone}
 use Rattle.brc_model.proofs.Dispatch.Holds.{of_variables}
-use Rattle.brc_model.proofs.Dispatch.Grounded.{IsGrounded, IsInside, grounded-without, says-without}
+use Rattle.brc_model.proofs.Dispatch.Grounded.{IsInside, grounded-without, says-without}
 use Rattle.brc_model.proofs.Dispatch.Guards.{is_kept, guards_none, guards_row}
 use Rattle.brc_model.proofs.Dispatch.Coded.{once_each, PlaceFits, fits_with}
 use Rattle.brc_model.proofs.Dispatch.Lockable.{lockable_word}

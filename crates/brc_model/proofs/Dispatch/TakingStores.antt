@@ -1,44 +1,33 @@
 -- What a thread inside `set` or `put` takes up meets its condition, and so whatever a thread inside an instruction does.
-use Rattle.std.proofs.Common.{◌≡◌, ◌≢◌, ℕ, zero, suc, ◌+◌, ◌<◌, Bool, true, false, List, [], ◌∷◌, ◌++◌, length, Option, None, Some, refl, sym, ap, ◌∙◌, subst, arith}
-use Rattle.std.specs.Prelude.{◌==◌, ◌&&◌, slice_get, slice_set}
+use Rattle.std.proofs.Common.{◌≡◌, ℕ, ◌+◌, ◌<◌, true, false, List, [], ◌∷◌, length, Option, None, Some, refl, ap, ◌∙◌, subst, arith}
+use Rattle.std.specs.Prelude.{◌==◌, ◌&&◌, slice_set}
 use Rattle.std.proofs.lemmas.Bool.{eq-eqb}
-use Rattle.std.proofs.lemmas.List.{length-set, length-map}
 use Rattle.brc_lang.specs.declared.module.Instr.{Instr}
 use Rattle.brc_lang.specs.declared.module.Instr.TheVariants.{Borrow, Fetch, Set, Put}
-use Rattle.brc_lang.specs.declared.kind.Kind.TheVariants as kinds
-use Rattle.brc_model.specs.declared.slot.Slot.{Slot}
-use Rattle.brc_model.specs.declared.slot.Slot.TheVariants.{Empty, Owned, Locked}
+use Rattle.brc_model.specs.declared.slot.Slot.TheVariants.{Empty}
 use Rattle.brc_model.specs.declared.slot.State.{State}
-use Rattle.brc_model.specs.declared.slot.Exit.{Exit}
 use Rattle.brc_model.specs.declared.slot.Exit.TheVariants.{Success, Fault}
 use Rattle.brc_model.specs.declared.duty.Holding.{Holding}
 use Rattle.brc_model.specs.declared.duty.Holding.TheVariants.{ByVariable, AsCaller, InFlight}
-use Rattle.brc_model.specs.declared.duty.Duty.{Duty}
-use Rattle.brc_model.specs.declared.duty.Duty.TheVariants.{RetainLoad, ReleaseLoad, Settle, CellLoad, CellSwap}
-use Rattle.brc_model.specs.declared.actor.Place.{Place}
-use Rattle.brc_model.specs.declared.actor.Place.TheVariants.{InCall, Inside, Exiting}
+use Rattle.brc_model.specs.declared.duty.Duty.TheVariants.{RetainLoad, ReleaseLoad, Settle, CellSwap}
+use Rattle.brc_model.specs.declared.actor.Place.TheVariants.{InCall, Inside}
 use Rattle.brc_model.specs.declared.actor.Stage.{Stage}
 use Rattle.brc_model.specs.declared.actor.Stage.TheVariants.{InRange, OutOfRange, Found, Retained}
-use Rattle.brc_model.specs.Slots.{slot_of, is_empty, is_owned, names, put, without_item, without_items}
-use Rattle.brc_model.specs.Paths.{At, path_end}
+use Rattle.brc_model.specs.Slots.{slot_of, is_empty, is_owned, names, put, without_items}
 use Rattle.brc_model.specs.Threads.{row_of}
-use Rattle.brc_model.specs.Duties.{cells_of}
-use Rattle.brc_model.specs.AbstractState.{Reference, same_holding, references_to}
-use Rattle.brc_model.specs.Accounts.{extra}
+use Rattle.brc_model.specs.AbstractState.{same_holding, references_to}
 use Rattle.brc_model.specs.References.{held, one_if, reference_of}
-use Rattle.brc_model.specs.Actions.{Does, always, with_row, by_item, dispatch_inside}
+use Rattle.brc_model.specs.Actions.{Does, always, with_row, dispatch_inside}
 use Rattle.brc_model.proofs.Basics.Bag.{held-le-references_to}
 use Rattle.brc_model.proofs.Basics.Lists.{first_false, second_false, not_false}
 use Rattle.brc_model.proofs.Stepping.Counts.{flip_eqb}
-use Rattle.brc_model.proofs.Frame.Aside.{HoldsAlone}
-use Rattle.brc_model.proofs.Dispatch.Holds.{of_variables, of_inside, inside_none, Holds, HoldsVariables, holds_inside}
-use Rattle.brc_model.proofs.Dispatch.Grounded.{IsGrounded, IsInside, owned_slot, owned_row, grounded-put, grounded-without, says-without}
-use Rattle.brc_model.proofs.Dispatch.Guards.{HeldLocked, HeldBeside, guards-put, guards-without, guards_row, guards_held, gives_keeps}
-use Rattle.brc_model.proofs.Dispatch.Coded.{once_each, in_flight}
-use Rattle.brc_model.proofs.Dispatch.Begins.{Scene, StandsInside, Gives, Takes, Loads, Swaps, Nothing, Settles, Taken, IsTaken, taken_with_row, in_call_stays, inside_stays, newref_held, emptied_held, unowned_held, cleared_held}
-use Rattle.brc_model.proofs.Dispatch.Standing.{Named, named_slot, given_referenced}
-use Rattle.brc_model.proofs.Dispatch.TakingItems.{inside_fits, holds_nothing_in_flight}
-
+use Rattle.brc_model.proofs.Dispatch.Holds.{of_variables, of_inside, Holds}
+use Rattle.brc_model.proofs.Dispatch.Grounded.{owned_slot, owned_row, says-without}
+use Rattle.brc_model.proofs.Dispatch.Guards.{guards-put, guards-without, gives_keeps}
+use Rattle.brc_model.proofs.Dispatch.Coded.{in_flight}
+use Rattle.brc_model.proofs.Dispatch.Begins.{Scene, StandsInside, Gives, Takes, Swaps, Nothing, Settles, Taken, IsTaken, taken_with_row, in_call_stays, inside_stays, emptied_held}
+use Rattle.brc_model.proofs.Dispatch.Standing.{given_referenced}
+use Rattle.brc_model.proofs.Dispatch.TakingItems.{inside_fits}
 use Rattle.brc_model.proofs.Dispatch.TakingInside.{holds_still, named_inside, lock_inside, all_kept, flight_kept, uses_locked, next_without, next_given, borrow_inside, fetch_inside, found_inside}
 
 module _ (code : List Instr) (g : Scene) (left at : ℕ) (rows : List (Option ℕ)) (s : State) where

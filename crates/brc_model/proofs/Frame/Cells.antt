@@ -17,12 +17,11 @@ use Rattle.brc_model.specs.Moves.{reference_effects, take_out, put_in}
 use Rattle.brc_model.specs.References.{held, one_if, reference_of, word_holds, cell_reference}
 use Rattle.brc_model.specs.Accounts.{Accounts}
 use Rattle.brc_model.specs.Knowledge.{IsEmptyBut, IsEmpty}
-use Rattle.brc_model.specs.Invariant.{AtDuty, CoreInvariant}
+use Rattle.brc_model.specs.Invariant.{AtDuty}
 use Rattle.brc_model.proofs.Basics.Bag.{same_holding-refl, held-cons, held-without, held_has, references_to-cons, references_to-without}
 use Rattle.brc_model.proofs.Basics.MovesApart.{held-without_apart, moves_off_cell}
 use Rattle.brc_model.proofs.Basics.Lists.{and_first, and_second}
 use Rattle.brc_model.proofs.Basics.Written.{zero_written, written_here, written_load}
-use Rattle.brc_model.proofs.Frame.CellsHeld.{cell_held}
 use Rattle.brc_model.proofs.Frame.Leaves.{head_of, gives_held, locked_alive}
 
 -- ---- words

@@ -8,11 +8,10 @@ use Rattle.brc_word.specs.Words.{kind_part}
 use Rattle.brc_model.specs.Kinds.{kind_number, kind_numbered, kind_of_word, is_counted_kind}
 use Rattle.brc_model.specs.AbstractState.{AbstractState, Move, Born, move, moved}
 use Rattle.brc_model.specs.declared.duty.Duty.{Duty}
-use Rattle.brc_model.specs.declared.duty.Duty.TheVariants.{SettleKind, BirthKind, BirthLocal, KindLoad}
+use Rattle.brc_model.specs.declared.duty.Duty.TheVariants.{BirthLocal}
 use Rattle.brc_model.specs.declared.address.Address.TheVariants.{KindOf}
 use Rattle.brc_model.specs.Machine.{Actor, Unborn, Machine, born_row, done_by}
 use Rattle.brc_model.specs.Moves.{reference_effects}
-use Rattle.brc_model.proofs.Basics.Written.{written_apart, written_load}
 use Rattle.brc_model.proofs.Basics.Blocks.{next_unborn}
 use Rattle.brc_model.proofs.Frame.Items.{word_stays}
 use Rattle.brc_model.proofs.Frame.Leaves.{head_of}
