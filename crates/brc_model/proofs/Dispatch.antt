@@ -2,12 +2,13 @@
 --
 -- In order: `Holds`, `Passing` and `Grounded` (what a thread's variables hold at a point that a path reaches), `AtOnce`
 -- (no agenda locks, unlocks or swaps a cell), `Guards` (what the state says is locked), `Coded` (a thread's lock and
--- account are those of its place), `Decided` (the place that a word found decides), `Kinds` and `KindsLeft` (instruction
--- by instruction, variables have the kinds that the checker says), `Items`, `ItemsLeft` and `ItemsActions` (instruction
--- by instruction, what is borrowed stands in the locked list), `Begins` (what a thread takes up), `Lockable` and
--- `Standing` (what it knows at an instruction), `TakingSilent`, `TakingBirths`, `TakingLocks`, `TakingItems`,
--- `TakingInside`, `TakingStores` and `Taking` (instruction by instruction), `Begun` and `TakenSits`, `Claims`,
--- `Counting` (the counting machine below), `Actions`, which has the theorem, and `Fit` (an instruction has what it needs).
+-- account are those of its place), `Decided` (the place that a word found decides), `Kinds` and `KindsLeft`
+-- (instruction by instruction, variables have the kinds that the checker says), `Items`, `ItemsLeft` and `ItemsActions`
+-- (instruction by instruction, what is borrowed is in the locked list), `Begins` (what a thread takes up),
+-- `Lockable` and `Standing` (what it knows at an instruction), `TakingSilent`, `TakingBirths`, `TakingLocks`,
+-- `TakingItems`, `TakingInside`, `TakingStores` and `Taking` (instruction by instruction), `Begun` and `TakenSits`,
+-- `Claims`, `Counting` (the counting machine below), `Actions`, which has the theorem, and `Fit` (an instruction has
+-- what it needs).
 
 pub mod Holds
 pub mod Passing

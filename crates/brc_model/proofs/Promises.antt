@@ -1,10 +1,10 @@
 -- What is promised of an accepted module (`Safe.accepted_is_safe`) and of each event follows from the invariant.
 --
 -- In order: `Agreeing`; `Safe`, over `Keeping/StepCases`; `Counting`, the laws of the counting machine; `StatesRise` to
--- `ClosedOnce`; `Gates`, `Births`, `MarksWatched`, `KindWords` and `CellsUnderLock`; `RowLaws`, which extends these laws to
--- every list of events; `KnownKinds` and `BorrowedItems`, what the checker says of kinds and of borrowed items; then the
--- laws of the world: `Worlds`, `AgendaMoves`, `Emptied`, `Elsewhere`, `StepsMove`, `LocksWait`, `Trace`. `Rules` proves that
--- the named rules are the steps. `Worked` computes three schedules.
+-- `ClosedOnce`; `Gates`, `Births`, `MarksWatched`, `KindWords` and `CellsUnderLock`; `RowLaws`, which extends these
+-- laws to every list of events; `KnownKinds` and `BorrowedItems`, what the checker says of kinds and of borrowed items;
+-- then the laws of the world: `Worlds`, `AgendaMoves`, `Emptied`, `Elsewhere`, `StepsMove`, `LocksWait`, `Trace`.
+-- `Rules` proves that the named rules are the steps. `Worked` computes three schedules.
 
 pub mod Agreeing
 pub mod Safe

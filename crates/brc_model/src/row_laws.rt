@@ -100,7 +100,7 @@ pub fn variables_have_their_kinds()
     ensures { (m : Module) → IsModule m → IsAcceptable m → Always KindsAreKnown m }
 {}
 
-/// States that each borrowed item stands in a cell of the list that its thread has locked, in each state in which paths
+/// States that each borrowed item is in a cell of the list that its thread has locked, in each state in which paths
 /// reach the thread's point, and that a thread inside an instruction uses a cell that the list has.
 pub fn borrowed_items_stay()
     ensures { (m : Module) → IsModule m → IsAcceptable m → Always ItemsAreThere m }

@@ -1,5 +1,5 @@
--- The word that a duty finds may decide where the thread goes on: what holds of each place that it may be, holds of that
--- one.
+-- The word that a duty finds may decide where the thread goes on: what holds of each place that it can be holds of the
+-- one that it is.
 use Rattle.std.proofs.Common.{ℕ, zero, suc, ◌<◌}
 use Rattle.std.specs.Prelude.{nat_lt}
 use Rattle.std.proofs.lemmas.Bool.{ltb-true}
@@ -9,8 +9,8 @@ use Rattle.brc_model.specs.Actions.{by_range, by_item}
 use Rattle.brc_model.proofs.Basics.Lists.{either}
 
 -- The list's kind word says whether the list has the cell.
-pub range_decides : (P : Place → Type 0) (inside outside : Place) (index found : ℕ) → (index < cells_of found → P inside)
-    → P outside → P (by_range index inside outside found)
+pub range_decides : (P : Place → Type 0) (inside outside : Place) (index found : ℕ)
+    → (index < cells_of found → P inside) → P outside → P (by_range index inside outside found)
 range_decides P inside outside index found within past =
     either P (nat_lt index (cells_of found)) inside outside (λ has. within (ltb-true index (cells_of found) has)) past
 

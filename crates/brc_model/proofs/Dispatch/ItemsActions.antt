@@ -65,7 +65,8 @@ in_call_uses : (code : List Instr) (memory : Address → ℕ) (locked : Option �
     → HaveItems memory locked s variables
     → LeavesItems code memory locked
     (dispatch_instruction layout t used before left at variables (slice_get code at))
-in_call_uses code memory locked layout t used before left at variables s knew accepted instructions inside guards items =
+in_call_uses code memory locked layout t used before left at variables s knew accepted instructions inside guards
+    items =
     let here = uses_at code memory locked at variables s accepted instructions inside guards items in
     subst (λ (o : Option Instr). LeavesItems code memory locked
     (dispatch_instruction layout t used before left at variables o)) (sym here.1)
@@ -89,7 +90,8 @@ dispatch_uses code memory locked layout t used (Inside left at variables stage) 
     let knows = stands.knows in
     let here = uses_at code memory locked at variables says.0 stands.accepted stands.instructions says.1 says.2
     (knows.items says.1.exits says.0 says.1.arrived) in
-    subst (λ (o : Option Instr). LeavesItems code memory locked (dispatch_inside left at variables stage o)) (sym here.1)
+    subst (λ (o : Option Instr). LeavesItems code memory locked (dispatch_inside left at variables stage o))
+    (sym here.1)
     (inside_uses code memory locked left at variables says.0 stage here.0
     (subst (StageKnows memory locked variables stage) here.1 knows.cell) here.2)
 

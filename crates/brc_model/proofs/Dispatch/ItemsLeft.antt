@@ -1,4 +1,4 @@
--- What each instruction leaves in the variables: items of the list that the thread has locked, wherever one is borrowed.
+-- What each instruction leaves in the variables: wherever one borrows, an item of the list that the thread has locked.
 use Rattle.std.proofs.Common.{◌≡◌, ℕ, ◌+◌, ◌<◌, true, false, cond, List, [], ◌∷◌, ◌++◌, Option, None, Some, refl, sym, ap, ◌∙◌, subst, arith}
 use Rattle.std.specs.Prelude.{◌==◌, slice_get, slice_set}
 use Rattle.std.proofs.lemmas.Bool.{not-false}
@@ -59,8 +59,8 @@ LeavesItems code memory locked (Does d rest place) =
     (new : Address → ℕ) (found : ℕ) → IsAfter memory new locked d found
     → KnowsItems code new (locked_by locked d found) (place found)
 
--- A thread at an instruction of accepted code, in the state in which a path reaches it, which has what the state says is
--- locked, and whose variables name items wherever they borrow.
+-- A thread at an instruction of accepted code, in the state in which a path reaches it. It has locked what the state
+-- says is locked, and a variable that borrows names an item.
 pub record UsesAt (code : List Instr) (memory : Address → ℕ) (locked : Option ℕ) (at : ℕ) (variables : List (Option ℕ))
     (s : State) (i : Instr) : Type 0 where
   pub accepted : IsAcceptableCode code
@@ -166,7 +166,8 @@ module _ (code : List Instr) (memory : Address → ℕ) (locked : Option ℕ) (l
   birth_uses layout t used i to word otherwise slot here low free next owned else_at empty =
       either (LeavesItems code memory locked) (has_room layout t used) _ _
       (λ room new found done.
-      goes_on_free new (at + 1) i Success to slot (Some (row_at layout t used)) (done.keeps refl) here next owned low free)
+      goes_on_free new (at + 1) i Success to slot (Some (row_at layout t used)) (done.keeps refl) here next owned low
+      free)
       (goes_on_free memory otherwise i FaultExit to Empty None (all_stay memory locked) here else_at empty low refl)
 
   -- A look at the list's kind word leads into the instruction, if the list has the cell.
@@ -188,7 +189,8 @@ module _ (code : List Instr) (memory : Address → ℕ) (locked : Option ℕ) (l
   -- borrowed nothing.
   lock_uses : (before : Place) (object : ℕ) → KnowsItems code memory locked before → Here (Lock object)
       → (layout : Layout) (t used : ℕ)
-      → LeavesItems code memory locked (dispatch_instruction layout t used before left at variables (Some (Lock object)))
+      → LeavesItems code memory locked
+      (dispatch_instruction layout t used before left at variables (Some (Lock object)))
   lock_uses before object knew here layout t used =
       row_uses (row_of variables object) _ (λ row is new found done.
       let none = guards_none s variables s.locked locked (first_false _ _ here.met.first_lock) here.guards in
@@ -210,12 +212,12 @@ module _ (code : List Instr) (memory : Address → ℕ) (locked : Option ℕ) (l
       birth_uses layout t used (ListObject to cells otherwise) to (list_word cells) otherwise (Owned kinds.List) here
       here.operands.0 refl refl refl refl refl
   instruction_uses layout t used before (NoneObject to) knew here =
-      goes_on_free memory (at + 1) (NoneObject to) Success to (Owned kinds.None) (Some none_row) (all_stay memory locked)
-      here refl refl here.operands refl
+      goes_on_free memory (at + 1) (NoneObject to) Success to (Owned kinds.None) (Some none_row)
+      (all_stay memory locked) here refl refl here.operands refl
   instruction_uses layout t used before (Newref to from) knew here =
       row_uses (row_of variables from) _ (λ row is new found done.
-      goes_on_free new (at + 1) (Newref to from) Success to (Owned (kind_of (slot_of s from))) (Some row) (done.keeps refl)
-      here refl refl here.operands.0 refl)
+      goes_on_free new (at + 1) (Newref to from) Success to (Owned (kind_of (slot_of s from))) (Some row)
+      (done.keeps refl) here refl refl here.operands.0 refl)
   instruction_uses layout t used before (MoveReference to from) knew here =
       row_uses (row_of variables from) _ (λ row is.
       let slot = Owned (kind_of (slot_of s from)) in
@@ -236,14 +238,14 @@ module _ (code : List Instr) (memory : Address → ℕ) (locked : Option ℕ) (l
       row_uses (row_of variables object) _ (λ row is new found done.
       goes_on_without new None (at + 1) variables (Unlock object) Success here refl (without_items_free s))
   instruction_uses layout t used before (Borrow to list index otherwise) knew here =
-      range_uses (Borrow to list index otherwise) list index InRange (InCall left otherwise (slice_set variables to None))
-      here (λ new has. has)
+      range_uses (Borrow to list index otherwise) list index InRange
+      (InCall left otherwise (slice_set variables to None)) here (λ new has. has)
       (λ new stays.
       goes_on_free new otherwise (Borrow to list index otherwise) FaultExit to Empty None stays here refl refl
       here.operands.0 refl)
   instruction_uses layout t used before (Fetch to list index otherwise) knew here =
-      range_uses (Fetch to list index otherwise) list index InRange (InCall left otherwise (slice_set variables to None))
-      here (λ new has. has)
+      range_uses (Fetch to list index otherwise) list index InRange
+      (InCall left otherwise (slice_set variables to None)) here (λ new has. has)
       (λ new stays.
       goes_on_free new otherwise (Fetch to list index otherwise) FaultExit to Empty None stays here refl refl
       here.operands.0 refl)
@@ -252,7 +254,8 @@ module _ (code : List Instr) (memory : Address → ℕ) (locked : Option ℕ) (l
       (λ new has. has)
       (λ new stays. goes_inside new OutOfRange (Set list index from otherwise) stays here tt)
   instruction_uses layout t used before (Put list index from otherwise) knew here =
-      range_uses (Put list index from otherwise) list index InRange (InCall left otherwise variables) here (λ new has. has)
+      range_uses (Put list index from otherwise) list index InRange (InCall left otherwise variables) here
+      (λ new has. has)
       (λ new stays.
       goes_on_without new locked otherwise variables (Put list index from otherwise) FaultExit here refl
       (without_items_free s))
@@ -305,8 +308,8 @@ module _ (code : List Instr) (memory : Address → ℕ) (locked : Option ℕ) (l
       goes_on_free new otherwise (Borrow to list index otherwise) FaultExit to Empty None stays here refl refl
       here.operands.0 refl)
       (λ new item stays there.
-      goes_on_put new (at + 1) (Borrow to list index otherwise) Success to (Locked kinds.Any) (Some item) stays here refl
-      refl here.operands.0 (λ x borrows is. subst (IsItem new locked) (some_is item x is) there))
+      goes_on_put new (at + 1) (Borrow to list index otherwise) Success to (Locked kinds.Any) (Some item) stays here
+      refl refl here.operands.0 (λ x borrows is. subst (IsItem new locked) (some_is item x is) there))
   inside_uses InRange (Fetch to list index otherwise) knows here =
       cell_uses (Fetch to list index otherwise) list index (InCall left otherwise (slice_set variables to None))
       (λ item. Inside left at variables (Found item)) here
@@ -321,12 +324,12 @@ module _ (code : List Instr) (memory : Address → ℕ) (locked : Option ℕ) (l
   inside_uses InRange (Set list index from otherwise) knows here =
       row_uses (row_of variables list) _ (λ row is.
       row_uses (row_of variables from) _ (λ item this new found done.
-      goes_on_without new locked (at + 1) (slice_set variables from None) (Set list index from otherwise) Success here refl
-      (without_items_free (put s from Empty))))
+      goes_on_without new locked (at + 1) (slice_set variables from None) (Set list index from otherwise) Success here
+      refl (without_items_free (put s from Empty))))
   inside_uses OutOfRange (Set list index from otherwise) knows here =
       row_uses (row_of variables from) _ (λ item this new found done.
-      goes_on_without new locked otherwise (slice_set variables from None) (Set list index from otherwise) FaultExit here
-      refl (without_items_free (put s from Empty)))
+      goes_on_without new locked otherwise (slice_set variables from None) (Set list index from otherwise) FaultExit
+      here refl (without_items_free (put s from Empty)))
   inside_uses InRange (Put list index from otherwise) knows here =
       row_uses (row_of variables from) _ (λ item this new found done.
       let stays = done.keeps refl in

@@ -18,7 +18,7 @@ use Rattle.brc_model.specs.declared.actor.Place.TheVariants.{Idle, InCall, Insid
 use Rattle.brc_model.specs.declared.actor.Stage.{Stage}
 use Rattle.brc_model.specs.declared.actor.Stage.TheVariants.{InRange, OutOfRange, Found, Retained}
 use Rattle.brc_model.specs.declared.duty.Duty.{Duty}
-use Rattle.brc_model.specs.declared.duty.Duty.TheVariants.{KindLoad, BirthKind}
+use Rattle.brc_model.specs.declared.duty.Duty.TheVariants.{KindLoad, BirthKind, CellLoad}
 use Rattle.brc_model.specs.declared.slot.Slot.{Slot}
 use Rattle.brc_model.specs.declared.slot.Slot.TheVariants.{Empty, Owned, Locked}
 use Rattle.brc_model.specs.declared.slot.State.{State}
@@ -31,7 +31,7 @@ use Rattle.brc_model.specs.Threads.{code_of, row_of, entry_variables}
 use Rattle.brc_model.specs.Layout.{none_row, row_at}
 use Rattle.brc_model.specs.declared.layout.Layout.{Layout}
 use Rattle.brc_model.specs.Machine.{has_room}
-use Rattle.brc_model.specs.Actions.{StepActor, Action, Skip, Stuck, Silent, Does, with_row, number_word, list_word, birth_action, dispatch_instruction, dispatch_inside, dispatch, may_claim, agenda_action, status_action, action_of}
+use Rattle.brc_model.specs.Actions.{StepActor, Action, Skip, Stuck, Silent, Does, with_row, by_range, by_item, number_word, list_word, birth_action, dispatch_instruction, dispatch_inside, dispatch, may_claim, agenda_action, status_action, action_of}
 use Rattle.brc_model.specs.KnownKinds.{IsTrueKind, HasTrueKind, HaveTrueKinds, KnowsKinds, AreNamed}
 use Rattle.brc_model.proofs.Basics.Lists.{some_is, either}
 use Rattle.brc_model.proofs.Dispatch.Grounded.{IsInside, AreInstructions, entry_in_call}
@@ -100,6 +100,22 @@ knows_here : (code : List Instr) (words : ℕ → ℕ) (at : ℕ) (variables : L
 knows_here code words at variables s i here exits other arrived =
     subst (λ (state : State). HaveTrueKinds words state variables)
     (here.accepted.states_agree here.inside.exits exits at s other here.inside.arrived arrived) here.known
+
+-- A look at a list's kind word leads into the instruction, or past it.
+range_leaves : (code : List Instr) (words : ℕ → ℕ) (list : Option ℕ) (index : ℕ) (inside outside : Place)
+    → KnowsKinds code words inside → KnowsKinds code words outside
+    → Leaves code words (with_row list (λ row. Does (KindLoad row) [] (by_range index inside outside)))
+range_leaves code words list index inside outside enters passes =
+    row_leaves code words list _ (λ row is found seen.
+    range_decides (KnowsKinds code words) inside outside index found (λ has. enters) passes)
+
+-- A look at a cell leads past the instruction, or to the place for the item found.
+cell_leaves : (code : List Instr) (words : ℕ → ℕ) (list : Option ℕ) (index : ℕ) (empty : Place) (holds : ℕ → Place)
+    → KnowsKinds code words empty → ((item : ℕ) → KnowsKinds code words (holds item))
+    → Leaves code words (with_row list (λ row. Does (CellLoad row index) [] (by_item empty holds)))
+cell_leaves code words list index empty holds none some =
+    row_leaves code words list _ (λ row is found seen.
+    item_decides (λ word. KnowsKinds code words) empty holds none some found)
 
 -- A birth leaves an object of its kind word's kind.
 birth_leaves : (code : List Instr) (words : ℕ → ℕ) (layout : Layout) (t used left at : ℕ) (variables : List (Option ℕ))
@@ -179,30 +195,26 @@ instruction_leaves code words layout t used before left at variables s (Unlock o
     goes_on code words left at (at + 1) variables variables s (Unlock object) Success here refl
     (true_without_items words s variables here.known))
 instruction_leaves code words layout t used before left at variables s (Borrow to list index otherwise) knew here =
-    row_leaves code words (row_of variables list) _ (λ row is found seen.
-    range_decides (KnowsKinds code words) (Inside left at variables InRange)
-    (InCall left otherwise (slice_set variables to None)) index found
-    (λ has. knows_here code words at variables s (Borrow to list index otherwise) here)
+    range_leaves code words (row_of variables list) index (Inside left at variables InRange)
+    (InCall left otherwise (slice_set variables to None))
+    (knows_here code words at variables s (Borrow to list index otherwise) here)
     (goes_on_put code words left at otherwise variables s (Borrow to list index otherwise) FaultExit to Empty None here
-    refl refl here.operands.0 (empty_true words None)))
+    refl refl here.operands.0 (empty_true words None))
 instruction_leaves code words layout t used before left at variables s (Fetch to list index otherwise) knew here =
-    row_leaves code words (row_of variables list) _ (λ row is found seen.
-    range_decides (KnowsKinds code words) (Inside left at variables InRange)
-    (InCall left otherwise (slice_set variables to None)) index found
-    (λ has. knows_here code words at variables s (Fetch to list index otherwise) here)
+    range_leaves code words (row_of variables list) index (Inside left at variables InRange)
+    (InCall left otherwise (slice_set variables to None))
+    (knows_here code words at variables s (Fetch to list index otherwise) here)
     (goes_on_put code words left at otherwise variables s (Fetch to list index otherwise) FaultExit to Empty None here
-    refl refl here.operands.0 (empty_true words None)))
+    refl refl here.operands.0 (empty_true words None))
 instruction_leaves code words layout t used before left at variables s (Set list index from otherwise) knew here =
-    row_leaves code words (row_of variables list) _ (λ row is found seen.
     let within = knows_here code words at variables s (Set list index from otherwise) here in
-    range_decides (KnowsKinds code words) (Inside left at variables InRange) (Inside left at variables OutOfRange) index
-    found (λ has. within) within)
+    range_leaves code words (row_of variables list) index (Inside left at variables InRange)
+    (Inside left at variables OutOfRange) within within
 instruction_leaves code words layout t used before left at variables s (Put list index from otherwise) knew here =
-    row_leaves code words (row_of variables list) _ (λ row is found seen.
-    range_decides (KnowsKinds code words) (Inside left at variables InRange) (InCall left otherwise variables) index found
-    (λ has. knows_here code words at variables s (Put list index from otherwise) here)
+    range_leaves code words (row_of variables list) index (Inside left at variables InRange)
+    (InCall left otherwise variables) (knows_here code words at variables s (Put list index from otherwise) here)
     (goes_on code words left at otherwise variables variables s (Put list index from otherwise) FaultExit here refl
-    (true_without_items words s variables here.known)))
+    (true_without_items words s variables here.known))
 instruction_leaves code words layout t used before left at variables s (As from kind otherwise) knew here =
     row_leaves code words (row_of variables from) _ (λ row is found seen.
     either (λ (next : ℕ). KnowsKinds code words (InCall left next variables)) (same_kind (kind_of_word found) kind) _ _
@@ -228,8 +240,9 @@ set_leaves : (code : List Instr) (words : ℕ → ℕ) (left at next : ℕ) (var
     → target (Set list index from otherwise) exit at ≡ Some next
     → KnowsKinds code words (InCall left next (slice_set variables from None))
 set_leaves code words left at next variables s list index from otherwise exit here to =
-    goes_on code words left at next variables (slice_set variables from None) s (Set list index from otherwise) exit here
-    to (true_without_items words (put s from Empty) (slice_set variables from None)
+    goes_on code words left at next variables (slice_set variables from None) s (Set list index from otherwise) exit
+    here to
+    (true_without_items words (put s from Empty) (slice_set variables from None)
     (true_put words s variables from Empty None (omega (arith, here.operands.0, here.inside.slots))
     (omega (arith, here.operands.0, here.inside.rows)) (empty_true words None) here.known))
 
@@ -241,22 +254,19 @@ inside_leaves : (code : List Instr) (words : ℕ → ℕ) (left at : ℕ) (varia
     (s : State) (i : Instr) → KnowsAt code words at variables s i
     → Leaves code words (dispatch_inside left at variables stage (Some i))
 inside_leaves code words left at variables InRange s (Borrow to list index otherwise) here =
-    row_leaves code words (row_of variables list) _ (λ row is found seen.
-    item_decides (λ word. KnowsKinds code words) (InCall left otherwise (slice_set variables to None))
+    cell_leaves code words (row_of variables list) index (InCall left otherwise (slice_set variables to None))
     (λ item. InCall left (at + 1) (slice_set variables to (Some item)))
     (goes_on_put code words left at otherwise variables s (Borrow to list index otherwise) FaultExit to Empty None here
     refl refl here.operands.0 (empty_true words None))
     (λ item.
     goes_on_put code words left at (at + 1) variables s (Borrow to list index otherwise) Success to (Locked kinds.Any)
     (Some item) here refl refl here.operands.0 (any_true words (Locked kinds.Any) (Some item) refl))
-    found)
 inside_leaves code words left at variables InRange s (Fetch to list index otherwise) here =
-    row_leaves code words (row_of variables list) _ (λ row is found seen.
-    item_decides (λ word. KnowsKinds code words) (InCall left otherwise (slice_set variables to None))
+    cell_leaves code words (row_of variables list) index (InCall left otherwise (slice_set variables to None))
     (λ item. Inside left at variables (Found item))
     (goes_on_put code words left at otherwise variables s (Fetch to list index otherwise) FaultExit to Empty None here
     refl refl here.operands.0 (empty_true words None))
-    (λ item. knows_here code words at variables s (Fetch to list index otherwise) here) found)
+    (λ item. knows_here code words at variables s (Fetch to list index otherwise) here)
 inside_leaves code words left at variables (Found item) s (Fetch to list index otherwise) here = λ found seen.
     goes_on_put code words left at (at + 1) variables s (Fetch to list index otherwise) Success to (Owned kinds.Any)
     (Some item) here refl refl here.operands.0 (any_true words (Owned kinds.Any) (Some item) refl)

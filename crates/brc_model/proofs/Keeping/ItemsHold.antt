@@ -1,5 +1,5 @@
--- Each borrowed item stands in a cell of the list that its thread has locked, in the first machine and after each event:
--- each instruction leaves it so, and no step of another thread changes the locked list.
+-- Each borrowed item is in a cell of the list that its thread has locked, in the first machine and after each
+-- event: each instruction leaves it so, and no step of another thread changes the locked list.
 use Rattle.std.proofs.Common.{◌≡◌, ◌≢◌, ℕ, zero, suc, false, List, ◌∷◌, Option, None, Some, refl, sym, ◌∙◌, subst}
 use Rattle.std.specs.Prelude.{slice_get}
 use Rattle.brc_lang.specs.declared.module.Module.{Module}

@@ -1,4 +1,4 @@
--- Each borrowed item stands in a cell of the list that its thread has locked, in each machine that an accepted module's
+-- Each borrowed item is in a cell of the list that its thread has locked, in each machine that an accepted module's
 -- events lead to.
 use Rattle.brc_lang.specs.declared.module.Module.{Module}
 use Rattle.brc_lang.specs.Grammar.{IsModule}

@@ -1,5 +1,5 @@
 -- Where each dispatch leads: to another place than the thread's, unless it waits for a lock.
-use Rattle.std.proofs.Common.{◌≡◌, ◌≢◌, ℕ, zero, suc, ◌+◌, cond, List, Option, None, Some, refl, sym, ap, subst, arith, ◌<◌}
+use Rattle.std.proofs.Common.{◌≡◌, ◌≢◌, ℕ, zero, suc, ◌+◌, cond, List, [], Option, None, Some, refl, sym, ap, subst, arith, ◌<◌}
 use Rattle.std.specs.Prelude.{◌==◌, slice_get, slice_set}
 use Rattle.brc_lang.specs.declared.module.Instr.{Instr}
 use Rattle.brc_lang.specs.declared.module.Instr.TheVariants.{Num, List as ListObject, NoneObject, Newref, Move as MoveReference, Drop, Lock, Unlock, Borrow, Fetch, Set, Put, Goto, Ret, Fail, As}
@@ -7,13 +7,13 @@ use Rattle.brc_word.specs.Words.{free_word}
 use Rattle.brc_model.specs.Kinds.{same_kind, kind_of_word}
 use Rattle.brc_model.specs.Threads.{row_of, entry_variables}
 use Rattle.brc_model.specs.declared.duty.Duty.{Duty}
-use Rattle.brc_model.specs.declared.duty.Duty.TheVariants.{LockGate}
+use Rattle.brc_model.specs.declared.duty.Duty.TheVariants.{LockGate, KindLoad, CellLoad}
 use Rattle.brc_model.specs.declared.actor.Place.{Place}
 use Rattle.brc_model.specs.declared.actor.Place.TheVariants.{Idle, InCall, Inside, Exiting}
 use Rattle.brc_model.specs.declared.actor.Stage.{Stage}
 use Rattle.brc_model.specs.declared.actor.Stage.TheVariants.{InRange, OutOfRange, Found, Retained}
 use Rattle.brc_model.specs.Machine.{has_room}
-use Rattle.brc_model.specs.Actions.{Action, Skip, Stuck, Silent, Does, with_row, birth_action, dispatch_instruction, dispatch_inside, dispatch, number_word, list_word}
+use Rattle.brc_model.specs.Actions.{Action, Skip, Stuck, Silent, Does, with_row, by_range, by_item, birth_action, dispatch_instruction, dispatch_inside, dispatch, number_word, list_word}
 use Rattle.brc_model.proofs.Basics.Lists.{either}
 use Rattle.brc_model.proofs.Dispatch.Decided.{range_decides, item_decides}
 use Rattle.brc_lang.specs.Grammar.{LeadsForward}
@@ -47,6 +47,22 @@ birth_elsewhere place layout t used left at variables to word otherwise ahead in
     (λ room found free. inside (at + 1) (slice_set variables to (Some (row_at layout t used))) (omega arith))
     (inside otherwise (slice_set variables to None) ahead)
 
+-- A look at a list's kind word leads into the instruction, or past it.
+range_elsewhere : (place : Place) (list : Option ℕ) (index : ℕ) (inside outside : Place) → inside ≢ place
+    → outside ≢ place
+    → IsElsewhere place (with_row list (λ row. Does (KindLoad row) [] (by_range index inside outside)))
+range_elsewhere place list index inside outside enters passes =
+    row_elsewhere place list _ (λ row found free.
+    range_decides (λ (next : Place). next ≢ place) inside outside index found (λ has. enters) passes)
+
+-- A look at a cell leads past the instruction, or to the place for the item found.
+cell_elsewhere : (place : Place) (list : Option ℕ) (index : ℕ) (empty : Place) (holds : ℕ → Place) → empty ≢ place
+    → ((item : ℕ) → holds item ≢ place)
+    → IsElsewhere place (with_row list (λ row. Does (CellLoad row index) [] (by_item empty holds)))
+cell_elsewhere place list index empty holds none some =
+    row_elsewhere place list _ (λ row found free.
+    item_decides (λ word next. next ≢ place) empty holds none some found)
+
 -- An instruction leads to another place: a later point of its call, a place inside it, or the end of the call.
 instruction_elsewhere : (place : Place) (layout : Layout) (t used left at : ℕ) (variables : List (Option ℕ))
     (code : List Instr)
@@ -65,9 +81,11 @@ instruction_elsewhere place layout t used left at variables code
     =
     birth_elsewhere place layout t used left at variables to (list_word cells) otherwise
     (forward at (ListObject to cells otherwise) otherwise found refl).0 inside
-instruction_elsewhere place layout t used left at variables code (Some (NoneObject to)) forward found inside ends enters =
+instruction_elsewhere place layout t used left at variables code (Some (NoneObject to)) forward found inside ends
+    enters =
     inside (at + 1) (slice_set variables to (Some none_row)) (omega arith)
-instruction_elsewhere place layout t used left at variables code (Some (Newref to from)) forward found inside ends enters =
+instruction_elsewhere place layout t used left at variables code (Some (Newref to from)) forward found inside ends
+    enters =
     row_elsewhere place (row_of variables from) _
     (λ row found free. inside (at + 1) (slice_set variables to (Some row)) (omega arith))
 instruction_elsewhere place layout t used left at variables code
@@ -83,35 +101,31 @@ instruction_elsewhere place layout t used left at variables code (Some (Lock obj
     (λ row word free. subst (λ (next : Place). next ≢ place)
     (sym (ap (λ (w : ℕ). cond (w == free_word) (InCall left (at + 1) variables) place) free))
     (inside (at + 1) variables (omega arith)))
-instruction_elsewhere place layout t used left at variables code (Some (Unlock object)) forward found inside ends enters =
+instruction_elsewhere place layout t used left at variables code (Some (Unlock object)) forward found inside ends
+    enters =
     row_elsewhere place (row_of variables object) _
     (λ row found free. inside (at + 1) variables (omega arith))
 instruction_elsewhere place layout t used left at variables code (Some (Borrow to list index otherwise)) forward found
     inside ends enters =
-    row_elsewhere place (row_of variables list) _
-    (λ row word free.
-    range_decides (λ (next : Place). next ≢ place) (Inside left at variables InRange) (InCall left otherwise (slice_set variables to None)) index word
-    (λ has. enters InRange)
-    (inside otherwise (slice_set variables to None) (forward at (Borrow to list index otherwise) otherwise found refl).0))
+    range_elsewhere place (row_of variables list) index (Inside left at variables InRange)
+    (InCall left otherwise (slice_set variables to None)) (enters InRange)
+    (inside otherwise (slice_set variables to None)
+    (forward at (Borrow to list index otherwise) otherwise found refl).0)
 instruction_elsewhere place layout t used left at variables code (Some (Fetch to list index otherwise)) forward found
     inside ends enters =
-    row_elsewhere place (row_of variables list) _
-    (λ row word free.
-    range_decides (λ (next : Place). next ≢ place) (Inside left at variables InRange) (InCall left otherwise (slice_set variables to None)) index word
-    (λ has. enters InRange)
-    (inside otherwise (slice_set variables to None) (forward at (Fetch to list index otherwise) otherwise found refl).0))
+    range_elsewhere place (row_of variables list) index (Inside left at variables InRange)
+    (InCall left otherwise (slice_set variables to None)) (enters InRange)
+    (inside otherwise (slice_set variables to None)
+    (forward at (Fetch to list index otherwise) otherwise found refl).0)
 instruction_elsewhere place layout t used left at variables code (Some (Set list index from otherwise)) forward found
     inside ends enters =
-    row_elsewhere place (row_of variables list) _
-    (λ row word free.
-    range_decides (λ (next : Place). next ≢ place) (Inside left at variables InRange) (Inside left at variables OutOfRange) index word
-    (λ has. enters InRange) (enters OutOfRange))
+    range_elsewhere place (row_of variables list) index (Inside left at variables InRange)
+    (Inside left at variables OutOfRange) (enters InRange) (enters OutOfRange)
 instruction_elsewhere place layout t used left at variables code (Some (Put list index from otherwise)) forward found
     inside ends enters =
-    row_elsewhere place (row_of variables list) _
-    (λ row word free.
-    range_decides (λ (next : Place). next ≢ place) (Inside left at variables InRange) (InCall left otherwise variables) index word (λ has. enters InRange)
-    (inside otherwise variables (forward at (Put list index from otherwise) otherwise found refl).0))
+    range_elsewhere place (row_of variables list) index (Inside left at variables InRange)
+    (InCall left otherwise variables) (enters InRange)
+    (inside otherwise variables (forward at (Put list index from otherwise) otherwise found refl).0)
 instruction_elsewhere place layout t used left at variables code (Some (As from kind otherwise)) forward found inside
     ends enters =
     row_elsewhere place (row_of variables from) _
@@ -128,17 +142,13 @@ instruction_elsewhere place layout t used left at variables code (Some Fail) for
 inside_elsewhere : (left at : ℕ) (variables : List (Option ℕ)) (stage : Stage) (i : Option Instr)
     → IsElsewhere (Inside left at variables stage) (dispatch_inside left at variables stage i)
 inside_elsewhere left at variables InRange (Some (Borrow to list index otherwise)) =
-    row_elsewhere (Inside left at variables InRange) (row_of variables list) _
-    (λ row found free.
-    item_decides (λ word next. next ≢ Inside left at variables InRange)
+    cell_elsewhere (Inside left at variables InRange) (row_of variables list) index
     (InCall left otherwise (slice_set variables to None))
-    (λ item. InCall left (at + 1) (slice_set variables to (Some item))) (λ e. cc) (λ item e. cc) found)
+    (λ item. InCall left (at + 1) (slice_set variables to (Some item))) (λ e. cc) (λ item e. cc)
 inside_elsewhere left at variables InRange (Some (Fetch to list index otherwise)) =
-    row_elsewhere (Inside left at variables InRange) (row_of variables list) _
-    (λ row found free.
-    item_decides (λ word next. next ≢ Inside left at variables InRange)
+    cell_elsewhere (Inside left at variables InRange) (row_of variables list) index
     (InCall left otherwise (slice_set variables to None)) (λ item. Inside left at variables (Found item)) (λ e. cc)
-    (λ item e. cc) found)
+    (λ item e. cc)
 inside_elsewhere left at variables (Found item) (Some (Fetch to list index otherwise)) = λ found free e. cc
 inside_elsewhere left at variables InRange (Some (Set list index from otherwise)) =
     row_elsewhere (Inside left at variables InRange) (row_of variables list) _
