@@ -1,5 +1,5 @@
--- What a thread knows of the items of the list that it has locked: a borrowed item stands in one of the list's cells, and
--- a cell that the thread is about to use is one of the list's. (Python/C API manual, Reference Count Details: a borrowed
+-- What a thread knows of the items of the list that it has locked: a borrowed item is in one of the list's cells, and a
+-- cell that the thread is about to use is one of the list's. (Python/C API manual, Reference Count Details: a borrowed
 -- reference is good for as long as the list has the item.)
 use Rattle.std.specs.Prelude.{◌≡◌, ℕ, ◌+◌, ◌<◌, Bool, true, false, List, Option, Some, slice_get}
 use Rattle.brc_lang.specs.declared.module.Instr.{Instr}

@@ -1,5 +1,5 @@
 -- What a list has at an index, before and after a write.
-use Rattle.std.proofs.Common.{◌≡◌, ◌≢◌, ℕ, zero, suc, ◌<◌, List, [], ◌∷◌, length, set, get_or, None, Some, refl, sym, ap, subst, ◌∙◌, arith, Bool, true, false, cond, inl, inr, not}
+use Rattle.std.proofs.Common.{◌≡◌, ◌≢◌, ℕ, zero, suc, ◌<◌, List, [], ◌∷◌, length, set, get_or, None, Some, refl, sym, ap, subst, ◌∙◌, arith, Bool, true, false, cond, inl, inr}
 use Rattle.std.specs.Prelude.{slice_get, ◌||◌, ◌&&◌, replicate, map, slice_set}
 use Rattle.std.specs.List.{list_any, list_all, AllByRecursion}
 use Rattle.std.proofs.lemmas.Bool.Decides.{eqb_tells}
@@ -46,10 +46,6 @@ set_found (y ∷ ys) (suc i) x is = ap (λ zs. y ∷ zs) (set_found ys i x is)
 pub first_false : (a b : Bool) → (a || b) ≡ false → a ≡ false
 first_false true b e = absurd cc
 first_false false b e = refl
-
-pub not_false : (b : Bool) → not b ≡ false → b ≡ true
-not_false true e = refl
-not_false false e = absurd cc
 
 pub second_false : (a b : Bool) → (a || b) ≡ false → b ≡ false
 second_false true b e = absurd cc

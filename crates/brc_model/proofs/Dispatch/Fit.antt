@@ -2,7 +2,7 @@
 -- lock that it ends, and no lock at the end of a call.
 use Rattle.std.proofs.Common.{◌≡◌, ℕ, zero, suc, true, false, List, [], ◌∷◌, Option, None, Some, refl, ap, ◌∙◌, subst, Bool, inl, inr, sym}
 use Rattle.std.specs.Prelude.{◌&&◌, not, is_some, slice_get}
-use Rattle.std.proofs.lemmas.Bool.{eq-eqb}
+use Rattle.std.proofs.lemmas.Bool.{eq-eqb, not-false}
 use Rattle.brc_lang.specs.declared.module.Function.{Function}
 use Rattle.brc_lang.specs.declared.module.Instr.{Instr}
 use Rattle.brc_lang.specs.declared.module.Instr.TheVariants.{Lock, Unlock, Borrow, Fetch, Set, Put, Ret, Fail}
@@ -27,7 +27,7 @@ use Rattle.brc_model.specs.Events.{begins_unfit, chooses_unfit}
 use Rattle.brc_model.specs.Accounts.{Account}
 use Rattle.brc_model.specs.Actions.{StepActor}
 use Rattle.brc_model.specs.StepMachine.{StepMachine}
-use Rattle.brc_model.proofs.Basics.Lists.{first_false, second_false, not_false}
+use Rattle.brc_model.proofs.Basics.Lists.{first_false, second_false}
 use Rattle.brc_model.proofs.Dispatch.Grounded.{IsGrounded, IsInside, named_row, entry_in_call}
 use Rattle.brc_model.proofs.Dispatch.Guards.{LocksAgree, guards_none, guards_row}
 use Rattle.brc_model.proofs.Dispatch.Passing.{AreMet, passes_on}
@@ -73,7 +73,7 @@ instruction_fit : (memory : Address → ℕ) (locked : Option ℕ) (variables : 
 instruction_fit memory locked variables s (Lock object) meets =
     let some : is_empty (slot_of s object) ≡ false = first_false _ _ meets.met.not_empty in
     let row = named_row (slot_of s object) (row_of variables object) some (meets.grounded object) in
-    let can = not_false _ (first_false _ _ meets.met.right_kind) in
+    let can = not-false _ (first_false _ _ meets.met.right_kind) in
     let word = lockable_word (kind_of (slot_of s object)) (memory (KindOf row.0)) (meets.kinds object row.0 row.1) can in
     let free = guards_none s variables s.locked locked (first_false _ _ meets.met.first_lock) meets.guards in
     ap (λ (o : Option ℕ). is_one_of (kind_at memory o) lockable && not (is_some locked)) row.1
@@ -81,25 +81,25 @@ instruction_fit memory locked variables s (Lock object) meets =
 instruction_fit memory locked variables s (Unlock object) meets =
     let some : is_empty (slot_of s object) ≡ false = first_false _ _ meets.met.not_empty in
     let row = named_row (slot_of s object) (row_of variables object) some (meets.grounded object) in
-    let this = not_false _ (first_false _ _ meets.met.has_lock) in
+    let this = not-false _ (first_false _ _ meets.met.has_lock) in
     let has = guards_row s variables object row.0 s.locked locked this row.1 meets.guards in
     ap (λ (o : Option ℕ). has_locked o (row_of variables object)) has
     ∙ ap (λ (o : Option ℕ). has_locked (Some row.0) o) row.1 ∙ eq-eqb row.0 row.0 refl
 instruction_fit memory locked variables s (Borrow to list index otherwise) meets =
     list_fit memory locked variables s list (first_false _ _ meets.met.not_empty)
-    (not_false _ (first_false _ _ meets.met.right_kind)) (not_false _ (first_false _ _ meets.met.has_lock))
+    (not-false _ (first_false _ _ meets.met.right_kind)) (not-false _ (first_false _ _ meets.met.has_lock))
     meets.grounded meets.guards meets.kinds
 instruction_fit memory locked variables s (Fetch to list index otherwise) meets =
     list_fit memory locked variables s list (first_false _ _ meets.met.not_empty)
-    (not_false _ (first_false _ _ meets.met.right_kind)) (not_false _ (first_false _ _ meets.met.has_lock))
+    (not-false _ (first_false _ _ meets.met.right_kind)) (not-false _ (first_false _ _ meets.met.has_lock))
     meets.grounded meets.guards meets.kinds
 instruction_fit memory locked variables s (Set list index from otherwise) meets =
     list_fit memory locked variables s list (first_false _ _ (second_false _ _ meets.met.not_empty))
-    (not_false _ (first_false _ _ meets.met.right_kind)) (not_false _ (first_false _ _ meets.met.has_lock))
+    (not-false _ (first_false _ _ meets.met.right_kind)) (not-false _ (first_false _ _ meets.met.has_lock))
     meets.grounded meets.guards meets.kinds
 instruction_fit memory locked variables s (Put list index from otherwise) meets =
     list_fit memory locked variables s list (first_false _ _ (second_false _ _ meets.met.not_empty))
-    (not_false _ (first_false _ _ meets.met.right_kind)) (not_false _ (first_false _ _ meets.met.has_lock))
+    (not-false _ (first_false _ _ meets.met.right_kind)) (not-false _ (first_false _ _ meets.met.has_lock))
     meets.grounded meets.guards meets.kinds
 instruction_fit memory locked variables s (Ret from) meets =
     no_lock locked (guards_none s variables s.locked locked (first_false _ _ meets.met.no_lock_left) meets.guards)

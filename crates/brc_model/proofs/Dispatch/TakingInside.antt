@@ -3,6 +3,7 @@
 use Rattle.std.proofs.Common.{◌≡◌, ℕ, suc, ◌+◌, ◌<◌, true, false, List, [], ◌∷◌, ◌++◌, length, Option, None, Some, refl, ap, ◌∙◌, arith, inl, inr}
 use Rattle.std.specs.Prelude.{◌==◌, ◌&&◌, slice_set}
 use Rattle.std.proofs.lemmas.List.{length-set, length-map}
+use Rattle.std.proofs.lemmas.Bool.{not-false}
 use Rattle.brc_lang.specs.declared.module.Instr.{Instr}
 use Rattle.brc_lang.specs.declared.module.Instr.TheVariants.{Borrow, Fetch}
 use Rattle.brc_lang.specs.declared.kind.Kind.TheVariants as kinds
@@ -27,7 +28,7 @@ use Rattle.brc_model.specs.AbstractState.{same_holding}
 use Rattle.brc_model.specs.Accounts.{extra}
 use Rattle.brc_model.specs.References.{one_if}
 use Rattle.brc_model.specs.Actions.{Does, by_item, dispatch_inside}
-use Rattle.brc_model.proofs.Basics.Lists.{first_false, not_false}
+use Rattle.brc_model.proofs.Basics.Lists.{first_false}
 use Rattle.brc_model.proofs.Dispatch.Holds.{of_variables, of_inside, inside_none, Holds, HoldsVariables, holds_inside}
 use Rattle.brc_model.proofs.Dispatch.Grounded.{IsGrounded, IsInside, grounded-put, grounded-without}
 use Rattle.brc_model.proofs.Dispatch.Guards.{HeldLocked, HeldBeside, guards-put, guards_row, guards_held}
@@ -176,7 +177,7 @@ module _ (code : List Instr) (g : Scene) (left at : ℕ) (rows : List (Option �
       let named = named_inside InRange i list here (first_false _ _ here.met.not_empty) in
       let row = named.object in
       let has =
-      uses_locked InRange i list row here (not_false _ (first_false _ _ here.met.has_lock)) named.is_row in
+      uses_locked InRange i list row here (not-false _ (first_false _ _ here.met.has_lock)) named.is_row in
       let within : index < cells_of (words_of g row) = here.cell row named.is_row in
       let in_slots : to < length s.slots = omega (arith, here.variables.0, here.inside.slots) in
       let empty = InCall left otherwise (slice_set rows to None) in
@@ -213,7 +214,7 @@ module _ (code : List Instr) (g : Scene) (left at : ℕ) (rows : List (Option �
       let named = named_inside InRange i list here (first_false _ _ here.met.not_empty) in
       let row = named.object in
       let has =
-      uses_locked InRange i list row here (not_false _ (first_false _ _ here.met.has_lock)) named.is_row in
+      uses_locked InRange i list row here (not-false _ (first_false _ _ here.met.has_lock)) named.is_row in
       let within : index < cells_of (words_of g row) = here.cell row named.is_row in
       let empty = InCall left otherwise (slice_set rows to None) in
       let there : (item : ℕ) → Place = λ item. Inside left at rows (Found item) in

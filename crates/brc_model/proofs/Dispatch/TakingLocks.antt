@@ -2,6 +2,7 @@
 use Rattle.std.proofs.Common.{◌≡◌, ◌≢◌, ℕ, ◌+◌, true, false, List, [], ◌∷◌, ◌++◌, Option, None, Some, refl, sym, ap, ◌∙◌, arith, cond}
 use Rattle.std.specs.Prelude.{◌==◌}
 use Rattle.std.proofs.lemmas.List.{length-map}
+use Rattle.std.proofs.lemmas.Bool.{not-false}
 use Rattle.brc_lang.specs.declared.module.Instr.{Instr}
 use Rattle.brc_lang.specs.declared.module.Instr.TheVariants.{Lock, Unlock}
 use Rattle.brc_word.specs.Words.{free_word}
@@ -19,7 +20,7 @@ use Rattle.brc_model.specs.Threads.{row_of}
 use Rattle.brc_model.specs.References.{one_if}
 use Rattle.brc_model.specs.Actions.{Does, always, dispatch_instruction}
 use Rattle.brc_model.specs.Items.{borrows_item}
-use Rattle.brc_model.proofs.Basics.Lists.{first_false, none_some, not_false}
+use Rattle.brc_model.proofs.Basics.Lists.{first_false, none_some}
 use Rattle.brc_model.proofs.Frame.Aside.{HoldsAlone}
 use Rattle.brc_model.proofs.Dispatch.Holds.{of_variables}
 use Rattle.brc_model.proofs.Dispatch.Grounded.{IsInside, grounded-without, says-without}
@@ -73,7 +74,7 @@ lock_taken code g before left at variables s object here =
     let no_items : borrows_item (slot_of s object) ≡ true → ⊥ = λ borrows.
     none_some _ (sym none ∙ (here.items object live.object borrows live.is_row).is_locked) in
     let can : is_one_of (kind_of (slot_of s object)) lockable ≡ true =
-    not_false _ (first_false _ _ here.met.right_kind) in
+    not-false _ (first_false _ _ here.met.right_kind) in
     let locked = with_lock s (Some object) in
     let next : IsInside code (at + 1) variables locked = record {
       exits = here.inside.exits ++ Success ∷ [];
@@ -114,7 +115,7 @@ pub unlock_taken : (code : List Instr) (g : Scene) (before : Place) (left at : �
 unlock_taken code g before left at variables s object here =
     let some : is_empty (slot_of s object) ≡ false = first_false _ _ here.met.not_empty in
     let live = named_at code g before at variables s (Unlock object) object here some in
-    let this : names s.locked object ≡ true = not_false _ (first_false _ _ here.met.has_lock) in
+    let this : names s.locked object ≡ true = not-false _ (first_false _ _ here.met.has_lock) in
     let has : g.locked ≡ Some live.object =
     guards_row s variables object live.object s.locked g.locked this live.is_row here.guards in
     let unlocked = with_lock (without_items s) None in

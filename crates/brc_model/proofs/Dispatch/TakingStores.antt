@@ -1,7 +1,7 @@
 -- What a thread inside `set` or `put` takes up meets its condition, and so whatever a thread inside an instruction does.
 use Rattle.std.proofs.Common.{◌≡◌, ℕ, ◌+◌, ◌<◌, true, false, List, [], ◌∷◌, length, Option, None, Some, refl, ap, ◌∙◌, subst, arith}
 use Rattle.std.specs.Prelude.{◌==◌, ◌&&◌, slice_set}
-use Rattle.std.proofs.lemmas.Bool.{eq-eqb}
+use Rattle.std.proofs.lemmas.Bool.{eq-eqb, not-false}
 use Rattle.brc_lang.specs.declared.module.Instr.{Instr}
 use Rattle.brc_lang.specs.declared.module.Instr.TheVariants.{Borrow, Fetch, Set, Put}
 use Rattle.brc_model.specs.declared.slot.Slot.TheVariants.{Empty}
@@ -19,7 +19,7 @@ use Rattle.brc_model.specs.AbstractState.{same_holding, references_to}
 use Rattle.brc_model.specs.References.{held, one_if, reference_of}
 use Rattle.brc_model.specs.Actions.{Does, always, with_row, dispatch_inside}
 use Rattle.brc_model.proofs.Basics.Bag.{held-le-references_to}
-use Rattle.brc_model.proofs.Basics.Lists.{first_false, second_false, not_false}
+use Rattle.brc_model.proofs.Basics.Lists.{first_false, second_false}
 use Rattle.brc_model.proofs.Stepping.Counts.{flip_eqb}
 use Rattle.brc_model.proofs.Dispatch.Holds.{of_variables, of_inside, Holds}
 use Rattle.brc_model.proofs.Dispatch.Grounded.{owned_slot, owned_row, says-without}
@@ -80,7 +80,7 @@ module _ (code : List Instr) (g : Scene) (left at : ℕ) (rows : List (Option �
       (first_false _ _ (second_false (is_empty (slot_of s from)) _ here.met.not_empty)) in
       let row = named.object in
       let has =
-      uses_locked code g left at rows s InRange i list row here (not_false _ (first_false _ _ here.met.has_lock))
+      uses_locked code g left at rows s InRange i list row here (not-false _ (first_false _ _ here.met.has_lock))
       named.is_row in
       let after = InCall left (at + 1) (slice_set rows from None) in
       let taken : (found : ℕ) → Taken code g found after (CellSwap row index given.row (ByVariable from)) (Settle ∷ []) =
@@ -189,7 +189,7 @@ module _ (code : List Instr) (g : Scene) (left at : ℕ) (rows : List (Option �
       (first_false _ _ (second_false (is_empty (slot_of s from)) _ here.met.not_empty)) in
       let row = named.object in
       let has =
-      uses_locked code g left at rows s Retained i list row here (not_false _ (first_false _ _ here.met.has_lock))
+      uses_locked code g left at rows s Retained i list row here (not-false _ (first_false _ _ here.met.has_lock))
       named.is_row in
       let holds : Holds g.bag g.thread (of_inside (Some item) s rows) =
       subst (λ (f : Option ℕ). Holds g.bag g.thread (of_inside f s rows)) source.is_row here.holds in
