@@ -15,7 +15,7 @@ use Rattle.brc_model.specs.declared.address.Address.TheVariants.{Local}
 use Rattle.brc_table.specs.declared.view.View.{View}
 use Rattle.brc_table.specs.declared.view.Event.{Event}
 use Rattle.brc_table.specs.Views.{done, resumed, turned, retaining, releasing, bearing, work_about, open_work, next_row, is_given}
-use Rattle.brc_table.specs.Hands.{HandState, MayWait}
+use Rattle.brc_table.specs.Hands.{HandState, MayWait, carried_of}
 use Rattle.brc_heap.specs.declared.release.LocalRelease.{LocalRelease}
 use Rattle.brc_heap.specs.declared.release.LocalRelease.TheVariants as local
 use Rattle.brc_heap.specs.declared.release.ZeroStep.{ZeroStep}
@@ -106,15 +106,15 @@ merge_answer carried word found =
 abbrev pub first_answer : ℕ → ℕ → ℕ → MergeStep
 first_answer local word found = if local == 0 then merge.Kept else merge_answer (local_part local) word found
 
--- The hand has a merge of the row to begin, because its last local reference is gone, and remembers no other merge.
+-- The hand has a merge of the row to begin, because its last local reference is gone, and carries nothing from it.
 pub record MergeIsFirst (hand : HandState) (x : ℕ) : Type 0 where
   pub duty : work_about x hand.view ≡ MergeSwap x Own ∷ []
-  pub none : hand.merge ≡ None
+  pub none : carried_of hand x ≡ None
 
 -- The hand has begun a merge of the row, and remembers what it carries.
 pub record MergeIsBegun (hand : HandState) (x carried : ℕ) : Type 0 where
   pub duty : work_about x hand.view ≡ MergeLoad x carried Own ∷ []
-  pub begun : hand.merge ≡ Some (record { row = x; carried = carried })
+  pub begun : carried_of hand x ≡ Some carried
 
 -- ---- births
 

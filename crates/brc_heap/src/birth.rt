@@ -39,7 +39,7 @@ impl<T: Drop> Heap<T> {
         requires resource { resource ≡ None }
         ensures row { result ≡ next_row hand.old.view }
         ensures table { IsOf self.now hand.new }
-        ensures merge { hand.new.merge ≡ hand.old.merge }
+        ensures carried { hand.new.carried ≡ hand.old.carried }
         ensures events { hand.new.view ≡ born hand.old.view (kind_word kind arg) }
         ensures born { HasBorn hand.old.view hand.new.view }
     {
@@ -55,7 +55,7 @@ impl<T: Drop> Heap<T> {
         requires kind { (kind ≡ Kind.Num) ⊎ ((kind ≡ Kind.List) × (arg ≤ cell_limit)) }
         ensures row { result ≡ next_row hand.old.view }
         ensures table { hand.new.table ≡ hand.old.table }
-        ensures merge { hand.new.merge ≡ hand.old.merge }
+        ensures carried { hand.new.carried ≡ hand.old.carried }
         ensures view { (word : ℕ) × (word ≡ kind_word kind arg) × (has_resource word ≡ false)
             × (hand.new.view ≡ born hand.old.view word) }
     {

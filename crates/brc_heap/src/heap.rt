@@ -4,7 +4,7 @@ ghost use Rattle.std.specs.Prelude.{◌≡◌, ◌<◌, ◌≤◌, ◌⊎◌, �
 ghost use Rattle.brc_model.specs.Limits.{worker_limit, row_limit};
 ghost use Rattle.brc_model.specs.Layout.{root_row};
 ghost use Rattle.brc_model.specs.Machine.{has_room};
-ghost use Rattle.brc_table.specs.Hands.{IsOf, IsRunning, HasNoWork, most_references};
+ghost use Rattle.brc_table.specs.Hands.{IsOf, IsRunning, HasNoWork, most_references, CarriesNothing};
 ghost use Rattle.brc_table.specs.Opening.{plain_layout};
 ghost use Rattle.brc_table.specs.Views.{holds, is_given, main_view, worker_view, giving};
 ghost use Rattle.brc_heap.specs.Calls.{retained, IsTaken, HasGiven};
@@ -46,6 +46,7 @@ impl<T: Drop> Heap<T> {
         ensures layout { IfOk result (λ made. made.0.layout ≡ plain_layout workers rows) }
         ensures table { IfOk result (λ made. IsOf made.0 made.1) }
         ensures view { IfOk result (λ made. made.1.view ≡ main_view (plain_layout workers rows)) }
+        ensures none { IfOk result (λ made. CarriesNothing made.1) }
     {
         match Words::new(alloc, workers, rows) {
             Ok((words, main)) => Ok((Heap { words }, main)),
@@ -87,7 +88,8 @@ impl<T: Drop> Heap<T> {
         ensures main { OnOk result ((word : ℕ) × (found : ℕ)
             × (main.new.view ≡ giving (retained main.old.view root_row word found) thread)) }
         ensures left { OnOk result (HasGiven thread main.old.view main.new.view) }
-        ensures merge { main.new.merge ≡ main.old.merge }
+        ensures carried { main.new.carried ≡ main.old.carried }
+        ensures none { IfOk result CarriesNothing }
     {
         self.words.layout_is_plain();
         if thread == 0 || thread > self.words.workers() || main.has_given(thread) {

@@ -1,15 +1,16 @@
 //! Merging an object's two counts, so that nobody owns it any more.
 
-ghost use Rattle.std.specs.Prelude.{◌≡◌, ◌≢◌, ◌⊎◌, [], ◌∷◌, ℕ, None};
+ghost use Rattle.std.specs.Prelude.{◌≡◌, ◌≢◌, ◌⊎◌, ◌%◌, [], ◌∷◌, ℕ, None, slice_set};
+ghost use Rattle.brc_model.specs.Limits.{row_limit};
 ghost use Rattle.brc_model.specs.declared.duty.Reason.TheVariants.{Own};
 ghost use Rattle.brc_model.specs.declared.duty.Duty.TheVariants.{MergeLoad};
 ghost use Rattle.brc_table.specs.Views.{turned, work_about};
-ghost use Rattle.brc_table.specs.Hands.{IsOf};
+ghost use Rattle.brc_table.specs.Hands.{IsOf, carried_of};
 ghost use Rattle.brc_table.specs.Calls.{CanAct};
 ghost use Rattle.brc_heap.specs.Calls.{MergeIsFirst, MergeIsBegun, merge_begun, merge_tried, merge_answer, first_answer, merge_left, Leaves};
 
 use crate::heap::Heap;
-use brc_table::{Hand, Merge};
+use brc_table::Hand;
 use brc_word::{is_dead, local_count, merged};
 
 /// How a try to merge ended.
@@ -27,7 +28,7 @@ impl<T: Drop> Heap<T> {
     /// Tries once to merge an object, as `zero_step` answered `Merge`, or this call `Again`.
     ///
     /// The first turn swaps the local word for nobody's. After `Again` the hand remembers the local count that it
-    /// carries, and goes on with it; until then it begins no other merge.
+    /// carries from the row, and the next turn goes on with it. What it carries from other rows stays.
     pub fn merge_step(&self, hand: &mut Hand<T>, row: u32) -> MergeStep
         requires table { IsOf self.now hand.old }
         requires acts { CanAct hand.old.view }
@@ -40,12 +41,14 @@ impl<T: Drop> Heap<T> {
             × (hand.new.view ≡ merge_tried (turned hand.old.view row) word found)
             × (result ≡ merge_answer carried word found) }
         ensures again { result ≡ MergeStep.Again → (carried : ℕ) × MergeIsBegun hand.new row carried }
-        ensures done { result ≢ MergeStep.Again → hand.new.merge ≡ None }
+        ensures done { result ≢ MergeStep.Again → carried_of hand.new row ≡ None }
+        ensures others { hand.new.carried
+            ≡ slice_set hand.old.carried (row % row_limit) (carried_of hand.new row) }
         ensures left { (carried : ℕ) × Leaves row (merge_left row carried result) hand.old.view hand.new.view }
         ensures references { hand.new.view.references ≡ hand.old.view.references }
     {
-        match hand.merge() {
-            Some(begun) => self.merge_carried(hand, row, begun.carried),
+        match hand.carried(row) {
+            Some(carried) => self.merge_carried(hand, row, carried),
             None => self.merge_first(hand, row),
         }
     }
@@ -60,7 +63,9 @@ impl<T: Drop> Heap<T> {
             × (hand.new.view ≡ merge_begun hand.old.view row local word found)
             × (result ≡ first_answer local word found) }
         ensures again { result ≡ MergeStep.Again → (carried : ℕ) × MergeIsBegun hand.new row carried }
-        ensures done { result ≢ MergeStep.Again → hand.new.merge ≡ None }
+        ensures done { result ≢ MergeStep.Again → carried_of hand.new row ≡ None }
+        ensures others { hand.new.carried
+            ≡ slice_set hand.old.carried (row % row_limit) (carried_of hand.new row) }
         ensures left { (carried : ℕ) × Leaves row (merge_left row carried result) hand.old.view hand.new.view }
         ensures references { hand.new.view.references ≡ hand.old.view.references }
     {
@@ -81,7 +86,9 @@ impl<T: Drop> Heap<T> {
             × (hand.new.view ≡ merge_tried (turned hand.old.view row) word found)
             × (result ≡ merge_answer carried word found) }
         ensures again { result ≡ MergeStep.Again → MergeIsBegun hand.new row carried }
-        ensures done { result ≢ MergeStep.Again → hand.new.merge ≡ None }
+        ensures done { result ≢ MergeStep.Again → carried_of hand.new row ≡ None }
+        ensures others { hand.new.carried
+            ≡ slice_set hand.old.carried (row % row_limit) (carried_of hand.new row) }
         ensures left { Leaves row (merge_left row carried result) hand.old.view hand.new.view }
         ensures references { hand.new.view.references ≡ hand.old.view.references }
     {
@@ -98,16 +105,18 @@ impl<T: Drop> Heap<T> {
             × (hand.new.view ≡ merge_tried (turned hand.old.view row) word found)
             × (result ≡ merge_answer carried word found) }
         ensures again { result ≡ MergeStep.Again → MergeIsBegun hand.new row carried }
-        ensures done { result ≢ MergeStep.Again → hand.new.merge ≡ None }
+        ensures done { result ≢ MergeStep.Again → carried_of hand.new row ≡ None }
+        ensures others { hand.new.carried
+            ≡ slice_set hand.old.carried (row % row_limit) (carried_of hand.new row) }
     {
         let words = self.words();
         let word = words.shared_load(hand, row);
         let next = merged(word, carried);
         if words.shared_exchange(hand, row, word, next) != word {
-            hand.remember(Some(Merge { row, carried }));
+            hand.remember(row, Some(carried));
             return MergeStep::Again;
         }
-        hand.remember(None);
+        hand.remember(row, None);
         if is_dead(next) {
             words.gate_store(hand, row);
             return MergeStep::Dying;

@@ -60,7 +60,7 @@ impl<T: Drop> Heap<T> {
         requires held { HoldsOne hand.old.view row }
         requires idle { HasNoWork hand.old.view row }
         ensures table { IsOf self.now hand.new }
-        ensures merge { hand.new.merge ≡ hand.old.merge }
+        ensures carried { hand.new.carried ≡ hand.old.carried }
         ensures events { (word : ℕ) × OwnerFits hand.old.view.layout row word
             × (result ≡ local_answer hand.old.view word)
             × (hand.new.view ≡ released_locally hand.old.view row word) }
@@ -80,7 +80,7 @@ impl<T: Drop> Heap<T> {
         requires held { HoldsOne hand.old.view row }
         requires idle { HasNoWork hand.old.view row }
         ensures table { hand.new.table ≡ hand.old.table }
-        ensures merge { hand.new.merge ≡ hand.old.merge }
+        ensures carried { hand.new.carried ≡ hand.old.carried }
         ensures events { (word : ℕ) × OwnerFits hand.old.view.layout row word
             × (result ≡ local_answer hand.old.view word)
             × (hand.new.view ≡ released_locally hand.old.view row word) }
@@ -109,7 +109,7 @@ impl<T: Drop> Heap<T> {
         requires acts { CanAct hand.old.view }
         requires duty { work_about row hand.old.view ≡ DecideAtZero row ∷ [] }
         ensures table { IsOf self.now hand.new }
-        ensures merge { hand.new.merge ≡ hand.old.merge }
+        ensures carried { hand.new.carried ≡ hand.old.carried }
         ensures events { (word : ℕ) × (result ≡ zero_answer word)
             × (hand.new.view ≡ decided hand.old.view row word) }
         ensures left { Leaves row (zero_left row result) hand.old.view hand.new.view }
@@ -124,7 +124,7 @@ impl<T: Drop> Heap<T> {
         requires acts { CanAct hand.old.view }
         requires duty { work_about row hand.old.view ≡ DecideAtZero row ∷ [] }
         ensures table { hand.new.table ≡ hand.old.table }
-        ensures merge { hand.new.merge ≡ hand.old.merge }
+        ensures carried { hand.new.carried ≡ hand.old.carried }
         ensures events { (word : ℕ) × (result ≡ zero_answer word)
             × (hand.new.view ≡ decided hand.old.view row word) }
     {
@@ -148,7 +148,7 @@ impl<T: Drop> Heap<T> {
         requires acts { CanAct hand.old.view }
         requires duty { (r : Reason) × (work_about row hand.old.view ≡ SharedLoad row r ∷ []) }
         ensures table { IsOf self.now hand.new }
-        ensures merge { hand.new.merge ≡ hand.old.merge }
+        ensures carried { hand.new.carried ≡ hand.old.carried }
         ensures events { (word : ℕ) × (found : ℕ) × (result ≡ shared_answer word found)
             × (hand.new.view ≡ released_shared hand.old.view row word found) }
         ensures left { (r : Reason) → work_about row hand.old.view ≡ SharedLoad row r ∷ []
@@ -164,7 +164,7 @@ impl<T: Drop> Heap<T> {
         requires acts { CanAct hand.old.view }
         requires duty { (r : Reason) × (work_about row hand.old.view ≡ SharedLoad row r ∷ []) }
         ensures table { hand.new.table ≡ hand.old.table }
-        ensures merge { hand.new.merge ≡ hand.old.merge }
+        ensures carried { hand.new.carried ≡ hand.old.carried }
         ensures events { (word : ℕ) × (found : ℕ) × (result ≡ shared_answer word found)
             × (hand.new.view ≡ released_shared hand.old.view row word found) }
     {

@@ -22,7 +22,7 @@ impl<T: Drop> Heap<T> {
         requires idle { HasNoWork hand.old.view row }
         requires few { length hand.old.view.references < most_references }
         ensures table { IsOf self.now hand.new }
-        ensures merge { hand.new.merge ≡ hand.old.merge }
+        ensures carried { hand.new.carried ≡ hand.old.carried }
         ensures events { (word : ℕ) × (found : ℕ) × OwnerFits hand.old.view.layout row word
             × (hand.new.view ≡ retained hand.old.view row word found) }
         ensures own { block_of hand.old.view.layout row ≡ hand.old.view.thread → (word : ℕ) × (found : ℕ)
@@ -43,7 +43,7 @@ impl<T: Drop> Heap<T> {
         requires idle { HasNoWork hand.old.view row }
         requires few { length hand.old.view.references < most_references }
         ensures table { hand.new.table ≡ hand.old.table }
-        ensures merge { hand.new.merge ≡ hand.old.merge }
+        ensures carried { hand.new.carried ≡ hand.old.carried }
         ensures events { (word : ℕ) × (found : ℕ) × OwnerFits hand.old.view.layout row word
             × (hand.new.view ≡ retained hand.old.view row word found) }
     {

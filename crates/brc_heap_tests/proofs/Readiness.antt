@@ -13,7 +13,7 @@ use Rattle.brc_model.specs.OpenWork.{is_about}
 use Rattle.std.specs.List.{filter}
 use Rattle.brc_table.specs.Hands.{TableState, HandState, IsOf, IsRunning, HoldsOne, most_references}
 use Rattle.brc_table.specs.Calls.{CanAct}
-use Rattle.brc_heap.specs.Calls.{Leaves, HasBorn}
+use Rattle.brc_heap.specs.Calls.{Leaves, HasGiven, HasBorn}
 use Rattle.brc_heap_tests.specs.Ready.{IsReady}
 
 -- What two calls about the same row leave.
@@ -85,6 +85,17 @@ ready_again ready table leaves same = record {
   held = subst (λ (rows : List ℕ). 1 ≤ count_by (λ y. y == root_row) rows) (sym same) ready.held;
   idle = leaves.left_is;
   few = subst (λ (rows : List ℕ). length rows < most_references) (sym same) ready.few;
+}
+
+-- Main is ready again after it has given out a worker's hand.
+pub ready_after_giving : {heap : TableState} {before after : HandState} {thread : ℕ} → IsReady heap before
+    → IsOf heap after → HasGiven thread before.view after.view → IsReady heap after
+ready_after_giving ready table gives = record {
+  table = table;
+  running = (gives.status ∙ ready.running.0, gives.waits);
+  held = subst (λ (rows : List ℕ). 1 ≤ count_by (λ y. y == root_row) rows) (sym gives.references) ready.held;
+  idle = gives.work root_row ∙ ready.idle;
+  few = subst (λ (rows : List ℕ). length rows < most_references) (sym gives.references) ready.few;
 }
 
 -- Work about another row is as it was.

@@ -26,7 +26,8 @@ fn taken(rt: HostRuntime) -> Result<(), Fail> {
     Ok(())
 }
 
-// The first, second or third allocation fails under `rt try --test --fail-alloc 1`, 2 or 3.
+// Under `rt try --test --fail-alloc N` the Nth allocation fails. A heap of 32 workers makes 37: for its first words, the
+// list of spares, what each of 33 hands carries, and the words and slots of its table.
 #[test]
 fn no_memory(rt: HostRuntime) -> Result<(), Fail> {
     match Heap::<u32>::new(rt.alloc(), 32, 1024) {

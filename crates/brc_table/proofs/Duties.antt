@@ -199,9 +199,9 @@ module _ (u : View) (x : ℕ) (alive : u.status ≢ Gone) where
 pub local_store_keeps : (v : View) (x word : ℕ) (ds : List Duty) (found : ℕ) → StoresLocal x word ds
     → KeepsThread v (did v ds found)
 local_store_keeps v x word (RetainStore y h w ∷ []) found same =
-    record { thread = refl; status = refl; head = refl; used = refl; given = refl }
+    record { layout = refl; thread = refl; status = refl; head = refl; used = refl; given = refl }
 local_store_keeps v x word (ReleaseStore y w ∷ []) found same =
-    record { thread = refl; status = refl; head = refl; used = refl; given = refl }
+    record { layout = refl; thread = refl; status = refl; head = refl; used = refl; given = refl }
 local_store_keeps v x word _ found same = absurd same
 
 -- ---- the rows of these duties

@@ -15,5 +15,6 @@ mod Tally
 mod Claims
 mod Sharing
 mod Agreeing
+mod Spares
 mod Splitting
 mod GivenHands

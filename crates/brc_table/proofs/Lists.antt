@@ -1,6 +1,6 @@
 -- Lists with one element changed.
 use Rattle.std.proofs.Common.{◌≡◌, ◌≢◌, ℕ, zero, suc, ◌<◌, Bool, true, false, ◌&&◌, List, [], ◌∷◌, length, replicate, set, Some, refl, sym, ap, arith}
-use Rattle.std.specs.Prelude.{slice_get}
+use Rattle.std.specs.Prelude.{slice_get, slice_index_or}
 use mathlib.Core.Option.{some, some-ne-none}
 use lib.ListN.{get_elem?}
 
@@ -21,6 +21,12 @@ pub slice_get-replicate : {A : Type 0} (n i : ℕ) (x : A) → i < n → slice_g
 slice_get-replicate zero i x low = absurd (omega (arith, low))
 slice_get-replicate (suc n) zero x low = refl
 slice_get-replicate (suc n) (suc i) x low = slice_get-replicate n i x (omega (arith, low))
+
+-- Past the end the default is the same.
+pub get_or-same : {A : Type 0} (n i : ℕ) (x : A) → slice_index_or (replicate n x) i x ≡ x
+get_or-same zero i x = refl
+get_or-same (suc n) zero x = refl
+get_or-same (suc n) (suc i) x = get_or-same n i x
 
 -- An element that is there can be replaced.
 pub set_view : {A : Type 0} (xs : List A) (i : ℕ) (x y : A) → get_elem? xs i ≡ some x → get_elem? (set xs i y) i ≡ some y

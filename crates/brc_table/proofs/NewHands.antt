@@ -1,16 +1,17 @@
 -- A new hand is as its plain fields say: main's first one, and a worker's that main has just given out.
-use Rattle.std.proofs.Common.{◌≡◌, ℕ, ◌<◌, ◌≤◌, true, false, [], ◌∷◌, replicate, refl, sym, subst, inl, inr, arith}
-use Rattle.std.specs.Prelude.{◌==◌, count_by}
+use Rattle.std.proofs.Common.{◌≡◌, ℕ, ◌<◌, ◌≤◌, true, false, List, [], ◌∷◌, Option, None, length, replicate, refl, sym, ap, subst, inl, inr, arith}
+use Rattle.std.specs.Prelude.{◌==◌, count_by, slice_get}
 use Rattle.std.proofs.lemmas.Bool.{cases_Bool, eqb-true}
 use Rattle.atomic_table.specs.Table.{Me}
 use Rattle.brc_model.specs.declared.layout.Layout.{Layout}
 use Rattle.brc_model.specs.Layout.{front_rows, root_row}
-use Rattle.brc_model.specs.Limits.{thread_limit}
+use Rattle.brc_model.specs.Limits.{row_limit}
 use Rattle.brc_model.specs.Machine.{is_running}
 use Rattle.brc_model.specs.Counting.{IsPlainLayout}
 use Rattle.brc_table.specs.declared.view.View.{View}
-use Rattle.brc_table.specs.Views.{RowsAreThere, IsGivenBy, main_view, worker_view}
-use Rattle.brc_table.proofs.Lists.{slice_get-replicate}
+use Rattle.brc_table.specs.Views.{RowsAreThere, HasSpares, IsGivenBy, main_view, worker_view}
+use Rattle.brc_table.specs.Spares.{is_spent}
+use Rattle.brc_table.proofs.Spares.{none_spent, room}
 
 -- ---- rows
 
@@ -45,35 +46,42 @@ worker_rows layout thread some known = record {
 
 -- ---- plain fields
 
--- What the plain fields of a new hand say of its seat: its thread runs, its chain is empty, and it has given out no
--- hand.
-abbrev pub NewFits : {S : Type 0} → ℕ → ℕ → Me S View → Type 0
-NewFits thread used me =
+-- What the plain fields of a new hand say of its seat: its thread runs, its chain is empty, it has given out no hand,
+-- and it carries nothing.
+abbrev pub NewFits : {S A : Type 0} → ℕ → ℕ → List (Option A) → List (Option ℕ) → Me S View → Type 0
+NewFits thread used spares counts me =
     (me.1 ≡ []) × (thread ≡ me.0.thread) × (true ≡ is_running me.0.status) × (0 ≡ me.0.head) × (used ≡ me.0.used)
-    × RowsAreThere me.0 × IsGivenBy (replicate thread_limit false) me.0
+    × RowsAreThere me.0 × HasSpares spares me.0 × IsGivenBy spares me.0 × (length counts ≡ row_limit)
 
-pub main_fits : {S : Type 0} (layout : Layout) (me : Me S View) → IsPlainLayout layout → me ≡ (main_view layout, [])
-    → NewFits 0 front_rows me
-main_fits {S} layout me plain is =
-    subst (λ (it : Me S View). NewFits 0 front_rows it) (sym is) (
+pub main_fits : {S A : Type 0} (layout : Layout) (spares : List (Option A)) (counts : List (Option ℕ)) (me : Me S View)
+    → IsPlainLayout layout → length spares ≡ layout.workers
+    → ((worker : ℕ) → is_spent (slice_get spares worker) ≡ false) → counts ≡ replicate row_limit None
+    → me ≡ (main_view layout, []) → NewFits 0 front_rows spares counts me
+main_fits {S} layout spares counts me plain long left none is =
+    subst (λ (it : Me S View). NewFits 0 front_rows spares counts it) (sym is) (
       refl,
       refl,
       refl,
       refl,
       refl,
       main_rows layout plain,
-      (λ t low. slice_get-replicate thread_limit t false low),
+      (λ main. long),
+      (λ t. none_spent spares t left),
+      room counts none,
     )
 
-pub worker_fits : {S : Type 0} (layout : Layout) (thread : ℕ) (me : Me S View) → 0 < thread → thread ≤ layout.workers
-    → me ≡ (worker_view layout thread, []) → NewFits thread 0 me
-worker_fits {S} layout thread me some known is =
-    subst (λ (it : Me S View). NewFits thread 0 it) (sym is) (
+pub worker_fits : {S A : Type 0} (layout : Layout) (thread : ℕ) (spares : List (Option A)) (counts : List (Option ℕ))
+    (me : Me S View) → 0 < thread → thread ≤ layout.workers → spares ≡ [] → counts ≡ replicate row_limit None
+    → me ≡ (worker_view layout thread, []) → NewFits thread 0 spares counts me
+worker_fits {S} layout thread spares counts me some known empty none is =
+    subst (λ (it : Me S View). NewFits thread 0 spares counts it) (sym is) (
       refl,
       refl,
       refl,
       refl,
       refl,
       worker_rows layout thread some known,
-      (λ t low. slice_get-replicate thread_limit t false low),
+      (λ main. absurd (omega (arith, main, some))),
+      (λ t. none_spent spares t (λ k. ap (λ ps. is_spent (slice_get ps k)) empty)),
+      room counts none,
     )

@@ -55,8 +55,9 @@ pub record StoresWord (v : View) (index word : ℕ) : Type 0 where
   pub makes : Makes v index (λ found. word)
   pub knows : (found : ℕ) → Overwrites v.thread makes.duty found → found ≡ overwritten v.agenda
 
--- The thread, its status, its chain, its used rows and the hands that it has given out are as before.
+-- The layout, the thread, its status, its chain, its used rows and the hands that it has given out are as before.
 pub record KeepsThread (v u : View) : Type 0 where
+  pub layout : u.layout ≡ v.layout
   pub thread : u.thread ≡ v.thread
   pub status : u.status ≡ v.status
   pub head : u.head ≡ v.head

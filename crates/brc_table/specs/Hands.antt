@@ -1,13 +1,13 @@
 -- What contracts see of a table and of a hand.
-use Rattle.std.specs.Prelude.{◌≡◌, ℕ, ◌≤◌, ◌^◌, ◌⊎◌, true, Option, List, [], ◌∷◌}
+use Rattle.std.specs.Prelude.{◌≡◌, ℕ, ◌≤◌, ◌^◌, ◌%◌, ◌⊎◌, true, Option, None, List, [], ◌∷◌, slice_index_or}
 use Rattle.atomic_table.specs.Seated.{TableId}
 use Rattle.brc_model.specs.declared.actor.Status.TheVariants.{Running}
 use Rattle.brc_model.specs.declared.duty.Duty.{Duty}
 use Rattle.brc_model.specs.declared.layout.Layout.{Layout}
 use Rattle.brc_model.specs.Layout.{is_immortal_row}
+use Rattle.brc_model.specs.Limits.{row_limit}
 use Rattle.brc_model.specs.OpenWork.{may_wait}
 use Rattle.brc_table.specs.declared.view.View.{View}
-use Rattle.brc_table.specs.declared.hand.Merge.{Merge}
 use Rattle.brc_table.specs.Views.{holds, work_about}
 
 -- A table, as contracts see it: which one it is, and its size.
@@ -19,8 +19,17 @@ pub record TableState : Type 0 where
 pub record HandState : Type 0 where
   pub table : TableId
   pub view : View
-  -- the merge that the hand remembers, if it has begun one
-  pub merge : Option Merge
+  -- of each begun merge of a row of the thread's own block, the local count that was swapped out, by the row modulo
+  -- the most rows of a block
+  pub carried : List (Option ℕ)
+
+-- the local count that the hand carries from the row, if it has begun a merge of it
+abbrev pub carried_of : HandState → ℕ → Option ℕ
+carried_of hand x = slice_index_or hand.carried (x % row_limit) None
+
+-- The hand has begun no merge.
+abbrev pub CarriesNothing : HandState → Type 0
+CarriesNothing hand = (x : ℕ) → carried_of hand x ≡ None
 
 -- The hand is of the table.
 abbrev pub IsOf : TableState → HandState → Type 0

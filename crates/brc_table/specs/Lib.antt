@@ -8,3 +8,4 @@ pub mod Calls
 pub mod Opening
 pub mod Agreeing
 pub mod Giving
+pub mod Spares

@@ -1,18 +1,18 @@
 -- A hand's view as a thread of the counting machine, and what its steps make of it.
-use Rattle.std.specs.Prelude.{Some, Bool, ◌≡◌, ℕ, ◌<◌, ◌≤◌, true, ◌==◌, not, if◌then◌else◌, List, [], ◌∷◌, ◌++◌, None, count_by, fold, slice_get}
+use Rattle.std.specs.Prelude.{Bool, ◌≡◌, ℕ, ◌<◌, ◌≤◌, true, ◌==◌, not, if◌then◌else◌, Option, List, [], ◌∷◌, ◌++◌, None, length, count_by, fold}
 use Rattle.std.specs.List.{filter, list_any}
 use Rattle.brc_model.specs.declared.duty.Holding.TheVariants.{AsCaller}
 use Rattle.brc_model.specs.declared.duty.Duty.{Duty}
 use Rattle.brc_model.specs.declared.duty.Duty.TheVariants.{RetainLoad, ReleaseLoad, BirthKind}
 use Rattle.brc_model.specs.declared.actor.Status.TheVariants.{Running}
 use Rattle.brc_model.specs.declared.layout.Layout.{Layout}
-use Rattle.brc_model.specs.Limits.{thread_limit}
 use Rattle.brc_model.specs.Layout.{row_count, block_size, front_rows, root_row, row_at, is_immortal_row}
 use Rattle.brc_model.specs.Duties.{address_of, new_word, continuation, new_head, ready}
 use Rattle.brc_model.specs.Machine.{Actor, is_running, status_by, used_by, locked_by}
 use Rattle.brc_model.specs.OpenWork.{is_about}
 use Rattle.brc_table.specs.declared.view.View.{View}
 use Rattle.brc_table.specs.declared.view.Event.{Event}
+use Rattle.brc_table.specs.Spares.{is_spent_for}
 
 -- the thread of the counting machine that the view is of
 abbrev pub actor_of : View → Actor
@@ -132,9 +132,13 @@ bearing v word = record v {
 abbrev pub is_given : ℕ → View → Bool
 is_given thread main = list_any (λ t. t == thread) main.given
 
--- The row of booleans says of each thread whether its hand was given out.
-abbrev pub IsGivenBy : List Bool → View → Type 0
-IsGivenBy given main = (t : ℕ) → t < thread_limit → slice_get given t ≡ Some (is_given t main)
+-- Main has a spare for each worker, or has spent it.
+abbrev pub HasSpares : {A : Type 0} → List (Option A) → View → Type 0
+HasSpares spares main = main.thread ≡ 0 → length spares ≡ main.layout.workers
+
+-- A thread's spare is spent exactly if main has given out the thread's hand.
+abbrev pub IsGivenBy : {A : Type 0} → List (Option A) → View → Type 0
+IsGivenBy spares main = (t : ℕ) → is_spent_for spares t ≡ is_given t main
 
 -- ---- the first hands
 

@@ -1,10 +1,12 @@
 //! The right of one thread to act on a table.
 
-ghost use Rattle.std.specs.Prelude.{◌≡◌, ◌<◌};
-ghost use Rattle.brc_model.specs.Limits.{thread_limit};
+ghost use Rattle.std.specs.Prelude.{◌≡◌, ◌<◌, ◌%◌, slice_set};
+ghost use Rattle.brc_model.specs.Limits.{row_limit};
 ghost use Rattle.brc_model.specs.Machine.{is_running};
+ghost use Rattle.brc_table.specs.Hands.{carried_of};
 ghost use Rattle.brc_table.specs.Views.{RowsAreThere, is_given};
 
+use crate::carried::{BLOCK, Carried, Spare, is_spent};
 use crate::view::View;
 use atomic_table::Seat;
 use std::marker::Model;
@@ -21,33 +23,23 @@ pub struct Hand<T> {
     pub(crate) running: bool,
     pub(crate) head: u32,
     pub(crate) used: u32,
-    // Of main's hand, by thread: whether its hand was given out.
-    pub(crate) given: [bool; THREADS],
-    pub(crate) merge: Option<Merge>,
+    // Of main's hand, by worker: the memory that the worker's hand needs, until main gives that hand out.
+    pub(crate) spares: Vec<Option<Spare>>,
+    // Of each begun merge of a row of the thread's own block, the local count that was swapped out, by the row modulo
+    // the most rows of a block.
+    pub(crate) carried: Carried,
 }
-
-/// A merge that a hand has begun: it has swapped the object's local count out, and not yet added it to the shared
-/// count.
-#[derive(Clone, Copy, Debug)]
-pub struct Merge {
-    /// The object's row.
-    pub row: u32,
-    /// The local count that was swapped out.
-    pub carried: u32,
-}
-
-/// The most threads: main and 32 workers.
-pub(crate) const THREADS: usize = 33;
 
 impl<T> Model for Hand<T> {
-    ghost use Rattle.std.specs.Prelude.{◌≡◌, []};
+    ghost use Rattle.std.specs.Prelude.{◌≡◌, [], length};
+    ghost use Rattle.brc_model.specs.Limits.{row_limit};
     ghost use Rattle.brc_model.specs.Machine.{is_running};
     ghost use Rattle.brc_table.specs.Hands.{HandState};
-    ghost use Rattle.brc_table.specs.Views.{RowsAreThere, IsGivenBy};
+    ghost use Rattle.brc_table.specs.Views.{RowsAreThere, HasSpares, IsGivenBy};
 
     ghost Value = { HandState };
 
-    ghost view = { λ h. record { table = h.seat.table_id; view = h.seat.me.0; merge = h.merge } };
+    ghost view = { λ h. record { table = h.seat.table_id; view = h.seat.me.0; carried = h.carried.value } };
 
     ghost invariant = { λ h. (h.seat.me.1 ≡ [])
         × (h.thread ≡ h.seat.me.0.thread)
@@ -55,7 +47,9 @@ impl<T> Model for Hand<T> {
         × (h.head ≡ h.seat.me.0.head)
         × (h.used ≡ h.seat.me.0.used)
         × RowsAreThere h.seat.me.0
-        × IsGivenBy h.given h.seat.me.0 };
+        × HasSpares h.spares.items h.seat.me.0
+        × IsGivenBy h.spares.items h.seat.me.0
+        × (length h.carried.value ≡ row_limit) };
 }
 
 impl<T> Hand<T> {
@@ -82,25 +76,25 @@ impl<T> Hand<T> {
 
     /// Returns whether this hand, main's, has given out the thread's hand.
     pub fn has_given(&self, thread: u8) -> bool
-        requires { thread < thread_limit }
         ensures { result ≡ is_given thread self.now.view }
     {
-        self.given[thread as usize]
+        is_spent(self.spares.as_slice(), thread)
     }
 
-    /// Returns the merge that the hand remembers.
-    pub fn merge(&self) -> Option<Merge>
-        ensures { result ≡ self.now.merge }
+    /// Returns the local count that the hand carries from the row, if it has begun a merge of it.
+    pub fn carried(&self, row: u32) -> Option<u32>
+        ensures { result ≡ carried_of self.now row }
     {
-        self.merge
+        self.carried[row as usize % BLOCK]
     }
 
-    /// Remembers a merge, or none.
-    pub fn remember(&mut self, merge: Option<Merge>)
-        ensures merge { self.new.merge ≡ merge }
+    /// Remembers what the hand carries from the row, or that it carries nothing.
+    pub fn remember(&mut self, row: u32, carried: Option<u32>)
+        ensures carried { self.new.carried ≡ slice_set self.old.carried (row % row_limit) carried }
+        ensures row { carried_of self.new row ≡ carried }
         ensures same { (self.new.table ≡ self.old.table) × (self.new.view ≡ self.old.view) }
     {
-        self.merge = merge;
+        self.carried[row as usize % BLOCK] = carried;
     }
 
     /// States that the objects to which the hand holds references, and those of its duties, have rows.

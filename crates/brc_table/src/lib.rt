@@ -2,6 +2,7 @@
 //! threads change them, one atomic step at a time.
 #![tactic(auto)]
 
+mod carried;
 mod first_words;
 mod hand;
 mod laws;
@@ -15,7 +16,7 @@ mod steps;
 mod view;
 mod words;
 
-pub use hand::{Hand, Merge};
+pub use hand::Hand;
 pub use laws::counts_agree_in_every_table;
 pub use rule::Counting;
 pub use view::{Event, View};

@@ -34,7 +34,7 @@ impl<T: Drop> Words<T> {
         requires cells { cells_of word ≤ cell_limit }
         ensures row { result ≡ next_row hand.old.view }
         ensures table { hand.new.table ≡ hand.old.table }
-        ensures merge { hand.new.merge ≡ hand.old.merge }
+        ensures carried { hand.new.carried ≡ hand.old.carried }
         ensures view { hand.new.view ≡ done (bearing hand.old.view word) 0 }
     {
         work_is_put_aside();
@@ -65,7 +65,7 @@ impl<T: Drop> Words<T> {
         requires alive { hand.old.view.status ≢ Gone }
         requires duty { OwnsFirst row hand.old.view.agenda }
         ensures table { hand.new.table ≡ hand.old.table }
-        ensures merge { hand.new.merge ≡ hand.old.merge }
+        ensures carried { hand.new.carried ≡ hand.old.carried }
         ensures view { hand.new.view ≡ done hand.old.view (overwritten hand.old.view.agenda) }
     {
         self.layout_is_plain();
@@ -81,7 +81,7 @@ impl<T: Drop> Words<T> {
         requires alive { hand.old.view.status ≢ Gone }
         requires duty { ChainsRow row hand.old.view.agenda }
         ensures table { hand.new.table ≡ hand.old.table }
-        ensures merge { hand.new.merge ≡ hand.old.merge }
+        ensures carried { hand.new.carried ≡ hand.old.carried }
         ensures view { hand.new.view ≡ done hand.old.view (overwritten hand.old.view.agenda) }
     {
         self.layout_is_plain();

@@ -1,11 +1,12 @@
 //! Main gives out the hands of the workers.
 
-ghost use Rattle.std.specs.Prelude.{◌≡◌, ℕ, None};
+ghost use Rattle.std.specs.Prelude.{◌≡◌, ℕ};
 ghost use Rattle.brc_table.specs.Views.{giving, worker_view};
-ghost use Rattle.brc_table.specs.Hands.{IsOf};
+ghost use Rattle.brc_table.specs.Hands.{IsOf, CarriesNothing};
 ghost use Rattle.brc_table.specs.Giving.{MayGive};
 
-use crate::hand::{Hand, THREADS};
+use crate::carried::take_spare;
+use crate::hand::Hand;
 use crate::view::View;
 use crate::words::Words;
 use atomic_table::Split;
@@ -41,7 +42,8 @@ impl<T: Drop> Words<T> {
         ensures worker { IsOf self.now result }
         ensures main_view { main.new.view ≡ giving main.old.view thread }
         ensures worker_view { result.view ≡ worker_view self.now.layout thread }
-        ensures merges { (main.new.merge ≡ main.old.merge) × (result.merge ≡ None) }
+        ensures carried { main.new.carried ≡ main.old.carried }
+        ensures none { CarriesNothing result }
     {
         self.give_out::<Brand>(main, thread)
     }
@@ -55,20 +57,21 @@ impl<T: Drop> Words<T> {
         ensures worker { IsOf self.now result }
         ensures main_view { main.new.view ≡ giving main.old.view thread }
         ensures worker_view { result.view ≡ worker_view self.now.layout thread }
-        ensures merges { (main.new.merge ≡ main.old.merge) × (result.merge ≡ None) }
+        ensures carried { main.new.carried ≡ main.old.carried }
+        ensures none { CarriesNothing result }
     {
         references_are_handed_over();
         self.layout_is_plain();
         let seat = self.table.shared.split_seat::<GivesOut<W>>(&mut main.seat);
-        main.given[thread as usize] = true;
+        let spare = take_spare(&mut main.spares, thread);
         Hand {
             seat,
             thread,
             running: true,
             head: 0,
             used: 0,
-            given: [false; THREADS],
-            merge: None,
+            spares: Vec::new(*main.spares.allocator()),
+            carried: spare.carried,
         }
     }
 }

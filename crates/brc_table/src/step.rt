@@ -25,7 +25,7 @@ impl<T: Drop> Words<T> {
         requires there { row < row_count self.now.layout }
         requires makes { MakesQuietly (B.begins hand.old.view) (in_tile line row) (λ found. found) }
         ensures table { hand.new.table ≡ hand.old.table }
-        ensures merge { hand.new.merge ≡ hand.old.merge }
+        ensures carried { hand.new.carried ≡ hand.old.carried }
         ensures view { hand.new.view ≡ done (B.begins hand.old.view) result }
         ensures suits { SuitsFirst (B.begins hand.old.view) (B.begins hand.old.view).agenda result }
         ensures owner { FirstFindsOwner (B.begins hand.old.view) (B.begins hand.old.view).agenda result }
@@ -48,7 +48,7 @@ impl<T: Drop> Words<T> {
         requires there { row < row_count self.now.layout }
         requires makes { MakesQuietly (B.begins hand.old.view) (in_tile line row) (λ found. new) }
         ensures table { hand.new.table ≡ hand.old.table }
-        ensures merge { hand.new.merge ≡ hand.old.merge }
+        ensures carried { hand.new.carried ≡ hand.old.carried }
         ensures view { hand.new.view ≡ done (B.begins hand.old.view) result }
         ensures suits { SuitsFirst (B.begins hand.old.view) (B.begins hand.old.view).agenda result }
     {
@@ -70,7 +70,7 @@ impl<T: Drop> Words<T> {
         requires there { row < row_count self.now.layout }
         requires makes { MakesQuietly (B.begins hand.old.view) (in_tile line row) (λ found. (found + more) % 2 ^ 64) }
         ensures table { hand.new.table ≡ hand.old.table }
-        ensures merge { hand.new.merge ≡ hand.old.merge }
+        ensures carried { hand.new.carried ≡ hand.old.carried }
         ensures view { hand.new.view ≡ done (B.begins hand.old.view) result }
         ensures suits { SuitsFirst (B.begins hand.old.view) (B.begins hand.old.view).agenda result }
     {
@@ -99,7 +99,7 @@ impl<T: Drop> Words<T> {
         requires there { row < row_count self.now.layout }
         requires makes { MakesQuietly (B.begins hand.old.view) (in_tile line row) (λ found. either (found == old) new found) }
         ensures table { hand.new.table ≡ hand.old.table }
-        ensures merge { hand.new.merge ≡ hand.old.merge }
+        ensures carried { hand.new.carried ≡ hand.old.carried }
         ensures view { hand.new.view ≡ done (B.begins hand.old.view) result }
         ensures suits { SuitsFirst (B.begins hand.old.view) (B.begins hand.old.view).agenda result }
     {
@@ -133,7 +133,7 @@ impl<T: Drop> Words<T> {
         requires head { (done (B.begins hand.old.view) (overwritten (B.begins hand.old.view).agenda)).head ≡ head }
         requires used { (done (B.begins hand.old.view) (overwritten (B.begins hand.old.view).agenda)).used ≡ used }
         ensures table { hand.new.table ≡ hand.old.table }
-        ensures merge { hand.new.merge ≡ hand.old.merge }
+        ensures carried { hand.new.carried ≡ hand.old.carried }
         ensures view { hand.new.view ≡ done (B.begins hand.old.view) (overwritten (B.begins hand.old.view).agenda) }
     {
         duties_are_kept();

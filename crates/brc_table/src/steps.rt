@@ -34,7 +34,7 @@ impl<T: Drop> Words<T> {
         requires idle { HasNoWork hand.old.view row }
         requires few { length hand.old.view.references < most_references }
         ensures table { hand.new.table ≡ hand.old.table }
-        ensures merge { hand.new.merge ≡ hand.old.merge }
+        ensures carried { hand.new.carried ≡ hand.old.carried }
         ensures view { hand.new.view ≡ done (retaining hand.old.view row) result }
         ensures owner { OwnerFits hand.old.view.layout row result }
     {
@@ -53,7 +53,7 @@ impl<T: Drop> Words<T> {
         requires held { HoldsOne hand.old.view row }
         requires idle { HasNoWork hand.old.view row }
         ensures table { hand.new.table ≡ hand.old.table }
-        ensures merge { hand.new.merge ≡ hand.old.merge }
+        ensures carried { hand.new.carried ≡ hand.old.carried }
         ensures view { hand.new.view ≡ done (releasing hand.old.view row) result }
         ensures owner { OwnerFits hand.old.view.layout row result }
         ensures counted { owner_part result ≡ hand.old.view.thread + 1 → 1 ≤ local_part result }
@@ -72,7 +72,7 @@ impl<T: Drop> Words<T> {
         requires acts { CanAct hand.old.view }
         requires duty { LoadsShared row (work_about row hand.old.view) }
         ensures table { hand.new.table ≡ hand.old.table }
-        ensures merge { hand.new.merge ≡ hand.old.merge }
+        ensures carried { hand.new.carried ≡ hand.old.carried }
         ensures view { hand.new.view ≡ done (turned hand.old.view row) result }
         ensures suits { SuitsFirst (turned hand.old.view row) (work_about row hand.old.view) result }
     {
@@ -88,7 +88,7 @@ impl<T: Drop> Words<T> {
         requires acts { CanAct hand.old.view }
         requires duty { SwapsLocal row (work_about row hand.old.view) }
         ensures table { hand.new.table ≡ hand.old.table }
-        ensures merge { hand.new.merge ≡ hand.old.merge }
+        ensures carried { hand.new.carried ≡ hand.old.carried }
         ensures view { hand.new.view ≡ done (turned hand.old.view row) result }
     {
         work_is_put_aside();
@@ -103,7 +103,7 @@ impl<T: Drop> Words<T> {
         requires acts { CanAct hand.old.view }
         requires duty { StoresLocal row word hand.old.view.agenda }
         ensures table { hand.new.table ≡ hand.old.table }
-        ensures merge { hand.new.merge ≡ hand.old.merge }
+        ensures carried { hand.new.carried ≡ hand.old.carried }
         ensures view { hand.new.view ≡ done hand.old.view (overwritten hand.old.view.agenda) }
     {
         hand.rows_are_there();
@@ -117,7 +117,7 @@ impl<T: Drop> Words<T> {
         requires acts { CanAct hand.old.view }
         requires duty { AddsShared row hand.old.view.agenda }
         ensures table { hand.new.table ≡ hand.old.table }
-        ensures merge { hand.new.merge ≡ hand.old.merge }
+        ensures carried { hand.new.carried ≡ hand.old.carried }
         ensures view { hand.new.view ≡ done hand.old.view result }
     {
         hand.rows_are_there();
@@ -130,7 +130,7 @@ impl<T: Drop> Words<T> {
         requires acts { CanAct hand.old.view }
         requires duty { ExchangesShared row old new hand.old.view.agenda }
         ensures table { hand.new.table ≡ hand.old.table }
-        ensures merge { hand.new.merge ≡ hand.old.merge }
+        ensures carried { hand.new.carried ≡ hand.old.carried }
         ensures view { hand.new.view ≡ done hand.old.view result }
     {
         hand.rows_are_there();

@@ -1,15 +1,16 @@
 //! The words of all objects.
 
-ghost use Rattle.std.specs.Prelude.{◌≡◌, ◌<◌, ◌≤◌, IfOk, None};
+ghost use Rattle.std.specs.Prelude.{◌≡◌, ◌<◌, ◌≤◌, IfOk};
 ghost use Rattle.brc_model.specs.Layout.{block_size};
 ghost use Rattle.brc_model.specs.Limits.{worker_limit, row_limit};
 ghost use Rattle.brc_model.specs.Counting.{IsPlainLayout};
 ghost use Rattle.brc_table.specs.Views.{main_view};
-ghost use Rattle.brc_table.specs.Hands.{IsOf};
+ghost use Rattle.brc_table.specs.Hands.{IsOf, CarriesNothing};
 ghost use Rattle.brc_table.specs.Opening.{plain_layout};
 
+use crate::carried::{nothing_carried, spares_of};
 use crate::first_words::first_words;
-use crate::hand::{Hand, THREADS};
+use crate::hand::Hand;
 use crate::rule::Counting;
 use crate::size::{CELLS, FRONT_ROWS, row_count};
 use crate::view::View;
@@ -49,7 +50,7 @@ impl<T: Drop> Words<T> {
         ensures layout { IfOk result (λ made. made.0.layout ≡ plain_layout workers rows) }
         ensures table { IfOk result (λ made. IsOf made.0 made.1) }
         ensures view { IfOk result (λ made. made.1.view ≡ main_view (plain_layout workers rows)) }
-        ensures merge { IfOk result (λ made. made.1.merge ≡ None) }
+        ensures none { IfOk result (λ made. CarriesNothing made.1) }
     {
         hands_begin();
         let layout = Layout {
@@ -59,6 +60,8 @@ impl<T: Drop> Words<T> {
             immortal_lists: 0,
         };
         let words = first_words(alloc, layout)?;
+        let spares = spares_of(alloc, workers)?;
+        let carried = nothing_carried(alloc)?;
         let slots = row_count(layout);
         let (table, seat) = Table::vacant(alloc, words.as_slice(), slots, &layout)?;
         let main = Hand {
@@ -67,8 +70,8 @@ impl<T: Drop> Words<T> {
             running: true,
             head: 0,
             used: FRONT_ROWS,
-            given: [false; THREADS],
-            merge: None,
+            spares,
+            carried,
         };
         Ok((Words { table, layout }, main))
     }

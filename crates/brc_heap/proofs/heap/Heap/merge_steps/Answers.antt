@@ -20,7 +20,7 @@ returns-then-shared_exchange-word-clause-again g c = λ answered.
           ap (work_about c.args.row) (c.remember.ensures.same.1 ∙ view)
           ∙ merge_lost c.args.hand.now.view c.args.row c.args.carried word found c.requires.duty
           (ne_eqb found word c.if-shared_exchange-word.true);
-      begun = c.remember.ensures.merge;
+      begun = c.remember.ensures.row;
     }
 
 pub gate_store-requires-clause-duty : goal.gate_store-requires-clause-duty

@@ -3,6 +3,7 @@ use Rattle.brc_model.specs.Limits.{worker_limit, row_limit}
 use Rattle.brc_model.specs.Counting.{IsPlainLayout}
 use Rattle.brc_table.specs.Opening.{AreFirst, plain_layout}
 use Rattle.brc_table.proofs.Opening.{opening}
+use Rattle.brc_table.proofs.Spares.{nothing}
 use Rattle.brc_table.proofs.NewHands.{main_fits}
 use Rattle.brc_table.proofs.words.Words.new.Goals as goal
 
@@ -25,5 +26,9 @@ vacant-requires g c =
 
 pub invariant_of-main : goal.invariant_of-main
 invariant_of-main g c =
-    main_fits (plain_layout c.args.workers c.args.rows) c.in_ok-table.seat.me
-    (is_plain c.args.workers c.args.rows c.requires.workers c.requires.rows) c.in_ok-table.ensures.4
+    main_fits (plain_layout c.args.workers c.args.rows) c.in_ok-spares.spares.items c.in_ok-carried.carried.value
+    c.in_ok-table.seat.me (is_plain c.args.workers c.args.rows c.requires.workers c.requires.rows)
+    c.in_ok-spares.ensures.count c.in_ok-spares.ensures.left c.in_ok-carried.ensures c.in_ok-table.ensures.4
+
+pub returns-clause-none : goal.returns-clause-none
+returns-clause-none g c = nothing c.in_ok-carried.carried.value c.in_ok-carried.ensures
