@@ -6,9 +6,9 @@ ghost use Rattle.brc_model.specs.declared.layout.Layout.{Layout};
 ghost use Rattle.brc_world.specs.Starts.{action_at, CanBegin, Begins};
 
 use crate::dispatch::Start;
+use crate::question::Question;
 use crate::thread::Thread;
 use brc_lang::{Kind, Variable};
-use brc_model::Duty;
 
 /// Begins `as`: the load of the object's kind word, which decides where the thread goes on.
 #[inline(always)]
@@ -27,11 +27,11 @@ pub(super) fn ask_kind(
     match thread.row_of(from) {
         Some(row) => {
             thread.go_to(left, next);
-            Start::Asking {
-                duty: Duty::KindLoad { row },
+            Start::Asking(Question::Kind {
+                row,
                 kind,
                 otherwise,
-            }
+            })
         }
         None => Start::Stuck,
     }

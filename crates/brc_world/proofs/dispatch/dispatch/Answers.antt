@@ -18,7 +18,7 @@ begins : (c : After-next_instruction-in-Idle)
     (slice_get (code_of (slice_get c.args.functions.now c.args.thread.now.function)) 0)
     ≡ model.dispatch c.args.layout c.args.number c.args.thread.now.used
     (code_of (slice_get c.args.functions.now c.args.thread.now.function))
-    (place_of c.args.thread.now.stage c.args.thread.now.left c.args.thread.now.at c.args.thread.now.variables)
+    (place_of c.args.thread.now.mode c.args.thread.now.left c.args.thread.now.at c.args.thread.now.variables)
 begins c =
     let code = code_of (slice_get c.args.functions.now c.args.thread.now.function) in
     rw (c.entry_variables-thread.ensures, c.in-Idle.is)
