@@ -1,12 +1,17 @@
 #!/usr/bin/env python3
-"""Runs the examples of docs/LANGUAGE.md, and compares what is printed.
+"""Runs the examples of docs/LANGUAGE.md and docs/FROM_C.md and the modules of examples/README.md, and compares what
+is printed.
 
     python3 docs/language.py          takes the program at crates/brc/out/brc
     python3 docs/language.py --try    takes `rt try`, which needs no proof, but some minutes
 
-A block marked `module` or `schedule` is the file f.brc or f.schedule of the blocks `console` below it. A console block
-is one command, on a line that begins with `$`, and what it prints. The exit status has to be the one that the page's
+A block marked `module` or `schedule` is the file f.brc or f.schedule of the blocks `console` below it. If the mark goes
+on with a name, it is the file of this name, and has to be the same as the one in examples/from_c. A console block is
+one command, on a line that begins with `$`, and what it prints. The exit status has to be the one that LANGUAGE.md's
 table gives to such a line.
+
+A row of a table in examples/README.md names a module and what `brc check` prints of it. Each module has a row, and each
+file of examples/from_c a block in FROM_C.md.
 """
 import re
 import shlex
@@ -16,29 +21,64 @@ import tempfile
 from pathlib import Path
 
 ROOT = Path(__file__).resolve().parents[1]
-PAGE = ROOT / "docs" / "LANGUAGE.md"
+PAGES = [ROOT / "docs" / "LANGUAGE.md", ROOT / "docs" / "FROM_C.md"]
+EXAMPLES = ROOT / "examples"
+FROM_C = EXAMPLES / "from_c"
 PROGRAM = ROOT / "crates" / "brc" / "out" / "brc"
 STATUSES = {"refused": 1, "unreadable": 2, "no function": 2, "cannot write": 2, "no memory": 3}
 
 
 class Example:
-    def __init__(self, line, files, text):
-        command, self.wanted = text.split("\n", 1)
-        self.line, self.files = line, files
-        self.words = shlex.split(command.removeprefix("$ brc "))
-        self.status = next((s for start, s in STATUSES.items() if self.wanted.startswith(start)), 0)
+    def __init__(self, place, command, files, wanted):
+        self.place, self.files, self.wanted = place, files, wanted
+        self.words = shlex.split(command)
+        self.status = next((s for start, s in STATUSES.items() if wanted.startswith(start)), 0)
+
+
+def page_examples(page):
+    """The examples of a page, and the files that its blocks name."""
+    text = page.read_text()
+    files, found, named = {}, [], {}
+    for block in re.finditer(r"^```(module|schedule|console)(?: (\S+))?\n(.*?)^```$", text, re.M | re.S):
+        mark, name, inner = block.groups()
+        if mark == "console":
+            line = text.count("\n", 0, block.start()) + 1
+            command, wanted = inner.split("\n", 1)
+            found.append(Example(f"{page.name}, line {line}", command.removeprefix("$ brc "), dict(files), wanted))
+        else:
+            files[name or ("f.brc" if mark == "module" else "f.schedule")] = inner
+            if name:
+                named[name] = inner
+    return found, named
+
+
+def table_examples():
+    """The rows of examples/README.md that name a module."""
+    page = EXAMPLES / "README.md"
+    found, named = [], set()
+    for line, row in enumerate(page.read_text().splitlines(), 1):
+        match = re.fullmatch(r"\| `(\S+\.brc)` \|.*\| `([^`]+)` \|", row)
+        if match:
+            named.add(match.group(1))
+            files = {"f.brc": (EXAMPLES / match.group(1)).read_text()}
+            found.append(Example(f"examples/README.md, line {line}", "check f.brc", files, match.group(2) + "\n"))
+    return found, named
 
 
 def examples():
-    text = PAGE.read_text()
-    files, found = {}, []
-    for block in re.finditer(r"^```(module|schedule|console)\n(.*?)^```$", text, re.M | re.S):
-        line = text.count("\n", 0, block.start()) + 1
-        if block.group(1) == "console":
-            found.append(Example(line, dict(files), block.group(2)))
-        else:
-            files["f.brc" if block.group(1) == "module" else "f.schedule"] = block.group(2)
-    return found
+    """All examples, and the faults of files that differ or aren't named."""
+    found, faults = [], []
+    for page in PAGES:
+        more, named = page_examples(page)
+        found += more
+        faults += [f"{page.name}: {name} differs from examples/from_c" for name, text in named.items()
+                   if not (FROM_C / name).exists() or (FROM_C / name).read_text() != text]
+    faults += [f"{PAGES[1].name}: {path.name} has no block" for path in sorted(FROM_C.iterdir())
+               if path.name not in named]
+    more, named = table_examples()
+    faults += [f"examples/README.md: {path.relative_to(EXAMPLES)} has no row" for path in sorted(EXAMPLES.rglob("*.brc"))
+               if str(path.relative_to(EXAMPLES)) not in named]
+    return found + more, faults
 
 
 def run_program(found):
@@ -57,22 +97,25 @@ def output_of(line):
 
 
 def run_try(found):
-    """The same by `rt try`, which builds once for all examples of one command: f.brc is the case, and the rest of the
-    command line its further arguments. A command without f.brc is run on its own."""
+    """The same by `rt try`, which builds once for all examples of one command: the module is the case, and the rest of
+    the command line its further arguments. A command without a module is run on its own."""
+    alone = [example for example in found if not set(example.words) & set(example.files)]
     for command in ("check", "run", "step"):
-        cases = [example for example in found if example.words[:2] == [command, "f.brc"]]
+        cases = [example for example in found if example.words[0] == command and example not in alone]
         with tempfile.TemporaryDirectory() as folder:
             (Path(folder) / "cases").mkdir()
             data = []
             for number, example in enumerate(cases):
                 case = Path(folder) / "cases" / f"case{number}"
-                case.write_text(example.files["f.brc"])
-                schedule = Path(folder) / f"schedule{number}"
-                schedule.write_text(example.files.get("f.schedule", ""))
-                more = [word.replace("f.schedule", schedule.name) for word in example.words[2:]]
+                case.write_text(example.files[example.words[1]])
+                more = example.words[2:]
+                if command == "step":
+                    schedule = Path(folder) / f"schedule{number}"
+                    schedule.write_text(example.files[more[0]])
+                    more = [schedule.name]
+                    data += ["--data", f"{schedule.name}={schedule}"]
                 if more:
                     case.with_suffix(".args").write_text("\n".join(more) + "\n")
-                    data += ["--data", f"{schedule.name}={schedule}"]
             line = ["rt", "try", "--cases", f"{folder}/cases", *data, "--", command, "{}"]
             done = output_of(line)
         answers = re.findall(r"^== case(\d+)\n(.*?)^case=case\1 .*?status=(\d+)", done, re.M | re.S)
@@ -80,21 +123,19 @@ def run_try(found):
             sys.exit(done)
         for number, printed, status in answers:
             yield cases[int(number)], printed, int(status)
-    for example in found:
-        if "f.brc" not in example.words:
-            done = output_of(["rt", "try", "--", *example.words])
-            printed, status = re.search(r"(.*?)^checked: ended status=(\d+)", done, re.M | re.S).groups()
-            yield example, printed, int(status)
+    for example in alone:
+        done = output_of(["rt", "try", "--", *example.words])
+        printed, status = re.search(r"(.*?)^checked: ended status=(\d+)", done, re.M | re.S).groups()
+        yield example, printed, int(status)
 
 
 def main():
-    found, wrong = examples(), 0
+    found, faults = examples()
     for example, printed, status in (run_try if "--try" in sys.argv[1:] else run_program)(found):
         if (printed, status) != (example.wanted, example.status):
-            wrong += 1
-            print(f"LANGUAGE.md, line {example.line}: status {status}, and it prints\n{printed}")
-    print(f"{len(found)} examples, {wrong} wrong")
-    sys.exit(1 if wrong else 0)
+            faults.append(f"{example.place}: status {status}, and it prints\n{printed}")
+    print(*faults, f"{len(found)} examples, {len(faults)} wrong", sep="\n")
+    sys.exit(1 if faults else 0)
 
 
 main()
