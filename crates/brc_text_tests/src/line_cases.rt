@@ -11,6 +11,18 @@ read: none v0
 read: none v15
 read: move v0 v15
 read: move v15 v0
+read: lock v0
+read: lock v15
+read: unlock v0
+read: unlock v15
+read: borrow v15 v0 0 else @1
+read: borrow v0 v15 255 else @1
+read: fetch v15 v0 10 else @1
+read: fetch v1 v1 249 else @1
+read: set v15 0 v0 else @1
+read: set v0 255 v15 else @1
+read: put v15 10 v0 else @1
+read: put v1 249 v1 else @1
 read: as v0 none else @1
 read: as v1 num else @1
 read: as v9 list else @1
@@ -108,6 +120,31 @@ line 3 L2: none v16 v16
 line 3 L3: move v16 x
 line 3 L2: move x v16
 line 3 L2: move v16 v16 v16
+line 3 L2: lock v16 v16
+line 3 L2: unlock v16 v16
+line 3 L2: borrow v16 v16 256 else @256 x
+line 3 L2: borrow v16 v16 256 or @256
+line 3 L3: borrow v16 x 256 else 1
+line 3 L2: borrow x v16 256 else @256
+line 3 L2: borrow v1 x 256 else @256
+line 3 L3: borrow v1 v16 x else 1
+line 3 L3: borrow v1 v0 256 else 1
+line 3 L2: fetch v16 v16 256 or @256
+line 3 L3: fetch v16 x 256 else 1
+line 3 L2: fetch v1 x 256 else @256
+line 3 L3: fetch v1 v0 256 else 1
+line 3 L2: set v16 256 v16 else @256 x
+line 3 L2: set v16 256 v16 or @256
+line 3 L3: set v16 256 x else 1
+line 3 L2: set x 256 v16 else @256
+line 3 L3: set v0 256 x else 1
+line 3 L2: set v0 0 x else @256
+line 3 L3: set v0 0 v16 else 1
+line 3 L2: put v16 256 v16 or @256
+line 3 L2: put x 256 v16 else @256
+line 3 L3: put v0 256 x else 1
+line 3 L2: put v0 0 x else @256
+line 3 L3: put v0 0 v16 else 1
 line 3 L2: goto @256 x
 line 3 L2: goto 256
 ";
@@ -130,6 +167,143 @@ line 3 L2: move v1 v2 v3
 line 3 L2: move v1  v2
 line 3 L3: move v1 v01
 line 3 L3: move v1 v99
+";
+
+// Words of `lock` and `unlock`.
+pub const LOCK_AND_UNLOCK: &str = "\
+line 3 L2: lock
+line 3 L2: lock 
+line 3 L2: lock 1
+line 3 L2: lock v1 v2
+line 3 L2: lock  v1
+line 3 L2: lock v1 
+line 3 L3: lock v
+line 3 L3: lock v16
+line 3 L3: lock v01
+line 3 L2: loc v1
+line 3 L2: locks v1
+line 3 L2: Lock v1
+line 3 L2: unlock
+line 3 L2: unlock 
+line 3 L2: unlock 1
+line 3 L2: unlock v1 v2
+line 3 L2: unlock  v1
+line 3 L3: unlock v
+line 3 L3: unlock v16
+line 3 L3: unlock v00
+line 3 L2: un lock v1
+line 3 L2: unlocks v1
+";
+
+// Numbers of `borrow` and `fetch`: the index is 0 to 255, also where no list has that many cells.
+pub const ITEM_NUMBERS: &str = "\
+line 3 L3: borrow v1 v0 256 else @1
+line 3 L3: borrow v1 v0 4294967296 else @1
+line 3 L3: borrow v1 v0 18446744073709551616 else @1
+line 3 L3: borrow v1 v0 00 else @1
+line 3 L3: borrow v1 v0 01 else @1
+line 3 L3: borrow v1 v0 -1 else @1
+line 3 L3: borrow v1 v0 1x else @1
+line 3 L3: borrow v1 v0 v0 else @1
+line 3 L3: borrow v1 v0  else @1
+line 3 L3: borrow v16 v0 0 else @1
+line 3 L3: borrow v1 v16 0 else @1
+line 3 L3: borrow v1 v00 0 else @1
+line 3 L3: borrow v1 v0 0 else @
+line 3 L3: borrow v1 v0 0 else @256
+line 3 L3: borrow v1 v0 0 else @01
+line 3 L3: fetch v1 v0 256 else @1
+line 3 L3: fetch v1 v0 01 else @1
+line 3 L3: fetch v1 v0 x else @1
+line 3 L3: fetch v01 v0 0 else @1
+line 3 L3: fetch v1 v16 0 else @1
+line 3 L3: fetch v1 v0 0 else @256
+";
+
+// Words of `borrow` and `fetch`.
+pub const ITEM_WORDS: &str = "\
+line 3 L2: borrow
+line 3 L2: borrow v1
+line 3 L2: borrow v1 v0
+line 3 L2: borrow v1 v0 0
+line 3 L2: borrow v1 v0 0 else
+line 3 L2: borrow v1 v0 0 @1
+line 3 L2: borrow v1 v0 else @1
+line 3 L2: borrow v1 v0 0 else @1 @1
+line 3 L2: borrow v1  v0 0 else @1
+line 3 L2: borrow v1 v0 0 else @1 
+line 3 L2: borrow v1 v0 0 els @1
+line 3 L2: borrow v1 v0 0 elsewhere @1
+line 3 L2: borrow v1 v0 0 @1 else
+line 3 L2: borrow v1 v0 else 0 @1
+line 3 L2: borrow v1 v0 0 else 1
+line 3 L2: borrow v1 v0 0 else v1
+line 3 L2: borrow 1 v0 0 else @1
+line 3 L2: borrow v1 0 0 else @1
+line 3 L2: borrow v0 0 v1 else @1
+line 3 L2: borrows v1 v0 0 else @1
+line 3 L2: fetch
+line 3 L2: fetch v1 v0 0
+line 3 L2: fetch v1 v0 0 else
+line 3 L2: fetch v1 v0 0 else @1 @1
+line 3 L2: fetch v1 v0 0 or @1
+line 3 L2: fetch v1 v0 0 else 1
+line 3 L2: fetch v0 0 v1 else @1
+line 3 L2: fetc v1 v0 0 else @1
+";
+
+// Numbers of `set` and `put`.
+pub const STORE_NUMBERS: &str = "\
+line 3 L3: set v0 256 v1 else @1
+line 3 L3: set v0 4294967296 v1 else @1
+line 3 L3: set v0 18446744073709551616 v1 else @1
+line 3 L3: set v0 00 v1 else @1
+line 3 L3: set v0 01 v1 else @1
+line 3 L3: set v0 -1 v1 else @1
+line 3 L3: set v0 v1 0 else @1
+line 3 L3: set v0  v1 else @1
+line 3 L3: set v16 0 v1 else @1
+line 3 L3: set v0 0 v16 else @1
+line 3 L3: set v0 0 v01 else @1
+line 3 L3: set v0 0 v1 else @
+line 3 L3: set v0 0 v1 else @256
+line 3 L3: set v0 0 v1 else @01
+line 3 L3: put v0 256 v1 else @1
+line 3 L3: put v0 01 v1 else @1
+line 3 L3: put v0 v1 0 else @1
+line 3 L3: put v16 0 v1 else @1
+line 3 L3: put v0 0 v16 else @1
+line 3 L3: put v0 0 v1 else @256
+";
+
+// Words of `set` and `put`.
+pub const STORE_WORDS: &str = "\
+line 3 L2: set
+line 3 L2: set v0
+line 3 L2: set v0 0
+line 3 L2: set v0 0 v1
+line 3 L2: set v0 0 v1 else
+line 3 L2: set v0 0 v1 @1
+line 3 L2: set v0 v1 else @1
+line 3 L2: set v0 0 v1 else @1 @1
+line 3 L2: set v0  0 v1 else @1
+line 3 L2: set v0 0 v1 else @1 
+line 3 L2: set v0 0 v1 els @1
+line 3 L2: set v0 0 v1 elsewhere @1
+line 3 L2: set v0 0 v1 @1 else
+line 3 L2: set v0 0 v1 else 1
+line 3 L2: set v0 0 v1 else v1
+line 3 L2: set 0 0 v1 else @1
+line 3 L2: set v0 0 1 else @1
+line 3 L2: sets v0 0 v1 else @1
+line 3 L2: put
+line 3 L2: put v0 0 v1
+line 3 L2: put v0 0 v1 else
+line 3 L2: put v0 0 v1 else @1 @1
+line 3 L2: put v0 0 v1 or @1
+line 3 L2: put v0 0 v1 else 1
+line 3 L2: put v0 0 1 else @1
+line 3 L2: pu v0 0 v1 else @1
 ";
 
 // Words of `as`: the kind comes after the variable, and before the target.

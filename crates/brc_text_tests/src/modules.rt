@@ -1,6 +1,6 @@
 use crate::line_cases::{
-    AS_WORDS, IN_ORDER, LIST_NUMBERS, LIST_WORDS, NONE_AND_MOVE, NUM_NUMBERS, NUM_WORDS, READ,
-    TARGETS,
+    AS_WORDS, IN_ORDER, ITEM_NUMBERS, ITEM_WORDS, LIST_NUMBERS, LIST_WORDS, LOCK_AND_UNLOCK,
+    NONE_AND_MOVE, NUM_NUMBERS, NUM_WORDS, READ, STORE_NUMBERS, STORE_WORDS, TARGETS,
 };
 use crate::target_cases::{AHEAD, EARLIER, NOT_AHEAD};
 use brc_lang::{FaultCode, Instr, Kind, ReadFault, Sequence, Variable, read, write, write_bytes};
@@ -23,7 +23,7 @@ const HEAD: &[u8] = b"module 1\nfunc f\n";
 const BELOW: &[u8] = b"\nfail\nend\n";
 
 // The text above the cases, the cases, and the text below them.
-const TABLES: [(&[u8], &str, &[u8]); 13] = [
+const TABLES: [(&[u8], &str, &[u8]); 18] = [
     (b"", MODULES, b""),
     (HEAD, READ, BELOW),
     (HEAD, NUM_NUMBERS, BELOW),
@@ -32,6 +32,11 @@ const TABLES: [(&[u8], &str, &[u8]); 13] = [
     (HEAD, LIST_WORDS, BELOW),
     (HEAD, IN_ORDER, BELOW),
     (HEAD, NONE_AND_MOVE, BELOW),
+    (HEAD, LOCK_AND_UNLOCK, BELOW),
+    (HEAD, ITEM_NUMBERS, BELOW),
+    (HEAD, ITEM_WORDS, BELOW),
+    (HEAD, STORE_NUMBERS, BELOW),
+    (HEAD, STORE_WORDS, BELOW),
     (HEAD, AS_WORDS, BELOW),
     (HEAD, TARGETS, BELOW),
     (HEAD, AHEAD, b""),
@@ -173,6 +178,42 @@ fn reads_each_instruction(rt: HostRuntime) {
     for (text, name, code) in table {
         assert!(rt; reads_as(rt.alloc(), text, name, code), "{text:?}");
     }
+}
+
+#[test]
+fn reads_each_instruction_of_a_critical_section(rt: HostRuntime) {
+    let (low, high) = (Variable::new(0), Variable::new(15));
+    let code = [
+        Instr::Lock { object: low },
+        Instr::Borrow {
+            to: high,
+            list: low,
+            index: 255,
+            otherwise: 5,
+        },
+        Instr::Fetch {
+            to: Variable::new(1),
+            list: Variable::new(10),
+            index: 0,
+            otherwise: 5,
+        },
+        Instr::Set {
+            list: low,
+            index: 7,
+            from: Variable::new(2),
+            otherwise: 5,
+        },
+        Instr::Put {
+            list: Variable::new(9),
+            index: 200,
+            from: high,
+            otherwise: 5,
+        },
+        Instr::Unlock { object: high },
+    ];
+    let text = b"module 1\nfunc f\nlock v0\nborrow v15 v0 255 else @5\nfetch v1 v10 0 else @5\n\
+        set v0 7 v2 else @5\nput v9 200 v15 else @5\nunlock v15\nend\n";
+    assert!(rt; reads_as(rt.alloc(), text, b"f", &code));
 }
 
 // The length of the first prefix of the smallest text with another answer.

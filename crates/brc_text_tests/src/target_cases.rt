@@ -7,6 +7,10 @@ read: num v1 1 else @1|fail|end|
 read: as v1 num else @1|fail|end|
 read: num v1 1 else @2|goto @2|fail|end|
 read: list v1 1 else @1|fail|end|
+read: borrow v1 v0 0 else @1|fail|end|
+read: fetch v1 v0 0 else @1|fail|end|
+read: set v0 0 v1 else @1|fail|end|
+read: put v0 0 v1 else @1|fail|end|
 read: fail|goto @2|goto @3|fail|end|
 read: fail|end|func g|goto @1|fail|end|
 ";
@@ -23,6 +27,14 @@ line 5 L4: num v1 1 else @0|fail|end|
 line 5 L4: num v1 1 else @2|fail|end|
 line 5 L4: list v1 1 else @0|fail|end|
 line 5 L4: list v1 1 else @2|fail|end|
+line 5 L4: borrow v1 v0 0 else @0|fail|end|
+line 5 L4: borrow v1 v0 0 else @2|fail|end|
+line 5 L4: fetch v1 v0 0 else @0|fail|end|
+line 5 L4: fetch v1 v0 0 else @2|fail|end|
+line 5 L4: set v0 0 v1 else @0|fail|end|
+line 5 L4: set v0 0 v1 else @2|fail|end|
+line 5 L4: put v0 0 v1 else @0|fail|end|
+line 5 L4: put v0 0 v1 else @2|fail|end|
 line 5 L4: as v1 num else @0|fail|end|
 line 5 L4: as v1 num else @2|fail|end|
 line 9 L4: goto @1|fail|end|func g|fail|goto @255|end|end|

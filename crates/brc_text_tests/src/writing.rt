@@ -116,6 +116,46 @@ fn writes_each_instruction(rt: HostRuntime) -> Result<(), Fail> {
     Ok(())
 }
 
+#[test]
+fn writes_each_instruction_of_a_critical_section(rt: HostRuntime) -> Result<(), Fail> {
+    let (low, high) = (Variable::new(0), Variable::new(15));
+    let code = [
+        Instr::Lock { object: high },
+        Instr::Borrow {
+            to: low,
+            list: high,
+            index: 255,
+            otherwise: 0,
+        },
+        Instr::Fetch {
+            to: high,
+            list: Variable::new(9),
+            index: 0,
+            otherwise: 255,
+        },
+        Instr::Set {
+            list: high,
+            index: 10,
+            from: low,
+            otherwise: 5,
+        },
+        Instr::Put {
+            list: Variable::new(1),
+            index: 200,
+            from: Variable::new(2),
+            otherwise: 100,
+        },
+        Instr::Unlock { object: low },
+    ];
+    let text = b"module 1\nfunc f\nlock v15\nborrow v0 v15 255 else @0\nfetch v15 v9 0 else @255\n\
+        set v15 10 v0 else @5\nput v1 200 v2 else @100\nunlock v0\nend\n";
+    assert_eq!(rt;
+        written(rt.alloc(), &[(b"f", &code)])?.as_slice(),
+        text.as_slice()
+    );
+    Ok(())
+}
+
 // Whether the smallest module is written over a writer that takes `left` bytes, and the bytes that it takes.
 fn over_narrow(alloc: Global, stop: Stop, left: usize) -> Result<(bool, Vec<u8>), AllocError> {
     let mut functions = Sequence::new(alloc);
