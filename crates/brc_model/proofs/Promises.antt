@@ -1,13 +1,12 @@
 -- What is promised of an accepted module (`Safe.accepted_is_safe`) and of each event follows from the invariant.
 --
--- In order: `Agreeing`; `StepCases`, which splits an event by its action, and over it `NoCells`, which `Safe` needs;
--- `Counting`, the laws of the counting machine; `StatesRise` to `ClosedOnce`; `Gates`, `Births`, `MarksWatched` and
--- `KindWords`; `RowLaws`, which extends these laws to every list of events; `KnownKinds`, what the checker says of
--- kinds; then the laws of the world: `Worlds`, `AgendaMoves`, `Emptied`, `StepsMove`, `Trace`. `Rules` proves that the
--- named rules are the steps. `Worked` computes three schedules.
+-- In order: `Agreeing`; `NoCells`, over `Keeping/StepCases`, which `Safe` needs; `Counting`, the laws of the counting
+-- machine; `StatesRise` to `ClosedOnce`; `Gates`, `Births`, `MarksWatched` and `KindWords`; `RowLaws`, which extends
+-- these laws to every list of events; `KnownKinds`, what the checker says of kinds; then the laws of the world: `Worlds`,
+-- `AgendaMoves`, `Emptied`, `StepsMove`, `LocksWait`, `Trace`. `Rules` proves that the named rules are the steps. `Worked` computes
+-- three schedules.
 
 pub mod Agreeing
-pub mod StepCases
 pub mod NoCells
 pub mod Safe
 pub mod Counting
@@ -25,6 +24,7 @@ pub mod Worlds
 pub mod AgendaMoves
 pub mod Emptied
 pub mod StepsMove
+pub mod LocksWait
 pub mod Trace
 pub mod Rules
 pub mod Worked

@@ -1,7 +1,7 @@
 -- Whatever a thread of accepted code does at an event fits it: it is never stuck, the moves of a silent step are its
 -- own, and a duty that it does is one that the invariant allows in its agenda.
-use Rattle.std.proofs.Common.{◌≡◌, ◌≢◌, ℕ, true, List, [], ◌∷◌, Some, refl, sym, ap, ◌∙◌, subst, arith}
-use Rattle.std.specs.Prelude.{slice_get, sum_by}
+use Rattle.std.proofs.Common.{◌≡◌, ◌≢◌, ℕ, ◌<◌, ◌≤◌, true, List, [], ◌∷◌, Option, Some, refl, sym, ap, ◌∙◌, subst, arith}
+use Rattle.std.specs.Prelude.{◌==◌, slice_get, sum_by}
 use Rattle.std.proofs.lemmas.Option.{slice_get_within}
 use Rattle.brc_lang.specs.declared.module.Module.{Module}
 use Rattle.brc_model.specs.AbstractState.{Move}
@@ -11,32 +11,47 @@ use Rattle.brc_model.specs.declared.duty.Duty.TheVariants.{ClaimMark}
 use Rattle.brc_model.specs.declared.actor.Status.{Status}
 use Rattle.brc_model.specs.declared.actor.Status.TheVariants.{Running, Leaving, Gone}
 use Rattle.brc_model.specs.declared.actor.Place.{Place}
+use Rattle.brc_model.specs.declared.actor.Place.TheVariants.{Idle, InCall, Exiting}
 use Rattle.brc_model.specs.declared.thread.Choice.{Choice}
 use Rattle.brc_model.specs.declared.thread.Choice.TheVariants.{Ok, Fault, Claim}
-use Rattle.brc_model.specs.Machine.{Actor, Machine, with_actor}
+use Rattle.brc_model.specs.Machine.{Actor, Machine, with_actor, locked_by}
 use Rattle.brc_model.specs.Actions.{StepActor, Action, Skip, Stuck, Silent, Does, agenda_action, status_action, may_claim, action_of}
 use Rattle.brc_model.specs.StepMachine.{StepMachine, counting}
 use Rattle.brc_model.proofs.Basics.Bag.{held-le-references_to}
 use Rattle.brc_model.proofs.Basics.Lists.{either, slice_get-set_same, set_found, none_some}
-use Rattle.brc_model.specs.References.{reference_of}
-use Rattle.brc_model.specs.Accounts.{Account, Accounts}
-use Rattle.brc_model.specs.OpenWork.{exits}
+use Rattle.brc_model.specs.References.{held, one_if, reference_of}
+use Rattle.brc_model.specs.KnownKinds.{KnowsKinds, kind_words}
+use Rattle.brc_model.specs.Gates.{LocksFit}
+use Rattle.brc_model.specs.declared.duty.Holding.{Holding}
+use Rattle.brc_model.specs.AbstractState.{Reference}
+use Rattle.brc_lang.specs.declared.module.Instr.{Instr}
+use Rattle.brc_lang.specs.declared.module.Function.{Function}
+use Rattle.brc_model.specs.Limits.{cell_limit}
+use Rattle.brc_model.proofs.Frame.Aside.{HoldsAlone}
+use Rattle.brc_model.proofs.Dispatch.Holds.{of_variables}
+use Rattle.brc_model.proofs.Dispatch.Guards.{guards_held}
+use Rattle.brc_model.proofs.Dispatch.Kinds.{entry_true}
+use Rattle.brc_model.proofs.Dispatch.Lockable.{lockable_counted}
+use Rattle.brc_model.proofs.Dispatch.Taking.{SeesKinds}
+use Rattle.std.proofs.lemmas.List.Sums.{sum_by-cons}
+use Rattle.brc_model.specs.Accounts.{Account, Accounts, lacks}
+use Rattle.brc_model.specs.OpenWork.{exits, is_about}
 use Rattle.brc_model.specs.Invariant.{CoreInvariant, Invariant}
-use Rattle.brc_model.proofs.Dispatch.Coded.{PlaceSays, is_departing, stays_elsewhere, placed_by, says_bounded}
-use Rattle.brc_model.proofs.Dispatch.Unlocked.{locking}
+use Rattle.brc_model.proofs.Dispatch.Coded.{PlaceSays, PlaceFits, idle_unlocked, is_departing, stays_elsewhere, placed_by, says_bounded}
+use Rattle.brc_model.proofs.Dispatch.Unlocked.{locking, plain_locked}
 use Rattle.brc_model.proofs.Keeping.SilentSteps.{SilentSits}
-use Rattle.brc_model.proofs.Dispatch.Begins.{Starts, Gives, Takes, Bears, Asks, Follows, Nothing, Settles, Leaves, IsTaken}
+use Rattle.brc_model.proofs.Dispatch.Begins.{scene_of, holds_plain, Starts, Gives, Takes, Bears, Asks, Locks, Unlocks, Follows, Nothing, Settles, Leaves, IsTaken}
 use Rattle.brc_model.proofs.Keeping.SilentMoves.{bag_after}
 use Rattle.brc_model.proofs.Keeping.Sits.{sitting, Sits, AtRest}
 use Rattle.brc_model.specs.Counting.{with_account}
 use Rattle.brc_model.proofs.Keeping.Replaced.{with_account_itself}
-use Rattle.brc_model.proofs.Dispatch.TakenSits.{taken_sits, claim_sits, rests, dispatch_fits, starts_settled, starts_plain}
+use Rattle.brc_model.proofs.Dispatch.TakenSits.{taken_sits, claim_sits, rests, dispatch_fits, starts_settled, follows_plain}
 use Rattle.brc_model.proofs.Dispatch.Counting.{its_found}
 use Rattle.brc_model.proofs.Stepping.Neutral.{found_by}
 use Rattle.brc_model.proofs.Keeping.Kept.{Doing, sits_down}
 use Rattle.brc_model.proofs.Keeping.CodeInvariant.{CodeInvariant}
 use Rattle.brc_model.proofs.Basics.Blocks.{used_row, next_within}
-use Rattle.brc_model.specs.Ranges.{IsSmall, AreSmall}
+use Rattle.brc_model.specs.Ranges.{IsSmall, AreSmall, cells_named}
 use Rattle.brc_model.proofs.Limits.Ranges.{row_small, settle_small, leave_small, referenced_small}
 use Rattle.brc_model.proofs.Dispatch.Claims.{claimer}
 use Rattle.brc_model.specs.declared.layout.Layout.{Layout}
@@ -47,7 +62,7 @@ pub record SilentFits (p : Module) (c : Accounts) (n : ℕ) (m : StepMachine) (t
     (place : Place) : Type 0 where
   pub at : AtRest c n (counting m) t a.actor
   pub account : Account
-  pub says : PlaceSays (code_of (slice_get p.functions a.function)) place account
+  pub says : PlaceSays (code_of (slice_get p.functions a.function)) place a.actor.locked account
   pub departs : exits a.actor.status [] ≡ is_departing place
   pub sits : SilentSits (counting m) t a.actor moves account
 
@@ -56,12 +71,13 @@ pub record SilentFits (p : Module) (c : Accounts) (n : ℕ) (m : StepMachine) (t
 pub record DutyFits (p : Module) (c : Accounts) (n : ℕ) (m : StepMachine) (t : ℕ) (a : StepActor) (d : Duty)
     (rest : List Duty) (place : Place) : Type 0 where
   pub account : Account
-  pub says : PlaceSays (code_of (slice_get p.functions a.function)) place account
+  pub says : PlaceSays (code_of (slice_get p.functions a.function)) place
+      (locked_by a.actor.locked d (found_by (counting m) t a.actor d)) account
   pub departs : exits a.actor.status (d ∷ rest) ≡ is_departing place
   pub doing : Doing (with_account c t account) n (with_actor (counting m) t (sitting a.actor (d ∷ rest))) t
       (sitting a.actor (d ∷ rest)) d rest
   pub small : AreSmall (row_count m.layout) a.actor.agenda → AreSmall (row_count m.layout) (d ∷ rest)
-  pub plain : sum_by locking (d ∷ rest) ≡ 0
+  pub plain : sum_by locking rest ≡ 0
 
 abbrev pub ActionFits : Module → Accounts → ℕ → StepMachine → ℕ → StepActor → Action → Type 0
 ActionFits p c n m t a Skip = Unit {0}
@@ -88,9 +104,14 @@ duty_fits p n m t a d rest whole found alive is =
       life = m.life;
     }) in
     let c = whole.accounts in
+    let own = whole.coded t a found in
+    let plain : sum_by locking (d ∷ rest) ≡ 0 = ap (sum_by locking) (sym is) ∙ own.plain in
+    let unlocked = plain_locked a.actor.locked d (found_by (counting m) t a.actor d)
+    (omega (arith, plain, sum_by-cons locking d rest)) in
     record {
       account = c t;
-      says = (whole.coded t a found).says;
+      says = subst (λ (w : Option ℕ). PlaceSays (code_of (slice_get p.functions a.function)) a.place w (c t)) (sym unlocked)
+          own.says;
       departs = ap (exits a.actor.status) (sym is) ∙ (whole.coded t a found).departs;
       doing = record {
         kept = subst (λ (q : Accounts). Invariant q n (with_actor (counting m) t (sitting a.actor (d ∷ rest))))
@@ -102,27 +123,33 @@ duty_fits p n m t a d rest whole found alive is =
         alive = alive;
       };
       small = λ was. subst (AreSmall (row_count m.layout)) is was;
-      plain = ap (sum_by locking) (sym is) ∙ (whole.coded t a found).plain;
+      plain = omega (arith, plain, sum_by-cons locking d rest);
     }
 
 -- ---- the duty is dispatched
 
+held_small : (p : Accounts) (n : ℕ) (m : Machine) (t row : ℕ) (by : Holding) (d : Duty) → CoreInvariant p n m
+    → 0 < held (reference_of t by row) m.abstract.references → ((y : ℕ) → is_about y d ≡ (row == y))
+    → cells_named d ≤ cell_limit → IsSmall (row_count m.layout) d
+held_small p n m t row by d core some about few =
+    row_small (row_count m.layout) row d (referenced_small p n m row core
+    (omega (arith, some, held-le-references_to (reference_of t by row) m.abstract.references))) about few
+
 pub starts_small : (p : Accounts) (n : ℕ) (m : Machine) (t : ℕ) (a : Actor) (d : Duty) (rest : List Duty)
-    → CoreInvariant p n m
-    → slice_get m.actors t ≡ Some a → Starts m.abstract.references m.layout t a.used d rest
+    → CoreInvariant p n m → slice_get m.actors t ≡ Some a → Starts (scene_of m t a) d rest
     → IsSmall (row_count m.layout) d
 starts_small p n m t a d rest core found (Gives row h behind some) =
     row_small (row_count m.layout) row d (referenced_small p n m row core some) (λ y. refl) (omega arith)
 starts_small p n m t a d rest core found (Takes row h by behind some) =
-    row_small (row_count m.layout) row d (referenced_small p n m row core
-    (omega (arith, some, held-le-references_to (reference_of t by row) m.abstract.references)))
-    (λ y. refl) (omega arith)
+    held_small p n m t row by d core some (λ y. refl) (omega arith)
 starts_small p n m t a d rest core found (Bears h w room few said) =
     row_small (row_count m.layout) (row_at m.layout t a.used) d (next_within p n m t a core found room) (λ y. refl) few
 starts_small p n m t a d rest core found (Asks row by some) =
-    row_small (row_count m.layout) row d (referenced_small p n m row core
-    (omega (arith, some, held-le-references_to (reference_of t by row) m.abstract.references)))
-    (λ y. refl) (omega arith)
+    held_small p n m t row by d core some (λ y. refl) (omega arith)
+starts_small p n m t a d rest core found (Locks row by some counted none) =
+    held_small p n m t row by d core some (λ y. refl) (omega arith)
+starts_small p n m t a d rest core found (Unlocks row by some has) =
+    held_small p n m t row by d core some (λ y. refl) (omega arith)
 
 follows_small : (k : ℕ) (layout : Layout) (t used : ℕ) (place : Place) (rest : List Duty)
     → Follows layout t used place rest
@@ -131,26 +158,56 @@ follows_small k layout t used place rest (Nothing stays) = tt
 follows_small k layout t used place rest (Settles stays) = (settle_small k, tt)
 follows_small k layout t used place rest (Leaves leaves) = (settle_small k, (leave_small k 0 used, tt))
 
+-- A silent step leaves the thread what it has locked.
+place_held : (code : List Instr) (bag : List Reference) (t x : ℕ) (locked : Option ℕ) (place : Place)
+    → PlaceFits code bag t [] locked place → locked ≡ Some x → (by : Holding) × (0 < held (reference_of t by x) bag)
+place_held code bag t x locked (Idle left) fits is = absurd (none_some x (sym fits.0 ∙ is))
+place_held code bag t x locked (InCall left at variables) fits is =
+    let lock =
+    guards_held bag t fits.0 variables fits.0.locked locked x fits.2 is fits.1.grounded
+    (holds_plain bag t (of_variables fits.0 variables) fits.3) in
+    (lock.by, lock.held_so)
+place_held code bag t x locked Exiting fits is = absurd (none_some x (sym fits.0 ∙ is))
+
+silent_locks : (p : Accounts) (n : ℕ) (m : Machine) (t : ℕ) (a : Actor) (bag : List Reference) (code : List Instr)
+    (place : Place) (account : Account)
+    → AtRest p n m t a → a.aside ≡ [] → PlaceFits code bag t [] a.locked place → HoldsAlone bag t account []
+    → LocksFit account m t (sitting a [])
+silent_locks p n m t a bag code place account at alone fits holds x is =
+    let old = (at.core.each t a at.found).0.locks x is in
+    let has = place_held code bag t x a.locked place fits is in
+    let none : sum_by (λ d. one_if (lacks d has.0 x)) a.aside ≡ 0 = ap (sum_by (λ d. one_if (lacks d has.0 x))) alone in
+    record {
+      counted = old.counted;
+      by = has.0;
+      held_so = omega (arith, holds.each has.0 x, has.1, none);
+      gate = old.gate;
+    }
+
 taken_fits : (p : Module) (n : ℕ) (m : StepMachine) (t : ℕ) (a : StepActor) (x : Action) → (whole : CodeInvariant p n m)
     → slice_get m.actors t ≡ Some a → AtRest whole.accounts n (counting m) t a.actor
-    → IsTaken (code_of (slice_get p.functions a.function)) m.abstract.references m.layout t a.actor.used x
+    → IsTaken (code_of (slice_get p.functions a.function)) (scene_of (counting m) t a.actor) x
     → ActionFits p whole.accounts n m t a x
 taken_fits p n m t a Skip whole found at taken = absurd taken
 taken_fits p n m t a Stuck whole found at taken = absurd taken
 taken_fits p n m t a (Silent moves place) whole found at taken =
     let code = code_of (slice_get p.functions a.function) in
-    let placed = placed_by code (bag_after m.abstract.references moves) t [] place taken.placed in
+    let bag = bag_after m.abstract.references moves in
+    let own = whole.coded t a found in
+    let placed = placed_by code bag t [] a.actor.locked place taken.placed in
     record {
       at = at;
       account = placed.account;
       says = placed.says;
       departs = ap (λ (s : Status). exits s []) at.running ∙ sym (stays_elsewhere place taken.stays);
       sits = record {
-        alone = (whole.coded t a found).alone;
+        alone = own.alone;
         moves_fit = taken.moves_fit;
         holds = placed.holds;
-        bounded = says_bounded m.layout code place placed.account placed.says;
-        locks = λ x e. absurd (none_some x (sym (whole.coded t a found).unlocked ∙ e));
+        bounded = says_bounded m.layout code place a.actor.locked placed.account placed.says;
+        locks =
+            silent_locks whole.accounts n (counting m) t a.actor bag code place placed.account at own.alone
+            taken.placed placed.holds;
       };
     }
 taken_fits p n m t a (Does d rest place) whole found at taken =
@@ -159,22 +216,31 @@ taken_fits p n m t a (Does d rest place) whole found at taken =
     let there = place word in
     let begun = taken word in
     let own = whole.coded t a found in
-    let here = taken_sits p c n (counting m) t a there d rest at own.alone own.unlocked begun in
+    let here = taken_sits p c n (counting m) t a word there d rest at own.alone begun in
     record {
       account = here.account;
       says = here.says;
       departs = ap (λ (s : Status). exits s (d ∷ rest)) at.running ∙ here.departs;
       doing =
           sits_down c n (counting m) t a.actor d rest here.account whole.kept at here.sits
-          (starts_settled m.abstract.references m.layout t a.actor.used a.actor.head there d rest begun.starts
-          begun.follows);
+          (starts_settled (scene_of (counting m) t a.actor) a.actor.head there d rest begun.starts begun.follows);
       small = λ _. (
         starts_small c n (counting m) t a.actor d rest at.core at.found begun.starts,
         follows_small (row_count m.layout) m.layout t a.actor.used there rest begun.follows,
       );
-      plain =
-          starts_plain m.abstract.references m.layout t a.actor.used there d rest begun.starts begun.follows;
+      plain = follows_plain m.layout t a.actor.used there rest begun.follows;
     }
+
+-- What a thread sees of kinds is what the invariant says of them.
+sees_kinds : (p : Module) (n : ℕ) (m : StepMachine) (t : ℕ) (a : StepActor) → (whole : CodeInvariant p n m)
+    → slice_get m.actors t ≡ Some a
+    → SeesKinds (code_of (slice_get p.functions a.function)) (scene_of (counting m) t a.actor) a.place
+sees_kinds p n m t a whole found = record {
+  begins = entry_true (kind_words m) whole.kinds.named;
+  knows = subst (λ (f : List Function). KnowsKinds (code_of (slice_get f a.function)) (kind_words m) a.place)
+      whole.functions (whole.kinds.known t a found);
+  counted = λ x can. lockable_counted m.layout (kind_words m) x whole.kinds.named whole.mortal can;
+}
 
 agenda_fits : (p : Module) (n : ℕ) (m : StepMachine) (t : ℕ) (a : StepActor) (agenda : List Duty)
     → (whole : CodeInvariant p n m) → slice_get m.actors t ≡ Some a → a.actor.status ≢ Gone → a.actor.agenda ≡ agenda
@@ -186,7 +252,7 @@ agenda_fits p n m t a [] whole found alive is =
     let at : AtRest c n (counting m) t a.actor =
     record { core = whole.kept.core; found = there; agenda = is; running = at_rest } in
     taken_fits p n m t a (agenda_action m.functions m.layout t a []) whole found at
-    (dispatch_fits p c n m t a at whole.functions (whole.coded t a found))
+    (dispatch_fits p c n m t a at whole.functions (whole.coded t a found) (sees_kinds p n m t a whole found))
 agenda_fits p n m t a (d ∷ rest) whole found alive is = duty_fits p n m t a d rest whole found alive is
 
 status_fits : (p : Module) (n : ℕ) (m : StepMachine) (t : ℕ) (a : StepActor) (status : Status)
@@ -211,8 +277,9 @@ claim_fits p n m t a row whole found may =
     let at : AtRest c n (counting m) t a.actor =
     record { core = core; found = there; agenda = claims.agenda; running = claims.running } in
     let sits : Sits (counting m) t a.actor (ClaimMark row ∷ []) (c t) =
-    claim_sits c n (counting m) t a.actor row at (whole.coded t a found).alone (whole.coded t a found).unlocked
-    claims.block in
+    claim_sits c n (counting m) t a.actor row at (whole.coded t a found).alone
+    (idle_unlocked (code_of (slice_get p.functions a.function)) claims.left a.place a.actor.locked (c t)
+    (whole.coded t a found).says claims.idle) claims.block in
     record {
       account = c t;
       says = (whole.coded t a found).says;

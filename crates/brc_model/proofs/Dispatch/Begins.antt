@@ -1,5 +1,5 @@
 -- The condition under which a thread takes up work: its new agenda fits the place where it then is.
-use Rattle.std.proofs.Common.{◌≡◌, ◌≢◌, ℕ, ◌+◌, ◌<◌, Bool, true, false, List, [], ◌∷◌, inl, inr, length, Option, None, Some, refl, sym, ap, ◌∙◌, subst, arith, ◌≤◌}
+use Rattle.std.proofs.Common.{◌≡◌, ◌≢◌, ℕ, ◌+◌, ◌<◌, Bool, true, false, List, [], ◌∷◌, ◌++◌, inl, inr, length, Option, None, Some, refl, sym, ap, ◌∙◌, subst, arith, ◌≤◌}
 use Rattle.std.specs.Prelude.{◌==◌, ◌&&◌, slice_set}
 use Rattle.std.specs.List.{list_any}
 use Rattle.std.proofs.lemmas.Bool.{eq-eqb}
@@ -8,20 +8,29 @@ use Rattle.brc_lang.specs.declared.module.Instr.{Instr}
 use Rattle.brc_model.specs.declared.slot.Slot.{Slot}
 use Rattle.brc_model.specs.declared.slot.Slot.TheVariants.{Empty}
 use Rattle.brc_model.specs.declared.slot.State.{State}
-use Rattle.brc_model.specs.Slots.{slot_of, is_owned, names, put}
+use Rattle.brc_model.specs.declared.slot.Exit.{Exit}
+use Rattle.brc_model.specs.Slots.{slot_of, is_owned, names, put, after, target, is_one_of, lockable}
+use Rattle.brc_model.specs.Paths.{At, path_end}
+use Rattle.brc_model.specs.KnownKinds.{HaveTrueKinds}
+use Rattle.brc_lang.specs.Grammar.{IsInstruction}
+use Rattle.brc_model.specs.declared.address.Address.{Address}
+use Rattle.brc_model.specs.declared.address.Address.TheVariants.{KindOf}
+use Rattle.brc_model.specs.Machine.{Actor, Machine, locked_by}
+use Rattle.brc_model.proofs.Dispatch.Passing.{AreMet}
+use Rattle.brc_model.proofs.Dispatch.Guards.{LocksAgree, HeldBeside}
 use Rattle.brc_model.specs.declared.duty.Holding.{Holding}
 use Rattle.brc_model.specs.declared.duty.Holding.TheVariants.{ByVariable, AsCaller, InFlight}
 use Rattle.brc_model.specs.AbstractState.{Reference, same_holding, references_to, Move}
 use Rattle.brc_model.specs.Threads.{row_of}
 use Rattle.brc_model.specs.declared.duty.Duty.{Duty}
-use Rattle.brc_model.specs.declared.duty.Duty.TheVariants.{RetainLoad, ReleaseLoad, Settle, Leave, BirthKind, KindLoad}
+use Rattle.brc_model.specs.declared.duty.Duty.TheVariants.{RetainLoad, ReleaseLoad, Settle, Leave, BirthKind, KindLoad, LockGate, UnlockGate}
 use Rattle.brc_model.specs.declared.actor.Place.{Place}
 use Rattle.brc_model.specs.declared.actor.Place.TheVariants.{Idle, InCall, Exiting}
 use Rattle.brc_model.specs.Actions.{Action, Skip, Stuck, Silent, Does, with_row}
 use Rattle.brc_model.specs.References.{held, one_if, reference_of}
 use Rattle.brc_model.proofs.Basics.Lists.{none_at}
 use Rattle.brc_model.proofs.Dispatch.Holds.{the_root, of_variables, Holds}
-use Rattle.brc_model.proofs.Dispatch.Grounded.{slot_of-put_same, slot_of-put_other, row_of-set_same, row_of-set_other}
+use Rattle.brc_model.proofs.Dispatch.Grounded.{IsInside, slot_of-put_same, slot_of-put_other, row_of-set_same, row_of-set_other}
 use Rattle.brc_model.proofs.Stepping.Counts.{flip_eqb}
 use Rattle.brc_model.proofs.Frame.Aside.{HoldsAlone}
 use Rattle.brc_model.proofs.Keeping.SilentMoves.{SilentMoves, bag_after}
@@ -30,7 +39,7 @@ use Rattle.brc_model.specs.Duties.{cells_of}
 use Rattle.brc_model.specs.Kinds.{kind_of_word, is_counted_kind}
 use Rattle.brc_model.specs.Limits.{cell_limit}
 use Rattle.brc_model.specs.declared.layout.Layout.{Layout}
-use Rattle.brc_model.specs.Layout.{block_size, row_at}
+use Rattle.brc_model.specs.Layout.{block_size, row_at, IsCounted}
 
 -- ---- an empty agenda
 
@@ -42,20 +51,71 @@ pub holds_at_none : (bag : List Reference) (t : ℕ) (says : Holding → ℕ →
     → HoldsAlone bag t (once_each says) []
 holds_at_none bag t says holds = record { each = λ k object. omega (arith, holds.each k object) }
 
+-- ---- what a thread at rest sees
+
+-- The bag of references, the words, and what the thread counts with.
+pub record Scene : Type 0 where
+  pub bag : List Reference
+  pub layout : Layout
+  pub memory : Address → ℕ
+  pub thread : ℕ
+  pub used : ℕ
+  -- the row that the thread has locked
+  pub locked : Option ℕ
+
+abbrev pub scene_of : Machine → ℕ → Actor → Scene
+scene_of m t a = record {
+  bag = m.abstract.references;
+  layout = m.layout;
+  memory = m.memory;
+  thread = t;
+  used = a.used;
+  locked = a.locked;
+}
+
+-- the kind word of each row
+abbrev pub words_of : Scene → ℕ → ℕ
+words_of g x = g.memory (KindOf x)
+
+-- Each row whose kind word names a kind that can be locked is counted: it isn't none's.
+abbrev pub CountsLockable : Scene → Type 0
+CountsLockable g = (x : ℕ) → is_one_of (kind_of_word (words_of g x)) lockable ≡ true → IsCounted g.layout x
+
+-- A thread at an instruction whose conditions are met: some path reaches the point and goes on from it, and what the
+-- path's state says of references, of the lock and of kinds is true. The thread got to the instruction at the place
+-- `before`.
+pub record StandsAt (code : List Instr) (g : Scene) (before : Place) (at : ℕ) (rows : List (Option ℕ)) (s : State)
+    (i : Instr) : Type 0 where
+  pub inside : IsInside code at rows s
+  pub holds : Holds g.bag g.thread (of_variables s rows)
+  pub guards : LocksAgree s rows g.locked
+  pub kinds : HaveTrueKinds (words_of g) s rows
+  pub counted : CountsLockable g
+  pub back : PlaceFits code g.bag g.thread [] g.locked before
+  pub remains : before ≢ Exiting
+  pub variables : IsInstruction i
+  pub met : AreMet i s
+  pub leads : (exit : Exit) (next : ℕ) → target i exit at ≡ Some next
+      → path_end code (inside.exits ++ exit ∷ []) ≡ At next (after i exit s)
+
 -- ---- work that a thread takes up
 
 -- The first duty gives up a reference of an object that has one, makes a reference to an object that the thread holds,
--- begins the birth of the next row, or loads the kind of an object that the thread holds.
-pub data Starts (bag : List Reference) (layout : Layout) (t used : ℕ) : Duty → List Duty → Type 0 where
-  Gives : (row : ℕ) (h : Holding) (rest : List Duty) → 0 < references_to row bag
-      → Starts bag layout t used (ReleaseLoad row h) rest
-  Takes : (row : ℕ) (h by : Holding) (rest : List Duty) → 0 < held (reference_of t by row) bag
-      → Starts bag layout t used (RetainLoad row h) rest
-  Bears : (h : Holding) (w : ℕ) → used < block_size layout t → cells_of w ≤ cell_limit
+-- begins the birth of the next row, loads the kind of an object that the thread holds, locks such an object, or unlocks
+-- the one that the thread has locked.
+pub data Starts (g : Scene) : Duty → List Duty → Type 0 where
+  Gives : (row : ℕ) (h : Holding) (rest : List Duty) → 0 < references_to row g.bag
+      → Starts g (ReleaseLoad row h) rest
+  Takes : (row : ℕ) (h by : Holding) (rest : List Duty) → 0 < held (reference_of g.thread by row) g.bag
+      → Starts g (RetainLoad row h) rest
+  Bears : (h : Holding) (w : ℕ) → g.used < block_size g.layout g.thread → cells_of w ≤ cell_limit
       → is_counted_kind (kind_of_word w) ≡ true
-      → Starts bag layout t used (BirthKind (row_at layout t used) h w) []
-  Asks : (row : ℕ) (by : Holding) → 0 < held (reference_of t by row) bag
-      → Starts bag layout t used (KindLoad row) []
+      → Starts g (BirthKind (row_at g.layout g.thread g.used) h w) []
+  Asks : (row : ℕ) (by : Holding) → 0 < held (reference_of g.thread by row) g.bag → Starts g (KindLoad row) []
+  Locks : (row : ℕ) (by : Holding) → 0 < held (reference_of g.thread by row) g.bag → IsCounted g.layout row
+      → g.locked ≡ None → Starts g (LockGate row) []
+  Unlocks : (row : ℕ) (by : Holding) → 0 < held (reference_of g.thread by row) g.bag → g.locked ≡ Some row
+      → Starts g (UnlockGate row) []
 
 -- The duties behind the first one settle, and leave if the thread is to leave.
 pub data Follows (layout : Layout) (t used : ℕ) (place : Place) : List Duty → Type 0 where
@@ -63,30 +123,30 @@ pub data Follows (layout : Layout) (t used : ℕ) (place : Place) : List Duty �
   Settles : (place ≢ Exiting) → Follows layout t used place (Settle ∷ [])
   Leaves : (place ≡ Exiting) → Follows layout t used place (Settle ∷ Leave 0 used ∷ [])
 
-pub record Taken (code : List Instr) (bag : List Reference) (layout : Layout) (t used : ℕ) (place : Place) (d : Duty)
-    (rest : List Duty) : Type 0 where
-  pub placed : PlaceFits code bag t (d ∷ rest) place
-  pub starts : Starts bag layout t used d rest
-  pub follows : Follows layout t used place rest
-
-pub record SilentTaken (code : List Instr) (bag : List Reference) (t : ℕ) (moves : List Move) (place : Place) : Type 0
+-- Work that begins with a duty, and leads the thread to a place if the duty's step finds this word. What the thread has
+-- locked it still holds, whatever the duty gives up.
+pub record Taken (code : List Instr) (g : Scene) (found : ℕ) (place : Place) (d : Duty) (rest : List Duty) : Type 0
   where
-    pub moves_fit : SilentMoves bag t moves
-    pub placed : PlaceFits code (bag_after bag moves) t [] place
-    pub stays : place ≢ Exiting
+    pub placed : PlaceFits code g.bag g.thread (d ∷ rest) (locked_by g.locked d found) place
+    pub starts : Starts g d rest
+    pub follows : Follows g.layout g.thread g.used place rest
+    pub keeps : (x : ℕ) → g.locked ≡ Some x → HeldBeside g.bag g.thread x d
 
-abbrev pub IsTaken : List Instr → List Reference → Layout → ℕ → ℕ → Action → Type 0
-IsTaken code bag layout t used Skip = ⊥
-IsTaken code bag layout t used Stuck = ⊥
-IsTaken code bag layout t used (Silent moves place) = SilentTaken code bag t moves place
-IsTaken code bag layout t used (Does d rest place) = (found : ℕ) → Taken code bag layout t used (place found) d rest
+pub record SilentTaken (code : List Instr) (g : Scene) (moves : List Move) (place : Place) : Type 0 where
+  pub moves_fit : SilentMoves g.bag g.thread moves
+  pub placed : PlaceFits code (bag_after g.bag moves) g.thread [] g.locked place
+  pub stays : place ≢ Exiting
 
-pub taken_with_row : (code : List Instr) (bag : List Reference) (layout : Layout) (t used object : ℕ) (row : Option ℕ)
-    (work : ℕ → Action)
-    → row ≡ Some object → IsTaken code bag layout t used (work object)
-    → IsTaken code bag layout t used (with_row row work)
-taken_with_row code bag layout t used object row work is taken =
-    subst (λ (o : Option ℕ). IsTaken code bag layout t used (with_row o work)) (sym is) taken
+abbrev pub IsTaken : List Instr → Scene → Action → Type 0
+IsTaken code g Skip = ⊥
+IsTaken code g Stuck = ⊥
+IsTaken code g (Silent moves place) = SilentTaken code g moves place
+IsTaken code g (Does d rest place) = (found : ℕ) → Taken code g found (place found) d rest
+
+pub taken_with_row : (code : List Instr) (g : Scene) (object : ℕ) (row : Option ℕ) (work : ℕ → Action)
+    → row ≡ Some object → IsTaken code g (work object) → IsTaken code g (with_row row work)
+taken_with_row code g object row work is taken =
+    subst (λ (o : Option ℕ). IsTaken code g (with_row o work)) (sym is) taken
 
 pub idle_stays : (left : ℕ) → Idle left ≢ Exiting
 idle_stays left e = cc

@@ -18,10 +18,11 @@ use Rattle.brc_model.specs.declared.actor.Place.{Place}
 use Rattle.brc_model.specs.declared.actor.Place.TheVariants.{Idle, InCall, Exiting}
 use Rattle.brc_model.specs.Actions.{StepActor}
 use Rattle.brc_model.specs.References.{one_if}
-use Rattle.brc_model.specs.Accounts.{Account, HoldsNone, IsBounded}
+use Rattle.brc_model.specs.Accounts.{Account, HoldsNone, IsBounded, lacks_of, extra_of}
 use Rattle.brc_model.specs.OpenWork.{exits}
 use Rattle.brc_model.proofs.Dispatch.Holds.{nothing, the_root, of_variables}
 use Rattle.brc_model.proofs.Dispatch.Unlocked.{locking}
+use Rattle.brc_model.proofs.Dispatch.Guards.{LocksAgree}
 use Rattle.brc_model.proofs.Dispatch.Grounded.{IsInside, AreInstructions}
 use Rattle.brc_model.proofs.Frame.Aside.{HoldsAlone}
 use Rattle.brc_model.proofs.Basics.Bag.{one_if_low}
@@ -32,12 +33,14 @@ use Rattle.brc_model.specs.Layout.{root_row}
 abbrev pub once_each : (Holding → ℕ → Bool) → Account
 once_each holds k object = one_if (holds k object)
 
--- The account that the place gives a thread, which the thread has once its agenda is done.
-abbrev pub PlaceSays : List Instr → Place → Account → Type 0
-PlaceSays code (Idle left) account = account ≡ once_each the_root
-PlaceSays code (InCall left at variables) account =
-    (s : State) × IsInside code at variables s × (account ≡ once_each (of_variables s variables))
-PlaceSays code Exiting account = account ≡ once_each nothing
+-- What the place says of the row that the thread has locked, and the account that it gives the thread, which the thread
+-- has once its agenda is done.
+abbrev pub PlaceSays : List Instr → Place → Option ℕ → Account → Type 0
+PlaceSays code (Idle left) locked account = (locked ≡ None) × (account ≡ once_each the_root)
+PlaceSays code (InCall left at variables) locked account =
+    (s : State) × IsInside code at variables s × LocksAgree s variables locked
+    × (account ≡ once_each (of_variables s variables))
+PlaceSays code Exiting locked account = (locked ≡ None) × (account ≡ once_each nothing)
 
 -- Says whether the place is that of a thread whose exit is under way or done.
 abbrev pub is_departing : Place → Bool
@@ -58,54 +61,95 @@ stays_elsewhere Exiting stays = absurd (stays refl)
 pub record InCode (p : Module) (a : StepActor) (account : Account) : Type 0 where
   -- Code does one piece of work at a time.
   pub alone : a.actor.aside ≡ []
-  -- It locks nothing yet.
-  pub unlocked : a.actor.locked ≡ None
+  -- A lock and an unlock are one step each, so no agenda has one.
   pub plain : sum_by locking a.actor.agenda ≡ 0
   pub accepted : IsAcceptableCode (code_of (slice_get p.functions a.function))
   pub instructions : AreInstructions (code_of (slice_get p.functions a.function))
-  pub says : PlaceSays (code_of (slice_get p.functions a.function)) a.place account
+  pub says : PlaceSays (code_of (slice_get p.functions a.function)) a.place a.actor.locked account
   pub departs : exits a.actor.status a.actor.agenda ≡ is_departing a.place
 
 -- ---- what the thread holds
 
--- The bag has just the references that the place gives the thread, but for what the first duty makes or gives up.
-abbrev pub PlaceFits : List Instr → List Reference → ℕ → List Duty → Place → Type 0
-PlaceFits code bag t agenda (Idle left) = HoldsAlone bag t (once_each the_root) agenda
-PlaceFits code bag t agenda (InCall left at variables) =
-    (s : State) × IsInside code at variables s × HoldsAlone bag t (once_each (of_variables s variables)) agenda
-PlaceFits code bag t agenda Exiting = HoldsAlone bag t (once_each nothing) agenda
+alone_with : (bag : List Reference) (t : ℕ) (account : Account) (agenda : List Duty)
+    → ((k : Holding) (object : ℕ) → lacks_of agenda k object ≡ false)
+    → ((k : Holding) (object : ℕ) → extra_of agenda k object ≡ false)
+    → HoldsAlone bag t account [] → HoldsAlone bag t account agenda
+alone_with bag t account agenda lacks extra holds = record {
+  each = λ k object.
+      omega (arith, holds.each k object, ap one_if (lacks k object), ap one_if (extra k object));
+}
 
-pub place_fits : (code : List Instr) (bag : List Reference) (t : ℕ) (agenda : List Duty) (place : Place)
-    (account : Account)
-    → PlaceSays code place account → HoldsAlone bag t account agenda → PlaceFits code bag t agenda place
-place_fits code bag t agenda (Idle left) account says holds =
-    subst (λ (c : Account). HoldsAlone bag t c agenda) says holds
-place_fits code bag t agenda (InCall left at variables) account says holds =
-    (says.0, says.1, subst (λ (c : Account). HoldsAlone bag t c agenda) says.2 holds)
-place_fits code bag t agenda Exiting account says holds =
-    subst (λ (c : Account). HoldsAlone bag t c agenda) says holds
+-- The place is true of the thread's lock, and the bag has just the references that the place gives the thread, but for
+-- what the first duty makes or gives up.
+abbrev pub PlaceFits : List Instr → List Reference → ℕ → List Duty → Option ℕ → Place → Type 0
+PlaceFits code bag t agenda locked (Idle left) = (locked ≡ None) × HoldsAlone bag t (once_each the_root) agenda
+PlaceFits code bag t agenda locked (InCall left at variables) =
+    (s : State) × IsInside code at variables s × LocksAgree s variables locked
+    × HoldsAlone bag t (once_each (of_variables s variables)) agenda
+PlaceFits code bag t agenda locked Exiting = (locked ≡ None) × HoldsAlone bag t (once_each nothing) agenda
+
+pub place_fits : (code : List Instr) (bag : List Reference) (t : ℕ) (agenda : List Duty) (locked : Option ℕ)
+    (place : Place) (account : Account)
+    → PlaceSays code place locked account → HoldsAlone bag t account agenda
+    → PlaceFits code bag t agenda locked place
+place_fits code bag t agenda locked (Idle left) account says holds =
+    (says.0, subst (λ (c : Account). HoldsAlone bag t c agenda) says.1 holds)
+place_fits code bag t agenda locked (InCall left at variables) account says holds =
+    (says.0, says.1, says.2, subst (λ (c : Account). HoldsAlone bag t c agenda) says.3 holds)
+place_fits code bag t agenda locked Exiting account says holds =
+    (says.0, subst (λ (c : Account). HoldsAlone bag t c agenda) says.1 holds)
 
 -- The account that the place gives, with the bag that it fits.
-pub record Placed (code : List Instr) (bag : List Reference) (t : ℕ) (agenda : List Duty) (place : Place) : Type 0 where
+pub record Placed (code : List Instr) (bag : List Reference) (t : ℕ) (agenda : List Duty) (locked : Option ℕ)
+    (place : Place) : Type 0 where
   pub account : Account
-  pub says : PlaceSays code place account
+  pub says : PlaceSays code place locked account
   pub holds : HoldsAlone bag t account agenda
 
-pub placed_by : (code : List Instr) (bag : List Reference) (t : ℕ) (agenda : List Duty) (place : Place)
-    → PlaceFits code bag t agenda place → Placed code bag t agenda place
-placed_by code bag t agenda (Idle left) fits = record { account = once_each the_root; says = refl; holds = fits }
-placed_by code bag t agenda (InCall left at variables) fits =
-    record { account = once_each (of_variables fits.0 variables); says = (fits.0, fits.1, refl); holds = fits.2 }
-placed_by code bag t agenda Exiting fits = record { account = once_each nothing; says = refl; holds = fits }
+pub placed_by : (code : List Instr) (bag : List Reference) (t : ℕ) (agenda : List Duty) (locked : Option ℕ)
+    (place : Place)
+    → PlaceFits code bag t agenda locked place → Placed code bag t agenda locked place
+placed_by code bag t agenda locked (Idle left) fits =
+    record { account = once_each the_root; says = (fits.0, refl); holds = fits.1 }
+placed_by code bag t agenda locked (InCall left at variables) fits =
+    record {
+      account = once_each (of_variables fits.0 variables);
+      says = (fits.0, fits.1, fits.2, refl);
+      holds = fits.3;
+    }
+placed_by code bag t agenda locked Exiting fits =
+    record { account = once_each nothing; says = (fits.0, refl); holds = fits.1 }
+
+-- A place that fits a thread at rest fits it with a duty that neither makes nor gives up a reference.
+pub fits_with : (code : List Instr) (bag : List Reference) (t : ℕ) (agenda : List Duty) (locked : Option ℕ)
+    (place : Place)
+    → ((k : Holding) (object : ℕ) → lacks_of agenda k object ≡ false)
+    → ((k : Holding) (object : ℕ) → extra_of agenda k object ≡ false)
+    → PlaceFits code bag t [] locked place → PlaceFits code bag t agenda locked place
+fits_with code bag t agenda locked (Idle left) lacks extra fits =
+    (fits.0, alone_with bag t (once_each the_root) agenda lacks extra fits.1)
+fits_with code bag t agenda locked (InCall left at variables) lacks extra fits =
+    (fits.0, fits.1, fits.2, alone_with bag t (once_each (of_variables fits.0 variables)) agenda lacks extra fits.3)
+fits_with code bag t agenda locked Exiting lacks extra fits =
+    (fits.0, alone_with bag t (once_each nothing) agenda lacks extra fits.1)
 
 -- A thread whose exit is under way holds nothing.
-pub exited_none : (code : List Instr) (place : Place) (account : Account) → PlaceSays code place account
+pub exited_none : (code : List Instr) (place : Place) (locked : Option ℕ) (account : Account)
+    → PlaceSays code place locked account
     → place ≡ Exiting → HoldsNone account
-exited_none code (Idle left) account says e k object =
+exited_none code (Idle left) locked account says e k object =
     absurd (let wrong : Idle left ≡ Exiting = e in cc)
-exited_none code (InCall left at variables) account says e k object =
+exited_none code (InCall left at variables) locked account says e k object =
     absurd (let wrong : InCall left at variables ≡ Exiting = e in cc)
-exited_none code Exiting account says e k object = ap (λ (c : Account). c k object) says
+exited_none code Exiting locked account says e k object = ap (λ (c : Account). c k object) says.1
+
+-- A thread outside its calls has locked nothing.
+pub idle_unlocked : (code : List Instr) (left : ℕ) (place : Place) (locked : Option ℕ) (account : Account)
+    → PlaceSays code place locked account → place ≡ Idle left → locked ≡ None
+idle_unlocked code left (Idle other) locked account says e = says.0
+idle_unlocked code left (InCall other at variables) locked account says e =
+    absurd (let wrong : InCall other at variables ≡ Idle left = e in cc)
+idle_unlocked code left Exiting locked account says e = says.0
 
 -- ---- how much the thread holds
 
@@ -139,9 +183,11 @@ variables_bounded layout s variables slots = record {
   in_flight = λ object. refl;
 }
 
-pub says_bounded : (layout : Layout) (code : List Instr) (place : Place) (account : Account)
-    → PlaceSays code place account → IsBounded layout account
-says_bounded layout code (Idle left) account says = subst (IsBounded layout) (sym says) (root_bounded layout)
-says_bounded layout code (InCall left at variables) account says =
-    subst (IsBounded layout) (sym says.2) (variables_bounded layout says.0 variables says.1.slots)
-says_bounded layout code Exiting account says = subst (IsBounded layout) (sym says) (nothing_bounded layout)
+pub says_bounded : (layout : Layout) (code : List Instr) (place : Place) (locked : Option ℕ) (account : Account)
+    → PlaceSays code place locked account → IsBounded layout account
+says_bounded layout code (Idle left) locked account says =
+    subst (IsBounded layout) (sym says.1) (root_bounded layout)
+says_bounded layout code (InCall left at variables) locked account says =
+    subst (IsBounded layout) (sym says.3) (variables_bounded layout says.0 variables says.1.slots)
+says_bounded layout code Exiting locked account says =
+    subst (IsBounded layout) (sym says.1) (nothing_bounded layout)

@@ -1,6 +1,6 @@
 -- A thread in a call is at a point that some path reaches, and what the path's state says of each variable is true of
 -- the row in that variable.
-use Rattle.std.proofs.Common.{◌≡◌, ◌≢◌, ℕ, zero, suc, ◌<◌, Bool, true, false, List, [], ◌∷◌, ◌++◌, length, Option, None, Some, refl, sym, ap, ◌∙◌, subst, arith, inl, inr, get_or-set_same, get_or-set_other}
+use Rattle.std.proofs.Common.{◌≡◌, ◌≢◌, ℕ, zero, suc, ◌<◌, Bool, true, false, List, [], length, Option, None, Some, refl, sym, ap, ◌∙◌, subst, arith, inl, inr, get_or-set_same, get_or-set_other}
 use Rattle.std.specs.Prelude.{◌&&◌, slice_get, slice_set}
 use Rattle.std.proofs.lemmas.Bool.{cases_lt}
 use Rattle.std.proofs.lemmas.Bool.Decides.{eqb_tells}
@@ -12,7 +12,7 @@ use Rattle.brc_model.specs.declared.slot.Slot.{Slot}
 use Rattle.brc_model.specs.declared.slot.Slot.TheVariants.{Empty, Owned, Caller, Locked}
 use Rattle.brc_model.specs.declared.slot.State.{State}
 use Rattle.brc_model.specs.declared.slot.Exit.{Exit}
-use Rattle.brc_model.specs.Slots.{slot_of, is_empty, is_owned, is_borrowed, with_kind, names, put, after, target, entry}
+use Rattle.brc_model.specs.Slots.{slot_of, is_empty, is_owned, is_borrowed, with_kind, names, put, entry}
 use Rattle.brc_model.specs.Paths.{At, path_end}
 use Rattle.brc_model.specs.declared.duty.Holding.{Holding}
 use Rattle.brc_model.specs.declared.duty.Holding.TheVariants.{ByVariable, AsCaller, InFlight}
@@ -22,7 +22,6 @@ use Rattle.brc_model.proofs.Basics.Lists.{get_or-replicate_default}
 use Rattle.brc_model.proofs.Basics.Bag.{held-le-references_to}
 use Rattle.brc_model.specs.References.{held, reference_of}
 use Rattle.brc_model.proofs.Dispatch.Holds.{of_variables, Holds, owned_has, caller_has}
-use Rattle.brc_model.proofs.Dispatch.Passing.{AreMet}
 use Rattle.brc_model.specs.Layout.{root_row}
 
 -- What a slot says of the row in its variable.
@@ -173,18 +172,7 @@ owned_row (Owned k) row owned grounded = grounded
 owned_row (Caller k) row owned grounded = absurd cc
 owned_row (Locked k) row owned grounded = absurd grounded
 
--- ---- a thread at an instruction
-
--- A thread at an instruction whose conditions are met: some path reaches the point and goes on from it, and the thread
--- holds what the path's state says.
-pub record StandsAt (code : List Instr) (bag : List Reference) (t at : ℕ) (rows : List (Option ℕ)) (s : State)
-    (i : Instr) : Type 0 where
-  pub inside : IsInside code at rows s
-  pub holds : Holds bag t (of_variables s rows)
-  pub variables : IsInstruction i
-  pub met : AreMet i s
-  pub leads : (exit : Exit) (next : ℕ) → target i exit at ≡ Some next
-      → path_end code (inside.exits ++ exit ∷ []) ≡ At next (after i exit s)
+-- ---- the beginning of a call
 
 entry_grounded : (v : ℕ) → IsGrounded (slot_of entry v) (row_of entry_variables v)
 entry_grounded zero = refl

@@ -14,9 +14,13 @@ use Rattle.brc_model.specs.Paths.{PathEnd, At, Reports, arrives, unless_reported
 -- The instruction breaks no condition.
 pub record AreMet (i : Instr) (s : State) : Type 0 where
   pub not_empty : applies i s EmptyUsed ≡ false
+  pub right_kind : applies i s WrongKind ≡ false
   pub owned : applies i s NotOwned ≡ false
   pub free : applies i s StillOwns ≡ false
   pub none_left : applies i s LeftOwned ≡ false
+  pub no_lock_left : applies i s LeftLocked ≡ false
+  pub first_lock : applies i s SecondLock ≡ false
+  pub has_lock : applies i s NotLocked ≡ false
   pub unlocked : applies i s LockedChanged ≡ false
 
 find_none : {A : Type 0} (test : A → Bool) (x : A) (xs : List A) → find test (x ∷ xs) ≡ None
@@ -39,7 +43,17 @@ are_met i s none =
     let g = find_none (applies i s) SecondLock (drop 7 rising) f.1 in
     let h = find_none (applies i s) NotLocked (drop 8 rising) g.1 in
     let k = find_none (applies i s) LockedChanged (drop 9 rising) h.1 in
-    record { not_empty = a.0; owned = c.0; free = d.0; none_left = e.0; unlocked = k.0 }
+    record {
+      not_empty = a.0;
+      right_kind = b.0;
+      owned = c.0;
+      free = d.0;
+      none_left = e.0;
+      no_lock_left = f.0;
+      first_lock = g.0;
+      has_lock = h.0;
+      unlocked = k.0;
+    }
 
 pub record PassesOn (code : List Instr) (exits : List Exit) (at : ℕ) (s : State) : Type 0 where
   pub here : Instr

@@ -10,24 +10,25 @@ use Rattle.brc_model.specs.declared.slot.Slot.{Slot}
 use Rattle.brc_model.specs.declared.slot.Slot.TheVariants.{Empty, Owned}
 use Rattle.brc_model.specs.declared.slot.State.{State}
 use Rattle.brc_model.specs.declared.slot.Exit.TheVariants.{Success}
-use Rattle.brc_model.specs.Slots.{slot_of, is_owned, kind_of, put}
+use Rattle.brc_model.specs.Slots.{slot_of, is_owned, kind_of, put, names}
 use Rattle.brc_model.specs.declared.duty.Holding.{Holding}
 use Rattle.brc_model.specs.declared.duty.Holding.TheVariants.{ByVariable}
 use Rattle.brc_model.specs.AbstractState.{Reference, same_holding, same, without}
 use Rattle.brc_model.specs.Threads.{row_of}
+use Rattle.brc_model.specs.declared.actor.Place.{Place}
 use Rattle.brc_model.specs.declared.actor.Place.TheVariants.{InCall}
 use Rattle.brc_model.specs.Actions.{dispatch_instruction, Silent}
 use Rattle.brc_model.specs.Moves.{gain, pass_on}
 use Rattle.brc_model.proofs.Basics.Bag.{held_has, held-without, held-cons}
 use Rattle.brc_model.specs.References.{held, one_if, reference_of}
-use Rattle.brc_model.proofs.Basics.Lists.{first_false}
+use Rattle.brc_model.proofs.Basics.Lists.{first_false, second_false}
 use Rattle.brc_model.proofs.Dispatch.Holds.{of_variables, Holds, owned_has}
-use Rattle.brc_model.proofs.Dispatch.Grounded.{IsInside, owned_slot, owned_row, grounded-put, StandsAt, slot_of-put_same, slot_of-put_other}
+use Rattle.brc_model.proofs.Dispatch.Grounded.{IsInside, owned_slot, owned_row, grounded-put, slot_of-put_same, slot_of-put_other}
 use Rattle.brc_model.proofs.Stepping.Counts.{same_is}
-use Rattle.brc_model.proofs.Dispatch.Begins.{holds_at_none, IsTaken, taken_with_row, in_call_stays, newref_held, emptied_held, SilentTaken}
+use Rattle.brc_model.proofs.Dispatch.Guards.{guards-put}
+use Rattle.brc_model.proofs.Dispatch.Begins.{Scene, StandsAt, holds_at_none, IsTaken, taken_with_row, in_call_stays, newref_held, emptied_held, SilentTaken}
 use Rattle.brc_model.proofs.Keeping.SilentMoves.{Stays, GainsNone, PassesOn}
 use Rattle.std.proofs.lemmas.Bool.Decides.{eqb_tells}
-use Rattle.brc_model.specs.declared.layout.Layout.{Layout}
 use Rattle.brc_model.specs.Layout.{none_row}
 
 -- Gaining the reference that the thread lacks makes the bag fit what the thread is to hold.
@@ -45,12 +46,12 @@ gained_holds bag t to row says lacks k object =
 
 -- ---- none
 
-pub none_taken : (code : List Instr) (bag : List Reference) (layout : Layout) (t used left at : ℕ)
+pub none_taken : (code : List Instr) (g : Scene) (before : Place) (left at : ℕ)
     (variables : List (Option ℕ))
     (s : State) (to : ℕ)
-    → StandsAt code bag t at variables s (NoneObject to)
-    → IsTaken code bag layout t used (dispatch_instruction layout t used left at variables (Some (NoneObject to)))
-none_taken code bag layout t used left at variables s to here =
+    → StandsAt code g before at variables s (NoneObject to)
+    → IsTaken code g (dispatch_instruction g.layout g.thread g.used before left at variables (Some (NoneObject to)))
+none_taken code g before left at variables s to here =
     let slot : Slot = Owned kinds.None in
     let free : is_owned (slot_of s to) ≡ false = first_false _ _ here.met.free in
     let in_slots : to < length s.slots = omega (arith, here.variables, here.inside.slots) in
@@ -63,17 +64,22 @@ none_taken code bag layout t used left at variables s to here =
       grounded =
           grounded-put s variables to slot (Some none_row) in_slots in_rows (none_row, refl) here.inside.grounded;
     } in
-    let holds : Holds (reference_of t (ByVariable to) none_row ∷ bag) t
+    let holds : Holds (reference_of g.thread (ByVariable to) none_row ∷ g.bag) g.thread
     (of_variables (put s to slot) (slice_set variables to (Some none_row))) =
     record {
-      each = gained_holds bag t to none_row _
-          (newref_held bag t s variables to none_row slot in_slots in_rows free refl here.holds);
+      each = gained_holds g.bag g.thread to none_row _
+          (newref_held g.bag g.thread s variables to none_row slot in_slots in_rows free refl here.holds);
     } in
-    let taken : SilentTaken code bag t (gain t (ByVariable to) none_row)
+    let taken : SilentTaken code g (gain g.thread (ByVariable to) none_row)
     (InCall left (at + 1) (slice_set variables to (Some none_row))) =
     record {
       moves_fit = GainsNone (ByVariable to);
-      placed = (put s to slot, next, holds_at_none _ t _ holds);
+      placed = (
+        put s to slot,
+        next,
+        guards-put s variables to slot (Some none_row) s.locked g.locked (first_false _ _ here.met.unlocked) here.guards,
+        holds_at_none _ g.thread _ holds,
+      );
       stays = in_call_stays left (at + 1) (slice_set variables to (Some none_row));
     } in
     taken
@@ -111,20 +117,20 @@ still_free s from to in_slots free =
       | inr other ↦ ap is_owned (slot_of-put_other s from to Empty other.1) ∙ free
     ]
 
-pub move_taken : (code : List Instr) (bag : List Reference) (layout : Layout) (t used left at : ℕ)
+pub move_taken : (code : List Instr) (g : Scene) (before : Place) (left at : ℕ)
     (variables : List (Option ℕ))
     (s : State) (to from : ℕ)
-    → StandsAt code bag t at variables s (MoveReference to from)
-    → IsTaken code bag layout t used
-    (dispatch_instruction layout t used left at variables (Some (MoveReference to from)))
-move_taken code bag layout t used left at variables s to from here =
+    → StandsAt code g before at variables s (MoveReference to from)
+    → IsTaken code g
+    (dispatch_instruction g.layout g.thread g.used before left at variables (Some (MoveReference to from)))
+move_taken code g before left at variables s to from here =
     let owned = owned_slot (slot_of s from) (first_false _ _ here.met.not_empty) (first_false _ _ here.met.owned) in
     let free : is_owned (slot_of s to) ≡ false = first_false _ _ here.met.free in
     let row = owned_row (slot_of s from) (row_of variables from) owned (here.inside.grounded from) in
     let slot : Slot = Owned (kind_of (slot_of s from)) in
     let s1 = put s from Empty in
     let v1 = slice_set variables from None in
-    let r = reference_of t (ByVariable from) row.0 in
+    let r = reference_of g.thread (ByVariable from) row.0 in
     let in_slots : from < length s.slots = omega (arith, here.variables.1, here.inside.slots) in
     let in_rows : from < length variables = omega (arith, here.variables.1, here.inside.rows) in
     let to_slots : to < length s1.slots =
@@ -138,35 +144,40 @@ move_taken code bag layout t used left at variables s to from here =
       rows = length-set v1 to (Some row.0) ∙ length-set variables from None ∙ here.inside.rows;
       grounded = grounded-put s1 v1 to slot (Some row.0) to_slots to_rows (row.0, refl) grounded;
     } in
-    let one : held r bag ≡ 1 = owned_has bag t s variables from row.0 owned row.1 here.holds in
-    let has = held_has r bag (omega (arith, one)) in
-    let fewer = lost_holds bag t s variables from row.0 in_slots owned row.1 here.holds has in
-    let holds : Holds (reference_of t (ByVariable to) row.0 ∷ without r bag) t
+    let one : held r g.bag ≡ 1 = owned_has g.bag g.thread s variables from row.0 owned row.1 here.holds in
+    let has = held_has r g.bag (omega (arith, one)) in
+    let fewer = lost_holds g.bag g.thread s variables from row.0 in_slots owned row.1 here.holds has in
+    let holds : Holds (reference_of g.thread (ByVariable to) row.0 ∷ without r g.bag) g.thread
     (of_variables (put s1 to slot) (slice_set v1 to (Some row.0))) =
     record {
-      each = gained_holds (without r bag) t to row.0 _
-          (newref_held (without r bag) t s1 v1 to row.0 slot to_slots to_rows (still_free s from to in_slots free) refl
+      each = gained_holds (without r g.bag) g.thread to row.0 _
+          (newref_held (without r g.bag) g.thread s1 v1 to row.0 slot to_slots to_rows (still_free s from to in_slots free) refl
           fewer);
     } in
-    let taken : SilentTaken code bag t (pass_on t (ByVariable from) (ByVariable to) row.0)
+    let from_free : names s.locked from ≡ false = first_false _ _ here.met.unlocked in
+    let to_free : names s.locked to ≡ false = first_false _ _ (second_false _ _ here.met.unlocked) in
+    let guards =
+    guards-put s1 v1 to slot (Some row.0) s.locked g.locked to_free
+    (guards-put s variables from Empty None s.locked g.locked from_free here.guards) in
+    let taken : SilentTaken code g (pass_on g.thread (ByVariable from) (ByVariable to) row.0)
     (InCall left (at + 1) (slice_set v1 to (Some row.0))) =
     record {
       moves_fit = PassesOn (ByVariable from) (ByVariable to) row.0 has;
-      placed = (put s1 to slot, next, holds_at_none _ t _ holds);
+      placed = (put s1 to slot, next, guards, holds_at_none _ g.thread _ holds);
       stays = in_call_stays left (at + 1) (slice_set v1 to (Some row.0));
     } in
-    taken_with_row code bag layout t used row.0 (row_of variables from)
-    (λ x. Silent (pass_on t (ByVariable from) (ByVariable to) x) (InCall left (at + 1) (slice_set v1 to (Some x))))
+    taken_with_row code g row.0 (row_of variables from)
+    (λ x. Silent (pass_on g.thread (ByVariable from) (ByVariable to) x) (InCall left (at + 1) (slice_set v1 to (Some x))))
     row.1 taken
 
 -- ---- a jump
 
-pub goto_taken : (code : List Instr) (bag : List Reference) (layout : Layout) (t used left at : ℕ)
+pub goto_taken : (code : List Instr) (g : Scene) (before : Place) (left at : ℕ)
     (variables : List (Option ℕ))
     (s : State) (to : ℕ)
-    → StandsAt code bag t at variables s (Goto to)
-    → IsTaken code bag layout t used (dispatch_instruction layout t used left at variables (Some (Goto to)))
-goto_taken code bag layout t used left at variables s to here =
+    → StandsAt code g before at variables s (Goto to)
+    → IsTaken code g (dispatch_instruction g.layout g.thread g.used before left at variables (Some (Goto to)))
+goto_taken code g before left at variables s to here =
     let next : IsInside code to variables s = record {
       exits = here.inside.exits ++ Success ∷ [];
       arrived = here.leads Success to refl;
@@ -174,10 +185,10 @@ goto_taken code bag layout t used left at variables s to here =
       rows = here.inside.rows;
       grounded = here.inside.grounded;
     } in
-    let taken : SilentTaken code bag t [] (InCall left to variables) =
+    let taken : SilentTaken code g [] (InCall left to variables) =
     record {
       moves_fit = Stays;
-      placed = (s, next, holds_at_none bag t _ here.holds);
+      placed = (s, next, here.guards, holds_at_none g.bag g.thread _ here.holds);
       stays = in_call_stays left to variables;
     } in
     taken

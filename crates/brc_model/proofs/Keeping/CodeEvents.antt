@@ -1,14 +1,13 @@
 -- Each event, by any thread and with any choice, keeps both layers of the invariant and isn't bad.
-use Rattle.std.proofs.Common.{◌≡◌, ℕ, false, List, [], ◌∷◌, Option, None, Some, refl, sym, ap, ◌∙◌, subst, not, arith}
-use Rattle.std.specs.Prelude.{slice_get}
-use Rattle.std.proofs.lemmas.List.Sums.{sum_by-cons}
+use Rattle.std.proofs.Common.{◌≡◌, ℕ, false, List, [], ◌∷◌, Option, None, Some, refl, sym, ap, ◌∙◌, subst, not, Bool}
+use Rattle.std.specs.Prelude.{◌||◌, slice_get}
 use Rattle.brc_lang.specs.declared.module.Module.{Module}
 use Rattle.brc_model.specs.declared.duty.Duty.{Duty}
 use Rattle.brc_model.specs.declared.thread.Choice.{Choice}
 use Rattle.brc_model.specs.Machine.{with_actor, with_moves}
 use Rattle.brc_model.specs.Actions.{StepActor, Action, Skip, Stuck, Silent, Does, action_of}
 use Rattle.brc_model.specs.StepMachine.{StepMachine, counting, of_thread, at_place, step_actor, silent_by, machine_by, next_machine, machine_after}
-use Rattle.brc_model.specs.Events.{is_bad_action, is_bad_event}
+use Rattle.brc_model.specs.Events.{is_bad_action, chooses_unfit, is_bad_event}
 use Rattle.brc_model.proofs.Basics.Lists.{written_actor}
 use Rattle.brc_model.proofs.Stepping.Neutral.{found_by}
 use Rattle.brc_model.proofs.Stepping.UnderWay.{exits_still}
@@ -20,17 +19,20 @@ use Rattle.brc_model.specs.OpenWork.{IsSettled, exits}
 use Rattle.brc_model.proofs.Keeping.CodeInvariant.{CodeInvariant, KeepsOn, coded_set}
 use Rattle.brc_model.proofs.Keeping.SilentSteps.{silenced, silent_core, silent_allowed}
 use Rattle.brc_model.proofs.Dispatch.Counting.{counting_silent, counting_done}
-use Rattle.brc_model.proofs.Dispatch.Unlocked.{locking, plain_after, plain_locked}
+use Rattle.brc_model.proofs.Dispatch.Unlocked.{plain_after}
+use Rattle.brc_model.proofs.Dispatch.Fit.{choice_fit}
+use Rattle.brc_model.proofs.Keeping.KindsHold.{thread_holds}
+use Rattle.brc_model.specs.KnownKinds.{KindsHold}
 use Rattle.brc_model.proofs.Dispatch.Actions.{ActionFits, action_fits}
 
 -- An action that fits its thread keeps both layers of the invariant and isn't bad.
 action_keeps : (p : Module) (n : ℕ) (m : StepMachine) (t : ℕ) (a : StepActor) (x : Action)
     → (whole : CodeInvariant p n m)
-    → slice_get m.actors t ≡ Some a → ActionFits p whole.accounts n m t a x
+    → slice_get m.actors t ≡ Some a → ActionFits p whole.accounts n m t a x → KindsHold (machine_by m t a x)
     → KeepsOn p n (is_bad_action m t a x) (machine_by m t a x)
-action_keeps p n m t a Skip whole found fits = (refl, whole)
-action_keeps p n m t a Stuck whole found fits = absurd fits
-action_keeps p n m t a (Silent moves place) whole found fits =
+action_keeps p n m t a Skip whole found fits kinds = (refl, whole)
+action_keeps p n m t a Stuck whole found fits kinds = absurd fits
+action_keeps p n m t a (Silent moves place) whole found fits kinds =
     let c = whole.accounts in
     let new = with_account c t fits.account in
     let own = whole.coded t a found in
@@ -50,12 +52,13 @@ action_keeps p n m t a (Silent moves place) whole found fits =
         accounts = new;
         kept = subst (Invariant new n) same here;
         functions = whole.functions;
+        mortal = whole.mortal;
+        kinds = kinds;
         coded =
             coded_set p c m.actors t a (at_place a place) fits.account
             found
             (record {
               alone = own.alone;
-              unlocked = own.unlocked;
               plain = own.plain;
               accepted = own.accepted;
               instructions = own.instructions;
@@ -64,7 +67,7 @@ action_keeps p n m t a (Silent moves place) whole found fits =
             }) whole.coded;
       },
     )
-action_keeps p n m t a (Does d rest place) whole found fits =
+action_keeps p n m t a (Does d rest place) whole found fits kinds =
     let c = whole.accounts in
     let new = with_account c t fits.account in
     let now = sitting a.actor (d ∷ rest) in
@@ -80,15 +83,13 @@ action_keeps p n m t a (Does d rest place) whole found fits =
             subst (Invariant new n)
             (taken_up_step (counting m) t a.actor d rest ∙ counting_done m t a d rest place) done.1;
         functions = whole.functions;
+        mortal = whole.mortal;
+        kinds = kinds;
         coded =
             coded_set p c m.actors t a (step_actor m.layout t a d rest (place word) word) fits.account found
             (record {
               alone = own.alone;
-              unlocked =
-                  plain_locked a.actor.locked d word (omega (arith, fits.plain, sum_by-cons locking d rest))
-                  ∙ own.unlocked;
-              plain =
-                  plain_after m.layout t a.actor d rest word (omega (arith, fits.plain, sum_by-cons locking d rest));
+              plain = plain_after m.layout t a.actor d rest word fits.plain;
               accepted = own.accepted;
               instructions = own.instructions;
               says = fits.says;
@@ -101,12 +102,16 @@ action_keeps p n m t a (Does d rest place) whole found fits =
 thread_keeps : (p : Module) (n : ℕ) (m : StepMachine) (t : ℕ) (choice : Choice) (o : Option StepActor)
     → CodeInvariant p n m
     → slice_get m.actors t ≡ o
-    → KeepsOn p n (of_thread false (λ a. is_bad_action m t a (action_of m.functions m.layout t a choice)) o)
+    → KeepsOn p n
+    (of_thread false
+    (λ a. is_bad_action m t a (action_of m.functions m.layout t a choice) || chooses_unfit m a choice) o)
     (of_thread m (λ a. machine_by m t a (action_of m.functions m.layout t a choice)) o)
 thread_keeps p n m t choice None whole found = (refl, whole)
 thread_keeps p n m t choice (Some a) whole found =
+    let kept =
     action_keeps p n m t a (action_of m.functions m.layout t a choice) whole found
-    (action_fits p n m t a choice whole found)
+    (action_fits p n m t a choice whole found) (thread_holds p n m t choice (Some a) whole found) in
+    (ap (λ (b : Bool). b || chooses_unfit m a choice) kept.0 ∙ choice_fit p n m t a choice whole found, kept.1)
 
 -- No event is bad, and each keeps both layers of the invariant.
 pub event_keeps : (p : Module) (n : ℕ) (m : StepMachine) (event : ℕ × Choice) → CodeInvariant p n m

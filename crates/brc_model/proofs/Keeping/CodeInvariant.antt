@@ -11,6 +11,7 @@ use Rattle.brc_model.specs.StepMachine.{StepMachine, counting}
 use Rattle.brc_model.proofs.Basics.Lists.{some_is, slice_get-set_same, slice_get-set_other}
 use Rattle.brc_model.specs.Accounts.{Account, Accounts}
 use Rattle.brc_model.specs.Invariant.{Invariant}
+use Rattle.brc_model.specs.KnownKinds.{KindsHold}
 use Rattle.brc_model.proofs.Dispatch.Coded.{InCode}
 use Rattle.brc_model.specs.Counting.{with_account}
 use Rattle.brc_model.proofs.Keeping.Replaced.{with_account_same, with_account_other}
@@ -19,6 +20,9 @@ pub record CodeInvariant (p : Module) (n : ℕ) (m : StepMachine) : Type 0 where
   pub accounts : Accounts
   pub kept : Invariant accounts n (counting m)
   pub functions : m.functions ≡ p.functions
+  -- none is the only immortal object
+  pub mortal : m.layout.immortal_lists ≡ 0
+  pub kinds : KindsHold m
   pub coded : (t : ℕ) (a : StepActor) → slice_get m.actors t ≡ Some a → InCode p a (accounts t)
 
 abbrev pub KeepsOn : Module → ℕ → Bool → StepMachine → Type 0

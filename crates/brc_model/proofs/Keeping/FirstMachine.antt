@@ -109,11 +109,10 @@ first_coded m calls zero a fits accepted are_calls is =
     subst (λ (x : StepActor). InCode m x (first_accounts 0)) (some_is main_actor a is)
     (record {
       alone = refl;
-      unlocked = refl;
       plain = refl;
       accepted = function.0;
       instructions = function.1;
-      says = refl;
+      says = (refl, refl);
       departs = refl;
     })
 first_coded m calls (suc t) a fits accepted are_calls is =
@@ -123,10 +122,9 @@ first_coded m calls (suc t) a fits accepted are_calls is =
     subst (λ (x : StepActor). InCode m x (first_accounts (suc t))) call.is_image
     (record {
       alone = refl;
-      unlocked = refl;
       plain = refl;
       accepted = function.0;
       instructions = function.1;
-      says = refl;
+      says = (refl, refl);
       departs = refl;
     })

@@ -16,7 +16,7 @@ use Rattle.brc_model.specs.Accounts.{Accounts}
 use Rattle.brc_model.proofs.Objects.Closing.{GoesOn, BeginsToDie, IsClosed, life_step, SameClosed, OneMore, closed_step, IsBorn}
 use Rattle.brc_model.proofs.Objects.ClosedAfter.{live_not_closed, dying_not_closed, among_more, unborn_not_closed}
 use Rattle.brc_model.proofs.Keeping.CodeInvariant.{CodeInvariant}
-use Rattle.brc_model.proofs.Promises.StepCases.{ShowsSteps, at_duty, event_shows}
+use Rattle.brc_model.proofs.Keeping.StepCases.{ShowsSteps, at_duty, event_shows}
 use Rattle.brc_model.proofs.Keeping.SilentSteps.{silent_closed}
 use Rattle.brc_model.specs.Invariant.{AtDuty}
 

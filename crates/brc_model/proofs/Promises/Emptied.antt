@@ -2,7 +2,7 @@
 use Rattle.std.proofs.Common.{◌≡◌, ℕ, zero, suc, Bool, true, false, cond, List, [], ◌∷◌, ◌++◌, Option, None, Some, refl, sym, ap, ◌∙◌, subst}
 use Rattle.std.specs.Prelude.{not, slice_get, slice_set}
 use Rattle.brc_lang.specs.declared.module.Instr.{Instr}
-use Rattle.brc_lang.specs.declared.module.Instr.TheVariants.{Num, List as ListObject, NoneObject, Newref, Move as MoveReference, Drop, Goto, Ret, Fail, As}
+use Rattle.brc_lang.specs.declared.module.Instr.TheVariants.{Num, List as ListObject, NoneObject, Newref, Move as MoveReference, Drop, Lock, Unlock, Goto, Ret, Fail, As}
 use Rattle.brc_lang.specs.declared.module.Module.{Module}
 use Rattle.brc_model.specs.declared.thread.Call.{Call}
 use Rattle.brc_model.specs.declared.thread.Choice.{Choice}
@@ -137,35 +137,40 @@ row_empties None work each = tt
 row_empties (Some row) work each = each row
 
 -- What an instruction dispatches leaves an empty chain empty once it is done.
-instruction_empties : (layout : Layout) (t used left at : ℕ) (variables : List (Option ℕ)) (i : Option Instr)
-    → ActionEmpties 0 (dispatch_instruction layout t used left at variables i)
-instruction_empties layout t used left at variables None = tt
-instruction_empties layout t used left at variables (Some (Num to value otherwise)) =
+instruction_empties : (layout : Layout) (t used : ℕ) (before : Place) (left at : ℕ) (variables : List (Option ℕ))
+    (i : Option Instr)
+    → ActionEmpties 0 (dispatch_instruction layout t used before left at variables i)
+instruction_empties layout t used before left at variables None = tt
+instruction_empties layout t used before left at variables (Some (Num to value otherwise)) =
     either (ActionEmpties 0) (has_room layout t used) _ _ (λ _. refl) tt
-instruction_empties layout t used left at variables (Some (ListObject to cells otherwise)) =
+instruction_empties layout t used before left at variables (Some (ListObject to cells otherwise)) =
     either (ActionEmpties 0) (has_room layout t used) _ _ (λ _. refl) tt
-instruction_empties layout t used left at variables (Some (NoneObject to)) = tt
-instruction_empties layout t used left at variables (Some (Newref to from)) =
+instruction_empties layout t used before left at variables (Some (NoneObject to)) = tt
+instruction_empties layout t used before left at variables (Some (Newref to from)) =
     row_empties (row_of variables from) _ (λ row. refl)
-instruction_empties layout t used left at variables (Some (MoveReference to from)) =
+instruction_empties layout t used before left at variables (Some (MoveReference to from)) =
     row_empties (row_of variables from) _ (λ row. tt)
-instruction_empties layout t used left at variables (Some (Drop from)) =
+instruction_empties layout t used before left at variables (Some (Drop from)) =
     row_empties (row_of variables from) _ (λ row. refl)
-instruction_empties layout t used left at variables (Some (As from kind otherwise)) =
+instruction_empties layout t used before left at variables (Some (Lock object)) =
+    row_empties (row_of variables object) _ (λ row. refl)
+instruction_empties layout t used before left at variables (Some (Unlock object)) =
+    row_empties (row_of variables object) _ (λ row. refl)
+instruction_empties layout t used before left at variables (Some (As from kind otherwise)) =
     row_empties (row_of variables from) _ (λ row. refl)
-instruction_empties layout t used left at variables (Some (Goto to)) = tt
-instruction_empties layout t used left at variables (Some (Ret from)) =
+instruction_empties layout t used before left at variables (Some (Goto to)) = tt
+instruction_empties layout t used before left at variables (Some (Ret from)) =
     row_empties (row_of variables from) _ (λ row. refl)
-instruction_empties layout t used left at variables (Some Fail) = tt
+instruction_empties layout t used before left at variables (Some Fail) = tt
 
 dispatch_empties : (layout : Layout) (t used : ℕ) (code : List Instr) (place : Place)
     → ActionEmpties 0 (dispatch layout t used code place)
 dispatch_empties layout t used code Exiting = tt
 dispatch_empties layout t used code (Idle zero) = refl
 dispatch_empties layout t used code (Idle (suc left)) =
-    instruction_empties layout t used left 0 entry_variables (slice_get code 0)
+    instruction_empties layout t used (Idle (suc left)) left 0 entry_variables (slice_get code 0)
 dispatch_empties layout t used code (InCall left at variables) =
-    instruction_empties layout t used left at variables (slice_get code at)
+    instruction_empties layout t used (InCall left at variables) left at variables (slice_get code at)
 
 no_chain : (head : ℕ) → Empties head [] → head ≡ 0
 no_chain zero e = refl

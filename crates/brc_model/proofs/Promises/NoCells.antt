@@ -10,7 +10,7 @@ use Rattle.brc_model.proofs.Frame.Cells.{still_empty}
 use Rattle.brc_model.proofs.Keeping.CodeEvents.{event_keeps}
 use Rattle.brc_model.proofs.Keeping.CodeInvariant.{CodeInvariant}
 use Rattle.brc_model.proofs.Keeping.FirstMachine.{first_rooted}
-use Rattle.brc_model.proofs.Promises.StepCases.{ShowsSteps, event_shows}
+use Rattle.brc_model.proofs.Keeping.StepCases.{ShowsSteps, event_shows}
 
 abbrev StayEmpty : ℕ → Machine → Machine → Type 0
 StayEmpty t m new = HasNoCells m → HasNoCells new

@@ -16,7 +16,7 @@ use Rattle.brc_model.proofs.Basics.Written.{written_here, written_apart, apart_s
 use Rattle.brc_model.proofs.Frame.Leaves.{exchange_alive}
 use Rattle.brc_model.proofs.Stepping.Neutral.{memory_by}
 use Rattle.brc_model.proofs.Keeping.CodeInvariant.{CodeInvariant}
-use Rattle.brc_model.proofs.Promises.StepCases.{ShowsSteps, at_duty, event_shows}
+use Rattle.brc_model.proofs.Keeping.StepCases.{ShowsSteps, at_duty, event_shows}
 use Rattle.brc_model.specs.Accounts.{Accounts}
 use Rattle.brc_model.specs.Invariant.{AtDuty}
 

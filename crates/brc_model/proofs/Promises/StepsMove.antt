@@ -1,21 +1,23 @@
 -- Which steps change the world: every step of a thread that isn't gone, except for a claim that isn't allowed or finds
--- no mark.
+-- no mark, and for a lock that another thread holds (`LocksWait`).
 use Rattle.std.proofs.Common.{◌≡◌, ◌≢◌, ℕ, zero, suc, ◌+◌, Bool, true, false, cond, List, [], ◌∷◌, ◌++◌, length, inl, inr, Option, None, Some, refl, sym, ap, ◌∙◌, subst, arith, ◌<◌, ◌⊎◌}
-use Rattle.std.specs.Prelude.{◌==◌, slice_get, slice_set}
+use Rattle.std.specs.Prelude.{not, ◌==◌, slice_get, slice_set}
 use Rattle.std.proofs.Math.Path.{fun_ext}
 use Rattle.std.proofs.lemmas.Option.{slice_get_within}
+use Rattle.std.proofs.lemmas.Bool.{eqb-true}
 use Rattle.brc_lang.specs.declared.module.Instr.{Instr}
-use Rattle.brc_lang.specs.declared.module.Instr.TheVariants.{Num, List as ListObject, NoneObject, Newref, Move as MoveReference, Drop, Goto, Ret, Fail, As}
+use Rattle.brc_lang.specs.declared.module.Instr.TheVariants.{Num, List as ListObject, NoneObject, Newref, Move as MoveReference, Drop, Lock, Unlock, Goto, Ret, Fail, As}
 use Rattle.brc_lang.specs.declared.module.Module.{Module}
 use Rattle.brc_model.specs.declared.thread.Choice.{Choice}
 use Rattle.brc_model.specs.declared.thread.Choice.TheVariants.{Ok, Fault, Claim}
+use Rattle.brc_word.specs.Words.{free_word}
 use Rattle.brc_model.specs.Kinds.{same_kind, kind_of_word}
 use Rattle.brc_model.specs.Threads.{row_of, entry_variables, code_of}
 use Rattle.brc_model.specs.declared.duty.Reason.TheVariants.{Handed}
 use Rattle.brc_model.specs.declared.duty.Duty.{Duty}
-use Rattle.brc_model.specs.declared.duty.Duty.TheVariants.{MergeSwap, Settle, ClaimMark}
+use Rattle.brc_model.specs.declared.duty.Duty.TheVariants.{MergeSwap, Settle, ClaimMark, LockGate}
 use Rattle.brc_model.specs.declared.address.Address.{Address}
-use Rattle.brc_model.specs.declared.address.Address.TheVariants.{Mark}
+use Rattle.brc_model.specs.declared.address.Address.TheVariants.{Gate, Mark}
 use Rattle.brc_model.specs.Duties.{address_of, new_head, ready}
 use Rattle.brc_model.specs.declared.actor.Status.{Status}
 use Rattle.brc_model.specs.declared.actor.Status.TheVariants.{Running, Leaving, Gone}
@@ -24,7 +26,7 @@ use Rattle.brc_model.specs.declared.actor.Place.TheVariants.{Idle, InCall, Exiti
 use Rattle.brc_model.specs.Machine.{is_running, written, has_room}
 use Rattle.brc_model.specs.Actions.{StepActor, Action, Skip, Stuck, Silent, Does, always, with_row, birth_action, dispatch_instruction, dispatch, may_claim, agenda_action, status_action, action_of, number_word, list_word}
 use Rattle.brc_model.specs.StepMachine.{StepMachine, of_thread, at_place, step_actor, does_by, machine_by, next_machine, first_machine, machine_after}
-use Rattle.brc_model.specs.World.{World, world_of, machine_of, step, IsReachable}
+use Rattle.brc_model.specs.World.{World, world_of, machine_of, step, finds_locked, waits_for_lock, IsReachable}
 use Rattle.brc_model.proofs.Basics.Lists.{either, some_is, slice_get-set_same, set_found}
 use Rattle.brc_model.proofs.Basics.Written.{written_here, written_load}
 use Rattle.brc_model.proofs.Dispatch.Claims.{claimer, gone_claims_none}
@@ -43,6 +45,10 @@ use Rattle.brc_model.specs.Layout.{none_row, row_at}
 
 -- ---- a thread that isn't gone
 
+not_false : (b : Bool) → not b ≡ false → b ≡ true
+not_false true free = refl
+not_false false free = absurd cc
+
 -- Worlds in which a thread differs are different.
 actor_apart : (v w : World) (t : ℕ) (a b : StepActor) → slice_get w.actors t ≡ Some a
     → v.actors ≡ slice_set w.actors t b
@@ -51,12 +57,17 @@ actor_apart v w t a b found set apart e =
     apart (some_is b a (sym (slice_get-set_same w.actors t b (slice_get_within w.actors t a found))
     ∙ ap (λ (l : List StepActor). slice_get l t) (sym set ∙ ap (λ (u : World). u.actors) e) ∙ found))
 
--- The action leads the thread to another place.
+-- What a duty finds where it can go on: a lock's gate is free.
+abbrev FindsFree : Duty → ℕ → Type 0
+FindsFree (LockGate x) found = found ≡ free_word
+FindsFree d found = Unit {0}
+
+-- The action leads the thread to another place, unless it waits for a lock.
 abbrev IsElsewhere : Place → Action → Type 0
 IsElsewhere place Skip = ⊥
 IsElsewhere place Stuck = Unit {0}
 IsElsewhere place (Silent moves next) = next ≢ place
-IsElsewhere place (Does d rest next) = (found : ℕ) → next found ≢ place
+IsElsewhere place (Does d rest next) = (found : ℕ) → FindsFree d found → next found ≢ place
 
 row_elsewhere : (place : Place) (o : Option ℕ) (work : ℕ → Action) → ((row : ℕ) → IsElsewhere place (work row))
     → IsElsewhere place (with_row o work)
@@ -70,7 +81,7 @@ birth_elsewhere : (place : Place) (layout : Layout) (t used left at : ℕ) (vari
     → IsElsewhere place (birth_action layout t used left at variables to word otherwise)
 birth_elsewhere place layout t used left at variables to word otherwise ahead inside =
     either (IsElsewhere place) (has_room layout t used) _ _
-    (λ room found. inside (at + 1) (slice_set variables to (Some (row_at layout t used))) (omega arith))
+    (λ room found free. inside (at + 1) (slice_set variables to (Some (row_at layout t used))) (omega arith))
     (inside otherwise (slice_set variables to None) ahead)
 
 -- An instruction leads to another place: a later point of its call, or the end of the call.
@@ -79,7 +90,7 @@ instruction_elsewhere : (place : Place) (layout : Layout) (t used left at : ℕ)
     (i : Option Instr)
     → LeadsForward code → slice_get code at ≡ i
     → ((next : ℕ) (later : List (Option ℕ)) → at < next → InCall left next later ≢ place) → Idle left ≢ place
-    → IsElsewhere place (dispatch_instruction layout t used left at variables i)
+    → IsElsewhere place (dispatch_instruction layout t used place left at variables i)
 instruction_elsewhere place layout t used left at variables code None forward found inside ends = tt
 instruction_elsewhere place layout t used left at variables code (Some (Num to value otherwise)) forward found inside
     ends =
@@ -94,7 +105,7 @@ instruction_elsewhere place layout t used left at variables code (Some (NoneObje
     inside (at + 1) (slice_set variables to (Some none_row)) (omega arith)
 instruction_elsewhere place layout t used left at variables code (Some (Newref to from)) forward found inside ends =
     row_elsewhere place (row_of variables from) _
-    (λ row found. inside (at + 1) (slice_set variables to (Some row)) (omega arith))
+    (λ row found free. inside (at + 1) (slice_set variables to (Some row)) (omega arith))
 instruction_elsewhere place layout t used left at variables code
     (Some (MoveReference to from)) forward found inside ends
     =
@@ -102,17 +113,25 @@ instruction_elsewhere place layout t used left at variables code
     (λ row. inside (at + 1) (slice_set (slice_set variables from None) to (Some row)) (omega arith))
 instruction_elsewhere place layout t used left at variables code (Some (Drop from)) forward found inside ends =
     row_elsewhere place (row_of variables from) _
-    (λ row found. inside (at + 1) (slice_set variables from None) (omega arith))
+    (λ row found free. inside (at + 1) (slice_set variables from None) (omega arith))
+instruction_elsewhere place layout t used left at variables code (Some (Lock object)) forward found inside ends =
+    row_elsewhere place (row_of variables object) _
+    (λ row word free. subst (λ (next : Place). next ≢ place)
+    (sym (ap (λ (w : ℕ). cond (w == free_word) (InCall left (at + 1) variables) place) free))
+    (inside (at + 1) variables (omega arith)))
+instruction_elsewhere place layout t used left at variables code (Some (Unlock object)) forward found inside ends =
+    row_elsewhere place (row_of variables object) _
+    (λ row found free. inside (at + 1) variables (omega arith))
 instruction_elsewhere place layout t used left at variables code (Some (As from kind otherwise)) forward found inside
     ends =
     row_elsewhere place (row_of variables from) _
-    (λ row word. inside (cond (same_kind (kind_of_word word) kind) (at + 1) otherwise) variables
+    (λ row word free. inside (cond (same_kind (kind_of_word word) kind) (at + 1) otherwise) variables
     (either (λ (next : ℕ). at < next) (same_kind (kind_of_word word) kind) (at + 1) otherwise (λ same. omega arith)
     (forward at (As from kind otherwise) otherwise found refl).0))
 instruction_elsewhere place layout t used left at variables code (Some (Goto to)) forward found inside ends =
     inside to variables (forward at (Goto to) to found refl).0
 instruction_elsewhere place layout t used left at variables code (Some (Ret from)) forward found inside ends =
-    row_elsewhere place (row_of variables from) _ (λ row found. ends)
+    row_elsewhere place (row_of variables from) _ (λ row found free. ends)
 instruction_elsewhere place layout t used left at variables code (Some Fail) forward found inside ends = ends
 
 one_call_less : (left : ℕ) → Idle left ≢ Idle (suc left)
@@ -125,7 +144,7 @@ one_point_on left at next variables later on e = (let same : next ≡ at = cc in
 dispatch_elsewhere : (layout : Layout) (t used : ℕ) (code : List Instr) (place : Place) → LeadsForward code
     → IsElsewhere place (dispatch layout t used code place)
 dispatch_elsewhere layout t used code Exiting forward = tt
-dispatch_elsewhere layout t used code (Idle zero) forward = λ found e. cc
+dispatch_elsewhere layout t used code (Idle zero) forward = λ found free e. cc
 dispatch_elsewhere layout t used code (Idle (suc left)) forward =
     instruction_elsewhere (Idle (suc left)) layout t used left 0 entry_variables code
     (slice_get code 0) forward refl
@@ -134,12 +153,12 @@ dispatch_elsewhere layout t used code (InCall left at variables) forward =
     instruction_elsewhere (InCall left at variables) layout t used left at variables code (slice_get code at) forward
     refl (λ next later on e. one_point_on left at next variables later on e) (λ e. cc)
 
--- The action leads the thread to another place, or is the first duty of its agenda.
+-- The action leads the thread to another place, unless it waits for a lock, or is the first duty of its agenda.
 abbrev Moves : StepActor → Action → Type 0
 Moves a Skip = ⊥
 Moves a Stuck = Unit {0}
 Moves a (Silent moves place) = place ≢ a.place
-Moves a (Does d rest place) = ((found : ℕ) → place found ≢ a.place) ⊎ (a.actor.agenda ≡ d ∷ rest)
+Moves a (Does d rest place) = IsElsewhere a.place (Does d rest place) ⊎ (a.actor.agenda ≡ d ∷ rest)
 
 elsewhere_moves : (a : StepActor) (x : Action) → IsElsewhere a.place x → Moves a x
 elsewhere_moves a Skip elsewhere = elsewhere
@@ -164,25 +183,35 @@ status_moves_on functions layout t a Running alive forward =
 status_moves_on functions layout t a Leaving alive forward =
     agenda_moves_on functions layout t a a.actor.agenda refl forward
 
+-- A duty finds that it can go on, unless the thread waits for a lock.
+finds_free : (memory : Address → ℕ) (layout : Layout) (t head : ℕ) (d : Duty) (rest : List Duty) (place : ℕ → Place)
+    → finds_locked memory (Does d rest place) ≡ false → FindsFree d (memory (address_of layout t head d))
+finds_free memory layout t head (LockGate x) rest place free =
+    eqb-true (memory (Gate x)) free_word (not_false (memory (Gate x) == free_word) free)
+finds_free memory layout t head _ rest place free = tt
+
 action_moves : (p : Module) (c : Accounts) (n : ℕ) (m : StepMachine) (t : ℕ) (a : StepActor) (x : Action)
-    → slice_get m.actors t ≡ Some a → ActionFits p c n m t a x → Moves a x → world_of (machine_by m t a x) ≢ world_of m
-action_moves p c n m t a Skip found fits moves = absurd moves
-action_moves p c n m t a Stuck found fits moves = absurd fits
-action_moves p c n m t a (Silent refs place) found fits moves =
+    → slice_get m.actors t ≡ Some a → finds_locked m.memory x ≡ false → ActionFits p c n m t a x → Moves a x
+    → world_of (machine_by m t a x) ≢ world_of m
+action_moves p c n m t a Skip found free fits moves = absurd moves
+action_moves p c n m t a Stuck found free fits moves = absurd fits
+action_moves p c n m t a (Silent refs place) found free fits moves =
     actor_apart (world_of (machine_by m t a (Silent refs place))) (world_of m) t a (at_place a place) found refl
     (λ e. moves (ap (λ (c : StepActor). c.place) e))
-action_moves p c n m t a (Does d rest place) found fits moves =
+action_moves p c n m t a (Does d rest place) found free fits moves =
     let word = m.memory (address_of m.layout t a.actor.head d) in
     actor_apart (world_of (machine_by m t a (Does d rest place))) (world_of m) t a
     (step_actor m.layout t a d rest (place word) word) found refl (λ e. elim moves [
-      | inl elsewhere ↦ elsewhere word (ap (λ (c : StepActor). c.place) e)
+      | inl elsewhere ↦
+          elsewhere word (finds_free m.memory m.layout t a.actor.head d rest place free)
+          (ap (λ (c : StepActor). c.place) e)
       | inr is ↦
           agenda_moves m.layout t (is_running a.actor.status) a.actor.head (new_head a.actor.head d word) d rest word
           (ap (λ (c : StepActor). c.actor.agenda) e ∙ is)
     ])
 
 -- The machine after an event of the thread.
-abbrev after : StepMachine → ℕ → Choice → Option StepActor → StepMachine
+abbrev pub after : StepMachine → ℕ → Choice → Option StepActor → StepMachine
 after m t choice o = of_thread m (λ a. machine_by m t a (action_of m.functions m.layout t a choice)) o
 
 abbrev BothMove : World → ℕ → Type 0
@@ -190,13 +219,13 @@ BothMove w t = (step w t Ok ≢ w) × (step w t Fault ≢ w)
 
 machine_moves : (p : Module) (n : ℕ) (m : StepMachine) (t : ℕ) (a : StepActor) → CodeInvariant p n m
     → slice_get m.actors t ≡ Some a
-    → (a.actor.status ≡ Gone → ⊥) → BothMove (world_of m) t
-machine_moves p n m t a whole found alive =
+    → (a.actor.status ≡ Gone → ⊥) → waits_for_lock (world_of m) t a ≡ false → BothMove (world_of m) t
+machine_moves p n m t a whole found alive free =
     let forward : LeadsForward (code_of (slice_get m.functions a.function)) =
     subst (λ (fs : List Function). LeadsForward (code_of (slice_get fs a.function))) (sym whole.functions)
     (whole.coded t a found).instructions.forward in
     let acting : world_of (machine_by m t a (action_of m.functions m.layout t a Ok)) ≢ world_of m =
-    action_moves p whole.accounts n m t a (action_of m.functions m.layout t a Ok) found
+    action_moves p whole.accounts n m t a (action_of m.functions m.layout t a Ok) found free
     (action_fits p n m t a Ok whole found) (status_moves_on m.functions m.layout t a a.actor.status alive forward) in
     let by_ok : world_of (next_machine m (t, Ok)) ≢ world_of m =
     subst (λ (o : Option StepActor). world_of (after m t Ok o) ≢ world_of m) (sym found) acting in
@@ -204,19 +233,25 @@ machine_moves p n m t a whole found alive =
     subst (λ (o : Option StepActor). world_of (after m t Fault o) ≢ world_of m) (sym found) acting in
     (λ e. by_ok (worlds_follow m (t, Ok) ∙ e), λ e. by_fault (worlds_follow m (t, Fault) ∙ e))
 
+-- The machine of a reachable world has both layers of the invariant.
+pub reached_code : (p : Module) (w : World) → (here : IsReachable p w)
+    → CodeInvariant p (1 + length here.calls) (machine_after (first_machine p here.rows here.calls) here.events)
+reached_code p w here =
+    code_invariant_after p (1 + length here.calls) (first_machine p here.rows here.calls) here.events
+    (first_code_invariant p here.rows here.calls here.fits here.accepted here.calls_fit here.some_rows here.most_rows)
+
+pub reached_found : (p : Module) (w : World) (t : ℕ) (a : StepActor) → (here : IsReachable p w)
+    → slice_get w.actors t ≡ Some a
+    → slice_get (machine_after (first_machine p here.rows here.calls) here.events).actors t ≡ Some a
+reached_found p w t a here found = ap (λ (v : World). slice_get v.actors t) (sym here.reached) ∙ found
+
 pub going_on_moves : (p : Module) (w : World) (t : ℕ) (a : StepActor) → IsReachable p w → slice_get w.actors t ≡ Some a
-    → a.actor.status ≢ Gone → (step w t Ok ≢ w) × (step w t Fault ≢ w)
-going_on_moves p w t a here found alive =
-    let first = first_machine p here.rows here.calls in
-    let n = 1 + length here.calls in
-    let whole : CodeInvariant p n (machine_after first here.events) =
-    code_invariant_after p n first here.events
-    (first_code_invariant p here.rows here.calls here.fits here.accepted here.calls_fit here.some_rows
-    here.most_rows) in
-    let there : slice_get (machine_after first here.events).actors t ≡ Some a =
-    ap (λ (v : World). slice_get v.actors t) (sym here.reached) ∙ found in
+    → a.actor.status ≢ Gone → waits_for_lock w t a ≡ false → (step w t Ok ≢ w) × (step w t Fault ≢ w)
+going_on_moves p w t a here found alive free =
     subst (λ (v : World). BothMove v t) (sym here.reached)
-    (machine_moves p n (machine_after first here.events) t a whole there alive)
+    (machine_moves p (1 + length here.calls) (machine_after (first_machine p here.rows here.calls) here.events) t a
+    (reached_code p w here) (reached_found p w t a here found) alive
+    (subst (λ (v : World). waits_for_lock v t a ≡ false) here.reached free))
 
 -- ---- claims
 
@@ -280,8 +315,7 @@ pub claim_misses : (p : Module) (w : World) (t : ℕ) (a : StepActor) (row : ℕ
     → step w t (Claim row) ≡ w
 claim_misses p w t a row here found may none =
     let rest = (claimer w.layout t a row may).agenda in
-    let there : slice_get (machine_after (first_machine p here.rows here.calls) here.events).actors t ≡ Some a =
-    ap (λ (v : World). slice_get v.actors t) (sym here.reached) ∙ found in
+    let there = reached_found p w t a here found in
     claim_is w t a row true found may
     ∙ miss_stays w t a row found rest (chain_empty p here.rows here.calls here.events t a there rest) none
 

@@ -1,8 +1,12 @@
 use Rattle.brc_model.proofs.Promises.StepsMove.{going_on_moves, claim_moves, claim_misses, claim_stays, gone_stays}
+use Rattle.brc_model.proofs.Promises.LocksWait.{waiting_stays}
 use Rattle.brc_model.proofs.world_laws.steps_move.Goals as goal
 
 pub returns-clause-goes_on : goal.returns-clause-goes_on
 returns-clause-goes_on c = going_on_moves
+
+pub returns-clause-waits : goal.returns-clause-waits
+returns-clause-waits c = waiting_stays
 
 pub returns-clause-claims : goal.returns-clause-claims
 returns-clause-claims c = claim_moves

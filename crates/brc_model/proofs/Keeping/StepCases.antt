@@ -57,7 +57,7 @@ action_shows {Q = Q} shows m t a (Does d rest place) whole found fits =
     (subst (Q t (with_actor (counting m) t now))
     (taken_up_step (counting m) t a.actor d rest ∙ counting_done m t a d rest place) done)
 
-thread_shows : {Q : ℕ → Machine → Machine → Type 0} {p : Module} {n : ℕ} → ShowsSteps Q n
+pub thread_shows : {Q : ℕ → Machine → Machine → Type 0} {p : Module} {n : ℕ} → ShowsSteps Q n
     → (m : StepMachine) (t : ℕ) (choice : Choice) (o : Option StepActor) → CodeInvariant p n m
     → slice_get m.actors t ≡ o
     → Q t (counting m) (counting (of_thread m (λ a. machine_by m t a (action_of m.functions m.layout t a choice)) o))

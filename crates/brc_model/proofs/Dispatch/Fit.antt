@@ -1,0 +1,128 @@
+-- Each instruction that a thread of accepted code begins has what it needs: the kind of the object that it locks, the
+-- lock that it ends, and no lock at the end of a call.
+use Rattle.std.proofs.Common.{◌≡◌, ℕ, zero, suc, true, false, List, [], ◌∷◌, Option, None, Some, refl, ap, ◌∙◌, subst, Bool}
+use Rattle.std.specs.Prelude.{◌&&◌, not, is_some, slice_get}
+use Rattle.std.proofs.lemmas.Bool.{eq-eqb}
+use Rattle.brc_lang.specs.declared.module.Function.{Function}
+use Rattle.brc_lang.specs.declared.module.Instr.{Instr}
+use Rattle.brc_lang.specs.declared.module.Instr.TheVariants.{Lock, Unlock, Ret, Fail}
+use Rattle.brc_lang.specs.declared.module.Module.{Module}
+use Rattle.brc_model.specs.declared.slot.Slot.{Slot}
+use Rattle.brc_model.specs.declared.slot.Slot.TheVariants.{Empty, Owned, Caller, Locked}
+use Rattle.brc_model.specs.declared.slot.State.{State}
+use Rattle.brc_model.specs.declared.actor.Place.{Place}
+use Rattle.brc_model.specs.declared.actor.Place.TheVariants.{Idle, InCall, Exiting}
+use Rattle.brc_model.specs.declared.address.Address.{Address}
+use Rattle.brc_model.specs.declared.address.Address.TheVariants.{KindOf}
+use Rattle.brc_model.specs.declared.duty.Duty.{Duty}
+use Rattle.brc_model.specs.declared.thread.Choice.{Choice}
+use Rattle.brc_model.specs.declared.thread.Choice.TheVariants.{Ok, Fault, Claim}
+use Rattle.brc_model.specs.Slots.{slot_of, is_empty, kind_of, entry, is_one_of, lockable}
+use Rattle.brc_model.specs.Paths.{IsAcceptableCode}
+use Rattle.brc_model.specs.Threads.{code_of, row_of, entry_variables}
+use Rattle.brc_model.specs.KnownKinds.{HaveTrueKinds, KnowsKinds, kind_words}
+use Rattle.brc_model.specs.Needs.{kind_at, has_locked, has_needs, lacks_needs, starts_unfit}
+use Rattle.brc_model.specs.Events.{begins_unfit, chooses_unfit}
+use Rattle.brc_model.specs.Accounts.{Account}
+use Rattle.brc_model.specs.Actions.{StepActor}
+use Rattle.brc_model.specs.StepMachine.{StepMachine}
+use Rattle.brc_model.proofs.Basics.Lists.{first_false}
+use Rattle.brc_model.proofs.Dispatch.Grounded.{IsGrounded, IsInside, entry_in_call}
+use Rattle.brc_model.proofs.Dispatch.Guards.{LocksAgree, guards_none, guards_row}
+use Rattle.brc_model.proofs.Dispatch.Passing.{AreMet, passes_on}
+use Rattle.brc_model.proofs.Dispatch.Coded.{PlaceSays}
+use Rattle.brc_model.proofs.Dispatch.Lockable.{lockable_word}
+use Rattle.brc_model.proofs.Dispatch.Kinds.{entry_true}
+use Rattle.brc_model.proofs.Keeping.CodeInvariant.{CodeInvariant}
+
+-- A variable that isn't empty names a row.
+named_row : (slot : Slot) (row : Option ℕ) → is_empty slot ≡ false → IsGrounded slot row → (x : ℕ) × (row ≡ Some x)
+named_row Empty row some grounded = absurd cc
+named_row (Owned k) row some grounded = grounded
+named_row (Caller k) row some grounded = (_, grounded)
+named_row (Locked k) row some grounded = absurd grounded
+
+-- What a thread knows at an instruction whose conditions are met.
+record Meets (memory : Address → ℕ) (locked : Option ℕ) (variables : List (Option ℕ)) (s : State) (i : Instr) : Type 0
+  where
+    grounded : (v : ℕ) → IsGrounded (slot_of s v) (row_of variables v)
+    guards : LocksAgree s variables locked
+    kinds : HaveTrueKinds (λ x. memory (KindOf x)) s variables
+    met : AreMet i s
+
+not_false : (b : Bool) → not b ≡ false → b ≡ true
+not_false true e = refl
+not_false false e = absurd cc
+
+no_lock : (locked : Option ℕ) → locked ≡ None → not (is_some locked) ≡ true
+no_lock locked none = ap (λ (o : Option ℕ). not (is_some o)) none
+
+instruction_fit : (memory : Address → ℕ) (locked : Option ℕ) (variables : List (Option ℕ)) (s : State) (i : Instr)
+    → Meets memory locked variables s i → has_needs memory locked variables i ≡ true
+instruction_fit memory locked variables s (Lock object) meets =
+    let some : is_empty (slot_of s object) ≡ false = first_false _ _ meets.met.not_empty in
+    let row = named_row (slot_of s object) (row_of variables object) some (meets.grounded object) in
+    let can = not_false _ (first_false _ _ meets.met.right_kind) in
+    let word = lockable_word (kind_of (slot_of s object)) (memory (KindOf row.0)) (meets.kinds object row.0 row.1) can in
+    let free = guards_none s variables s.locked locked (first_false _ _ meets.met.first_lock) meets.guards in
+    ap (λ (o : Option ℕ). is_one_of (kind_at memory o) lockable && not (is_some locked)) row.1
+    ∙ ap (λ (b : Bool). b && not (is_some locked)) word ∙ no_lock locked free
+instruction_fit memory locked variables s (Unlock object) meets =
+    let some : is_empty (slot_of s object) ≡ false = first_false _ _ meets.met.not_empty in
+    let row = named_row (slot_of s object) (row_of variables object) some (meets.grounded object) in
+    let this = not_false _ (first_false _ _ meets.met.has_lock) in
+    let has = guards_row s variables object row.0 s.locked locked this row.1 meets.guards in
+    ap (λ (o : Option ℕ). has_locked o (row_of variables object)) has
+    ∙ ap (λ (o : Option ℕ). has_locked (Some row.0) o) row.1 ∙ eq-eqb row.0 row.0 refl
+instruction_fit memory locked variables s (Ret from) meets =
+    no_lock locked (guards_none s variables s.locked locked (first_false _ _ meets.met.no_lock_left) meets.guards)
+instruction_fit memory locked variables s Fail meets =
+    no_lock locked (guards_none s variables s.locked locked (first_false _ _ meets.met.no_lock_left) meets.guards)
+instruction_fit memory locked variables s _ meets = refl
+
+in_call_fit : (code : List Instr) (memory : Address → ℕ) (locked : Option ℕ) (at : ℕ) (variables : List (Option ℕ))
+    (s : State)
+    → IsAcceptableCode code → IsInside code at variables s → LocksAgree s variables locked
+    → HaveTrueKinds (λ x. memory (KindOf x)) s variables
+    → lacks_needs memory locked variables (slice_get code at) ≡ false
+in_call_fit code memory locked at variables s accepted inside guards kinds =
+    let on = passes_on code inside.exits at s accepted inside.arrived in
+    let fit = instruction_fit memory locked variables s on.here (record {
+      grounded = inside.grounded;
+      guards = guards;
+      kinds = kinds;
+      met = on.met;
+    }) in
+    ap (lacks_needs memory locked variables) on.found ∙ ap not fit
+
+place_fit : (code : List Instr) (memory : Address → ℕ) (locked : Option ℕ) (place : Place) (account : Account)
+    → IsAcceptableCode code → PlaceSays code place locked account
+    → HaveTrueKinds (λ x. memory (KindOf x)) entry entry_variables
+    → KnowsKinds code (λ x. memory (KindOf x)) place → starts_unfit memory locked code place ≡ false
+place_fit code memory locked (Idle zero) account accepted says begins knows = ap is_some says.0
+place_fit code memory locked (Idle (suc left)) account accepted says begins knows =
+    in_call_fit code memory locked 0 entry_variables entry accepted (entry_in_call code) says.0 begins
+place_fit code memory locked (InCall left at variables) account accepted says begins knows =
+    in_call_fit code memory locked at variables says.0 accepted says.1 says.2
+    (knows says.1.exits says.0 says.1.arrived)
+place_fit code memory locked Exiting account accepted says begins knows = refl
+
+agenda_fit : (p : Module) (n : ℕ) (m : StepMachine) (t : ℕ) (a : StepActor) (agenda : List Duty) → CodeInvariant p n m
+    → slice_get m.actors t ≡ Some a → begins_unfit m a agenda ≡ false
+agenda_fit p n m t a (d ∷ rest) whole found = refl
+agenda_fit p n m t a [] whole found =
+    let own = whole.coded t a found in
+    let code = code_of (slice_get p.functions a.function) in
+    let knows = subst (λ (f : List Function). KnowsKinds (code_of (slice_get f a.function)) (kind_words m) a.place)
+    whole.functions (whole.kinds.known t a found) in
+    ap (λ (f : List Function). starts_unfit m.memory a.actor.locked (code_of (slice_get f a.function)) a.place)
+    whole.functions
+    ∙ place_fit code m.memory a.actor.locked a.place (whole.accounts t) own.accepted own.says
+    (entry_true (kind_words m) whole.kinds.named) knows
+
+-- No thread of accepted code begins an instruction that lacks what it needs.
+pub choice_fit : (p : Module) (n : ℕ) (m : StepMachine) (t : ℕ) (a : StepActor) (choice : Choice) → CodeInvariant p n m
+    → slice_get m.actors t ≡ Some a → chooses_unfit m a choice ≡ false
+choice_fit p n m t a Ok whole found = agenda_fit p n m t a a.actor.agenda whole found
+choice_fit p n m t a Fault whole found = agenda_fit p n m t a a.actor.agenda whole found
+choice_fit p n m t a (Claim row) whole found = refl

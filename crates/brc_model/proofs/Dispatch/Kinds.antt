@@ -1,0 +1,147 @@
+-- What slots and variables say of kinds: a slot says nothing false of the object that its variable names.
+use Rattle.std.proofs.Common.{◌≡◌, ℕ, zero, suc, ◌<◌, true, List, [], ◌∷◌, inl, inr, length, Option, Some, refl, sym, ap, ◌∙◌, subst, get_or}
+use Rattle.std.specs.Prelude.{map, slice_set}
+use Rattle.std.proofs.lemmas.Bool.Decides.{eqb_tells}
+use Rattle.std.proofs.lemmas.Bool.{eqb-true}
+use Rattle.brc_lang.specs.declared.kind.Kind.{Kind}
+use Rattle.brc_lang.specs.declared.kind.Kind.TheVariants as kinds
+use Rattle.brc_lang.specs.declared.module.Instr.{Instr}
+use Rattle.brc_model.specs.declared.actor.Place.{Place}
+use Rattle.brc_model.specs.declared.actor.Place.TheVariants.{Idle, InCall, Exiting}
+use Rattle.brc_model.specs.declared.slot.Slot.{Slot}
+use Rattle.brc_model.specs.declared.slot.Slot.TheVariants.{Empty, Owned, Caller, Locked}
+use Rattle.brc_model.specs.declared.slot.State.{State}
+use Rattle.brc_model.specs.Kinds.{kind_number, kind_numbered, kind_of_word, same_kind}
+use Rattle.brc_model.specs.Slots.{slot_of, kind_of, with_kind, put, without_item, without_items, entry}
+use Rattle.brc_model.specs.Threads.{row_of, entry_variables}
+use Rattle.brc_model.specs.Layout.{none_row, root_row}
+use Rattle.brc_model.specs.KnownKinds.{IsTrueKind, HasTrueKind, HaveTrueKinds, KnowsKinds, AreNamed}
+use Rattle.brc_model.proofs.Basics.Lists.{some_is, get_or-replicate_default}
+use Rattle.brc_model.proofs.Dispatch.Grounded.{slot_of-put_same, slot_of-put_other, row_of-set_same, row_of-set_other}
+use Rattle.brc_model.proofs.Objects.KindsAfter.{StoredStay}
+
+-- ---- kinds of variables
+
+-- A word that isn't stored yet names no kind, so nothing is said of its row; other words stay.
+true_kind_stays : (words new : ℕ → ℕ) → StoredStay words new → (kind : Kind) (x : ℕ) → IsTrueKind kind (words x)
+    → IsTrueKind kind (new x)
+true_kind_stays words new stays kind x (inl any) = inl any
+true_kind_stays words new stays kind x (inr names) = elim (stays x) [
+  | inl none ↦ inl (sym names ∙ ap kind_of_word none)
+  | inr same ↦ inr (ap kind_of_word same ∙ names)
+]
+
+true_kinds_stay : (words new : ℕ → ℕ) → StoredStay words new → (s : State) (rows : List (Option ℕ))
+    → HaveTrueKinds words s rows → HaveTrueKinds new s rows
+true_kinds_stay words new stays s rows known v x is =
+    true_kind_stays words new stays (kind_of (slot_of s v)) x (known v x is)
+
+pub knows_still : (code : List Instr) (words new : ℕ → ℕ) → StoredStay words new → (place : Place)
+    → KnowsKinds code words place → KnowsKinds code new place
+knows_still code words new stays (Idle left) knows = tt
+knows_still code words new stays (InCall left at variables) knows =
+    λ exits s arrived. true_kinds_stay words new stays s variables (knows exits s arrived)
+knows_still code words new stays Exiting knows = tt
+
+pub true_put : (words : ℕ → ℕ) (s : State) (rows : List (Option ℕ)) (x : ℕ) (slot : Slot) (row : Option ℕ)
+    → x < length s.slots
+    → x < length rows → HasTrueKind words slot row → HaveTrueKinds words s rows
+    → HaveTrueKinds words (put s x slot) (slice_set rows x row)
+true_put words s rows x slot row in_slots in_rows new old v =
+    elim (eqb_tells v x) [
+      | inl this ↦
+          let P : ℕ → Type 0 = λ w. HasTrueKind words (slot_of (put s x slot) w) (row_of (slice_set rows x row) w) in
+          let there : HasTrueKind words (slot_of (put s x slot) x) row =
+          subst (λ (w : Slot). HasTrueKind words w row) (sym (slot_of-put_same s x slot in_slots)) new in
+          subst P (sym this.1) (subst (λ (w : Option ℕ). HasTrueKind words (slot_of (put s x slot) x) w)
+          (sym (row_of-set_same rows x row in_rows)) there)
+      | inr other ↦
+          let there : HasTrueKind words (slot_of (put s x slot) v) (row_of rows v) =
+          subst (λ (w : Slot). HasTrueKind words w (row_of rows v)) (sym (slot_of-put_other s x v slot other.1))
+          (old v) in
+          subst (λ (w : Option ℕ). HasTrueKind words (slot_of (put s x slot) v) w)
+          (sym (row_of-set_other rows x v row other.1)) there
+    ]
+
+-- an empty slot says nothing
+pub empty_true : (words : ℕ → ℕ) (row : Option ℕ) → HasTrueKind words Empty row
+empty_true words row x is = inl refl
+
+numbered_kind : (kind : Kind) → kind_numbered (kind_number kind) ≡ kind
+numbered_kind kinds.Any = refl
+numbered_kind kinds.None = refl
+numbered_kind kinds.Num = refl
+numbered_kind kinds.List = refl
+numbered_kind kinds.File = refl
+numbered_kind kinds.Sock = refl
+
+pub same_kind_is : (one other : Kind) → same_kind one other ≡ true → one ≡ other
+same_kind_is one other same =
+    sym (numbered_kind one) ∙ ap kind_numbered (eqb-true (kind_number one) (kind_number other) same)
+    ∙ numbered_kind other
+
+slot_with_kind : (words : ℕ → ℕ) (slot : Slot) (kind : Kind) (row : Option ℕ)
+    → ((x : ℕ) → row ≡ Some x → IsTrueKind kind (words x)) → HasTrueKind words (with_kind slot kind) row
+slot_with_kind words Empty kind row names x is = inl refl
+slot_with_kind words (Owned k) kind row names x is = names x is
+slot_with_kind words (Caller k) kind row names x is = names x is
+slot_with_kind words (Locked k) kind row names x is = names x is
+
+-- A variable's slot may take the kind that its object's kind word names.
+pub true_with_kind : (words : ℕ → ℕ) (s : State) (rows : List (Option ℕ)) (x : ℕ) (kind : Kind) → x < length s.slots
+    → ((y : ℕ) → row_of rows x ≡ Some y → IsTrueKind kind (words y)) → HaveTrueKinds words s rows
+    → HaveTrueKinds words (put s x (with_kind (slot_of s x) kind)) rows
+true_with_kind words s rows x kind in_slots names old v =
+    let slot = with_kind (slot_of s x) kind in
+    elim (eqb_tells v x) [
+      | inl this ↦
+          let there : HasTrueKind words (slot_of (put s x slot) x) (row_of rows x) =
+          subst (λ (w : Slot). HasTrueKind words w (row_of rows x)) (sym (slot_of-put_same s x slot in_slots))
+          (slot_with_kind words (slot_of s x) kind (row_of rows x) names) in
+          subst (λ (w : ℕ). HasTrueKind words (slot_of (put s x slot) w) (row_of rows w)) (sym this.1) there
+      | inr other ↦
+          subst (λ (w : Slot). HasTrueKind words w (row_of rows v)) (sym (slot_of-put_other s x v slot other.1)) (old v)
+    ]
+
+-- ---- once nothing is borrowed from the locked list any more
+
+-- A variable that borrowed from the locked list is empty, and the others are as they were.
+slot_without_items : (slots : List Slot) (v : ℕ)
+    → get_or (map without_item slots) v Empty ≡ without_item (get_or slots v Empty)
+slot_without_items [] v = refl
+slot_without_items (slot ∷ slots) zero = refl
+slot_without_items (slot ∷ slots) (suc v) = slot_without_items slots v
+
+without_item_true : (words : ℕ → ℕ) (slot : Slot) (row : Option ℕ) → HasTrueKind words slot row
+    → HasTrueKind words (without_item slot) row
+without_item_true words Empty row says = says
+without_item_true words (Owned k) row says = says
+without_item_true words (Caller k) row says = says
+without_item_true words (Locked k) row says = empty_true words row
+
+pub true_without_items : (words : ℕ → ℕ) (s : State) (rows : List (Option ℕ)) → HaveTrueKinds words s rows
+    → HaveTrueKinds words (without_items s) rows
+true_without_items words s rows known v =
+    subst (λ (slot : Slot). HasTrueKind words slot (row_of rows v)) (sym (slot_without_items s.slots v))
+    (without_item_true words (slot_of s v) (row_of rows v) (known v))
+
+-- ---- the kind words of none and of the root
+
+pub named_stay : (words new : ℕ → ℕ) → StoredStay words new → AreNamed words → AreNamed new
+named_stay words new stays named = record {
+  none = elim (true_kind_stays words new stays kinds.None none_row (inr named.none)) [
+    | inl any ↦ absurd cc
+    | inr names ↦ names
+  ];
+  root = elim (true_kind_stays words new stays kinds.List root_row (inr named.root)) [
+    | inl any ↦ absurd cc
+    | inr names ↦ names
+  ];
+}
+
+pub entry_true : (words : ℕ → ℕ) → AreNamed words → HaveTrueKinds words entry entry_variables
+entry_true words named zero = λ x is.
+    inr (ap (λ (y : ℕ). kind_of_word (words y)) (sym (some_is root_row x is)) ∙ named.root)
+entry_true words named (suc v) =
+    subst (λ (slot : Slot). HasTrueKind words slot (row_of entry_variables (suc v)))
+    (sym (get_or-replicate_default 15 v Empty)) (empty_true words (row_of entry_variables (suc v)))

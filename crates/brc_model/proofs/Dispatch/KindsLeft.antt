@@ -1,0 +1,249 @@
+-- What each instruction leaves in the variables: objects of the kinds that the checker says.
+use Rattle.std.proofs.Common.{◌≡◌, ℕ, zero, suc, ◌+◌, ◌<◌, ◌≤◌, List, [], ◌∷◌, ◌++◌, inr, Option, None, Some, refl, sym, ap, ◌∙◌, subst, arith}
+use Rattle.std.specs.Prelude.{◌==◌, slice_get, slice_set}
+use Rattle.std.proofs.lemmas.List.{length-set}
+use Rattle.brc_lang.specs.declared.kind.Kind.{Kind}
+use Rattle.brc_lang.specs.declared.kind.Kind.TheVariants as kinds
+use Rattle.brc_lang.specs.declared.module.Function.{Function}
+use Rattle.brc_lang.specs.declared.module.Instr.{Instr}
+use Rattle.brc_lang.specs.declared.module.Instr.TheVariants.{Num, List as ListObject, NoneObject, Newref, Move as MoveReference, Drop, As, Lock, Unlock, Goto, Ret, Fail}
+use Rattle.brc_lang.specs.Grammar.{IsInstruction}
+use Rattle.brc_word.specs.Words.{free_word, half, kind_part}
+use Rattle.brc_model.specs.declared.thread.Choice.{Choice}
+use Rattle.brc_model.specs.declared.thread.Choice.TheVariants.{Ok, Fault, Claim}
+use Rattle.brc_model.specs.declared.actor.Status.{Status}
+use Rattle.brc_model.specs.declared.actor.Status.TheVariants.{Running, Leaving, Gone}
+use Rattle.brc_model.specs.declared.actor.Place.{Place}
+use Rattle.brc_model.specs.declared.actor.Place.TheVariants.{Idle, InCall, Exiting}
+use Rattle.brc_model.specs.declared.duty.Duty.{Duty}
+use Rattle.brc_model.specs.declared.duty.Duty.TheVariants.{KindLoad, BirthKind}
+use Rattle.brc_model.specs.declared.slot.Slot.{Slot}
+use Rattle.brc_model.specs.declared.slot.Slot.TheVariants.{Empty, Owned}
+use Rattle.brc_model.specs.declared.slot.State.{State}
+use Rattle.brc_model.specs.declared.slot.Exit.{Exit}
+use Rattle.brc_model.specs.declared.slot.Exit.TheVariants.{Success, Fault as FaultExit}
+use Rattle.brc_model.specs.Kinds.{kind_numbered, kind_of_word, same_kind}
+use Rattle.brc_model.specs.Slots.{slot_of, kind_of, put, after, target, entry}
+use Rattle.brc_model.specs.Paths.{At, path_end, IsAcceptableCode}
+use Rattle.brc_model.specs.Threads.{code_of, row_of, entry_variables}
+use Rattle.brc_model.specs.Layout.{none_row, row_at}
+use Rattle.brc_model.specs.declared.layout.Layout.{Layout}
+use Rattle.brc_model.specs.Machine.{has_room}
+use Rattle.brc_model.specs.Actions.{StepActor, Action, Skip, Stuck, Silent, Does, with_row, number_word, list_word, birth_action, dispatch_instruction, dispatch, may_claim, agenda_action, status_action, action_of}
+use Rattle.brc_model.specs.KnownKinds.{IsTrueKind, HasTrueKind, HaveTrueKinds, KnowsKinds, AreNamed}
+use Rattle.brc_model.proofs.Basics.Lists.{some_is, either}
+use Rattle.brc_model.proofs.Dispatch.Grounded.{IsInside, AreInstructions, entry_in_call}
+use Rattle.brc_model.proofs.Dispatch.Passing.{passes_on}
+use Rattle.brc_model.proofs.Dispatch.Kinds.{true_put, empty_true, same_kind_is, true_with_kind, entry_true, true_without_items}
+
+-- ---- what an instruction leaves
+
+-- What a duty that stores a kind word leaves there, and what one that loads a kind word finds.
+abbrev pub SeesKind : (ℕ → ℕ) → Duty → ℕ → Type 0
+SeesKind words (BirthKind y h w) found = words y ≡ w
+SeesKind words (KindLoad y) found = found ≡ words y
+SeesKind words d found = Unit {0}
+
+-- The place that a step of the thread leads to, by these kind words.
+abbrev pub Leaves : List Instr → (ℕ → ℕ) → Action → Type 0
+Leaves code words Skip = Unit {0}
+Leaves code words Stuck = Unit {0}
+Leaves code words (Silent moves place) = KnowsKinds code words place
+Leaves code words (Does d rest place) = (found : ℕ) → SeesKind words d found → KnowsKinds code words (place found)
+
+row_leaves : (code : List Instr) (words : ℕ → ℕ) (row : Option ℕ) (work : ℕ → Action)
+    → ((x : ℕ) → row ≡ Some x → Leaves code words (work x)) → Leaves code words (with_row row work)
+row_leaves code words None work leaves = tt
+row_leaves code words (Some x) work leaves = leaves x refl
+
+-- A thread at an instruction of accepted code, in the state in which a path reaches it, whose variables have the kinds
+-- of their slots.
+record KnowsAt (code : List Instr) (words : ℕ → ℕ) (at : ℕ) (variables : List (Option ℕ)) (s : State) (i : Instr)
+    : Type 0 where
+  accepted : IsAcceptableCode code
+  inside : IsInside code at variables s
+  leads : (exit : Exit) (next : ℕ) → target i exit at ≡ Some next
+      → path_end code (inside.exits ++ exit ∷ []) ≡ At next (after i exit s)
+  operands : IsInstruction i
+  named : AreNamed words
+  known : HaveTrueKinds words s variables
+
+-- Where the paths to the next point agree, what holds of the state after the exit holds of theirs.
+goes_on : (code : List Instr) (words : ℕ → ℕ) (left at next : ℕ) (variables rows : List (Option ℕ)) (s : State)
+    (i : Instr) (exit : Exit) → (here : KnowsAt code words at variables s i) → target i exit at ≡ Some next
+    → HaveTrueKinds words (after i exit s) rows → KnowsKinds code words (InCall left next rows)
+goes_on code words left at next variables rows s i exit here to known = λ exits other arrived.
+    subst (λ (state : State). HaveTrueKinds words state rows)
+    (here.accepted.states_agree (here.inside.exits ++ exit ∷ []) exits next (after i exit s) other
+    (here.leads exit next to) arrived) known
+
+-- The same, where the exit changes one variable.
+goes_on_put : (code : List Instr) (words : ℕ → ℕ) (left at next : ℕ) (variables : List (Option ℕ)) (s : State)
+    (i : Instr) (exit : Exit) (x : ℕ) (slot : Slot) (row : Option ℕ) → (here : KnowsAt code words at variables s i)
+    → target i exit at ≡ Some next → after i exit s ≡ put s x slot → x < 16 → HasTrueKind words slot row
+    → KnowsKinds code words (InCall left next (slice_set variables x row))
+goes_on_put code words left at next variables s i exit x slot row here to is low new =
+    goes_on code words left at next variables (slice_set variables x row) s i exit here to
+    (subst (λ (state : State). HaveTrueKinds words state (slice_set variables x row)) (sym is)
+    (true_put words s variables x slot row (omega (arith, low, here.inside.slots))
+    (omega (arith, low, here.inside.rows)) new here.known))
+
+-- A birth leaves an object of its kind word's kind.
+birth_leaves : (code : List Instr) (words : ℕ → ℕ) (layout : Layout) (t used left at : ℕ) (variables : List (Option ℕ))
+    (s : State) (i : Instr) (to word otherwise : ℕ) (kind : Kind) → (here : KnowsAt code words at variables s i)
+    → to < 16 → kind_of_word word ≡ kind
+    → target i Success at ≡ Some (at + 1) → after i Success s ≡ put s to (Owned kind)
+    → target i FaultExit at ≡ Some otherwise → after i FaultExit s ≡ put s to Empty
+    → Leaves code words (birth_action layout t used left at variables to word otherwise)
+birth_leaves code words layout t used left at variables s i to word otherwise kind here low names next owned else_at
+    empty =
+    either (Leaves code words) (has_room layout t used) _ _
+    (λ room found stored.
+    goes_on_put code words left at (at + 1) variables s i Success to (Owned kind) (Some (row_at layout t used)) here
+    next owned low
+    (λ x is. inr (ap (λ (y : ℕ). kind_of_word (words y)) (sym (some_is (row_at layout t used) x is))
+    ∙ ap kind_of_word stored ∙ names)))
+    (goes_on_put code words left at otherwise variables s i FaultExit to Empty None here else_at empty low
+    (empty_true words None))
+
+-- the kind of a number's kind word
+number_kind : (value : ℕ) → value < half → kind_of_word (number_word value) ≡ kinds.Num
+number_kind value low =
+    let number : kind_part (number_word value) ≡ 2 = omega (arith, low) in
+    ap kind_numbered number
+
+-- the kind of a list's kind word
+list_kind : (cells : ℕ) → cells ≤ 8 → kind_of_word (list_word cells) ≡ kinds.List
+list_kind cells few =
+    let number : kind_part (list_word cells) ≡ 3 = omega (arith, few) in
+    ap kind_numbered number
+
+-- A thread that doesn't get its lock stays at `before`, where it knew the kinds.
+instruction_leaves : (code : List Instr) (words : ℕ → ℕ) (layout : Layout) (t used : ℕ) (before : Place) (left at : ℕ)
+    (variables : List (Option ℕ)) (s : State) (i : Instr) → KnowsKinds code words before
+    → KnowsAt code words at variables s i
+    → Leaves code words (dispatch_instruction layout t used before left at variables (Some i))
+instruction_leaves code words layout t used before left at variables s (Num to value otherwise) knew here =
+    birth_leaves code words layout t used left at variables s (Num to value otherwise) to (number_word value) otherwise
+    kinds.Num here here.operands.0 (number_kind value here.operands.1) refl refl refl refl
+instruction_leaves code words layout t used before left at variables s (ListObject to cells otherwise) knew here =
+    birth_leaves code words layout t used left at variables s (ListObject to cells otherwise) to (list_word cells)
+    otherwise kinds.List here here.operands.0 (list_kind cells here.operands.2) refl refl refl refl
+instruction_leaves code words layout t used before left at variables s (NoneObject to) knew here =
+    goes_on_put code words left at (at + 1) variables s (NoneObject to) Success to (Owned kinds.None) (Some none_row)
+    here refl refl here.operands
+    (λ x is. inr (ap (λ (y : ℕ). kind_of_word (words y)) (sym (some_is none_row x is)) ∙ here.named.none))
+instruction_leaves code words layout t used before left at variables s (Newref to from) knew here =
+    row_leaves code words (row_of variables from) _ (λ row is found stored.
+    goes_on_put code words left at (at + 1) variables s (Newref to from) Success to
+    (Owned (kind_of (slot_of s from))) (Some row) here refl refl here.operands.0
+    (λ x this. subst (λ (y : ℕ). IsTrueKind (kind_of (slot_of s from)) (words y)) (some_is row x this)
+    (here.known from row is)))
+instruction_leaves code words layout t used before left at variables s (MoveReference to from) knew here =
+    row_leaves code words (row_of variables from) _ (λ row is.
+    let emptied : HaveTrueKinds words (put s from Empty) (slice_set variables from None) =
+    true_put words s variables from Empty None (omega (arith, here.operands.1, here.inside.slots))
+    (omega (arith, here.operands.1, here.inside.rows)) (empty_true words None) here.known in
+    goes_on code words left at (at + 1) variables (slice_set (slice_set variables from None) to (Some row)) s
+    (MoveReference to from) Success here refl
+    (true_put words (put s from Empty) (slice_set variables from None) to (Owned (kind_of (slot_of s from)))
+    (Some row)
+    (omega (arith, here.operands.0, here.inside.slots, length-set s.slots from Empty))
+    (omega (arith, here.operands.0, here.inside.rows, length-set variables from None))
+    (λ x this. subst (λ (y : ℕ). IsTrueKind (kind_of (slot_of s from)) (words y)) (some_is row x this)
+    (here.known from row is)) emptied))
+instruction_leaves code words layout t used before left at variables s (Drop from) knew here =
+    row_leaves code words (row_of variables from) _ (λ row is found stored.
+    goes_on_put code words left at (at + 1) variables s (Drop from) Success from Empty None here refl refl
+    here.operands (empty_true words None))
+instruction_leaves code words layout t used before left at variables s (Lock object) knew here =
+    row_leaves code words (row_of variables object) _ (λ row is found seen.
+    either (KnowsKinds code words) (found == free_word) _ _
+    (λ free. goes_on code words left at (at + 1) variables variables s (Lock object) Success here refl here.known)
+    knew)
+instruction_leaves code words layout t used before left at variables s (Unlock object) knew here =
+    row_leaves code words (row_of variables object) _ (λ row is found seen.
+    goes_on code words left at (at + 1) variables variables s (Unlock object) Success here refl
+    (true_without_items words s variables here.known))
+instruction_leaves code words layout t used before left at variables s (As from kind otherwise) knew here =
+    row_leaves code words (row_of variables from) _ (λ row is found seen.
+    either (λ (next : ℕ). KnowsKinds code words (InCall left next variables)) (same_kind (kind_of_word found) kind) _ _
+    (λ same.
+    goes_on code words left at (at + 1) variables variables s (As from kind otherwise) Success here refl
+    (true_with_kind words s variables from kind (omega (arith, here.operands.0, here.inside.slots))
+    (λ x this. inr (ap (λ (y : ℕ). kind_of_word (words y)) (some_is x row (sym this ∙ is)) ∙ ap kind_of_word (sym seen)
+    ∙ same_kind_is (kind_of_word found) kind same)) here.known))
+    (goes_on code words left at otherwise variables variables s (As from kind otherwise) FaultExit here refl
+    here.known))
+instruction_leaves code words layout t used before left at variables s (Goto to) knew here =
+    goes_on code words left at to variables variables s (Goto to) Success here refl here.known
+instruction_leaves code words layout t used before left at variables s (Ret from) knew here =
+    row_leaves code words (row_of variables from) _ (λ row is found stored. tt)
+instruction_leaves code words layout t used before left at variables s Fail knew here = tt
+
+-- ---- what a thread does
+
+-- The thread's place before its step, by the words after it.
+pub record StandsKnowing (code : List Instr) (words : ℕ → ℕ) (place : Place) : Type 0 where
+  pub accepted : IsAcceptableCode code
+  pub instructions : AreInstructions code
+  pub inside : (left at : ℕ) (variables : List (Option ℕ)) → place ≡ InCall left at variables
+      → (s : State) × IsInside code at variables s
+  pub named : AreNamed words
+  pub knows : KnowsKinds code words place
+
+in_call_leaves : (code : List Instr) (words : ℕ → ℕ) (layout : Layout) (t used : ℕ) (before : Place) (left at : ℕ)
+    (variables : List (Option ℕ)) (s : State) → KnowsKinds code words before
+    → IsAcceptableCode code → AreInstructions code → IsInside code at variables s → AreNamed words
+    → HaveTrueKinds words s variables
+    → Leaves code words (dispatch_instruction layout t used before left at variables (slice_get code at))
+in_call_leaves code words layout t used before left at variables s knew accepted instructions inside named known =
+    let on = passes_on code inside.exits at s accepted inside.arrived in
+    let here : KnowsAt code words at variables s on.here = record {
+      accepted = accepted;
+      inside = inside;
+      leads = on.leads;
+      operands = instructions.each at on.here on.found;
+      named = named;
+      known = known;
+    } in
+    subst (λ (o : Option Instr). Leaves code words (dispatch_instruction layout t used before left at variables o))
+    (sym on.found) (instruction_leaves code words layout t used before left at variables s on.here knew here)
+
+dispatch_leaves : (code : List Instr) (words : ℕ → ℕ) (layout : Layout) (t used : ℕ) (place : Place)
+    → StandsKnowing code words place → Leaves code words (dispatch layout t used code place)
+dispatch_leaves code words layout t used Exiting stands = tt
+dispatch_leaves code words layout t used (Idle zero) stands = λ found stored. tt
+dispatch_leaves code words layout t used (Idle (suc left)) stands =
+    in_call_leaves code words layout t used (Idle (suc left)) left 0 entry_variables entry tt stands.accepted
+    stands.instructions (entry_in_call code) stands.named (entry_true words stands.named)
+dispatch_leaves code words layout t used (InCall left at variables) stands =
+    let here = stands.inside left at variables refl in
+    in_call_leaves code words layout t used (InCall left at variables) left at variables here.0 stands.knows
+    stands.accepted stands.instructions here.1 stands.named (stands.knows here.1.exits here.0 here.1.arrived)
+
+agenda_leaves : (functions : List Function) (words : ℕ → ℕ) (layout : Layout) (t : ℕ) (a : StepActor)
+    (agenda : List Duty) → StandsKnowing (code_of (slice_get functions a.function)) words a.place
+    → Leaves (code_of (slice_get functions a.function)) words (agenda_action functions layout t a agenda)
+agenda_leaves functions words layout t a [] stands =
+    dispatch_leaves (code_of (slice_get functions a.function)) words layout t a.actor.used a.place stands
+agenda_leaves functions words layout t a (d ∷ rest) stands = λ found stored. stands.knows
+
+status_leaves : (functions : List Function) (words : ℕ → ℕ) (layout : Layout) (t : ℕ) (a : StepActor)
+    (status : Status) → StandsKnowing (code_of (slice_get functions a.function)) words a.place
+    → Leaves (code_of (slice_get functions a.function)) words (status_action functions layout t a status)
+status_leaves functions words layout t a Gone stands = tt
+status_leaves functions words layout t a Running stands =
+    agenda_leaves functions words layout t a a.actor.agenda stands
+status_leaves functions words layout t a Leaving stands =
+    agenda_leaves functions words layout t a a.actor.agenda stands
+
+pub action_leaves : (functions : List Function) (words : ℕ → ℕ) (layout : Layout) (t : ℕ) (a : StepActor)
+    (choice : Choice) → StandsKnowing (code_of (slice_get functions a.function)) words a.place
+    → Leaves (code_of (slice_get functions a.function)) words (action_of functions layout t a choice)
+action_leaves functions words layout t a Ok stands = status_leaves functions words layout t a a.actor.status stands
+action_leaves functions words layout t a Fault stands =
+    status_leaves functions words layout t a a.actor.status stands
+action_leaves functions words layout t a (Claim row) stands =
+    either (Leaves (code_of (slice_get functions a.function)) words) (may_claim layout t a row) _ Skip
+    (λ may found stored. stands.knows) tt

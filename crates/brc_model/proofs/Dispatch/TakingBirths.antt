@@ -1,0 +1,200 @@
+-- A birth that a thread of accepted code takes up, by `num` or `list`, meets its condition.
+use Rattle.std.proofs.Common.{◌≡◌, ℕ, ◌+◌, ◌<◌, true, false, List, [], ◌∷◌, ◌++◌, length, Option, None, Some, refl, ap, ◌∙◌, arith, ◌≤◌, Bool, cond}
+use Rattle.std.specs.Prelude.{◌==◌, slice_set}
+use Rattle.std.proofs.lemmas.List.{length-set}
+use Rattle.std.proofs.lemmas.Bool.{ltb-true, ne_eqb}
+use Rattle.brc_lang.specs.declared.module.Instr.{Instr}
+use Rattle.brc_lang.specs.declared.module.Instr.TheVariants.{Num, List as ListObject}
+use Rattle.brc_lang.specs.declared.kind.Kind.{Kind}
+use Rattle.brc_lang.specs.declared.kind.Kind.TheVariants as kinds
+use Rattle.brc_lang.specs.Limits.{variable_count}
+use Rattle.brc_word.specs.Words.{half, kind_part, argument_part}
+use Rattle.brc_model.specs.declared.slot.Slot.{Slot}
+use Rattle.brc_model.specs.declared.slot.Slot.TheVariants.{Empty, Owned}
+use Rattle.brc_model.specs.declared.slot.State.{State}
+use Rattle.brc_model.specs.declared.slot.Exit.TheVariants.{Success, Fault}
+use Rattle.brc_model.specs.Slots.{slot_of, is_owned, put, names}
+use Rattle.brc_model.specs.Paths.{At, path_end}
+use Rattle.brc_model.specs.declared.duty.Holding.TheVariants.{ByVariable}
+use Rattle.brc_model.specs.declared.duty.Duty.TheVariants.{BirthKind}
+use Rattle.brc_model.specs.declared.actor.Place.{Place}
+use Rattle.brc_model.specs.declared.actor.Place.TheVariants.{InCall}
+use Rattle.brc_model.specs.Kinds.{kind_numbered, kind_of_word, is_counted_kind}
+use Rattle.brc_model.specs.Duties.{cells_of}
+use Rattle.brc_model.specs.Limits.{cell_limit}
+use Rattle.brc_model.specs.Layout.{block_size, row_at}
+use Rattle.brc_model.specs.Machine.{has_room}
+use Rattle.brc_model.specs.Actions.{birth_action, dispatch_instruction, number_word, list_word}
+use Rattle.brc_model.proofs.Basics.Lists.{either, first_false}
+use Rattle.brc_model.proofs.Keeping.SilentMoves.{Stays}
+use Rattle.brc_model.proofs.Frame.Aside.{HoldsAlone}
+use Rattle.brc_model.proofs.Dispatch.Holds.{of_variables, Holds}
+use Rattle.brc_model.proofs.Dispatch.Grounded.{IsInside, grounded-put}
+use Rattle.brc_model.proofs.Dispatch.Guards.{LocksAgree, HeldBeside, guards-put}
+use Rattle.brc_model.proofs.Dispatch.Coded.{once_each}
+use Rattle.brc_model.proofs.Dispatch.Begins.{Scene, StandsAt, Bears, Nothing, Taken, SilentTaken, IsTaken, holds_at_none, in_call_stays, newref_held, cleared_held}
+use Rattle.brc_model.proofs.Dispatch.Standing.{keeps_all}
+
+-- A number has no cells.
+number_cells : (value : ℕ) → value < half → cells_of (number_word value) ≤ cell_limit
+number_cells value low =
+    let kind : (kind_part (number_word value) == 3) ≡ false =
+    ne_eqb (kind_part (number_word value)) 3 (λ e. absurd (omega (arith, low, e))) in
+    let none : cells_of (number_word value) ≡ 0 =
+    ap (λ (b : Bool). cond b (argument_part (number_word value)) 0) kind in
+    omega (arith, none)
+
+-- A number is an object of a counted kind.
+number_counts : (value : ℕ) → value < half → is_counted_kind (kind_of_word (number_word value)) ≡ true
+number_counts value low =
+    let number : kind_part (number_word value) ≡ 2 = omega (arith, low) in
+    ap (λ (k : ℕ). is_counted_kind (kind_numbered k)) number
+
+-- A list has the cells that its instruction names.
+list_cells : (cells : ℕ) → cells ≤ cell_limit → cells_of (list_word cells) ≤ cell_limit
+list_cells cells few =
+    let kind : kind_part (list_word cells) ≡ 3 = omega (arith, few) in
+    let all : cells_of (list_word cells) ≡ argument_part (list_word cells) =
+    ap (λ (k : ℕ). cond (k == 3) (argument_part (list_word cells)) 0) kind in
+    omega (arith, few, all)
+
+-- A list is an object of a counted kind.
+list_counts : (cells : ℕ) → cells ≤ cell_limit → is_counted_kind (kind_of_word (list_word cells)) ≡ true
+list_counts cells few =
+    let list : kind_part (list_word cells) ≡ 3 = omega (arith, few) in
+    ap (λ (k : ℕ). is_counted_kind (kind_numbered k)) list
+
+-- ---- a new object
+
+-- A thread at an instruction that makes an object of the kind word in a variable that owns nothing: on success the
+-- variable owns an object of the kind, and where the thread has no row left the variable is empty.
+record BearsAt (code : List Instr) (g : Scene) (at : ℕ) (variables : List (Option ℕ)) (s : State)
+    (to word otherwise : ℕ)
+    (kind : Kind) : Type 0 where
+  pub inside : IsInside code at variables s
+  pub holds : Holds g.bag g.thread (of_variables s variables)
+  pub guards : LocksAgree s variables g.locked
+  pub unlocked : names s.locked to ≡ false
+  pub keeps : (x : ℕ) → g.locked ≡ Some x
+      → HeldBeside g.bag g.thread x (BirthKind (row_at g.layout g.thread g.used) (ByVariable to) word)
+  pub variable : to < variable_count
+  pub free : is_owned (slot_of s to) ≡ false
+  pub few_cells : cells_of word ≤ cell_limit
+  pub counted : is_counted_kind (kind_of_word word) ≡ true
+  pub owned_next : path_end code (inside.exits ++ Success ∷ []) ≡ At (at + 1) (put s to (Owned kind))
+  pub empty_next : path_end code (inside.exits ++ Fault ∷ []) ≡ At otherwise (put s to Empty)
+
+born : (code : List Instr) (g : Scene) (left at : ℕ) (variables : List (Option ℕ))
+    (s : State) (to word otherwise : ℕ) (kind : Kind)
+    → BearsAt code g at variables s to word otherwise kind → has_room g.layout g.thread g.used ≡ true
+    → (found : ℕ)
+    → Taken code g found (InCall left (at + 1) (slice_set variables to (Some (row_at g.layout g.thread g.used))))
+    (BirthKind (row_at g.layout g.thread g.used) (ByVariable to) word) []
+born code g left at variables s to word otherwise kind here room found =
+    let row = row_at g.layout g.thread g.used in
+    let slot : Slot = Owned kind in
+    let in_slots : to < length s.slots = omega (arith, here.variable, here.inside.slots) in
+    let in_rows : to < length variables = omega (arith, here.variable, here.inside.rows) in
+    let next : IsInside code (at + 1) (slice_set variables to (Some row)) (put s to slot) = record {
+      exits = here.inside.exits ++ Success ∷ [];
+      arrived = here.owned_next;
+      slots = length-set s.slots to slot ∙ here.inside.slots;
+      rows = length-set variables to (Some row) ∙ here.inside.rows;
+      grounded = grounded-put s variables to slot (Some row) in_slots in_rows (row, refl) here.inside.grounded;
+    } in
+    let held_now : HoldsAlone g.bag g.thread (once_each (of_variables (put s to slot) (slice_set variables to (Some row))))
+    (BirthKind row (ByVariable to) word ∷ []) =
+    record { each = newref_held g.bag g.thread s variables to row slot in_slots in_rows here.free refl here.holds } in
+    record {
+      placed = (
+        put s to slot,
+        next,
+        guards-put s variables to slot (Some row) s.locked g.locked here.unlocked here.guards,
+        held_now,
+      );
+      starts = Bears (ByVariable to) word (ltb-true g.used (block_size g.layout g.thread) room) here.few_cells here.counted;
+      follows = Nothing (in_call_stays left (at + 1) (slice_set variables to (Some row)));
+      keeps = here.keeps;
+    }
+
+-- If the thread has no room for a row, it empties the variable and goes on at the fault exit.
+not_born : (code : List Instr) (g : Scene) (left at : ℕ) (variables : List (Option ℕ)) (s : State)
+    (to word otherwise : ℕ) (kind : Kind)
+    → BearsAt code g at variables s to word otherwise kind
+    → SilentTaken code g [] (InCall left otherwise (slice_set variables to None))
+not_born code g left at variables s to word otherwise kind here =
+    let in_slots : to < length s.slots = omega (arith, here.variable, here.inside.slots) in
+    let in_rows : to < length variables = omega (arith, here.variable, here.inside.rows) in
+    let next : IsInside code otherwise (slice_set variables to None) (put s to Empty) = record {
+      exits = here.inside.exits ++ Fault ∷ [];
+      arrived = here.empty_next;
+      slots = length-set s.slots to Empty ∙ here.inside.slots;
+      rows = length-set variables to None ∙ here.inside.rows;
+      grounded = grounded-put s variables to Empty None in_slots in_rows tt here.inside.grounded;
+    } in
+    let holds : Holds g.bag g.thread (of_variables (put s to Empty) (slice_set variables to None)) =
+    record { each = cleared_held g.bag g.thread s variables to in_slots here.free here.holds } in
+    record {
+      moves_fit = Stays;
+      placed = (
+        put s to Empty,
+        next,
+        guards-put s variables to Empty None s.locked g.locked here.unlocked here.guards,
+        holds_at_none g.bag g.thread _ holds,
+      );
+      stays = in_call_stays left otherwise (slice_set variables to None);
+    }
+
+birth_taken : (code : List Instr) (g : Scene) (left at : ℕ)
+    (variables : List (Option ℕ))
+    (s : State) (to word otherwise : ℕ) (kind : Kind)
+    → BearsAt code g at variables s to word otherwise kind
+    → IsTaken code g (birth_action g.layout g.thread g.used left at variables to word otherwise)
+birth_taken code g left at variables s to word otherwise kind here =
+    either (IsTaken code g) (has_room g.layout g.thread g.used) _ _
+    (λ room found. born code g left at variables s to word otherwise kind here room found)
+    (not_born code g left at variables s to word otherwise kind here)
+
+pub num_taken : (code : List Instr) (g : Scene) (before : Place) (left at : ℕ)
+    (variables : List (Option ℕ))
+    (s : State) (to value otherwise : ℕ)
+    → StandsAt code g before at variables s (Num to value otherwise)
+    → IsTaken code g
+    (dispatch_instruction g.layout g.thread g.used before left at variables (Some (Num to value otherwise)))
+num_taken code g before left at variables s to value otherwise here =
+    birth_taken code g left at variables s to (number_word value) otherwise kinds.Num (record {
+      inside = here.inside;
+      holds = here.holds;
+      guards = here.guards;
+      unlocked = first_false _ _ here.met.unlocked;
+      keeps = keeps_all code g before at variables s (Num to value otherwise)
+          (BirthKind (row_at g.layout g.thread g.used) (ByVariable to) (number_word value)) here (λ k object. refl);
+      variable = here.variables.0;
+      free = first_false _ _ here.met.free;
+      few_cells = number_cells value here.variables.1;
+      counted = number_counts value here.variables.1;
+      owned_next = here.leads Success (at + 1) refl;
+      empty_next = here.leads Fault otherwise refl;
+    })
+
+pub list_taken : (code : List Instr) (g : Scene) (before : Place) (left at : ℕ)
+    (variables : List (Option ℕ))
+    (s : State) (to cells otherwise : ℕ)
+    → StandsAt code g before at variables s (ListObject to cells otherwise)
+    → IsTaken code g
+    (dispatch_instruction g.layout g.thread g.used before left at variables (Some (ListObject to cells otherwise)))
+list_taken code g before left at variables s to cells otherwise here =
+    birth_taken code g left at variables s to (list_word cells) otherwise kinds.List (record {
+      inside = here.inside;
+      holds = here.holds;
+      guards = here.guards;
+      unlocked = first_false _ _ here.met.unlocked;
+      keeps = keeps_all code g before at variables s (ListObject to cells otherwise)
+          (BirthKind (row_at g.layout g.thread g.used) (ByVariable to) (list_word cells)) here (λ k object. refl);
+      variable = here.variables.0;
+      free = first_false _ _ here.met.free;
+      few_cells = list_cells cells here.variables.2;
+      counted = list_counts cells here.variables.2;
+      owned_next = here.leads Success (at + 1) refl;
+      empty_next = here.leads Fault otherwise refl;
+    })

@@ -1,0 +1,184 @@
+-- A lock and an unlock that a thread of accepted code takes up meet their condition.
+use Rattle.std.proofs.Common.{◌≡◌, ◌≢◌, ℕ, ◌+◌, true, false, List, [], ◌∷◌, ◌++◌, Option, None, Some, refl, sym, ap, ◌∙◌, subst, arith, Bool, cond}
+use Rattle.std.specs.Prelude.{◌==◌, ◌&&◌, not}
+use Rattle.std.proofs.lemmas.List.{length-map}
+use Rattle.std.proofs.Math.ListN.{get_or-map}
+use Rattle.brc_lang.specs.declared.module.Instr.{Instr}
+use Rattle.brc_lang.specs.declared.module.Instr.TheVariants.{Lock, Unlock}
+use Rattle.brc_word.specs.Words.{free_word}
+use Rattle.brc_model.specs.declared.slot.Slot.{Slot}
+use Rattle.brc_model.specs.declared.slot.Slot.TheVariants.{Empty, Owned, Caller, Locked}
+use Rattle.brc_model.specs.declared.slot.State.{State}
+use Rattle.brc_model.specs.declared.slot.Exit.TheVariants.{Success}
+use Rattle.brc_model.specs.declared.duty.Holding.{Holding}
+use Rattle.brc_model.specs.declared.duty.Holding.TheVariants.{ByVariable, AsCaller, InFlight}
+use Rattle.brc_model.specs.declared.duty.Duty.TheVariants.{LockGate, UnlockGate}
+use Rattle.brc_model.specs.declared.actor.Place.{Place}
+use Rattle.brc_model.specs.declared.actor.Place.TheVariants.{InCall, Exiting}
+use Rattle.brc_model.specs.Slots.{slot_of, is_empty, is_owned, kind_of, names, without_item, without_items, with_lock, is_one_of, lockable}
+use Rattle.brc_model.specs.Threads.{row_of}
+use Rattle.brc_model.specs.References.{one_if}
+use Rattle.brc_model.specs.Actions.{Does, always, dispatch_instruction}
+use Rattle.brc_model.proofs.Basics.Lists.{first_false}
+use Rattle.brc_model.proofs.Frame.Aside.{HoldsAlone}
+use Rattle.brc_model.proofs.Dispatch.Holds.{of_variables}
+use Rattle.brc_model.proofs.Dispatch.Grounded.{IsGrounded, IsInside, live_slot}
+use Rattle.brc_model.proofs.Dispatch.Guards.{is_kept, guards_none, guards_row}
+use Rattle.brc_model.proofs.Dispatch.Coded.{once_each, PlaceFits, fits_with}
+use Rattle.brc_model.proofs.Dispatch.Lockable.{lockable_word}
+use Rattle.brc_model.proofs.Dispatch.Begins.{Scene, StandsAt, Locks, Unlocks, Nothing, Taken, IsTaken, taken_with_row, in_call_stays, words_of}
+use Rattle.brc_model.proofs.Dispatch.Standing.{backed_slot, keeps_all}
+
+-- ---- lock
+
+-- A variable that isn't empty and borrows nothing from the locked list keeps its object.
+slot_kept : (slot : Slot) (row : Option ℕ) → is_empty slot ≡ false → IsGrounded slot row → is_kept slot ≡ true
+slot_kept Empty row some grounded = absurd cc
+slot_kept (Owned k) row some grounded = refl
+slot_kept (Caller k) row some grounded = refl
+slot_kept (Locked k) row some grounded = absurd grounded
+
+not_false : (b : Bool) → not b ≡ false → b ≡ true
+not_false true e = refl
+not_false false e = absurd cc
+
+-- A lock changes nothing of what the thread is to hold.
+says_locked : (s : State) (variables : List (Option ℕ)) (o : Option ℕ) (h : Holding) (object : ℕ)
+    → of_variables s variables h object ≡ of_variables (with_lock s o) variables h object
+says_locked s variables o (ByVariable v) object = refl
+says_locked s variables o AsCaller object = refl
+says_locked s variables o InFlight object = refl
+
+-- The gate is free: the thread has locked the object and is at the next instruction. The gate isn't free: the thread is
+-- where it was.
+lock_taken_at : (code : List Instr) (g : Scene) (before after : Place) (row found : ℕ)
+    → PlaceFits code g.bag g.thread (LockGate row ∷ []) (Some row) after → (after ≢ Exiting)
+    → PlaceFits code g.bag g.thread (LockGate row ∷ []) g.locked before → (before ≢ Exiting)
+    → PlaceFits code g.bag g.thread (LockGate row ∷ []) (cond (found == free_word) (Some row) g.locked)
+    (cond (found == free_word) after before)
+    × (cond (found == free_word) after before ≢ Exiting)
+lock_taken_at code g before after row found fits goes back remains =
+    elim (found == free_word) as
+    (λ b. PlaceFits code g.bag g.thread (LockGate row ∷ []) (cond b (Some row) g.locked) (cond b after before)
+    × (cond b after before ≢ Exiting)) [
+      | true ↦ (fits, goes)
+      | false ↦ (back, remains)
+    ]
+
+pub lock_taken : (code : List Instr) (g : Scene) (before : Place) (left at : ℕ) (variables : List (Option ℕ))
+    (s : State) (object : ℕ)
+    → StandsAt code g before at variables s (Lock object)
+    → IsTaken code g (dispatch_instruction g.layout g.thread g.used before left at variables (Some (Lock object)))
+lock_taken code g before left at variables s object here =
+    let some : is_empty (slot_of s object) ≡ false = first_false _ _ here.met.not_empty in
+    let grounded = here.inside.grounded object in
+    let live = live_slot g.bag g.thread s variables object (slot_of s object) refl some grounded here.holds in
+    let backed =
+    backed_slot g.bag g.thread s variables object live.object (slot_of s object) refl live.is_row some grounded
+    here.holds in
+    let none : g.locked ≡ None =
+    guards_none s variables s.locked g.locked (first_false _ _ here.met.first_lock) here.guards in
+    let can : is_one_of (kind_of (slot_of s object)) lockable ≡ true =
+    not_false _ (first_false _ _ here.met.right_kind) in
+    let locked = with_lock s (Some object) in
+    let next : IsInside code (at + 1) variables locked = record {
+      exits = here.inside.exits ++ Success ∷ [];
+      arrived = here.leads Success (at + 1) refl;
+      slots = here.inside.slots;
+      rows = here.inside.rows;
+      grounded = here.inside.grounded;
+    } in
+    let held_now : HoldsAlone g.bag g.thread (once_each (of_variables locked variables)) (LockGate live.object ∷ []) =
+    record { each = λ k o. omega (arith, here.holds.each k o, ap one_if (says_locked s variables (Some object) k o)) } in
+    let goes : PlaceFits code g.bag g.thread (LockGate live.object ∷ []) (Some live.object)
+    (InCall left (at + 1) variables) =
+    (locked, next, (live.object, refl, live.is_row, slot_kept (slot_of s object) (row_of variables object) some grounded), held_now)
+    in
+    let back = fits_with code g.bag g.thread (LockGate live.object ∷ []) g.locked before (λ k o. refl) (λ k o. refl)
+    here.back in
+    let taken : (found : ℕ) → Taken code g found (cond (found == free_word) (InCall left (at + 1) variables) before)
+    (LockGate live.object) [] = λ found.
+    let placed =
+    lock_taken_at code g before (InCall left (at + 1) variables) live.object found goes
+    (in_call_stays left (at + 1) variables) back here.remains in
+    record {
+      placed = placed.0;
+      starts = Locks live.object backed.0 backed.1 (here.counted live.object (lockable_word (kind_of (slot_of s object)) (words_of g live.object) (here.kinds object live.object live.is_row) can)) none;
+      follows = Nothing placed.1;
+      keeps = λ x is. absurd (let wrong : None ≡ Some x = sym none ∙ is in cc);
+    } in
+    taken_with_row code g live.object (row_of variables object)
+    (λ row. Does (LockGate row) []
+    (λ found. cond (found == free_word) (InCall left (at + 1) variables) before)) live.is_row taken
+
+-- ---- unlock
+
+slot_of-without : (s : State) (v : ℕ) → slot_of (without_items s) v ≡ without_item (slot_of s v)
+slot_of-without s v = get_or-map without_item s.slots v Empty
+
+without_grounded : (slot : Slot) (row : Option ℕ) → IsGrounded slot row → IsGrounded (without_item slot) row
+without_grounded Empty row grounded = tt
+without_grounded (Owned k) row grounded = grounded
+without_grounded (Caller k) row grounded = grounded
+without_grounded (Locked k) row grounded = tt
+
+-- What is true of the variables is true of them once those that borrowed from the locked list are empty.
+pub grounded-without : (s : State) (rows : List (Option ℕ)) → ((v : ℕ) → IsGrounded (slot_of s v) (row_of rows v))
+    → (v : ℕ) → IsGrounded (slot_of (without_items s) v) (row_of rows v)
+grounded-without s rows old v =
+    subst (λ (slot : Slot). IsGrounded slot (row_of rows v)) (sym (slot_of-without s v))
+    (without_grounded (slot_of s v) (row_of rows v) (old v))
+
+without_owned : (slot : Slot) → is_owned (without_item slot) ≡ is_owned slot
+without_owned Empty = refl
+without_owned (Owned k) = refl
+without_owned (Caller k) = refl
+without_owned (Locked k) = refl
+
+-- A variable that borrows from the locked list owns nothing, so the thread is to hold what it held.
+pub says-without : (s : State) (variables : List (Option ℕ)) (h : Holding) (object : ℕ)
+    → of_variables s variables h object ≡ of_variables (without_items s) variables h object
+says-without s variables AsCaller object = refl
+says-without s variables InFlight object = refl
+says-without s variables (ByVariable v) object =
+    ap (λ (b : Bool). b && names (row_of variables v) object)
+    (sym (without_owned (slot_of s v)) ∙ ap is_owned (sym (slot_of-without s v)))
+
+pub unlock_taken : (code : List Instr) (g : Scene) (before : Place) (left at : ℕ) (variables : List (Option ℕ))
+    (s : State) (object : ℕ)
+    → StandsAt code g before at variables s (Unlock object)
+    → IsTaken code g (dispatch_instruction g.layout g.thread g.used before left at variables (Some (Unlock object)))
+unlock_taken code g before left at variables s object here =
+    let some : is_empty (slot_of s object) ≡ false = first_false _ _ here.met.not_empty in
+    let grounded = here.inside.grounded object in
+    let live = live_slot g.bag g.thread s variables object (slot_of s object) refl some grounded here.holds in
+    let backed =
+    backed_slot g.bag g.thread s variables object live.object (slot_of s object) refl live.is_row some grounded
+    here.holds in
+    let this : names s.locked object ≡ true = not_false _ (first_false _ _ here.met.has_lock) in
+    let has : g.locked ≡ Some live.object =
+    guards_row s variables object live.object s.locked g.locked this live.is_row here.guards in
+    let unlocked = with_lock (without_items s) None in
+    let next : IsInside code (at + 1) variables unlocked = record {
+      exits = here.inside.exits ++ Success ∷ [];
+      arrived = here.leads Success (at + 1) refl;
+      slots = length-map s.slots without_item ∙ here.inside.slots;
+      rows = here.inside.rows;
+      grounded = grounded-without s variables here.inside.grounded;
+    } in
+    let held_now : HoldsAlone g.bag g.thread (once_each (of_variables unlocked variables)) (UnlockGate live.object ∷ []) =
+    record {
+      each = λ k o.
+          let same : of_variables s variables k o ≡ of_variables unlocked variables k o =
+          says-without s variables k o ∙ says_locked (without_items s) variables None k o in
+          omega (arith, here.holds.each k o, ap one_if same);
+    } in
+    let taken : (found : ℕ) → Taken code g found (InCall left (at + 1) variables) (UnlockGate live.object) [] =
+    λ found. record {
+      placed = (unlocked, next, refl, held_now);
+      starts = Unlocks live.object backed.0 backed.1 has;
+      follows = Nothing (in_call_stays left (at + 1) variables);
+      keeps = keeps_all code g before at variables s (Unlock object) (UnlockGate live.object) here (λ k o. refl);
+    } in
+    taken_with_row code g live.object (row_of variables object)
+    (λ row. Does (UnlockGate row) [] (always (InCall left (at + 1) variables))) live.is_row taken

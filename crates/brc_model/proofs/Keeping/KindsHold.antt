@@ -1,0 +1,144 @@
+-- The object that a variable names has the kind that the checker says, in the first machine and after each event: each
+-- instruction leaves it so, and no other step changes a kind word that a birth has stored.
+use Rattle.std.proofs.Common.{◌≡◌, ℕ, zero, suc, List, inr, Option, None, Some, refl, sym, subst}
+use Rattle.std.specs.Prelude.{slice_get}
+use Rattle.brc_lang.specs.declared.module.Module.{Module}
+use Rattle.brc_lang.specs.declared.module.Function.{Function}
+use Rattle.brc_model.specs.declared.thread.Call.{Call}
+use Rattle.brc_model.specs.declared.thread.Choice.{Choice}
+use Rattle.brc_model.specs.declared.actor.Place.{Place}
+use Rattle.brc_model.specs.declared.actor.Place.TheVariants.{InCall}
+use Rattle.brc_model.specs.declared.address.Address.TheVariants.{KindOf}
+use Rattle.brc_model.specs.declared.duty.Duty.{Duty}
+use Rattle.brc_model.specs.declared.duty.Duty.TheVariants.{KindLoad, BirthKind}
+use Rattle.brc_model.specs.declared.slot.State.{State}
+use Rattle.brc_model.specs.Paths.{IsAcceptableCode}
+use Rattle.brc_model.specs.Threads.{code_of}
+use Rattle.brc_model.specs.Actions.{StepActor, Action, Skip, Stuck, Silent, Does, action_of}
+use Rattle.brc_model.specs.StepMachine.{StepMachine, counting, of_thread, at_place, step_actor, machine_by, next_machine, first_machine, main_actor, worker_actor}
+use Rattle.brc_model.specs.KnownKinds.{KnowsKinds, kind_words, KindsAreKnown, KindsHold}
+use Rattle.brc_model.proofs.Basics.Lists.{some_is, slice_get-map, written_actor}
+use Rattle.brc_model.proofs.Dispatch.Grounded.{IsInside, AreInstructions}
+use Rattle.brc_model.proofs.Keeping.CodeInvariant.{CodeInvariant}
+use Rattle.brc_model.proofs.Dispatch.Coded.{PlaceSays}
+use Rattle.brc_model.proofs.Basics.Written.{written_here, written_load}
+use Rattle.brc_model.proofs.Stepping.Neutral.{found_by}
+use Rattle.brc_model.proofs.Objects.KindsAfter.{StoredStay, stored_at_duty}
+use Rattle.brc_model.proofs.Dispatch.Kinds.{knows_still, named_stay}
+use Rattle.brc_model.proofs.Dispatch.KindsLeft.{SeesKind, Leaves, StandsKnowing, action_leaves}
+use Rattle.brc_model.proofs.Keeping.StepCases.{ShowsSteps, at_duty, thread_shows}
+use Rattle.brc_model.specs.Machine.{Machine}
+
+-- ---- the first machine
+
+first_known : (p : Module) (rows : ℕ) (calls : List Call) → KindsAreKnown (first_machine p rows calls)
+first_known p rows calls zero a is =
+    subst (λ (x : StepActor). KnowsKinds (code_of (slice_get p.functions x.function))
+    (kind_words (first_machine p rows calls)) x.place) (some_is main_actor a is) tt
+first_known p rows calls (suc t) a is =
+    let call = slice_get-map worker_actor calls t a is in
+    subst (λ (x : StepActor). KnowsKinds (code_of (slice_get p.functions x.function))
+    (kind_words (first_machine p rows calls)) x.place) call.is_image tt
+
+pub first_holds : (p : Module) (rows : ℕ) (calls : List Call) → KindsHold (first_machine p rows calls)
+first_holds p rows calls = record {
+  named = record { none = refl; root = refl };
+  known = first_known p rows calls;
+}
+
+-- ---- kind words
+
+-- A kind word changes once, when a birth stores it.
+abbrev WordsStay : ℕ → Machine → Machine → Type 0
+WordsStay t m new = StoredStay (λ x. m.memory (KindOf x)) (λ x. new.memory (KindOf x))
+
+stays_shown : (n : ℕ) → ShowsSteps WordsStay n
+stays_shown n = record {
+  stays = λ p t m kept x. inr refl;
+  sits = λ t m new a agenda found shown x. shown x;
+  moves = λ p t m a moves kept found silent x. inr refl;
+  does = λ p t m a d rest doing. stored_at_duty p n m t a d rest (at_duty doing);
+}
+
+thread_stored : (p : Module) (n : ℕ) (m : StepMachine) (t : ℕ) (choice : Choice) (o : Option StepActor)
+    → CodeInvariant p n m → slice_get m.actors t ≡ o
+    → StoredStay (kind_words m)
+    (kind_words (of_thread m (λ a. machine_by m t a (action_of m.functions m.layout t a choice)) o))
+thread_stored p n m t choice o whole found = thread_shows (stays_shown n) m t choice o whole found
+
+pub stored_stay : (p : Module) (n : ℕ) (m : StepMachine) (event : ℕ × Choice) → CodeInvariant p n m
+    → StoredStay (kind_words m) (kind_words (next_machine m event))
+stored_stay p n m event whole = thread_stored p n m event.0 event.1 (slice_get m.actors event.0) whole refl
+
+-- ---- kinds
+
+-- What the duty of the action stores or finds in kind words is there after it.
+sees : (m : StepMachine) (t : ℕ) (a : StepActor) (d : Duty) (rest : List Duty) (place : ℕ → Place)
+    → SeesKind (kind_words (machine_by m t a (Does d rest place))) d (found_by (counting m) t a.actor d)
+sees m t a (BirthKind y h w) rest place = written_here m.memory (KindOf y) w
+sees m t a (KindLoad y) rest place = sym (written_load m.memory (KindOf y) (KindOf y))
+sees m t a _ rest place = tt
+
+-- The thread is at the place that its action leads to, and the others are where they were.
+acted : (m : StepMachine) (t : ℕ) (a : StepActor) (x : Action) → slice_get m.actors t ≡ Some a
+    → ((u : ℕ) (b : StepActor) → slice_get m.actors u ≡ Some b
+    → KnowsKinds (code_of (slice_get m.functions b.function)) (kind_words (machine_by m t a x)) b.place)
+    → Leaves (code_of (slice_get m.functions a.function)) (kind_words (machine_by m t a x)) x
+    → KindsAreKnown (machine_by m t a x)
+acted m t a Skip found others own = others
+acted m t a Stuck found others own = others
+acted m t a (Silent moves place) found others own =
+    written_actor
+    (λ u b. KnowsKinds (code_of (slice_get m.functions b.function)) (kind_words m) b.place) m.actors t a
+    (at_place a place) found own others
+acted m t a (Does d rest place) found others own =
+    let word = found_by (counting m) t a.actor d in
+    written_actor
+    (λ u b. KnowsKinds (code_of (slice_get m.functions b.function))
+    (kind_words (machine_by m t a (Does d rest place))) b.place) m.actors t a
+    (step_actor m.layout t a d rest (place word) word) found (own word (sees m t a d rest place)) others
+
+inside_is : (p : Module) (n : ℕ) (m : StepMachine) (t : ℕ) (a : StepActor) → (whole : CodeInvariant p n m)
+    → slice_get m.actors t ≡ Some a → (left at : ℕ) (variables : List (Option ℕ))
+    → a.place ≡ InCall left at variables
+    → (s : State) × IsInside (code_of (slice_get m.functions a.function)) at variables s
+inside_is p n m t a whole found left at variables is =
+    let code = code_of (slice_get p.functions a.function) in
+    let says : PlaceSays code (InCall left at variables) a.actor.locked (whole.accounts t) =
+    subst (λ (x : Place). PlaceSays code x a.actor.locked (whole.accounts t)) is (whole.coded t a found).says in (
+      says.0,
+      subst (λ (f : List Function). IsInside (code_of (slice_get f a.function)) at variables says.0)
+          (sym whole.functions) says.1,
+    )
+
+-- The kinds hold after each event, whatever thread and choice it has.
+pub thread_holds : (p : Module) (n : ℕ) (m : StepMachine) (t : ℕ) (choice : Choice) (o : Option StepActor)
+    → CodeInvariant p n m → slice_get m.actors t ≡ o
+    → KindsHold (of_thread m (λ a. machine_by m t a (action_of m.functions m.layout t a choice)) o)
+thread_holds p n m t choice None whole found = whole.kinds
+thread_holds p n m t choice (Some a) whole found =
+    let x = action_of m.functions m.layout t a choice in
+    let new = kind_words (machine_by m t a x) in
+    let stays : StoredStay (kind_words m) new = thread_stored p n m t choice (Some a) whole found in
+    let named = named_stay (kind_words m) new stays whole.kinds.named in
+    let others : (u : ℕ) (b : StepActor) → slice_get m.actors u ≡ Some b
+    → KnowsKinds (code_of (slice_get m.functions b.function)) new b.place = λ u b is.
+    knows_still (code_of (slice_get m.functions b.function)) (kind_words m) new stays b.place
+    (whole.kinds.known u b is) in
+    let coded = whole.coded t a found in
+    let stands : StandsKnowing (code_of (slice_get m.functions a.function)) new a.place = record {
+      accepted =
+          subst (λ (f : List Function). IsAcceptableCode (code_of (slice_get f a.function))) (sym whole.functions)
+          coded.accepted;
+      instructions =
+          subst (λ (f : List Function). AreInstructions (code_of (slice_get f a.function))) (sym whole.functions)
+          coded.instructions;
+      inside = inside_is p n m t a whole found;
+      named = named;
+      knows = others t a found;
+    } in
+    record {
+      named = named;
+      known =
+          acted m t a x found others (action_leaves m.functions new m.layout t a choice stands);
+    }

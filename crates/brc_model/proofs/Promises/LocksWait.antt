@@ -1,0 +1,159 @@
+-- A thread that waits for a lock takes a step that changes nothing: it stores the gate's word as it found it, and is still
+-- at the instruction.
+use Rattle.std.proofs.Common.{◌≡◌, ℕ, zero, suc, ◌+◌, Bool, true, false, cond, List, [], ◌∷◌, Option, None, Some, refl, sym, ap, ◌∙◌, arith}
+use Rattle.std.specs.Prelude.{◌==◌, not, slice_get, slice_set, sum_by}
+use Rattle.std.proofs.Math.Path.{fun_ext}
+use Rattle.std.proofs.lemmas.List.Sums.{sum_by-cons}
+use Rattle.brc_lang.specs.declared.module.Instr.{Instr}
+use Rattle.brc_lang.specs.declared.module.Instr.TheVariants.{Num, List as ListObject, NoneObject, Newref, Move as MoveReference, Drop, Lock, Unlock, Goto, Ret, Fail, As}
+use Rattle.brc_lang.specs.declared.module.Module.{Module}
+use Rattle.brc_lang.specs.declared.module.Function.{Function}
+use Rattle.brc_word.specs.Words.{free_word, locked_word}
+use Rattle.brc_model.specs.declared.thread.Choice.TheVariants.{Ok, Fault}
+use Rattle.brc_model.specs.declared.duty.Duty.{Duty}
+use Rattle.brc_model.specs.declared.duty.Duty.TheVariants.{LockGate}
+use Rattle.brc_model.specs.declared.address.Address.{Address}
+use Rattle.brc_model.specs.declared.address.Address.TheVariants.{Gate}
+use Rattle.brc_model.specs.declared.actor.Status.{Status}
+use Rattle.brc_model.specs.declared.actor.Status.TheVariants.{Running, Leaving, Gone}
+use Rattle.brc_model.specs.declared.actor.Place.{Place}
+use Rattle.brc_model.specs.declared.actor.Place.TheVariants.{Idle, InCall, Exiting}
+use Rattle.brc_model.specs.declared.layout.Layout.{Layout}
+use Rattle.brc_model.specs.Threads.{row_of, entry_variables, code_of}
+use Rattle.brc_model.specs.Duties.{ready}
+use Rattle.brc_model.specs.Machine.{has_room, written}
+use Rattle.brc_model.specs.Actions.{StepActor, Action, Does, with_row, dispatch_instruction, dispatch, agenda_action, status_action, action_of}
+use Rattle.brc_model.specs.StepMachine.{step_actor, machine_by}
+use Rattle.brc_model.specs.World.{World, world_of, machine_of, step, finds_locked, waits_for_lock, IsReachable}
+use Rattle.brc_model.proofs.Basics.Lists.{either, set_found}
+use Rattle.brc_model.proofs.Basics.Written.{written_load}
+use Rattle.brc_model.proofs.Dispatch.Unlocked.{locking}
+use Rattle.brc_model.proofs.Promises.StepsMove.{after, reached_code, reached_found}
+
+-- ---- where a thread waits
+
+-- No duties are behind the one that locks, and a thread that finds the gate taken is still at the place.
+record IsTried (place : Place) (rest : List Duty) (next : ℕ → Place) : Type 0 where
+  alone : rest ≡ []
+  stays : (found : ℕ) → (found == free_word) ≡ false → next found ≡ place
+
+-- If the action locks an object, it leaves a thread at the place that has to wait.
+abbrev WaitsAt : Place → Action → Type 0
+WaitsAt place (Does (LockGate x) rest next) = IsTried place rest next
+WaitsAt place _ = Unit {0}
+
+row_waits : (place : Place) (o : Option ℕ) (work : ℕ → Action) → ((row : ℕ) → WaitsAt place (work row))
+    → WaitsAt place (with_row o work)
+row_waits place None work each = tt
+row_waits place (Some row) work each = each row
+
+instruction_waits : (layout : Layout) (t used : ℕ) (place : Place) (left at : ℕ) (variables : List (Option ℕ))
+    (i : Option Instr) → WaitsAt place (dispatch_instruction layout t used place left at variables i)
+instruction_waits layout t used place left at variables None = tt
+instruction_waits layout t used place left at variables (Some (Num to value otherwise)) =
+    either (WaitsAt place) (has_room layout t used) _ _ (λ room. tt) tt
+instruction_waits layout t used place left at variables (Some (ListObject to cells otherwise)) =
+    either (WaitsAt place) (has_room layout t used) _ _ (λ room. tt) tt
+instruction_waits layout t used place left at variables (Some (NoneObject to)) = tt
+instruction_waits layout t used place left at variables (Some (Newref to from)) =
+    row_waits place (row_of variables from) _ (λ row. tt)
+instruction_waits layout t used place left at variables (Some (MoveReference to from)) =
+    row_waits place (row_of variables from) _ (λ row. tt)
+instruction_waits layout t used place left at variables (Some (Drop from)) =
+    row_waits place (row_of variables from) _ (λ row. tt)
+instruction_waits layout t used place left at variables (Some (Lock object)) =
+    row_waits place (row_of variables object) _
+    (λ row. record {
+      alone = refl;
+      stays = λ found taken. ap (λ (b : Bool). cond b (InCall left (at + 1) variables) place) taken;
+    })
+instruction_waits layout t used place left at variables (Some (Unlock object)) =
+    row_waits place (row_of variables object) _ (λ row. tt)
+instruction_waits layout t used place left at variables (Some (As from kind otherwise)) =
+    row_waits place (row_of variables from) _ (λ row. tt)
+instruction_waits layout t used place left at variables (Some (Goto to)) = tt
+instruction_waits layout t used place left at variables (Some (Ret from)) =
+    row_waits place (row_of variables from) _ (λ row. tt)
+instruction_waits layout t used place left at variables (Some Fail) = tt
+
+dispatch_waits : (layout : Layout) (t used : ℕ) (code : List Instr) (place : Place)
+    → WaitsAt place (dispatch layout t used code place)
+dispatch_waits layout t used code Exiting = tt
+dispatch_waits layout t used code (Idle zero) = tt
+dispatch_waits layout t used code (Idle (suc left)) =
+    instruction_waits layout t used (Idle (suc left)) left 0 entry_variables (slice_get code 0)
+dispatch_waits layout t used code (InCall left at variables) =
+    instruction_waits layout t used (InCall left at variables) left at variables (slice_get code at)
+
+-- A thread waits with an empty agenda.
+abbrev WaitsIdly : StepActor → Action → Type 0
+WaitsIdly a (Does (LockGate x) rest next) = (a.actor.agenda ≡ []) × IsTried a.place rest next
+WaitsIdly a _ = Unit {0}
+
+with_none : (a : StepActor) (x : Action) → a.actor.agenda ≡ [] → WaitsAt a.place x → WaitsIdly a x
+with_none a (Does (LockGate x) rest next) none waits = (none, waits)
+with_none a _ none waits = tt
+
+agenda_waits : (functions : List Function) (layout : Layout) (t : ℕ) (a : StepActor) (agenda : List Duty)
+    → a.actor.agenda ≡ agenda → sum_by locking agenda ≡ 0 → WaitsIdly a (agenda_action functions layout t a agenda)
+agenda_waits functions layout t a [] is plain =
+    with_none a (agenda_action functions layout t a []) is
+    (dispatch_waits layout t a.actor.used (code_of (slice_get functions a.function)) a.place)
+agenda_waits functions layout t a (LockGate x ∷ rest) is plain =
+    absurd (omega (arith, plain, sum_by-cons locking (LockGate x) rest))
+agenda_waits functions layout t a (d ∷ rest) is plain = tt
+
+status_waits : (functions : List Function) (layout : Layout) (t : ℕ) (a : StepActor) (status : Status)
+    → sum_by locking a.actor.agenda ≡ 0 → WaitsIdly a (status_action functions layout t a status)
+status_waits functions layout t a Gone plain = tt
+status_waits functions layout t a Running plain = agenda_waits functions layout t a a.actor.agenda refl plain
+status_waits functions layout t a Leaving plain = agenda_waits functions layout t a a.actor.agenda refl plain
+
+-- ---- its step
+
+not_true : (b : Bool) → not b ≡ true → b ≡ false
+not_true true e = absurd cc
+not_true false e = refl
+
+-- The step of a thread that finds the gate taken changes nothing.
+tried_stays : (w : World) (t : ℕ) (a : StepActor) (x : Action) → slice_get w.actors t ≡ Some a → WaitsIdly a x
+    → finds_locked w.memory x ≡ true → world_of (machine_by (machine_of w) t a x) ≡ w
+tried_stays w t a (Does (LockGate y) rest place) found waits locked =
+    let word = w.memory (Gate y) in
+    let taken : (word == free_word) ≡ false = not_true (word == free_word) locked in
+    let agenda : ready a.actor.head rest ≡ a.actor.agenda = ap (ready a.actor.head) waits.1.alone ∙ sym waits.0 in
+    let there : place word ≡ a.place = waits.1.stays word taken in
+    let lock : cond (word == free_word) (Some y) a.actor.locked ≡ a.actor.locked =
+    ap (λ (b : Bool). cond b (Some y) a.actor.locked) taken in
+    let same : step_actor w.layout t a (LockGate y) rest (place word) word ≡ a =
+    λ i. record {
+      function = a.function;
+      place = there i;
+      actor = record {
+        status = a.actor.status;
+        agenda = agenda i;
+        aside = a.actor.aside;
+        head = a.actor.head;
+        used = a.actor.used;
+        locked = lock i;
+        lent = a.actor.lent;
+      };
+    } in
+    let actors : slice_set w.actors t (step_actor w.layout t a (LockGate y) rest (place word) word) ≡ w.actors =
+    ap (slice_set w.actors t) same ∙ set_found w.actors t a found in
+    let memory : written w.memory (Gate y) (cond (word == free_word) (locked_word t) word) ≡ w.memory =
+    fun_ext (λ (b : Address). ap (λ (c : Bool). written w.memory (Gate y) (cond c (locked_word t) word) b) taken
+    ∙ written_load w.memory (Gate y) b) in
+    λ i. record { functions = w.functions; layout = w.layout; memory = memory i; actors = actors i }
+tried_stays w t a _ found waits locked = absurd cc
+
+pub waiting_stays : (p : Module) (w : World) (t : ℕ) (a : StepActor) → IsReachable p w
+    → slice_get w.actors t ≡ Some a → waits_for_lock w t a ≡ true → (step w t Ok ≡ w) × (step w t Fault ≡ w)
+waiting_stays p w t a here found locked =
+    let plain = ((reached_code p w here).coded t a (reached_found p w t a here found)).plain in
+    let still : world_of (machine_by (machine_of w) t a (action_of w.functions w.layout t a Ok)) ≡ w =
+    tried_stays w t a (action_of w.functions w.layout t a Ok) found
+    (status_waits w.functions w.layout t a a.actor.status plain) locked in (
+      ap (λ (o : Option StepActor). world_of (after (machine_of w) t Ok o)) found ∙ still,
+      ap (λ (o : Option StepActor). world_of (after (machine_of w) t Fault o)) found ∙ still,
+    )
