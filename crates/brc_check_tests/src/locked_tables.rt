@@ -48,7 +48,7 @@ const TABLES: &[(&[u8], &[Entry])] = &[
             (Slot::Empty, Slot::Empty, None),
         ],
     ),
-    // A fetched item stays when its list is unlocked. Its kind is known where `as` succeeds, and there it may be locked.
+    // A fetched item stays when its list is unlocked. It may be locked where `as` has found that it is a list.
     (
         b"lock v0\nfetch v1 v0 0 else @9\nunlock v0\nas v1 list else @7\nlock v1\nunlock v1\nret v1\ndrop v1\nfail\n\
           unlock v0\nfail\n",
