@@ -9,7 +9,7 @@ use Rattle.brc_model.specs.declared.actor.Status.TheVariants.{Running, Leaving, 
 use Rattle.brc_model.specs.declared.address.Address.{Address}
 use Rattle.brc_model.specs.declared.address.Address.TheVariants.{Gate}
 use Rattle.brc_model.specs.declared.duty.Duty.{Duty}
-use Rattle.brc_model.specs.declared.duty.Duty.TheVariants.{ClaimMark, LockGate}
+use Rattle.brc_model.specs.declared.duty.Duty.TheVariants.{ClaimMark, LockGate, CellLoad}
 use Rattle.brc_model.specs.Duties.{address_of}
 use Rattle.brc_model.specs.Actions.{StepActor, Action, Skip, Stuck, Silent, Does, always, agenda_action, status_action}
 use Rattle.brc_model.specs.Limits.{total_limit}
@@ -24,7 +24,7 @@ use Rattle.brc_world.specs.declared.thread.Thread.{Thread}
 use Rattle.brc_world.specs.Actors.{actor_of, found_by, memory_done, actor_done, memory_by, actor_by, did_by, CanDo, CanAct, finds_mark, memory_claimed, actor_claimed, did_claim}
 use Rattle.brc_world.specs.declared.question.Question.{Question}
 use Rattle.brc_world.specs.declared.question.Question.TheVariants as questions
-use Rattle.brc_world.specs.Questions.{asks, IsAnswerable}
+use Rattle.brc_world.specs.Questions.{FindsItem, IsAbout, IsAnswerable}
 use Rattle.brc_world.specs.Starts.{start_by, first_start, unasking, place_after, answered, started}
 use Rattle.brc_model.specs.declared.layout.Layout.{Layout}
 
@@ -116,7 +116,7 @@ abbrev pub duty_of : Start → Option Duty
 duty_of starts.Stuck = None
 duty_of starts.Moved = None
 duty_of (starts.Doing d) = Some d
-duty_of (starts.Asking question) = Some (asks question)
+duty_of (starts.Asking d question) = Some d
 duty_of (starts.Locking row left next) = Some (LockGate row)
 
 -- the answer of a step with the start, whose duty finds this word
@@ -168,10 +168,10 @@ start_does functions layout t memory a agenda (starts.Doing c) d does e =
     let same : c ≡ d = cc in
     subst (λ (f : Duty). DoneBy layout t memory a agenda (agenda_action functions layout t a agenda) f answers.Moved)
     same (agenda_does functions layout t memory a agenda c e)
-start_does functions layout t memory a agenda (starts.Asking question) d does e =
-    let same : asks question ≡ d = cc in
+start_does functions layout t memory a agenda (starts.Asking c question) d does e =
+    let same : c ≡ d = cc in
     subst (λ (f : Duty). DoneBy layout t memory a agenda (agenda_action functions layout t a agenda) f answers.Moved)
-    same (agenda_does functions layout t memory a agenda (asks question) e)
+    same (agenda_does functions layout t memory a agenda c e)
 start_does functions layout t memory a agenda (starts.Locking row left next) d does e =
     let same : LockGate row ≡ d = cc in
     subst (λ (f : Duty). DoneBy layout t memory a agenda (agenda_action functions layout t a agenda) f
@@ -278,13 +278,20 @@ can_do functions layout t n threads memory a b start d begun does can =
     (sym (alive_action functions layout t a a.actor.status begun.alive)) can)) in
     record { there = does.there; suits = does.suits; uses = does.uses }
 
--- The word that a question's duty finds has an answer.
-pub answerable : (question : Question) (t n found : ℕ) (running : Bool) → n ≤ total_limit
-    → Suits t running n (asks question) found → IsAnswerable question found
-answerable (questions.Kind row kind otherwise) t n found running small suits = tt
-answerable (questions.Range row index outside) t n found running small suits = tt
-answerable (questions.Borrow row cell to otherwise) t n found running small suits = omega (arith, small, suits)
-answerable (questions.Fetch row cell to otherwise) t n found running small suits = omega (arith, small, suits)
+item_found : (d : Duty) (t n found : ℕ) (running : Bool) → n ≤ total_limit → FindsItem d → Suits t running n d found
+    → found ≤ total_limit
+item_found (CellLoad row cell) t n found running small finds suits = omega (arith, small, suits)
+item_found _ t n found running small finds suits = absurd finds
+
+-- The word that a question is about has an answer.
+pub answerable : (question : Question) (d : Duty) (t n found : ℕ) (running : Bool) → n ≤ total_limit
+    → IsAbout question d → Suits t running n d found → IsAnswerable question found
+answerable (questions.Kind kind otherwise) d t n found running small about suits = tt
+answerable (questions.Range index outside) d t n found running small about suits = tt
+answerable (questions.Borrow to otherwise) d t n found running small about suits =
+    item_found d t n found running small about suits
+answerable (questions.Fetch to otherwise) d t n found running small about suits =
+    item_found d t n found running small about suits
 
 -- ---- a claim that finds a mark
 

@@ -19,7 +19,7 @@ use Rattle.brc_world.specs.declared.dispatch.Start.{Start}
 use Rattle.brc_world.specs.declared.dispatch.Start.TheVariants as starts
 use Rattle.brc_world.specs.declared.thread.Thread.{Thread}
 use Rattle.brc_world.specs.Actors.{place_of, actor_of, with_agenda}
-use Rattle.brc_world.specs.Questions.{asks, place_answered}
+use Rattle.brc_world.specs.Questions.{IsAbout, place_answered}
 
 -- ---- the actions of a thread
 
@@ -77,8 +77,13 @@ first_start functions layout t a (d ∷ rest) = starts.Doing d
 
 -- the start without what it asks of the word found
 abbrev pub unasking : Start → Start
-unasking (starts.Asking question) = starts.Doing (asks question)
+unasking (starts.Asking d question) = starts.Doing d
 unasking start = start
+
+-- the duty of the start finds the word that its question is about
+abbrev pub AsksWell : Start → Type 0
+AsksWell (starts.Asking d question) = IsAbout question d
+AsksWell start = Unit {0}
 
 -- ---- the thread afterwards
 
@@ -88,7 +93,7 @@ let_in left next variables found place = if found == free_word then InCall left 
 
 -- the place of the thread once the word found has answered what its step's start asks
 abbrev pub place_after : Start → ℕ → Thread → Place
-place_after (starts.Asking question) found a = place_answered question found a.left a.at a.variables
+place_after (starts.Asking d question) found a = place_answered question found a.left a.at a.variables
 place_after (starts.Locking row left next) found a =
     let_in left next a.variables found (place_of a.mode a.left a.at a.variables)
 place_after _ found a = place_of a.mode a.left a.at a.variables
@@ -116,5 +121,6 @@ pub record CanBegin (a : Thread) : Type 0 where
 -- the thread `old` has begun the action: its step starts so, it is now `new`, and it has room for four duties
 pub record Begins (old : Thread) (x : Action) (start : Start) (new : Thread) : Type 0 where
   pub starts : unasking start ≡ start_by x
+  pub question : AsksWell start
   pub actor : (found : ℕ) → answered start found new ≡ started (actor_of old) x found
   pub room : vec_len new.agenda + 4 ≤ vec_capacity new.agenda

@@ -9,6 +9,7 @@ use brc_model::{Address, Duty, Layout};
 
 /// Returns the address of the word that the thread's duty accesses. `head` is the head of the thread's dying chain: 0
 /// if it is empty, else a row plus 1.
+#[inline(always)]
 pub fn address_of(layout: Layout, thread: u8, head: u32, duty: Duty) -> Address
     requires some_rows { 0 < layout.rows }
     requires indexed { IsIndexed duty }

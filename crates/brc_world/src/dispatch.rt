@@ -5,7 +5,7 @@ ghost use Rattle.std.specs.Prelude.{[], reverse, vec_len, vec_capacity};
 ghost use Rattle.brc_model.specs.Threads.{code_of, entry_variables};
 ghost use Rattle.brc_model.specs.Actions.{agenda_action, dispatch};
 ghost use Rattle.brc_world.specs.Actors.{actor_of};
-ghost use Rattle.brc_world.specs.Starts.{first_start, exit_action, action_at, action_inside, unasking, answered, started, CanBegin, Begins};
+ghost use Rattle.brc_world.specs.Starts.{first_start, exit_action, action_at, action_inside, unasking, answered, started, AsksWell, CanBegin, Begins};
 
 use crate::dispatch::birth::birth;
 use crate::dispatch::items::{ask_for_cell, go_on_inside};
@@ -35,8 +35,8 @@ pub enum Start {
     Moved,
     /// The thread does this duty, which is no longer in its agenda, and is already at the place where it then is.
     Doing(Duty),
-    /// The thread does the question's duty. The word found is the answer, which decides where the thread goes on.
-    Asking(Question),
+    /// The thread does this duty. The word found answers the question, and so decides where the thread goes on.
+    Asking { duty: Duty, question: Question },
     /// The thread locks the row's object. If it finds the gate free, it goes on at the instruction `next` of a call
     /// after which `left` calls remain. Otherwise it stays where it was, and has begun neither the instruction nor, if
     /// the instruction is the first one, the call.
@@ -55,6 +55,7 @@ pub fn first_duty(functions: &[Function], layout: Layout, number: u8, thread: &m
         (reverse thread.old.agenda.items) }
     ensures actor { (found : ℕ) → answered result found thread.new ≡ started (actor_of thread.old)
         (agenda_action functions.now layout number (actor_of thread.old) (reverse thread.old.agenda.items)) found }
+    ensures question { AsksWell result }
     ensures room { vec_len thread.new.agenda + 4 ≤ vec_capacity thread.new.agenda }
 {
     match thread.agenda.pop() {

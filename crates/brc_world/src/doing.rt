@@ -154,8 +154,7 @@ pub fn act(
             do_duty(memory, layout, number, thread, &duty);
             Ok(Did::Moved)
         }
-        Start::Asking(question) => {
-            let duty = question.duty();
+        Start::Asking { duty, question } => {
             let found = do_duty(memory, layout, number, thread, &duty);
             answer(thread, &question, found);
             Ok(Did::Moved)

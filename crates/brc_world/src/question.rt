@@ -6,46 +6,28 @@ ghost use Rattle.brc_model.specs.Kinds.{same_kind, kind_of_word};
 ghost use Rattle.brc_model.specs.Limits.{total_limit};
 ghost use Rattle.brc_model.specs.StepMachine.{at_place};
 ghost use Rattle.brc_world.specs.Actors.{actor_of};
-ghost use Rattle.brc_world.specs.Questions.{asks, outside_of, place_answered, IsAnswerable, item_in};
+ghost use Rattle.brc_world.specs.Questions.{outside_of, place_answered, IsAnswerable, item_in};
 
 use crate::states::LIST;
 use crate::tally::kind_numbered;
 use crate::thread::{Mode, Thread};
 use brc_lang::{Kind, Variable};
-use brc_model::{Duty, Stage};
+use brc_model::Stage;
 use brc_word::{kind_argument, kind_number};
 
 /// What a step asks of the word that its duty finds. The answer decides where the thread goes on.
 #[derive(Clone, Copy, Debug)]
 pub enum Question {
-    /// Is the row's object of the kind? If so, the thread goes on where it is, and otherwise at `otherwise`.
-    Kind {
-        row: u32,
-        kind: Kind,
-        otherwise: u8,
-    },
-    /// Has the row's list a cell with the index? If so, the thread is then inside its instruction.
-    Range {
-        row: u32,
-        index: u8,
-        outside: Outside,
-    },
-    /// Which item does the cell of the row's list hold? The variable borrows it, and the thread goes on where it is. If
-    /// the cell is empty, so is the variable, and the thread goes on at `otherwise`.
-    Borrow {
-        row: u32,
-        cell: u32,
-        to: Variable,
-        otherwise: u8,
-    },
-    /// Which item does the cell of the row's list hold? The thread makes a reference to it next. If the cell is empty,
+    /// Is the object of the kind, by its kind word? If so, the thread goes on where it is, and otherwise at `otherwise`.
+    Kind { kind: Kind, otherwise: u8 },
+    /// Has the list a cell with the index, by its kind word? If so, the thread is then inside its instruction.
+    Range { index: u8, outside: Outside },
+    /// Which item does the cell hold? The variable borrows it, and the thread goes on where it is. If the cell is empty,
     /// so is the variable, and the thread goes on at `otherwise`.
-    Fetch {
-        row: u32,
-        cell: u32,
-        to: Variable,
-        otherwise: u8,
-    },
+    Borrow { to: Variable, otherwise: u8 },
+    /// Which item does the cell hold? The thread makes a reference to it next. If the cell is empty, so is the variable,
+    /// and the thread goes on at `otherwise`.
+    Fetch { to: Variable, otherwise: u8 },
 }
 
 /// What a thread does if its list has no cell with the index.
@@ -59,21 +41,6 @@ pub enum Outside {
     GoesOn { otherwise: u8 },
 }
 
-impl Question {
-    /// Returns the duty that finds the word.
-    #[inline(always)]
-    pub fn duty(&self) -> Duty
-        ensures { result ≡ asks self.now }
-    {
-        match *self {
-            Question::Kind { row, .. } | Question::Range { row, .. } => Duty::KindLoad { row },
-            Question::Borrow { row, cell, .. } | Question::Fetch { row, cell, .. } => {
-                Duty::CellLoad { row, cell }
-            }
-        }
-    }
-}
-
 /// Answers the question by the word found, and takes the thread to the place where it then goes on.
 #[inline(always)]
 pub fn answer(thread: &mut Thread, question: &Question, found: u64)
@@ -84,25 +51,23 @@ pub fn answer(thread: &mut Thread, question: &Question, found: u64)
     let left = thread.left;
     let here = thread.at;
     match *question {
-        Question::Kind {
-            kind, otherwise, ..
-        } => {
+        Question::Kind { kind, otherwise } => {
             let is_of_kind = is_of_kind(found, kind);
             thread.go_to(left, if is_of_kind { here } else { usize::from(otherwise) });
         }
-        Question::Range { index, outside, .. } => {
+        Question::Range { index, outside } => {
             if u32::from(index) < cells_of(found) {
                 thread.mode = Mode::Inside(Stage::InRange);
             } else {
                 miss(thread, outside);
             }
         }
-        Question::Borrow { to, otherwise, .. } => {
+        Question::Borrow { to, otherwise } => {
             let item = item_in(found);
             thread.set(to, item);
             thread.go_to(left, if item.is_some() { here } else { usize::from(otherwise) });
         }
-        Question::Fetch { to, otherwise, .. } => match item_in(found) {
+        Question::Fetch { to, otherwise } => match item_in(found) {
             Some(row) => thread.mode = Mode::Inside(Stage::Found { row }),
             None => {
                 thread.set(to, None);

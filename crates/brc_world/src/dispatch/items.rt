@@ -5,7 +5,7 @@
 ghost use Rattle.std.specs.Prelude.{◌≡◌, true, ℕ, ◌+◌, ◌≤◌, [], ◌∷◌, Some, vec_len, vec_capacity};
 ghost use Rattle.brc_lang.specs.declared.module.Instr.TheVariants as instructions;
 ghost use Rattle.brc_model.specs.declared.actor.Stage.TheVariants as stages;
-ghost use Rattle.brc_model.specs.declared.duty.Duty.TheVariants.{KindLoad, CellSwap, Settle};
+ghost use Rattle.brc_model.specs.declared.duty.Duty.TheVariants.{KindLoad, CellLoad, CellSwap, Settle};
 ghost use Rattle.brc_model.specs.declared.layout.Layout.{Layout};
 ghost use Rattle.brc_model.specs.Actions.{Does, with_row};
 ghost use Rattle.brc_model.specs.Threads.{row_of};
@@ -35,8 +35,8 @@ pub(super) fn ask_for_cell(instr: Instr, thread: &mut Thread, left: u32) -> Star
             list,
             index,
             otherwise,
-        }
-        | Instr::Fetch {
+        } => ask_range(list, index, Outside::Empties { to, otherwise }, thread, left),
+        Instr::Fetch {
             to,
             list,
             index,
@@ -65,17 +65,16 @@ fn ask_range(
 ) -> Start
     requires { CanBegin thread.old }
     ensures { Begins thread.old (with_row (row_of thread.old.variables list) (λ row. Does (KindLoad row) []
-        (λ found. place_answered (questions.Range row index outside) found left thread.old.at thread.old.variables)))
+        (λ found. place_answered (questions.Range index outside) found left thread.old.at thread.old.variables)))
         result thread.new }
 {
     match thread.row_of(list) {
         Some(row) => {
             thread.left = left;
-            Start::Asking(Question::Range {
-                row,
-                index,
-                outside,
-            })
+            Start::Asking {
+                duty: Duty::KindLoad { row },
+                question: Question::Range { index, outside },
+            }
         }
         None => Start::Stuck,
     }
@@ -165,12 +164,7 @@ fn borrow(to: Variable, list: Variable, index: u8, otherwise: u8, thread: &mut T
     match thread.row_of(list) {
         Some(row) => {
             thread.at = next;
-            Start::Asking(Question::Borrow {
-                row,
-                cell: u32::from(index),
-                to,
-                otherwise,
-            })
+            load_cell(row, index, Question::Borrow { to, otherwise })
         }
         None => Start::Stuck,
     }
@@ -183,13 +177,21 @@ fn fetch(to: Variable, list: Variable, index: u8, otherwise: u8, thread: &mut Th
         thread.old) result thread.new }
 {
     match thread.row_of(list) {
-        Some(row) => Start::Asking(Question::Fetch {
+        Some(row) => load_cell(row, index, Question::Fetch { to, otherwise }),
+        None => Start::Stuck,
+    }
+}
+
+/// Begins the load of the cell (`item_of_another_cell`).
+fn load_cell(row: u32, index: u8, question: Question) -> Start
+    ensures { result ≡ Start.Asking (CellLoad row index) question }
+{
+    Start::Asking {
+        duty: Duty::CellLoad {
             row,
             cell: u32::from(index),
-            to,
-            otherwise,
-        }),
-        None => Start::Stuck,
+        },
+        question,
     }
 }
 

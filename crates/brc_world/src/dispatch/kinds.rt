@@ -9,6 +9,7 @@ use crate::dispatch::Start;
 use crate::question::Question;
 use crate::thread::Thread;
 use brc_lang::{Kind, Variable};
+use brc_model::Duty;
 
 /// Begins `as`: the load of the object's kind word, which decides where the thread goes on.
 #[inline(always)]
@@ -27,11 +28,10 @@ pub(super) fn ask_kind(
     match thread.row_of(from) {
         Some(row) => {
             thread.go_to(left, next);
-            Start::Asking(Question::Kind {
-                row,
-                kind,
-                otherwise,
-            })
+            Start::Asking {
+                duty: Duty::KindLoad { row },
+                question: Question::Kind { kind, otherwise },
+            }
         }
         None => Start::Stuck,
     }

@@ -7,7 +7,7 @@ use Rattle.brc_model.specs.Actions.{StepActor}
 use Rattle.brc_model.specs.StepMachine.{at_place}
 use Rattle.brc_world.specs.Storage.{word_in}
 use Rattle.brc_world.specs.Actors.{actor_of, actor_done}
-use Rattle.brc_world.specs.Questions.{asks, place_answered}
+use Rattle.brc_world.specs.Questions.{place_answered}
 use Rattle.brc_world.specs.Starts.{let_in}
 use Rattle.brc_world.proofs.doing.act.Goals as goal
 
@@ -58,7 +58,7 @@ returns-in-Doing c =
 pub do_duty-found-requires : goal.do_duty-found-requires
 do_duty-found-requires c =
     let has : HasStarted c.args.functions.now c.args.layout c.args.number (actor_of c.args.thread.now)
-    c.first_duty.new.thread (Asking c.in-Asking.question) = record {
+    c.first_duty.new.thread (Asking c.in-Asking.duty c.in-Asking.question) = record {
       alive = c.in_default.not-Gone;
       starts = rw c.in_ok-reserve.ensures.items at c.in-Asking.ensures.starts;
       actor = λ found. rw c.in_ok-reserve.ensures.items at (c.in-Asking.ensures.actor found);
@@ -68,41 +68,41 @@ do_duty-found-requires c =
       some_rows = c.requires.some_rows;
       small = c.requires.small;
       known = c.requires.known;
-      there = rw c.duty-duty.ensures can.there;
-      suits = rw c.duty-duty.ensures can.suits;
-      uses = rw c.duty-duty.ensures can.uses;
+      there = can.there;
+      suits = can.suits;
+      uses = can.uses;
       room = c.in-Asking.ensures.room;
     }
 
 pub answer-requires : goal.answer-requires
 answer-requires c =
     let has : HasStarted c.args.functions.now c.args.layout c.args.number (actor_of c.args.thread.now)
-    c.first_duty.new.thread (Asking c.in-Asking.question) = record {
+    c.first_duty.new.thread (Asking c.in-Asking.duty c.in-Asking.question) = record {
       alive = c.in_default.not-Gone;
       starts = rw c.in_ok-reserve.ensures.items at c.in-Asking.ensures.starts;
       actor = λ found. rw c.in_ok-reserve.ensures.items at (c.in-Asking.ensures.actor found);
     } in
     let can = can_do _ _ _ _ _ (word_in c.args.memory.now) _ _ _ _ has refl c.requires.can in
-    rw (c.do_duty-found.ensures.found, c.duty-duty.ensures)
-    (answerable c.in-Asking.question _ _ _ _ c.requires.small can.suits)
+    rw c.do_duty-found.ensures.found
+    (answerable c.in-Asking.question c.in-Asking.duty _ _ _ _ c.requires.small c.in-Asking.ensures.question can.suits)
 
 pub returns-in-Asking : goal.returns-in-Asking
 returns-in-Asking c =
     let has : HasStarted c.args.functions.now c.args.layout c.args.number (actor_of c.args.thread.now)
-    c.first_duty.new.thread (Asking c.in-Asking.question) = record {
+    c.first_duty.new.thread (Asking c.in-Asking.duty c.in-Asking.question) = record {
       alive = c.in_default.not-Gone;
       starts = rw c.in_ok-reserve.ensures.items at c.in-Asking.ensures.starts;
       actor = λ found. rw c.in_ok-reserve.ensures.items at (c.in-Asking.ensures.actor found);
     } in
     let step =
     duty_step c.args.functions.now c.args.layout c.args.number (word_in c.args.memory.now) _ _ _ _ has refl in
-    let duty = rw c.duty-duty.ensures at c.do_duty-found.ensures in
+    let duty = c.do_duty-found.ensures in
     let before = c.first_duty.new.thread in
     let after = c.do_duty-found.new.thread in
     let goes_on = λ (found left at : ℕ) (variables : List (Option ℕ)) (a : StepActor).
     at_place a (place_answered c.in-Asking.question found left at variables) in
     let done =
-    actor_done c.args.layout c.args.number (word_in c.args.memory.now) (actor_of before) (asks c.in-Asking.question) in
+    actor_done c.args.layout c.args.number (word_in c.args.memory.now) (actor_of before) c.in-Asking.duty in
     record {
       did = step.answer;
       words = duty.word.words ∙ step.memory_is;
