@@ -40,11 +40,7 @@ pub enum Start {
     /// The thread locks the row's object. If it finds the gate free, it goes on at the instruction `next` of a call
     /// after which `left` calls remain. Otherwise it stays where it was, and has begun neither the instruction nor, if
     /// the instruction is the first one, the call.
-    Locking {
-        row: u32,
-        left: u32,
-        next: usize,
-    },
+    Locking { row: u32, left: u32, next: usize },
 }
 
 /// Takes the first duty off the agenda or, if the agenda is empty, dispatches the next instruction or the exit.

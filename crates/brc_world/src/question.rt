@@ -53,7 +53,14 @@ pub fn answer(thread: &mut Thread, question: &Question, found: u64)
     match *question {
         Question::Kind { kind, otherwise } => {
             let is_of_kind = is_of_kind(found, kind);
-            thread.go_to(left, if is_of_kind { here } else { usize::from(otherwise) });
+            thread.go_to(
+                left,
+                if is_of_kind {
+                    here
+                } else {
+                    usize::from(otherwise)
+                },
+            );
         }
         Question::Range { index, outside } => {
             if u32::from(index) < cells_of(found) {
@@ -65,7 +72,14 @@ pub fn answer(thread: &mut Thread, question: &Question, found: u64)
         Question::Borrow { to, otherwise } => {
             let item = item_in(found);
             thread.set(to, item);
-            thread.go_to(left, if item.is_some() { here } else { usize::from(otherwise) });
+            thread.go_to(
+                left,
+                if item.is_some() {
+                    here
+                } else {
+                    usize::from(otherwise)
+                },
+            );
         }
         Question::Fetch { to, otherwise } => match item_in(found) {
             Some(row) => thread.mode = Mode::Inside(Stage::Found { row }),

@@ -35,13 +35,25 @@ pub(super) fn ask_for_cell(instr: Instr, thread: &mut Thread, left: u32) -> Star
             list,
             index,
             otherwise,
-        } => ask_range(list, index, Outside::Empties { to, otherwise }, thread, left),
+        } => ask_range(
+            list,
+            index,
+            Outside::Empties { to, otherwise },
+            thread,
+            left,
+        ),
         Instr::Fetch {
             to,
             list,
             index,
             otherwise,
-        } => ask_range(list, index, Outside::Empties { to, otherwise }, thread, left),
+        } => ask_range(
+            list,
+            index,
+            Outside::Empties { to, otherwise },
+            thread,
+            left,
+        ),
         Instr::Set { list, index, .. } => ask_range(list, index, Outside::Releases, thread, left),
         Instr::Put {
             list,
@@ -56,13 +68,7 @@ pub(super) fn ask_for_cell(instr: Instr, thread: &mut Thread, left: u32) -> Star
 /// Begins the load of the list's kind word, which decides whether the list has a cell with the index
 /// (`index_at_the_end_in_range`).
 #[inline(always)]
-fn ask_range(
-    list: Variable,
-    index: u8,
-    outside: Outside,
-    thread: &mut Thread,
-    left: u32,
-) -> Start
+fn ask_range(list: Variable, index: u8, outside: Outside, thread: &mut Thread, left: u32) -> Start
     requires { CanBegin thread.old }
     ensures { Begins thread.old (with_row (row_of thread.old.variables list) (λ row. Does (KindLoad row) []
         (λ found. place_answered (questions.Range index outside) found left thread.old.at thread.old.variables)))
