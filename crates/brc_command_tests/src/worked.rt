@@ -5,14 +5,14 @@ use brc_arguments::act;
 use std::process::Abort;
 use std::sync::Wait;
 
-const CHECK: &[&str] = &["brc", "check", "m.brc"];
+pub const CHECK: &[&str] = &["brc", "check", "m.brc"];
 
-const RUN: &[&str] = &["brc", "run", "m.brc", "--call", "f"];
+pub const RUN: &[&str] = &["brc", "run", "m.brc", "--call", "f"];
 
-const STEP: &[&str] = &["brc", "step", "m.brc", "s.txt"];
+pub const STEP: &[&str] = &["brc", "step", "m.brc", "s.txt"];
 
 /// A module, the words of a command, the texts on standard output and on standard error, and the status.
-type Case<'t> = (&'t [u8], &'t [&'t str], &'t [u8], &'t [u8], u8);
+pub type Case<'t> = (&'t [u8], &'t [&'t str], &'t [u8], &'t [u8], u8);
 
 // The bytes on standard output and on standard error, and the status.
 fn acts<R: Wait + AllocGlobal>(rt: &R, words: &[&str], load: Shelf<'_>) -> (Vec<u8>, Vec<u8>, u8) {
@@ -23,7 +23,7 @@ fn acts<R: Wait + AllocGlobal>(rt: &R, words: &[&str], load: Shelf<'_>) -> (Vec<
     (out, err, status)
 }
 
-fn assert_acts<R: Wait + Abort + AllocGlobal>(
+pub fn assert_acts<R: Wait + Abort + AllocGlobal>(
     rt: &R,
     words: &[&str],
     load: Shelf<'_>,
@@ -35,7 +35,7 @@ fn assert_acts<R: Wait + Abort + AllocGlobal>(
     assert_eq!(rt; found, status, "{words:?}");
 }
 
-fn assert_cases<R: Wait + Abort + AllocGlobal>(rt: &R, cases: &[Case<'_>]) {
+pub fn assert_cases<R: Wait + Abort + AllocGlobal>(rt: &R, cases: &[Case<'_>]) {
     for (module, words, report, line, status) in cases {
         assert_acts(rt, words, both(module, b""), (report, line, *status));
     }
