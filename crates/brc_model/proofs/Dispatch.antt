@@ -1,21 +1,26 @@
 -- What a thread of accepted code does next fits it: `Actions.action_fits`.
 --
--- In order: `Holds`, `Passing` and `Grounded` (what a thread's variables hold at a point that a path reaches), `Unlocked`
--- (no agenda locks or unlocks), `Guards` (what the state says is locked), `Coded` (a thread's lock and account are those
--- of its place), `Kinds` and `KindsLeft` (instruction by instruction, variables have the kinds that the checker says),
--- `Begins` (what a thread takes up), `Lockable` and `Standing` (what it knows at an instruction), `TakingSilent`,
--- `TakingBirths`, `TakingLocks` and `Taking` (instruction by instruction), `Begun` and `TakenSits`, `Claims`, `Counting` (the
--- counting machine below), `Actions`, which has the theorem, and `Fit` (an
--- instruction has what it needs).
+-- In order: `Holds`, `Passing` and `Grounded` (what a thread's variables hold at a point that a path reaches), `AtOnce`
+-- (no agenda locks, unlocks or swaps a cell), `Guards` (what the state says is locked), `Coded` (a thread's lock and
+-- account are those of its place), `Decided` (the place that a word found decides), `Kinds` and `KindsLeft` (instruction
+-- by instruction, variables have the kinds that the checker says), `Items`, `ItemsLeft` and `ItemsActions` (instruction
+-- by instruction, what is borrowed stands in the locked list), `Begins` (what a thread takes up), `Lockable` and
+-- `Standing` (what it knows at an instruction), `TakingSilent`, `TakingBirths`, `TakingLocks`, `TakingItems`,
+-- `TakingInside`, `TakingStores` and `Taking` (instruction by instruction), `Begun` and `TakenSits`, `Claims`,
+-- `Counting` (the counting machine below), `Actions`, which has the theorem, and `Fit` (an instruction has what it needs).
 
 pub mod Holds
 pub mod Passing
 pub mod Grounded
-pub mod Unlocked
+pub mod AtOnce
 pub mod Guards
 pub mod Coded
+pub mod Decided
 pub mod Kinds
 pub mod KindsLeft
+pub mod Items
+pub mod ItemsLeft
+pub mod ItemsActions
 pub mod Begins
 pub mod Lockable
 pub mod Standing

@@ -8,8 +8,8 @@
 -- duties, and `Locks` says of each that the thread still holds the list that it has locked. `Moved`, `OneReference` and `HandedOver` hand a reference over to another thread. None of these knows code.
 -- `Callers` and `FirstCounts` show the invariant of a machine in which some threads hold the root, `FirstHands` and
 -- `FirstMachine` that the first machines are such. `CodeInvariant` adds the second layer, about accepted code,
--- `StepCases` splits an event by its action, `KindsHold` shows over it that variables keep their kinds, and `CodeEvents`
--- carries both layers through every list of events.
+-- `StepCases` splits an event by its action, `KindsHold` shows over it that variables keep their kinds and `ItemsHold` that
+-- borrowed items stay in the locked list, and `CodeEvents` carries both layers through every list of events.
 
 pub mod NotBad
 pub mod KeepsDuty
@@ -36,4 +36,5 @@ pub mod FirstMachine
 pub mod CodeInvariant
 pub mod StepCases
 pub mod KindsHold
+pub mod ItemsHold
 pub mod CodeEvents

@@ -2,9 +2,9 @@
 --
 -- In order: `Agreeing`; `Safe`, over `Keeping/StepCases`; `Counting`, the laws of the counting machine; `StatesRise` to
 -- `ClosedOnce`; `Gates`, `Births`, `MarksWatched`, `KindWords` and `CellsUnderLock`; `RowLaws`, which extends these laws to
--- every list of events; `KnownKinds`, what the checker says of kinds; then the laws of the world: `Worlds`,
--- `AgendaMoves`, `Emptied`, `Elsewhere`, `StepsMove`, `LocksWait`, `Trace`. `Rules` proves that the named rules are the steps. `Worked`
--- computes three schedules.
+-- every list of events; `KnownKinds` and `BorrowedItems`, what the checker says of kinds and of borrowed items; then the
+-- laws of the world: `Worlds`, `AgendaMoves`, `Emptied`, `Elsewhere`, `StepsMove`, `LocksWait`, `Trace`. `Rules` proves that
+-- the named rules are the steps. `Worked` computes three schedules.
 
 pub mod Agreeing
 pub mod Safe
@@ -20,6 +20,7 @@ pub mod KindWords
 pub mod CellsUnderLock
 pub mod RowLaws
 pub mod KnownKinds
+pub mod BorrowedItems
 pub mod Worlds
 pub mod AgendaMoves
 pub mod Emptied

@@ -2,7 +2,7 @@
 -- between two duties.
 use Rattle.std.specs.Prelude.{◌≡◌, ℕ, ◌+◌, ◌-◌, ◌<◌, ◌≤◌, cond, ◌&&◌, ◌==◌, List, [], ◌∷◌, Some, slice_get, count_by, replicate}
 use Rattle.brc_model.specs.declared.duty.Holding.{Holding}
-use Rattle.brc_model.specs.declared.duty.Holding.TheVariants.{AsCaller}
+use Rattle.brc_model.specs.declared.duty.Holding.TheVariants.{AsCaller, InFlight}
 use Rattle.brc_model.specs.declared.duty.Duty.{Duty}
 use Rattle.brc_model.specs.declared.actor.Status.TheVariants.{Running}
 use Rattle.brc_model.specs.declared.layout.Layout.{Layout}
@@ -17,13 +17,18 @@ use Rattle.brc_model.specs.OpenWork.{is_about, about_of}
 use Rattle.brc_model.specs.Invariant.{Invariant}
 use Rattle.brc_model.specs.Ranges.{HasNoCells, HasNoSwaps, Ranges}
 
+-- No account has a reference in flight, as inside no instruction.
+abbrev pub HasNothingInFlight : Accounts → Type 0
+HasNothingInFlight p = (t object : ℕ) → p t InFlight object ≡ 0
+
 -- What holds between any two steps of running threads with these accounts: the invariant, and the rows of all duties are
--- rows of the machine. Cells are empty, and no thread is about to fill one.
+-- rows of the machine. Cells are empty, no thread is about to fill one, and no account has a reference in flight.
 pub record Counts (p : Accounts) (n : ℕ) (m : Machine) : Type 0 where
   pub kept : Invariant p n m
   pub ranges : Ranges n m
   pub no_cells : HasNoCells m
   pub no_swaps : HasNoSwaps m
+  pub no_flight : HasNothingInFlight p
 
 -- ---- accounts
 

@@ -6,6 +6,7 @@ ghost use Rattle.brc_model.specs.Paths.{IsAcceptable};
 ghost use Rattle.brc_model.specs.Progress.{Always, AtEachEvent, StatesRise, OnlyOwnersCount, OwnersStay, ClosedStays, ClosesAnew, ImmortalsStay, ClosedOnce, GatesTell, BornAreUsed, BornOnce, BornListed, BornAreThere, UsedAreBorn, ClosedWereBorn, CellsChangeUnderLock};
 ghost use Rattle.brc_model.specs.Watched.{MarksWatched};
 ghost use Rattle.brc_model.specs.KnownKinds.{KindsAreKnown, KindsStay};
+ghost use Rattle.brc_model.specs.Items.{ItemsAreThere};
 
 /// States that no event lowers a row's state, in the order default, queued, merged.
 pub fn states_only_rise()
@@ -97,4 +98,10 @@ pub fn kinds_stay()
 /// the thread's point: the kind word that its birth stored says so.
 pub fn variables_have_their_kinds()
     ensures { (m : Module) → IsModule m → IsAcceptable m → Always KindsAreKnown m }
+{}
+
+/// States that each borrowed item stands in a cell of the list that its thread has locked, in each state in which paths
+/// reach the thread's point, and that a thread inside an instruction uses a cell that the list has.
+pub fn borrowed_items_stay()
+    ensures { (m : Module) → IsModule m → IsAcceptable m → Always ItemsAreThere m }
 {}

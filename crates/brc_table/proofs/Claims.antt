@@ -10,7 +10,7 @@ use Rattle.brc_model.specs.declared.duty.Holding.{Holding}
 use Rattle.brc_model.specs.declared.duty.Holding.TheVariants.{ByVariable, AsCaller, InFlight}
 use Rattle.brc_model.specs.declared.duty.Reason.TheVariants.{Own}
 use Rattle.brc_model.specs.declared.duty.Duty.{Duty}
-use Rattle.brc_model.specs.declared.duty.Duty.TheVariants.{RetainLoad, RetainStore, RetainAdd, ReleaseLoad, ReleaseStore, SharedLoad, SharedExchange, Settle, SettleCell, SettleEnd, Leave, Scan, Finish, BirthKind, BirthSlot, BirthLocal}
+use Rattle.brc_model.specs.declared.duty.Duty.TheVariants.{RetainLoad, RetainStore, RetainAdd, ReleaseLoad, ReleaseStore, SharedLoad, SharedExchange, Settle, SettleCell, SettleEnd, Leave, Scan, Finish, BirthKind, BirthSlot, BirthLocal, CellSwap}
 use Rattle.brc_model.specs.declared.actor.Status.{Status}
 use Rattle.brc_model.specs.declared.actor.Status.TheVariants.{Running, Leaving, Gone}
 use Rattle.brc_model.specs.AbstractState.{same_holding}
@@ -96,6 +96,7 @@ gives_codes x (ReleaseLoad y h) = code_if (y == x) h
 gives_codes x (ReleaseStore y w) = code_if (y == x) InFlight
 gives_codes x (SharedLoad y Own) = code_if (y == x) InFlight
 gives_codes x (SharedExchange y Own w) = code_if (y == x) InFlight
+gives_codes x (CellSwap y i z h) = code_if (z == x) h
 gives_codes x _ = []
 
 pub gives_tallied : (x : ℕ) (d : Duty) (k : Holding) → tally (code k) (gives_codes x d) ≡ one_if (extra d k x)
@@ -103,6 +104,7 @@ gives_tallied x (ReleaseLoad y h) k = code_if_tally (y == x) h k
 gives_tallied x (ReleaseStore y w) k = code_if_tally (y == x) InFlight k
 gives_tallied x (SharedLoad y Own) k = code_if_tally (y == x) InFlight k
 gives_tallied x (SharedExchange y Own w) k = code_if_tally (y == x) InFlight k
+gives_tallied x (CellSwap y i z h) k = code_if_tally (z == x) h k
 gives_tallied x _ k = refl
 
 pub gives_long : (x : ℕ) (d : Duty) → length (gives_codes x d) ≡ gives_up x d
@@ -110,6 +112,7 @@ gives_long x (ReleaseLoad y h) = code_if_long (y == x) h
 gives_long x (ReleaseStore y w) = code_if_long (y == x) InFlight
 gives_long x (SharedLoad y Own) = code_if_long (y == x) InFlight
 gives_long x (SharedExchange y Own w) = code_if_long (y == x) InFlight
+gives_long x (CellSwap y i z h) = code_if_long (z == x) h
 gives_long x _ = refl
 
 pub gives_later : (x used : ℕ) (status : Status) (d : Duty) (rest : List Duty) → Later used status (d ∷ rest)
@@ -118,6 +121,7 @@ gives_later x used status (ReleaseLoad y h) rest later = absurd later
 gives_later x used status (ReleaseStore y w) rest later = absurd later
 gives_later x used status (SharedLoad y Own) rest later = absurd later
 gives_later x used status (SharedExchange y Own w) rest later = absurd later
+gives_later x used status (CellSwap y i z h) rest later = absurd later
 gives_later x used status _ rest later = refl
 
 abbrev pub gives : ℕ → Claims

@@ -5,7 +5,7 @@ use Rattle.std.specs.Prelude.{◌≡◌, ℕ, ◌+◌, ◌<◌, ◌≤◌, List,
 use Rattle.brc_word.specs.Words.{local_part, biased_part, phase_part, bias}
 use Rattle.brc_model.specs.declared.duty.Reason.TheVariants.{Own}
 use Rattle.brc_model.specs.declared.duty.Duty.{Duty}
-use Rattle.brc_model.specs.declared.duty.Duty.TheVariants.{RetainLoad, RetainStore, RetainAdd, ReleaseLoad, ReleaseStore, SharedLoad, SharedExchange, BirthKind, BirthSlot, BirthLocal}
+use Rattle.brc_model.specs.declared.duty.Duty.TheVariants.{RetainLoad, RetainStore, RetainAdd, ReleaseLoad, ReleaseStore, SharedLoad, SharedExchange, BirthKind, BirthSlot, BirthLocal, CellSwap}
 use Rattle.brc_model.specs.declared.address.Address.TheVariants.{Local, Shared, Mark}
 use Rattle.brc_model.specs.Agreement.{at_row, awaits, carries, IsPhase}
 use Rattle.brc_table.specs.declared.view.View.{View}
@@ -35,6 +35,7 @@ gives_up x (ReleaseLoad y h) = at_row x y
 gives_up x (ReleaseStore y w) = at_row x y
 gives_up x (SharedLoad y Own) = at_row x y
 gives_up x (SharedExchange y Own w) = at_row x y
+gives_up x (CellSwap y i z h) = at_row x z
 gives_up x _ = 0
 
 -- 1 if the duty makes a reference to the object: the hand lists it already, and the counts don't have it yet

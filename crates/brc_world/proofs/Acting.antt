@@ -1,7 +1,6 @@
 -- A step of the code does the thread's action, if the thread isn't gone.
-use Rattle.std.proofs.Common.{◌≡◌, ◌≢◌, ℕ, Bool, true, false, cond, List, [], ◌∷◌, Option, None, Some, refl, sym, ap, ◌∙◌, subst}
+use Rattle.std.proofs.Common.{◌≡◌, ◌≢◌, ℕ, ◌≤◌, arith, Bool, true, false, cond, List, [], ◌∷◌, Option, None, Some, refl, sym, ap, ◌∙◌, subst}
 use Rattle.std.specs.Prelude.{◌==◌, not, if◌then◌else◌}
-use Rattle.brc_lang.specs.declared.kind.Kind.{Kind}
 use Rattle.brc_lang.specs.declared.module.Function.{Function}
 use Rattle.brc_word.specs.Words.{free_word}
 use Rattle.brc_model.specs.declared.actor.Place.{Place}
@@ -10,10 +9,12 @@ use Rattle.brc_model.specs.declared.actor.Status.TheVariants.{Running, Leaving, 
 use Rattle.brc_model.specs.declared.address.Address.{Address}
 use Rattle.brc_model.specs.declared.address.Address.TheVariants.{Gate}
 use Rattle.brc_model.specs.declared.duty.Duty.{Duty}
-use Rattle.brc_model.specs.declared.duty.Duty.TheVariants.{ClaimMark, LockGate}
+use Rattle.brc_model.specs.declared.duty.Duty.TheVariants.{ClaimMark, LockGate, CellLoad}
 use Rattle.brc_model.specs.Duties.{address_of}
 use Rattle.brc_model.specs.Actions.{StepActor, Action, Skip, Stuck, Silent, Does, always, agenda_action, status_action}
+use Rattle.brc_model.specs.Limits.{total_limit}
 use Rattle.brc_model.specs.StepMachine.{at_place}
+use Rattle.brc_model.specs.Within.{Suits}
 use Rattle.brc_world.proofs.Dispatching.{TakesStep, agenda_steps}
 use Rattle.brc_world.specs.declared.did.Did.{Did}
 use Rattle.brc_world.specs.declared.did.Did.TheVariants as answers
@@ -21,6 +22,9 @@ use Rattle.brc_world.specs.declared.dispatch.Start.{Start}
 use Rattle.brc_world.specs.declared.dispatch.Start.TheVariants as starts
 use Rattle.brc_world.specs.declared.thread.Thread.{Thread}
 use Rattle.brc_world.specs.Actors.{actor_of, found_by, memory_done, actor_done, memory_by, actor_by, did_by, CanDo, CanAct, finds_mark, memory_claimed, actor_claimed, did_claim}
+use Rattle.brc_world.specs.declared.question.Question.{Question}
+use Rattle.brc_world.specs.declared.question.Question.TheVariants as questions
+use Rattle.brc_world.specs.Questions.{FindsItem, IsAbout, IsAnswerable}
 use Rattle.brc_world.specs.Starts.{start_by, first_start, unasking, place_after, answered, started}
 use Rattle.brc_model.specs.declared.layout.Layout.{Layout}
 
@@ -112,7 +116,7 @@ abbrev pub duty_of : Start → Option Duty
 duty_of starts.Stuck = None
 duty_of starts.Moved = None
 duty_of (starts.Doing d) = Some d
-duty_of (starts.Asking d kind otherwise) = Some d
+duty_of (starts.Asking d question) = Some d
 duty_of (starts.Locking row left next) = Some (LockGate row)
 
 -- the answer of a step with the start, whose duty finds this word
@@ -164,7 +168,7 @@ start_does functions layout t memory a agenda (starts.Doing c) d does e =
     let same : c ≡ d = cc in
     subst (λ (f : Duty). DoneBy layout t memory a agenda (agenda_action functions layout t a agenda) f answers.Moved)
     same (agenda_does functions layout t memory a agenda c e)
-start_does functions layout t memory a agenda (starts.Asking c kind otherwise) d does e =
+start_does functions layout t memory a agenda (starts.Asking c question) d does e =
     let same : c ≡ d = cc in
     subst (λ (f : Duty). DoneBy layout t memory a agenda (agenda_action functions layout t a agenda) f answers.Moved)
     same (agenda_does functions layout t memory a agenda c e)
@@ -273,6 +277,21 @@ can_do functions layout t n threads memory a b start d begun does can =
     (done.can n threads 0 (subst (CanAct layout t n threads memory a)
     (sym (alive_action functions layout t a a.actor.status begun.alive)) can)) in
     record { there = does.there; suits = does.suits; uses = does.uses }
+
+item_found : (d : Duty) (t n found : ℕ) (running : Bool) → n ≤ total_limit → FindsItem d → Suits t running n d found
+    → found ≤ total_limit
+item_found (CellLoad row cell) t n found running small finds suits = omega (arith, small, suits)
+item_found _ t n found running small finds suits = absurd finds
+
+-- The word that a question is about has an answer.
+pub answerable : (question : Question) (d : Duty) (t n found : ℕ) (running : Bool) → n ≤ total_limit
+    → IsAbout question d → Suits t running n d found → IsAnswerable question found
+answerable (questions.Kind kind otherwise) d t n found running small about suits = tt
+answerable (questions.Range index outside) d t n found running small about suits = tt
+answerable (questions.Borrow to otherwise) d t n found running small about suits =
+    item_found d t n found running small about suits
+answerable (questions.Fetch to otherwise) d t n found running small about suits =
+    item_found d t n found running small about suits
 
 -- ---- a claim that finds a mark
 

@@ -2,15 +2,17 @@
 use Rattle.std.proofs.Common.{ℕ, zero, suc, Bool, true, false, cond, List, [], ◌∷◌, Option, None, Some}
 use Rattle.std.specs.Prelude.{slice_get}
 use Rattle.brc_lang.specs.declared.module.Instr.{Instr}
-use Rattle.brc_lang.specs.declared.module.Instr.TheVariants.{Num, List as ListObject, NoneObject, Newref, Move as MoveReference, Drop, Lock, Unlock, Goto, Ret, Fail, As}
+use Rattle.brc_lang.specs.declared.module.Instr.TheVariants.{Num, List as ListObject, NoneObject, Newref, Move as MoveReference, Drop, Lock, Unlock, Borrow, Fetch, Set, Put, Goto, Ret, Fail, As}
 use Rattle.brc_lang.specs.declared.module.Function.{Function}
 use Rattle.brc_model.specs.Threads.{code_of, row_of, entry_variables}
 use Rattle.brc_model.specs.declared.duty.Duty.{Duty}
 use Rattle.brc_model.specs.declared.actor.Place.{Place}
-use Rattle.brc_model.specs.declared.actor.Place.TheVariants.{Idle, InCall, Exiting}
+use Rattle.brc_model.specs.declared.actor.Place.TheVariants.{Idle, InCall, Inside, Exiting}
+use Rattle.brc_model.specs.declared.actor.Stage.{Stage}
+use Rattle.brc_model.specs.declared.actor.Stage.TheVariants.{InRange, OutOfRange, Found, Retained}
 use Rattle.brc_model.specs.Machine.{has_room}
 use Rattle.brc_model.specs.declared.layout.Layout.{Layout}
-use Rattle.brc_model.specs.Actions.{StepActor, Action, Skip, with_row, dispatch_instruction, dispatch, agenda_action}
+use Rattle.brc_model.specs.Actions.{StepActor, Action, Skip, with_row, dispatch_instruction, dispatch_inside, dispatch, agenda_action}
 
 -- the action isn't `Skip`
 abbrev pub TakesStep : Action → Type 0
@@ -44,12 +46,37 @@ instruction_steps layout t used before left at variables (Some (Lock object)) =
     row_steps (row_of variables object) _ (λ row. tt)
 instruction_steps layout t used before left at variables (Some (Unlock object)) =
     row_steps (row_of variables object) _ (λ row. tt)
+instruction_steps layout t used before left at variables (Some (Borrow to list index otherwise)) =
+    row_steps (row_of variables list) _ (λ row. tt)
+instruction_steps layout t used before left at variables (Some (Fetch to list index otherwise)) =
+    row_steps (row_of variables list) _ (λ row. tt)
+instruction_steps layout t used before left at variables (Some (Set list index from otherwise)) =
+    row_steps (row_of variables list) _ (λ row. tt)
+instruction_steps layout t used before left at variables (Some (Put list index from otherwise)) =
+    row_steps (row_of variables list) _ (λ row. tt)
 instruction_steps layout t used before left at variables (Some (As from kind otherwise)) =
     row_steps (row_of variables from) _ (λ row. tt)
 instruction_steps layout t used before left at variables (Some (Goto to)) = tt
 instruction_steps layout t used before left at variables (Some (Ret from)) =
     row_steps (row_of variables from) _ (λ row. tt)
 instruction_steps layout t used before left at variables (Some Fail) = tt
+
+inside_steps : (left at : ℕ) (variables : List (Option ℕ)) (stage : Stage) (i : Option Instr)
+    → TakesStep (dispatch_inside left at variables stage i)
+inside_steps left at variables InRange (Some (Borrow to list index otherwise)) =
+    row_steps (row_of variables list) _ (λ row. tt)
+inside_steps left at variables InRange (Some (Fetch to list index otherwise)) =
+    row_steps (row_of variables list) _ (λ row. tt)
+inside_steps left at variables InRange (Some (Set list index from otherwise)) =
+    row_steps (row_of variables list) _ (λ row. row_steps (row_of variables from) _ (λ item. tt))
+inside_steps left at variables InRange (Some (Put list index from otherwise)) =
+    row_steps (row_of variables from) _ (λ item. tt)
+inside_steps left at variables OutOfRange (Some (Set list index from otherwise)) =
+    row_steps (row_of variables from) _ (λ item. tt)
+inside_steps left at variables Retained (Some (Put list index from otherwise)) =
+    row_steps (row_of variables list) _ (λ row. row_steps (row_of variables from) _ (λ item. tt))
+inside_steps left at variables (Found item) (Some (Fetch to list index otherwise)) = tt
+inside_steps left at variables stage i = tt
 
 dispatch_steps : (layout : Layout) (t used : ℕ) (code : List Instr) (place : Place)
     → TakesStep (dispatch layout t used code place)
@@ -59,6 +86,8 @@ dispatch_steps layout t used code (Idle (suc left)) =
     instruction_steps layout t used (Idle (suc left)) left 0 entry_variables (slice_get code 0)
 dispatch_steps layout t used code (InCall left at variables) =
     instruction_steps layout t used (InCall left at variables) left at variables (slice_get code at)
+dispatch_steps layout t used code (Inside left at variables stage) =
+    inside_steps left at variables stage (slice_get code at)
 
 -- Neither an agenda's first duty nor a dispatch is `Skip`.
 pub agenda_steps : (functions : List Function) (layout : Layout) (t : ℕ) (a : StepActor) (agenda : List Duty)

@@ -7,7 +7,7 @@ use Rattle.brc_model.specs.declared.address.Address.TheVariants.{Mark}
 use Rattle.brc_model.specs.declared.duty.Duty.{Duty}
 use Rattle.brc_model.specs.declared.duty.Duty.TheVariants.{Settle, Scan, ClaimMark}
 use Rattle.brc_model.specs.declared.actor.Place.{Place}
-use Rattle.brc_model.specs.declared.actor.Place.TheVariants.{Idle, InCall, Exiting}
+use Rattle.brc_model.specs.declared.actor.Place.TheVariants.{Idle, InCall, Inside, Exiting}
 use Rattle.brc_model.specs.Duties.{address_of, new_word}
 use Rattle.brc_model.specs.Within.{IsThere, Suits}
 use Rattle.brc_model.specs.Machine as model
@@ -16,22 +16,23 @@ use Rattle.brc_model.specs.StepMachine.{at_place, step_actor}
 use Rattle.brc_model.specs.World.{finds_locked}
 use Rattle.brc_world.specs.declared.did.Did.{Did}
 use Rattle.brc_world.specs.declared.did.Did.TheVariants as answers
-use Rattle.brc_world.specs.declared.thread.Stage.{Stage}
-use Rattle.brc_world.specs.declared.thread.Stage.TheVariants as stages
+use Rattle.brc_world.specs.declared.thread.Mode.{Mode}
+use Rattle.brc_world.specs.declared.thread.Mode.TheVariants as modes
 use Rattle.brc_world.specs.declared.thread.Thread.{Thread}
 use Rattle.brc_model.specs.declared.layout.Layout.{Layout}
 
 -- the model's place of a thread; only a call has an instruction and variables
-abbrev pub place_of : Stage → ℕ → ℕ → List (Option ℕ) → Place
-place_of stages.Idle left at variables = Idle left
-place_of stages.InCall left at variables = InCall left at variables
-place_of stages.Exiting left at variables = Exiting
+abbrev pub place_of : Mode → ℕ → ℕ → List (Option ℕ) → Place
+place_of modes.Idle left at variables = Idle left
+place_of modes.InCall left at variables = InCall left at variables
+place_of (modes.Inside stage) left at variables = Inside left at variables stage
+place_of modes.Exiting left at variables = Exiting
 
 -- the model's thread; the first duty of its agenda is the last one of the code's vector
 abbrev pub actor_of : Thread → StepActor
 actor_of t = record {
   function = t.function;
-  place = place_of t.stage t.left t.at t.variables;
+  place = place_of t.mode t.left t.at t.variables;
   actor = record {
     status = t.status;
     agenda = reverse t.agenda.items;

@@ -1,5 +1,6 @@
 pub mod Storage
 pub mod Actors
+pub mod Questions
 pub mod Starts
 pub mod Effects
 pub mod Worlds

@@ -1,17 +1,17 @@
 -- The start of a step, by the thread's action: what the thread does, and where it then is.
-use Rattle.std.specs.Prelude.{◌≡◌, ℕ, ◌+◌, ◌<◌, ◌≤◌, ◌^◌, ◌==◌, if◌then◌else◌, List, [], ◌∷◌, Option, slice_get, vec_len, vec_capacity}
-use Rattle.brc_lang.specs.declared.kind.Kind.{Kind}
+use Rattle.std.specs.Prelude.{◌≡◌, ℕ, ◌+◌, ◌<◌, ◌≤◌, ◌^◌, ◌==◌, Bool, true, false, if◌then◌else◌, List, [], ◌∷◌, Option, slice_get, vec_len, vec_capacity}
 use Rattle.brc_lang.specs.declared.module.Function.{Function}
 use Rattle.brc_lang.specs.declared.module.Instr.{Instr}
+use Rattle.brc_lang.specs.declared.module.Instr.TheVariants.{Borrow, Fetch, Set, Put}
 use Rattle.brc_word.specs.Words.{free_word}
 use Rattle.brc_model.specs.declared.actor.Place.{Place}
-use Rattle.brc_model.specs.declared.actor.Place.TheVariants.{Idle, InCall, Exiting}
+use Rattle.brc_model.specs.declared.actor.Stage.{Stage}
+use Rattle.brc_model.specs.declared.actor.Place.TheVariants.{Idle, InCall, Inside, Exiting}
 use Rattle.brc_model.specs.declared.duty.Duty.{Duty}
 use Rattle.brc_model.specs.declared.duty.Duty.TheVariants.{ReleaseLoad, Settle, Leave, LockGate}
 use Rattle.brc_model.specs.declared.duty.Holding.TheVariants.{AsCaller}
 use Rattle.brc_model.specs.declared.layout.Layout.{Layout}
-use Rattle.brc_model.specs.Actions.{StepActor, Action, Skip, Stuck, Silent, Does, always, dispatch_instruction, dispatch}
-use Rattle.brc_model.specs.Kinds.{same_kind, kind_of_word}
+use Rattle.brc_model.specs.Actions.{StepActor, Action, Skip, Stuck, Silent, Does, always, dispatch_instruction, dispatch_inside, dispatch}
 use Rattle.brc_model.specs.Layout.{root_row}
 use Rattle.brc_model.specs.StepMachine.{at_place}
 use Rattle.brc_model.specs.Threads.{code_of}
@@ -19,6 +19,7 @@ use Rattle.brc_world.specs.declared.dispatch.Start.{Start}
 use Rattle.brc_world.specs.declared.dispatch.Start.TheVariants as starts
 use Rattle.brc_world.specs.declared.thread.Thread.{Thread}
 use Rattle.brc_world.specs.Actors.{place_of, actor_of, with_agenda}
+use Rattle.brc_world.specs.Questions.{IsAbout, place_answered}
 
 -- ---- the actions of a thread
 
@@ -29,7 +30,19 @@ exit_action used = Does (ReleaseLoad root_row AsCaller) (Settle ∷ Leave 0 used
 -- the thread's action at the instruction `i`, which is the one with its number, in a call after which `left` calls remain
 abbrev pub action_at : Layout → ℕ → ℕ → Option Instr → Thread → Action
 action_at layout t left i a =
-    dispatch_instruction layout t a.used (place_of a.stage a.left a.at a.variables) left a.at a.variables i
+    dispatch_instruction layout t a.used (place_of a.mode a.left a.at a.variables) left a.at a.variables i
+
+-- Says whether the instruction uses a cell of the list that the thread has locked.
+abbrev pub uses_cell : Instr → Bool
+uses_cell (Borrow to list index otherwise) = true
+uses_cell (Fetch to list index otherwise) = true
+uses_cell (Set list index from otherwise) = true
+uses_cell (Put list index from otherwise) = true
+uses_cell _ = false
+
+-- the thread's action inside the instruction `i`, by how far the thread is in it
+abbrev pub action_inside : Stage → Option Instr → Thread → Action
+action_inside stage i a = dispatch_inside a.left a.at a.variables stage i
 
 -- ---- starts
 
@@ -37,16 +50,18 @@ action_at layout t left i a =
 abbrev pub left_at : Place → ℕ
 left_at (Idle left) = left
 left_at (InCall left at variables) = left
+left_at (Inside left at variables stage) = left
 left_at Exiting = 0
 
 -- the number of the place's instruction, if it is in a call
 abbrev pub point_at : Place → ℕ
 point_at (Idle left) = 0
 point_at (InCall left at variables) = at
+point_at (Inside left at variables stage) = at
 point_at Exiting = 0
 
--- Returns the start of a step with the action, but for what `as` asks of the word found. A lock that is free leads to
--- the place in a call that the action names.
+-- Returns the start of a step with the action, but for what it asks of the word found. A lock that is free leads to the
+-- place in a call that the action names.
 abbrev pub start_by : Action → Start
 start_by Skip = starts.Stuck
 start_by Stuck = starts.Stuck
@@ -60,23 +75,17 @@ first_start functions layout t a [] =
     start_by (dispatch layout t a.actor.used (code_of (slice_get functions a.function)) a.place)
 first_start functions layout t a (d ∷ rest) = starts.Doing d
 
--- the start without what `as` asks of the word found
+-- the start without what it asks of the word found
 abbrev pub unasking : Start → Start
-unasking (starts.Asking d kind otherwise) = starts.Doing d
+unasking (starts.Asking d question) = starts.Doing d
 unasking start = start
 
+-- the duty of the start finds the word that its question is about
+abbrev pub AsksWell : Start → Type 0
+AsksWell (starts.Asking d question) = IsAbout question d
+AsksWell start = Unit {0}
+
 -- ---- the thread afterwards
-
--- the place with another point, if it is in a call
-abbrev pub with_point : (ℕ → ℕ) → Place → Place
-with_point point (Idle left) = Idle left
-with_point point (InCall left at variables) = InCall left (point at) variables
-with_point point Exiting = Exiting
-
--- the place, or the instruction `otherwise` if the kind word found is of another kind than this one
-abbrev pub asked : Kind → ℕ → ℕ → Place → Place
-asked kind otherwise found place =
-    with_point (λ at. if same_kind (kind_of_word found) kind then at else otherwise) place
 
 -- the instruction `next` of a call after which `left` calls remain if the gate found was free, and else the place
 abbrev pub let_in : ℕ → ℕ → List (Option ℕ) → ℕ → Place → Place
@@ -84,11 +93,10 @@ let_in left next variables found place = if found == free_word then InCall left 
 
 -- the place of the thread once the word found has answered what its step's start asks
 abbrev pub place_after : Start → ℕ → Thread → Place
-place_after (starts.Asking d kind otherwise) found a =
-    asked kind otherwise found (place_of a.stage a.left a.at a.variables)
+place_after (starts.Asking d question) found a = place_answered question found a.left a.at a.variables
 place_after (starts.Locking row left next) found a =
-    let_in left next a.variables found (place_of a.stage a.left a.at a.variables)
-place_after _ found a = place_of a.stage a.left a.at a.variables
+    let_in left next a.variables found (place_of a.mode a.left a.at a.variables)
+place_after _ found a = place_of a.mode a.left a.at a.variables
 
 -- the thread once the word found has answered what its step's start asks
 abbrev pub answered : Start → ℕ → Thread → StepActor
@@ -113,5 +121,6 @@ pub record CanBegin (a : Thread) : Type 0 where
 -- the thread `old` has begun the action: its step starts so, it is now `new`, and it has room for four duties
 pub record Begins (old : Thread) (x : Action) (start : Start) (new : Thread) : Type 0 where
   pub starts : unasking start ≡ start_by x
+  pub question : AsksWell start
   pub actor : (found : ℕ) → answered start found new ≡ started (actor_of old) x found
   pub room : vec_len new.agenda + 4 ≤ vec_capacity new.agenda

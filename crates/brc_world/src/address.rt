@@ -9,6 +9,7 @@ use brc_model::{Address, Duty, Layout};
 
 /// Returns the address of the word that the thread's duty accesses. `head` is the head of the thread's dying chain: 0
 /// if it is empty, else a row plus 1.
+#[inline(always)]
 pub fn address_of(layout: Layout, thread: u8, head: u32, duty: Duty) -> Address
     requires some_rows { 0 < layout.rows }
     requires indexed { IsIndexed duty }
@@ -37,7 +38,9 @@ pub fn address_of(layout: Layout, thread: u8, head: u32, duty: Duty) -> Address
         Duty::SettleKind { row } | Duty::BirthKind { row, .. } | Duty::KindLoad { row } => {
             Address::KindOf { row }
         }
-        Duty::SettleCell { row, cell, .. } => Address::Cell { row, cell },
+        Duty::SettleCell { row, cell, .. } | Duty::CellSwap { row, cell, .. } => {
+            Address::Cell { row, cell }
+        }
         Duty::TakeSlot { row } | Duty::BirthSlot { row, .. } => Address::Slot { row },
         Duty::CloseResource { row } => Address::Resource { row },
         Duty::SetMark { row } | Duty::TakeMark { row } | Duty::ClaimMark { row } => Address::Mark {

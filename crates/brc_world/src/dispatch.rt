@@ -5,20 +5,23 @@ ghost use Rattle.std.specs.Prelude.{[], reverse, vec_len, vec_capacity};
 ghost use Rattle.brc_model.specs.Threads.{code_of, entry_variables};
 ghost use Rattle.brc_model.specs.Actions.{agenda_action, dispatch};
 ghost use Rattle.brc_world.specs.Actors.{actor_of};
-ghost use Rattle.brc_world.specs.Starts.{first_start, exit_action, action_at, unasking, answered, started, CanBegin, Begins};
+ghost use Rattle.brc_world.specs.Starts.{first_start, exit_action, action_at, action_inside, unasking, answered, started, AsksWell, CanBegin, Begins};
 
 use crate::dispatch::birth::birth;
+use crate::dispatch::items::{ask_for_cell, go_on_inside};
 use crate::dispatch::kinds::ask_kind;
 use crate::dispatch::locks::{lock, unlock};
 use crate::dispatch::references::{give_up, hand_on, name_again, name_none, return_object};
+use crate::question::Question;
 use crate::rows::ROOT;
 use crate::states::{LIST, NUM};
-use crate::thread::{Stage, Thread, Variables};
-use brc_lang::{Function, Instr, Kind};
-use brc_model::{Duty, Holding, Layout};
+use crate::thread::{Mode, Thread, Variables};
+use brc_lang::{Function, Instr};
+use brc_model::{Duty, Holding, Layout, Stage};
 use brc_word::kind_word;
 
 mod birth;
+mod items;
 mod kinds;
 mod locks;
 mod references;
@@ -32,13 +35,8 @@ pub enum Start {
     Moved,
     /// The thread does this duty, which is no longer in its agenda, and is already at the place where it then is.
     Doing(Duty),
-    /// The thread does this duty, which loads a kind word. It is already at the place where it goes on if the word is
-    /// of the kind; otherwise it goes on at the instruction `otherwise`.
-    Asking {
-        duty: Duty,
-        kind: Kind,
-        otherwise: u8,
-    },
+    /// The thread does this duty. The word found answers the question, and so decides where the thread goes on.
+    Asking { duty: Duty, question: Question },
     /// The thread locks the row's object. If it finds the gate free, it goes on at the instruction `next` of a call
     /// after which `left` calls remain. Otherwise it stays where it was, and has begun neither the instruction nor, if
     /// the instruction is the first one, the call.
@@ -57,6 +55,7 @@ pub fn first_duty(functions: &[Function], layout: Layout, number: u8, thread: &m
         (reverse thread.old.agenda.items) }
     ensures actor { (found : ℕ) → answered result found thread.new ≡ started (actor_of thread.old)
         (agenda_action functions.now layout number (actor_of thread.old) (reverse thread.old.agenda.items)) found }
+    ensures question { AsksWell result }
     ensures room { vec_len thread.new.agenda + 4 ≤ vec_capacity thread.new.agenda }
 {
     match thread.agenda.pop() {
@@ -74,13 +73,14 @@ fn dispatch(functions: &[Function], layout: Layout, number: u8, thread: &mut Thr
     ensures { Begins thread.old (dispatch layout number thread.old.used (code_of (slice_get functions.now
         thread.old.function)) (actor_of thread.old).place) result thread.new }
 {
-    match thread.stage {
-        Stage::Exiting => Start::Stuck,
-        Stage::InCall => {
+    match thread.mode {
+        Mode::Exiting => Start::Stuck,
+        Mode::InCall => {
             let left = thread.left;
             next_instruction(functions, layout, number, thread, left)
         }
-        Stage::Idle => {
+        Mode::Inside(stage) => this_instruction(functions, thread, stage),
+        Mode::Idle => {
             if thread.left == 0 {
                 return exit(thread);
             }
@@ -98,7 +98,7 @@ fn exit(thread: &mut Thread) -> Start
     requires room { 8 ≤ vec_capacity thread.old.agenda }
     ensures { Begins thread.old (exit_action thread.old.used) result thread.new }
 {
-    thread.stage = Stage::Exiting;
+    thread.mode = Mode::Exiting;
     thread.agenda.push_reserved(Duty::Leave {
         index: 0,
         rows: thread.used,
@@ -127,6 +127,20 @@ fn next_instruction(
 {
     match code_of(functions, thread.function).get(thread.at) {
         Some(instr) => begin(*instr, layout, number, thread, left),
+        None => Start::Stuck,
+    }
+}
+
+/// Goes on inside the instruction `thread.at`, by how far the thread is in it.
+#[inline(always)]
+fn this_instruction(functions: &[Function], thread: &mut Thread, stage: Stage) -> Start
+    requires empty { thread.old.agenda.items ≡ [] }
+    requires room { 8 ≤ vec_capacity thread.old.agenda }
+    ensures { Begins thread.old (action_inside stage
+        (slice_get (code_of (slice_get functions.now thread.old.function)) thread.old.at) thread.old) result thread.new }
+{
+    match code_of(functions, thread.function).get(thread.at) {
+        Some(instr) => go_on_inside(*instr, stage, thread),
         None => Start::Stuck,
     }
 }
@@ -179,6 +193,9 @@ fn begin(instr: Instr, layout: Layout, number: u8, thread: &mut Thread, left: u3
         Instr::Drop { from } => give_up(from, thread, left),
         Instr::Lock { object } => lock(object, thread, left),
         Instr::Unlock { object } => unlock(object, thread, left),
+        Instr::Borrow { .. } | Instr::Fetch { .. } | Instr::Set { .. } | Instr::Put { .. } => {
+            ask_for_cell(instr, thread, left)
+        }
         Instr::As {
             from,
             kind,

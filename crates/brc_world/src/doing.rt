@@ -8,12 +8,11 @@ ghost use Rattle.brc_model.specs.Duties.{address_of, new_word};
 ghost use Rattle.brc_model.specs.Machine.{is_running, used_by};
 ghost use Rattle.brc_model.specs.Actions.{may_claim, status_action};
 ghost use Rattle.brc_model.specs.Limits.{worker_limit, total_limit};
-ghost use Rattle.brc_model.specs.Kinds.{same_kind, kind_of_word};
 ghost use Rattle.brc_model.specs.StepMachine.{at_place};
 ghost use Rattle.brc_model.specs.Within.{IsThere, Suits};
 ghost use Rattle.brc_world.specs.Storage.{word_in, IsStored};
 ghost use Rattle.brc_world.specs.Actors.{actor_of, found_by, actor_done, memory_by, actor_by, waits, did_by, CanAct, finds_mark, memory_claimed, actor_claimed, did_claim, CanClaim};
-ghost use Rattle.brc_world.specs.Starts.{asked, let_in};
+ghost use Rattle.brc_world.specs.Starts.{let_in};
 
 use crate::address::address_of;
 use crate::agenda::{pass_over, push};
@@ -22,13 +21,12 @@ use crate::dispatch::{Start, first_duty};
 use crate::effect::Doer;
 use crate::memory::Memory;
 use crate::no_memory::NoMemory;
+use crate::question::answer;
 use crate::rows::{block_of, index_of};
 use crate::states::FREE;
-use crate::tally::kind_numbered;
-use crate::thread::{ROOM, Stage, Thread};
-use brc_lang::{Function, Kind};
+use crate::thread::{Mode, ROOM, Thread};
+use brc_lang::Function;
 use brc_model::{Address, Duty, Layout, Status};
-use brc_word::kind_number;
 
 /// Does the thread's duty, which is no longer in its agenda, on the duty's word. Returns the value that it found there.
 #[inline(always)]
@@ -53,6 +51,8 @@ pub fn do_duty(
         (found_by layout number (word_in memory.old) (actor_of thread.old) duty.now)) memory.new }
     ensures actor { actor_of thread.new ≡ actor_done layout number (word_in memory.old) (actor_of thread.old) duty.now }
     ensures found { result ≡ found_by layout number (word_in memory.old) (actor_of thread.old) duty.now }
+    ensures calls { thread.new.left ≡ thread.old.left }
+    ensures point { thread.new.at ≡ thread.old.at }
     ensures variables { thread.new.variables ≡ thread.old.variables }
 {
     let all = memory.rows() as u32;
@@ -70,16 +70,6 @@ pub fn do_duty(
     found
 }
 
-/// Sends a thread in a call on to the instruction `otherwise`, if the kind word that it found is of another kind.
-fn answer(thread: &mut Thread, kind: Kind, otherwise: u8, found: u64)
-    ensures { actor_of thread.new
-        ≡ at_place (actor_of thread.old) (asked kind otherwise found (actor_of thread.old).place) }
-{
-    if !is_of_kind(found, kind) {
-        thread.at = usize::from(otherwise);
-    }
-}
-
 /// Sends a thread on to the instruction `next` of its call if the gate that it found was free: it has the lock.
 /// Otherwise the thread stays where it is, and its step has changed nothing. Returns what the step did.
 fn enter(thread: &mut Thread, left: u32, next: usize, found: u64) -> Did
@@ -92,13 +82,6 @@ fn enter(thread: &mut Thread, left: u32, next: usize, found: u64) -> Did
     }
     thread.go_to(left, next);
     Did::Moved
-}
-
-/// Returns whether a kind word is of the kind.
-fn is_of_kind(word: u64, kind: Kind) -> bool
-    ensures { result ≡ same_kind (kind_of_word word) kind }
-{
-    kind_numbered(kind_number(word)) == kind
 }
 
 /// Returns the parts of the thread that a duty's effect depends on. `rows` is the number of rows of all threads
@@ -171,13 +154,9 @@ pub fn act(
             do_duty(memory, layout, number, thread, &duty);
             Ok(Did::Moved)
         }
-        Start::Asking {
-            duty,
-            kind,
-            otherwise,
-        } => {
+        Start::Asking { duty, question } => {
             let found = do_duty(memory, layout, number, thread, &duty);
-            answer(thread, kind, otherwise, found);
+            answer(thread, &question, found);
             Ok(Did::Moved)
         }
         Start::Locking { row, left, next } => {
@@ -242,13 +221,13 @@ fn may_claim(layout: Layout, number: u8, thread: &Thread, row: u32) -> bool
     requires { 0 < layout.rows }
     ensures { result ≡ may_claim layout number (actor_of thread.now) row }
 {
-    match thread.stage {
-        Stage::Idle => {
+    match thread.mode {
+        Mode::Idle => {
             is_running(thread.status)
                 && thread.agenda.is_empty()
                 && block_of(layout, row) == u32::from(number)
                 && index_of(layout, number, row) < thread.used
         }
-        Stage::InCall | Stage::Exiting => false,
+        Mode::InCall | Mode::Inside(_) | Mode::Exiting => false,
     }
 }

@@ -17,6 +17,7 @@ mod lock;
 mod merge;
 mod release;
 mod retain;
+mod swap;
 
 /// The duties that replace a duty once it is done, in the order in which the thread does them.
 #[derive(Clone, Copy, Debug)]
@@ -117,6 +118,7 @@ impl Doer {
             Duty::LockGate { row } => self.lock_gate(row, found),
             Duty::UnlockGate { .. } => self.unlock_gate(),
             Duty::CellLoad { .. } => self.cell_load(found),
+            Duty::CellSwap { item, .. } => self.cell_swap(item, found),
         }
     }
 

@@ -4,7 +4,7 @@ ghost use Rattle.brc_world.specs.Actors.{actor_of};
 
 use crate::no_memory::NoMemory;
 use crate::rows::FRONT_ROWS;
-use crate::thread::{ROOM, Stage, Thread};
+use crate::thread::{Mode, ROOM, Thread};
 use brc_model::{Call, Status};
 use std::alloc::Global;
 
@@ -16,7 +16,7 @@ pub fn first_threads(alloc: Global, calls: &[Call]) -> Result<Vec<Thread>, NoMem
     let mut threads = Vec::with_capacity(alloc, 1 + calls.len())?;
     threads.push(Thread {
         function: 0,
-        stage: Stage::Idle,
+        mode: Mode::Idle,
         left: 0,
         at: 0,
         variables: [None; 16],
@@ -29,7 +29,7 @@ pub fn first_threads(alloc: Global, calls: &[Call]) -> Result<Vec<Thread>, NoMem
     for call in calls {
         threads.push(Thread {
             function: call.function,
-            stage: Stage::Idle,
+            mode: Mode::Idle,
             left: call.times,
             at: 0,
             variables: [None; 16],

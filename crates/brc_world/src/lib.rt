@@ -12,6 +12,7 @@ mod first;
 mod laws;
 mod memory;
 mod no_memory;
+mod question;
 mod rows;
 mod run;
 mod states;

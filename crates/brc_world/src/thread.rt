@@ -4,7 +4,7 @@ ghost use Rattle.std.specs.Prelude.{◌≡◌, ◌≤◌, slice_set, vec_capacit
 ghost use Rattle.brc_model.specs.Threads.{row_of};
 
 use brc_lang::Variable;
-use brc_model::{Duty, Status};
+use brc_model::{Duty, Stage, Status};
 use std::fmt;
 
 /// The row that each variable names, or `None` for an empty variable.
@@ -16,11 +16,13 @@ pub const ROOM: usize = 8;
 
 /// Whether a thread is in a call, between calls or exiting.
 #[derive(Clone, Copy, Debug)]
-pub enum Stage {
+pub enum Mode {
     /// Before its first call, between two calls or after the last.
     Idle,
     /// Before an instruction of a call.
     InCall,
+    /// Inside an instruction that uses a cell of a list, after its first step.
+    Inside(Stage),
     /// Its exit has begun.
     Exiting,
 }
@@ -30,10 +32,10 @@ pub enum Stage {
 pub struct Thread {
     /// The number of the function that it calls.
     pub function: usize,
-    pub stage: Stage,
+    pub mode: Mode,
     /// The number of calls that it still has to make, without the current one.
     pub left: u32,
-    /// In a call, the number of the next instruction.
+    /// In a call, the number of the next instruction, or of the one that the thread is inside of.
     pub at: usize,
     /// In a call, the rows that its variables name.
     pub variables: Variables,
@@ -66,18 +68,18 @@ impl Thread {
 
     /// Puts the thread at the instruction `at` of a call after which `left` calls remain.
     pub fn go_to(&mut self, left: u32, at: usize)
-        ensures { self.new ≡ record self.old { stage = Stage.InCall; left = left; at = at } }
+        ensures { self.new ≡ record self.old { mode = Mode.InCall; left = left; at = at } }
     {
-        self.stage = Stage::InCall;
+        self.mode = Mode::InCall;
         self.left = left;
         self.at = at;
     }
 
     /// Ends the call, with `left` calls still to make.
     pub fn rest(&mut self, left: u32)
-        ensures { self.new ≡ record self.old { stage = Stage.Idle; left = left } }
+        ensures { self.new ≡ record self.old { mode = Mode.Idle; left = left } }
     {
-        self.stage = Stage::Idle;
+        self.mode = Mode::Idle;
         self.left = left;
     }
 }
@@ -88,7 +90,7 @@ impl fmt::Debug for Thread {
     fn fmt<W: fmt::Write>(&self, f: &mut fmt::Formatter<W>) -> fmt::Result {
         let Thread {
             function,
-            stage,
+            mode,
             left,
             status,
             agenda,
@@ -99,11 +101,11 @@ impl fmt::Debug for Thread {
         } = self;
         write!(
             f,
-            "{function} {stage:?} {left} {status:?} {agenda:?} {head} {used} {locked:?}"
+            "{function} {mode:?} {left} {status:?} {agenda:?} {head} {used} {locked:?}"
         )?;
-        match stage {
-            Stage::InCall => write!(f, " {} {:?}", self.at, self.variables),
-            Stage::Idle | Stage::Exiting => Ok(()),
+        match mode {
+            Mode::InCall | Mode::Inside(_) => write!(f, " {} {:?}", self.at, self.variables),
+            Mode::Idle | Mode::Exiting => Ok(()),
         }
     }
 }

@@ -1,6 +1,6 @@
--- Births, looks at a kind and a cell, locks and deallocations, computed by the definitions that the code's contracts
--- cite. Today's instructions make numbers and lists alone, so no run of a module shows files and sockets. The object is
--- in row 7, and thread 3, which has used four rows, makes and deallocates it.
+-- Births, looks at a kind and a cell, locks, swaps of cells and deallocations, computed by the definitions that the
+-- code's contracts cite. The instructions make numbers and lists alone, so no run of a module shows files and sockets.
+-- The object is in row 7, and thread 3, which has used four rows, makes and deallocates it.
 use Rattle.std.proofs.Common.{◌≡◌, ℕ, List, [], ◌∷◌, true, map, refl, None, Some}
 use Rattle.brc_model.specs.declared.duty.Duty.{Duty}
 use Rattle.brc_model.specs.declared.duty.Duty.TheVariants.{
@@ -16,8 +16,10 @@ use Rattle.brc_model.specs.declared.duty.Duty.TheVariants.{
   LockGate,
   UnlockGate,
   CellLoad,
+  CellSwap,
+  ReleaseLoad,
 }
-use Rattle.brc_model.specs.declared.duty.Holding.TheVariants.{InFlight}
+use Rattle.brc_model.specs.declared.duty.Holding.TheVariants.{InFlight, ByVariable}
 use Rattle.brc_model.specs.declared.address.Address.TheVariants.{KindOf, Cell, Slot, Local, Resource, Gate}
 use Rattle.brc_model.specs.declared.layout.Layout.{Layout}
 use Rattle.brc_model.specs.Duties.{address_of, new_word, continuation}
@@ -134,3 +136,21 @@ items-hold = refl
 
 items-lead_to : map (λ (w : ℕ). continuation four 3 true 0 (CellLoad 7 2) w) (0 ∷ 9 ∷ []) ≡ [] ∷ [] ∷ []
 items-lead_to = refl
+
+-- Thread 3 stores the object of row 9, which its variable 2 names, in cell 0 of the list of row 7, and releases what it
+-- finds there: nothing, the object of row 8, or the list itself.
+swap : Duty
+swap = CellSwap 7 0 9 (ByVariable 2)
+
+swaps-are_at : address_of four 3 0 swap ≡ Cell 7 0
+unfolding swap
+swaps-are_at = refl
+
+swaps-leave : map (λ (w : ℕ). new_word 3 0 swap w) (0 ∷ 9 ∷ 8 ∷ []) ≡ 10 ∷ 10 ∷ 10 ∷ []
+unfolding swap
+swaps-leave = refl
+
+swaps-lead_to : map (λ (w : ℕ). continuation four 3 true 0 swap w) (0 ∷ 9 ∷ 8 ∷ [])
+    ≡ [] ∷ (ReleaseLoad 8 InFlight ∷ []) ∷ (ReleaseLoad 7 InFlight ∷ []) ∷ []
+unfolding swap
+swaps-lead_to = refl

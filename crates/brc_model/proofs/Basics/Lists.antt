@@ -119,15 +119,23 @@ map-set f (y ∷ ys) zero x = refl
 map-set f (y ∷ ys) (suc i) x = ap (λ zs. f y ∷ zs) (map-set f ys i x)
 
 -- If a property holds of the new element, and held of all the others, it holds of each element after the write.
-pub written_actor : {A : Type 0} (P : ℕ → A → Type 0) (actors : List A) (t : ℕ) (a after : A)
-    → slice_get actors t ≡ Some a → P t after → ((u : ℕ) (b : A) → slice_get actors u ≡ Some b → P u b)
+pub written_others : {A : Type 0} (P : ℕ → A → Type 0) (actors : List A) (t : ℕ) (a after : A)
+    → slice_get actors t ≡ Some a → P t after
+    → ((u : ℕ) (b : A) → u ≢ t → slice_get actors u ≡ Some b → P u b)
     → (u : ℕ) (b : A) → slice_get (slice_set actors t after) u ≡ Some b → P u b
-written_actor P actors t a after found own others u b is =
+written_others P actors t a after found own others u b is =
     elim (eqb_tells u t) [
       | inl same ↦
           let now : Some after ≡ Some b =
           sym (ap (slice_get (slice_set actors t after)) same.1
           ∙ slice_get-set_same actors t after (slice_get_within actors t a found)) ∙ is in
           subst (P u) (some_is after b now) (subst (λ (w : ℕ). P w after) (sym same.1) own)
-      | inr apart ↦ others u b (sym (slice_get-set_other actors t u after apart.1) ∙ is)
+      | inr apart ↦ others u b apart.1 (sym (slice_get-set_other actors t u after apart.1) ∙ is)
     ]
+
+-- The same, if it held of the element that is replaced, too.
+pub written_actor : {A : Type 0} (P : ℕ → A → Type 0) (actors : List A) (t : ℕ) (a after : A)
+    → slice_get actors t ≡ Some a → P t after → ((u : ℕ) (b : A) → slice_get actors u ≡ Some b → P u b)
+    → (u : ℕ) (b : A) → slice_get (slice_set actors t after) u ≡ Some b → P u b
+written_actor P actors t a after found own others =
+    written_others P actors t a after found own (λ u b apart. others u b)

@@ -39,7 +39,7 @@ use Rattle.brc_model.specs.Accounts.{Account, Accounts, lacks}
 use Rattle.brc_model.specs.OpenWork.{exits, is_about}
 use Rattle.brc_model.specs.Invariant.{CoreInvariant, Invariant}
 use Rattle.brc_model.proofs.Dispatch.Coded.{PlaceSays, PlaceFits, in_flight, idle_unlocked, is_departing, stays_elsewhere, placed_by, says_bounded}
-use Rattle.brc_model.proofs.Dispatch.Unlocked.{locking, plain_locked}
+use Rattle.brc_model.proofs.Dispatch.AtOnce.{at_once, plain_locked}
 use Rattle.brc_model.proofs.Keeping.SilentSteps.{SilentSits}
 use Rattle.brc_model.proofs.Dispatch.Begins.{scene_of, holds_plain, Backs, ByOwn, ByList, Starts, Gives, Takes, Bears, Asks, Locks, Unlocks, Loads, Swaps, Follows, Nothing, Settles, Leaves, IsTaken}
 use Rattle.brc_model.proofs.Keeping.SilentMoves.{bag_after}
@@ -82,7 +82,7 @@ pub record DutyFits (p : Module) (c : Accounts) (n : ℕ) (m : StepMachine) (t :
       (sitting a.actor (d ∷ rest)) d rest
   pub small : HasFewCells (counting m) → AreSmall (row_count m.layout) a.actor.agenda
       → AreSmall (row_count m.layout) (d ∷ rest)
-  pub plain : sum_by locking rest ≡ 0
+  pub plain : sum_by at_once rest ≡ 0
 
 abbrev pub ActionFits : Module → Accounts → ℕ → StepMachine → ℕ → StepActor → Action → Type 0
 ActionFits p c n m t a Skip = Unit {0}
@@ -110,9 +110,9 @@ duty_fits p n m t a d rest whole found alive is =
     }) in
     let c = whole.accounts in
     let own = whole.coded t a found in
-    let plain : sum_by locking (d ∷ rest) ≡ 0 = ap (sum_by locking) (sym is) ∙ own.plain in
+    let plain : sum_by at_once (d ∷ rest) ≡ 0 = ap (sum_by at_once) (sym is) ∙ own.plain in
     let unlocked = plain_locked a.actor.locked d (found_by (counting m) t a.actor d)
-    (omega (arith, plain, sum_by-cons locking d rest)) in
+    (omega (arith, plain, sum_by-cons at_once d rest)) in
     record {
       account = c t;
       says = subst (λ (w : Option ℕ). PlaceSays (code_of (slice_get p.functions a.function)) a.place w (c t)) (sym unlocked)
@@ -128,7 +128,7 @@ duty_fits p n m t a d rest whole found alive is =
         alive = alive;
       };
       small = λ few was. subst (AreSmall (row_count m.layout)) is was;
-      plain = omega (arith, plain, sum_by-cons locking d rest);
+      plain = omega (arith, plain, sum_by-cons at_once d rest);
     }
 
 -- ---- the duty is dispatched

@@ -29,7 +29,7 @@ use Rattle.brc_model.proofs.Frame.Aside.{HoldsAlone, holds_alone, alone_holds, a
 use Rattle.brc_model.proofs.Dispatch.Coded.{PlaceSays, InCode, is_departing, departing_is, stays_elsewhere, place_fits, placed_by, exited_none, says_bounded}
 use Rattle.brc_model.proofs.Dispatch.Begins.{Scene, scene_of, Backs, ByOwn, ByList, Starts, Gives, Takes, Bears, Asks, Locks, Unlocks, Loads, Swaps, Follows, Nothing, Settles, Leaves, Taken, IsTaken}
 use Rattle.brc_model.proofs.Basics.Lists.{none_some}
-use Rattle.brc_model.proofs.Dispatch.Unlocked.{locking}
+use Rattle.brc_model.proofs.Dispatch.AtOnce.{at_once}
 use Rattle.brc_model.proofs.Dispatch.Taking.{SeesKinds, dispatch_taken}
 use Rattle.brc_model.proofs.Keeping.Sits.{Sits, AtRest, sitting}
 use Rattle.brc_model.specs.declared.layout.Layout.{Layout}
@@ -318,9 +318,9 @@ starts_sit p n m t a place d rest account at alone holds bounded exited keeps st
 
 -- Nothing behind the first duty locks or unlocks.
 pub follows_plain : (layout : Layout) (t used : ℕ) (place : Place) (rest : List Duty)
-    → Follows layout t used place rest → sum_by locking rest ≡ 0
+    → Follows layout t used place rest → sum_by at_once rest ≡ 0
 follows_plain layout t used place rest follows =
-    follows_weigh layout t used place rest locking refl (λ y k. refl) follows
+    follows_weigh layout t used place rest at_once refl (λ y k. refl) follows
 
 -- the chain is empty where what is taken up begins with the exit: it never does
 pub starts_settled : (g : Scene) (head : ℕ) (place : Place) (d : Duty) (rest : List Duty)

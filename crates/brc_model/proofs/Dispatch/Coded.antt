@@ -24,7 +24,7 @@ use Rattle.brc_model.specs.References.{one_if}
 use Rattle.brc_model.specs.Accounts.{Account, HoldsNone, IsBounded, lacks_of, extra_of}
 use Rattle.brc_model.specs.OpenWork.{exits}
 use Rattle.brc_model.proofs.Dispatch.Holds.{nothing, the_root, of_variables, of_inside}
-use Rattle.brc_model.proofs.Dispatch.Unlocked.{locking}
+use Rattle.brc_model.proofs.Dispatch.AtOnce.{at_once}
 use Rattle.brc_model.proofs.Dispatch.Guards.{LocksAgree}
 use Rattle.brc_model.proofs.Dispatch.Grounded.{IsInside, AreInstructions}
 use Rattle.brc_model.proofs.Frame.Aside.{HoldsAlone}
@@ -87,8 +87,8 @@ stays_elsewhere Exiting stays = absurd (stays refl)
 pub record InCode (p : Module) (a : StepActor) (account : Account) : Type 0 where
   -- Code does one piece of work at a time.
   pub alone : a.actor.aside ≡ []
-  -- A lock and an unlock are one step each, so no agenda has one.
-  pub plain : sum_by locking a.actor.agenda ≡ 0
+  -- A lock, an unlock and a swap of a cell are one step each, so no agenda has one.
+  pub plain : sum_by at_once a.actor.agenda ≡ 0
   pub accepted : IsAcceptableCode (code_of (slice_get p.functions a.function))
   pub instructions : AreInstructions (code_of (slice_get p.functions a.function))
   pub says : PlaceSays (code_of (slice_get p.functions a.function)) a.place a.actor.locked account

@@ -1,6 +1,6 @@
 -- What slots and variables say of kinds: a slot says nothing false of the object that its variable names.
-use Rattle.std.proofs.Common.{◌≡◌, ℕ, zero, suc, ◌<◌, true, List, [], ◌∷◌, inl, inr, length, Option, Some, refl, sym, ap, ◌∙◌, subst, get_or}
-use Rattle.std.specs.Prelude.{map, slice_set}
+use Rattle.std.proofs.Common.{◌≡◌, ℕ, zero, suc, ◌<◌, true, List, inl, inr, length, Option, Some, refl, sym, ap, ◌∙◌, subst}
+use Rattle.std.specs.Prelude.{slice_set}
 use Rattle.std.proofs.lemmas.Bool.Decides.{eqb_tells}
 use Rattle.std.proofs.lemmas.Bool.{eqb-true}
 use Rattle.brc_lang.specs.declared.kind.Kind.{Kind}
@@ -17,7 +17,7 @@ use Rattle.brc_model.specs.Threads.{row_of, entry_variables}
 use Rattle.brc_model.specs.Layout.{none_row, root_row}
 use Rattle.brc_model.specs.KnownKinds.{IsTrueKind, HasTrueKind, HaveTrueKinds, KnowsKinds, AreNamed}
 use Rattle.brc_model.proofs.Basics.Lists.{some_is, get_or-replicate_default}
-use Rattle.brc_model.proofs.Dispatch.Grounded.{slot_of-put_same, slot_of-put_other, row_of-set_same, row_of-set_other}
+use Rattle.brc_model.proofs.Dispatch.Grounded.{slot_of-put_same, slot_of-put_other, slot_of-without, row_of-set_same, row_of-set_other}
 use Rattle.brc_model.proofs.Frame.Kinds.{StoredStay}
 
 -- ---- kinds of variables
@@ -107,13 +107,7 @@ true_with_kind words s rows x kind in_slots names old v =
 
 -- ---- once nothing is borrowed from the locked list any more
 
--- A variable that borrowed from the locked list is empty, and the others are as they were.
-slot_without_items : (slots : List Slot) (v : ℕ)
-    → get_or (map without_item slots) v Empty ≡ without_item (get_or slots v Empty)
-slot_without_items [] v = refl
-slot_without_items (slot ∷ slots) zero = refl
-slot_without_items (slot ∷ slots) (suc v) = slot_without_items slots v
-
+-- A variable that borrowed from the locked list is empty then, so it says nothing.
 without_item_true : (words : ℕ → ℕ) (slot : Slot) (row : Option ℕ) → HasTrueKind words slot row
     → HasTrueKind words (without_item slot) row
 without_item_true words Empty row says = says
@@ -124,7 +118,7 @@ without_item_true words (Locked k) row says = empty_true words row
 pub true_without_items : (words : ℕ → ℕ) (s : State) (rows : List (Option ℕ)) → HaveTrueKinds words s rows
     → HaveTrueKinds words (without_items s) rows
 true_without_items words s rows known v =
-    subst (λ (slot : Slot). HasTrueKind words slot (row_of rows v)) (sym (slot_without_items s.slots v))
+    subst (λ (slot : Slot). HasTrueKind words slot (row_of rows v)) (sym (slot_of-without s v))
     (without_item_true words (slot_of s v) (row_of rows v) (known v))
 
 -- ---- the kind words of none and of the root

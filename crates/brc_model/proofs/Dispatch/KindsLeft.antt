@@ -1,6 +1,6 @@
 -- What each instruction leaves in the variables: objects of the kinds that the checker says.
 use Rattle.std.proofs.Common.{◌≡◌, ℕ, zero, suc, ◌+◌, ◌<◌, ◌≤◌, List, [], ◌∷◌, ◌++◌, inl, inr, Option, None, Some, refl, sym, ap, ◌∙◌, subst, arith}
-use Rattle.std.specs.Prelude.{◌==◌, nat_lt, slice_get, slice_set}
+use Rattle.std.specs.Prelude.{◌==◌, slice_get, slice_set}
 use Rattle.std.proofs.lemmas.List.{length-set}
 use Rattle.brc_lang.specs.declared.kind.Kind.{Kind}
 use Rattle.brc_lang.specs.declared.kind.Kind.TheVariants as kinds
@@ -25,17 +25,17 @@ use Rattle.brc_model.specs.declared.slot.State.{State}
 use Rattle.brc_model.specs.declared.slot.Exit.{Exit}
 use Rattle.brc_model.specs.declared.slot.Exit.TheVariants.{Success, Fault as FaultExit}
 use Rattle.brc_model.specs.Kinds.{kind_numbered, kind_of_word, same_kind}
-use Rattle.brc_model.specs.Slots.{slot_of, kind_of, put, without_items, after, target, entry}
+use Rattle.brc_model.specs.Slots.{slot_of, kind_of, put, after, target, entry}
 use Rattle.brc_model.specs.Paths.{At, path_end, IsAcceptableCode}
 use Rattle.brc_model.specs.Threads.{code_of, row_of, entry_variables}
 use Rattle.brc_model.specs.Layout.{none_row, row_at}
 use Rattle.brc_model.specs.declared.layout.Layout.{Layout}
-use Rattle.brc_model.specs.Duties.{cells_of}
 use Rattle.brc_model.specs.Machine.{has_room}
-use Rattle.brc_model.specs.Actions.{StepActor, Action, Skip, Stuck, Silent, Does, with_row, by_range, by_item, number_word, list_word, birth_action, dispatch_instruction, dispatch_inside, dispatch, may_claim, agenda_action, status_action, action_of}
+use Rattle.brc_model.specs.Actions.{StepActor, Action, Skip, Stuck, Silent, Does, with_row, number_word, list_word, birth_action, dispatch_instruction, dispatch_inside, dispatch, may_claim, agenda_action, status_action, action_of}
 use Rattle.brc_model.specs.KnownKinds.{IsTrueKind, HasTrueKind, HaveTrueKinds, KnowsKinds, AreNamed}
 use Rattle.brc_model.proofs.Basics.Lists.{some_is, either}
 use Rattle.brc_model.proofs.Dispatch.Grounded.{IsInside, AreInstructions, entry_in_call}
+use Rattle.brc_model.proofs.Dispatch.Decided.{range_decides, item_decides}
 use Rattle.brc_model.proofs.Dispatch.Passing.{passes_on}
 use Rattle.brc_model.specs.Accounts.{Account}
 use Rattle.brc_model.proofs.Dispatch.Coded.{PlaceSays}
@@ -100,18 +100,6 @@ knows_here : (code : List Instr) (words : ℕ → ℕ) (at : ℕ) (variables : L
 knows_here code words at variables s i here exits other arrived =
     subst (λ (state : State). HaveTrueKinds words state variables)
     (here.accepted.states_agree here.inside.exits exits at s other here.inside.arrived arrived) here.known
-
--- What holds of the places for each answer of the list's kind word holds of the one that it decides.
-range_leaves : (P : Place → Type 0) (inside outside : Place) (index found : ℕ) → P inside → P outside
-    → P (by_range index inside outside found)
-range_leaves P inside outside index found within past =
-    either P (nat_lt index (cells_of found)) inside outside (λ has. within) past
-
--- The same for each word of a cell.
-item_leaves : (P : Place → Type 0) (empty : Place) (holds : ℕ → Place) (found : ℕ) → P empty
-    → ((item : ℕ) → P (holds item)) → P (by_item empty holds found)
-item_leaves P empty holds zero none some = none
-item_leaves P empty holds (suc item) none some = some item
 
 -- A birth leaves an object of its kind word's kind.
 birth_leaves : (code : List Instr) (words : ℕ → ℕ) (layout : Layout) (t used left at : ℕ) (variables : List (Option ℕ))
@@ -192,27 +180,27 @@ instruction_leaves code words layout t used before left at variables s (Unlock o
     (true_without_items words s variables here.known))
 instruction_leaves code words layout t used before left at variables s (Borrow to list index otherwise) knew here =
     row_leaves code words (row_of variables list) _ (λ row is found seen.
-    range_leaves (KnowsKinds code words) (Inside left at variables InRange)
+    range_decides (KnowsKinds code words) (Inside left at variables InRange)
     (InCall left otherwise (slice_set variables to None)) index found
-    (knows_here code words at variables s (Borrow to list index otherwise) here)
+    (λ has. knows_here code words at variables s (Borrow to list index otherwise) here)
     (goes_on_put code words left at otherwise variables s (Borrow to list index otherwise) FaultExit to Empty None here
     refl refl here.operands.0 (empty_true words None)))
 instruction_leaves code words layout t used before left at variables s (Fetch to list index otherwise) knew here =
     row_leaves code words (row_of variables list) _ (λ row is found seen.
-    range_leaves (KnowsKinds code words) (Inside left at variables InRange)
+    range_decides (KnowsKinds code words) (Inside left at variables InRange)
     (InCall left otherwise (slice_set variables to None)) index found
-    (knows_here code words at variables s (Fetch to list index otherwise) here)
+    (λ has. knows_here code words at variables s (Fetch to list index otherwise) here)
     (goes_on_put code words left at otherwise variables s (Fetch to list index otherwise) FaultExit to Empty None here
     refl refl here.operands.0 (empty_true words None)))
 instruction_leaves code words layout t used before left at variables s (Set list index from otherwise) knew here =
     row_leaves code words (row_of variables list) _ (λ row is found seen.
     let within = knows_here code words at variables s (Set list index from otherwise) here in
-    range_leaves (KnowsKinds code words) (Inside left at variables InRange) (Inside left at variables OutOfRange) index
-    found within within)
+    range_decides (KnowsKinds code words) (Inside left at variables InRange) (Inside left at variables OutOfRange) index
+    found (λ has. within) within)
 instruction_leaves code words layout t used before left at variables s (Put list index from otherwise) knew here =
     row_leaves code words (row_of variables list) _ (λ row is found seen.
-    range_leaves (KnowsKinds code words) (Inside left at variables InRange) (InCall left otherwise variables) index found
-    (knows_here code words at variables s (Put list index from otherwise) here)
+    range_decides (KnowsKinds code words) (Inside left at variables InRange) (InCall left otherwise variables) index found
+    (λ has. knows_here code words at variables s (Put list index from otherwise) here)
     (goes_on code words left at otherwise variables variables s (Put list index from otherwise) FaultExit here refl
     (true_without_items words s variables here.known)))
 instruction_leaves code words layout t used before left at variables s (As from kind otherwise) knew here =
@@ -254,20 +242,21 @@ inside_leaves : (code : List Instr) (words : ℕ → ℕ) (left at : ℕ) (varia
     → Leaves code words (dispatch_inside left at variables stage (Some i))
 inside_leaves code words left at variables InRange s (Borrow to list index otherwise) here =
     row_leaves code words (row_of variables list) _ (λ row is found seen.
-    item_leaves (KnowsKinds code words) (InCall left otherwise (slice_set variables to None))
-    (λ item. InCall left (at + 1) (slice_set variables to (Some item))) found
+    item_decides (λ word. KnowsKinds code words) (InCall left otherwise (slice_set variables to None))
+    (λ item. InCall left (at + 1) (slice_set variables to (Some item)))
     (goes_on_put code words left at otherwise variables s (Borrow to list index otherwise) FaultExit to Empty None here
     refl refl here.operands.0 (empty_true words None))
     (λ item.
     goes_on_put code words left at (at + 1) variables s (Borrow to list index otherwise) Success to (Locked kinds.Any)
-    (Some item) here refl refl here.operands.0 (any_true words (Locked kinds.Any) (Some item) refl)))
+    (Some item) here refl refl here.operands.0 (any_true words (Locked kinds.Any) (Some item) refl))
+    found)
 inside_leaves code words left at variables InRange s (Fetch to list index otherwise) here =
     row_leaves code words (row_of variables list) _ (λ row is found seen.
-    item_leaves (KnowsKinds code words) (InCall left otherwise (slice_set variables to None))
-    (λ item. Inside left at variables (Found item)) found
+    item_decides (λ word. KnowsKinds code words) (InCall left otherwise (slice_set variables to None))
+    (λ item. Inside left at variables (Found item))
     (goes_on_put code words left at otherwise variables s (Fetch to list index otherwise) FaultExit to Empty None here
     refl refl here.operands.0 (empty_true words None))
-    (λ item. knows_here code words at variables s (Fetch to list index otherwise) here))
+    (λ item. knows_here code words at variables s (Fetch to list index otherwise) here) found)
 inside_leaves code words left at variables (Found item) s (Fetch to list index otherwise) here = λ found seen.
     goes_on_put code words left at (at + 1) variables s (Fetch to list index otherwise) Success to (Owned kinds.Any)
     (Some item) here refl refl here.operands.0 (any_true words (Owned kinds.Any) (Some item) refl)

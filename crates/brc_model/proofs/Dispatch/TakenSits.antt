@@ -29,7 +29,7 @@ use Rattle.brc_model.proofs.Dispatch.Begun.{starts_leave, follows_leave, starts_
 use Rattle.brc_model.proofs.Dispatch.Coded.{PlaceSays, InCode, is_departing, departing_is, stays_elsewhere, place_fits, placed_by, exited_none, says_bounded}
 use Rattle.brc_model.proofs.Dispatch.Begins.{Scene, scene_of, Starts, Gives, Takes, Bears, Asks, Locks, Unlocks, Follows, Nothing, Settles, Leaves, Taken, IsTaken}
 use Rattle.brc_model.proofs.Basics.Lists.{none_some}
-use Rattle.brc_model.proofs.Dispatch.Unlocked.{locking}
+use Rattle.brc_model.proofs.Dispatch.AtOnce.{at_once}
 use Rattle.brc_model.proofs.Dispatch.Taking.{SeesKinds, dispatch_taken}
 use Rattle.brc_model.proofs.Keeping.Sits.{Sits, AtRest, sitting}
 use Rattle.brc_model.specs.declared.layout.Layout.{Layout}

@@ -23,19 +23,18 @@ use Rattle.brc_model.specs.declared.actor.Stage.{Stage}
 use Rattle.brc_model.specs.Actions.{Does, always, dispatch_instruction, dispatch, dispatch_inside}
 use Rattle.brc_model.proofs.Basics.Bag.{held-le-references_to}
 use Rattle.brc_model.specs.References.{held, one_if, reference_of}
-use Rattle.brc_model.proofs.Basics.Lists.{either, first_false, none_some, get_or-replicate_default}
+use Rattle.brc_model.proofs.Basics.Lists.{either, first_false, none_some}
 use Rattle.brc_model.proofs.Dispatch.Holds.{the_root, of_variables, Holds, holds-ended, holds-entered, of_inside}
 use Rattle.brc_model.proofs.Dispatch.Grounded.{IsInside, AreInstructions, owned_slot, owned_row, grounded-put, grounded-with_kind, says-with_kind, entry_in_call}
 use Rattle.brc_model.proofs.Dispatch.Guards.{LocksAgree, HeldBeside, guards-put, guards-with_kind, guards_none}
 use Rattle.brc_model.proofs.Dispatch.Standing.{named_at, given_referenced, keeps_all, keeps_given}
 use Rattle.brc_model.specs.KnownKinds.{HaveTrueKinds, KnowsKinds}
-use Rattle.brc_model.specs.Items.{borrows_item, HaveItems, KnowsItems, StageKnows}
-use Rattle.brc_model.specs.declared.address.Address.{Address}
-use Rattle.std.proofs.lemmas.Bool.{false≢true}
+use Rattle.brc_model.specs.Items.{HaveItems, KnowsItems, StageKnows}
 use Rattle.brc_model.proofs.Dispatch.TakingBirths.{num_taken, list_taken}
 use Rattle.brc_model.proofs.Dispatch.TakingLocks.{lock_taken, unlock_taken}
 use Rattle.brc_model.proofs.Dispatch.TakingItems.{borrow_taken, fetch_taken, set_taken, put_taken}
 use Rattle.brc_model.proofs.Dispatch.TakingStores.{inside_taken}
+use Rattle.brc_model.proofs.Dispatch.Items.{entry_items}
 use Rattle.brc_model.proofs.Dispatch.Passing.{passes_on}
 use Rattle.brc_model.proofs.Stepping.Counts.{flip_eqb}
 use Rattle.brc_model.proofs.Frame.Aside.{HoldsAlone}
@@ -340,14 +339,6 @@ exit_held bag t holds AsCaller object =
     omega (arith, holds.each AsCaller object, flipped)
 exit_held bag t holds InFlight object = omega (arith, holds.each InFlight object)
 exit_held bag t holds (ByVariable v) object = omega (arith, holds.each (ByVariable v) object)
-
--- At the beginning of a call no variable borrows from a list.
-entry_items : (memory : Address → ℕ) (locked : Option ℕ) → HaveItems memory locked entry entry_variables
-entry_items memory locked zero x borrows is = absurd cc
-entry_items memory locked (suc v) x borrows is =
-    let none : borrows_item (slot_of entry (suc v)) ≡ false =
-    ap borrows_item (get_or-replicate_default 15 v Empty) in
-    absurd (false≢true (sym none ∙ borrows))
 
 -- What a thread at rest takes up meets its condition, whatever it dispatches.
 pub dispatch_taken : (code : List Instr) (g : Scene) (place : Place)

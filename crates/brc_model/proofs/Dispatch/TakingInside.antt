@@ -1,6 +1,6 @@
 -- What a thread inside `borrow` or `fetch` takes up meets its condition, and what a thread inside an instruction that
 -- uses a cell knows.
-use Rattle.std.proofs.Common.{◌≡◌, ◌≢◌, ℕ, zero, suc, ◌+◌, ◌<◌, Bool, true, false, List, [], ◌∷◌, ◌++◌, length, Option, None, Some, refl, sym, ap, ◌∙◌, subst, arith, inl, inr}
+use Rattle.std.proofs.Common.{◌≡◌, ◌≢◌, ℕ, suc, ◌+◌, ◌<◌, Bool, true, false, List, [], ◌∷◌, ◌++◌, length, Option, None, Some, refl, sym, ap, ◌∙◌, subst, arith, inl, inr}
 use Rattle.std.specs.Prelude.{◌==◌, ◌&&◌, slice_get, slice_set}
 use Rattle.std.proofs.lemmas.Bool.{eq-eqb}
 use Rattle.std.proofs.lemmas.List.{length-set, length-map}
@@ -38,13 +38,8 @@ use Rattle.brc_model.proofs.Dispatch.Guards.{HeldLocked, HeldBeside, guards-put,
 use Rattle.brc_model.proofs.Dispatch.Coded.{once_each, in_flight}
 use Rattle.brc_model.proofs.Dispatch.Begins.{Scene, words_of, StandsInside, Backs, ByOwn, ByList, Gives, Takes, Loads, Swaps, Nothing, Settles, Taken, IsTaken, taken_with_row, in_call_stays, inside_stays, newref_held, emptied_held, unowned_held, cleared_held}
 use Rattle.brc_model.proofs.Dispatch.Standing.{Named, named_slot, given_referenced}
+use Rattle.brc_model.proofs.Dispatch.Decided.{item_decides}
 use Rattle.brc_model.proofs.Dispatch.TakingItems.{inside_fits, holds_nothing_in_flight}
-
--- The word that the cell holds decides the place.
-by_found : (P : ℕ → Place → Type 0) (empty : Place) (there : ℕ → Place) → P 0 empty
-    → ((item : ℕ) → P (suc item) (there item)) → (found : ℕ) → P found (by_item empty there found)
-by_found P empty there none some zero = none
-by_found P empty there none some (suc item) = some item
 
 -- ---- what the thread knows inside an instruction
 
@@ -208,7 +203,7 @@ module _ (code : List Instr) (g : Scene) (left at : ℕ) (rows : List (Option �
       } in
       taken_with_row code g row (row_of rows list)
       (λ x. Does (CellLoad x index) [] (by_item empty there)) named.is_row
-      (λ found. by_found (λ (word : ℕ) (place : Place). Taken code g word place (CellLoad row index) []) empty there
+      (λ found. item_decides (λ (word : ℕ) (place : Place). Taken code g word place (CellLoad row index) []) empty there
       (nothing_found i to row index otherwise 0 here refl here.variables.0 free unlocked named.backs has within
       (here.leads Fault otherwise refl)) found_item found)
 
@@ -238,7 +233,7 @@ module _ (code : List Instr) (g : Scene) (left at : ℕ) (rows : List (Option �
       } in
       taken_with_row code g row (row_of rows list)
       (λ x. Does (CellLoad x index) [] (by_item empty there)) named.is_row
-      (λ found. by_found (λ (word : ℕ) (place : Place). Taken code g word place (CellLoad row index) []) empty there
+      (λ found. item_decides (λ (word : ℕ) (place : Place). Taken code g word place (CellLoad row index) []) empty there
       (nothing_found i to row index otherwise 0 here refl here.variables.0 free unlocked named.backs has within
       (here.leads Fault otherwise refl)) found_item found)
 

@@ -71,6 +71,7 @@ births_begin p n m t a word counts ready worker has_room counted_kind few =
     let bounded = (core.each t a ready.found).0.bounded in
     work_begins p n m t a x (BirthKind x AsCaller word) (with_one_more (p t) AsCaller x) counts ready alone (record {
       begins = birth_begins x word;
+      no_flight = λ object. omega (arith, counts.no_flight t object);
       holds = λ k object. omega (arith, holds.each k object);
       bounded = more_bounded m.layout (p t) x bounded (λ c. omega (arith, none));
       locks =

@@ -19,20 +19,23 @@ use Rattle.brc_model.specs.OpenWork.{IsSettled, exits}
 use Rattle.brc_model.proofs.Keeping.CodeInvariant.{CodeInvariant, KeepsOn, coded_set}
 use Rattle.brc_model.proofs.Keeping.SilentSteps.{silenced, silent_core, silent_allowed}
 use Rattle.brc_model.proofs.Dispatch.Counting.{counting_silent, counting_done}
-use Rattle.brc_model.proofs.Dispatch.Unlocked.{plain_after}
+use Rattle.brc_model.proofs.Dispatch.AtOnce.{plain_after}
 use Rattle.brc_model.proofs.Dispatch.Fit.{choice_fit}
 use Rattle.brc_model.proofs.Keeping.KindsHold.{thread_holds}
+use Rattle.brc_model.proofs.Keeping.ItemsHold.{thread_items}
 use Rattle.brc_model.specs.KnownKinds.{KindsHold}
+use Rattle.brc_model.specs.Items.{ItemsAreThere}
 use Rattle.brc_model.proofs.Dispatch.Actions.{ActionFits, action_fits}
 
 -- An action that fits its thread keeps both layers of the invariant and isn't bad.
 action_keeps : (p : Module) (n : ℕ) (m : StepMachine) (t : ℕ) (a : StepActor) (x : Action)
     → (whole : CodeInvariant p n m)
     → slice_get m.actors t ≡ Some a → ActionFits p whole.accounts n m t a x → KindsHold (machine_by m t a x)
+    → ItemsAreThere (machine_by m t a x)
     → KeepsOn p n (is_bad_action m t a x) (machine_by m t a x)
-action_keeps p n m t a Skip whole found fits kinds = (refl, whole)
-action_keeps p n m t a Stuck whole found fits kinds = absurd fits
-action_keeps p n m t a (Silent moves place) whole found fits kinds =
+action_keeps p n m t a Skip whole found fits kinds items = (refl, whole)
+action_keeps p n m t a Stuck whole found fits kinds items = absurd fits
+action_keeps p n m t a (Silent moves place) whole found fits kinds items =
     let c = whole.accounts in
     let new = with_account c t fits.account in
     let own = whole.coded t a found in
@@ -54,6 +57,7 @@ action_keeps p n m t a (Silent moves place) whole found fits kinds =
         functions = whole.functions;
         mortal = whole.mortal;
         kinds = kinds;
+        items = items;
         coded =
             coded_set p c m.actors t a (at_place a place) fits.account
             found
@@ -67,7 +71,7 @@ action_keeps p n m t a (Silent moves place) whole found fits kinds =
             }) whole.coded;
       },
     )
-action_keeps p n m t a (Does d rest place) whole found fits kinds =
+action_keeps p n m t a (Does d rest place) whole found fits kinds items =
     let c = whole.accounts in
     let new = with_account c t fits.account in
     let now = sitting a.actor (d ∷ rest) in
@@ -85,6 +89,7 @@ action_keeps p n m t a (Does d rest place) whole found fits kinds =
         functions = whole.functions;
         mortal = whole.mortal;
         kinds = kinds;
+        items = items;
         coded =
             coded_set p c m.actors t a (step_actor m.layout t a d rest (place word) word) fits.account found
             (record {
@@ -110,7 +115,8 @@ thread_keeps p n m t choice None whole found = (refl, whole)
 thread_keeps p n m t choice (Some a) whole found =
     let kept =
     action_keeps p n m t a (action_of m.functions m.layout t a choice) whole found
-    (action_fits p n m t a choice whole found) (thread_holds p n m t choice (Some a) whole found) in
+    (action_fits p n m t a choice whole found) (thread_holds p n m t choice (Some a) whole found)
+    (thread_items p n m t choice (Some a) whole found) in
     (ap (λ (b : Bool). b || chooses_unfit m a choice) kept.0 ∙ choice_fit p n m t a choice whole found, kept.1)
 
 -- No event is bad, and each keeps both layers of the invariant.

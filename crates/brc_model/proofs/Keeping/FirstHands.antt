@@ -1,5 +1,5 @@
 -- The first machine of hands has the invariant: main holds the root, and no worker holds anything.
-use Rattle.std.proofs.Common.{◌≡◌, ℕ, zero, suc, ◌+◌, Bool, refl, sym, ap, ◌∙◌, arith}
+use Rattle.std.proofs.Common.{◌≡◌, ℕ, zero, suc, ◌+◌, Bool, refl, sym, ap, ◌∙◌, arith, true, false}
 use Rattle.std.specs.Prelude.{◌==◌, ◌&&◌}
 use Rattle.std.proofs.Math.Dec.{eqb-suc-zero}
 use Rattle.brc_model.specs.declared.duty.Holding.{Holding}
@@ -37,6 +37,14 @@ hands_rooted layout plain = record {
   no_lists = plain.immortals;
 }
 
+-- No hand has a reference in flight at first.
+hands_flight : (t object : ℕ) → hands_accounts t InFlight object ≡ 0
+hands_flight t object =
+    elim (t == 0) as (λ b. one_if (b && false) ≡ 0) [
+      | true ↦ refl
+      | false ↦ refl
+    ]
+
 pub hands_begin : (layout : Layout) → IsPlainLayout layout
     → Counts hands_accounts (1 + layout.workers) (hands_machine layout)
 hands_begin layout plain = record {
@@ -46,4 +54,5 @@ hands_begin layout plain = record {
   ranges = rooted_ranges layout 1;
   no_cells = λ x i. refl;
   no_swaps = no_weight swaps layout.workers;
+  no_flight = hands_flight;
 }

@@ -29,7 +29,7 @@ use Rattle.brc_model.proofs.Frame.Beside.{one_more_elsewhere}
 use Rattle.brc_model.proofs.Frame.Known.{LeavesRow, known_kept}
 use Rattle.brc_model.proofs.Frame.Others.{LeavesOthers, each_fits}
 use Rattle.brc_model.proofs.Stepping.Counts.{same_is}
-use Rattle.brc_model.proofs.Keeping.Replaced.{with_account_same, with_account_other}
+use Rattle.brc_model.proofs.Keeping.Replaced.{flight_with, with_account_same, with_account_other}
 use Rattle.brc_model.proofs.Keeping.WorkBegins.{more_bounded}
 
 -- the machine with one reference more, which the thread holds as the caller
@@ -232,4 +232,7 @@ immortals_are_free p n m t a x counts ready alone immortal = record {
   };
   no_cells = counts.no_cells;
   no_swaps = counts.no_swaps;
+  no_flight =
+      flight_with p t (with_one_more (p t) AsCaller x) counts.no_flight
+      (λ object. omega (arith, counts.no_flight t object));
 }

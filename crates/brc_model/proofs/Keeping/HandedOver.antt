@@ -19,7 +19,7 @@ use Rattle.brc_model.proofs.Stepping.Locked.{making_none}
 use Rattle.brc_model.proofs.Keeping.Locks.{more_locks, less_locks}
 use Rattle.brc_model.proofs.Basics.Bag.{other_thread, references_to-cons, references_to-without}
 use Rattle.brc_model.proofs.Basics.MovesApart.{AreAside, moved_aside}
-use Rattle.brc_model.proofs.Keeping.Replaced.{with_account_other}
+use Rattle.brc_model.proofs.Keeping.Replaced.{flight_with, with_account_other}
 use Rattle.brc_model.proofs.Keeping.Moved.{each_moved, still_watched, moved_fits}
 use Rattle.brc_model.proofs.Keeping.OneReference.{account_held, held_elsewhere, held_besides, holds_less, holds_more, bounded_less, bounded_more}
 
@@ -201,4 +201,8 @@ handed_over p n m t u a b x counts giver taker apart giver_free taker_free taker
   };
   no_cells = counts.no_cells;
   no_swaps = counts.no_swaps;
+  no_flight =
+      flight_with (with_account p t (with_one_less (p t) AsCaller x)) u (with_one_more (p u) AsCaller x)
+      (flight_with p t (with_one_less (p t) AsCaller x) counts.no_flight
+      (λ object. omega (arith, counts.no_flight t object))) (λ object. omega (arith, counts.no_flight u object));
 }

@@ -7,11 +7,9 @@ use Rattle.brc_lang.specs.declared.module.Function.{Function}
 use Rattle.brc_model.specs.declared.thread.Call.{Call}
 use Rattle.brc_model.specs.declared.thread.Choice.{Choice}
 use Rattle.brc_model.specs.declared.actor.Place.{Place}
-use Rattle.brc_model.specs.declared.actor.Place.TheVariants.{InCall}
 use Rattle.brc_model.specs.declared.address.Address.TheVariants.{KindOf}
 use Rattle.brc_model.specs.declared.duty.Duty.{Duty}
 use Rattle.brc_model.specs.declared.duty.Duty.TheVariants.{KindLoad, BirthKind}
-use Rattle.brc_model.specs.declared.slot.State.{State}
 use Rattle.brc_model.specs.Paths.{IsAcceptableCode}
 use Rattle.brc_model.specs.Threads.{code_of}
 use Rattle.brc_model.specs.Actions.{StepActor, Action, Skip, Stuck, Silent, Does, action_of}
@@ -60,7 +58,7 @@ stays_shown n = record {
   does = λ p t m a d rest doing. stored_at_duty p n m t a d rest (at_duty doing);
 }
 
-thread_stored : (p : Module) (n : ℕ) (m : StepMachine) (t : ℕ) (choice : Choice) (o : Option StepActor)
+pub thread_stored : (p : Module) (n : ℕ) (m : StepMachine) (t : ℕ) (choice : Choice) (o : Option StepActor)
     → CodeInvariant p n m → slice_get m.actors t ≡ o
     → StoredStay (kind_words m)
     (kind_words (of_thread m (λ a. machine_by m t a (action_of m.functions m.layout t a choice)) o))

@@ -1,13 +1,14 @@
 -- A thread with new work, another place or another account: if its duties weigh what they weighed before, the core
 -- invariant still holds. Memory, references and lives are unchanged.
-use Rattle.std.proofs.Common.{◌≡◌, ◌≢◌, ℕ, Bool, true, cond, List, inl, inr, Some, refl, sym, ap, ◌∙◌, subst, arith}
-use Rattle.std.specs.Prelude.{slice_get, slice_set}
+use Rattle.std.proofs.Common.{◌≡◌, ◌≢◌, ℕ, Bool, true, false, cond, List, inl, inr, Some, refl, sym, ap, ◌∙◌, subst, arith}
+use Rattle.std.specs.Prelude.{◌==◌, slice_get, slice_set}
 use Rattle.std.proofs.lemmas.Bool.{eq-eqb, ne_eqb}
 use Rattle.std.proofs.Math.Path.{fun_ext}
 use Rattle.std.proofs.lemmas.Bool.Decides.{eqb_tells}
 use Rattle.std.proofs.lemmas.List.{length-set}
 use Rattle.std.proofs.lemmas.Option.{slice_get_within}
 use Rattle.brc_model.specs.declared.duty.Duty.{Duty}
+use Rattle.brc_model.specs.declared.duty.Holding.TheVariants.{InFlight}
 use Rattle.brc_model.specs.declared.address.Address.TheVariants.{Gate}
 use Rattle.brc_model.specs.Machine.{Actor, Machine, with_actor}
 use Rattle.brc_model.proofs.Basics.Lists.{some_is, slice_get-set_same, slice_get-set_other, written_actor}
@@ -16,7 +17,7 @@ use Rattle.brc_model.specs.RowInvariant.{waits, carries, merges, decides, agenda
 use Rattle.brc_model.specs.Accounts.{Account, Accounts}
 use Rattle.brc_model.specs.Invariant.{numbers_of, Fits, looks, IsWatched, ByRunning, ByExit, ByLook, CoreInvariant, UsesFit, BlankFits}
 use Rattle.brc_model.specs.OpenWork.{scans}
-use Rattle.brc_model.specs.Counting.{with_account}
+use Rattle.brc_model.specs.Counting.{HasNothingInFlight, with_account}
 use Rattle.brc_model.proofs.Frame.Others.{LeavesOthers, each_fits}
 use Rattle.brc_model.proofs.Frame.Locks.{gate_fits_kept}
 use Rattle.brc_model.specs.Layout.{block_of, index_of}
@@ -30,6 +31,15 @@ with_account_here p t account u this =
 
 pub with_account_other : (p : Accounts) (t : ℕ) (account : Account) (u : ℕ) → u ≢ t → p u ≡ with_account p t account u
 with_account_other p t account u ne = sym (ap (λ (b : Bool). cond b account (p u)) (ne_eqb u t ne))
+
+-- An account without a reference in flight replaces one.
+pub flight_with : (p : Accounts) (t : ℕ) (account : Account) → HasNothingInFlight p
+    → ((object : ℕ) → account InFlight object ≡ 0) → HasNothingInFlight (with_account p t account)
+flight_with p t account none new u object =
+    elim (u == t) as (λ b. cond b account (p u) InFlight object ≡ 0) [
+      | true ↦ new object
+      | false ↦ none u object
+    ]
 
 pub with_account_itself : (p : Accounts) (t : ℕ) → with_account p t (p t) ≡ p
 with_account_itself p t =

@@ -39,6 +39,7 @@ work_put_aside p n m t a d counts found is waits =
       ranges =
           working_ranges n m t a [] (d ∷ a.aside) counts.ranges found tt (small.0, counts.ranges.aside t a found);
       no_cells = counts.no_cells;
+      no_flight = counts.no_flight;
       no_swaps = replaced_swaps m.actors t a (working a [] (d ∷ a.aside)) found counts.no_swaps (omega (
         arith,
         sum_by-cons swaps d a.aside,
@@ -66,6 +67,7 @@ work_taken_back p n m t a before after d counts found none is =
       ranges =
           working_ranges n m t a (d ∷ []) (before ++ after) counts.ranges found (small.0, tt) small.1;
       no_cells = counts.no_cells;
+      no_flight = counts.no_flight;
       no_swaps = replaced_swaps m.actors t a (working a (d ∷ []) (before ++ after)) found counts.no_swaps (omega (
         arith,
         ap (sum_by swaps) is,

@@ -30,6 +30,7 @@ use Rattle.brc_model.proofs.Limits.Ranges.{row_small, referenced_small}
 use Rattle.brc_model.proofs.Objects.Weights.{agenda_weight-le}
 use Rattle.brc_model.proofs.Keeping.NoSwaps.{piece_swaps, replaced_swaps}
 use Rattle.brc_model.proofs.Keeping.Rearranging.{still_wait}
+use Rattle.brc_model.proofs.Keeping.Replaced.{flight_with}
 use Rattle.brc_model.proofs.Keeping.Sits.{AtRest, Sits}
 use Rattle.brc_model.proofs.Keeping.Kept.{kept_sits}
 use Rattle.brc_model.proofs.Keeping.WorkAside.{working_ranges}
@@ -93,6 +94,7 @@ pub record BeginsWork (x : ℕ) (d : Duty) : Type 0 where
 -- What the new work has to show, with the thread's account from then on.
 pub record TakesUp (m : Machine) (t : ℕ) (a : Actor) (x : ℕ) (d : Duty) (account : Account) : Type 0 where
   pub begins : BeginsWork x d
+  pub no_flight : (object : ℕ) → account InFlight object ≡ 0
   pub holds : (k : Holding) (object : ℕ)
       → held (reference_of t k object) m.abstract.references + one_if (lacks d k object) + lacks_aside a.aside k object
       ≡ account k object + one_if (extra d k object) + extra_aside a.aside k object
@@ -156,6 +158,7 @@ work_begins p n m t a x d account counts ready alone new =
           working_ranges n m t a (d ∷ []) a.aside counts.ranges ready.found (new.small, tt)
           (counts.ranges.aside t a ready.found);
       no_cells = counts.no_cells;
+      no_flight = flight_with p t account counts.no_flight new.no_flight;
       no_swaps = replaced_swaps m.actors t a (working a (d ∷ []) a.aside) ready.found counts.no_swaps (omega (
         arith,
         sum_by-cons swaps d [],
@@ -254,6 +257,7 @@ retains_begin p n m t a x counts ready alone some few =
     let in_bag = none_about_held p n m t a x AsCaller core ready alone in
     work_begins p n m t a x (RetainLoad x AsCaller) (with_one_more (p t) AsCaller x) counts ready alone (record {
       begins = retain_begins x;
+      no_flight = λ object. omega (arith, counts.no_flight t object);
       holds = λ k object. omega (arith, holds.each k object);
       bounded = more_bounded m.layout (p t) x bounded few;
       locks =
@@ -273,6 +277,7 @@ releases_begin p n m t a x counts ready alone some may =
     let bounded = (core.each t a ready.found).0.bounded in
     work_begins p n m t a x (ReleaseLoad x AsCaller) (with_one_less (p t) AsCaller x) counts ready alone (record {
       begins = release_begins x;
+      no_flight = λ object. omega (arith, counts.no_flight t object);
       holds = λ k object. omega (arith, holds.each k object, has_one (p t) x k object some);
       bounded = less_bounded m.layout (p t) x bounded;
       locks =

@@ -6,13 +6,14 @@ use Rattle.std.proofs.lemmas.Option.{slice_get_within}
 use Rattle.brc_lang.specs.declared.module.Module.{Module}
 use Rattle.brc_model.specs.declared.thread.Choice.{Choice}
 use Rattle.brc_model.specs.declared.duty.Duty.{Duty}
-use Rattle.brc_model.specs.declared.duty.Duty.TheVariants.{SettleCell, CellSwap}
+use Rattle.brc_model.specs.declared.duty.Duty.TheVariants.{SettleCell, CellLoad, CellSwap}
 use Rattle.brc_model.specs.declared.address.Address.TheVariants.{Cell}
 use Rattle.brc_model.specs.Machine.{Actor, Dying, Machine, with_actor}
 use Rattle.brc_model.specs.StepMachine.{StepMachine}
 use Rattle.brc_model.specs.Progress.{HasLock, CellsChangeUnderLock}
 use Rattle.brc_model.specs.Accounts.{Accounts}
 use Rattle.brc_model.specs.Invariant.{AtDuty}
+use Rattle.brc_model.proofs.Basics.Written.{written_load}
 use Rattle.brc_model.proofs.Basics.Lists.{and_first, some_is, slice_get-set_same}
 use Rattle.brc_model.proofs.Frame.Leaves.{head_of}
 use Rattle.brc_model.proofs.Stepping.Neutral.{memory_by}
@@ -41,6 +42,8 @@ changed_by p n m t a (SettleCell y j k) rest x i here =
 changed_by p n m t a (CellSwap y j z h) rest x i here =
     let locked = (head_of p n m t a (CellSwap y j z h) rest here).0 in
     by_row m t x y i j (z + 1) (λ same. inl (a, here.found, locked ∙ ap Some same))
+changed_by p n m t a (CellLoad y j) rest x i here =
+    λ other. absurd (other (written_load m.memory (Cell y j) (Cell x i)))
 changed_by p n m t a _ rest x i here = λ other. absurd (other refl)
 
 -- What a thread takes up doesn't change which list it has locked.

@@ -49,6 +49,7 @@ duties_kept p n m t a d rest counts next =
             (counts.ranges.aside t a next.found);
         no_cells = cells_after m t a d rest (omega (arith, weighs, counts.no_swaps)) counts.no_cells;
         no_swaps = swaps_after m t a d rest next.found next.agenda counts.no_swaps;
+        no_flight = counts.no_flight;
       },
     )
 

@@ -1,6 +1,6 @@
 -- Where each dispatch leads: to another place than the thread's, unless it waits for a lock.
 use Rattle.std.proofs.Common.{◌≡◌, ◌≢◌, ℕ, zero, suc, ◌+◌, cond, List, Option, None, Some, refl, sym, ap, subst, arith, ◌<◌}
-use Rattle.std.specs.Prelude.{◌==◌, nat_lt, slice_get, slice_set}
+use Rattle.std.specs.Prelude.{◌==◌, slice_get, slice_set}
 use Rattle.brc_lang.specs.declared.module.Instr.{Instr}
 use Rattle.brc_lang.specs.declared.module.Instr.TheVariants.{Num, List as ListObject, NoneObject, Newref, Move as MoveReference, Drop, Lock, Unlock, Borrow, Fetch, Set, Put, Goto, Ret, Fail, As}
 use Rattle.brc_word.specs.Words.{free_word}
@@ -8,15 +8,15 @@ use Rattle.brc_model.specs.Kinds.{same_kind, kind_of_word}
 use Rattle.brc_model.specs.Threads.{row_of, entry_variables}
 use Rattle.brc_model.specs.declared.duty.Duty.{Duty}
 use Rattle.brc_model.specs.declared.duty.Duty.TheVariants.{LockGate}
-use Rattle.brc_model.specs.Duties.{cells_of}
 use Rattle.brc_model.specs.declared.actor.Place.{Place}
 use Rattle.brc_model.specs.declared.actor.Place.TheVariants.{Idle, InCall, Inside, Exiting}
 use Rattle.brc_model.specs.declared.actor.Stage.{Stage}
 use Rattle.brc_model.specs.declared.actor.Stage.TheVariants.{InRange, OutOfRange, Found, Retained}
 use Rattle.brc_model.specs.Machine.{has_room}
-use Rattle.brc_model.specs.Actions.{Action, Skip, Stuck, Silent, Does, with_row, by_range, by_item, birth_action, dispatch_instruction, dispatch_inside, dispatch, number_word, list_word}
+use Rattle.brc_model.specs.Actions.{Action, Skip, Stuck, Silent, Does, with_row, birth_action, dispatch_instruction, dispatch_inside, dispatch, number_word, list_word}
 use Rattle.brc_model.specs.World.{step}
 use Rattle.brc_model.proofs.Basics.Lists.{either}
+use Rattle.brc_model.proofs.Dispatch.Decided.{range_decides, item_decides}
 use Rattle.brc_lang.specs.Grammar.{LeadsForward}
 use Rattle.brc_model.specs.declared.layout.Layout.{Layout}
 use Rattle.brc_model.specs.Layout.{none_row, row_at}
@@ -47,18 +47,6 @@ birth_elsewhere place layout t used left at variables to word otherwise ahead in
     either (IsElsewhere place) (has_room layout t used) _ _
     (λ room found free. inside (at + 1) (slice_set variables to (Some (row_at layout t used))) (omega arith))
     (inside otherwise (slice_set variables to None) ahead)
-
--- Both places to which a look at a list's kind word leads are elsewhere.
-range_elsewhere : (place inside outside : Place) (index found : ℕ) → inside ≢ place → outside ≢ place
-    → by_range index inside outside found ≢ place
-range_elsewhere place inside outside index found within past =
-    either (λ (next : Place). next ≢ place) (nat_lt index (cells_of found)) inside outside (λ has. within) past
-
--- So are those to which a look at a cell leads.
-item_elsewhere : (place empty : Place) (holds : ℕ → Place) (found : ℕ) → empty ≢ place
-    → ((item : ℕ) → holds item ≢ place) → by_item empty holds found ≢ place
-item_elsewhere place empty holds zero none some = none
-item_elsewhere place empty holds (suc item) none some = some item
 
 -- An instruction leads to another place: a later point of its call, a place inside it, or the end of the call.
 instruction_elsewhere : (place : Place) (layout : Layout) (t used left at : ℕ) (variables : List (Option ℕ))
@@ -103,27 +91,27 @@ instruction_elsewhere place layout t used left at variables code (Some (Borrow t
     inside ends enters =
     row_elsewhere place (row_of variables list) _
     (λ row word free.
-    range_elsewhere place (Inside left at variables InRange) (InCall left otherwise (slice_set variables to None)) index word
-    (enters InRange)
+    range_decides (λ (next : Place). next ≢ place) (Inside left at variables InRange) (InCall left otherwise (slice_set variables to None)) index word
+    (λ has. enters InRange)
     (inside otherwise (slice_set variables to None) (forward at (Borrow to list index otherwise) otherwise found refl).0))
 instruction_elsewhere place layout t used left at variables code (Some (Fetch to list index otherwise)) forward found
     inside ends enters =
     row_elsewhere place (row_of variables list) _
     (λ row word free.
-    range_elsewhere place (Inside left at variables InRange) (InCall left otherwise (slice_set variables to None)) index word
-    (enters InRange)
+    range_decides (λ (next : Place). next ≢ place) (Inside left at variables InRange) (InCall left otherwise (slice_set variables to None)) index word
+    (λ has. enters InRange)
     (inside otherwise (slice_set variables to None) (forward at (Fetch to list index otherwise) otherwise found refl).0))
 instruction_elsewhere place layout t used left at variables code (Some (Set list index from otherwise)) forward found
     inside ends enters =
     row_elsewhere place (row_of variables list) _
     (λ row word free.
-    range_elsewhere place (Inside left at variables InRange) (Inside left at variables OutOfRange) index word
-    (enters InRange) (enters OutOfRange))
+    range_decides (λ (next : Place). next ≢ place) (Inside left at variables InRange) (Inside left at variables OutOfRange) index word
+    (λ has. enters InRange) (enters OutOfRange))
 instruction_elsewhere place layout t used left at variables code (Some (Put list index from otherwise)) forward found
     inside ends enters =
     row_elsewhere place (row_of variables list) _
     (λ row word free.
-    range_elsewhere place (Inside left at variables InRange) (InCall left otherwise variables) index word (enters InRange)
+    range_decides (λ (next : Place). next ≢ place) (Inside left at variables InRange) (InCall left otherwise variables) index word (λ has. enters InRange)
     (inside otherwise variables (forward at (Put list index from otherwise) otherwise found refl).0))
 instruction_elsewhere place layout t used left at variables code (Some (As from kind otherwise)) forward found inside
     ends enters =
@@ -143,13 +131,15 @@ inside_elsewhere : (left at : ℕ) (variables : List (Option ℕ)) (stage : Stag
 inside_elsewhere left at variables InRange (Some (Borrow to list index otherwise)) =
     row_elsewhere (Inside left at variables InRange) (row_of variables list) _
     (λ row found free.
-    item_elsewhere (Inside left at variables InRange) (InCall left otherwise (slice_set variables to None))
-    (λ item. InCall left (at + 1) (slice_set variables to (Some item))) found (λ e. cc) (λ item e. cc))
+    item_decides (λ word next. next ≢ Inside left at variables InRange)
+    (InCall left otherwise (slice_set variables to None))
+    (λ item. InCall left (at + 1) (slice_set variables to (Some item))) (λ e. cc) (λ item e. cc) found)
 inside_elsewhere left at variables InRange (Some (Fetch to list index otherwise)) =
     row_elsewhere (Inside left at variables InRange) (row_of variables list) _
     (λ row found free.
-    item_elsewhere (Inside left at variables InRange) (InCall left otherwise (slice_set variables to None))
-    (λ item. Inside left at variables (Found item)) found (λ e. cc) (λ item e. cc))
+    item_decides (λ word next. next ≢ Inside left at variables InRange)
+    (InCall left otherwise (slice_set variables to None)) (λ item. Inside left at variables (Found item)) (λ e. cc)
+    (λ item e. cc) found)
 inside_elsewhere left at variables (Found item) (Some (Fetch to list index otherwise)) = λ found free e. cc
 inside_elsewhere left at variables InRange (Some (Set list index from otherwise)) =
     row_elsewhere (Inside left at variables InRange) (row_of variables list) _

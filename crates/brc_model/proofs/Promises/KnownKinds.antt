@@ -6,7 +6,6 @@ use Rattle.brc_model.specs.Paths.{IsAcceptable}
 use Rattle.brc_model.specs.Progress.{Always}
 use Rattle.brc_model.specs.KnownKinds.{KindsAreKnown}
 use Rattle.brc_model.proofs.Promises.RowLaws.{always}
-use Rattle.brc_model.proofs.Frame.Kinds.{StoredStay}
 
 pub kinds_are_known : (p : Module) → IsModule p → IsAcceptable p → Always KindsAreKnown p
 kinds_are_known = always KindsAreKnown (λ p n m whole. whole.kinds.known)

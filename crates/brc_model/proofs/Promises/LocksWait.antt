@@ -29,7 +29,7 @@ use Rattle.brc_model.specs.StepMachine.{step_actor, machine_by}
 use Rattle.brc_model.specs.World.{World, world_of, machine_of, step, finds_locked, waits_for_lock, IsReachable}
 use Rattle.brc_model.proofs.Basics.Lists.{either, set_found}
 use Rattle.brc_model.proofs.Basics.Written.{written_load}
-use Rattle.brc_model.proofs.Dispatch.Unlocked.{locking}
+use Rattle.brc_model.proofs.Dispatch.AtOnce.{at_once}
 use Rattle.brc_model.proofs.Promises.StepsMove.{after, reached_code, reached_found}
 
 -- ---- where a thread waits
@@ -124,16 +124,16 @@ with_none a (Does (LockGate x) rest next) none waits = (none, waits)
 with_none a _ none waits = tt
 
 agenda_waits : (functions : List Function) (layout : Layout) (t : ℕ) (a : StepActor) (agenda : List Duty)
-    → a.actor.agenda ≡ agenda → sum_by locking agenda ≡ 0 → WaitsIdly a (agenda_action functions layout t a agenda)
+    → a.actor.agenda ≡ agenda → sum_by at_once agenda ≡ 0 → WaitsIdly a (agenda_action functions layout t a agenda)
 agenda_waits functions layout t a [] is plain =
     with_none a (agenda_action functions layout t a []) is
     (dispatch_waits layout t a.actor.used (code_of (slice_get functions a.function)) a.place)
 agenda_waits functions layout t a (LockGate x ∷ rest) is plain =
-    absurd (omega (arith, plain, sum_by-cons locking (LockGate x) rest))
+    absurd (omega (arith, plain, sum_by-cons at_once (LockGate x) rest))
 agenda_waits functions layout t a (d ∷ rest) is plain = tt
 
 status_waits : (functions : List Function) (layout : Layout) (t : ℕ) (a : StepActor) (status : Status)
-    → sum_by locking a.actor.agenda ≡ 0 → WaitsIdly a (status_action functions layout t a status)
+    → sum_by at_once a.actor.agenda ≡ 0 → WaitsIdly a (status_action functions layout t a status)
 status_waits functions layout t a Gone plain = tt
 status_waits functions layout t a Running plain = agenda_waits functions layout t a a.actor.agenda refl plain
 status_waits functions layout t a Leaving plain = agenda_waits functions layout t a a.actor.agenda refl plain

@@ -1,10 +1,10 @@
 -- Which steps change the world: every step of a thread that isn't gone, except for a claim that isn't allowed or finds
 -- no mark, and for a lock that another thread holds (`LocksWait`).
 use Rattle.std.proofs.Common.{◌≡◌, ◌≢◌, ℕ, ◌+◌, Bool, true, false, cond, List, [], ◌∷◌, ◌++◌, length, inl, inr, Option, Some, refl, sym, ap, ◌∙◌, subst, ◌⊎◌}
-use Rattle.std.specs.Prelude.{not, ◌==◌, slice_get, slice_set}
+use Rattle.std.specs.Prelude.{◌==◌, slice_get, slice_set}
 use Rattle.std.proofs.Math.Path.{fun_ext}
 use Rattle.std.proofs.lemmas.Option.{slice_get_within}
-use Rattle.std.proofs.lemmas.Bool.{eqb-true}
+use Rattle.std.proofs.lemmas.Bool.{eqb-true, not-false}
 use Rattle.brc_lang.specs.declared.module.Module.{Module}
 use Rattle.brc_model.specs.declared.thread.Choice.{Choice}
 use Rattle.brc_model.specs.declared.thread.Choice.TheVariants.{Ok, Fault, Claim}
@@ -40,10 +40,6 @@ use Rattle.brc_lang.specs.declared.module.Function.{Function}
 use Rattle.brc_model.specs.declared.layout.Layout.{Layout}
 
 -- ---- a thread that isn't gone
-
-not_false : (b : Bool) → not b ≡ false → b ≡ true
-not_false true free = refl
-not_false false free = absurd cc
 
 -- Worlds in which a thread differs are different.
 actor_apart : (v w : World) (t : ℕ) (a b : StepActor) → slice_get w.actors t ≡ Some a
@@ -87,7 +83,7 @@ status_moves_on functions layout t a Leaving alive forward =
 finds_free : (memory : Address → ℕ) (layout : Layout) (t head : ℕ) (d : Duty) (rest : List Duty) (place : ℕ → Place)
     → finds_locked memory (Does d rest place) ≡ false → FindsFree d (memory (address_of layout t head d))
 finds_free memory layout t head (LockGate x) rest place free =
-    eqb-true (memory (Gate x)) free_word (not_false (memory (Gate x) == free_word) free)
+    eqb-true (memory (Gate x)) free_word (not-false (memory (Gate x) == free_word) free)
 finds_free memory layout t head _ rest place free = tt
 
 action_moves : (p : Module) (c : Accounts) (n : ℕ) (m : StepMachine) (t : ℕ) (a : StepActor) (x : Action)

@@ -6,6 +6,7 @@ ghost use Rattle.brc_model.specs.declared.layout.Layout.{Layout};
 ghost use Rattle.brc_world.specs.Starts.{action_at, CanBegin, Begins};
 
 use crate::dispatch::Start;
+use crate::question::Question;
 use crate::thread::Thread;
 use brc_lang::{Kind, Variable};
 use brc_model::Duty;
@@ -29,8 +30,7 @@ pub(super) fn ask_kind(
             thread.go_to(left, next);
             Start::Asking {
                 duty: Duty::KindLoad { row },
-                kind,
-                otherwise,
+                question: Question::Kind { kind, otherwise },
             }
         }
         None => Start::Stuck,

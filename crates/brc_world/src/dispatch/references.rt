@@ -102,7 +102,7 @@ pub(super) fn return_object(from: Variable, thread: &mut Thread, left: u32) -> S
 }
 
 /// Begins the release of the variable's reference to the row's object. The thread deallocates its dying chain next.
-fn release(row: u32, from: Variable, thread: &mut Thread) -> Start
+pub(super) fn release(row: u32, from: Variable, thread: &mut Thread) -> Start
     requires empty { thread.old.agenda.items ≡ [] }
     requires room { 8 ≤ vec_capacity thread.old.agenda }
     ensures starts { result ≡ Start.Doing (ReleaseLoad row (ByVariable from)) }

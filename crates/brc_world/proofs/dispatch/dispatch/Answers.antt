@@ -18,7 +18,7 @@ begins : (c : After-next_instruction-in-Idle)
     (slice_get (code_of (slice_get c.args.functions.now c.args.thread.now.function)) 0)
     ≡ model.dispatch c.args.layout c.args.number c.args.thread.now.used
     (code_of (slice_get c.args.functions.now c.args.thread.now.function))
-    (place_of c.args.thread.now.stage c.args.thread.now.left c.args.thread.now.at c.args.thread.now.variables)
+    (place_of c.args.thread.now.mode c.args.thread.now.left c.args.thread.now.at c.args.thread.now.variables)
 begins c =
     let code = code_of (slice_get c.args.functions.now c.args.thread.now.function) in
     rw (c.entry_variables-thread.ensures, c.in-Idle.is)
@@ -46,6 +46,7 @@ returns-else-thread-eq0 c =
     let next = c.next_instruction-in-Idle.ensures in
     record {
       starts = (rw c.in-Idle.is at next.starts) ∙ ap start_by (begins c);
+      question = next.question;
       actor = λ found.
           (rw c.in-Idle.is at (next.actor found))
           ∙ (rw c.in-Idle.is (ap (λ x. started (idle c) x found) (rw c.in-Idle.is at (begins c))));
@@ -58,6 +59,7 @@ returns-then-thread-eq0 c =
     let exit = c.exit.ensures in
     record {
       starts = rw (c.in-Idle.is, c.if-thread-eq0.true) exit.starts;
+      question = exit.question;
       actor = λ found. rw (c.in-Idle.is, c.if-thread-eq0.true) (exit.actor found);
       room = exit.room;
     }

@@ -1,13 +1,14 @@
 -- The step starts with the thread's action, which the thread can do.
 use Rattle.std.proofs.Common.{ℕ, List, Option, refl, ap, ◌∙◌}
-use Rattle.brc_world.proofs.Acting.{HasStarted, stuck_step, moved_step, duty_step, can_do, entering}
+use Rattle.brc_world.proofs.Acting.{HasStarted, stuck_step, moved_step, duty_step, can_do, answerable, entering}
 use Rattle.brc_world.specs.declared.dispatch.Start.TheVariants.{Doing, Asking, Locking}
 use Rattle.brc_model.specs.declared.duty.Duty.TheVariants.{LockGate}
 use Rattle.brc_model.specs.Actions.{StepActor}
 use Rattle.brc_model.specs.StepMachine.{at_place}
 use Rattle.brc_world.specs.Storage.{word_in}
 use Rattle.brc_world.specs.Actors.{actor_of, actor_done}
-use Rattle.brc_world.specs.Starts.{asked, let_in}
+use Rattle.brc_world.specs.Questions.{place_answered}
+use Rattle.brc_world.specs.Starts.{let_in}
 use Rattle.brc_world.proofs.doing.act.Goals as goal
 
 -- ---- a duty
@@ -57,7 +58,7 @@ returns-in-Doing c =
 pub do_duty-found-requires : goal.do_duty-found-requires
 do_duty-found-requires c =
     let has : HasStarted c.args.functions.now c.args.layout c.args.number (actor_of c.args.thread.now)
-    c.first_duty.new.thread (Asking c.in-Asking.duty c.in-Asking.kind c.in-Asking.otherwise) = record {
+    c.first_duty.new.thread (Asking c.in-Asking.duty c.in-Asking.question) = record {
       alive = c.in_default.not-Gone;
       starts = rw c.in_ok-reserve.ensures.items at c.in-Asking.ensures.starts;
       actor = λ found. rw c.in_ok-reserve.ensures.items at (c.in-Asking.ensures.actor found);
@@ -73,10 +74,22 @@ do_duty-found-requires c =
       room = c.in-Asking.ensures.room;
     }
 
+pub answer-requires : goal.answer-requires
+answer-requires c =
+    let has : HasStarted c.args.functions.now c.args.layout c.args.number (actor_of c.args.thread.now)
+    c.first_duty.new.thread (Asking c.in-Asking.duty c.in-Asking.question) = record {
+      alive = c.in_default.not-Gone;
+      starts = rw c.in_ok-reserve.ensures.items at c.in-Asking.ensures.starts;
+      actor = λ found. rw c.in_ok-reserve.ensures.items at (c.in-Asking.ensures.actor found);
+    } in
+    let can = can_do _ _ _ _ _ (word_in c.args.memory.now) _ _ _ _ has refl c.requires.can in
+    rw c.do_duty-found.ensures.found
+    (answerable c.in-Asking.question c.in-Asking.duty _ _ _ _ c.requires.small c.in-Asking.ensures.question can.suits)
+
 pub returns-in-Asking : goal.returns-in-Asking
 returns-in-Asking c =
     let has : HasStarted c.args.functions.now c.args.layout c.args.number (actor_of c.args.thread.now)
-    c.first_duty.new.thread (Asking c.in-Asking.duty c.in-Asking.kind c.in-Asking.otherwise) = record {
+    c.first_duty.new.thread (Asking c.in-Asking.duty c.in-Asking.question) = record {
       alive = c.in_default.not-Gone;
       starts = rw c.in_ok-reserve.ensures.items at c.in-Asking.ensures.starts;
       actor = λ found. rw c.in_ok-reserve.ensures.items at (c.in-Asking.ensures.actor found);
@@ -84,17 +97,22 @@ returns-in-Asking c =
     let step =
     duty_step c.args.functions.now c.args.layout c.args.number (word_in c.args.memory.now) _ _ _ _ has refl in
     let duty = c.do_duty-found.ensures in
-    let goes_on = λ (found : ℕ) (a : StepActor). at_place a (asked c.in-Asking.kind c.in-Asking.otherwise found a.place)
-    in
+    let before = c.first_duty.new.thread in
+    let after = c.do_duty-found.new.thread in
+    let goes_on = λ (found left at : ℕ) (variables : List (Option ℕ)) (a : StepActor).
+    at_place a (place_answered c.in-Asking.question found left at variables) in
     let done =
-    actor_done c.args.layout c.args.number (word_in c.args.memory.now) (actor_of c.first_duty.new.thread)
-    c.in-Asking.duty in
+    actor_done c.args.layout c.args.number (word_in c.args.memory.now) (actor_of before) c.in-Asking.duty in
     record {
       did = step.answer;
       words = duty.word.words ∙ step.memory_is;
       actor = c.answer.ensures
-          ∙ ap (goes_on c.do_duty-found.result) duty.actor
-          ∙ ap (λ (found : ℕ). goes_on found done) duty.found
+          ∙ ap (goes_on c.do_duty-found.result after.left after.at after.variables) duty.actor
+          ∙ ap (λ (left : ℕ). goes_on c.do_duty-found.result left after.at after.variables done) duty.calls
+          ∙ ap (λ (at : ℕ). goes_on c.do_duty-found.result before.left at after.variables done) duty.point
+          ∙ ap (λ (variables : List (Option ℕ)). goes_on c.do_duty-found.result before.left before.at variables done)
+          duty.variables
+          ∙ ap (λ (found : ℕ). goes_on found before.left before.at before.variables done) duty.found
           ∙ step.actor;
       same_words = tt;
       same_actor = tt;

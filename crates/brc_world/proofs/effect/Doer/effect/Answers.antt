@@ -52,3 +52,6 @@ returns-in-UnlockGate c = rw c.in-UnlockGate.is (c.unlock_gate.ensures _ _)
 
 pub returns-in-CellLoad : goal.returns-in-CellLoad
 returns-in-CellLoad c = rw c.in-CellLoad.is (c.cell_load.ensures _ _)
+
+pub returns-in-CellSwap : goal.returns-in-CellSwap
+returns-in-CellSwap c = rw c.in-CellSwap.is (c.cell_swap.ensures _ _ _)

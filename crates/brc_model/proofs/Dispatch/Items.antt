@@ -1,0 +1,159 @@
+-- What slots and variables say of items: a variable that borrows from the locked list names an item of it.
+use Rattle.std.proofs.Common.{◌≡◌, ℕ, zero, suc, ◌<◌, true, false, List, inl, inr, length, Option, None, Some, sym, refl, ap, ◌∙◌, subst, arith}
+use Rattle.std.specs.Prelude.{slice_get, slice_set}
+use Rattle.std.proofs.lemmas.Bool.{false≢true}
+use Rattle.std.proofs.lemmas.Bool.Decides.{eqb_tells}
+use Rattle.brc_lang.specs.declared.kind.Kind.{Kind}
+use Rattle.brc_lang.specs.declared.module.Instr.{Instr}
+use Rattle.brc_lang.specs.declared.module.Instr.TheVariants.{Borrow, Fetch, Set, Put}
+use Rattle.brc_model.specs.declared.actor.Place.{Place}
+use Rattle.brc_model.specs.declared.actor.Place.TheVariants.{Idle, InCall, Inside, Exiting}
+use Rattle.brc_model.specs.declared.actor.Stage.{Stage}
+use Rattle.brc_model.specs.declared.actor.Stage.TheVariants.{InRange, Found, Retained}
+use Rattle.brc_model.specs.declared.address.Address.{Address}
+use Rattle.brc_model.specs.declared.address.Address.TheVariants.{KindOf, Cell}
+use Rattle.brc_model.specs.declared.slot.Slot.{Slot}
+use Rattle.brc_model.specs.declared.slot.Slot.TheVariants.{Empty, Owned, Caller, Locked}
+use Rattle.brc_model.specs.declared.slot.State.{State}
+use Rattle.brc_model.specs.Slots.{slot_of, with_kind, put, without_item, without_items, entry}
+use Rattle.brc_model.specs.Threads.{row_of, entry_variables}
+use Rattle.brc_model.specs.Duties.{cells_of}
+use Rattle.brc_model.specs.Items.{IsItem, borrows_item, HaveItems, HasCell, StageKnows, KnowsItems}
+use Rattle.brc_model.proofs.Basics.Lists.{none_some, get_or-replicate_default}
+use Rattle.brc_model.proofs.Dispatch.Grounded.{slot_of-put_same, slot_of-put_other, slot_of-without, row_of-set_same, row_of-set_other}
+use Rattle.brc_model.proofs.Frame.Kinds.{StoredStay}
+
+-- ---- what a step leaves
+
+-- What a step leaves of the words for a thread that has locked the row: kind words that a birth has stored, and the
+-- cells of the locked list.
+pub record ItemsStay (memory new : Address → ℕ) (locked : Option ℕ) : Type 0 where
+  pub kinds : StoredStay (λ x. memory (KindOf x)) (λ x. new (KindOf x))
+  pub cells : (x i : ℕ) → locked ≡ Some x → new (Cell x i) ≡ memory (Cell x i)
+
+-- A silent step leaves all words.
+pub all_stay : (memory : Address → ℕ) (locked : Option ℕ) → ItemsStay memory memory locked
+all_stay memory locked = record { kinds = λ x. inr refl; cells = λ x i is. refl }
+
+module _ (memory new : Address → ℕ) (locked : Option ℕ) (stays : ItemsStay memory new locked) where
+  pub item_stays : (x : ℕ) → IsItem memory locked x → IsItem new locked x
+  item_stays x item = record {
+    list = item.list;
+    cell = item.cell;
+    is_locked = item.is_locked;
+    holds = stays.cells item.list item.cell item.is_locked ∙ item.holds;
+  }
+
+  pub items_stay : (s : State) (rows : List (Option ℕ)) → HaveItems memory locked s rows → HaveItems new locked s rows
+  items_stay s rows items v x borrows is = item_stays x (items v x borrows is)
+
+  -- A list that has the cell has its kind word stored.
+  pub cell_stays : (rows : List (Option ℕ)) (list index : ℕ) → HasCell memory rows list index
+      → HasCell new rows list index
+  cell_stays rows list index has x is = elim (stays.kinds x) [
+    | inl none ↦ absurd (omega (arith, has x is, ap cells_of none))
+    | inr same ↦ subst (λ (w : ℕ). index < cells_of w) (sym same) (has x is)
+  ]
+
+  stage_stays : (rows : List (Option ℕ)) (stage : Stage) (i : Option Instr) → StageKnows memory locked rows stage i
+      → StageKnows new locked rows stage i
+  stage_stays rows InRange (Some (Borrow to list index otherwise)) knows = cell_stays rows list index knows
+  stage_stays rows InRange (Some (Fetch to list index otherwise)) knows = cell_stays rows list index knows
+  stage_stays rows InRange (Some (Set list index from otherwise)) knows = cell_stays rows list index knows
+  stage_stays rows InRange (Some (Put list index from otherwise)) knows = cell_stays rows list index knows
+  stage_stays rows Retained (Some (Put list index from otherwise)) knows = cell_stays rows list index knows
+  stage_stays rows (Found item) i knows = item_stays item knows
+  stage_stays rows stage i knows = tt
+
+  pub knows_stay : (code : List Instr) (place : Place) → KnowsItems code memory locked place
+      → KnowsItems code new locked place
+  knows_stay code (Idle left) knows = tt
+  knows_stay code (InCall left at variables) knows =
+      λ exits s arrived. items_stay s variables (knows exits s arrived)
+  knows_stay code (Inside left at variables stage) knows = record {
+    items = λ exits s arrived. items_stay s variables (knows.items exits s arrived);
+    cell = stage_stays variables stage (slice_get code at) knows.cell;
+  }
+  knows_stay code Exiting knows = tt
+
+-- ---- a variable changes
+
+-- What the new slot borrows has to be an item; the other variables are as they were.
+pub items_put : (memory : Address → ℕ) (locked : Option ℕ) (s : State) (rows : List (Option ℕ)) (x : ℕ) (slot : Slot)
+    (row : Option ℕ) → x < length s.slots → x < length rows
+    → ((y : ℕ) → borrows_item slot ≡ true → row ≡ Some y → IsItem memory locked y) → HaveItems memory locked s rows
+    → HaveItems memory locked (put s x slot) (slice_set rows x row)
+items_put memory locked s rows x slot row in_slots in_rows new old v y borrows is =
+    elim (eqb_tells v x) [
+      | inl this ↦
+          let slot_is : slot_of (put s x slot) v ≡ slot =
+          ap (slot_of (put s x slot)) this.1 ∙ slot_of-put_same s x slot in_slots in
+          let row_is : row_of (slice_set rows x row) v ≡ row =
+          ap (row_of (slice_set rows x row)) this.1 ∙ row_of-set_same rows x row in_rows in
+          new y (sym (ap borrows_item slot_is) ∙ borrows) (sym row_is ∙ is)
+      | inr other ↦
+          old v y (sym (ap borrows_item (slot_of-put_other s x v slot other.1)) ∙ borrows)
+          (sym (row_of-set_other rows x v row other.1) ∙ is)
+    ]
+
+-- A slot that doesn't borrow from the list needs no item.
+pub needs_none : (memory : Address → ℕ) (locked : Option ℕ) (slot : Slot) (row : Option ℕ)
+    → borrows_item slot ≡ false
+    → (y : ℕ) → borrows_item slot ≡ true → row ≡ Some y → IsItem memory locked y
+needs_none memory locked slot row free y borrows is = absurd (false≢true (sym free ∙ borrows))
+
+kind_borrows : (slot : Slot) (k : Kind) → borrows_item (with_kind slot k) ≡ borrows_item slot
+kind_borrows Empty k = refl
+kind_borrows (Owned old) k = refl
+kind_borrows (Caller old) k = refl
+kind_borrows (Locked old) k = refl
+
+-- A variable's kind becomes known.
+pub items_with_kind : (memory : Address → ℕ) (locked : Option ℕ) (s : State) (rows : List (Option ℕ)) (x : ℕ)
+    (k : Kind) → x < length s.slots → HaveItems memory locked s rows
+    → HaveItems memory locked (put s x (with_kind (slot_of s x) k)) rows
+items_with_kind memory locked s rows x k in_slots old v y borrows is =
+    let slot = with_kind (slot_of s x) k in
+    elim (eqb_tells v x) [
+      | inl this ↦
+          let same : borrows_item (slot_of (put s x slot) v) ≡ borrows_item (slot_of s v) =
+          ap (λ (w : ℕ). borrows_item (slot_of (put s x slot) w)) this.1
+          ∙ ap borrows_item (slot_of-put_same s x slot in_slots) ∙ kind_borrows (slot_of s x) k
+          ∙ ap (λ (w : ℕ). borrows_item (slot_of s w)) (sym this.1) in
+          old v y (sym same ∙ borrows) is
+      | inr other ↦ old v y (sym (ap borrows_item (slot_of-put_other s x v slot other.1)) ∙ borrows) is
+    ]
+
+-- ---- where nothing is borrowed
+
+-- No variable borrows from a list.
+abbrev pub BorrowsNone : State → Type 0
+BorrowsNone s = (v : ℕ) → borrows_item (slot_of s v) ≡ false
+
+pub none_borrowed : (memory : Address → ℕ) (locked : Option ℕ) (s : State) (rows : List (Option ℕ)) → BorrowsNone s
+    → HaveItems memory locked s rows
+none_borrowed memory locked s rows none v x borrows is = absurd (false≢true (sym (none v) ∙ borrows))
+
+without_item_free : (slot : Slot) → borrows_item (without_item slot) ≡ false
+without_item_free Empty = refl
+without_item_free (Owned k) = refl
+without_item_free (Caller k) = refl
+without_item_free (Locked k) = refl
+
+-- Once the list is unlocked or changed, no variable borrows from it.
+pub without_items_free : (s : State) → BorrowsNone (without_items s)
+without_items_free s v = ap borrows_item (slot_of-without s v) ∙ without_item_free (slot_of s v)
+
+-- A thread that has locked nothing borrows nothing, so it has the items of whatever it locks.
+pub unlocked_items : (memory new : Address → ℕ) (before locked : Option ℕ) (s : State) (rows : List (Option ℕ))
+    → before ≡ None → HaveItems memory before s rows → HaveItems new locked s rows
+unlocked_items memory new before locked s rows none items v x borrows is =
+    let item = items v x borrows is in absurd (none_some item.list (sym none ∙ item.is_locked))
+
+-- At the beginning of a call no variable borrows from a list.
+entry_borrows_none : BorrowsNone entry
+entry_borrows_none zero = refl
+entry_borrows_none (suc v) = ap borrows_item (get_or-replicate_default 15 v Empty)
+
+pub entry_items : (memory : Address → ℕ) (locked : Option ℕ) → HaveItems memory locked entry entry_variables
+entry_items memory locked = none_borrowed memory locked entry entry_variables entry_borrows_none

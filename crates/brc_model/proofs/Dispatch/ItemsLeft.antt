@@ -1,0 +1,340 @@
+-- What each instruction leaves in the variables: items of the list that the thread has locked, wherever one is borrowed.
+use Rattle.std.proofs.Common.{◌≡◌, ℕ, ◌+◌, ◌<◌, true, false, cond, List, [], ◌∷◌, ◌++◌, Option, None, Some, refl, sym, ap, ◌∙◌, subst, arith}
+use Rattle.std.specs.Prelude.{◌==◌, slice_get, slice_set}
+use Rattle.std.proofs.lemmas.Bool.{not-false}
+use Rattle.std.proofs.lemmas.List.{length-set}
+use Rattle.brc_lang.specs.declared.kind.Kind.TheVariants as kinds
+use Rattle.brc_lang.specs.declared.module.Instr.{Instr}
+use Rattle.brc_lang.specs.declared.module.Instr.TheVariants.{Num, List as ListObject, NoneObject, Newref, Move as MoveReference, Drop, As, Lock, Unlock, Borrow, Fetch, Set, Put, Goto, Ret, Fail}
+use Rattle.brc_lang.specs.Grammar.{IsInstruction}
+use Rattle.brc_word.specs.Words.{free_word}
+use Rattle.brc_model.specs.declared.actor.Place.{Place}
+use Rattle.brc_model.specs.declared.actor.Place.TheVariants.{InCall, Inside}
+use Rattle.brc_model.specs.declared.actor.Stage.{Stage}
+use Rattle.brc_model.specs.declared.actor.Stage.TheVariants.{InRange, OutOfRange, Found, Retained}
+use Rattle.brc_model.specs.declared.address.Address.{Address}
+use Rattle.brc_model.specs.declared.address.Address.TheVariants.{KindOf, Cell}
+use Rattle.brc_model.specs.declared.duty.Duty.{Duty}
+use Rattle.brc_model.specs.declared.duty.Duty.TheVariants.{KindLoad, CellLoad}
+use Rattle.brc_model.specs.declared.slot.Slot.{Slot}
+use Rattle.brc_model.specs.declared.slot.Slot.TheVariants.{Empty, Owned, Locked}
+use Rattle.brc_model.specs.declared.slot.State.{State}
+use Rattle.brc_model.specs.declared.slot.Exit.{Exit}
+use Rattle.brc_model.specs.declared.slot.Exit.TheVariants.{Success, Fault as FaultExit}
+use Rattle.brc_model.specs.Kinds.{kind_of_word, same_kind}
+use Rattle.brc_model.specs.Slots.{slot_of, kind_of, names, put, after, target}
+use Rattle.brc_model.specs.Paths.{At, path_end, IsAcceptableCode}
+use Rattle.brc_model.specs.Threads.{row_of}
+use Rattle.brc_model.specs.Layout.{none_row, row_at}
+use Rattle.brc_model.specs.declared.layout.Layout.{Layout}
+use Rattle.brc_model.specs.Duties.{cells_of}
+use Rattle.brc_model.specs.Machine.{has_room, locked_by}
+use Rattle.brc_model.specs.Actions.{Action, Skip, Stuck, Silent, Does, with_row, by_range, by_item, number_word, list_word, birth_action, dispatch_instruction, dispatch_inside}
+use Rattle.brc_model.specs.Items.{IsItem, borrows_item, HaveItems, HasCell, StageKnows, KnowsItems}
+use Rattle.brc_model.proofs.Basics.Lists.{some_is, either, first_false}
+use Rattle.brc_model.proofs.Dispatch.Grounded.{IsInside}
+use Rattle.brc_model.proofs.Dispatch.Guards.{LocksAgree, guards_none, guards_row}
+use Rattle.brc_model.proofs.Dispatch.Decided.{range_decides, item_decides}
+use Rattle.brc_model.proofs.Dispatch.Passing.{AreMet}
+use Rattle.brc_model.proofs.Dispatch.Items.{ItemsStay, all_stay, items_stay, cell_stays, knows_stay, items_put, needs_none, items_with_kind, BorrowsNone, none_borrowed, without_items_free, unlocked_items}
+use Rattle.brc_model.proofs.Frame.Items.{drops_items}
+
+-- What a duty that loads a kind word or a cell finds.
+abbrev pub FindsWord : (Address → ℕ) → Duty → ℕ → Type 0
+FindsWord memory (KindLoad y) found = found ≡ memory (KindOf y)
+FindsWord memory (CellLoad y i) found = found ≡ memory (Cell y i)
+FindsWord memory d found = Unit {0}
+
+-- The words after the duty's step, which found this word, for a thread that has locked the row.
+pub record IsAfter (memory new : Address → ℕ) (locked : Option ℕ) (d : Duty) (found : ℕ) : Type 0 where
+  pub finds : FindsWord memory d found
+  pub keeps : drops_items d ≡ false → ItemsStay memory new locked
+
+-- What the thread knows of items at the place that its step leads to.
+abbrev pub LeavesItems : List Instr → (Address → ℕ) → Option ℕ → Action → Type 0
+LeavesItems code memory locked Skip = Unit {0}
+LeavesItems code memory locked Stuck = Unit {0}
+LeavesItems code memory locked (Silent moves place) = KnowsItems code memory locked place
+LeavesItems code memory locked (Does d rest place) =
+    (new : Address → ℕ) (found : ℕ) → IsAfter memory new locked d found
+    → KnowsItems code new (locked_by locked d found) (place found)
+
+-- A thread at an instruction of accepted code, in the state in which a path reaches it, which has what the state says is
+-- locked, and whose variables name items wherever they borrow.
+pub record UsesAt (code : List Instr) (memory : Address → ℕ) (locked : Option ℕ) (at : ℕ) (variables : List (Option ℕ))
+    (s : State) (i : Instr) : Type 0 where
+  pub accepted : IsAcceptableCode code
+  pub inside : IsInside code at variables s
+  pub found : slice_get code at ≡ Some i
+  pub leads : (exit : Exit) (next : ℕ) → target i exit at ≡ Some next
+      → path_end code (inside.exits ++ exit ∷ []) ≡ At next (after i exit s)
+  pub operands : IsInstruction i
+  pub met : AreMet i s
+  pub guards : LocksAgree s variables locked
+  pub items : HaveItems memory locked s variables
+
+module _ (code : List Instr) (memory : Address → ℕ) (locked : Option ℕ) (left at : ℕ) (variables : List (Option ℕ))
+    (s : State) where
+  abbrev Here : Instr → Type 0
+  Here i = UsesAt code memory locked at variables s i
+
+  row_uses : (row : Option ℕ) (work : ℕ → Action)
+      → ((x : ℕ) → row ≡ Some x → LeavesItems code memory locked (work x))
+      → LeavesItems code memory locked (with_row row work)
+  row_uses None work uses = tt
+  row_uses (Some x) work uses = uses x refl
+
+  -- ---- the next point
+
+  -- Where the paths to the next point agree, what holds of the state after the exit holds of theirs.
+  goes_on : (new : Address → ℕ) (lock : Option ℕ) (next : ℕ) (rows : List (Option ℕ)) (i : Instr) (exit : Exit)
+      → (here : Here i) → target i exit at ≡ Some next → HaveItems new lock (after i exit s) rows
+      → KnowsItems code new lock (InCall left next rows)
+  goes_on new lock next rows i exit here to items = λ exits other arrived.
+      subst (λ (state : State). HaveItems new lock state rows)
+      (here.accepted.states_agree (here.inside.exits ++ exit ∷ []) exits next (after i exit s) other
+      (here.leads exit next to) arrived) items
+
+  -- The exit changes one variable.
+  goes_on_put : (new : Address → ℕ) (next : ℕ) (i : Instr) (exit : Exit) (x : ℕ) (slot : Slot) (row : Option ℕ)
+      → ItemsStay memory new locked → (here : Here i) → target i exit at ≡ Some next → after i exit s ≡ put s x slot
+      → x < 16 → ((y : ℕ) → borrows_item slot ≡ true → row ≡ Some y → IsItem new locked y)
+      → KnowsItems code new locked (InCall left next (slice_set variables x row))
+  goes_on_put new next i exit x slot row stays here to is low item =
+      goes_on new locked next (slice_set variables x row) i exit here to
+      (subst (λ (state : State). HaveItems new locked state (slice_set variables x row)) (sym is)
+      (items_put new locked s variables x slot row (omega (arith, low, here.inside.slots))
+      (omega (arith, low, here.inside.rows)) item (items_stay memory new locked stays s variables here.items)))
+
+  -- The exit leaves in the variable what borrows nothing.
+  goes_on_free : (new : Address → ℕ) (next : ℕ) (i : Instr) (exit : Exit) (x : ℕ) (slot : Slot) (row : Option ℕ)
+      → ItemsStay memory new locked → (here : Here i) → target i exit at ≡ Some next → after i exit s ≡ put s x slot
+      → x < 16 → borrows_item slot ≡ false → KnowsItems code new locked (InCall left next (slice_set variables x row))
+  goes_on_free new next i exit x slot row stays here to is low free =
+      goes_on_put new next i exit x slot row stays here to is low (needs_none new locked slot row free)
+
+  -- The exit changes no variable.
+  goes_on_same : (new : Address → ℕ) (next : ℕ) (i : Instr) (exit : Exit) → ItemsStay memory new locked
+      → (here : Here i) → target i exit at ≡ Some next → after i exit s ≡ s
+      → KnowsItems code new locked (InCall left next variables)
+  goes_on_same new next i exit stays here to is =
+      goes_on new locked next variables i exit here to
+      (subst (λ (state : State). HaveItems new locked state variables) (sym is)
+      (items_stay memory new locked stays s variables here.items))
+
+  -- After the exit nothing is borrowed any more.
+  goes_on_without : (new : Address → ℕ) (lock : Option ℕ) (next : ℕ) (rows : List (Option ℕ)) (i : Instr) (exit : Exit)
+      → (here : Here i) → target i exit at ≡ Some next → BorrowsNone (after i exit s)
+      → KnowsItems code new lock (InCall left next rows)
+  goes_on_without new lock next rows i exit here to none =
+      goes_on new lock next rows i exit here to (none_borrowed new lock (after i exit s) rows none)
+
+  -- ---- inside the instruction
+
+  goes_inside : (new : Address → ℕ) (stage : Stage) (i : Instr) → ItemsStay memory new locked → (here : Here i)
+      → StageKnows new locked variables stage (Some i) → KnowsItems code new locked (Inside left at variables stage)
+  goes_inside new stage i stays here knows = record {
+    items = λ exits other arrived.
+        subst (λ (state : State). HaveItems new locked state variables)
+        (here.accepted.states_agree here.inside.exits exits at s other here.inside.arrived arrived)
+        (items_stay memory new locked stays s variables here.items);
+    cell = subst (StageKnows new locked variables stage) (sym here.found) knows;
+  }
+
+  -- The list has the cell, if the kind word that was found says so.
+  has_cell : (new : Address → ℕ) (list index row found : ℕ) → ItemsStay memory new locked
+      → row_of variables list ≡ Some row → found ≡ memory (KindOf row) → index < cells_of found
+      → HasCell new variables list index
+  has_cell new list index row found stays is seen within =
+      cell_stays memory new locked stays variables list index
+      (λ x this. subst (λ (w : ℕ). index < cells_of w)
+      (seen ∙ ap (λ (y : ℕ). memory (KindOf y)) (some_is row x (sym is ∙ this)))
+      within)
+
+  -- The list that the instruction uses is the one that the thread has locked.
+  locked_list : (list row : ℕ) → names s.locked list ≡ true → row_of variables list ≡ Some row
+      → LocksAgree s variables locked → locked ≡ Some row
+  locked_list list row named is guards = guards_row s variables list row s.locked locked named is guards
+
+  -- ---- each instruction
+
+  birth_uses : (layout : Layout) (t used : ℕ) (i : Instr) (to word otherwise : ℕ) (slot : Slot) → (here : Here i)
+      → to < 16 → borrows_item slot ≡ false
+      → target i Success at ≡ Some (at + 1) → after i Success s ≡ put s to slot
+      → target i FaultExit at ≡ Some otherwise → after i FaultExit s ≡ put s to Empty
+      → LeavesItems code memory locked (birth_action layout t used left at variables to word otherwise)
+  birth_uses layout t used i to word otherwise slot here low free next owned else_at empty =
+      either (LeavesItems code memory locked) (has_room layout t used) _ _
+      (λ room new found done.
+      goes_on_free new (at + 1) i Success to slot (Some (row_at layout t used)) (done.keeps refl) here next owned low free)
+      (goes_on_free memory otherwise i FaultExit to Empty None (all_stay memory locked) here else_at empty low refl)
+
+  -- A look at the list's kind word leads into the instruction, if the list has the cell.
+  range_uses : (i : Instr) (list index : ℕ) (stage : Stage) (outside : Place) → Here i
+      → ((new : Address → ℕ) → HasCell new variables list index → StageKnows new locked variables stage (Some i))
+      → ((new : Address → ℕ) → ItemsStay memory new locked → KnowsItems code new locked outside)
+      → LeavesItems code memory locked
+      (with_row (row_of variables list)
+      (λ row. Does (KindLoad row) [] (by_range index (Inside left at variables stage) outside)))
+  range_uses i list index stage outside here cell past =
+      row_uses (row_of variables list) _ (λ row is new found done.
+      let stays = done.keeps refl in
+      range_decides (KnowsItems code new locked) (Inside left at variables stage) outside index found
+      (λ within.
+      goes_inside new stage i stays here (cell new (has_cell new list index row found stays is done.finds within)))
+      (past new stays))
+
+  -- A thread that doesn't get its lock stays at `before`. A thread that locks has locked nothing before, so it has
+  -- borrowed nothing.
+  lock_uses : (before : Place) (object : ℕ) → KnowsItems code memory locked before → Here (Lock object)
+      → (layout : Layout) (t used : ℕ)
+      → LeavesItems code memory locked (dispatch_instruction layout t used before left at variables (Some (Lock object)))
+  lock_uses before object knew here layout t used =
+      row_uses (row_of variables object) _ (λ row is new found done.
+      let none = guards_none s variables s.locked locked (first_false _ _ here.met.first_lock) here.guards in
+      elim (found == free_word) as
+      (λ b. KnowsItems code new (cond b (Some row) locked) (cond b (InCall left (at + 1) variables) before)) [
+        | true ↦
+            goes_on new (Some row) (at + 1) variables (Lock object) Success here refl
+            (unlocked_items memory new locked (Some row) s variables none here.items)
+        | false ↦ knows_stay memory new locked (done.keeps refl) code before knew
+      ])
+
+  pub instruction_uses : (layout : Layout) (t used : ℕ) (before : Place) (i : Instr)
+      → KnowsItems code memory locked before → Here i
+      → LeavesItems code memory locked (dispatch_instruction layout t used before left at variables (Some i))
+  instruction_uses layout t used before (Num to value otherwise) knew here =
+      birth_uses layout t used (Num to value otherwise) to (number_word value) otherwise (Owned kinds.Num) here
+      here.operands.0 refl refl refl refl refl
+  instruction_uses layout t used before (ListObject to cells otherwise) knew here =
+      birth_uses layout t used (ListObject to cells otherwise) to (list_word cells) otherwise (Owned kinds.List) here
+      here.operands.0 refl refl refl refl refl
+  instruction_uses layout t used before (NoneObject to) knew here =
+      goes_on_free memory (at + 1) (NoneObject to) Success to (Owned kinds.None) (Some none_row) (all_stay memory locked)
+      here refl refl here.operands refl
+  instruction_uses layout t used before (Newref to from) knew here =
+      row_uses (row_of variables from) _ (λ row is new found done.
+      goes_on_free new (at + 1) (Newref to from) Success to (Owned (kind_of (slot_of s from))) (Some row) (done.keeps refl)
+      here refl refl here.operands.0 refl)
+  instruction_uses layout t used before (MoveReference to from) knew here =
+      row_uses (row_of variables from) _ (λ row is.
+      let slot = Owned (kind_of (slot_of s from)) in
+      let emptied : HaveItems memory locked (put s from Empty) (slice_set variables from None) =
+      items_put memory locked s variables from Empty None (omega (arith, here.operands.1, here.inside.slots))
+      (omega (arith, here.operands.1, here.inside.rows)) (needs_none memory locked Empty None refl) here.items in
+      goes_on memory locked (at + 1) (slice_set (slice_set variables from None) to (Some row)) (MoveReference to from)
+      Success here refl
+      (items_put memory locked (put s from Empty) (slice_set variables from None) to slot (Some row)
+      (omega (arith, here.operands.0, here.inside.slots, length-set s.slots from Empty))
+      (omega (arith, here.operands.0, here.inside.rows, length-set variables from None))
+      (needs_none memory locked slot (Some row) refl) emptied))
+  instruction_uses layout t used before (Drop from) knew here =
+      row_uses (row_of variables from) _ (λ row is new found done.
+      goes_on_free new (at + 1) (Drop from) Success from Empty None (done.keeps refl) here refl refl here.operands refl)
+  instruction_uses layout t used before (Lock object) knew here = lock_uses before object knew here layout t used
+  instruction_uses layout t used before (Unlock object) knew here =
+      row_uses (row_of variables object) _ (λ row is new found done.
+      goes_on_without new None (at + 1) variables (Unlock object) Success here refl (without_items_free s))
+  instruction_uses layout t used before (Borrow to list index otherwise) knew here =
+      range_uses (Borrow to list index otherwise) list index InRange (InCall left otherwise (slice_set variables to None))
+      here (λ new has. has)
+      (λ new stays.
+      goes_on_free new otherwise (Borrow to list index otherwise) FaultExit to Empty None stays here refl refl
+      here.operands.0 refl)
+  instruction_uses layout t used before (Fetch to list index otherwise) knew here =
+      range_uses (Fetch to list index otherwise) list index InRange (InCall left otherwise (slice_set variables to None))
+      here (λ new has. has)
+      (λ new stays.
+      goes_on_free new otherwise (Fetch to list index otherwise) FaultExit to Empty None stays here refl refl
+      here.operands.0 refl)
+  instruction_uses layout t used before (Set list index from otherwise) knew here =
+      range_uses (Set list index from otherwise) list index InRange (Inside left at variables OutOfRange) here
+      (λ new has. has)
+      (λ new stays. goes_inside new OutOfRange (Set list index from otherwise) stays here tt)
+  instruction_uses layout t used before (Put list index from otherwise) knew here =
+      range_uses (Put list index from otherwise) list index InRange (InCall left otherwise variables) here (λ new has. has)
+      (λ new stays.
+      goes_on_without new locked otherwise variables (Put list index from otherwise) FaultExit here refl
+      (without_items_free s))
+  instruction_uses layout t used before (As from kind otherwise) knew here =
+      row_uses (row_of variables from) _ (λ row is new found done.
+      let stays = done.keeps refl in
+      either (λ (next : ℕ). KnowsItems code new locked (InCall left next variables))
+      (same_kind (kind_of_word found) kind) _ _
+      (λ same.
+      goes_on new locked (at + 1) variables (As from kind otherwise) Success here refl
+      (items_with_kind new locked s variables from kind (omega (arith, here.operands.0, here.inside.slots))
+      (items_stay memory new locked stays s variables here.items)))
+      (goes_on_same new otherwise (As from kind otherwise) FaultExit stays here refl refl))
+  instruction_uses layout t used before (Goto to) knew here =
+      goes_on_same memory to (Goto to) Success (all_stay memory locked) here refl refl
+  instruction_uses layout t used before (Ret from) knew here =
+      row_uses (row_of variables from) _ (λ row is new found done. tt)
+  instruction_uses layout t used before Fail knew here = tt
+
+  -- ---- each step inside an instruction
+
+  -- A look at a cell: an empty one ends the instruction, and in another the thread finds an item.
+  cell_uses : (i : Instr) (list index : ℕ) (empty : Place) (holds : ℕ → Place) → Here i → names s.locked list ≡ true
+      → ((new : Address → ℕ) → ItemsStay memory new locked → KnowsItems code new locked empty)
+      → ((new : Address → ℕ) (item : ℕ) → ItemsStay memory new locked → IsItem new locked item
+      → KnowsItems code new locked (holds item))
+      → LeavesItems code memory locked
+      (with_row (row_of variables list) (λ row. Does (CellLoad row index) [] (by_item empty holds)))
+  cell_uses i list index empty holds here named none some =
+      row_uses (row_of variables list) _ (λ row is new found done.
+      let stays = done.keeps refl in
+      let locks = locked_list list row named is here.guards in
+      item_decides (λ word place. word ≡ memory (Cell row index) → KnowsItems code new locked place) empty holds
+      (λ seen. none new stays)
+      (λ item seen.
+      some new item stays (record {
+        list = row;
+        cell = index;
+        is_locked = locks;
+        holds = stays.cells row index locks ∙ sym seen ∙ omega arith;
+      })) found done.finds)
+
+  pub inside_uses : (stage : Stage) (i : Instr) → StageKnows memory locked variables stage (Some i) → Here i
+      → LeavesItems code memory locked (dispatch_inside left at variables stage (Some i))
+  inside_uses InRange (Borrow to list index otherwise) knows here =
+      cell_uses (Borrow to list index otherwise) list index (InCall left otherwise (slice_set variables to None))
+      (λ item. InCall left (at + 1) (slice_set variables to (Some item))) here
+      (not-false (names s.locked list) (first_false _ _ here.met.has_lock))
+      (λ new stays.
+      goes_on_free new otherwise (Borrow to list index otherwise) FaultExit to Empty None stays here refl refl
+      here.operands.0 refl)
+      (λ new item stays there.
+      goes_on_put new (at + 1) (Borrow to list index otherwise) Success to (Locked kinds.Any) (Some item) stays here refl
+      refl here.operands.0 (λ x borrows is. subst (IsItem new locked) (some_is item x is) there))
+  inside_uses InRange (Fetch to list index otherwise) knows here =
+      cell_uses (Fetch to list index otherwise) list index (InCall left otherwise (slice_set variables to None))
+      (λ item. Inside left at variables (Found item)) here
+      (not-false (names s.locked list) (first_false _ _ here.met.has_lock))
+      (λ new stays.
+      goes_on_free new otherwise (Fetch to list index otherwise) FaultExit to Empty None stays here refl refl
+      here.operands.0 refl)
+      (λ new item stays there. goes_inside new (Found item) (Fetch to list index otherwise) stays here there)
+  inside_uses (Found item) (Fetch to list index otherwise) knows here = λ new found done.
+      goes_on_free new (at + 1) (Fetch to list index otherwise) Success to (Owned kinds.Any) (Some item)
+      (done.keeps refl) here refl refl here.operands.0 refl
+  inside_uses InRange (Set list index from otherwise) knows here =
+      row_uses (row_of variables list) _ (λ row is.
+      row_uses (row_of variables from) _ (λ item this new found done.
+      goes_on_without new locked (at + 1) (slice_set variables from None) (Set list index from otherwise) Success here refl
+      (without_items_free (put s from Empty))))
+  inside_uses OutOfRange (Set list index from otherwise) knows here =
+      row_uses (row_of variables from) _ (λ item this new found done.
+      goes_on_without new locked otherwise (slice_set variables from None) (Set list index from otherwise) FaultExit here
+      refl (without_items_free (put s from Empty)))
+  inside_uses InRange (Put list index from otherwise) knows here =
+      row_uses (row_of variables from) _ (λ item this new found done.
+      let stays = done.keeps refl in
+      goes_inside new Retained (Put list index from otherwise) stays here
+      (cell_stays memory new locked stays variables list index knows))
+  inside_uses Retained (Put list index from otherwise) knows here =
+      row_uses (row_of variables list) _ (λ row is.
+      row_uses (row_of variables from) _ (λ item this new found done.
+      goes_on_without new locked (at + 1) variables (Put list index from otherwise) Success here refl
+      (without_items_free s)))
+  inside_uses stage i knows here = tt

@@ -1,0 +1,304 @@
+//! The dispatch of `borrow`, `fetch`, `set` and `put`, which use a cell of the list that the thread has locked. Each
+//! begins with a load of the list's kind word, which says whether the list has the cell. After that the thread is inside
+//! the instruction.
+
+ghost use Rattle.std.specs.Prelude.{◌≡◌, true, ℕ, ◌+◌, ◌≤◌, [], ◌∷◌, Some, vec_len, vec_capacity};
+ghost use Rattle.brc_lang.specs.declared.module.Instr.TheVariants as instructions;
+ghost use Rattle.brc_model.specs.declared.actor.Stage.TheVariants as stages;
+ghost use Rattle.brc_model.specs.declared.duty.Duty.TheVariants.{KindLoad, CellLoad, CellSwap, Settle};
+ghost use Rattle.brc_model.specs.declared.layout.Layout.{Layout};
+ghost use Rattle.brc_model.specs.Actions.{Does, with_row};
+ghost use Rattle.brc_model.specs.Threads.{row_of};
+ghost use Rattle.brc_world.specs.declared.question.Question.TheVariants as questions;
+ghost use Rattle.brc_world.specs.Actors.{actor_of, with_agenda};
+ghost use Rattle.brc_world.specs.Questions.{place_answered};
+ghost use Rattle.brc_world.specs.Starts.{uses_cell, action_at, action_inside, CanBegin, Begins};
+
+use crate::dispatch::Start;
+use crate::dispatch::references::release;
+use crate::question::{Outside, Question};
+use crate::thread::{Mode, Thread};
+use brc_lang::{Instr, Variable};
+use brc_model::{Duty, Holding, Stage};
+
+/// Begins an instruction that uses a cell.
+#[inline(always)]
+pub(super) fn ask_for_cell(instr: Instr, thread: &mut Thread, left: u32) -> Start
+    requires can { CanBegin thread.old }
+    requires item { uses_cell instr ≡ true }
+    ensures { (layout : Layout) (t : ℕ) → Begins thread.old (action_at layout t left (Some instr) thread.old) result
+        thread.new }
+{
+    match instr {
+        Instr::Borrow {
+            to,
+            list,
+            index,
+            otherwise,
+        } => ask_range(list, index, Outside::Empties { to, otherwise }, thread, left),
+        Instr::Fetch {
+            to,
+            list,
+            index,
+            otherwise,
+        } => ask_range(list, index, Outside::Empties { to, otherwise }, thread, left),
+        Instr::Set { list, index, .. } => ask_range(list, index, Outside::Releases, thread, left),
+        Instr::Put {
+            list,
+            index,
+            otherwise,
+            ..
+        } => ask_range(list, index, Outside::GoesOn { otherwise }, thread, left),
+        _ => Start::Stuck,
+    }
+}
+
+/// Begins the load of the list's kind word, which decides whether the list has a cell with the index
+/// (`index_at_the_end_in_range`).
+#[inline(always)]
+fn ask_range(
+    list: Variable,
+    index: u8,
+    outside: Outside,
+    thread: &mut Thread,
+    left: u32,
+) -> Start
+    requires { CanBegin thread.old }
+    ensures { Begins thread.old (with_row (row_of thread.old.variables list) (λ row. Does (KindLoad row) []
+        (λ found. place_answered (questions.Range index outside) found left thread.old.at thread.old.variables)))
+        result thread.new }
+{
+    match thread.row_of(list) {
+        Some(row) => {
+            thread.left = left;
+            Start::Asking {
+                duty: Duty::KindLoad { row },
+                question: Question::Range { index, outside },
+            }
+        }
+        None => Start::Stuck,
+    }
+}
+
+/// Goes on inside the instruction, by how far the thread is in it.
+#[inline(always)]
+pub(super) fn go_on_inside(instr: Instr, stage: Stage, thread: &mut Thread) -> Start
+    requires { CanBegin thread.old }
+    ensures { Begins thread.old (action_inside stage (Some instr) thread.old) result thread.new }
+{
+    match stage {
+        Stage::InRange => use_cell(instr, thread),
+        Stage::OutOfRange => match instr {
+            Instr::Set {
+                list,
+                index,
+                from,
+                otherwise,
+            } => give_up(list, index, from, otherwise, thread),
+            _ => Start::Stuck,
+        },
+        Stage::Found { row } => match instr {
+            Instr::Fetch {
+                to,
+                list,
+                index,
+                otherwise,
+            } => retain_found(row, to, thread),
+            _ => Start::Stuck,
+        },
+        Stage::Retained => match instr {
+            Instr::Put {
+                list,
+                index,
+                from,
+                otherwise,
+            } => put(list, index, from, thread),
+            _ => Start::Stuck,
+        },
+    }
+}
+
+/// Goes on with an instruction whose list has the cell.
+#[inline(always)]
+fn use_cell(instr: Instr, thread: &mut Thread) -> Start
+    requires { CanBegin thread.old }
+    ensures { Begins thread.old (action_inside stages.InRange (Some instr) thread.old) result thread.new }
+{
+    match instr {
+        Instr::Borrow {
+            to,
+            list,
+            index,
+            otherwise,
+        } => borrow(to, list, index, otherwise, thread),
+        Instr::Fetch {
+            to,
+            list,
+            index,
+            otherwise,
+        } => fetch(to, list, index, otherwise, thread),
+        Instr::Set {
+            list,
+            index,
+            from,
+            otherwise,
+        } => set(list, index, from, otherwise, thread),
+        Instr::Put {
+            list,
+            index,
+            from,
+            otherwise,
+        } => retain_to_put(from, thread),
+        _ => Start::Stuck,
+    }
+}
+
+/// Goes on with `borrow`: the load of the cell. (C API manual, `PyList_GetItem`: the list keeps its reference, and the
+/// thread makes none.)
+fn borrow(to: Variable, list: Variable, index: u8, otherwise: u8, thread: &mut Thread) -> Start
+    requires { CanBegin thread.old }
+    ensures { Begins thread.old (action_inside stages.InRange (Some (instructions.Borrow to list index otherwise))
+        thread.old) result thread.new }
+{
+    let next = thread.at + 1;
+    match thread.row_of(list) {
+        Some(row) => {
+            thread.at = next;
+            load_cell(row, index, Question::Borrow { to, otherwise })
+        }
+        None => Start::Stuck,
+    }
+}
+
+/// Goes on with `fetch`: the load of the cell.
+fn fetch(to: Variable, list: Variable, index: u8, otherwise: u8, thread: &mut Thread) -> Start
+    requires { CanBegin thread.old }
+    ensures { Begins thread.old (action_inside stages.InRange (Some (instructions.Fetch to list index otherwise))
+        thread.old) result thread.new }
+{
+    match thread.row_of(list) {
+        Some(row) => load_cell(row, index, Question::Fetch { to, otherwise }),
+        None => Start::Stuck,
+    }
+}
+
+/// Begins the load of the cell (`item_of_another_cell`).
+fn load_cell(row: u32, index: u8, question: Question) -> Start
+    ensures { result ≡ Start.Asking (CellLoad row index) question }
+{
+    Start::Asking {
+        duty: Duty::CellLoad {
+            row,
+            cell: u32::from(index),
+        },
+        question,
+    }
+}
+
+/// Ends `fetch`: the retain of the item that the thread found. (C API manual, `PyList_GetItemRef`: the caller owns the
+/// reference.) The list is locked until then, so the item lives (`fetch_without_retain`).
+fn retain_found(item: u32, to: Variable, thread: &mut Thread) -> Start
+    requires { CanBegin thread.old }
+    ensures { (list index otherwise : ℕ) → Begins thread.old (action_inside (stages.Found item)
+        (Some (instructions.Fetch to list index otherwise)) thread.old) result thread.new }
+{
+    let next = thread.at + 1;
+    let left = thread.left;
+    thread.set(to, Some(item));
+    thread.go_to(left, next);
+    Start::Doing(Duty::RetainLoad {
+        row: item,
+        holding: Holding::ByVariable(to),
+    })
+}
+
+/// Ends `set`: the list takes the variable's reference over, and what the cell held is released. (C API manual,
+/// `PyList_SetItem`.)
+fn set(list: Variable, index: u8, from: Variable, otherwise: u8, thread: &mut Thread) -> Start
+    requires { CanBegin thread.old }
+    ensures { Begins thread.old (action_inside stages.InRange (Some (instructions.Set list index from otherwise))
+        thread.old) result thread.new }
+{
+    let next = thread.at + 1;
+    let left = thread.left;
+    match (thread.row_of(list), thread.row_of(from)) {
+        (Some(row), Some(item)) => {
+            thread.set(from, None);
+            thread.go_to(left, next);
+            swap(row, index, item, Holding::ByVariable(from), thread)
+        }
+        _ => Start::Stuck,
+    }
+}
+
+/// Ends `set` if the list has no such cell: the variable's reference is released. (C API manual, `PyList_SetItem`: the
+/// reference is stolen on an error too.)
+fn give_up(list: Variable, index: u8, from: Variable, otherwise: u8, thread: &mut Thread) -> Start
+    requires { CanBegin thread.old }
+    ensures { Begins thread.old (action_inside stages.OutOfRange (Some (instructions.Set list index from otherwise))
+        thread.old) result thread.new }
+{
+    let left = thread.left;
+    match thread.row_of(from) {
+        Some(item) => {
+            thread.set(from, None);
+            thread.go_to(left, usize::from(otherwise));
+            release(item, from, thread)
+        }
+        None => Start::Stuck,
+    }
+}
+
+/// Goes on with `put`: the retain of what is to be stored. The variable keeps its reference, and the list gets one of
+/// its own (`put_without_retain`).
+fn retain_to_put(from: Variable, thread: &mut Thread) -> Start
+    requires { CanBegin thread.old }
+    ensures { (list index otherwise : ℕ) → Begins thread.old (action_inside stages.InRange
+        (Some (instructions.Put list index from otherwise)) thread.old) result thread.new }
+{
+    match thread.row_of(from) {
+        Some(item) => {
+            thread.mode = Mode::Inside(Stage::Retained);
+            Start::Doing(Duty::RetainLoad {
+                row: item,
+                holding: Holding::InFlight,
+            })
+        }
+        None => Start::Stuck,
+    }
+}
+
+/// Ends `put`: the list takes the new reference over, and what the cell held is released.
+fn put(list: Variable, index: u8, from: Variable, thread: &mut Thread) -> Start
+    requires { CanBegin thread.old }
+    ensures { (otherwise : ℕ) → Begins thread.old (action_inside stages.Retained
+        (Some (instructions.Put list index from otherwise)) thread.old) result thread.new }
+{
+    let next = thread.at + 1;
+    let left = thread.left;
+    match (thread.row_of(list), thread.row_of(from)) {
+        (Some(row), Some(item)) => {
+            thread.go_to(left, next);
+            swap(row, index, item, Holding::InFlight, thread)
+        }
+        _ => Start::Stuck,
+    }
+}
+
+/// Begins the swap of a cell. The thread deallocates its dying chain after it, and after the release of what the cell
+/// held.
+fn swap(row: u32, index: u8, item: u32, holding: Holding, thread: &mut Thread) -> Start
+    requires empty { thread.old.agenda.items ≡ [] }
+    requires room { 8 ≤ vec_capacity thread.old.agenda }
+    ensures starts { result ≡ Start.Doing (CellSwap row index item holding) }
+    ensures actor { actor_of thread.new ≡ with_agenda (actor_of thread.old) (Settle ∷ []) }
+    ensures room { vec_len thread.new.agenda + 4 ≤ vec_capacity thread.new.agenda }
+{
+    thread.agenda.push_reserved(Duty::Settle);
+    Start::Doing(Duty::CellSwap {
+        row,
+        cell: u32::from(index),
+        item,
+        holding,
+    })
+}
