@@ -76,8 +76,8 @@ def examples():
     faults += [f"{PAGES[1].name}: {path.name} has no block" for path in sorted(FROM_C.iterdir())
                if path.name not in named]
     more, named = table_examples()
-    faults += [f"examples/README.md: {path.relative_to(EXAMPLES)} has no row" for path in sorted(EXAMPLES.rglob("*.brc"))
-               if str(path.relative_to(EXAMPLES)) not in named]
+    modules = [str(path.relative_to(EXAMPLES)) for path in sorted(EXAMPLES.rglob("*.brc"))]
+    faults += [f"examples/README.md: {name} has no row" for name in modules if name not in named]
     return found + more, faults
 
 
