@@ -10,9 +10,9 @@ use crate::thread::Thread;
 use brc_lang::Variable;
 use brc_model::Duty;
 
-/// Begins `lock`: the compare-exchange of the object's gate, which decides whether the thread goes on. Until it has the
-/// lock, the thread stays where it is: the same step is then to be made again (`lost_lock_begins_the_call`,
-/// `lost_lock_passed_over`).
+/// Begins `lock`: the compare-exchange of the object's gate, which decides whether the thread goes on. A thread that
+/// doesn't get the lock would block; a step of this world never does, so the thread stays where it is, and makes the
+/// same step again. A call that begins with a `lock` hasn't begun until then (`lost_lock_begins_the_call`).
 #[inline(always)]
 pub(super) fn lock(object: Variable, thread: &mut Thread, left: u32) -> Start
     requires { CanBegin thread.old }
