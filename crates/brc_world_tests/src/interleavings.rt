@@ -1,34 +1,61 @@
 ghost use Rattle.std.specs.Prelude.{◌<◌, length};
 
-use crate::steps::{TAKE_AND_DROP, accepted, step, told};
+use crate::steps::{TAKE_AND_DROP, accepted, accepted_text, counted, step};
 use brc_check::Checked;
 use brc_model::{Call, Choice};
 use brc_world::{Did, NoMemory, World};
 use std::alloc::{AllocError, Global};
 use std::collections::BTreeSet;
+use std::io::Print;
+use std::process::Abort;
 use std::test::*;
 
-/// The most states that the search visits.
+/// The most states that a search visits.
 const MOST_STATES: usize = 100_000;
 
-/// The number of moves: a step of main, a step of either worker, and a claim of the root's mark by main.
-const MOVES: u8 = 4;
+/// The number of threads, main and two workers. The moves below it are steps of the thread with the number.
+const THREADS: u8 = 3;
 
-/// The move that is a claim.
-const CLAIM: u8 = 3;
+/// The number of moves: a step of each thread, and a claim by each thread of the mark of a row of its own.
+const MOVES: u8 = 6;
 
 /// The lines of a function that locks the root for a moment.
 const LOCK_THE_ROOT: &[u8] = b"lock v0\nunlock v0\nfail\n";
 
-/// Returns a world with two workers, each of which calls the function once.
+/// The lines of a function that stores a number of its own in the root's first cell and gives up the one that it finds
+/// there. Then it locks the root again, and fetches the number that the cell has by now.
+const SET_AND_FETCH: &[u8] =
+    b"num v1 7 else @9\nlock v0\nset v0 0 v1 else @8\nunlock v0\nlock v0\nfetch v1 v0 0 else @8\nunlock v0\nret v1\n\
+      unlock v0\nfail\n";
+
+/// A function that stores a number of its own in the root's first cell, and one that puts none in the number's place.
+const SWAP_AND_CLEAR: &[u8] =
+    b"module 1\nfunc swap\nnum v1 7 else @7\nlock v0\nset v0 0 v1 else @6\nunlock v0\nnone v1\nret v1\nunlock v0\n\
+      fail\nend\nfunc clear\nnone v1\nlock v0\nput v0 0 v1 else @3\nunlock v0\nret v1\nend\n";
+
+/// Returns a world with two workers of one row each. Worker 1 calls the first function once, and worker 2 the last one.
 fn first(alloc: Global, checked: &Checked) -> Result<World<'_>, NoMemory>
     requires { 0 < length checked.now.module.functions }
 {
-    let call = Call {
+    let one = Call {
         function: 0,
         times: 1,
     };
-    World::new(alloc, checked, 2, 1, &[call, call])
+    let other = Call {
+        function: checked.module().functions.len() - 1,
+        times: 1,
+    };
+    World::new(alloc, checked, 2, 1, &[one, other])
+}
+
+/// Makes the move. The root is in row 1, and the workers' rows follow.
+fn make(world: &mut World<'_>, turn: u8) -> Result<Option<Did>, NoMemory> {
+    match turn {
+        0..THREADS => step(world, usize::from(turn), Choice::Ok),
+        3 => step(world, 0, Choice::Claim { row: 1 }),
+        4 => step(world, 1, Choice::Claim { row: 2 }),
+        _ => step(world, 2, Choice::Claim { row: 3 }),
+    }
 }
 
 /// Returns the world after the moves, and what the last one did.
@@ -42,10 +69,7 @@ fn after<'a>(
     let mut world = first(alloc, checked)?;
     let mut did = None;
     for turn in moves {
-        did = match *turn {
-            CLAIM => step(&mut world, 0, Choice::Claim { row: 1 })?,
-            thread => step(&mut world, usize::from(thread), Choice::Ok)?,
-        };
+        did = make(&mut world, *turn)?;
     }
     Ok((world, did))
 }
@@ -63,18 +87,19 @@ fn one_move_more(alloc: Global, moves: &[u8], turn: u8) -> Result<Vec<u8>, Alloc
     Ok(more)
 }
 
-/// Returns whether all threads are gone. Fails if what was created is neither closed nor alive, or isn't closed at the
-/// end.
-fn is_last(tally: [u64; 7]) -> Result<bool, Fail> {
-    let [_, running, created, closed, alive, _, _] = tally;
-    if closed.checked_add(alive) != Some(created) {
-        return Err("what was created is neither closed nor alive")?;
+/// Returns whether all threads are gone. Fails if what was created is neither closed nor left, or if all threads are
+/// gone and the report isn't that of `objects` objects, all closed.
+fn is_last(alloc: Global, world: &World<'_>, objects: u64) -> Result<bool, Fail> {
+    let (numbers, left) = counted(alloc, world)?;
+    let [_, running, created, closed, alive, _, _] = numbers;
+    if closed.checked_add(alive) != Some(created) || alive != left as u64 {
+        return Err("what was created is neither closed nor left")?;
     }
     if running > 0 {
         return Ok(false);
     }
-    if (created, closed) != (1, 1) {
-        return Err("all threads are gone, and the root isn't closed")?;
+    if numbers != [2, 0, objects, objects, 0, 0, 0] {
+        return Err("all threads are gone, and an object isn't closed")?;
     }
     Ok(true)
 }
@@ -92,11 +117,12 @@ struct Found {
     waits: usize,
 }
 
-/// Visits the state after the moves, if it is a new one. Returns what the last move did, and whether the state is new
-/// and all its threads are gone.
+/// Visits the state after the moves, if the last move leads to a new one. Returns what that move did, and whether the
+/// state is new and all its threads are gone.
 fn visit(
     alloc: Global,
     checked: &Checked,
+    objects: u64,
     moves: Vec<u8>,
     seen: &mut BTreeSet<String>,
     paths: &mut Vec<Vec<u8>>,
@@ -104,17 +130,16 @@ fn visit(
     requires { 0 < length checked.now.module.functions }
 {
     let (world, did) = after(alloc, checked, &moves)?;
-    if !seen.insert(format!(in alloc; "{world:?}")?)? {
+    if did != Some(Did::Moved) || !seen.insert(format!(in alloc; "{world:?}")?)? {
         return Ok((did, false));
     }
-    let (numbers, _) = told(alloc, &world)?;
-    let last = is_last(numbers)?;
+    let last = is_last(alloc, &world, objects)?;
     paths.push(moves)?;
     Ok((did, last))
 }
 
 /// Visits each state that moves lead to.
-fn search(alloc: Global, checked: &Checked) -> Result<Found, Fail>
+fn search(alloc: Global, checked: &Checked, objects: u64) -> Result<Found, Fail>
     requires { 0 < length checked.now.module.functions }
 {
     let mut seen = BTreeSet::new(alloc);
@@ -130,9 +155,9 @@ fn search(alloc: Global, checked: &Checked) -> Result<Found, Fail>
         let mut is_end = true;
         for turn in 0..MOVES {
             let more = one_move_more(alloc, &moves, turn)?;
-            let (did, is_last) = visit(alloc, checked, more, &mut seen, &mut paths)?;
+            let (did, is_last) = visit(alloc, checked, objects, more, &mut seen, &mut paths)?;
             last = last.saturating_add(usize::from(is_last));
-            waits = waits.saturating_add(usize::from(turn != CLAIM && did == Some(Did::Same)));
+            waits = waits.saturating_add(usize::from(turn < THREADS && did == Some(Did::Same)));
             is_end = is_end && did != Some(Did::Moved);
         }
         ends = ends.saturating_add(usize::from(is_end));
@@ -145,29 +170,50 @@ fn search(alloc: Global, checked: &Checked) -> Result<Found, Fail>
     })
 }
 
-/// Visits every interleaving of main and two workers. Each worker takes a reference, drops it and fails, and main
-/// claims the root's mark at any time.
-#[test]
-fn every_interleaving(rt: HostRuntime) -> Result<(), Fail> {
-    let checked = accepted(rt.alloc(), TAKE_AND_DROP)?;
-    let found = search(rt.alloc(), &checked)?;
-    println!(rt; "{} states, {} of them last ones", found.states, found.last)?;
-    assert!(rt; found.last > 0 && found.states < MOST_STATES);
-    assert_eq!(rt; (found.ends, found.waits), (found.last, 0));
-    Ok(())
-}
-
-/// Visits every interleaving of main and two workers that lock the root. Now and then a worker waits for the other; but
-/// no state without a way on is left, except for those in which all threads are gone.
-#[test]
-fn every_interleaving_of_locks(rt: HostRuntime) -> Result<(), Fail> {
-    let checked = accepted(rt.alloc(), LOCK_THE_ROOT)?;
-    let found = search(rt.alloc(), &checked)?;
+/// Visits every interleaving. Asserts that no state without a way on is left, except for those in which all threads are
+/// gone, and that in some state a thread waits, or in none.
+fn assert_ends<R: Abort + AllocGlobal + Print>(
+    rt: &R,
+    checked: &Checked,
+    objects: u64,
+    waits: bool,
+) -> Result<(), Fail>
+    requires { 0 < length checked.now.module.functions }
+{
+    let found = search(rt.alloc(), checked, objects)?;
     println!(rt;
         "{} states, {} of them last ones, {} waits",
         found.states, found.last, found.waits
     )?;
-    assert!(rt; found.last > 0 && found.waits > 0 && found.states < MOST_STATES);
-    assert_eq!(rt; found.ends, found.last);
+    assert!(rt; found.last > 0 && found.states < MOST_STATES);
+    assert_eq!(rt; (found.ends, found.waits > 0), (found.last, waits));
     Ok(())
+}
+
+/// Each worker takes a reference to the root, drops it and fails.
+#[test]
+fn every_interleaving(rt: HostRuntime) -> Result<(), Fail> {
+    let checked = accepted(rt.alloc(), TAKE_AND_DROP)?;
+    assert_ends(&rt, &checked, 1, false)
+}
+
+/// Each worker locks the root. Now and then one waits for the other.
+#[test]
+fn every_interleaving_of_locks(rt: HostRuntime) -> Result<(), Fail> {
+    let checked = accepted(rt.alloc(), LOCK_THE_ROOT)?;
+    assert_ends(&rt, &checked, 1, true)
+}
+
+/// Each worker stores a number in the root and fetches its own or the other's.
+#[test]
+fn every_interleaving_of_items(rt: HostRuntime) -> Result<(), Fail> {
+    let checked = accepted(rt.alloc(), SET_AND_FETCH)?;
+    assert_ends(&rt, &checked, 3, true)
+}
+
+/// Worker 1 stores a number in the root. Worker 2 takes it out, perhaps while worker 1 leaves.
+#[test]
+fn every_interleaving_of_a_race(rt: HostRuntime) -> Result<(), Fail> {
+    let checked = accepted_text(rt.alloc(), SWAP_AND_CLEAR)?;
+    assert_ends(&rt, &checked, 2, true)
 }

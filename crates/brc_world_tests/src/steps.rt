@@ -17,12 +17,19 @@ pub fn accepted(alloc: Global, lines: &[u8]) -> Result<Checked, Fail>
     let mut text = Vec::from_slice(alloc, b"module 1\nfunc f\n")?;
     text.extend_from_slice(lines)?;
     text.extend_from_slice(b"end\n")?;
-    let Ok(module) = read(alloc, &text) else {
+    accepted_text(alloc, &text)
+}
+
+/// Reads and checks the module of this text.
+pub fn accepted_text(alloc: Global, text: &[u8]) -> Result<Checked, Fail>
+    ensures { IfOk result (λ checked. 0 < length checked.module.functions) }
+{
+    let Ok(module) = read(alloc, text) else {
         return Err("the text is a module")?;
     };
     match check(alloc, module) {
         Ok(checked) => Ok(checked),
-        Err(_) => Err("nothing is owned at the end")?,
+        Err(_) => Err("the module is accepted")?,
     }
 }
 
@@ -77,6 +84,12 @@ pub const ROOT: Left = Left {
 pub fn told(alloc: Global, world: &World<'_>) -> Result<Told, NoMemory> {
     let tally = tally(alloc, world)?;
     Ok((numbers(&tally), only(tally.left.as_slice())))
+}
+
+/// Returns the numbers of the world's tally, and how many objects it lists as left.
+pub fn counted(alloc: Global, world: &World<'_>) -> Result<([u64; 7], usize), NoMemory> {
+    let tally = tally(alloc, world)?;
+    Ok((numbers(&tally), tally.left.len()))
 }
 
 /// Returns the tally. This function has no contract, because `World::tally`'s would make each later line slow to prove.
