@@ -28,7 +28,7 @@ use Rattle.brc_model.specs.declared.duty.Duty.TheVariants.{RetainLoad, ReleaseLo
 use Rattle.brc_model.specs.declared.actor.Place.{Place}
 use Rattle.brc_model.specs.declared.actor.Place.TheVariants.{Idle, InCall, Inside, Exiting}
 use Rattle.brc_model.specs.declared.actor.Stage.{Stage}
-use Rattle.brc_model.specs.Actions.{Action, Skip, Stuck, Silent, Does, with_row}
+use Rattle.brc_model.specs.Actions.{Action, Skip, Stuck, Silent, Calls, Does, with_row}
 use Rattle.brc_model.specs.References.{held, one_if, reference_of}
 use Rattle.brc_model.proofs.Basics.Lists.{none_at}
 use Rattle.brc_model.proofs.Dispatch.Holds.{the_root, of_variables, of_inside, Holds}
@@ -167,6 +167,7 @@ abbrev pub IsTaken : List Instr → Scene → Action → Type 0
 IsTaken code g Skip = ⊥
 IsTaken code g Stuck = ⊥
 IsTaken code g (Silent moves place) = SilentTaken code g moves place
+IsTaken code g (Calls place) = (exit : Exit) → SilentTaken code g [] (place exit)
 IsTaken code g (Does d rest place) = (found : ℕ) → Taken code g found (place found) d rest
 
 pub taken_with_row : (code : List Instr) (g : Scene) (object : ℕ) (row : Option ℕ) (work : ℕ → Action)

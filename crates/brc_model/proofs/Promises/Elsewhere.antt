@@ -13,7 +13,8 @@ use Rattle.brc_model.specs.declared.actor.Place.TheVariants.{Idle, InCall, Insid
 use Rattle.brc_model.specs.declared.actor.Stage.{Stage}
 use Rattle.brc_model.specs.declared.actor.Stage.TheVariants.{InRange, OutOfRange, Found, Retained}
 use Rattle.brc_model.specs.Machine.{has_room}
-use Rattle.brc_model.specs.Actions.{Action, Skip, Stuck, Silent, Does, with_row, by_range, by_item, birth_action, dispatch_instruction, dispatch_inside, dispatch, number_word, list_word}
+use Rattle.brc_model.specs.declared.slot.Exit.{Exit}
+use Rattle.brc_model.specs.Actions.{Action, Skip, Stuck, Silent, Calls, Does, with_row, by_range, by_item, birth_action, dispatch_instruction, dispatch_inside, dispatch, number_word, list_word}
 use Rattle.brc_model.proofs.Basics.Lists.{either}
 use Rattle.brc_model.proofs.Dispatch.Decided.{range_decides, item_decides}
 use Rattle.brc_lang.specs.Grammar.{LeadsForward}
@@ -30,6 +31,7 @@ abbrev pub IsElsewhere : Place → Action → Type 0
 IsElsewhere place Skip = ⊥
 IsElsewhere place Stuck = Unit {0}
 IsElsewhere place (Silent moves next) = next ≢ place
+IsElsewhere place (Calls next) = (exit : Exit) → next exit ≢ place
 IsElsewhere place (Does d rest next) = (found : ℕ) → FindsFree d found → next found ≢ place
 
 row_elsewhere : (place : Place) (o : Option ℕ) (work : ℕ → Action) → ((row : ℕ) → IsElsewhere place (work row))
