@@ -21,7 +21,7 @@ mod thread;
 mod work_laws;
 mod world_laws;
 
-pub use actor::{Place, Stage, Status};
+pub use actor::{Counters, Place, Stage, Status};
 pub use address::Address;
 pub use code::CheckCode;
 pub use counting_laws::{accounts_are_there, counts_agree, duties_are_kept, duties_are_within};

@@ -116,7 +116,8 @@ duty_fits p n m t a d rest whole found alive is =
     (omega (arith, plain, sum_by-cons at_once d rest)) in
     record {
       account = c t;
-      says = subst (λ (w : Option ℕ). PlaceSays (code_of (slice_get p.functions a.function)) a.place w (c t)) (sym unlocked)
+      says = subst (λ (w : Option ℕ). PlaceSays (code_of (slice_get p.functions a.function)) a.place w (c t))
+          (sym unlocked)
           own.says;
       departs = ap (exits a.actor.status) (sym is) ∙ (whole.coded t a found).departs;
       doing = record {
@@ -176,12 +177,12 @@ follows_small k layout t used place rest (Leaves leaves) = (settle_small k, (lea
 place_held : (code : List Instr) (bag : List Reference) (t x : ℕ) (locked : Option ℕ) (place : Place)
     → PlaceFits code bag t [] locked place → locked ≡ Some x → (by : Holding) × (0 < held (reference_of t by x) bag)
 place_held code bag t x locked (Idle left) fits is = absurd (none_some x (sym fits.0 ∙ is))
-place_held code bag t x locked (InCall left at variables) fits is =
+place_held code bag t x locked (InCall counters at variables) fits is =
     let lock =
     guards_held bag t fits.0 variables fits.0.locked locked x fits.2 is fits.1.grounded
     (holds_variables bag t fits.0 variables (holds_plain bag t (of_variables fits.0 variables) fits.3)) in
     (lock.by, lock.held_so)
-place_held code bag t x locked (Inside left at variables stage) fits is =
+place_held code bag t x locked (Inside counters at variables stage) fits is =
     let flight = in_flight (slice_get code at) stage variables in
     let lock =
     guards_held bag t fits.0 variables fits.0.locked locked x fits.2 is fits.1.grounded
