@@ -68,6 +68,7 @@ action_keeps p n m t a (Silent moves place) whole found fits kinds items =
               instructions = own.instructions;
               says = fits.says;
               departs = agenda ∙ fits.departs;
+              lent = fits.lent;
             }) whole.coded;
       },
     )
@@ -100,6 +101,7 @@ action_keeps p n m t a (Does d rest place) whole found fits kinds items =
               says = fits.says;
               departs =
                   exits_still new n (with_actor (counting m) t now) t now d rest word at ∙ fits.departs;
+              lent = fits.lent;
             }) whole.coded;
       },
     )
