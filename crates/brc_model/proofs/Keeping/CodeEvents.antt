@@ -69,6 +69,7 @@ silent_keeps p n m t a moves place whole found fits kinds items =
               instructions = own.instructions;
               says = fits.says;
               departs = agenda ∙ fits.departs;
+              lent = fits.lent;
             }) whole.coded;
       },
     )
@@ -126,6 +127,7 @@ action_keeps p n m t a exit (Does d rest place) whole found fits kinds items =
               says = fits.says;
               departs =
                   exits_still new n (with_actor (counting m) t now) t now d rest word at ∙ fits.departs;
+              lent = fits.lent;
             }) whole.coded;
       },
     )
