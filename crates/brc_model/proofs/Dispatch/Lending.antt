@@ -10,7 +10,7 @@ use Rattle.brc_model.specs.declared.actor.Counters.{Counters}
 use Rattle.brc_model.specs.declared.slot.Exit.{Exit}
 use Rattle.brc_model.specs.declared.actor.Place.TheVariants.{Idle, InCall, Inside, Exiting}
 use Rattle.brc_model.specs.declared.actor.Stage.{Stage}
-use Rattle.brc_model.specs.declared.actor.Stage.TheVariants.{InRange, OutOfRange, Found, Retained}
+use Rattle.brc_model.specs.declared.actor.Stage.TheVariants.{InRange, OutOfRange, Found, Retained, Loaded, Lent, Called, Granted}
 use Rattle.brc_model.specs.declared.duty.Duty.TheVariants.{BirthKind, KindLoad, CellLoad}
 use Rattle.brc_model.specs.declared.duty.Holding.TheVariants.{ByVariable}
 use Rattle.brc_model.specs.declared.layout.Layout.{Layout}
@@ -27,6 +27,10 @@ lent_to InRange i variables = None
 lent_to OutOfRange i variables = None
 lent_to (Found item) i variables = None
 lent_to Retained i variables = None
+lent_to Loaded i variables = None
+lent_to Lent i variables = None
+lent_to (Called exit) i variables = None
+lent_to Granted i variables = None
 
 -- The row whose resource a thread at the place has lent.
 abbrev pub lent_at : List Instr → Place → Option ℕ
