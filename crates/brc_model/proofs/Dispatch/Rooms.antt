@@ -1,10 +1,10 @@
 -- Where a thread awaits a birth: the host has granted it a resource, and its block has room for the object that it is to
 -- make of it. The thread has nothing else to do meanwhile.
 use Rattle.std.proofs.Common.{◌≡◌, ℕ, zero, suc, ◌+◌, Bool, true, false, List, [], ◌∷◌, Option, None, Some, refl, sym, ap, ◌∙◌}
-use Rattle.std.specs.Prelude.{◌==◌, slice_get, slice_set}
+use Rattle.std.specs.Prelude.{◌==◌, nat_lt, slice_get, slice_set}
 use Rattle.brc_lang.specs.declared.module.Function.{Function}
 use Rattle.brc_lang.specs.declared.module.Instr.{Instr}
-use Rattle.brc_lang.specs.declared.module.Instr.TheVariants.{Num, List as ListObject, NoneObject, Newref, Move as MoveReference, Drop, Lock, Unlock, Borrow, Fetch, Set, Put, Goto, Ret, Fail, As}
+use Rattle.brc_lang.specs.declared.module.Instr.TheVariants.{Num, List as ListObject, NoneObject, Newref, Move as MoveReference, Drop, Lock, Unlock, Borrow, Fetch, Set, Put, Goto, Again, Ret, Fail, As}
 use Rattle.brc_word.specs.Words.{free_word}
 use Rattle.brc_model.specs.declared.slot.Exit.{Exit}
 use Rattle.brc_model.specs.declared.thread.Choice.{Choice}
@@ -21,7 +21,7 @@ use Rattle.brc_model.specs.declared.duty.Duty.TheVariants.{KindLoad, LockGate, C
 use Rattle.brc_model.specs.declared.layout.Layout.{Layout}
 use Rattle.brc_model.specs.Machine.{Actor, is_lending, has_room}
 use Rattle.brc_model.specs.Threads.{code_of, row_of, entry_variables}
-use Rattle.brc_model.specs.Actions.{StepActor, Action, Skip, Stuck, Silent, Calls, Does, with_row, number_word, list_word, birth_action, first_counters, by_range, by_item, dispatch_instruction, dispatch_inside, dispatch, may_claim, agenda_action, status_action, action_of}
+use Rattle.brc_model.specs.Actions.{StepActor, Action, Skip, Stuck, Silent, Calls, Does, with_row, number_word, list_word, birth_action, first_counters, turns_at, turned, again_place, by_range, by_item, dispatch_instruction, dispatch_inside, dispatch, may_claim, agenda_action, status_action, action_of}
 use Rattle.brc_model.specs.StepMachine.{StepMachine}
 use Rattle.brc_model.proofs.Basics.Lists.{either}
 use Rattle.brc_model.proofs.Dispatch.Decided.{range_decides, item_decides}
@@ -142,6 +142,10 @@ module _ (code : List Instr) (layout : Layout) (t used : ℕ) where
   instruction_room before counters at variables (Some (As from kind otherwise)) none =
       row_room code (has_room layout t used) (row_of variables from) _ (λ row found e. absurd cc)
   instruction_room before counters at variables (Some (Goto to)) none = λ e. absurd cc
+  instruction_room before counters at variables (Some (Again to times)) none =
+      silent_none code (has_room layout t used) (again_place counters at variables to times)
+      (either (AwaitsNone code) (nat_lt (turns_at counters at) times) (InCall (turned counters at) to variables)
+      (InCall counters (at + 1) variables) (λ more. refl) refl)
   instruction_room before counters at variables (Some (Ret from)) none =
       row_room code (has_room layout t used) (row_of variables from) _ (λ row found e. absurd cc)
   instruction_room before counters at variables (Some Fail) none = λ e. absurd cc

@@ -4,7 +4,7 @@ use Rattle.std.specs.Prelude.{◌==◌, ◌&&◌, slice_get, slice_set}
 use Rattle.std.specs.List.{list_any}
 use Rattle.std.proofs.lemmas.List.{length-set}
 use Rattle.brc_lang.specs.declared.module.Instr.{Instr}
-use Rattle.brc_lang.specs.declared.module.Instr.TheVariants.{Num, List as ListObject, NoneObject, Newref, Move as MoveReference, Drop, Lock, Unlock, Borrow, Fetch, Set, Put, Goto, Ret, Fail, As}
+use Rattle.brc_lang.specs.declared.module.Instr.TheVariants.{Num, List as ListObject, NoneObject, Newref, Move as MoveReference, Drop, Lock, Unlock, Borrow, Fetch, Set, Put, Goto, Again, Ret, Fail, As}
 use Rattle.brc_lang.specs.declared.kind.Kind.{Kind}
 use Rattle.brc_model.specs.declared.slot.Slot.TheVariants.{Empty, Owned}
 use Rattle.brc_model.specs.declared.slot.State.{State}
@@ -45,7 +45,7 @@ use Rattle.brc_model.proofs.Dispatch.Rooms.{awaits_inside, awaits_birth}
 use Rattle.brc_model.specs.Machine.{has_room}
 use Rattle.brc_model.proofs.Dispatch.Begins.{Scene, words_of, CountsLockable, Backs, StandsAt, holds_plain, holds_at_none, Gives, Takes, Asks, Nothing, Settles, Leaves, Taken, IsTaken, taken_with_row, idle_stays, in_call_stays, newref_held, emptied_held, ended_says, SilentTaken, StandsInside}
 use Rattle.brc_model.proofs.Keeping.SilentMoves.{Stays}
-use Rattle.brc_model.proofs.Dispatch.TakingSilent.{none_taken, move_taken, goto_taken}
+use Rattle.brc_model.proofs.Dispatch.TakingSilent.{none_taken, move_taken, goto_taken, again_taken}
 use Rattle.brc_model.specs.Layout.{root_row}
 
 newref_taken : (code : List Instr) (g : Scene) (before : Place) (counters : Counters) (at : ℕ)
@@ -270,6 +270,8 @@ instruction_taken code g before counters at variables s (Ret from) here =
     ret_taken code g before counters at variables s from here
 instruction_taken code g before counters at variables s (Goto to) here =
     goto_taken code g before counters at variables s to here
+instruction_taken code g before counters at variables s (Again to times) here =
+    again_taken code g before counters at variables s to times here
 instruction_taken code g before counters at variables s Fail here =
     let taken : SilentTaken code g [] (Idle counters.left) = record {
       moves_fit = Stays;
