@@ -6,6 +6,8 @@ use Rattle.brc_lang.specs.declared.module.Function.{Function}
 use Rattle.brc_word.specs.Words.{half, free_word}
 use Rattle.brc_model.specs.declared.thread.Choice.{Choice}
 use Rattle.brc_model.specs.declared.thread.Choice.TheVariants.{Ok, Fault, Claim}
+use Rattle.brc_model.specs.declared.slot.Exit.{Exit}
+use Rattle.brc_model.specs.declared.slot.Exit.TheVariants.{Success, Fault as FaultExit}
 use Rattle.brc_model.specs.declared.actor.Status.{Status}
 use Rattle.brc_model.specs.declared.actor.Status.TheVariants.{Running, Leaving, Gone}
 use Rattle.brc_model.specs.declared.actor.Counters.{Counters}
@@ -39,12 +41,19 @@ pub data Action : Type 0 where
   Stuck : Action
   -- it takes a silent step: these of its references move, and it is then at this place
   Silent : List Move → Place → Action
+  -- it calls the host, and is then at the place that the call's exit decides
+  Calls : (Exit → Place) → Action
   -- it does a duty, with these duties behind it, and is then at the place that the word found decides
   Does : Duty → List Duty → (ℕ → Place) → Action
 
 -- the place, whatever word the duty finds
 abbrev pub always : Place → ℕ → Place
 always place found = place
+
+-- The place that the exit of a host call decides.
+abbrev pub by_exit : Place → Place → Exit → Place
+by_exit succeeded faulted Success = succeeded
+by_exit succeeded faulted FaultExit = faulted
 
 abbrev pub with_row : Option ℕ → (ℕ → Action) → Action
 with_row None work = Stuck
@@ -228,8 +237,14 @@ status_action functions layout t a Gone = Skip
 status_action functions layout t a Running = agenda_action functions layout t a a.actor.agenda
 status_action functions layout t a Leaving = agenda_action functions layout t a a.actor.agenda
 
--- Returns what the thread does at an event with the choice. No step is a host call yet, so `Fault` means what `Ok`
--- does.
+-- The exit that the choice gives a host call or a close.
+abbrev pub exit_of : Choice → Exit
+exit_of Ok = Success
+exit_of Fault = FaultExit
+exit_of (Claim row) = Success
+
+-- Returns what the thread does at an event with the choice. Only a host call or a close ends another way by `Fault`
+-- than by `Ok`.
 abbrev pub action_of : List Function → Layout → ℕ → StepActor → Choice → Action
 action_of functions layout t a Ok = status_action functions layout t a a.actor.status
 action_of functions layout t a Fault = status_action functions layout t a a.actor.status

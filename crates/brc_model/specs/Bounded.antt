@@ -10,7 +10,7 @@ use Rattle.brc_model.specs.declared.actor.Place.TheVariants.{Idle, InCall, Insid
 use Rattle.brc_model.specs.declared.address.Address.{Address}
 use Rattle.brc_model.specs.References.{one_if}
 use Rattle.brc_model.specs.Threads.{code_of}
-use Rattle.brc_model.specs.Actions.{StepActor, Action, Skip, Stuck, Silent, Does, action_of}
+use Rattle.brc_model.specs.Actions.{StepActor, Action, Skip, Stuck, Silent, Calls, Does, action_of}
 use Rattle.brc_model.specs.StepMachine.{StepMachine, of_thread, next_machine, machine_after}
 use Rattle.brc_model.specs.World.{finds_locked}
 
@@ -41,6 +41,7 @@ abbrev pub takes_step : (Address → ℕ) → Action → Bool
 takes_step memory Skip = false
 takes_step memory Stuck = false
 takes_step memory (Silent moves place) = true
+takes_step memory (Calls place) = true
 takes_step memory (Does d rest place) = not (finds_locked memory (Does d rest place))
 
 -- Says whether a thread that makes no claim begins an instruction: it has no duty to do first, and takes the

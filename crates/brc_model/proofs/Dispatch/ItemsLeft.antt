@@ -30,7 +30,7 @@ use Rattle.brc_model.specs.Layout.{none_row, row_at}
 use Rattle.brc_model.specs.declared.layout.Layout.{Layout}
 use Rattle.brc_model.specs.Duties.{cells_of}
 use Rattle.brc_model.specs.Machine.{has_room, locked_by}
-use Rattle.brc_model.specs.Actions.{Action, Skip, Stuck, Silent, Does, with_row, by_range, by_item, number_word, list_word, birth_action, turns_at, turned, dispatch_instruction, dispatch_inside}
+use Rattle.brc_model.specs.Actions.{Action, Skip, Stuck, Silent, Calls, Does, with_row, by_range, by_item, number_word, list_word, birth_action, turns_at, turned, dispatch_instruction, dispatch_inside}
 use Rattle.brc_model.specs.Items.{IsItem, borrows_item, HaveItems, HasCell, StageKnows, KnowsItems}
 use Rattle.brc_model.proofs.Basics.Lists.{some_is, either, first_false}
 use Rattle.brc_model.proofs.Dispatch.Grounded.{IsInside}
@@ -56,6 +56,7 @@ abbrev pub LeavesItems : List Instr → (Address → ℕ) → Option ℕ → Act
 LeavesItems code memory locked Skip = Unit {0}
 LeavesItems code memory locked Stuck = Unit {0}
 LeavesItems code memory locked (Silent moves place) = KnowsItems code memory locked place
+LeavesItems code memory locked (Calls place) = (exit : Exit) → KnowsItems code memory locked (place exit)
 LeavesItems code memory locked (Does d rest place) =
     (new : Address → ℕ) (found : ℕ) → IsAfter memory new locked d found
     → KnowsItems code new (locked_by locked d found) (place found)

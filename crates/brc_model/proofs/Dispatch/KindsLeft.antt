@@ -32,7 +32,7 @@ use Rattle.brc_model.specs.Threads.{code_of, row_of, entry_variables}
 use Rattle.brc_model.specs.Layout.{none_row, row_at}
 use Rattle.brc_model.specs.declared.layout.Layout.{Layout}
 use Rattle.brc_model.specs.Machine.{has_room}
-use Rattle.brc_model.specs.Actions.{StepActor, Action, Skip, Stuck, Silent, Does, with_row, by_range, by_item, number_word, list_word, birth_action, first_counters, turns_at, turned, dispatch_instruction, dispatch_inside, dispatch, may_claim, agenda_action, status_action, action_of}
+use Rattle.brc_model.specs.Actions.{StepActor, Action, Skip, Stuck, Silent, Calls, Does, with_row, by_range, by_item, number_word, list_word, birth_action, first_counters, turns_at, turned, dispatch_instruction, dispatch_inside, dispatch, may_claim, agenda_action, status_action, action_of}
 use Rattle.brc_model.specs.KnownKinds.{IsTrueKind, HasTrueKind, HaveTrueKinds, KnowsKinds, AreNamed}
 use Rattle.brc_model.proofs.Basics.Lists.{some_is, either}
 use Rattle.brc_model.proofs.Dispatch.Grounded.{IsInside, AreInstructions, entry_in_call}
@@ -55,6 +55,7 @@ abbrev pub Leaves : List Instr → (ℕ → ℕ) → Action → Type 0
 Leaves code words Skip = Unit {0}
 Leaves code words Stuck = Unit {0}
 Leaves code words (Silent moves place) = KnowsKinds code words place
+Leaves code words (Calls place) = (exit : Exit) → KnowsKinds code words (place exit)
 Leaves code words (Does d rest place) = (found : ℕ) → SeesKind words d found → KnowsKinds code words (place found)
 
 row_leaves : (code : List Instr) (words : ℕ → ℕ) (row : Option ℕ) (work : ℕ → Action)

@@ -40,6 +40,7 @@ use Rattle.brc_model.proofs.Dispatch.Passing.{passes_on}
 use Rattle.brc_model.proofs.Stepping.Counts.{flip_eqb}
 use Rattle.brc_model.proofs.Frame.Aside.{HoldsAlone}
 use Rattle.brc_model.proofs.Dispatch.Coded.{once_each, PlaceFits, has_stage, in_flight}
+use Rattle.brc_model.proofs.Dispatch.Lending.{lent_at}
 use Rattle.brc_model.proofs.Dispatch.Begins.{Scene, words_of, CountsLockable, Backs, StandsAt, holds_plain, holds_at_none, Gives, Takes, Asks, Nothing, Settles, Leaves, Taken, IsTaken, taken_with_row, idle_stays, in_call_stays, newref_held, emptied_held, ended_says, SilentTaken, StandsInside}
 use Rattle.brc_model.proofs.Keeping.SilentMoves.{Stays}
 use Rattle.brc_model.proofs.Dispatch.TakingSilent.{none_taken, move_taken, goto_taken, again_taken}
@@ -287,16 +288,17 @@ pub record SeesKinds (code : List Instr) (g : Scene) (place : Place) : Type 0 wh
   pub knows : KnowsKinds code (words_of g) place
   pub items : KnowsItems code g.memory g.locked place
   pub counted : CountsLockable g
+  pub lent : g.lent ≡ lent_at code place
 
 in_call_taken : (code : List Instr) (g : Scene) (before : Place) (counters : Counters) (at : ℕ)
     (variables : List (Option ℕ)) (s : State)
     → IsAcceptableCode code → AreInstructions code → IsInside code at variables s → LocksAgree s variables g.locked
     → Holds g.bag g.thread (of_variables s variables) → HaveTrueKinds (words_of g) s variables
-    → HaveItems g.memory g.locked s variables → CountsLockable g
+    → HaveItems g.memory g.locked s variables → CountsLockable g → g.lent ≡ None
     → PlaceFits code g.bag g.thread [] g.locked before → (before ≢ Exiting)
     → IsTaken code g (dispatch_instruction g.layout g.thread g.used before counters at variables (slice_get code at))
-in_call_taken code g before counters at variables s accepted instructions inside guards holds kinds items counted back
-    remains =
+in_call_taken code g before counters at variables s accepted instructions inside guards holds kinds items counted unlent
+    back remains =
     let on = passes_on code inside.exits at s accepted inside.arrived in
     let here : StandsAt code g before at variables s on.here =
     record {
@@ -307,6 +309,7 @@ in_call_taken code g before counters at variables s accepted instructions inside
       kinds = kinds;
       items = items;
       counted = counted;
+      unlent = unlent;
       back = back;
       remains = remains;
       variables = instructions.each at on.here on.found;
@@ -376,7 +379,7 @@ dispatch_taken code g (Idle (suc left)) accepted instructions stays fits sees =
     (entry_in_call code)
     fits.0 (holds-entered g.bag g.thread (holds_plain g.bag g.thread the_root fits.1)) sees.begins
     (entry_items g.memory g.locked)
-    sees.counted fits stays
+    sees.counted sees.lent fits stays
 dispatch_taken code g (Inside counters at variables stage) accepted instructions stays fits sees =
     inside_call_taken code g counters at variables fits.0 stage accepted instructions fits.1 fits.2
     (holds_plain g.bag g.thread (of_inside (in_flight (slice_get code at) stage variables) fits.0 variables) fits.3)
@@ -384,5 +387,6 @@ dispatch_taken code g (Inside counters at variables stage) accepted instructions
 dispatch_taken code g (InCall counters at variables) accepted instructions stays fits sees =
     in_call_taken code g (InCall counters at variables) counters at variables fits.0 accepted instructions fits.1 fits.2
     (holds_plain g.bag g.thread (of_variables fits.0 variables) fits.3)
-    (sees.knows fits.1.exits fits.0 fits.1.arrived) (sees.items fits.1.exits fits.0 fits.1.arrived) sees.counted fits
+    (sees.knows fits.1.exits fits.0 fits.1.arrived) (sees.items fits.1.exits fits.0 fits.1.arrived) sees.counted
+    sees.lent fits
     stays

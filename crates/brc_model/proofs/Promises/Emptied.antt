@@ -19,12 +19,13 @@ use Rattle.brc_model.specs.declared.actor.Place.TheVariants.{Idle, InCall, Insid
 use Rattle.brc_model.specs.declared.actor.Stage.{Stage}
 use Rattle.brc_model.specs.declared.actor.Stage.TheVariants.{InRange, OutOfRange, Found, Retained}
 use Rattle.brc_model.specs.Machine.{Actor, Machine, is_running, actor_by, done_by, has_room}
-use Rattle.brc_model.specs.Actions.{StepActor, Action, Skip, Stuck, Silent, Does, always, with_row, first_counters, dispatch_instruction, dispatch_inside, dispatch, may_claim, agenda_action, status_action, action_of}
+use Rattle.brc_model.specs.declared.slot.Exit.{Exit}
+use Rattle.brc_model.specs.Actions.{StepActor, Action, Skip, Stuck, Silent, Calls, Does, always, with_row, dispatch_instruction, dispatch_inside, dispatch, may_claim, agenda_action, status_action, exit_of, action_of, first_counters}
 use Rattle.brc_model.specs.StepMachine.{StepMachine, counting, of_thread, machine_by, next_machine, machine_after, first_machine}
 use Rattle.brc_lang.specs.declared.module.Function.{Function}
 use Rattle.brc_model.proofs.Basics.Lists.{written_actor, either}
 use Rattle.brc_model.proofs.Keeping.FirstMachine.{first_actors, each_first}
-use Rattle.brc_model.proofs.Dispatch.Counting.{its_found, counting_silent, counting_done}
+use Rattle.brc_model.proofs.Dispatch.Counting.{its_found, counting_silent, counting_called, counting_done}
 use Rattle.brc_model.proofs.Dispatch.Claims.{claimer}
 use Rattle.brc_model.proofs.Basics.Continuation.{leaves_chain, fills_chain, may_fill, is_inner, Traits, Continuation, Ends, GoesOn, Frees, Claims, ClaimsNone, Scans, ScansNone, continues}
 use Rattle.brc_model.specs.declared.layout.Layout.{Layout}
@@ -132,6 +133,7 @@ abbrev ActionEmpties : ℕ → Action → Type 0
 ActionEmpties head Skip = Unit {0}
 ActionEmpties head Stuck = Unit {0}
 ActionEmpties head (Silent moves place) = Unit {0}
+ActionEmpties head (Calls place) = Unit {0}
 ActionEmpties head (Does d rest place) = Empties head (d ∷ rest)
 
 row_empties : (o : Option ℕ) (work : ℕ → Action) → ((row : ℕ) → ActionEmpties 0 (work row))
@@ -232,24 +234,29 @@ action_empties functions layout t a (Claim row) e =
     either (ActionEmpties a.actor.head) (may_claim layout t a row) (Does (ClaimMark row) [] (always a.place)) Skip
     (λ may. subst (Empties a.actor.head) (claimer layout t a row may).agenda e) tt
 
-action_emptied : (m : StepMachine) (t : ℕ) (a : StepActor) (x : Action) → AreEmptied (counting m)
-    → slice_get m.actors t ≡ Some a → ActionEmpties a.actor.head x → AreEmptied (counting (machine_by m t a x))
-action_emptied m t a Skip are found e = are
-action_emptied m t a Stuck are found e = are
-action_emptied m t a (Silent moves place) are found e =
+action_emptied : (m : StepMachine) (t : ℕ) (a : StepActor) (exit : Exit) (x : Action) → AreEmptied (counting m)
+    → slice_get m.actors t ≡ Some a → ActionEmpties a.actor.head x → AreEmptied (counting (machine_by m t a exit x))
+action_emptied m t a exit Skip are found e = are
+action_emptied m t a exit Stuck are found e = are
+action_emptied m t a exit (Silent moves place) are found e =
     let there = its_found m t a found in
     subst AreEmptied (counting_silent m t a moves place)
     (sets_emptied (counting m).actors t a.actor a.actor there (are t a.actor there) are)
-action_emptied m t a (Does d rest place) are found e =
-    subst AreEmptied (counting_done m t a d rest place)
+action_emptied m t a exit (Calls place) are found e =
+    let there = its_found m t a found in
+    subst AreEmptied (counting_called m t a exit place)
+    (sets_emptied (counting m).actors t a.actor a.actor there (are t a.actor there) are)
+action_emptied m t a exit (Does d rest place) are found e =
+    subst AreEmptied (counting_done m t a exit d rest place)
     (duty_emptied (counting m) t a.actor a.actor d rest are (its_found m t a found) e)
 
 thread_emptied : (m : StepMachine) (t : ℕ) (choice : Choice) (o : Option StepActor) → AreEmptied (counting m)
     → slice_get m.actors t ≡ o
-    → AreEmptied (counting (of_thread m (λ a. machine_by m t a (action_of m.functions m.layout t a choice)) o))
+    → AreEmptied (counting (of_thread m (λ a. machine_by m t a (exit_of choice)
+    (action_of m.functions m.layout t a choice)) o))
 thread_emptied m t choice None are found = are
 thread_emptied m t choice (Some a) are found =
-    action_emptied m t a (action_of m.functions m.layout t a choice) are found
+    action_emptied m t a (exit_of choice) (action_of m.functions m.layout t a choice) are found
     (action_empties m.functions m.layout t a choice (are t a.actor (its_found m t a found)))
 
 -- ---- every machine that events lead to

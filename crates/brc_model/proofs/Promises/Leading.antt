@@ -9,6 +9,7 @@ use Rattle.brc_lang.specs.Grammar.{LeadsForward}
 use Rattle.brc_word.specs.Words.{free_word}
 use Rattle.brc_model.specs.Kinds.{same_kind, kind_of_word}
 use Rattle.brc_model.specs.Threads.{row_of, entry_variables}
+use Rattle.brc_model.specs.declared.slot.Exit.{Exit}
 use Rattle.brc_model.specs.declared.duty.Duty.{Duty}
 use Rattle.brc_model.specs.declared.duty.Duty.TheVariants.{LockGate, KindLoad, CellLoad}
 use Rattle.brc_model.specs.declared.actor.Place.{Place}
@@ -17,7 +18,7 @@ use Rattle.brc_model.specs.declared.actor.Place.TheVariants.{Idle, InCall, Insid
 use Rattle.brc_model.specs.declared.actor.Stage.{Stage}
 use Rattle.brc_model.specs.declared.actor.Stage.TheVariants.{InRange, OutOfRange, Found, Retained}
 use Rattle.brc_model.specs.Machine.{has_room}
-use Rattle.brc_model.specs.Actions.{Action, Skip, Stuck, Silent, Does, with_row, by_range, by_item, birth_action, first_counters, turns_at, turned, again_place, dispatch_instruction, dispatch_inside, dispatch, number_word, list_word}
+use Rattle.brc_model.specs.Actions.{Action, Skip, Stuck, Silent, Calls, Does, with_row, by_range, by_item, birth_action, first_counters, turns_at, turned, again_place, dispatch_instruction, dispatch_inside, dispatch, number_word, list_word}
 use Rattle.brc_model.proofs.Basics.Lists.{either}
 use Rattle.brc_model.proofs.Dispatch.Decided.{range_decides, item_decides}
 use Rattle.brc_model.specs.Bounded.{times_of}
@@ -34,6 +35,7 @@ abbrev pub LeadsTo : (Place → Type 0) → Place → Action → Type 0
 LeadsTo P place Skip = ⊥
 LeadsTo P place Stuck = Unit {0}
 LeadsTo P place (Silent moves next) = P next
+LeadsTo P place (Calls next) = (exit : Exit) → P (next exit)
 LeadsTo P place (Does d rest next) = (found : ℕ) → Leads P place d found (next found)
 
 -- The property holds of each place to which an instruction at the point of a call can lead.
@@ -100,10 +102,11 @@ module _ (P : Place → Type 0) (place : Place) (code : List Instr) (forward : L
           row_leads P place (row_of variables from) _
           (λ row found. holds.on (at + 1) (slice_set variables from None) (omega arith))
       instruction_leads (Some (Lock object)) is =
+          let next : Bool → Place = λ is_free. cond is_free (InCall counters (at + 1) variables) place in
           row_leads P place (row_of variables object) _ (λ row word. (
-            λ free. subst P (sym (ap (λ (w : ℕ). cond (w == free_word) (InCall counters (at + 1) variables) place) free))
+            λ free. subst P (sym (ap (λ (w : ℕ). next (w == free_word)) free))
                 (holds.on (at + 1) variables (omega arith)),
-            λ taken. ap (λ (b : Bool). cond b (InCall counters (at + 1) variables) place) taken,
+            λ taken. ap next taken,
           ))
       instruction_leads (Some (Unlock object)) is =
           row_leads P place (row_of variables object) _ (λ row found. holds.on (at + 1) variables (omega arith))

@@ -25,7 +25,8 @@ use Rattle.brc_model.specs.declared.layout.Layout.{Layout}
 use Rattle.brc_model.specs.Threads.{row_of, entry_variables, code_of}
 use Rattle.brc_model.specs.Duties.{ready}
 use Rattle.brc_model.specs.Machine.{has_room, written}
-use Rattle.brc_model.specs.Actions.{StepActor, Action, Does, with_row, first_counters, dispatch_instruction, dispatch_inside, dispatch, agenda_action, status_action, action_of}
+use Rattle.brc_model.specs.declared.slot.Exit.{Exit}
+use Rattle.brc_model.specs.Actions.{StepActor, Action, Does, with_row, dispatch_instruction, dispatch_inside, dispatch, agenda_action, status_action, exit_of, action_of, first_counters}
 use Rattle.brc_model.specs.StepMachine.{step_actor, machine_by}
 use Rattle.brc_model.specs.World.{World, world_of, machine_of, step, finds_locked, waits_for_lock, IsReachable}
 use Rattle.brc_model.proofs.Basics.Lists.{either, set_found}
@@ -149,9 +150,10 @@ not_true true e = absurd cc
 not_true false e = refl
 
 -- The step of a thread that finds the gate taken changes nothing.
-tried_stays : (w : World) (t : ℕ) (a : StepActor) (x : Action) → slice_get w.actors t ≡ Some a → WaitsIdly a x
-    → finds_locked w.memory x ≡ true → world_of (machine_by (machine_of w) t a x) ≡ w
-tried_stays w t a (Does (LockGate y) rest place) found waits locked =
+tried_stays : (w : World) (t : ℕ) (a : StepActor) (exit : Exit) (x : Action) → slice_get w.actors t ≡ Some a
+    → WaitsIdly a x
+    → finds_locked w.memory x ≡ true → world_of (machine_by (machine_of w) t a exit x) ≡ w
+tried_stays w t a exit (Does (LockGate y) rest place) found waits locked =
     let word = w.memory (Gate y) in
     let taken : (word == free_word) ≡ false = not_true (word == free_word) locked in
     let agenda : ready a.actor.head rest ≡ a.actor.agenda = ap (ready a.actor.head) waits.1.alone ∙ sym waits.0 in
@@ -177,16 +179,24 @@ tried_stays w t a (Does (LockGate y) rest place) found waits locked =
     let memory : written w.memory (Gate y) (cond (word == free_word) (locked_word t) word) ≡ w.memory =
     fun_ext (λ (b : Address). ap (λ (c : Bool). written w.memory (Gate y) (cond c (locked_word t) word) b) taken
     ∙ written_load w.memory (Gate y) b) in
-    λ i. record { functions = w.functions; layout = w.layout; memory = memory i; actors = actors i }
-tried_stays w t a _ found waits locked = absurd cc
+    λ i. record {
+      functions = w.functions;
+      layout = w.layout;
+      memory = memory i;
+      actors = actors i;
+      host_faults = w.host_faults;
+      close_faults = w.close_faults;
+    }
+tried_stays w t a exit _ found waits locked = absurd cc
 
 pub waiting_stays : (p : Module) (w : World) (t : ℕ) (a : StepActor) → IsReachable p w
     → slice_get w.actors t ≡ Some a → waits_for_lock w t a ≡ true → (step w t Ok ≡ w) × (step w t Fault ≡ w)
 waiting_stays p w t a here found locked =
     let plain = ((reached_code p w here).coded t a (reached_found p w t a here found)).plain in
-    let still : world_of (machine_by (machine_of w) t a (action_of w.functions w.layout t a Ok)) ≡ w =
-    tried_stays w t a (action_of w.functions w.layout t a Ok) found
+    let still : (exit : Exit)
+    → world_of (machine_by (machine_of w) t a exit (action_of w.functions w.layout t a Ok)) ≡ w =
+    λ exit. tried_stays w t a exit (action_of w.functions w.layout t a Ok) found
     (status_waits w.functions w.layout t a a.actor.status plain) locked in (
-      ap (λ (o : Option StepActor). world_of (after (machine_of w) t Ok o)) found ∙ still,
-      ap (λ (o : Option StepActor). world_of (after (machine_of w) t Fault o)) found ∙ still,
+      ap (λ (o : Option StepActor). world_of (after (machine_of w) t Ok o)) found ∙ still (exit_of Ok),
+      ap (λ (o : Option StepActor). world_of (after (machine_of w) t Fault o)) found ∙ still (exit_of Fault),
     )

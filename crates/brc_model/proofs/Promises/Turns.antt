@@ -12,6 +12,7 @@ use Rattle.brc_word.specs.Words.{free_word}
 use Rattle.brc_model.specs.declared.thread.Call.{Call}
 use Rattle.brc_model.specs.declared.thread.Choice.{Choice}
 use Rattle.brc_model.specs.declared.thread.Choice.TheVariants.{Ok, Fault, Claim}
+use Rattle.brc_model.specs.declared.slot.Exit.{Exit}
 use Rattle.brc_model.specs.declared.duty.Duty.{Duty}
 use Rattle.brc_model.specs.declared.duty.Duty.TheVariants.{LockGate, ClaimMark}
 use Rattle.brc_model.specs.declared.actor.Status.{Status}
@@ -21,7 +22,7 @@ use Rattle.brc_model.specs.declared.actor.Place.{Place}
 use Rattle.brc_model.specs.declared.actor.Place.TheVariants.{Idle, InCall, Inside, Exiting}
 use Rattle.brc_model.specs.declared.layout.Layout.{Layout}
 use Rattle.brc_model.specs.Threads.{code_of, entry_variables}
-use Rattle.brc_model.specs.Actions.{StepActor, Action, Skip, Stuck, Silent, Does, always, first_counters, turns_at, may_claim, dispatch, agenda_action, status_action, action_of}
+use Rattle.brc_model.specs.Actions.{StepActor, Action, Skip, Stuck, Silent, Calls, Does, always, first_counters, turns_at, may_claim, dispatch, agenda_action, status_action, exit_of, action_of}
 use Rattle.brc_model.specs.StepMachine.{StepMachine, main_actor, worker_actor, of_thread, machine_by, next_machine, first_machine, machine_after}
 use Rattle.brc_model.proofs.Basics.Lists.{either, some_is, none_some, slice_get-set_same, slice_get-set_other, slice_get-map, all_of_found}
 use Rattle.brc_model.proofs.Promises.Leading.{Leads, LeadsTo, HoldsAfter, HoldsBeyond, dispatch_leads}
@@ -33,6 +34,7 @@ abbrev EachPlace : (Place → Type 0) → Action → Type 0
 EachPlace P Skip = Unit {0}
 EachPlace P Stuck = Unit {0}
 EachPlace P (Silent moves next) = P next
+EachPlace P (Calls next) = (exit : Exit) → P (next exit)
 EachPlace P (Does d rest next) = (found : ℕ) → P (next found)
 
 leads_or_stays : (P : Place → Type 0) (place : Place) (d : Duty) (found : ℕ) (next : Place) → P place
@@ -48,6 +50,7 @@ each_place : (P : Place → Type 0) (place : Place) (x : Action) → P place →
 each_place P place Skip here leads = tt
 each_place P place Stuck here leads = tt
 each_place P place (Silent moves next) here leads = leads
+each_place P place (Calls next) here leads = leads
 each_place P place (Does d rest next) here leads =
     λ found. leads_or_stays P place d found (next found) here (leads found)
 
@@ -146,21 +149,23 @@ counts_set actors t a after found own each u b is =
       | inr apart ↦ each u b (sym (slice_get-set_other actors t u after apart.1) ∙ is)
     ]
 
-action_holds : (p : Module) (m : StepMachine) (t : ℕ) (a : StepActor) (x : Action) → TurnsHold p m
-    → slice_get m.actors t ≡ Some a → EachPlace CountsTurns x → TurnsHold p (machine_by m t a x)
-action_holds p m t a Skip holds found each = holds
-action_holds p m t a Stuck holds found each = holds
-action_holds p m t a (Silent moves place) holds found each =
+action_holds : (p : Module) (m : StepMachine) (t : ℕ) (a : StepActor) (exit : Exit) (x : Action) → TurnsHold p m
+    → slice_get m.actors t ≡ Some a → EachPlace CountsTurns x → TurnsHold p (machine_by m t a exit x)
+action_holds p m t a exit Skip holds found each = holds
+action_holds p m t a exit Stuck holds found each = holds
+action_holds p m t a exit (Silent moves place) holds found each =
     record { functions = holds.functions; counts = counts_set m.actors t a _ found each holds.counts }
-action_holds p m t a (Does d rest place) holds found each =
+action_holds p m t a exit (Calls place) holds found each =
+    record { functions = holds.functions; counts = counts_set m.actors t a _ found (each exit) holds.counts }
+action_holds p m t a exit (Does d rest place) holds found each =
     record { functions = holds.functions; counts = counts_set m.actors t a _ found (each _) holds.counts }
 
 thread_holds : (p : Module) (m : StepMachine) (t : ℕ) (choice : Choice) (o : Option StepActor) → IsModule p
     → TurnsHold p m → slice_get m.actors t ≡ o
-    → TurnsHold p (of_thread m (λ a. machine_by m t a (action_of m.functions m.layout t a choice)) o)
+    → TurnsHold p (of_thread m (λ a. machine_by m t a (exit_of choice) (action_of m.functions m.layout t a choice)) o)
 thread_holds p m t choice None fits holds found = holds
 thread_holds p m t choice (Some a) fits holds found =
-    action_holds p m t a (action_of m.functions m.layout t a choice) holds found
+    action_holds p m t a (exit_of choice) (action_of m.functions m.layout t a choice) holds found
     (action_counts m.functions m.layout t a choice (code_here p m a.function fits holds).forward
     (holds.counts t a found))
 
