@@ -35,4 +35,5 @@ pub mod Counting
 pub mod CountingLaws
 pub mod Progress
 pub mod Watched
+pub mod ResourceLaws
 pub mod Trace

@@ -36,10 +36,10 @@ use Rattle.brc_model.proofs.Dispatch.Taking.{SeesKinds}
 use Rattle.std.proofs.lemmas.List.Sums.{sum_by-cons}
 use Rattle.brc_model.specs.Accounts.{Account, Accounts, lacks}
 use Rattle.brc_model.specs.OpenWork.{exits, is_about}
-use Rattle.brc_model.specs.Invariant.{CoreInvariant, Invariant}
+use Rattle.brc_model.specs.Invariant.{AtDuty, CoreInvariant, Invariant}
 use Rattle.brc_model.proofs.Dispatch.Coded.{PlaceSays, PlaceFits, in_flight, idle_unlocked, is_departing, stays_elsewhere, placed_by, says_bounded}
 use Rattle.brc_model.proofs.Dispatch.AtOnce.{at_once, plain_locked, plain_lent}
-use Rattle.brc_model.proofs.Dispatch.Lending.{lent_at, FollowsLent, dispatch_lent}
+use Rattle.brc_model.proofs.Dispatch.Lending.{lent_at, FollowsLent, lent_then, dispatch_lent}
 use Rattle.brc_model.proofs.Keeping.SilentSteps.{SilentSits}
 use Rattle.brc_model.proofs.Dispatch.Begins.{scene_of, holds_plain, Backs, ByOwn, ByList, Starts, Gives, Takes, Bears, Asks, Locks, Unlocks, Loads, Swaps, Lends, Returns, Follows, Nothing, Settles, Leaves, IsTaken}
 use Rattle.brc_model.proofs.Keeping.SilentMoves.{bag_after}
@@ -247,14 +247,21 @@ taken_fits p n m t a (Does d rest place) whole found at taken lent =
     let begun = taken word in
     let own = whole.coded t a found in
     let here = taken_sits p c n (counting m) t a word there d rest at own.alone begun in
+    let now = sitting a.actor (d ∷ rest) in
+    let new = with_account c t here.account in
+    let doing : Doing new n (with_actor (counting m) t now) t now d rest =
+    sits_down c n (counting m) t a.actor d rest here.account whole.kept at here.sits
+    (starts_settled (scene_of (counting m) t a.actor) a.actor.head there d rest begun.starts begun.follows) in
+    let next : AtDuty new n (with_actor (counting m) t now) t now d rest =
+    record { core = doing.kept.core; found = doing.found; agenda = doing.agenda } in
     record {
       account = here.account;
       says = here.says;
       departs = ap (λ (s : Status). exits s (d ∷ rest)) at.running ∙ here.departs;
-      lent = lent word;
-      doing =
-          sits_down c n (counting m) t a.actor d rest here.account whole.kept at here.sits
-          (starts_settled (scene_of (counting m) t a.actor) a.actor.head there d rest begun.starts begun.follows);
+      lent =
+          lent_then (code_of (slice_get p.functions a.function)) a.actor.lent new n (with_actor (counting m) t now) t
+          now d rest rest place next lent;
+      doing = doing;
       small = λ few _. (
         starts_small c n (counting m) t a.actor d rest at.core few at.found begun.starts,
         follows_small (row_count m.layout) m.layout t a.actor.used there rest begun.follows,

@@ -9,12 +9,18 @@ use Rattle.brc_model.specs.declared.actor.Place.{Place}
 use Rattle.brc_model.specs.declared.actor.Place.TheVariants.{Idle, InCall, Inside, Exiting}
 use Rattle.brc_model.specs.declared.actor.Stage.{Stage}
 use Rattle.brc_model.specs.declared.actor.Stage.TheVariants.{InRange, OutOfRange, Found, Retained}
-use Rattle.brc_model.specs.declared.duty.Duty.TheVariants.{BirthKind, KindLoad, CellLoad}
+use Rattle.brc_model.specs.declared.duty.Duty.{Duty}
+use Rattle.brc_model.specs.declared.duty.Duty.TheVariants.{BirthKind, KindLoad, CellLoad, LendSlot}
+use Rattle.brc_model.specs.declared.address.Address.TheVariants.{Slot}
 use Rattle.brc_model.specs.declared.duty.Holding.TheVariants.{ByVariable}
 use Rattle.brc_model.specs.declared.layout.Layout.{Layout}
 use Rattle.brc_model.specs.Layout.{row_at}
 use Rattle.brc_model.specs.Duties.{cells_of}
-use Rattle.brc_model.specs.Machine.{lent_by, has_room}
+use Rattle.brc_model.specs.Machine.{Actor, Machine, lent_by, has_room}
+use Rattle.brc_model.specs.Accounts.{Accounts}
+use Rattle.brc_model.specs.Invariant.{AtDuty}
+use Rattle.brc_model.proofs.Stepping.Neutral.{found_by}
+use Rattle.brc_model.proofs.Objects.ResourcesLent.{lending_finds}
 use Rattle.brc_model.specs.Threads.{row_of, entry_variables}
 use Rattle.brc_model.specs.Actions.{Action, Skip, Stuck, Silent, Does, always, with_row, number_word, list_word, birth_action, by_range, by_item, dispatch_instruction, dispatch_inside, dispatch}
 use Rattle.brc_model.proofs.Basics.Lists.{either}
@@ -33,11 +39,14 @@ lent_at code (InCall left at variables) = None
 lent_at code (Inside left at variables stage) = lent_to stage (slice_get code at) variables
 lent_at code Exiting = None
 
--- After the action of a thread that has lent this, its place says what it has lent.
+-- After the action of a thread that has lent this, its place says what it has lent. A thread that lends a resource finds
+-- it in its slot.
 abbrev pub FollowsLent : List Instr → Option ℕ → Action → Type 0
 FollowsLent code lent Skip = Unit {0}
 FollowsLent code lent Stuck = Unit {0}
 FollowsLent code lent (Silent moves place) = lent ≡ lent_at code place
+FollowsLent code lent (Does (LendSlot x) rest place) =
+    (found : ℕ) → found ≡ 1 → lent_by lent (LendSlot x) found ≡ lent_at code (place found)
 FollowsLent code lent (Does d rest place) = (found : ℕ) → lent_by lent d found ≡ lent_at code (place found)
 
 row_lent : (code : List Instr) (lent : Option ℕ) (o : Option ℕ) (work : ℕ → Action)
@@ -149,3 +158,12 @@ dispatch_lent code layout t used (InCall left at variables) lent says =
     instruction_lent code layout t used (InCall left at variables) left at variables (slice_get code at) lent says says
 dispatch_lent code layout t used (Inside left at variables stage) lent says =
     inside_lent code left at variables stage (slice_get code at) lent says
+
+-- What the thread has lent after its duty is what the place says to which the duty leads.
+pub lent_then : (code : List Instr) (lent : Option ℕ) (p : Accounts) (n : ℕ) (m : Machine) (t : ℕ) (a : Actor) (d : Duty)
+    (rest behind : List Duty) (place : ℕ → Place)
+    → AtDuty p n m t a d rest → FollowsLent code lent (Does d behind place)
+    → lent_by lent d (found_by m t a d) ≡ lent_at code (place (found_by m t a d))
+lent_then code lent p n m t a (LendSlot x) rest behind place here follows =
+    follows (m.memory (Slot x)) (lending_finds p n m t a x rest here)
+lent_then code lent p n m t a d rest behind place here follows = follows (found_by m t a d)
