@@ -1,7 +1,6 @@
 -- What the host is asked to do with the resources of files and sockets. (Python/C API manual, Object Implementation: a
 -- deallocator frees what the object holds. Rust, `std::fs::File`: a file is closed when its one owner drops it.)
-use Rattle.std.specs.Prelude.{◌≡◌, ℕ, ◌≤◌, Bool, true, false, ◌==◌, Some, slice_get, ◌↔◌}
-use Rattle.std.specs.List.{list_any}
+use Rattle.std.specs.Prelude.{◌≡◌, ℕ, ◌≤◌, true, List, ◌∷◌, Some, slice_get, ◌↔◌}
 use Rattle.brc_model.specs.declared.duty.Duty.{Duty}
 use Rattle.brc_model.specs.declared.duty.Duty.TheVariants.{SettleEnd}
 use Rattle.brc_model.specs.declared.address.Address.TheVariants.{KindOf, Slot, Resource}
@@ -12,21 +11,18 @@ use Rattle.brc_model.specs.Progress.{HasLock}
 
 -- ---- closes
 
--- a duty to close the row
-abbrev pub closes_row : ℕ → Duty → Bool
-closes_row x (SettleEnd y) = y == x
-closes_row x _ = false
-
--- the row is closed, or a thread is about to close it
+-- the row is closed, or a thread closes it next
 pub data IsGone (m : Machine) (x : ℕ) : Type 0 where
   ByEnd : m.life x ≡ Closed → IsGone m x
-  ByDuty : (t : ℕ) (a : Actor) → slice_get m.actors t ≡ Some a → list_any (closes_row x) a.agenda ≡ true → IsGone m x
+  ByDuty : (t : ℕ) (a : Actor) (rest : List Duty) → slice_get m.actors t ≡ Some a → a.agenda ≡ SettleEnd x ∷ rest
+      → IsGone m x
 
 -- The host is asked at most once to close a row's resource. It has been asked once exactly if the row is a file's or a
--- socket's, and is closed or about to be.
+-- socket's, and is closed or is what its thread closes next.
 pub record ResourcesCloseOnce (m : StepMachine) : Type 0 where
   pub at_most_once : (x : ℕ) → m.memory (Resource x) ≤ 1
-  pub once : (x : ℕ) → (m.memory (Resource x) ≡ 1) ↔ ((has_resource (m.memory (KindOf x)) ≡ true) × IsGone (counting m) x)
+  pub once : (x : ℕ)
+      → (m.memory (Resource x) ≡ 1) ↔ ((has_resource (m.memory (KindOf x)) ≡ true) × IsGone (counting m) x)
 
 -- ---- calls
 

@@ -39,8 +39,8 @@ lent_at code (InCall left at variables) = None
 lent_at code (Inside left at variables stage) = lent_to stage (slice_get code at) variables
 lent_at code Exiting = None
 
--- After the action of a thread that has lent this, its place says what it has lent. A thread that lends a resource finds
--- it in its slot.
+-- After the action of a thread that has lent this, its place says what it has lent. A thread that lends a resource
+-- finds it in its slot.
 abbrev pub FollowsLent : List Instr → Option ℕ → Action → Type 0
 FollowsLent code lent Skip = Unit {0}
 FollowsLent code lent Stuck = Unit {0}
@@ -70,7 +70,8 @@ range_lent : (code : List Instr) (lent : Option ℕ) (list : Option ℕ) (index 
     → FollowsLent code lent (with_row list (λ row. Does (KindLoad row) [] (by_range index inside outside)))
 range_lent code lent list index inside outside has past =
     row_lent code lent list _ (λ row found.
-    either (λ (place : Place). lent ≡ lent_at code place) (nat_lt index (cells_of found)) inside outside (λ is. has) past)
+    either (λ (place : Place). lent ≡ lent_at code place) (nat_lt index (cells_of found)) inside outside (λ is. has)
+    past)
 
 item_lent : (code : List Instr) (lent : Option ℕ) (empty : Place) (holds : ℕ → Place) (word : ℕ)
     → lent ≡ lent_at code empty → ((item : ℕ) → lent ≡ lent_at code (holds item))
@@ -160,8 +161,8 @@ dispatch_lent code layout t used (Inside left at variables stage) lent says =
     inside_lent code left at variables stage (slice_get code at) lent says
 
 -- What the thread has lent after its duty is what the place says to which the duty leads.
-pub lent_then : (code : List Instr) (lent : Option ℕ) (p : Accounts) (n : ℕ) (m : Machine) (t : ℕ) (a : Actor) (d : Duty)
-    (rest behind : List Duty) (place : ℕ → Place)
+pub lent_then : (code : List Instr) (lent : Option ℕ) (p : Accounts) (n : ℕ) (m : Machine) (t : ℕ) (a : Actor)
+    (d : Duty) (rest behind : List Duty) (place : ℕ → Place)
     → AtDuty p n m t a d rest → FollowsLent code lent (Does d behind place)
     → lent_by lent d (found_by m t a d) ≡ lent_at code (place (found_by m t a d))
 lent_then code lent p n m t a (LendSlot x) rest behind place here follows =

@@ -12,7 +12,7 @@ use Rattle.brc_model.specs.References.{one_if}
 use Rattle.brc_model.specs.Accounts.{Accounts}
 use Rattle.brc_model.specs.OpenWork.{dies_by}
 use Rattle.brc_model.specs.Invariant.{AtDuty}
-use Rattle.brc_model.specs.Resources.{lends, taking, closing, emptying, ending, Resources, resources_at, IsPlaced, IsSettling, ResourcesFit}
+use Rattle.brc_model.specs.Resources.{lends, closing, ending, Resources, resources_at, IsPlaced, IsSettling, ResourcesFit}
 use Rattle.brc_model.proofs.Basics.Lists.{some_is, none_some, either}
 use Rattle.brc_model.proofs.Basics.Written.{written_apart}
 use Rattle.brc_model.proofs.Frame.Items.{word_stays}
@@ -21,7 +21,7 @@ use Rattle.brc_model.proofs.Stepping.Neutral.{found_by, memory_by}
 use Rattle.brc_model.proofs.Objects.Closing.{GoesOn, BeginsToDie, IsClosed, IsBorn, life_step}
 use Rattle.brc_model.proofs.Objects.Finalisers.{unfinalised}
 use Rattle.brc_model.proofs.Objects.Lenders.{none_named, lenders-set, none_lent}
-use Rattle.brc_model.proofs.Objects.SettlingWeights.{settles, settles_row, finalises, of_taking, of_closing, of_emptying, of_ending, settling_kept}
+use Rattle.brc_model.proofs.Objects.SettlingWeights.{settles, settles_row, finalises, of_closing, of_ending, settling_kept}
 
 -- ---- numbers
 
@@ -38,8 +38,6 @@ record SameNumbers (l : Life) (old new : Resources) : Type 0 where
   lent : new.lent ≡ old.lent
   closing : new.closing ≡ old.closing
   closed : new.closed ≡ old.closed
-  taking : new.taking ≡ old.taking
-  emptying : new.emptying ≡ old.emptying
   ending : new.ending ≡ old.ending
 
 same_placed : (l : Life) (old new : Resources) → SameNumbers l old new → (l ≢ Unborn) → IsPlaced old → IsPlaced new
@@ -56,12 +54,6 @@ same_settling l old new same born fit = record {
   shut = λ some.
       let was = fit.shut (omega (arith, some, same.ending)) in
       omega (arith, was, same.closed, same.all born);
-  has_one = λ some.
-      let was = fit.has_one (omega (arith, some, same.taking)) in
-      omega (arith, was, same.all born);
-  has_none = λ some.
-      let was = fit.has_none (omega (arith, some, same.emptying)) in
-      omega (arith, was, same.all born);
 }
 
 same_fits : (l : Life) (old new : Resources) → SameNumbers l old new → ResourcesFit l old → ResourcesFit l new
@@ -143,8 +135,6 @@ module _ (p : Accounts) (n : ℕ) (m : Machine) (t : ℕ) (a : Actor) where
         lent = omega (arith, lenders-set x m.actors t a after here.found, lends_same d rest x here e);
         closing = settling_kept x (closing x) (of_closing x) p n m t a d rest here row not;
         closed = closed_same d x e;
-        taking = settling_kept x (taking x) (of_taking x) p n m t a d rest here row not;
-        emptying = settling_kept x (emptying x) (of_emptying x) p n m t a d rest here row not;
         ending = settling_kept x (ending x) (of_ending x) p n m t a d rest here row not;
       }
 
@@ -158,18 +148,12 @@ module _ (p : Accounts) (n : ℕ) (m : Machine) (t : ℕ) (a : Actor) where
       let fit : ResourcesFit Live old = subst (λ (l : Life). ResourcesFit l old) lives (here.core.resources x) in
       let born : m.life x ≢ Unborn = λ u. let wrong : Live ≡ Unborn = sym lives ∙ u in cc in
       let none : (u : ℕ) → dies_by (m.life x) u ≡ false = λ u. ap (λ (l : Life). dies_by l u) lives in
-      let none_taken =
-      unfinalised p n m x (taking x) (finalises x (taking x) (of_taking x)) here.core none in
-      let none_emptied =
-      unfinalised p n m x (emptying x) (finalises x (emptying x) (of_emptying x)) here.core none in
       let none_ended =
       unfinalised p n m x (ending x) (finalises x (ending x) (of_ending x)) here.core none in
       record {
         placed = same_placed (m.life x) old new same born fit.0;
         unclosed = λ yet. omega (arith, fit.1, same.closed);
         shut = λ some. absurd (omega (arith, some, same.ending, none_ended));
-        has_one = λ some. absurd (omega (arith, some, same.taking, none_taken));
-        has_none = λ some. absurd (omega (arith, some, same.emptying, none_emptied));
       }
 
   -- An object that is born has its resource in its slot, if its kind has one.

@@ -10,10 +10,9 @@ use Rattle.brc_model.specs.declared.address.Address.TheVariants.{KindOf, Cell, S
 use Rattle.brc_model.specs.Duties.{has_resource, resources_of, cells_of, cells_from}
 use Rattle.brc_model.specs.Machine.{Actor, Life, Unborn, Live, Dying, Closed, Machine, ended_row, actor_by, done_by}
 use Rattle.brc_model.specs.References.{one_if}
-use Rattle.brc_model.specs.RowInvariant.{weight}
 use Rattle.brc_model.specs.Accounts.{Accounts}
 use Rattle.brc_model.specs.Invariant.{AtDuty}
-use Rattle.brc_model.specs.Resources.{lends, taking, closing, emptying, ending, resources_at, IsSettling, ResourcesFit}
+use Rattle.brc_model.specs.Resources.{lends, closing, ending, resources_at, IsSettling, ResourcesFit}
 use Rattle.brc_model.proofs.Basics.Lists.{none_some, either}
 use Rattle.brc_model.proofs.Basics.Written.{written_here}
 use Rattle.brc_model.proofs.Frame.Items.{word_stays}
@@ -23,7 +22,7 @@ use Rattle.brc_model.proofs.Stepping.Neutral.{found_by, memory_by}
 use Rattle.brc_model.proofs.Objects.Closing.{GoesOn, BeginsToDie, IsClosed, IsBorn, life_step}
 use Rattle.brc_model.proofs.Objects.Finalisers.{finalised_alone}
 use Rattle.brc_model.proofs.Objects.Lenders.{lenders-set, none_lent}
-use Rattle.brc_model.proofs.Objects.SettlingWeights.{finalises, of_taking, of_closing, of_emptying, of_ending, released_light, settling_stepped}
+use Rattle.brc_model.proofs.Objects.SettlingWeights.{finalises, of_closing, of_ending, released_light, settling_stepped}
 use Rattle.brc_model.proofs.Objects.ResourcesElsewhere.{resources_low}
 
 module _ (p : Accounts) (n : ℕ) (m : Machine) (t : ℕ) (a : Actor) where
@@ -61,12 +60,11 @@ module _ (p : Accounts) (n : ℕ) (m : Machine) (t : ℕ) (a : Actor) where
       let dies = (head_of p n m t a d rest here).1 in
       let fit = settling d rest x here dies in
       let this = eq-eqb x x refl in
-      let taken = finalised_alone p n m x (taking x) (finalises x (taking x) (of_taking x)) t a d rest here this dies in
       let none_closing =
       finalised_alone p n m x (closing x) (finalises x (closing x) (of_closing x)) t a d rest here this dies in
       let none_ending =
       finalised_alone p n m x (ending x) (finalises x (ending x) (of_ending x)) t a d rest here this dies in
-      let one = fit.has_one (omega (arith, taken, one_here x)) in
+      let one = (head_of p n m t a d rest here).4 in
       let shut = fit.unclosed none_ending in
       omega (arith, fit.placed, one, shut, none_closing, none_lent p n m x here.core (dying_unlive x dies))
 
@@ -91,18 +89,12 @@ module _ (p : Accounts) (n : ℕ) (m : Machine) (t : ℕ) (a : Actor) where
       let fit = settling d rest x here dies in
       let this = eq-eqb x x refl in
       let after = actor_by m.layout t a d rest (found_by m t a d) in
-      let taken = finalised_alone p n m x (taking x) (finalises x (taking x) (of_taking x)) t a d rest here this dies in
-      let none_emptied =
-      finalised_alone p n m x (emptying x) (finalises x (emptying x) (of_emptying x)) t a d rest here this dies in
       let none_ended =
       finalised_alone p n m x (ending x) (finalises x (ending x) (of_ending x)) t a d rest here this dies in
-      let one = fit.has_one (omega (arith, taken, one_here x)) in
       let shut = fit.unclosed none_ended in
       let lent = lenders-set x m.actors t a after here.found in
       let closes = settling_stepped x (closing x) (of_closing x) p n m t a d rest next here refl in
       let closed_next = sum_by-cons (closing x) (CloseResource x) [] in
-      let empties = settling_stepped x (emptying x) (of_emptying x) p n m t a d rest next here refl in
-      let empties_next = sum_by-cons (emptying x) (CloseResource x) [] in
       let ends = settling_stepped x (ending x) (of_ending x) p n m t a d rest next here refl in
       let ends_next = sum_by-cons (ending x) (CloseResource x) [] in
       let fits : IsSettling (resources_at (done_by m t a d rest) x) = record {
@@ -118,8 +110,6 @@ module _ (p : Accounts) (n : ℕ) (m : Machine) (t : ℕ) (a : Actor) where
         );
         unclosed = λ yet. shut;
         shut = λ some. absurd (omega (arith, some, ends, ends_next, none_ended));
-        has_one = λ some. one;
-        has_none = λ some. absurd (omega (arith, some, empties, empties_next, none_emptied));
       } in
       subst (λ (l : Life). ResourcesFit l (resources_at (done_by m t a d rest) x))
       (sym (still_dies d rest x here refl dies)) fits
@@ -138,17 +128,9 @@ module _ (p : Accounts) (n : ℕ) (m : Machine) (t : ℕ) (a : Actor) where
       let now = written_here m.memory (Resource x) (m.memory (Resource x) + 1) in
       let was =
       finalised_alone p n m x (closing x) (finalises x (closing x) (of_closing x)) t a d rest here this dies in
-      let none_taken =
-      finalised_alone p n m x (taking x) (finalises x (taking x) (of_taking x)) t a d rest here this dies in
-      let none_emptied =
-      finalised_alone p n m x (emptying x) (finalises x (emptying x) (of_emptying x)) t a d rest here this dies in
       let lent = lenders-set x m.actors t a after here.found in
       let closes = settling_stepped x (closing x) (of_closing x) p n m t a d rest next here refl in
       let closes_next = sum_by-cons (closing x) (SettleEnd x) [] in
-      let takes = settling_stepped x (taking x) (of_taking x) p n m t a d rest next here refl in
-      let takes_next = sum_by-cons (taking x) (SettleEnd x) [] in
-      let empties = settling_stepped x (emptying x) (of_emptying x) p n m t a d rest next here refl in
-      let empties_next = sum_by-cons (emptying x) (SettleEnd x) [] in
       let ends = settling_stepped x (ending x) (of_ending x) p n m t a d rest next here refl in
       let ends_next = sum_by-cons (ending x) (SettleEnd x) [] in
       let fits : IsSettling (resources_at (done_by m t a d rest) x) = record {
@@ -156,8 +138,6 @@ module _ (p : Accounts) (n : ℕ) (m : Machine) (t : ℕ) (a : Actor) where
         unclosed = λ yet. absurd (omega (arith, yet, ends, ends_next, one_here x));
         shut = λ some.
             omega (arith, fit.placed, now, closed, was, one_here x, resources_low (m.memory (KindOf x)));
-        has_one = λ some. absurd (omega (arith, some, takes, takes_next, none_taken));
-        has_none = λ some. absurd (omega (arith, some, empties, empties_next, none_emptied));
       } in
       subst (λ (l : Life). ResourcesFit l (resources_at (done_by m t a d rest) x))
       (sym (still_dies d rest x here refl dies)) fits
@@ -188,11 +168,8 @@ module _ (p : Accounts) (n : ℕ) (m : Machine) (t : ℕ) (a : Actor) where
       → lends x (actor_by m.layout t a d rest (found_by m t a d)) ≡ lends x a
       → closing x d ≡ 0 → ending x d ≡ 0 → sum_by (closing x) (next_of m t a d) ≡ 0
       → (0 < sum_by (ending x) (next_of m t a d) → resources_of (m.memory (KindOf x)) ≡ 0)
-      → (0 < weight (taking x) (done_by m t a d rest).actors → resources_of (m.memory (KindOf x)) ≡ 1)
-      → (0 < weight (emptying x) (done_by m t a d rest).actors → resources_of (m.memory (KindOf x)) ≡ 0)
       → ResourcesFit ((done_by m t a d rest).life x) (resources_at (done_by m t a d rest) x)
-  settles_on d rest x here dies none slot closed lends closing_none ending_none closing_next ending_next has_one
-      has_none =
+  settles_on d rest x here dies none slot closed lends closing_none ending_none closing_next ending_next =
       let new = resources_at (done_by m t a d rest) x in
       let fit = settling d rest x here dies in
       let after = actor_by m.layout t a d rest (found_by m t a d) in
@@ -214,12 +191,10 @@ module _ (p : Accounts) (n : ℕ) (m : Machine) (t : ℕ) (a : Actor) where
                   let not = ending_next (omega (arith, more.1)) in
                   omega (arith, not, kind, closed, fit.placed)
             ];
-        has_one = λ some. kind ∙ has_one some;
-        has_none = λ some. kind ∙ has_none some;
       } in
       subst (λ (l : Life). ResourcesFit l new) (sym (still_dies d rest x here none dies)) fits
 
-  -- The weight of the duties of a list's cells at a row that has no resource, and of a weight that counts none of them.
+  -- A weight that counts neither a duty that empties a cell nor one that closes a row.
   cells_weigh : (f : Duty → ℕ) (x i k : ℕ) → f (SettleCell x i k) ≡ 0 → f (SettleEnd x) ≡ 0
       → sum_by f (cells_from x i k) ≡ 0
   cells_weigh f x i k cell end =
@@ -232,22 +207,10 @@ module _ (p : Accounts) (n : ℕ) (m : Machine) (t : ℕ) (a : Actor) where
       (resources_at (done_by m t a (SettleCell x i k) rest) x)
   after_cell x i k rest here =
       let d : Duty = SettleCell x i k in
-      let dies = (head_of p n m t a d rest here).1 in
-      let fit = settling d rest x here dies in
-      let this = eq-eqb x x refl in
-      let emptied =
-      finalised_alone p n m x (emptying x) (finalises x (emptying x) (of_emptying x)) t a d rest here this dies in
-      let none_taken =
-      finalised_alone p n m x (taking x) (finalises x (taking x) (of_taking x)) t a d rest here this dies in
-      let none = fit.has_none (omega (arith, emptied, one_here x)) in
-      let takes = settling_stepped x (taking x) (of_taking x) p n m t a d rest (next_of m t a d) here refl in
-      let takes_next : sum_by (taking x) (next_of m t a d) ≡ 0 =
-      released_light x (taking x) (of_taking x) (m.memory (Cell x i)) (cells_from x (i + 1) k)
-      ∙ cells_weigh (taking x) x (i + 1) k refl refl in
-      settles_on d rest x here dies refl refl refl refl refl refl
+      let fits = head_of p n m t a d rest here in
+      settles_on d rest x here fits.1 refl refl refl refl refl refl
       (released_light x (closing x) (of_closing x) (m.memory (Cell x i)) (cells_from x (i + 1) k)
-      ∙ cells_weigh (closing x) x (i + 1) k refl refl) (λ some. none)
-      (λ some. absurd (omega (arith, some, takes, takes_next, none_taken))) (λ some. none)
+      ∙ cells_weigh (closing x) x (i + 1) k refl refl) (λ some. fits.5)
 
   pub after_kind : (x : ℕ) (rest : List Duty) → AtDuty p n m t a (SettleKind x) rest
       → ResourcesFit ((done_by m t a (SettleKind x) rest).life x) (resources_at (done_by m t a (SettleKind x) rest) x)
@@ -255,43 +218,20 @@ module _ (p : Accounts) (n : ℕ) (m : Machine) (t : ℕ) (a : Actor) where
       let d : Duty = SettleKind x in
       let word = m.memory (KindOf x) in
       let dies = (head_of p n m t a d rest here).1 in
-      let this = eq-eqb x x refl in
-      let none_taken =
-      finalised_alone p n m x (taking x) (finalises x (taking x) (of_taking x)) t a d rest here this dies in
-      let none_emptied =
-      finalised_alone p n m x (emptying x) (finalises x (emptying x) (of_emptying x)) t a d rest here this dies in
       let cells : List Duty = cells_from x 0 (cells_of word) in
       elim (cases_Bool (has_resource word)) [
         | inl some ↦
             let next : next_of m t a d ≡ TakeSlot x ∷ [] =
             ap (λ (b : Bool). cond b (TakeSlot x ∷ []) cells) some in
-            let one : resources_of word ≡ 1 = ap (λ (b : Bool). cond b 1 0) some in
             let ends : sum_by (ending x) (next_of m t a d) ≡ 0 =
             ap (sum_by (ending x)) next ∙ sum_by-cons (ending x) (TakeSlot x) [] in
-            let empties =
-            settling_stepped x (emptying x) (of_emptying x) p n m t a d rest (TakeSlot x ∷ []) here next in
             settles_on d rest x here dies refl refl refl refl refl refl
             (ap (sum_by (closing x)) next ∙ sum_by-cons (closing x) (TakeSlot x) [])
-            (λ more. absurd (omega (arith, more, ends))) (λ more. one)
-            (λ more. absurd (omega (
-              arith,
-              more,
-              empties,
-              sum_by-cons (emptying x) (TakeSlot x) [],
-              none_emptied,
-            )))
+            (λ more. absurd (omega (arith, more, ends)))
         | inr none ↦
             let next : next_of m t a d ≡ cells = ap (λ (b : Bool). cond b (TakeSlot x ∷ []) cells) none in
             let zero_here : resources_of word ≡ 0 = ap (λ (b : Bool). cond b 1 0) none in
-            let takes = settling_stepped x (taking x) (of_taking x) p n m t a d rest cells here next in
             settles_on d rest x here dies refl refl refl refl refl refl
             (ap (sum_by (closing x)) next ∙ cells_weigh (closing x) x 0 (cells_of word) refl refl)
             (λ more. zero_here)
-            (λ more. absurd (omega (
-              arith,
-              more,
-              takes,
-              cells_weigh (taking x) x 0 (cells_of word) refl refl,
-              none_taken,
-            ))) (λ more. zero_here)
       ]

@@ -1,7 +1,7 @@
 -- The host is asked at most once to close a resource, and a lent resource is used by one thread alone.
-use Rattle.std.proofs.Common.{◌≡◌, ℕ, ◌<◌, ◌≤◌, Bool, true, false, cond, List, [], ◌∷◌, inl, inr, refl, ap, ◌∙◌, subst, arith}
-use Rattle.std.specs.Prelude.{◌||◌, sum_by}
-use Rattle.std.specs.List.{list_any}
+use Rattle.std.proofs.Common.{◌≡◌, ℕ, ◌<◌, ◌≤◌, Bool, true, false, cond, List, [], ◌∷◌, inl, inr, Some, refl, ap, ◌∙◌, subst, arith}
+use Rattle.std.specs.Prelude.{◌==◌, slice_get, sum_by}
+use Rattle.std.proofs.lemmas.Bool.{eq-eqb}
 use Rattle.std.proofs.lemmas.Bool.Decides.{eqb_tells}
 use Rattle.std.proofs.lemmas.List.Sums.{sum_by-cons}
 use Rattle.brc_lang.specs.declared.module.Module.{Module}
@@ -11,7 +11,7 @@ use Rattle.brc_model.specs.declared.duty.Duty.{Duty}
 use Rattle.brc_model.specs.declared.duty.Duty.TheVariants.{SettleEnd}
 use Rattle.brc_model.specs.declared.address.Address.TheVariants.{KindOf, Resource}
 use Rattle.brc_model.specs.Duties.{has_resource, resources_of}
-use Rattle.brc_model.specs.Machine.{Life, Unborn, Live, Dying, Closed, Machine}
+use Rattle.brc_model.specs.Machine.{Actor, Life, Unborn, Live, Dying, Closed, Machine}
 use Rattle.brc_model.specs.StepMachine.{StepMachine, counting}
 use Rattle.brc_model.specs.Accounts.{Accounts}
 use Rattle.brc_model.specs.References.{one_if}
@@ -20,49 +20,74 @@ use Rattle.brc_model.specs.Invariant.{CoreInvariant}
 use Rattle.brc_model.specs.OpenWork.{dies_by}
 use Rattle.brc_model.specs.Progress.{Always}
 use Rattle.brc_model.specs.Resources.{ending, resources_at, ResourcesFit}
-use Rattle.brc_model.specs.ResourceLaws.{closes_row, IsGone, ByEnd, ByDuty, ResourcesCloseOnce, LentAreUsedAlone}
+use Rattle.brc_model.specs.ResourceLaws.{IsGone, ByEnd, ByDuty, ResourcesCloseOnce, LentAreUsedAlone}
 use Rattle.brc_model.proofs.Frame.Items.{one_locker}
 use Rattle.brc_model.proofs.Objects.Finalisers.{waiting_weight, unfinalised}
 use Rattle.brc_model.proofs.Objects.ResourcesElsewhere.{resources_low}
 use Rattle.brc_model.proofs.Objects.ResourcesLent.{lent_leaves_none}
 use Rattle.brc_model.proofs.Objects.SettlingWeights.{finalises, of_ending}
-use Rattle.brc_model.proofs.Objects.Weights.{agenda_weight-le}
-use Rattle.brc_model.proofs.Work.HasDuties.{some_weighs, is_listed}
+use Rattle.brc_model.specs.Knowledge.{BehindFits, AllBehind, BehindOf}
+use Rattle.brc_model.proofs.Frame.Alive.{first_weighs}
+use Rattle.brc_model.proofs.Work.HasDuties.{some_weighs}
 use Rattle.brc_model.proofs.Keeping.CodeInvariant.{CodeInvariant}
 use Rattle.brc_model.proofs.Promises.RowLaws.{always}
 
 -- ---- which duties close a row
 
-ending_only : (x : ℕ) (d : Duty) → closes_row x d ≡ false → ending x d ≡ 0
-ending_only x (SettleEnd y) other = ap one_if other
-ending_only x _ other = refl
+closes_first : (m : Machine) (t x : ℕ) (a : Actor) (d : Duty) (rest : List Duty) → slice_get m.actors t ≡ Some a
+    → a.agenda ≡ d ∷ rest → 0 < ending x d → IsGone m x
+closes_first m t x a (SettleEnd y) rest found is some =
+    elim (eqb_tells y x) [
+      | inl same ↦ ByDuty t a rest found (is ∙ ap (λ (z : ℕ). SettleEnd z ∷ rest) same.1)
+      | inr other ↦ let none : one_if (y == x) ≡ 0 = ap one_if other.0 in absurd (omega (arith, some, none))
+    ]
+closes_first m t x a _ rest found is some = absurd (omega (arith, some))
 
-ending_one : (x : ℕ) (d : Duty) → closes_row x d ≡ true → ending x d ≡ 1
-ending_one x (SettleEnd y) this = ap one_if this
-ending_one x _ this = absurd cc
+-- A row that a thread closes after another duty has no resource: it is a list's.
+behind_has_none : (m : Machine) (t x : ℕ) (d : Duty) → BehindFits m t d → 0 < ending x d
+    → resources_of (m.memory (KindOf x)) ≡ 0
+behind_has_none m t x (SettleEnd y) fits some =
+    elim (eqb_tells y x) [
+      | inl same ↦ subst (λ (z : ℕ). resources_of (m.memory (KindOf z)) ≡ 0) same.1 fits.4
+      | inr other ↦ let none : one_if (y == x) ≡ 0 = ap one_if other.0 in absurd (omega (arith, some, none))
+    ]
+behind_has_none m t x _ fits some = absurd (omega (arith, some))
 
--- A list with a duty that closes the row weighs something.
-listed_weighs : (x : ℕ) (ds : List Duty) → list_any (closes_row x) ds ≡ true → 0 < sum_by (ending x) ds
-listed_weighs x [] listed = absurd cc
-listed_weighs x (d ∷ ds) listed =
-    elim (closes_row x d) as (λ b. closes_row x d ≡ b → (b || list_any (closes_row x) ds) ≡ true
-    → 0 < sum_by (ending x) (d ∷ ds)) [
-      | true ↦ λ e is. omega (arith, sum_by-cons (ending x) d ds, ending_one x d e)
-      | false ↦ λ e is. omega (arith, sum_by-cons (ending x) d ds, listed_weighs x ds is)
-    ] refl listed
+later_has_none : (m : Machine) (t x : ℕ) (ds : List Duty) → AllBehind m t ds → 0 < sum_by (ending x) ds
+    → resources_of (m.memory (KindOf x)) ≡ 0
+later_has_none m t x [] all some = absurd (omega (arith, some))
+later_has_none m t x (d ∷ ds) all some =
+    elim (eqb_tells (ending x d) 0) [
+      | inl none ↦
+          later_has_none m t x ds all.1 (omega (arith, some, sum_by-cons (ending x) d ds, none.1))
+      | inr more ↦ behind_has_none m t x d all.0 (omega (arith, more.1))
+    ]
+
+-- So a thread that is to close a row with a resource closes it next.
+closes_next : (m : Machine) (t x : ℕ) (a : Actor) (agenda : List Duty) → slice_get m.actors t ≡ Some a
+    → a.agenda ≡ agenda → BehindOf m t agenda → 0 < sum_by (ending x) agenda
+    → 0 < resources_of (m.memory (KindOf x)) → IsGone m x
+closes_next m t x a [] found is behind some one = absurd (omega (arith, some))
+closes_next m t x a (d ∷ rest) found is behind some one =
+    elim (eqb_tells (ending x d) 0) [
+      | inl none ↦
+          absurd (let no = later_has_none m t x rest behind
+          (omega (arith, some, sum_by-cons (ending x) d rest, none.1)) in
+          omega (arith, no, one))
+      | inr more ↦ closes_first m t x a d rest found is (omega (arith, more.1))
+    ]
 
 -- ---- closes
 
 module _ (p : Accounts) (n : ℕ) (m : Machine) (x : ℕ) (core : CoreInvariant p n m) where
-  -- A thread whose duties close the row has such a duty in its agenda, since none may wait.
-  by_duty : 0 < weight (ending x) m.actors → IsGone m x
-  by_duty weighs =
+  -- If a thread is to close a row with a resource, it closes the row next.
+  by_duty : 0 < weight (ending x) m.actors → 0 < resources_of (m.memory (KindOf x)) → IsGone m x
+  by_duty weighs one =
       let it = some_weighs (ending x) m.actors weighs in
+      let fits = core.each it.who it.which it.found in
       let aside =
-      waiting_weight x (ending x) m it.who it.which it.which.aside (finalises x (ending x) (of_ending x))
-      (core.each it.who it.which it.found).2.waits in
-      ByDuty it.who it.which it.found
-      (is_listed (ending x) (closes_row x) (ending_only x) it.which.agenda (omega (arith, it.some, aside)))
+      waiting_weight x (ending x) m it.who it.which it.which.aside (finalises x (ending x) (of_ending x)) fits.2.waits in
+      closes_next m it.who x it.which it.which.agenda it.found refl fits.0.behind (omega (arith, it.some, aside)) one
 
   -- A row that isn't dying has no such duty.
   not_ending : ((u : ℕ) → dies_by (m.life x) u ≡ false) → weight (ending x) m.actors ≡ 0
@@ -93,7 +118,7 @@ module _ (p : Accounts) (n : ℕ) (m : Machine) (x : ℕ) (core : CoreInvariant 
     some_resource (omega (arith, fit.placed, one)),
     elim (eqb_tells (weight (ending x) m.actors) 0) [
       | inl none ↦ absurd (let yet = fit.unclosed none.1 in omega (arith, yet, one))
-      | inr more ↦ by_duty (omega (arith, more.1))
+      | inr more ↦ by_duty (omega (arith, more.1)) (omega (arith, fit.placed, one))
     ],
   )
   closed_gone Closed is fit one = (some_resource (omega (arith, fit.1, one)), ByEnd is)
@@ -110,9 +135,10 @@ module _ (p : Accounts) (n : ℕ) (m : Machine) (x : ℕ) (core : CoreInvariant 
   gone_closed : IsGone m x → m.memory (Resource x) ≡ resources_of (m.memory (KindOf x))
   gone_closed (ByEnd is) =
       (subst (λ (l : Life). ResourcesFit l (resources_at m x)) is (core.resources x)).1
-  gone_closed (ByDuty t a found listed) =
+  gone_closed (ByDuty t a rest found is) =
+      let one : one_if (x == x) ≡ 1 = ap one_if (eq-eqb x x refl) in
       ending_closed (m.life x) refl (core.resources x)
-      (omega (arith, listed_weighs x a.agenda listed, agenda_weight-le (ending x) m.actors t a found))
+      (omega (arith, first_weighs (ending x) m.actors t a (SettleEnd x) rest found is, one))
 
 once_in : (p : Module) (n : ℕ) (m : StepMachine) → CodeInvariant p n m → ResourcesCloseOnce m
 once_in p n m whole =
