@@ -1,5 +1,5 @@
 -- In each call a thread counts the turns of all the instructions that its function can have.
-use Rattle.std.proofs.Common.{◌≡◌, ℕ, zero, suc, ◌+◌, ◌<◌, ◌≤◌, List, [], ◌∷◌, length, map, inl, inr, Option, None, Some, refl, sym, ap, ◌∙◌, subst, arith}
+use Rattle.std.proofs.Common.{◌≡◌, ℕ, zero, suc, ◌+◌, ◌≤◌, List, [], ◌∷◌, length, map, inl, inr, Option, None, Some, refl, sym, ap, ◌∙◌, subst, arith}
 use Rattle.std.specs.Prelude.{slice_get, slice_set}
 use Rattle.std.proofs.lemmas.Bool.Decides.{eqb_tells}
 use Rattle.std.proofs.lemmas.List.{length-set, length-replicate}
@@ -76,8 +76,8 @@ pub counts_beyond : (code : List Instr) (place : Place) → CountsTurns place �
 counts_beyond code Exiting all = tt
 counts_beyond code (Idle zero) all = tt
 counts_beyond code (Idle (suc left)) all =
-    counts_after code (first_counters left) 0 entry_variables (length-replicate {A = ℕ} 256 0)
-counts_beyond code (InCall counters at variables) all = counts_after code counters at variables all
+    λ low. counts_after code (first_counters left) 0 entry_variables (length-replicate {A = ℕ} 256 0)
+counts_beyond code (InCall counters at variables) all = λ low. counts_after code counters at variables all
 counts_beyond code (Inside counters at variables stage) all =
     record { on = λ next later ahead. all; into = λ further apart. all }
 
