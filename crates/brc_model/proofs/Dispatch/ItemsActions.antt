@@ -29,7 +29,8 @@ use Rattle.brc_model.proofs.Dispatch.Passing.{passes_on}
 use Rattle.brc_model.proofs.Dispatch.AtOnce.{at_once, plain_locked, plain_keeps}
 use Rattle.brc_model.proofs.Dispatch.Coded.{PlaceSays}
 use Rattle.brc_model.proofs.Dispatch.Items.{knows_stay, entry_items}
-use Rattle.brc_model.proofs.Dispatch.ItemsLeft.{LeavesItems, UsesAt, instruction_uses, inside_uses}
+use Rattle.brc_model.proofs.Dispatch.ItemsUsed.{LeavesItems, UsesAt}
+use Rattle.brc_model.proofs.Dispatch.ItemsLeft.{instruction_uses, inside_uses}
 
 -- The thread's place before its step, and what it knows of items there.
 pub record StandsUsing (code : List Instr) (memory : Address → ℕ) (locked : Option ℕ) (place : Place) : Type 0 where
