@@ -314,7 +314,8 @@ module _ (code : List Instr) (memory : Address → ℕ) (locked : Option ℕ) (c
         holds = stays.cells row index locks ∙ sym seen ∙ omega arith;
       })) found done.finds)
 
-  pub inside_uses : (layout : Layout) (t used : ℕ) (stage : Stage) (i : Instr) → StageKnows memory locked variables stage (Some i) → Here i
+  pub inside_uses : (layout : Layout) (t used : ℕ) (stage : Stage) (i : Instr)
+      → StageKnows memory locked variables stage (Some i) → Here i
       → LeavesItems code memory locked (dispatch_inside layout t used counters at variables stage (Some i))
   inside_uses layout t used InRange (Borrow to list index otherwise) knows here =
       cell_uses (Borrow to list index otherwise) list index (InCall counters otherwise (slice_set variables to None))
@@ -369,7 +370,8 @@ module _ (code : List Instr) (memory : Address → ℕ) (locked : Option ℕ) (c
       (λ new stays. goes_inside new Granted (Read to file most otherwise) stays here tt)
   inside_uses layout t used (Called FaultExit) (Read to file most otherwise) knows here =
       return_uses file (InCall counters otherwise (slice_set variables to None))
-      (λ new stays. goes_on_free new otherwise (Read to file most otherwise) FaultExit to Empty None stays here refl refl
+      (λ new stays. goes_on_free new otherwise (Read to file most otherwise) FaultExit to Empty None stays here refl
+      refl
       here.operands.0 refl)
   inside_uses layout t used Granted (Read to file most otherwise) knows here =
       granted_uses layout t used (Read to file most otherwise) to (number_word 0) (Owned kinds.Num) here

@@ -83,7 +83,8 @@ dispatch_leaves code words layout t used (Inside counters at variables stage) st
     let says = stands.says in
     let here = knows_at code words at variables says.0 stands.accepted stands.instructions says.1 stands.named
     (stands.knows says.1.exits says.0 says.1.arrived) in
-    subst (λ (o : Option Instr). Leaves code words (dispatch_inside layout t used counters at variables stage o)) (sym here.1)
+    subst (λ (o : Option Instr). Leaves code words (dispatch_inside layout t used counters at variables stage o))
+    (sym here.1)
     (inside_leaves code words layout t used counters at variables stage says.0 here.0 here.2)
 
 agenda_leaves : (functions : List Function) (words : ℕ → ℕ) (layout : Layout) (t : ℕ) (a : StepActor)

@@ -134,7 +134,8 @@ birth_leaves code words layout t used counters at variables s i to word otherwis
 
 -- A thread that asks the host for a resource awaits its birth, or leaves the variable empty.
 grant_leaves : (code : List Instr) (words : ℕ → ℕ) (layout : Layout) (t used : ℕ) (counters : Counters) (at : ℕ)
-    (variables : List (Option ℕ)) (s : State) (i : Instr) (to otherwise : ℕ) → (here : KnowsAt code words at variables s i)
+    (variables : List (Option ℕ)) (s : State) (i : Instr) (to otherwise : ℕ)
+    → (here : KnowsAt code words at variables s i)
     → to < 16 → target i FaultExit at ≡ Some otherwise → after i FaultExit s ≡ put s to Empty
     → Leaves code words (grant_action layout t used counters at variables to otherwise)
 grant_leaves code words layout t used counters at variables s i to otherwise here low else_at empty =
@@ -330,7 +331,8 @@ inside_leaves code words layout t used counters at variables InRange s (Fetch to
     (Fetch to list index otherwise) FaultExit to Empty None here
     refl refl here.operands.0 (empty_true words None))
     (λ item. knows_here code words at variables s (Fetch to list index otherwise) here)
-inside_leaves code words layout t used counters at variables (Found item) s (Fetch to list index otherwise) here = λ found seen.
+inside_leaves code words layout t used counters at variables (Found item) s (Fetch to list index otherwise) here =
+    λ found seen.
     goes_on_put code words counters at (at + 1) variables s (Fetch to list index otherwise) Success to (Owned kinds.Any)
     (Some item) here refl refl here.operands.0 (any_true words (Owned kinds.Any) (Some item) refl)
 inside_leaves code words layout t used counters at variables InRange s (Set list index from otherwise) here =

@@ -297,7 +297,8 @@ inside_call_taken code g counters at variables stage accepted instructions fits 
       met = on.met;
       leads = on.leads;
     } in
-    subst (λ (o : Option Instr). IsTaken code g (dispatch_inside g.layout g.thread g.used counters at variables stage o)) (sym on.found)
+    subst (λ (o : Option Instr). IsTaken code g
+    (dispatch_inside g.layout g.thread g.used counters at variables stage o)) (sym on.found)
     (inside_taken code g counters at variables s on.here stage here)
 
 -- The exit gives up the reference that the thread holds as the caller.
@@ -337,5 +338,6 @@ dispatch_taken code g (Inside counters at variables stage) accepted instructions
 dispatch_taken code g (InCall counters at variables) accepted instructions stays fits sees =
     in_call_taken code g (InCall counters at variables) counters at variables fits.0 accepted instructions fits.1 fits.2
     (holds_plain g.bag g.thread (of_variables fits.0 variables) fits.3)
-    (sees.knows fits.1.exits fits.0 fits.1.arrived) (sees.items fits.1.exits fits.0 fits.1.arrived) sees.counted sees.lent fits
+    (sees.knows fits.1.exits fits.0 fits.1.arrived) (sees.items fits.1.exits fits.0 fits.1.arrived) sees.counted
+    sees.lent fits
     stays
