@@ -2,6 +2,10 @@
 #![tactic(auto)]
 
 #[cfg(test)]
+mod host_cases;
+#[cfg(test)]
+mod host_instructions;
+#[cfg(test)]
 mod line_cases;
 #[cfg(test)]
 mod modules;

@@ -1,8 +1,12 @@
+use crate::host_cases::{
+    AGAIN_WORDS, HOST_IN_ORDER, MODES, PATH_NUMBERS, PATH_WORDS, READ_HOST, READ_NUMBERS,
+    READ_WORDS,
+};
 use crate::line_cases::{
     AS_WORDS, IN_ORDER, ITEM_NUMBERS, ITEM_WORDS, LIST_NUMBERS, LIST_WORDS, LOCK_AND_UNLOCK,
     NONE_AND_MOVE, NUM_NUMBERS, NUM_WORDS, READ, STORE_NUMBERS, STORE_WORDS, TARGETS,
 };
-use crate::target_cases::{AHEAD, EARLIER, NOT_AHEAD};
+use crate::target_cases::{AHEAD, BACK, EARLIER, NOT_AHEAD, NOT_BACK};
 use brc_lang::{FaultCode, Instr, Kind, ReadFault, Sequence, Variable, read, write, write_bytes};
 use std::alloc::{AllocError, Global};
 use std::test::Fail;
@@ -23,7 +27,7 @@ const HEAD: &[u8] = b"module 1\nfunc f\n";
 const BELOW: &[u8] = b"\nfail\nend\n";
 
 // The text above the cases, the cases, and the text below them.
-const TABLES: [(&[u8], &str, &[u8]); 18] = [
+const TABLES: [(&[u8], &str, &[u8]); 28] = [
     (b"", MODULES, b""),
     (HEAD, READ, BELOW),
     (HEAD, NUM_NUMBERS, BELOW),
@@ -39,8 +43,18 @@ const TABLES: [(&[u8], &str, &[u8]); 18] = [
     (HEAD, STORE_WORDS, BELOW),
     (HEAD, AS_WORDS, BELOW),
     (HEAD, TARGETS, BELOW),
+    (HEAD, READ_HOST, BELOW),
+    (HEAD, MODES, BELOW),
+    (HEAD, PATH_NUMBERS, BELOW),
+    (HEAD, PATH_WORDS, BELOW),
+    (HEAD, READ_NUMBERS, BELOW),
+    (HEAD, READ_WORDS, BELOW),
+    (HEAD, HOST_IN_ORDER, BELOW),
+    (HEAD, AGAIN_WORDS, BELOW),
     (HEAD, AHEAD, b""),
     (HEAD, NOT_AHEAD, b""),
+    (HEAD, BACK, b""),
+    (HEAD, NOT_BACK, b""),
     (HEAD, EARLIER, b""),
 ];
 
@@ -114,7 +128,7 @@ fn faults_of_texts(rt: HostRuntime) -> Result<(), Fail> {
 }
 
 // Whether the text is read as one function of this name and code.
-fn reads_as(alloc: Global, text: &[u8], name: &[u8], code: &[Instr]) -> bool {
+pub fn reads_as(alloc: Global, text: &[u8], name: &[u8], code: &[Instr]) -> bool {
     match read(alloc, text) {
         Ok(module) => match module.functions.as_slice() {
             [function] => function.name.as_bytes() == name && function.code.as_slice() == code,

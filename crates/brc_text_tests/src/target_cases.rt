@@ -11,6 +11,10 @@ read: borrow v1 v0 0 else @1|fail|end|
 read: fetch v1 v0 0 else @1|fail|end|
 read: set v0 0 v1 else @1|fail|end|
 read: put v0 0 v1 else @1|fail|end|
+read: open v1 0 r else @1|fail|end|
+read: connect v1 0 else @1|fail|end|
+read: read v1 v0 1 else @1|fail|end|
+read: write v0 v1 else @1|fail|end|
 read: fail|goto @2|goto @3|fail|end|
 read: fail|end|func g|goto @1|fail|end|
 ";
@@ -35,9 +39,39 @@ line 5 L4: set v0 0 v1 else @0|fail|end|
 line 5 L4: set v0 0 v1 else @2|fail|end|
 line 5 L4: put v0 0 v1 else @0|fail|end|
 line 5 L4: put v0 0 v1 else @2|fail|end|
+line 5 L4: open v1 0 r else @0|fail|end|
+line 5 L4: open v1 0 r else @2|fail|end|
+line 5 L4: connect v1 0 else @0|fail|end|
+line 5 L4: connect v1 0 else @2|fail|end|
+line 5 L4: read v1 v0 1 else @0|fail|end|
+line 5 L4: read v1 v0 1 else @2|fail|end|
+line 5 L4: write v0 v1 else @0|fail|end|
+line 5 L4: write v0 v1 else @2|fail|end|
 line 5 L4: as v1 num else @0|fail|end|
 line 5 L4: as v1 num else @2|fail|end|
 line 9 L4: goto @1|fail|end|func g|fail|goto @255|end|end|
+";
+
+// Targets of `again`, which lead back or to the instruction itself.
+pub const BACK: &str = "\
+read: again @0 1|fail|end|
+read: again @0 1|end|
+read: fail|again @0 65535|fail|end|
+read: fail|again @1 1|end|
+read: fail|fail|fail|again @1 7|again @3 7|end|
+read: fail|end|func g|again @0 2|fail|end|
+";
+
+// Targets of `again` that lead ahead, or nowhere.
+pub const NOT_BACK: &str = "\
+line 5 L4: again @1 1|fail|end|
+line 4 L4: again @1 1|end|
+line 4 L4: again @255 1|end|
+line 6 L4: fail|again @2 1|fail|end|
+line 6 L4: fail|again @3 1|fail|end|
+line 6 L4: again @0 1|again @2 1|fail|end|
+line 6 L4: again @0 1|goto @1|fail|end|
+line 9 L4: fail|fail|end|func g|again @1 1|fail|end|
 ";
 
 // Targets are checked at the end of a function, after every other line of it.

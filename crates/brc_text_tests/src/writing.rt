@@ -49,7 +49,7 @@ fn function(alloc: Global, name: &[u8], code: &[Instr]) -> Result<Function, Allo
 }
 
 // The text of a module of these functions, each a name and its code.
-fn written(alloc: Global, table: &[(&[u8], &[Instr])]) -> Result<Vec<u8>, Fail> {
+pub fn written(alloc: Global, table: &[(&[u8], &[Instr])]) -> Result<Vec<u8>, Fail> {
     let mut functions = Sequence::new(alloc);
     for (name, code) in table {
         functions.push(function(alloc, name, code)?)?;
