@@ -6,7 +6,7 @@ use Rattle.std.specs.List.{list_any, slice_index_or}
 use Rattle.brc_lang.specs.declared.kind.Kind.{Kind}
 use Rattle.brc_lang.specs.declared.kind.Kind.TheVariants as kinds
 use Rattle.brc_lang.specs.declared.module.Instr.{Instr}
-use Rattle.brc_lang.specs.declared.module.Instr.TheVariants.{Num, List as ListObject, NoneObject, Newref, Move, Drop, Lock, Unlock, Borrow, Fetch, Set, Put, Open, Connect, Read, Write, Goto, Again, Ret, Fail, As}
+use Rattle.brc_lang.specs.declared.module.Instr.TheVariants.{Num, List as ListObject, NoneObject, Newref, Move, Drop, Lock, Unlock, Borrow, Fetch, Set, Put, Goto, Again, Ret, Fail, As, Open, Connect, Read, Write}
 use Rattle.brc_model.specs.Kinds.{same_kind}
 use Rattle.brc_model.specs.declared.code.CheckCode.{CheckCode}
 use Rattle.brc_model.specs.declared.code.CheckCode.TheVariants.{EmptyUsed, WrongKind, NotOwned, StillOwns, LeftOwned, LeftLocked, SecondLock, NotLocked, LockedChanged}
@@ -147,7 +147,8 @@ conditions_of (Put list index from otherwise) =
     Use from ∷ Use list ∷ IsOneOf list (kinds.List ∷ []) ∷ IsLocked list ∷ []
 conditions_of (Open to path mode otherwise) = Into to ∷ []
 conditions_of (Connect to peer otherwise) = Into to ∷ []
-conditions_of (Read to file most otherwise) = Into to ∷ Use file ∷ IsOneOf file with_resource ∷ IsLocked file ∷ []
+conditions_of (Read to file most otherwise) =
+    Into to ∷ Use file ∷ IsOneOf file with_resource ∷ IsLocked file ∷ []
 conditions_of (Write file number otherwise) =
     Use file ∷ IsOneOf file with_resource ∷ IsLocked file ∷ Use number ∷ IsOneOf number (kinds.Num ∷ []) ∷ []
 conditions_of (As from kind otherwise) = Use from ∷ MayBe from kind ∷ []
