@@ -20,12 +20,14 @@ pub mod Accounts
 pub mod Knowledge
 pub mod OpenWork
 pub mod Gates
+pub mod Resources
 pub mod Invariant
 pub mod Agreement
 pub mod BadDuties
 pub mod Needs
 pub mod Events
 pub mod Safety
+pub mod Faults
 pub mod World
 pub mod Within
 pub mod Ranges
@@ -35,3 +37,4 @@ pub mod CountingLaws
 pub mod Progress
 pub mod Watched
 pub mod Trace
+pub mod Bounded

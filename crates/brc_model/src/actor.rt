@@ -1,3 +1,5 @@
+use crate::slot::Exit;
+
 /// Whether a thread runs, is leaving or is gone.
 #[derive(Clone, Copy, Debug)]
 pub enum Status {
@@ -9,6 +11,15 @@ pub enum Status {
     Gone,
 }
 
+/// What a call counts.
+#[derive(Clone, Copy, Debug)]
+pub struct Counters {
+    /// The calls that the thread has still to make after this one.
+    pub left: u32,
+    /// How often each instruction `again` of the function, by its point, has gone back in this call.
+    pub turns: [u16; 256],
+}
+
 /// Where a thread is in its calls once its agenda is done. The beginning of a call is no step of its own.
 #[derive(Clone, Copy, Debug)]
 pub enum Place {
@@ -16,15 +27,15 @@ pub enum Place {
     Idle {
         left: u32,
     },
-    /// Before the instruction `at` of a call after which `left` calls remain. Each variable names a row, or is empty.
+    /// Before the instruction `at` of a call with these counters. Each variable names a row, or is empty.
     InCall {
-        left: u32,
+        counters: Counters,
         at: usize,
         variables: [Option<u32>; 16],
     },
-    /// Inside the instruction `at`, which uses a cell of the locked list, after its first step.
+    /// Inside the instruction `at`, which takes several steps, after its first one.
     Inside {
-        left: u32,
+        counters: Counters,
         at: usize,
         variables: [Option<u32>; 16],
         stage: Stage,
@@ -33,7 +44,7 @@ pub enum Place {
     Exiting,
 }
 
-/// How far a thread is inside an instruction that uses a cell.
+/// How far a thread is inside an instruction that uses a cell or calls the host.
 #[derive(Clone, Copy, Debug)]
 pub enum Stage {
     /// The list has the cell.
@@ -44,4 +55,12 @@ pub enum Stage {
     Found { row: u32 },
     /// The thread has made a reference for the cell, in flight.
     Retained,
+    /// The kind word of the number that is to be written is loaded.
+    Loaded,
+    /// The resource of the file or socket is lent to the thread.
+    Lent,
+    /// The host has answered the call by this exit.
+    Called { exit: Exit },
+    /// The host's call succeeded, and the thread makes the new object next.
+    Granted,
 }

@@ -1,27 +1,30 @@
--- The silent steps of accepted code meet their condition: `none`, `move` and `goto`, which change no word.
+-- The silent steps of accepted code meet their condition: `none`, `move`, `goto` and `again`, which change no word.
 use Rattle.std.proofs.Common.{◌≡◌, ℕ, ◌+◌, ◌<◌, true, false, List, [], ◌∷◌, ◌++◌, length, Option, None, Some, refl, ap, ◌∙◌, arith, Bool, inl, inr}
-use Rattle.std.specs.Prelude.{◌==◌, ◌&&◌, slice_set}
+use Rattle.std.specs.Prelude.{◌==◌, ◌&&◌, nat_lt, slice_set}
 use Rattle.std.specs.List.{list_any}
 use Rattle.std.proofs.lemmas.List.{length-set}
 use Rattle.brc_lang.specs.declared.module.Instr.{Instr}
-use Rattle.brc_lang.specs.declared.module.Instr.TheVariants.{NoneObject, Move as MoveReference, Goto}
+use Rattle.brc_lang.specs.declared.module.Instr.TheVariants.{NoneObject, Move as MoveReference, Goto, Again}
 use Rattle.brc_lang.specs.declared.kind.Kind.TheVariants as kinds
 use Rattle.brc_model.specs.declared.slot.Slot.{Slot}
 use Rattle.brc_model.specs.declared.slot.Slot.TheVariants.{Empty, Owned}
 use Rattle.brc_model.specs.declared.slot.State.{State}
-use Rattle.brc_model.specs.declared.slot.Exit.TheVariants.{Success}
-use Rattle.brc_model.specs.Slots.{slot_of, is_owned, kind_of, put, names}
+use Rattle.brc_model.specs.declared.slot.Exit.{Exit}
+use Rattle.brc_model.specs.declared.slot.Exit.TheVariants.{Success, Fault}
+use Rattle.brc_model.specs.Slots.{slot_of, is_owned, kind_of, put, names, after, target}
+use Rattle.brc_model.specs.Paths.{At}
 use Rattle.brc_model.specs.declared.duty.Holding.{Holding}
 use Rattle.brc_model.specs.declared.duty.Holding.TheVariants.{ByVariable}
 use Rattle.brc_model.specs.AbstractState.{Reference, same_holding, same, without}
 use Rattle.brc_model.specs.Threads.{row_of}
 use Rattle.brc_model.specs.declared.actor.Place.{Place}
+use Rattle.brc_model.specs.declared.actor.Counters.{Counters}
 use Rattle.brc_model.specs.declared.actor.Place.TheVariants.{InCall}
-use Rattle.brc_model.specs.Actions.{dispatch_instruction, Silent}
+use Rattle.brc_model.specs.Actions.{turns_at, turned, dispatch_instruction, Silent}
 use Rattle.brc_model.specs.Moves.{gain, pass_on}
 use Rattle.brc_model.proofs.Basics.Bag.{held_has, held-without, held-cons}
 use Rattle.brc_model.specs.References.{held, one_if, reference_of}
-use Rattle.brc_model.proofs.Basics.Lists.{first_false, second_false}
+use Rattle.brc_model.proofs.Basics.Lists.{either, first_false, second_false}
 use Rattle.brc_model.proofs.Dispatch.Holds.{of_variables, Holds, owned_has}
 use Rattle.brc_model.proofs.Dispatch.Grounded.{IsInside, owned_slot, owned_row, grounded-put, slot_of-put_same, slot_of-put_other}
 use Rattle.brc_model.proofs.Stepping.Counts.{same_is}
@@ -46,12 +49,12 @@ gained_holds bag t to row says lacks k object =
 
 -- ---- none
 
-pub none_taken : (code : List Instr) (g : Scene) (before : Place) (left at : ℕ)
+pub none_taken : (code : List Instr) (g : Scene) (before : Place) (counters : Counters) (at : ℕ)
     (variables : List (Option ℕ))
     (s : State) (to : ℕ)
     → StandsAt code g before at variables s (NoneObject to)
-    → IsTaken code g (dispatch_instruction g.layout g.thread g.used before left at variables (Some (NoneObject to)))
-none_taken code g before left at variables s to here =
+    → IsTaken code g (dispatch_instruction g.layout g.thread g.used before counters at variables (Some (NoneObject to)))
+none_taken code g before counters at variables s to here =
     let slot : Slot = Owned kinds.None in
     let free : is_owned (slot_of s to) ≡ false = first_false _ _ here.met.free in
     let in_slots : to < length s.slots = omega (arith, here.variables, here.inside.slots) in
@@ -71,16 +74,17 @@ none_taken code g before left at variables s to here =
           (newref_held g.bag g.thread s variables to none_row slot in_slots in_rows free refl here.holds);
     } in
     let taken : SilentTaken code g (gain g.thread (ByVariable to) none_row)
-    (InCall left (at + 1) (slice_set variables to (Some none_row))) =
+    (InCall counters (at + 1) (slice_set variables to (Some none_row))) =
     record {
       moves_fit = GainsNone (ByVariable to);
       placed = (
         put s to slot,
         next,
-        guards-put s variables to slot (Some none_row) s.locked g.locked (first_false _ _ here.met.unlocked) here.guards,
+        guards-put s variables to slot (Some none_row) s.locked g.locked
+            (first_false _ _ here.met.unlocked) here.guards,
         holds_at_none _ g.thread _ holds,
       );
-      stays = in_call_stays left (at + 1) (slice_set variables to (Some none_row));
+      stays = in_call_stays counters (at + 1) (slice_set variables to (Some none_row));
     } in
     taken
 
@@ -117,13 +121,13 @@ still_free s from to in_slots free =
       | inr other ↦ ap is_owned (slot_of-put_other s from to Empty other.1) ∙ free
     ]
 
-pub move_taken : (code : List Instr) (g : Scene) (before : Place) (left at : ℕ)
+pub move_taken : (code : List Instr) (g : Scene) (before : Place) (counters : Counters) (at : ℕ)
     (variables : List (Option ℕ))
     (s : State) (to from : ℕ)
     → StandsAt code g before at variables s (MoveReference to from)
     → IsTaken code g
-    (dispatch_instruction g.layout g.thread g.used before left at variables (Some (MoveReference to from)))
-move_taken code g before left at variables s to from here =
+    (dispatch_instruction g.layout g.thread g.used before counters at variables (Some (MoveReference to from)))
+move_taken code g before counters at variables s to from here =
     let owned = owned_slot (slot_of s from) (first_false _ _ here.met.not_empty) (first_false _ _ here.met.owned) in
     let free : is_owned (slot_of s to) ≡ false = first_false _ _ here.met.free in
     let row = owned_row (slot_of s from) (row_of variables from) owned (here.inside.grounded from) in
@@ -151,7 +155,8 @@ move_taken code g before left at variables s to from here =
     (of_variables (put s1 to slot) (slice_set v1 to (Some row.0))) =
     record {
       each = gained_holds (without r g.bag) g.thread to row.0 _
-          (newref_held (without r g.bag) g.thread s1 v1 to row.0 slot to_slots to_rows (still_free s from to in_slots free) refl
+          (newref_held (without r g.bag) g.thread s1 v1 to row.0 slot to_slots to_rows
+          (still_free s from to in_slots free) refl
           fewer);
     } in
     let from_free : names s.locked from ≡ false = first_false _ _ here.met.unlocked in
@@ -160,35 +165,54 @@ move_taken code g before left at variables s to from here =
     guards-put s1 v1 to slot (Some row.0) s.locked g.locked to_free
     (guards-put s variables from Empty None s.locked g.locked from_free here.guards) in
     let taken : SilentTaken code g (pass_on g.thread (ByVariable from) (ByVariable to) row.0)
-    (InCall left (at + 1) (slice_set v1 to (Some row.0))) =
+    (InCall counters (at + 1) (slice_set v1 to (Some row.0))) =
     record {
       moves_fit = PassesOn (ByVariable from) (ByVariable to) row.0 has;
       placed = (put s1 to slot, next, guards, holds_at_none _ g.thread _ holds);
-      stays = in_call_stays left (at + 1) (slice_set v1 to (Some row.0));
+      stays = in_call_stays counters (at + 1) (slice_set v1 to (Some row.0));
     } in
     taken_with_row code g row.0 (row_of variables from)
-    (λ x. Silent (pass_on g.thread (ByVariable from) (ByVariable to) x) (InCall left (at + 1) (slice_set v1 to (Some x))))
+    (λ x. Silent (pass_on g.thread (ByVariable from) (ByVariable to) x)
+    (InCall counters (at + 1) (slice_set v1 to (Some x))))
     row.1 taken
 
 -- ---- a jump
 
-pub goto_taken : (code : List Instr) (g : Scene) (before : Place) (left at : ℕ)
-    (variables : List (Option ℕ))
-    (s : State) (to : ℕ)
-    → StandsAt code g before at variables s (Goto to)
-    → IsTaken code g (dispatch_instruction g.layout g.thread g.used before left at variables (Some (Goto to)))
-goto_taken code g before left at variables s to here =
-    let next : IsInside code to variables s = record {
-      exits = here.inside.exits ++ Success ∷ [];
-      arrived = here.leads Success to refl;
+-- An instruction that changes no variable leads to the point of its exit, with any counters.
+jump_taken : (code : List Instr) (g : Scene) (before : Place) (counters : Counters) (at next : ℕ)
+    (variables : List (Option ℕ)) (s : State) (i : Instr) (exit : Exit)
+    → StandsAt code g before at variables s i
+    → target i exit at ≡ Some next → after i exit s ≡ s → SilentTaken code g [] (InCall counters next variables)
+jump_taken code g before counters at next variables s i exit here to same =
+    let there : IsInside code next variables s = record {
+      exits = here.inside.exits ++ exit ∷ [];
+      arrived = here.leads exit next to ∙ ap (At next) same;
       slots = here.inside.slots;
       rows = here.inside.rows;
       grounded = here.inside.grounded;
     } in
-    let taken : SilentTaken code g [] (InCall left to variables) =
     record {
       moves_fit = Stays;
-      placed = (s, next, here.guards, holds_at_none g.bag g.thread _ here.holds);
-      stays = in_call_stays left to variables;
-    } in
-    taken
+      placed = (s, there, here.guards, holds_at_none g.bag g.thread _ here.holds);
+      stays = in_call_stays counters next variables;
+    }
+
+pub goto_taken : (code : List Instr) (g : Scene) (before : Place) (counters : Counters) (at : ℕ)
+    (variables : List (Option ℕ))
+    (s : State) (to : ℕ)
+    → StandsAt code g before at variables s (Goto to)
+    → IsTaken code g (dispatch_instruction g.layout g.thread g.used before counters at variables (Some (Goto to)))
+goto_taken code g before counters at variables s to here =
+    jump_taken code g before counters at to variables s (Goto to) Success here refl refl
+
+pub again_taken : (code : List Instr) (g : Scene) (before : Place) (counters : Counters) (at : ℕ)
+    (variables : List (Option ℕ))
+    (s : State) (to times : ℕ)
+    → StandsAt code g before at variables s (Again to times)
+    → IsTaken code g
+    (dispatch_instruction g.layout g.thread g.used before counters at variables (Some (Again to times)))
+again_taken code g before counters at variables s to times here =
+    either (SilentTaken code g []) (nat_lt (turns_at counters at) times) (InCall (turned counters at) to variables)
+    (InCall counters (at + 1) variables)
+    (λ more. jump_taken code g before (turned counters at) at to variables s (Again to times) Fault here refl refl)
+    (jump_taken code g before counters at (at + 1) variables s (Again to times) Success here refl refl)

@@ -8,12 +8,11 @@ use Rattle.std.proofs.lemmas.Option.{slice_get_within}
 use Rattle.brc_model.specs.declared.duty.Holding.{Holding}
 use Rattle.brc_word.specs.Words.{phase_part}
 use Rattle.brc_model.specs.declared.duty.Duty.{Duty}
-use Rattle.brc_model.specs.declared.duty.Duty.TheVariants.{Die, Settle, SettleKind, SettleCell, TakeSlot, CloseResource, SettleEnd, Leave, Scan, Finish, ClaimMark, BirthKind, BirthSlot, BirthLocal, KindLoad, LockGate, UnlockGate, CellLoad, CellSwap}
+use Rattle.brc_model.specs.declared.duty.Duty.TheVariants.{Die, Settle, SettleKind, SettleCell, TakeSlot, CloseResource, SettleEnd, Leave, Scan, Finish, ClaimMark, BirthKind, BirthSlot, BirthLocal, KindLoad, LockGate, UnlockGate, CellLoad, CellSwap, LendSlot, ReturnSlot}
 use Rattle.brc_model.specs.declared.address.Address.{Address}
-use Rattle.brc_model.specs.declared.address.Address.TheVariants.{Local, Shared, Gate, KindOf, Cell, ThreadWord}
-use Rattle.brc_model.specs.Duties.{cells_of}
+use Rattle.brc_model.specs.declared.address.Address.TheVariants.{Local, Shared, Gate, KindOf, Cell, Slot, ThreadWord}
 use Rattle.brc_model.specs.Machine.{Actor, Life, Unborn, Live, Dying, Closed, Machine}
-use Rattle.brc_model.specs.Duties.{cells_of}
+use Rattle.brc_model.specs.Duties.{cells_of, has_resource, resources_of}
 use Rattle.brc_model.specs.References.{held, one_if, reference_of}
 use Rattle.brc_model.specs.OpenWork.{AllWait, AsideFits, AgendaFits, Linked, dies_by, ChainFits}
 use Rattle.brc_model.specs.Gates.{LocksFit}
@@ -50,6 +49,9 @@ pub record LeavesOthers (m new : Machine) (t : ℕ) : Type 0 where
   pub born : (x : ℕ) → m.life x ≢ Unborn → new.life x ≢ Unborn
   -- A kind word that is stored stays.
   pub stored : (x : ℕ) → m.memory (KindOf x) ≢ 0 → new.memory (KindOf x) ≡ m.memory (KindOf x)
+  -- What another thread's birth has stored stays.
+  pub births : (u x : ℕ) (b : Actor) → u ≢ t → slice_get m.actors u ≡ Some b → IsNext m u b x
+      → (new.memory (KindOf x) ≡ m.memory (KindOf x)) × (new.memory (Slot x) ≡ m.memory (Slot x))
 
 holds_kept : (m new : Machine) (t u : ℕ) (account : Account) (agenda aside : List Duty) → LeavesOthers m new t → u ≢ t
     → HoldsAt m.abstract.references u account agenda aside → HoldsAt new.abstract.references u account agenda aside
@@ -168,10 +170,19 @@ head_kept m new t u b Finish rest leaves ne found fits = fits
 head_kept m new t u b (ClaimMark x) rest leaves ne found fits = ap (λ (r : Layout). block_of r x) leaves.layout ∙ fits
 head_kept m new t u b (BirthKind x h w) rest leaves ne found fits =
     (next_kept m new t u x b leaves fits.0, fits.1, fits.2)
-head_kept m new t u b (BirthSlot x h) rest leaves ne found fits =
-    (next_kept m new t u x b leaves fits.0, fits.1, leaves.kinds x fits.2)
+head_kept m new t u b (BirthSlot x h) rest leaves ne found fits = (
+  next_kept m new t u x b leaves fits.0,
+  fits.1,
+  leaves.kinds x fits.2,
+  ap resources_of (leaves.births u x b ne found fits.0).0 ∙ fits.3,
+)
 head_kept m new t u b (BirthLocal x h) rest leaves ne found fits =
-    (next_kept m new t u x b leaves fits.0, fits.1, leaves.kinds x fits.2)
+    let same = leaves.births u x b ne found fits.0 in (
+      next_kept m new t u x b leaves fits.0,
+      fits.1,
+      leaves.kinds x fits.2,
+      same.1 ∙ fits.3 ∙ ap resources_of (sym same.0),
+    )
 head_kept m new t u b (KindLoad x) rest leaves ne found fits =
     backed_kept m new u b b x (row_left m new t u b leaves ne found x) (list_left m new t u b leaves ne found) fits
 head_kept m new t u b (LockGate x) rest leaves ne found fits = (
@@ -184,6 +195,7 @@ head_kept m new t u b (UnlockGate x) rest leaves ne found fits = (
   backed_kept m new u b b x (row_left m new t u b leaves ne found x) (list_left m new t u b leaves ne found) fits.1,
   fits.2,
   fits.3,
+  fits.4,
 )
 head_kept m new t u b (CellLoad x i) rest leaves ne found fits = (
   counted_kept m new t x leaves fits.0,
@@ -193,6 +205,13 @@ head_kept m new t u b (CellLoad x i) rest leaves ne found fits = (
 )
 head_kept m new t u b (CellSwap x i y h) rest leaves ne found fits =
     (fits.0, cells_kept m new t x i leaves fits.1)
+head_kept m new t u b (LendSlot x) rest leaves ne found fits = (
+  counted_kept m new t x leaves fits.0,
+  fits.1,
+  fits.2,
+  ap has_resource (leaves.lists u x b ne found fits.1).kind ∙ fits.3,
+)
+head_kept m new t u b (ReturnSlot x) rest leaves ne found fits = fits
 head_kept m new t u b d rest leaves ne found fits =
     known_kept m new u b b d rest refl (λ x about. row_left m new t u b leaves ne found x)
     (λ retains. list_left m new t u b leaves ne found) fits
@@ -265,7 +284,7 @@ others_fit account m new t u b leaves ne found fits = record {
   behind = behind_of_kept m new t u b.agenda leaves ne fits.behind;
   chain = chain_kept m new t u b.head b.agenda leaves ne fits.chain;
   locks = locks_kept account m new t u b leaves ne found fits.locks;
-  unlent = fits.unlent;
+  lent = fits.lent;
 }
 
 -- ---- duties put aside

@@ -85,6 +85,7 @@ leaves m t x = record {
   lives = λ u y ne. refl;
   born = λ y was. was;
   stored = λ y some. refl;
+  births = λ u y c ne found next. (refl, refl);
 }
 
 -- ---- the thread itself
@@ -147,7 +148,7 @@ own_fits p n m t a x core ready alone immortal =
         behind = subst (BehindOf (gained m t x) t) (sym ready.agenda) tt;
         chain = record { chained = old.chain.chained; linked = old.chain.linked; once = old.chain.once };
         locks = more_locks (p t) m t a a x old.locks refl (λ k y. omega arith);
-        unlent = old.unlent;
+        lent = old.lent;
       },
       fits.1,
       record {
@@ -216,6 +217,7 @@ gained_core p n m t a x core ready alone immortal = record {
   once = core.once;
   kinds = core.kinds;
   immortal_words = core.immortal_words;
+  resources = core.resources;
 }
 
 -- The invariant and the ranges hold after a ready thread gains a reference to an immortal object.

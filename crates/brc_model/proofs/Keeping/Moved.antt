@@ -6,7 +6,7 @@ use Rattle.std.proofs.lemmas.Bool.{false≢true}
 use Rattle.std.proofs.lemmas.List.Sums.{sum_by-cons}
 use Rattle.brc_model.specs.declared.duty.Holding.{Holding}
 use Rattle.brc_model.specs.declared.duty.Duty.{Duty}
-use Rattle.brc_model.specs.declared.duty.Duty.TheVariants.{Die, Settle, SettleKind, SettleCell, TakeSlot, CloseResource, SettleEnd, Leave, Scan, Finish, ClaimMark, BirthKind, BirthSlot, BirthLocal, KindLoad, LockGate, UnlockGate, CellLoad, CellSwap}
+use Rattle.brc_model.specs.declared.duty.Duty.TheVariants.{Die, Settle, SettleKind, SettleCell, TakeSlot, CloseResource, SettleEnd, Leave, Scan, Finish, ClaimMark, BirthKind, BirthSlot, BirthLocal, KindLoad, LockGate, UnlockGate, CellLoad, CellSwap, LendSlot, ReturnSlot}
 use Rattle.brc_model.specs.AbstractState.{Move, ByThread, moved}
 use Rattle.brc_model.specs.References.{held, one_if, reference_of}
 use Rattle.brc_model.specs.Machine.{Actor, Machine, with_moves}
@@ -45,6 +45,7 @@ moves_leave m t moves own = record {
   lives = λ u y ne. refl;
   born = λ y was. was;
   stored = λ y some. refl;
+  births = λ u y c ne found next. (refl, refl);
 }
 
 -- Moves don't change which marks are watched.
@@ -117,8 +118,8 @@ module _ (m : Machine) (moves : List Move) (t : ℕ) (a : Actor) (x : ℕ) (else
   head_kept Finish rest other fits = fits
   head_kept (ClaimMark y) rest other fits = fits
   head_kept (BirthKind y h w) rest other fits = (next_kept y fits.0, fits.1, fits.2)
-  head_kept (BirthSlot y h) rest other fits = (next_kept y fits.0, fits.1, fits.2)
-  head_kept (BirthLocal y h) rest other fits = (next_kept y fits.0, fits.1, fits.2)
+  head_kept (BirthSlot y h) rest other fits = (next_kept y fits.0, fits.1, fits.2, fits.3)
+  head_kept (BirthLocal y h) rest other fits = (next_kept y fits.0, fits.1, fits.2, fits.3)
   head_kept (KindLoad y) rest other fits =
       backed_kept m (with_moves m moves) t a a y (row_left (KindLoad y) y other (eq-eqb y y refl)) list_left fits
   head_kept (LockGate y) rest other fits = (
@@ -131,6 +132,7 @@ module _ (m : Machine) (moves : List Move) (t : ℕ) (a : Actor) (x : ℕ) (else
     backed_kept m (with_moves m moves) t a a y (row_left (UnlockGate y) y other (eq-eqb y y refl)) list_left fits.1,
     fits.2,
     fits.3,
+    fits.4,
   )
   head_kept (CellLoad y i) rest other fits = (
     fits.0,
@@ -139,6 +141,8 @@ module _ (m : Machine) (moves : List Move) (t : ℕ) (a : Actor) (x : ℕ) (else
     fits.3,
   )
   head_kept (CellSwap y i z h) rest other fits = fits
+  head_kept (LendSlot y) rest other fits = fits
+  head_kept (ReturnSlot y) rest other fits = fits
   head_kept d rest other fits =
       known_kept m (with_moves m moves) t a a d rest refl (λ y about. row_left d y other about)
       (λ retains. list_left) fits
@@ -192,7 +196,7 @@ module _ (m : Machine) (moves : List Move) (t : ℕ) (a : Actor) (x : ℕ) (else
           behind = behind_of_kept a.agenda fits.behind;
           chain = record { chained = fits.chain.chained; linked = fits.chain.linked; once = fits.chain.once };
           locks = locks;
-          unlent = fits.unlent;
+          lent = fits.lent;
         },
         old.1,
         record {

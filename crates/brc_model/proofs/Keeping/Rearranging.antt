@@ -148,19 +148,21 @@ rearranged p n m t a agenda aside kept found new =
                 held_so = omega (arith, it.held_so, new.weighs (λ d. one_if (lacks d it.by x)));
                 gate = it.gate;
               };
-          unlent = old.unlent;
+          lent = old.lent;
         },
         subst (λ (s : Status). AgendaFits b s) (sym new.running) new.fits,
         new.others,
       );
       used = refl;
       locked = refl;
+      lent = refl;
       blanks = new.blanks;
       waits = λ x. new.weighs (waits x);
       carries = λ x. new.weighs (carries x);
       merges = λ x. new.weighs (merges x);
       decides = λ x. new.weighs (decides x);
       looks = λ x. new.weighs (looks x);
+      finalises = λ x f few. new.weighs f;
       scans = new.scans_on;
     }) in
     record {
