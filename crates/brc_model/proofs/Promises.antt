@@ -17,6 +17,7 @@ pub mod ClosedOnce
 pub mod Gates
 pub mod Births
 pub mod MarksWatched
+pub mod ResourcesClose
 pub mod KindWords
 pub mod CellsUnderLock
 pub mod RowLaws

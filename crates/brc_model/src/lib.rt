@@ -14,6 +14,7 @@ mod hand_laws;
 mod host_laws;
 mod laws;
 mod layout;
+mod resource_laws;
 mod row_laws;
 mod rule_laws;
 mod slot;
@@ -30,6 +31,7 @@ pub use hand_laws::{hands_begin, references_are_handed_over, references_are_the_
 pub use host_laws::faults_are_counted;
 pub use laws::accepted_is_safe;
 pub use layout::Layout;
+pub use resource_laws::{lent_resources_are_used_alone, resources_close_once};
 pub use row_laws::{
     a_row_is_finalised_once, an_event_closes_one_row_anew, an_object_is_born_once,
     born_rows_are_listed, born_rows_are_there, born_rows_are_used, borrowed_items_stay,
