@@ -7,10 +7,12 @@
 mod checked;
 mod checker;
 mod entries;
+mod filling;
 mod inferring;
 mod instruction;
 mod refused;
 mod refusing;
+mod refusing_host;
 mod refusing_items;
 mod refusing_locks;
 mod slots;

@@ -4,10 +4,14 @@
 #[cfg(test)]
 mod functions;
 #[cfg(test)]
+mod host;
+#[cfg(test)]
 mod items;
 #[cfg(test)]
 mod locked_tables;
 #[cfg(test)]
 mod locks;
+#[cfg(test)]
+mod loops;
 #[cfg(test)]
 mod tables;
