@@ -24,11 +24,12 @@ use Rattle.brc_model.specs.declared.duty.Holding.TheVariants.{ByVariable, AsCall
 use Rattle.brc_model.specs.AbstractState.{Reference, same_holding, references_to, Move}
 use Rattle.brc_model.specs.Threads.{row_of}
 use Rattle.brc_model.specs.declared.duty.Duty.{Duty}
-use Rattle.brc_model.specs.declared.duty.Duty.TheVariants.{RetainLoad, ReleaseLoad, Settle, Leave, BirthKind, KindLoad, LockGate, UnlockGate, CellLoad, CellSwap}
+use Rattle.brc_model.specs.declared.duty.Duty.TheVariants.{RetainLoad, ReleaseLoad, Settle, Leave, BirthKind, KindLoad, LockGate, UnlockGate, CellLoad, CellSwap, LendSlot, ReturnSlot}
 use Rattle.brc_model.specs.declared.actor.Place.{Place}
+use Rattle.brc_model.specs.declared.actor.Counters.{Counters}
 use Rattle.brc_model.specs.declared.actor.Place.TheVariants.{Idle, InCall, Inside, Exiting}
 use Rattle.brc_model.specs.declared.actor.Stage.{Stage}
-use Rattle.brc_model.specs.Actions.{Action, Skip, Stuck, Silent, Does, with_row}
+use Rattle.brc_model.specs.Actions.{Action, Skip, Stuck, Silent, Calls, Does, with_row}
 use Rattle.brc_model.specs.References.{held, one_if, reference_of}
 use Rattle.brc_model.proofs.Basics.Lists.{none_at}
 use Rattle.brc_model.proofs.Dispatch.Holds.{the_root, of_variables, of_inside, Holds}
@@ -37,7 +38,7 @@ use Rattle.brc_model.proofs.Stepping.Counts.{flip_eqb}
 use Rattle.brc_model.proofs.Frame.Aside.{HoldsAlone}
 use Rattle.brc_model.proofs.Keeping.SilentMoves.{SilentMoves, bag_after}
 use Rattle.brc_model.proofs.Dispatch.Coded.{once_each, has_stage, in_flight, PlaceFits}
-use Rattle.brc_model.specs.Duties.{cells_of}
+use Rattle.brc_model.specs.Duties.{cells_of, has_resource}
 use Rattle.brc_model.specs.Kinds.{kind_of_word, is_counted_kind}
 use Rattle.brc_model.specs.Limits.{cell_limit}
 use Rattle.brc_model.specs.declared.layout.Layout.{Layout}
@@ -64,6 +65,8 @@ pub record Scene : Type 0 where
   pub used : ℕ
   -- the row that the thread has locked
   pub locked : Option ℕ
+  -- the row whose resource it has lent to a call of the host
+  pub lent : Option ℕ
 
 abbrev pub scene_of : Machine → ℕ → Actor → Scene
 scene_of m t a = record {
@@ -73,6 +76,7 @@ scene_of m t a = record {
   thread = t;
   used = a.used;
   locked = a.locked;
+  lent = a.lent;
 }
 
 -- the kind word of each row
@@ -95,6 +99,8 @@ pub record StandsAt (code : List Instr) (g : Scene) (before : Place) (at : ℕ) 
   pub kinds : HaveTrueKinds (words_of g) s rows
   pub items : HaveItems g.memory g.locked s rows
   pub counted : CountsLockable g
+  -- outside its instructions a thread has lent nothing
+  pub unlent : g.lent ≡ None
   pub back : PlaceFits code g.bag g.thread [] g.locked before
   pub remains : before ≢ Exiting
   pub variables : IsInstruction i
@@ -126,8 +132,9 @@ pub data Backs (g : Scene) (row : ℕ) : Type 0 where
   ByList : (list cell : ℕ) → g.locked ≡ Some list → g.memory (Cell list cell) ≡ row + 1 → Backs g row
 
 -- The first duty gives up a reference of an object that has one; makes a reference to an object, loads an object's kind
--- or locks an object that the thread may rely on; begins the birth of the next row; or unlocks the list that the thread
--- has locked, or loads or swaps a cell of it.
+-- or locks an object that the thread may rely on; begins the birth of the next row; unlocks the list that the thread
+-- has locked, or loads or swaps a cell of it; or lends the resource of the file or socket that the thread has locked, or
+-- returns it.
 pub data Starts (g : Scene) : Duty → List Duty → Type 0 where
   Gives : (row : ℕ) (h : Holding) (rest : List Duty) → 0 < references_to row g.bag
       → Starts g (ReleaseLoad row h) rest
@@ -137,11 +144,14 @@ pub data Starts (g : Scene) : Duty → List Duty → Type 0 where
       → Starts g (BirthKind (row_at g.layout g.thread g.used) h w) []
   Asks : (row : ℕ) → Backs g row → Starts g (KindLoad row) []
   Locks : (row : ℕ) → Backs g row → IsCounted g.layout row → g.locked ≡ None → Starts g (LockGate row) []
-  Unlocks : (row : ℕ) → Backs g row → g.locked ≡ Some row → Starts g (UnlockGate row) []
+  Unlocks : (row : ℕ) → Backs g row → g.locked ≡ Some row → g.lent ≡ None → Starts g (UnlockGate row) []
   Loads : (row i : ℕ) → Backs g row → g.locked ≡ Some row → i < cells_of (words_of g row)
       → Starts g (CellLoad row i) []
   Swaps : (row i item : ℕ) (h : Holding) (rest : List Duty) → Backs g row → g.locked ≡ Some row
       → i < cells_of (words_of g row) → 0 < references_to item g.bag → Starts g (CellSwap row i item h) rest
+  Lends : (row : ℕ) → Backs g row → g.locked ≡ Some row → g.lent ≡ None → has_resource (words_of g row) ≡ true
+      → Starts g (LendSlot row) []
+  Returns : (row : ℕ) → Backs g row → g.lent ≡ Some row → Starts g (ReturnSlot row) []
 
 -- The duties behind the first one settle, and leave if the thread is to leave.
 pub data Follows (layout : Layout) (t used : ℕ) (place : Place) : List Duty → Type 0 where
@@ -167,6 +177,7 @@ abbrev pub IsTaken : List Instr → Scene → Action → Type 0
 IsTaken code g Skip = ⊥
 IsTaken code g Stuck = ⊥
 IsTaken code g (Silent moves place) = SilentTaken code g moves place
+IsTaken code g (Calls place) = (exit : Exit) → SilentTaken code g [] (place exit)
 IsTaken code g (Does d rest place) = (found : ℕ) → Taken code g found (place found) d rest
 
 pub taken_with_row : (code : List Instr) (g : Scene) (object : ℕ) (row : Option ℕ) (work : ℕ → Action)
@@ -177,11 +188,13 @@ taken_with_row code g object row work is taken =
 pub idle_stays : (left : ℕ) → Idle left ≢ Exiting
 idle_stays left e = cc
 
-pub inside_stays : (left at : ℕ) (variables : List (Option ℕ)) (stage : Stage) → Inside left at variables stage ≢ Exiting
-inside_stays left at variables stage e = cc
+pub inside_stays : (counters : Counters) (at : ℕ) (variables : List (Option ℕ)) (stage : Stage)
+    → Inside counters at variables stage ≢ Exiting
+inside_stays counters at variables stage e = cc
 
-pub in_call_stays : (left at : ℕ) (variables : List (Option ℕ)) → InCall left at variables ≢ Exiting
-in_call_stays left at variables e = cc
+pub in_call_stays : (counters : Counters) (at : ℕ) (variables : List (Option ℕ))
+    → InCall counters at variables ≢ Exiting
+in_call_stays counters at variables e = cc
 
 -- ---- one reference more or less
 
