@@ -20,6 +20,7 @@ pub mod Accounts
 pub mod Knowledge
 pub mod OpenWork
 pub mod Gates
+pub mod Resources
 pub mod Invariant
 pub mod Agreement
 pub mod BadDuties
@@ -36,3 +37,4 @@ pub mod CountingLaws
 pub mod Progress
 pub mod Watched
 pub mod Trace
+pub mod Bounded

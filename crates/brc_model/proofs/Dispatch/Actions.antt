@@ -40,6 +40,7 @@ use Rattle.brc_model.specs.OpenWork.{exits, is_about}
 use Rattle.brc_model.specs.Invariant.{CoreInvariant, Invariant}
 use Rattle.brc_model.proofs.Dispatch.Coded.{PlaceSays, PlaceFits, in_flight, idle_unlocked, is_departing, stays_elsewhere, placed_by, says_bounded}
 use Rattle.brc_model.proofs.Dispatch.AtOnce.{at_once, plain_locked, plain_lent}
+use Rattle.brc_model.proofs.Dispatch.Rooms.{awaits_birth}
 use Rattle.brc_model.proofs.Dispatch.Lending.{lent_at, FollowsLent, dispatch_lent}
 use Rattle.brc_model.proofs.Keeping.SilentSteps.{SilentSits}
 use Rattle.brc_model.proofs.Dispatch.Begins.{scene_of, holds_plain, Backs, ByOwn, ByList, Starts, Gives, Takes, Bears, Asks, Locks, Unlocks, Loads, Swaps, Follows, Nothing, Settles, Leaves, SilentTaken, IsTaken, Lends, Returns}
@@ -288,6 +289,8 @@ sees_kinds p n m t a whole found = record {
       whole.functions (whole.items t a found);
   counted = λ x can. lockable_counted m.layout (kind_words m) x whole.kinds.named whole.mortal can;
   lent = (whole.coded t a found).lent;
+  room = λ awaits. (whole.rooms t a found (ap (λ (f : List Function). awaits_birth (code_of (slice_get f a.function)) a.place)
+      whole.functions ∙ awaits)).room;
 }
 
 agenda_fits : (p : Module) (n : ℕ) (m : StepMachine) (t : ℕ) (a : StepActor) (agenda : List Duty)

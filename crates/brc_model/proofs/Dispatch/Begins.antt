@@ -16,7 +16,7 @@ use Rattle.brc_lang.specs.Grammar.{IsInstruction}
 use Rattle.brc_model.specs.declared.address.Address.{Address}
 use Rattle.brc_model.specs.declared.address.Address.TheVariants.{KindOf, Cell}
 use Rattle.brc_model.specs.Items.{HaveItems, StageKnows}
-use Rattle.brc_model.specs.Machine.{Actor, Machine, locked_by}
+use Rattle.brc_model.specs.Machine.{Actor, Machine, locked_by, has_room}
 use Rattle.brc_model.proofs.Dispatch.Passing.{AreMet}
 use Rattle.brc_model.proofs.Dispatch.Guards.{LocksAgree, HeldBeside}
 use Rattle.brc_model.specs.declared.duty.Holding.{Holding}
@@ -37,6 +37,8 @@ use Rattle.brc_model.proofs.Dispatch.Grounded.{IsInside, slot_of-put_same, slot_
 use Rattle.brc_model.proofs.Stepping.Counts.{flip_eqb}
 use Rattle.brc_model.proofs.Frame.Aside.{HoldsAlone}
 use Rattle.brc_model.proofs.Keeping.SilentMoves.{SilentMoves, bag_after}
+use Rattle.brc_model.proofs.Dispatch.Lending.{lent_to}
+use Rattle.brc_model.proofs.Dispatch.Rooms.{awaits_inside}
 use Rattle.brc_model.proofs.Dispatch.Coded.{once_each, has_stage, in_flight, PlaceFits}
 use Rattle.brc_model.specs.Duties.{cells_of, has_resource}
 use Rattle.brc_model.specs.Kinds.{kind_of_word, is_counted_kind}
@@ -108,17 +110,20 @@ pub record StandsAt (code : List Instr) (g : Scene) (before : Place) (at : ℕ) 
   pub leads : (exit : Exit) (next : ℕ) → target i exit at ≡ Some next
       → path_end code (inside.exits ++ exit ∷ []) ≡ At next (after i exit s)
 
--- A thread inside an instruction that uses a cell of the locked list: what the state before the instruction says is still
--- true, and beside that what the stage says.
+-- A thread inside an instruction: what the state before the instruction says is still true, and beside that what the
+-- stage says.
 pub record StandsInside (code : List Instr) (g : Scene) (at : ℕ) (rows : List (Option ℕ)) (s : State) (stage : Stage)
     (i : Instr) : Type 0 where
   pub found : slice_get code at ≡ Some i
   pub inside : IsInside code at rows s
   pub holds : Holds g.bag g.thread (of_inside (in_flight (Some i) stage rows) s rows)
   pub guards : LocksAgree s rows g.locked
+  pub kinds : HaveTrueKinds (words_of g) s rows
   pub items : HaveItems g.memory g.locked s rows
   pub cell : StageKnows g.memory g.locked rows stage (Some i)
   pub staged : has_stage (Some i) stage ≡ true
+  pub lent : g.lent ≡ lent_to stage (Some i) rows
+  pub room : awaits_inside stage (Some i) ≡ true → has_room g.layout g.thread g.used ≡ true
   pub variables : IsInstruction i
   pub met : AreMet i s
   pub leads : (exit : Exit) (next : ℕ) → target i exit at ≡ Some next

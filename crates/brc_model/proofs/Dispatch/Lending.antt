@@ -3,14 +3,14 @@
 use Rattle.std.proofs.Common.{◌≡◌, ℕ, zero, suc, ◌+◌, List, [], Option, None, Some}
 use Rattle.std.specs.Prelude.{◌==◌, slice_get, slice_set, nat_lt}
 use Rattle.brc_lang.specs.declared.module.Instr.{Instr}
-use Rattle.brc_lang.specs.declared.module.Instr.TheVariants.{Num, List as ListObject, NoneObject, Newref, Move as MoveReference, Drop, Lock, Unlock, Borrow, Fetch, Set, Put, Goto, Ret, Fail, As}
+use Rattle.brc_lang.specs.declared.module.Instr.TheVariants.{Num, List as ListObject, NoneObject, Newref, Move as MoveReference, Drop, Lock, Unlock, Borrow, Fetch, Set, Put, Goto, Again, Ret, Fail, As}
 use Rattle.brc_word.specs.Words.{free_word}
 use Rattle.brc_model.specs.declared.actor.Place.{Place}
 use Rattle.brc_model.specs.declared.actor.Counters.{Counters}
 use Rattle.brc_model.specs.declared.slot.Exit.{Exit}
 use Rattle.brc_model.specs.declared.actor.Place.TheVariants.{Idle, InCall, Inside, Exiting}
 use Rattle.brc_model.specs.declared.actor.Stage.{Stage}
-use Rattle.brc_model.specs.declared.actor.Stage.TheVariants.{InRange, OutOfRange, Found, Retained}
+use Rattle.brc_model.specs.declared.actor.Stage.TheVariants.{InRange, OutOfRange, Found, Retained, Loaded, Lent, Called, Granted}
 use Rattle.brc_model.specs.declared.duty.Duty.TheVariants.{BirthKind, KindLoad, CellLoad}
 use Rattle.brc_model.specs.declared.duty.Holding.TheVariants.{ByVariable}
 use Rattle.brc_model.specs.declared.layout.Layout.{Layout}
@@ -18,7 +18,7 @@ use Rattle.brc_model.specs.Layout.{row_at}
 use Rattle.brc_model.specs.Duties.{cells_of}
 use Rattle.brc_model.specs.Machine.{lent_by, has_room}
 use Rattle.brc_model.specs.Threads.{row_of, entry_variables}
-use Rattle.brc_model.specs.Actions.{Action, Skip, Stuck, Silent, Calls, Does, always, with_row, number_word, list_word, birth_action, first_counters, by_range, by_item, dispatch_instruction, dispatch_inside, dispatch}
+use Rattle.brc_model.specs.Actions.{Action, Skip, Stuck, Silent, Calls, Does, always, with_row, number_word, list_word, birth_action, first_counters, turns_at, turned, by_range, by_item, dispatch_instruction, dispatch_inside, dispatch}
 use Rattle.brc_model.proofs.Basics.Lists.{either}
 
 -- The row whose resource a thread so far inside the instruction has lent.
@@ -27,6 +27,10 @@ lent_to InRange i variables = None
 lent_to OutOfRange i variables = None
 lent_to (Found item) i variables = None
 lent_to Retained i variables = None
+lent_to Loaded i variables = None
+lent_to Lent i variables = None
+lent_to (Called exit) i variables = None
+lent_to Granted i variables = None
 
 -- The row whose resource a thread at the place has lent.
 abbrev pub lent_at : List Instr → Place → Option ℕ
@@ -115,6 +119,9 @@ instruction_lent code layout t used before counters at variables (Some (Put list
 instruction_lent code layout t used before counters at variables (Some (As from kind otherwise)) lent none back =
     row_lent code lent (row_of variables from) _ (λ row found. none)
 instruction_lent code layout t used before counters at variables (Some (Goto to)) lent none back = none
+instruction_lent code layout t used before counters at variables (Some (Again to times)) lent none back =
+    either (λ (place : Place). lent ≡ lent_at code place) (nat_lt (turns_at counters at) times)
+    (InCall (turned counters at) to variables) (InCall counters (at + 1) variables) (λ more. none) none
 instruction_lent code layout t used before counters at variables (Some (Ret from)) lent none back =
     row_lent code lent (row_of variables from) _ (λ row found. none)
 instruction_lent code layout t used before counters at variables (Some Fail) lent none back = none

@@ -33,7 +33,7 @@ function_fits m i fits accepted within =
     subst P (sym good.is_there) (
       good.holds,
       record {
-        forward = form.targets;
+        forward = form.targets.forward;
         each =
             λ at instr found. all_of_found IsInstruction good.found.code at instr form.code found;
       },
