@@ -1,6 +1,6 @@
 -- Whatever a thread of accepted code does at an event fits it: it is never stuck, the moves of a silent step are its
 -- own, and a duty that it does is one that the invariant allows in its agenda.
-use Rattle.brc_model.proofs.Objects.ResourcesAfter.{lending_finds}
+use Rattle.brc_model.proofs.Objects.ResourcesLent.{lending_finds}
 use Rattle.std.proofs.Common.{◌≡◌, ◌≢◌, ℕ, ◌<◌, ◌≤◌, true, List, [], ◌∷◌, Option, Some, refl, sym, ap, ◌∙◌, subst, arith}
 use Rattle.std.specs.Prelude.{◌==◌, slice_get, sum_by}
 use Rattle.std.proofs.lemmas.Option.{slice_get_within}

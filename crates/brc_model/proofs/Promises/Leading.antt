@@ -1,9 +1,10 @@
 -- Where each dispatch leads. An instruction of a call leads on to a later point, into itself or to the end of the call;
 -- a lock that isn't got leaves the thread where it was. What holds of all these places holds after the action.
 use Rattle.brc_model.specs.declared.slot.Exit.TheVariants.{Success, Fault}
-use Rattle.std.proofs.Common.{◌≡◌, ◌≢◌, ℕ, zero, suc, ◌+◌, cond, Bool, false, List, [], Option, None, Some, refl, sym, ap, subst, arith, ◌<◌}
+use Rattle.std.proofs.Common.{◌≡◌, ◌≢◌, ℕ, zero, suc, ◌+◌, cond, Bool, false, List, [], Option, None, Some, refl, sym, ap, subst, arith, ◌<◌, length}
 use Rattle.std.specs.Prelude.{◌==◌, nat_lt, slice_get, slice_set}
 use Rattle.std.proofs.lemmas.Bool.{ltb-true}
+use Rattle.std.proofs.lemmas.Option.{slice_get_within}
 use Rattle.brc_lang.specs.declared.module.Instr.{Instr}
 use Rattle.brc_lang.specs.declared.module.Instr.TheVariants.{Num, List as ListObject, NoneObject, Newref, Move as MoveReference, Drop, Lock, Unlock, Borrow, Fetch, Set, Put, Goto, Again, Ret, Fail, As, Open, Connect, Read, Write}
 use Rattle.brc_lang.specs.Grammar.{LeadsForward}
@@ -214,24 +215,33 @@ module _ (P : Place → Type 0) (place : Place) (code : List Instr) (forward : L
         (forward at (Write file number otherwise) otherwise is refl).0)
     inside_leads layout t used stage i is holds = tt
 
--- The property holds of each place to which the thread's dispatch can lead.
+-- The property holds of each place to which the thread's dispatch can lead. Past the last instruction it leads nowhere.
 abbrev pub HoldsBeyond : (Place → Type 0) → List Instr → Place → Type 0
 HoldsBeyond P code Exiting = Unit {0}
 HoldsBeyond P code (Idle zero) = P Exiting
-HoldsBeyond P code (Idle (suc left)) = HoldsAfter P code (first_counters left) 0 entry_variables
-HoldsBeyond P code (InCall counters at variables) = HoldsAfter P code counters at variables
+HoldsBeyond P code (Idle (suc left)) = 0 < length code → HoldsAfter P code (first_counters left) 0 entry_variables
+HoldsBeyond P code (InCall counters at variables) = at < length code → HoldsAfter P code counters at variables
 HoldsBeyond P code (Inside counters at variables stage) = HoldsWithin P counters at variables stage
+
+found_leads : (P : Place → Type 0) (place : Place) (code : List Instr) (counters : Counters) (at : ℕ)
+    (variables : List (Option ℕ)) (layout : Layout) (t used : ℕ) (o : Option Instr) → LeadsForward code
+    → (at < length code → HoldsAfter P code counters at variables) → slice_get code at ≡ o
+    → LeadsTo P place (dispatch_instruction layout t used place counters at variables o)
+found_leads P place code counters at variables layout t used None forward holds is = tt
+found_leads P place code counters at variables layout t used (Some i) forward holds is =
+    instruction_leads P place code forward counters at variables layout t used (holds (slice_get_within code at i is))
+    (Some i) is
 
 pub dispatch_leads : (P : Place → Type 0) (layout : Layout) (t used : ℕ) (code : List Instr) (place : Place)
     → LeadsForward code → HoldsBeyond P code place → LeadsTo P place (dispatch layout t used code place)
 dispatch_leads P layout t used code Exiting forward holds = tt
 dispatch_leads P layout t used code (Idle zero) forward holds = λ found. holds
 dispatch_leads P layout t used code (Idle (suc left)) forward holds =
-    instruction_leads P (Idle (suc left)) code forward (first_counters left) 0 entry_variables layout t used holds
-    (slice_get code 0) refl
+    found_leads P (Idle (suc left)) code (first_counters left) 0 entry_variables layout t used (slice_get code 0)
+    forward holds refl
 dispatch_leads P layout t used code (InCall counters at variables) forward holds =
-    instruction_leads P (InCall counters at variables) code forward counters at variables layout t used holds
-    (slice_get code at) refl
+    found_leads P (InCall counters at variables) code counters at variables layout t used (slice_get code at)
+    forward holds refl
 dispatch_leads P layout t used code (Inside counters at variables stage) forward holds =
     inside_leads P (Inside counters at variables stage) code forward counters at variables layout t used stage (slice_get code at)
     refl holds
