@@ -268,9 +268,9 @@ const WORKERS: u64 = 4;
 /// The rows of each worker: more than a tile's, so that no two workers' first rows share a tile.
 const ROWS_EACH: u64 = 64;
 const KIND: u64 = 2;
-/// The most workers, and the most rows of each: births use them all.
-const MOST_WORKERS: u64 = 32;
-const MOST_ROWS: u64 = 1024;
+/// The rows of each worker in a block for births. Such a block has 209 KiB of words, which stay in a core's own cache from
+/// their first store on: a birth in a larger block waits for memory, and how long depends on where the allocator took it.
+const BIRTH_ROWS: u64 = 512;
 
 /// What one run of a row of the table did.
 struct Run {
@@ -337,10 +337,10 @@ fn counted(plan: &[(usize, usize)], n: u64) -> Run {
 fn births(n: u64) -> Run {
     let mut run = Run { done: 0, slowest: Duration::ZERO };
     while run.done < n {
-        let block = &Block::new(MOST_WORKERS, MOST_ROWS);
-        for thread in 1..=MOST_WORKERS {
-            let mut hand = Hand::worker(thread, MOST_ROWS);
-            let most = (n - run.done).min(MOST_ROWS);
+        let block = &Block::new(WORKERS, BIRTH_ROWS);
+        for thread in 1..=WORKERS {
+            let mut hand = Hand::worker(thread, BIRTH_ROWS);
+            let most = (n - run.done).min(BIRTH_ROWS);
             let first = hand.first_row;
             let start = Instant::now();
             let made = (0..most).filter(|&argument| birth(&mut hand, block, KIND, black_box(argument)).is_some()).count();

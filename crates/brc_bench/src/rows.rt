@@ -15,7 +15,7 @@ use std::thread::Threads;
 use std::time::{Clock, Duration, Instant};
 use std::{io, thread};
 
-/// The workers of a heap, but for births.
+/// The workers of a heap.
 const WORKERS: u8 = 4;
 
 /// The rows of each worker, more than a tile has, so that no two workers' first rows are in one tile.
@@ -24,10 +24,9 @@ const ROWS_EACH: u16 = 64;
 /// The row of the root, which main owns.
 const ROOT: u32 = 1;
 
-/// The most workers of a heap, and the most rows of each: births use them all.
-const MOST_WORKERS: u8 = 32;
-
-const MOST_ROWS: u16 = 1024;
+/// The rows of each worker in a heap for births. Such a heap has 209 KiB of words, which stay in a core's own cache from
+/// their first store on: a birth in a larger heap waits for memory, and how long depends on where the allocator took it.
+const BIRTH_ROWS: u16 = 512;
 
 /// The most heaps that births use, one after another.
 const MOST_HEAPS: u32 = 1000;
@@ -218,7 +217,7 @@ pub fn all_births<R: Clock + Threads + Sync>(rt: &R, alloc: Global, times: u32) 
 
 /// Births in one heap.
 fn births_in<R: Clock>(rt: &R, alloc: Global, most: u32) -> io::Result<Run> {
-    match Heap::new(alloc, MOST_WORKERS, MOST_ROWS) {
+    match Heap::new(alloc, WORKERS, BIRTH_ROWS) {
         Ok((heap, mut main)) => births_by_all(rt, &heap, &mut main, most),
         Err(_) => Err(io::Error::from(ErrorKind::OutOfMemory)),
     }
@@ -238,7 +237,7 @@ fn births_by_all<R: Clock>(
         done: 0,
         time: Duration::ZERO,
     };
-    for thread in 1..=MOST_WORKERS {
+    for thread in 1..=WORKERS {
         let Worker {
             heap,
             mut hand,

@@ -1,14 +1,16 @@
 -- Which duty follows a step, by the choice that the code makes.
-use Rattle.std.proofs.Common.{◌≡◌, ℕ, zero, suc, ◌+◌, Bool, true, false, [], ◌∷◌, ◌++◌, refl, subst}
+use Rattle.std.proofs.Common.{◌≡◌, ℕ, zero, suc, ◌+◌, Bool, true, false, List, [], ◌∷◌, ◌++◌, refl, subst}
 use Rattle.std.specs.Prelude.{◌==◌, ◌&&◌, nat_lt, if◌then◌else◌}
 use Rattle.brc_word.specs.Words.{owner_part, local_part, is_immortal_word, most_local}
 use Rattle.brc_word.specs.declared.choice.LocalChoice.TheVariants as choice
 use Rattle.brc_model.specs.declared.duty.Holding.TheVariants.{AsCaller}
+use Rattle.brc_model.specs.declared.duty.Duty.{Duty}
 use Rattle.brc_model.specs.declared.duty.Duty.TheVariants.{RetainStore, RetainAdd}
 use Rattle.brc_model.specs.Duties.{ready}
 use Rattle.brc_model.specs.Machine.{is_running}
 use Rattle.brc_table.specs.declared.view.View.{View}
 use Rattle.brc_table.specs.Views.{done, retaining}
+use Rattle.brc_table.specs.Hands.{MayWait}
 use Rattle.brc_table.specs.Calls.{AddsShared}
 
 shares_by : (head x word : ℕ) (immortal counts : Bool)
@@ -36,3 +38,8 @@ retain_shares v x word thread running same runs is =
     (subst (λ (b : Bool). (if is_immortal_word word then choice.Skip
     else if (b && (owner_part word == thread + 1)) && nat_lt (local_part word) most_local
     then choice.Store (word + 1) else choice.Share) ≡ choice.Share) runs is))
+
+-- An addition to the shared word may wait.
+pub adds_wait : (x : ℕ) (ds : List Duty) → AddsShared x ds → MayWait ds
+adds_wait x (RetainAdd y h ∷ []) adds = refl
+adds_wait x _ adds = absurd adds

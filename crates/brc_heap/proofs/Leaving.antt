@@ -4,7 +4,7 @@ use Rattle.std.specs.List.{filter}
 use Rattle.std.proofs.lemmas.Bool.{cases_Bool, eqb-true}
 use Rattle.std.proofs.lemmas.List.{append-nil}
 use Rattle.brc_model.specs.declared.duty.Duty.{Duty}
-use Rattle.brc_model.specs.declared.duty.Duty.TheVariants.{RetainLoad, RetainStore, RetainAdd, ReleaseLoad, ReleaseStore, DecideAtZero, SharedLoad, SharedExchange, SetMark, Look, TakeMark, MergeSwap, MergeLoad, MergeExchange, Die, Settle, SettleKind, SettleCell, TakeSlot, CloseResource, SettleEnd, Leave, Scan, Finish, ClaimMark, BirthKind, BirthSlot, BirthLocal, KindLoad, LockGate, UnlockGate, CellLoad, CellSwap}
+use Rattle.brc_model.specs.declared.duty.Duty.TheVariants.{RetainLoad, RetainStore, RetainAdd, ReleaseLoad, ReleaseStore, DecideAtZero, SharedLoad, SharedExchange, SetMark, Look, TakeMark, MergeSwap, MergeLoad, MergeExchange, Die, Settle, SettleKind, SettleCell, TakeSlot, CloseResource, SettleEnd, Leave, Scan, Finish, ClaimMark, BirthKind, BirthSlot, BirthLocal, KindLoad, LockGate, UnlockGate, CellLoad, CellSwap, LendSlot, ReturnSlot}
 use Rattle.brc_model.specs.declared.actor.Status.{Status}
 use Rattle.brc_model.specs.Machine.{status_by, used_by}
 use Rattle.brc_model.specs.OpenWork.{is_about}
@@ -47,6 +47,8 @@ one_row x y (LockGate z) one other = sym (eqb-true z y other) ∙ eqb-true z x o
 one_row x y (UnlockGate z) one other = sym (eqb-true z y other) ∙ eqb-true z x one
 one_row x y (CellLoad z i) one other = sym (eqb-true z y other) ∙ eqb-true z x one
 one_row x y (CellSwap z i w h) one other = sym (eqb-true z y other) ∙ eqb-true z x one
+one_row x y (LendSlot z) one other = sym (eqb-true z y other) ∙ eqb-true z x one
+one_row x y (ReturnSlot z) one other = sym (eqb-true z y other) ∙ eqb-true z x one
 one_row x y Settle one other = absurd cc
 one_row x y (Leave i n) one other = absurd cc
 one_row x y (Scan i n) one other = absurd cc

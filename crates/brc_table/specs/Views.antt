@@ -8,7 +8,7 @@ use Rattle.brc_model.specs.declared.actor.Status.TheVariants.{Running}
 use Rattle.brc_model.specs.declared.layout.Layout.{Layout}
 use Rattle.brc_model.specs.Layout.{row_count, block_size, front_rows, root_row, row_at, is_immortal_row}
 use Rattle.brc_model.specs.Duties.{address_of, new_word, continuation, new_head, ready}
-use Rattle.brc_model.specs.Machine.{Actor, is_running, status_by, used_by, locked_by}
+use Rattle.brc_model.specs.Machine.{Actor, is_running, status_by, used_by, locked_by, lent_by}
 use Rattle.brc_model.specs.OpenWork.{is_about}
 use Rattle.brc_table.specs.declared.view.View.{View}
 use Rattle.brc_table.specs.declared.view.Event.{Event}
@@ -73,6 +73,7 @@ did v (d ∷ rest) found = record v {
   head = new_head v.head d found;
   used = used_by v.used d;
   locked = locked_by v.locked d found;
+  lent = lent_by v.lent d found;
   trace = v.trace ++ event_of v d found ∷ [];
 }
 
