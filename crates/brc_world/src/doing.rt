@@ -18,13 +18,13 @@ use crate::address::address_of;
 use crate::agenda::{pass_over, push};
 use crate::did::Did;
 use crate::dispatch::{Start, first_duty};
-use crate::effect::Doer;
 use crate::memory::Memory;
 use crate::no_memory::NoMemory;
 use crate::question::answer;
-use crate::rows::{block_of, index_of};
-use crate::states::FREE;
 use crate::thread::{Mode, ROOM, Thread};
+use brc_effect::Doer;
+use brc_effect::rows::{block_of, index_of};
+use brc_effect::states::FREE;
 use brc_lang::Function;
 use brc_model::{Address, Duty, Layout, Status};
 

@@ -3,8 +3,8 @@ ghost use Rattle.brc_model.specs.StepMachine.{main_actor, worker_actor};
 ghost use Rattle.brc_world.specs.Actors.{actor_of};
 
 use crate::no_memory::NoMemory;
-use crate::rows::FRONT_ROWS;
 use crate::thread::{Mode, ROOM, Thread};
+use brc_effect::rows::FRONT_ROWS;
 use brc_model::{Call, Status};
 use std::alloc::Global;
 

@@ -8,9 +8,9 @@ ghost use Rattle.brc_model.specs.StepMachine.{at_place};
 ghost use Rattle.brc_world.specs.Actors.{actor_of};
 ghost use Rattle.brc_world.specs.Questions.{outside_of, place_answered, IsAnswerable, item_in};
 
-use crate::states::LIST;
 use crate::tally::kind_numbered;
 use crate::thread::{Mode, Thread};
+use brc_effect::states::LIST;
 use brc_lang::{Kind, Variable};
 use brc_model::Stage;
 use brc_word::{kind_argument, kind_number};

@@ -16,10 +16,10 @@ use crate::first::first_threads;
 use crate::laws::tallies_follow_machines;
 use crate::memory::{CELLS, Memory, first_memory};
 use crate::no_memory::NoMemory;
-use crate::rows::{block_of, index_of, is_immortal_row};
 use crate::tally::{kind_numbered, running_in};
 use crate::thread::Thread;
 use brc_check::Checked;
+use brc_effect::rows::{block_of, index_of, is_immortal_row};
 use brc_lang::{Module, Sequence};
 use brc_model::{
     Address, Call, Choice, Layout, Status, steps_are_within, steps_move, worlds_are_small,

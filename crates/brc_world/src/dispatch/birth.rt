@@ -7,8 +7,8 @@ ghost use Rattle.brc_model.specs.Machine.{has_room};
 ghost use Rattle.brc_world.specs.Starts.{CanBegin, Begins};
 
 use crate::dispatch::Start;
-use crate::rows::{block_size, row_at};
 use crate::thread::Thread;
+use brc_effect::rows::{block_size, row_at};
 use brc_lang::Variable;
 use brc_model::{Duty, Holding, Layout};
 

@@ -4,7 +4,7 @@ ghost use Rattle.std.specs.Prelude.{◌≡◌, ◌≤◌, ◌<◌, ◌^◌};
 ghost use Rattle.brc_model.specs.Machine.{is_running, used_by};
 ghost use Rattle.brc_model.specs.Limits.{worker_limit};
 ghost use Rattle.brc_model.specs.Within.{Suits};
-ghost use Rattle.brc_world.specs.Effects.{IsIndexed, IsNumbered, IsEffect};
+ghost use Rattle.brc_effect.specs.Effects.{IsIndexed, IsNumbered, IsEffect};
 
 use brc_model::{Duty, Layout, Status};
 

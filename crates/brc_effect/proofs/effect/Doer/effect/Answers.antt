@@ -1,6 +1,6 @@
 -- Some effects don't depend on the found word, or on each field of their duty. Their contracts hold for every value of
 -- these.
-use Rattle.brc_world.proofs.effect.Doer.effect.Goals as goal
+use Rattle.brc_effect.proofs.effect.Doer.effect.Goals as goal
 
 pub returns-in-RetainStore : goal.returns-in-RetainStore
 returns-in-RetainStore c = rw c.in-RetainStore.is (c.retain_store.ensures _ _ _)
