@@ -1,13 +1,16 @@
 -- Actions. At an event a thread of the step world does the first duty of its agenda, or what its code dispatches.
-use Rattle.std.specs.Prelude.{ℕ, zero, suc, ◌+◌, ◌*◌, Bool, true, false, ◌&&◌, ◌==◌, nat_lt, if◌then◌else◌, List, [], ◌∷◌, length, Option, None, Some, slice_get, slice_set}
+use Rattle.std.specs.Prelude.{ℕ, zero, suc, ◌+◌, ◌*◌, Bool, true, false, ◌&&◌, ◌==◌, nat_lt, if◌then◌else◌, List, [], ◌∷◌, length, Option, None, Some, slice_get, slice_index_or, slice_set, replicate}
 use Rattle.brc_lang.specs.declared.module.Instr.{Instr}
 use Rattle.brc_lang.specs.declared.module.Instr.TheVariants.{Num, List as ListObject, NoneObject, Newref, Move as MoveReference, Drop, Lock, Unlock, Borrow, Fetch, Set, Put, Goto, Ret, Fail, As}
 use Rattle.brc_lang.specs.declared.module.Function.{Function}
 use Rattle.brc_word.specs.Words.{half, free_word}
 use Rattle.brc_model.specs.declared.thread.Choice.{Choice}
 use Rattle.brc_model.specs.declared.thread.Choice.TheVariants.{Ok, Fault, Claim}
+use Rattle.brc_model.specs.declared.slot.Exit.{Exit}
+use Rattle.brc_model.specs.declared.slot.Exit.TheVariants.{Success, Fault as FaultExit}
 use Rattle.brc_model.specs.declared.actor.Status.{Status}
 use Rattle.brc_model.specs.declared.actor.Status.TheVariants.{Running, Leaving, Gone}
+use Rattle.brc_model.specs.declared.actor.Counters.{Counters}
 use Rattle.brc_model.specs.declared.actor.Place.{Place}
 use Rattle.brc_model.specs.declared.actor.Place.TheVariants.{Idle, InCall, Inside, Exiting}
 use Rattle.brc_model.specs.declared.actor.Stage.{Stage}
@@ -38,12 +41,19 @@ pub data Action : Type 0 where
   Stuck : Action
   -- it takes a silent step: these of its references move, and it is then at this place
   Silent : List Move → Place → Action
+  -- it calls the host, and is then at the place that the call's exit decides
+  Calls : (Exit → Place) → Action
   -- it does a duty, with these duties behind it, and is then at the place that the word found decides
   Does : Duty → List Duty → (ℕ → Place) → Action
 
 -- the place, whatever word the duty finds
 abbrev pub always : Place → ℕ → Place
 always place found = place
+
+-- The place that the exit of a host call decides.
+abbrev pub by_exit : Place → Place → Exit → Place
+by_exit succeeded faulted Success = succeeded
+by_exit succeeded faulted FaultExit = faulted
 
 abbrev pub with_row : Option ℕ → (ℕ → Action) → Action
 with_row None work = Stuck
@@ -57,14 +67,35 @@ number_word value = 2 * half + value
 abbrev pub list_word : ℕ → ℕ
 list_word cells = 3 * half + cells
 
+-- the counters at the beginning of a call after which `left` calls are still to be made: no instruction `again` has
+-- gone back
+abbrev pub first_counters : ℕ → Counters
+first_counters left = record { left = left; turns = replicate 256 0 }
+
+-- how often the instruction `again` at the point has gone back in the call
+abbrev pub turns_at : Counters → ℕ → ℕ
+turns_at counters at = slice_index_or counters.turns at 0
+
+-- the counters after the instruction `again` at the point has gone back once more
+abbrev pub turned : Counters → ℕ → Counters
+turned counters at =
+    record { left = counters.left; turns = slice_set counters.turns at (turns_at counters at + 1) }
+
+-- the place after an instruction `again` at the point: back at `to`, if it has gone back less often than it may, or else
+-- past it
+abbrev pub again_place : Counters → ℕ → List (Option ℕ) → ℕ → ℕ → Place
+again_place counters at variables to times =
+    if nat_lt (turns_at counters at) times then InCall (turned counters at) to variables
+    else InCall counters (at + 1) variables
+
 -- Returns what a thread does that makes an object of the kind word in the variable, if it has used `used` rows of its
 -- block. If its block is full, it empties the variable and goes on at `otherwise`.
-abbrev pub birth_action : Layout → ℕ → ℕ → ℕ → ℕ → List (Option ℕ) → ℕ → ℕ → ℕ → Action
-birth_action layout t used left at variables to word otherwise =
+abbrev pub birth_action : Layout → ℕ → ℕ → Counters → ℕ → List (Option ℕ) → ℕ → ℕ → ℕ → Action
+birth_action layout t used counters at variables to word otherwise =
     if has_room layout t used
     then Does (BirthKind (row_at layout t used) (ByVariable to) word) []
-    (always (InCall left (at + 1) (slice_set variables to (Some (row_at layout t used)))))
-    else Silent [] (InCall left otherwise (slice_set variables to None))
+    (always (InCall counters (at + 1) (slice_set variables to (Some (row_at layout t used)))))
+    else Silent [] (InCall counters otherwise (slice_set variables to None))
 
 -- The place that the list's kind word decides: whether the list has the cell.
 abbrev pub by_range : ℕ → Place → Place → ℕ → Place
@@ -77,91 +108,93 @@ by_item empty holds (suc row) = holds row
 
 -- Returns what a thread does at an instruction, if it has used `used` rows of its block. A lock that another thread
 -- holds isn't got: the instruction hasn't begun, and the thread is where it was, at `before`.
-abbrev pub dispatch_instruction : Layout → ℕ → ℕ → Place → ℕ → ℕ → List (Option ℕ) → Option Instr → Action
-dispatch_instruction layout t used before left at variables None = Stuck
-dispatch_instruction layout t used before left at variables (Some (Num to value otherwise)) =
-    birth_action layout t used left at variables to (number_word value) otherwise
-dispatch_instruction layout t used before left at variables (Some (ListObject to cells otherwise)) =
-    birth_action layout t used left at variables to (list_word cells) otherwise
-dispatch_instruction layout t used before left at variables (Some (NoneObject to)) =
-    Silent (gain t (ByVariable to) none_row) (InCall left (at + 1) (slice_set variables to (Some none_row)))
-dispatch_instruction layout t used before left at variables (Some (Newref to from)) =
+abbrev pub dispatch_instruction : Layout → ℕ → ℕ → Place → Counters → ℕ → List (Option ℕ) → Option Instr → Action
+dispatch_instruction layout t used before counters at variables None = Stuck
+dispatch_instruction layout t used before counters at variables (Some (Num to value otherwise)) =
+    birth_action layout t used counters at variables to (number_word value) otherwise
+dispatch_instruction layout t used before counters at variables (Some (ListObject to cells otherwise)) =
+    birth_action layout t used counters at variables to (list_word cells) otherwise
+dispatch_instruction layout t used before counters at variables (Some (NoneObject to)) =
+    Silent (gain t (ByVariable to) none_row) (InCall counters (at + 1) (slice_set variables to (Some none_row)))
+dispatch_instruction layout t used before counters at variables (Some (Newref to from)) =
     with_row (row_of variables from)
     (λ row. Does (RetainLoad row (ByVariable to)) []
-    (always (InCall left (at + 1) (slice_set variables to (Some row)))))
-dispatch_instruction layout t used before left at variables (Some (MoveReference to from)) =
+    (always (InCall counters (at + 1) (slice_set variables to (Some row)))))
+dispatch_instruction layout t used before counters at variables (Some (MoveReference to from)) =
     with_row (row_of variables from)
     (λ row. Silent (pass_on t (ByVariable from) (ByVariable to) row)
-    (InCall left (at + 1) (slice_set (slice_set variables from None) to (Some row))))
-dispatch_instruction layout t used before left at variables (Some (Drop from)) =
+    (InCall counters (at + 1) (slice_set (slice_set variables from None) to (Some row))))
+dispatch_instruction layout t used before counters at variables (Some (Drop from)) =
     with_row (row_of variables from)
     (λ row. Does (ReleaseLoad row (ByVariable from)) (Settle ∷ [])
-    (always (InCall left (at + 1) (slice_set variables from None))))
-dispatch_instruction layout t used before left at variables (Some (Lock object)) =
+    (always (InCall counters (at + 1) (slice_set variables from None))))
+dispatch_instruction layout t used before counters at variables (Some (Lock object)) =
     with_row (row_of variables object)
     (λ row. Does (LockGate row) []
-    (λ found. if found == free_word then InCall left (at + 1) variables else before))
-dispatch_instruction layout t used before left at variables (Some (Unlock object)) =
+    (λ found. if found == free_word then InCall counters (at + 1) variables else before))
+dispatch_instruction layout t used before counters at variables (Some (Unlock object)) =
     with_row (row_of variables object)
-    (λ row. Does (UnlockGate row) [] (always (InCall left (at + 1) variables)))
-dispatch_instruction layout t used before left at variables (Some (Borrow to list index otherwise)) =
+    (λ row. Does (UnlockGate row) [] (always (InCall counters (at + 1) variables)))
+dispatch_instruction layout t used before counters at variables (Some (Borrow to list index otherwise)) =
     with_row (row_of variables list)
     (λ row. Does (KindLoad row) []
-    (by_range index (Inside left at variables InRange) (InCall left otherwise (slice_set variables to None))))
-dispatch_instruction layout t used before left at variables (Some (Fetch to list index otherwise)) =
+    (by_range index (Inside counters at variables InRange) (InCall counters otherwise (slice_set variables to None))))
+dispatch_instruction layout t used before counters at variables (Some (Fetch to list index otherwise)) =
     with_row (row_of variables list)
     (λ row. Does (KindLoad row) []
-    (by_range index (Inside left at variables InRange) (InCall left otherwise (slice_set variables to None))))
-dispatch_instruction layout t used before left at variables (Some (Set list index from otherwise)) =
+    (by_range index (Inside counters at variables InRange) (InCall counters otherwise (slice_set variables to None))))
+dispatch_instruction layout t used before counters at variables (Some (Set list index from otherwise)) =
     with_row (row_of variables list)
     (λ row. Does (KindLoad row) []
-    (by_range index (Inside left at variables InRange) (Inside left at variables OutOfRange)))
-dispatch_instruction layout t used before left at variables (Some (Put list index from otherwise)) =
+    (by_range index (Inside counters at variables InRange) (Inside counters at variables OutOfRange)))
+dispatch_instruction layout t used before counters at variables (Some (Put list index from otherwise)) =
     with_row (row_of variables list)
     (λ row. Does (KindLoad row) []
-    (by_range index (Inside left at variables InRange) (InCall left otherwise variables)))
-dispatch_instruction layout t used before left at variables (Some (As from kind otherwise)) =
+    (by_range index (Inside counters at variables InRange) (InCall counters otherwise variables)))
+dispatch_instruction layout t used before counters at variables (Some (As from kind otherwise)) =
     with_row (row_of variables from)
     (λ row. Does (KindLoad row) []
-    (λ found. InCall left (if same_kind (kind_of_word found) kind then at + 1 else otherwise) variables))
-dispatch_instruction layout t used before left at variables (Some (Goto to)) = Silent [] (InCall left to variables)
-dispatch_instruction layout t used before left at variables (Some (Ret from)) =
+    (λ found. InCall counters (if same_kind (kind_of_word found) kind then at + 1 else otherwise) variables))
+dispatch_instruction layout t used before counters at variables (Some (Goto to)) =
+    Silent [] (InCall counters to variables)
+dispatch_instruction layout t used before counters at variables (Some (Ret from)) =
     with_row (row_of variables from)
-    (λ row. Does (ReleaseLoad row (ByVariable from)) (Settle ∷ []) (always (Idle left)))
-dispatch_instruction layout t used before left at variables (Some Fail) = Silent [] (Idle left)
+    (λ row. Does (ReleaseLoad row (ByVariable from)) (Settle ∷ []) (always (Idle counters.left)))
+dispatch_instruction layout t used before counters at variables (Some Fail) = Silent [] (Idle counters.left)
 
 -- Returns what a thread does inside an instruction that uses a cell, by how far it is. An item is borrowed as it is
 -- found, or fetched with a reference of its own. A stored item's reference is the variable's (`set`), or a new one
 -- (`put`); the item that stood in the cell is released. (Python/C API manual, List Objects.)
-abbrev pub dispatch_inside : ℕ → ℕ → List (Option ℕ) → Stage → Option Instr → Action
-dispatch_inside left at variables InRange (Some (Borrow to list index otherwise)) =
+abbrev pub dispatch_inside : Counters → ℕ → List (Option ℕ) → Stage → Option Instr → Action
+dispatch_inside counters at variables InRange (Some (Borrow to list index otherwise)) =
     with_row (row_of variables list)
     (λ row. Does (CellLoad row index) []
-    (by_item (InCall left otherwise (slice_set variables to None))
-    (λ item. InCall left (at + 1) (slice_set variables to (Some item)))))
-dispatch_inside left at variables InRange (Some (Fetch to list index otherwise)) =
+    (by_item (InCall counters otherwise (slice_set variables to None))
+    (λ item. InCall counters (at + 1) (slice_set variables to (Some item)))))
+dispatch_inside counters at variables InRange (Some (Fetch to list index otherwise)) =
     with_row (row_of variables list)
     (λ row. Does (CellLoad row index) []
-    (by_item (InCall left otherwise (slice_set variables to None)) (λ item. Inside left at variables (Found item))))
-dispatch_inside left at variables (Found item) (Some (Fetch to list index otherwise)) =
-    Does (RetainLoad item (ByVariable to)) [] (always (InCall left (at + 1) (slice_set variables to (Some item))))
-dispatch_inside left at variables InRange (Some (Set list index from otherwise)) =
+    (by_item (InCall counters otherwise (slice_set variables to None))
+    (λ item. Inside counters at variables (Found item))))
+dispatch_inside counters at variables (Found item) (Some (Fetch to list index otherwise)) =
+    Does (RetainLoad item (ByVariable to)) [] (always (InCall counters (at + 1) (slice_set variables to (Some item))))
+dispatch_inside counters at variables InRange (Some (Set list index from otherwise)) =
     with_row (row_of variables list)
     (λ row. with_row (row_of variables from)
     (λ item. Does (CellSwap row index item (ByVariable from)) (Settle ∷ [])
-    (always (InCall left (at + 1) (slice_set variables from None)))))
-dispatch_inside left at variables OutOfRange (Some (Set list index from otherwise)) =
+    (always (InCall counters (at + 1) (slice_set variables from None)))))
+dispatch_inside counters at variables OutOfRange (Some (Set list index from otherwise)) =
     with_row (row_of variables from)
     (λ item. Does (ReleaseLoad item (ByVariable from)) (Settle ∷ [])
-    (always (InCall left otherwise (slice_set variables from None))))
-dispatch_inside left at variables InRange (Some (Put list index from otherwise)) =
+    (always (InCall counters otherwise (slice_set variables from None))))
+dispatch_inside counters at variables InRange (Some (Put list index from otherwise)) =
     with_row (row_of variables from)
-    (λ item. Does (RetainLoad item InFlight) [] (always (Inside left at variables Retained)))
-dispatch_inside left at variables Retained (Some (Put list index from otherwise)) =
+    (λ item. Does (RetainLoad item InFlight) [] (always (Inside counters at variables Retained)))
+dispatch_inside counters at variables Retained (Some (Put list index from otherwise)) =
     with_row (row_of variables list)
     (λ row. with_row (row_of variables from)
-    (λ item. Does (CellSwap row index item InFlight) (Settle ∷ []) (always (InCall left (at + 1) variables))))
-dispatch_inside left at variables stage i = Stuck
+    (λ item. Does (CellSwap row index item InFlight) (Settle ∷ []) (always (InCall counters (at + 1) variables))))
+dispatch_inside counters at variables stage i = Stuck
 
 -- Returns what a thread with an empty agenda does. With no call left it gives up its reference to the root, settles,
 -- and leaves.
@@ -170,17 +203,17 @@ dispatch layout t used code Exiting = Stuck
 dispatch layout t used code (Idle zero) =
     Does (ReleaseLoad root_row AsCaller) (Settle ∷ Leave 0 used ∷ []) (always Exiting)
 dispatch layout t used code (Idle (suc left)) =
-    dispatch_instruction layout t used (Idle (suc left)) left 0 entry_variables (slice_get code 0)
-dispatch layout t used code (InCall left at variables) =
-    dispatch_instruction layout t used (InCall left at variables) left at variables (slice_get code at)
-dispatch layout t used code (Inside left at variables stage) =
-    dispatch_inside left at variables stage (slice_get code at)
+    dispatch_instruction layout t used (Idle (suc left)) (first_counters left) 0 entry_variables (slice_get code 0)
+dispatch layout t used code (InCall counters at variables) =
+    dispatch_instruction layout t used (InCall counters at variables) counters at variables (slice_get code at)
+dispatch layout t used code (Inside counters at variables stage) =
+    dispatch_inside counters at variables stage (slice_get code at)
 
 -- Says whether the place is outside all calls.
 abbrev pub is_idle : Place → Bool
 is_idle (Idle left) = true
-is_idle (InCall left at variables) = false
-is_idle (Inside left at variables stage) = false
+is_idle (InCall counters at variables) = false
+is_idle (Inside counters at variables stage) = false
 is_idle Exiting = false
 
 -- Says whether the thread may claim the row: it runs, is outside its calls with nothing to do, and has used the row,
@@ -202,8 +235,14 @@ status_action functions layout t a Gone = Skip
 status_action functions layout t a Running = agenda_action functions layout t a a.actor.agenda
 status_action functions layout t a Leaving = agenda_action functions layout t a a.actor.agenda
 
--- Returns what the thread does at an event with the choice. No step is a host call yet, so `Fault` means what `Ok`
--- does.
+-- The exit that the choice gives a host call or a close.
+abbrev pub exit_of : Choice → Exit
+exit_of Ok = Success
+exit_of Fault = FaultExit
+exit_of (Claim row) = Success
+
+-- Returns what the thread does at an event with the choice. Only a host call or a close ends another way by `Fault`
+-- than by `Ok`.
 abbrev pub action_of : List Function → Layout → ℕ → StepActor → Choice → Action
 action_of functions layout t a Ok = status_action functions layout t a a.actor.status
 action_of functions layout t a Fault = status_action functions layout t a a.actor.status

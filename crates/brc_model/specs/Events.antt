@@ -7,7 +7,7 @@ use Rattle.brc_model.specs.declared.thread.Choice.{Choice}
 use Rattle.brc_model.specs.declared.thread.Choice.TheVariants.{Ok, Fault, Claim}
 use Rattle.brc_model.specs.BadDuties.{is_bad_duty}
 use Rattle.brc_model.specs.Threads.{code_of}
-use Rattle.brc_model.specs.Actions.{StepActor, Action, Skip, Stuck, Silent, Does, action_of}
+use Rattle.brc_model.specs.Actions.{StepActor, Action, Skip, Stuck, Silent, Calls, Does, action_of}
 use Rattle.brc_model.specs.Needs.{starts_unfit}
 use Rattle.brc_model.specs.StepMachine.{StepMachine, counting, of_thread}
 
@@ -16,6 +16,7 @@ abbrev pub is_bad_action : StepMachine → ℕ → StepActor → Action → Bool
 is_bad_action m t a Skip = false
 is_bad_action m t a Stuck = true
 is_bad_action m t a (Silent moves place) = not (are_allowed m.layout m.abstract moves)
+is_bad_action m t a (Calls place) = false
 is_bad_action m t a (Does d rest place) = is_bad_duty (counting m) t a.actor d
 
 -- Says whether the thread begins an instruction that lacks what it needs. A thread with duties is inside one.

@@ -66,9 +66,9 @@ pub record KnowsInside (code : List Instr) (memory : Address → ℕ) (locked : 
 -- What a thread knows of items at its place, in the states in which paths reach its point.
 abbrev pub KnowsItems : List Instr → (Address → ℕ) → Option ℕ → Place → Type 0
 KnowsItems code memory locked (Idle left) = Unit {0}
-KnowsItems code memory locked (InCall left at variables) =
+KnowsItems code memory locked (InCall counters at variables) =
     (exits : List Exit) (s : State) → path_end code exits ≡ At at s → HaveItems memory locked s variables
-KnowsItems code memory locked (Inside left at variables stage) = KnowsInside code memory locked at variables stage
+KnowsItems code memory locked (Inside counters at variables stage) = KnowsInside code memory locked at variables stage
 KnowsItems code memory locked Exiting = Unit {0}
 
 -- each thread's borrowed items stand in the list that it has locked

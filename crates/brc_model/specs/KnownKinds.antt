@@ -34,9 +34,9 @@ HaveTrueKinds words s variables = (v : ℕ) → HasTrueKind words (slot_of s v) 
 -- In a call, each variable has the kind of its slot in the state in which paths reach the thread's point.
 abbrev pub KnowsKinds : List Instr → (ℕ → ℕ) → Place → Type 0
 KnowsKinds code words (Idle left) = Unit {0}
-KnowsKinds code words (InCall left at variables) =
+KnowsKinds code words (InCall counters at variables) =
     (exits : List Exit) (s : State) → path_end code exits ≡ At at s → HaveTrueKinds words s variables
-KnowsKinds code words (Inside left at variables stage) =
+KnowsKinds code words (Inside counters at variables stage) =
     (exits : List Exit) (s : State) → path_end code exits ≡ At at s → HaveTrueKinds words s variables
 KnowsKinds code words Exiting = Unit {0}
 

@@ -26,6 +26,7 @@ pub mod BadDuties
 pub mod Needs
 pub mod Events
 pub mod Safety
+pub mod Faults
 pub mod World
 pub mod Within
 pub mod Ranges

@@ -1,5 +1,5 @@
 -- The limits of a machine.
-use Rattle.std.specs.Prelude.{ℕ, ◌+◌, ◌*◌}
+use Rattle.std.specs.Prelude.{ℕ, ◌+◌, ◌*◌, ◌-◌, ◌^◌}
 use Rattle.brc_model.specs.Layout.{front_rows}
 -- the most cells of a list
 pub use Rattle.brc_lang.specs.Limits.{cell_limit}
@@ -26,3 +26,7 @@ total_limit = front_rows + worker_limit * row_limit + immortal_limit
 -- the most calls that one worker makes
 abbrev pub times_limit : ℕ
 times_limit = 1000000
+
+-- the greatest count of faults, at which counting stops
+abbrev pub most_faults : ℕ
+most_faults = 2 ^ 64 - 1

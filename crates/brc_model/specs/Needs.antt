@@ -53,8 +53,8 @@ lacks_needs memory locked variables (Some i) = not (has_needs memory locked vari
 abbrev pub starts_unfit : (Address → ℕ) → Option ℕ → List Instr → Place → Bool
 starts_unfit memory locked code (Idle zero) = is_some locked
 starts_unfit memory locked code (Idle (suc left)) = lacks_needs memory locked entry_variables (slice_get code 0)
-starts_unfit memory locked code (InCall left at variables) =
+starts_unfit memory locked code (InCall counters at variables) =
     lacks_needs memory locked variables (slice_get code at)
-starts_unfit memory locked code (Inside left at variables stage) =
+starts_unfit memory locked code (Inside counters at variables stage) =
     lacks_needs memory locked variables (slice_get code at)
 starts_unfit memory locked code Exiting = false

@@ -1,6 +1,6 @@
 -- The step machine: the counting machine, with functions and places on top. At an event one thread does the first duty
 -- of its agenda, or dispatches its next instruction.
-use Rattle.std.specs.Prelude.{ℕ, zero, suc, ◌+◌, ◌*◌, if◌then◌else◌, nat_le, List, [], ◌∷◌, length, map, Option, None, Some, fold, slice_get, slice_set}
+use Rattle.std.specs.Prelude.{ℕ, zero, suc, ◌+◌, ◌*◌, Bool, true, false, if◌then◌else◌, nat_le, nat_lt, List, [], ◌∷◌, length, map, Option, None, Some, fold, slice_get, slice_set}
 use Rattle.brc_lang.specs.declared.kind.Kind.{Kind}
 use Rattle.brc_lang.specs.declared.kind.Kind.TheVariants as kinds
 use Rattle.brc_lang.specs.declared.module.Function.{Function}
@@ -12,15 +12,18 @@ use Rattle.brc_model.specs.declared.actor.Place.{Place}
 use Rattle.brc_model.specs.declared.actor.Place.TheVariants.{Idle}
 use Rattle.brc_model.specs.declared.duty.Holding.TheVariants.{AsCaller}
 use Rattle.brc_model.specs.declared.duty.Duty.{Duty}
+use Rattle.brc_model.specs.declared.duty.Duty.TheVariants.{CloseResource}
+use Rattle.brc_model.specs.declared.slot.Exit.{Exit}
+use Rattle.brc_model.specs.declared.slot.Exit.TheVariants.{Success, Fault}
 use Rattle.brc_model.specs.declared.address.Address.{Address}
 use Rattle.brc_model.specs.declared.address.Address.TheVariants.{Local, Shared, Gate, KindOf, Mark, Cell, Slot, Resource, ThreadWord}
-use Rattle.brc_model.specs.Limits.{cell_limit}
+use Rattle.brc_model.specs.Limits.{cell_limit, most_faults}
 use Rattle.brc_model.specs.AbstractState.{AbstractState, Reference, Move, ByThread, moved}
 use Rattle.brc_model.specs.declared.layout.Layout.{Layout}
 use Rattle.brc_model.specs.Layout.{root_row, front_rows, by_row}
 use Rattle.brc_model.specs.Duties.{address_of}
 use Rattle.brc_model.specs.Machine.{Actor, idle_actor, Life, Unborn, Live, Machine, actor_by, done_by}
-use Rattle.brc_model.specs.Actions.{StepActor, Action, Skip, Stuck, Silent, Does, action_of}
+use Rattle.brc_model.specs.Actions.{StepActor, Action, Skip, Stuck, Silent, Calls, Does, exit_of, action_of}
 
 -- ---- the machine
 
@@ -31,6 +34,9 @@ pub record StepMachine : Type 0 where
   pub actors : List StepActor
   pub abstract : AbstractState
   pub life : ℕ → Life
+  -- how many host calls, and how many closes, have faulted
+  pub host_faults : ℕ
+  pub close_faults : ℕ
 
 -- what the thread counts with
 abbrev pub its_actor : StepActor → Actor
@@ -54,6 +60,16 @@ of_thread otherwise of_actor (Some a) = of_actor a
 
 -- ---- one step
 
+-- Returns the count after a host call or a close with this exit: a fault raises it by one, up to the greatest.
+abbrev pub counted : Exit → ℕ → ℕ
+counted Success count = count
+counted Fault count = if nat_lt count most_faults then count + 1 else count
+
+-- Says whether the duty asks the host to close a resource.
+abbrev pub closes : Duty → Bool
+closes (CloseResource x) = true
+closes _ = false
+
 -- the thread at another place
 abbrev pub at_place : StepActor → Place → StepActor
 at_place a place = record { function = a.function; place = place; actor = a.actor }
@@ -73,12 +89,28 @@ silent_by m t a moves place =
       actors = slice_set m.actors t (at_place a place);
       abstract = moved m.abstract moves;
       life = m.life;
+      host_faults = m.host_faults;
+      close_faults = m.close_faults;
+    }
+
+-- Returns the machine after a host call with the exit: the thread is at the place that the exit decides.
+abbrev pub called_by : StepMachine → ℕ → StepActor → Exit → (Exit → Place) → StepMachine
+called_by m t a exit place =
+    record {
+      functions = m.functions;
+      layout = m.layout;
+      memory = m.memory;
+      actors = slice_set m.actors t (at_place a (place exit));
+      abstract = m.abstract;
+      life = m.life;
+      host_faults = counted exit m.host_faults;
+      close_faults = m.close_faults;
     }
 
 -- Returns the machine after the thread's duty: its words, its abstract state and its lives are the counting machine's.
--- The word found decides the thread's place.
-abbrev pub does_by : StepMachine → ℕ → StepActor → Duty → List Duty → (ℕ → Place) → StepMachine
-does_by m t a d rest place =
+-- The word found decides the thread's place. A close that faults is counted, and isn't done again.
+abbrev pub does_by : StepMachine → ℕ → StepActor → Exit → Duty → List Duty → (ℕ → Place) → StepMachine
+does_by m t a exit d rest place =
     let done = done_by (counting m) t a.actor d rest in
     let found = m.memory (address_of m.layout t a.actor.head d) in
     record {
@@ -88,19 +120,22 @@ does_by m t a d rest place =
       actors = slice_set m.actors t (step_actor m.layout t a d rest (place found) found);
       abstract = done.abstract;
       life = done.life;
+      host_faults = m.host_faults;
+      close_faults = if closes d then counted exit m.close_faults else m.close_faults;
     }
 
--- Returns the machine after the thread's action.
-abbrev pub machine_by : StepMachine → ℕ → StepActor → Action → StepMachine
-machine_by m t a Skip = m
-machine_by m t a Stuck = m
-machine_by m t a (Silent moves place) = silent_by m t a moves place
-machine_by m t a (Does d rest place) = does_by m t a d rest place
+-- Returns the machine after the thread's action. The exit is that of a host call or a close.
+abbrev pub machine_by : StepMachine → ℕ → StepActor → Exit → Action → StepMachine
+machine_by m t a exit Skip = m
+machine_by m t a exit Stuck = m
+machine_by m t a exit (Silent moves place) = silent_by m t a moves place
+machine_by m t a exit (Calls place) = called_by m t a exit place
+machine_by m t a exit (Does d rest place) = does_by m t a exit d rest place
 
 -- Returns the machine after the event; where there is no such thread, it stays as it is.
 abbrev pub next_machine : StepMachine → ℕ × Choice → StepMachine
 next_machine m event =
-    of_thread m (λ a. machine_by m event.0 a (action_of m.functions m.layout event.0 a event.1))
+    of_thread m (λ a. machine_by m event.0 a (exit_of event.1) (action_of m.functions m.layout event.0 a event.1))
     (slice_get m.actors event.0)
 
 abbrev pub machine_after : StepMachine → List (ℕ × Choice) → StepMachine
@@ -163,4 +198,6 @@ first_machine m rows calls = record {
     kinds = first_kinds;
   };
   life = first_life;
+  host_faults = 0;
+  close_faults = 0;
 }

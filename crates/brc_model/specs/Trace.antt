@@ -1,17 +1,25 @@
--- Traces. A thread is an automaton: its steps depend on the values that it finds in words, and on nothing else that
--- other threads do. Its trace is its word events, in order.
-use Rattle.std.specs.Prelude.{◌≡◌, ℕ, ◌==◌, if◌then◌else◌, List, [], ◌∷◌, ◌++◌, slice_get}
+-- Traces. A thread is an automaton: its steps depend on the values that it finds in words, on how its host calls end,
+-- and on nothing else that other threads do. Its trace is its word events, in order.
+use Rattle.std.specs.Prelude.{◌≡◌, ℕ, ◌==◌, Bool, true, false, if◌then◌else◌, List, [], ◌∷◌, ◌++◌, slice_get}
 use Rattle.brc_lang.specs.declared.module.Function.{Function}
 use Rattle.brc_model.specs.declared.thread.Choice.{Choice}
 use Rattle.brc_model.specs.declared.duty.Duty.{Duty}
 use Rattle.brc_model.specs.declared.address.Address.{Address}
+use Rattle.brc_model.specs.declared.address.Address.TheVariants.{Slot, Resource}
+use Rattle.brc_model.specs.declared.slot.Exit.{Exit}
 use Rattle.brc_model.specs.declared.actor.Place.{Place}
 use Rattle.brc_model.specs.Duties.{address_of, new_word}
 use Rattle.brc_model.specs.Machine.{Actor}
-use Rattle.brc_model.specs.Actions.{StepActor, Action, Skip, Stuck, Silent, Does, action_of}
+use Rattle.brc_model.specs.Actions.{StepActor, Action, Skip, Stuck, Silent, Calls, Does, action_of}
 use Rattle.brc_model.specs.StepMachine.{StepMachine, of_thread, at_place, step_actor, next_machine}
 use Rattle.brc_model.specs.AbstractState.{Move}
 use Rattle.brc_model.specs.declared.layout.Layout.{Layout}
+
+-- Says whether a word is at the address. Slots and the host's resources are none.
+abbrev pub is_word : Address → Bool
+is_word (Slot x) = false
+is_word (Resource x) = false
+is_word _ = true
 
 -- the address of a word that a thread accessed, the value that it found there, and the value that it left
 pub record WordEvent : Type 0 where
@@ -26,6 +34,10 @@ abbrev pub event_of : Layout → ℕ → Actor → Duty → ℕ → WordEvent
 event_of layout t a d found =
     record { address = address_of layout t a.head d; found = found; left = new_word t a.head d found }
 
+-- the word events of the duty: none if it is on no word
+abbrev pub events_of : Layout → ℕ → Actor → Duty → ℕ → List WordEvent
+events_of layout t a d found = if is_word (address_of layout t a.head d) then event_of layout t a d found ∷ [] else []
+
 -- One step of a thread: the word events that it makes, and the thread afterwards.
 pub data MakesStep (functions : List Function) (layout : Layout) (t : ℕ) (a : StepActor) : List WordEvent → StepActor
     → Type 0 where
@@ -33,10 +45,14 @@ pub data MakesStep (functions : List Function) (layout : Layout) (t : ℕ) (a : 
   GoesSilently : (choice : Choice) (moves : List Move) (place : Place)
       → action_of functions layout t a choice ≡ Silent moves place
       → MakesStep functions layout t a [] (at_place a place)
+  -- a host call, which may end by any exit
+  CallsHost : (choice : Choice) (place : Exit → Place) (exit : Exit)
+      → action_of functions layout t a choice ≡ Calls place
+      → MakesStep functions layout t a [] (at_place a (place exit))
   -- a duty, which may find any value
   DoesDuty : (choice : Choice) (d : Duty) (rest : List Duty) (place : ℕ → Place) (found : ℕ)
       → action_of functions layout t a choice ≡ Does d rest place
-      → MakesStep functions layout t a (event_of layout t a.actor d found ∷ [])
+      → MakesStep functions layout t a (events_of layout t a.actor d found)
       (step_actor layout t a d rest (place found) found)
 
 -- several steps, one after another
@@ -50,13 +66,14 @@ pub data CanMake (functions : List Function) (layout : Layout) (t : ℕ) : StepA
 -- ---- what a thread does
 
 abbrev pub event_by : StepMachine → ℕ → Actor → Duty → List WordEvent
-event_by m t a d = event_of m.layout t a d (m.memory (address_of m.layout t a.head d)) ∷ []
+event_by m t a d = events_of m.layout t a d (m.memory (address_of m.layout t a.head d))
 
 -- Returns the word events of the thread's action.
 abbrev pub made_by : StepMachine → ℕ → StepActor → Action → List WordEvent
 made_by m t a Skip = []
 made_by m t a Stuck = []
 made_by m t a (Silent moves place) = []
+made_by m t a (Calls place) = []
 made_by m t a (Does d rest place) = event_by m t a.actor d
 
 -- Returns the thread's word events at the event: none if the event is another thread's.

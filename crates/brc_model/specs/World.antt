@@ -1,5 +1,5 @@
--- Worlds. A world is what the threads of a machine see and change: the words, and the threads themselves. A step looks
--- at nothing else. The abstract state and the lives of the rows are beside it, for what is promised.
+-- Worlds. A world is what the threads of a machine see and change: the words, the threads themselves, and the counts of
+-- faults. A step looks at nothing else. The abstract state and the lives of the rows are beside it, for what is promised.
 use Rattle.std.specs.Prelude.{◌≡◌, ℕ, ◌<◌, ◌≤◌, ◌==◌, Bool, false, not, List, []}
 use Rattle.brc_lang.specs.declared.module.Function.{Function}
 use Rattle.brc_lang.specs.declared.module.Module.{Module}
@@ -26,9 +26,19 @@ pub record World : Type 0 where
   pub memory : Address → ℕ
   -- by the thread's number: main is 0, the workers 1, 2, ..
   pub actors : List StepActor
+  -- how many host calls, and how many closes, have faulted
+  pub host_faults : ℕ
+  pub close_faults : ℕ
 
 abbrev pub world_of : StepMachine → World
-world_of m = record { functions = m.functions; layout = m.layout; memory = m.memory; actors = m.actors }
+world_of m = record {
+  functions = m.functions;
+  layout = m.layout;
+  memory = m.memory;
+  actors = m.actors;
+  host_faults = m.host_faults;
+  close_faults = m.close_faults;
+}
 
 -- the machine with this world, an empty abstract state and no born row
 abbrev pub machine_of : World → StepMachine
@@ -39,6 +49,8 @@ machine_of w = record {
   actors = w.actors;
   abstract = record { references = []; born = []; closed = []; kinds = λ x. kinds.Any };
   life = λ x. Unborn;
+  host_faults = w.host_faults;
+  close_faults = w.close_faults;
 }
 
 abbrev pub first_world : Module → ℕ → List Call → World

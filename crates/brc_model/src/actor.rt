@@ -9,6 +9,15 @@ pub enum Status {
     Gone,
 }
 
+/// What a call counts.
+#[derive(Clone, Copy, Debug)]
+pub struct Counters {
+    /// The calls that the thread has still to make after this one.
+    pub left: u32,
+    /// How often each instruction `again` of the function, by its point, has gone back in this call.
+    pub turns: [u16; 256],
+}
+
 /// Where a thread is in its calls once its agenda is done. The beginning of a call is no step of its own.
 #[derive(Clone, Copy, Debug)]
 pub enum Place {
@@ -16,15 +25,15 @@ pub enum Place {
     Idle {
         left: u32,
     },
-    /// Before the instruction `at` of a call after which `left` calls remain. Each variable names a row, or is empty.
+    /// Before the instruction `at` of a call with these counters. Each variable names a row, or is empty.
     InCall {
-        left: u32,
+        counters: Counters,
         at: usize,
         variables: [Option<u32>; 16],
     },
     /// Inside the instruction `at`, which uses a cell of the locked list, after its first step.
     Inside {
-        left: u32,
+        counters: Counters,
         at: usize,
         variables: [Option<u32>; 16],
         stage: Stage,

@@ -11,6 +11,7 @@ mod code;
 mod counting_laws;
 mod duty;
 mod hand_laws;
+mod host_laws;
 mod laws;
 mod layout;
 mod row_laws;
@@ -20,12 +21,13 @@ mod thread;
 mod work_laws;
 mod world_laws;
 
-pub use actor::{Place, Stage, Status};
+pub use actor::{Counters, Place, Stage, Status};
 pub use address::Address;
 pub use code::CheckCode;
 pub use counting_laws::{accounts_are_there, counts_agree, duties_are_kept, duties_are_within};
 pub use duty::{Duty, Holding, Reason};
 pub use hand_laws::{hands_begin, references_are_handed_over, references_are_the_threads};
+pub use host_laws::faults_are_counted;
 pub use laws::accepted_is_safe;
 pub use layout::Layout;
 pub use row_laws::{

@@ -15,7 +15,8 @@ use Rattle.brc_model.specs.declared.actor.Place.TheVariants.{Idle, InCall, Insid
 use Rattle.brc_model.specs.declared.thread.Choice.{Choice}
 use Rattle.brc_model.specs.declared.thread.Choice.TheVariants.{Ok, Fault, Claim}
 use Rattle.brc_model.specs.Machine.{Actor, Machine, with_actor, locked_by}
-use Rattle.brc_model.specs.Actions.{StepActor, Action, Skip, Stuck, Silent, Does, agenda_action, status_action, may_claim, action_of}
+use Rattle.brc_model.specs.declared.slot.Exit.{Exit}
+use Rattle.brc_model.specs.Actions.{StepActor, Action, Skip, Stuck, Silent, Calls, Does, agenda_action, status_action, may_claim, action_of}
 use Rattle.brc_model.specs.StepMachine.{StepMachine, counting}
 use Rattle.brc_model.proofs.Basics.Lists.{either, slice_get-set_same, set_found, none_some}
 use Rattle.brc_model.specs.References.{held, one_if, reference_of}
@@ -40,7 +41,7 @@ use Rattle.brc_model.specs.Invariant.{CoreInvariant, Invariant}
 use Rattle.brc_model.proofs.Dispatch.Coded.{PlaceSays, PlaceFits, in_flight, idle_unlocked, is_departing, stays_elsewhere, placed_by, says_bounded}
 use Rattle.brc_model.proofs.Dispatch.AtOnce.{at_once, plain_locked}
 use Rattle.brc_model.proofs.Keeping.SilentSteps.{SilentSits}
-use Rattle.brc_model.proofs.Dispatch.Begins.{scene_of, holds_plain, Backs, ByOwn, ByList, Starts, Gives, Takes, Bears, Asks, Locks, Unlocks, Loads, Swaps, Follows, Nothing, Settles, Leaves, IsTaken}
+use Rattle.brc_model.proofs.Dispatch.Begins.{scene_of, holds_plain, Backs, ByOwn, ByList, Starts, Gives, Takes, Bears, Asks, Locks, Unlocks, Loads, Swaps, Follows, Nothing, Settles, Leaves, SilentTaken, IsTaken}
 use Rattle.brc_model.proofs.Keeping.SilentMoves.{bag_after}
 use Rattle.brc_model.proofs.Keeping.Sits.{sitting, Sits, AtRest}
 use Rattle.brc_model.specs.Counting.{with_account}
@@ -87,6 +88,7 @@ abbrev pub ActionFits : Module → Accounts → ℕ → StepMachine → ℕ → 
 ActionFits p c n m t a Skip = Unit {0}
 ActionFits p c n m t a Stuck = ⊥
 ActionFits p c n m t a (Silent moves place) = SilentFits p c n m t a moves place
+ActionFits p c n m t a (Calls place) = (exit : Exit) → SilentFits p c n m t a [] (place exit)
 ActionFits p c n m t a (Does d rest place) =
     DutyFits p c n m t a d rest (place (found_by (counting m) t a.actor d))
 
@@ -114,7 +116,8 @@ duty_fits p n m t a d rest whole found alive is =
     (omega (arith, plain, sum_by-cons at_once d rest)) in
     record {
       account = c t;
-      says = subst (λ (w : Option ℕ). PlaceSays (code_of (slice_get p.functions a.function)) a.place w (c t)) (sym unlocked)
+      says = subst (λ (w : Option ℕ). PlaceSays (code_of (slice_get p.functions a.function)) a.place w (c t))
+          (sym unlocked)
           own.says;
       departs = ap (exits a.actor.status) (sym is) ∙ (whole.coded t a found).departs;
       doing = record {
@@ -174,12 +177,12 @@ follows_small k layout t used place rest (Leaves leaves) = (settle_small k, (lea
 place_held : (code : List Instr) (bag : List Reference) (t x : ℕ) (locked : Option ℕ) (place : Place)
     → PlaceFits code bag t [] locked place → locked ≡ Some x → (by : Holding) × (0 < held (reference_of t by x) bag)
 place_held code bag t x locked (Idle left) fits is = absurd (none_some x (sym fits.0 ∙ is))
-place_held code bag t x locked (InCall left at variables) fits is =
+place_held code bag t x locked (InCall counters at variables) fits is =
     let lock =
     guards_held bag t fits.0 variables fits.0.locked locked x fits.2 is fits.1.grounded
     (holds_variables bag t fits.0 variables (holds_plain bag t (of_variables fits.0 variables) fits.3)) in
     (lock.by, lock.held_so)
-place_held code bag t x locked (Inside left at variables stage) fits is =
+place_held code bag t x locked (Inside counters at variables stage) fits is =
     let flight = in_flight (slice_get code at) stage variables in
     let lock =
     guards_held bag t fits.0 variables fits.0.locked locked x fits.2 is fits.1.grounded
@@ -202,13 +205,12 @@ silent_locks p n m t a bag code place account at alone fits holds x is =
       gate = old.gate;
     }
 
-taken_fits : (p : Module) (n : ℕ) (m : StepMachine) (t : ℕ) (a : StepActor) (x : Action) → (whole : CodeInvariant p n m)
-    → slice_get m.actors t ≡ Some a → AtRest whole.accounts n (counting m) t a.actor
-    → IsTaken (code_of (slice_get p.functions a.function)) (scene_of (counting m) t a.actor) x
-    → ActionFits p whole.accounts n m t a x
-taken_fits p n m t a Skip whole found at taken = absurd taken
-taken_fits p n m t a Stuck whole found at taken = absurd taken
-taken_fits p n m t a (Silent moves place) whole found at taken =
+silent_fits : (p : Module) (n : ℕ) (m : StepMachine) (t : ℕ) (a : StepActor) (moves : List Move) (place : Place)
+    → (whole : CodeInvariant p n m) → slice_get m.actors t ≡ Some a
+    → AtRest whole.accounts n (counting m) t a.actor
+    → SilentTaken (code_of (slice_get p.functions a.function)) (scene_of (counting m) t a.actor) moves place
+    → SilentFits p whole.accounts n m t a moves place
+silent_fits p n m t a moves place whole found at taken =
     let code = code_of (slice_get p.functions a.function) in
     let bag = bag_after m.abstract.references moves in
     let own = whole.coded t a found in
@@ -228,6 +230,17 @@ taken_fits p n m t a (Silent moves place) whole found at taken =
             taken.placed placed.holds;
       };
     }
+
+taken_fits : (p : Module) (n : ℕ) (m : StepMachine) (t : ℕ) (a : StepActor) (x : Action) → (whole : CodeInvariant p n m)
+    → slice_get m.actors t ≡ Some a → AtRest whole.accounts n (counting m) t a.actor
+    → IsTaken (code_of (slice_get p.functions a.function)) (scene_of (counting m) t a.actor) x
+    → ActionFits p whole.accounts n m t a x
+taken_fits p n m t a Skip whole found at taken = absurd taken
+taken_fits p n m t a Stuck whole found at taken = absurd taken
+taken_fits p n m t a (Silent moves place) whole found at taken =
+    silent_fits p n m t a moves place whole found at taken
+taken_fits p n m t a (Calls place) whole found at taken = λ exit.
+    silent_fits p n m t a [] (place exit) whole found at (taken exit)
 taken_fits p n m t a (Does d rest place) whole found at taken =
     let c = whole.accounts in
     let word = found_by (counting m) t a.actor d in

@@ -26,9 +26,10 @@ use Rattle.brc_model.specs.Threads.{row_of}
 use Rattle.brc_model.specs.declared.duty.Duty.{Duty}
 use Rattle.brc_model.specs.declared.duty.Duty.TheVariants.{RetainLoad, ReleaseLoad, Settle, Leave, BirthKind, KindLoad, LockGate, UnlockGate, CellLoad, CellSwap}
 use Rattle.brc_model.specs.declared.actor.Place.{Place}
+use Rattle.brc_model.specs.declared.actor.Counters.{Counters}
 use Rattle.brc_model.specs.declared.actor.Place.TheVariants.{Idle, InCall, Inside, Exiting}
 use Rattle.brc_model.specs.declared.actor.Stage.{Stage}
-use Rattle.brc_model.specs.Actions.{Action, Skip, Stuck, Silent, Does, with_row}
+use Rattle.brc_model.specs.Actions.{Action, Skip, Stuck, Silent, Calls, Does, with_row}
 use Rattle.brc_model.specs.References.{held, one_if, reference_of}
 use Rattle.brc_model.proofs.Basics.Lists.{none_at}
 use Rattle.brc_model.proofs.Dispatch.Holds.{the_root, of_variables, of_inside, Holds}
@@ -167,6 +168,7 @@ abbrev pub IsTaken : List Instr → Scene → Action → Type 0
 IsTaken code g Skip = ⊥
 IsTaken code g Stuck = ⊥
 IsTaken code g (Silent moves place) = SilentTaken code g moves place
+IsTaken code g (Calls place) = (exit : Exit) → SilentTaken code g [] (place exit)
 IsTaken code g (Does d rest place) = (found : ℕ) → Taken code g found (place found) d rest
 
 pub taken_with_row : (code : List Instr) (g : Scene) (object : ℕ) (row : Option ℕ) (work : ℕ → Action)
@@ -177,11 +179,13 @@ taken_with_row code g object row work is taken =
 pub idle_stays : (left : ℕ) → Idle left ≢ Exiting
 idle_stays left e = cc
 
-pub inside_stays : (left at : ℕ) (variables : List (Option ℕ)) (stage : Stage) → Inside left at variables stage ≢ Exiting
-inside_stays left at variables stage e = cc
+pub inside_stays : (counters : Counters) (at : ℕ) (variables : List (Option ℕ)) (stage : Stage)
+    → Inside counters at variables stage ≢ Exiting
+inside_stays counters at variables stage e = cc
 
-pub in_call_stays : (left at : ℕ) (variables : List (Option ℕ)) → InCall left at variables ≢ Exiting
-in_call_stays left at variables e = cc
+pub in_call_stays : (counters : Counters) (at : ℕ) (variables : List (Option ℕ))
+    → InCall counters at variables ≢ Exiting
+in_call_stays counters at variables e = cc
 
 -- ---- one reference more or less
 

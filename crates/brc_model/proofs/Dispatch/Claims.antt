@@ -21,8 +21,8 @@ pub record IsClaimer (layout : Layout) (t : ℕ) (a : StepActor) (row : ℕ) : T
 
 idle_is : (place : Place) → is_idle place ≡ true → (left : ℕ) × (place ≡ Idle left)
 idle_is (Idle left) e = (left, refl)
-idle_is (InCall left at variables) e = absurd cc
-idle_is (Inside left at variables stage) e = absurd cc
+idle_is (InCall counters at variables) e = absurd cc
+idle_is (Inside counters at variables stage) e = absurd cc
 idle_is Exiting e = absurd cc
 
 pub claimer : (layout : Layout) (t : ℕ) (a : StepActor) (row : ℕ) → may_claim layout t a row ≡ true

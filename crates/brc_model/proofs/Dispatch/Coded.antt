@@ -56,10 +56,10 @@ in_flight i stage variables = None
 -- has once its agenda is done.
 abbrev pub PlaceSays : List Instr → Place → Option ℕ → Account → Type 0
 PlaceSays code (Idle left) locked account = (locked ≡ None) × (account ≡ once_each the_root)
-PlaceSays code (InCall left at variables) locked account =
+PlaceSays code (InCall counters at variables) locked account =
     (s : State) × IsInside code at variables s × LocksAgree s variables locked
     × (account ≡ once_each (of_variables s variables))
-PlaceSays code (Inside left at variables stage) locked account =
+PlaceSays code (Inside counters at variables stage) locked account =
     (s : State) × IsInside code at variables s × LocksAgree s variables locked
     × (account ≡ once_each (of_inside (in_flight (slice_get code at) stage variables) s variables))
     × (has_stage (slice_get code at) stage ≡ true)
@@ -68,20 +68,20 @@ PlaceSays code Exiting locked account = (locked ≡ None) × (account ≡ once_e
 -- Says whether the place is that of a thread whose exit is under way or done.
 abbrev pub is_departing : Place → Bool
 is_departing (Idle left) = false
-is_departing (InCall left at variables) = false
-is_departing (Inside left at variables stage) = false
+is_departing (InCall counters at variables) = false
+is_departing (Inside counters at variables stage) = false
 is_departing Exiting = true
 
 pub departing_is : (place : Place) → is_departing place ≡ true → place ≡ Exiting
 departing_is (Idle left) e = absurd cc
-departing_is (InCall left at variables) e = absurd cc
-departing_is (Inside left at variables stage) e = absurd cc
+departing_is (InCall counters at variables) e = absurd cc
+departing_is (Inside counters at variables stage) e = absurd cc
 departing_is Exiting e = refl
 
 pub stays_elsewhere : (place : Place) → place ≢ Exiting → is_departing place ≡ false
 stays_elsewhere (Idle left) stays = refl
-stays_elsewhere (InCall left at variables) stays = refl
-stays_elsewhere (Inside left at variables stage) stays = refl
+stays_elsewhere (InCall counters at variables) stays = refl
+stays_elsewhere (Inside counters at variables stage) stays = refl
 stays_elsewhere Exiting stays = absurd (stays refl)
 
 pub record InCode (p : Module) (a : StepActor) (account : Account) : Type 0 where
@@ -109,10 +109,10 @@ alone_with bag t account agenda lacks extra holds = record {
 -- what the first duty makes or gives up.
 abbrev pub PlaceFits : List Instr → List Reference → ℕ → List Duty → Option ℕ → Place → Type 0
 PlaceFits code bag t agenda locked (Idle left) = (locked ≡ None) × HoldsAlone bag t (once_each the_root) agenda
-PlaceFits code bag t agenda locked (InCall left at variables) =
+PlaceFits code bag t agenda locked (InCall counters at variables) =
     (s : State) × IsInside code at variables s × LocksAgree s variables locked
     × HoldsAlone bag t (once_each (of_variables s variables)) agenda
-PlaceFits code bag t agenda locked (Inside left at variables stage) =
+PlaceFits code bag t agenda locked (Inside counters at variables stage) =
     (s : State) × IsInside code at variables s × LocksAgree s variables locked
     × HoldsAlone bag t (once_each (of_inside (in_flight (slice_get code at) stage variables) s variables)) agenda
     × (has_stage (slice_get code at) stage ≡ true)
@@ -124,9 +124,9 @@ pub place_fits : (code : List Instr) (bag : List Reference) (t : ℕ) (agenda : 
     → PlaceFits code bag t agenda locked place
 place_fits code bag t agenda locked (Idle left) account says holds =
     (says.0, subst (λ (c : Account). HoldsAlone bag t c agenda) says.1 holds)
-place_fits code bag t agenda locked (InCall left at variables) account says holds =
+place_fits code bag t agenda locked (InCall counters at variables) account says holds =
     (says.0, says.1, says.2, subst (λ (c : Account). HoldsAlone bag t c agenda) says.3 holds)
-place_fits code bag t agenda locked (Inside left at variables stage) account says holds =
+place_fits code bag t agenda locked (Inside counters at variables stage) account says holds =
     (says.0, says.1, says.2, subst (λ (c : Account). HoldsAlone bag t c agenda) says.3 holds, says.4)
 place_fits code bag t agenda locked Exiting account says holds =
     (says.0, subst (λ (c : Account). HoldsAlone bag t c agenda) says.1 holds)
@@ -143,13 +143,13 @@ pub placed_by : (code : List Instr) (bag : List Reference) (t : ℕ) (agenda : L
     → PlaceFits code bag t agenda locked place → Placed code bag t agenda locked place
 placed_by code bag t agenda locked (Idle left) fits =
     record { account = once_each the_root; says = (fits.0, refl); holds = fits.1 }
-placed_by code bag t agenda locked (InCall left at variables) fits =
+placed_by code bag t agenda locked (InCall counters at variables) fits =
     record {
       account = once_each (of_variables fits.0 variables);
       says = (fits.0, fits.1, fits.2, refl);
       holds = fits.3;
     }
-placed_by code bag t agenda locked (Inside left at variables stage) fits =
+placed_by code bag t agenda locked (Inside counters at variables stage) fits =
     record {
       account = once_each (of_inside (in_flight (slice_get code at) stage variables) fits.0 variables);
       says = (fits.0, fits.1, fits.2, refl, fits.4);
@@ -166,9 +166,9 @@ pub fits_with : (code : List Instr) (bag : List Reference) (t : ℕ) (agenda : L
     → PlaceFits code bag t [] locked place → PlaceFits code bag t agenda locked place
 fits_with code bag t agenda locked (Idle left) lacks extra fits =
     (fits.0, alone_with bag t (once_each the_root) agenda lacks extra fits.1)
-fits_with code bag t agenda locked (InCall left at variables) lacks extra fits =
+fits_with code bag t agenda locked (InCall counters at variables) lacks extra fits =
     (fits.0, fits.1, fits.2, alone_with bag t (once_each (of_variables fits.0 variables)) agenda lacks extra fits.3)
-fits_with code bag t agenda locked (Inside left at variables stage) lacks extra fits =
+fits_with code bag t agenda locked (Inside counters at variables stage) lacks extra fits =
     let holds = once_each (of_inside (in_flight (slice_get code at) stage variables) fits.0 variables) in
     (fits.0, fits.1, fits.2, alone_with bag t holds agenda lacks extra fits.3, fits.4)
 fits_with code bag t agenda locked Exiting lacks extra fits =
@@ -180,10 +180,10 @@ pub exited_none : (code : List Instr) (place : Place) (locked : Option ℕ) (acc
     → place ≡ Exiting → HoldsNone account
 exited_none code (Idle left) locked account says e k object =
     absurd (let wrong : Idle left ≡ Exiting = e in cc)
-exited_none code (InCall left at variables) locked account says e k object =
-    absurd (let wrong : InCall left at variables ≡ Exiting = e in cc)
-exited_none code (Inside left at variables stage) locked account says e k object =
-    absurd (let wrong : Inside left at variables stage ≡ Exiting = e in cc)
+exited_none code (InCall counters at variables) locked account says e k object =
+    absurd (let wrong : InCall counters at variables ≡ Exiting = e in cc)
+exited_none code (Inside counters at variables stage) locked account says e k object =
+    absurd (let wrong : Inside counters at variables stage ≡ Exiting = e in cc)
 exited_none code Exiting locked account says e k object = ap (λ (c : Account). c k object) says.1
 
 -- A thread outside its calls has locked nothing.
@@ -242,9 +242,9 @@ pub says_bounded : (layout : Layout) (code : List Instr) (place : Place) (locked
     → PlaceSays code place locked account → IsBounded layout account
 says_bounded layout code (Idle left) locked account says =
     subst (IsBounded layout) (sym says.1) (root_bounded layout)
-says_bounded layout code (InCall left at variables) locked account says =
+says_bounded layout code (InCall counters at variables) locked account says =
     subst (IsBounded layout) (sym says.3) (variables_bounded layout says.0 variables says.1.slots)
-says_bounded layout code (Inside left at variables stage) locked account says =
+says_bounded layout code (Inside counters at variables stage) locked account says =
     let flight = in_flight (slice_get code at) stage variables in
     subst (IsBounded layout) (sym says.3) (inside_bounded layout flight says.0 variables says.1.slots)
 says_bounded layout code Exiting locked account says =

@@ -74,7 +74,8 @@ instruction_fit memory locked variables s (Lock object) meets =
     let some : is_empty (slot_of s object) ≡ false = first_false _ _ meets.met.not_empty in
     let row = named_row (slot_of s object) (row_of variables object) some (meets.grounded object) in
     let can = not-false _ (first_false _ _ meets.met.right_kind) in
-    let word = lockable_word (kind_of (slot_of s object)) (memory (KindOf row.0)) (meets.kinds object row.0 row.1) can in
+    let word = lockable_word (kind_of (slot_of s object)) (memory (KindOf row.0))
+    (meets.kinds object row.0 row.1) can in
     let free = guards_none s variables s.locked locked (first_false _ _ meets.met.first_lock) meets.guards in
     ap (λ (o : Option ℕ). is_one_of (kind_at memory o) lockable && not (is_some locked)) row.1
     ∙ ap (λ (b : Bool). b && not (is_some locked)) word ∙ no_lock locked free
@@ -129,10 +130,10 @@ place_fit : (code : List Instr) (memory : Address → ℕ) (locked : Option ℕ)
 place_fit code memory locked (Idle zero) account accepted says begins knows = ap is_some says.0
 place_fit code memory locked (Idle (suc left)) account accepted says begins knows =
     in_call_fit code memory locked 0 entry_variables entry accepted (entry_in_call code) says.0 begins
-place_fit code memory locked (InCall left at variables) account accepted says begins knows =
+place_fit code memory locked (InCall counters at variables) account accepted says begins knows =
     in_call_fit code memory locked at variables says.0 accepted says.1 says.2
     (knows says.1.exits says.0 says.1.arrived)
-place_fit code memory locked (Inside left at variables stage) account accepted says begins knows =
+place_fit code memory locked (Inside counters at variables stage) account accepted says begins knows =
     in_call_fit code memory locked at variables says.0 accepted says.1 says.2
     (knows says.1.exits says.0 says.1.arrived)
 place_fit code memory locked Exiting account accepted says begins knows = refl

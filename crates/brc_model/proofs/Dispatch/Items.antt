@@ -68,9 +68,9 @@ module _ (memory new : Address → ℕ) (locked : Option ℕ) (stays : ItemsStay
   pub knows_stay : (code : List Instr) (place : Place) → KnowsItems code memory locked place
       → KnowsItems code new locked place
   knows_stay code (Idle left) knows = tt
-  knows_stay code (InCall left at variables) knows =
+  knows_stay code (InCall counters at variables) knows =
       λ exits s arrived. items_stay s variables (knows exits s arrived)
-  knows_stay code (Inside left at variables stage) knows = record {
+  knows_stay code (Inside counters at variables stage) knows = record {
     items = λ exits s arrived. items_stay s variables (knows.items exits s arrived);
     cell = stage_stays variables stage (slice_get code at) knows.cell;
   }

@@ -9,6 +9,7 @@ use Rattle.brc_model.specs.declared.thread.Choice.TheVariants.{Ok, Fault, Claim}
 use Rattle.brc_model.specs.declared.actor.Status.{Status}
 use Rattle.brc_model.specs.declared.actor.Status.TheVariants.{Running, Leaving, Gone}
 use Rattle.brc_model.specs.declared.actor.Place.{Place}
+use Rattle.brc_model.specs.declared.actor.Counters.{Counters}
 use Rattle.brc_model.specs.declared.actor.Place.TheVariants.{Idle, InCall, Inside, Exiting}
 use Rattle.brc_model.specs.declared.address.Address.{Address}
 use Rattle.brc_model.specs.declared.duty.Duty.{Duty}
@@ -19,7 +20,7 @@ use Rattle.brc_model.specs.Slots.{entry}
 use Rattle.brc_model.specs.Paths.{IsAcceptableCode}
 use Rattle.brc_model.specs.Threads.{code_of, entry_variables}
 use Rattle.brc_model.specs.Accounts.{Account}
-use Rattle.brc_model.specs.Actions.{StepActor, Skip, Does, always, dispatch_instruction, dispatch_inside, dispatch, may_claim, agenda_action, status_action, action_of}
+use Rattle.brc_model.specs.Actions.{StepActor, Skip, Does, always, first_counters, dispatch_instruction, dispatch_inside, dispatch, may_claim, agenda_action, status_action, action_of}
 use Rattle.brc_model.specs.Items.{HaveItems, StageKnows, KnowsItems}
 use Rattle.brc_model.proofs.Basics.Lists.{either}
 use Rattle.brc_model.proofs.Dispatch.Grounded.{IsInside, AreInstructions, entry_in_call}
@@ -60,17 +61,18 @@ uses_at code memory locked at variables s accepted instructions inside guards it
     )
 
 in_call_uses : (code : List Instr) (memory : Address → ℕ) (locked : Option ℕ) (layout : Layout) (t used : ℕ)
-    (before : Place) (left at : ℕ) (variables : List (Option ℕ)) (s : State) → KnowsItems code memory locked before
+    (before : Place) (counters : Counters) (at : ℕ) (variables : List (Option ℕ)) (s : State)
+    → KnowsItems code memory locked before
     → IsAcceptableCode code → AreInstructions code → IsInside code at variables s → LocksAgree s variables locked
     → HaveItems memory locked s variables
     → LeavesItems code memory locked
-    (dispatch_instruction layout t used before left at variables (slice_get code at))
-in_call_uses code memory locked layout t used before left at variables s knew accepted instructions inside guards
+    (dispatch_instruction layout t used before counters at variables (slice_get code at))
+in_call_uses code memory locked layout t used before counters at variables s knew accepted instructions inside guards
     items =
     let here = uses_at code memory locked at variables s accepted instructions inside guards items in
     subst (λ (o : Option Instr). LeavesItems code memory locked
-    (dispatch_instruction layout t used before left at variables o)) (sym here.1)
-    (instruction_uses code memory locked left at variables s layout t used before here.0 knew here.2)
+    (dispatch_instruction layout t used before counters at variables o)) (sym here.1)
+    (instruction_uses code memory locked counters at variables s layout t used before here.0 knew here.2)
 
 dispatch_uses : (code : List Instr) (memory : Address → ℕ) (locked : Option ℕ) (layout : Layout) (t used : ℕ)
     (place : Place) → StandsUsing code memory locked place
@@ -78,21 +80,23 @@ dispatch_uses : (code : List Instr) (memory : Address → ℕ) (locked : Option 
 dispatch_uses code memory locked layout t used Exiting stands = tt
 dispatch_uses code memory locked layout t used (Idle zero) stands = λ new found done. tt
 dispatch_uses code memory locked layout t used (Idle (suc left)) stands =
-    in_call_uses code memory locked layout t used (Idle (suc left)) left 0 entry_variables entry tt stands.accepted
+    in_call_uses code memory locked layout t used (Idle (suc left))
+    (first_counters left) 0 entry_variables entry tt stands.accepted
     stands.instructions (entry_in_call code) stands.says.0
     (entry_items memory locked)
-dispatch_uses code memory locked layout t used (InCall left at variables) stands =
+dispatch_uses code memory locked layout t used (InCall counters at variables) stands =
     let says = stands.says in
-    in_call_uses code memory locked layout t used (InCall left at variables) left at variables says.0 stands.knows
+    in_call_uses code memory locked layout t used (InCall counters at variables) counters at variables says.0
+    stands.knows
     stands.accepted stands.instructions says.1 says.2 (stands.knows says.1.exits says.0 says.1.arrived)
-dispatch_uses code memory locked layout t used (Inside left at variables stage) stands =
+dispatch_uses code memory locked layout t used (Inside counters at variables stage) stands =
     let says = stands.says in
     let knows = stands.knows in
     let here = uses_at code memory locked at variables says.0 stands.accepted stands.instructions says.1 says.2
     (knows.items says.1.exits says.0 says.1.arrived) in
-    subst (λ (o : Option Instr). LeavesItems code memory locked (dispatch_inside left at variables stage o))
+    subst (λ (o : Option Instr). LeavesItems code memory locked (dispatch_inside counters at variables stage o))
     (sym here.1)
-    (inside_uses code memory locked left at variables says.0 stage here.0
+    (inside_uses code memory locked counters at variables says.0 stage here.0
     (subst (StageKnows memory locked variables stage) here.1 knows.cell) here.2)
 
 -- A duty that isn't dispatched at once leaves the thread's lock and its items.

@@ -9,6 +9,7 @@ use Rattle.brc_lang.specs.declared.module.Instr.TheVariants.{Num, List as ListOb
 use Rattle.brc_lang.specs.Grammar.{IsInstruction}
 use Rattle.brc_word.specs.Words.{free_word}
 use Rattle.brc_model.specs.declared.actor.Place.{Place}
+use Rattle.brc_model.specs.declared.actor.Counters.{Counters}
 use Rattle.brc_model.specs.declared.actor.Place.TheVariants.{InCall, Inside}
 use Rattle.brc_model.specs.declared.actor.Stage.{Stage}
 use Rattle.brc_model.specs.declared.actor.Stage.TheVariants.{InRange, OutOfRange, Found, Retained}
@@ -29,7 +30,7 @@ use Rattle.brc_model.specs.Layout.{none_row, row_at}
 use Rattle.brc_model.specs.declared.layout.Layout.{Layout}
 use Rattle.brc_model.specs.Duties.{cells_of}
 use Rattle.brc_model.specs.Machine.{has_room, locked_by}
-use Rattle.brc_model.specs.Actions.{Action, Skip, Stuck, Silent, Does, with_row, by_range, by_item, number_word, list_word, birth_action, dispatch_instruction, dispatch_inside}
+use Rattle.brc_model.specs.Actions.{Action, Skip, Stuck, Silent, Calls, Does, with_row, by_range, by_item, number_word, list_word, birth_action, dispatch_instruction, dispatch_inside}
 use Rattle.brc_model.specs.Items.{IsItem, borrows_item, HaveItems, HasCell, StageKnows, KnowsItems}
 use Rattle.brc_model.proofs.Basics.Lists.{some_is, either, first_false}
 use Rattle.brc_model.proofs.Dispatch.Grounded.{IsInside}
@@ -55,6 +56,7 @@ abbrev pub LeavesItems : List Instr → (Address → ℕ) → Option ℕ → Act
 LeavesItems code memory locked Skip = Unit {0}
 LeavesItems code memory locked Stuck = Unit {0}
 LeavesItems code memory locked (Silent moves place) = KnowsItems code memory locked place
+LeavesItems code memory locked (Calls place) = (exit : Exit) → KnowsItems code memory locked (place exit)
 LeavesItems code memory locked (Does d rest place) =
     (new : Address → ℕ) (found : ℕ) → IsAfter memory new locked d found
     → KnowsItems code new (locked_by locked d found) (place found)
@@ -73,7 +75,8 @@ pub record UsesAt (code : List Instr) (memory : Address → ℕ) (locked : Optio
   pub guards : LocksAgree s variables locked
   pub items : HaveItems memory locked s variables
 
-module _ (code : List Instr) (memory : Address → ℕ) (locked : Option ℕ) (left at : ℕ) (variables : List (Option ℕ))
+module _ (code : List Instr) (memory : Address → ℕ) (locked : Option ℕ) (counters : Counters) (at : ℕ)
+    (variables : List (Option ℕ))
     (s : State) where
   abbrev Here : Instr → Type 0
   Here i = UsesAt code memory locked at variables s i
@@ -89,7 +92,7 @@ module _ (code : List Instr) (memory : Address → ℕ) (locked : Option ℕ) (l
   -- Where the paths to the next point agree, what holds of the state after the exit holds of theirs.
   goes_on : (new : Address → ℕ) (lock : Option ℕ) (next : ℕ) (rows : List (Option ℕ)) (i : Instr) (exit : Exit)
       → (here : Here i) → target i exit at ≡ Some next → HaveItems new lock (after i exit s) rows
-      → KnowsItems code new lock (InCall left next rows)
+      → KnowsItems code new lock (InCall counters next rows)
   goes_on new lock next rows i exit here to items = λ exits other arrived.
       subst (λ (state : State). HaveItems new lock state rows)
       (here.accepted.states_agree (here.inside.exits ++ exit ∷ []) exits next (after i exit s) other
@@ -99,7 +102,7 @@ module _ (code : List Instr) (memory : Address → ℕ) (locked : Option ℕ) (l
   goes_on_put : (new : Address → ℕ) (next : ℕ) (i : Instr) (exit : Exit) (x : ℕ) (slot : Slot) (row : Option ℕ)
       → ItemsStay memory new locked → (here : Here i) → target i exit at ≡ Some next → after i exit s ≡ put s x slot
       → x < 16 → ((y : ℕ) → borrows_item slot ≡ true → row ≡ Some y → IsItem new locked y)
-      → KnowsItems code new locked (InCall left next (slice_set variables x row))
+      → KnowsItems code new locked (InCall counters next (slice_set variables x row))
   goes_on_put new next i exit x slot row stays here to is low item =
       goes_on new locked next (slice_set variables x row) i exit here to
       (subst (λ (state : State). HaveItems new locked state (slice_set variables x row)) (sym is)
@@ -109,14 +112,15 @@ module _ (code : List Instr) (memory : Address → ℕ) (locked : Option ℕ) (l
   -- The exit leaves in the variable what borrows nothing.
   goes_on_free : (new : Address → ℕ) (next : ℕ) (i : Instr) (exit : Exit) (x : ℕ) (slot : Slot) (row : Option ℕ)
       → ItemsStay memory new locked → (here : Here i) → target i exit at ≡ Some next → after i exit s ≡ put s x slot
-      → x < 16 → borrows_item slot ≡ false → KnowsItems code new locked (InCall left next (slice_set variables x row))
+      → x < 16 → borrows_item slot ≡ false → KnowsItems code new locked
+      (InCall counters next (slice_set variables x row))
   goes_on_free new next i exit x slot row stays here to is low free =
       goes_on_put new next i exit x slot row stays here to is low (needs_none new locked slot row free)
 
   -- The exit changes no variable.
   goes_on_same : (new : Address → ℕ) (next : ℕ) (i : Instr) (exit : Exit) → ItemsStay memory new locked
       → (here : Here i) → target i exit at ≡ Some next → after i exit s ≡ s
-      → KnowsItems code new locked (InCall left next variables)
+      → KnowsItems code new locked (InCall counters next variables)
   goes_on_same new next i exit stays here to is =
       goes_on new locked next variables i exit here to
       (subst (λ (state : State). HaveItems new locked state variables) (sym is)
@@ -125,14 +129,14 @@ module _ (code : List Instr) (memory : Address → ℕ) (locked : Option ℕ) (l
   -- After the exit nothing is borrowed any more.
   goes_on_without : (new : Address → ℕ) (lock : Option ℕ) (next : ℕ) (rows : List (Option ℕ)) (i : Instr) (exit : Exit)
       → (here : Here i) → target i exit at ≡ Some next → BorrowsNone (after i exit s)
-      → KnowsItems code new lock (InCall left next rows)
+      → KnowsItems code new lock (InCall counters next rows)
   goes_on_without new lock next rows i exit here to none =
       goes_on new lock next rows i exit here to (none_borrowed new lock (after i exit s) rows none)
 
   -- ---- inside the instruction
 
   goes_inside : (new : Address → ℕ) (stage : Stage) (i : Instr) → ItemsStay memory new locked → (here : Here i)
-      → StageKnows new locked variables stage (Some i) → KnowsItems code new locked (Inside left at variables stage)
+      → StageKnows new locked variables stage (Some i) → KnowsItems code new locked (Inside counters at variables stage)
   goes_inside new stage i stays here knows = record {
     items = λ exits other arrived.
         subst (λ (state : State). HaveItems new locked state variables)
@@ -162,7 +166,7 @@ module _ (code : List Instr) (memory : Address → ℕ) (locked : Option ℕ) (l
       → to < 16 → borrows_item slot ≡ false
       → target i Success at ≡ Some (at + 1) → after i Success s ≡ put s to slot
       → target i FaultExit at ≡ Some otherwise → after i FaultExit s ≡ put s to Empty
-      → LeavesItems code memory locked (birth_action layout t used left at variables to word otherwise)
+      → LeavesItems code memory locked (birth_action layout t used counters at variables to word otherwise)
   birth_uses layout t used i to word otherwise slot here low free next owned else_at empty =
       either (LeavesItems code memory locked) (has_room layout t used) _ _
       (λ room new found done.
@@ -176,11 +180,11 @@ module _ (code : List Instr) (memory : Address → ℕ) (locked : Option ℕ) (l
       → ((new : Address → ℕ) → ItemsStay memory new locked → KnowsItems code new locked outside)
       → LeavesItems code memory locked
       (with_row (row_of variables list)
-      (λ row. Does (KindLoad row) [] (by_range index (Inside left at variables stage) outside)))
+      (λ row. Does (KindLoad row) [] (by_range index (Inside counters at variables stage) outside)))
   range_uses i list index stage outside here cell past =
       row_uses (row_of variables list) _ (λ row is new found done.
       let stays = done.keeps refl in
-      range_decides (KnowsItems code new locked) (Inside left at variables stage) outside index found
+      range_decides (KnowsItems code new locked) (Inside counters at variables stage) outside index found
       (λ within.
       goes_inside new stage i stays here (cell new (has_cell new list index row found stays is done.finds within)))
       (past new stays))
@@ -190,12 +194,12 @@ module _ (code : List Instr) (memory : Address → ℕ) (locked : Option ℕ) (l
   lock_uses : (before : Place) (object : ℕ) → KnowsItems code memory locked before → Here (Lock object)
       → (layout : Layout) (t used : ℕ)
       → LeavesItems code memory locked
-      (dispatch_instruction layout t used before left at variables (Some (Lock object)))
+      (dispatch_instruction layout t used before counters at variables (Some (Lock object)))
   lock_uses before object knew here layout t used =
       row_uses (row_of variables object) _ (λ row is new found done.
       let none = guards_none s variables s.locked locked (first_false _ _ here.met.first_lock) here.guards in
       elim (found == free_word) as
-      (λ b. KnowsItems code new (cond b (Some row) locked) (cond b (InCall left (at + 1) variables) before)) [
+      (λ b. KnowsItems code new (cond b (Some row) locked) (cond b (InCall counters (at + 1) variables) before)) [
         | true ↦
             goes_on new (Some row) (at + 1) variables (Lock object) Success here refl
             (unlocked_items memory new locked (Some row) s variables none here.items)
@@ -204,7 +208,7 @@ module _ (code : List Instr) (memory : Address → ℕ) (locked : Option ℕ) (l
 
   pub instruction_uses : (layout : Layout) (t used : ℕ) (before : Place) (i : Instr)
       → KnowsItems code memory locked before → Here i
-      → LeavesItems code memory locked (dispatch_instruction layout t used before left at variables (Some i))
+      → LeavesItems code memory locked (dispatch_instruction layout t used before counters at variables (Some i))
   instruction_uses layout t used before (Num to value otherwise) knew here =
       birth_uses layout t used (Num to value otherwise) to (number_word value) otherwise (Owned kinds.Num) here
       here.operands.0 refl refl refl refl refl
@@ -239,22 +243,22 @@ module _ (code : List Instr) (memory : Address → ℕ) (locked : Option ℕ) (l
       goes_on_without new None (at + 1) variables (Unlock object) Success here refl (without_items_free s))
   instruction_uses layout t used before (Borrow to list index otherwise) knew here =
       range_uses (Borrow to list index otherwise) list index InRange
-      (InCall left otherwise (slice_set variables to None)) here (λ new has. has)
+      (InCall counters otherwise (slice_set variables to None)) here (λ new has. has)
       (λ new stays.
       goes_on_free new otherwise (Borrow to list index otherwise) FaultExit to Empty None stays here refl refl
       here.operands.0 refl)
   instruction_uses layout t used before (Fetch to list index otherwise) knew here =
       range_uses (Fetch to list index otherwise) list index InRange
-      (InCall left otherwise (slice_set variables to None)) here (λ new has. has)
+      (InCall counters otherwise (slice_set variables to None)) here (λ new has. has)
       (λ new stays.
       goes_on_free new otherwise (Fetch to list index otherwise) FaultExit to Empty None stays here refl refl
       here.operands.0 refl)
   instruction_uses layout t used before (Set list index from otherwise) knew here =
-      range_uses (Set list index from otherwise) list index InRange (Inside left at variables OutOfRange) here
+      range_uses (Set list index from otherwise) list index InRange (Inside counters at variables OutOfRange) here
       (λ new has. has)
       (λ new stays. goes_inside new OutOfRange (Set list index from otherwise) stays here tt)
   instruction_uses layout t used before (Put list index from otherwise) knew here =
-      range_uses (Put list index from otherwise) list index InRange (InCall left otherwise variables) here
+      range_uses (Put list index from otherwise) list index InRange (InCall counters otherwise variables) here
       (λ new has. has)
       (λ new stays.
       goes_on_without new locked otherwise variables (Put list index from otherwise) FaultExit here refl
@@ -262,7 +266,7 @@ module _ (code : List Instr) (memory : Address → ℕ) (locked : Option ℕ) (l
   instruction_uses layout t used before (As from kind otherwise) knew here =
       row_uses (row_of variables from) _ (λ row is new found done.
       let stays = done.keeps refl in
-      either (λ (next : ℕ). KnowsItems code new locked (InCall left next variables))
+      either (λ (next : ℕ). KnowsItems code new locked (InCall counters next variables))
       (same_kind (kind_of_word found) kind) _ _
       (λ same.
       goes_on new locked (at + 1) variables (As from kind otherwise) Success here refl
@@ -299,10 +303,10 @@ module _ (code : List Instr) (memory : Address → ℕ) (locked : Option ℕ) (l
       })) found done.finds)
 
   pub inside_uses : (stage : Stage) (i : Instr) → StageKnows memory locked variables stage (Some i) → Here i
-      → LeavesItems code memory locked (dispatch_inside left at variables stage (Some i))
+      → LeavesItems code memory locked (dispatch_inside counters at variables stage (Some i))
   inside_uses InRange (Borrow to list index otherwise) knows here =
-      cell_uses (Borrow to list index otherwise) list index (InCall left otherwise (slice_set variables to None))
-      (λ item. InCall left (at + 1) (slice_set variables to (Some item))) here
+      cell_uses (Borrow to list index otherwise) list index (InCall counters otherwise (slice_set variables to None))
+      (λ item. InCall counters (at + 1) (slice_set variables to (Some item))) here
       (not-false (names s.locked list) (first_false _ _ here.met.has_lock))
       (λ new stays.
       goes_on_free new otherwise (Borrow to list index otherwise) FaultExit to Empty None stays here refl refl
@@ -311,8 +315,8 @@ module _ (code : List Instr) (memory : Address → ℕ) (locked : Option ℕ) (l
       goes_on_put new (at + 1) (Borrow to list index otherwise) Success to (Locked kinds.Any) (Some item) stays here
       refl refl here.operands.0 (λ x borrows is. subst (IsItem new locked) (some_is item x is) there))
   inside_uses InRange (Fetch to list index otherwise) knows here =
-      cell_uses (Fetch to list index otherwise) list index (InCall left otherwise (slice_set variables to None))
-      (λ item. Inside left at variables (Found item)) here
+      cell_uses (Fetch to list index otherwise) list index (InCall counters otherwise (slice_set variables to None))
+      (λ item. Inside counters at variables (Found item)) here
       (not-false (names s.locked list) (first_false _ _ here.met.has_lock))
       (λ new stays.
       goes_on_free new otherwise (Fetch to list index otherwise) FaultExit to Empty None stays here refl refl

@@ -39,9 +39,9 @@ true_kinds_stay words new stays s rows known v x is =
 pub knows_still : (code : List Instr) (words new : ℕ → ℕ) → StoredStay words new → (place : Place)
     → KnowsKinds code words place → KnowsKinds code new place
 knows_still code words new stays (Idle left) knows = tt
-knows_still code words new stays (InCall left at variables) knows =
+knows_still code words new stays (InCall counters at variables) knows =
     λ exits s arrived. true_kinds_stay words new stays s variables (knows exits s arrived)
-knows_still code words new stays (Inside left at variables stage) knows =
+knows_still code words new stays (Inside counters at variables stage) knows =
     λ exits s arrived. true_kinds_stay words new stays s variables (knows exits s arrived)
 knows_still code words new stays Exiting knows = tt
 

@@ -14,6 +14,7 @@ use Rattle.brc_model.specs.declared.thread.Choice.TheVariants.{Ok, Fault, Claim}
 use Rattle.brc_model.specs.declared.actor.Status.{Status}
 use Rattle.brc_model.specs.declared.actor.Status.TheVariants.{Running, Leaving, Gone}
 use Rattle.brc_model.specs.declared.actor.Place.{Place}
+use Rattle.brc_model.specs.declared.actor.Counters.{Counters}
 use Rattle.brc_model.specs.declared.actor.Place.TheVariants.{Idle, InCall, Inside, Exiting}
 use Rattle.brc_model.specs.declared.actor.Stage.{Stage}
 use Rattle.brc_model.specs.declared.actor.Stage.TheVariants.{InRange, OutOfRange, Found, Retained}
@@ -31,7 +32,7 @@ use Rattle.brc_model.specs.Threads.{code_of, row_of, entry_variables}
 use Rattle.brc_model.specs.Layout.{none_row, row_at}
 use Rattle.brc_model.specs.declared.layout.Layout.{Layout}
 use Rattle.brc_model.specs.Machine.{has_room}
-use Rattle.brc_model.specs.Actions.{StepActor, Action, Skip, Stuck, Silent, Does, with_row, by_range, by_item, number_word, list_word, birth_action, dispatch_instruction, dispatch_inside, dispatch, may_claim, agenda_action, status_action, action_of}
+use Rattle.brc_model.specs.Actions.{StepActor, Action, Skip, Stuck, Silent, Calls, Does, with_row, by_range, by_item, number_word, list_word, birth_action, dispatch_instruction, dispatch_inside, dispatch, may_claim, agenda_action, status_action, action_of, first_counters}
 use Rattle.brc_model.specs.KnownKinds.{IsTrueKind, HasTrueKind, HaveTrueKinds, KnowsKinds, AreNamed}
 use Rattle.brc_model.proofs.Basics.Lists.{some_is, either}
 use Rattle.brc_model.proofs.Dispatch.Grounded.{IsInside, AreInstructions, entry_in_call}
@@ -54,6 +55,7 @@ abbrev pub Leaves : List Instr → (ℕ → ℕ) → Action → Type 0
 Leaves code words Skip = Unit {0}
 Leaves code words Stuck = Unit {0}
 Leaves code words (Silent moves place) = KnowsKinds code words place
+Leaves code words (Calls place) = (exit : Exit) → KnowsKinds code words (place exit)
 Leaves code words (Does d rest place) = (found : ℕ) → SeesKind words d found → KnowsKinds code words (place found)
 
 row_leaves : (code : List Instr) (words : ℕ → ℕ) (row : Option ℕ) (work : ℕ → Action)
@@ -74,21 +76,23 @@ record KnowsAt (code : List Instr) (words : ℕ → ℕ) (at : ℕ) (variables :
   known : HaveTrueKinds words s variables
 
 -- Where the paths to the next point agree, what holds of the state after the exit holds of theirs.
-goes_on : (code : List Instr) (words : ℕ → ℕ) (left at next : ℕ) (variables rows : List (Option ℕ)) (s : State)
+goes_on : (code : List Instr) (words : ℕ → ℕ) (counters : Counters) (at next : ℕ) (variables rows : List (Option ℕ))
+    (s : State)
     (i : Instr) (exit : Exit) → (here : KnowsAt code words at variables s i) → target i exit at ≡ Some next
-    → HaveTrueKinds words (after i exit s) rows → KnowsKinds code words (InCall left next rows)
-goes_on code words left at next variables rows s i exit here to known = λ exits other arrived.
+    → HaveTrueKinds words (after i exit s) rows → KnowsKinds code words (InCall counters next rows)
+goes_on code words counters at next variables rows s i exit here to known = λ exits other arrived.
     subst (λ (state : State). HaveTrueKinds words state rows)
     (here.accepted.states_agree (here.inside.exits ++ exit ∷ []) exits next (after i exit s) other
     (here.leads exit next to) arrived) known
 
 -- The same, where the exit changes one variable.
-goes_on_put : (code : List Instr) (words : ℕ → ℕ) (left at next : ℕ) (variables : List (Option ℕ)) (s : State)
+goes_on_put : (code : List Instr) (words : ℕ → ℕ) (counters : Counters) (at next : ℕ) (variables : List (Option ℕ))
+    (s : State)
     (i : Instr) (exit : Exit) (x : ℕ) (slot : Slot) (row : Option ℕ) → (here : KnowsAt code words at variables s i)
     → target i exit at ≡ Some next → after i exit s ≡ put s x slot → x < 16 → HasTrueKind words slot row
-    → KnowsKinds code words (InCall left next (slice_set variables x row))
-goes_on_put code words left at next variables s i exit x slot row here to is low new =
-    goes_on code words left at next variables (slice_set variables x row) s i exit here to
+    → KnowsKinds code words (InCall counters next (slice_set variables x row))
+goes_on_put code words counters at next variables s i exit x slot row here to is low new =
+    goes_on code words counters at next variables (slice_set variables x row) s i exit here to
     (subst (λ (state : State). HaveTrueKinds words state (slice_set variables x row)) (sym is)
     (true_put words s variables x slot row (omega (arith, low, here.inside.slots))
     (omega (arith, low, here.inside.rows)) new here.known))
@@ -118,21 +122,22 @@ cell_leaves code words list index empty holds none some =
     item_decides (λ word. KnowsKinds code words) empty holds none some found)
 
 -- A birth leaves an object of its kind word's kind.
-birth_leaves : (code : List Instr) (words : ℕ → ℕ) (layout : Layout) (t used left at : ℕ) (variables : List (Option ℕ))
+birth_leaves : (code : List Instr) (words : ℕ → ℕ) (layout : Layout) (t used : ℕ) (counters : Counters) (at : ℕ)
+    (variables : List (Option ℕ))
     (s : State) (i : Instr) (to word otherwise : ℕ) (kind : Kind) → (here : KnowsAt code words at variables s i)
     → to < 16 → kind_of_word word ≡ kind
     → target i Success at ≡ Some (at + 1) → after i Success s ≡ put s to (Owned kind)
     → target i FaultExit at ≡ Some otherwise → after i FaultExit s ≡ put s to Empty
-    → Leaves code words (birth_action layout t used left at variables to word otherwise)
-birth_leaves code words layout t used left at variables s i to word otherwise kind here low names next owned else_at
+    → Leaves code words (birth_action layout t used counters at variables to word otherwise)
+birth_leaves code words layout t used counters at variables s i to word otherwise kind here low names next owned else_at
     empty =
     either (Leaves code words) (has_room layout t used) _ _
     (λ room found stored.
-    goes_on_put code words left at (at + 1) variables s i Success to (Owned kind) (Some (row_at layout t used)) here
+    goes_on_put code words counters at (at + 1) variables s i Success to (Owned kind) (Some (row_at layout t used)) here
     next owned low
     (λ x is. inr (ap (λ (y : ℕ). kind_of_word (words y)) (sym (some_is (row_at layout t used) x is))
     ∙ ap kind_of_word stored ∙ names)))
-    (goes_on_put code words left at otherwise variables s i FaultExit to Empty None here else_at empty low
+    (goes_on_put code words counters at otherwise variables s i FaultExit to Empty None here else_at empty low
     (empty_true words None))
 
 -- the kind of a number's kind word
@@ -148,32 +153,35 @@ list_kind cells few =
     ap kind_numbered number
 
 -- A thread that doesn't get its lock stays at `before`, where it knew the kinds.
-instruction_leaves : (code : List Instr) (words : ℕ → ℕ) (layout : Layout) (t used : ℕ) (before : Place) (left at : ℕ)
+instruction_leaves : (code : List Instr) (words : ℕ → ℕ) (layout : Layout) (t used : ℕ) (before : Place)
+    (counters : Counters) (at : ℕ)
     (variables : List (Option ℕ)) (s : State) (i : Instr) → KnowsKinds code words before
     → KnowsAt code words at variables s i
-    → Leaves code words (dispatch_instruction layout t used before left at variables (Some i))
-instruction_leaves code words layout t used before left at variables s (Num to value otherwise) knew here =
-    birth_leaves code words layout t used left at variables s (Num to value otherwise) to (number_word value) otherwise
+    → Leaves code words (dispatch_instruction layout t used before counters at variables (Some i))
+instruction_leaves code words layout t used before counters at variables s (Num to value otherwise) knew here =
+    birth_leaves code words layout t used counters at variables s (Num to value otherwise) to
+    (number_word value) otherwise
     kinds.Num here here.operands.0 (number_kind value here.operands.1) refl refl refl refl
-instruction_leaves code words layout t used before left at variables s (ListObject to cells otherwise) knew here =
-    birth_leaves code words layout t used left at variables s (ListObject to cells otherwise) to (list_word cells)
+instruction_leaves code words layout t used before counters at variables s (ListObject to cells otherwise) knew here =
+    birth_leaves code words layout t used counters at variables s (ListObject to cells otherwise) to (list_word cells)
     otherwise kinds.List here here.operands.0 (list_kind cells here.operands.2) refl refl refl refl
-instruction_leaves code words layout t used before left at variables s (NoneObject to) knew here =
-    goes_on_put code words left at (at + 1) variables s (NoneObject to) Success to (Owned kinds.None) (Some none_row)
+instruction_leaves code words layout t used before counters at variables s (NoneObject to) knew here =
+    goes_on_put code words counters at (at + 1) variables s (NoneObject to) Success to (Owned kinds.None)
+    (Some none_row)
     here refl refl here.operands
     (λ x is. inr (ap (λ (y : ℕ). kind_of_word (words y)) (sym (some_is none_row x is)) ∙ here.named.none))
-instruction_leaves code words layout t used before left at variables s (Newref to from) knew here =
+instruction_leaves code words layout t used before counters at variables s (Newref to from) knew here =
     row_leaves code words (row_of variables from) _ (λ row is found stored.
-    goes_on_put code words left at (at + 1) variables s (Newref to from) Success to
+    goes_on_put code words counters at (at + 1) variables s (Newref to from) Success to
     (Owned (kind_of (slot_of s from))) (Some row) here refl refl here.operands.0
     (λ x this. subst (λ (y : ℕ). IsTrueKind (kind_of (slot_of s from)) (words y)) (some_is row x this)
     (here.known from row is)))
-instruction_leaves code words layout t used before left at variables s (MoveReference to from) knew here =
+instruction_leaves code words layout t used before counters at variables s (MoveReference to from) knew here =
     row_leaves code words (row_of variables from) _ (λ row is.
     let emptied : HaveTrueKinds words (put s from Empty) (slice_set variables from None) =
     true_put words s variables from Empty None (omega (arith, here.operands.1, here.inside.slots))
     (omega (arith, here.operands.1, here.inside.rows)) (empty_true words None) here.known in
-    goes_on code words left at (at + 1) variables (slice_set (slice_set variables from None) to (Some row)) s
+    goes_on code words counters at (at + 1) variables (slice_set (slice_set variables from None) to (Some row)) s
     (MoveReference to from) Success here refl
     (true_put words (put s from Empty) (slice_set variables from None) to (Owned (kind_of (slot_of s from)))
     (Some row)
@@ -181,66 +189,70 @@ instruction_leaves code words layout t used before left at variables s (MoveRefe
     (omega (arith, here.operands.0, here.inside.rows, length-set variables from None))
     (λ x this. subst (λ (y : ℕ). IsTrueKind (kind_of (slot_of s from)) (words y)) (some_is row x this)
     (here.known from row is)) emptied))
-instruction_leaves code words layout t used before left at variables s (Drop from) knew here =
+instruction_leaves code words layout t used before counters at variables s (Drop from) knew here =
     row_leaves code words (row_of variables from) _ (λ row is found stored.
-    goes_on_put code words left at (at + 1) variables s (Drop from) Success from Empty None here refl refl
+    goes_on_put code words counters at (at + 1) variables s (Drop from) Success from Empty None here refl refl
     here.operands (empty_true words None))
-instruction_leaves code words layout t used before left at variables s (Lock object) knew here =
+instruction_leaves code words layout t used before counters at variables s (Lock object) knew here =
     row_leaves code words (row_of variables object) _ (λ row is found seen.
     either (KnowsKinds code words) (found == free_word) _ _
-    (λ free. goes_on code words left at (at + 1) variables variables s (Lock object) Success here refl here.known)
+    (λ free. goes_on code words counters at (at + 1) variables variables s (Lock object) Success here refl here.known)
     knew)
-instruction_leaves code words layout t used before left at variables s (Unlock object) knew here =
+instruction_leaves code words layout t used before counters at variables s (Unlock object) knew here =
     row_leaves code words (row_of variables object) _ (λ row is found seen.
-    goes_on code words left at (at + 1) variables variables s (Unlock object) Success here refl
+    goes_on code words counters at (at + 1) variables variables s (Unlock object) Success here refl
     (true_without_items words s variables here.known))
-instruction_leaves code words layout t used before left at variables s (Borrow to list index otherwise) knew here =
-    range_leaves code words (row_of variables list) index (Inside left at variables InRange)
-    (InCall left otherwise (slice_set variables to None))
+instruction_leaves code words layout t used before counters at variables s (Borrow to list index otherwise) knew here =
+    range_leaves code words (row_of variables list) index (Inside counters at variables InRange)
+    (InCall counters otherwise (slice_set variables to None))
     (knows_here code words at variables s (Borrow to list index otherwise) here)
-    (goes_on_put code words left at otherwise variables s (Borrow to list index otherwise) FaultExit to Empty None here
+    (goes_on_put code words counters at otherwise variables s
+    (Borrow to list index otherwise) FaultExit to Empty None here
     refl refl here.operands.0 (empty_true words None))
-instruction_leaves code words layout t used before left at variables s (Fetch to list index otherwise) knew here =
-    range_leaves code words (row_of variables list) index (Inside left at variables InRange)
-    (InCall left otherwise (slice_set variables to None))
+instruction_leaves code words layout t used before counters at variables s (Fetch to list index otherwise) knew here =
+    range_leaves code words (row_of variables list) index (Inside counters at variables InRange)
+    (InCall counters otherwise (slice_set variables to None))
     (knows_here code words at variables s (Fetch to list index otherwise) here)
-    (goes_on_put code words left at otherwise variables s (Fetch to list index otherwise) FaultExit to Empty None here
+    (goes_on_put code words counters at otherwise variables s
+    (Fetch to list index otherwise) FaultExit to Empty None here
     refl refl here.operands.0 (empty_true words None))
-instruction_leaves code words layout t used before left at variables s (Set list index from otherwise) knew here =
+instruction_leaves code words layout t used before counters at variables s (Set list index from otherwise) knew here =
     let within = knows_here code words at variables s (Set list index from otherwise) here in
-    range_leaves code words (row_of variables list) index (Inside left at variables InRange)
-    (Inside left at variables OutOfRange) within within
-instruction_leaves code words layout t used before left at variables s (Put list index from otherwise) knew here =
-    range_leaves code words (row_of variables list) index (Inside left at variables InRange)
-    (InCall left otherwise variables) (knows_here code words at variables s (Put list index from otherwise) here)
-    (goes_on code words left at otherwise variables variables s (Put list index from otherwise) FaultExit here refl
+    range_leaves code words (row_of variables list) index (Inside counters at variables InRange)
+    (Inside counters at variables OutOfRange) within within
+instruction_leaves code words layout t used before counters at variables s (Put list index from otherwise) knew here =
+    range_leaves code words (row_of variables list) index (Inside counters at variables InRange)
+    (InCall counters otherwise variables) (knows_here code words at variables s (Put list index from otherwise) here)
+    (goes_on code words counters at otherwise variables variables s (Put list index from otherwise) FaultExit here refl
     (true_without_items words s variables here.known))
-instruction_leaves code words layout t used before left at variables s (As from kind otherwise) knew here =
+instruction_leaves code words layout t used before counters at variables s (As from kind otherwise) knew here =
     row_leaves code words (row_of variables from) _ (λ row is found seen.
-    either (λ (next : ℕ). KnowsKinds code words (InCall left next variables)) (same_kind (kind_of_word found) kind) _ _
+    either (λ (next : ℕ). KnowsKinds code words (InCall counters next variables))
+    (same_kind (kind_of_word found) kind) _ _
     (λ same.
-    goes_on code words left at (at + 1) variables variables s (As from kind otherwise) Success here refl
+    goes_on code words counters at (at + 1) variables variables s (As from kind otherwise) Success here refl
     (true_with_kind words s variables from kind (omega (arith, here.operands.0, here.inside.slots))
     (λ x this. inr (ap (λ (y : ℕ). kind_of_word (words y)) (some_is x row (sym this ∙ is)) ∙ ap kind_of_word (sym seen)
     ∙ same_kind_is (kind_of_word found) kind same)) here.known))
-    (goes_on code words left at otherwise variables variables s (As from kind otherwise) FaultExit here refl
+    (goes_on code words counters at otherwise variables variables s (As from kind otherwise) FaultExit here refl
     here.known))
-instruction_leaves code words layout t used before left at variables s (Goto to) knew here =
-    goes_on code words left at to variables variables s (Goto to) Success here refl here.known
-instruction_leaves code words layout t used before left at variables s (Ret from) knew here =
+instruction_leaves code words layout t used before counters at variables s (Goto to) knew here =
+    goes_on code words counters at to variables variables s (Goto to) Success here refl here.known
+instruction_leaves code words layout t used before counters at variables s (Ret from) knew here =
     row_leaves code words (row_of variables from) _ (λ row is found stored. tt)
-instruction_leaves code words layout t used before left at variables s Fail knew here = tt
+instruction_leaves code words layout t used before counters at variables s Fail knew here = tt
 
 -- ---- what a step inside an instruction leaves
 
 -- `set` empties the variable whose reference it stores, and those that borrowed from the list.
-set_leaves : (code : List Instr) (words : ℕ → ℕ) (left at next : ℕ) (variables : List (Option ℕ)) (s : State)
+set_leaves : (code : List Instr) (words : ℕ → ℕ) (counters : Counters) (at next : ℕ) (variables : List (Option ℕ))
+    (s : State)
     (list index from otherwise : ℕ) (exit : Exit)
     → (here : KnowsAt code words at variables s (Set list index from otherwise))
     → target (Set list index from otherwise) exit at ≡ Some next
-    → KnowsKinds code words (InCall left next (slice_set variables from None))
-set_leaves code words left at next variables s list index from otherwise exit here to =
-    goes_on code words left at next variables (slice_set variables from None) s (Set list index from otherwise) exit
+    → KnowsKinds code words (InCall counters next (slice_set variables from None))
+set_leaves code words counters at next variables s list index from otherwise exit here to =
+    goes_on code words counters at next variables (slice_set variables from None) s (Set list index from otherwise) exit
     here to
     (true_without_items words (put s from Empty) (slice_set variables from None)
     (true_put words s variables from Empty None (omega (arith, here.operands.0, here.inside.slots))
@@ -250,42 +262,46 @@ set_leaves code words left at next variables s list index from otherwise exit he
 any_true : (words : ℕ → ℕ) (slot : Slot) (row : Option ℕ) → kind_of slot ≡ kinds.Any → HasTrueKind words slot row
 any_true words slot row any x is = inl any
 
-inside_leaves : (code : List Instr) (words : ℕ → ℕ) (left at : ℕ) (variables : List (Option ℕ)) (stage : Stage)
+inside_leaves : (code : List Instr) (words : ℕ → ℕ) (counters : Counters) (at : ℕ) (variables : List (Option ℕ))
+    (stage : Stage)
     (s : State) (i : Instr) → KnowsAt code words at variables s i
-    → Leaves code words (dispatch_inside left at variables stage (Some i))
-inside_leaves code words left at variables InRange s (Borrow to list index otherwise) here =
-    cell_leaves code words (row_of variables list) index (InCall left otherwise (slice_set variables to None))
-    (λ item. InCall left (at + 1) (slice_set variables to (Some item)))
-    (goes_on_put code words left at otherwise variables s (Borrow to list index otherwise) FaultExit to Empty None here
+    → Leaves code words (dispatch_inside counters at variables stage (Some i))
+inside_leaves code words counters at variables InRange s (Borrow to list index otherwise) here =
+    cell_leaves code words (row_of variables list) index (InCall counters otherwise (slice_set variables to None))
+    (λ item. InCall counters (at + 1) (slice_set variables to (Some item)))
+    (goes_on_put code words counters at otherwise variables s
+    (Borrow to list index otherwise) FaultExit to Empty None here
     refl refl here.operands.0 (empty_true words None))
     (λ item.
-    goes_on_put code words left at (at + 1) variables s (Borrow to list index otherwise) Success to (Locked kinds.Any)
+    goes_on_put code words counters at (at + 1) variables s (Borrow to list index otherwise) Success to
+    (Locked kinds.Any)
     (Some item) here refl refl here.operands.0 (any_true words (Locked kinds.Any) (Some item) refl))
-inside_leaves code words left at variables InRange s (Fetch to list index otherwise) here =
-    cell_leaves code words (row_of variables list) index (InCall left otherwise (slice_set variables to None))
-    (λ item. Inside left at variables (Found item))
-    (goes_on_put code words left at otherwise variables s (Fetch to list index otherwise) FaultExit to Empty None here
+inside_leaves code words counters at variables InRange s (Fetch to list index otherwise) here =
+    cell_leaves code words (row_of variables list) index (InCall counters otherwise (slice_set variables to None))
+    (λ item. Inside counters at variables (Found item))
+    (goes_on_put code words counters at otherwise variables s
+    (Fetch to list index otherwise) FaultExit to Empty None here
     refl refl here.operands.0 (empty_true words None))
     (λ item. knows_here code words at variables s (Fetch to list index otherwise) here)
-inside_leaves code words left at variables (Found item) s (Fetch to list index otherwise) here = λ found seen.
-    goes_on_put code words left at (at + 1) variables s (Fetch to list index otherwise) Success to (Owned kinds.Any)
+inside_leaves code words counters at variables (Found item) s (Fetch to list index otherwise) here = λ found seen.
+    goes_on_put code words counters at (at + 1) variables s (Fetch to list index otherwise) Success to (Owned kinds.Any)
     (Some item) here refl refl here.operands.0 (any_true words (Owned kinds.Any) (Some item) refl)
-inside_leaves code words left at variables InRange s (Set list index from otherwise) here =
+inside_leaves code words counters at variables InRange s (Set list index from otherwise) here =
     row_leaves code words (row_of variables list) _ (λ row is.
     row_leaves code words (row_of variables from) _ (λ item this found seen.
-    set_leaves code words left at (at + 1) variables s list index from otherwise Success here refl))
-inside_leaves code words left at variables OutOfRange s (Set list index from otherwise) here =
+    set_leaves code words counters at (at + 1) variables s list index from otherwise Success here refl))
+inside_leaves code words counters at variables OutOfRange s (Set list index from otherwise) here =
     row_leaves code words (row_of variables from) _ (λ item this found seen.
-    set_leaves code words left at otherwise variables s list index from otherwise FaultExit here refl)
-inside_leaves code words left at variables InRange s (Put list index from otherwise) here =
+    set_leaves code words counters at otherwise variables s list index from otherwise FaultExit here refl)
+inside_leaves code words counters at variables InRange s (Put list index from otherwise) here =
     row_leaves code words (row_of variables from) _ (λ item is found seen.
     knows_here code words at variables s (Put list index from otherwise) here)
-inside_leaves code words left at variables Retained s (Put list index from otherwise) here =
+inside_leaves code words counters at variables Retained s (Put list index from otherwise) here =
     row_leaves code words (row_of variables list) _ (λ row is.
     row_leaves code words (row_of variables from) _ (λ item this found seen.
-    goes_on code words left at (at + 1) variables variables s (Put list index from otherwise) Success here refl
+    goes_on code words counters at (at + 1) variables variables s (Put list index from otherwise) Success here refl
     (true_without_items words s variables here.known)))
-inside_leaves code words left at variables stage s i here = tt
+inside_leaves code words counters at variables stage s i here = tt
 
 -- ---- what a thread does
 
@@ -318,33 +334,35 @@ knows_at code words at variables s accepted instructions inside named known =
       },
     )
 
-in_call_leaves : (code : List Instr) (words : ℕ → ℕ) (layout : Layout) (t used : ℕ) (before : Place) (left at : ℕ)
+in_call_leaves : (code : List Instr) (words : ℕ → ℕ) (layout : Layout) (t used : ℕ) (before : Place)
+    (counters : Counters) (at : ℕ)
     (variables : List (Option ℕ)) (s : State) → KnowsKinds code words before
     → IsAcceptableCode code → AreInstructions code → IsInside code at variables s → AreNamed words
     → HaveTrueKinds words s variables
-    → Leaves code words (dispatch_instruction layout t used before left at variables (slice_get code at))
-in_call_leaves code words layout t used before left at variables s knew accepted instructions inside named known =
+    → Leaves code words (dispatch_instruction layout t used before counters at variables (slice_get code at))
+in_call_leaves code words layout t used before counters at variables s knew accepted instructions inside named known =
     let here = knows_at code words at variables s accepted instructions inside named known in
-    subst (λ (o : Option Instr). Leaves code words (dispatch_instruction layout t used before left at variables o))
-    (sym here.1) (instruction_leaves code words layout t used before left at variables s here.0 knew here.2)
+    subst (λ (o : Option Instr). Leaves code words (dispatch_instruction layout t used before counters at variables o))
+    (sym here.1) (instruction_leaves code words layout t used before counters at variables s here.0 knew here.2)
 
 dispatch_leaves : (code : List Instr) (words : ℕ → ℕ) (layout : Layout) (t used : ℕ) (place : Place)
     → StandsKnowing code words place → Leaves code words (dispatch layout t used code place)
 dispatch_leaves code words layout t used Exiting stands = tt
 dispatch_leaves code words layout t used (Idle zero) stands = λ found stored. tt
 dispatch_leaves code words layout t used (Idle (suc left)) stands =
-    in_call_leaves code words layout t used (Idle (suc left)) left 0 entry_variables entry tt stands.accepted
+    in_call_leaves code words layout t used (Idle (suc left))
+    (first_counters left) 0 entry_variables entry tt stands.accepted
     stands.instructions (entry_in_call code) stands.named (entry_true words stands.named)
-dispatch_leaves code words layout t used (InCall left at variables) stands =
+dispatch_leaves code words layout t used (InCall counters at variables) stands =
     let says = stands.says in
-    in_call_leaves code words layout t used (InCall left at variables) left at variables says.0 stands.knows
+    in_call_leaves code words layout t used (InCall counters at variables) counters at variables says.0 stands.knows
     stands.accepted stands.instructions says.1 stands.named (stands.knows says.1.exits says.0 says.1.arrived)
-dispatch_leaves code words layout t used (Inside left at variables stage) stands =
+dispatch_leaves code words layout t used (Inside counters at variables stage) stands =
     let says = stands.says in
     let here = knows_at code words at variables says.0 stands.accepted stands.instructions says.1 stands.named
     (stands.knows says.1.exits says.0 says.1.arrived) in
-    subst (λ (o : Option Instr). Leaves code words (dispatch_inside left at variables stage o)) (sym here.1)
-    (inside_leaves code words left at variables stage says.0 here.0 here.2)
+    subst (λ (o : Option Instr). Leaves code words (dispatch_inside counters at variables stage o)) (sym here.1)
+    (inside_leaves code words counters at variables stage says.0 here.0 here.2)
 
 agenda_leaves : (functions : List Function) (words : ℕ → ℕ) (layout : Layout) (t : ℕ) (a : StepActor)
     (agenda : List Duty) → StandsKnowing (code_of (slice_get functions a.function)) words a.place

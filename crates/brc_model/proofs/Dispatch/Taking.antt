@@ -18,9 +18,10 @@ use Rattle.brc_model.specs.Threads.{row_of, entry_variables}
 use Rattle.brc_model.specs.declared.duty.Duty.TheVariants.{RetainLoad, ReleaseLoad, Settle, Leave, KindLoad}
 use Rattle.brc_model.specs.Kinds.{kind_of_word, same_kind}
 use Rattle.brc_model.specs.declared.actor.Place.{Place}
+use Rattle.brc_model.specs.declared.actor.Counters.{Counters}
 use Rattle.brc_model.specs.declared.actor.Place.TheVariants.{Idle, InCall, Inside, Exiting}
 use Rattle.brc_model.specs.declared.actor.Stage.{Stage}
-use Rattle.brc_model.specs.Actions.{Does, always, dispatch_instruction, dispatch, dispatch_inside}
+use Rattle.brc_model.specs.Actions.{Does, always, first_counters, dispatch_instruction, dispatch, dispatch_inside}
 use Rattle.brc_model.proofs.Basics.Bag.{held-le-references_to}
 use Rattle.brc_model.specs.References.{held, one_if, reference_of}
 use Rattle.brc_model.proofs.Basics.Lists.{either, first_false, none_some}
@@ -44,12 +45,13 @@ use Rattle.brc_model.proofs.Keeping.SilentMoves.{Stays}
 use Rattle.brc_model.proofs.Dispatch.TakingSilent.{none_taken, move_taken, goto_taken}
 use Rattle.brc_model.specs.Layout.{root_row}
 
-newref_taken : (code : List Instr) (g : Scene) (before : Place) (left at : ℕ)
+newref_taken : (code : List Instr) (g : Scene) (before : Place) (counters : Counters) (at : ℕ)
     (variables : List (Option ℕ))
     (s : State) (to from : ℕ)
     → StandsAt code g before at variables s (Newref to from)
-    → IsTaken code g (dispatch_instruction g.layout g.thread g.used before left at variables (Some (Newref to from)))
-newref_taken code g before left at variables s to from here =
+    → IsTaken code g (dispatch_instruction g.layout g.thread g.used before counters at variables
+    (Some (Newref to from)))
+newref_taken code g before counters at variables s to from here =
     let some : is_empty (slot_of s from) ≡ false = first_false _ _ here.met.not_empty in
     let free : is_owned (slot_of s to) ≡ false = first_false _ _ here.met.free in
     let live = named_at code g before at variables s (Newref to from) from here some in
@@ -67,8 +69,9 @@ newref_taken code g before left at variables s to from here =
     let held_now : HoldsAlone g.bag g.thread (once_each (of_variables (put s to slot) (slice_set variables to
     (Some live.object))))
     (RetainLoad live.object (ByVariable to) ∷ []) =
-    record { each = newref_held g.bag g.thread s variables to live.object slot in_slots in_rows free refl here.holds } in
-    let taken : (found : ℕ) → Taken code g found (InCall left (at + 1) (slice_set variables to (Some live.object)))
+    record { each = newref_held g.bag g.thread s variables to live.object slot in_slots in_rows free refl here.holds }
+    in
+    let taken : (found : ℕ) → Taken code g found (InCall counters (at + 1) (slice_set variables to (Some live.object)))
     (RetainLoad live.object (ByVariable to)) [] = λ found. record {
       placed = (
         put s to slot,
@@ -78,20 +81,20 @@ newref_taken code g before left at variables s to from here =
         held_now,
       );
       starts = Takes live.object (ByVariable to) [] live.backs;
-      follows = Nothing (in_call_stays left (at + 1) (slice_set variables to (Some live.object)));
+      follows = Nothing (in_call_stays counters (at + 1) (slice_set variables to (Some live.object)));
       keeps = keeps_all code g before at variables s (Newref to from) (RetainLoad live.object (ByVariable to)) here
           (λ k object. refl);
     } in
     taken_with_row code g live.object (row_of variables from)
     (λ row. Does (RetainLoad row (ByVariable to)) []
-    (always (InCall left (at + 1) (slice_set variables to (Some row))))) live.is_row taken
+    (always (InCall counters (at + 1) (slice_set variables to (Some row))))) live.is_row taken
 
-drop_taken : (code : List Instr) (g : Scene) (before : Place) (left at : ℕ)
+drop_taken : (code : List Instr) (g : Scene) (before : Place) (counters : Counters) (at : ℕ)
     (variables : List (Option ℕ))
     (s : State) (from : ℕ)
     → StandsAt code g before at variables s (Drop from)
-    → IsTaken code g (dispatch_instruction g.layout g.thread g.used before left at variables (Some (Drop from)))
-drop_taken code g before left at variables s from here =
+    → IsTaken code g (dispatch_instruction g.layout g.thread g.used before counters at variables (Some (Drop from)))
+drop_taken code g before counters at variables s from here =
     let owned = owned_slot (slot_of s from) (first_false _ _ here.met.not_empty) (first_false _ _ here.met.owned) in
     let row = owned_row (slot_of s from) (row_of variables from) owned (here.inside.grounded from) in
     let in_slots : from < length s.slots = omega (arith, here.variables, here.inside.slots) in
@@ -103,11 +106,12 @@ drop_taken code g before left at variables s from here =
       rows = length-set variables from None ∙ here.inside.rows;
       grounded = grounded-put s variables from Empty None in_slots in_rows tt here.inside.grounded;
     } in
-    let held_now : HoldsAlone g.bag g.thread (once_each (of_variables (put s from Empty) (slice_set variables from None)))
+    let held_now : HoldsAlone g.bag g.thread (once_each (of_variables (put s from Empty)
+    (slice_set variables from None)))
     (ReleaseLoad row.0 (ByVariable from) ∷ Settle ∷ []) =
     record { each = emptied_held g.bag g.thread s variables from row.0 in_slots owned row.1 here.holds } in
     let free : names s.locked from ≡ false = first_false _ _ here.met.unlocked in
-    let taken : (found : ℕ) → Taken code g found (InCall left (at + 1) (slice_set variables from None))
+    let taken : (found : ℕ) → Taken code g found (InCall counters (at + 1) (slice_set variables from None))
     (ReleaseLoad row.0 (ByVariable from)) (Settle ∷ []) = λ found. record {
       placed = (
         put s from Empty,
@@ -118,69 +122,75 @@ drop_taken code g before left at variables s from here =
       starts =
           Gives row.0 (ByVariable from) (Settle ∷ [])
           (given_referenced g.bag g.thread s variables from row.0 owned row.1 here.holds);
-      follows = Settles (in_call_stays left (at + 1) (slice_set variables from None));
+      follows = Settles (in_call_stays counters (at + 1) (slice_set variables from None));
       keeps = keeps_given code g before at variables s (Drop from) row.0 from here free;
     } in
     taken_with_row code g row.0 (row_of variables from)
     (λ r. Does (ReleaseLoad r (ByVariable from)) (Settle ∷ [])
-    (always (InCall left (at + 1) (slice_set variables from None)))) row.1 taken
+    (always (InCall counters (at + 1) (slice_set variables from None)))) row.1 taken
 
-ret_taken : (code : List Instr) (g : Scene) (before : Place) (left at : ℕ)
+ret_taken : (code : List Instr) (g : Scene) (before : Place) (counters : Counters) (at : ℕ)
     (variables : List (Option ℕ))
     (s : State) (from : ℕ)
     → StandsAt code g before at variables s (Ret from)
-    → IsTaken code g (dispatch_instruction g.layout g.thread g.used before left at variables (Some (Ret from)))
-ret_taken code g before left at variables s from here =
+    → IsTaken code g (dispatch_instruction g.layout g.thread g.used before counters at variables (Some (Ret from)))
+ret_taken code g before counters at variables s from here =
     let owned = owned_slot (slot_of s from) (first_false _ _ here.met.not_empty) (first_false _ _ here.met.owned) in
     let row = owned_row (slot_of s from) (row_of variables from) owned (here.inside.grounded from) in
     let in_slots : from < length s.slots = omega (arith, here.variables, here.inside.slots) in
     let none : list_any is_owned (put s from Empty).slots ≡ false = first_false _ _ here.met.none_left in
-    let held_now : HoldsAlone g.bag g.thread (once_each the_root) (ReleaseLoad row.0 (ByVariable from) ∷ Settle ∷ []) = record {
+    let held_now : HoldsAlone g.bag g.thread (once_each the_root) (ReleaseLoad row.0 (ByVariable from) ∷ Settle ∷ []) =
+    record {
       each = λ k object.
           let said : one_if (of_variables (put s from Empty) (slice_set variables from None) k object)
           ≡ one_if (the_root k object) =
           ap one_if (ended_says (put s from Empty) (slice_set variables from None) k object none) in
-          omega (arith, emptied_held g.bag g.thread s variables from row.0 in_slots owned row.1 here.holds k object, said);
+          omega (
+            arith,
+            emptied_held g.bag g.thread s variables from row.0 in_slots owned row.1 here.holds k object,
+            said,
+          );
     } in
     let free : names s.locked from ≡ false = first_false _ _ here.met.unlocked in
     let none_locked = guards_none s variables s.locked g.locked (first_false _ _ here.met.no_lock_left) here.guards in
-    let taken : (found : ℕ) → Taken code g found (Idle left) (ReleaseLoad row.0 (ByVariable from)) (Settle ∷ []) =
+    let taken : (found : ℕ) → Taken code g found (Idle counters.left) (ReleaseLoad row.0 (ByVariable from))
+    (Settle ∷ []) =
     λ found. record {
       placed = (none_locked, held_now);
       starts =
           Gives row.0 (ByVariable from) (Settle ∷ [])
           (given_referenced g.bag g.thread s variables from row.0 owned row.1 here.holds);
-      follows = Settles (idle_stays left);
+      follows = Settles (idle_stays counters.left);
       keeps = keeps_given code g before at variables s (Ret from) row.0 from here free;
     } in
     taken_with_row code g row.0 (row_of variables from)
-    (λ r. Does (ReleaseLoad r (ByVariable from)) (Settle ∷ []) (always (Idle left))) row.1 taken
+    (λ r. Does (ReleaseLoad r (ByVariable from)) (Settle ∷ []) (always (Idle counters.left))) row.1 taken
 
 -- ---- a look at a kind
 
 -- The thread holds what it held, wherever it goes on after it has loaded the kind.
-asks_taken : (code : List Instr) (g : Scene) (left next found : ℕ)
+asks_taken : (code : List Instr) (g : Scene) (counters : Counters) (next found : ℕ)
     (variables : List (Option ℕ)) (s : State) (row : ℕ)
     → IsInside code next variables s → LocksAgree s variables g.locked → Holds g.bag g.thread (of_variables s variables)
     → Backs g row
     → ((x : ℕ) → g.locked ≡ Some x → HeldBeside g.bag g.thread x (KindLoad row))
-    → Taken code g found (InCall left next variables) (KindLoad row) []
-asks_taken code g left next found variables s row inside guards holds backs keeps =
+    → Taken code g found (InCall counters next variables) (KindLoad row) []
+asks_taken code g counters next found variables s row inside guards holds backs keeps =
     let held_now : HoldsAlone g.bag g.thread (once_each (of_variables s variables)) (KindLoad row ∷ []) =
     record { each = λ k object. omega (arith, holds.each k object) } in
     record {
       placed = (s, inside, guards, held_now);
       starts = Asks row backs;
-      follows = Nothing (in_call_stays left next variables);
+      follows = Nothing (in_call_stays counters next variables);
       keeps = keeps;
     }
 
-as_taken : (code : List Instr) (g : Scene) (before : Place) (left at : ℕ)
+as_taken : (code : List Instr) (g : Scene) (before : Place) (counters : Counters) (at : ℕ)
     (variables : List (Option ℕ)) (s : State) (from : ℕ) (kind : Kind) (otherwise : ℕ)
     → StandsAt code g before at variables s (As from kind otherwise)
     → IsTaken code g
-    (dispatch_instruction g.layout g.thread g.used before left at variables (Some (As from kind otherwise)))
-as_taken code g before left at variables s from kind otherwise here =
+    (dispatch_instruction g.layout g.thread g.used before counters at variables (Some (As from kind otherwise)))
+as_taken code g before counters at variables s from kind otherwise here =
     let some : is_empty (slot_of s from) ≡ false = first_false _ _ here.met.not_empty in
     let live = named_at code g before at variables s (As from kind otherwise) from here some in
     let in_slots : from < length s.slots = omega (arith, here.variables.0, here.inside.slots) in
@@ -206,66 +216,66 @@ as_taken code g before left at variables s from kind otherwise here =
     let keeps =
     keeps_all code g before at variables s (As from kind otherwise) (KindLoad live.object) here (λ k object. refl) in
     let taken : (found : ℕ) → Taken code g found
-    (InCall left (cond (same_kind (kind_of_word found) kind) (at + 1) otherwise) variables)
+    (InCall counters (cond (same_kind (kind_of_word found) kind) (at + 1) otherwise) variables)
     (KindLoad live.object) [] =
-    λ found. either (λ (next : ℕ). Taken code g found (InCall left next variables) (KindLoad live.object) [])
+    λ found. either (λ (next : ℕ). Taken code g found (InCall counters next variables) (KindLoad live.object) [])
     (same_kind (kind_of_word found) kind) _ _
     (λ same.
-    asks_taken code g left (at + 1) found variables narrowed live.object next
+    asks_taken code g counters (at + 1) found variables narrowed live.object next
     (guards-with_kind s variables from kind s.locked g.locked in_slots here.guards) holds live.backs keeps)
-    (asks_taken code g left otherwise found variables s live.object aside here.guards here.holds live.backs keeps)
+    (asks_taken code g counters otherwise found variables s live.object aside here.guards here.holds live.backs keeps)
     in
     taken_with_row code g live.object (row_of variables from)
     (λ row. Does (KindLoad row) []
-    (λ found. InCall left (cond (same_kind (kind_of_word found) kind) (at + 1) otherwise) variables))
+    (λ found. InCall counters (cond (same_kind (kind_of_word found) kind) (at + 1) otherwise) variables))
     live.is_row taken
 
 -- ---- each instruction
 
-instruction_taken : (code : List Instr) (g : Scene) (before : Place) (left at : ℕ)
+instruction_taken : (code : List Instr) (g : Scene) (before : Place) (counters : Counters) (at : ℕ)
     (variables : List (Option ℕ))
     (s : State) (i : Instr)
     → StandsAt code g before at variables s i
-    → IsTaken code g (dispatch_instruction g.layout g.thread g.used before left at variables (Some i))
-instruction_taken code g before left at variables s (Num to value otherwise) here =
-    num_taken code g before left at variables s to value otherwise here
-instruction_taken code g before left at variables s (ListObject to cells otherwise) here =
-    list_taken code g before left at variables s to cells otherwise here
-instruction_taken code g before left at variables s (NoneObject to) here =
-    none_taken code g before left at variables s to here
-instruction_taken code g before left at variables s (MoveReference to from) here =
-    move_taken code g before left at variables s to from here
-instruction_taken code g before left at variables s (Newref to from) here =
-    newref_taken code g before left at variables s to from here
-instruction_taken code g before left at variables s (Drop from) here =
-    drop_taken code g before left at variables s from here
-instruction_taken code g before left at variables s (Lock object) here =
-    lock_taken code g before left at variables s object here
-instruction_taken code g before left at variables s (Unlock object) here =
-    unlock_taken code g before left at variables s object here
-instruction_taken code g before left at variables s (Borrow to list index otherwise) here =
-    borrow_taken code g before left at variables s to list index otherwise here
-instruction_taken code g before left at variables s (Fetch to list index otherwise) here =
-    fetch_taken code g before left at variables s to list index otherwise here
-instruction_taken code g before left at variables s (Set list index from otherwise) here =
-    set_taken code g before left at variables s list index from otherwise here
-instruction_taken code g before left at variables s (Put list index from otherwise) here =
-    put_taken code g before left at variables s list index from otherwise here
-instruction_taken code g before left at variables s (As from kind otherwise) here =
-    as_taken code g before left at variables s from kind otherwise here
-instruction_taken code g before left at variables s (Ret from) here =
-    ret_taken code g before left at variables s from here
-instruction_taken code g before left at variables s (Goto to) here =
-    goto_taken code g before left at variables s to here
-instruction_taken code g before left at variables s Fail here =
-    let taken : SilentTaken code g [] (Idle left) = record {
+    → IsTaken code g (dispatch_instruction g.layout g.thread g.used before counters at variables (Some i))
+instruction_taken code g before counters at variables s (Num to value otherwise) here =
+    num_taken code g before counters at variables s to value otherwise here
+instruction_taken code g before counters at variables s (ListObject to cells otherwise) here =
+    list_taken code g before counters at variables s to cells otherwise here
+instruction_taken code g before counters at variables s (NoneObject to) here =
+    none_taken code g before counters at variables s to here
+instruction_taken code g before counters at variables s (MoveReference to from) here =
+    move_taken code g before counters at variables s to from here
+instruction_taken code g before counters at variables s (Newref to from) here =
+    newref_taken code g before counters at variables s to from here
+instruction_taken code g before counters at variables s (Drop from) here =
+    drop_taken code g before counters at variables s from here
+instruction_taken code g before counters at variables s (Lock object) here =
+    lock_taken code g before counters at variables s object here
+instruction_taken code g before counters at variables s (Unlock object) here =
+    unlock_taken code g before counters at variables s object here
+instruction_taken code g before counters at variables s (Borrow to list index otherwise) here =
+    borrow_taken code g before counters at variables s to list index otherwise here
+instruction_taken code g before counters at variables s (Fetch to list index otherwise) here =
+    fetch_taken code g before counters at variables s to list index otherwise here
+instruction_taken code g before counters at variables s (Set list index from otherwise) here =
+    set_taken code g before counters at variables s list index from otherwise here
+instruction_taken code g before counters at variables s (Put list index from otherwise) here =
+    put_taken code g before counters at variables s list index from otherwise here
+instruction_taken code g before counters at variables s (As from kind otherwise) here =
+    as_taken code g before counters at variables s from kind otherwise here
+instruction_taken code g before counters at variables s (Ret from) here =
+    ret_taken code g before counters at variables s from here
+instruction_taken code g before counters at variables s (Goto to) here =
+    goto_taken code g before counters at variables s to here
+instruction_taken code g before counters at variables s Fail here =
+    let taken : SilentTaken code g [] (Idle counters.left) = record {
       moves_fit = Stays;
       placed = (
         guards_none s variables s.locked g.locked (first_false _ _ here.met.no_lock_left) here.guards,
         holds_at_none g.bag g.thread the_root
             (holds-ended g.bag g.thread s variables (first_false _ _ here.met.none_left) here.holds),
       );
-      stays = idle_stays left;
+      stays = idle_stays counters.left;
     } in
     taken
 
@@ -276,13 +286,14 @@ pub record SeesKinds (code : List Instr) (g : Scene) (place : Place) : Type 0 wh
   pub items : KnowsItems code g.memory g.locked place
   pub counted : CountsLockable g
 
-in_call_taken : (code : List Instr) (g : Scene) (before : Place) (left at : ℕ) (variables : List (Option ℕ)) (s : State)
+in_call_taken : (code : List Instr) (g : Scene) (before : Place) (counters : Counters) (at : ℕ)
+    (variables : List (Option ℕ)) (s : State)
     → IsAcceptableCode code → AreInstructions code → IsInside code at variables s → LocksAgree s variables g.locked
     → Holds g.bag g.thread (of_variables s variables) → HaveTrueKinds (words_of g) s variables
     → HaveItems g.memory g.locked s variables → CountsLockable g
     → PlaceFits code g.bag g.thread [] g.locked before → (before ≢ Exiting)
-    → IsTaken code g (dispatch_instruction g.layout g.thread g.used before left at variables (slice_get code at))
-in_call_taken code g before left at variables s accepted instructions inside guards holds kinds items counted back
+    → IsTaken code g (dispatch_instruction g.layout g.thread g.used before counters at variables (slice_get code at))
+in_call_taken code g before counters at variables s accepted instructions inside guards holds kinds items counted back
     remains =
     let on = passes_on code inside.exits at s accepted inside.arrived in
     let here : StandsAt code g before at variables s on.here =
@@ -301,18 +312,19 @@ in_call_taken code g before left at variables s accepted instructions inside gua
       leads = on.leads;
     } in
     subst (λ (o : Option Instr). IsTaken code g
-    (dispatch_instruction g.layout g.thread g.used before left at variables o))
-    (sym on.found) (instruction_taken code g before left at variables s on.here here)
+    (dispatch_instruction g.layout g.thread g.used before counters at variables o))
+    (sym on.found) (instruction_taken code g before counters at variables s on.here here)
 
 -- Inside an instruction the state before it still stands.
-inside_call_taken : (code : List Instr) (g : Scene) (left at : ℕ) (variables : List (Option ℕ)) (s : State)
+inside_call_taken : (code : List Instr) (g : Scene) (counters : Counters) (at : ℕ) (variables : List (Option ℕ))
+    (s : State)
     (stage : Stage)
     → IsAcceptableCode code → AreInstructions code → IsInside code at variables s → LocksAgree s variables g.locked
     → Holds g.bag g.thread (of_inside (in_flight (slice_get code at) stage variables) s variables)
     → has_stage (slice_get code at) stage ≡ true → HaveItems g.memory g.locked s variables
     → StageKnows g.memory g.locked variables stage (slice_get code at)
-    → IsTaken code g (dispatch_inside left at variables stage (slice_get code at))
-inside_call_taken code g left at variables s stage accepted instructions inside guards holds staged items cell =
+    → IsTaken code g (dispatch_inside counters at variables stage (slice_get code at))
+inside_call_taken code g counters at variables s stage accepted instructions inside guards holds staged items cell =
     let on = passes_on code inside.exits at s accepted inside.arrived in
     let here : StandsInside code g at variables s stage on.here =
     record {
@@ -328,8 +340,8 @@ inside_call_taken code g left at variables s stage accepted instructions inside 
       met = on.met;
       leads = on.leads;
     } in
-    subst (λ (o : Option Instr). IsTaken code g (dispatch_inside left at variables stage o)) (sym on.found)
-    (inside_taken code g left at variables s on.here stage here)
+    subst (λ (o : Option Instr). IsTaken code g (dispatch_inside counters at variables stage o)) (sym on.found)
+    (inside_taken code g counters at variables s on.here stage here)
 
 -- The exit gives up the reference that the thread holds as the caller.
 exit_held : (bag : List Reference) (t : ℕ) → Holds bag t the_root → (k : Holding) (object : ℕ)
@@ -358,14 +370,17 @@ dispatch_taken code g (Idle zero) accepted instructions stays fits sees =
       keeps = λ x locked. absurd (none_some x (sym fits.0 ∙ locked));
     }
 dispatch_taken code g (Idle (suc left)) accepted instructions stays fits sees =
-    in_call_taken code g (Idle (suc left)) left 0 entry_variables entry accepted instructions (entry_in_call code)
-    fits.0 (holds-entered g.bag g.thread (holds_plain g.bag g.thread the_root fits.1)) sees.begins (entry_items g.memory g.locked)
+    in_call_taken code g (Idle (suc left)) (first_counters left) 0 entry_variables entry accepted instructions
+    (entry_in_call code)
+    fits.0 (holds-entered g.bag g.thread (holds_plain g.bag g.thread the_root fits.1)) sees.begins
+    (entry_items g.memory g.locked)
     sees.counted fits stays
-dispatch_taken code g (Inside left at variables stage) accepted instructions stays fits sees =
-    inside_call_taken code g left at variables fits.0 stage accepted instructions fits.1 fits.2
+dispatch_taken code g (Inside counters at variables stage) accepted instructions stays fits sees =
+    inside_call_taken code g counters at variables fits.0 stage accepted instructions fits.1 fits.2
     (holds_plain g.bag g.thread (of_inside (in_flight (slice_get code at) stage variables) fits.0 variables) fits.3)
     fits.4 (sees.items.items fits.1.exits fits.0 fits.1.arrived) sees.items.cell
-dispatch_taken code g (InCall left at variables) accepted instructions stays fits sees =
-    in_call_taken code g (InCall left at variables) left at variables fits.0 accepted instructions fits.1 fits.2
+dispatch_taken code g (InCall counters at variables) accepted instructions stays fits sees =
+    in_call_taken code g (InCall counters at variables) counters at variables fits.0 accepted instructions fits.1 fits.2
     (holds_plain g.bag g.thread (of_variables fits.0 variables) fits.3)
-    (sees.knows fits.1.exits fits.0 fits.1.arrived) (sees.items fits.1.exits fits.0 fits.1.arrived) sees.counted fits stays
+    (sees.knows fits.1.exits fits.0 fits.1.arrived) (sees.items fits.1.exits fits.0 fits.1.arrived) sees.counted fits
+    stays

@@ -18,6 +18,7 @@ use Rattle.brc_model.specs.Paths.{At, path_end}
 use Rattle.brc_model.specs.declared.duty.Holding.TheVariants.{ByVariable}
 use Rattle.brc_model.specs.declared.duty.Duty.TheVariants.{BirthKind}
 use Rattle.brc_model.specs.declared.actor.Place.{Place}
+use Rattle.brc_model.specs.declared.actor.Counters.{Counters}
 use Rattle.brc_model.specs.declared.actor.Place.TheVariants.{InCall}
 use Rattle.brc_model.specs.Kinds.{kind_numbered, kind_of_word, is_counted_kind}
 use Rattle.brc_model.specs.Duties.{cells_of}
@@ -84,13 +85,13 @@ record BearsAt (code : List Instr) (g : Scene) (at : ℕ) (variables : List (Opt
   pub owned_next : path_end code (inside.exits ++ Success ∷ []) ≡ At (at + 1) (put s to (Owned kind))
   pub empty_next : path_end code (inside.exits ++ Fault ∷ []) ≡ At otherwise (put s to Empty)
 
-born : (code : List Instr) (g : Scene) (left at : ℕ) (variables : List (Option ℕ))
+born : (code : List Instr) (g : Scene) (counters : Counters) (at : ℕ) (variables : List (Option ℕ))
     (s : State) (to word otherwise : ℕ) (kind : Kind)
     → BearsAt code g at variables s to word otherwise kind → has_room g.layout g.thread g.used ≡ true
     → (found : ℕ)
-    → Taken code g found (InCall left (at + 1) (slice_set variables to (Some (row_at g.layout g.thread g.used))))
+    → Taken code g found (InCall counters (at + 1) (slice_set variables to (Some (row_at g.layout g.thread g.used))))
     (BirthKind (row_at g.layout g.thread g.used) (ByVariable to) word) []
-born code g left at variables s to word otherwise kind here room found =
+born code g counters at variables s to word otherwise kind here room found =
     let row = row_at g.layout g.thread g.used in
     let slot : Slot = Owned kind in
     let in_slots : to < length s.slots = omega (arith, here.variable, here.inside.slots) in
@@ -102,7 +103,8 @@ born code g left at variables s to word otherwise kind here room found =
       rows = length-set variables to (Some row) ∙ here.inside.rows;
       grounded = grounded-put s variables to slot (Some row) in_slots in_rows (row, refl) here.inside.grounded;
     } in
-    let held_now : HoldsAlone g.bag g.thread (once_each (of_variables (put s to slot) (slice_set variables to (Some row))))
+    let held_now : HoldsAlone g.bag g.thread (once_each (of_variables (put s to slot)
+    (slice_set variables to (Some row))))
     (BirthKind row (ByVariable to) word ∷ []) =
     record { each = newref_held g.bag g.thread s variables to row slot in_slots in_rows here.free refl here.holds } in
     record {
@@ -112,17 +114,18 @@ born code g left at variables s to word otherwise kind here room found =
         guards-put s variables to slot (Some row) s.locked g.locked here.unlocked here.guards,
         held_now,
       );
-      starts = Bears (ByVariable to) word (ltb-true g.used (block_size g.layout g.thread) room) here.few_cells here.counted;
-      follows = Nothing (in_call_stays left (at + 1) (slice_set variables to (Some row)));
+      starts = Bears (ByVariable to) word (ltb-true g.used (block_size g.layout g.thread) room) here.few_cells
+          here.counted;
+      follows = Nothing (in_call_stays counters (at + 1) (slice_set variables to (Some row)));
       keeps = here.keeps;
     }
 
 -- If the thread has no room for a row, it empties the variable and goes on at the fault exit.
-not_born : (code : List Instr) (g : Scene) (left at : ℕ) (variables : List (Option ℕ)) (s : State)
+not_born : (code : List Instr) (g : Scene) (counters : Counters) (at : ℕ) (variables : List (Option ℕ)) (s : State)
     (to word otherwise : ℕ) (kind : Kind)
     → BearsAt code g at variables s to word otherwise kind
-    → SilentTaken code g [] (InCall left otherwise (slice_set variables to None))
-not_born code g left at variables s to word otherwise kind here =
+    → SilentTaken code g [] (InCall counters otherwise (slice_set variables to None))
+not_born code g counters at variables s to word otherwise kind here =
     let in_slots : to < length s.slots = omega (arith, here.variable, here.inside.slots) in
     let in_rows : to < length variables = omega (arith, here.variable, here.inside.rows) in
     let next : IsInside code otherwise (slice_set variables to None) (put s to Empty) = record {
@@ -142,27 +145,27 @@ not_born code g left at variables s to word otherwise kind here =
         guards-put s variables to Empty None s.locked g.locked here.unlocked here.guards,
         holds_at_none g.bag g.thread _ holds,
       );
-      stays = in_call_stays left otherwise (slice_set variables to None);
+      stays = in_call_stays counters otherwise (slice_set variables to None);
     }
 
-birth_taken : (code : List Instr) (g : Scene) (left at : ℕ)
+birth_taken : (code : List Instr) (g : Scene) (counters : Counters) (at : ℕ)
     (variables : List (Option ℕ))
     (s : State) (to word otherwise : ℕ) (kind : Kind)
     → BearsAt code g at variables s to word otherwise kind
-    → IsTaken code g (birth_action g.layout g.thread g.used left at variables to word otherwise)
-birth_taken code g left at variables s to word otherwise kind here =
+    → IsTaken code g (birth_action g.layout g.thread g.used counters at variables to word otherwise)
+birth_taken code g counters at variables s to word otherwise kind here =
     either (IsTaken code g) (has_room g.layout g.thread g.used) _ _
-    (λ room found. born code g left at variables s to word otherwise kind here room found)
-    (not_born code g left at variables s to word otherwise kind here)
+    (λ room found. born code g counters at variables s to word otherwise kind here room found)
+    (not_born code g counters at variables s to word otherwise kind here)
 
-pub num_taken : (code : List Instr) (g : Scene) (before : Place) (left at : ℕ)
+pub num_taken : (code : List Instr) (g : Scene) (before : Place) (counters : Counters) (at : ℕ)
     (variables : List (Option ℕ))
     (s : State) (to value otherwise : ℕ)
     → StandsAt code g before at variables s (Num to value otherwise)
     → IsTaken code g
-    (dispatch_instruction g.layout g.thread g.used before left at variables (Some (Num to value otherwise)))
-num_taken code g before left at variables s to value otherwise here =
-    birth_taken code g left at variables s to (number_word value) otherwise kinds.Num (record {
+    (dispatch_instruction g.layout g.thread g.used before counters at variables (Some (Num to value otherwise)))
+num_taken code g before counters at variables s to value otherwise here =
+    birth_taken code g counters at variables s to (number_word value) otherwise kinds.Num (record {
       inside = here.inside;
       holds = here.holds;
       guards = here.guards;
@@ -177,14 +180,14 @@ num_taken code g before left at variables s to value otherwise here =
       empty_next = here.leads Fault otherwise refl;
     })
 
-pub list_taken : (code : List Instr) (g : Scene) (before : Place) (left at : ℕ)
+pub list_taken : (code : List Instr) (g : Scene) (before : Place) (counters : Counters) (at : ℕ)
     (variables : List (Option ℕ))
     (s : State) (to cells otherwise : ℕ)
     → StandsAt code g before at variables s (ListObject to cells otherwise)
     → IsTaken code g
-    (dispatch_instruction g.layout g.thread g.used before left at variables (Some (ListObject to cells otherwise)))
-list_taken code g before left at variables s to cells otherwise here =
-    birth_taken code g left at variables s to (list_word cells) otherwise kinds.List (record {
+    (dispatch_instruction g.layout g.thread g.used before counters at variables (Some (ListObject to cells otherwise)))
+list_taken code g before counters at variables s to cells otherwise here =
+    birth_taken code g counters at variables s to (list_word cells) otherwise kinds.List (record {
       inside = here.inside;
       holds = here.holds;
       guards = here.guards;

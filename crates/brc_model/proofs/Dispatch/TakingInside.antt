@@ -17,6 +17,7 @@ use Rattle.brc_model.specs.declared.duty.Holding.TheVariants.{ByVariable, InFlig
 use Rattle.brc_model.specs.declared.duty.Duty.{Duty}
 use Rattle.brc_model.specs.declared.duty.Duty.TheVariants.{RetainLoad, CellLoad, CellSwap}
 use Rattle.brc_model.specs.declared.actor.Place.{Place}
+use Rattle.brc_model.specs.declared.actor.Counters.{Counters}
 use Rattle.brc_model.specs.declared.actor.Place.TheVariants.{InCall, Inside}
 use Rattle.brc_model.specs.declared.actor.Stage.{Stage}
 use Rattle.brc_model.specs.declared.actor.Stage.TheVariants.{InRange, Found}
@@ -40,7 +41,7 @@ use Rattle.brc_model.proofs.Dispatch.TakingItems.{inside_fits, holds_nothing_in_
 
 -- ---- what the thread knows inside an instruction
 
-module _ (code : List Instr) (g : Scene) (left at : ℕ) (rows : List (Option ℕ)) (s : State) where
+module _ (code : List Instr) (g : Scene) (counters : Counters) (at : ℕ) (rows : List (Option ℕ)) (s : State) where
   -- Before it has made a reference for the cell, the thread holds what its variables own.
   pub holds_still : (stage : Stage) (i : Instr) → StandsInside code g at rows s stage i
       → in_flight (Some i) stage rows ≡ None → Holds g.bag g.thread (of_variables s rows)
@@ -151,7 +152,7 @@ module _ (code : List Instr) (g : Scene) (left at : ℕ) (rows : List (Option �
       → is_owned (slot_of s to) ≡ false → names s.locked to ≡ false
       → Backs g row → g.locked ≡ Some row → index < cells_of (words_of g row)
       → path_end code (here.inside.exits ++ Fault ∷ []) ≡ At otherwise (put s to Empty)
-      → Taken code g found (InCall left otherwise (slice_set rows to None)) (CellLoad row index) []
+      → Taken code g found (InCall counters otherwise (slice_set rows to None)) (CellLoad row index) []
   nothing_found i to row index otherwise found here is low free unlocked backs has within arrived =
       let in_slots : to < length s.slots = omega (arith, low, here.inside.slots) in
       let cleared = cleared_held g.bag g.thread s rows to in_slots free (holds_still InRange i here is) in
@@ -163,13 +164,13 @@ module _ (code : List Instr) (g : Scene) (left at : ℕ) (rows : List (Option �
           record { each = λ k object. omega (arith, cleared k object) },
         );
         starts = Loads row index backs has within;
-        follows = Nothing (in_call_stays left otherwise (slice_set rows to None));
+        follows = Nothing (in_call_stays counters otherwise (slice_set rows to None));
         keeps = all_kept InRange i (CellLoad row index) here (λ k object. refl);
       }
 
   pub borrow_inside : (to list index otherwise : ℕ)
       → StandsInside code g at rows s InRange (Borrow to list index otherwise)
-      → IsTaken code g (dispatch_inside left at rows InRange (Some (Borrow to list index otherwise)))
+      → IsTaken code g (dispatch_inside counters at rows InRange (Some (Borrow to list index otherwise)))
   borrow_inside to list index otherwise here =
       let i = Borrow to list index otherwise in
       let free : is_owned (slot_of s to) ≡ false = first_false _ _ here.met.free in
@@ -180,8 +181,8 @@ module _ (code : List Instr) (g : Scene) (left at : ℕ) (rows : List (Option �
       uses_locked InRange i list row here (not-false _ (first_false _ _ here.met.has_lock)) named.is_row in
       let within : index < cells_of (words_of g row) = here.cell row named.is_row in
       let in_slots : to < length s.slots = omega (arith, here.variables.0, here.inside.slots) in
-      let empty = InCall left otherwise (slice_set rows to None) in
-      let there : (item : ℕ) → Place = λ item. InCall left (at + 1) (slice_set rows to (Some item)) in
+      let empty = InCall counters otherwise (slice_set rows to None) in
+      let there : (item : ℕ) → Place = λ item. InCall counters (at + 1) (slice_set rows to (Some item)) in
       let found_item : (item : ℕ) → Taken code g (suc item) (there item) (CellLoad row index) [] = λ item.
       let same =
       unowned_held g.bag g.thread s rows to (Locked kinds.Any) (Some item) in_slots free refl
@@ -195,7 +196,7 @@ module _ (code : List Instr) (g : Scene) (left at : ℕ) (rows : List (Option �
           record { each = λ k object. omega (arith, same k object) },
         );
         starts = Loads row index named.backs has within;
-        follows = Nothing (in_call_stays left (at + 1) (slice_set rows to (Some item)));
+        follows = Nothing (in_call_stays counters (at + 1) (slice_set rows to (Some item)));
         keeps = all_kept InRange i (CellLoad row index) here (λ k object. refl);
       } in
       taken_with_row code g row (row_of rows list)
@@ -206,7 +207,7 @@ module _ (code : List Instr) (g : Scene) (left at : ℕ) (rows : List (Option �
 
   pub fetch_inside : (to list index otherwise : ℕ)
       → StandsInside code g at rows s InRange (Fetch to list index otherwise)
-      → IsTaken code g (dispatch_inside left at rows InRange (Some (Fetch to list index otherwise)))
+      → IsTaken code g (dispatch_inside counters at rows InRange (Some (Fetch to list index otherwise)))
   fetch_inside to list index otherwise here =
       let i = Fetch to list index otherwise in
       let free : is_owned (slot_of s to) ≡ false = first_false _ _ here.met.free in
@@ -216,16 +217,16 @@ module _ (code : List Instr) (g : Scene) (left at : ℕ) (rows : List (Option �
       let has =
       uses_locked InRange i list row here (not-false _ (first_false _ _ here.met.has_lock)) named.is_row in
       let within : index < cells_of (words_of g row) = here.cell row named.is_row in
-      let empty = InCall left otherwise (slice_set rows to None) in
-      let there : (item : ℕ) → Place = λ item. Inside left at rows (Found item) in
+      let empty = InCall counters otherwise (slice_set rows to None) in
+      let there : (item : ℕ) → Place = λ item. Inside counters at rows (Found item) in
       let holds = holds_nothing_in_flight g.bag g.thread s rows (holds_still InRange i here refl) in
       let found_item : (item : ℕ) → Taken code g (suc item) (there item) (CellLoad row index) [] = λ item. record {
         placed =
-            inside_fits code g.bag g.thread (CellLoad row index ∷ []) g.locked left at rows s (Found item) i None
+            inside_fits code g.bag g.thread (CellLoad row index ∷ []) g.locked counters at rows s (Found item) i None
             here.found refl refl here.inside here.guards
             (record { each = λ k object. omega (arith, holds.each k object) });
         starts = Loads row index named.backs has within;
-        follows = Nothing (inside_stays left at rows (Found item));
+        follows = Nothing (inside_stays counters at rows (Found item));
         keeps = all_kept InRange i (CellLoad row index) here (λ k object. refl);
       } in
       taken_with_row code g row (row_of rows list)
@@ -237,7 +238,7 @@ module _ (code : List Instr) (g : Scene) (left at : ℕ) (rows : List (Option �
   -- The item is in the cell, so the thread may make a reference to it.
   pub found_inside : (to list index otherwise item : ℕ)
       → StandsInside code g at rows s (Found item) (Fetch to list index otherwise)
-      → IsTaken code g (dispatch_inside left at rows (Found item) (Some (Fetch to list index otherwise)))
+      → IsTaken code g (dispatch_inside counters at rows (Found item) (Some (Fetch to list index otherwise)))
   found_inside to list index otherwise item here =
       let i = Fetch to list index otherwise in
       let slot : Slot = Owned kinds.Any in
@@ -256,7 +257,8 @@ module _ (code : List Instr) (g : Scene) (left at : ℕ) (rows : List (Option �
                 (holds_still (Found item) i here refl);
           },
         );
-        starts = Takes item (ByVariable to) [] (ByList here.cell.list here.cell.cell here.cell.is_locked here.cell.holds);
-        follows = Nothing (in_call_stays left (at + 1) (slice_set rows to (Some item)));
+        starts = Takes item (ByVariable to) [] (ByList here.cell.list here.cell.cell here.cell.is_locked
+            here.cell.holds);
+        follows = Nothing (in_call_stays counters (at + 1) (slice_set rows to (Some item)));
         keeps = all_kept (Found item) i (RetainLoad item (ByVariable to)) here (λ k object. refl);
       }

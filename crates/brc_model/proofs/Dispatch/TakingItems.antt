@@ -11,6 +11,7 @@ use Rattle.brc_model.specs.declared.slot.Exit.TheVariants.{Fault}
 use Rattle.brc_model.specs.declared.duty.Duty.{Duty}
 use Rattle.brc_model.specs.declared.duty.Duty.TheVariants.{KindLoad}
 use Rattle.brc_model.specs.declared.actor.Place.{Place}
+use Rattle.brc_model.specs.declared.actor.Counters.{Counters}
 use Rattle.brc_model.specs.declared.actor.Place.TheVariants.{InCall, Inside, Exiting}
 use Rattle.brc_model.specs.declared.actor.Stage.{Stage}
 use Rattle.brc_model.specs.declared.actor.Stage.TheVariants.{InRange, OutOfRange}
@@ -34,16 +35,18 @@ use Rattle.brc_model.proofs.Dispatch.Standing.{named_at, keeps_all}
 
 -- The place fits a thread that has got so far inside the instruction at the point.
 pub inside_fits : (code : List Instr) (bag : List Reference) (t : ℕ) (agenda : List Duty) (locked : Option ℕ)
-    (left at : ℕ) (variables : List (Option ℕ)) (s : State) (stage : Stage) (i : Instr) (flight : Option ℕ)
+    (counters : Counters) (at : ℕ) (variables : List (Option ℕ)) (s : State) (stage : Stage) (i : Instr)
+    (flight : Option ℕ)
     → slice_get code at ≡ Some i → in_flight (Some i) stage variables ≡ flight → has_stage (Some i) stage ≡ true
     → IsInside code at variables s → LocksAgree s variables locked
     → HoldsAlone bag t (once_each (of_inside flight s variables)) agenda
-    → PlaceFits code bag t agenda locked (Inside left at variables stage)
-inside_fits code bag t agenda locked left at variables s stage i flight found is staged inside guards holds = (
+    → PlaceFits code bag t agenda locked (Inside counters at variables stage)
+inside_fits code bag t agenda locked counters at variables s stage i flight found is staged inside guards holds = (
   s,
   inside,
   guards,
-  subst (λ (o : Option Instr). HoldsAlone bag t (once_each (of_inside (in_flight o stage variables) s variables)) agenda)
+  subst (λ (o : Option Instr). HoldsAlone bag t (once_each (of_inside (in_flight o stage variables) s variables))
+      agenda)
       (sym found)
       (subst (λ (f : Option ℕ). HoldsAlone bag t (once_each (of_inside f s variables)) agenda) (sym is) holds),
   ap (λ (o : Option Instr). has_stage o stage) found ∙ staged,
@@ -74,24 +77,28 @@ asks_first code g before at variables s i list row found place here some is stay
     }
 
 -- The place inside the instruction, while the kind word is loaded.
-asks_inside : (code : List Instr) (g : Scene) (before : Place) (left at : ℕ) (variables : List (Option ℕ)) (s : State)
+asks_inside : (code : List Instr) (g : Scene) (before : Place) (counters : Counters) (at : ℕ)
+    (variables : List (Option ℕ)) (s : State)
     (i : Instr) (row : ℕ) (stage : Stage)
     → StandsAt code g before at variables s i → in_flight (Some i) stage variables ≡ None
     → has_stage (Some i) stage ≡ true
-    → PlaceFits code g.bag g.thread (KindLoad row ∷ []) g.locked (Inside left at variables stage)
-asks_inside code g before left at variables s i row stage here is staged =
+    → PlaceFits code g.bag g.thread (KindLoad row ∷ []) g.locked (Inside counters at variables stage)
+asks_inside code g before counters at variables s i row stage here is staged =
     let holds = holds_nothing_in_flight g.bag g.thread s variables here.holds in
-    inside_fits code g.bag g.thread (KindLoad row ∷ []) g.locked left at variables s stage i None here.found is staged
+    inside_fits code g.bag g.thread (KindLoad row ∷ []) g.locked counters at variables s stage i None here.found is
+    staged
     here.inside here.guards (record { each = λ k object. omega (arith, holds.each k object) })
 
 -- The list has no such cell, so no item comes into the variable.
-asks_empty : (code : List Instr) (g : Scene) (before : Place) (left at : ℕ) (variables : List (Option ℕ)) (s : State)
+asks_empty : (code : List Instr) (g : Scene) (before : Place) (counters : Counters) (at : ℕ)
+    (variables : List (Option ℕ)) (s : State)
     (i : Instr) (row to otherwise : ℕ)
     → (here : StandsAt code g before at variables s i) → to < 16 → is_owned (slot_of s to) ≡ false
     → names s.locked to ≡ false
     → path_end code (here.inside.exits ++ Fault ∷ []) ≡ At otherwise (put s to Empty)
-    → PlaceFits code g.bag g.thread (KindLoad row ∷ []) g.locked (InCall left otherwise (slice_set variables to None))
-asks_empty code g before left at variables s i row to otherwise here low free unlocked arrived =
+    → PlaceFits code g.bag g.thread (KindLoad row ∷ []) g.locked
+    (InCall counters otherwise (slice_set variables to None))
+asks_empty code g before counters at variables s i row to otherwise here low free unlocked arrived =
     let in_slots : to < length s.slots = omega (arith, low, here.inside.slots) in
     let in_rows : to < length variables = omega (arith, low, here.inside.rows) in
     let next : IsInside code otherwise (slice_set variables to None) (put s to Empty) = record {
@@ -109,7 +116,8 @@ asks_empty code g before left at variables s i row to otherwise here low free un
     )
 
 -- An instruction that brings an item into a variable: inside, or at the fault exit with an empty variable.
-brings_taken : (code : List Instr) (g : Scene) (before : Place) (left at : ℕ) (variables : List (Option ℕ)) (s : State)
+brings_taken : (code : List Instr) (g : Scene) (before : Place) (counters : Counters) (at : ℕ)
+    (variables : List (Option ℕ)) (s : State)
     (i : Instr) (to list index otherwise : ℕ)
     → (here : StandsAt code g before at variables s i) → to < 16 → is_owned (slot_of s to) ≡ false
     → names s.locked to ≡ false → is_empty (slot_of s list) ≡ false
@@ -117,79 +125,86 @@ brings_taken : (code : List Instr) (g : Scene) (before : Place) (left at : ℕ) 
     → path_end code (here.inside.exits ++ Fault ∷ []) ≡ At otherwise (put s to Empty)
     → IsTaken code g (with_row (row_of variables list)
     (λ row. Does (KindLoad row) []
-    (by_range index (Inside left at variables InRange) (InCall left otherwise (slice_set variables to None)))))
-brings_taken code g before left at variables s i to list index otherwise here low free unlocked some is staged arrived =
+    (by_range index (Inside counters at variables InRange) (InCall counters otherwise (slice_set variables to None)))))
+brings_taken code g before counters at variables s i to list index otherwise here low free unlocked some is staged
+    arrived =
     let named = named_at code g before at variables s i list here some in
     let row = named.object in
-    let outside = InCall left otherwise (slice_set variables to None) in
-    let taken : (found : ℕ) → Taken code g found (by_range index (Inside left at variables InRange) outside found)
+    let outside = InCall counters otherwise (slice_set variables to None) in
+    let taken : (found : ℕ) → Taken code g found (by_range index (Inside counters at variables InRange) outside found)
     (KindLoad row) [] = λ found.
     either (λ (place : Place). Taken code g found place (KindLoad row) []) (nat_lt index (cells_of found))
-    (Inside left at variables InRange) outside
-    (λ within. asks_first code g before at variables s i list row found (Inside left at variables InRange) here some
-    named.is_row (inside_stays left at variables InRange)
-    (asks_inside code g before left at variables s i row InRange here is staged))
+    (Inside counters at variables InRange) outside
+    (λ within. asks_first code g before at variables s i list row found (Inside counters at variables InRange) here some
+    named.is_row (inside_stays counters at variables InRange)
+    (asks_inside code g before counters at variables s i row InRange here is staged))
     (asks_first code g before at variables s i list row found outside here some named.is_row
-    (in_call_stays left otherwise (slice_set variables to None))
-    (asks_empty code g before left at variables s i row to otherwise here low free unlocked arrived)) in
+    (in_call_stays counters otherwise (slice_set variables to None))
+    (asks_empty code g before counters at variables s i row to otherwise here low free unlocked arrived)) in
     taken_with_row code g row (row_of variables list)
-    (λ x. Does (KindLoad x) [] (by_range index (Inside left at variables InRange) outside)) named.is_row taken
+    (λ x. Does (KindLoad x) [] (by_range index (Inside counters at variables InRange) outside)) named.is_row taken
 
-pub borrow_taken : (code : List Instr) (g : Scene) (before : Place) (left at : ℕ) (variables : List (Option ℕ))
+pub borrow_taken : (code : List Instr) (g : Scene) (before : Place) (counters : Counters) (at : ℕ)
+    (variables : List (Option ℕ))
     (s : State) (to list index otherwise : ℕ)
     → StandsAt code g before at variables s (Borrow to list index otherwise)
     → IsTaken code g
-    (dispatch_instruction g.layout g.thread g.used before left at variables (Some (Borrow to list index otherwise)))
-borrow_taken code g before left at variables s to list index otherwise here =
-    brings_taken code g before left at variables s (Borrow to list index otherwise) to list index otherwise here
+    (dispatch_instruction g.layout g.thread g.used before counters at variables (Some (Borrow to list index otherwise)))
+borrow_taken code g before counters at variables s to list index otherwise here =
+    brings_taken code g before counters at variables s (Borrow to list index otherwise) to list index otherwise here
     here.variables.0 (first_false _ _ here.met.free) (first_false _ _ here.met.unlocked)
     (first_false _ _ here.met.not_empty) refl refl (here.leads Fault otherwise refl)
 
-pub fetch_taken : (code : List Instr) (g : Scene) (before : Place) (left at : ℕ) (variables : List (Option ℕ))
+pub fetch_taken : (code : List Instr) (g : Scene) (before : Place) (counters : Counters) (at : ℕ)
+    (variables : List (Option ℕ))
     (s : State) (to list index otherwise : ℕ)
     → StandsAt code g before at variables s (Fetch to list index otherwise)
     → IsTaken code g
-    (dispatch_instruction g.layout g.thread g.used before left at variables (Some (Fetch to list index otherwise)))
-fetch_taken code g before left at variables s to list index otherwise here =
-    brings_taken code g before left at variables s (Fetch to list index otherwise) to list index otherwise here
+    (dispatch_instruction g.layout g.thread g.used before counters at variables (Some (Fetch to list index otherwise)))
+fetch_taken code g before counters at variables s to list index otherwise here =
+    brings_taken code g before counters at variables s (Fetch to list index otherwise) to list index otherwise here
     here.variables.0 (first_false _ _ here.met.free) (first_false _ _ here.met.unlocked)
     (first_false _ _ here.met.not_empty) refl refl (here.leads Fault otherwise refl)
 
 -- ---- an instruction that stores an item
 
-pub set_taken : (code : List Instr) (g : Scene) (before : Place) (left at : ℕ) (variables : List (Option ℕ))
+pub set_taken : (code : List Instr) (g : Scene) (before : Place) (counters : Counters) (at : ℕ)
+    (variables : List (Option ℕ))
     (s : State) (list index from otherwise : ℕ)
     → StandsAt code g before at variables s (Set list index from otherwise)
     → IsTaken code g
-    (dispatch_instruction g.layout g.thread g.used before left at variables (Some (Set list index from otherwise)))
-set_taken code g before left at variables s list index from otherwise here =
+    (dispatch_instruction g.layout g.thread g.used before counters at variables (Some (Set list index from otherwise)))
+set_taken code g before counters at variables s list index from otherwise here =
     let i = Set list index from otherwise in
     let some : is_empty (slot_of s list) ≡ false = first_false _ _ (second_false _ _ here.met.not_empty) in
     let named = named_at code g before at variables s i list here some in
     let row = named.object in
     let at_stage : (stage : Stage) → in_flight (Some i) stage variables ≡ None → has_stage (Some i) stage ≡ true
-    → (found : ℕ) → Taken code g found (Inside left at variables stage) (KindLoad row) [] = λ stage is staged found.
-    asks_first code g before at variables s i list row found (Inside left at variables stage) here some named.is_row
-    (inside_stays left at variables stage)
-    (asks_inside code g before left at variables s i row stage here is staged) in
+    → (found : ℕ) → Taken code g found (Inside counters at variables stage) (KindLoad row) [] = λ stage is staged found.
+    asks_first code g before at variables s i list row found (Inside counters at variables stage) here some named.is_row
+    (inside_stays counters at variables stage)
+    (asks_inside code g before counters at variables s i row stage here is staged) in
     let taken : (found : ℕ) → Taken code g found
-    (by_range index (Inside left at variables InRange) (Inside left at variables OutOfRange) found)
+    (by_range index (Inside counters at variables InRange) (Inside counters at variables OutOfRange) found)
     (KindLoad row) [] = λ found.
     either (λ (place : Place). Taken code g found place (KindLoad row) []) (nat_lt index (cells_of found))
-    (Inside left at variables InRange) (Inside left at variables OutOfRange)
+    (Inside counters at variables InRange) (Inside counters at variables OutOfRange)
     (λ within. at_stage InRange refl refl found) (at_stage OutOfRange refl refl found) in
     taken_with_row code g row (row_of variables list)
     (λ x. Does (KindLoad x) []
-    (by_range index (Inside left at variables InRange) (Inside left at variables OutOfRange))) named.is_row taken
+    (by_range index (Inside counters at variables InRange) (Inside counters at variables OutOfRange))) named.is_row
+    taken
 
-pub put_taken : (code : List Instr) (g : Scene) (before : Place) (left at : ℕ) (variables : List (Option ℕ))
+pub put_taken : (code : List Instr) (g : Scene) (before : Place) (counters : Counters) (at : ℕ)
+    (variables : List (Option ℕ))
     (s : State) (list index from otherwise : ℕ)
     → StandsAt code g before at variables s (Put list index from otherwise)
     → IsTaken code g
-    (dispatch_instruction g.layout g.thread g.used before left at variables (Some (Put list index from otherwise)))
-put_taken code g before left at variables s list index from otherwise here =
+    (dispatch_instruction g.layout g.thread g.used before counters at variables (Some (Put list index from otherwise)))
+put_taken code g before counters at variables s list index from otherwise here =
     let i = Put list index from otherwise in
-    let some : is_empty (slot_of s list) ≡ false = first_false _ _ (second_false (is_empty (slot_of s from)) _ here.met.not_empty) in
+    let some : is_empty (slot_of s list) ≡ false = first_false _ _
+    (second_false (is_empty (slot_of s from)) _ here.met.not_empty) in
     let named = named_at code g before at variables s i list here some in
     let row = named.object in
     let changed = without_items s in
@@ -200,7 +215,7 @@ put_taken code g before left at variables s list index from otherwise here =
       rows = here.inside.rows;
       grounded = grounded-without s variables here.inside.grounded;
     } in
-    let outside : PlaceFits code g.bag g.thread (KindLoad row ∷ []) g.locked (InCall left otherwise variables) = (
+    let outside : PlaceFits code g.bag g.thread (KindLoad row ∷ []) g.locked (InCall counters otherwise variables) = (
       changed,
       next,
       guards-without s variables s.locked g.locked here.guards,
@@ -210,14 +225,16 @@ put_taken code g before left at variables s list index from otherwise here =
       },
     ) in
     let taken : (found : ℕ) → Taken code g found
-    (by_range index (Inside left at variables InRange) (InCall left otherwise variables) found) (KindLoad row) [] =
+    (by_range index (Inside counters at variables InRange) (InCall counters otherwise variables) found) (KindLoad row)
+    [] =
     λ found. either (λ (place : Place). Taken code g found place (KindLoad row) []) (nat_lt index (cells_of found))
-    (Inside left at variables InRange) (InCall left otherwise variables)
-    (λ within. asks_first code g before at variables s i list row found (Inside left at variables InRange) here some
-    named.is_row (inside_stays left at variables InRange)
-    (asks_inside code g before left at variables s i row InRange here refl refl))
-    (asks_first code g before at variables s i list row found (InCall left otherwise variables) here some named.is_row
-    (in_call_stays left otherwise variables) outside) in
+    (Inside counters at variables InRange) (InCall counters otherwise variables)
+    (λ within. asks_first code g before at variables s i list row found (Inside counters at variables InRange) here some
+    named.is_row (inside_stays counters at variables InRange)
+    (asks_inside code g before counters at variables s i row InRange here refl refl))
+    (asks_first code g before at variables s i list row found
+    (InCall counters otherwise variables) here some named.is_row
+    (in_call_stays counters otherwise variables) outside) in
     taken_with_row code g row (row_of variables list)
     (λ x. Does (KindLoad x) []
-    (by_range index (Inside left at variables InRange) (InCall left otherwise variables))) named.is_row taken
+    (by_range index (Inside counters at variables InRange) (InCall counters otherwise variables))) named.is_row taken

@@ -14,6 +14,7 @@ use Rattle.brc_model.specs.declared.duty.Holding.{Holding}
 use Rattle.brc_model.specs.declared.duty.Holding.TheVariants.{ByVariable, AsCaller, InFlight}
 use Rattle.brc_model.specs.declared.duty.Duty.TheVariants.{LockGate, UnlockGate}
 use Rattle.brc_model.specs.declared.actor.Place.{Place}
+use Rattle.brc_model.specs.declared.actor.Counters.{Counters}
 use Rattle.brc_model.specs.declared.actor.Place.TheVariants.{InCall, Exiting}
 use Rattle.brc_model.specs.Slots.{slot_of, is_empty, kind_of, names, without_item, without_items, with_lock, is_one_of, lockable}
 use Rattle.brc_model.specs.Threads.{row_of}
@@ -62,11 +63,12 @@ lock_taken_at code g before after row found fits goes back remains =
       | false ↦ (back, remains)
     ]
 
-pub lock_taken : (code : List Instr) (g : Scene) (before : Place) (left at : ℕ) (variables : List (Option ℕ))
+pub lock_taken : (code : List Instr) (g : Scene) (before : Place) (counters : Counters) (at : ℕ)
+    (variables : List (Option ℕ))
     (s : State) (object : ℕ)
     → StandsAt code g before at variables s (Lock object)
-    → IsTaken code g (dispatch_instruction g.layout g.thread g.used before left at variables (Some (Lock object)))
-lock_taken code g before left at variables s object here =
+    → IsTaken code g (dispatch_instruction g.layout g.thread g.used before counters at variables (Some (Lock object)))
+lock_taken code g before counters at variables s object here =
     let some : is_empty (slot_of s object) ≡ false = first_false _ _ here.met.not_empty in
     let live = named_at code g before at variables s (Lock object) object here some in
     let none : g.locked ≡ None =
@@ -84,35 +86,39 @@ lock_taken code g before left at variables s object here =
       grounded = here.inside.grounded;
     } in
     let held_now : HoldsAlone g.bag g.thread (once_each (of_variables locked variables)) (LockGate live.object ∷ []) =
-    record { each = λ k o. omega (arith, here.holds.each k o, ap one_if (says_locked s variables (Some object) k o)) } in
+    record { each = λ k o. omega (arith, here.holds.each k o, ap one_if (says_locked s variables (Some object) k o)) }
+    in
     let goes : PlaceFits code g.bag g.thread (LockGate live.object ∷ []) (Some live.object)
-    (InCall left (at + 1) variables) =
+    (InCall counters (at + 1) variables) =
     (locked, next, (live.object, refl, live.is_row, slot_kept (slot_of s object) some no_items), held_now)
     in
     let back = fits_with code g.bag g.thread (LockGate live.object ∷ []) g.locked before (λ k o. refl) (λ k o. refl)
     here.back in
-    let taken : (found : ℕ) → Taken code g found (cond (found == free_word) (InCall left (at + 1) variables) before)
+    let taken : (found : ℕ) → Taken code g found (cond (found == free_word) (InCall counters (at + 1) variables) before)
     (LockGate live.object) [] = λ found.
     let placed =
-    lock_taken_at code g before (InCall left (at + 1) variables) live.object found goes
-    (in_call_stays left (at + 1) variables) back here.remains in
+    lock_taken_at code g before (InCall counters (at + 1) variables) live.object found goes
+    (in_call_stays counters (at + 1) variables) back here.remains in
     record {
       placed = placed.0;
-      starts = Locks live.object live.backs (here.counted live.object (lockable_word (kind_of (slot_of s object)) (words_of g live.object) (here.kinds object live.object live.is_row) can)) none;
+      starts = Locks live.object live.backs (here.counted live.object
+          (lockable_word (kind_of (slot_of s object)) (words_of g live.object)
+          (here.kinds object live.object live.is_row) can)) none;
       follows = Nothing placed.1;
       keeps = λ x is. absurd (let wrong : None ≡ Some x = sym none ∙ is in cc);
     } in
     taken_with_row code g live.object (row_of variables object)
     (λ row. Does (LockGate row) []
-    (λ found. cond (found == free_word) (InCall left (at + 1) variables) before)) live.is_row taken
+    (λ found. cond (found == free_word) (InCall counters (at + 1) variables) before)) live.is_row taken
 
 -- ---- unlock
 
-pub unlock_taken : (code : List Instr) (g : Scene) (before : Place) (left at : ℕ) (variables : List (Option ℕ))
+pub unlock_taken : (code : List Instr) (g : Scene) (before : Place) (counters : Counters) (at : ℕ)
+    (variables : List (Option ℕ))
     (s : State) (object : ℕ)
     → StandsAt code g before at variables s (Unlock object)
-    → IsTaken code g (dispatch_instruction g.layout g.thread g.used before left at variables (Some (Unlock object)))
-unlock_taken code g before left at variables s object here =
+    → IsTaken code g (dispatch_instruction g.layout g.thread g.used before counters at variables (Some (Unlock object)))
+unlock_taken code g before counters at variables s object here =
     let some : is_empty (slot_of s object) ≡ false = first_false _ _ here.met.not_empty in
     let live = named_at code g before at variables s (Unlock object) object here some in
     let this : names s.locked object ≡ true = not-false _ (first_false _ _ here.met.has_lock) in
@@ -126,19 +132,20 @@ unlock_taken code g before left at variables s object here =
       rows = here.inside.rows;
       grounded = grounded-without s variables here.inside.grounded;
     } in
-    let held_now : HoldsAlone g.bag g.thread (once_each (of_variables unlocked variables)) (UnlockGate live.object ∷ []) =
+    let held_now : HoldsAlone g.bag g.thread (once_each (of_variables unlocked variables))
+    (UnlockGate live.object ∷ []) =
     record {
       each = λ k o.
           let same : of_variables s variables k o ≡ of_variables unlocked variables k o =
           says-without s variables k o ∙ says_locked (without_items s) variables None k o in
           omega (arith, here.holds.each k o, ap one_if same);
     } in
-    let taken : (found : ℕ) → Taken code g found (InCall left (at + 1) variables) (UnlockGate live.object) [] =
+    let taken : (found : ℕ) → Taken code g found (InCall counters (at + 1) variables) (UnlockGate live.object) [] =
     λ found. record {
       placed = (unlocked, next, refl, held_now);
       starts = Unlocks live.object live.backs has;
-      follows = Nothing (in_call_stays left (at + 1) variables);
+      follows = Nothing (in_call_stays counters (at + 1) variables);
       keeps = keeps_all code g before at variables s (Unlock object) (UnlockGate live.object) here (λ k o. refl);
     } in
     taken_with_row code g live.object (row_of variables object)
-    (λ row. Does (UnlockGate row) [] (always (InCall left (at + 1) variables))) live.is_row taken
+    (λ row. Does (UnlockGate row) [] (always (InCall counters (at + 1) variables))) live.is_row taken

@@ -16,6 +16,7 @@ use Rattle.brc_model.specs.declared.duty.Holding.TheVariants.{ByVariable}
 use Rattle.brc_model.specs.AbstractState.{Reference, same_holding, same, without}
 use Rattle.brc_model.specs.Threads.{row_of}
 use Rattle.brc_model.specs.declared.actor.Place.{Place}
+use Rattle.brc_model.specs.declared.actor.Counters.{Counters}
 use Rattle.brc_model.specs.declared.actor.Place.TheVariants.{InCall}
 use Rattle.brc_model.specs.Actions.{dispatch_instruction, Silent}
 use Rattle.brc_model.specs.Moves.{gain, pass_on}
@@ -46,12 +47,12 @@ gained_holds bag t to row says lacks k object =
 
 -- ---- none
 
-pub none_taken : (code : List Instr) (g : Scene) (before : Place) (left at : ℕ)
+pub none_taken : (code : List Instr) (g : Scene) (before : Place) (counters : Counters) (at : ℕ)
     (variables : List (Option ℕ))
     (s : State) (to : ℕ)
     → StandsAt code g before at variables s (NoneObject to)
-    → IsTaken code g (dispatch_instruction g.layout g.thread g.used before left at variables (Some (NoneObject to)))
-none_taken code g before left at variables s to here =
+    → IsTaken code g (dispatch_instruction g.layout g.thread g.used before counters at variables (Some (NoneObject to)))
+none_taken code g before counters at variables s to here =
     let slot : Slot = Owned kinds.None in
     let free : is_owned (slot_of s to) ≡ false = first_false _ _ here.met.free in
     let in_slots : to < length s.slots = omega (arith, here.variables, here.inside.slots) in
@@ -71,16 +72,17 @@ none_taken code g before left at variables s to here =
           (newref_held g.bag g.thread s variables to none_row slot in_slots in_rows free refl here.holds);
     } in
     let taken : SilentTaken code g (gain g.thread (ByVariable to) none_row)
-    (InCall left (at + 1) (slice_set variables to (Some none_row))) =
+    (InCall counters (at + 1) (slice_set variables to (Some none_row))) =
     record {
       moves_fit = GainsNone (ByVariable to);
       placed = (
         put s to slot,
         next,
-        guards-put s variables to slot (Some none_row) s.locked g.locked (first_false _ _ here.met.unlocked) here.guards,
+        guards-put s variables to slot (Some none_row) s.locked g.locked
+            (first_false _ _ here.met.unlocked) here.guards,
         holds_at_none _ g.thread _ holds,
       );
-      stays = in_call_stays left (at + 1) (slice_set variables to (Some none_row));
+      stays = in_call_stays counters (at + 1) (slice_set variables to (Some none_row));
     } in
     taken
 
@@ -117,13 +119,13 @@ still_free s from to in_slots free =
       | inr other ↦ ap is_owned (slot_of-put_other s from to Empty other.1) ∙ free
     ]
 
-pub move_taken : (code : List Instr) (g : Scene) (before : Place) (left at : ℕ)
+pub move_taken : (code : List Instr) (g : Scene) (before : Place) (counters : Counters) (at : ℕ)
     (variables : List (Option ℕ))
     (s : State) (to from : ℕ)
     → StandsAt code g before at variables s (MoveReference to from)
     → IsTaken code g
-    (dispatch_instruction g.layout g.thread g.used before left at variables (Some (MoveReference to from)))
-move_taken code g before left at variables s to from here =
+    (dispatch_instruction g.layout g.thread g.used before counters at variables (Some (MoveReference to from)))
+move_taken code g before counters at variables s to from here =
     let owned = owned_slot (slot_of s from) (first_false _ _ here.met.not_empty) (first_false _ _ here.met.owned) in
     let free : is_owned (slot_of s to) ≡ false = first_false _ _ here.met.free in
     let row = owned_row (slot_of s from) (row_of variables from) owned (here.inside.grounded from) in
@@ -151,7 +153,8 @@ move_taken code g before left at variables s to from here =
     (of_variables (put s1 to slot) (slice_set v1 to (Some row.0))) =
     record {
       each = gained_holds (without r g.bag) g.thread to row.0 _
-          (newref_held (without r g.bag) g.thread s1 v1 to row.0 slot to_slots to_rows (still_free s from to in_slots free) refl
+          (newref_held (without r g.bag) g.thread s1 v1 to row.0 slot to_slots to_rows
+          (still_free s from to in_slots free) refl
           fewer);
     } in
     let from_free : names s.locked from ≡ false = first_false _ _ here.met.unlocked in
@@ -160,24 +163,25 @@ move_taken code g before left at variables s to from here =
     guards-put s1 v1 to slot (Some row.0) s.locked g.locked to_free
     (guards-put s variables from Empty None s.locked g.locked from_free here.guards) in
     let taken : SilentTaken code g (pass_on g.thread (ByVariable from) (ByVariable to) row.0)
-    (InCall left (at + 1) (slice_set v1 to (Some row.0))) =
+    (InCall counters (at + 1) (slice_set v1 to (Some row.0))) =
     record {
       moves_fit = PassesOn (ByVariable from) (ByVariable to) row.0 has;
       placed = (put s1 to slot, next, guards, holds_at_none _ g.thread _ holds);
-      stays = in_call_stays left (at + 1) (slice_set v1 to (Some row.0));
+      stays = in_call_stays counters (at + 1) (slice_set v1 to (Some row.0));
     } in
     taken_with_row code g row.0 (row_of variables from)
-    (λ x. Silent (pass_on g.thread (ByVariable from) (ByVariable to) x) (InCall left (at + 1) (slice_set v1 to (Some x))))
+    (λ x. Silent (pass_on g.thread (ByVariable from) (ByVariable to) x)
+    (InCall counters (at + 1) (slice_set v1 to (Some x))))
     row.1 taken
 
 -- ---- a jump
 
-pub goto_taken : (code : List Instr) (g : Scene) (before : Place) (left at : ℕ)
+pub goto_taken : (code : List Instr) (g : Scene) (before : Place) (counters : Counters) (at : ℕ)
     (variables : List (Option ℕ))
     (s : State) (to : ℕ)
     → StandsAt code g before at variables s (Goto to)
-    → IsTaken code g (dispatch_instruction g.layout g.thread g.used before left at variables (Some (Goto to)))
-goto_taken code g before left at variables s to here =
+    → IsTaken code g (dispatch_instruction g.layout g.thread g.used before counters at variables (Some (Goto to)))
+goto_taken code g before counters at variables s to here =
     let next : IsInside code to variables s = record {
       exits = here.inside.exits ++ Success ∷ [];
       arrived = here.leads Success to refl;
@@ -185,10 +189,10 @@ goto_taken code g before left at variables s to here =
       rows = here.inside.rows;
       grounded = here.inside.grounded;
     } in
-    let taken : SilentTaken code g [] (InCall left to variables) =
+    let taken : SilentTaken code g [] (InCall counters to variables) =
     record {
       moves_fit = Stays;
       placed = (s, next, here.guards, holds_at_none g.bag g.thread _ here.holds);
-      stays = in_call_stays left to variables;
+      stays = in_call_stays counters to variables;
     } in
     taken

@@ -10,6 +10,7 @@ use Rattle.brc_model.specs.declared.slot.Exit.TheVariants.{Success, Fault}
 use Rattle.brc_model.specs.declared.duty.Holding.{Holding}
 use Rattle.brc_model.specs.declared.duty.Holding.TheVariants.{ByVariable, AsCaller, InFlight}
 use Rattle.brc_model.specs.declared.duty.Duty.TheVariants.{RetainLoad, ReleaseLoad, Settle, CellSwap}
+use Rattle.brc_model.specs.declared.actor.Counters.{Counters}
 use Rattle.brc_model.specs.declared.actor.Place.TheVariants.{InCall, Inside}
 use Rattle.brc_model.specs.declared.actor.Stage.{Stage}
 use Rattle.brc_model.specs.declared.actor.Stage.TheVariants.{InRange, OutOfRange, Found, Retained}
@@ -30,7 +31,7 @@ use Rattle.brc_model.proofs.Dispatch.Standing.{given_referenced}
 use Rattle.brc_model.proofs.Dispatch.TakingItems.{inside_fits}
 use Rattle.brc_model.proofs.Dispatch.TakingInside.{holds_still, named_inside, lock_inside, all_kept, flight_kept, uses_locked, next_without, next_given, borrow_inside, fetch_inside, found_inside}
 
-module _ (code : List Instr) (g : Scene) (left at : ℕ) (rows : List (Option ℕ)) (s : State) where
+module _ (code : List Instr) (g : Scene) (counters : Counters) (at : ℕ) (rows : List (Option ℕ)) (s : State) where
   -- ---- set: the variable's reference goes into the cell, or is given up
 
   -- What the variable that gives up its reference owns.
@@ -52,7 +53,7 @@ module _ (code : List Instr) (g : Scene) (left at : ℕ) (rows : List (Option �
       let owned = owned_slot (slot_of s from) (first_false _ _ here.met.not_empty) (first_false _ _ here.met.owned) in
       let row = owned_row (slot_of s from) (row_of rows from) owned (here.inside.grounded from) in
       let in_slots : from < length s.slots = omega (arith, here.variables.2, here.inside.slots) in
-      let holds = holds_still code g left at rows s stage i here still in
+      let holds = holds_still code g counters at rows s stage i here still in
       record {
         owned = owned;
         row = row.0;
@@ -70,24 +71,25 @@ module _ (code : List Instr) (g : Scene) (left at : ℕ) (rows : List (Option �
 
   set_inside : (list index from otherwise : ℕ)
       → StandsInside code g at rows s InRange (Set list index from otherwise)
-      → IsTaken code g (dispatch_inside left at rows InRange (Some (Set list index from otherwise)))
+      → IsTaken code g (dispatch_inside counters at rows InRange (Some (Set list index from otherwise)))
   set_inside list index from otherwise here =
       let i = Set list index from otherwise in
       let free : names s.locked from ≡ false = first_false _ _ here.met.unlocked in
       let given = gives_from InRange list index from otherwise here refl in
       let named =
-      named_inside code g left at rows s InRange i list here
+      named_inside code g counters at rows s InRange i list here
       (first_false _ _ (second_false (is_empty (slot_of s from)) _ here.met.not_empty)) in
       let row = named.object in
       let has =
-      uses_locked code g left at rows s InRange i list row here (not-false _ (first_false _ _ here.met.has_lock))
+      uses_locked code g counters at rows s InRange i list row here (not-false _ (first_false _ _ here.met.has_lock))
       named.is_row in
-      let after = InCall left (at + 1) (slice_set rows from None) in
-      let taken : (found : ℕ) → Taken code g found after (CellSwap row index given.row (ByVariable from)) (Settle ∷ []) =
+      let after = InCall counters (at + 1) (slice_set rows from None) in
+      let taken : (found : ℕ) → Taken code g found after (CellSwap row index given.row (ByVariable from))
+      (Settle ∷ []) =
       λ found. record {
         placed = (
           without_items (put s from Empty),
-          next_given code g left at rows s InRange i Success (at + 1) from here here.variables.2
+          next_given code g counters at rows s InRange i Success (at + 1) from here here.variables.2
               (here.leads Success (at + 1) refl),
           guards-without (put s from Empty) (slice_set rows from None) s.locked g.locked
               (guards-put s rows from Empty None s.locked g.locked free here.guards),
@@ -96,10 +98,10 @@ module _ (code : List Instr) (g : Scene) (left at : ℕ) (rows : List (Option �
         starts =
             Swaps row index given.row (ByVariable from) (Settle ∷ []) named.backs has (here.cell row named.is_row)
             given.some;
-        follows = Settles (in_call_stays left (at + 1) (slice_set rows from None));
+        follows = Settles (in_call_stays counters (at + 1) (slice_set rows from None));
         keeps = λ x locked.
             gives_keeps g.bag g.thread given.row x from s.locked (CellSwap row index given.row (ByVariable from)) free
-            (λ k object. refl) (lock_inside code g left at rows s InRange i here x locked);
+            (λ k object. refl) (lock_inside code g counters at rows s InRange i here x locked);
       } in
       taken_with_row code g row (row_of rows list)
       (λ x. with_row (row_of rows from)
@@ -110,27 +112,27 @@ module _ (code : List Instr) (g : Scene) (left at : ℕ) (rows : List (Option �
   -- The list has no such cell: the reference is given up all the same.
   refused_inside : (list index from otherwise : ℕ)
       → StandsInside code g at rows s OutOfRange (Set list index from otherwise)
-      → IsTaken code g (dispatch_inside left at rows OutOfRange (Some (Set list index from otherwise)))
+      → IsTaken code g (dispatch_inside counters at rows OutOfRange (Some (Set list index from otherwise)))
   refused_inside list index from otherwise here =
       let i = Set list index from otherwise in
       let free : names s.locked from ≡ false = first_false _ _ here.met.unlocked in
       let given = gives_from OutOfRange list index from otherwise here refl in
-      let after = InCall left otherwise (slice_set rows from None) in
+      let after = InCall counters otherwise (slice_set rows from None) in
       let taken : (found : ℕ) → Taken code g found after (ReleaseLoad given.row (ByVariable from)) (Settle ∷ []) =
       λ found. record {
         placed = (
           without_items (put s from Empty),
-          next_given code g left at rows s OutOfRange i Fault otherwise from here here.variables.2
+          next_given code g counters at rows s OutOfRange i Fault otherwise from here here.variables.2
               (here.leads Fault otherwise refl),
           guards-without (put s from Empty) (slice_set rows from None) s.locked g.locked
               (guards-put s rows from Empty None s.locked g.locked free here.guards),
           record { each = given.each },
         );
         starts = Gives given.row (ByVariable from) (Settle ∷ []) given.some;
-        follows = Settles (in_call_stays left otherwise (slice_set rows from None));
+        follows = Settles (in_call_stays counters otherwise (slice_set rows from None));
         keeps = λ x locked.
             gives_keeps g.bag g.thread given.row x from s.locked (ReleaseLoad given.row (ByVariable from)) free
-            (λ k object. refl) (lock_inside code g left at rows s OutOfRange i here x locked);
+            (λ k object. refl) (lock_inside code g counters at rows s OutOfRange i here x locked);
       } in
       taken_with_row code g given.row (row_of rows from)
       (λ item. Does (ReleaseLoad item (ByVariable from)) (Settle ∷ []) (always after)) given.is_row taken
@@ -148,24 +150,24 @@ module _ (code : List Instr) (g : Scene) (left at : ℕ) (rows : List (Option �
 
   put_inside : (list index from otherwise : ℕ)
       → StandsInside code g at rows s InRange (Put list index from otherwise)
-      → IsTaken code g (dispatch_inside left at rows InRange (Some (Put list index from otherwise)))
+      → IsTaken code g (dispatch_inside counters at rows InRange (Some (Put list index from otherwise)))
   put_inside list index from otherwise here =
       let i = Put list index from otherwise in
-      let named = named_inside code g left at rows s InRange i from here (first_false _ _ here.met.not_empty) in
+      let named = named_inside code g counters at rows s InRange i from here (first_false _ _ here.met.not_empty) in
       let item = named.object in
-      let holds = holds_still code g left at rows s InRange i here refl in
-      let taken : (found : ℕ) → Taken code g found (Inside left at rows Retained) (RetainLoad item InFlight) [] =
+      let holds = holds_still code g counters at rows s InRange i here refl in
+      let taken : (found : ℕ) → Taken code g found (Inside counters at rows Retained) (RetainLoad item InFlight) [] =
       λ found. record {
         placed =
-            inside_fits code g.bag g.thread (RetainLoad item InFlight ∷ []) g.locked left at rows s Retained i
+            inside_fits code g.bag g.thread (RetainLoad item InFlight ∷ []) g.locked counters at rows s Retained i
             (Some item) here.found named.is_row refl here.inside here.guards
             (record { each = flight_held item holds });
         starts = Takes item InFlight [] named.backs;
-        follows = Nothing (inside_stays left at rows Retained);
-        keeps = all_kept code g left at rows s InRange i (RetainLoad item InFlight) here (λ k object. refl);
+        follows = Nothing (inside_stays counters at rows Retained);
+        keeps = all_kept code g counters at rows s InRange i (RetainLoad item InFlight) here (λ k object. refl);
       } in
       taken_with_row code g item (row_of rows from)
-      (λ x. Does (RetainLoad x InFlight) [] (always (Inside left at rows Retained))) named.is_row taken
+      (λ x. Does (RetainLoad x InFlight) [] (always (Inside counters at rows Retained))) named.is_row taken
 
   -- The reference in flight goes into the cell.
   stored_held : (item : ℕ) → Holds g.bag g.thread (of_inside (Some item) s rows) → (k : Holding) (object : ℕ)
@@ -179,36 +181,36 @@ module _ (code : List Instr) (g : Scene) (left at : ℕ) (rows : List (Option �
 
   retained_inside : (list index from otherwise : ℕ)
       → StandsInside code g at rows s Retained (Put list index from otherwise)
-      → IsTaken code g (dispatch_inside left at rows Retained (Some (Put list index from otherwise)))
+      → IsTaken code g (dispatch_inside counters at rows Retained (Some (Put list index from otherwise)))
   retained_inside list index from otherwise here =
       let i = Put list index from otherwise in
-      let source = named_inside code g left at rows s Retained i from here (first_false _ _ here.met.not_empty) in
+      let source = named_inside code g counters at rows s Retained i from here (first_false _ _ here.met.not_empty) in
       let item = source.object in
       let named =
-      named_inside code g left at rows s Retained i list here
+      named_inside code g counters at rows s Retained i list here
       (first_false _ _ (second_false (is_empty (slot_of s from)) _ here.met.not_empty)) in
       let row = named.object in
       let has =
-      uses_locked code g left at rows s Retained i list row here (not-false _ (first_false _ _ here.met.has_lock))
+      uses_locked code g counters at rows s Retained i list row here (not-false _ (first_false _ _ here.met.has_lock))
       named.is_row in
       let holds : Holds g.bag g.thread (of_inside (Some item) s rows) =
       subst (λ (f : Option ℕ). Holds g.bag g.thread (of_inside f s rows)) source.is_row here.holds in
       let one : held (reference_of g.thread InFlight item) g.bag ≡ 1 =
       holds.each InFlight item ∙ ap one_if (eq-eqb item item refl) in
-      let after = InCall left (at + 1) rows in
+      let after = InCall counters (at + 1) rows in
       let taken : (found : ℕ) → Taken code g found after (CellSwap row index item InFlight) (Settle ∷ []) =
       λ found. record {
         placed = (
           without_items s,
-          next_without code g left at rows s Retained i Success (at + 1) here (here.leads Success (at + 1) refl),
+          next_without code g counters at rows s Retained i Success (at + 1) here (here.leads Success (at + 1) refl),
           guards-without s rows s.locked g.locked here.guards,
           record { each = stored_held item holds },
         );
         starts =
             Swaps row index item InFlight (Settle ∷ []) named.backs has (here.cell row named.is_row)
             (omega (arith, one, held-le-references_to (reference_of g.thread InFlight item) g.bag));
-        follows = Settles (in_call_stays left (at + 1) rows);
-        keeps = flight_kept code g left at rows s Retained i row index item here;
+        follows = Settles (in_call_stays counters (at + 1) rows);
+        keeps = flight_kept code g counters at rows s Retained i row index item here;
       } in
       taken_with_row code g row (row_of rows list)
       (λ x. with_row (row_of rows from)
@@ -219,13 +221,13 @@ module _ (code : List Instr) (g : Scene) (left at : ℕ) (rows : List (Option �
   -- ---- any stage of any instruction
 
   pub inside_taken : (i : Instr) (stage : Stage) → StandsInside code g at rows s stage i
-      → IsTaken code g (dispatch_inside left at rows stage (Some i))
+      → IsTaken code g (dispatch_inside counters at rows stage (Some i))
   inside_taken (Borrow to list index otherwise) InRange here =
-      borrow_inside code g left at rows s to list index otherwise here
+      borrow_inside code g counters at rows s to list index otherwise here
   inside_taken (Fetch to list index otherwise) InRange here =
-      fetch_inside code g left at rows s to list index otherwise here
+      fetch_inside code g counters at rows s to list index otherwise here
   inside_taken (Fetch to list index otherwise) (Found item) here =
-      found_inside code g left at rows s to list index otherwise item here
+      found_inside code g counters at rows s to list index otherwise item here
   inside_taken (Set list index from otherwise) InRange here = set_inside list index from otherwise here
   inside_taken (Set list index from otherwise) OutOfRange here = refused_inside list index from otherwise here
   inside_taken (Put list index from otherwise) InRange here = put_inside list index from otherwise here

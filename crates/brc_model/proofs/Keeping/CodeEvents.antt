@@ -3,9 +3,12 @@ use Rattle.std.proofs.Common.{◌≡◌, ℕ, false, List, [], ◌∷◌, Option
 use Rattle.std.specs.Prelude.{◌||◌, slice_get}
 use Rattle.brc_lang.specs.declared.module.Module.{Module}
 use Rattle.brc_model.specs.declared.duty.Duty.{Duty}
+use Rattle.brc_model.specs.declared.actor.Place.{Place}
+use Rattle.brc_model.specs.AbstractState.{Move, are_allowed}
 use Rattle.brc_model.specs.declared.thread.Choice.{Choice}
 use Rattle.brc_model.specs.Machine.{with_actor, with_moves}
-use Rattle.brc_model.specs.Actions.{StepActor, Action, Skip, Stuck, Silent, Does, action_of}
+use Rattle.brc_model.specs.declared.slot.Exit.{Exit}
+use Rattle.brc_model.specs.Actions.{StepActor, Action, Skip, Stuck, Silent, Calls, Does, exit_of, action_of}
 use Rattle.brc_model.specs.StepMachine.{StepMachine, counting, of_thread, at_place, step_actor, silent_by, machine_by, next_machine, machine_after}
 use Rattle.brc_model.specs.Events.{is_bad_action, chooses_unfit, is_bad_event}
 use Rattle.brc_model.proofs.Basics.Lists.{written_actor}
@@ -25,17 +28,15 @@ use Rattle.brc_model.proofs.Keeping.KindsHold.{thread_holds}
 use Rattle.brc_model.proofs.Keeping.ItemsHold.{thread_items}
 use Rattle.brc_model.specs.KnownKinds.{KindsHold}
 use Rattle.brc_model.specs.Items.{ItemsAreThere}
-use Rattle.brc_model.proofs.Dispatch.Actions.{ActionFits, action_fits}
+use Rattle.brc_model.proofs.Dispatch.Actions.{SilentFits, ActionFits, action_fits}
 
--- An action that fits its thread keeps both layers of the invariant and isn't bad.
-action_keeps : (p : Module) (n : ℕ) (m : StepMachine) (t : ℕ) (a : StepActor) (x : Action)
+-- A silent step that fits its thread keeps both layers of the invariant, and its moves are allowed.
+silent_keeps : (p : Module) (n : ℕ) (m : StepMachine) (t : ℕ) (a : StepActor) (moves : List Move) (place : Place)
     → (whole : CodeInvariant p n m)
-    → slice_get m.actors t ≡ Some a → ActionFits p whole.accounts n m t a x → KindsHold (machine_by m t a x)
-    → ItemsAreThere (machine_by m t a x)
-    → KeepsOn p n (is_bad_action m t a x) (machine_by m t a x)
-action_keeps p n m t a Skip whole found fits kinds items = (refl, whole)
-action_keeps p n m t a Stuck whole found fits kinds items = absurd fits
-action_keeps p n m t a (Silent moves place) whole found fits kinds items =
+    → slice_get m.actors t ≡ Some a → SilentFits p whole.accounts n m t a moves place
+    → KindsHold (silent_by m t a moves place) → ItemsAreThere (silent_by m t a moves place)
+    → KeepsOn p n (not (are_allowed m.layout m.abstract moves)) (silent_by m t a moves place)
+silent_keeps p n m t a moves place whole found fits kinds items =
     let c = whole.accounts in
     let new = with_account c t fits.account in
     let own = whole.coded t a found in
@@ -71,7 +72,32 @@ action_keeps p n m t a (Silent moves place) whole found fits kinds items =
             }) whole.coded;
       },
     )
-action_keeps p n m t a (Does d rest place) whole found fits kinds items =
+
+-- An action that fits its thread keeps both layers of the invariant and isn't bad.
+action_keeps : (p : Module) (n : ℕ) (m : StepMachine) (t : ℕ) (a : StepActor) (exit : Exit) (x : Action)
+    → (whole : CodeInvariant p n m)
+    → slice_get m.actors t ≡ Some a → ActionFits p whole.accounts n m t a x → KindsHold (machine_by m t a exit x)
+    → ItemsAreThere (machine_by m t a exit x)
+    → KeepsOn p n (is_bad_action m t a x) (machine_by m t a exit x)
+action_keeps p n m t a exit Skip whole found fits kinds items = (refl, whole)
+action_keeps p n m t a exit Stuck whole found fits kinds items = absurd fits
+action_keeps p n m t a exit (Silent moves place) whole found fits kinds items =
+    silent_keeps p n m t a moves place whole found fits kinds items
+action_keeps p n m t a exit (Calls place) whole found fits kinds items =
+    let quiet = (silent_keeps p n m t a [] (place exit) whole found (fits exit)
+    (record { named = kinds.named; known = kinds.known }) items).1 in (
+      refl,
+      record {
+        accounts = quiet.accounts;
+        kept = quiet.kept;
+        functions = quiet.functions;
+        mortal = quiet.mortal;
+        kinds = kinds;
+        items = items;
+        coded = quiet.coded;
+      },
+    )
+action_keeps p n m t a exit (Does d rest place) whole found fits kinds items =
     let c = whole.accounts in
     let new = with_account c t fits.account in
     let now = sitting a.actor (d ∷ rest) in
@@ -85,7 +111,7 @@ action_keeps p n m t a (Does d rest place) whole found fits kinds items =
         accounts = new;
         kept =
             subst (Invariant new n)
-            (taken_up_step (counting m) t a.actor d rest ∙ counting_done m t a d rest place) done.1;
+            (taken_up_step (counting m) t a.actor d rest ∙ counting_done m t a exit d rest place) done.1;
         functions = whole.functions;
         mortal = whole.mortal;
         kinds = kinds;
@@ -110,11 +136,11 @@ thread_keeps : (p : Module) (n : ℕ) (m : StepMachine) (t : ℕ) (choice : Choi
     → KeepsOn p n
     (of_thread false
     (λ a. is_bad_action m t a (action_of m.functions m.layout t a choice) || chooses_unfit m a choice) o)
-    (of_thread m (λ a. machine_by m t a (action_of m.functions m.layout t a choice)) o)
+    (of_thread m (λ a. machine_by m t a (exit_of choice) (action_of m.functions m.layout t a choice)) o)
 thread_keeps p n m t choice None whole found = (refl, whole)
 thread_keeps p n m t choice (Some a) whole found =
     let kept =
-    action_keeps p n m t a (action_of m.functions m.layout t a choice) whole found
+    action_keeps p n m t a (exit_of choice) (action_of m.functions m.layout t a choice) whole found
     (action_fits p n m t a choice whole found) (thread_holds p n m t choice (Some a) whole found)
     (thread_items p n m t choice (Some a) whole found) in
     (ap (λ (b : Bool). b || chooses_unfit m a choice) kept.0 ∙ choice_fit p n m t a choice whole found, kept.1)

@@ -16,7 +16,8 @@ use Rattle.brc_model.specs.Threads.{code_of}
 use Rattle.brc_model.specs.Accounts.{Accounts}
 use Rattle.brc_model.specs.Counting.{with_account}
 use Rattle.brc_model.specs.Machine.{Actor, Machine, with_actor}
-use Rattle.brc_model.specs.Actions.{StepActor, Action, Skip, Stuck, Silent, Does, action_of}
+use Rattle.brc_model.specs.declared.slot.Exit.{Exit}
+use Rattle.brc_model.specs.Actions.{StepActor, Action, Skip, Stuck, Silent, Calls, Does, exit_of, action_of}
 use Rattle.brc_model.specs.StepMachine.{StepMachine, counting, of_thread, at_place, step_actor, machine_by, first_machine, main_actor, worker_actor}
 use Rattle.brc_model.specs.KnownKinds.{kind_words}
 use Rattle.brc_model.specs.Items.{KnowsItems, ItemsAreThere}
@@ -72,11 +73,11 @@ lists_shown n = record {
 -- ---- the thread's own list
 
 -- A duty that drops no items leaves the thread's own list, too.
-own_stays : (p : Module) (c : Accounts) (n : ℕ) (m : StepMachine) (t : ℕ) (a : StepActor) (d : Duty) (rest : List Duty)
-    (place : ℕ → Place) → ActionFits p c n m t a (Does d rest place)
-    → StoredStay (kind_words m) (kind_words (machine_by m t a (Does d rest place))) → drops_items d ≡ false
-    → ItemsStay m.memory (machine_by m t a (Does d rest place)).memory a.actor.locked
-own_stays p c n m t a d rest place fits stored keeps = record {
+own_stays : (p : Module) (c : Accounts) (n : ℕ) (m : StepMachine) (t : ℕ) (a : StepActor) (exit : Exit) (d : Duty)
+    (rest : List Duty) (place : ℕ → Place) → ActionFits p c n m t a (Does d rest place)
+    → StoredStay (kind_words m) (kind_words (machine_by m t a exit (Does d rest place))) → drops_items d ≡ false
+    → ItemsStay m.memory (machine_by m t a exit (Does d rest place)).memory a.actor.locked
+own_stays p c n m t a exit d rest place fits stored keeps = record {
   kinds = stored;
   cells = λ x i has.
       own_items_left (with_account c t fits.account) n (with_actor (counting m) t (sitting a.actor (d ∷ rest))) t
@@ -93,22 +94,25 @@ finds m t a _ = tt
 -- ---- after each event
 
 -- The thread is at the place that its action leads to, and the others are where they were.
-acted : (p : Module) (c : Accounts) (n : ℕ) (m : StepMachine) (t : ℕ) (a : StepActor) (x : Action)
+acted : (p : Module) (c : Accounts) (n : ℕ) (m : StepMachine) (t : ℕ) (a : StepActor) (exit : Exit)
+    (x : Action)
     → slice_get m.actors t ≡ Some a → ActionFits p c n m t a x
-    → StoredStay (kind_words m) (kind_words (machine_by m t a x)) → ItemsAreThere m
-    → ((u : ℕ) (b : StepActor) → u ≢ t → slice_get m.actors u ≡ Some b → Knows m (machine_by m t a x).memory b)
+    → StoredStay (kind_words m) (kind_words (machine_by m t a exit x)) → ItemsAreThere m
+    → ((u : ℕ) (b : StepActor) → u ≢ t → slice_get m.actors u ≡ Some b → Knows m (machine_by m t a exit x).memory b)
     → LeavesItems (code_of (slice_get m.functions a.function)) m.memory a.actor.locked x
-    → ItemsAreThere (machine_by m t a x)
-acted p c n m t a Skip found fits stored there others own = there
-acted p c n m t a Stuck found fits stored there others own = there
-acted p c n m t a (Silent moves place) found fits stored there others own =
+    → ItemsAreThere (machine_by m t a exit x)
+acted p c n m t a exit Skip found fits stored there others own = there
+acted p c n m t a exit Stuck found fits stored there others own = there
+acted p c n m t a exit (Silent moves place) found fits stored there others own =
     written_others (λ u b. Knows m m.memory b) m.actors t a (at_place a place) found own others
-acted p c n m t a (Does d rest place) found fits stored there others own =
+acted p c n m t a exit (Calls place) found fits stored there others own =
+    written_others (λ u b. Knows m m.memory b) m.actors t a (at_place a (place exit)) found (own exit) others
+acted p c n m t a exit (Does d rest place) found fits stored there others own =
     let word = found_by (counting m) t a.actor d in
-    let new = (machine_by m t a (Does d rest place)).memory in
+    let new = (machine_by m t a exit (Does d rest place)).memory in
     let done : IsAfter m.memory new a.actor.locked d word = record {
       finds = finds m t a d;
-      keeps = own_stays p c n m t a d rest place fits stored;
+      keeps = own_stays p c n m t a exit d rest place fits stored;
     } in
     written_others (λ u b. Knows m new b) m.actors t a (step_actor m.layout t a d rest (place word) word) found
     (own new word done) others
@@ -116,15 +120,16 @@ acted p c n m t a (Does d rest place) found fits stored there others own =
 -- Borrowed items are there after each event, whatever thread and choice it has.
 pub thread_items : (p : Module) (n : ℕ) (m : StepMachine) (t : ℕ) (choice : Choice) (o : Option StepActor)
     → CodeInvariant p n m → slice_get m.actors t ≡ o
-    → ItemsAreThere (of_thread m (λ a. machine_by m t a (action_of m.functions m.layout t a choice)) o)
+    → ItemsAreThere (of_thread m (λ a. machine_by m t a (exit_of choice) (action_of m.functions m.layout t a choice)) o)
 thread_items p n m t choice None whole found = whole.items
 thread_items p n m t choice (Some a) whole found =
+    let exit = exit_of choice in
     let x = action_of m.functions m.layout t a choice in
     let stored = thread_stored p n m t choice (Some a) whole found in
     let lists = thread_shows (lists_shown n) m t choice (Some a) whole found in
     let others : (u : ℕ) (b : StepActor) → u ≢ t → slice_get m.actors u ≡ Some b
-    → Knows m (machine_by m t a x).memory b = λ u b apart is.
-    knows_stay m.memory (machine_by m t a x).memory b.actor.locked
+    → Knows m (machine_by m t a exit x).memory b = λ u b apart is.
+    knows_stay m.memory (machine_by m t a exit x).memory b.actor.locked
     (record { kinds = stored; cells = λ y i has. lists u y i b.actor apart (its_found m u b is) has })
     (code_of (slice_get m.functions b.function)) b.place (whole.items u b is) in
     let coded = whole.coded t a found in
@@ -141,5 +146,5 @@ thread_items p n m t choice (Some a) whole found =
           (whole.accounts t)) (sym whole.functions) coded.says;
       knows = whole.items t a found;
     } in
-    acted p whole.accounts n m t a x found (action_fits p n m t a choice whole found) stored whole.items others
+    acted p whole.accounts n m t a exit x found (action_fits p n m t a choice whole found) stored whole.items others
     (action_uses m.functions m.memory m.layout t a choice coded.plain stands)

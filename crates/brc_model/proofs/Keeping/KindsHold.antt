@@ -12,7 +12,8 @@ use Rattle.brc_model.specs.declared.duty.Duty.{Duty}
 use Rattle.brc_model.specs.declared.duty.Duty.TheVariants.{KindLoad, BirthKind}
 use Rattle.brc_model.specs.Paths.{IsAcceptableCode}
 use Rattle.brc_model.specs.Threads.{code_of}
-use Rattle.brc_model.specs.Actions.{StepActor, Action, Skip, Stuck, Silent, Does, action_of}
+use Rattle.brc_model.specs.declared.slot.Exit.{Exit}
+use Rattle.brc_model.specs.Actions.{StepActor, Action, Skip, Stuck, Silent, Calls, Does, exit_of, action_of}
 use Rattle.brc_model.specs.StepMachine.{StepMachine, counting, of_thread, at_place, step_actor, machine_by, next_machine, first_machine, main_actor, worker_actor}
 use Rattle.brc_model.specs.KnownKinds.{KnowsKinds, kind_words, KindsAreKnown, KindsHold}
 use Rattle.brc_model.proofs.Basics.Lists.{some_is, slice_get-map, written_actor}
@@ -61,7 +62,7 @@ stays_shown n = record {
 pub thread_stored : (p : Module) (n : ℕ) (m : StepMachine) (t : ℕ) (choice : Choice) (o : Option StepActor)
     → CodeInvariant p n m → slice_get m.actors t ≡ o
     → StoredStay (kind_words m)
-    (kind_words (of_thread m (λ a. machine_by m t a (action_of m.functions m.layout t a choice)) o))
+    (kind_words (of_thread m (λ a. machine_by m t a (exit_of choice) (action_of m.functions m.layout t a choice)) o))
 thread_stored p n m t choice o whole found = thread_shows (stays_shown n) m t choice o whole found
 
 pub stored_stay : (p : Module) (n : ℕ) (m : StepMachine) (event : ℕ × Choice) → CodeInvariant p n m
@@ -71,39 +72,44 @@ stored_stay p n m event whole = thread_stored p n m event.0 event.1 (slice_get m
 -- ---- kinds
 
 -- What the duty of the action stores or finds in kind words is there after it.
-sees : (m : StepMachine) (t : ℕ) (a : StepActor) (d : Duty) (rest : List Duty) (place : ℕ → Place)
-    → SeesKind (kind_words (machine_by m t a (Does d rest place))) d (found_by (counting m) t a.actor d)
-sees m t a (BirthKind y h w) rest place = written_here m.memory (KindOf y) w
-sees m t a (KindLoad y) rest place = sym (written_load m.memory (KindOf y) (KindOf y))
-sees m t a _ rest place = tt
+sees : (m : StepMachine) (t : ℕ) (a : StepActor) (exit : Exit) (d : Duty) (rest : List Duty) (place : ℕ → Place)
+    → SeesKind (kind_words (machine_by m t a exit (Does d rest place))) d (found_by (counting m) t a.actor d)
+sees m t a exit (BirthKind y h w) rest place = written_here m.memory (KindOf y) w
+sees m t a exit (KindLoad y) rest place = sym (written_load m.memory (KindOf y) (KindOf y))
+sees m t a exit _ rest place = tt
 
 -- The thread is at the place that its action leads to, and the others are where they were.
-acted : (m : StepMachine) (t : ℕ) (a : StepActor) (x : Action) → slice_get m.actors t ≡ Some a
+acted : (m : StepMachine) (t : ℕ) (a : StepActor) (exit : Exit) (x : Action) → slice_get m.actors t ≡ Some a
     → ((u : ℕ) (b : StepActor) → slice_get m.actors u ≡ Some b
-    → KnowsKinds (code_of (slice_get m.functions b.function)) (kind_words (machine_by m t a x)) b.place)
-    → Leaves (code_of (slice_get m.functions a.function)) (kind_words (machine_by m t a x)) x
-    → KindsAreKnown (machine_by m t a x)
-acted m t a Skip found others own = others
-acted m t a Stuck found others own = others
-acted m t a (Silent moves place) found others own =
+    → KnowsKinds (code_of (slice_get m.functions b.function)) (kind_words (machine_by m t a exit x)) b.place)
+    → Leaves (code_of (slice_get m.functions a.function)) (kind_words (machine_by m t a exit x)) x
+    → KindsAreKnown (machine_by m t a exit x)
+acted m t a exit Skip found others own = others
+acted m t a exit Stuck found others own = others
+acted m t a exit (Silent moves place) found others own =
     written_actor
     (λ u b. KnowsKinds (code_of (slice_get m.functions b.function)) (kind_words m) b.place) m.actors t a
     (at_place a place) found own others
-acted m t a (Does d rest place) found others own =
+acted m t a exit (Calls place) found others own =
+    written_actor
+    (λ u b. KnowsKinds (code_of (slice_get m.functions b.function)) (kind_words m) b.place) m.actors t a
+    (at_place a (place exit)) found (own exit) others
+acted m t a exit (Does d rest place) found others own =
     let word = found_by (counting m) t a.actor d in
     written_actor
     (λ u b. KnowsKinds (code_of (slice_get m.functions b.function))
-    (kind_words (machine_by m t a (Does d rest place))) b.place) m.actors t a
-    (step_actor m.layout t a d rest (place word) word) found (own word (sees m t a d rest place)) others
+    (kind_words (machine_by m t a exit (Does d rest place))) b.place) m.actors t a
+    (step_actor m.layout t a d rest (place word) word) found (own word (sees m t a exit d rest place)) others
 
 -- The kinds hold after each event, whatever thread and choice it has.
 pub thread_holds : (p : Module) (n : ℕ) (m : StepMachine) (t : ℕ) (choice : Choice) (o : Option StepActor)
     → CodeInvariant p n m → slice_get m.actors t ≡ o
-    → KindsHold (of_thread m (λ a. machine_by m t a (action_of m.functions m.layout t a choice)) o)
+    → KindsHold (of_thread m (λ a. machine_by m t a (exit_of choice) (action_of m.functions m.layout t a choice)) o)
 thread_holds p n m t choice None whole found = whole.kinds
 thread_holds p n m t choice (Some a) whole found =
+    let exit = exit_of choice in
     let x = action_of m.functions m.layout t a choice in
-    let new = kind_words (machine_by m t a x) in
+    let new = kind_words (machine_by m t a exit x) in
     let stays : StoredStay (kind_words m) new = thread_stored p n m t choice (Some a) whole found in
     let named = named_stay (kind_words m) new stays whole.kinds.named in
     let others : (u : ℕ) (b : StepActor) → slice_get m.actors u ≡ Some b
@@ -129,5 +135,5 @@ thread_holds p n m t choice (Some a) whole found =
     record {
       named = named;
       known =
-          acted m t a x found others (action_leaves m.functions new m.layout t a choice stands);
+          acted m t a exit x found others (action_leaves m.functions new m.layout t a choice stands);
     }

@@ -1,13 +1,14 @@
 -- A property of every event follows from four cases: nothing happens, the thread takes up duties before its step, the
 -- thread takes a silent step, or the thread does its first duty. All of it is said of the counting machine.
-use Rattle.std.proofs.Common.{◌≡◌, ℕ, List, ◌∷◌, Option, None, Some, refl, ◌∙◌, subst}
+use Rattle.std.proofs.Common.{◌≡◌, ℕ, List, [], ◌∷◌, Option, None, Some, refl, ◌∙◌, subst}
 use Rattle.std.specs.Prelude.{slice_get}
 use Rattle.brc_lang.specs.declared.module.Module.{Module}
 use Rattle.brc_model.specs.AbstractState.{Move}
 use Rattle.brc_model.specs.declared.duty.Duty.{Duty}
 use Rattle.brc_model.specs.declared.thread.Choice.{Choice}
 use Rattle.brc_model.specs.Machine.{Actor, Machine, done_by, with_actor, with_moves}
-use Rattle.brc_model.specs.Actions.{StepActor, Action, Skip, Stuck, Silent, Does, action_of}
+use Rattle.brc_model.specs.declared.slot.Exit.{Exit}
+use Rattle.brc_model.specs.Actions.{StepActor, Action, Skip, Stuck, Silent, Calls, Does, exit_of, action_of}
 use Rattle.brc_model.specs.StepMachine.{StepMachine, counting, of_thread, does_by, machine_by, next_machine}
 use Rattle.brc_model.proofs.Keeping.SilentMoves.{SilentMoves}
 use Rattle.brc_model.proofs.Keeping.Sits.{sitting, taken_up_step}
@@ -16,7 +17,7 @@ use Rattle.brc_model.specs.Accounts.{Accounts}
 use Rattle.brc_model.specs.Invariant.{AtDuty, Invariant}
 use Rattle.brc_model.proofs.Keeping.Kept.{Doing}
 use Rattle.brc_model.proofs.Keeping.CodeInvariant.{CodeInvariant}
-use Rattle.brc_model.proofs.Dispatch.Counting.{its_found, counting_silent, counting_done}
+use Rattle.brc_model.proofs.Dispatch.Counting.{its_found, counting_silent, counting_called, counting_done}
 use Rattle.brc_model.proofs.Dispatch.Actions.{ActionFits, action_fits}
 
 -- The four cases, for a property of the thread's number, of the machine before and of the machine after.
@@ -40,30 +41,34 @@ pub at_duty : {p : Accounts} {n : ℕ} {m : Machine} {t : ℕ} {a : Actor} {d : 
 at_duty doing = record { core = doing.kept.core; found = doing.found; agenda = doing.agenda }
 
 action_shows : {Q : ℕ → Machine → Machine → Type 0} {p : Module} {n : ℕ} → ShowsSteps Q n
-    → (m : StepMachine) (t : ℕ) (a : StepActor) (x : Action) → (whole : CodeInvariant p n m)
+    → (m : StepMachine) (t : ℕ) (a : StepActor) (exit : Exit) (x : Action) → (whole : CodeInvariant p n m)
     → slice_get m.actors t ≡ Some a
     → ActionFits p whole.accounts n m t a x
-    → Q t (counting m) (counting (machine_by m t a x))
-action_shows shows m t a Skip whole found fits = shows.stays whole.accounts t (counting m) whole.kept
-action_shows shows m t a Stuck whole found fits = absurd fits
-action_shows {Q = Q} shows m t a (Silent moves place) whole found fits =
+    → Q t (counting m) (counting (machine_by m t a exit x))
+action_shows shows m t a exit Skip whole found fits = shows.stays whole.accounts t (counting m) whole.kept
+action_shows shows m t a exit Stuck whole found fits = absurd fits
+action_shows {Q = Q} shows m t a exit (Silent moves place) whole found fits =
     subst (Q t (counting m)) (counting_silent m t a moves place)
     (shows.moves whole.accounts t (counting m) a.actor moves whole.kept fits.at.found fits.sits.moves_fit)
-action_shows {Q = Q} shows m t a (Does d rest place) whole found fits =
+action_shows {Q = Q} shows m t a exit (Calls place) whole found fits =
+    let silent = fits exit in
+    subst (Q t (counting m)) (counting_called m t a exit place)
+    (shows.moves whole.accounts t (counting m) a.actor [] whole.kept silent.at.found silent.sits.moves_fit)
+action_shows {Q = Q} shows m t a exit (Does d rest place) whole found fits =
     let now = sitting a.actor (d ∷ rest) in
     let done =
     shows.does (with_account whole.accounts t fits.account) t (with_actor (counting m) t now) now d rest fits.doing in
-    shows.sits t (counting m) (counting (does_by m t a d rest place)) a.actor (d ∷ rest) (its_found m t a found)
+    shows.sits t (counting m) (counting (does_by m t a exit d rest place)) a.actor (d ∷ rest) (its_found m t a found)
     (subst (Q t (with_actor (counting m) t now))
-    (taken_up_step (counting m) t a.actor d rest ∙ counting_done m t a d rest place) done)
+    (taken_up_step (counting m) t a.actor d rest ∙ counting_done m t a exit d rest place) done)
 
 pub thread_shows : {Q : ℕ → Machine → Machine → Type 0} {p : Module} {n : ℕ} → ShowsSteps Q n
     → (m : StepMachine) (t : ℕ) (choice : Choice) (o : Option StepActor) → CodeInvariant p n m
     → slice_get m.actors t ≡ o
-    → Q t (counting m) (counting (of_thread m (λ a. machine_by m t a (action_of m.functions m.layout t a choice)) o))
+    → Q t (counting m) (counting (of_thread m (λ a. machine_by m t a (exit_of choice) (action_of m.functions m.layout t a choice)) o))
 thread_shows shows m t choice None whole found = shows.stays whole.accounts t (counting m) whole.kept
 thread_shows {p = p} {n = n} shows m t choice (Some a) whole found =
-    action_shows shows m t a (action_of m.functions m.layout t a choice) whole found
+    action_shows shows m t a (exit_of choice) (action_of m.functions m.layout t a choice) whole found
     (action_fits p n m t a choice whole found)
 
 -- The property holds of every event.

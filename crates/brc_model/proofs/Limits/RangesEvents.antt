@@ -2,14 +2,17 @@
 use Rattle.std.proofs.Common.{◌≡◌, ℕ, ◌+◌, List, [], ◌∷◌, length, Option, None, Some, refl, subst}
 use Rattle.std.specs.Prelude.{slice_get}
 use Rattle.brc_lang.specs.declared.module.Module.{Module}
+use Rattle.brc_model.specs.AbstractState.{Move}
+use Rattle.brc_model.specs.Machine.{with_actor, with_moves}
 use Rattle.brc_model.specs.declared.thread.Call.{Call}
 use Rattle.brc_model.specs.declared.thread.Choice.{Choice}
 use Rattle.brc_model.proofs.Basics.Lists.{written_actor}
-use Rattle.brc_model.specs.Actions.{StepActor, Action, Skip, Stuck, Silent, Does, action_of}
+use Rattle.brc_model.specs.declared.slot.Exit.{Exit}
+use Rattle.brc_model.specs.Actions.{StepActor, Action, Skip, Stuck, Silent, Calls, Does, exit_of, action_of}
 use Rattle.brc_model.specs.StepMachine.{StepMachine, counting, of_thread, machine_by, next_machine, machine_after, first_layout, first_machine}
 use Rattle.brc_model.proofs.Keeping.FirstCounts.{rooted_ranges}
 use Rattle.brc_model.proofs.Keeping.FirstMachine.{first_rooted}
-use Rattle.brc_model.proofs.Dispatch.Counting.{its_found, counting_silent, counting_done}
+use Rattle.brc_model.proofs.Dispatch.Counting.{its_found, counting_silent, counting_called, counting_done}
 use Rattle.brc_model.proofs.Keeping.CodeInvariant.{CodeInvariant}
 use Rattle.brc_model.proofs.Dispatch.Actions.{ActionFits, action_fits}
 use Rattle.brc_model.proofs.Keeping.CodeEvents.{event_keeps}
@@ -17,15 +20,13 @@ use Rattle.brc_model.specs.Ranges.{AreSmall, Ranges}
 use Rattle.brc_model.proofs.Limits.Ranges.{head_small, duty_ranges}
 use Rattle.brc_model.specs.Layout.{row_count}
 
-action_ranges : (p : Module) (n : ℕ) (m : StepMachine) (t : ℕ) (a : StepActor) (x : Action)
-    → (whole : CodeInvariant p n m)
-    → Ranges n (counting m) → slice_get m.actors t ≡ Some a → ActionFits p whole.accounts n m t a x
-    → Ranges n (counting (machine_by m t a x))
-action_ranges p n m t a Skip whole ranges found fits = ranges
-action_ranges p n m t a Stuck whole ranges found fits = ranges
-action_ranges p n m t a (Silent moves place) whole ranges found fits =
+-- A step on no word leaves the thread's duties as they are.
+quiet_ranges : (p : Module) (n : ℕ) (m : StepMachine) (t : ℕ) (a : StepActor) (moves : List Move)
+    → Ranges n (counting m) → slice_get m.actors t ≡ Some a
+    → Ranges n (with_moves (with_actor (counting m) t a.actor) moves)
+quiet_ranges p n m t a moves ranges found =
     let there = its_found m t a found in
-    subst (Ranges n) (counting_silent m t a moves place) (record {
+    record {
       kinds = ranges.kinds;
       each =
           written_actor (λ u c. AreSmall (row_count m.layout) c.agenda) (counting m).actors t a.actor a.actor there
@@ -33,11 +34,22 @@ action_ranges p n m t a (Silent moves place) whole ranges found fits =
       aside =
           written_actor (λ u c. AreSmall (row_count m.layout) c.aside) (counting m).actors t a.actor a.actor there
           (ranges.aside t a.actor there) ranges.aside;
-    })
-action_ranges p n m t a (Does d rest place) whole ranges found fits =
+    }
+
+action_ranges : (p : Module) (n : ℕ) (m : StepMachine) (t : ℕ) (a : StepActor) (exit : Exit) (x : Action)
+    → (whole : CodeInvariant p n m)
+    → Ranges n (counting m) → slice_get m.actors t ≡ Some a → ActionFits p whole.accounts n m t a x
+    → Ranges n (counting (machine_by m t a exit x))
+action_ranges p n m t a exit Skip whole ranges found fits = ranges
+action_ranges p n m t a exit Stuck whole ranges found fits = ranges
+action_ranges p n m t a exit (Silent moves place) whole ranges found fits =
+    subst (Ranges n) (counting_silent m t a moves place) (quiet_ranges p n m t a moves ranges found)
+action_ranges p n m t a exit (Calls place) whole ranges found fits =
+    subst (Ranges n) (counting_called m t a exit place) (quiet_ranges p n m t a [] ranges found)
+action_ranges p n m t a exit (Does d rest place) whole ranges found fits =
     let there = its_found m t a found in
     let core = whole.kept.core in
-    subst (Ranges n) (counting_done m t a d rest place)
+    subst (Ranges n) (counting_done m t a exit d rest place)
     (duty_ranges whole.accounts n (counting m) t a.actor a.actor d rest core ranges there
     (head_small whole.accounts n (counting m) t a.actor core there) (fits.small ranges.kinds (ranges.each t a.actor there))
     (ranges.aside t a.actor there))
@@ -45,10 +57,10 @@ action_ranges p n m t a (Does d rest place) whole ranges found fits =
 thread_ranges : (p : Module) (n : ℕ) (m : StepMachine) (t : ℕ) (choice : Choice) (o : Option StepActor)
     → CodeInvariant p n m
     → Ranges n (counting m) → slice_get m.actors t ≡ o
-    → Ranges n (counting (of_thread m (λ a. machine_by m t a (action_of m.functions m.layout t a choice)) o))
+    → Ranges n (counting (of_thread m (λ a. machine_by m t a (exit_of choice) (action_of m.functions m.layout t a choice)) o))
 thread_ranges p n m t choice None whole ranges found = ranges
 thread_ranges p n m t choice (Some a) whole ranges found =
-    action_ranges p n m t a (action_of m.functions m.layout t a choice) whole ranges found
+    action_ranges p n m t a (exit_of choice) (action_of m.functions m.layout t a choice) whole ranges found
     (action_fits p n m t a choice whole found)
 
 -- Both invariants hold: that of accepted code, and the ranges.

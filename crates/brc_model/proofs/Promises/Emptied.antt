@@ -14,16 +14,18 @@ use Rattle.brc_model.specs.Duties.{address_of, continuation, new_head, ready}
 use Rattle.brc_model.specs.declared.actor.Status.{Status}
 use Rattle.brc_model.specs.declared.actor.Status.TheVariants.{Running, Leaving, Gone}
 use Rattle.brc_model.specs.declared.actor.Place.{Place}
+use Rattle.brc_model.specs.declared.actor.Counters.{Counters}
 use Rattle.brc_model.specs.declared.actor.Place.TheVariants.{Idle, InCall, Inside, Exiting}
 use Rattle.brc_model.specs.declared.actor.Stage.{Stage}
 use Rattle.brc_model.specs.declared.actor.Stage.TheVariants.{InRange, OutOfRange, Found, Retained}
 use Rattle.brc_model.specs.Machine.{Actor, Machine, is_running, actor_by, done_by, has_room}
-use Rattle.brc_model.specs.Actions.{StepActor, Action, Skip, Stuck, Silent, Does, always, with_row, dispatch_instruction, dispatch_inside, dispatch, may_claim, agenda_action, status_action, action_of}
+use Rattle.brc_model.specs.declared.slot.Exit.{Exit}
+use Rattle.brc_model.specs.Actions.{StepActor, Action, Skip, Stuck, Silent, Calls, Does, always, with_row, dispatch_instruction, dispatch_inside, dispatch, may_claim, agenda_action, status_action, exit_of, action_of, first_counters}
 use Rattle.brc_model.specs.StepMachine.{StepMachine, counting, of_thread, machine_by, next_machine, machine_after, first_machine}
 use Rattle.brc_lang.specs.declared.module.Function.{Function}
 use Rattle.brc_model.proofs.Basics.Lists.{written_actor, either}
 use Rattle.brc_model.proofs.Keeping.FirstMachine.{first_actors, each_first}
-use Rattle.brc_model.proofs.Dispatch.Counting.{its_found, counting_silent, counting_done}
+use Rattle.brc_model.proofs.Dispatch.Counting.{its_found, counting_silent, counting_called, counting_done}
 use Rattle.brc_model.proofs.Dispatch.Claims.{claimer}
 use Rattle.brc_model.proofs.Basics.Continuation.{leaves_chain, fills_chain, may_fill, is_inner, Traits, Continuation, Ends, GoesOn, Frees, Claims, ClaimsNone, Scans, ScansNone, continues}
 use Rattle.brc_model.specs.declared.layout.Layout.{Layout}
@@ -131,6 +133,7 @@ abbrev ActionEmpties : ℕ → Action → Type 0
 ActionEmpties head Skip = Unit {0}
 ActionEmpties head Stuck = Unit {0}
 ActionEmpties head (Silent moves place) = Unit {0}
+ActionEmpties head (Calls place) = Unit {0}
 ActionEmpties head (Does d rest place) = Empties head (d ∷ rest)
 
 row_empties : (o : Option ℕ) (work : ℕ → Action) → ((row : ℕ) → ActionEmpties 0 (work row))
@@ -139,67 +142,68 @@ row_empties None work each = tt
 row_empties (Some row) work each = each row
 
 -- What an instruction dispatches leaves an empty chain empty once it is done.
-instruction_empties : (layout : Layout) (t used : ℕ) (before : Place) (left at : ℕ) (variables : List (Option ℕ))
+instruction_empties : (layout : Layout) (t used : ℕ) (before : Place) (counters : Counters) (at : ℕ)
+    (variables : List (Option ℕ))
     (i : Option Instr)
-    → ActionEmpties 0 (dispatch_instruction layout t used before left at variables i)
-instruction_empties layout t used before left at variables None = tt
-instruction_empties layout t used before left at variables (Some (Num to value otherwise)) =
+    → ActionEmpties 0 (dispatch_instruction layout t used before counters at variables i)
+instruction_empties layout t used before counters at variables None = tt
+instruction_empties layout t used before counters at variables (Some (Num to value otherwise)) =
     either (ActionEmpties 0) (has_room layout t used) _ _ (λ _. refl) tt
-instruction_empties layout t used before left at variables (Some (ListObject to cells otherwise)) =
+instruction_empties layout t used before counters at variables (Some (ListObject to cells otherwise)) =
     either (ActionEmpties 0) (has_room layout t used) _ _ (λ _. refl) tt
-instruction_empties layout t used before left at variables (Some (NoneObject to)) = tt
-instruction_empties layout t used before left at variables (Some (Newref to from)) =
+instruction_empties layout t used before counters at variables (Some (NoneObject to)) = tt
+instruction_empties layout t used before counters at variables (Some (Newref to from)) =
     row_empties (row_of variables from) _ (λ row. refl)
-instruction_empties layout t used before left at variables (Some (MoveReference to from)) =
+instruction_empties layout t used before counters at variables (Some (MoveReference to from)) =
     row_empties (row_of variables from) _ (λ row. tt)
-instruction_empties layout t used before left at variables (Some (Drop from)) =
+instruction_empties layout t used before counters at variables (Some (Drop from)) =
     row_empties (row_of variables from) _ (λ row. refl)
-instruction_empties layout t used before left at variables (Some (Lock object)) =
+instruction_empties layout t used before counters at variables (Some (Lock object)) =
     row_empties (row_of variables object) _ (λ row. refl)
-instruction_empties layout t used before left at variables (Some (Unlock object)) =
+instruction_empties layout t used before counters at variables (Some (Unlock object)) =
     row_empties (row_of variables object) _ (λ row. refl)
-instruction_empties layout t used before left at variables (Some (Borrow to list index otherwise)) =
+instruction_empties layout t used before counters at variables (Some (Borrow to list index otherwise)) =
     row_empties (row_of variables list) _ (λ row. refl)
-instruction_empties layout t used before left at variables (Some (Fetch to list index otherwise)) =
+instruction_empties layout t used before counters at variables (Some (Fetch to list index otherwise)) =
     row_empties (row_of variables list) _ (λ row. refl)
-instruction_empties layout t used before left at variables (Some (Set list index from otherwise)) =
+instruction_empties layout t used before counters at variables (Some (Set list index from otherwise)) =
     row_empties (row_of variables list) _ (λ row. refl)
-instruction_empties layout t used before left at variables (Some (Put list index from otherwise)) =
+instruction_empties layout t used before counters at variables (Some (Put list index from otherwise)) =
     row_empties (row_of variables list) _ (λ row. refl)
-instruction_empties layout t used before left at variables (Some (As from kind otherwise)) =
+instruction_empties layout t used before counters at variables (Some (As from kind otherwise)) =
     row_empties (row_of variables from) _ (λ row. refl)
-instruction_empties layout t used before left at variables (Some (Goto to)) = tt
-instruction_empties layout t used before left at variables (Some (Ret from)) =
+instruction_empties layout t used before counters at variables (Some (Goto to)) = tt
+instruction_empties layout t used before counters at variables (Some (Ret from)) =
     row_empties (row_of variables from) _ (λ row. refl)
-instruction_empties layout t used before left at variables (Some Fail) = tt
+instruction_empties layout t used before counters at variables (Some Fail) = tt
 
-inside_empties : (left at : ℕ) (variables : List (Option ℕ)) (stage : Stage) (i : Option Instr)
-    → ActionEmpties 0 (dispatch_inside left at variables stage i)
-inside_empties left at variables InRange (Some (Borrow to list index otherwise)) =
+inside_empties : (counters : Counters) (at : ℕ) (variables : List (Option ℕ)) (stage : Stage) (i : Option Instr)
+    → ActionEmpties 0 (dispatch_inside counters at variables stage i)
+inside_empties counters at variables InRange (Some (Borrow to list index otherwise)) =
     row_empties (row_of variables list) _ (λ row. refl)
-inside_empties left at variables InRange (Some (Fetch to list index otherwise)) =
+inside_empties counters at variables InRange (Some (Fetch to list index otherwise)) =
     row_empties (row_of variables list) _ (λ row. refl)
-inside_empties left at variables (Found item) (Some (Fetch to list index otherwise)) = refl
-inside_empties left at variables InRange (Some (Set list index from otherwise)) =
+inside_empties counters at variables (Found item) (Some (Fetch to list index otherwise)) = refl
+inside_empties counters at variables InRange (Some (Set list index from otherwise)) =
     row_empties (row_of variables list) _ (λ row. row_empties (row_of variables from) _ (λ item. refl))
-inside_empties left at variables OutOfRange (Some (Set list index from otherwise)) =
+inside_empties counters at variables OutOfRange (Some (Set list index from otherwise)) =
     row_empties (row_of variables from) _ (λ item. refl)
-inside_empties left at variables InRange (Some (Put list index from otherwise)) =
+inside_empties counters at variables InRange (Some (Put list index from otherwise)) =
     row_empties (row_of variables from) _ (λ item. refl)
-inside_empties left at variables Retained (Some (Put list index from otherwise)) =
+inside_empties counters at variables Retained (Some (Put list index from otherwise)) =
     row_empties (row_of variables list) _ (λ row. row_empties (row_of variables from) _ (λ item. refl))
-inside_empties left at variables stage i = tt
+inside_empties counters at variables stage i = tt
 
 dispatch_empties : (layout : Layout) (t used : ℕ) (code : List Instr) (place : Place)
     → ActionEmpties 0 (dispatch layout t used code place)
 dispatch_empties layout t used code Exiting = tt
 dispatch_empties layout t used code (Idle zero) = refl
 dispatch_empties layout t used code (Idle (suc left)) =
-    instruction_empties layout t used (Idle (suc left)) left 0 entry_variables (slice_get code 0)
-dispatch_empties layout t used code (InCall left at variables) =
-    instruction_empties layout t used (InCall left at variables) left at variables (slice_get code at)
-dispatch_empties layout t used code (Inside left at variables stage) =
-    inside_empties left at variables stage (slice_get code at)
+    instruction_empties layout t used (Idle (suc left)) (first_counters left) 0 entry_variables (slice_get code 0)
+dispatch_empties layout t used code (InCall counters at variables) =
+    instruction_empties layout t used (InCall counters at variables) counters at variables (slice_get code at)
+dispatch_empties layout t used code (Inside counters at variables stage) =
+    inside_empties counters at variables stage (slice_get code at)
 
 no_chain : (head : ℕ) → Empties head [] → head ≡ 0
 no_chain zero e = refl
@@ -229,24 +233,28 @@ action_empties functions layout t a (Claim row) e =
     either (ActionEmpties a.actor.head) (may_claim layout t a row) (Does (ClaimMark row) [] (always a.place)) Skip
     (λ may. subst (Empties a.actor.head) (claimer layout t a row may).agenda e) tt
 
-action_emptied : (m : StepMachine) (t : ℕ) (a : StepActor) (x : Action) → AreEmptied (counting m)
-    → slice_get m.actors t ≡ Some a → ActionEmpties a.actor.head x → AreEmptied (counting (machine_by m t a x))
-action_emptied m t a Skip are found e = are
-action_emptied m t a Stuck are found e = are
-action_emptied m t a (Silent moves place) are found e =
+action_emptied : (m : StepMachine) (t : ℕ) (a : StepActor) (exit : Exit) (x : Action) → AreEmptied (counting m)
+    → slice_get m.actors t ≡ Some a → ActionEmpties a.actor.head x → AreEmptied (counting (machine_by m t a exit x))
+action_emptied m t a exit Skip are found e = are
+action_emptied m t a exit Stuck are found e = are
+action_emptied m t a exit (Silent moves place) are found e =
     let there = its_found m t a found in
     subst AreEmptied (counting_silent m t a moves place)
     (sets_emptied (counting m).actors t a.actor a.actor there (are t a.actor there) are)
-action_emptied m t a (Does d rest place) are found e =
-    subst AreEmptied (counting_done m t a d rest place)
+action_emptied m t a exit (Calls place) are found e =
+    let there = its_found m t a found in
+    subst AreEmptied (counting_called m t a exit place)
+    (sets_emptied (counting m).actors t a.actor a.actor there (are t a.actor there) are)
+action_emptied m t a exit (Does d rest place) are found e =
+    subst AreEmptied (counting_done m t a exit d rest place)
     (duty_emptied (counting m) t a.actor a.actor d rest are (its_found m t a found) e)
 
 thread_emptied : (m : StepMachine) (t : ℕ) (choice : Choice) (o : Option StepActor) → AreEmptied (counting m)
     → slice_get m.actors t ≡ o
-    → AreEmptied (counting (of_thread m (λ a. machine_by m t a (action_of m.functions m.layout t a choice)) o))
+    → AreEmptied (counting (of_thread m (λ a. machine_by m t a (exit_of choice) (action_of m.functions m.layout t a choice)) o))
 thread_emptied m t choice None are found = are
 thread_emptied m t choice (Some a) are found =
-    action_emptied m t a (action_of m.functions m.layout t a choice) are found
+    action_emptied m t a (exit_of choice) (action_of m.functions m.layout t a choice) are found
     (action_empties m.functions m.layout t a choice (are t a.actor (its_found m t a found)))
 
 -- ---- every machine that events lead to

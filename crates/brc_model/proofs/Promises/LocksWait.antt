@@ -17,6 +17,7 @@ use Rattle.brc_model.specs.declared.address.Address.TheVariants.{Gate}
 use Rattle.brc_model.specs.declared.actor.Status.{Status}
 use Rattle.brc_model.specs.declared.actor.Status.TheVariants.{Running, Leaving, Gone}
 use Rattle.brc_model.specs.declared.actor.Place.{Place}
+use Rattle.brc_model.specs.declared.actor.Counters.{Counters}
 use Rattle.brc_model.specs.declared.actor.Place.TheVariants.{Idle, InCall, Inside, Exiting}
 use Rattle.brc_model.specs.declared.actor.Stage.{Stage}
 use Rattle.brc_model.specs.declared.actor.Stage.TheVariants.{InRange, OutOfRange, Found, Retained}
@@ -24,7 +25,8 @@ use Rattle.brc_model.specs.declared.layout.Layout.{Layout}
 use Rattle.brc_model.specs.Threads.{row_of, entry_variables, code_of}
 use Rattle.brc_model.specs.Duties.{ready}
 use Rattle.brc_model.specs.Machine.{has_room, written}
-use Rattle.brc_model.specs.Actions.{StepActor, Action, Does, with_row, dispatch_instruction, dispatch_inside, dispatch, agenda_action, status_action, action_of}
+use Rattle.brc_model.specs.declared.slot.Exit.{Exit}
+use Rattle.brc_model.specs.Actions.{StepActor, Action, Does, with_row, dispatch_instruction, dispatch_inside, dispatch, agenda_action, status_action, exit_of, action_of, first_counters}
 use Rattle.brc_model.specs.StepMachine.{step_actor, machine_by}
 use Rattle.brc_model.specs.World.{World, world_of, machine_of, step, finds_locked, waits_for_lock, IsReachable}
 use Rattle.brc_model.proofs.Basics.Lists.{either, set_found}
@@ -49,70 +51,72 @@ row_waits : (place : Place) (o : Option ℕ) (work : ℕ → Action) → ((row :
 row_waits place None work each = tt
 row_waits place (Some row) work each = each row
 
-instruction_waits : (layout : Layout) (t used : ℕ) (place : Place) (left at : ℕ) (variables : List (Option ℕ))
-    (i : Option Instr) → WaitsAt place (dispatch_instruction layout t used place left at variables i)
-instruction_waits layout t used place left at variables None = tt
-instruction_waits layout t used place left at variables (Some (Num to value otherwise)) =
+instruction_waits : (layout : Layout) (t used : ℕ) (place : Place) (counters : Counters) (at : ℕ)
+    (variables : List (Option ℕ))
+    (i : Option Instr) → WaitsAt place (dispatch_instruction layout t used place counters at variables i)
+instruction_waits layout t used place counters at variables None = tt
+instruction_waits layout t used place counters at variables (Some (Num to value otherwise)) =
     either (WaitsAt place) (has_room layout t used) _ _ (λ room. tt) tt
-instruction_waits layout t used place left at variables (Some (ListObject to cells otherwise)) =
+instruction_waits layout t used place counters at variables (Some (ListObject to cells otherwise)) =
     either (WaitsAt place) (has_room layout t used) _ _ (λ room. tt) tt
-instruction_waits layout t used place left at variables (Some (NoneObject to)) = tt
-instruction_waits layout t used place left at variables (Some (Newref to from)) =
+instruction_waits layout t used place counters at variables (Some (NoneObject to)) = tt
+instruction_waits layout t used place counters at variables (Some (Newref to from)) =
     row_waits place (row_of variables from) _ (λ row. tt)
-instruction_waits layout t used place left at variables (Some (MoveReference to from)) =
+instruction_waits layout t used place counters at variables (Some (MoveReference to from)) =
     row_waits place (row_of variables from) _ (λ row. tt)
-instruction_waits layout t used place left at variables (Some (Drop from)) =
+instruction_waits layout t used place counters at variables (Some (Drop from)) =
     row_waits place (row_of variables from) _ (λ row. tt)
-instruction_waits layout t used place left at variables (Some (Lock object)) =
+instruction_waits layout t used place counters at variables (Some (Lock object)) =
     row_waits place (row_of variables object) _
     (λ row. record {
       alone = refl;
-      stays = λ found taken. ap (λ (b : Bool). cond b (InCall left (at + 1) variables) place) taken;
+      stays = λ found taken. ap (λ (b : Bool). cond b (InCall counters (at + 1) variables) place) taken;
     })
-instruction_waits layout t used place left at variables (Some (Unlock object)) =
+instruction_waits layout t used place counters at variables (Some (Unlock object)) =
     row_waits place (row_of variables object) _ (λ row. tt)
-instruction_waits layout t used place left at variables (Some (Borrow to list index otherwise)) =
+instruction_waits layout t used place counters at variables (Some (Borrow to list index otherwise)) =
     row_waits place (row_of variables list) _ (λ row. tt)
-instruction_waits layout t used place left at variables (Some (Fetch to list index otherwise)) =
+instruction_waits layout t used place counters at variables (Some (Fetch to list index otherwise)) =
     row_waits place (row_of variables list) _ (λ row. tt)
-instruction_waits layout t used place left at variables (Some (Set list index from otherwise)) =
+instruction_waits layout t used place counters at variables (Some (Set list index from otherwise)) =
     row_waits place (row_of variables list) _ (λ row. tt)
-instruction_waits layout t used place left at variables (Some (Put list index from otherwise)) =
+instruction_waits layout t used place counters at variables (Some (Put list index from otherwise)) =
     row_waits place (row_of variables list) _ (λ row. tt)
-instruction_waits layout t used place left at variables (Some (As from kind otherwise)) =
+instruction_waits layout t used place counters at variables (Some (As from kind otherwise)) =
     row_waits place (row_of variables from) _ (λ row. tt)
-instruction_waits layout t used place left at variables (Some (Goto to)) = tt
-instruction_waits layout t used place left at variables (Some (Ret from)) =
+instruction_waits layout t used place counters at variables (Some (Goto to)) = tt
+instruction_waits layout t used place counters at variables (Some (Ret from)) =
     row_waits place (row_of variables from) _ (λ row. tt)
-instruction_waits layout t used place left at variables (Some Fail) = tt
+instruction_waits layout t used place counters at variables (Some Fail) = tt
 
-inside_waits : (place : Place) (left at : ℕ) (variables : List (Option ℕ)) (stage : Stage) (i : Option Instr)
-    → WaitsAt place (dispatch_inside left at variables stage i)
-inside_waits place left at variables InRange (Some (Borrow to list index otherwise)) =
+inside_waits : (place : Place) (counters : Counters) (at : ℕ) (variables : List (Option ℕ)) (stage : Stage)
+    (i : Option Instr)
+    → WaitsAt place (dispatch_inside counters at variables stage i)
+inside_waits place counters at variables InRange (Some (Borrow to list index otherwise)) =
     row_waits place (row_of variables list) _ (λ row. tt)
-inside_waits place left at variables InRange (Some (Fetch to list index otherwise)) =
+inside_waits place counters at variables InRange (Some (Fetch to list index otherwise)) =
     row_waits place (row_of variables list) _ (λ row. tt)
-inside_waits place left at variables (Found item) (Some (Fetch to list index otherwise)) = tt
-inside_waits place left at variables InRange (Some (Set list index from otherwise)) =
+inside_waits place counters at variables (Found item) (Some (Fetch to list index otherwise)) = tt
+inside_waits place counters at variables InRange (Some (Set list index from otherwise)) =
     row_waits place (row_of variables list) _ (λ row. row_waits place (row_of variables from) _ (λ item. tt))
-inside_waits place left at variables OutOfRange (Some (Set list index from otherwise)) =
+inside_waits place counters at variables OutOfRange (Some (Set list index from otherwise)) =
     row_waits place (row_of variables from) _ (λ item. tt)
-inside_waits place left at variables InRange (Some (Put list index from otherwise)) =
+inside_waits place counters at variables InRange (Some (Put list index from otherwise)) =
     row_waits place (row_of variables from) _ (λ item. tt)
-inside_waits place left at variables Retained (Some (Put list index from otherwise)) =
+inside_waits place counters at variables Retained (Some (Put list index from otherwise)) =
     row_waits place (row_of variables list) _ (λ row. row_waits place (row_of variables from) _ (λ item. tt))
-inside_waits place left at variables stage i = tt
+inside_waits place counters at variables stage i = tt
 
 dispatch_waits : (layout : Layout) (t used : ℕ) (code : List Instr) (place : Place)
     → WaitsAt place (dispatch layout t used code place)
 dispatch_waits layout t used code Exiting = tt
 dispatch_waits layout t used code (Idle zero) = tt
 dispatch_waits layout t used code (Idle (suc left)) =
-    instruction_waits layout t used (Idle (suc left)) left 0 entry_variables (slice_get code 0)
-dispatch_waits layout t used code (InCall left at variables) =
-    instruction_waits layout t used (InCall left at variables) left at variables (slice_get code at)
-dispatch_waits layout t used code (Inside left at variables stage) =
-    inside_waits (Inside left at variables stage) left at variables stage (slice_get code at)
+    instruction_waits layout t used (Idle (suc left)) (first_counters left) 0 entry_variables (slice_get code 0)
+dispatch_waits layout t used code (InCall counters at variables) =
+    instruction_waits layout t used (InCall counters at variables) counters at variables (slice_get code at)
+dispatch_waits layout t used code (Inside counters at variables stage) =
+    inside_waits (Inside counters at variables stage) counters at variables stage (slice_get code at)
 
 -- A thread waits with an empty agenda.
 abbrev WaitsIdly : StepActor → Action → Type 0
@@ -145,9 +149,9 @@ not_true true e = absurd cc
 not_true false e = refl
 
 -- The step of a thread that finds the gate taken changes nothing.
-tried_stays : (w : World) (t : ℕ) (a : StepActor) (x : Action) → slice_get w.actors t ≡ Some a → WaitsIdly a x
-    → finds_locked w.memory x ≡ true → world_of (machine_by (machine_of w) t a x) ≡ w
-tried_stays w t a (Does (LockGate y) rest place) found waits locked =
+tried_stays : (w : World) (t : ℕ) (a : StepActor) (exit : Exit) (x : Action) → slice_get w.actors t ≡ Some a → WaitsIdly a x
+    → finds_locked w.memory x ≡ true → world_of (machine_by (machine_of w) t a exit x) ≡ w
+tried_stays w t a exit (Does (LockGate y) rest place) found waits locked =
     let word = w.memory (Gate y) in
     let taken : (word == free_word) ≡ false = not_true (word == free_word) locked in
     let agenda : ready a.actor.head rest ≡ a.actor.agenda = ap (ready a.actor.head) waits.1.alone ∙ sym waits.0 in
@@ -173,16 +177,24 @@ tried_stays w t a (Does (LockGate y) rest place) found waits locked =
     let memory : written w.memory (Gate y) (cond (word == free_word) (locked_word t) word) ≡ w.memory =
     fun_ext (λ (b : Address). ap (λ (c : Bool). written w.memory (Gate y) (cond c (locked_word t) word) b) taken
     ∙ written_load w.memory (Gate y) b) in
-    λ i. record { functions = w.functions; layout = w.layout; memory = memory i; actors = actors i }
-tried_stays w t a _ found waits locked = absurd cc
+    λ i. record {
+      functions = w.functions;
+      layout = w.layout;
+      memory = memory i;
+      actors = actors i;
+      host_faults = w.host_faults;
+      close_faults = w.close_faults;
+    }
+tried_stays w t a exit _ found waits locked = absurd cc
 
 pub waiting_stays : (p : Module) (w : World) (t : ℕ) (a : StepActor) → IsReachable p w
     → slice_get w.actors t ≡ Some a → waits_for_lock w t a ≡ true → (step w t Ok ≡ w) × (step w t Fault ≡ w)
 waiting_stays p w t a here found locked =
     let plain = ((reached_code p w here).coded t a (reached_found p w t a here found)).plain in
-    let still : world_of (machine_by (machine_of w) t a (action_of w.functions w.layout t a Ok)) ≡ w =
-    tried_stays w t a (action_of w.functions w.layout t a Ok) found
+    let still : (exit : Exit)
+    → world_of (machine_by (machine_of w) t a exit (action_of w.functions w.layout t a Ok)) ≡ w =
+    λ exit. tried_stays w t a exit (action_of w.functions w.layout t a Ok) found
     (status_waits w.functions w.layout t a a.actor.status plain) locked in (
-      ap (λ (o : Option StepActor). world_of (after (machine_of w) t Ok o)) found ∙ still,
-      ap (λ (o : Option StepActor). world_of (after (machine_of w) t Fault o)) found ∙ still,
+      ap (λ (o : Option StepActor). world_of (after (machine_of w) t Ok o)) found ∙ still (exit_of Ok),
+      ap (λ (o : Option StepActor). world_of (after (machine_of w) t Fault o)) found ∙ still (exit_of Fault),
     )

@@ -20,7 +20,9 @@ use Rattle.brc_model.specs.declared.actor.Status.{Status}
 use Rattle.brc_model.specs.declared.actor.Status.TheVariants.{Running, Leaving, Gone}
 use Rattle.brc_model.specs.declared.actor.Place.{Place}
 use Rattle.brc_model.specs.Machine.{is_running, written}
-use Rattle.brc_model.specs.Actions.{StepActor, Action, Skip, Stuck, Silent, Does, always, may_claim, agenda_action, status_action, action_of}
+use Rattle.brc_model.specs.declared.slot.Exit.{Exit}
+use Rattle.brc_model.specs.declared.slot.Exit.TheVariants.{Success}
+use Rattle.brc_model.specs.Actions.{StepActor, Action, Skip, Stuck, Silent, Calls, Does, always, may_claim, agenda_action, status_action, exit_of, action_of}
 use Rattle.brc_model.specs.StepMachine.{StepMachine, of_thread, at_place, step_actor, does_by, machine_by, next_machine, first_machine, machine_after}
 use Rattle.brc_model.specs.World.{World, world_of, machine_of, step, finds_locked, waits_for_lock, IsReachable}
 use Rattle.brc_model.proofs.Basics.Lists.{some_is, slice_get-set_same, set_found}
@@ -54,12 +56,14 @@ abbrev Moves : StepActor → Action → Type 0
 Moves a Skip = ⊥
 Moves a Stuck = Unit {0}
 Moves a (Silent moves place) = place ≢ a.place
+Moves a (Calls place) = (exit : Exit) → place exit ≢ a.place
 Moves a (Does d rest place) = IsElsewhere a.place (Does d rest place) ⊎ (a.actor.agenda ≡ d ∷ rest)
 
 elsewhere_moves : (a : StepActor) (x : Action) → IsElsewhere a.place x → Moves a x
 elsewhere_moves a Skip elsewhere = elsewhere
 elsewhere_moves a Stuck elsewhere = tt
 elsewhere_moves a (Silent moves place) elsewhere = elsewhere
+elsewhere_moves a (Calls place) elsewhere = elsewhere
 elsewhere_moves a (Does d rest place) elsewhere = inl elsewhere
 
 agenda_moves_on : (functions : List Function) (layout : Layout) (t : ℕ) (a : StepActor) (agenda : List Duty)
@@ -86,17 +90,21 @@ finds_free memory layout t head (LockGate x) rest place free =
     eqb-true (memory (Gate x)) free_word (not-false (memory (Gate x) == free_word) free)
 finds_free memory layout t head _ rest place free = tt
 
-action_moves : (p : Module) (c : Accounts) (n : ℕ) (m : StepMachine) (t : ℕ) (a : StepActor) (x : Action)
+action_moves : (p : Module) (c : Accounts) (n : ℕ) (m : StepMachine) (t : ℕ) (a : StepActor) (exit : Exit)
+    (x : Action)
     → slice_get m.actors t ≡ Some a → finds_locked m.memory x ≡ false → ActionFits p c n m t a x → Moves a x
-    → world_of (machine_by m t a x) ≢ world_of m
-action_moves p c n m t a Skip found free fits moves = absurd moves
-action_moves p c n m t a Stuck found free fits moves = absurd fits
-action_moves p c n m t a (Silent refs place) found free fits moves =
-    actor_apart (world_of (machine_by m t a (Silent refs place))) (world_of m) t a (at_place a place) found refl
+    → world_of (machine_by m t a exit x) ≢ world_of m
+action_moves p c n m t a exit Skip found free fits moves = absurd moves
+action_moves p c n m t a exit Stuck found free fits moves = absurd fits
+action_moves p c n m t a exit (Silent refs place) found free fits moves =
+    actor_apart (world_of (machine_by m t a exit (Silent refs place))) (world_of m) t a (at_place a place) found refl
     (λ e. moves (ap (λ (c : StepActor). c.place) e))
-action_moves p c n m t a (Does d rest place) found free fits moves =
+action_moves p c n m t a exit (Calls place) found free fits moves =
+    actor_apart (world_of (machine_by m t a exit (Calls place))) (world_of m) t a (at_place a (place exit)) found refl
+    (λ e. moves exit (ap (λ (c : StepActor). c.place) e))
+action_moves p c n m t a exit (Does d rest place) found free fits moves =
     let word = m.memory (address_of m.layout t a.actor.head d) in
-    actor_apart (world_of (machine_by m t a (Does d rest place))) (world_of m) t a
+    actor_apart (world_of (machine_by m t a exit (Does d rest place))) (world_of m) t a
     (step_actor m.layout t a d rest (place word) word) found refl (λ e. elim moves [
       | inl elsewhere ↦
           elsewhere word (finds_free m.memory m.layout t a.actor.head d rest place free)
@@ -108,7 +116,7 @@ action_moves p c n m t a (Does d rest place) found free fits moves =
 
 -- The machine after an event of the thread.
 abbrev pub after : StepMachine → ℕ → Choice → Option StepActor → StepMachine
-after m t choice o = of_thread m (λ a. machine_by m t a (action_of m.functions m.layout t a choice)) o
+after m t choice o = of_thread m (λ a. machine_by m t a (exit_of choice) (action_of m.functions m.layout t a choice)) o
 
 abbrev BothMove : World → ℕ → Type 0
 BothMove w t = (step w t Ok ≢ w) × (step w t Fault ≢ w)
@@ -120,13 +128,14 @@ machine_moves p n m t a whole found alive free =
     let forward : LeadsForward (code_of (slice_get m.functions a.function)) =
     subst (λ (fs : List Function). LeadsForward (code_of (slice_get fs a.function))) (sym whole.functions)
     (whole.coded t a found).instructions.forward in
-    let acting : world_of (machine_by m t a (action_of m.functions m.layout t a Ok)) ≢ world_of m =
-    action_moves p whole.accounts n m t a (action_of m.functions m.layout t a Ok) found free
+    let acting : (exit : Exit)
+    → world_of (machine_by m t a exit (action_of m.functions m.layout t a Ok)) ≢ world_of m =
+    λ exit. action_moves p whole.accounts n m t a exit (action_of m.functions m.layout t a Ok) found free
     (action_fits p n m t a Ok whole found) (status_moves_on m.functions m.layout t a a.actor.status alive forward) in
     let by_ok : world_of (next_machine m (t, Ok)) ≢ world_of m =
-    subst (λ (o : Option StepActor). world_of (after m t Ok o) ≢ world_of m) (sym found) acting in
+    subst (λ (o : Option StepActor). world_of (after m t Ok o) ≢ world_of m) (sym found) (acting (exit_of Ok)) in
     let by_fault : world_of (next_machine m (t, Fault)) ≢ world_of m =
-    subst (λ (o : Option StepActor). world_of (after m t Fault o) ≢ world_of m) (sym found) acting in
+    subst (λ (o : Option StepActor). world_of (after m t Fault o) ≢ world_of m) (sym found) (acting (exit_of Fault)) in
     (λ e. by_ok (worlds_follow m (t, Ok) ∙ e), λ e. by_fault (worlds_follow m (t, Fault) ∙ e))
 
 -- The machine of a reachable world has both layers of the invariant.
@@ -157,15 +166,15 @@ claimed row a may = cond may (Does (ClaimMark row) [] (always a.place)) Skip
 
 claim_is : (w : World) (t : ℕ) (a : StepActor) (row : ℕ) (may : Bool) → slice_get w.actors t ≡ Some a
     → may_claim w.layout t a row ≡ may
-    → step w t (Claim row) ≡ world_of (machine_by (machine_of w) t a (claimed row a may))
+    → step w t (Claim row) ≡ world_of (machine_by (machine_of w) t a Success (claimed row a may))
 claim_is w t a row may found is =
     ap (λ (o : Option StepActor). world_of (after (machine_of w) t (Claim row) o)) found
-    ∙ ap (λ (b : Bool). world_of (machine_by (machine_of w) t a (claimed row a b))) is
+    ∙ ap (λ (b : Bool). world_of (machine_by (machine_of w) t a Success (claimed row a b))) is
 
 pub claim_moves : (w : World) (t : ℕ) (a : StepActor) (row : ℕ) → slice_get w.actors t ≡ Some a
     → may_claim w.layout t a row ≡ true → w.memory (Mark row) ≢ 0 → step w t (Claim row) ≢ w
 claim_moves w t a row found may marked e =
-    let done : world_of (does_by (machine_of w) t a (ClaimMark row) [] (always a.place)) ≡ w =
+    let done : world_of (does_by (machine_of w) t a Success (ClaimMark row) [] (always a.place)) ≡ w =
     sym (claim_is w t a row true found may) ∙ e in
     marked (sym (ap (λ (v : World). v.memory (Mark row)) done) ∙ written_here w.memory (Mark row) 0)
 
@@ -183,7 +192,7 @@ none_claimed head row found empty none =
 
 miss_stays : (w : World) (t : ℕ) (a : StepActor) (row : ℕ) → slice_get w.actors t ≡ Some a → a.actor.agenda ≡ []
     → a.actor.head ≡ 0
-    → w.memory (Mark row) ≡ 0 → world_of (does_by (machine_of w) t a (ClaimMark row) [] (always a.place)) ≡ w
+    → w.memory (Mark row) ≡ 0 → world_of (does_by (machine_of w) t a Success (ClaimMark row) [] (always a.place)) ≡ w
 miss_stays w t a row found rest empty none =
     let agenda = none_claimed a.actor.head row (w.memory (Mark row)) empty none ∙ sym rest in
     let same : step_actor w.layout t a (ClaimMark row) [] a.place (w.memory (Mark row)) ≡ a =
@@ -204,7 +213,14 @@ miss_stays w t a row found rest empty none =
     (step_actor w.layout t a (ClaimMark row) [] a.place (w.memory (Mark row))) ≡ w.actors =
     ap (slice_set w.actors t) same ∙ set_found w.actors t a found in
     let memory = unmarked_stays w.memory row none in
-    λ i. record { functions = w.functions; layout = w.layout; memory = memory i; actors = actors i }
+    λ i. record {
+      functions = w.functions;
+      layout = w.layout;
+      memory = memory i;
+      actors = actors i;
+      host_faults = w.host_faults;
+      close_faults = w.close_faults;
+    }
 
 pub claim_misses : (p : Module) (w : World) (t : ℕ) (a : StepActor) (row : ℕ) → IsReachable p w
     → slice_get w.actors t ≡ Some a → may_claim w.layout t a row ≡ true → w.memory (Mark row) ≡ 0
@@ -224,9 +240,11 @@ claim_stays w t a row found may = claim_is w t a row false found may
 pub gone_stays : (w : World) (t : ℕ) (a : StepActor) (row : ℕ) → slice_get w.actors t ≡ Some a → a.actor.status ≡ Gone
     → (step w t Ok ≡ w) × (step w t Fault ≡ w) × (step w t (Claim row) ≡ w)
 gone_stays w t a row found gone =
-    let still : world_of (machine_by (machine_of w) t a (action_of w.functions w.layout t a Ok)) ≡ w =
-    ap (λ (s : Status). world_of (machine_by (machine_of w) t a (status_action w.functions w.layout t a s))) gone in (
-      ap (λ (o : Option StepActor). world_of (after (machine_of w) t Ok o)) found ∙ still,
-      ap (λ (o : Option StepActor). world_of (after (machine_of w) t Fault o)) found ∙ still,
+    let still : (exit : Exit)
+    → world_of (machine_by (machine_of w) t a exit (action_of w.functions w.layout t a Ok)) ≡ w =
+    λ exit. ap (λ (s : Status). world_of (machine_by (machine_of w) t a exit
+    (status_action w.functions w.layout t a s))) gone in (
+      ap (λ (o : Option StepActor). world_of (after (machine_of w) t Ok o)) found ∙ still (exit_of Ok),
+      ap (λ (o : Option StepActor). world_of (after (machine_of w) t Fault o)) found ∙ still (exit_of Fault),
       claim_stays w t a row found (gone_claims_none w.layout t a row gone),
     )

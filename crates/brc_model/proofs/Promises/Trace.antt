@@ -6,9 +6,10 @@ use Rattle.std.proofs.lemmas.Bool.Decides.{eqb_tells}
 use Rattle.std.proofs.lemmas.Option.{slice_get_within}
 use Rattle.brc_lang.specs.declared.module.Function.{Function}
 use Rattle.brc_model.specs.declared.thread.Choice.{Choice}
-use Rattle.brc_model.specs.Actions.{StepActor, Action, Skip, Stuck, Silent, Does, action_of}
+use Rattle.brc_model.specs.declared.slot.Exit.{Exit}
+use Rattle.brc_model.specs.Actions.{StepActor, Action, Skip, Stuck, Silent, Calls, Does, exit_of, action_of}
 use Rattle.brc_model.specs.StepMachine.{StepMachine, counting, of_thread, at_place, step_actor, machine_by, next_machine, machine_after}
-use Rattle.brc_model.specs.Trace.{WordEvent, MakesStep, GoesSilently, DoesDuty, CanMake, Nothing, Then, made_by, made_at, events_on}
+use Rattle.brc_model.specs.Trace.{WordEvent, MakesStep, GoesSilently, CallsHost, DoesDuty, CanMake, Nothing, Then, made_by, made_at, events_on}
 use Rattle.brc_model.proofs.Basics.Lists.{some_is, slice_get-set_same, slice_get-set_other}
 use Rattle.brc_model.proofs.Stepping.Neutral.{found_by}
 use Rattle.brc_model.specs.declared.layout.Layout.{Layout}
@@ -37,7 +38,8 @@ set_goes : (m : StepMachine) (t : ℕ) (a b : StepActor) → slice_get m.actors 
 set_goes m t a b found = slice_get-set_same m.actors t b (slice_get_within m.actors t a found)
 
 action_goes : (m : StepMachine) (t : ℕ) (a : StepActor) (choice : Choice) (x : Action) → slice_get m.actors t ≡ Some a
-    → action_of m.functions m.layout t a choice ≡ x → Goes m (machine_by m t a x) t a (made_by m t a x)
+    → action_of m.functions m.layout t a choice ≡ x
+    → Goes m (machine_by m t a (exit_of choice) x) t a (made_by m t a x)
 action_goes m t a choice Skip found is = stays_there m t a found
 action_goes m t a choice Stuck found is = stays_there m t a found
 action_goes m t a choice (Silent moves place) found is = record {
@@ -46,6 +48,13 @@ action_goes m t a choice (Silent moves place) found is = record {
   after = at_place a place;
   is_there = set_goes m t a (at_place a place) found;
   went = Steps (GoesSilently choice moves place is);
+}
+action_goes m t a choice (Calls place) found is = record {
+  functions = refl;
+  layout = refl;
+  after = at_place a (place (exit_of choice));
+  is_there = set_goes m t a (at_place a (place (exit_of choice))) found;
+  went = Steps (CallsHost choice place (exit_of choice) is);
 }
 action_goes m t a choice (Does d rest place) found is =
     let word = found_by (counting m) t a.actor d in
@@ -68,12 +77,15 @@ record LeavesAt (m new : StepMachine) (t : ℕ) : Type 0 where
 leaves_all : (m : StepMachine) (t : ℕ) → LeavesAt m m t
 leaves_all m t = record { functions = refl; layout = refl; actor = refl }
 
-action_leaves : (m : StepMachine) (u t : ℕ) (a : StepActor) (x : Action) → t ≢ u → LeavesAt m (machine_by m u a x) t
-action_leaves m u t a Skip ne = leaves_all m t
-action_leaves m u t a Stuck ne = leaves_all m t
-action_leaves m u t a (Silent moves place) ne =
+action_leaves : (m : StepMachine) (u t : ℕ) (a : StepActor) (exit : Exit) (x : Action) → t ≢ u
+    → LeavesAt m (machine_by m u a exit x) t
+action_leaves m u t a exit Skip ne = leaves_all m t
+action_leaves m u t a exit Stuck ne = leaves_all m t
+action_leaves m u t a exit (Silent moves place) ne =
     record { functions = refl; layout = refl; actor = slice_get-set_other m.actors u t (at_place a place) ne }
-action_leaves m u t a (Does d rest place) ne =
+action_leaves m u t a exit (Calls place) ne =
+    record { functions = refl; layout = refl; actor = slice_get-set_other m.actors u t (at_place a (place exit)) ne }
+action_leaves m u t a exit (Does d rest place) ne =
     let word = found_by (counting m) u a.actor d in
     record {
       functions = refl;
@@ -83,7 +95,7 @@ action_leaves m u t a (Does d rest place) ne =
 
 -- The machine after an event of the thread.
 abbrev after : StepMachine → ℕ → Choice → Option StepActor → StepMachine
-after m t choice o = of_thread m (λ a. machine_by m t a (action_of m.functions m.layout t a choice)) o
+after m t choice o = of_thread m (λ a. machine_by m t a (exit_of choice) (action_of m.functions m.layout t a choice)) o
 
 abbrev made : StepMachine → ℕ → Choice → Option StepActor → List WordEvent
 made m t choice o = of_thread [] (λ a. made_by m t a (action_of m.functions m.layout t a choice)) o
@@ -91,7 +103,7 @@ made m t choice o = of_thread [] (λ a. made_by m t a (action_of m.functions m.l
 thread_leaves : (m : StepMachine) (u t : ℕ) (choice : Choice) (o : Option StepActor) → t ≢ u
     → LeavesAt m (after m u choice o) t
 thread_leaves m u t choice None ne = leaves_all m t
-thread_leaves m u t choice (Some a) ne = action_leaves m u t a (action_of m.functions m.layout u a choice) ne
+thread_leaves m u t choice (Some a) ne = action_leaves m u t a (exit_of choice) (action_of m.functions m.layout u a choice) ne
 
 -- ---- any event
 

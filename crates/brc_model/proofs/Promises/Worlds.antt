@@ -8,7 +8,8 @@ use Rattle.brc_model.specs.declared.thread.Call.{Call}
 use Rattle.brc_model.specs.declared.thread.Choice.{Choice}
 use Rattle.brc_model.specs.Paths.{IsAcceptable}
 use Rattle.brc_model.specs.Safety.{AreCalls}
-use Rattle.brc_model.specs.Actions.{StepActor, Action, Skip, Stuck, Silent, Does, action_of}
+use Rattle.brc_model.specs.declared.slot.Exit.{Exit}
+use Rattle.brc_model.specs.Actions.{StepActor, Action, Skip, Stuck, Silent, Calls, Does, exit_of, action_of}
 use Rattle.brc_model.specs.StepMachine.{StepMachine, of_thread, machine_by, next_machine, first_machine, machine_after}
 use Rattle.brc_model.specs.World.{World, world_of, machine_of, first_world, step, IsReachable}
 use Rattle.brc_model.specs.Limits.{row_limit}
@@ -19,18 +20,19 @@ use Rattle.brc_model.specs.Limits.{row_limit}
 abbrev bared : StepMachine → StepMachine
 bared m = machine_of (world_of m)
 
-action_alike : (m : StepMachine) (t : ℕ) (a : StepActor) (x : Action)
-    → world_of (machine_by m t a x) ≡ world_of (machine_by (bared m) t a x)
-action_alike m t a Skip = refl
-action_alike m t a Stuck = refl
-action_alike m t a (Silent moves place) = refl
-action_alike m t a (Does d rest place) = refl
+action_alike : (m : StepMachine) (t : ℕ) (a : StepActor) (exit : Exit) (x : Action)
+    → world_of (machine_by m t a exit x) ≡ world_of (machine_by (bared m) t a exit x)
+action_alike m t a exit Skip = refl
+action_alike m t a exit Stuck = refl
+action_alike m t a exit (Silent moves place) = refl
+action_alike m t a exit (Calls place) = refl
+action_alike m t a exit (Does d rest place) = refl
 
 thread_alike : (m : StepMachine) (t : ℕ) (choice : Choice) (o : Option StepActor)
-    → world_of (of_thread m (λ a. machine_by m t a (action_of m.functions m.layout t a choice)) o)
-    ≡ world_of (of_thread (bared m) (λ a. machine_by (bared m) t a (action_of m.functions m.layout t a choice)) o)
+    → world_of (of_thread m (λ a. machine_by m t a (exit_of choice) (action_of m.functions m.layout t a choice)) o)
+    ≡ world_of (of_thread (bared m) (λ a. machine_by (bared m) t a (exit_of choice) (action_of m.functions m.layout t a choice)) o)
 thread_alike m t choice None = refl
-thread_alike m t choice (Some a) = action_alike m t a (action_of m.functions m.layout t a choice)
+thread_alike m t choice (Some a) = action_alike m t a (exit_of choice) (action_of m.functions m.layout t a choice)
 
 -- The world of the machine after an event is the world after the step.
 pub worlds_follow : (m : StepMachine) (event : ℕ × Choice)
