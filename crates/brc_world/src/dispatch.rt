@@ -2,6 +2,7 @@
 
 ghost use Rattle.std.specs.Prelude.{◌≡◌, ℕ, ◌+◌, ◌≤◌, slice_get, Some};
 ghost use Rattle.std.specs.Prelude.{[], reverse, vec_len, vec_capacity};
+ghost use Rattle.brc_model.specs.declared.slot.Exit.{Exit};
 ghost use Rattle.brc_model.specs.Threads.{code_of, entry_variables};
 ghost use Rattle.brc_model.specs.Actions.{agenda_action, dispatch};
 ghost use Rattle.brc_world.specs.Actors.{actor_of};
@@ -49,8 +50,8 @@ pub fn first_duty(functions: &[Function], layout: Layout, number: u8, thread: &m
     requires room { vec_len thread.old.agenda + 8 ≤ vec_capacity thread.old.agenda }
     ensures starts { unasking result ≡ first_start functions.now layout number (actor_of thread.old)
         (reverse thread.old.agenda.items) }
-    ensures actor { (found : ℕ) → answered result found thread.new ≡ started (actor_of thread.old)
-        (agenda_action functions.now layout number (actor_of thread.old) (reverse thread.old.agenda.items)) found }
+    ensures actor { (exit : Exit) (found : ℕ) → answered result exit found thread.new ≡ started (actor_of thread.old)
+        (agenda_action functions.now layout number (actor_of thread.old) (reverse thread.old.agenda.items)) exit found }
     ensures question { AsksWell result }
     ensures room { vec_len thread.new.agenda + 4 ≤ vec_capacity thread.new.agenda }
 {
@@ -61,7 +62,8 @@ pub fn first_duty(functions: &[Function], layout: Layout, number: u8, thread: &m
 }
 
 /// Dispatches the next instruction or the exit, once the agenda is empty. The dispatch of a call's first instruction
-/// also begins the call. That is no step of its own, because an idle thread's variables are no part of the world.
+/// also begins the call. That is no step of its own, because an idle thread's variables and counts are no part of the
+/// world.
 #[inline(always)]
 fn dispatch(functions: &[Function], layout: Layout, number: u8, thread: &mut Thread) -> Start
     requires empty { thread.old.agenda.items ≡ [] }
@@ -82,6 +84,7 @@ fn dispatch(functions: &[Function], layout: Layout, number: u8, thread: &mut Thr
             }
             thread.at = 0;
             thread.variables = entry_variables();
+            thread.turns = [0; 256];
             let left = thread.left - 1;
             next_instruction(functions, layout, number, thread, left)
         }

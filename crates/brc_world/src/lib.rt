@@ -7,6 +7,7 @@ mod agenda;
 mod did;
 mod dispatch;
 mod doing;
+mod faults;
 mod first;
 mod laws;
 mod memory;

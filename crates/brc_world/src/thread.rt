@@ -1,7 +1,8 @@
 //! A thread of the step world.
 
 ghost use Rattle.std.specs.Prelude.{◌≡◌, ◌≤◌, slice_set, vec_capacity};
-ghost use Rattle.brc_model.specs.Threads.{row_of};
+ghost use Rattle.brc_model.specs.Actions.{first_counters};
+ghost use Rattle.brc_model.specs.Threads.{row_of, entry_variables};
 
 use brc_lang::Variable;
 use brc_model::{Duty, Stage, Status};
@@ -9,6 +10,9 @@ use std::fmt;
 
 /// The row that each variable names, or `None` for an empty variable.
 pub type Variables = [Option<u32>; Variable::COUNT];
+
+/// How often each instruction `again` of the function, by its point, has gone back in the call.
+pub type Turns = [u16; 256];
 
 /// The room for duties that each thread's agenda has from the start: four when a step starts, and four when its duty is
 /// done. So a step that begins an instruction is never refused memory.
@@ -39,6 +43,9 @@ pub struct Thread {
     pub at: usize,
     /// In a call, the rows that its variables name.
     pub variables: Variables,
+    /// In a call, how often each instruction `again` has gone back. It is reset with the call, and with nothing else
+    /// (`turns_kept_between_calls`, `turns_reset_inside`).
+    pub turns: Turns,
     pub status: Status,
     /// The duties to do. The last is done next: a step takes it from the end, and adds there the duties that follow it.
     pub agenda: Vec<Duty>,

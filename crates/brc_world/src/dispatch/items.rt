@@ -10,7 +10,7 @@ ghost use Rattle.brc_model.specs.declared.layout.Layout.{Layout};
 ghost use Rattle.brc_model.specs.Actions.{Does, with_row};
 ghost use Rattle.brc_model.specs.Threads.{row_of};
 ghost use Rattle.brc_world.specs.declared.question.Question.TheVariants as questions;
-ghost use Rattle.brc_world.specs.Actors.{actor_of, with_agenda};
+ghost use Rattle.brc_world.specs.Actors.{actor_of, counters_in, with_agenda};
 ghost use Rattle.brc_world.specs.Questions.{place_answered};
 ghost use Rattle.brc_world.specs.Starts.{uses_cell, action_at, action_inside, CanBegin, Begins};
 
@@ -71,7 +71,8 @@ pub(super) fn ask_for_cell(instr: Instr, thread: &mut Thread, left: u32) -> Star
 fn ask_range(list: Variable, index: u8, outside: Outside, thread: &mut Thread, left: u32) -> Start
     requires { CanBegin thread.old }
     ensures { Begins thread.old (with_row (row_of thread.old.variables list) (λ row. Does (KindLoad row) []
-        (λ found. place_answered (questions.Range index outside) found left thread.old.at thread.old.variables)))
+        (λ found. place_answered (questions.Range index outside) found (counters_in left thread.old) thread.old.at
+        thread.old.variables)))
         result thread.new }
 {
     match thread.row_of(list) {
