@@ -12,15 +12,15 @@ use Rattle.brc_lang.specs.declared.module.Instr.{Instr}
 use Rattle.brc_lang.specs.declared.fault.FaultCode.{FaultCode}
 use Rattle.brc_lang.specs.declared.fault.FaultCode.TheVariants.{OverLimit, Target}
 use Rattle.brc_lang.specs.declared.cursor.Cursor.{Cursor}
-use Rattle.brc_lang.specs.Grammar.{line, instruction, instructions, IsInstruction, LeadsForward}
-use Rattle.brc_lang.specs.Fault.{words, instruction_in, Beginning, IsOpen, leads_forward, end_fault_of, line_fault_of}
+use Rattle.brc_lang.specs.Grammar.{line, instruction, instructions, IsInstruction, TargetsFit}
+use Rattle.brc_lang.specs.Fault.{words, instruction_in, Beginning, IsOpen, targets_fit, end_fault_of, line_fault_of}
 use Rattle.brc_lang.specs.Fault.{next_instruction_fault_of, fault_of}
 use Rattle.brc_lang.specs.Progress.{IsFirstLineOf, Passes, IsLineFault, Appends, opened, Ends, HasFaultInside}
 use Rattle.brc_lang.specs.Progress.{IsFaultInside}
 use Rattle.brc_lang.proofs.Lines.{line_any, line_before, line_count-append, line_count_one}
 use Rattle.brc_lang.proofs.Tests.{chosen}
 use Rattle.brc_lang.proofs.Instructions.{instruction_spelled}
-use Rattle.brc_lang.proofs.Forward.{leads_means}
+use Rattle.brc_lang.proofs.TargetsFit.{fit_means}
 
 -- ---- places
 
@@ -82,13 +82,13 @@ goes_on name from at code new text rest so_far first next =
     }
 
 -- a line that ends it and has no fault
-pub ends_well : (code : List Instr) → end_fault_of code ≡ None → (0 < length code) × LeadsForward code
+pub ends_well : (code : List Instr) → end_fault_of code ≡ None → (0 < length code) × TargetsFit code
 ends_well code fine =
     elim (chosen (eqb (length code) 0) (Some OverLimit) _ None fine) [
       | inl empty ↦ let never = empty.1 in absurd cc
-      | inr some ↦ elim (chosen (leads_forward code) None (Some Target) None some.1) [
-        | inl forward ↦ let other = eqb-false (length code) 0 some.0 in (omega arith, leads_means code forward.0)
-        | inr back ↦ let never = back.1 in absurd cc
+      | inr some ↦ elim (chosen (targets_fit code) None (Some Target) None some.1) [
+        | inl fits ↦ let other = eqb-false (length code) 0 some.0 in (omega arith, fit_means code fits.0)
+        | inr other ↦ let never = other.1 in absurd cc
       ]
     ]
 

@@ -6,7 +6,7 @@ use Rattle.std.specs.Str.{bytes_eq}
 use Rattle.brc_lang.specs.declared.module.Instr.{Instr}
 use Rattle.brc_lang.specs.declared.module.Instr.TheVariants.{Num, List as ListObject, NoneObject, Newref, Move}
 use Rattle.brc_lang.specs.declared.module.Instr.TheVariants.{Drop, Lock, Unlock, Borrow, Fetch, Set, Put, As}
-use Rattle.brc_lang.specs.declared.module.Instr.TheVariants.{Goto, Ret, Fail}
+use Rattle.brc_lang.specs.declared.module.Instr.TheVariants.{Goto, Again, Ret, Fail}
 use Rattle.brc_lang.specs.declared.fault.FaultCode.TheVariants.{UnknownWord}
 use Rattle.brc_lang.specs.Grammar.{instruction_words, instruction, IsInstruction}
 use Rattle.brc_lang.specs.Fault.{words, ◌>>=◌, fail_in, path_instruction_in, item_instruction_in, instruction_in}
@@ -15,7 +15,7 @@ use Rattle.brc_lang.proofs.Words.{joined, some_word, ArePlain, spaced_words, spa
 use Rattle.brc_lang.proofs.Spelling.{bind_ok, ok_is}
 use Rattle.brc_lang.proofs.Tests.{either_way, same_text}
 use Rattle.brc_lang.proofs.OperandForms.{both_same, Form, one_variable_form, one_target_form, two_variables_form}
-use Rattle.brc_lang.proofs.OperandForms.{num_form, list_form, item_form, store_form, as_form}
+use Rattle.brc_lang.proofs.OperandForms.{num_form, list_form, item_form, store_form, as_form, again_form}
 
 -- `fail` has no operand
 pub behind_fail : (operands : List ℕ) → Err UnknownWord ≡ fail_in (words operands)
@@ -50,12 +50,15 @@ path_words_spelled w ws i read =
     either_way (bytes_eq w (codes "goto")) _ _ (Ok i) read1
     (named one_target_form (codes "goto") (λ n. Goto n) (λ n. refl) (λ n fits. fits) w ws i)
     (λ read2.
-    either_way (bytes_eq w (codes "ret")) _ _ (Ok i) read2
-    (named one_variable_form (codes "ret") (λ n. Ret n) (λ n. refl) (λ n fits. fits) w ws i)
+    either_way (bytes_eq w (codes "again")) _ _ (Ok i) read2
+    (named again_form (codes "again") (λ v. Again v.0 v.1) (λ v. refl) (λ v fits. fits) w ws i)
     (λ read3.
-    either_way (bytes_eq w (codes "fail")) _ (Err UnknownWord) (Ok i) read3
+    either_way (bytes_eq w (codes "ret")) _ _ (Ok i) read3
+    (named one_variable_form (codes "ret") (λ n. Ret n) (λ n. refl) (λ n fits. fits) w ws i)
+    (λ read4.
+    either_way (bytes_eq w (codes "fail")) _ (Err UnknownWord) (Ok i) read4
     (λ same e. fail_spelled w ws i (same_text w (codes "fail") same) e)
-    (λ never. absurd cc))))
+    (λ never. absurd cc)))))
 
 item_words_spelled : (w : List ℕ) (ws : List (List ℕ)) (i : Instr) → item_instruction_in w ws ≡ Ok i
     → Spelled (w ∷ ws) i
@@ -130,6 +133,7 @@ words_again (Set list index from otherwise) fits = rw (store_form.again (list, i
 words_again (Put list index from otherwise) fits = rw (store_form.again (list, index, from, otherwise) fits) refl
 words_again (As from kind otherwise) fits = rw (as_form.again (from, kind, otherwise) fits) refl
 words_again (Goto to) fits = rw (one_target_form.again to fits) refl
+words_again (Again to times) fits = rw (again_form.again (to, times) fits) refl
 words_again (Ret from) fits = rw (one_variable_form.again from fits) refl
 words_again Fail fits = refl
 
@@ -150,6 +154,7 @@ words_plain (Set list index from otherwise) fits = ((refl, refl), store_form.pla
 words_plain (Put list index from otherwise) fits = ((refl, refl), store_form.plain (list, index, from, otherwise) fits)
 words_plain (As from kind otherwise) fits = ((refl, refl), as_form.plain (from, kind, otherwise) fits)
 words_plain (Goto to) fits = ((refl, refl), one_target_form.plain to fits)
+words_plain (Again to times) fits = ((refl, refl), again_form.plain (to, times) fits)
 words_plain (Ret from) fits = ((refl, refl), one_variable_form.plain from fits)
 words_plain Fail fits = ((refl, refl), tt)
 
@@ -176,5 +181,6 @@ instruction_not_end (Set list index from otherwise) = refl
 instruction_not_end (Put list index from otherwise) = refl
 instruction_not_end (As from kind otherwise) = refl
 instruction_not_end (Goto to) = refl
+instruction_not_end (Again to times) = refl
 instruction_not_end (Ret from) = refl
 instruction_not_end Fail = refl

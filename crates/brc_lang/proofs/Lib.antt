@@ -8,7 +8,7 @@ mod RoundTrips
 mod KindWords
 mod OperandForms
 mod Instructions
-mod Forward
+mod TargetsFit
 mod Headings
 mod Machine
 mod Uniqueness

@@ -23,7 +23,7 @@ use Rattle.brc_lang.proofs.Lines.{line_at, line_cut, line_count-append, line_cou
 use Rattle.brc_lang.proofs.Spelling.{name_plain}
 use Rattle.brc_lang.proofs.Tests.{chosen}
 use Rattle.brc_lang.proofs.Instructions.{instruction_again, instruction_plain, instruction_not_end}
-use Rattle.brc_lang.proofs.Forward.{means_leads}
+use Rattle.brc_lang.proofs.TargetsFit.{means_fit}
 use Rattle.brc_lang.proofs.Headings.{has_name, heading_again, new_name_from}
 
 -- ---- the machine
@@ -164,7 +164,7 @@ function_passes n done f rest fits room new =
     let last = line (codes "end") in
     let some : eqb (length f.code) 0 ≡ false =
     (let has = fits.some in ne_eqb (length f.code) 0 (λ none. omega arith)) in
-    let fine : line_fault_of done (Some f) (codes "end") ≡ None = rw (some, means_leads f.code fits.targets) refl in
+    let fine : line_fault_of done (Some f) (codes "end") ≡ None = rw (some, means_fit f.code fits.targets) refl in
     let count : (n + line_count above) + 1 ≡ n + line_count (function f) =
     omega (arith, line_count-append above last) in
     ap (read_rest n (closed done)) (append_assoc above last rest)

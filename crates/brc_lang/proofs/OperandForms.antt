@@ -11,8 +11,9 @@ use Rattle.brc_lang.specs.declared.fault.FaultCode.{FaultCode}
 use Rattle.brc_lang.specs.declared.fault.FaultCode.TheVariants.{UnknownWord}
 use Rattle.brc_lang.specs.Grammar.{variable, target, kind_name}
 use Rattle.brc_lang.specs.Fault.{number_in, variable_in, target_in, number_between, one_variable_in, two_variables_in}
-use Rattle.brc_lang.specs.Fault.{one_target_in, birth_in, item_in, store_in, kind_in, as_in}
+use Rattle.brc_lang.specs.Fault.{one_target_in, again_in, birth_in, item_in, store_in, kind_in, as_in}
 use Rattle.brc_lang.specs.Limits.{variable_count, target_count, index_count, last_index, value_limit, cell_limit}
+use Rattle.brc_lang.specs.Limits.{turn_limit}
 use Rattle.brc_lang.specs.RoundTrips.{IsPlain}
 use Rattle.brc_lang.proofs.Tests.{either_way, same_text}
 use Rattle.brc_lang.proofs.Spelling.{bind_ok, ok_is, number_plain, between_spelled, between_again, variable_spelled}
@@ -113,6 +114,38 @@ two_variables_form = record {
   spelled = two_variables_spelled;
   again = λ v fits. rw (variable_again v.0 fits.0, variable_again v.1 fits.1) refl;
   plain = λ v fits. (variable_plain v.0 fits.0, (variable_plain v.1 fits.1, tt));
+}
+
+-- ---- a target, and how often `again` goes back to it
+
+abbrev pub again_words : ℕ × ℕ → List (List ℕ)
+again_words v = target v.0 ∷ decimal v.1 ∷ []
+
+abbrev pub AreAgain : ℕ × ℕ → Type 0
+AreAgain v = (v.0 < target_count) × (0 < v.1) × (v.1 ≤ turn_limit)
+
+pub again_spelled : (ws : List (List ℕ)) (v : ℕ × ℕ) → again_in ws ≡ Ok v → IsSpelled again_words AreAgain ws v
+again_spelled [] v e = absurd cc
+again_spelled (a ∷ []) v e = absurd cc
+again_spelled (a ∷ b ∷ []) v e =
+    let to = bind_ok (target_in a) _ v e in
+    let times = bind_ok (number_between 1 turn_limit b) _ v to.2 in
+    let p = target_spelled a to.0 to.1 in
+    let q = between_spelled 1 turn_limit b times.0 (omega arith) times.1 in
+    subst (IsSpelled again_words AreAgain (a ∷ b ∷ [])) (ok_is (to.0, times.0) v times.2)
+    (both_same a (target to.0) (b ∷ []) _ p.0 (ap (λ (x : List ℕ). x ∷ []) q.0), (p.1, omega (arith, q.1), q.2))
+again_spelled (a ∷ b ∷ c ∷ ws) v e = absurd cc
+
+abbrev pub again_form : Form (ℕ × ℕ)
+again_form = record {
+  read = again_in;
+  spell = again_words;
+  Fits = AreAgain;
+  spelled = again_spelled;
+  again =
+      λ v fits. rw (target_again v.0 fits.0, between_again 1 turn_limit v.1 (omega (arith, fits.1)) fits.2 (omega arith))
+      refl;
+  plain = λ v fits. (target_plain v.0 fits.0, (number_plain v.1 (omega (arith, fits.2)), tt));
 }
 
 -- ---- a variable, a number from low to high, `else` and a target

@@ -14,11 +14,11 @@ use Rattle.brc_lang.specs.Grammar.{is_name}
 use Rattle.brc_lang.specs.Fault.{words, is_numeral, number_in, variable_in, target_in, ◌>>=◌, one_variable_in}
 use Rattle.brc_lang.specs.Fault.{two_variables_in, one_target_in, number_between, birth_in, item_in, store_in, kind_in}
 use Rattle.brc_lang.specs.Fault.{as_in, fail_in, path_instruction_in, item_instruction_in, instruction_in}
-use Rattle.brc_lang.specs.Fault.{leads_forward}
+use Rattle.brc_lang.specs.Fault.{again_in, targets_fit}
 use Rattle.brc_lang.specs.Fault.{Beginning, heading_fault_of, end_fault_of, next_instruction_fault_of, line_fault_of}
 use Rattle.brc_lang.specs.Fault.{is_whole, is_line_feed, fault_of, HasFault, IsOwn, IsOwnFault}
 use Rattle.brc_lang.specs.Limits.{function_limit, instruction_limit, last_variable, last_target, value_limit}
-use Rattle.brc_lang.specs.Limits.{cell_limit, last_index}
+use Rattle.brc_lang.specs.Limits.{cell_limit, last_index, turn_limit}
 use Rattle.brc_lang.proofs.Headings.{has_name}
 
 -- ---- results and options whose fault, if any, is the text's own
@@ -97,6 +97,14 @@ one_target_own [] = own_word
 one_target_own (a ∷ []) = target_own a
 one_target_own (a ∷ b ∷ ws) = own_word
 
+again_own : (ws : List (List ℕ)) → IsOwn (again_in ws)
+again_own [] = own_word
+again_own (a ∷ []) = own_word
+again_own (a ∷ b ∷ []) =
+    own_then (target_in a) _ (target_own a) (λ l.
+    own_then (number_between 1 turn_limit b) _ (between_own 1 turn_limit b) (λ n. tt))
+again_own (a ∷ b ∷ c ∷ ws) = own_word
+
 birth_own : (low high : ℕ) (ws : List (List ℕ)) → IsOwn (birth_in low high ws)
 birth_own low high [] = own_word
 birth_own low high (a ∷ []) = own_word
@@ -165,8 +173,9 @@ path_instruction_own : (w : List ℕ) (ws : List (List ℕ)) → IsOwn (path_ins
 path_instruction_own w ws =
     own_either (bytes_eq w (codes "as")) _ _ (own_then (as_in ws) _ (as_own ws) (λ v. tt))
     (own_either (bytes_eq w (codes "goto")) _ _ (own_then (one_target_in ws) _ (one_target_own ws) (λ v. tt))
+    (own_either (bytes_eq w (codes "again")) _ _ (own_then (again_in ws) _ (again_own ws) (λ v. tt))
     (own_either (bytes_eq w (codes "ret")) _ _ (own_then (one_variable_in ws) _ (one_variable_own ws) (λ v. tt))
-    (own_either (bytes_eq w (codes "fail")) _ (Err UnknownWord) (fail_own ws) own_word)))
+    (own_either (bytes_eq w (codes "fail")) _ (Err UnknownWord) (fail_own ws) own_word))))
 
 item_instruction_own : (w : List ℕ) (ws : List (List ℕ)) → IsOwn (item_instruction_in w ws)
 item_instruction_own w ws =
@@ -205,7 +214,7 @@ heading_own done (w ∷ n ∷ x ∷ ws) = own_word
 end_own : (code : List Instr) → IsOwnFault (end_fault_of code)
 end_own code =
     own_fault_either (eqb (length code) 0) (Some OverLimit) _ own_limit
-    (own_fault_either (leads_forward code) None (Some Target) tt own_target)
+    (own_fault_either (targets_fit code) None (Some Target) tt own_target)
 
 next_own : (f : Function) (r : Result Instr FaultCode) → IsOwn r → IsOwnFault (next_instruction_fault_of f r)
 next_own f (Ok i) here = own_fault_either (leb instruction_limit (length f.code)) (Some OverLimit) None own_limit tt

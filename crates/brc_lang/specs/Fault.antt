@@ -12,16 +12,16 @@ use Rattle.brc_lang.specs.declared.module.Function.{Function}
 use Rattle.brc_lang.specs.declared.module.Instr.{Instr}
 use Rattle.brc_lang.specs.declared.module.Instr.TheVariants.{Num, List as ListObject, NoneObject, Newref, Move}
 use Rattle.brc_lang.specs.declared.module.Instr.TheVariants.{Drop, Lock, Unlock, Borrow, Fetch, Set, Put, As}
-use Rattle.brc_lang.specs.declared.module.Instr.TheVariants.{Goto, Ret, Fail}
+use Rattle.brc_lang.specs.declared.module.Instr.TheVariants.{Goto, Again, Ret, Fail}
 use Rattle.brc_lang.specs.declared.fault.FaultCode.{FaultCode}
 use Rattle.brc_lang.specs.declared.fault.FaultCode.TheVariants.{FirstLine, UnknownWord, Number, Target, NameTwice}
 use Rattle.brc_lang.specs.declared.fault.FaultCode.TheVariants.{OverLimit, CutOff, NoMemory}
 use Rattle.brc_lang.specs.declared.fault.ReadFault.{ReadFault}
 use Rattle.brc_lang.specs.declared.module.Module.{Module}
-use Rattle.brc_lang.specs.Grammar.{is_name, IsInstruction, jump, IsFunction, AreNamedApart, heading, instructions}
-use Rattle.brc_lang.specs.Grammar.{functions, first_line}
+use Rattle.brc_lang.specs.Grammar.{is_name, IsInstruction, jump, turn, IsFunction, AreNamedApart, heading}
+use Rattle.brc_lang.specs.Grammar.{instructions, functions, first_line}
 use Rattle.brc_lang.specs.Limits.{function_limit, instruction_limit, last_variable, last_target, value_limit}
-use Rattle.brc_lang.specs.Limits.{cell_limit, last_index}
+use Rattle.brc_lang.specs.Limits.{cell_limit, last_index, turn_limit}
 
 -- ---- one line
 
@@ -82,6 +82,11 @@ abbrev pub one_target_in : List (List ℕ) → Result ℕ FaultCode
 one_target_in (word ∷ []) = target_in word
 one_target_in _ = Err UnknownWord
 
+-- a target, and how often `again` goes back to it
+abbrev pub again_in : List (List ℕ) → Result (ℕ × ℕ) FaultCode
+again_in (to ∷ times ∷ []) = target_in to >>= λ l. number_between 1 turn_limit times >>= λ n. Ok (l, n)
+again_in _ = Err UnknownWord
+
 -- the operands of a birth: a variable, a number from low to high, `else` and a target; `else` is compared first
 abbrev pub birth_in : ℕ → ℕ → List (List ℕ) → Result (ℕ × ℕ × ℕ) FaultCode
 birth_in low high (to ∷ number ∷ word ∷ otherwise ∷ []) =
@@ -128,6 +133,7 @@ abbrev pub path_instruction_in : List ℕ → List (List ℕ) → Result Instr F
 path_instruction_in w ws =
     if bytes_eq w (codes "as") then (as_in ws >>= λ b. Ok (As b.0 b.1 b.2))
     else if bytes_eq w (codes "goto") then (one_target_in ws >>= λ l. Ok (Goto l))
+    else if bytes_eq w (codes "again") then (again_in ws >>= λ b. Ok (Again b.0 b.1))
     else if bytes_eq w (codes "ret") then (one_variable_in ws >>= λ s. Ok (Ret s))
     else if bytes_eq w (codes "fail") then fail_in ws
     else Err UnknownWord
@@ -156,18 +162,24 @@ instruction_in (w ∷ ws) =
 
 -- ---- the targets of a function
 
--- the target, if there is one, is the number of a later instruction
-abbrev pub target_fits : ℕ → ℕ → Option ℕ → Bool
-target_fits at count None = true
-target_fits at count (Some target) = nat_lt at target && nat_lt target count
+-- the target behind `else` or `goto`, if there is one, is the number of a later instruction
+abbrev pub jump_fits : ℕ → ℕ → Option ℕ → Bool
+jump_fits at count None = true
+jump_fits at count (Some target) = nat_lt at target && nat_lt target count
+
+-- the target of `again`, if there is one, is the number of the instruction itself or of an earlier one
+abbrev pub turn_fits : ℕ → Option ℕ → Bool
+turn_fits at None = true
+turn_fits at (Some target) = nat_le target at
 
 -- the targets of the instructions from the number `at` on, of `count` in all
-abbrev pub lead_forward_from : ℕ → ℕ → List Instr → Bool
-lead_forward_from at count [] = true
-lead_forward_from at count (i ∷ code) = target_fits at count (jump i) && lead_forward_from (at + 1) count code
+abbrev pub targets_fit_from : ℕ → ℕ → List Instr → Bool
+targets_fit_from at count [] = true
+targets_fit_from at count (i ∷ code) =
+    jump_fits at count (jump i) && turn_fits at (turn i) && targets_fit_from (at + 1) count code
 
-abbrev pub leads_forward : List Instr → Bool
-leads_forward code = lead_forward_from 0 (length code) code
+abbrev pub targets_fit : List Instr → Bool
+targets_fit code = targets_fit_from 0 (length code) code
 
 -- ---- a line after those above it
 
@@ -216,7 +228,7 @@ heading_fault_of done _ = Some UnknownWord
 abbrev pub end_fault_of : List Instr → Option FaultCode
 end_fault_of code =
     if length code == 0 then Some OverLimit
-    else if leads_forward code then None
+    else if targets_fit code then None
     else Some Target
 
 abbrev pub next_instruction_fault_of : Function → Result Instr FaultCode → Option FaultCode

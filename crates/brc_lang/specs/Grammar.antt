@@ -10,9 +10,9 @@ use Rattle.brc_lang.specs.declared.module.Function.{Function}
 use Rattle.brc_lang.specs.declared.module.Instr.{Instr}
 use Rattle.brc_lang.specs.declared.module.Instr.TheVariants.{Num, List as ListObject, NoneObject, Newref, Move}
 use Rattle.brc_lang.specs.declared.module.Instr.TheVariants.{Drop, Lock, Unlock, Borrow, Fetch, Set, Put, As}
-use Rattle.brc_lang.specs.declared.module.Instr.TheVariants.{Goto, Ret, Fail}
+use Rattle.brc_lang.specs.declared.module.Instr.TheVariants.{Goto, Again, Ret, Fail}
 use Rattle.brc_lang.specs.Limits.{function_limit, instruction_limit, variable_count, target_count, cell_limit}
-use Rattle.brc_lang.specs.Limits.{index_count, name_rest_limit}
+use Rattle.brc_lang.specs.Limits.{index_count, turn_limit, name_rest_limit}
 
 -- ---- spellings
 
@@ -63,6 +63,7 @@ instruction_words (Put list index from otherwise) =
 instruction_words (As from kind otherwise) =
     codes "as" ∷ variable from ∷ kind_name kind ∷ codes "else" ∷ target otherwise ∷ []
 instruction_words (Goto to) = codes "goto" ∷ target to ∷ []
+instruction_words (Again to times) = codes "again" ∷ target to ∷ decimal times ∷ []
 instruction_words (Ret from) = codes "ret" ∷ variable from ∷ []
 instruction_words Fail = codes "fail" ∷ []
 
@@ -123,10 +124,11 @@ IsInstruction (Put list index from otherwise) =
 IsInstruction (As from kind otherwise) =
     (from < variable_count) × (kind ≢ kinds.Any) × (otherwise < target_count)
 IsInstruction (Goto to) = to < target_count
+IsInstruction (Again to times) = (to < target_count) × (0 < times) × (times ≤ turn_limit)
 IsInstruction (Ret from) = from < variable_count
 IsInstruction Fail = Unit {0}
 
--- the target that an instruction names
+-- the target behind `else` or `goto`
 abbrev pub jump : Instr → Option ℕ
 jump (Num to value otherwise) = Some otherwise
 jump (ListObject to cells otherwise) = Some otherwise
@@ -142,14 +144,30 @@ jump (Set list index from otherwise) = Some otherwise
 jump (Put list index from otherwise) = Some otherwise
 jump (As from kind otherwise) = Some otherwise
 jump (Goto to) = Some to
+jump (Again to times) = None
 jump (Ret from) = None
 jump Fail = None
 
--- each target is the number of a later instruction of the code
+-- the target of `again`
+abbrev pub turn : Instr → Option ℕ
+turn (Again to times) = Some to
+turn _ = None
+
+-- each target behind `else` or `goto` is the number of a later instruction of the code
 abbrev pub LeadsForward : List Instr → Type 0
 LeadsForward code =
     (at : ℕ) (i : Instr) (target : ℕ) → slice_get code at ≡ Some i → jump i ≡ Some target
     → (at < target) × (target < length code)
+
+-- each target of `again` is the number of the instruction itself or of an earlier one
+abbrev pub LeadsBack : List Instr → Type 0
+LeadsBack code =
+    (at : ℕ) (i : Instr) (target : ℕ) → slice_get code at ≡ Some i → turn i ≡ Some target → target ≤ at
+
+-- each target leads the way that its instruction leads
+pub record TargetsFit (code : List Instr) : Type 0 where
+  pub forward : LeadsForward code
+  pub back : LeadsBack code
 
 -- 1 to 256 instructions
 pub record IsFunction (f : Function) : Type 0 where
@@ -157,7 +175,7 @@ pub record IsFunction (f : Function) : Type 0 where
   pub some : 0 < length f.code
   pub most : length f.code ≤ instruction_limit
   pub code : AllByRecursion IsInstruction f.code
-  pub targets : LeadsForward f.code
+  pub targets : TargetsFit f.code
 
 -- no two functions have the same name
 abbrev pub AreNamedApart : List Function → Type 0

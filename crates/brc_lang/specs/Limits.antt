@@ -37,6 +37,10 @@ index_count = 256
 abbrev pub last_index : ℕ
 last_index = 255
 
+-- the most times that an instruction `again` goes back in one call
+abbrev pub turn_limit : ℕ
+turn_limit = 2 ^ 16 - 1
+
 -- the bytes of a name, and those after its first letter
 abbrev pub name_limit : ℕ
 name_limit = 16

@@ -14,7 +14,7 @@ pub enum FaultCode {
     UnknownWord,
     /// L3: a number out of range or in another form, as with a leading zero.
     Number,
-    /// L4: a target outside the function, or one that doesn't lead forward.
+    /// L4: a target outside the function, or one that doesn't lead forward; of `again` one that doesn't lead back.
     Target,
     /// L5: the name of an earlier function.
     NameTwice,

@@ -6,7 +6,9 @@ ghost use Rattle.brc_lang.specs.Fault.{words, instruction_in, item_instruction_i
 use crate::fault::FaultCode;
 use crate::lexing::{is_word, split_word};
 use crate::module::Instr;
-use crate::operands::{asked_kind, birth, item, one_target, one_variable, store, two_variables};
+use crate::operands::{
+    asked_kind, birth, item, loop_bounds, one_target, one_variable, store, two_variables,
+};
 
 /// The most cells of a list.
 const MOST_CELLS: u32 = 8;
@@ -131,6 +133,9 @@ fn path_instruction(word: &[u8], operands: &[u8]) -> Result<Instr, FaultCode>
     } else if is_word(word, b"goto") {
         let target = one_target(operands)?;
         Ok(Instr::Goto { target })
+    } else if is_word(word, b"again") {
+        let (target, times) = loop_bounds(operands)?;
+        Ok(Instr::Again { target, times })
     } else if is_word(word, b"ret") {
         let from = one_variable(operands)?;
         Ok(Instr::Ret { from })

@@ -9,7 +9,7 @@ ghost use Rattle.brc_lang.specs.declared.fault.FaultCode.TheVariants.{Number};
 ghost use Rattle.std.specs.Str.{bytes_eq};
 ghost use Rattle.brc_lang.specs.Grammar.{is_name, is_name_byte};
 ghost use Rattle.brc_lang.specs.Fault.{words, number_in, number_between, variable_in, target_in, is_line_feed, kind_in};
-ghost use Rattle.brc_lang.specs.Limits.{last_index};
+ghost use Rattle.brc_lang.specs.Limits.{last_index, turn_limit};
 ghost use Rattle.brc_lang.specs.Progress.{IsFirstLineOf};
 
 use crate::fault::FaultCode;
@@ -21,6 +21,8 @@ const LAST_VARIABLE: u32 = 15;
 const LAST_TARGET: u32 = 255;
 
 const LAST_INDEX: u32 = 255;
+
+const MOST_TURNS: u32 = 65535;
 
 /// Returns the first line without its line feed and the text below it, or `None` if the text has no line feed.
 pub fn split_line(text: &[u8]) -> Option<(&[u8], &[u8])>
@@ -199,6 +201,13 @@ pub(crate) fn index(word: &[u8]) -> Result<u8, FaultCode>
     ensures { result ≡ number_in last_index word.now }
 {
     Ok(number(LAST_INDEX, word)? as u8)
+}
+
+/// Reads how often `again` goes back: a number from 1 to 65535. Returns `Number` for another word.
+pub(crate) fn turns(word: &[u8]) -> Result<u16, FaultCode>
+    ensures { result ≡ number_between 1 turn_limit word.now }
+{
+    Ok(number_between(1, MOST_TURNS, word)? as u16)
 }
 
 /// Reads a kind: `none`, `num`, `list`, `file` or `sock`. Returns `UnknownWord` for another word.

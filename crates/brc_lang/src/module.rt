@@ -1,5 +1,5 @@
 ghost use Rattle.std.specs.Prelude.{◌≡◌};
-ghost use Rattle.brc_lang.specs.Grammar.{jump};
+ghost use Rattle.brc_lang.specs.Grammar.{jump, turn};
 
 use crate::kind::Kind;
 use crate::name::Name;
@@ -22,7 +22,7 @@ pub struct Function {
 /// An instruction, with its operands in the order of the text.
 ///
 /// References follow the ownership rules of the Python/C API (Introduction, Reference Count Details). A target is the
-/// number of a later instruction of the function.
+/// number of a later instruction of the function; that of `again` is its own number or an earlier one.
 #[derive(Clone, Copy, Debug, PartialEq, Eq)]
 pub enum Instr {
     /// `num vD K else @L`: makes a number of the value K and owns it in vD; goes on at L if the worker has no row left.
@@ -108,6 +108,12 @@ pub enum Instr {
     Goto {
         target: u8,
     },
+    /// `again @L N`: goes back to the instruction L, at most N times in one call, 1 to 65535; after that goes on at the
+    /// next instruction.
+    Again {
+        target: u8,
+        times: u16,
+    },
     /// `ret vS`: ends the call and returns the reference in vS to the caller, who owns it.
     Ret {
         from: Variable,
@@ -117,7 +123,7 @@ pub enum Instr {
 }
 
 impl Instr {
-    /// Returns the target that the instruction names, or `None`.
+    /// Returns the target behind `else` or `goto`, which leads forward, or `None`.
     pub fn jump(self) -> Option<u8>
         ensures { result ≡ jump self }
     {
@@ -130,6 +136,16 @@ impl Instr {
             | Instr::Put { otherwise, .. }
             | Instr::As { otherwise, .. } => Some(otherwise),
             Instr::Goto { target } => Some(target),
+            _ => None,
+        }
+    }
+
+    /// Returns the target of `again`, which leads back, or `None` for another instruction.
+    pub fn turn(self) -> Option<u8>
+        ensures { result ≡ turn self }
+    {
+        match self {
+            Instr::Again { target, .. } => Some(target),
             _ => None,
         }
     }

@@ -2,13 +2,13 @@
 
 ghost use Rattle.std.specs.Prelude.{◌≡◌, ◌≤◌, IfOk};
 ghost use Rattle.brc_lang.specs.Fault.{words, one_variable_in, two_variables_in, one_target_in, birth_in, item_in};
-ghost use Rattle.brc_lang.specs.Fault.{store_in, as_in};
+ghost use Rattle.brc_lang.specs.Fault.{store_in, as_in, again_in};
 
 use crate::fault::FaultCode;
 use crate::kind::Kind;
 use crate::lexing::{
-    five_words, four_words, index, is_word, kind, number_between, one_word, target, two_words,
-    variable,
+    five_words, four_words, index, is_word, kind, number_between, one_word, target, turns,
+    two_words, variable,
 };
 use crate::variable::Variable;
 
@@ -109,4 +109,16 @@ pub(crate) fn one_target(operands: &[u8]) -> Result<u8, FaultCode>
         Some(word) => target(word),
         None => Err(FaultCode::UnknownWord),
     }
+}
+
+/// Reads the operands of `again`: a target, and how often it goes back there.
+pub(crate) fn loop_bounds(operands: &[u8]) -> Result<(u8, u16), FaultCode>
+    ensures { result ≡ again_in (words operands.now) }
+{
+    let Some((first, second)) = two_words(operands) else {
+        return Err(FaultCode::UnknownWord);
+    };
+    let target = target(first)?;
+    let times = turns(second)?;
+    Ok((target, times))
 }

@@ -19,7 +19,7 @@ use crate::lexing::{is_name, is_word, split_line, two_words};
 use crate::module::{Function, Instr, Module};
 use crate::name::Name;
 use crate::sequence::Sequence;
-use crate::targets::leads_forward;
+use crate::targets::targets_fit;
 use std::alloc::Global;
 
 const FIRST_LINE: &[u8] = b"module 1\n";
@@ -177,7 +177,7 @@ fn end_fault(code: &[Instr]) -> Option<FaultCode>
 {
     if code.is_empty() {
         Some(FaultCode::OverLimit)
-    } else if leads_forward(code) {
+    } else if targets_fit(code) {
         None
     } else {
         Some(FaultCode::Target)

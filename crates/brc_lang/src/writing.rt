@@ -3,7 +3,7 @@ ghost use Rattle.std.specs.Io.KnownBytes.{Appends};
 ghost use Rattle.brc_lang.specs.Written.{AppendsBeginning};
 ghost use Rattle.brc_lang.specs.Grammar.{spaced, variable as variable_text, target as target_text, kind_name};
 ghost use Rattle.brc_lang.specs.Grammar.{instruction as instruction_text};
-ghost use Rattle.brc_lang.specs.declared.module.Instr.TheVariants.{Num, As};
+ghost use Rattle.brc_lang.specs.declared.module.Instr.TheVariants.{Num, As, Again};
 ghost use Rattle.brc_lang.specs.Grammar.{instructions as instructions_text, line as line_text, heading as heading_text};
 ghost use Rattle.brc_lang.specs.Grammar.{function as function_text, text as module_text};
 
@@ -120,6 +120,7 @@ fn write_instruction<W: Write>(instr: Instr, writer: &mut W) -> io::Result<()>
             otherwise,
         } => write_as(from, kind, otherwise, writer),
         Instr::Goto { target } => write_numeral(b"goto @", u64::from(target), writer),
+        Instr::Again { target, times } => write_again(target, times, writer),
         Instr::Ret { from } => write_operand(b"ret ", from, writer),
         Instr::Fail => write_bytes(b"fail", writer),
     }
@@ -195,6 +196,16 @@ fn write_as<W: Write>(from: Variable, kind: Kind, otherwise: u8, writer: &mut W)
     write_operand(b"as ", from, writer)?;
     write_kind(b" ", kind, writer)?;
     write_numeral(b" else @", u64::from(otherwise), writer)
+}
+
+fn write_again<W: Write>(target: u8, times: u16, writer: &mut W) -> io::Result<()>
+    ensures whole { OnOk result (Appends (W.contents writer.old) (W.contents writer.new)
+        (instruction_text (Again target times))) }
+    ensures begun { OnErr result (AppendsBeginning (W.contents writer.old) (W.contents writer.new)
+        (instruction_text (Again target times))) }
+{
+    write_numeral(b"again @", u64::from(target), writer)?;
+    write_numeral(b" ", u64::from(times), writer)
 }
 
 /// Writes the bytes and then the kind's word.

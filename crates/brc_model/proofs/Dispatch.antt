@@ -1,13 +1,14 @@
 -- What a thread of accepted code does next fits it: `Actions.action_fits`.
 --
 -- In order: `Holds`, `Passing` and `Grounded` (what a thread's variables hold at a point that a path reaches), `AtOnce`
--- (no agenda locks, unlocks or swaps a cell), `Guards` (what the state says is locked), `Coded` (a thread's lock and
--- account are those of its place), `Decided` (the place that a word found decides), `Kinds` and `KindsLeft`
--- (instruction by instruction, variables have the kinds that the checker says), `Items`, `ItemsLeft` and `ItemsActions`
--- (instruction by instruction, what is borrowed is in the locked list), `Begins` (what a thread takes up),
+-- (no agenda locks, unlocks, swaps a cell, or lends or returns a resource), `Guards` (what the state says is locked),
+-- `Lending` (what the place says is lent), `Claims` and `Rooms` (where a birth is awaited, there is room), `Coded` (a thread's lock and account are those of its place), `Decided` (the
+-- place that a word found decides), `Kinds` and `KindsLeft` (instruction by instruction, variables have the kinds that
+-- the checker says), `Items`, `ItemsLeft` and `ItemsActions` (instruction by instruction, what is borrowed is in the
+-- locked list), `Begins` (what a thread takes up),
 -- `Lockable` and `Standing` (what it knows at an instruction), `TakingSilent`, `TakingBirths`, `TakingLocks`,
 -- `TakingItems`, `TakingInside`, `TakingStores` and `Taking` (instruction by instruction), `Begun` and `TakenSits`,
--- `Claims`, `Counting` (the counting machine below), `Actions`, which has the theorem, and `Fit` (an instruction has
+-- `Counting` (the counting machine below), `Actions`, which has the theorem, and `Fit` (an instruction has
 -- what it needs).
 
 pub mod Holds
@@ -15,6 +16,9 @@ pub mod Passing
 pub mod Grounded
 pub mod AtOnce
 pub mod Guards
+pub mod Lending
+pub mod Claims
+pub mod Rooms
 pub mod Coded
 pub mod Decided
 pub mod Kinds
@@ -34,7 +38,6 @@ pub mod TakingStores
 pub mod Taking
 pub mod Begun
 pub mod TakenSits
-pub mod Claims
 pub mod Counting
 pub mod Actions
 pub mod Fit

@@ -3,8 +3,8 @@
 -- In order: `Agreeing`; `Safe`, over `Keeping/StepCases`; `Counting`, the laws of the counting machine; `StatesRise` to
 -- `ClosedOnce`; `Gates`, `Births`, `MarksWatched`, `KindWords` and `CellsUnderLock`; `RowLaws`, which extends these
 -- laws to every list of events; `KnownKinds` and `BorrowedItems`, what the checker says of kinds and of borrowed items;
--- then the laws of the world: `Worlds`, `AgendaMoves`, `Emptied`, `Elsewhere`, `StepsMove`, `LocksWait`, `Trace`,
--- `Faults`.
+-- then the laws of the world: `Worlds`, `AgendaMoves`, `Emptied`, `Leading`,
+-- `Turns`, `Elsewhere`, `StepsMove`, `LocksWait`, `Trace`, `Faults`.
 -- `Rules` proves that the named rules are the steps. `Worked` computes three schedules.
 
 pub mod Agreeing
@@ -25,6 +25,8 @@ pub mod BorrowedItems
 pub mod Worlds
 pub mod AgendaMoves
 pub mod Emptied
+pub mod Leading
+pub mod Turns
 pub mod Elsewhere
 pub mod StepsMove
 pub mod LocksWait

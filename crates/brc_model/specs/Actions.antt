@@ -1,7 +1,7 @@
 -- Actions. At an event a thread of the step world does the first duty of its agenda, or what its code dispatches.
 use Rattle.std.specs.Prelude.{ℕ, zero, suc, ◌+◌, ◌*◌, Bool, true, false, ◌&&◌, ◌==◌, nat_lt, if◌then◌else◌, List, [], ◌∷◌, length, Option, None, Some, slice_get, slice_index_or, slice_set, replicate}
 use Rattle.brc_lang.specs.declared.module.Instr.{Instr}
-use Rattle.brc_lang.specs.declared.module.Instr.TheVariants.{Num, List as ListObject, NoneObject, Newref, Move as MoveReference, Drop, Lock, Unlock, Borrow, Fetch, Set, Put, Goto, Ret, Fail, As}
+use Rattle.brc_lang.specs.declared.module.Instr.TheVariants.{Num, List as ListObject, NoneObject, Newref, Move as MoveReference, Drop, Lock, Unlock, Borrow, Fetch, Set, Put, Goto, Again, Ret, Fail, As}
 use Rattle.brc_lang.specs.declared.module.Function.{Function}
 use Rattle.brc_word.specs.Words.{half, free_word}
 use Rattle.brc_model.specs.declared.thread.Choice.{Choice}
@@ -81,7 +81,7 @@ abbrev pub turned : Counters → ℕ → Counters
 turned counters at =
     record { left = counters.left; turns = slice_set counters.turns at (turns_at counters at + 1) }
 
--- the place after an instruction `again` at the point: back at `to`, if it has gone back less often than it may, or else
+-- the place after an instruction `again` at the point: back at `to` if it has gone back less often than it may, or else
 -- past it
 abbrev pub again_place : Counters → ℕ → List (Option ℕ) → ℕ → ℕ → Place
 again_place counters at variables to times =
@@ -157,6 +157,8 @@ dispatch_instruction layout t used before counters at variables (Some (As from k
     (λ found. InCall counters (if same_kind (kind_of_word found) kind then at + 1 else otherwise) variables))
 dispatch_instruction layout t used before counters at variables (Some (Goto to)) =
     Silent [] (InCall counters to variables)
+dispatch_instruction layout t used before counters at variables (Some (Again to times)) =
+    Silent [] (again_place counters at variables to times)
 dispatch_instruction layout t used before counters at variables (Some (Ret from)) =
     with_row (row_of variables from)
     (λ row. Does (ReleaseLoad row (ByVariable from)) (Settle ∷ []) (always (Idle counters.left)))

@@ -5,7 +5,7 @@ use Rattle.brc_model.specs.declared.duty.Holding.TheVariants.{InFlight}
 use Rattle.brc_model.specs.declared.duty.Reason.{Reason}
 use Rattle.brc_model.specs.declared.duty.Reason.TheVariants.{Own, Handed}
 use Rattle.brc_model.specs.declared.duty.Duty.{Duty}
-use Rattle.brc_model.specs.declared.duty.Duty.TheVariants.{RetainLoad, RetainStore, RetainAdd, ReleaseLoad, ReleaseStore, DecideAtZero, SharedLoad, SharedExchange, SetMark, Look, TakeMark, MergeSwap, MergeLoad, MergeExchange, Die, Settle, SettleKind, SettleCell, TakeSlot, CloseResource, SettleEnd, Leave, Scan, Finish, ClaimMark, BirthKind, BirthSlot, BirthLocal, KindLoad, LockGate, UnlockGate, CellLoad, CellSwap}
+use Rattle.brc_model.specs.declared.duty.Duty.TheVariants.{RetainLoad, RetainStore, RetainAdd, ReleaseLoad, ReleaseStore, DecideAtZero, SharedLoad, SharedExchange, SetMark, Look, TakeMark, MergeSwap, MergeLoad, MergeExchange, Die, Settle, SettleKind, SettleCell, TakeSlot, CloseResource, SettleEnd, Leave, Scan, Finish, ClaimMark, BirthKind, BirthSlot, BirthLocal, KindLoad, LockGate, UnlockGate, CellLoad, CellSwap, LendSlot, ReturnSlot}
 use Rattle.brc_model.specs.declared.address.Address.{Address}
 use Rattle.brc_model.specs.declared.layout.Layout.{Layout}
 use Rattle.brc_model.specs.declared.address.Address.TheVariants.{Local, Shared, Gate, KindOf, Mark, Cell, Slot, Resource, ThreadWord}
@@ -49,6 +49,8 @@ address_of layout t head (LockGate x) = Gate x
 address_of layout t head (UnlockGate x) = Gate x
 address_of layout t head (CellLoad x i) = Cell x i
 address_of layout t head (CellSwap x i y h) = Cell x i
+address_of layout t head (LendSlot x) = Slot x
+address_of layout t head (ReturnSlot x) = Slot x
 
 -- Returns the new value of the word that the step accesses.
 abbrev pub new_word : ℕ → ℕ → Duty → ℕ → ℕ
@@ -71,7 +73,7 @@ new_word t head Settle found = found
 new_word t head (SettleKind x) found = found
 new_word t head (SettleCell x i n) found = 0
 new_word t head (TakeSlot x) found = 0
-new_word t head (CloseResource x) found = 0
+new_word t head (CloseResource x) found = found + 1
 new_word t head (SettleEnd x) found = closed_word
 new_word t head (Leave i n) found = 2
 new_word t head (Scan i n) found = 0
@@ -85,6 +87,8 @@ new_word t head (LockGate x) found = if found == free_word then locked_word t el
 new_word t head (UnlockGate x) found = free_word
 new_word t head (CellLoad x i) found = found
 new_word t head (CellSwap x i y h) found = y + 1
+new_word t head (LendSlot x) found = 0
+new_word t head (ReturnSlot x) found = 1
 
 -- ---- what follows a step
 
@@ -114,6 +118,10 @@ shared_result x w = if w == fresh_word then SetMark x ∷ [] else if released_wo
 -- Says whether an object with this kind word has a resource of the host: a file or a socket does.
 abbrev pub has_resource : ℕ → Bool
 has_resource word = (kind_part word == 4) || (kind_part word == 5)
+
+-- how many resources of the host it has
+abbrev pub resources_of : ℕ → ℕ
+resources_of word = if has_resource word then 1 else 0
 
 -- how many cells an object with this kind word has
 abbrev pub cells_of : ℕ → ℕ
@@ -174,6 +182,8 @@ continuation layout t running head (LockGate x) found = []
 continuation layout t running head (UnlockGate x) found = []
 continuation layout t running head (CellLoad x i) found = []
 continuation layout t running head (CellSwap x i y h) found = release_found found
+continuation layout t running head (LendSlot x) found = []
+continuation layout t running head (ReturnSlot x) found = []
 
 -- the head of the dying chain after the step: 0, or a row plus 1
 abbrev pub new_head : ℕ → Duty → ℕ → ℕ

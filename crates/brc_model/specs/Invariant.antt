@@ -1,6 +1,6 @@
 -- The invariant holds of each reachable machine, whatever code its threads run. It takes each thread's account of
 -- references, and never asks where a thread is in its code: status and agenda say whether its exit is under way.
-use Rattle.std.specs.Prelude.{◌≡◌, ◌≢◌, ◌⊎◌, ℕ, ◌+◌, ◌<◌, ◌≤◌, Bool, true, false, ◌==◌, List, [], ◌∷◌, length, None, Some, slice_get, count_by, AllPairs}
+use Rattle.std.specs.Prelude.{◌≡◌, ◌≢◌, ◌⊎◌, ℕ, ◌+◌, ◌<◌, ◌≤◌, Bool, true, false, ◌==◌, List, [], ◌∷◌, length, Some, slice_get, count_by, AllPairs}
 use Rattle.brc_model.specs.declared.duty.Holding.{Holding}
 use Rattle.brc_model.specs.AbstractState.{is_among, references_to}
 use Rattle.brc_word.specs.Words.{immortal_local, local_word, kind_part}
@@ -40,7 +40,8 @@ numbers_of m x = record {
 
 -- The thread word says the thread's status, the bag has what the account says, the thread's duties know what they need,
 -- its dying rows are its chain and those that its duties finalise, and it holds the list that it has locked. A thread
--- whose exit is under way holds nothing, so it has locked nothing, and has put nothing aside. No instruction lends yet.
+-- whose exit is under way holds nothing, so it has locked nothing, and has put nothing aside. A resource is lent to the
+-- thread that has locked its object.
 pub record ActorFits (account : Account) (m : Machine) (t : ℕ) (a : Actor) : Type 0 where
   pub word : m.memory (ThreadWord t) ≡ status_word a.status
   pub holds : HoldsAt m.abstract.references t account a.agenda a.aside
@@ -50,7 +51,7 @@ pub record ActorFits (account : Account) (m : Machine) (t : ℕ) (a : Actor) : T
   pub behind : BehindOf m t a.agenda
   pub chain : ChainFits m t a.head a.agenda
   pub locks : LocksFit account m t a
-  pub unlent : a.lent ≡ None
+  pub lent : (x : ℕ) → a.lent ≡ Some x → a.locked ≡ Some x
 
 -- what holds of each thread
 abbrev pub Fits : Account → Machine → ℕ → Actor → Type 0

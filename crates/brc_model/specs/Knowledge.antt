@@ -6,15 +6,14 @@ use Rattle.brc_model.specs.Kinds.{kind_of_word, is_counted_kind}
 use Rattle.brc_model.specs.declared.duty.Reason.{Reason}
 use Rattle.brc_model.specs.declared.duty.Reason.TheVariants.{Own, Handed}
 use Rattle.brc_model.specs.declared.duty.Duty.{Duty}
-use Rattle.brc_model.specs.declared.duty.Duty.TheVariants.{RetainLoad, RetainStore, RetainAdd, ReleaseLoad, ReleaseStore, DecideAtZero, SharedLoad, SharedExchange, SetMark, Look, TakeMark, MergeSwap, MergeLoad, MergeExchange, Die, Settle, SettleKind, SettleCell, TakeSlot, CloseResource, SettleEnd, Leave, Scan, Finish, ClaimMark, BirthKind, BirthSlot, BirthLocal, KindLoad, LockGate, UnlockGate, CellLoad, CellSwap}
+use Rattle.brc_model.specs.declared.duty.Duty.TheVariants.{RetainLoad, RetainStore, RetainAdd, ReleaseLoad, ReleaseStore, DecideAtZero, SharedLoad, SharedExchange, SetMark, Look, TakeMark, MergeSwap, MergeLoad, MergeExchange, Die, Settle, SettleKind, SettleCell, TakeSlot, CloseResource, SettleEnd, Leave, Scan, Finish, ClaimMark, BirthKind, BirthSlot, BirthLocal, KindLoad, LockGate, UnlockGate, CellLoad, CellSwap, LendSlot, ReturnSlot}
 use Rattle.brc_model.specs.declared.address.Address.{Address}
 use Rattle.brc_model.specs.declared.address.Address.TheVariants.{Local, Shared, Gate, KindOf, Cell, ThreadWord}
 use Rattle.brc_model.specs.declared.actor.Status.{Status}
 use Rattle.brc_model.specs.declared.actor.Status.TheVariants.{Running, Leaving, Gone}
-use Rattle.brc_model.specs.Duties.{cells_of}
+use Rattle.brc_model.specs.Duties.{cells_of, has_resource}
 use Rattle.brc_model.specs.Machine.{Actor, Unborn, Dying, Machine}
 use Rattle.brc_model.specs.References.{held, reference_of}
-use Rattle.brc_model.specs.Duties.{cells_of}
 use Rattle.brc_model.specs.Layout.{block_of, block_size, row_at, IsCounted}
 
 -- the thread word of a status
@@ -136,10 +135,13 @@ HeadFits m t a (BirthLocal x h) rest = IsNext m t a x × (rest ≡ []) × HasCou
 HeadFits m t a (KindLoad x) rest = IsBacked m t a x
 HeadFits m t a (LockGate x) rest = (IsCounted m.layout x) × IsBacked m t a x × (a.locked ≡ None)
 HeadFits m t a (UnlockGate x) rest =
-    (IsCounted m.layout x) × IsBacked m t a x × (a.locked ≡ Some x) × HasNoRetainAside a
+    (IsCounted m.layout x) × IsBacked m t a x × (a.locked ≡ Some x) × HasNoRetainAside a × (a.lent ≡ None)
 HeadFits m t a (CellLoad x i) rest =
     (IsCounted m.layout x) × IsBacked m t a x × (a.locked ≡ Some x) × (i < cells_of (m.memory (KindOf x)))
 HeadFits m t a (CellSwap x i y h) rest = (a.locked ≡ Some x) × (i < cells_of (m.memory (KindOf x)))
+HeadFits m t a (LendSlot x) rest =
+    (IsCounted m.layout x) × (a.locked ≡ Some x) × (a.lent ≡ None) × (has_resource (m.memory (KindOf x)) ≡ true)
+HeadFits m t a (ReturnSlot x) rest = a.lent ≡ Some x
 
 abbrev pub HeadOf : Machine → ℕ → Actor → List Duty → Type 0
 HeadOf m t a [] = Unit {0}

@@ -36,3 +36,4 @@ pub mod CountingLaws
 pub mod Progress
 pub mod Watched
 pub mod Trace
+pub mod Bounded

@@ -4,7 +4,7 @@ use Rattle.std.specs.Prelude.{ℕ, ◌+◌, Bool, true, false, ◌&&◌, ◌==�
 use Rattle.brc_model.specs.declared.actor.Status.{Status}
 use Rattle.brc_model.specs.declared.actor.Status.TheVariants.{Running, Leaving, Gone}
 use Rattle.brc_model.specs.declared.duty.Duty.{Duty}
-use Rattle.brc_model.specs.declared.duty.Duty.TheVariants.{Die, SettleEnd, Leave, Finish, BirthLocal, LockGate, UnlockGate}
+use Rattle.brc_model.specs.declared.duty.Duty.TheVariants.{Die, SettleEnd, Leave, Finish, BirthLocal, LockGate, UnlockGate, LendSlot, ReturnSlot}
 use Rattle.brc_model.specs.declared.address.Address.{Address}
 use Rattle.brc_model.specs.declared.layout.Layout.{Layout}
 use Rattle.brc_model.specs.declared.address.Address.TheVariants.{Local, Shared, Gate, KindOf, Mark, Cell, Slot, Resource, ThreadWord}
@@ -28,7 +28,7 @@ pub record Actor : Type 0 where
   pub used : ℕ
   -- the row of the list that it has locked
   pub locked : Option ℕ
-  -- the resource that it has lent to a call (no instruction lends yet)
+  -- the row of the file or socket whose resource it has lent to a call of the host
   pub lent : Option ℕ
 
 -- a running thread with nothing to do, which has used `used` rows
@@ -62,6 +62,18 @@ abbrev pub locked_by : Option ℕ → Duty → ℕ → Option ℕ
 locked_by locked (LockGate x) found = if found == free_word then Some x else locked
 locked_by locked (UnlockGate x) found = None
 locked_by locked _ found = locked
+
+-- Says whether the duty takes a resource for a call of the host, or puts it back.
+abbrev pub is_lending : Duty → Bool
+is_lending (LendSlot x) = true
+is_lending (ReturnSlot x) = true
+is_lending _ = false
+
+-- A thread that finds the resource in its slot has it lent, until it puts it back.
+abbrev pub lent_by : Option ℕ → Duty → ℕ → Option ℕ
+lent_by lent (LendSlot x) found = if found == 1 then Some x else lent
+lent_by lent (ReturnSlot x) found = None
+lent_by lent _ found = lent
 
 -- ---- the rows of a thread
 
@@ -134,7 +146,7 @@ actor_by layout t a d rest found = record {
   head = new_head a.head d found;
   used = used_by a.used d;
   locked = locked_by a.locked d found;
-  lent = a.lent;
+  lent = lent_by a.lent d found;
 }
 
 -- Returns the machine after the duty of thread t, which is one step on one word. `rest` are the duties behind it.

@@ -2,7 +2,7 @@
 use Rattle.std.specs.Prelude.{◌≡◌, ◌⊎◌, ℕ, ◌+◌, ◌<◌, ◌≤◌, Bool, true, false, ◌==◌, nat_le, List, [], ◌∷◌, count_by, if◌then◌else◌}
 use Rattle.brc_word.specs.Words.{half, dying_word}
 use Rattle.brc_model.specs.declared.duty.Duty.{Duty}
-use Rattle.brc_model.specs.declared.duty.Duty.TheVariants.{RetainLoad, RetainStore, RetainAdd, ReleaseLoad, ReleaseStore, DecideAtZero, SharedLoad, SharedExchange, SetMark, Look, TakeMark, MergeSwap, MergeLoad, MergeExchange, Die, Settle, SettleKind, SettleCell, TakeSlot, CloseResource, SettleEnd, Leave, Scan, Finish, ClaimMark, BirthKind, BirthSlot, BirthLocal, KindLoad, LockGate, UnlockGate, CellLoad, CellSwap}
+use Rattle.brc_model.specs.declared.duty.Duty.TheVariants.{RetainLoad, RetainStore, RetainAdd, ReleaseLoad, ReleaseStore, DecideAtZero, SharedLoad, SharedExchange, SetMark, Look, TakeMark, MergeSwap, MergeLoad, MergeExchange, Die, Settle, SettleKind, SettleCell, TakeSlot, CloseResource, SettleEnd, Leave, Scan, Finish, ClaimMark, BirthKind, BirthSlot, BirthLocal, KindLoad, LockGate, UnlockGate, CellLoad, CellSwap, LendSlot, ReturnSlot}
 use Rattle.brc_model.specs.declared.address.Address.{Address}
 use Rattle.brc_model.specs.declared.address.Address.TheVariants.{Gate}
 use Rattle.brc_model.specs.declared.actor.Status.{Status}
@@ -141,6 +141,8 @@ is_about x (LockGate y) = y == x
 is_about x (UnlockGate y) = y == x
 is_about x (CellLoad y i) = y == x
 is_about x (CellSwap y i z h) = y == x
+is_about x (LendSlot y) = y == x
+is_about x (ReturnSlot y) = y == x
 is_about x Settle = false
 is_about x (Leave y n) = false
 is_about x (Scan y n) = false
@@ -152,7 +154,7 @@ about_of x [] = false
 about_of x (d ∷ rest) = is_about x d
 
 -- Says whether a duty may be put aside: a retain, a release, a queueing or a merge may. A thread settles, claims, exits,
--- gives birth, asks for a kind, locks, unlocks, and loads or swaps a cell in one go.
+-- gives birth, asks for a kind, locks, unlocks, loads or swaps a cell, and lends or returns a resource in one go.
 abbrev pub may_wait : Duty → Bool
 may_wait (RetainLoad x h) = true
 may_wait (RetainStore x h w) = true
@@ -171,7 +173,7 @@ may_wait (MergeExchange x c w r) = true
 may_wait _ = false
 
 -- Says whether a duty may come next while others are aside: one that may wait, a death, a birth, a look at a kind or a
--- cell, or one that locks or unlocks.
+-- cell, or one that locks, unlocks, lends a resource or returns it.
 abbrev pub is_piece : Duty → Bool
 is_piece (Die x) = true
 is_piece (BirthKind x h w) = true
@@ -181,6 +183,8 @@ is_piece (KindLoad x) = true
 is_piece (LockGate x) = true
 is_piece (UnlockGate x) = true
 is_piece (CellLoad x i) = true
+is_piece (LendSlot x) = true
+is_piece (ReturnSlot x) = true
 is_piece d = may_wait d
 
 -- The agenda is empty, or one such duty.

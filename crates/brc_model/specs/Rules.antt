@@ -6,7 +6,7 @@ use Rattle.brc_model.specs.declared.duty.Holding.{Holding}
 use Rattle.brc_model.specs.declared.duty.Reason.{Reason}
 use Rattle.brc_model.specs.declared.duty.Reason.TheVariants.{Own, Handed}
 use Rattle.brc_model.specs.declared.duty.Duty.{Duty}
-use Rattle.brc_model.specs.declared.duty.Duty.TheVariants.{RetainLoad, RetainStore, RetainAdd, ReleaseLoad, ReleaseStore, DecideAtZero, SharedLoad, SharedExchange, SetMark, Look, TakeMark, MergeSwap, MergeLoad, MergeExchange, Die, Settle, SettleKind, SettleCell, TakeSlot, CloseResource, SettleEnd, Leave, Scan, Finish, ClaimMark, BirthKind, BirthSlot, BirthLocal, KindLoad, LockGate, UnlockGate, CellLoad, CellSwap}
+use Rattle.brc_model.specs.declared.duty.Duty.TheVariants.{RetainLoad, RetainStore, RetainAdd, ReleaseLoad, ReleaseStore, DecideAtZero, SharedLoad, SharedExchange, SetMark, Look, TakeMark, MergeSwap, MergeLoad, MergeExchange, Die, Settle, SettleKind, SettleCell, TakeSlot, CloseResource, SettleEnd, Leave, Scan, Finish, ClaimMark, BirthKind, BirthSlot, BirthLocal, KindLoad, LockGate, UnlockGate, CellLoad, CellSwap, LendSlot, ReturnSlot}
 use Rattle.brc_model.specs.declared.address.Address.{Address}
 use Rattle.brc_model.specs.declared.address.Address.TheVariants.{KindOf}
 use Rattle.brc_word.specs.Words.{most_local, local_word, local_part, is_immortal_word, fresh_word, dead_word, merged_word, free_word, locked_word, dying_word, closed_word}
@@ -70,6 +70,13 @@ module _ (memory : Address → ℕ) (layout : Layout) (t : ℕ) (running : Bool)
     ItemStored : (x cell item : ℕ) (h : Holding) (found : ℕ)
         → Goes (CellSwap x cell item h) found (item + 1) (release_found found)
         (put_in t h item x cell ++ take_out t x cell found)
+    -- ---- the resource of a locked file or socket
+
+    -- the thread has it lent, for a call of the host
+    ResourceLent : (x found : ℕ)
+        → Goes (LendSlot x) found 0 [] []
+    ResourceReturned : (x found : ℕ)
+        → Goes (ReturnSlot x) found 1 [] []
     -- ---- a new reference
 
     -- an immortal object is never counted
@@ -187,7 +194,7 @@ module _ (memory : Address → ℕ) (layout : Layout) (t : ℕ) (running : Bool)
     SlotEmptied : (x found : ℕ)
         → Goes (TakeSlot x) found 0 (CloseResource x ∷ []) []
     ResourceClosed : (x found : ℕ)
-        → Goes (CloseResource x) found 0 (SettleEnd x ∷ []) []
+        → Goes (CloseResource x) found (found + 1) (SettleEnd x ∷ []) []
     Closes : (x found : ℕ)
         → Goes (SettleEnd x) found closed_word [] (Finalise x ∷ [])
     -- ---- a thread's exit: it announces the exit, and only then scans its marks

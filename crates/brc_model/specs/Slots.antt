@@ -6,7 +6,7 @@ use Rattle.std.specs.List.{list_any, slice_index_or}
 use Rattle.brc_lang.specs.declared.kind.Kind.{Kind}
 use Rattle.brc_lang.specs.declared.kind.Kind.TheVariants as kinds
 use Rattle.brc_lang.specs.declared.module.Instr.{Instr}
-use Rattle.brc_lang.specs.declared.module.Instr.TheVariants.{Num, List as ListObject, NoneObject, Newref, Move, Drop, Lock, Unlock, Borrow, Fetch, Set, Put, Goto, Ret, Fail, As}
+use Rattle.brc_lang.specs.declared.module.Instr.TheVariants.{Num, List as ListObject, NoneObject, Newref, Move, Drop, Lock, Unlock, Borrow, Fetch, Set, Put, Goto, Again, Ret, Fail, As}
 use Rattle.brc_model.specs.Kinds.{same_kind}
 use Rattle.brc_model.specs.declared.code.CheckCode.{CheckCode}
 use Rattle.brc_model.specs.declared.code.CheckCode.TheVariants.{EmptyUsed, WrongKind, NotOwned, StillOwns, LeftOwned, LeftLocked, SecondLock, NotLocked, LockedChanged}
@@ -143,6 +143,7 @@ conditions_of (Put list index from otherwise) =
     Use from ∷ Use list ∷ IsOneOf list (kinds.List ∷ []) ∷ IsLocked list ∷ []
 conditions_of (As from kind otherwise) = Use from ∷ MayBe from kind ∷ []
 conditions_of (Goto to) = []
+conditions_of (Again to times) = []
 conditions_of (Ret from) = Give from ∷ NothingOwnedBut from ∷ NothingLocked ∷ []
 conditions_of Fail = NothingOwned ∷ NothingLocked ∷ []
 
@@ -184,6 +185,7 @@ after (Put list index from otherwise) exit s = without_items s
 after (As from kind otherwise) Success s = put s from (with_kind (slot_of s from) kind)
 after (As from kind otherwise) Fault s = s
 after (Goto to) exit s = s
+after (Again to times) exit s = s
 after (Ret from) exit s = s
 after Fail exit s = s
 
@@ -210,6 +212,8 @@ target (Put list index from otherwise) Fault at = Some otherwise
 target (As from kind otherwise) Success at = Some (at + 1)
 target (As from kind otherwise) Fault at = Some otherwise
 target (Goto to) exit at = Some to
+target (Again to times) Success at = Some (at + 1)
+target (Again to times) Fault at = Some to
 target (Ret from) exit at = None
 target Fail exit at = None
 

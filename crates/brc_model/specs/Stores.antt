@@ -2,7 +2,7 @@
 use Rattle.std.specs.Prelude.{◌≡◌, ℕ, Bool, true, false}
 use Rattle.brc_word.specs.Words.{free_word, locked_word}
 use Rattle.brc_model.specs.declared.duty.Duty.{Duty}
-use Rattle.brc_model.specs.declared.duty.Duty.TheVariants.{RetainStore, ReleaseStore, SetMark, Die, SettleEnd, Leave, Finish, BirthKind, BirthSlot, BirthLocal, UnlockGate}
+use Rattle.brc_model.specs.declared.duty.Duty.TheVariants.{RetainStore, ReleaseStore, SetMark, Die, SettleEnd, Leave, Finish, BirthKind, BirthSlot, BirthLocal, UnlockGate, ReturnSlot}
 use Rattle.brc_model.specs.declared.actor.Status.TheVariants.{Running, Leaving}
 use Rattle.brc_model.specs.Knowledge.{status_word, IsDyingWord}
 
@@ -19,6 +19,7 @@ is_store (BirthKind x h w) = true
 is_store (BirthSlot x h) = true
 is_store (BirthLocal x h) = true
 is_store (UnlockGate x) = true
+is_store (ReturnSlot x) = true
 is_store _ = false
 
 -- The word that the thread's storing duty overwrites. Nothing is said of duties that don't store.

@@ -1,3 +1,5 @@
+use crate::slot::Exit;
+
 /// Whether a thread runs, is leaving or is gone.
 #[derive(Clone, Copy, Debug)]
 pub enum Status {
@@ -31,7 +33,7 @@ pub enum Place {
         at: usize,
         variables: [Option<u32>; 16],
     },
-    /// Inside the instruction `at`, which uses a cell of the locked list, after its first step.
+    /// Inside the instruction `at`, which takes several steps, after its first one.
     Inside {
         counters: Counters,
         at: usize,
@@ -42,7 +44,7 @@ pub enum Place {
     Exiting,
 }
 
-/// How far a thread is inside an instruction that uses a cell.
+/// How far a thread is inside an instruction that uses a cell or calls the host.
 #[derive(Clone, Copy, Debug)]
 pub enum Stage {
     /// The list has the cell.
@@ -53,4 +55,12 @@ pub enum Stage {
     Found { row: u32 },
     /// The thread has made a reference for the cell, in flight.
     Retained,
+    /// The kind word of the number that is to be written is loaded.
+    Loaded,
+    /// The resource of the file or socket is lent to the thread.
+    Lent,
+    /// The host has answered the call by this exit.
+    Called { exit: Exit },
+    /// The host's call succeeded, and the thread makes the new object next.
+    Granted,
 }

@@ -16,7 +16,7 @@ pub enum Address {
     Cell { row: u32, cell: u32 },
     /// Whether the resource of a file or a socket is in its slot.
     Slot { row: u32 },
-    /// Whether the host has the object's resource open.
+    /// How often the host has been asked to close the object's resource.
     Resource { row: u32 },
     /// Whether the thread runs, is leaving or is gone.
     ThreadWord { thread: u32 },

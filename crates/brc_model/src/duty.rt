@@ -183,4 +183,13 @@ pub enum Duty {
         item: u32,
         holding: Holding,
     },
+    /// Takes the resource of the file or socket that the thread has locked out of its slot: the thread has it lent, for
+    /// a call of the host.
+    LendSlot {
+        row: u32,
+    },
+    /// Puts the resource that the thread has lent back into its slot.
+    ReturnSlot {
+        row: u32,
+    },
 }

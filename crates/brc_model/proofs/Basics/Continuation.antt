@@ -8,7 +8,7 @@ use Rattle.brc_model.specs.declared.duty.Holding.{Holding}
 use Rattle.brc_model.specs.declared.duty.Holding.TheVariants.{InFlight}
 use Rattle.brc_model.specs.declared.duty.Reason.TheVariants.{Own, Handed}
 use Rattle.brc_model.specs.declared.duty.Duty.{Duty}
-use Rattle.brc_model.specs.declared.duty.Duty.TheVariants.{RetainLoad, RetainStore, RetainAdd, ReleaseLoad, ReleaseStore, DecideAtZero, SharedLoad, SharedExchange, SetMark, Look, TakeMark, MergeSwap, MergeLoad, MergeExchange, Die, Settle, SettleKind, SettleCell, TakeSlot, CloseResource, SettleEnd, Leave, Scan, Finish, ClaimMark, BirthKind, BirthSlot, BirthLocal, KindLoad, LockGate, UnlockGate, CellLoad, CellSwap}
+use Rattle.brc_model.specs.declared.duty.Duty.TheVariants.{RetainLoad, RetainStore, RetainAdd, ReleaseLoad, ReleaseStore, DecideAtZero, SharedLoad, SharedExchange, SetMark, Look, TakeMark, MergeSwap, MergeLoad, MergeExchange, Die, Settle, SettleKind, SettleCell, TakeSlot, CloseResource, SettleEnd, Leave, Scan, Finish, ClaimMark, BirthKind, BirthSlot, BirthLocal, KindLoad, LockGate, UnlockGate, CellLoad, CellSwap, LendSlot, ReturnSlot}
 use Rattle.brc_model.specs.declared.layout.Layout.{Layout}
 use Rattle.brc_model.specs.Layout.{row_at}
 use Rattle.brc_model.specs.Duties.{continuation, counts_locally, claimed, has_resource, cells_of}
@@ -17,8 +17,8 @@ use Rattle.brc_model.specs.Accounts.{lacks}
 
 -- ---- one duty that follows another
 
--- Says whether a duty leaves the dying chain as it is. Retains, births, looks
--- at a kind or a cell, locks and the duties of an exit do.
+-- Says whether a duty leaves the dying chain as it is. Retains, births, looks at a kind or a cell, locks, the duties that
+-- lend or return a resource, and the duties of an exit do.
 abbrev pub leaves_chain : Duty → Bool
 leaves_chain (RetainLoad x h) = true
 leaves_chain (RetainStore x h w) = true
@@ -34,6 +34,8 @@ leaves_chain (KindLoad x) = true
 leaves_chain (LockGate x) = true
 leaves_chain (UnlockGate x) = true
 leaves_chain (CellLoad x i) = true
+leaves_chain (LendSlot x) = true
+leaves_chain (ReturnSlot x) = true
 leaves_chain _ = false
 
 -- Settling empties the chain; all other duties may let a row die.
@@ -88,7 +90,7 @@ cells_by _ found = 0
 
 -- The duty d, whose step found this word, may be followed by e. Only few duties are followed by one that lets the row
 -- die or empties a cell, and none by one that settles, claims, exits, begins a birth, locks, unlocks, or loads or swaps a
--- cell.
+-- cell, or lends or returns a resource.
 abbrev pub Origin : Duty → ℕ → Duty → Type 0
 Origin d found (Die x) = MayDie d x
 Origin d found (SettleCell x i n) = n ≡ cells_by d found
@@ -102,6 +104,8 @@ Origin d found (LockGate x) = ⊥
 Origin d found (UnlockGate x) = ⊥
 Origin d found (CellLoad x i) = ⊥
 Origin d found (CellSwap x i y h) = ⊥
+Origin d found (LendSlot x) = ⊥
+Origin d found (ReturnSlot x) = ⊥
 Origin d found _ = Unit {0}
 
 -- The duty e goes on with the work of d, whose step found this word.

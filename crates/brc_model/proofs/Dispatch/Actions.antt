@@ -14,9 +14,9 @@ use Rattle.brc_model.specs.declared.actor.Place.{Place}
 use Rattle.brc_model.specs.declared.actor.Place.TheVariants.{Idle, InCall, Inside, Exiting}
 use Rattle.brc_model.specs.declared.thread.Choice.{Choice}
 use Rattle.brc_model.specs.declared.thread.Choice.TheVariants.{Ok, Fault, Claim}
-use Rattle.brc_model.specs.Machine.{Actor, Machine, with_actor, locked_by}
+use Rattle.brc_model.specs.Machine.{Actor, Machine, with_actor, locked_by, lent_by}
 use Rattle.brc_model.specs.declared.slot.Exit.{Exit}
-use Rattle.brc_model.specs.Actions.{StepActor, Action, Skip, Stuck, Silent, Calls, Does, agenda_action, status_action, may_claim, action_of}
+use Rattle.brc_model.specs.Actions.{StepActor, Action, Skip, Stuck, Silent, Calls, Does, agenda_action, status_action, may_claim, action_of, dispatch}
 use Rattle.brc_model.specs.StepMachine.{StepMachine, counting}
 use Rattle.brc_model.proofs.Basics.Lists.{either, slice_get-set_same, set_found, none_some}
 use Rattle.brc_model.specs.References.{held, one_if, reference_of}
@@ -39,9 +39,11 @@ use Rattle.brc_model.specs.Accounts.{Account, Accounts, lacks}
 use Rattle.brc_model.specs.OpenWork.{exits, is_about}
 use Rattle.brc_model.specs.Invariant.{CoreInvariant, Invariant}
 use Rattle.brc_model.proofs.Dispatch.Coded.{PlaceSays, PlaceFits, in_flight, idle_unlocked, is_departing, stays_elsewhere, placed_by, says_bounded}
-use Rattle.brc_model.proofs.Dispatch.AtOnce.{at_once, plain_locked}
+use Rattle.brc_model.proofs.Dispatch.AtOnce.{at_once, plain_locked, plain_lent}
+use Rattle.brc_model.proofs.Dispatch.Rooms.{awaits_birth}
+use Rattle.brc_model.proofs.Dispatch.Lending.{lent_at, FollowsLent, dispatch_lent}
 use Rattle.brc_model.proofs.Keeping.SilentSteps.{SilentSits}
-use Rattle.brc_model.proofs.Dispatch.Begins.{scene_of, holds_plain, Backs, ByOwn, ByList, Starts, Gives, Takes, Bears, Asks, Locks, Unlocks, Loads, Swaps, Follows, Nothing, Settles, Leaves, SilentTaken, IsTaken}
+use Rattle.brc_model.proofs.Dispatch.Begins.{scene_of, holds_plain, Backs, ByOwn, ByList, Starts, Gives, Takes, Bears, Asks, Locks, Unlocks, Loads, Swaps, Follows, Nothing, Settles, Leaves, SilentTaken, IsTaken, Lends, Returns}
 use Rattle.brc_model.proofs.Keeping.SilentMoves.{bag_after}
 use Rattle.brc_model.proofs.Keeping.Sits.{sitting, Sits, AtRest}
 use Rattle.brc_model.specs.Counting.{with_account}
@@ -68,6 +70,7 @@ pub record SilentFits (p : Module) (c : Accounts) (n : ℕ) (m : StepMachine) (t
   pub account : Account
   pub says : PlaceSays (code_of (slice_get p.functions a.function)) place a.actor.locked account
   pub departs : exits a.actor.status [] ≡ is_departing place
+  pub lent : a.actor.lent ≡ lent_at (code_of (slice_get p.functions a.function)) place
   pub sits : SilentSits (counting m) t a.actor moves account
 
 -- A duty that the thread does, with the thread's account from then on. `doing` says it of the thread with the duty in
@@ -78,6 +81,8 @@ pub record DutyFits (p : Module) (c : Accounts) (n : ℕ) (m : StepMachine) (t :
   pub says : PlaceSays (code_of (slice_get p.functions a.function)) place
       (locked_by a.actor.locked d (found_by (counting m) t a.actor d)) account
   pub departs : exits a.actor.status (d ∷ rest) ≡ is_departing place
+  pub lent : lent_by a.actor.lent d (found_by (counting m) t a.actor d)
+      ≡ lent_at (code_of (slice_get p.functions a.function)) place
   pub doing : Doing (with_account c t account) n (with_actor (counting m) t (sitting a.actor (d ∷ rest))) t
       (sitting a.actor (d ∷ rest)) d rest
   pub small : HasFewCells (counting m) → AreSmall (row_count m.layout) a.actor.agenda
@@ -112,14 +117,16 @@ duty_fits p n m t a d rest whole found alive is =
     let c = whole.accounts in
     let own = whole.coded t a found in
     let plain : sum_by at_once (d ∷ rest) ≡ 0 = ap (sum_by at_once) (sym is) ∙ own.plain in
-    let unlocked = plain_locked a.actor.locked d (found_by (counting m) t a.actor d)
-    (omega (arith, plain, sum_by-cons at_once d rest)) in
+    let first : at_once d ≡ 0 = omega (arith, plain, sum_by-cons at_once d rest) in
+    let unlocked = plain_locked a.actor.locked d (found_by (counting m) t a.actor d) first in
+    let unlent = plain_lent a.actor.lent d (found_by (counting m) t a.actor d) first in
     record {
       account = c t;
       says = subst (λ (w : Option ℕ). PlaceSays (code_of (slice_get p.functions a.function)) a.place w (c t))
           (sym unlocked)
           own.says;
       departs = ap (exits a.actor.status) (sym is) ∙ (whole.coded t a found).departs;
+      lent = unlent ∙ own.lent;
       doing = record {
         kept = subst (λ (q : Accounts). Invariant q n (with_actor (counting m) t (sitting a.actor (d ∷ rest))))
             (sym (with_account_itself c t)) (subst (Invariant c n) (sym same) whole.kept);
@@ -159,12 +166,16 @@ starts_small p n m t a d rest core few found (Asks row backs) =
     backs_small p n m t row a d core backs (λ y. refl) (omega arith)
 starts_small p n m t a d rest core few found (Locks row backs counted none) =
     backs_small p n m t row a d core backs (λ y. refl) (omega arith)
-starts_small p n m t a d rest core few found (Unlocks row backs has) =
+starts_small p n m t a d rest core few found (Unlocks row backs has none) =
     backs_small p n m t row a d core backs (λ y. refl) (omega arith)
 starts_small p n m t a d rest core few found (Loads row i backs has within) =
     backs_small p n m t row a d core backs (λ y. refl) (omega (arith, within, few row))
 starts_small p n m t a d rest core few found (Swaps row i item h behind backs has within some) =
     backs_small p n m t row a d core backs (λ y. refl) (omega (arith, within, few row))
+starts_small p n m t a d rest core few found (Lends row backs has none some) =
+    backs_small p n m t row a d core backs (λ y. refl) (omega arith)
+starts_small p n m t a d rest core few found (Returns row backs lent) =
+    backs_small p n m t row a d core backs (λ y. refl) (omega arith)
 
 follows_small : (k : ℕ) (layout : Layout) (t used : ℕ) (place : Place) (rest : List Duty)
     → Follows layout t used place rest
@@ -209,8 +220,9 @@ silent_fits : (p : Module) (n : ℕ) (m : StepMachine) (t : ℕ) (a : StepActor)
     → (whole : CodeInvariant p n m) → slice_get m.actors t ≡ Some a
     → AtRest whole.accounts n (counting m) t a.actor
     → SilentTaken (code_of (slice_get p.functions a.function)) (scene_of (counting m) t a.actor) moves place
+    → a.actor.lent ≡ lent_at (code_of (slice_get p.functions a.function)) place
     → SilentFits p whole.accounts n m t a moves place
-silent_fits p n m t a moves place whole found at taken =
+silent_fits p n m t a moves place whole found at taken lent =
     let code = code_of (slice_get p.functions a.function) in
     let bag = bag_after m.abstract.references moves in
     let own = whole.coded t a found in
@@ -220,6 +232,7 @@ silent_fits p n m t a moves place whole found at taken =
       account = placed.account;
       says = placed.says;
       departs = ap (λ (s : Status). exits s []) at.running ∙ sym (stays_elsewhere place taken.stays);
+      lent = lent;
       sits = record {
         alone = own.alone;
         moves_fit = taken.moves_fit;
@@ -234,14 +247,15 @@ silent_fits p n m t a moves place whole found at taken =
 taken_fits : (p : Module) (n : ℕ) (m : StepMachine) (t : ℕ) (a : StepActor) (x : Action) → (whole : CodeInvariant p n m)
     → slice_get m.actors t ≡ Some a → AtRest whole.accounts n (counting m) t a.actor
     → IsTaken (code_of (slice_get p.functions a.function)) (scene_of (counting m) t a.actor) x
+    → FollowsLent (code_of (slice_get p.functions a.function)) a.actor.lent x
     → ActionFits p whole.accounts n m t a x
-taken_fits p n m t a Skip whole found at taken = absurd taken
-taken_fits p n m t a Stuck whole found at taken = absurd taken
-taken_fits p n m t a (Silent moves place) whole found at taken =
-    silent_fits p n m t a moves place whole found at taken
-taken_fits p n m t a (Calls place) whole found at taken = λ exit.
-    silent_fits p n m t a [] (place exit) whole found at (taken exit)
-taken_fits p n m t a (Does d rest place) whole found at taken =
+taken_fits p n m t a Skip whole found at taken lent = absurd taken
+taken_fits p n m t a Stuck whole found at taken lent = absurd taken
+taken_fits p n m t a (Silent moves place) whole found at taken lent =
+    silent_fits p n m t a moves place whole found at taken lent
+taken_fits p n m t a (Calls place) whole found at taken lent = λ exit.
+    silent_fits p n m t a [] (place exit) whole found at (taken exit) (lent exit)
+taken_fits p n m t a (Does d rest place) whole found at taken lent =
     let c = whole.accounts in
     let word = found_by (counting m) t a.actor d in
     let there = place word in
@@ -252,6 +266,7 @@ taken_fits p n m t a (Does d rest place) whole found at taken =
       account = here.account;
       says = here.says;
       departs = ap (λ (s : Status). exits s (d ∷ rest)) at.running ∙ here.departs;
+      lent = lent word;
       doing =
           sits_down c n (counting m) t a.actor d rest here.account whole.kept at here.sits
           (starts_settled (scene_of (counting m) t a.actor) a.actor.head there d rest begun.starts begun.follows);
@@ -273,6 +288,9 @@ sees_kinds p n m t a whole found = record {
   items = subst (λ (f : List Function). KnowsItems (code_of (slice_get f a.function)) m.memory a.actor.locked a.place)
       whole.functions (whole.items t a found);
   counted = λ x can. lockable_counted m.layout (kind_words m) x whole.kinds.named whole.mortal can;
+  lent = (whole.coded t a found).lent;
+  room = λ awaits. (whole.rooms t a found (ap (λ (f : List Function). awaits_birth (code_of (slice_get f a.function)) a.place)
+      whole.functions ∙ awaits)).room;
 }
 
 agenda_fits : (p : Module) (n : ℕ) (m : StepMachine) (t : ℕ) (a : StepActor) (agenda : List Duty)
@@ -286,6 +304,10 @@ agenda_fits p n m t a [] whole found alive is =
     record { core = whole.kept.core; found = there; agenda = is; running = at_rest } in
     taken_fits p n m t a (agenda_action m.functions m.layout t a []) whole found at
     (dispatch_fits p c n m t a at whole.functions (whole.coded t a found) (sees_kinds p n m t a whole found))
+    (subst (λ (f : List Function). FollowsLent (code_of (slice_get p.functions a.function)) a.actor.lent
+    (dispatch m.layout t a.actor.used (code_of (slice_get f a.function)) a.place)) (sym whole.functions)
+    (dispatch_lent (code_of (slice_get p.functions a.function)) m.layout t a.actor.used a.place a.actor.lent
+    (whole.coded t a found).lent))
 agenda_fits p n m t a (d ∷ rest) whole found alive is = duty_fits p n m t a d rest whole found alive is
 
 status_fits : (p : Module) (n : ℕ) (m : StepMachine) (t : ℕ) (a : StepActor) (status : Status)
@@ -318,6 +340,7 @@ claim_fits p n m t a row whole found may =
       says = (whole.coded t a found).says;
       departs =
           ap (λ (s : Status). exits s (ClaimMark row ∷ [])) claims.running ∙ sym (ap is_departing claims.idle);
+      lent = (whole.coded t a found).lent;
       doing = sits_down c n (counting m) t a.actor (ClaimMark row) [] (c t) whole.kept at sits tt;
       small = λ _ _. (
         row_small (row_count m.layout) row (ClaimMark row)

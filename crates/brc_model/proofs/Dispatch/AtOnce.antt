@@ -1,28 +1,31 @@
--- A thread does a lock, an unlock and a swap of a cell at the event that dispatches it: no step leads to such a duty.
+-- A thread does a lock, an unlock, a swap of a cell, and a duty that lends or returns a resource at the event that
+-- dispatches it: no step leads to such a duty.
 use Rattle.std.proofs.Common.{◌≡◌, ℕ, ◌+◌, false, List, [], ◌∷◌, ◌++◌, Option, refl, ◌∙◌, arith}
 use Rattle.std.specs.Prelude.{sum_by}
 use Rattle.std.proofs.lemmas.List.Sums.{sum_by-cons, sum_by-append}
 use Rattle.brc_model.specs.declared.duty.Holding.TheVariants.{InFlight}
 use Rattle.brc_model.specs.declared.duty.Duty.{Duty}
-use Rattle.brc_model.specs.declared.duty.Duty.TheVariants.{ReleaseLoad, LockGate, UnlockGate, CellSwap}
+use Rattle.brc_model.specs.declared.duty.Duty.TheVariants.{ReleaseLoad, LockGate, UnlockGate, CellSwap, LendSlot, ReturnSlot}
 use Rattle.brc_model.specs.declared.layout.Layout.{Layout}
 use Rattle.brc_model.specs.Duties.{continuation, new_head}
-use Rattle.brc_model.specs.Machine.{Actor, is_running, is_locking, locked_by, actor_by}
+use Rattle.brc_model.specs.Machine.{Actor, is_running, is_locking, locked_by, is_lending, lent_by, actor_by}
 use Rattle.brc_model.specs.References.{one_if}
 use Rattle.brc_model.specs.Ranges.{swaps}
 use Rattle.brc_model.proofs.Frame.Items.{drops_items}
 use Rattle.brc_model.proofs.Basics.Continuation.{Origin, Continuation, GoesOn, Frees, continues}
 use Rattle.brc_model.proofs.Objects.Weights.{sum_by-ready}
 
--- 1 if the duty locks or unlocks a list or swaps a cell, else 0: a thread does such a duty as soon as an instruction
--- dispatches it.
+-- 1 if the duty locks or unlocks a list, swaps a cell, or lends or returns a resource, else 0: a thread does such a duty
+-- as soon as an instruction dispatches it.
 abbrev pub at_once : Duty → ℕ
-at_once d = one_if (is_locking d) + swaps d
+at_once d = one_if (is_locking d) + swaps d + one_if (is_lending d)
 
 origin_plain : (d : Duty) (found : ℕ) (e : Duty) → Origin d found e → at_once e ≡ 0
 origin_plain d found (LockGate x) origin = absurd origin
 origin_plain d found (UnlockGate x) origin = absurd origin
 origin_plain d found (CellSwap x i y h) origin = absurd origin
+origin_plain d found (LendSlot x) origin = absurd origin
+origin_plain d found (ReturnSlot x) origin = absurd origin
 origin_plain d found _ origin = refl
 
 next_plain : {layout : Layout} {t head found : ℕ} (d : Duty) (next : List Duty)
@@ -56,6 +59,12 @@ pub plain_locked : (locked : Option ℕ) (d : Duty) (found : ℕ) → at_once d 
 plain_locked locked (LockGate x) found none = absurd (omega (arith, none))
 plain_locked locked (UnlockGate x) found none = absurd (omega (arith, none))
 plain_locked locked _ found none = refl
+
+-- It leaves what the thread has lent as it is.
+pub plain_lent : (lent : Option ℕ) (d : Duty) (found : ℕ) → at_once d ≡ 0 → lent_by lent d found ≡ lent
+plain_lent lent (LendSlot x) found none = absurd (omega (arith, none))
+plain_lent lent (ReturnSlot x) found none = absurd (omega (arith, none))
+plain_lent lent _ found none = refl
 
 -- It takes no items away from its thread.
 pub plain_keeps : (d : Duty) → at_once d ≡ 0 → drops_items d ≡ false

@@ -16,7 +16,7 @@ use Rattle.brc_lang.specs.Grammar.{IsInstruction}
 use Rattle.brc_model.specs.declared.address.Address.{Address}
 use Rattle.brc_model.specs.declared.address.Address.TheVariants.{KindOf, Cell}
 use Rattle.brc_model.specs.Items.{HaveItems, StageKnows}
-use Rattle.brc_model.specs.Machine.{Actor, Machine, locked_by}
+use Rattle.brc_model.specs.Machine.{Actor, Machine, locked_by, has_room}
 use Rattle.brc_model.proofs.Dispatch.Passing.{AreMet}
 use Rattle.brc_model.proofs.Dispatch.Guards.{LocksAgree, HeldBeside}
 use Rattle.brc_model.specs.declared.duty.Holding.{Holding}
@@ -24,7 +24,7 @@ use Rattle.brc_model.specs.declared.duty.Holding.TheVariants.{ByVariable, AsCall
 use Rattle.brc_model.specs.AbstractState.{Reference, same_holding, references_to, Move}
 use Rattle.brc_model.specs.Threads.{row_of}
 use Rattle.brc_model.specs.declared.duty.Duty.{Duty}
-use Rattle.brc_model.specs.declared.duty.Duty.TheVariants.{RetainLoad, ReleaseLoad, Settle, Leave, BirthKind, KindLoad, LockGate, UnlockGate, CellLoad, CellSwap}
+use Rattle.brc_model.specs.declared.duty.Duty.TheVariants.{RetainLoad, ReleaseLoad, Settle, Leave, BirthKind, KindLoad, LockGate, UnlockGate, CellLoad, CellSwap, LendSlot, ReturnSlot}
 use Rattle.brc_model.specs.declared.actor.Place.{Place}
 use Rattle.brc_model.specs.declared.actor.Counters.{Counters}
 use Rattle.brc_model.specs.declared.actor.Place.TheVariants.{Idle, InCall, Inside, Exiting}
@@ -37,8 +37,10 @@ use Rattle.brc_model.proofs.Dispatch.Grounded.{IsInside, slot_of-put_same, slot_
 use Rattle.brc_model.proofs.Stepping.Counts.{flip_eqb}
 use Rattle.brc_model.proofs.Frame.Aside.{HoldsAlone}
 use Rattle.brc_model.proofs.Keeping.SilentMoves.{SilentMoves, bag_after}
+use Rattle.brc_model.proofs.Dispatch.Lending.{lent_to}
+use Rattle.brc_model.proofs.Dispatch.Rooms.{awaits_inside}
 use Rattle.brc_model.proofs.Dispatch.Coded.{once_each, has_stage, in_flight, PlaceFits}
-use Rattle.brc_model.specs.Duties.{cells_of}
+use Rattle.brc_model.specs.Duties.{cells_of, has_resource}
 use Rattle.brc_model.specs.Kinds.{kind_of_word, is_counted_kind}
 use Rattle.brc_model.specs.Limits.{cell_limit}
 use Rattle.brc_model.specs.declared.layout.Layout.{Layout}
@@ -65,6 +67,8 @@ pub record Scene : Type 0 where
   pub used : ℕ
   -- the row that the thread has locked
   pub locked : Option ℕ
+  -- the row whose resource it has lent to a call of the host
+  pub lent : Option ℕ
 
 abbrev pub scene_of : Machine → ℕ → Actor → Scene
 scene_of m t a = record {
@@ -74,6 +78,7 @@ scene_of m t a = record {
   thread = t;
   used = a.used;
   locked = a.locked;
+  lent = a.lent;
 }
 
 -- the kind word of each row
@@ -96,6 +101,8 @@ pub record StandsAt (code : List Instr) (g : Scene) (before : Place) (at : ℕ) 
   pub kinds : HaveTrueKinds (words_of g) s rows
   pub items : HaveItems g.memory g.locked s rows
   pub counted : CountsLockable g
+  -- outside its instructions a thread has lent nothing
+  pub unlent : g.lent ≡ None
   pub back : PlaceFits code g.bag g.thread [] g.locked before
   pub remains : before ≢ Exiting
   pub variables : IsInstruction i
@@ -103,17 +110,20 @@ pub record StandsAt (code : List Instr) (g : Scene) (before : Place) (at : ℕ) 
   pub leads : (exit : Exit) (next : ℕ) → target i exit at ≡ Some next
       → path_end code (inside.exits ++ exit ∷ []) ≡ At next (after i exit s)
 
--- A thread inside an instruction that uses a cell of the locked list: what the state before the instruction says is still
--- true, and beside that what the stage says.
+-- A thread inside an instruction: what the state before the instruction says is still true, and beside that what the
+-- stage says.
 pub record StandsInside (code : List Instr) (g : Scene) (at : ℕ) (rows : List (Option ℕ)) (s : State) (stage : Stage)
     (i : Instr) : Type 0 where
   pub found : slice_get code at ≡ Some i
   pub inside : IsInside code at rows s
   pub holds : Holds g.bag g.thread (of_inside (in_flight (Some i) stage rows) s rows)
   pub guards : LocksAgree s rows g.locked
+  pub kinds : HaveTrueKinds (words_of g) s rows
   pub items : HaveItems g.memory g.locked s rows
   pub cell : StageKnows g.memory g.locked rows stage (Some i)
   pub staged : has_stage (Some i) stage ≡ true
+  pub lent : g.lent ≡ lent_to stage (Some i) rows
+  pub room : awaits_inside stage (Some i) ≡ true → has_room g.layout g.thread g.used ≡ true
   pub variables : IsInstruction i
   pub met : AreMet i s
   pub leads : (exit : Exit) (next : ℕ) → target i exit at ≡ Some next
@@ -127,8 +137,9 @@ pub data Backs (g : Scene) (row : ℕ) : Type 0 where
   ByList : (list cell : ℕ) → g.locked ≡ Some list → g.memory (Cell list cell) ≡ row + 1 → Backs g row
 
 -- The first duty gives up a reference of an object that has one; makes a reference to an object, loads an object's kind
--- or locks an object that the thread may rely on; begins the birth of the next row; or unlocks the list that the thread
--- has locked, or loads or swaps a cell of it.
+-- or locks an object that the thread may rely on; begins the birth of the next row; unlocks the list that the thread
+-- has locked, or loads or swaps a cell of it; or lends the resource of the file or socket that the thread has locked, or
+-- returns it.
 pub data Starts (g : Scene) : Duty → List Duty → Type 0 where
   Gives : (row : ℕ) (h : Holding) (rest : List Duty) → 0 < references_to row g.bag
       → Starts g (ReleaseLoad row h) rest
@@ -138,11 +149,14 @@ pub data Starts (g : Scene) : Duty → List Duty → Type 0 where
       → Starts g (BirthKind (row_at g.layout g.thread g.used) h w) []
   Asks : (row : ℕ) → Backs g row → Starts g (KindLoad row) []
   Locks : (row : ℕ) → Backs g row → IsCounted g.layout row → g.locked ≡ None → Starts g (LockGate row) []
-  Unlocks : (row : ℕ) → Backs g row → g.locked ≡ Some row → Starts g (UnlockGate row) []
+  Unlocks : (row : ℕ) → Backs g row → g.locked ≡ Some row → g.lent ≡ None → Starts g (UnlockGate row) []
   Loads : (row i : ℕ) → Backs g row → g.locked ≡ Some row → i < cells_of (words_of g row)
       → Starts g (CellLoad row i) []
   Swaps : (row i item : ℕ) (h : Holding) (rest : List Duty) → Backs g row → g.locked ≡ Some row
       → i < cells_of (words_of g row) → 0 < references_to item g.bag → Starts g (CellSwap row i item h) rest
+  Lends : (row : ℕ) → Backs g row → g.locked ≡ Some row → g.lent ≡ None → has_resource (words_of g row) ≡ true
+      → Starts g (LendSlot row) []
+  Returns : (row : ℕ) → Backs g row → g.lent ≡ Some row → Starts g (ReturnSlot row) []
 
 -- The duties behind the first one settle, and leave if the thread is to leave.
 pub data Follows (layout : Layout) (t used : ℕ) (place : Place) : List Duty → Type 0 where

@@ -3,7 +3,7 @@ use Rattle.std.proofs.Common.{◌≡◌, ℕ, zero, suc, ◌<◌, true, List, []
 use Rattle.std.specs.Prelude.{count_by, sum_by}
 use Rattle.std.proofs.lemmas.List.Sums.{sum_by-cons}
 use Rattle.brc_model.specs.declared.duty.Duty.{Duty}
-use Rattle.brc_model.specs.declared.duty.Duty.TheVariants.{RetainLoad, ReleaseLoad, Settle, Leave, BirthKind, KindLoad, LockGate, UnlockGate, CellLoad, CellSwap}
+use Rattle.brc_model.specs.declared.duty.Duty.TheVariants.{RetainLoad, ReleaseLoad, Settle, Leave, BirthKind, KindLoad, LockGate, UnlockGate, CellLoad, CellSwap, LendSlot, ReturnSlot}
 use Rattle.brc_model.specs.declared.actor.Status.TheVariants.{Running}
 use Rattle.brc_model.specs.declared.actor.Place.{Place}
 use Rattle.brc_model.specs.Machine.{Actor, Machine, with_actor}
@@ -18,7 +18,7 @@ use Rattle.brc_model.specs.Invariant.{looks}
 use Rattle.brc_model.specs.Knowledge.{AllBehind, IsBacked, IsNext, ByReference, ByItem, HeadOf, is_retain}
 use Rattle.brc_model.proofs.Frame.Aside.{HoldsAlone, holds_alone, alone_fits}
 use Rattle.brc_model.proofs.Dispatch.Coded.{is_departing, stays_elsewhere}
-use Rattle.brc_model.proofs.Dispatch.Begins.{Scene, scene_of, Backs, ByOwn, ByList, Starts, Gives, Takes, Bears, Asks, Locks, Unlocks, Loads, Swaps, Follows, Nothing, Settles, Leaves}
+use Rattle.brc_model.proofs.Dispatch.Begins.{Scene, scene_of, Backs, ByOwn, ByList, Starts, Gives, Takes, Bears, Asks, Locks, Unlocks, Loads, Swaps, Lends, Returns, Follows, Nothing, Settles, Leaves}
 use Rattle.brc_model.proofs.Dispatch.AtOnce.{at_once}
 use Rattle.brc_model.proofs.Keeping.Sits.{Sits, AtRest, sitting}
 use Rattle.brc_model.specs.declared.layout.Layout.{Layout}
@@ -72,9 +72,11 @@ starts_leave g d rest (Takes row h behind backs) = refl
 starts_leave g d rest (Bears h w room few said) = refl
 starts_leave g d rest (Asks row backs) = refl
 starts_leave g d rest (Locks row backs counted none) = refl
-starts_leave g d rest (Unlocks row backs has) = refl
+starts_leave g d rest (Unlocks row backs has none) = refl
 starts_leave g d rest (Loads row i backs has within) = refl
 starts_leave g d rest (Swaps row i item h behind backs has within some) = refl
+starts_leave g d rest (Lends row backs has none some) = refl
+starts_leave g d rest (Returns row backs lent) = refl
 
 -- ---- what is begun weighs nothing
 
@@ -88,6 +90,8 @@ record IsLight (f : Duty → ℕ) : Type 0 where
   unlocks : (row : ℕ) → f (UnlockGate row) ≡ 0
   loads : (row i : ℕ) → f (CellLoad row i) ≡ 0
   swaps : (row i item : ℕ) (h : Holding) → f (CellSwap row i item h) ≡ 0
+  lends : (row : ℕ) → f (LendSlot row) ≡ 0
+  returns : (row : ℕ) → f (ReturnSlot row) ≡ 0
   settles : f Settle ≡ 0
   leaves : (x k : ℕ) → f (Leave x k) ≡ 0
 
@@ -97,9 +101,11 @@ starts_light f g d rest light (Takes row h behind backs) = light.takes row h
 starts_light f g d rest light (Bears h w room few said) = light.bears (row_at g.layout g.thread g.used) h w
 starts_light f g d rest light (Asks row backs) = light.asks row
 starts_light f g d rest light (Locks row backs counted none) = light.locks row
-starts_light f g d rest light (Unlocks row backs has) = light.unlocks row
+starts_light f g d rest light (Unlocks row backs has none) = light.unlocks row
 starts_light f g d rest light (Loads row i backs has within) = light.loads row i
 starts_light f g d rest light (Swaps row i item h behind backs has within some) = light.swaps row i item h
+starts_light f g d rest light (Lends row backs has none some) = light.lends row
+starts_light f g d rest light (Returns row backs lent) = light.returns row
 
 -- The duties behind the first one weigh nothing.
 follows_weigh : (layout : Layout) (t used : ℕ) (place : Place) (rest : List Duty) (f : Duty → ℕ) → f Settle ≡ 0
@@ -129,6 +135,8 @@ light_waits x = record {
   unlocks = λ row. refl;
   loads = λ row i. refl;
   swaps = λ row i item h. refl;
+  lends = λ row. refl;
+  returns = λ row. refl;
   settles = refl;
   leaves = λ y k. refl;
 }
@@ -143,6 +151,8 @@ light_carries x = record {
   unlocks = λ row. refl;
   loads = λ row i. refl;
   swaps = λ row i item h. refl;
+  lends = λ row. refl;
+  returns = λ row. refl;
   settles = refl;
   leaves = λ y k. refl;
 }
@@ -157,6 +167,8 @@ light_merges x = record {
   unlocks = λ row. refl;
   loads = λ row i. refl;
   swaps = λ row i item h. refl;
+  lends = λ row. refl;
+  returns = λ row. refl;
   settles = refl;
   leaves = λ y k. refl;
 }
@@ -171,6 +183,8 @@ light_decides x = record {
   unlocks = λ row. refl;
   loads = λ row i. refl;
   swaps = λ row i item h. refl;
+  lends = λ row. refl;
+  returns = λ row. refl;
   settles = refl;
   leaves = λ y k. refl;
 }
@@ -185,6 +199,8 @@ light_looks x = record {
   unlocks = λ row. refl;
   loads = λ row i. refl;
   swaps = λ row i item h. refl;
+  lends = λ row. refl;
+  returns = λ row. refl;
   settles = refl;
   leaves = λ y k. refl;
 }
@@ -201,10 +217,12 @@ begun_hands g x place d rest (Takes row h behind backs) follows =
 begun_hands g x place d rest (Bears h w room few said) follows = refl
 begun_hands g x place d rest (Asks row backs) follows = refl
 begun_hands g x place d rest (Locks row backs counted none) follows = refl
-begun_hands g x place d rest (Unlocks row backs has) follows = refl
+begun_hands g x place d rest (Unlocks row backs has none) follows = refl
 begun_hands g x place d rest (Loads row i backs has within) follows = refl
 begun_hands g x place d rest (Swaps row i item h behind backs has within some) follows =
     follows_hands g.layout g.thread g.used x place rest follows
+begun_hands g x place d rest (Lends row backs has none some) follows = refl
+begun_hands g x place d rest (Returns row backs lent) follows = refl
 
 begun_fits : (g : Scene) (place : Place) (d : Duty) (rest : List Duty) → Starts g d rest
     → Follows g.layout g.thread g.used place rest → Agenda g.used Running (d ∷ rest)
@@ -217,11 +235,15 @@ begun_fits g place d rest (Bears h w room few said) follows =
 begun_fits g place d rest (Asks row backs) follows = later_follows g.layout g.thread g.used place rest follows
 begun_fits g place d rest (Locks row backs counted none) follows =
     later_follows g.layout g.thread g.used place rest follows
-begun_fits g place d rest (Unlocks row backs has) follows =
+begun_fits g place d rest (Unlocks row backs has none) follows =
     later_follows g.layout g.thread g.used place rest follows
 begun_fits g place d rest (Loads row i backs has within) follows =
     later_follows g.layout g.thread g.used place rest follows
 begun_fits g place d rest (Swaps row i item h behind backs has within some) follows =
+    later_follows g.layout g.thread g.used place rest follows
+begun_fits g place d rest (Lends row backs has none some) follows =
+    later_follows g.layout g.thread g.used place rest follows
+begun_fits g place d rest (Returns row backs lent) follows =
     later_follows g.layout g.thread g.used place rest follows
 
 -- What the thread may rely on is what its duty may rely on.
@@ -241,15 +263,19 @@ begun_knows p n m t a d rest at alone (Bears h w room few said) =
 begun_knows p n m t a d rest at alone (Asks row backs) = backs_duty m t a (d ∷ rest) row backs
 begun_knows p n m t a d rest at alone (Locks row backs counted none) =
     (counted, backs_duty m t a (d ∷ rest) row backs, none)
-begun_knows p n m t a d rest at alone (Unlocks row backs has) = (
+begun_knows p n m t a d rest at alone (Unlocks row backs has none) = (
   ((at.core.each t a at.found).0.locks row has).counted,
   backs_duty m t a (d ∷ rest) row backs,
   has,
   ap (count_by is_retain) alone,
+  none,
 )
 begun_knows p n m t a d rest at alone (Loads row i backs has within) =
     (((at.core.each t a at.found).0.locks row has).counted, backs_duty m t a (d ∷ rest) row backs, has, within)
 begun_knows p n m t a d rest at alone (Swaps row i item h behind backs has within some) = (has, within)
+begun_knows p n m t a d rest at alone (Lends row backs has none some) =
+    (((at.core.each t a at.found).0.locks row has).counted, has, none, some)
+begun_knows p n m t a d rest at alone (Returns row backs lent) = lent
 
 -- The thread still holds what it has locked.
 begun_locks : (p : Accounts) (n : ℕ) (m : Machine) (t : ℕ) (a : Actor) (place : Place) (d : Duty) (rest : List Duty)
@@ -322,8 +348,10 @@ starts_settled g head place d rest (Takes row h behind backs) (Leaves leaves) = 
 starts_settled g head place d rest (Bears h w room few said) follows = tt
 starts_settled g head place d rest (Asks row backs) follows = tt
 starts_settled g head place d rest (Locks row backs counted none) follows = tt
-starts_settled g head place d rest (Unlocks row backs has) follows = tt
+starts_settled g head place d rest (Unlocks row backs has none) follows = tt
 starts_settled g head place d rest (Loads row i backs has within) follows = tt
 starts_settled g head place d rest (Swaps row i item h behind backs has within some) (Nothing stays) = tt
 starts_settled g head place d rest (Swaps row i item h behind backs has within some) (Settles stays) = tt
 starts_settled g head place d rest (Swaps row i item h behind backs has within some) (Leaves leaves) = (refl, tt)
+starts_settled g head place d rest (Lends row backs has none some) follows = tt
+starts_settled g head place d rest (Returns row backs lent) follows = tt

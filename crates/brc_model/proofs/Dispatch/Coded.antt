@@ -25,6 +25,7 @@ use Rattle.brc_model.specs.Accounts.{Account, HoldsNone, IsBounded, lacks_of, ex
 use Rattle.brc_model.specs.OpenWork.{exits}
 use Rattle.brc_model.proofs.Dispatch.Holds.{nothing, the_root, of_variables, of_inside}
 use Rattle.brc_model.proofs.Dispatch.AtOnce.{at_once}
+use Rattle.brc_model.proofs.Dispatch.Lending.{lent_at}
 use Rattle.brc_model.proofs.Dispatch.Guards.{LocksAgree}
 use Rattle.brc_model.proofs.Dispatch.Grounded.{IsInside, AreInstructions}
 use Rattle.brc_model.proofs.Frame.Aside.{HoldsAlone}
@@ -87,12 +88,14 @@ stays_elsewhere Exiting stays = absurd (stays refl)
 pub record InCode (p : Module) (a : StepActor) (account : Account) : Type 0 where
   -- Code does one piece of work at a time.
   pub alone : a.actor.aside ≡ []
-  -- A lock, an unlock and a swap of a cell are one step each, so no agenda has one.
+  -- A lock, an unlock, a swap of a cell, and lending or returning a resource are one step each, so no agenda has one.
   pub plain : sum_by at_once a.actor.agenda ≡ 0
   pub accepted : IsAcceptableCode (code_of (slice_get p.functions a.function))
   pub instructions : AreInstructions (code_of (slice_get p.functions a.function))
   pub says : PlaceSays (code_of (slice_get p.functions a.function)) a.place a.actor.locked account
   pub departs : exits a.actor.status a.actor.agenda ≡ is_departing a.place
+  -- The place says what the thread has lent.
+  pub lent : a.actor.lent ≡ lent_at (code_of (slice_get p.functions a.function)) a.place
 
 -- ---- what the thread holds
 

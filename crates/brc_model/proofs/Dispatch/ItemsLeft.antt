@@ -1,11 +1,11 @@
 -- What each instruction leaves in the variables: wherever one borrows, an item of the list that the thread has locked.
 use Rattle.std.proofs.Common.{◌≡◌, ℕ, ◌+◌, ◌<◌, true, false, cond, List, [], ◌∷◌, ◌++◌, Option, None, Some, refl, sym, ap, ◌∙◌, subst, arith}
-use Rattle.std.specs.Prelude.{◌==◌, slice_get, slice_set}
+use Rattle.std.specs.Prelude.{◌==◌, nat_lt, slice_get, slice_set}
 use Rattle.std.proofs.lemmas.Bool.{not-false}
 use Rattle.std.proofs.lemmas.List.{length-set}
 use Rattle.brc_lang.specs.declared.kind.Kind.TheVariants as kinds
 use Rattle.brc_lang.specs.declared.module.Instr.{Instr}
-use Rattle.brc_lang.specs.declared.module.Instr.TheVariants.{Num, List as ListObject, NoneObject, Newref, Move as MoveReference, Drop, As, Lock, Unlock, Borrow, Fetch, Set, Put, Goto, Ret, Fail}
+use Rattle.brc_lang.specs.declared.module.Instr.TheVariants.{Num, List as ListObject, NoneObject, Newref, Move as MoveReference, Drop, As, Lock, Unlock, Borrow, Fetch, Set, Put, Goto, Again, Ret, Fail}
 use Rattle.brc_lang.specs.Grammar.{IsInstruction}
 use Rattle.brc_word.specs.Words.{free_word}
 use Rattle.brc_model.specs.declared.actor.Place.{Place}
@@ -30,7 +30,7 @@ use Rattle.brc_model.specs.Layout.{none_row, row_at}
 use Rattle.brc_model.specs.declared.layout.Layout.{Layout}
 use Rattle.brc_model.specs.Duties.{cells_of}
 use Rattle.brc_model.specs.Machine.{has_room, locked_by}
-use Rattle.brc_model.specs.Actions.{Action, Skip, Stuck, Silent, Calls, Does, with_row, by_range, by_item, number_word, list_word, birth_action, dispatch_instruction, dispatch_inside}
+use Rattle.brc_model.specs.Actions.{Action, Skip, Stuck, Silent, Calls, Does, with_row, by_range, by_item, number_word, list_word, birth_action, dispatch_instruction, dispatch_inside, turns_at, turned}
 use Rattle.brc_model.specs.Items.{IsItem, borrows_item, HaveItems, HasCell, StageKnows, KnowsItems}
 use Rattle.brc_model.proofs.Basics.Lists.{some_is, either, first_false}
 use Rattle.brc_model.proofs.Dispatch.Grounded.{IsInside}
@@ -275,6 +275,11 @@ module _ (code : List Instr) (memory : Address → ℕ) (locked : Option ℕ) (c
       (goes_on_same new otherwise (As from kind otherwise) FaultExit stays here refl refl))
   instruction_uses layout t used before (Goto to) knew here =
       goes_on_same memory to (Goto to) Success (all_stay memory locked) here refl refl
+  instruction_uses layout t used before (Again to times) knew here =
+      either (KnowsItems code memory locked) (nat_lt (turns_at counters at) times)
+      (InCall (turned counters at) to variables) (InCall counters (at + 1) variables)
+      (λ more. goes_on_same memory to (Again to times) FaultExit (all_stay memory locked) here refl refl)
+      (goes_on_same memory (at + 1) (Again to times) Success (all_stay memory locked) here refl refl)
   instruction_uses layout t used before (Ret from) knew here =
       row_uses (row_of variables from) _ (λ row is new found done. tt)
   instruction_uses layout t used before Fail knew here = tt

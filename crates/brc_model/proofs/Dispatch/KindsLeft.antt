@@ -1,12 +1,12 @@
 -- What each instruction leaves in the variables: objects of the kinds that the checker says.
 use Rattle.std.proofs.Common.{◌≡◌, ℕ, zero, suc, ◌+◌, ◌<◌, ◌≤◌, List, [], ◌∷◌, ◌++◌, inl, inr, Option, None, Some, refl, sym, ap, ◌∙◌, subst, arith}
-use Rattle.std.specs.Prelude.{◌==◌, slice_get, slice_set}
+use Rattle.std.specs.Prelude.{◌==◌, nat_lt, slice_get, slice_set}
 use Rattle.std.proofs.lemmas.List.{length-set}
 use Rattle.brc_lang.specs.declared.kind.Kind.{Kind}
 use Rattle.brc_lang.specs.declared.kind.Kind.TheVariants as kinds
 use Rattle.brc_lang.specs.declared.module.Function.{Function}
 use Rattle.brc_lang.specs.declared.module.Instr.{Instr}
-use Rattle.brc_lang.specs.declared.module.Instr.TheVariants.{Num, List as ListObject, NoneObject, Newref, Move as MoveReference, Drop, As, Lock, Unlock, Borrow, Fetch, Set, Put, Goto, Ret, Fail}
+use Rattle.brc_lang.specs.declared.module.Instr.TheVariants.{Num, List as ListObject, NoneObject, Newref, Move as MoveReference, Drop, As, Lock, Unlock, Borrow, Fetch, Set, Put, Goto, Again, Ret, Fail}
 use Rattle.brc_lang.specs.Grammar.{IsInstruction}
 use Rattle.brc_word.specs.Words.{free_word, half, kind_part}
 use Rattle.brc_model.specs.declared.thread.Choice.{Choice}
@@ -32,7 +32,7 @@ use Rattle.brc_model.specs.Threads.{code_of, row_of, entry_variables}
 use Rattle.brc_model.specs.Layout.{none_row, row_at}
 use Rattle.brc_model.specs.declared.layout.Layout.{Layout}
 use Rattle.brc_model.specs.Machine.{has_room}
-use Rattle.brc_model.specs.Actions.{StepActor, Action, Skip, Stuck, Silent, Calls, Does, with_row, by_range, by_item, number_word, list_word, birth_action, dispatch_instruction, dispatch_inside, dispatch, may_claim, agenda_action, status_action, action_of, first_counters}
+use Rattle.brc_model.specs.Actions.{StepActor, Action, Skip, Stuck, Silent, Calls, Does, with_row, by_range, by_item, number_word, list_word, birth_action, dispatch_instruction, dispatch_inside, dispatch, may_claim, agenda_action, status_action, action_of, first_counters, turns_at, turned}
 use Rattle.brc_model.specs.KnownKinds.{IsTrueKind, HasTrueKind, HaveTrueKinds, KnowsKinds, AreNamed}
 use Rattle.brc_model.proofs.Basics.Lists.{some_is, either}
 use Rattle.brc_model.proofs.Dispatch.Grounded.{IsInside, AreInstructions, entry_in_call}
@@ -238,6 +238,12 @@ instruction_leaves code words layout t used before counters at variables s (As f
     here.known))
 instruction_leaves code words layout t used before counters at variables s (Goto to) knew here =
     goes_on code words counters at to variables variables s (Goto to) Success here refl here.known
+instruction_leaves code words layout t used before counters at variables s (Again to times) knew here =
+    either (KnowsKinds code words) (nat_lt (turns_at counters at) times) (InCall (turned counters at) to variables)
+    (InCall counters (at + 1) variables)
+    (λ more. goes_on code words (turned counters at) at to variables variables s (Again to times) FaultExit here refl
+    here.known)
+    (goes_on code words counters at (at + 1) variables variables s (Again to times) Success here refl here.known)
 instruction_leaves code words layout t used before counters at variables s (Ret from) knew here =
     row_leaves code words (row_of variables from) _ (λ row is found stored. tt)
 instruction_leaves code words layout t used before counters at variables s Fail knew here = tt

@@ -4,7 +4,7 @@ use Rattle.std.specs.Prelude.{◌==◌, ◌&&◌, slice_get, slice_set}
 use Rattle.std.specs.List.{list_any}
 use Rattle.std.proofs.lemmas.List.{length-set}
 use Rattle.brc_lang.specs.declared.module.Instr.{Instr}
-use Rattle.brc_lang.specs.declared.module.Instr.TheVariants.{Num, List as ListObject, NoneObject, Newref, Move as MoveReference, Drop, Lock, Unlock, Borrow, Fetch, Set, Put, Goto, Ret, Fail, As}
+use Rattle.brc_lang.specs.declared.module.Instr.TheVariants.{Num, List as ListObject, NoneObject, Newref, Move as MoveReference, Drop, Lock, Unlock, Borrow, Fetch, Set, Put, Goto, Again, Ret, Fail, As}
 use Rattle.brc_lang.specs.declared.kind.Kind.{Kind}
 use Rattle.brc_model.specs.declared.slot.Slot.TheVariants.{Empty, Owned}
 use Rattle.brc_model.specs.declared.slot.State.{State}
@@ -40,9 +40,12 @@ use Rattle.brc_model.proofs.Dispatch.Passing.{passes_on}
 use Rattle.brc_model.proofs.Stepping.Counts.{flip_eqb}
 use Rattle.brc_model.proofs.Frame.Aside.{HoldsAlone}
 use Rattle.brc_model.proofs.Dispatch.Coded.{once_each, PlaceFits, has_stage, in_flight}
+use Rattle.brc_model.proofs.Dispatch.Lending.{lent_to, lent_at}
+use Rattle.brc_model.proofs.Dispatch.Rooms.{awaits_inside, awaits_birth}
+use Rattle.brc_model.specs.Machine.{has_room}
 use Rattle.brc_model.proofs.Dispatch.Begins.{Scene, words_of, CountsLockable, Backs, StandsAt, holds_plain, holds_at_none, Gives, Takes, Asks, Nothing, Settles, Leaves, Taken, IsTaken, taken_with_row, idle_stays, in_call_stays, newref_held, emptied_held, ended_says, SilentTaken, StandsInside}
 use Rattle.brc_model.proofs.Keeping.SilentMoves.{Stays}
-use Rattle.brc_model.proofs.Dispatch.TakingSilent.{none_taken, move_taken, goto_taken}
+use Rattle.brc_model.proofs.Dispatch.TakingSilent.{none_taken, move_taken, goto_taken, again_taken}
 use Rattle.brc_model.specs.Layout.{root_row}
 
 newref_taken : (code : List Instr) (g : Scene) (before : Place) (counters : Counters) (at : ℕ)
@@ -267,6 +270,8 @@ instruction_taken code g before counters at variables s (Ret from) here =
     ret_taken code g before counters at variables s from here
 instruction_taken code g before counters at variables s (Goto to) here =
     goto_taken code g before counters at variables s to here
+instruction_taken code g before counters at variables s (Again to times) here =
+    again_taken code g before counters at variables s to times here
 instruction_taken code g before counters at variables s Fail here =
     let taken : SilentTaken code g [] (Idle counters.left) = record {
       moves_fit = Stays;
@@ -279,22 +284,25 @@ instruction_taken code g before counters at variables s Fail here =
     } in
     taken
 
--- What the thread's words say of kinds and items, at its place and at the beginning of a call.
+-- What the thread's words say of kinds and items, at its place and at the beginning of a call; what it has lent, and
+-- whether it has room.
 pub record SeesKinds (code : List Instr) (g : Scene) (place : Place) : Type 0 where
   pub begins : HaveTrueKinds (words_of g) entry entry_variables
   pub knows : KnowsKinds code (words_of g) place
   pub items : KnowsItems code g.memory g.locked place
   pub counted : CountsLockable g
+  pub lent : g.lent ≡ lent_at code place
+  pub room : awaits_birth code place ≡ true → has_room g.layout g.thread g.used ≡ true
 
 in_call_taken : (code : List Instr) (g : Scene) (before : Place) (counters : Counters) (at : ℕ)
     (variables : List (Option ℕ)) (s : State)
     → IsAcceptableCode code → AreInstructions code → IsInside code at variables s → LocksAgree s variables g.locked
     → Holds g.bag g.thread (of_variables s variables) → HaveTrueKinds (words_of g) s variables
-    → HaveItems g.memory g.locked s variables → CountsLockable g
+    → HaveItems g.memory g.locked s variables → CountsLockable g → g.lent ≡ None
     → PlaceFits code g.bag g.thread [] g.locked before → (before ≢ Exiting)
     → IsTaken code g (dispatch_instruction g.layout g.thread g.used before counters at variables (slice_get code at))
-in_call_taken code g before counters at variables s accepted instructions inside guards holds kinds items counted back
-    remains =
+in_call_taken code g before counters at variables s accepted instructions inside guards holds kinds items counted unlent
+    back remains =
     let on = passes_on code inside.exits at s accepted inside.arrived in
     let here : StandsAt code g before at variables s on.here =
     record {
@@ -305,6 +313,7 @@ in_call_taken code g before counters at variables s accepted instructions inside
       kinds = kinds;
       items = items;
       counted = counted;
+      unlent = unlent;
       back = back;
       remains = remains;
       variables = instructions.each at on.here on.found;
@@ -317,25 +326,29 @@ in_call_taken code g before counters at variables s accepted instructions inside
 
 -- Inside an instruction the state before it still stands.
 inside_call_taken : (code : List Instr) (g : Scene) (counters : Counters) (at : ℕ) (variables : List (Option ℕ))
-    (s : State)
-    (stage : Stage)
-    → IsAcceptableCode code → AreInstructions code → IsInside code at variables s → LocksAgree s variables g.locked
-    → Holds g.bag g.thread (of_inside (in_flight (slice_get code at) stage variables) s variables)
-    → has_stage (slice_get code at) stage ≡ true → HaveItems g.memory g.locked s variables
-    → StageKnows g.memory g.locked variables stage (slice_get code at)
+    (stage : Stage) → IsAcceptableCode code → AreInstructions code
+    → PlaceFits code g.bag g.thread [] g.locked (Inside counters at variables stage)
+    → SeesKinds code g (Inside counters at variables stage)
     → IsTaken code g (dispatch_inside counters at variables stage (slice_get code at))
-inside_call_taken code g counters at variables s stage accepted instructions inside guards holds staged items cell =
+inside_call_taken code g counters at variables stage accepted instructions fits sees =
+    let s = fits.0 in
+    let inside = fits.1 in
     let on = passes_on code inside.exits at s accepted inside.arrived in
+    let holds =
+    holds_plain g.bag g.thread (of_inside (in_flight (slice_get code at) stage variables) s variables) fits.3 in
     let here : StandsInside code g at variables s stage on.here =
     record {
       found = on.found;
       inside = inside;
       holds = subst (λ (o : Option Instr). Holds g.bag g.thread (of_inside (in_flight o stage variables) s variables))
           on.found holds;
-      guards = guards;
-      items = items;
-      cell = subst (λ (o : Option Instr). StageKnows g.memory g.locked variables stage o) on.found cell;
-      staged = ap (λ (o : Option Instr). has_stage o stage) (sym on.found) ∙ staged;
+      guards = fits.2;
+      kinds = sees.knows inside.exits s inside.arrived;
+      items = sees.items.items inside.exits s inside.arrived;
+      cell = subst (λ (o : Option Instr). StageKnows g.memory g.locked variables stage o) on.found sees.items.cell;
+      staged = ap (λ (o : Option Instr). has_stage o stage) (sym on.found) ∙ fits.4;
+      lent = sees.lent ∙ ap (λ (o : Option Instr). lent_to stage o variables) on.found;
+      room = λ awaits. sees.room (ap (awaits_inside stage) on.found ∙ awaits);
       variables = instructions.each at on.here on.found;
       met = on.met;
       leads = on.leads;
@@ -374,13 +387,11 @@ dispatch_taken code g (Idle (suc left)) accepted instructions stays fits sees =
     (entry_in_call code)
     fits.0 (holds-entered g.bag g.thread (holds_plain g.bag g.thread the_root fits.1)) sees.begins
     (entry_items g.memory g.locked)
-    sees.counted fits stays
+    sees.counted sees.lent fits stays
 dispatch_taken code g (Inside counters at variables stage) accepted instructions stays fits sees =
-    inside_call_taken code g counters at variables fits.0 stage accepted instructions fits.1 fits.2
-    (holds_plain g.bag g.thread (of_inside (in_flight (slice_get code at) stage variables) fits.0 variables) fits.3)
-    fits.4 (sees.items.items fits.1.exits fits.0 fits.1.arrived) sees.items.cell
+    inside_call_taken code g counters at variables stage accepted instructions fits sees
 dispatch_taken code g (InCall counters at variables) accepted instructions stays fits sees =
     in_call_taken code g (InCall counters at variables) counters at variables fits.0 accepted instructions fits.1 fits.2
     (holds_plain g.bag g.thread (of_variables fits.0 variables) fits.3)
-    (sees.knows fits.1.exits fits.0 fits.1.arrived) (sees.items fits.1.exits fits.0 fits.1.arrived) sees.counted fits
+    (sees.knows fits.1.exits fits.0 fits.1.arrived) (sees.items fits.1.exits fits.0 fits.1.arrived) sees.counted sees.lent fits
     stays

@@ -143,7 +143,7 @@ unlock_taken code g before counters at variables s object here =
     let taken : (found : ℕ) → Taken code g found (InCall counters (at + 1) variables) (UnlockGate live.object) [] =
     λ found. record {
       placed = (unlocked, next, refl, held_now);
-      starts = Unlocks live.object live.backs has;
+      starts = Unlocks live.object live.backs has here.unlent;
       follows = Nothing (in_call_stays counters (at + 1) variables);
       keeps = keeps_all code g before at variables s (Unlock object) (UnlockGate live.object) here (λ k o. refl);
     } in

@@ -1,16 +1,18 @@
--- The silent steps of accepted code meet their condition: `none`, `move` and `goto`, which change no word.
+-- The silent steps of accepted code meet their condition: `none`, `move`, `goto` and `again`, which change no word.
 use Rattle.std.proofs.Common.{◌≡◌, ℕ, ◌+◌, ◌<◌, true, false, List, [], ◌∷◌, ◌++◌, length, Option, None, Some, refl, ap, ◌∙◌, arith, Bool, inl, inr}
-use Rattle.std.specs.Prelude.{◌==◌, ◌&&◌, slice_set}
+use Rattle.std.specs.Prelude.{◌==◌, ◌&&◌, nat_lt, slice_set}
 use Rattle.std.specs.List.{list_any}
 use Rattle.std.proofs.lemmas.List.{length-set}
 use Rattle.brc_lang.specs.declared.module.Instr.{Instr}
-use Rattle.brc_lang.specs.declared.module.Instr.TheVariants.{NoneObject, Move as MoveReference, Goto}
+use Rattle.brc_lang.specs.declared.module.Instr.TheVariants.{NoneObject, Move as MoveReference, Goto, Again}
 use Rattle.brc_lang.specs.declared.kind.Kind.TheVariants as kinds
 use Rattle.brc_model.specs.declared.slot.Slot.{Slot}
 use Rattle.brc_model.specs.declared.slot.Slot.TheVariants.{Empty, Owned}
 use Rattle.brc_model.specs.declared.slot.State.{State}
-use Rattle.brc_model.specs.declared.slot.Exit.TheVariants.{Success}
-use Rattle.brc_model.specs.Slots.{slot_of, is_owned, kind_of, put, names}
+use Rattle.brc_model.specs.declared.slot.Exit.{Exit}
+use Rattle.brc_model.specs.declared.slot.Exit.TheVariants.{Success, Fault}
+use Rattle.brc_model.specs.Slots.{slot_of, is_owned, kind_of, put, names, after, target}
+use Rattle.brc_model.specs.Paths.{At}
 use Rattle.brc_model.specs.declared.duty.Holding.{Holding}
 use Rattle.brc_model.specs.declared.duty.Holding.TheVariants.{ByVariable}
 use Rattle.brc_model.specs.AbstractState.{Reference, same_holding, same, without}
@@ -18,11 +20,11 @@ use Rattle.brc_model.specs.Threads.{row_of}
 use Rattle.brc_model.specs.declared.actor.Place.{Place}
 use Rattle.brc_model.specs.declared.actor.Counters.{Counters}
 use Rattle.brc_model.specs.declared.actor.Place.TheVariants.{InCall}
-use Rattle.brc_model.specs.Actions.{dispatch_instruction, Silent}
+use Rattle.brc_model.specs.Actions.{turns_at, turned, dispatch_instruction, Silent}
 use Rattle.brc_model.specs.Moves.{gain, pass_on}
 use Rattle.brc_model.proofs.Basics.Bag.{held_has, held-without, held-cons}
 use Rattle.brc_model.specs.References.{held, one_if, reference_of}
-use Rattle.brc_model.proofs.Basics.Lists.{first_false, second_false}
+use Rattle.brc_model.proofs.Basics.Lists.{either, first_false, second_false}
 use Rattle.brc_model.proofs.Dispatch.Holds.{of_variables, Holds, owned_has}
 use Rattle.brc_model.proofs.Dispatch.Grounded.{IsInside, owned_slot, owned_row, grounded-put, slot_of-put_same, slot_of-put_other}
 use Rattle.brc_model.proofs.Stepping.Counts.{same_is}
@@ -176,23 +178,41 @@ move_taken code g before counters at variables s to from here =
 
 -- ---- a jump
 
+-- An instruction that changes no variable leads to the point of its exit, with any counters.
+jump_taken : (code : List Instr) (g : Scene) (before : Place) (counters : Counters) (at next : ℕ)
+    (variables : List (Option ℕ)) (s : State) (i : Instr) (exit : Exit)
+    → StandsAt code g before at variables s i
+    → target i exit at ≡ Some next → after i exit s ≡ s → SilentTaken code g [] (InCall counters next variables)
+jump_taken code g before counters at next variables s i exit here to same =
+    let there : IsInside code next variables s = record {
+      exits = here.inside.exits ++ exit ∷ [];
+      arrived = here.leads exit next to ∙ ap (At next) same;
+      slots = here.inside.slots;
+      rows = here.inside.rows;
+      grounded = here.inside.grounded;
+    } in
+    record {
+      moves_fit = Stays;
+      placed = (s, there, here.guards, holds_at_none g.bag g.thread _ here.holds);
+      stays = in_call_stays counters next variables;
+    }
+
 pub goto_taken : (code : List Instr) (g : Scene) (before : Place) (counters : Counters) (at : ℕ)
     (variables : List (Option ℕ))
     (s : State) (to : ℕ)
     → StandsAt code g before at variables s (Goto to)
     → IsTaken code g (dispatch_instruction g.layout g.thread g.used before counters at variables (Some (Goto to)))
 goto_taken code g before counters at variables s to here =
-    let next : IsInside code to variables s = record {
-      exits = here.inside.exits ++ Success ∷ [];
-      arrived = here.leads Success to refl;
-      slots = here.inside.slots;
-      rows = here.inside.rows;
-      grounded = here.inside.grounded;
-    } in
-    let taken : SilentTaken code g [] (InCall counters to variables) =
-    record {
-      moves_fit = Stays;
-      placed = (s, next, here.guards, holds_at_none g.bag g.thread _ here.holds);
-      stays = in_call_stays counters to variables;
-    } in
-    taken
+    jump_taken code g before counters at to variables s (Goto to) Success here refl refl
+
+pub again_taken : (code : List Instr) (g : Scene) (before : Place) (counters : Counters) (at : ℕ)
+    (variables : List (Option ℕ))
+    (s : State) (to times : ℕ)
+    → StandsAt code g before at variables s (Again to times)
+    → IsTaken code g
+    (dispatch_instruction g.layout g.thread g.used before counters at variables (Some (Again to times)))
+again_taken code g before counters at variables s to times here =
+    either (SilentTaken code g []) (nat_lt (turns_at counters at) times) (InCall (turned counters at) to variables)
+    (InCall counters (at + 1) variables)
+    (λ more. jump_taken code g before (turned counters at) at to variables s (Again to times) Fault here refl refl)
+    (jump_taken code g before counters at (at + 1) variables s (Again to times) Success here refl refl)

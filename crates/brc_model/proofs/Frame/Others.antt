@@ -8,12 +8,11 @@ use Rattle.std.proofs.lemmas.Option.{slice_get_within}
 use Rattle.brc_model.specs.declared.duty.Holding.{Holding}
 use Rattle.brc_word.specs.Words.{phase_part}
 use Rattle.brc_model.specs.declared.duty.Duty.{Duty}
-use Rattle.brc_model.specs.declared.duty.Duty.TheVariants.{Die, Settle, SettleKind, SettleCell, TakeSlot, CloseResource, SettleEnd, Leave, Scan, Finish, ClaimMark, BirthKind, BirthSlot, BirthLocal, KindLoad, LockGate, UnlockGate, CellLoad, CellSwap}
+use Rattle.brc_model.specs.declared.duty.Duty.TheVariants.{Die, Settle, SettleKind, SettleCell, TakeSlot, CloseResource, SettleEnd, Leave, Scan, Finish, ClaimMark, BirthKind, BirthSlot, BirthLocal, KindLoad, LockGate, UnlockGate, CellLoad, CellSwap, LendSlot, ReturnSlot}
 use Rattle.brc_model.specs.declared.address.Address.{Address}
 use Rattle.brc_model.specs.declared.address.Address.TheVariants.{Local, Shared, Gate, KindOf, Cell, ThreadWord}
-use Rattle.brc_model.specs.Duties.{cells_of}
 use Rattle.brc_model.specs.Machine.{Actor, Life, Unborn, Live, Dying, Closed, Machine}
-use Rattle.brc_model.specs.Duties.{cells_of}
+use Rattle.brc_model.specs.Duties.{cells_of, has_resource}
 use Rattle.brc_model.specs.References.{held, one_if, reference_of}
 use Rattle.brc_model.specs.OpenWork.{AllWait, AsideFits, AgendaFits, Linked, dies_by, ChainFits}
 use Rattle.brc_model.specs.Gates.{LocksFit}
@@ -184,6 +183,7 @@ head_kept m new t u b (UnlockGate x) rest leaves ne found fits = (
   backed_kept m new u b b x (row_left m new t u b leaves ne found x) (list_left m new t u b leaves ne found) fits.1,
   fits.2,
   fits.3,
+  fits.4,
 )
 head_kept m new t u b (CellLoad x i) rest leaves ne found fits = (
   counted_kept m new t x leaves fits.0,
@@ -193,6 +193,13 @@ head_kept m new t u b (CellLoad x i) rest leaves ne found fits = (
 )
 head_kept m new t u b (CellSwap x i y h) rest leaves ne found fits =
     (fits.0, cells_kept m new t x i leaves fits.1)
+head_kept m new t u b (LendSlot x) rest leaves ne found fits = (
+  counted_kept m new t x leaves fits.0,
+  fits.1,
+  fits.2,
+  ap has_resource (leaves.lists u x b ne found fits.1).kind ∙ fits.3,
+)
+head_kept m new t u b (ReturnSlot x) rest leaves ne found fits = fits
 head_kept m new t u b d rest leaves ne found fits =
     known_kept m new u b b d rest refl (λ x about. row_left m new t u b leaves ne found x)
     (λ retains. list_left m new t u b leaves ne found) fits
@@ -265,7 +272,7 @@ others_fit account m new t u b leaves ne found fits = record {
   behind = behind_of_kept m new t u b.agenda leaves ne fits.behind;
   chain = chain_kept m new t u b.head b.agenda leaves ne fits.chain;
   locks = locks_kept account m new t u b leaves ne found fits.locks;
-  unlent = fits.unlent;
+  lent = fits.lent;
 }
 
 -- ---- duties put aside

@@ -26,6 +26,8 @@ use Rattle.brc_model.proofs.Dispatch.AtOnce.{plain_after}
 use Rattle.brc_model.proofs.Dispatch.Fit.{choice_fit}
 use Rattle.brc_model.proofs.Keeping.KindsHold.{thread_holds}
 use Rattle.brc_model.proofs.Keeping.ItemsHold.{thread_items}
+use Rattle.brc_model.proofs.Keeping.RoomsHold.{thread_rooms}
+use Rattle.brc_model.proofs.Dispatch.Rooms.{RoomsFit}
 use Rattle.brc_model.specs.KnownKinds.{KindsHold}
 use Rattle.brc_model.specs.Items.{ItemsAreThere}
 use Rattle.brc_model.proofs.Dispatch.Actions.{SilentFits, ActionFits, action_fits}
@@ -35,8 +37,9 @@ silent_keeps : (p : Module) (n : ℕ) (m : StepMachine) (t : ℕ) (a : StepActor
     → (whole : CodeInvariant p n m)
     → slice_get m.actors t ≡ Some a → SilentFits p whole.accounts n m t a moves place
     → KindsHold (silent_by m t a moves place) → ItemsAreThere (silent_by m t a moves place)
+    → RoomsFit (silent_by m t a moves place)
     → KeepsOn p n (not (are_allowed m.layout m.abstract moves)) (silent_by m t a moves place)
-silent_keeps p n m t a moves place whole found fits kinds items =
+silent_keeps p n m t a moves place whole found fits kinds items rooms =
     let c = whole.accounts in
     let new = with_account c t fits.account in
     let own = whole.coded t a found in
@@ -59,6 +62,7 @@ silent_keeps p n m t a moves place whole found fits kinds items =
         mortal = whole.mortal;
         kinds = kinds;
         items = items;
+        rooms = rooms;
         coded =
             coded_set p c m.actors t a (at_place a place) fits.account
             found
@@ -69,6 +73,7 @@ silent_keeps p n m t a moves place whole found fits kinds items =
               instructions = own.instructions;
               says = fits.says;
               departs = agenda ∙ fits.departs;
+              lent = fits.lent;
             }) whole.coded;
       },
     )
@@ -77,15 +82,15 @@ silent_keeps p n m t a moves place whole found fits kinds items =
 action_keeps : (p : Module) (n : ℕ) (m : StepMachine) (t : ℕ) (a : StepActor) (exit : Exit) (x : Action)
     → (whole : CodeInvariant p n m)
     → slice_get m.actors t ≡ Some a → ActionFits p whole.accounts n m t a x → KindsHold (machine_by m t a exit x)
-    → ItemsAreThere (machine_by m t a exit x)
+    → ItemsAreThere (machine_by m t a exit x) → RoomsFit (machine_by m t a exit x)
     → KeepsOn p n (is_bad_action m t a x) (machine_by m t a exit x)
-action_keeps p n m t a exit Skip whole found fits kinds items = (refl, whole)
-action_keeps p n m t a exit Stuck whole found fits kinds items = absurd fits
-action_keeps p n m t a exit (Silent moves place) whole found fits kinds items =
-    silent_keeps p n m t a moves place whole found fits kinds items
-action_keeps p n m t a exit (Calls place) whole found fits kinds items =
+action_keeps p n m t a exit Skip whole found fits kinds items rooms = (refl, whole)
+action_keeps p n m t a exit Stuck whole found fits kinds items rooms = absurd fits
+action_keeps p n m t a exit (Silent moves place) whole found fits kinds items rooms =
+    silent_keeps p n m t a moves place whole found fits kinds items rooms
+action_keeps p n m t a exit (Calls place) whole found fits kinds items rooms =
     let quiet = (silent_keeps p n m t a [] (place exit) whole found (fits exit)
-    (record { named = kinds.named; known = kinds.known }) items).1 in (
+    (record { named = kinds.named; known = kinds.known }) items rooms).1 in (
       refl,
       record {
         accounts = quiet.accounts;
@@ -94,10 +99,11 @@ action_keeps p n m t a exit (Calls place) whole found fits kinds items =
         mortal = quiet.mortal;
         kinds = kinds;
         items = items;
+        rooms = rooms;
         coded = quiet.coded;
       },
     )
-action_keeps p n m t a exit (Does d rest place) whole found fits kinds items =
+action_keeps p n m t a exit (Does d rest place) whole found fits kinds items rooms =
     let c = whole.accounts in
     let new = with_account c t fits.account in
     let now = sitting a.actor (d ∷ rest) in
@@ -116,6 +122,7 @@ action_keeps p n m t a exit (Does d rest place) whole found fits kinds items =
         mortal = whole.mortal;
         kinds = kinds;
         items = items;
+        rooms = rooms;
         coded =
             coded_set p c m.actors t a (step_actor m.layout t a d rest (place word) word) fits.account found
             (record {
@@ -126,6 +133,7 @@ action_keeps p n m t a exit (Does d rest place) whole found fits kinds items =
               says = fits.says;
               departs =
                   exits_still new n (with_actor (counting m) t now) t now d rest word at ∙ fits.departs;
+              lent = fits.lent;
             }) whole.coded;
       },
     )
@@ -142,7 +150,7 @@ thread_keeps p n m t choice (Some a) whole found =
     let kept =
     action_keeps p n m t a (exit_of choice) (action_of m.functions m.layout t a choice) whole found
     (action_fits p n m t a choice whole found) (thread_holds p n m t choice (Some a) whole found)
-    (thread_items p n m t choice (Some a) whole found) in
+    (thread_items p n m t choice (Some a) whole found) (thread_rooms p n m t choice (Some a) whole found) in
     (ap (λ (b : Bool). b || chooses_unfit m a choice) kept.0 ∙ choice_fit p n m t a choice whole found, kept.1)
 
 -- No event is bad, and each keeps both layers of the invariant.

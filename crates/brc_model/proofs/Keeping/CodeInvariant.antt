@@ -14,6 +14,7 @@ use Rattle.brc_model.specs.Invariant.{Invariant}
 use Rattle.brc_model.specs.KnownKinds.{KindsHold}
 use Rattle.brc_model.specs.Items.{ItemsAreThere}
 use Rattle.brc_model.proofs.Dispatch.Coded.{InCode}
+use Rattle.brc_model.proofs.Dispatch.Rooms.{RoomsFit}
 use Rattle.brc_model.specs.Counting.{with_account}
 use Rattle.brc_model.proofs.Keeping.Replaced.{with_account_same, with_account_other}
 
@@ -25,6 +26,7 @@ pub record CodeInvariant (p : Module) (n : ℕ) (m : StepMachine) : Type 0 where
   pub mortal : m.layout.immortal_lists ≡ 0
   pub kinds : KindsHold m
   pub items : ItemsAreThere m
+  pub rooms : RoomsFit m
   pub coded : (t : ℕ) (a : StepActor) → slice_get m.actors t ≡ Some a → InCode p a (accounts t)
 
 abbrev pub KeepsOn : Module → ℕ → Bool → StepMachine → Type 0

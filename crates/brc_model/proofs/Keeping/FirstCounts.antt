@@ -290,7 +290,7 @@ idle_fits p layout callers hold t used le = (
     behind = tt;
     chain = record { chained = []; linked = refl; once = λ x. sym (ap one_if (none_dies x t)) };
     locks = λ x e. absurd (none_some x e);
-    unlent = refl;
+    lent = λ x e. absurd (none_some x e);
   },
   refl,
   alone_fits (rooted_machine layout callers) t (idle_actor used) refl,

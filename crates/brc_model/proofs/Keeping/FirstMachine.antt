@@ -33,7 +33,7 @@ function_fits m i fits accepted within =
     subst P (sym good.is_there) (
       good.holds,
       record {
-        forward = form.targets;
+        forward = form.targets.forward;
         each =
             λ at instr found. all_of_found IsInstruction good.found.code at instr form.code found;
       },
@@ -114,6 +114,7 @@ first_coded m calls zero a fits accepted are_calls is =
       instructions = function.1;
       says = (refl, refl);
       departs = refl;
+      lent = refl;
     })
 first_coded m calls (suc t) a fits accepted are_calls is =
     let call = slice_get-map worker_actor calls t a is in
@@ -127,4 +128,5 @@ first_coded m calls (suc t) a fits accepted are_calls is =
       instructions = function.1;
       says = (refl, refl);
       departs = refl;
+      lent = refl;
     })

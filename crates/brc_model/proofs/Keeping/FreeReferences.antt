@@ -147,7 +147,7 @@ own_fits p n m t a x core ready alone immortal =
         behind = subst (BehindOf (gained m t x) t) (sym ready.agenda) tt;
         chain = record { chained = old.chain.chained; linked = old.chain.linked; once = old.chain.once };
         locks = more_locks (p t) m t a a x old.locks refl (λ k y. omega arith);
-        unlent = old.unlent;
+        lent = old.lent;
       },
       fits.1,
       record {

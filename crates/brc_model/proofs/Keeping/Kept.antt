@@ -6,7 +6,7 @@ use Rattle.std.specs.Prelude.{slice_get}
 use Rattle.std.proofs.lemmas.Option.{slice_get_within}
 use Rattle.brc_model.specs.declared.duty.Reason.TheVariants.{Own, Handed}
 use Rattle.brc_model.specs.declared.duty.Duty.{Duty}
-use Rattle.brc_model.specs.declared.duty.Duty.TheVariants.{RetainLoad, RetainStore, RetainAdd, ReleaseLoad, ReleaseStore, DecideAtZero, SharedLoad, SharedExchange, SetMark, Look, TakeMark, MergeSwap, MergeLoad, MergeExchange, Die, Settle, SettleKind, SettleCell, TakeSlot, CloseResource, SettleEnd, Leave, Scan, Finish, ClaimMark, BirthKind, BirthSlot, BirthLocal, KindLoad, LockGate, UnlockGate, CellLoad, CellSwap}
+use Rattle.brc_model.specs.declared.duty.Duty.TheVariants.{RetainLoad, RetainStore, RetainAdd, ReleaseLoad, ReleaseStore, DecideAtZero, SharedLoad, SharedExchange, SetMark, Look, TakeMark, MergeSwap, MergeLoad, MergeExchange, Die, Settle, SettleKind, SettleCell, TakeSlot, CloseResource, SettleEnd, Leave, Scan, Finish, ClaimMark, BirthKind, BirthSlot, BirthLocal, KindLoad, LockGate, UnlockGate, CellLoad, CellSwap, LendSlot, ReturnSlot}
 use Rattle.brc_model.specs.declared.actor.Status.TheVariants.{Running, Gone}
 use Rattle.brc_model.specs.Machine.{Actor, Machine, actor_by, done_by, with_actor}
 use Rattle.brc_model.specs.BadDuties.{is_bad_duty}
@@ -16,7 +16,7 @@ use Rattle.brc_model.specs.Invariant.{AtDuty, Invariant}
 use Rattle.brc_model.specs.OpenWork.{IsSettled}
 use Rattle.brc_model.proofs.Stepping.Neutral.{ThreadFits, found_by}
 use Rattle.brc_model.proofs.Stepping.Retains.{thread_after_retain_counted}
-use Rattle.brc_model.proofs.Stepping.Releases.{thread_after_kind_load, thread_after_retain_store, thread_after_retain_add, thread_after_release_counted, release_held, thread_after_release_store, thread_after_decide_at_zero, thread_after_lock_gate, thread_after_unlock_gate, thread_after_cell_load}
+use Rattle.brc_model.proofs.Stepping.Releases.{thread_after_kind_load, thread_after_retain_store, thread_after_retain_add, thread_after_release_counted, release_held, thread_after_release_store, thread_after_decide_at_zero, thread_after_lock_gate, thread_after_unlock_gate, thread_after_cell_load, thread_after_lend_slot, thread_after_return_slot}
 use Rattle.brc_model.proofs.Stepping.SharedWords.{thread_after_shared_load, thread_after_shared_exchange}
 use Rattle.brc_model.proofs.Stepping.Merges.{thread_after_set_mark, thread_after_look, thread_after_take_mark, thread_after_merge_swap_own, thread_after_merge_swap_handed, thread_after_merge_load, thread_after_merge_exchange}
 use Rattle.brc_model.proofs.Stepping.Chains.{thread_after_die, thread_after_settle, thread_after_settle_end}
@@ -101,6 +101,9 @@ thread_after_duty p n m t a (CellLoad x i) rest here alive settled =
     thread_after_cell_load p n m t a x i rest here alive
 thread_after_duty p n m t a (CellSwap x i y h) rest here alive settled =
     thread_after_cell_swap p n m t a x i y h rest here alive
+thread_after_duty p n m t a (LendSlot x) rest here alive settled = thread_after_lend_slot p n m t a x rest here alive
+thread_after_duty p n m t a (ReturnSlot x) rest here alive settled =
+    thread_after_return_slot p n m t a x rest here alive
 
 -- What `duty_kept` needs: the invariant holds, and the thread isn't gone and has the duty next.
 pub record Doing (p : Accounts) (n : ℕ) (m : Machine) (t : ℕ) (a : Actor) (d : Duty) (rest : List Duty) : Type 0 where

@@ -6,7 +6,7 @@ use Rattle.std.proofs.lemmas.Bool.{false≢true}
 use Rattle.std.proofs.lemmas.List.Sums.{sum_by-cons}
 use Rattle.brc_model.specs.declared.duty.Holding.{Holding}
 use Rattle.brc_model.specs.declared.duty.Duty.{Duty}
-use Rattle.brc_model.specs.declared.duty.Duty.TheVariants.{Die, Settle, SettleKind, SettleCell, TakeSlot, CloseResource, SettleEnd, Leave, Scan, Finish, ClaimMark, BirthKind, BirthSlot, BirthLocal, KindLoad, LockGate, UnlockGate, CellLoad, CellSwap}
+use Rattle.brc_model.specs.declared.duty.Duty.TheVariants.{Die, Settle, SettleKind, SettleCell, TakeSlot, CloseResource, SettleEnd, Leave, Scan, Finish, ClaimMark, BirthKind, BirthSlot, BirthLocal, KindLoad, LockGate, UnlockGate, CellLoad, CellSwap, LendSlot, ReturnSlot}
 use Rattle.brc_model.specs.AbstractState.{Move, ByThread, moved}
 use Rattle.brc_model.specs.References.{held, one_if, reference_of}
 use Rattle.brc_model.specs.Machine.{Actor, Machine, with_moves}
@@ -131,6 +131,7 @@ module _ (m : Machine) (moves : List Move) (t : ℕ) (a : Actor) (x : ℕ) (else
     backed_kept m (with_moves m moves) t a a y (row_left (UnlockGate y) y other (eq-eqb y y refl)) list_left fits.1,
     fits.2,
     fits.3,
+    fits.4,
   )
   head_kept (CellLoad y i) rest other fits = (
     fits.0,
@@ -139,6 +140,8 @@ module _ (m : Machine) (moves : List Move) (t : ℕ) (a : Actor) (x : ℕ) (else
     fits.3,
   )
   head_kept (CellSwap y i z h) rest other fits = fits
+  head_kept (LendSlot y) rest other fits = fits
+  head_kept (ReturnSlot y) rest other fits = fits
   head_kept d rest other fits =
       known_kept m (with_moves m moves) t a a d rest refl (λ y about. row_left d y other about)
       (λ retains. list_left) fits
@@ -192,7 +195,7 @@ module _ (m : Machine) (moves : List Move) (t : ℕ) (a : Actor) (x : ℕ) (else
           behind = behind_of_kept a.agenda fits.behind;
           chain = record { chained = fits.chain.chained; linked = fits.chain.linked; once = fits.chain.once };
           locks = locks;
-          unlent = fits.unlent;
+          lent = fits.lent;
         },
         old.1,
         record {

@@ -10,7 +10,7 @@ use Rattle.brc_model.specs.AbstractState.{is_counted, is_among, AbstractState, s
 use Rattle.brc_word.specs.Words.{immortal_local, local_part, is_immortal_word}
 use Rattle.brc_model.specs.declared.duty.Reason.TheVariants.{Own, Handed}
 use Rattle.brc_model.specs.declared.duty.Duty.{Duty}
-use Rattle.brc_model.specs.declared.duty.Duty.TheVariants.{RetainLoad, RetainStore, RetainAdd, ReleaseLoad, ReleaseStore, DecideAtZero, SharedLoad, SharedExchange, MergeSwap, MergeLoad, MergeExchange, Die, Settle, SettleKind, SettleCell, SettleEnd, TakeSlot, CloseResource, BirthKind, BirthSlot, BirthLocal, KindLoad, LockGate, UnlockGate, CellLoad, CellSwap}
+use Rattle.brc_model.specs.declared.duty.Duty.TheVariants.{RetainLoad, RetainStore, RetainAdd, ReleaseLoad, ReleaseStore, DecideAtZero, SharedLoad, SharedExchange, MergeSwap, MergeLoad, MergeExchange, Die, Settle, SettleKind, SettleCell, SettleEnd, TakeSlot, CloseResource, BirthKind, BirthSlot, BirthLocal, KindLoad, LockGate, UnlockGate, CellLoad, CellSwap, LendSlot, ReturnSlot}
 use Rattle.brc_lang.specs.declared.kind.Kind.{Kind}
 use Rattle.brc_model.specs.Kinds.{kind_of_word, is_counted_kind}
 use Rattle.brc_model.specs.declared.address.Address.TheVariants.{Local, KindOf, Cell}
@@ -140,6 +140,12 @@ touches_none p n m t a (CellLoad x i) rest here =
 touches_none p n m t a (CellSwap x i y h) rest here =
     let locked = (head_of p n m t a (CellSwap x i y h) rest here).0 in
     alive_free m t x (locked_alive p n m t a x here.core here.found locked)
+touches_none p n m t a (LendSlot x) rest here =
+    let locked = (head_of p n m t a (LendSlot x) rest here).1 in
+    alive_free m t x (locked_alive p n m t a x here.core here.found locked)
+touches_none p n m t a (ReturnSlot x) rest here =
+    let lent = head_of p n m t a (ReturnSlot x) rest here in
+    alive_free m t x (locked_alive p n m t a x here.core here.found ((here.core.each t a here.found).0.lent x lent))
 touches_none p n m t a _ rest here = refl
 
 -- ---- moves of references

@@ -148,7 +148,7 @@ rearranged p n m t a agenda aside kept found new =
                 held_so = omega (arith, it.held_so, new.weighs (λ d. one_if (lacks d it.by x)));
                 gate = it.gate;
               };
-          unlent = old.unlent;
+          lent = old.lent;
         },
         subst (λ (s : Status). AgendaFits b s) (sym new.running) new.fits,
         new.others,

@@ -181,7 +181,7 @@ thread_after_duty p n m t a moves account rest taken =
         behind = tt;
         chain = record { chained = chain.chained; linked = chain.linked; once = chain.once };
         locks = taken.locks;
-        unlent = old.unlent;
+        lent = old.lent;
       },
       subst (λ (s : Status). AgendaFits (sitting a []) s) (sym rest.running) refl,
       alone_fits (silenced m t a moves) t (sitting a []) taken.alone,

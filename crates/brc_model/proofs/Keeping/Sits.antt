@@ -85,7 +85,7 @@ sitting_fits p n m t a agenda account rest sits =
               once = λ x. omega (arith, old.chain.once x, none x);
             };
         locks = sits.locks;
-        unlent = old.unlent;
+        lent = old.lent;
       },
       subst (λ (s : Status). AgendaFits (sitting a agenda) s) (sym rest.running) sits.fits,
       sits.aside,

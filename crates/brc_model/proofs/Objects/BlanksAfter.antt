@@ -6,14 +6,15 @@ use Rattle.std.proofs.lemmas.Bool.Decides.{eqb_tells}
 use Rattle.std.proofs.lemmas.Option.{slice_get_within}
 use Rattle.brc_model.specs.declared.duty.Holding.{Holding}
 use Rattle.brc_model.specs.declared.duty.Duty.{Duty}
-use Rattle.brc_model.specs.declared.duty.Duty.TheVariants.{SettleKind, TakeSlot, BirthKind, BirthSlot, BirthLocal, KindLoad}
+use Rattle.brc_model.specs.declared.duty.Duty.TheVariants.{SettleKind, TakeSlot, BirthKind, BirthSlot, BirthLocal, KindLoad, LendSlot, ReturnSlot}
 use Rattle.brc_model.specs.declared.address.Address.TheVariants.{KindOf, Slot}
 use Rattle.brc_model.specs.Duties.{has_resource, ready}
 use Rattle.brc_model.specs.Machine.{Actor, Machine, used_by, actor_by, done_by}
 use Rattle.brc_model.proofs.Basics.Lists.{some_is, slice_get-set_same, slice_get-set_other}
 use Rattle.brc_model.proofs.Basics.Written.{zero_written, written_load}
 use Rattle.brc_model.proofs.Basics.Blocks.{next_block, next_index}
-use Rattle.brc_model.proofs.Frame.Leaves.{head_of}
+use Rattle.brc_model.proofs.Frame.Alive.{alive_born}
+use Rattle.brc_model.proofs.Frame.Leaves.{head_of, locked_alive}
 use Rattle.brc_model.proofs.Stepping.Neutral.{found_by, memory_by}
 use Rattle.brc_model.specs.Accounts.{Accounts}
 use Rattle.brc_model.specs.Knowledge.{IsNext}
@@ -57,6 +58,16 @@ born_apart : (m : Machine) (t : ℕ) (a : Actor) (y x : ℕ) → IsNext m t a y 
 born_apart m t a y x next past =
     ne_eqb y x (λ e. let same : index_of m.layout t y ≡ index_of m.layout t x = ap (index_of m.layout t) e in absurd
     (omega (arith, next_index m t a y next, past, same)))
+
+-- The row whose resource a thread has lent isn't one of the unused rows.
+lent_used : (p : Accounts) (n : ℕ) (m : Machine) (t u : ℕ) (a b : Actor) (y x : ℕ) (rest : List Duty)
+    → AtDuty p n m t a (ReturnSlot y) rest → slice_get m.actors u ≡ Some b → block_of m.layout x ≡ u
+    → b.used ≤ index_of m.layout u x → (y == x) ≡ false
+lent_used p n m t u a b y x rest here found block past =
+    let lent = head_of p n m t a (ReturnSlot y) rest here in
+    let locked = (here.core.each t a here.found).0.lent y lent in
+    let born = alive_born m y (locked_alive p n m t a y here.core here.found locked) in
+    ne_eqb y x (λ e. born (ap m.life e ∙ (here.core.uses u b found).unborn x block past))
 
 own_blanks : (p : Accounts) (n : ℕ) (m : Machine) (t : ℕ) (a : Actor) (d : Duty) (rest : List Duty)
     → AtDuty p n m t a d rest
@@ -103,6 +114,20 @@ own_blanks p n m t a (TakeSlot y) rest here =
     record {
       kinds = λ x block past none. old.kinds x block past refl;
       slots = λ x block past none. zero_written (y == x) (m.memory (Slot x)) (old.slots x block past refl);
+    }
+own_blanks p n m t a (LendSlot y) rest here =
+    let old = blanks_here p n m t a (LendSlot y) rest here in
+    record {
+      kinds = λ x block past none. old.kinds x block past refl;
+      slots = λ x block past none. zero_written (y == x) (m.memory (Slot x)) (old.slots x block past refl);
+    }
+own_blanks p n m t a (ReturnSlot y) rest here =
+    let old = blanks_here p n m t a (ReturnSlot y) rest here in
+    record {
+      kinds = λ x block past none. old.kinds x block past refl;
+      slots = λ x block past none.
+          still_zero (y == x) 1 (m.memory (Slot x)) (lent_used p n m t t a a y x rest here here.found block past)
+          (old.slots x block past refl);
     }
 own_blanks p n m t a d rest here =
     let old = blanks_here p n m t a d rest here in
@@ -158,6 +183,20 @@ others_blanks p n m t a (TakeSlot y) rest u b here ne found =
     record {
       kinds = old.kinds;
       slots = λ x block past none. zero_written (y == x) (m.memory (Slot x)) (old.slots x block past none);
+    }
+others_blanks p n m t a (LendSlot y) rest u b here ne found =
+    let old = here.core.blanks u b found in
+    record {
+      kinds = old.kinds;
+      slots = λ x block past none. zero_written (y == x) (m.memory (Slot x)) (old.slots x block past none);
+    }
+others_blanks p n m t a (ReturnSlot y) rest u b here ne found =
+    let old = here.core.blanks u b found in
+    record {
+      kinds = old.kinds;
+      slots = λ x block past none.
+          still_zero (y == x) 1 (m.memory (Slot x)) (lent_used p n m t u a b y x rest here found block past)
+          (old.slots x block past none);
     }
 others_blanks p n m t a _ rest u b here ne found =
     let old = here.core.blanks u b found in

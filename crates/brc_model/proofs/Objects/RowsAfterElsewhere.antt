@@ -7,7 +7,7 @@ use Rattle.brc_model.specs.declared.duty.Holding.TheVariants.{InFlight}
 use Rattle.brc_model.specs.AbstractState.{Reference, same, without, references_to, AbstractState, Move, Born, Gain, Lose, PassOn, Finalise, move, moved}
 use Rattle.brc_model.specs.declared.duty.Reason.TheVariants.{Handed}
 use Rattle.brc_model.specs.declared.duty.Duty.{Duty}
-use Rattle.brc_model.specs.declared.duty.Duty.TheVariants.{RetainLoad, RetainStore, RetainAdd, ReleaseLoad, ReleaseStore, DecideAtZero, SharedLoad, SharedExchange, SetMark, Look, TakeMark, MergeSwap, MergeLoad, MergeExchange, Die, Settle, SettleKind, SettleCell, TakeSlot, CloseResource, SettleEnd, Leave, Scan, Finish, ClaimMark, BirthKind, BirthSlot, BirthLocal, KindLoad, LockGate, UnlockGate, CellLoad, CellSwap}
+use Rattle.brc_model.specs.declared.duty.Duty.TheVariants.{RetainLoad, RetainStore, RetainAdd, ReleaseLoad, ReleaseStore, DecideAtZero, SharedLoad, SharedExchange, SetMark, Look, TakeMark, MergeSwap, MergeLoad, MergeExchange, Die, Settle, SettleKind, SettleCell, TakeSlot, CloseResource, SettleEnd, Leave, Scan, Finish, ClaimMark, BirthKind, BirthSlot, BirthLocal, KindLoad, LockGate, UnlockGate, CellLoad, CellSwap, LendSlot, ReturnSlot}
 use Rattle.brc_model.specs.declared.address.Address.TheVariants.{Local, Shared, Mark, Cell}
 use Rattle.brc_model.specs.Duties.{address_of, new_word, cells_from, release_found}
 use Rattle.brc_model.specs.Machine.{Life, Actor, Machine, is_running, same_address, dies_next, with_life, ended_row, born_row}
@@ -64,6 +64,8 @@ subject layout t (LockGate x) = x
 subject layout t (UnlockGate x) = x
 subject layout t (CellLoad x i) = x
 subject layout t (CellSwap x i y h) = x
+subject layout t (LendSlot x) = x
+subject layout t (ReturnSlot x) = x
 
 -- ---- words
 

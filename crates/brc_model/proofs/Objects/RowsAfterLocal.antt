@@ -8,7 +8,7 @@ use Rattle.brc_model.specs.AbstractState.{without, references_to, AbstractState,
 use Rattle.brc_word.specs.Words.{most_local, local_part, is_immortal_word, fresh_word}
 use Rattle.brc_model.specs.declared.duty.Reason.TheVariants.{Own}
 use Rattle.brc_model.specs.declared.duty.Duty.{Duty}
-use Rattle.brc_model.specs.declared.duty.Duty.TheVariants.{RetainLoad, RetainStore, RetainAdd, ReleaseLoad, ReleaseStore, DecideAtZero, SharedLoad, MergeSwap, Die, KindLoad, LockGate, UnlockGate, CellLoad, CellSwap}
+use Rattle.brc_model.specs.declared.duty.Duty.TheVariants.{RetainLoad, RetainStore, RetainAdd, ReleaseLoad, ReleaseStore, DecideAtZero, SharedLoad, MergeSwap, Die, KindLoad, LockGate, UnlockGate, CellLoad, CellSwap, LendSlot, ReturnSlot}
 use Rattle.brc_model.specs.declared.address.Address.TheVariants.{Local, Shared, Cell}
 use Rattle.brc_model.specs.Duties.{counts_locally}
 use Rattle.brc_model.specs.Machine.{Live, Dying, Actor, Machine}
@@ -72,6 +72,22 @@ row_after_cell_swap {p = p} {n = n} {m = m} {t = t} {a = a} {y = y} {i = i} {z =
           sym (swapped_references m.abstract t z y i (m.memory (Cell y i)) y h (stolen_held p n m t a y i z h rest s)
           (λ v is. omega (arith, cell_held p n m y i v s.core is)));
     })
+
+-- ---- the resource of a locked file or socket
+
+-- The row's invariant holds after `ResourceLent`.
+pub row_after_lend_slot : {p : Accounts} {n : ℕ} {m : Machine} {t : ℕ} {a : Actor} {y : ℕ} {rest : List Duty}
+    → IsCounted m.layout y → AtDuty p n m t a (LendSlot y) rest → KeepsRow m t a (LendSlot y) rest y
+row_after_lend_slot {y = y} some s =
+    row_apart s y some refl (none_apart y) (λ life state. refl)
+    (record { local = refl; shared = refl; mark = refl; references = refl })
+
+-- The row's invariant holds after `ResourceReturned`.
+pub row_after_return_slot : {p : Accounts} {n : ℕ} {m : Machine} {t : ℕ} {a : Actor} {y : ℕ} {rest : List Duty}
+    → IsCounted m.layout y → AtDuty p n m t a (ReturnSlot y) rest → KeepsRow m t a (ReturnSlot y) rest y
+row_after_return_slot {y = y} some s =
+    row_apart s y some refl (none_apart y) (λ life state. refl)
+    (record { local = refl; shared = refl; mark = refl; references = refl })
 
 -- ---- retaining
 

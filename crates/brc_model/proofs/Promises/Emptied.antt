@@ -2,7 +2,7 @@
 use Rattle.std.proofs.Common.{◌≡◌, ℕ, zero, suc, Bool, true, false, cond, List, [], ◌∷◌, ◌++◌, Option, None, Some, refl, sym, ap, ◌∙◌, subst}
 use Rattle.std.specs.Prelude.{not, slice_get, slice_set}
 use Rattle.brc_lang.specs.declared.module.Instr.{Instr}
-use Rattle.brc_lang.specs.declared.module.Instr.TheVariants.{Num, List as ListObject, NoneObject, Newref, Move as MoveReference, Drop, Lock, Unlock, Borrow, Fetch, Set, Put, Goto, Ret, Fail, As}
+use Rattle.brc_lang.specs.declared.module.Instr.TheVariants.{Num, List as ListObject, NoneObject, Newref, Move as MoveReference, Drop, Lock, Unlock, Borrow, Fetch, Set, Put, Goto, Again, Ret, Fail, As}
 use Rattle.brc_lang.specs.declared.module.Module.{Module}
 use Rattle.brc_model.specs.declared.thread.Call.{Call}
 use Rattle.brc_model.specs.declared.thread.Choice.{Choice}
@@ -173,6 +173,7 @@ instruction_empties layout t used before counters at variables (Some (Put list i
 instruction_empties layout t used before counters at variables (Some (As from kind otherwise)) =
     row_empties (row_of variables from) _ (λ row. refl)
 instruction_empties layout t used before counters at variables (Some (Goto to)) = tt
+instruction_empties layout t used before counters at variables (Some (Again to times)) = tt
 instruction_empties layout t used before counters at variables (Some (Ret from)) =
     row_empties (row_of variables from) _ (λ row. refl)
 instruction_empties layout t used before counters at variables (Some Fail) = tt

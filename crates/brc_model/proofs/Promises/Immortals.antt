@@ -7,7 +7,7 @@ use Rattle.brc_word.specs.Words.{immortal_local, local_part, is_immortal_word, d
 use Rattle.brc_model.specs.declared.thread.Choice.{Choice}
 use Rattle.brc_model.specs.declared.duty.Reason.TheVariants.{Own, Handed}
 use Rattle.brc_model.specs.declared.duty.Duty.{Duty}
-use Rattle.brc_model.specs.declared.duty.Duty.TheVariants.{RetainAdd, DecideAtZero, SharedLoad, SharedExchange, MergeLoad, MergeExchange, Die, Settle, SettleKind, SettleEnd, TakeSlot, CloseResource, BirthKind, BirthSlot, KindLoad, LockGate, UnlockGate, SettleCell, CellLoad, CellSwap}
+use Rattle.brc_model.specs.declared.duty.Duty.TheVariants.{RetainAdd, DecideAtZero, SharedLoad, SharedExchange, MergeLoad, MergeExchange, Die, Settle, SettleKind, SettleEnd, TakeSlot, CloseResource, BirthKind, BirthSlot, KindLoad, LockGate, UnlockGate, SettleCell, CellLoad, CellSwap, LendSlot, ReturnSlot}
 use Rattle.brc_model.specs.declared.address.Address.TheVariants.{Local, Shared, Gate, KindOf, Mark, Slot, Resource, Cell}
 use Rattle.brc_model.specs.Machine.{Actor, Life, Unborn, Live, Dying, Closed, Machine, written}
 use Rattle.brc_model.specs.StepMachine.{StepMachine, counting, next_machine}
@@ -110,13 +110,21 @@ immortal_slot p n m t a (BirthSlot y h) rest x here immortal =
     written_apart m.memory (Slot y) (Slot x) 1
     (ne_eqb y x
     (immortal_apart m.layout y x (next_counted m t a y (head_of p n m t a (BirthSlot y h) rest here).0) immortal))
+immortal_slot p n m t a (LendSlot y) rest x here immortal =
+    written_apart m.memory (Slot y) (Slot x) 0
+    (ne_eqb y x (immortal_apart m.layout y x (head_of p n m t a (LendSlot y) rest here).0 immortal))
+immortal_slot p n m t a (ReturnSlot y) rest x here immortal =
+    let lent = head_of p n m t a (ReturnSlot y) rest here in
+    let fits = (here.core.each t a here.found).0 in
+    written_apart m.memory (Slot y) (Slot x) 1
+    (ne_eqb y x (immortal_apart m.layout y x (fits.locks y (fits.lent y lent)).counted immortal))
 immortal_slot p n m t a _ rest x here immortal = refl
 
 immortal_resource : (p : Accounts) (n : ℕ) (m : Machine) (t : ℕ) (a : Actor) (d : Duty) (rest : List Duty) (x : ℕ)
     → AtDuty p n m t a d rest → is_immortal_row m.layout x ≡ true
     → memory_by m t a d (Resource x) ≡ m.memory (Resource x)
 immortal_resource p n m t a (CloseResource y) rest x here immortal =
-    written_apart m.memory (Resource y) (Resource x) 0
+    written_apart m.memory (Resource y) (Resource x) _
     (ne_eqb y x (immortal_apart m.layout y x (head_of p n m t a (CloseResource y) rest here).0 immortal))
 immortal_resource p n m t a _ rest x here immortal = refl
 

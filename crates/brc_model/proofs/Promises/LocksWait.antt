@@ -5,7 +5,7 @@ use Rattle.std.specs.Prelude.{◌==◌, not, slice_get, slice_set, sum_by}
 use Rattle.std.proofs.Math.Path.{fun_ext}
 use Rattle.std.proofs.lemmas.List.Sums.{sum_by-cons}
 use Rattle.brc_lang.specs.declared.module.Instr.{Instr}
-use Rattle.brc_lang.specs.declared.module.Instr.TheVariants.{Num, List as ListObject, NoneObject, Newref, Move as MoveReference, Drop, Lock, Unlock, Borrow, Fetch, Set, Put, Goto, Ret, Fail, As}
+use Rattle.brc_lang.specs.declared.module.Instr.TheVariants.{Num, List as ListObject, NoneObject, Newref, Move as MoveReference, Drop, Lock, Unlock, Borrow, Fetch, Set, Put, Goto, Again, Ret, Fail, As}
 use Rattle.brc_lang.specs.declared.module.Module.{Module}
 use Rattle.brc_lang.specs.declared.module.Function.{Function}
 use Rattle.brc_word.specs.Words.{free_word, locked_word}
@@ -85,6 +85,7 @@ instruction_waits layout t used place counters at variables (Some (Put list inde
 instruction_waits layout t used place counters at variables (Some (As from kind otherwise)) =
     row_waits place (row_of variables from) _ (λ row. tt)
 instruction_waits layout t used place counters at variables (Some (Goto to)) = tt
+instruction_waits layout t used place counters at variables (Some (Again to times)) = tt
 instruction_waits layout t used place counters at variables (Some (Ret from)) =
     row_waits place (row_of variables from) _ (λ row. tt)
 instruction_waits layout t used place counters at variables (Some Fail) = tt

@@ -9,7 +9,7 @@ use Rattle.brc_model.specs.declared.duty.Holding.{Holding}
 use Rattle.brc_model.specs.declared.duty.Reason.{Reason}
 use Rattle.brc_model.specs.declared.duty.Reason.TheVariants.{Own, Handed}
 use Rattle.brc_model.specs.declared.duty.Duty.{Duty}
-use Rattle.brc_model.specs.declared.duty.Duty.TheVariants.{RetainLoad, RetainStore, RetainAdd, ReleaseLoad, ReleaseStore, DecideAtZero, SharedLoad, SharedExchange, SetMark, Look, TakeMark, MergeSwap, MergeLoad, MergeExchange, Die, Settle, SettleKind, SettleCell, TakeSlot, CloseResource, SettleEnd, Leave, Scan, Finish, ClaimMark, BirthKind, BirthSlot, BirthLocal, KindLoad, LockGate, UnlockGate, CellLoad, CellSwap}
+use Rattle.brc_model.specs.declared.duty.Duty.TheVariants.{RetainLoad, RetainStore, RetainAdd, ReleaseLoad, ReleaseStore, DecideAtZero, SharedLoad, SharedExchange, SetMark, Look, TakeMark, MergeSwap, MergeLoad, MergeExchange, Die, Settle, SettleKind, SettleCell, TakeSlot, CloseResource, SettleEnd, Leave, Scan, Finish, ClaimMark, BirthKind, BirthSlot, BirthLocal, KindLoad, LockGate, UnlockGate, CellLoad, CellSwap, LendSlot, ReturnSlot}
 use Rattle.brc_model.specs.declared.address.Address.{Address}
 use Rattle.brc_model.specs.Rules.{Goes, IsComputed, given_up, one_shared}
 use Rattle.brc_model.specs.Rules as rules
@@ -81,6 +81,9 @@ module _ (memory : Address → ℕ) (layout : Layout) (t : ℕ) (running : Bool)
   computed d found left next moves (rules.LockHeld x f held) =
       record { left_is = rw (other_test f free_word held) refl; next_is = refl; moves_are = refl }
   computed d found left next moves (rules.Unlocks x f) = record { left_is = refl; next_is = refl; moves_are = refl }
+  computed d found left next moves (rules.ResourceLent x f) = record { left_is = refl; next_is = refl; moves_are = refl }
+  computed d found left next moves (rules.ResourceReturned x f) =
+      record { left_is = refl; next_is = refl; moves_are = refl }
   computed d found left next moves (rules.CellRead x cell f) =
       record { left_is = refl; next_is = refl; moves_are = refl }
   computed d found left next moves (rules.ItemStored x cell item h f) =
@@ -265,6 +268,8 @@ module _ (memory : Address → ℕ) (layout : Layout) (t : ℕ) (running : Bool)
   by_rule (UnlockGate x) found = rules.Unlocks x found
   by_rule (CellLoad x cell) found = rules.CellRead x cell found
   by_rule (CellSwap x cell item h) found = rules.ItemStored x cell item h found
+  by_rule (LendSlot x) found = rules.ResourceLent x found
+  by_rule (ReturnSlot x) found = rules.ResourceReturned x found
   by_rule (RetainLoad x h) found =
       elim (told (is_immortal_word found)) [
         | inl immortal ↦ applies _ _ _ _ _ (rules.RetainsImmortal x h found immortal)

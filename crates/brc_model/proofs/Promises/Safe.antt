@@ -31,6 +31,7 @@ use Rattle.brc_model.proofs.Work.Deciders.{sum_zero}
 use Rattle.brc_model.proofs.Keeping.FirstMachine.{first_accounts, first_kept, first_coded}
 use Rattle.brc_model.proofs.Keeping.KindsHold.{first_holds}
 use Rattle.brc_model.proofs.Keeping.ItemsHold.{first_items}
+use Rattle.brc_model.proofs.Keeping.RoomsHold.{first_rooms}
 use Rattle.brc_model.proofs.Keeping.CodeInvariant.{CodeInvariant}
 use Rattle.brc_model.proofs.Keeping.CodeEvents.{event_keeps, code_invariant_after}
 use Rattle.brc_model.proofs.Basics.Blocks.{born_used}
@@ -256,6 +257,7 @@ first_code_invariant m rows calls fits accepted are_calls some few = record {
   mortal = refl;
   kinds = first_holds m rows calls;
   items = first_items m rows calls;
+  rooms = first_rooms m rows calls;
   coded = λ t a is. first_coded m calls t a fits accepted are_calls is;
 }
 

@@ -35,9 +35,10 @@ use Rattle.brc_model.proofs.Keeping.CodeEvents.{code_invariant_after}
 use Rattle.brc_model.proofs.Promises.Safe.{first_code_invariant}
 use Rattle.brc_model.proofs.Promises.Worlds.{worlds_follow}
 use Rattle.brc_model.proofs.Promises.AgendaMoves.{agenda_moves}
-use Rattle.brc_model.proofs.Promises.Elsewhere.{FindsFree, IsElsewhere, dispatch_elsewhere}
+use Rattle.brc_model.proofs.Promises.Turns.{CountsTurns, FitsCode, TurnsHold, code_here, first_turns, turns_after}
+use Rattle.brc_model.proofs.Promises.Elsewhere.{FindsFree, IsElsewhere, leads_free, dispatch_elsewhere}
 use Rattle.brc_model.proofs.Promises.Emptied.{chain_empty}
-use Rattle.brc_lang.specs.Grammar.{LeadsForward}
+use Rattle.brc_lang.specs.Grammar.{IsModule}
 use Rattle.brc_lang.specs.declared.module.Function.{Function}
 use Rattle.brc_model.specs.declared.layout.Layout.{Layout}
 
@@ -68,20 +69,22 @@ elsewhere_moves a (Does d rest place) elsewhere = inl elsewhere
 
 agenda_moves_on : (functions : List Function) (layout : Layout) (t : ℕ) (a : StepActor) (agenda : List Duty)
     → a.actor.agenda ≡ agenda
-    → LeadsForward (code_of (slice_get functions a.function)) → Moves a (agenda_action functions layout t a agenda)
-agenda_moves_on functions layout t a [] is forward =
+    → FitsCode (code_of (slice_get functions a.function)) → CountsTurns a.place
+    → Moves a (agenda_action functions layout t a agenda)
+agenda_moves_on functions layout t a [] is fits all =
     elsewhere_moves a (agenda_action functions layout t a [])
-    (dispatch_elsewhere layout t a.actor.used (code_of (slice_get functions a.function)) a.place forward)
-agenda_moves_on functions layout t a (d ∷ rest) is forward = inr is
+    (dispatch_elsewhere layout t a.actor.used (code_of (slice_get functions a.function)) a.place fits all)
+agenda_moves_on functions layout t a (d ∷ rest) is fits all = inr is
 
 status_moves_on : (functions : List Function) (layout : Layout) (t : ℕ) (a : StepActor) (status : Status)
     → status ≢ Gone
-    → LeadsForward (code_of (slice_get functions a.function)) → Moves a (status_action functions layout t a status)
-status_moves_on functions layout t a Gone alive forward = absurd (alive refl)
-status_moves_on functions layout t a Running alive forward =
-    agenda_moves_on functions layout t a a.actor.agenda refl forward
-status_moves_on functions layout t a Leaving alive forward =
-    agenda_moves_on functions layout t a a.actor.agenda refl forward
+    → FitsCode (code_of (slice_get functions a.function)) → CountsTurns a.place
+    → Moves a (status_action functions layout t a status)
+status_moves_on functions layout t a Gone alive fits all = absurd (alive refl)
+status_moves_on functions layout t a Running alive fits all =
+    agenda_moves_on functions layout t a a.actor.agenda refl fits all
+status_moves_on functions layout t a Leaving alive fits all =
+    agenda_moves_on functions layout t a a.actor.agenda refl fits all
 
 -- A duty finds that it can go on, unless the thread waits for a lock.
 finds_free : (memory : Address → ℕ) (layout : Layout) (t head : ℕ) (d : Duty) (rest : List Duty) (place : ℕ → Place)
@@ -107,7 +110,8 @@ action_moves p c n m t a exit (Does d rest place) found free fits moves =
     actor_apart (world_of (machine_by m t a exit (Does d rest place))) (world_of m) t a
     (step_actor m.layout t a d rest (place word) word) found refl (λ e. elim moves [
       | inl elsewhere ↦
-          elsewhere word (finds_free m.memory m.layout t a.actor.head d rest place free)
+          leads_free (λ next. next ≢ a.place) a.place d word (place word)
+          (finds_free m.memory m.layout t a.actor.head d rest place free) (elsewhere word)
           (ap (λ (c : StepActor). c.place) e)
       | inr is ↦
           agenda_moves m.layout t (is_running a.actor.status) a.actor.head (new_head a.actor.head d word) d rest word
@@ -121,17 +125,16 @@ after m t choice o = of_thread m (λ a. machine_by m t a (exit_of choice) (actio
 abbrev BothMove : World → ℕ → Type 0
 BothMove w t = (step w t Ok ≢ w) × (step w t Fault ≢ w)
 
-machine_moves : (p : Module) (n : ℕ) (m : StepMachine) (t : ℕ) (a : StepActor) → CodeInvariant p n m
-    → slice_get m.actors t ≡ Some a
+machine_moves : (p : Module) (n : ℕ) (m : StepMachine) (t : ℕ) (a : StepActor) → CodeInvariant p n m → IsModule p
+    → TurnsHold p m → slice_get m.actors t ≡ Some a
     → (a.actor.status ≡ Gone → ⊥) → waits_for_lock (world_of m) t a ≡ false → BothMove (world_of m) t
-machine_moves p n m t a whole found alive free =
-    let forward : LeadsForward (code_of (slice_get m.functions a.function)) =
-    subst (λ (fs : List Function). LeadsForward (code_of (slice_get fs a.function))) (sym whole.functions)
-    (whole.coded t a found).instructions.forward in
+machine_moves p n m t a whole is_module turns found alive free =
+    let fits = code_here p m a.function is_module turns in
+    let all = turns.counts t a found in
     let acting : (exit : Exit)
     → world_of (machine_by m t a exit (action_of m.functions m.layout t a Ok)) ≢ world_of m =
     λ exit. action_moves p whole.accounts n m t a exit (action_of m.functions m.layout t a Ok) found free
-    (action_fits p n m t a Ok whole found) (status_moves_on m.functions m.layout t a a.actor.status alive forward) in
+    (action_fits p n m t a Ok whole found) (status_moves_on m.functions m.layout t a a.actor.status alive fits all) in
     let by_ok : world_of (next_machine m (t, Ok)) ≢ world_of m =
     subst (λ (o : Option StepActor). world_of (after m t Ok o) ≢ world_of m) (sym found) (acting (exit_of Ok)) in
     let by_fault : world_of (next_machine m (t, Fault)) ≢ world_of m =
@@ -145,6 +148,11 @@ reached_code p w here =
     code_invariant_after p (1 + length here.calls) (first_machine p here.rows here.calls) here.events
     (first_code_invariant p here.rows here.calls here.fits here.accepted here.calls_fit here.some_rows here.most_rows)
 
+reached_turns : (p : Module) (w : World) → (here : IsReachable p w)
+    → TurnsHold p (machine_after (first_machine p here.rows here.calls) here.events)
+reached_turns p w here =
+    turns_after p (first_machine p here.rows here.calls) here.events here.fits (first_turns p here.rows here.calls)
+
 pub reached_found : (p : Module) (w : World) (t : ℕ) (a : StepActor) → (here : IsReachable p w)
     → slice_get w.actors t ≡ Some a
     → slice_get (machine_after (first_machine p here.rows here.calls) here.events).actors t ≡ Some a
@@ -155,7 +163,7 @@ pub going_on_moves : (p : Module) (w : World) (t : ℕ) (a : StepActor) → IsRe
 going_on_moves p w t a here found alive free =
     subst (λ (v : World). BothMove v t) (sym here.reached)
     (machine_moves p (1 + length here.calls) (machine_after (first_machine p here.rows here.calls) here.events) t a
-    (reached_code p w here) (reached_found p w t a here found) alive
+    (reached_code p w here) here.fits (reached_turns p w here) (reached_found p w t a here found) alive
     (subst (λ (v : World). waits_for_lock v t a ≡ false) here.reached free))
 
 -- ---- claims

@@ -18,6 +18,7 @@ use Rattle.brc_model.proofs.Frame.Lives.{next_of}
 use Rattle.brc_model.proofs.Stepping.Behind.{behind_after}
 use Rattle.brc_model.proofs.Stepping.UnderWay.{exits_still}
 use Rattle.brc_model.proofs.Stepping.Locked.{locks_after}
+use Rattle.brc_model.proofs.Stepping.Lending.{lent_after}
 use Rattle.brc_model.proofs.Stepping.Own.{HeldStep, holds_step, ChainSame, chain_same}
 use Rattle.brc_model.specs.declared.duty.Duty.TheVariants.{BirthLocal}
 
@@ -129,7 +130,7 @@ own_neutral p n m t a d rest next agenda here alive step =
             subst (λ (l : List Duty). ChainFits new t after.head l) (sym whole)
             (subst (λ (h : ℕ). ChainFits new t h agenda) (sym step.same_head) chain);
         locks = locks_after p n m t a d rest here;
-        unlent = old.unlent;
+        lent = lent_after p n m t a d rest here;
       };
       agenda = agenda_out after after.status (λ e. alive (sym step.same_status ∙ e))
           (subst (λ (l : List Duty). Agenda after.used after.status l) (sym whole)

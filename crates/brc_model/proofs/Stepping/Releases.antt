@@ -1,5 +1,5 @@
--- A thread fits after its own steps that ask for a kind, lock, unlock, load a cell, make a reference, give one up by
--- the local word, or decide at zero.
+-- A thread fits after its own steps that ask for a kind, lock, unlock, load a cell, lend or return a resource, make a
+-- reference, give one up by the local word, or decide at zero.
 use Rattle.std.proofs.Common.{◌≡◌, ℕ, ◌+◌, ◌-◌, ◌<◌, Bool, true, false, cond, List, [], ◌∷◌, ◌++◌, refl, sym, ap, ◌∙◌, subst, arith}
 use Rattle.std.specs.Prelude.{◌==◌, ◌&&◌}
 use Rattle.std.specs.List.{list_any}
@@ -10,7 +10,7 @@ use Rattle.brc_model.specs.AbstractState.{Reference, same_holding, same, without
 use Rattle.brc_word.specs.Words.{immortal_local, owner_part, local_part, is_immortal_word, fresh_word}
 use Rattle.brc_model.specs.declared.duty.Reason.TheVariants.{Own}
 use Rattle.brc_model.specs.declared.duty.Duty.{Duty}
-use Rattle.brc_model.specs.declared.duty.Duty.TheVariants.{RetainStore, RetainAdd, ReleaseLoad, ReleaseStore, DecideAtZero, SharedLoad, MergeSwap, Die, KindLoad, LockGate, UnlockGate, CellLoad}
+use Rattle.brc_model.specs.declared.duty.Duty.TheVariants.{RetainStore, RetainAdd, ReleaseLoad, ReleaseStore, DecideAtZero, SharedLoad, MergeSwap, Die, KindLoad, LockGate, UnlockGate, CellLoad, LendSlot, ReturnSlot}
 use Rattle.brc_model.specs.declared.address.Address.TheVariants.{Local, Shared}
 use Rattle.brc_model.specs.Duties.{counts_locally}
 use Rattle.brc_model.specs.declared.actor.Status.TheVariants.{Gone}
@@ -75,6 +75,26 @@ pub thread_after_cell_load : (p : Accounts) (n : ℕ) (m : Machine) (t : ℕ) (a
 thread_after_cell_load p n m t a x i rest here alive =
     own_done p n m t a (CellLoad x i) rest here alive refl refl (agenda_here p n m t a (CellLoad x i) rest here alive)
     (held_same m.abstract.references t (CellLoad x i ∷ rest) [] (λ k o. refl) (λ k o. refl))
+
+-- ---- the resource of a locked file or socket
+
+-- The thread fits after `ResourceLent`.
+pub thread_after_lend_slot : (p : Accounts) (n : ℕ) (m : Machine) (t : ℕ) (a : Actor) (x : ℕ) (rest : List Duty)
+    → AtDuty p n m t a (LendSlot x) rest → (a.status ≡ Gone → ⊥)
+    → ThreadFits p (done_by m t a (LendSlot x) rest) t
+    (actor_by m.layout t a (LendSlot x) rest (found_by m t a (LendSlot x)))
+thread_after_lend_slot p n m t a x rest here alive =
+    own_done p n m t a (LendSlot x) rest here alive refl refl (agenda_here p n m t a (LendSlot x) rest here alive)
+    (held_same m.abstract.references t (LendSlot x ∷ rest) [] (λ k o. refl) (λ k o. refl))
+
+-- The thread fits after `ResourceReturned`.
+pub thread_after_return_slot : (p : Accounts) (n : ℕ) (m : Machine) (t : ℕ) (a : Actor) (x : ℕ) (rest : List Duty)
+    → AtDuty p n m t a (ReturnSlot x) rest → (a.status ≡ Gone → ⊥)
+    → ThreadFits p (done_by m t a (ReturnSlot x) rest) t
+    (actor_by m.layout t a (ReturnSlot x) rest (found_by m t a (ReturnSlot x)))
+thread_after_return_slot p n m t a x rest here alive =
+    own_done p n m t a (ReturnSlot x) rest here alive refl refl (agenda_here p n m t a (ReturnSlot x) rest here alive)
+    (held_same m.abstract.references t (ReturnSlot x ∷ rest) [] (λ k o. refl) (λ k o. refl))
 
 -- ---- the last step of a retain
 

@@ -12,6 +12,7 @@ use Rattle.brc_model.specs.OpenWork.{Agenda, ChainFits, AgendaFits}
 use Rattle.brc_model.proofs.Stepping.Behind.{behind_after}
 use Rattle.brc_model.proofs.Stepping.UnderWay.{exits_still}
 use Rattle.brc_model.proofs.Stepping.Locked.{locks_after}
+use Rattle.brc_model.proofs.Stepping.Lending.{lent_after}
 use Rattle.brc_model.proofs.Stepping.Own.{HeldStep, holds_step}
 use Rattle.brc_model.proofs.Stepping.Neutral.{ThreadFits, found_by, bag_by, memory_by, agenda_out, uses_same}
 use Rattle.brc_model.specs.Invariant.{AtDuty}
@@ -55,7 +56,7 @@ own_shown p n m t a d rest agenda status head here step =
             subst (λ (l : List Duty). ChainFits new t after.head l) (sym step.agenda_is)
             (subst (λ (h : ℕ). ChainFits new t h agenda) (sym step.head_is) step.chain);
         locks = locks_after p n m t a d rest here;
-        unlent = old.unlent;
+        lent = lent_after p n m t a d rest here;
       };
       agenda = subst (λ (s : Status). AgendaFits after s) (sym step.status_is) step.fits;
     }

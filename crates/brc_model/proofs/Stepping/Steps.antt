@@ -30,6 +30,7 @@ use Rattle.brc_model.proofs.Frame.Leaves.{head_of, locked_held, living_clash}
 use Rattle.brc_model.proofs.Frame.Alive.{alive_backed}
 use Rattle.brc_model.proofs.Stepping.UnderWay.{exits_still}
 use Rattle.brc_model.proofs.Stepping.Locked.{locks_after}
+use Rattle.brc_model.proofs.Stepping.Lending.{lent_after}
 use Rattle.brc_model.proofs.Stepping.Own.{HeldStep, holds_step, ready_is, ChainSame, chain_same}
 use Rattle.brc_model.proofs.Stepping.Neutral.{ThreadFits, found_by, bag_by, memory_by, agenda_out, own_neutral, uses_same}
 use Rattle.brc_model.proofs.Stepping.Retains.{ready_first}
@@ -323,7 +324,7 @@ own_dying p n m t a d rest x here alive kept step =
             subst (λ (l : List Duty). ChainFits new t after.head l) (sym whole)
             (subst (λ (h : ℕ). ChainFits new t h agenda) (sym same_head) chain);
         locks = locks_after p n m t a d rest here;
-        unlent = old.unlent;
+        lent = lent_after p n m t a d rest here;
       };
       agenda = agenda_out after after.status (λ e. alive (sym same_status ∙ e))
           (subst (λ (l : List Duty). Agenda after.used after.status l) (sym whole)

@@ -7,13 +7,13 @@ use Rattle.std.proofs.Common.{◌≡◌, ℕ, ◌<◌, ◌≤◌, Bool, true, Li
 use Rattle.std.specs.Prelude.{◌==◌}
 use Rattle.std.proofs.lemmas.Bool.{eq-eqb}
 use Rattle.brc_model.specs.declared.duty.Duty.{Duty}
-use Rattle.brc_model.specs.declared.duty.Duty.TheVariants.{RetainStore, ReleaseStore, SetMark, Die, SettleEnd, Leave, Finish, BirthKind, BirthSlot, BirthLocal, UnlockGate}
+use Rattle.brc_model.specs.declared.duty.Duty.TheVariants.{RetainStore, ReleaseStore, SetMark, Die, SettleEnd, Leave, Finish, BirthKind, BirthSlot, BirthLocal, UnlockGate, ReturnSlot}
 use Rattle.brc_model.specs.declared.address.Address.{Address}
 use Rattle.brc_model.specs.declared.address.Address.TheVariants.{Local, Mark, ThreadWord}
 use Rattle.brc_model.specs.declared.actor.Status.{Status}
 use Rattle.brc_model.specs.declared.actor.Status.TheVariants.{Running, Leaving, Gone}
 use Rattle.brc_model.specs.Duties.{new_word, continuation, new_head}
-use Rattle.brc_model.specs.Machine.{Actor, Life, Machine, locked_by}
+use Rattle.brc_model.specs.Machine.{Actor, Life, Machine, locked_by, lent_by}
 use Rattle.brc_model.specs.Moves.{reference_effects}
 use Rattle.brc_model.specs.References.{one_if}
 use Rattle.brc_model.specs.RowInvariant.{waits, Numbers, IsDefault, IsQueued, InOwned, InSwapped, InMerged, Phased, RowInvariant}
@@ -40,6 +40,7 @@ pub record StoresBlindly (memory : Address → ℕ) (layout : Layout) (t : ℕ) 
   pub next : continuation layout t running head d found ≡ continuation layout t running head d other
   pub head_after : new_head head d found ≡ new_head head d other
   pub locked : (l : Option ℕ) → locked_by l d found ≡ locked_by l d other
+  pub lent : (l : Option ℕ) → lent_by l d found ≡ lent_by l d other
   pub moves : reference_effects memory t d found ≡ reference_effects memory t d other
 
 -- A storing duty does the same for every word that it finds.
@@ -47,27 +48,29 @@ pub stores_blindly : (memory : Address → ℕ) (layout : Layout) (t : ℕ) (run
     (found other : ℕ)
     → is_store d ≡ true → StoresBlindly memory layout t running head d found other
 stores_blindly memory layout t running head (RetainStore x h w) found other is =
-    record { left = refl; next = refl; head_after = refl; locked = λ l. refl; moves = refl }
+    record { left = refl; next = refl; head_after = refl; locked = λ l. refl; lent = λ l. refl; moves = refl }
 stores_blindly memory layout t running head (ReleaseStore x w) found other is =
-    record { left = refl; next = refl; head_after = refl; locked = λ l. refl; moves = refl }
+    record { left = refl; next = refl; head_after = refl; locked = λ l. refl; lent = λ l. refl; moves = refl }
 stores_blindly memory layout t running head (SetMark x) found other is =
-    record { left = refl; next = refl; head_after = refl; locked = λ l. refl; moves = refl }
+    record { left = refl; next = refl; head_after = refl; locked = λ l. refl; lent = λ l. refl; moves = refl }
 stores_blindly memory layout t running head (Die x) found other is =
-    record { left = refl; next = refl; head_after = refl; locked = λ l. refl; moves = refl }
+    record { left = refl; next = refl; head_after = refl; locked = λ l. refl; lent = λ l. refl; moves = refl }
 stores_blindly memory layout t running head (SettleEnd x) found other is =
-    record { left = refl; next = refl; head_after = refl; locked = λ l. refl; moves = refl }
+    record { left = refl; next = refl; head_after = refl; locked = λ l. refl; lent = λ l. refl; moves = refl }
 stores_blindly memory layout t running head (Leave x k) found other is =
-    record { left = refl; next = refl; head_after = refl; locked = λ l. refl; moves = refl }
+    record { left = refl; next = refl; head_after = refl; locked = λ l. refl; lent = λ l. refl; moves = refl }
 stores_blindly memory layout t running head Finish found other is =
-    record { left = refl; next = refl; head_after = refl; locked = λ l. refl; moves = refl }
+    record { left = refl; next = refl; head_after = refl; locked = λ l. refl; lent = λ l. refl; moves = refl }
 stores_blindly memory layout t running head (BirthKind x h w) found other is =
-    record { left = refl; next = refl; head_after = refl; locked = λ l. refl; moves = refl }
+    record { left = refl; next = refl; head_after = refl; locked = λ l. refl; lent = λ l. refl; moves = refl }
 stores_blindly memory layout t running head (BirthSlot x h) found other is =
-    record { left = refl; next = refl; head_after = refl; locked = λ l. refl; moves = refl }
+    record { left = refl; next = refl; head_after = refl; locked = λ l. refl; lent = λ l. refl; moves = refl }
 stores_blindly memory layout t running head (BirthLocal x h) found other is =
-    record { left = refl; next = refl; head_after = refl; locked = λ l. refl; moves = refl }
+    record { left = refl; next = refl; head_after = refl; locked = λ l. refl; lent = λ l. refl; moves = refl }
 stores_blindly memory layout t running head (UnlockGate x) found other is =
-    record { left = refl; next = refl; head_after = refl; locked = λ l. refl; moves = refl }
+    record { left = refl; next = refl; head_after = refl; locked = λ l. refl; lent = λ l. refl; moves = refl }
+stores_blindly memory layout t running head (ReturnSlot x) found other is =
+    record { left = refl; next = refl; head_after = refl; locked = λ l. refl; lent = λ l. refl; moves = refl }
 stores_blindly memory layout t running head _ found other is = absurd cc
 
 -- ---- the word that a store overwrites

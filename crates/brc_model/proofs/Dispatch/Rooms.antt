@@ -1,0 +1,213 @@
+-- Where a thread awaits a birth: the host has granted it a resource, and its block has room for the object that it is to
+-- make of it. The thread has nothing else to do meanwhile.
+use Rattle.std.proofs.Common.{◌≡◌, ℕ, zero, suc, ◌+◌, Bool, true, false, List, [], ◌∷◌, Option, None, Some, refl, sym, ap, ◌∙◌}
+use Rattle.std.specs.Prelude.{◌==◌, nat_lt, slice_get, slice_set}
+use Rattle.brc_lang.specs.declared.module.Function.{Function}
+use Rattle.brc_lang.specs.declared.module.Instr.{Instr}
+use Rattle.brc_lang.specs.declared.module.Instr.TheVariants.{Num, List as ListObject, NoneObject, Newref, Move as MoveReference, Drop, Lock, Unlock, Borrow, Fetch, Set, Put, Goto, Again, Ret, Fail, As}
+use Rattle.brc_word.specs.Words.{free_word}
+use Rattle.brc_model.specs.declared.slot.Exit.{Exit}
+use Rattle.brc_model.specs.declared.thread.Choice.{Choice}
+use Rattle.brc_model.specs.declared.thread.Choice.TheVariants.{Ok, Fault, Claim}
+use Rattle.brc_model.specs.declared.actor.Status.{Status}
+use Rattle.brc_model.specs.declared.actor.Status.TheVariants.{Running, Leaving, Gone}
+use Rattle.brc_model.specs.declared.actor.Place.{Place}
+use Rattle.brc_model.specs.declared.actor.Place.TheVariants.{Idle, InCall, Inside, Exiting}
+use Rattle.brc_model.specs.declared.actor.Counters.{Counters}
+use Rattle.brc_model.specs.declared.actor.Stage.{Stage}
+use Rattle.brc_model.specs.declared.actor.Stage.TheVariants.{InRange, OutOfRange, Found, Retained, Granted}
+use Rattle.brc_model.specs.declared.duty.Duty.{Duty}
+use Rattle.brc_model.specs.declared.duty.Duty.TheVariants.{KindLoad, LockGate, CellLoad}
+use Rattle.brc_model.specs.declared.layout.Layout.{Layout}
+use Rattle.brc_model.specs.Machine.{Actor, is_lending, has_room}
+use Rattle.brc_model.specs.Threads.{code_of, row_of, entry_variables}
+use Rattle.brc_model.specs.Actions.{StepActor, Action, Skip, Stuck, Silent, Calls, Does, with_row, number_word, list_word, birth_action, first_counters, turns_at, turned, again_place, by_range, by_item, dispatch_instruction, dispatch_inside, dispatch, may_claim, agenda_action, status_action, action_of}
+use Rattle.brc_model.specs.StepMachine.{StepMachine}
+use Rattle.brc_model.proofs.Basics.Lists.{either}
+use Rattle.brc_model.proofs.Dispatch.Decided.{range_decides, item_decides}
+use Rattle.brc_model.proofs.Dispatch.Claims.{claimer}
+
+-- Says whether a thread so far inside the instruction awaits a birth.
+abbrev pub awaits_inside : Stage → Option Instr → Bool
+awaits_inside Granted i = true
+awaits_inside stage i = false
+
+-- Says whether a thread at the place awaits a birth.
+abbrev pub awaits_birth : List Instr → Place → Bool
+awaits_birth code (Idle left) = false
+awaits_birth code (InCall counters at variables) = false
+awaits_birth code (Inside counters at variables stage) = awaits_inside stage (slice_get code at)
+awaits_birth code Exiting = false
+
+-- A thread that awaits a birth has room for it, and nothing else to do.
+pub record HasRoom (layout : Layout) (t : ℕ) (a : Actor) : Type 0 where
+  pub agenda : a.agenda ≡ []
+  pub room : has_room layout t a.used ≡ true
+
+-- If the thread awaits a birth, it has room for it.
+abbrev pub RoomFits : StepMachine → ℕ → StepActor → Type 0
+RoomFits m t a =
+    awaits_birth (code_of (slice_get m.functions a.function)) a.place ≡ true → HasRoom m.layout t a.actor
+
+abbrev pub RoomsFit : StepMachine → Type 0
+RoomsFit m = (t : ℕ) (a : StepActor) → slice_get m.actors t ≡ Some a → RoomFits m t a
+
+-- Where the action of a thread leads to a place at which a birth is awaited, there is room, and the action is no duty
+-- but one that lends a resource or returns it.
+abbrev pub FollowsRoom : List Instr → Bool → Action → Type 0
+FollowsRoom code room Skip = Unit {0}
+FollowsRoom code room Stuck = Unit {0}
+FollowsRoom code room (Silent moves place) = awaits_birth code place ≡ true → room ≡ true
+FollowsRoom code room (Calls place) = (exit : Exit) → awaits_birth code (place exit) ≡ true → room ≡ true
+FollowsRoom code room (Does d rest place) =
+    (found : ℕ) → awaits_birth code (place found) ≡ true → (is_lending d ≡ true) × (rest ≡ []) × (room ≡ true)
+
+-- No birth is awaited at the place.
+abbrev AwaitsNone : List Instr → Place → Type 0
+AwaitsNone code place = awaits_birth code place ≡ false
+
+module _ (code : List Instr) (room : Bool) where
+  awaits_no : {A : Type 0} (place : Place) → AwaitsNone code place → awaits_birth code place ≡ true → A
+  awaits_no place none awaits = absurd (let wrong : false ≡ true = sym none ∙ awaits in cc)
+
+  -- A silent step, or a duty, after which no birth is awaited.
+  silent_none : (place : Place) → AwaitsNone code place → awaits_birth code place ≡ true → room ≡ true
+  silent_none place none = awaits_no place none
+
+  does_none : (d : Duty) (rest : List Duty) (place : ℕ → Place) → ((found : ℕ) → AwaitsNone code (place found))
+      → FollowsRoom code room (Does d rest place)
+  does_none d rest place none = λ found. awaits_no (place found) (none found)
+
+  row_room : (o : Option ℕ) (work : ℕ → Action) → ((row : ℕ) → FollowsRoom code room (work row))
+      → FollowsRoom code room (with_row o work)
+  row_room None work each = tt
+  row_room (Some row) work each = each row
+
+  birth_none : (layout : Layout) (t used : ℕ) (counters : Counters) (at : ℕ) (variables : List (Option ℕ))
+      (to word otherwise : ℕ)
+      → FollowsRoom code room (birth_action layout t used counters at variables to word otherwise)
+  birth_none layout t used counters at variables to word otherwise =
+      either (FollowsRoom code room) (has_room layout t used) _ _ (λ has found e. absurd cc) (λ e. absurd cc)
+
+  range_room : (list : Option ℕ) (index : ℕ) (inside outside : Place) → AwaitsNone code inside
+      → AwaitsNone code outside
+      → FollowsRoom code room (with_row list (λ row. Does (KindLoad row) [] (by_range index inside outside)))
+  range_room list index inside outside enters passes =
+      row_room list _ (λ row. does_none (KindLoad row) [] (by_range index inside outside) (λ found.
+      range_decides (AwaitsNone code) inside outside index found (λ has. enters) passes))
+
+  cell_room : (list : Option ℕ) (index : ℕ) (empty : Place) (holds : ℕ → Place) → AwaitsNone code empty
+      → ((item : ℕ) → AwaitsNone code (holds item))
+      → FollowsRoom code room (with_row list (λ row. Does (CellLoad row index) [] (by_item empty holds)))
+  cell_room list index empty holds none some =
+      row_room list _ (λ row. does_none (CellLoad row index) [] (by_item empty holds) (λ found.
+      item_decides (λ word. AwaitsNone code) empty holds none some found))
+
+module _ (code : List Instr) (layout : Layout) (t used : ℕ) where
+  abbrev Follows : Action → Type 0
+  Follows = FollowsRoom code (has_room layout t used)
+
+  instruction_room : (before : Place) (counters : Counters) (at : ℕ) (variables : List (Option ℕ)) (i : Option Instr)
+      → AwaitsNone code before → Follows (dispatch_instruction layout t used before counters at variables i)
+  instruction_room before counters at variables None none = tt
+  instruction_room before counters at variables (Some (Num to value otherwise)) none =
+      birth_none code (has_room layout t used) layout t used counters at variables to (number_word value) otherwise
+  instruction_room before counters at variables (Some (ListObject to cells otherwise)) none =
+      birth_none code (has_room layout t used) layout t used counters at variables to (list_word cells) otherwise
+  instruction_room before counters at variables (Some (NoneObject to)) none = λ e. absurd cc
+  instruction_room before counters at variables (Some (Newref to from)) none =
+      row_room code (has_room layout t used) (row_of variables from) _ (λ row found e. absurd cc)
+  instruction_room before counters at variables (Some (MoveReference to from)) none =
+      row_room code (has_room layout t used) (row_of variables from) _ (λ row e. absurd cc)
+  instruction_room before counters at variables (Some (Drop from)) none =
+      row_room code (has_room layout t used) (row_of variables from) _ (λ row found e. absurd cc)
+  instruction_room before counters at variables (Some (Lock object)) none =
+      row_room code (has_room layout t used) (row_of variables object) _ (λ row.
+      does_none code (has_room layout t used) (LockGate row) [] _ (λ found.
+      either (AwaitsNone code) (found == free_word) (InCall counters (at + 1) variables) before (λ free. refl) none))
+  instruction_room before counters at variables (Some (Unlock object)) none =
+      row_room code (has_room layout t used) (row_of variables object) _ (λ row found e. absurd cc)
+  instruction_room before counters at variables (Some (Borrow to list index otherwise)) none =
+      range_room code (has_room layout t used) (row_of variables list) index (Inside counters at variables InRange)
+      (InCall counters otherwise (slice_set variables to None)) refl refl
+  instruction_room before counters at variables (Some (Fetch to list index otherwise)) none =
+      range_room code (has_room layout t used) (row_of variables list) index (Inside counters at variables InRange)
+      (InCall counters otherwise (slice_set variables to None)) refl refl
+  instruction_room before counters at variables (Some (Set list index from otherwise)) none =
+      range_room code (has_room layout t used) (row_of variables list) index (Inside counters at variables InRange)
+      (Inside counters at variables OutOfRange) refl refl
+  instruction_room before counters at variables (Some (Put list index from otherwise)) none =
+      range_room code (has_room layout t used) (row_of variables list) index (Inside counters at variables InRange)
+      (InCall counters otherwise variables) refl refl
+  instruction_room before counters at variables (Some (As from kind otherwise)) none =
+      row_room code (has_room layout t used) (row_of variables from) _ (λ row found e. absurd cc)
+  instruction_room before counters at variables (Some (Goto to)) none = λ e. absurd cc
+  instruction_room before counters at variables (Some (Again to times)) none =
+      silent_none code (has_room layout t used) (again_place counters at variables to times)
+      (either (AwaitsNone code) (nat_lt (turns_at counters at) times) (InCall (turned counters at) to variables)
+      (InCall counters (at + 1) variables) (λ more. refl) refl)
+  instruction_room before counters at variables (Some (Ret from)) none =
+      row_room code (has_room layout t used) (row_of variables from) _ (λ row found e. absurd cc)
+  instruction_room before counters at variables (Some Fail) none = λ e. absurd cc
+
+  inside_room : (counters : Counters) (at : ℕ) (variables : List (Option ℕ)) (stage : Stage) (i : Option Instr)
+      → (awaits_inside stage i ≡ true → has_room layout t used ≡ true)
+      → Follows (dispatch_inside counters at variables stage i)
+  inside_room counters at variables InRange (Some (Borrow to list index otherwise)) has =
+      cell_room code (has_room layout t used) (row_of variables list) index
+      (InCall counters otherwise (slice_set variables to None))
+      (λ item. InCall counters (at + 1) (slice_set variables to (Some item))) refl (λ item. refl)
+  inside_room counters at variables InRange (Some (Fetch to list index otherwise)) has =
+      cell_room code (has_room layout t used) (row_of variables list) index
+      (InCall counters otherwise (slice_set variables to None))
+      (λ item. Inside counters at variables (Found item)) refl (λ item. refl)
+  inside_room counters at variables (Found item) (Some (Fetch to list index otherwise)) has = λ found e. absurd cc
+  inside_room counters at variables InRange (Some (Set list index from otherwise)) has =
+      row_room code (has_room layout t used) (row_of variables list) _ (λ row.
+      row_room code (has_room layout t used) (row_of variables from) _ (λ item found e. absurd cc))
+  inside_room counters at variables OutOfRange (Some (Set list index from otherwise)) has =
+      row_room code (has_room layout t used) (row_of variables from) _ (λ item found e. absurd cc)
+  inside_room counters at variables InRange (Some (Put list index from otherwise)) has =
+      row_room code (has_room layout t used) (row_of variables from) _ (λ item found e. absurd cc)
+  inside_room counters at variables Retained (Some (Put list index from otherwise)) has =
+      row_room code (has_room layout t used) (row_of variables list) _ (λ row.
+      row_room code (has_room layout t used) (row_of variables from) _ (λ item found e. absurd cc))
+  inside_room counters at variables stage i has = tt
+
+  dispatch_room : (place : Place) → (awaits_birth code place ≡ true → has_room layout t used ≡ true)
+      → Follows (dispatch layout t used code place)
+  dispatch_room Exiting has = tt
+  dispatch_room (Idle zero) has = λ found e. absurd cc
+  dispatch_room (Idle (suc left)) has =
+      instruction_room (Idle (suc left)) (first_counters left) 0 entry_variables (slice_get code 0) refl
+  dispatch_room (InCall counters at variables) has =
+      instruction_room (InCall counters at variables) counters at variables (slice_get code at) refl
+  dispatch_room (Inside counters at variables stage) has =
+      inside_room counters at variables stage (slice_get code at) has
+
+module _ (functions : List Function) (layout : Layout) (t : ℕ) (a : StepActor)
+    (has : awaits_birth (code_of (slice_get functions a.function)) a.place ≡ true → HasRoom layout t a.actor) where
+  abbrev Stays : Action → Type 0
+  Stays = FollowsRoom (code_of (slice_get functions a.function)) (has_room layout t a.actor.used)
+
+  agenda_room : (agenda : List Duty) → a.actor.agenda ≡ agenda → Stays (agenda_action functions layout t a agenda)
+  agenda_room [] is =
+      dispatch_room (code_of (slice_get functions a.function)) layout t a.actor.used a.place
+      (λ awaits. (has awaits).room)
+  agenda_room (d ∷ rest) is = λ found awaits.
+      absurd (let wrong : d ∷ rest ≡ [] = sym is ∙ (has awaits).agenda in cc)
+
+  status_room : (status : Status) → Stays (status_action functions layout t a status)
+  status_room Gone = tt
+  status_room Running = agenda_room a.actor.agenda refl
+  status_room Leaving = agenda_room a.actor.agenda refl
+
+  -- Whatever a thread does, there is room where a birth is awaited after it.
+  pub action_room : (choice : Choice) → Stays (action_of functions layout t a choice)
+  action_room Ok = status_room a.actor.status
+  action_room Fault = status_room a.actor.status
+  action_room (Claim row) =
+      either Stays (may_claim layout t a row) _ Skip
+      (λ may found awaits.
+      absurd (let wrong : true ≡ false = sym awaits
+      ∙ ap (awaits_birth (code_of (slice_get functions a.function))) (claimer layout t a row may).idle in cc)) tt

@@ -1,0 +1,193 @@
+-- Where each dispatch leads. An instruction of a call leads on to a later point, into itself or to the end of the call;
+-- a lock that isn't got leaves the thread where it was. What holds of all these places holds after the action.
+use Rattle.std.proofs.Common.{◌≡◌, ◌≢◌, ℕ, zero, suc, ◌+◌, cond, Bool, false, List, [], Option, None, Some, refl, sym, ap, subst, arith, ◌<◌}
+use Rattle.std.specs.Prelude.{◌==◌, nat_lt, slice_get, slice_set}
+use Rattle.std.proofs.lemmas.Bool.{ltb-true}
+use Rattle.brc_lang.specs.declared.module.Instr.{Instr}
+use Rattle.brc_lang.specs.declared.module.Instr.TheVariants.{Num, List as ListObject, NoneObject, Newref, Move as MoveReference, Drop, Lock, Unlock, Borrow, Fetch, Set, Put, Goto, Again, Ret, Fail, As}
+use Rattle.brc_lang.specs.Grammar.{LeadsForward}
+use Rattle.brc_word.specs.Words.{free_word}
+use Rattle.brc_model.specs.Kinds.{same_kind, kind_of_word}
+use Rattle.brc_model.specs.Threads.{row_of, entry_variables}
+use Rattle.brc_model.specs.declared.duty.Duty.{Duty}
+use Rattle.brc_model.specs.declared.duty.Duty.TheVariants.{LockGate, KindLoad, CellLoad}
+use Rattle.brc_model.specs.declared.actor.Place.{Place}
+use Rattle.brc_model.specs.declared.actor.Counters.{Counters}
+use Rattle.brc_model.specs.declared.actor.Place.TheVariants.{Idle, InCall, Inside, Exiting}
+use Rattle.brc_model.specs.declared.actor.Stage.{Stage}
+use Rattle.brc_model.specs.declared.actor.Stage.TheVariants.{InRange, OutOfRange, Found, Retained}
+use Rattle.brc_model.specs.declared.slot.Exit.{Exit}
+use Rattle.brc_model.specs.Machine.{has_room}
+use Rattle.brc_model.specs.Actions.{Action, Skip, Stuck, Silent, Calls, Does, with_row, by_range, by_item, birth_action, first_counters, turns_at, turned, dispatch_instruction, dispatch_inside, dispatch, number_word, list_word}
+use Rattle.brc_model.proofs.Basics.Lists.{either}
+use Rattle.brc_model.proofs.Dispatch.Decided.{range_decides, item_decides}
+use Rattle.brc_model.specs.Bounded.{times_of}
+use Rattle.brc_model.specs.declared.layout.Layout.{Layout}
+use Rattle.brc_model.specs.Layout.{none_row, row_at}
+
+-- The property holds of the next place, if the duty goes on; a lock that isn't got leaves the thread at the place.
+abbrev pub Leads : (Place → Type 0) → Place → Duty → ℕ → Place → Type 0
+Leads P place (LockGate x) found next = (found ≡ free_word → P next) × ((found == free_word) ≡ false → next ≡ place)
+Leads P place d found next = P next
+
+-- The property holds of each place to which the action leads, unless the thread waits where it is.
+abbrev pub LeadsTo : (Place → Type 0) → Place → Action → Type 0
+LeadsTo P place Skip = ⊥
+LeadsTo P place Stuck = Unit {0}
+LeadsTo P place (Silent moves next) = P next
+LeadsTo P place (Calls next) = (exit : Exit) → P (next exit)
+LeadsTo P place (Does d rest next) = (found : ℕ) → Leads P place d found (next found)
+
+-- The property holds of each place to which an instruction at the point of a call can lead.
+pub record HoldsAfter (P : Place → Type 0) (code : List Instr) (counters : Counters) (at : ℕ)
+    (variables : List (Option ℕ)) : Type 0 where
+  pub on : (next : ℕ) (later : List (Option ℕ)) → at < next → P (InCall counters next later)
+  pub back : (to : ℕ) (i : Instr) → slice_get code at ≡ Some i → turns_at counters at < times_of i
+      → P (InCall (turned counters at) to variables)
+  pub into : (stage : Stage) → P (Inside counters at variables stage)
+  pub ends : P (Idle counters.left)
+
+-- The property holds of each place to which a thread inside an instruction can go.
+pub record HoldsWithin (P : Place → Type 0) (counters : Counters) (at : ℕ) (variables : List (Option ℕ))
+    (stage : Stage) : Type 0 where
+  pub on : (next : ℕ) (later : List (Option ℕ)) → at < next → P (InCall counters next later)
+  pub into : (further : Stage) → further ≢ stage → P (Inside counters at variables further)
+
+module _ (P : Place → Type 0) (place : Place) where
+  row_leads : (o : Option ℕ) (work : ℕ → Action) → ((row : ℕ) → LeadsTo P place (work row))
+      → LeadsTo P place (with_row o work)
+  row_leads None work each = tt
+  row_leads (Some row) work each = each row
+
+  -- A look at a list's kind word leads into the instruction, or past it.
+  range_leads : (list : Option ℕ) (index : ℕ) (inside outside : Place) → P inside → P outside
+      → LeadsTo P place (with_row list (λ row. Does (KindLoad row) [] (by_range index inside outside)))
+  range_leads list index inside outside enters passes =
+      row_leads list _ (λ row found. range_decides P inside outside index found (λ has. enters) passes)
+
+  -- A look at a cell leads past the instruction, or to the place for the item found.
+  cell_leads : (list : Option ℕ) (index : ℕ) (empty : Place) (holds : ℕ → Place) → P empty
+      → ((item : ℕ) → P (holds item))
+      → LeadsTo P place (with_row list (λ row. Does (CellLoad row index) [] (by_item empty holds)))
+  cell_leads list index empty holds none some =
+      row_leads list _ (λ row found. item_decides (λ word next. P next) empty holds none some found)
+
+module _ (P : Place → Type 0) (place : Place) (code : List Instr) (forward : LeadsForward code) (counters : Counters)
+    (at : ℕ) (variables : List (Option ℕ))
+  where
+    module _ (layout : Layout) (t used : ℕ) (holds : HoldsAfter P code counters at variables) where
+      birth_leads : (to word otherwise : ℕ) → at < otherwise
+          → LeadsTo P place (birth_action layout t used counters at variables to word otherwise)
+      birth_leads to word otherwise ahead =
+          either (LeadsTo P place) (has_room layout t used) _ _
+          (λ room found. holds.on (at + 1) (slice_set variables to (Some (row_at layout t used))) (omega arith))
+          (holds.on otherwise (slice_set variables to None) ahead)
+
+      pub instruction_leads : (i : Option Instr) → slice_get code at ≡ i
+          → LeadsTo P place (dispatch_instruction layout t used place counters at variables i)
+      instruction_leads None is = tt
+      instruction_leads (Some (Num to value otherwise)) is =
+          birth_leads to (number_word value) otherwise (forward at (Num to value otherwise) otherwise is refl).0
+      instruction_leads (Some (ListObject to cells otherwise)) is =
+          birth_leads to (list_word cells) otherwise (forward at (ListObject to cells otherwise) otherwise is refl).0
+      instruction_leads (Some (NoneObject to)) is =
+          holds.on (at + 1) (slice_set variables to (Some none_row)) (omega arith)
+      instruction_leads (Some (Newref to from)) is =
+          row_leads P place (row_of variables from) _
+          (λ row found. holds.on (at + 1) (slice_set variables to (Some row)) (omega arith))
+      instruction_leads (Some (MoveReference to from)) is =
+          row_leads P place (row_of variables from) _
+          (λ row. holds.on (at + 1) (slice_set (slice_set variables from None) to (Some row)) (omega arith))
+      instruction_leads (Some (Drop from)) is =
+          row_leads P place (row_of variables from) _
+          (λ row found. holds.on (at + 1) (slice_set variables from None) (omega arith))
+      instruction_leads (Some (Lock object)) is =
+          row_leads P place (row_of variables object) _ (λ row word. (
+            λ free. subst P (sym (ap (λ (w : ℕ). cond (w == free_word) (InCall counters (at + 1) variables) place) free))
+                (holds.on (at + 1) variables (omega arith)),
+            λ taken. ap (λ (b : Bool). cond b (InCall counters (at + 1) variables) place) taken,
+          ))
+      instruction_leads (Some (Unlock object)) is =
+          row_leads P place (row_of variables object) _ (λ row found. holds.on (at + 1) variables (omega arith))
+      instruction_leads (Some (Borrow to list index otherwise)) is =
+          range_leads P place (row_of variables list) index (Inside counters at variables InRange)
+          (InCall counters otherwise (slice_set variables to None)) (holds.into InRange)
+          (holds.on otherwise (slice_set variables to None)
+          (forward at (Borrow to list index otherwise) otherwise is refl).0)
+      instruction_leads (Some (Fetch to list index otherwise)) is =
+          range_leads P place (row_of variables list) index (Inside counters at variables InRange)
+          (InCall counters otherwise (slice_set variables to None)) (holds.into InRange)
+          (holds.on otherwise (slice_set variables to None)
+          (forward at (Fetch to list index otherwise) otherwise is refl).0)
+      instruction_leads (Some (Set list index from otherwise)) is =
+          range_leads P place (row_of variables list) index (Inside counters at variables InRange)
+          (Inside counters at variables OutOfRange) (holds.into InRange) (holds.into OutOfRange)
+      instruction_leads (Some (Put list index from otherwise)) is =
+          range_leads P place (row_of variables list) index (Inside counters at variables InRange)
+          (InCall counters otherwise variables) (holds.into InRange)
+          (holds.on otherwise variables (forward at (Put list index from otherwise) otherwise is refl).0)
+      instruction_leads (Some (As from kind otherwise)) is =
+          row_leads P place (row_of variables from) _
+          (λ row word. holds.on (cond (same_kind (kind_of_word word) kind) (at + 1) otherwise) variables
+          (either (λ (next : ℕ). at < next) (same_kind (kind_of_word word) kind) (at + 1) otherwise
+          (λ same. omega arith) (forward at (As from kind otherwise) otherwise is refl).0))
+      instruction_leads (Some (Goto to)) is = holds.on to variables (forward at (Goto to) to is refl).0
+      instruction_leads (Some (Again to times)) is =
+          either P (nat_lt (turns_at counters at) times) (InCall (turned counters at) to variables)
+          (InCall counters (at + 1) variables)
+          (λ more. holds.back to (Again to times) is (ltb-true (turns_at counters at) times more))
+          (holds.on (at + 1) variables (omega arith))
+      instruction_leads (Some (Ret from)) is = row_leads P place (row_of variables from) _ (λ row found. holds.ends)
+      instruction_leads (Some Fail) is = holds.ends
+
+    -- Inside an instruction too, each step leads on: to a later point, or further in.
+    pub inside_leads : (stage : Stage) (i : Option Instr) → slice_get code at ≡ i
+        → HoldsWithin P counters at variables stage → LeadsTo P place (dispatch_inside counters at variables stage i)
+    inside_leads InRange (Some (Borrow to list index otherwise)) is holds =
+        cell_leads P place (row_of variables list) index (InCall counters otherwise (slice_set variables to None))
+        (λ item. InCall counters (at + 1) (slice_set variables to (Some item)))
+        (holds.on otherwise (slice_set variables to None)
+        (forward at (Borrow to list index otherwise) otherwise is refl).0)
+        (λ item. holds.on (at + 1) (slice_set variables to (Some item)) (omega arith))
+    inside_leads InRange (Some (Fetch to list index otherwise)) is holds =
+        cell_leads P place (row_of variables list) index (InCall counters otherwise (slice_set variables to None))
+        (λ item. Inside counters at variables (Found item))
+        (holds.on otherwise (slice_set variables to None)
+        (forward at (Fetch to list index otherwise) otherwise is refl).0) (λ item. holds.into (Found item) (λ e. cc))
+    inside_leads (Found item) (Some (Fetch to list index otherwise)) is holds =
+        λ found. holds.on (at + 1) (slice_set variables to (Some item)) (omega arith)
+    inside_leads InRange (Some (Set list index from otherwise)) is holds =
+        row_leads P place (row_of variables list) _ (λ row. row_leads P place (row_of variables from) _
+        (λ item found. holds.on (at + 1) (slice_set variables from None) (omega arith)))
+    inside_leads OutOfRange (Some (Set list index from otherwise)) is holds =
+        row_leads P place (row_of variables from) _
+        (λ item found. holds.on otherwise (slice_set variables from None)
+        (forward at (Set list index from otherwise) otherwise is refl).0)
+    inside_leads InRange (Some (Put list index from otherwise)) is holds =
+        row_leads P place (row_of variables from) _ (λ item found. holds.into Retained (λ e. cc))
+    inside_leads Retained (Some (Put list index from otherwise)) is holds =
+        row_leads P place (row_of variables list) _ (λ row. row_leads P place (row_of variables from) _
+        (λ item found. holds.on (at + 1) variables (omega arith)))
+    inside_leads stage i is holds = tt
+
+-- The property holds of each place to which the thread's dispatch can lead.
+abbrev pub HoldsBeyond : (Place → Type 0) → List Instr → Place → Type 0
+HoldsBeyond P code Exiting = Unit {0}
+HoldsBeyond P code (Idle zero) = P Exiting
+HoldsBeyond P code (Idle (suc left)) = HoldsAfter P code (first_counters left) 0 entry_variables
+HoldsBeyond P code (InCall counters at variables) = HoldsAfter P code counters at variables
+HoldsBeyond P code (Inside counters at variables stage) = HoldsWithin P counters at variables stage
+
+pub dispatch_leads : (P : Place → Type 0) (layout : Layout) (t used : ℕ) (code : List Instr) (place : Place)
+    → LeadsForward code → HoldsBeyond P code place → LeadsTo P place (dispatch layout t used code place)
+dispatch_leads P layout t used code Exiting forward holds = tt
+dispatch_leads P layout t used code (Idle zero) forward holds = λ found. holds
+dispatch_leads P layout t used code (Idle (suc left)) forward holds =
+    instruction_leads P (Idle (suc left)) code forward (first_counters left) 0 entry_variables layout t used holds
+    (slice_get code 0) refl
+dispatch_leads P layout t used code (InCall counters at variables) forward holds =
+    instruction_leads P (InCall counters at variables) code forward counters at variables layout t used holds
+    (slice_get code at) refl
+dispatch_leads P layout t used code (Inside counters at variables stage) forward holds =
+    inside_leads P (Inside counters at variables stage) code forward counters at variables stage (slice_get code at)
+    refl holds

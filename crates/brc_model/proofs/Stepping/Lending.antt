@@ -1,0 +1,30 @@
+-- A resource stays lent to the thread that has locked its object.
+use Rattle.std.proofs.Common.{◌≡◌, ℕ, true, false, cond, List, Some, sym, ◌∙◌}
+use Rattle.std.specs.Prelude.{◌==◌}
+use Rattle.brc_model.specs.declared.duty.Duty.{Duty}
+use Rattle.brc_model.specs.declared.duty.Duty.TheVariants.{LockGate, UnlockGate, LendSlot, ReturnSlot}
+use Rattle.brc_model.specs.declared.address.Address.TheVariants.{Slot}
+use Rattle.brc_model.specs.Duties.{address_of}
+use Rattle.brc_model.specs.Machine.{Actor, Machine, actor_by}
+use Rattle.brc_model.specs.Accounts.{Accounts}
+use Rattle.brc_model.specs.Invariant.{AtDuty}
+use Rattle.brc_model.proofs.Basics.Lists.{none_some}
+use Rattle.brc_model.proofs.Frame.Leaves.{head_of}
+
+-- The resource that a thread has lent after its step is that of the object that it has locked after its step.
+pub lent_after : (p : Accounts) (n : ℕ) (m : Machine) (t : ℕ) (a : Actor) (d : Duty) (rest : List Duty)
+    → AtDuty p n m t a d rest → (x : ℕ)
+    → (actor_by m.layout t a d rest (m.memory (address_of m.layout t a.head d))).lent ≡ Some x
+    → (actor_by m.layout t a d rest (m.memory (address_of m.layout t a.head d))).locked ≡ Some x
+lent_after p n m t a (LockGate y) rest here x e =
+    absurd (none_some x (sym (head_of p n m t a (LockGate y) rest here).2 ∙ (here.core.each t a here.found).0.lent x e))
+lent_after p n m t a (UnlockGate y) rest here x e =
+    absurd (none_some x (sym (head_of p n m t a (UnlockGate y) rest here).4 ∙ e))
+lent_after p n m t a (LendSlot y) rest here x e =
+    let fits = head_of p n m t a (LendSlot y) rest here in
+    elim (m.memory (Slot y) == 1) as (λ b. cond b (Some y) a.lent ≡ Some x → a.locked ≡ Some x) [
+      | true ↦ λ is. fits.1 ∙ is
+      | false ↦ λ is. absurd (none_some x (sym fits.2 ∙ is))
+    ] e
+lent_after p n m t a (ReturnSlot y) rest here x e = absurd (none_some x e)
+lent_after p n m t a d rest here x e = (here.core.each t a here.found).0.lent x e
