@@ -17,6 +17,7 @@ use Rattle.brc_model.specs.Accounts.{Account, Accounts, HoldsAt, IsBounded, Hold
 use Rattle.brc_model.specs.Knowledge.{status_word, HeadOf, BehindOf}
 use Rattle.brc_model.specs.OpenWork.{exits, scans, AgendaFits, IsSettled, dies_by, ChainFits, AsideFits}
 use Rattle.brc_model.specs.Gates.{LocksFit, GateFits}
+use Rattle.brc_model.specs.Resources.{ResourcesFit, resources_at}
 use Rattle.brc_model.specs.Limits.{row_limit, immortal_limit, thread_limit, cell_limit}
 use Rattle.brc_model.specs.declared.layout.Layout.{Layout}
 use Rattle.brc_model.specs.Layout.{block_of, block_size, index_of, is_immortal_row, IsCounted}
@@ -153,6 +154,8 @@ pub record CoreInvariant (p : Accounts) (n : ℕ) (m : Machine) : Type 0 where
   pub kinds : (x : ℕ) → m.life x ≢ Unborn → kind_part (m.memory (KindOf x)) ≡ kind_number (m.abstract.kinds x)
   -- and their local word stays the immortal one
   pub immortal_words : (x : ℕ) → is_immortal_row m.layout x ≡ true → m.memory (Local x) ≡ local_word 0 immortal_local
+  -- the resource of each file or socket is in one place
+  pub resources : (x : ℕ) → ResourcesFit (m.life x) (resources_at m x)
 
 -- The whole invariant: besides, the dying chain of a thread that leaves, scans or is gone is empty.
 pub record Invariant (p : Accounts) (n : ℕ) (m : Machine) : Type 0 where

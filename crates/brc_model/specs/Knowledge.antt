@@ -8,10 +8,10 @@ use Rattle.brc_model.specs.declared.duty.Reason.TheVariants.{Own, Handed}
 use Rattle.brc_model.specs.declared.duty.Duty.{Duty}
 use Rattle.brc_model.specs.declared.duty.Duty.TheVariants.{RetainLoad, RetainStore, RetainAdd, ReleaseLoad, ReleaseStore, DecideAtZero, SharedLoad, SharedExchange, SetMark, Look, TakeMark, MergeSwap, MergeLoad, MergeExchange, Die, Settle, SettleKind, SettleCell, TakeSlot, CloseResource, SettleEnd, Leave, Scan, Finish, ClaimMark, BirthKind, BirthSlot, BirthLocal, KindLoad, LockGate, UnlockGate, CellLoad, CellSwap, LendSlot, ReturnSlot}
 use Rattle.brc_model.specs.declared.address.Address.{Address}
-use Rattle.brc_model.specs.declared.address.Address.TheVariants.{Local, Shared, Gate, KindOf, Cell, ThreadWord}
+use Rattle.brc_model.specs.declared.address.Address.TheVariants.{Local, Shared, Gate, KindOf, Cell, Slot, ThreadWord}
 use Rattle.brc_model.specs.declared.actor.Status.{Status}
 use Rattle.brc_model.specs.declared.actor.Status.TheVariants.{Running, Leaving, Gone}
-use Rattle.brc_model.specs.Duties.{cells_of, has_resource}
+use Rattle.brc_model.specs.Duties.{cells_of, has_resource, resources_of}
 use Rattle.brc_model.specs.Machine.{Actor, Unborn, Dying, Machine}
 use Rattle.brc_model.specs.References.{held, reference_of}
 use Rattle.brc_model.specs.Layout.{block_of, block_size, row_at, IsCounted}
@@ -130,8 +130,11 @@ HeadFits m t a (Scan i n) rest = 0 < n
 HeadFits m t a Finish rest = Unit {0}
 HeadFits m t a (ClaimMark x) rest = block_of m.layout x ≡ t
 HeadFits m t a (BirthKind x h w) rest = IsNext m t a x × (rest ≡ []) × (is_counted_kind (kind_of_word w) ≡ true)
-HeadFits m t a (BirthSlot x h) rest = IsNext m t a x × (rest ≡ []) × HasCountedKind m.memory x
-HeadFits m t a (BirthLocal x h) rest = IsNext m t a x × (rest ≡ []) × HasCountedKind m.memory x
+HeadFits m t a (BirthSlot x h) rest =
+    IsNext m t a x × (rest ≡ []) × HasCountedKind m.memory x × (resources_of (m.memory (KindOf x)) ≡ 1)
+HeadFits m t a (BirthLocal x h) rest =
+    IsNext m t a x × (rest ≡ []) × HasCountedKind m.memory x
+    × (m.memory (Slot x) ≡ resources_of (m.memory (KindOf x)))
 HeadFits m t a (KindLoad x) rest = IsBacked m t a x
 HeadFits m t a (LockGate x) rest = (IsCounted m.layout x) × IsBacked m t a x × (a.locked ≡ None)
 HeadFits m t a (UnlockGate x) rest =

@@ -20,6 +20,7 @@ pub mod Accounts
 pub mod Knowledge
 pub mod OpenWork
 pub mod Gates
+pub mod Resources
 pub mod Invariant
 pub mod Agreement
 pub mod BadDuties

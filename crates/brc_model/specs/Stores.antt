@@ -35,4 +35,5 @@ Overwrites t (BirthKind x h w) found = found ≡ 0
 Overwrites t (BirthSlot x h) found = found ≡ 0
 Overwrites t (BirthLocal x h) found = found ≡ 0
 Overwrites t (UnlockGate x) found = found ≡ locked_word t
+Overwrites t (ReturnSlot x) found = found ≡ 0
 Overwrites t _ found = Unit {0}

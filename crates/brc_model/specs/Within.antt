@@ -6,7 +6,7 @@ use Rattle.brc_model.specs.declared.actor.Place.{Place}
 use Rattle.brc_model.specs.declared.address.Address.{Address}
 use Rattle.brc_model.specs.declared.address.Address.TheVariants.{Local, Shared, Gate, KindOf, Mark, Cell, Slot, Resource, ThreadWord}
 use Rattle.brc_model.specs.declared.duty.Duty.{Duty}
-use Rattle.brc_model.specs.declared.duty.Duty.TheVariants.{RetainLoad, RetainStore, RetainAdd, ReleaseLoad, ReleaseStore, SharedLoad, SharedExchange, MergeLoad, MergeExchange, SettleCell, CellLoad, CellSwap}
+use Rattle.brc_model.specs.declared.duty.Duty.TheVariants.{RetainLoad, RetainStore, RetainAdd, ReleaseLoad, ReleaseStore, SharedLoad, SharedExchange, MergeLoad, MergeExchange, SettleCell, TakeSlot, CloseResource, CellLoad, CellSwap, LendSlot, ReturnSlot}
 use Rattle.brc_model.specs.Duties.{address_of}
 use Rattle.brc_model.specs.Machine.{Actor, used_by, is_running}
 use Rattle.brc_model.specs.World.{World}
@@ -46,6 +46,10 @@ Suits t running n (MergeExchange x c w r) found =
 Suits t running n (SettleCell x i k) found = found ≤ n
 Suits t running n (CellLoad x i) found = found ≤ n
 Suits t running n (CellSwap x i y h) found = (y < n) × (found ≤ n)
+Suits t running n (TakeSlot x) found = found ≡ 1
+Suits t running n (CloseResource x) found = found ≡ 0
+Suits t running n (LendSlot x) found = found ≡ 1
+Suits t running n (ReturnSlot x) found = found ≡ 0
 Suits t running n _ found = Unit {0}
 
 -- A row's local word names no owner, or the thread of the row's block.

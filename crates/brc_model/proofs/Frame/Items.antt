@@ -52,7 +52,7 @@ module _ (p : Accounts) (n : ℕ) (m : Machine) (t : ℕ) (a : Actor) where
       (ap (λ (b : Bool). b && (j == i)) (ne_eqb y x (alive_apart m t x y dies alive)))
 
   -- Two threads that have locked one row are the same thread: the row's gate names it.
-  one_locker : (u x : ℕ) (b : Actor) → CoreInvariant p n m → slice_get m.actors t ≡ Some a
+  pub one_locker : (u x : ℕ) (b : Actor) → CoreInvariant p n m → slice_get m.actors t ≡ Some a
       → slice_get m.actors u ≡ Some b → b.locked ≡ Some x → a.locked ≡ Some x → u ≡ t
   one_locker u x b core own other theirs mine =
       let same : locked_word u ≡ locked_word t =

@@ -21,6 +21,7 @@ use Rattle.brc_model.proofs.Basics.Blocks.{next_unborn}
 use Rattle.brc_model.proofs.Frame.Cells.{stays_empty}
 use Rattle.brc_model.proofs.Frame.Items.{lists_left}
 use Rattle.brc_model.proofs.Frame.Kinds.{kind_stays}
+use Rattle.brc_model.proofs.Frame.Births.{births_left}
 use Rattle.brc_model.proofs.Frame.Others.{LeavesOthers}
 use Rattle.brc_model.proofs.Frame.Leaves.{head_of, exchange_alive, decide_alive, merge_alive, locals_left, merged_left, stopped_left, words_left, gates_left, locks_left}
 use Rattle.brc_model.proofs.Basics.MovesApart.{moves_apart}
@@ -168,4 +169,5 @@ leaves_others p n m t a d rest here = record {
   lives = λ u x ne. lives_left p n m t a d rest here u x ne;
   born = λ x was. born_left m.life t d (next_of m t a d) x was;
   stored = λ x some. kind_stays p n m t a d rest x here some;
+  births = λ u x b ne found next. births_left p n m t u a b d rest x here ne found next;
 }

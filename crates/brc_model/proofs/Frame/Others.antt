@@ -10,9 +10,9 @@ use Rattle.brc_word.specs.Words.{phase_part}
 use Rattle.brc_model.specs.declared.duty.Duty.{Duty}
 use Rattle.brc_model.specs.declared.duty.Duty.TheVariants.{Die, Settle, SettleKind, SettleCell, TakeSlot, CloseResource, SettleEnd, Leave, Scan, Finish, ClaimMark, BirthKind, BirthSlot, BirthLocal, KindLoad, LockGate, UnlockGate, CellLoad, CellSwap, LendSlot, ReturnSlot}
 use Rattle.brc_model.specs.declared.address.Address.{Address}
-use Rattle.brc_model.specs.declared.address.Address.TheVariants.{Local, Shared, Gate, KindOf, Cell, ThreadWord}
+use Rattle.brc_model.specs.declared.address.Address.TheVariants.{Local, Shared, Gate, KindOf, Cell, Slot, ThreadWord}
 use Rattle.brc_model.specs.Machine.{Actor, Life, Unborn, Live, Dying, Closed, Machine}
-use Rattle.brc_model.specs.Duties.{cells_of, has_resource}
+use Rattle.brc_model.specs.Duties.{cells_of, has_resource, resources_of}
 use Rattle.brc_model.specs.References.{held, one_if, reference_of}
 use Rattle.brc_model.specs.OpenWork.{AllWait, AsideFits, AgendaFits, Linked, dies_by, ChainFits}
 use Rattle.brc_model.specs.Gates.{LocksFit}
@@ -49,6 +49,9 @@ pub record LeavesOthers (m new : Machine) (t : ℕ) : Type 0 where
   pub born : (x : ℕ) → m.life x ≢ Unborn → new.life x ≢ Unborn
   -- A kind word that is stored stays.
   pub stored : (x : ℕ) → m.memory (KindOf x) ≢ 0 → new.memory (KindOf x) ≡ m.memory (KindOf x)
+  -- What another thread's birth has stored stays.
+  pub births : (u x : ℕ) (b : Actor) → u ≢ t → slice_get m.actors u ≡ Some b → IsNext m u b x
+      → (new.memory (KindOf x) ≡ m.memory (KindOf x)) × (new.memory (Slot x) ≡ m.memory (Slot x))
 
 holds_kept : (m new : Machine) (t u : ℕ) (account : Account) (agenda aside : List Duty) → LeavesOthers m new t → u ≢ t
     → HoldsAt m.abstract.references u account agenda aside → HoldsAt new.abstract.references u account agenda aside
@@ -167,10 +170,19 @@ head_kept m new t u b Finish rest leaves ne found fits = fits
 head_kept m new t u b (ClaimMark x) rest leaves ne found fits = ap (λ (r : Layout). block_of r x) leaves.layout ∙ fits
 head_kept m new t u b (BirthKind x h w) rest leaves ne found fits =
     (next_kept m new t u x b leaves fits.0, fits.1, fits.2)
-head_kept m new t u b (BirthSlot x h) rest leaves ne found fits =
-    (next_kept m new t u x b leaves fits.0, fits.1, leaves.kinds x fits.2)
+head_kept m new t u b (BirthSlot x h) rest leaves ne found fits = (
+  next_kept m new t u x b leaves fits.0,
+  fits.1,
+  leaves.kinds x fits.2,
+  ap resources_of (leaves.births u x b ne found fits.0).0 ∙ fits.3,
+)
 head_kept m new t u b (BirthLocal x h) rest leaves ne found fits =
-    (next_kept m new t u x b leaves fits.0, fits.1, leaves.kinds x fits.2)
+    let same = leaves.births u x b ne found fits.0 in (
+      next_kept m new t u x b leaves fits.0,
+      fits.1,
+      leaves.kinds x fits.2,
+      same.1 ∙ fits.3 ∙ ap resources_of (sym same.0),
+    )
 head_kept m new t u b (KindLoad x) rest leaves ne found fits =
     backed_kept m new u b b x (row_left m new t u b leaves ne found x) (list_left m new t u b leaves ne found) fits
 head_kept m new t u b (LockGate x) rest leaves ne found fits = (

@@ -14,6 +14,7 @@ use Rattle.brc_model.specs.declared.duty.Holding.TheVariants.{ByVariable, AsCall
 use Rattle.brc_model.specs.References.{one_if, held, reference_of}
 use Rattle.brc_model.specs.RowInvariant.{waits, carries, merges, decides, agenda_weight, weight, IsDefault, AboveZero, InOwned, RowInvariant}
 use Rattle.brc_model.specs.Accounts.{Account, Accounts, IsBounded}
+use Rattle.brc_model.specs.Resources.{lends, lenders, closing, resources_at, ResourcesFit}
 use Rattle.brc_model.specs.Invariant.{numbers_of, Fits, CoreInvariant, Invariant, UsesFit, BlankFits, CellFits}
 use Rattle.brc_model.specs.OpenWork.{IsSettled, dies_by}
 use Rattle.brc_model.specs.Gates.{IsFree, GateFits}
@@ -296,6 +297,29 @@ idle_fits p layout callers hold t used le = (
   alone_fits (rooted_machine layout callers) t (idle_actor used) refl,
 )
 
+-- Nobody has lent anything.
+workers_lend : (x n : ℕ) → lenders x (replicate n (idle_actor 0)) ≡ 0
+workers_lend x zero = refl
+workers_lend x (suc n) =
+    omega (arith, sum_by-cons (lends x) (idle_actor 0) (replicate n (idle_actor 0)), workers_lend x n)
+
+none_lend : (x workers : ℕ) → lenders x (idle_actors workers) ≡ 0
+none_lend x workers =
+    omega (
+      arith,
+      sum_by-cons (lends x) (idle_actor front_rows) (replicate workers (idle_actor 0)),
+      workers_lend x workers,
+    )
+
+-- Neither none nor the root has a resource.
+rooted_resources : (layout : Layout) (callers x : ℕ)
+    → ResourcesFit (first_life x) (resources_at (rooted_machine layout callers) x)
+rooted_resources layout callers zero =
+    (omega (arith, none_lend 0 layout.workers, no_weight (closing 0) layout.workers), refl)
+rooted_resources layout callers (suc zero) =
+    (omega (arith, none_lend 1 layout.workers, no_weight (closing 1) layout.workers), refl)
+rooted_resources layout callers (suc (suc x)) = refl
+
 -- ---- the invariants
 
 -- Cells are empty, whatever their row's life.
@@ -346,6 +370,7 @@ rooted_core p layout callers is hold = record {
   immortal_words =
       λ x immortal. ap (λ (y : ℕ). rooted_memory layout.workers callers (Local y))
       (only_none layout x is.no_lists immortal);
+  resources = rooted_resources layout callers;
 }
 
 -- The invariant holds, with any accounts that say what the bag has.

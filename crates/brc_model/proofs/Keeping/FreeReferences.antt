@@ -85,6 +85,7 @@ leaves m t x = record {
   lives = λ u y ne. refl;
   born = λ y was. was;
   stored = λ y some. refl;
+  births = λ u y c ne found next. (refl, refl);
 }
 
 -- ---- the thread itself
@@ -216,6 +217,7 @@ gained_core p n m t a x core ready alone immortal = record {
   once = core.once;
   kinds = core.kinds;
   immortal_words = core.immortal_words;
+  resources = core.resources;
 }
 
 -- The invariant and the ranges hold after a ready thread gains a reference to an immortal object.

@@ -170,6 +170,7 @@ module _ (p : Accounts) (n : ℕ) (m : Machine) (t u : ℕ) (a b : Actor) (x : �
     once = core.once;
     kinds = core.kinds;
     immortal_words = core.immortal_words;
+    resources = core.resources;
   }
 
 -- A thread that hands a reference over to another thread keeps the invariant.

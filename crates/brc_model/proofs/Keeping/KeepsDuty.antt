@@ -24,6 +24,7 @@ use Rattle.brc_model.proofs.Stepping.Nones.{immortal_word_left}
 use Rattle.brc_model.proofs.Objects.GatesAfter.{gates_after}
 use Rattle.brc_model.proofs.Objects.BlanksAfter.{blanks_after}
 use Rattle.brc_model.proofs.Objects.CellsAfter.{cells_after, cells_end_after}
+use Rattle.brc_model.proofs.Objects.ResourcesAfter.{resources_after}
 use Rattle.brc_model.specs.Layout.{IsCounted}
 
 -- ---- all threads
@@ -79,4 +80,5 @@ keeps_by p n m t a d rest here alive own marks =
       kinds = λ x born. kinds_after p n m t a d rest here x born;
       immortal_words =
           λ x immortal. immortal_word_left p n m t a d rest x here immortal ∙ here.core.immortal_words x immortal;
+      resources = λ x. resources_after p n m t a d rest x here;
     }

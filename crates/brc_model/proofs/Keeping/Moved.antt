@@ -45,6 +45,7 @@ moves_leave m t moves own = record {
   lives = λ u y ne. refl;
   born = λ y was. was;
   stored = λ y some. refl;
+  births = λ u y c ne found next. (refl, refl);
 }
 
 -- Moves don't change which marks are watched.
@@ -117,8 +118,8 @@ module _ (m : Machine) (moves : List Move) (t : ℕ) (a : Actor) (x : ℕ) (else
   head_kept Finish rest other fits = fits
   head_kept (ClaimMark y) rest other fits = fits
   head_kept (BirthKind y h w) rest other fits = (next_kept y fits.0, fits.1, fits.2)
-  head_kept (BirthSlot y h) rest other fits = (next_kept y fits.0, fits.1, fits.2)
-  head_kept (BirthLocal y h) rest other fits = (next_kept y fits.0, fits.1, fits.2)
+  head_kept (BirthSlot y h) rest other fits = (next_kept y fits.0, fits.1, fits.2, fits.3)
+  head_kept (BirthLocal y h) rest other fits = (next_kept y fits.0, fits.1, fits.2, fits.3)
   head_kept (KindLoad y) rest other fits =
       backed_kept m (with_moves m moves) t a a y (row_left (KindLoad y) y other (eq-eqb y y refl)) list_left fits
   head_kept (LockGate y) rest other fits = (

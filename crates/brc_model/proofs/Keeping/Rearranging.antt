@@ -155,12 +155,14 @@ rearranged p n m t a agenda aside kept found new =
       );
       used = refl;
       locked = refl;
+      lent = refl;
       blanks = new.blanks;
       waits = λ x. new.weighs (waits x);
       carries = λ x. new.weighs (carries x);
       merges = λ x. new.weighs (merges x);
       decides = λ x. new.weighs (decides x);
       looks = λ x. new.weighs (looks x);
+      finalises = λ x f few. new.weighs f;
       scans = new.scans_on;
     }) in
     record {

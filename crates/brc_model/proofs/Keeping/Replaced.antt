@@ -1,6 +1,6 @@
 -- A thread with new work, another place or another account: if its duties weigh what they weighed before, the core
 -- invariant still holds. Memory, references and lives are unchanged.
-use Rattle.std.proofs.Common.{◌≡◌, ◌≢◌, ℕ, Bool, true, false, cond, List, inl, inr, Some, refl, sym, ap, ◌∙◌, subst, arith}
+use Rattle.std.proofs.Common.{◌≡◌, ◌≢◌, ℕ, Bool, true, false, cond, List, inl, inr, Option, Some, refl, sym, ap, ◌∙◌, subst, arith}
 use Rattle.std.specs.Prelude.{◌==◌, slice_get, slice_set}
 use Rattle.std.proofs.lemmas.Bool.{eq-eqb, ne_eqb}
 use Rattle.std.proofs.Math.Path.{fun_ext}
@@ -20,6 +20,12 @@ use Rattle.brc_model.specs.OpenWork.{scans}
 use Rattle.brc_model.specs.Counting.{HasNothingInFlight, with_account}
 use Rattle.brc_model.proofs.Frame.Others.{LeavesOthers, each_fits}
 use Rattle.brc_model.proofs.Frame.Locks.{gate_fits_kept}
+use Rattle.brc_model.specs.Slots.{names}
+use Rattle.brc_model.specs.References.{one_if}
+use Rattle.brc_model.specs.Resources.{lends, taking, closing, emptying, ending, resources_at, ResourcesFit}
+use Rattle.brc_model.proofs.Objects.Finalisers.{Finalises}
+use Rattle.brc_model.proofs.Objects.Lenders.{lenders-set}
+use Rattle.brc_model.proofs.Objects.SettlingWeights.{finalises, of_taking, of_closing, of_emptying, of_ending}
 use Rattle.brc_model.specs.Layout.{block_of, index_of}
 
 pub with_account_same : (p : Accounts) (t : ℕ) (account : Account) → account ≡ with_account p t account t
@@ -54,12 +60,14 @@ pub record Replaces (m : Machine) (t : ℕ) (a b : Actor) (account : Account) : 
   pub fits : Fits account (with_actor m t b) t b
   pub used : b.used ≡ a.used
   pub locked : b.locked ≡ a.locked
+  pub lent : b.lent ≡ a.lent
   pub blanks : BlankFits m.layout m.memory t b.used b.agenda
   pub waits : (x : ℕ) → agenda_weight (waits x) b ≡ agenda_weight (waits x) a
   pub carries : (x : ℕ) → agenda_weight (carries x) b ≡ agenda_weight (carries x) a
   pub merges : (x : ℕ) → agenda_weight (merges x) b ≡ agenda_weight (merges x) a
   pub decides : (x : ℕ) → agenda_weight (decides x) b ≡ agenda_weight (decides x) a
   pub looks : (x : ℕ) → agenda_weight (looks x) b ≡ agenda_weight (looks x) a
+  pub finalises : (x : ℕ) (f : Duty → ℕ) → Finalises x f → agenda_weight f b ≡ agenda_weight f a
   pub scans : (x : ℕ) → scans x a.agenda ≡ true → scans x b.agenda ≡ true
 
 same_weight : (f : Duty → ℕ) (actors : List Actor) (t : ℕ) (a b : Actor) → slice_get actors t ≡ Some a
@@ -82,6 +90,33 @@ same_numbers m t a b account x found new =
       carried = c i;
       merging = g i;
       deciding = d i;
+    }
+
+-- The resources of a thread that settles and lends what it did are where they were.
+pub same_resources : (m : Machine) (t : ℕ) (a b : Actor) (x : ℕ) → slice_get m.actors t ≡ Some a → b.lent ≡ a.lent
+    → ((f : Duty → ℕ) → Finalises x f → agenda_weight f b ≡ agenda_weight f a)
+    → resources_at m x ≡ resources_at (with_actor m t b) x
+same_resources m t a b x found lent same =
+    let old = resources_at m x in
+    let one : lends x b ≡ lends x a = ap (λ (o : Option ℕ). one_if (names o x)) lent in
+    let l : old.lent ≡ (resources_at (with_actor m t b) x).lent =
+    omega (arith, lenders-set x m.actors t a b found, one) in
+    let c =
+    sym (same_weight (closing x) m.actors t a b found (same (closing x) (finalises x (closing x) (of_closing x)))) in
+    let g = sym (same_weight (taking x) m.actors t a b found (same (taking x) (finalises x (taking x) (of_taking x)))) in
+    let e =
+    sym (same_weight (emptying x) m.actors t a b found (same (emptying x) (finalises x (emptying x) (of_emptying x))))
+    in
+    let d = sym (same_weight (ending x) m.actors t a b found (same (ending x) (finalises x (ending x) (of_ending x)))) in
+    λ i. record {
+      all = old.all;
+      slot = old.slot;
+      lent = l i;
+      closing = c i;
+      closed = old.closed;
+      taking = g i;
+      emptying = e i;
+      ending = d i;
     }
 
 still_watched : (m : Machine) (t : ℕ) (a b : Actor) (account : Account) (x : ℕ) → slice_get m.actors t ≡ Some a
@@ -118,6 +153,7 @@ nothing_changes m t b = record {
   lives = λ u x ne. refl;
   born = λ x was. was;
   stored = λ x some. refl;
+  births = λ u x c ne found next. (refl, refl);
 }
 
 pub replaced_core : (p : Accounts) (n : ℕ) (m : Machine) (t : ℕ) (a b : Actor) (account : Account) → CoreInvariant p n m
@@ -163,4 +199,7 @@ replaced_core p n m t a b account core found new = record {
   once = core.once;
   kinds = core.kinds;
   immortal_words = core.immortal_words;
+  resources = λ x.
+      subst (ResourcesFit (m.life x))
+      (same_resources m t a b x found new.lent (λ f few. new.finalises x f few)) (core.resources x);
 }

@@ -1,7 +1,7 @@
 -- A silent step: a thread at rest moves some of its references. The moves are allowed, and the core invariant holds
 -- afterwards.
 use Rattle.std.proofs.Common.{◌≡◌, ◌≢◌, ℕ, ◌<◌, Bool, true, false, List, [], inl, inr, refl, sym, ap, ◌∙◌, subst, arith, ◌≤◌}
-use Rattle.std.specs.Prelude.{count_by, ◌==◌, ◌&&◌, slice_get, slice_set, AllPairs}
+use Rattle.std.specs.Prelude.{count_by, ◌==◌, ◌&&◌, slice_get, slice_set, sum_by, AllPairs}
 use Rattle.std.proofs.lemmas.Bool.{ne_eqb, false≢true}
 use Rattle.std.proofs.lemmas.Bool.Decides.{eqb_tells}
 use Rattle.std.proofs.lemmas.List.{length-set}
@@ -28,7 +28,8 @@ use Rattle.brc_model.proofs.Frame.Locks.{gate_fits_kept}
 use Rattle.brc_model.proofs.Keeping.SilentMoves.{SilentMoves, Stays, GainsNone, PassesOn, bag_after}
 use Rattle.brc_model.proofs.Keeping.Sits.{sitting, AtRest, rest_blanks, same_weight}
 use Rattle.brc_model.specs.Counting.{with_account}
-use Rattle.brc_model.proofs.Keeping.Replaced.{with_account_same, with_account_other}
+use Rattle.brc_model.proofs.Keeping.Replaced.{with_account_same, with_account_other, same_resources}
+use Rattle.brc_model.specs.Resources.{ResourcesFit}
 use Rattle.brc_model.proofs.Basics.Blocks.{counted_above}
 use Rattle.brc_model.specs.declared.layout.Layout.{Layout}
 use Rattle.brc_model.specs.Layout.{none_row, block_of, index_of, IsCounted}
@@ -151,6 +152,7 @@ leaves m t a moves silent = record {
   lives = λ u x ne. refl;
   born = λ x was. was;
   stored = λ x some. refl;
+  births = λ u x c ne found next. (refl, refl);
 }
 
 -- What a thread has to show to take a silent step.
@@ -252,4 +254,8 @@ silent_core p n m t a moves account rest taken =
           rest.core.kinds x born ∙ ap (λ (k : ℕ → Kind). kind_number (k x))
           (sym (silent_kinds m.abstract t moves silent));
       immortal_words = rest.core.immortal_words;
+      resources = λ x.
+          subst (ResourcesFit (m.life x))
+          (same_resources m t a (sitting a []) x rest.found refl (λ f few.
+          let none : sum_by f a.agenda ≡ 0 = ap (sum_by f) rest.agenda in omega (arith, none))) (rest.core.resources x);
     }

@@ -15,6 +15,7 @@ use Rattle.brc_model.specs.Gates.{LocksFit}
 use Rattle.brc_model.specs.Invariant.{Fits, looks, CoreInvariant, BlankFits}
 use Rattle.brc_model.specs.Knowledge.{HeadOf, BehindOf}
 use Rattle.brc_model.proofs.Objects.Weights.{weight-set}
+use Rattle.brc_model.proofs.Objects.Finalisers.{list_weight}
 use Rattle.brc_model.specs.Counting.{with_account}
 use Rattle.brc_model.proofs.Keeping.Replaced.{replaced_core}
 
@@ -118,12 +119,15 @@ sits_core p n m t a agenda account rest sits =
       fits = sitting_fits p n m t a agenda account rest sits;
       used = refl;
       locked = refl;
+      lent = refl;
       blanks = rest_blanks p n m t a agenda rest;
       waits = λ x. taken_weight (waits x) a agenda rest.agenda (sits.no_waits x);
       carries = λ x. taken_weight (carries x) a agenda rest.agenda (sits.no_carries x);
       merges = λ x. taken_weight (merges x) a agenda rest.agenda (sits.no_merges x);
       decides = λ x. taken_weight (decides x) a agenda rest.agenda (sits.no_decides x);
       looks = λ x. taken_weight (looks x) a agenda rest.agenda (sits.no_looks x);
+      finalises = λ x f few.
+          taken_weight f a agenda rest.agenda (omega (arith, list_weight x f few agenda, sits.hands x));
       scans = λ x scanned. absurd (false≢true (sym (ap (scans x) rest.agenda) ∙ scanned));
     })
 

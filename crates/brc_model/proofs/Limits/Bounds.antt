@@ -6,7 +6,7 @@ use Rattle.std.proofs.lemmas.Bool.{eq-eqb}
 use Rattle.brc_word.specs.Words.{owner_part, local_part, biased_part, phase_part, bias}
 use Rattle.brc_model.specs.declared.duty.Holding.{Holding}
 use Rattle.brc_model.specs.declared.duty.Duty.{Duty}
-use Rattle.brc_model.specs.declared.duty.Duty.TheVariants.{RetainStore, RetainAdd, ReleaseLoad, ReleaseStore, SharedLoad, SharedExchange, MergeLoad, MergeExchange, SettleCell, CellLoad, CellSwap}
+use Rattle.brc_model.specs.declared.duty.Duty.TheVariants.{RetainStore, RetainAdd, ReleaseLoad, ReleaseStore, SharedLoad, SharedExchange, MergeLoad, MergeExchange, SettleCell, CellLoad, CellSwap, TakeSlot, CloseResource, LendSlot, ReturnSlot}
 use Rattle.brc_model.specs.declared.address.Address.TheVariants.{Local, Shared, Cell}
 use Rattle.brc_model.specs.Duties.{address_of, counts_locally}
 use Rattle.brc_model.specs.declared.actor.Status.TheVariants.{Gone}
@@ -19,6 +19,7 @@ use Rattle.brc_model.specs.References.{reference_of}
 use Rattle.brc_model.proofs.Basics.Bag.{held-le-references_to}
 use Rattle.brc_model.proofs.Objects.RowSteps.{shared_range}
 use Rattle.brc_model.proofs.Frame.Alive.{Alive, alive_backed}
+use Rattle.brc_model.proofs.Objects.ResourcesAfter.{taking_finds, closing_finds, lending_finds, returning_finds}
 use Rattle.brc_model.proofs.Frame.Cells.{stolen_held}
 use Rattle.brc_model.proofs.Frame.Leaves.{head_of, load_alive, exchange_alive, merge_load_alive, merge_alive}
 use Rattle.brc_model.proofs.Stepping.Retains.{counts_owner, count_above, weight_here}
@@ -156,4 +157,8 @@ duty_suits p n m t a (CellSwap x i y h) rest here alive few = (
   )),
   cell_low (m.memory (Cell x i)) (row_count m.layout) (λ z is. cell_small p n m x i z here.core is),
 )
+duty_suits p n m t a (TakeSlot x) rest here alive few = taking_finds p n m t a x rest here
+duty_suits p n m t a (CloseResource x) rest here alive few = closing_finds p n m t a x rest here
+duty_suits p n m t a (LendSlot x) rest here alive few = lending_finds p n m t a x rest here
+duty_suits p n m t a (ReturnSlot x) rest here alive few = returning_finds p n m t a x rest here
 duty_suits p n m t a _ rest here alive few = tt

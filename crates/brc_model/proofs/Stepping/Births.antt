@@ -5,7 +5,7 @@ use Rattle.std.proofs.lemmas.Bool.Decides.{eqb_tells}
 use Rattle.brc_model.specs.declared.duty.Holding.{Holding}
 use Rattle.brc_model.specs.declared.duty.Duty.{Duty}
 use Rattle.brc_model.specs.declared.duty.Duty.TheVariants.{BirthKind, BirthSlot, BirthLocal}
-use Rattle.brc_model.specs.Duties.{has_resource}
+use Rattle.brc_model.specs.Duties.{has_resource, resources_of}
 use Rattle.brc_model.specs.declared.actor.Status.TheVariants.{Gone}
 use Rattle.brc_model.specs.Machine.{Actor, Life, Unborn, Live, Machine, done_by, actor_by}
 use Rattle.brc_model.specs.References.{one_if}
@@ -13,9 +13,10 @@ use Rattle.brc_model.specs.Accounts.{Accounts}
 use Rattle.brc_model.specs.Knowledge.{IsNext, HasCountedKind}
 use Rattle.brc_model.specs.OpenWork.{Agenda, dies_by}
 use Rattle.brc_model.proofs.Basics.Written.{written_here}
-use Rattle.brc_model.specs.declared.address.Address.TheVariants.{KindOf}
+use Rattle.brc_model.specs.declared.address.Address.TheVariants.{KindOf, Slot}
 use Rattle.brc_model.specs.Kinds.{kind_of_word, is_counted_kind}
-use Rattle.brc_model.proofs.Basics.Blocks.{next_unborn}
+use Rattle.brc_model.proofs.Basics.Blocks.{next_unborn, next_block, next_index}
+use Rattle.brc_model.proofs.Objects.BlanksAfter.{blanks_here}
 use Rattle.brc_model.proofs.Frame.Leaves.{head_of}
 use Rattle.brc_model.proofs.Stepping.Own.{chain_same}
 use Rattle.brc_model.proofs.Stepping.Neutral.{ThreadFits, found_by, agenda_here, agenda_out}
@@ -53,6 +54,8 @@ thread_after_birth_kind p n m t a x h w rest here alive =
     let new = done_by m t a d rest in
     let said : HasCountedKind new.memory x =
     ap (λ (v : ℕ). is_counted_kind (kind_of_word v)) (written_here m.memory (KindOf x) w) ∙ fits.2 in
+    let empty : m.memory (Slot x) ≡ 0 = (blanks_here p n m t a d rest here).slots x (next_block m t a x fits.0)
+    (omega (arith, next_index m t a x fits.0)) refl in
     elim (has_resource w) as
     (λ b. has_resource w ≡ b → ThreadFits p new t (actor_by m.layout t a d rest (found_by m t a d))) [
       | true ↦ λ e.
@@ -63,7 +66,12 @@ thread_after_birth_kind p n m t a x h w rest here alive =
             hands = λ y. refl;
             held = held_same m.abstract.references t (d ∷ rest) (BirthSlot x h ∷ rest) (λ k o. refl) (λ k o. refl);
             fits = agenda_here p n m t a d rest here alive;
-            knows = λ b status head used locked. (still_next m new t a b x refl status used fits.0, fits.1, said);
+            knows = λ b status head used locked. (
+              still_next m new t a b x refl status used fits.0,
+              fits.1,
+              said,
+              ap resources_of (written_here m.memory (KindOf x) w) ∙ ap (λ (c : Bool). cond c 1 0) e,
+            );
           })
       | false ↦ λ e.
           own_keeps p n m t a d rest (BirthLocal x h ∷ []) (BirthLocal x h ∷ rest) here alive refl (record {
@@ -73,7 +81,12 @@ thread_after_birth_kind p n m t a x h w rest here alive =
             hands = λ y. refl;
             held = held_same m.abstract.references t (d ∷ rest) (BirthLocal x h ∷ rest) (λ k o. refl) (λ k o. refl);
             fits = agenda_here p n m t a d rest here alive;
-            knows = λ b status head used locked. (still_next m new t a b x refl status used fits.0, fits.1, said);
+            knows = λ b status head used locked. (
+              still_next m new t a b x refl status used fits.0,
+              fits.1,
+              said,
+              empty ∙ sym (ap resources_of (written_here m.memory (KindOf x) w) ∙ ap (λ (c : Bool). cond c 1 0) e),
+            );
           })
     ] refl
 
@@ -94,7 +107,12 @@ thread_after_birth_slot p n m t a x h rest here alive =
       hands = λ y. refl;
       held = held_same m.abstract.references t (d ∷ rest) (BirthLocal x h ∷ rest) (λ k o. refl) (λ k o. refl);
       fits = agenda_here p n m t a d rest here alive;
-      knows = λ b status head used locked. (still_next m new t a b x refl status used fits.0, fits.1, fits.2);
+      knows = λ b status head used locked. (
+        still_next m new t a b x refl status used fits.0,
+        fits.1,
+        fits.2,
+        written_here m.memory (Slot x) 1 ∙ sym fits.3,
+      );
     })
 
 -- A birth doesn't change which rows the thread is finalising.

@@ -27,6 +27,7 @@ use Rattle.brc_model.proofs.Basics.Blocks.{next_counted, next_index, next_block,
 use Rattle.brc_model.proofs.Frame.Leaves.{head_of}
 use Rattle.brc_model.proofs.Stepping.Neutral.{found_by}
 use Rattle.brc_model.proofs.Objects.BlanksAfter.{blanks_here}
+use Rattle.brc_model.proofs.Objects.ResourcesAfter.{returning_finds}
 use Rattle.brc_model.specs.declared.layout.Layout.{Layout}
 use Rattle.brc_model.specs.Layout.{block_of, index_of}
 
@@ -162,4 +163,5 @@ overwritten p n m t a (BirthLocal x h) rest here =
     next_local p n m t a (BirthLocal x h) rest x here (head_of p n m t a (BirthLocal x h) rest here).0
 overwritten p n m t a (UnlockGate x) rest here =
     ((here.core.each t a here.found).0.locks x (head_of p n m t a (UnlockGate x) rest here).2).gate
+overwritten p n m t a (ReturnSlot x) rest here = returning_finds p n m t a x rest here
 overwritten p n m t a _ rest here = tt
