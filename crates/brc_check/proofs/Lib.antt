@@ -1,7 +1,8 @@
 mod Same
 mod Steps
 mod Paths
-mod Filling
+mod Settling
+mod Turns
 mod Points
 mod Tables
 mod Mapping

@@ -1,14 +1,14 @@
 -- Both exits of a point: when the table is filled, and when it is verified.
 use Rattle.std.proofs.Common.{◌≡◌, ℕ, ◌+◌, ◌<◌, ◌≤◌, List, [], length, Option, refl, sym, ap, ◌∙◌, subst, inl, inr}
 use Rattle.std.proofs.Common.{arith}
-use Rattle.std.specs.Prelude.{None, Some, slice_get, MatchOption}
+use Rattle.std.specs.Prelude.{None, Some, slice_get, MatchOption, Result, Ok, Err, IfOk}
+use Rattle.std.specs.declared.alloc.AllocError.{AllocError}
 use Rattle.std.specs.List.{slice_index_or}
 use Rattle.std.proofs.lemmas.List.{get_or_default, get_or_read}
 use Rattle.std.proofs.lemmas.Option.{same_Some, slice_get_read, slice_get_within}
 use Rattle.std.proofs.lemmas.Bool.{cases_lt}
 use Rattle.brc_lang.specs.declared.module.Instr.{Instr}
 use Rattle.brc_lang.specs.declared.module.Function.{Function}
-use Rattle.brc_lang.specs.Grammar.{LeadsForward}
 use Rattle.brc_model.specs.declared.code.CheckCode.{CheckCode}
 use Rattle.brc_model.specs.declared.slot.State.{State}
 use Rattle.brc_model.specs.declared.slot.Exit.{Exit}
@@ -21,9 +21,11 @@ use Rattle.brc_check.specs.declared.refused.Refused.{Refused}
 use Rattle.brc_check.specs.declared.step.Step.{Step}
 use Rattle.brc_check.specs.declared.step.Step.TheVariants.{To, Ends, Error}
 use Rattle.brc_check.specs.Entries.{end_of, StaysOn, IsClosed, IsClosedAt, IsBlocked, IsErrorAt}
+use Rattle.brc_check.specs.declared.filling.Filling.{Filling}
 use Rattle.brc_check.specs.Filling.{settled_at, IsFilledTo}
 use Rattle.brc_check.specs.Refusal.{IsReported, IsFunctionError}
-use Rattle.brc_check.proofs.Filling.{entry-within, first_blocked, second_blocked, filled_both}
+use Rattle.brc_check.proofs.Settling.{entry-within}
+use Rattle.brc_check.proofs.Turns.{first_blocked, second_blocked, filled_both}
 
 pub entry_read : (entries read : List (Option State)) (at : ℕ) (s : State) (d : Option State) → read ≡ entries
     → at < length entries
@@ -33,35 +35,46 @@ entry_read entries read at s d same lt is =
 
 -- ---- filled in
 
-pub first_reported : (code : List Instr) (entries once : List (Option State)) (at : ℕ) (s : State) (k : ℕ)
-    (c : CheckCode)
-    → IsFilledTo code entries at → entry_at entries at ≡ Some s
-    → once ≡ settled_at entries (follow code (At at s) Success) → IsBlocked once (follow code (At at s) Success) k c
-    → IsReported code k c
-first_reported code entries once at s k c filled here is blocked =
-    first_blocked code entries at s k c filled here
-    (subst (λ (r : List (Option State)). IsBlocked r (follow code (At at s) Success) k c) is blocked)
+pub first_reported : (code : List Instr) (filling once : Filling) (turns at : ℕ) (s : State) (k : ℕ) (c : CheckCode)
+    → IsFilledTo code filling turns → entry_at filling.entries at ≡ Some s
+    → once ≡ settled_at filling (follow code (At at s) Success)
+    → IsBlocked once.entries (follow code (At at s) Success) k c → IsReported code k c
+first_reported code filling once turns at s k c filled here is blocked =
+    first_blocked code filling turns at s k c filled here
+    (subst (λ (f : Filling). IsBlocked f.entries (follow code (At at s) Success) k c) is blocked)
 
-pub second_reported : (code : List Instr) (entries once twice : List (Option State)) (at : ℕ) (s : State)
+pub second_reported : (code : List Instr) (filling once twice : Filling) (turns at : ℕ) (s : State)
     (r : Option refused.CodeAt)
-    → LeadsForward code → IsFilledTo code entries at → entry_at entries at ≡ Some s
-    → once ≡ settled_at entries (follow code (At at s) Success) → StaysOn once (follow code (At at s) Success)
+    → IsFilledTo code filling turns → slice_get filling.order turns ≡ Some at → entry_at filling.entries at ≡ Some s
+    → once ≡ settled_at filling (follow code (At at s) Success) → StaysOn once.entries (follow code (At at s) Success)
     → twice ≡ settled_at once (follow code (At at s) Fault)
-    → MatchOption r (StaysOn twice (follow code (At at s) Fault))
-    (λ m. IsBlocked twice (follow code (At at s) Fault) m.at m.code)
-    → MatchOption r (IsFilledTo code twice (at + 1)) (λ m. IsReported code m.at m.code)
-second_reported code entries once twice at s None forwards filled here is on is_twice on_fault =
-    let q : twice ≡ settled_at (settled_at entries (follow code (At at s) Success)) (follow code (At at s) Fault) =
-    is_twice ∙ ap (λ (r : List (Option State)). settled_at r (follow code (At at s) Fault)) is in
-    subst (λ (r : List (Option State)). IsFilledTo code r (at + 1)) (sym q)
-    (filled_both code entries at s forwards filled here
-    (subst (λ (r : List (Option State)). StaysOn r (follow code (At at s) Success)) is on)
-    (subst (λ (r : List (Option State)). StaysOn r (follow code (At at s) Fault)) q on_fault))
-second_reported code entries once twice at s (Some m) forwards filled here is on is_twice blocked =
-    let q : twice ≡ settled_at (settled_at entries (follow code (At at s) Success)) (follow code (At at s) Fault) =
-    is_twice ∙ ap (λ (r : List (Option State)). settled_at r (follow code (At at s) Fault)) is in
-    second_blocked code entries at s m.at m.code filled here
-    (subst (λ (r : List (Option State)). IsBlocked r (follow code (At at s) Fault) m.at m.code) q blocked)
+    → MatchOption r (StaysOn twice.entries (follow code (At at s) Fault))
+    (λ m. IsBlocked twice.entries (follow code (At at s) Fault) m.at m.code)
+    → MatchOption r (IsFilledTo code twice (turns + 1)) (λ m. IsReported code m.at m.code)
+second_reported code filling once twice turns at s None filled next here is on is_twice on_fault =
+    let q : twice ≡ settled_at (settled_at filling (follow code (At at s) Success)) (follow code (At at s) Fault) =
+    is_twice ∙ ap (λ (f : Filling). settled_at f (follow code (At at s) Fault)) is in
+    subst (λ (f : Filling). IsFilledTo code f (turns + 1)) (sym q)
+    (filled_both code filling turns at s filled next here
+    (subst (λ (f : Filling). StaysOn f.entries (follow code (At at s) Success)) is on)
+    (subst (λ (f : Filling). StaysOn f.entries (follow code (At at s) Fault)) q on_fault))
+second_reported code filling once twice turns at s (Some m) filled next here is on is_twice blocked =
+    let q : twice ≡ settled_at (settled_at filling (follow code (At at s) Success)) (follow code (At at s) Fault) =
+    is_twice ∙ ap (λ (f : Filling). settled_at f (follow code (At at s) Fault)) is in
+    second_blocked code filling turns at s m.at m.code filled here
+    (subst (λ (f : Filling). IsBlocked f.entries (follow code (At at s) Fault) m.at m.code) q blocked)
+
+pub second_result : (code : List Instr) (filling once twice : Filling) (turns at : ℕ) (s : State)
+    (r : Result (Option refused.CodeAt) AllocError)
+    → IsFilledTo code filling turns → slice_get filling.order turns ≡ Some at → entry_at filling.entries at ≡ Some s
+    → once ≡ settled_at filling (follow code (At at s) Success) → StaysOn once.entries (follow code (At at s) Success)
+    → IfOk r (λ found. twice ≡ settled_at once (follow code (At at s) Fault))
+    → IfOk r (λ found. MatchOption found (StaysOn twice.entries (follow code (At at s) Fault))
+    (λ m. IsBlocked twice.entries (follow code (At at s) Fault) m.at m.code))
+    → IfOk r (λ found. MatchOption found (IsFilledTo code twice (turns + 1)) (λ m. IsReported code m.at m.code))
+second_result code filling once twice turns at s (Ok found) filled next here is on is_twice on_fault =
+    second_reported code filling once twice turns at s found filled next here is on is_twice on_fault
+second_result code filling once twice turns at s (Err refused) filled next here is on is_twice on_fault = tt
 
 -- ---- looked at
 

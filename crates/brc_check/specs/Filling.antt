@@ -1,27 +1,50 @@
--- The entries of a function, filled in point by point.
-use Rattle.std.specs.Prelude.{◌≡◌, ◌<◌, ℕ, List, length, Option, Some, is_none, slice_set, if◌then◌else◌}
+-- The entries of a function, filled in as paths find its points.
+use Rattle.std.specs.Prelude.{◌≡◌, ◌<◌, ◌-◌, ℕ, List, [], ◌∷◌, ◌++◌, length, replicate, Option, None, Some, is_none, is_some, slice_get, slice_set, if◌then◌else◌}
+use Rattle.std.specs.List.{count_by}
 use Rattle.brc_lang.specs.declared.module.Instr.{Instr}
 use Rattle.brc_model.specs.declared.slot.State.{State}
 use Rattle.brc_model.specs.Slots.{entry}
 use Rattle.brc_model.specs.Paths.{PathEnd, At, Ended, Reports, IsAcceptableCode}
 use Rattle.brc_model.specs.Tables.{Reaches, IsTrueEntry, entry_at}
+use Rattle.brc_check.specs.declared.filling.Filling.{Filling}
 use Rattle.brc_check.specs.Entries.{IsClosedAt}
 
--- the state becomes the entry of a point that has none
-abbrev pub settled : List (Option State) → ℕ → State → List (Option State)
-settled entries at s = if is_none (entry_at entries at) then slice_set entries at (Some s) else entries
+-- what is known of a function of this many instructions at first: its first point is found
+abbrev pub first_filling : ℕ → Filling
+first_filling count = record { entries = Some entry ∷ replicate (count - 1) None; order = 0 ∷ [] }
 
-abbrev pub settled_at : List (Option State) → PathEnd → List (Option State)
-settled_at entries (At at s) = settled entries at s
-settled_at entries Ended = entries
-settled_at entries (Reports at code) = entries
+-- the state becomes the entry of a point that has none: the point is found
+abbrev pub settled : Filling → ℕ → State → Filling
+settled filling at s =
+    if is_none (entry_at filling.entries at)
+    then record { entries = slice_set filling.entries at (Some s); order = filling.order ++ at ∷ [] }
+    else filling
 
--- each entry is the state in which some path reaches the point, and the points before `at` are closed
-pub record IsFilledTo (code : List Instr) (entries : List (Option State)) (at : ℕ) : Type 0 where
-  pub same_length : length entries ≡ length code
-  pub begins : entry_at entries 0 ≡ Some entry
-  pub reached : (k : ℕ) (s : State) → entry_at entries k ≡ Some s → Reaches code k s
-  pub closed : (k : ℕ) → k < at → IsClosedAt code entries k
+abbrev pub settled_at : Filling → PathEnd → Filling
+settled_at filling (At at s) = settled filling at s
+settled_at filling Ended = filling
+settled_at filling (Reports at code) = filling
+
+-- the points found are those that have an entry, and none is found twice
+pub record IsInOrder (filling : Filling) : Type 0 where
+  pub found : (k : ℕ) (s : State) → entry_at filling.entries k ≡ Some s
+      → (turn : ℕ) × (slice_get filling.order turn ≡ Some k)
+  pub known : (turn k : ℕ) → slice_get filling.order turn ≡ Some k
+      → (s : State) × (entry_at filling.entries k ≡ Some s)
+  pub once : length filling.order ≡ count_by is_some filling.entries
+
+-- the point was found at this turn, and has this entry
+pub record IsFoundAt (filling : Filling) (turn at : ℕ) (s : State) : Type 0 where
+  pub found : slice_get filling.order turn ≡ Some at
+  pub known : entry_at filling.entries at ≡ Some s
+
+-- each entry is the state in which some path reaches the point, and the points of the first turns are closed
+pub record IsFilledTo (code : List Instr) (filling : Filling) (turns : ℕ) : Type 0 where
+  pub same_length : length filling.entries ≡ length code
+  pub begins : entry_at filling.entries 0 ≡ Some entry
+  pub reached : (k : ℕ) (s : State) → entry_at filling.entries k ≡ Some s → Reaches code k s
+  pub in_order : IsInOrder filling
+  pub closed : (turn k : ℕ) → turn < turns → slice_get filling.order turn ≡ Some k → IsClosedAt code filling.entries k
 
 -- the entries are true, and the function is acceptable
 pub record IsInferred (code : List Instr) (entries : List (Option State)) : Type 0 where

@@ -9,13 +9,21 @@ use crate::state::same_state;
 use crate::step::Step;
 use brc_model::{CheckCode, State};
 
+/// Returns the entry of the point, or `None` if there is no such point.
+pub fn entry_at(entries: &[Option<State>], at: usize) -> Option<State>
+    ensures { result ≡ entry_at entries.now at }
+{
+    if at < entries.len() {
+        entries[at]
+    } else {
+        None
+    }
+}
+
 fn is_entry(entries: &[Option<State>], at: usize, state: &State) -> bool
     ensures { IsTrue result ↔ (entry_at entries.now at ≡ Some state.now) }
 {
-    if at >= entries.len() {
-        return false;
-    }
-    match entries[at] {
+    match entry_at(entries, at) {
         None => false,
         Some(found) => same_state(&found, state),
     }

@@ -1,97 +1,74 @@
-//! Infers the table of a module: one pass over the points of each function, by rising number. Every exit leads to a
-//! later point, so the entry of a point is known when the pass reaches it.
+//! Infers the table of a module. Each point of a function is gone over once, in the order in which paths find them: the
+//! first path that reaches a point gives it its entry, and any other is compared with that entry.
 
-ghost use Rattle.std.specs.Prelude.{◌≡◌, ◌⊎◌, ◌<◌, ◌+◌, ◌-◌, ◌∷◌, length, replicate, IfOk, OnOk, IfErr, MatchOption};
-ghost use Rattle.std.specs.Prelude.{MatchResult};
-ghost use Rattle.brc_lang.specs.Grammar.{IsModule, IsFunction, LeadsForward};
-ghost use Rattle.brc_model.specs.Slots.{entry};
+ghost use Rattle.std.specs.Prelude.{◌≡◌, ◌⊎◌, ◌<◌, ◌+◌, length, IfOk, OnOk, IfErr, MatchOption, MatchResult};
+ghost use Rattle.brc_lang.specs.Grammar.{IsModule, IsFunction};
 ghost use Rattle.brc_model.specs.Paths.{IsAcceptable, follow, At};
 ghost use Rattle.brc_model.specs.Tables.{IsTrueTable};
 ghost use Rattle.brc_check.specs.Entries.{StaysOn, IsBlocked};
-ghost use Rattle.brc_check.specs.Filling.{settled, settled_at, IsFilledTo, IsInferred};
+ghost use Rattle.brc_check.specs.Filling.{first_filling, settled_at, IsFilledTo, IsInferred};
 ghost use Rattle.brc_check.specs.Refusal.{IsReported, IsForMemory, IsRefusal};
 
 use crate::entries::blocked;
+use crate::filling::{Filling, first_filling, found_at, settle};
 use crate::refused::{CodeAt, Refused};
-use crate::state::entry;
 use crate::step::{Step, follow};
 use crate::table::Table;
 use brc_lang::{Function, Instr, Module, Name, Sequence};
 use brc_model::{CheckCode, Exit, State};
 use std::alloc::{AllocError, Global};
 
-/// Returns the entries of `count` points before any exit is followed: only that of the first point is known.
-fn first_entries(alloc: Global, count: usize) -> Result<Sequence<Option<State>>, AllocError>
-    requires { 0 < count }
-    ensures { IfOk result (λ entries. entries ≡ Some entry ∷ replicate (count - 1) None) }
-{
-    let mut entries = Sequence::new(alloc);
-    entries.push(Some(entry()))?;
-    for _at in 1..count {
-        entries.push(None)?;
-    }
-    Ok(entries)
-}
-
-/// Makes the state the entry of a point that has no entry yet.
-fn settle(entries: &mut Sequence<Option<State>>, at: usize, state: State)
-    requires { at < length entries.old }
-    ensures { entries.new ≡ settled entries.old at state }
-{
-    if entries.as_slice()[at].is_none() {
-        entries.set(at, Some(state));
-    }
-}
-
 /// Follows one exit of a point. The state that it leaves becomes the entry of the target, or is compared with it.
 fn lead(
     code: &[Instr],
-    entries: &mut Sequence<Option<State>>,
+    filling: &mut Filling,
     at: usize,
     state: &State,
     exit: Exit,
-) -> Option<CodeAt>
+) -> Result<Option<CodeAt>, AllocError>
     requires within { at < length code.now }
-    requires same_length { length entries.old ≡ length code.now }
-    ensures entries { entries.new ≡ settled_at entries.old (follow code.now (At at state.now) exit) }
-    ensures reported { MatchOption result (StaysOn entries.new (follow code.now (At at state.now) exit))
-        (λ m. IsBlocked entries.new (follow code.now (At at state.now) exit) m.at m.code) }
+    requires same_length { length filling.old.entries ≡ length code.now }
+    ensures filled { IfOk result
+        (λ reported. filling.new ≡ settled_at filling.old (follow code.now (At at state.now) exit)) }
+    ensures reported { IfOk result (λ reported. MatchOption reported
+        (StaysOn filling.new.entries (follow code.now (At at state.now) exit))
+        (λ m. IsBlocked filling.new.entries (follow code.now (At at state.now) exit) m.at m.code)) }
 {
     let led = follow(code, at, state, exit);
     if let Step::To(next, arriving) = &led {
-        settle(entries, *next, *arriving);
+        settle(filling, *next, *arriving)?;
     }
-    blocked(entries.as_slice(), at, &led)
+    Ok(blocked(filling.entries.as_slice(), at, &led))
 }
 
-/// Follows both exits of a point that some path reaches.
-fn lead_on(code: &[Instr], entries: &mut Sequence<Option<State>>, at: usize) -> Option<CodeAt>
-    requires within { at < length code.now }
-    requires forward { LeadsForward code.now }
-    requires filled { IsFilledTo code.now entries.old at }
-    ensures { MatchOption result (IsFilledTo code.now entries.new (at + 1)) (λ m. IsReported code.now m.at m.code) }
+/// Follows both exits of the point found at this turn, if there is one.
+fn lead_on(code: &[Instr], filling: &mut Filling, turn: usize) -> Result<Option<CodeAt>, AllocError>
+    requires { IsFilledTo code.now filling.old turn }
+    ensures { IfOk result (λ reported. MatchOption reported (IsFilledTo code.now filling.new (turn + 1))
+        (λ m. IsReported code.now m.at m.code)) }
 {
-    let Some(state) = entries.as_slice()[at] else {
-        return None;
+    let Some((at, state)) = found_at(filling, turn) else {
+        return Ok(None);
     };
-    if let Some(reported) = lead(code, entries, at, &state, Exit::Success) {
-        return Some(reported);
+    if let Some(reported) = lead(code, filling, at, &state, Exit::Success)? {
+        return Ok(Some(reported));
     }
-    lead(code, entries, at, &state, Exit::Fault)
+    lead(code, filling, at, &state, Exit::Fault)
 }
 
-fn fill(code: &[Instr], entries: &mut Sequence<Option<State>>) -> Option<CodeAt>
+fn fill(code: &[Instr], filling: &mut Filling) -> Result<Option<CodeAt>, AllocError>
     requires some { 0 < length code.now }
-    requires forward { LeadsForward code.now }
-    requires begun { entries.old ≡ Some entry ∷ replicate (length code.now - 1) None }
-    ensures { MatchOption result (IsInferred code.now entries.new) (λ m. IsReported code.now m.at m.code) }
+    requires begun { filling.old ≡ first_filling (length code.now) }
+    ensures { IfOk result (λ reported. MatchOption reported (IsInferred code.now filling.new.entries)
+        (λ m. IsReported code.now m.at m.code)) }
 {
-    for at in 0..code.len() {
-        if let Some(reported) = lead_on(code, entries, at) {
-            return Some(reported);
+    // No point is found twice, so there is a turn for each.
+    for turn in 0..code.len() {
+        if let Some(reported) = lead_on(code, filling, turn)? {
+            return Ok(Some(reported));
         }
     }
-    None
+    Ok(None)
 }
 
 fn no_memory(function: Name) -> Refused
@@ -111,12 +88,13 @@ fn infer_function(alloc: Global, function: &Function) -> Result<Sequence<Option<
         (λ r. (r.function ≡ function.now.name) × (IsForMemory r ⊎ IsReported function.now.code r.at r.code)) }
 {
     let code = function.code.as_slice();
-    let Ok(mut entries) = first_entries(alloc, code.len()) else {
+    let Ok(mut filling) = first_filling(alloc, code.len()) else {
         return Err(no_memory(function.name));
     };
-    match fill(code, &mut entries) {
-        Some(reported) => Err(reported.in_function(function.name)),
-        None => Ok(entries),
+    match fill(code, &mut filling) {
+        Err(_) => Err(no_memory(function.name)),
+        Ok(Some(reported)) => Err(reported.in_function(function.name)),
+        Ok(None) => Ok(filling.entries),
     }
 }
 

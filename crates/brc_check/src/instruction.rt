@@ -31,7 +31,7 @@ pub fn refusal(instr: Instr, state: &State) -> Option<CheckCode>
         Instr::Set { list, from, .. } => set_refusal(state, list, from),
         Instr::Put { list, from, .. } => put_refusal(state, list, from),
         Instr::As { from, kind, .. } => as_refusal(state, from, kind),
-        Instr::Goto { .. } => None,
+        Instr::Goto { .. } | Instr::Again { .. } => None,
         Instr::Ret { from } => ret_refusal(state, from),
         Instr::Fail => fail_refusal(state),
     }
@@ -85,7 +85,7 @@ pub fn apply(instr: Instr, exit: Exit, state: &mut State)
                 put(state, from, asked);
             }
         }
-        Instr::Goto { .. } | Instr::Ret { .. } | Instr::Fail => (),
+        Instr::Goto { .. } | Instr::Again { .. } | Instr::Ret { .. } | Instr::Fail => (),
     }
 }
 
@@ -112,6 +112,11 @@ pub fn target_of(instr: Instr, exit: Exit, at: usize) -> Option<usize>
         | Instr::Lock { .. }
         | Instr::Unlock { .. } => Some(at + 1),
         Instr::Goto { target } => Some(target as usize),
+        // A path may go back any number of times: the limit bounds the calls, and not the paths.
+        Instr::Again { target, .. } => Some(match exit {
+            Exit::Success => at + 1,
+            Exit::Fault => target as usize,
+        }),
         Instr::Ret { .. } | Instr::Fail => None,
     }
 }

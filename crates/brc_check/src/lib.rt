@@ -7,6 +7,7 @@
 mod checked;
 mod checker;
 mod entries;
+mod filling;
 mod inferring;
 mod instruction;
 mod refused;

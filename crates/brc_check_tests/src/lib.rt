@@ -10,4 +10,6 @@ mod locked_tables;
 #[cfg(test)]
 mod locks;
 #[cfg(test)]
+mod loops;
+#[cfg(test)]
 mod tables;

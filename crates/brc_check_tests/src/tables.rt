@@ -11,6 +11,9 @@ use std::test::*;
 /// The slots of v1 and v2 at a point; v0 is the caller's list, and the others are empty.
 type Slots = (Slot, Slot);
 
+/// Lines, and the slots of v1 and v2 at each of their points and past the last.
+pub type TableCase<'a> = (&'a [u8], &'a [Option<Slots>]);
+
 const NUMBER: Slot = Slot::Owned(Kind::Num);
 
 const NONE: Slot = Slot::Owned(Kind::None);
@@ -22,8 +25,8 @@ const TAKE_AND_DROP: &[u8] = b"newref v1 v0\ndrop v1\nfail\n";
 /// If no row is left for a number, the function goes on after the line that drops it.
 const TWO_NUMBERS: &[u8] = b"num v1 1 else @4\nnum v2 2 else @3\ndrop v2\ndrop v1\nfail\n";
 
-/// Lines, and the slots of v1 and v2 at each of their points and past the last.
-const TABLES: &[(&[u8], &[Option<Slots>])] = &[
+/// Tables of functions that make, move and give up references.
+const TABLES: &[TableCase] = &[
     (
         TAKE_AND_DROP,
         &[
@@ -153,8 +156,11 @@ pub fn first_difference(
 }
 
 /// The number of the first table that is another one, and the point at which it is.
-fn first_other_table(alloc: Global) -> Result<Option<(usize, usize)>, Fail> {
-    for (number, (lines, entries)) in TABLES.iter().enumerate() {
+pub fn first_other_table(
+    alloc: Global,
+    tables: &[TableCase],
+) -> Result<Option<(usize, usize)>, Fail> {
+    for (number, (lines, entries)) in tables.iter().enumerate() {
         let mut states = Vec::new(alloc);
         for slots in entries.iter() {
             states.push(match slots {
@@ -171,7 +177,7 @@ fn first_other_table(alloc: Global) -> Result<Option<(usize, usize)>, Fail> {
 
 #[test]
 fn true_tables(rt: HostRuntime) -> Result<(), Fail> {
-    assert_eq!(rt; first_other_table(rt.alloc())?, None);
+    assert_eq!(rt; first_other_table(rt.alloc(), TABLES)?, None);
     Ok(())
 }
 

@@ -1,10 +1,10 @@
-use Rattle.std.proofs.Common.{length, subst, arith, ◌≡◌}
-use Rattle.brc_check.specs.Filling.{IsFilledTo}
-use Rattle.brc_check.proofs.Filling.{filled_last}
+use Rattle.std.proofs.Common.{arith}
+use Rattle.brc_check.proofs.Turns.{filled_first, filled_last}
 use Rattle.brc_check.proofs.inferring.fill.Goals as goal
+
+pub loop-turn-init : goal.loop-turn-init
+loop-turn-init c = filled_first c.args.code.now c.args.filling.now c.requires.some c.requires.begun
 
 pub returns : goal.returns
 returns c =
-    let all : c.loop-at.at ≡ length c.args.code.now = omega arith in
-    filled_last c.args.code.now c.loop-at.entries (subst (IsFilledTo c.args.code.now c.loop-at.entries) all
-    c.loop-at.invariant)
+    filled_last c.args.code.now c.loop-turn.filling c.loop-turn.turn c.loop-turn.invariant (omega arith)

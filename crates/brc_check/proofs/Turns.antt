@@ -1,0 +1,247 @@
+-- The entries of a function, filled in turn by turn.
+use Rattle.std.proofs.Common.{◌≡◌, ℕ, ◌+◌, ◌-◌, ◌<◌, ◌≤◌, List, length, Option, refl, sym, ap, ◌∙◌, subst, inl, inr, arith}
+use Rattle.std.specs.Prelude.{None, Some, ◌⊎◌, slice_get, replicate, is_some}
+use Rattle.std.proofs.lemmas.Bool.{cases_lt}
+use Rattle.std.proofs.lemmas.List.{length-replicate}
+use Rattle.std.proofs.lemmas.List.Sums.{count_by-le-length}
+use Rattle.std.proofs.lemmas.Option.{same_Some, slice_get_within, slice_get-get_or}
+use Rattle.brc_lang.specs.declared.module.Instr.{Instr}
+use Rattle.brc_model.specs.declared.code.CheckCode.{CheckCode}
+use Rattle.brc_model.specs.declared.slot.State.{State}
+use Rattle.brc_model.specs.declared.slot.Exit.{Exit}
+use Rattle.brc_model.specs.declared.slot.Exit.TheVariants.{Success, Fault}
+use Rattle.brc_model.specs.Slots.{entry}
+use Rattle.brc_model.specs.Paths.{PathEnd, At, Ended, Reports, follow, ReportsCode}
+use Rattle.brc_model.specs.Tables.{Reaches, StatesDifferAt, entry_at}
+use Rattle.brc_check.specs.declared.filling.Filling.{Filling}
+use Rattle.brc_check.specs.Entries.{StaysOn, IsClosed, IsBlocked}
+use Rattle.brc_check.specs.Filling.{first_filling, settled_at, IsInOrder, IsFilledTo, IsInferred}
+use Rattle.brc_check.specs.Refusal.{IsReported}
+use Rattle.brc_check.proofs.Steps.{arrives-within}
+use Rattle.brc_check.proofs.Paths.{begins, reaches-more, reports-more, closed-reached, closed-acceptable}
+use Rattle.brc_check.proofs.Settling.{settles, settled-cases, first-entry, first-in_order}
+
+-- ---- one exit
+
+same_end : (k at : ℕ) (t s : State) → k ≡ at → t ≡ s → At k t ≡ At at s
+same_end k at t s e f = λ i. At (e i) (f i)
+
+-- what is known before and after the state of a path end is settled
+pub record Leads (old new : Filling) (p : PathEnd) : Type 0 where
+  pub same_length : length new.entries ≡ length old.entries
+  pub kept : (k : ℕ) (t : State) → entry_at old.entries k ≡ Some t → entry_at new.entries k ≡ Some t
+  pub fresh : (k : ℕ) (t : State) → entry_at new.entries k ≡ Some t
+      → (entry_at old.entries k ≡ Some t) ⊎ (p ≡ At k t)
+  pub turns : (turn k : ℕ) → slice_get old.order turn ≡ Some k → slice_get new.order turn ≡ Some k
+  pub in_order : IsInOrder old → IsInOrder new
+
+leads-nowhere : (filling : Filling) (p : PathEnd) → Leads filling filling p
+leads-nowhere filling p = record {
+  same_length = refl;
+  kept = λ k t e. e;
+  fresh = λ k t e. inl e;
+  turns = λ turn k e. e;
+  in_order = λ ordered. ordered;
+}
+
+leads-place : (filling : Filling) (p : PathEnd)
+    → ((k : ℕ) (t : State) → p ≡ At k t → k < length filling.entries)
+    → Leads filling (settled_at filling p) p
+leads-place filling (At at s) within =
+    let there = settles filling at s (within at s refl) in
+    record {
+      same_length = there.same_length;
+      kept = there.kept;
+      fresh = λ k t e. elim (there.fresh k t e) [
+        | inl old ↦ inl old
+        | inr new ↦ inr (sym (same_end k at t s new.0 new.1))
+      ];
+      turns = there.turns;
+      in_order = there.in_order;
+    }
+leads-place filling Ended within = leads-nowhere filling Ended
+leads-place filling (Reports at c) within = leads-nowhere filling (Reports at c)
+
+leads : (code : List Instr) (filling : Filling) (at : ℕ) (s : State) (exit : Exit)
+    → length filling.entries ≡ length code
+    → Leads filling (settled_at filling (follow code (At at s) exit)) (follow code (At at s) exit)
+leads code filling at s exit same =
+    leads-place filling (follow code (At at s) exit)
+    (λ k t e. let within = arrives-within code at k s t exit e in omega (arith, within, same))
+
+stays-kept : (old new : List (Option State)) (p : PathEnd)
+    → ((k : ℕ) (t : State) → entry_at old k ≡ Some t → entry_at new k ≡ Some t) → StaysOn old p → StaysOn new p
+stays-kept old new (At at s) kept on = kept at s on
+stays-kept old new Ended kept on = tt
+stays-kept old new (Reports at c) kept on = on
+
+abbrev pub AllReached : List Instr → Filling → Type 0
+AllReached code filling = (k : ℕ) (s : State) → entry_at filling.entries k ≡ Some s → Reaches code k s
+
+reached-led : (code : List Instr) (filling : Filling) (at : ℕ) (s : State) (exit : Exit)
+    → length filling.entries ≡ length code → AllReached code filling → entry_at filling.entries at ≡ Some s
+    → AllReached code (settled_at filling (follow code (At at s) exit))
+reached-led code filling at s exit same reached here k t e =
+    elim ((leads code filling at s exit same).fresh k t e) [
+      | inl old ↦ reached k t old
+      | inr new ↦ reaches-more code at k s t exit (reached at s here) new
+    ]
+
+blocked-at : (code : List Instr) (filling : Filling) (at : ℕ) (s : State) (exit : Exit) (k : ℕ) (c : CheckCode)
+    (p : PathEnd)
+    → length filling.entries ≡ length code → AllReached code filling → entry_at filling.entries at ≡ Some s
+    → follow code (At at s) exit ≡ p
+    → IsBlocked (settled_at filling p).entries p k c → IsReported code k c
+blocked-at code filling at s exit k c (At next t) same reached here leads_to blocked =
+    let within : next < length filling.entries =
+    (let w = arrives-within code at next s t exit leads_to in omega (arith, w, same)) in
+    elim (settled-cases filling next t within) [
+      | inl now ↦ absurd (blocked.2 now)
+      | inr found ↦ inr (
+        blocked.1,
+        subst (StatesDifferAt code) blocked.0 (record {
+          one = found.0;
+          other = t;
+          first = reached next found.0 found.1.0;
+          second = reaches-more code at next s t exit (reached at s here) leads_to;
+          apart =
+              λ e. blocked.2 (ap (λ (f : Filling). entry_at f.entries next) found.1.1 ∙ found.1.0 ∙ ap Some e);
+        }),
+      )
+    ]
+blocked-at code filling at s exit k c Ended same reached here leads_to blocked = absurd blocked
+blocked-at code filling at s exit k c (Reports point d) same reached here leads_to blocked =
+    let reported : ReportsCode code point d = reports-more code at point s d exit (reached at s here) leads_to in
+    inl (subst (λ (e : CheckCode). ReportsCode code k e) blocked.1
+    (subst (λ (j : ℕ). ReportsCode code j d) blocked.0 reported))
+
+-- ---- both exits
+
+pub first_blocked : (code : List Instr) (filling : Filling) (turns at : ℕ) (s : State) (k : ℕ) (c : CheckCode)
+    → IsFilledTo code filling turns → entry_at filling.entries at ≡ Some s
+    → IsBlocked (settled_at filling (follow code (At at s) Success)).entries (follow code (At at s) Success) k c
+    → IsReported code k c
+first_blocked code filling turns at s k c filled here blocked =
+    blocked-at code filling at s Success k c (follow code (At at s) Success) filled.same_length filled.reached here refl
+    blocked
+
+pub second_blocked : (code : List Instr) (filling : Filling) (turns at : ℕ) (s : State) (k : ℕ) (c : CheckCode)
+    → IsFilledTo code filling turns → entry_at filling.entries at ≡ Some s
+    → (let once = settled_at filling (follow code (At at s) Success) in IsBlocked
+    (settled_at once (follow code (At at s) Fault)).entries (follow code (At at s) Fault) k c)
+    → IsReported code k c
+second_blocked code filling turns at s k c filled here blocked =
+    let first = leads code filling at s Success filled.same_length in
+    blocked-at code (settled_at filling (follow code (At at s) Success)) at s Fault k c (follow code (At at s) Fault)
+    (first.same_length ∙ filled.same_length) (reached-led code filling at s Success filled.same_length filled.reached
+    here)
+    (first.kept at s here) refl blocked
+
+-- Each point of an earlier turn is closed still: its entry is the same, and so are those of its targets.
+closed-before : (code : List Instr) (old new : Filling) (turns : ℕ) → IsFilledTo code old turns
+    → turns < length old.order
+    → ((k : ℕ) (t : State) → entry_at old.entries k ≡ Some t → entry_at new.entries k ≡ Some t)
+    → ((turn k : ℕ) → slice_get old.order turn ≡ Some k → slice_get new.order turn ≡ Some k)
+    → (turn k : ℕ) (t : State) (exit : Exit) → turn < turns → slice_get new.order turn ≡ Some k
+    → entry_at new.entries k ≡ Some t → StaysOn new.entries (follow code (At k t) exit)
+closed-before code old new turns filled within kept same_turns turn k t exit before is e =
+    let was = slice_get-get_or old.order turn k (omega (arith, before, within)) in
+    let point = same_Some _ k (sym (same_turns turn _ was) ∙ is) in
+    let in_old : slice_get old.order turn ≡ Some k = was ∙ ap Some point in
+    let there = filled.in_order.known turn k in_old in
+    let state : there.0 ≡ t = same_Some there.0 t (sym (kept k there.0 there.1) ∙ e) in
+    stays-kept old.entries new.entries (follow code (At k t) exit) kept
+    (filled.closed turn k before in_old t exit (there.1 ∙ ap Some state))
+
+-- a turn at which no point is found is over
+pub filled_none : (code : List Instr) (filling : Filling) (turns : ℕ) → IsFilledTo code filling turns
+    → length filling.order ≤ turns → IsFilledTo code filling (turns + 1)
+filled_none code filling turns filled past = record {
+  same_length = filled.same_length;
+  begins = filled.begins;
+  reached = filled.reached;
+  in_order = filled.in_order;
+  closed = λ turn k lt is. filled.closed turn k
+      (let within = slice_get_within filling.order turn k is in omega (arith, within, past)) is;
+}
+
+pub filled_both : (code : List Instr) (filling : Filling) (turns at : ℕ) (s : State)
+    → IsFilledTo code filling turns → slice_get filling.order turns ≡ Some at → entry_at filling.entries at ≡ Some s
+    → (let once = settled_at filling (follow code (At at s) Success) in
+    let twice = settled_at once (follow code (At at s) Fault) in
+    StaysOn once.entries (follow code (At at s) Success) → StaysOn twice.entries (follow code (At at s) Fault)
+    → IsFilledTo code twice (turns + 1))
+filled_both code filling turns at s filled next here on_success on_fault =
+    let once = settled_at filling (follow code (At at s) Success) in
+    let twice = settled_at once (follow code (At at s) Fault) in
+    let first = leads code filling at s Success filled.same_length in
+    let same_once : length once.entries ≡ length code = first.same_length ∙ filled.same_length in
+    let second = leads code once at s Fault same_once in
+    let reached_once = reached-led code filling at s Success filled.same_length filled.reached here in
+    let kept : (k : ℕ) (t : State) → entry_at filling.entries k ≡ Some t
+    → entry_at twice.entries k ≡ Some t = λ k t e. second.kept k t (first.kept k t e) in
+    let same_turns : (turn k : ℕ) → slice_get filling.order turn ≡ Some k
+    → slice_get twice.order turn ≡ Some k = λ turn k e. second.turns turn k (first.turns turn k e) in
+    let here_on : (exit : Exit)
+    → StaysOn twice.entries (follow code (At at s) exit) =
+    λ exit. elim exit as (λ e. StaysOn twice.entries (follow code (At at s) e)) [
+      | Success ↦ stays-kept once.entries twice.entries (follow code (At at s) Success) second.kept on_success
+      | Fault ↦ on_fault
+    ] in
+    record {
+      same_length = second.same_length ∙ same_once;
+      begins = kept 0 entry filled.begins;
+      reached = reached-led code once at s Fault same_once reached_once (first.kept at s here);
+      in_order = second.in_order (first.in_order filled.in_order);
+      closed = λ turn k lt is t exit e. elim (cases_lt turn turns) [
+        | inl before ↦
+            closed-before code filling twice turns filled (slice_get_within filling.order turns at next) kept same_turns
+            turn k t exit before is e
+        | inr from ↦
+            let last : turn ≡ turns = omega (arith, from, lt) in
+            let point : k ≡ at =
+            same_Some k at (sym is ∙ ap (slice_get twice.order) last ∙ same_turns turns at next) in
+            let state : t ≡ s =
+            same_Some t s (sym e ∙ ap (entry_at twice.entries) point ∙ kept at s here) in
+            subst (λ (p : PathEnd). StaysOn twice.entries (follow code p exit)) (sym (same_end k at t s point state))
+            (here_on exit)
+      ];
+    }
+
+-- ---- all entries of a function
+
+pub filled_first : (code : List Instr) (filling : Filling) → 0 < length code → filling ≡ first_filling (length code)
+    → IsFilledTo code filling 0
+filled_first code filling some begun = rw begun (record {
+  same_length =
+      let n : length (replicate {A = Option State} (length code - 1) None) ≡ length code - 1 =
+      length-replicate (length code - 1) None in
+      omega (arith, n, some);
+  begins = refl;
+  reached = λ k s e.
+      let first = first-entry (length code) k s e in
+      subst (Reaches code k) first.1 (subst (λ (j : ℕ). Reaches code j entry) (sym first.0) (begins code));
+  in_order = first-in_order (length code);
+  closed = λ turn k lt. absurd (omega (arith, lt));
+})
+
+-- No more points are found than the function has: once there has been a turn for each, all are closed.
+pub filled_last : (code : List Instr) (filling : Filling) (turns : ℕ) → IsFilledTo code filling turns
+    → length code ≤ turns → IsInferred code filling.entries
+filled_last code filling turns filled all =
+    let few = count_by-le-length {X = Option State} is_some filling.entries in
+    let once = filled.in_order.once in
+    let same = filled.same_length in
+    let closed : IsClosed code filling.entries = record {
+      begins = filled.begins;
+      goes_on =
+          λ at s exit e.
+          let turn = filled.in_order.found at s e in
+          let within = slice_get_within filling.order turn.0 at turn.1 in
+          filled.closed turn.0 at (omega (arith, within, few, once, same, all)) turn.1 s exit e;
+    } in
+    record {
+      same_length = filled.same_length;
+      truth = λ at s. (filled.reached at s, closed-reached code filling.entries closed at s);
+      acceptable = closed-acceptable code filling.entries closed;
+    }

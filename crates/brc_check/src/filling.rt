@@ -1,0 +1,69 @@
+//! The entries of a function while they are inferred.
+
+ghost use Rattle.std.specs.Prelude.{◌≡◌, ◌<◌, ◌≤◌, ◌-◌, ◌∷◌, length, replicate, IfOk, MatchOption, None, Some};
+ghost use Rattle.brc_model.specs.Slots.{entry};
+ghost use Rattle.brc_check.specs.Filling.{first_filling, settled, IsInOrder, IsFoundAt};
+
+use crate::entries::entry_at;
+use crate::state::entry;
+use brc_lang::Sequence;
+use brc_model::State;
+use std::alloc::{AllocError, Global};
+
+/// The entries that are known, and the points that have one in the order in which they were found.
+#[derive(Drop)]
+pub struct Filling {
+    pub entries: Sequence<Option<State>>,
+    pub order: Sequence<usize>,
+}
+
+/// Returns the entries of `count` points before any exit is followed: only that of the first point is known.
+fn first_entries(alloc: Global, count: usize) -> Result<Sequence<Option<State>>, AllocError>
+    requires { 0 < count }
+    ensures { IfOk result (λ entries. entries ≡ Some entry ∷ replicate (count - 1) None) }
+{
+    let mut entries = Sequence::new(alloc);
+    entries.push(Some(entry()))?;
+    for _at in 1..count {
+        entries.push(None)?;
+    }
+    Ok(entries)
+}
+
+/// Returns what is known of a function of `count` instructions at first: the first point is found, in the state in
+/// which a function begins.
+pub fn first_filling(alloc: Global, count: usize) -> Result<Filling, AllocError>
+    requires { 0 < count }
+    ensures { IfOk result (λ filling. filling ≡ first_filling count) }
+{
+    let entries = first_entries(alloc, count)?;
+    let mut order = Sequence::new(alloc);
+    order.push(0)?;
+    Ok(Filling { entries, order })
+}
+
+/// Returns the point found at this turn and its entry, or `None` if fewer points are found.
+pub fn found_at(filling: &Filling, turn: usize) -> Option<(usize, State)>
+    requires { IsInOrder filling.now }
+    ensures { MatchOption result (length filling.now.order ≤ turn)
+        (λ found. IsFoundAt filling.now turn found.0 found.1) }
+{
+    if turn >= filling.order.len() {
+        return None;
+    }
+    let at = filling.order.as_slice()[turn];
+    let state = entry_at(filling.entries.as_slice(), at)?;
+    Some((at, state))
+}
+
+/// Makes the state the entry of a point that has none yet: the point is found.
+pub fn settle(filling: &mut Filling, at: usize, state: State) -> Result<(), AllocError>
+    requires { at < length filling.old.entries }
+    ensures { IfOk result (λ done. filling.new ≡ settled filling.old at state) }
+{
+    if filling.entries.as_slice()[at].is_none() {
+        filling.order.push(at)?;
+        filling.entries.set(at, Some(state));
+    }
+    Ok(())
+}
