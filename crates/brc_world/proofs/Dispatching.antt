@@ -3,7 +3,7 @@
 use Rattle.std.proofs.Common.{ℕ, zero, suc, Bool, true, false, cond, List, [], ◌∷◌, Option, None, Some}
 use Rattle.std.specs.Prelude.{slice_get}
 use Rattle.brc_lang.specs.declared.module.Instr.{Instr}
-use Rattle.brc_lang.specs.declared.module.Instr.TheVariants.{Num, List as ListObject, NoneObject, Newref, Move as MoveReference, Drop, Lock, Unlock, Borrow, Fetch, Set, Put, Goto, Ret, Fail, As}
+use Rattle.brc_lang.specs.declared.module.Instr.TheVariants.{Num, List as ListObject, NoneObject, Newref, Move as MoveReference, Drop, Lock, Unlock, Borrow, Fetch, Set, Put, Goto, Again, Ret, Fail, As}
 use Rattle.brc_lang.specs.declared.module.Function.{Function}
 use Rattle.brc_model.specs.Threads.{code_of, row_of, entry_variables}
 use Rattle.brc_model.specs.declared.duty.Duty.{Duty}
@@ -60,6 +60,7 @@ instruction_steps layout t used before counters at variables (Some (Put list ind
 instruction_steps layout t used before counters at variables (Some (As from kind otherwise)) =
     row_steps (row_of variables from) _ (λ row. tt)
 instruction_steps layout t used before counters at variables (Some (Goto to)) = tt
+instruction_steps layout t used before counters at variables (Some (Again to times)) = tt
 instruction_steps layout t used before counters at variables (Some (Ret from)) =
     row_steps (row_of variables from) _ (λ row. tt)
 instruction_steps layout t used before counters at variables (Some Fail) = tt

@@ -1,5 +1,5 @@
 -- The model's view of a thread, and what a step changes in the words and in its thread, by the thread's action.
-use Rattle.std.specs.Prelude.{◌≡◌, ℕ, ◌≤◌, Bool, true, false, ◌==◌, ◌&&◌, not, if◌then◌else◌, List, [], ◌∷◌, reverse, Option, None}
+use Rattle.std.specs.Prelude.{◌≡◌, ℕ, ◌≤◌, Bool, true, false, ◌==◌, ◌&&◌, not, if◌then◌else◌, List, [], ◌∷◌, reverse, Option}
 use Rattle.brc_model.specs.declared.actor.Status.{Status}
 use Rattle.brc_model.specs.declared.actor.Status.TheVariants.{Running, Leaving, Gone}
 use Rattle.brc_model.specs.declared.address.Address.{Address}
@@ -47,7 +47,7 @@ actor_of t = record {
     head = t.head;
     used = t.used;
     locked = t.locked;
-    lent = None;
+    lent = t.lent;
   };
 }
 

@@ -41,7 +41,10 @@ pub fn address_of(layout: Layout, thread: u8, head: u32, duty: Duty) -> Address
         Duty::SettleCell { row, cell, .. } | Duty::CellSwap { row, cell, .. } => {
             Address::Cell { row, cell }
         }
-        Duty::TakeSlot { row } | Duty::BirthSlot { row, .. } => Address::Slot { row },
+        Duty::TakeSlot { row }
+        | Duty::BirthSlot { row, .. }
+        | Duty::LendSlot { row }
+        | Duty::ReturnSlot { row } => Address::Slot { row },
         Duty::CloseResource { row } => Address::Resource { row },
         Duty::SetMark { row } | Duty::TakeMark { row } | Duty::ClaimMark { row } => Address::Mark {
             row,

@@ -13,6 +13,7 @@ use crate::dispatch::items::{ask_for_cell, go_on_inside};
 use crate::dispatch::kinds::ask_kind;
 use crate::dispatch::locks::{lock, unlock};
 use crate::dispatch::references::{give_up, hand_on, name_again, name_none, return_object};
+use crate::dispatch::ways::{again, go};
 use crate::question::Question;
 use crate::thread::{Mode, Thread, Variables};
 use brc_effect::rows::ROOT;
@@ -26,6 +27,7 @@ mod items;
 mod kinds;
 mod locks;
 mod references;
+mod ways;
 
 /// The start of a thread's step.
 #[derive(Clone, Copy, Debug)]
@@ -200,10 +202,8 @@ fn begin(instr: Instr, layout: Layout, number: u8, thread: &mut Thread, left: u3
             kind,
             otherwise,
         } => ask_kind(from, kind, otherwise, thread, left),
-        Instr::Goto { target } => {
-            thread.go_to(left, usize::from(target));
-            Start::Moved
-        }
+        Instr::Goto { target } => go(target, thread, left),
+        Instr::Again { target, times } => again(target, times, thread, left),
         Instr::Ret { from } => return_object(from, thread, left),
         Instr::Fail => {
             thread.rest(left);

@@ -67,6 +67,7 @@ pub fn do_duty(
     thread.status = effect.status;
     thread.used = effect.used;
     thread.locked = effect.locked;
+    thread.lent = effect.lent;
     memory.store(address, effect.word);
     pass_over(&mut thread.agenda, effect.head);
     found
@@ -96,6 +97,7 @@ fn doer(layout: Layout, thread: &Thread, number: u8, rows: u32) -> Doer
       head = thread.now.head;
       used = thread.now.used;
       locked = thread.now.locked;
+      lent = thread.now.lent;
       rows = rows;
     } }
 {
@@ -106,6 +108,7 @@ fn doer(layout: Layout, thread: &Thread, number: u8, rows: u32) -> Doer
         head: thread.head,
         used: thread.used,
         locked: thread.locked,
+        lent: thread.lent,
         rows,
     }
 }

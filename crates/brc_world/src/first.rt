@@ -26,6 +26,7 @@ pub fn first_threads(alloc: Global, calls: &[Call]) -> Result<Vec<Thread>, NoMem
         head: 0,
         used: FRONT_ROWS,
         locked: None,
+        lent: None,
     })?;
     for call in calls {
         threads.push(Thread {
@@ -40,6 +41,7 @@ pub fn first_threads(alloc: Global, calls: &[Call]) -> Result<Vec<Thread>, NoMem
             head: 0,
             used: 0,
             locked: None,
+            lent: None,
         })?;
     }
     Ok(threads)

@@ -1,8 +1,7 @@
 //! A thread of the step world.
 
-ghost use Rattle.std.specs.Prelude.{◌≡◌, ◌≤◌, slice_set, vec_capacity};
-ghost use Rattle.brc_model.specs.Actions.{first_counters};
-ghost use Rattle.brc_model.specs.Threads.{row_of, entry_variables};
+ghost use Rattle.std.specs.Prelude.{◌≡◌, ◌≤◌, slice_index_or, slice_set, vec_capacity};
+ghost use Rattle.brc_model.specs.Threads.{row_of};
 
 use brc_lang::Variable;
 use brc_model::{Duty, Stage, Status};
@@ -55,6 +54,8 @@ pub struct Thread {
     pub used: u32,
     /// The row of the object that it has locked.
     pub locked: Option<u32>,
+    /// The row of the object whose resource it has lent.
+    pub lent: Option<u32>,
     ghost has_room: { 8 ≤ vec_capacity agenda },
 }
 
@@ -71,6 +72,25 @@ impl Thread {
         ensures { self.new ≡ record self.old { variables = slice_set self.old.variables variable row } }
     {
         self.variables[usize::from(variable.number())] = row;
+    }
+
+    /// Returns how often the instruction `again` that the thread is at has gone back in the call.
+    pub fn turns_here(&self) -> u16
+        ensures { result ≡ slice_index_or self.now.turns self.now.at 0 }
+    {
+        match self.turns.get(self.at) {
+            Some(turns) => *turns,
+            None => 0,
+        }
+    }
+
+    /// Says that the instruction `again` that the thread is at has gone back `turns` times in the call.
+    pub fn set_turns_here(&mut self, turns: u16)
+        ensures { self.new ≡ record self.old { turns = slice_set self.old.turns self.old.at turns } }
+    {
+        if let Some(here) = self.turns.get_mut(self.at) {
+            *here = turns;
+        }
     }
 
     /// Puts the thread at the instruction `at` of a call after which `left` calls remain.
@@ -91,8 +111,8 @@ impl Thread {
     }
 }
 
-/// Writes the fields that are part of the world. An instruction and variables are part of it only while the thread is
-/// in a call.
+/// Writes the fields that are part of the world. An instruction, variables and counts of the instructions `again` are
+/// part of it only while the thread is in a call. Of the counts it writes those that aren't 0, each behind its point.
 impl fmt::Debug for Thread {
     fn fmt<W: fmt::Write>(&self, f: &mut fmt::Formatter<W>) -> fmt::Result {
         let Thread {
@@ -104,14 +124,23 @@ impl fmt::Debug for Thread {
             head,
             used,
             locked,
+            lent,
             ..
         } = self;
         write!(
             f,
-            "{function} {mode:?} {left} {status:?} {agenda:?} {head} {used} {locked:?}"
+            "{function} {mode:?} {left} {status:?} {agenda:?} {head} {used} {locked:?} {lent:?}"
         )?;
         match mode {
-            Mode::InCall | Mode::Inside(_) => write!(f, " {} {:?}", self.at, self.variables),
+            Mode::InCall | Mode::Inside(_) => {
+                write!(f, " {} {:?}", self.at, self.variables)?;
+                for (at, turns) in self.turns.iter().enumerate() {
+                    if *turns != 0 {
+                        write!(f, " {at}:{turns}")?;
+                    }
+                }
+                Ok(())
+            }
             Mode::Idle | Mode::Exiting => Ok(()),
         }
     }

@@ -122,6 +122,7 @@ pub(super) fn go_on_inside(instr: Instr, stage: Stage, thread: &mut Thread) -> S
             } => put(list, index, from, thread),
             _ => Start::Stuck,
         },
+        Stage::Loaded | Stage::Lent | Stage::Called { .. } | Stage::Granted => Start::Stuck,
     }
 }
 

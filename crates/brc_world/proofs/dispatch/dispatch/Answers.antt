@@ -38,7 +38,7 @@ idle c = record {
     head = c.args.thread.now.head;
     used = c.args.thread.now.used;
     locked = c.args.thread.now.locked;
-    lent = None;
+    lent = c.args.thread.now.lent;
   };
 }
 
