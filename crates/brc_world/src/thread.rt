@@ -88,8 +88,8 @@ impl Thread {
     pub fn set_turns_here(&mut self, turns: u16)
         ensures { self.new ≡ record self.old { turns = slice_set self.old.turns self.old.at turns } }
     {
-        if let Some(here) = self.turns.get_mut(self.at) {
-            *here = turns;
+        if self.at < self.turns.len() {
+            self.turns[self.at] = turns;
         }
     }
 
